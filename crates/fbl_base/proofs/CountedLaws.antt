@@ -1,0 +1,138 @@
+-- What is counted, after one more event.
+use Rattle.std.proofs.Common.{IsTrue, ℕ, Bool, true, false, cond, ◌≡◌, ◌≢◌, ◌<◌, ◌≤◌, ◌+◌, ◌*◌, ◌==◌, ◌&&◌, ◌⊎◌, ◌↔◌, inl, inr, List, [], ◌∷◌, ◌++◌, length, take, drop, Some, refl, sym, ap, ◌∙◌, arith, get_or, set as set_at, get_or-set_same, get_or-set_other, length-set, length-take}
+use Rattle.std.proofs.lemmas.Bool.Decides.{nat_tests}
+use Rattle.std.proofs.lemmas.List.{take_more, append-nil, get_or_read}
+use Rattle.std.proofs.lemmas.Option.{slice_get-get_or}
+use Rattle.std.proofs.lemmas.List.Sums.{sum_by-append}
+use Rattle.fbl_base.specs.declared.trace.Mark.{Mark}
+use Rattle.fbl_base.specs.declared.trace.Mark.TheVariants.{Send, Receipt}
+use Rattle.fbl_base.specs.declared.rules.Counts.{Counts}
+use Rattle.fbl_base.specs.Events.{At}
+use Rattle.fbl_base.specs.Rules.{is_send_of, is_receipt_of, sends_of, receipts_of, in_flight, MayFollow, ObeysAt, WellFormed}
+use Rattle.fbl_base.specs.Counted.{Counted, SendFits, ReceiptFits}
+use Rattle.fbl_base.proofs.InFlightLaws.{in_flight-send, in_flight-receipt}
+
+module _ {A : Type 0} (n : ℕ) (t : List Mark) (c : Counts A) (most : n ≤ 16) (few : length t < 8192) (counted : Counted t c) where
+  pub send_fits : (q s p : ℕ) → SendFits n c q s p ↔ MayFollow n t (Send q s p)
+  send_fits q s p = (
+    λ h. (h.0, h.1, h.2, h.3 ∙ ap (λ x. x + 1) (counted.sends q (omega (arith, h.0, most))), few),
+    λ h. (h.0, h.1, h.2, h.3 ∙ ap (λ x. x + 1) (sym (counted.sends q (omega (arith, h.0, most))))),
+  )
+
+  pub receipt_fits : (p r q s : ℕ) → ReceiptFits n c p r q s ↔ MayFollow n t (Receipt p r q s)
+  receipt_fits p r q s = (
+    λ h. (h.0, h.1, h.2, h.3 ∙ ap (λ x. x + 1) (counted.receipts p (omega (arith, h.1, most))), few, (rw (counted.channels q p (omega (arith, h.0, most)) (omega (arith, h.1, most))) at h.4)),
+    λ h. (h.0, h.1, h.2, h.3 ∙ ap (λ x. x + 1) (sym (counted.receipts p (omega (arith, h.1, most)))), rw (counted.channels q p (omega (arith, h.0, most)) (omega (arith, h.1, most))) h.5),
+  )
+
+-- the rule at a place is the rule for its event
+pub obeys_at : (n : ℕ) (t : List Mark) (i : ℕ) (e : Mark) → At t i e → ObeysAt n t i ↔ MayFollow n (take i t) e
+obeys_at n t i e at = (λ h. h e at, λ h b at_b. (let same : e ≡ b = cc in rw (← same) h))
+
+split_places : (x y : ℕ) → (x ≡ y) ⊎ (x ≢ y)
+split_places x y = grind arith
+
+eqb-same : (x y : ℕ) → x ≡ y → (x == y) ≡ true
+eqb-same x y e = grind (arith, nat_tests)
+
+eqb-other : (x y : ℕ) → x ≢ y → (x == y) ≡ false
+eqb-other x y e = grind (arith, nat_tests)
+
+sends-step : (t : List Mark) (e : Mark) (x : ℕ) → sends_of (t ++ e ∷ []) x ≡ sends_of t x + cond (is_send_of x e) 1 0
+sends-step t e x = rw (sum_by-append (λ y. cond (is_send_of x y) 1 0) t (e ∷ [])) (omega arith)
+
+receipts-step : (t : List Mark) (e : Mark) (x : ℕ) → receipts_of (t ++ e ∷ []) x ≡ receipts_of t x + cond (is_receipt_of x e) 1 0
+receipts-step t e x = rw (sum_by-append (λ y. cond (is_receipt_of x y) 1 0) t (e ∷ [])) (omega arith)
+
+-- a counter that is set to the next number
+counter_set : (xs : List ℕ) (q s x : ℕ) (count after : ℕ) → q < length xs → s ≡ get_or xs q 0 + 1 → get_or xs x 0 ≡ count → after ≡ count + cond (q == x) 1 0 → get_or (set_at xs q s) x 0 ≡ after
+counter_set xs q s x count after within next was step = at (split_places x q) where
+  at : (x ≡ q) ⊎ (x ≢ q) → get_or (set_at xs q s) x 0 ≡ after
+  at (inl here) = (let e : (q == x) ≡ true = eqb-same q x (sym here) in let f : after ≡ count + 1 = step ∙ (rw e) in let w : get_or xs q 0 ≡ count = (rw here at was) in rw (here, get_or-set_same) (omega (arith, next, f, w)))
+  at (inr other) = (let e : (q == x) ≡ false = eqb-other q x (λ h. other (sym h)) in let f : after ≡ count + 0 = step ∙ (rw e) in rw get_or-set_other (omega (arith, was, f)))
+
+-- the channel of one pair of members is set
+channel_set : (xs : List (List ℕ)) (q p x y : ℕ) (new was after : List ℕ) → 16 * q + p < length xs → p < 16 → y < 16 → get_or xs (16 * x + y) [] ≡ was → after ≡ cond (q == x && p == y) new was → get_or (set_at xs (16 * q + p) new) (16 * x + y) [] ≡ after
+channel_set xs q p x y new was after within below_p below_y is step = at (split_places x q) (split_places y p) where
+  at : (x ≡ q) ⊎ (x ≢ q) → (y ≡ p) ⊎ (y ≢ p) → get_or (set_at xs (16 * q + p) new) (16 * x + y) [] ≡ after
+  at (inl a) (inl b) = (let e : (q == x) ≡ true = eqb-same q x (sym a) in let f : (p == y) ≡ true = eqb-same p y (sym b) in rw (step, e, f, a, b, get_or-set_same))
+  at (inl a) (inr b) = (let f : (p == y) ≡ false = eqb-other p y (λ h. b (sym h)) in let e : (q == x) ≡ true = eqb-same q x (sym a) in let ne : 16 * x + y ≢ 16 * q + p = omega (arith, a, b) in rw (step, e, f, get_or-set_other) is)
+  at (inr a) b = (let e : (q == x) ≡ false = eqb-other q x (λ h. a (sym h)) in let ne : 16 * x + y ≢ 16 * q + p = (λ h. a (omega (arith, h))) in rw (step, e, get_or-set_other) is)
+
+cond_append : (b : Bool) (xs ys : List ℕ) → xs ++ cond b ys [] ≡ cond b (xs ++ ys) xs
+cond_append true xs ys = refl
+cond_append false xs ys = append-nil xs
+
+cond_at : (q p x y : ℕ) (f : ℕ → ℕ → List ℕ) (g : List ℕ → List ℕ) → cond (q == x && p == y) (g (f x y)) (f x y) ≡ cond (q == x && p == y) (g (f q p)) (f x y)
+cond_at q p x y f g = at (split_places x q) (split_places y p) where
+  at : (x ≡ q) ⊎ (x ≢ q) → (y ≡ p) ⊎ (y ≢ p) → cond (q == x && p == y) (g (f x y)) (f x y) ≡ cond (q == x && p == y) (g (f q p)) (f x y)
+  at (inl a) (inl b) = rw (a, b)
+  at (inl a) (inr b) = (let e : (p == y) ≡ false = eqb-other p y (λ h. b (sym h)) in let e' : (q == x) ≡ true = eqb-same q x (sym a) in rw (e', e))
+  at (inr a) b = (let e : (q == x) ≡ false = eqb-other q x (λ h. a (sym h)) in rw e)
+
+-- the counts after a send
+pub counted_send : {A : Type 0} (n : ℕ) (t : List Mark) (c d : Counts A) (q s p : ℕ) → n ≤ 16 → WellFormed n t → Counted t c → MayFollow n t (Send q s p) → d.sends ≡ set_at c.sends q s → d.receipts ≡ c.receipts → d.channels.items ≡ set_at c.channels.items (16 * q + p) (get_or c.channels.items (16 * q + p) [] ++ s ∷ []) → Counted (t ++ Send q s p ∷ []) d
+counted_send n t c d q s p most obeys counted may is_sends is_receipts is_channels =
+    let below_q : q < 16 = omega (arith, may.0, most) in
+    let below_p : p < 16 = omega (arith, may.1, most) in
+    let was = counted.channels q p below_q below_p in
+    record {
+      sends = λ x below. rw is_sends (counter_set c.sends q s x (sends_of t x) _ (omega (arith, counted.sends_length)) (may.3 ∙ ap (λ z. z + 1) (sym (counted.sends q below_q))) (counted.sends x below) (sends-step t (Send q s p) x));
+      receipts = λ x below. rw is_receipts (omega (arith, counted.receipts x below, receipts-step t (Send q s p) x));
+      channels = λ x y below_x below_y.
+          rw is_channels (channel_set c.channels.items q p x y _ (in_flight t x y) _ (omega (arith, counted.channels_length)) below_p below_y (counted.channels x y below_x below_y) (in_flight-send n t obeys q s p x y may ∙ cond_append (q == x && p == y) (in_flight t x y) (s ∷ []) ∙ cond_at q p x y (in_flight t) (λ z. z ++ s ∷ []) ∙ ap (λ z. cond (q == x && p == y) (z ++ s ∷ []) (in_flight t x y)) (sym was)));
+      sends_length = rw (is_sends, length-set) counted.sends_length;
+      receipts_length = rw is_receipts counted.receipts_length;
+      channels_length = rw (is_channels, length-set) counted.channels_length;
+    }
+
+-- and after a receipt
+pub counted_receipt : {A : Type 0} (n : ℕ) (t : List Mark) (c d : Counts A) (p r q s : ℕ) → n ≤ 16 → WellFormed n t → Counted t c → MayFollow n t (Receipt p r q s) → d.sends ≡ c.sends → d.receipts ≡ set_at c.receipts p r → d.channels.items ≡ set_at c.channels.items (16 * q + p) (drop 1 (get_or c.channels.items (16 * q + p) [])) → Counted (t ++ Receipt p r q s ∷ []) d
+counted_receipt n t c d p r q s most obeys counted may is_sends is_receipts is_channels =
+    let below_q : q < 16 = omega (arith, may.0, most) in
+    let below_p : p < 16 = omega (arith, may.1, most) in
+    let was = counted.channels q p below_q below_p in
+    record {
+      sends = λ x below. rw is_sends (omega (arith, counted.sends x below, sends-step t (Receipt p r q s) x));
+      receipts = λ x below. rw is_receipts (counter_set c.receipts p r x (receipts_of t x) _ (omega (arith, counted.receipts_length)) (may.3 ∙ ap (λ z. z + 1) (sym (counted.receipts p below_p))) (counted.receipts x below) (receipts-step t (Receipt p r q s) x));
+      channels = λ x y below_x below_y.
+          rw is_channels (channel_set c.channels.items q p x y _ (in_flight t x y) _ (omega (arith, counted.channels_length)) below_p below_y (counted.channels x y below_x below_y) (in_flight-receipt n t obeys p r q s x y may ∙ cond_at q p x y (in_flight t) (λ z. drop 1 z) ∙ ap (λ z. cond (q == x && p == y) (drop 1 z) (in_flight t x y)) (sym was)));
+      sends_length = rw is_sends counted.sends_length;
+      receipts_length = rw (is_receipts, length-set) counted.receipts_length;
+      channels_length = rw (is_channels, length-set) counted.channels_length;
+    }
+
+place_has : (events : List Mark) (place : ℕ) (d e : Mark) → place < length events → get_or events place d ≡ e → At events place e
+place_has events place d e within is = slice_get-get_or events place d within ∙ ap Some is
+
+few_before : (events : List Mark) (place : ℕ) → place < 8192 → length (take place events) < 8192
+few_before events place few = omega (arith, length-take place events)
+
+-- the test of a send tells whether its place obeys the rules
+pub verdict_send : {A : Type 0} (n : ℕ) (events : List Mark) (place : ℕ) (d : Mark) (c : Counts A) (q s p : ℕ) (b : Bool) → n ≤ 16 → place < length events → place < 8192 → Counted (take place events) c → get_or events place d ≡ Send q s p → IsTrue b ↔ SendFits n c q s p → IsTrue b ↔ ObeysAt n events place
+verdict_send n events place d c q s p b most within few counted is test =
+    let fits = send_fits n (take place events) c most (few_before events place few) counted q s p in
+    let obeys = obeys_at n events place (Send q s p) (place_has events place d _ within is) in
+    (λ h. obeys.1 (fits.0 (test.0 h)), λ h. test.1 (fits.1 (obeys.0 h)))
+
+pub verdict_receipt : {A : Type 0} (n : ℕ) (events : List Mark) (place : ℕ) (d : Mark) (c : Counts A) (p r q s : ℕ) (b : Bool) → n ≤ 16 → place < length events → place < 8192 → Counted (take place events) c → get_or events place d ≡ Receipt p r q s → IsTrue b ↔ ReceiptFits n c p r q s → IsTrue b ↔ ObeysAt n events place
+verdict_receipt n events place d c p r q s b most within few counted is test =
+    let fits = receipt_fits n (take place events) c most (few_before events place few) counted p r q s in
+    let obeys = obeys_at n events place (Receipt p r q s) (place_has events place d _ within is) in
+    (λ h. obeys.1 (fits.0 (test.0 h)), λ h. test.1 (fits.1 (obeys.0 h)))
+
+one_more : (events : List Mark) (place : ℕ) (d e : Mark) → place < length events → get_or events place d ≡ e → take (place + 1) events ≡ take place events ++ e ∷ []
+one_more events place d e within is = take_more events place d within ∙ ap (λ x. take place events ++ x ∷ []) is
+
+pub admitted_send : {A : Type 0} (n : ℕ) (events : List Mark) (place : ℕ) (d : Mark) (c after : Counts A) (q s p : ℕ) → n ≤ 16 → place < length events → place < 8192 → WellFormed n (take place events) → Counted (take place events) c → get_or events place d ≡ Send q s p → SendFits n c q s p → after.sends ≡ set_at c.sends q s → after.receipts ≡ c.receipts → after.channels.items ≡ set_at c.channels.items (16 * q + p) (get_or c.channels.items (16 * q + p) [] ++ s ∷ []) → Counted (take (place + 1) events) after
+admitted_send n events place d c after q s p most within few obeys counted is fits e1 e2 e3 =
+    rw (one_more events place d (Send q s p) within is) (counted_send n (take place events) c after q s p most obeys counted ((send_fits n (take place events) c most (few_before events place few) counted q s p).0 fits) e1 e2 e3)
+
+pub admitted_receipt : {A : Type 0} (n : ℕ) (events : List Mark) (place : ℕ) (d : Mark) (c after : Counts A) (p r q s : ℕ) → n ≤ 16 → place < length events → place < 8192 → WellFormed n (take place events) → Counted (take place events) c → get_or events place d ≡ Receipt p r q s → ReceiptFits n c p r q s → after.sends ≡ c.sends → after.receipts ≡ set_at c.receipts p r → after.channels.items ≡ set_at c.channels.items (16 * q + p) (drop 1 (get_or c.channels.items (16 * q + p) [])) → Counted (take (place + 1) events) after
+admitted_receipt n events place d c after p r q s most within few obeys counted is fits e1 e2 e3 =
+    rw (one_more events place d (Receipt p r q s) within is) (counted_receipt n (take place events) c after p r q s most obeys counted ((receipt_fits n (take place events) c most (few_before events place few) counted p r q s).0 fits) e1 e2 e3)
+
+pub channel_written : (f : List ℕ → List ℕ) (xs : List (List ℕ)) (i j : ℕ) (old new : List ℕ) → i ≡ j → i < length xs → old ≡ get_or xs i old → new ≡ f old → set_at xs i new ≡ set_at xs j (f (get_or xs j []))
+channel_written f xs i j old new same within was is =
+    let read : old ≡ get_or xs i [] = get_or_read xs i old within was [] in
+    rw (is, ← same, ← read)

@@ -1,0 +1,149 @@
+-- A delivery keeps a trace lawful.
+use Rattle.std.proofs.Common.{◌≡◌, ◌≢◌, ℕ, zero, suc, ◌+◌, ◌<◌, ◌≤◌, ◌==◌, ◌&&◌, ◌⊎◌, inl, inr, Bool, true, false, cond, List, [], ◌∷◌, ◌++◌, length, take, map, Option, Some, None, option_map, subst, drop, slice_get, refl, sym, ap, ◌∙◌, arith, append_assoc, length-append, length-take}
+use Rattle.std.specs.List.{filter_map, cons_option, fold, All}
+use Rattle.std.proofs.lemmas.Bool.Decides.{nat_tests}
+use Rattle.std.proofs.lemmas.List.{append-nil, take-append-le, take-append-drop, map-append, length-map}
+use Rattle.std.proofs.lemmas.List.Sums.{sum_by-append}
+use Rattle.std.proofs.lemmas.List.Elements.{filter_map-append, All-head, All-tail}
+use Rattle.std.proofs.lemmas.Option.{slice_get-map}
+use Rattle.fbl_base.specs.declared.trace.Note.{Note}
+use Rattle.fbl_base.specs.declared.trace.Start.{Start}
+use Rattle.fbl_base.specs.declared.trace.Event.{Event}
+use Rattle.fbl_base.specs.declared.trace.Event.TheVariants.{Send, Receipt}
+use Rattle.fbl_base.specs.declared.trace.Mark.{Mark}
+use Rattle.fbl_base.specs.declared.trace.Mark.TheVariants as mark
+use Rattle.fbl_base.specs.Events.{At, mark_of}
+use Rattle.fbl_base.specs.Rules.{sends_of, is_send_of, MayFollow, WellFormed}
+use Rattle.fbl_base.specs.Fold.{Next, Action, took, sent, action_of, actions_of, notes_of, note_of, responses, start_of, starts_of, step_events, Lawful}
+use Rattle.fbl_base.proofs.Gets.{At-front}
+use Rattle.fbl_base.proofs.RulesLaws.{WellFormed-push, in_flight-sent, eqb-self}
+use Rattle.fbl_base.proofs.FoldLaws.{responses-push}
+
+note_of-front : (t s : List Event) (from ssn : ℕ) (note : Note) → note_of t from ssn ≡ Some note → note_of (t ++ s) from ssn ≡ Some note
+note_of-front [] s from ssn note h = cc
+note_of-front (Send q k to x ∷ t) s from ssn note h = at (q == from && k == ssn) h (note_of-front t s from ssn note) where
+  at : (b : Bool) → cond b (Some x) (note_of t from ssn) ≡ Some note → (note_of t from ssn ≡ Some note → note_of (t ++ s) from ssn ≡ Some note) → cond b (Some x) (note_of (t ++ s) from ssn) ≡ Some note
+  at true g ih = g
+  at false g ih = ih g
+note_of-front (Receipt to rsn q k ∷ t) s from ssn note h = note_of-front t s from ssn note h
+
+pub notes_of-append : (xs ys : List Action) → notes_of (xs ++ ys) ≡ notes_of xs ++ notes_of ys
+notes_of-append [] ys = refl
+notes_of-append (took note ∷ xs) ys = ap (λ zs. note ∷ zs) (notes_of-append xs ys)
+notes_of-append (sent s ∷ xs) ys = notes_of-append xs ys
+
+pub notes_of-sent : (sends : List (ℕ × Note)) → notes_of (map sent sends) ≡ []
+notes_of-sent [] = refl
+notes_of-sent (s ∷ sends) = notes_of-sent sends
+
+own_sends : (t : List Event) (p before : ℕ) (sends : List (ℕ × Note)) → filter_map (action_of t p) (step_events p before sends) ≡ map sent sends
+own_sends t p before [] = refl
+own_sends t p before (s ∷ sends) = (let e : (p == p) ≡ true = eqb-self p in rw e (ap (λ xs. sent s ∷ xs) (own_sends t p (before + 1) sends)))
+
+other_sends : (t : List Event) (p m before : ℕ) (sends : List (ℕ × Note)) → (p == m) ≡ false → filter_map (action_of t m) (step_events p before sends) ≡ []
+other_sends t p m before [] ne = refl
+other_sends t p m before (s ∷ sends) ne = rw ne (other_sends t p m (before + 1) sends ne)
+
+-- the sends of a step obey the rules
+sends_obey : (n p before : ℕ) (u : List Mark) (sends : List (ℕ × Note)) → WellFormed n u → p < n → before ≡ sends_of u p → All (λ (s : ℕ × Note). (s.0 < n) × (s.0 ≢ p)) sends → length u + length sends ≤ 8192 → WellFormed n (u ++ map mark_of (step_events p before sends))
+sends_obey n p before u [] obeys member count allowed room = rw append-nil obeys
+sends_obey n p before u (s ∷ sends) obeys member count allowed room =
+    let e : Mark = mark.Send p (before + 1) s.0 in
+    let here = All-head (λ (x : ℕ × Note). (x.0 < n) × (x.0 ≢ p)) s sends allowed in
+    let may : MayFollow n u e = (member, here.0, (λ h. here.1 (sym h)), ap (λ x. x + 1) count, omega (arith, room)) in
+    let self : (p == p) ≡ true = eqb-self p in
+    let more : before + 1 ≡ sends_of (u ++ e ∷ []) p = rw (sum_by-append (λ y. cond (is_send_of p y) 1 0) u (e ∷ []), self) (omega (arith, count)) in
+    (rw append_assoc at (sends_obey n p (before + 1) (u ++ e ∷ []) sends (WellFormed-push n u e obeys may) member more (All-tail (λ (x : ℕ × Note). (x.0 < n) × (x.0 ≢ p)) s sends allowed) (omega (arith, room, length-append u (e ∷ [])))))
+
+-- what a member does stays the same as the trace grows, where each receipt's note is known
+actions-front : (t s u : List Event) (m : ℕ) → ((i to rsn from ssn : ℕ) → slice_get u i ≡ Some (Receipt to rsn from ssn) → (note : Note) × (note_of t from ssn ≡ Some note)) → filter_map (action_of (t ++ s) m) u ≡ filter_map (action_of t m) u
+actions-front t s [] m noted = refl
+actions-front t s (Send q k to x ∷ u) m noted = ap (λ xs. cons_option (action_of t m (Send q k to x)) xs) (actions-front t s u m (λ i. noted (suc i)))
+actions-front t s (Receipt to rsn from ssn ∷ u) m noted =
+    let n = noted 0 to rsn from ssn refl in
+    let e : note_of (t ++ s) from ssn ≡ note_of t from ssn = note_of-front t s from ssn n.0 n.1 ∙ sym n.1 in
+    rw e (ap (λ xs. cons_option (action_of t m (Receipt to rsn from ssn)) xs) (actions-front t s u m (λ i. noted (suc i))))
+
+sent-note : (t : List Event) (i q k to : ℕ) (x : Note) → slice_get t i ≡ Some (Send q k to x) → (note : Note) × (note_of t q k ≡ Some note)
+sent-note [] i q k to x h = cc
+sent-note (Send q' k' to' x' ∷ t) zero q k to x h =
+    let e1 : q' ≡ q = cc in
+    let e2 : k' ≡ k = cc in
+    let f1 : (q' == q) ≡ true = grind (arith, nat_tests) in
+    let f2 : (k' == k) ≡ true = grind (arith, nat_tests) in
+    (x', rw (f1, f2))
+sent-note (Send q' k' to' x' ∷ t) (suc i) q k to x h = at (q' == q && k' == k) (sent-note t i q k to x h) where
+  at : (b : Bool) → (note : Note) × (note_of t q k ≡ Some note) → (note : Note) × (cond b (Some x') (note_of t q k) ≡ Some note)
+  at true r = (x', refl)
+  at false r = r
+sent-note (Receipt p r q' s ∷ t) zero q k to x h = cc
+sent-note (Receipt p r q' s ∷ t) (suc i) q k to x h = sent-note t i q k to x h
+
+-- in a trace that obeys the rules each receipt's message was sent, so its note is known
+pub receipts-noted : (n : ℕ) (t : List Event) → WellFormed n (map mark_of t) → (i to rsn from ssn : ℕ) → slice_get t i ≡ Some (Receipt to rsn from ssn) → (note : Note) × (note_of t from ssn ≡ Some note)
+receipts-noted n t obeys i to rsn from ssn at =
+    let at_mark : At (map mark_of t) i (mark.Receipt to rsn from ssn) = slice_get-map mark_of t i ∙ (rw at) in
+    let may = obeys i (mark.Receipt to rsn from ssn) at_mark in
+    let sent' = in_flight-sent (take i (map mark_of t)) from ssn to may.5 in
+    let whole : At (map mark_of t) sent'.0 (mark.Send from ssn to) = (rw take-append-drop at (At-front (take i (map mark_of t)) (drop i (map mark_of t)) sent'.0 (mark.Send from ssn to) sent'.1)) in
+    is_send sent'.0 (slice_get t sent'.0) refl (sym (slice_get-map mark_of t sent'.0) ∙ whole) where
+      by_event : (j : ℕ) (e : Event) → slice_get t j ≡ Some e → mark_of e ≡ mark.Send from ssn to → (note : Note) × (note_of t from ssn ≡ Some note)
+      by_event j (Send q k p x) h is =
+          let e1 : q ≡ from = cc in
+          let e2 : k ≡ ssn = cc in
+          (let r = sent-note t j q k p x h in (r.0, (rw (← e1, ← e2) r.1)))
+      by_event j (Receipt p r q k) h is = cc
+
+      is_send : (j : ℕ) (o : Option Event) → slice_get t j ≡ o → option_map mark_of o ≡ Some (mark.Send from ssn to) → (note : Note) × (note_of t from ssn ≡ Some note)
+      is_send j None h is = cc
+      is_send j (Some e) h is = by_event j e h (cc)
+
+-- what the delivery adds to a member's actions
+added : (T : List Event) (p rsn q s before : ℕ) (note : Note) (sends : List (ℕ × Note)) (m : ℕ) → note_of T q s ≡ Some note → (((p ≡ m) × (filter_map (action_of T m) (Receipt p rsn q s ∷ step_events p before sends) ≡ took note ∷ map sent sends)) ⊎ (filter_map (action_of T m) (Receipt p rsn q s ∷ step_events p before sends) ≡ []))
+added T p rsn q s before note sends m noted = at (p == m) refl where
+  at : (b : Bool) → (p == m) ≡ b → (((p ≡ m) × (filter_map (action_of T m) (Receipt p rsn q s ∷ step_events p before sends) ≡ took note ∷ map sent sends)) ⊎ (filter_map (action_of T m) (Receipt p rsn q s ∷ step_events p before sends) ≡ []))
+  at true is =
+      let same : p ≡ m = grind (arith, nat_tests) in
+      inl (same, (rw (is, noted) (ap (λ xs. took note ∷ xs) (subst (λ (x : ℕ). filter_map (action_of T x) (step_events p before sends) ≡ map sent sends) same (own_sends T p before sends)))))
+  at false is = inr (rw is (other_sends T p m before sends is))
+
+actions-append : (t new : List Event) (m : ℕ) → ((i to rsn from ssn : ℕ) → slice_get t i ≡ Some (Receipt to rsn from ssn) → (note : Note) × (note_of t from ssn ≡ Some note)) → actions_of (t ++ new) m ≡ actions_of t m ++ filter_map (action_of (t ++ new) m) new
+actions-append t new m noted = filter_map-append (action_of (t ++ new) m) t new ∙ ap (λ xs. xs ++ filter_map (action_of (t ++ new) m) new) (actions-front t new t m noted)
+
+responds_more : (next : Next) (n : ℕ) (starts : List Start) (t new : List Event) (p : ℕ) (note : Note) (sends : List (ℕ × Note)) → sends ≡ (next p n (fold (λ state x. (next p n state x).state) 0 (notes_of (actions_of t p))) note).sends.items → (m : ℕ) (more : List Action) → actions_of t m ≡ map sent (starts_of m starts) ++ responses next m n 0 (notes_of (actions_of t m)) → actions_of (t ++ new) m ≡ actions_of t m ++ more → (((p ≡ m) × (more ≡ took note ∷ map sent sends)) ⊎ (more ≡ [])) → actions_of (t ++ new) m ≡ map sent (starts_of m starts) ++ responses next m n 0 (notes_of (actions_of (t ++ new) m))
+responds_more next n starts t new p note sends answer m more was is (inr none) =
+    (let e : actions_of (t ++ new) m ≡ actions_of t m = is ∙ (rw (none, append-nil)) in rw e was)
+responds_more next n starts t new p note sends answer m more was is (inl some) =
+    let old = actions_of t m in
+    let tail : List Action = took note ∷ map sent sends in
+    let answer_m : sends ≡ (next m n (fold (λ state x. (next m n state x).state) 0 (notes_of (actions_of t m))) note).sends.items = subst (λ (x : ℕ). sends ≡ (next x n (fold (λ state y. (next x n state y).state) 0 (notes_of (actions_of t x))) note).sends.items) some.0 answer in
+    let whole : actions_of (t ++ new) m ≡ old ++ tail = is ∙ ap (λ xs. old ++ xs) some.1 in
+    let notes : notes_of (actions_of (t ++ new) m) ≡ notes_of old ++ note ∷ [] = ap notes_of whole ∙ notes_of-append old tail ∙ ap (λ xs. notes_of old ++ note ∷ xs) (notes_of-sent sends) in
+    let replies : responses next m n 0 (notes_of (actions_of (t ++ new) m)) ≡ responses next m n 0 (notes_of old) ++ tail = ap (λ xs. responses next m n 0 xs) notes ∙ responses-push next m n 0 (notes_of old) note ∙ ap (λ xs. responses next m n 0 (notes_of old) ++ (took note ∷ map sent xs)) (sym answer_m) in
+    whole ∙ ap (λ xs. xs ++ tail) was ∙ append_assoc (map sent (starts_of m starts)) (responses next m n 0 (notes_of old)) tail ∙ ap (λ xs. map sent (starts_of m starts) ++ xs) (sym replies)
+
+-- a delivery keeps a trace lawful
+pub Lawful-deliver : (next : Next) (n : ℕ) (starts : List Start) (t : List Event) (p rsn q s : ℕ) (note : Note) (sends : List (ℕ × Note)) → Lawful next n starts t → MayFollow n (map mark_of t) (mark.Receipt p rsn q s) → note_of t q s ≡ Some note → sends ≡ (next p n (fold (λ state x. (next p n state x).state) 0 (notes_of (actions_of t p))) note).sends.items → All (λ (x : ℕ × Note). (x.0 < n) × (x.0 ≢ p)) sends → length t + 1 + length sends ≤ 8192 → length starts ≤ length t → Lawful next n starts (t ++ Receipt p rsn q s ∷ step_events p (sends_of (map mark_of t) p) sends)
+Lawful-deliver next n starts t p rsn q s note sends lawful may noted answer allowed room begun =
+    let before = sends_of (map mark_of t) p in
+    let new = Receipt p rsn q s ∷ step_events p before sends in
+    let R : Mark = mark.Receipt p rsn q s in
+    let count : before ≡ sends_of (map mark_of t ++ R ∷ []) p = rw (sum_by-append (λ y. cond (is_send_of p y) 1 0) (map mark_of t) (R ∷ [])) (omega arith) in
+    let fits : length (map mark_of t ++ R ∷ []) + length sends ≤ 8192 = omega (arith, length-append (map mark_of t) (R ∷ []), length-map t mark_of, room) in
+    record {
+      well_formed = rw (map-append mark_of t new) (rw append_assoc at (sends_obey n p before (map mark_of t ++ R ∷ []) sends (WellFormed-push n (map mark_of t) R lawful.well_formed may) may.1 count allowed fits));
+      starts_first = rw (take-append-le (length starts) t new begun) lawful.starts_first;
+      responds = λ m. responds_more next n starts t new p note sends answer m (filter_map (action_of (t ++ new) m) new) (lawful.responds m) (actions-append t new m (receipts-noted n t lawful.well_formed)) (added (t ++ new) p rsn q s before note sends m (note_of-front t new q s note noted));
+    }
+
+filter_map-shorter : {X Y : Type 0} (f : X → Option Y) (xs : List X) → length (filter_map f xs) ≤ length xs
+filter_map-shorter f [] = omega arith
+filter_map-shorter f (x ∷ xs) = at (f x) (filter_map-shorter f xs) where
+  at : (o : Option _) → length (filter_map f xs) ≤ length xs → length (cons_option o (filter_map f xs)) ≤ length (x ∷ xs)
+  at None h = omega (arith, h)
+  at (Some y) h = omega (arith, h)
+
+-- a lawful trace has at least its starts
+pub Lawful-begun : (next : Next) (n : ℕ) (starts : List Start) (t : List Event) → Lawful next n starts t → length starts ≤ length t
+Lawful-begun next n starts t lawful =
+    omega (arith, ap length lawful.starts_first, filter_map-shorter start_of (take (length starts) t), length-take (length starts) t)

@@ -1,0 +1,37 @@
+-- Precedence between places and between events say the same of a trace that obeys the rules.
+use Rattle.std.proofs.Common.{ℕ, ◌≡◌, ◌<◌, ◌⊎◌, inl, inr, List, take, arith}
+use Rattle.fbl_base.specs.declared.trace.Mark.{Mark}
+use Rattle.fbl_base.specs.Events.{At}
+use Rattle.fbl_base.specs.Precedence.{Precedes, itself, step}
+use Rattle.fbl_base.specs.Rules.{WellFormed}
+use Rattle.fbl_base.specs.Places as places
+use Rattle.fbl_base.proofs.Gets.{slice_get-take}
+use Rattle.fbl_base.proofs.RulesLaws.{MayFollow-new, WellFormed-take}
+
+-- no event stands twice
+pub one_place : (n : ℕ) (t : List Mark) → WellFormed n t → (e : Mark) (i j : ℕ) → At t i e → At t j e → i ≡ j
+one_place n t obeys e i j at_i at_j = at (order i j) where
+  order : (x y : ℕ) → (x < y) ⊎ (y < x) ⊎ (x ≡ y)
+  order x y = grind arith
+
+  not_before : (x y : ℕ) → At t x e → At t y e → x < y → ⊥
+  not_before x y at_x at_y below = MayFollow-new n (take y t) e (WellFormed-take n y t obeys) (obeys y e at_y) (x, slice_get-take t y x e below at_x)
+
+  at : (i < j) ⊎ (j < i) ⊎ (i ≡ j) → i ≡ j
+  at (inl below) = absurd (not_before i j at_i at_j below)
+  at (inr (inl above)) = absurd (not_before j i at_j at_i above)
+  at (inr (inr same)) = same
+
+pub events-from_places : (t : List Mark) (i j : ℕ) (a b : Mark) → At t i a → At t j b → places.Precedes t i j → Precedes t a b
+events-from_places t i j a b at_a at_b (places.itself h) = (let e : a ≡ b = cc in rw (← e) (itself (i, at_a)))
+events-from_places t i j a b at_a at_b (places.step {j = k} {k = m} p l) =
+    let last : l.1 ≡ b = cc in
+    let first = events-from_places t i k a l.0 at_a l.3 p in
+    (rw last at (step first ((k, m, l.2, l.3, l.4), l.5)))
+
+pub places-from_events : (n : ℕ) (t : List Mark) → WellFormed n t → (i : ℕ) (a : Mark) → At t i a → (j : ℕ) (b : Mark) → At t j b → Precedes t a b → places.Precedes t i j
+places-from_events n t obeys i a at_a j b at_b (itself h) = (let e = one_place n t obeys a i j at_a at_b in rw (← e) (places.itself at_a))
+places-from_events n t obeys i a at_a j b at_b (step {b = c} {c = d} p l) =
+    let first = places-from_events n t obeys i a at_a l.0.0 c l.0.3 p in
+    let e = one_place n t obeys b l.0.1 j l.0.4 at_b in
+    (rw e at (places.step first (c, b, l.0.2, l.0.3, l.0.4, l.1)))

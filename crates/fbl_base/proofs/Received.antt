@@ -1,0 +1,96 @@
+-- Which determinants receipts have.
+use Rattle.std.proofs.Common.{nat_lt, drop, ◌&&◌, ℕ, zero, suc, ◌+◌, ◌<◌, ◌≤◌, ◌≡◌, Bool, true, cond, ◌||◌, List, [], ◌∷◌, length, take, get_or, slice_get, Option, Some, None, refl, sym, ap, ◌∙◌, arith, Decides, length-take}
+use Rattle.std.proofs.lemmas.Bool.Decides.{nat_tests}
+use Rattle.std.specs.List.{list_any, filter_map, cons_option}
+use Rattle.std.proofs.lemmas.List.{take_more, take-append-drop, take-append-le}
+use Rattle.std.proofs.lemmas.List.Folds.{list_any-append}
+use Rattle.std.proofs.lemmas.List.Elements.{filter_map-append}
+use Rattle.std.proofs.lemmas.Option.{slice_get_read, slice_get-get_or, get_or_from_slice_get}
+use Rattle.fbl_base.specs.declared.trace.Determinant.{Determinant}
+use Rattle.fbl_base.specs.declared.trace.Mark.{Mark}
+use Rattle.fbl_base.specs.declared.trace.Mark.TheVariants.{Send, Receipt}
+use Rattle.fbl_base.specs.Events.{At, determinant_of}
+use Rattle.fbl_base.specs.Precedence.{Has}
+use Rattle.fbl_base.specs.Rules.{MayFollow, ObeysAt, WellFormed}
+use Rattle.fbl_base.specs.Audit.{Parts, HeldAt}
+use Rattle.fbl_base.specs.Events.{same_determinant, receipt_of}
+use Rattle.fbl_base.specs.DumpParts.{is_received}
+use Rattle.fbl_base.proofs.Gets.{At-front, At-below, At-filter_map}
+use Rattle.fbl_base.proofs.Recorded.{Decides-same_determinant, any_at, at_any, or_cond, or_false, both_true}
+
+more : (events : List Mark) (i : ℕ) (e : Mark) (d : Determinant) → i < length events → e ≡ get_or events i e → is_received (take (i + 1) events) d ≡ (is_received (take i events) d || list_any (λ x. same_determinant x d) (cons_option (determinant_of e) []))
+more events i e d below is = rw (take_more events i e below, ← is, filter_map-append determinant_of (take i events) (e ∷ []), list_any-append (λ x. same_determinant x d))
+
+-- one more receipt
+pub received_more : (events : List Mark) (i : ℕ) (e : Mark) (key d : Determinant) (before after : Bool) → i < length events → e ≡ get_or events i e → determinant_of e ≡ Some key → before ≡ is_received (take i events) d → after ≡ cond (same_determinant key d) true before → after ≡ is_received (take (i + 1) events) d
+received_more events i e key d before after below is some was now =
+    now ∙ or_cond (same_determinant key d) before ∙ ap (λ b. b || same_determinant key d) was ∙ (rw (more events i e d below is, some) (ap (λ b. is_received (take i events) d || b) (or_false (same_determinant key d))))
+
+-- one more send
+pub received_same : (events : List Mark) (i : ℕ) (e : Mark) (d : Determinant) (before : Bool) → i < length events → e ≡ get_or events i e → determinant_of e ≡ None → before ≡ is_received (take i events) d → before ≡ is_received (take (i + 1) events) d
+received_same events i e d before below is none was = was ∙ or_false _ ∙ (rw (more events i e d below is, none))
+
+is_receipt : (e : Mark) (d : Determinant) → determinant_of e ≡ Some d → e ≡ receipt_of d
+is_receipt (Send q s p) d h = cc
+is_receipt (Receipt p r q s) d h = (let e : ◌≡◌ {A = Determinant} (record { from = q; ssn = s; to = p; rsn = r }) d = cc in rw (← e))
+
+filter_map-At : {X Y : Type 0} (f : X → Option Y) (xs : List X) (i : ℕ) (x : X) (y : Y) → slice_get xs i ≡ Some x → f x ≡ Some y → (j : ℕ) × (slice_get (filter_map f xs) j ≡ Some y)
+filter_map-At f [] i x y at is = cc
+filter_map-At f (z ∷ xs) zero x y at is = (let e : f z ≡ Some y = (let same : z ≡ x = cc in ap f same ∙ is) in (0, rw e))
+filter_map-At {X} {Y} f (z ∷ xs) (suc i) x y at is = skip (f z) (filter_map-At f xs i x y at is) where
+  skip : (o : Option Y) → (j : ℕ) × (slice_get (filter_map f xs) j ≡ Some y) → (j : ℕ) × (slice_get (cons_option o (filter_map f xs)) j ≡ Some y)
+  skip None r = r
+  skip (Some w) r = (suc r.0, r.1)
+
+-- the test means that the events have the receipt
+pub Decides-is_received : (events : List Mark) (d : Determinant) → Decides (is_received events d) (Has events (receipt_of d))
+Decides-is_received events d = (has, received) where
+  has : is_received events d ≡ true → Has events (receipt_of d)
+  has h =
+      let a = any_at (λ x. same_determinant x d) (filter_map determinant_of events) h in
+      let same : a.1 ≡ d = (Decides-same_determinant a.1 d).0 a.4 in
+      let b = At-filter_map determinant_of events a.0 a.1 (slice_get-get_or (filter_map determinant_of events) a.0 a.1 a.2 ∙ ap Some a.3) in
+      (b.0, b.2 ∙ ap Some (is_receipt b.1 a.1 b.3 ∙ ap receipt_of same))
+
+  received : Has events (receipt_of d) → is_received events d ≡ true
+  received has' =
+      let a = filter_map-At determinant_of events has'.0 (receipt_of d) d has'.1 refl in
+      at_any (λ x. same_determinant x d) (filter_map determinant_of events) a.0 d (At-below _ a.0 d a.1) (get_or_from_slice_get (filter_map determinant_of events) a.0 d d a.1) ((Decides-same_determinant d d).1 refl)
+
+-- the front of a trace whose places obey the rules
+pub WellFormed-below : (n : ℕ) (t : List Mark) (i : ℕ) → ((j : ℕ) → j < i → ObeysAt n t j) → WellFormed n (take i t)
+WellFormed-below n t i obeyed j e at =
+    let below : j < length (take i t) = At-below (take i t) j e at in
+    let within : j < i = omega (arith, length-take i t) in
+    let whole : At t j e = (rw take-append-drop at (At-front (take i t) (drop i t) j e at)) in
+    let front : take j (take i t) ≡ take j t = (rw take-append-drop at (sym (take-append-le j (take i t) (drop i t) (omega (arith, below))))) in
+    rw front (obeyed j within e whole)
+
+pub WellFormed-all : (n : ℕ) (t : List Mark) (i : ℕ) → length t ≤ i → ((j : ℕ) → j < i → ObeysAt n t j) → WellFormed n t
+WellFormed-all n t i all obeyed j e at = obeyed j (omega (arith, At-below t j e at, all)) e at
+
+-- no event may come after 8192 others
+pub too_many : (n : ℕ) (t : List Mark) (place : ℕ) → place < length t → 8192 ≤ place → ¬ (ObeysAt n t place)
+too_many n (e ∷ t) place below most obeys = over (get_or (e ∷ t) place e) (obeys (get_or (e ∷ t) place e) (slice_get-get_or (e ∷ t) place e below)) where
+  over : (x : Mark) → MayFollow n (take place (e ∷ t)) x → ⊥
+  over (Send q s p) may = omega (arith, may.4, length-take place (e ∷ t), below, most)
+  over (Receipt p r q s) may = omega (arith, may.4, length-take place (e ∷ t), below, most)
+too_many n [] place below most obeys = omega arith
+
+-- the test of a pair tells whether its place fits
+pub pair_verdict : (dump : Parts) (i : ℕ) (h : ℕ × Determinant) (received : Bool) → i < length dump.held → h ≡ get_or dump.held i h → received ≡ is_received dump.events h.1 → Decides (nat_lt i 131072 && (nat_lt h.0 dump.members && received)) (HeldAt dump i)
+pair_verdict dump i h received below is was =
+    let at : slice_get dump.held i ≡ Some h = slice_get_read dump.held (length dump.held) i h refl below is in
+    let decides = Decides-is_received dump.events h.1 in (
+      λ t.
+          let t1 = both_true (nat_lt i 131072) _ t in
+          let t2 = both_true (nat_lt h.0 dump.members) _ t1.1 in
+          λ g at_g. (let same : h ≡ g = cc in rw (← same) (lt-of t1.0, lt-of t2.0, decides.0 (sym was ∙ t2.1))),
+      λ held. (let g = held h at in rw (of-lt g.0, of-lt g.1, was) (decides.1 g.2)),
+    )
+  where
+    lt-of : {a b : ℕ} → nat_lt a b ≡ true → a < b
+    lt-of {a} {b} t = grind (arith, nat_tests)
+
+    of-lt : {a b : ℕ} → a < b → nat_lt a b ≡ true
+    of-lt {a} {b} t = grind (arith, nat_tests)

@@ -1,0 +1,129 @@
+-- Which determinants are recorded.
+use Rattle.std.proofs.Common.{replicate, [], ◌∷◌, zero, suc, ℕ, ◌+◌, ◌<◌, ◌≡◌, ◌==◌, Bool, true, false, not, cond, ◌&&◌, ◌||◌, List, length, take, get_or, refl, sym, ap, ◌∙◌, arith, Decides, ◌↔◌}
+use Rattle.std.specs.List.{list_any}
+use Rattle.std.specs.Ordering.{nat_cmp}
+use Rattle.std.specs.FinSet as set
+use Rattle.std.proofs.lemmas.Bool.Decides.{nat_tests}
+use Rattle.std.proofs.lemmas.List.Folds.{list_any_more}
+use Rattle.fbl_base.specs.declared.trace.Determinant.{Determinant}
+use Rattle.std.proofs.lemmas.Bool.{false≢true}
+use Rattle.fbl_base.specs.declared.trace.Mark.{Mark}
+use Rattle.fbl_base.specs.declared.trace.Mark.TheVariants.{Send, Receipt}
+use Rattle.fbl_base.specs.Reach.{is_lost_test}
+use Rattle.fbl_base.specs.Audit.{Parts, is_recorded, Recorded, IsLost, IsOrphan}
+use Rattle.fbl_base.specs.Events.{same_determinant}
+use Rattle.fbl_base.proofs.ReachLaws.{Tracks}
+use Rattle.std.specs.Cmp.{nat_cmp_total}
+
+abbrev holds_it : set.FinSet nat_cmp → Determinant → ℕ × Determinant → Bool
+holds_it strike d h = not (set.contains strike h.0) && same_determinant h.1 d
+
+pub or_cond : (a b : Bool) → cond a true b ≡ (b || a)
+or_cond true true = refl
+or_cond true false = refl
+or_cond false true = refl
+or_cond false false = refl
+
+pub or_false : (b : Bool) → b ≡ (b || false)
+or_false true = refl
+or_false false = refl
+
+-- a survivor's pair adds its determinant
+pub recorded_kept : (strike : set.FinSet nat_cmp) (xs : List (ℕ × Determinant)) (i : ℕ) (x : ℕ × Determinant) (d : Determinant) (before after : Bool) → i < length xs → x ≡ get_or xs i x → set.contains strike x.0 ≡ false → before ≡ list_any (holds_it strike d) (take i xs) → after ≡ cond (same_determinant x.1 d) true before → after ≡ list_any (holds_it strike d) (take (i + 1) xs)
+recorded_kept strike xs i x d before after within is out was now =
+    let one : holds_it strike d x ≡ same_determinant x.1 d = ap (λ b. not b && same_determinant x.1 d) out in
+    now ∙ or_cond (same_determinant x.1 d) before ∙ ap (λ b. b || same_determinant x.1 d) was ∙ (rw (list_any_more (holds_it strike d) xs i x within, ← is, one))
+
+-- a struck member's pair adds nothing
+pub recorded_skipped : (strike : set.FinSet nat_cmp) (xs : List (ℕ × Determinant)) (i : ℕ) (x : ℕ × Determinant) (d : Determinant) (before : Bool) → i < length xs → x ≡ get_or xs i x → set.contains strike x.0 ≡ true → before ≡ list_any (holds_it strike d) (take i xs) → before ≡ list_any (holds_it strike d) (take (i + 1) xs)
+recorded_skipped strike xs i x d before within is out was =
+    let one : holds_it strike d x ≡ false = ap (λ b. not b && same_determinant x.1 d) out in
+    was ∙ or_false _ ∙ (rw (list_any_more (holds_it strike d) xs i x within, ← is, one))
+
+pub eqb_same : {a b : ℕ} → (a == b) ≡ true → a ≡ b
+eqb_same {a} {b} h = grind (arith, nat_tests)
+
+pub same_eqb : (a : ℕ) → (a == a) ≡ true
+same_eqb a = grind (arith, nat_tests)
+
+pub both_true : (a b : Bool) → (a && b) ≡ true → (a ≡ true) × (b ≡ true)
+both_true true b h = (refl, h)
+both_true false b h = cc
+
+pub Decides-same_determinant : (a b : Determinant) → Decides (same_determinant a b) (a ≡ b)
+Decides-same_determinant a b = (same, is) where
+  same : same_determinant a b ≡ true → a ≡ b
+  same h =
+      let h1 = both_true (a.from == b.from) _ h in
+      let h2 = both_true (a.ssn == b.ssn) _ h1.1 in
+      let h3 = both_true (a.to == b.to) _ h2.1 in
+      let e1 : a.from ≡ b.from = eqb_same h1.0 in
+      let e2 : a.ssn ≡ b.ssn = eqb_same h2.0 in
+      let e3 : a.to ≡ b.to = eqb_same h3.0 in
+      let e4 : a.rsn ≡ b.rsn = eqb_same h3.1 in
+      (λ i. record { from = e1 i; ssn = e2 i; to = e3 i; rsn = e4 i })
+
+  is : a ≡ b → same_determinant a b ≡ true
+  is e = rw (← e) (rw (same_eqb a.from, same_eqb a.ssn, same_eqb a.to, same_eqb a.rsn))
+
+-- a list has an element that passes the test exactly where the test over the list says so
+pub any_at : {X : Type 0} (p : X → Bool) (xs : List X) → list_any p xs ≡ true → (k : ℕ) × (x : X) × (k < length xs) × (get_or xs k x ≡ x) × (p x ≡ true)
+any_at p [] h = cc
+any_at {X} p (x ∷ xs) h = at_head (p x) refl h (λ g. any_at p xs g) where
+  at_head : (b : Bool) → p x ≡ b → (b || list_any p xs) ≡ true → (list_any p xs ≡ true → (k : ℕ) × (y : X) × (k < length xs) × (get_or xs k y ≡ y) × (p y ≡ true)) → (k : ℕ) × (y : X) × (k < length (x ∷ xs)) × (get_or (x ∷ xs) k y ≡ y) × (p y ≡ true)
+  at_head true is g rest = (0, x, omega arith, refl, is)
+  at_head false is g rest = (let r = rest g in (suc r.0, r.1, omega (arith, r.2), r.3, r.4))
+
+pub at_any : {X : Type 0} (p : X → Bool) (xs : List X) (k : ℕ) (x : X) → k < length xs → get_or xs k x ≡ x → p x ≡ true → list_any p xs ≡ true
+at_any p [] k x within is passes = absurd (omega arith)
+at_any p (y ∷ ys) zero x within is passes = (let e : p y ≡ true = ap p is ∙ passes in rw e)
+at_any p (y ∷ ys) (suc k) x within is passes = (let ih = at_any p ys k x (omega (arith, within)) is passes in rw (ih, or_true)) where
+  or_true : (b : Bool) → (b || true) ≡ true
+  or_true true = refl
+  or_true false = refl
+
+pub Decides-is_recorded : (dump : Parts) (d : Determinant) → Decides (is_recorded dump d) (Recorded dump d)
+Decides-is_recorded dump d = (
+  λ h.
+      let a = any_at (holds_it dump.strike d) dump.held h in
+      let b = both_true (not (set.contains dump.strike a.1.0)) (same_determinant a.1.1 d) a.4 in
+      let is : a.1.1 ≡ d = (Decides-same_determinant a.1.1 d).0 b.1 in
+      (a.1.0, (a.0, a.2, (let pair : (a.1.0, d) ≡ a.1 = (λ i. (a.1.0, sym is i)) in rw pair a.3)), not_true (set.contains dump.strike a.1.0) b.0),
+  λ r. at_any (holds_it dump.strike d) dump.held r.1.0 (r.0, d) r.1.1 r.1.2 (rw (r.2, (Decides-same_determinant d d).1 refl)),
+)
+  where
+    not_true : (b : Bool) → not b ≡ true → b ≡ false
+    not_true true h = sym h
+    not_true false h = refl
+
+-- what the test of the code says
+pub Decides-is_lost : (dump : Parts) (recorded : List Determinant) → ((d : Determinant) → list_any (same_determinant d) recorded ≡ is_recorded dump d) → (e : Mark) → Decides (is_lost_test same_determinant recorded e) (IsLost dump e)
+Decides-is_lost dump recorded is (Send from ssn to) = (λ h. cc, λ x. absurd x)
+Decides-is_lost dump recorded is (Receipt to rsn from ssn) =
+    let d : Determinant = record { from = from; ssn = ssn; to = to; rsn = rsn } in
+    let decides = Decides-is_recorded dump d in
+    rw (is d) (λ h r. absurd (false≢true (sym (not_true (is_recorded dump d) h) ∙ decides.1 r)), λ lost. true_not (is_recorded dump d) (λ h. lost (decides.0 h)))
+  where
+    not_true : (b : Bool) → not b ≡ true → b ≡ false
+    not_true true h = sym h
+    not_true false h = refl
+
+    true_not : (b : Bool) → (b ≡ true → ⊥) → not b ≡ true
+    true_not true h = absurd (h refl)
+    true_not false h = refl
+
+both_not : (a b : Bool) → ((a && not b) ≡ true) ↔ ((a ≡ true) × (b ≡ false))
+both_not true true = (λ h. cc, λ h. sym h.1)
+both_not true false = (λ h. (refl, refl), λ h. refl)
+both_not false b = (λ h. cc, λ h. h.0)
+
+-- at the end of the pass, the members reached outside the strike set are the orphans
+pub Tracks-orphans : (dump : Parts) (reached : set.FinSet nat_cmp) (clean : List ℕ) → Tracks (IsLost dump) dump.events reached clean → (q : ℕ) → (set.contains (set.difference reached dump.strike) q ≡ true) ↔ IsOrphan dump q
+Tracks-orphans dump reached clean tracks q =
+    let is = both_not (set.contains reached q) (set.contains dump.strike q) in
+    rw (set.contains-difference nat_cmp_total) (λ h. (let b = is.0 h in (b.1, (tracks.members q).0 b.0)), λ o. is.1 ((tracks.members q).1 o.1, o.0))
+
+pub zeros : (n q : ℕ) → ◌≡◌ {A = ℕ} (get_or {A = ℕ} (replicate n 0) q 0) 0
+zeros zero q = refl
+zeros (suc n) zero = refl
+zeros (suc n) (suc q) = zeros n q

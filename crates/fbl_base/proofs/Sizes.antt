@@ -1,0 +1,80 @@
+-- How many members sets have.
+use Rattle.std.proofs.Common.{ℕ, zero, suc, ◌+◌, ◌-◌, ◌<◌, ◌≤◌, ◌≡◌, ◌≢◌, Bool, true, false, cond, not, ◌&&◌, ◌||◌, List, [], ◌∷◌, refl, sym, ap, ◌∙◌, arith, eqb}
+use Rattle.std.proofs.lemmas.Bool.Decides.{nat_tests}
+use Rattle.std.proofs.lemmas.Bool.{false≢true}
+use Rattle.std.specs.List.{list_any}
+use Rattle.std.specs.Ordering.{nat_cmp, eq_by_cmp}
+use Rattle.std.specs.Cmp.{unsigned_tied, nat_cmp_total}
+use Rattle.std.specs.FinSet as set
+use Rattle.fbl_base.specs.MemberSets.{same_from_contains}
+
+MemberSet : Type 0
+MemberSet = set.FinSet nat_cmp
+
+eqb-self : (x : ℕ) → eqb x x ≡ true
+eqb-self x = grind (arith, nat_tests)
+
+-- a set that is not empty has a member
+pub some_member : (s : set.FinSet nat_cmp) → 0 < set.len s → (k : ℕ) × (set.contains s k ≡ true)
+some_member s more = at (set.items s) refl where
+  at : (ks : List ℕ) → set.items s ≡ ks → (k : ℕ) × (set.contains s k ≡ true)
+  at [] none =
+      let e : s ≡ set.empty = same_from_contains s set.empty (λ q. set.contains-items s q ∙ ap (λ ks. list_any (eq_by_cmp nat_cmp q) ks) none ∙ sym (set.contains-empty nat_cmp q)) in
+      absurd (omega (arith, ap set.len e, set.len-empty nat_cmp, more))
+  at (k ∷ ks) some =
+      let tie : eq_by_cmp nat_cmp k k ≡ true = unsigned_tied k k ∙ eqb-self k in
+      (k, set.contains-items s k ∙ ap (λ xs. list_any (eq_by_cmp nat_cmp k) xs) some ∙ ap (λ b. b || list_any (eq_by_cmp nat_cmp k) ks) tie)
+
+contains-remove_cases : (s : set.FinSet nat_cmp) (k q : ℕ) → set.contains (set.remove s k) q ≡ true → (q ≢ k) × (set.contains s q ≡ true)
+contains-remove_cases s k q h = parts (eqb q k) refl where
+  step : set.contains (set.remove s k) q ≡ (not (eqb q k) && set.contains s q)
+  step = set.contains-remove nat_cmp_total s k q ∙ ap (λ b. not b && set.contains s q) (unsigned_tied q k)
+
+  parts : (b : Bool) → eqb q k ≡ b → (q ≢ k) × (set.contains s q ≡ true)
+  parts true is = absurd (false≢true (sym (step ∙ ap (λ b. not b && set.contains s q) is) ∙ h))
+  parts false is = (λ e. (let t : eqb q k ≡ true = grind (arith, nat_tests) in false≢true (sym is ∙ t)), sym (step ∙ ap (λ b. not b && set.contains s q) is) ∙ h)
+
+contains-remove_other : (s : set.FinSet nat_cmp) (k q : ℕ) → q ≢ k → set.contains s q ≡ true → set.contains (set.remove s k) q ≡ true
+contains-remove_other s k q ne h =
+    let f : eqb q k ≡ false = grind (arith, nat_tests) in
+    set.contains-remove nat_cmp_total s k q ∙ ap (λ b. not b && set.contains s q) (unsigned_tied q k ∙ f) ∙ h
+
+len-remove_one : (s : set.FinSet nat_cmp) (k : ℕ) → set.contains s k ≡ true → set.len (set.remove s k) + 1 ≡ set.len s
+len-remove_one s k has =
+    let e : set.len (set.remove s k) ≡ set.len s - 1 = set.len-remove nat_cmp_total s k ∙ ap (λ b. cond b (set.len s - 1) (set.len s)) has in
+    at (set.len s) refl e where
+      at : (n : ℕ) → set.len s ≡ n → set.len (set.remove s k) ≡ set.len s - 1 → set.len (set.remove s k) + 1 ≡ set.len s
+      at zero none e = absurd (false≢true (sym (ap (λ x. set.contains x k) (set.empty_of_len s none) ∙ set.contains-empty nat_cmp k) ∙ has))
+      at (suc n) some e = omega (arith, e, some)
+
+-- a set within another has no more members
+pub len-within : (n : ℕ) (s t : set.FinSet nat_cmp) → set.len s ≡ n → ((q : ℕ) → set.contains s q ≡ true → set.contains t q ≡ true) → set.len s ≤ set.len t
+len-within zero s t none within = omega (arith, none)
+len-within (suc n) s t some within =
+    let k = some_member s (omega (arith, some)) in
+    let s1 = len-remove_one s k.0 k.1 in
+    let t1 = len-remove_one t k.0 (within k.0 k.1) in
+    let rest = len-within n (set.remove s k.0) (set.remove t k.0) (omega (arith, s1, some)) (λ q h. (let c = contains-remove_cases s k.0 q h in contains-remove_other t k.0 q c.0 (within q c.1))) in
+    omega (arith, s1, t1, rest)
+
+-- a set with more members than another has one that the other lacks
+pub some_outside : (s t : set.FinSet nat_cmp) → set.len t < set.len s → (k : ℕ) × (set.contains s k ≡ true) × (set.contains t k ≡ false)
+some_outside s t more = at (set.len (set.difference s t)) refl where
+  both : (a b : Bool) → (a && not b) ≡ true → (a ≡ true) × (b ≡ false)
+  both true true h = cc
+  both true false h = (refl, refl)
+  both false b h = cc
+
+  lacks : (a b : Bool) → (a && not b) ≡ false → a ≡ true → b ≡ true
+  lacks true true h e = refl
+  lacks true false h e = cc
+  lacks false b h e = cc
+
+  at : (n : ℕ) → set.len (set.difference s t) ≡ n → (k : ℕ) × (set.contains s k ≡ true) × (set.contains t k ≡ false)
+  at zero none =
+      let empty : (q : ℕ) → (set.contains s q && not (set.contains t q)) ≡ false = λ q. sym (set.contains-difference nat_cmp_total s t q) ∙ ap (λ x. set.contains x q) (set.empty_of_len (set.difference s t) none) ∙ set.contains-empty nat_cmp q in
+      absurd (omega (arith, more, len-within (set.len s) s t refl (λ q h. lacks (set.contains s q) (set.contains t q) (empty q) h)))
+  at (suc n) some =
+      let k = some_member (set.difference s t) (omega (arith, some)) in
+      let b = both (set.contains s k.0) (set.contains t k.0) (sym (set.contains-difference nat_cmp_total s t k.0) ∙ k.1) in
+      (k.0, b.0, b.1)

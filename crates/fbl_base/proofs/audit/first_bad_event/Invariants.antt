@@ -1,0 +1,11 @@
+use Rattle.std.proofs.Common.{ℕ, ◌<◌, ◌≤◌, take}
+use Rattle.fbl_base.specs.Rules.{ObeysAt}
+use Rattle.fbl_base.specs.Counted.{Counted}
+use Rattle.fbl_base.proofs.audit.first_bad_event.Given as goal
+
+abbrev pub invariant-loop-place : goal.invariant-loop-place
+invariant-loop-place g l = record {
+  counted : Counted (take l.place l.events) l.counts;
+  obeyed : (i : ℕ) → i < l.place → ObeysAt l.n l.events i;
+  few : l.place ≤ 8192;
+}

@@ -1,0 +1,10 @@
+use Rattle.std.proofs.Common.{◌≡◌, take, length}
+use Rattle.fbl_base.specs.Audit.{IsLost}
+use Rattle.fbl_base.proofs.ReachLaws.{Tracks}
+use Rattle.fbl_base.proofs.audit.orphans.Given as goal
+
+abbrev pub invariant-loop-event : goal.invariant-loop-event
+invariant-loop-event g l = record {
+  tracks : Tracks (IsLost l.dump) (take l.event-index l.event-items) l.reach.reached l.reach.unreached_sends;
+  room : length l.reach.unreached_sends ≡ 16;
+}

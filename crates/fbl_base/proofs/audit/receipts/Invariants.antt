@@ -1,0 +1,9 @@
+use Rattle.std.proofs.Common.{◌≡◌, take}
+use Rattle.std.specs.HashSet as hash_set
+use Rattle.fbl_base.specs.declared.trace.Determinant.{Determinant}
+use Rattle.fbl_base.specs.Events.{same_determinant}
+use Rattle.fbl_base.specs.DumpParts.{is_received}
+use Rattle.fbl_base.proofs.audit.receipts.Given as goal
+
+abbrev pub invariant-loop-event : goal.invariant-loop-event
+invariant-loop-event g l = (d : Determinant) → hash_set.contains same_determinant l.receipts d ≡ is_received (take l.event-index l.events) d

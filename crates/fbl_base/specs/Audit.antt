@@ -1,0 +1,74 @@
+-- What an audit says of a dump.
+use Rattle.std.specs.Prelude.{◌≡◌, Some, slice_get, ℕ, ◌<◌, Bool, false, not, ◌==◌, ◌&&◌, List}
+use Rattle.std.specs.List.{Contains, list_any, filter, filter_map}
+use Rattle.std.specs.Ordering.{nat_cmp}
+use Rattle.std.specs.FinSet as set
+use Rattle.fbl_base.specs.declared.trace.Determinant.{Determinant}
+use Rattle.fbl_base.specs.declared.trace.Mark.{Mark}
+use Rattle.fbl_base.specs.declared.trace.Mark.TheVariants.{Send, Receipt}
+use Rattle.fbl_base.specs.Events.{determinant_of, receipt_of, same_determinant}
+use Rattle.fbl_base.specs.Precedence.{Has, Depends}
+use Rattle.fbl_base.specs.Rules.{ObeysAt, WellFormed}
+use Rattle.fbl_base.specs.Configs.{MembersAllowed, FAllowed}
+use Rattle.fbl_base.specs.MemberSets.{AllBelow}
+use Rattle.fbl_base.specs.declared.refusal.DumpRefusal.{DumpRefusal}
+use Rattle.fbl_base.specs.declared.refusal.DumpRefusal.TheVariants.{BadMembers, BadF, BadEvent, BadHeld, BadStrike, Memory}
+
+-- the five parts of a dump
+pub record Parts : Type 0 where
+  pub members : ℕ
+  pub f : ℕ
+  pub events : List Mark
+  pub held : List (ℕ × Determinant)
+  pub strike : set.FinSet nat_cmp
+
+-- a member outside the strike set holds the determinant
+abbrev pub Recorded : Parts → Determinant → Type 0
+Recorded dump d = (holder : ℕ) × Contains dump.held (holder, d) × (set.contains dump.strike holder ≡ false)
+
+-- the same as `Recorded`, as a test
+abbrev pub is_recorded : Parts → Determinant → Bool
+is_recorded dump d = list_any (λ h. not (set.contains dump.strike h.0) && same_determinant h.1 d) dump.held
+
+-- the determinants of the lost receipts, in the order of the events
+abbrev pub lost_determinants : Parts → List Determinant
+lost_determinants dump = filter (λ d. not (is_recorded dump d)) (filter_map determinant_of dump.events)
+
+-- the event is a receipt whose determinant no member outside the strike set holds
+abbrev pub IsLost : Parts → Mark → Type 0
+IsLost dump (Send from ssn to) = ⊥
+IsLost dump (Receipt to rsn from ssn) = ¬ (Recorded dump (record { from = from; ssn = ssn; to = to; rsn = rsn }))
+
+-- the member is outside the strike set and depends on a lost receipt
+abbrev pub IsOrphan : Parts → ℕ → Type 0
+IsOrphan dump member =
+    (set.contains dump.strike member ≡ false) × ((e : Mark) × IsLost dump e × Depends dump.events member e)
+
+-- the pair at the place has a member of the group and the determinant of a receipt
+abbrev pub HeldAt : Parts → ℕ → Type 0
+HeldAt dump i =
+    (h : ℕ × Determinant) → slice_get dump.held i ≡ Some h → (i < 131072) × (h.0 < dump.members) × Has dump.events (receipt_of h.1)
+
+-- the rules of a dump
+pub record IsDump (dump : Parts) : Type 0 where
+  pub members : MembersAllowed dump.members
+  pub f : FAllowed dump.members dump.f
+  pub events : WellFormed dump.members dump.events
+  pub held : (i : ℕ) → HeldAt dump i
+  pub strike : AllBelow dump.strike dump.members
+
+-- P holds at each place before this one, and not here
+abbrev pub IsFirstBreach : (ℕ → Type 0) → ℕ → Type 0
+IsFirstBreach P place = ((i : ℕ) → i < place → P i) × ¬ (P place)
+
+-- the refusal is the first that fits
+abbrev pub RefusesDump : Parts → DumpRefusal → Type 0
+RefusesDump dump BadMembers = ¬ (MembersAllowed dump.members)
+RefusesDump dump BadF = MembersAllowed dump.members × ¬ (FAllowed dump.members dump.f)
+RefusesDump dump (BadEvent place) =
+    MembersAllowed dump.members × FAllowed dump.members dump.f × IsFirstBreach (ObeysAt dump.members dump.events) place
+RefusesDump dump (BadHeld place) =
+    MembersAllowed dump.members × FAllowed dump.members dump.f × WellFormed dump.members dump.events × IsFirstBreach (HeldAt dump) place
+RefusesDump dump BadStrike =
+    MembersAllowed dump.members × FAllowed dump.members dump.f × WellFormed dump.members dump.events × ((i : ℕ) → HeldAt dump i) × ¬ (AllBelow dump.strike dump.members)
+RefusesDump dump Memory = Unit {0}

@@ -1,0 +1,16 @@
+-- The parts of a raw dump.
+use Rattle.std.specs.Prelude.{Bool, List}
+use Rattle.std.specs.List.{list_any, filter_map}
+use Rattle.fbl_base.specs.declared.trace.Determinant.{Determinant}
+use Rattle.fbl_base.specs.declared.trace.Mark.{Mark}
+use Rattle.fbl_base.specs.declared.raw_dump.RawDump.{RawDump}
+use Rattle.fbl_base.specs.Events.{determinant_of}
+use Rattle.fbl_base.specs.Audit.{Parts}
+use Rattle.fbl_base.specs.Events.{same_determinant}
+
+abbrev pub parts_of : {A : Type 0} → RawDump A → Parts
+parts_of raw = record { members = raw.members; f = raw.f; events = raw.events.items; held = raw.held.items; strike = raw.strike }
+
+-- whether some receipt has the determinant
+abbrev pub is_received : List Mark → Determinant → Bool
+is_received events d = list_any (λ x. same_determinant x d) (filter_map determinant_of events)

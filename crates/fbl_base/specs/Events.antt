@@ -1,0 +1,39 @@
+-- The events of a trace.
+use Rattle.std.specs.Prelude.{ℕ, Bool, ◌==◌, ◌&&◌, Option, Some, None, List, slice_get, ◌≡◌}
+use Rattle.fbl_base.specs.declared.trace.Event.{Event}
+use Rattle.fbl_base.specs.declared.trace.Event.TheVariants as event
+use Rattle.fbl_base.specs.declared.trace.Determinant.{Determinant}
+use Rattle.fbl_base.specs.declared.trace.Mark.{Mark}
+use Rattle.fbl_base.specs.declared.trace.Mark.TheVariants.{Send, Receipt}
+
+-- an event without its note
+abbrev pub mark_of : Event → Mark
+mark_of (event.Send from ssn to note) = Send from ssn to
+mark_of (event.Receipt to rsn from ssn) = Receipt to rsn from ssn
+
+-- the member at which an event happens
+abbrev pub member_of : Mark → ℕ
+member_of (Send from ssn to) = from
+member_of (Receipt to rsn from ssn) = to
+
+-- what names a receipt
+abbrev pub determinant_of : Mark → Option Determinant
+determinant_of (Send from ssn to) = None
+determinant_of (Receipt to rsn from ssn) = Some (record { from = from; ssn = ssn; to = to; rsn = rsn })
+
+-- the receipt that a determinant names
+abbrev pub receipt_of : Determinant → Mark
+receipt_of d = Receipt d.to d.rsn d.from d.ssn
+
+-- whether two determinants are equal
+abbrev pub same_determinant : Determinant → Determinant → Bool
+same_determinant a b = (a.from == b.from) && ((a.ssn == b.ssn) && ((a.to == b.to) && (a.rsn == b.rsn)))
+
+-- the send whose message a receipt takes
+abbrev pub send_of : Mark → Option Mark
+send_of (Send from ssn to) = None
+send_of (Receipt to rsn from ssn) = Some (Send from ssn to)
+
+-- the trace has the event e at place i
+abbrev pub At : List Mark → ℕ → Mark → Type 0
+At trace i e = slice_get trace i ≡ Some e

@@ -1,0 +1,47 @@
+-- Laws of precedence and of lawful traces, for the functions that state them.
+use Rattle.std.specs.Prelude.{◌≡◌, ◌≢◌, ℕ, ◌+◌, ◌<◌, ◌≤◌, ◌⊎◌, ◌↔◌, List, [], ◌∷◌, ◌++◌, length, map, Some}
+use Rattle.std.specs.List.{All}
+use Rattle.fbl_base.specs.declared.trace.Note.{Note}
+use Rattle.fbl_base.specs.declared.trace.Start.{Start}
+use Rattle.fbl_base.specs.declared.trace.Event.{Event}
+use Rattle.fbl_base.specs.declared.trace.Event.TheVariants as event
+use Rattle.fbl_base.specs.declared.trace.Mark.{Mark}
+use Rattle.fbl_base.specs.declared.trace.Mark.TheVariants.{Send, Receipt}
+use Rattle.fbl_base.specs.Events.{At, mark_of, member_of}
+use Rattle.fbl_base.specs.Rules.{sends_of, MayFollow, WellFormed}
+use Rattle.fbl_base.specs.Precedence.{Has, Precedes, Depends}
+use Rattle.fbl_base.specs.Places as places
+use Rattle.fbl_base.specs.Fold.{Next, Lawful, actions_of, notes_of, note_of, state_after, step_events}
+
+-- what precedes an appended receipt: itself, what its member depended on, and what precedes its send
+abbrev pub ReceiptLaw : Type 0
+ReceiptLaw =
+    (t : List Mark) (to rsn from ssn : ℕ) (a : Mark)
+    → ¬ (Has t (Receipt to rsn from ssn))
+    → Precedes (t ++ Receipt to rsn from ssn ∷ []) a (Receipt to rsn from ssn) ↔ (a ≡ Receipt to rsn from ssn) ⊎ Depends t to a ⊎ Precedes t a (Send from ssn to)
+
+-- who depends on an event after one more: who did before, and the member of the new one where it is preceded by it
+abbrev pub DependsLaw : Type 0
+DependsLaw =
+    (t : List Mark) (e : Mark) (member : ℕ) (a : Mark)
+    → ¬ (Has t e)
+    → Depends (t ++ e ∷ []) member a ↔ Depends t member a ⊎ ((member_of e ≡ member) × Precedes (t ++ e ∷ []) a e)
+
+-- precedence between events is precedence between their places
+abbrev pub PlacesLaw : Type 0
+PlacesLaw =
+    (n : ℕ) (t : List Mark) → WellFormed n t
+    → (i j : ℕ) (a b : Mark) → At t i a → At t j b
+    → Precedes t a b ↔ places.Precedes t i j
+
+-- a delivery keeps a trace lawful
+abbrev pub DeliveryLaw : Type 0
+DeliveryLaw =
+    (next : Next) (n : ℕ) (starts : List Start) (t : List Event) (to rsn from ssn : ℕ) (note : Note) (sends : List (ℕ × Note))
+    → Lawful next n starts t
+    → MayFollow n (map mark_of t) (Receipt to rsn from ssn)
+    → note_of t from ssn ≡ Some note
+    → sends ≡ (next to n (state_after next to n (notes_of (actions_of t to))) note).sends.items
+    → All (λ (s : ℕ × Note). (s.0 < n) × (s.0 ≢ to)) sends
+    → length t + 1 + length sends ≤ 8192
+    → Lawful next n starts (t ++ event.Receipt to rsn from ssn ∷ step_events to (sends_of (map mark_of t) to) sends)

@@ -1,0 +1,14 @@
+pub mod Laws
+pub mod DumpParts
+pub mod Counted
+pub mod Configs
+pub mod Fold
+pub mod Audit
+pub mod Reach
+pub mod Rules
+pub mod Steps
+pub mod MemberSets
+pub mod Events
+pub mod Precedence
+pub mod Places
+pub mod Bits

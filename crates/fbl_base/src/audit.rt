@@ -1,0 +1,290 @@
+ghost use Rattle.std.specs.Prelude.{◌≡◌, ◌<◌, ◌≤◌, ◌↔◌, ℕ, true, Decides, ◌&&◌, nat_lt, IfOk, IfErr, MatchOption, replicate, length, IsTrue};
+ghost use Rattle.std.specs.FinSet as set;
+ghost use Rattle.fbl_base.specs.Audit.{HeldAt, IsDump, IsFirstBreach, IsLost, IsOrphan, RefusesDump, is_recorded, lost_determinants};
+ghost use Rattle.fbl_base.specs.Events.{same_determinant};
+ghost use Rattle.std.specs.HashSet as hash_set;
+ghost use Rattle.fbl_base.specs.DumpParts.{parts_of, is_received};
+ghost use Rattle.fbl_base.specs.Rules.{ObeysAt, WellFormed};
+ghost use Rattle.fbl_base.specs.Reach.{reached_after, unreached_sends_after, is_lost_test};
+
+use crate::member::Member;
+use crate::member_set::MemberSet;
+use crate::raw_dump::RawDump;
+use crate::refusal::DumpRefusal;
+use crate::rules::Counts;
+use crate::trace::{Determinant, Mark};
+use std::alloc::{AllocError, Allocator, Global};
+use std::collections::HashSet;
+use std::hash::{BuildHasherDefault, FoldHasher};
+use std::marker::Model;
+
+/// A dump that obeys the rules. Contracts see its five parts.
+#[derive(Drop)]
+pub struct Dump<A: Allocator = Global> {
+    raw: RawDump<A>,
+}
+
+impl<A: Allocator> Model for Dump<A> {
+    ghost use Rattle.fbl_base.specs.Audit.{Parts, IsDump};
+
+    ghost Value = { Parts };
+
+    ghost use Rattle.std.specs.Coded.{codes, coded_ℕ};
+    ghost use Rattle.std.specs.Ordering.{nat_cmp};
+    ghost use Rattle.std.specs.FinSet as set;
+    ghost use Rattle.fbl_base.specs.contracts.trace.Mark as mark;
+    ghost use Rattle.fbl_base.specs.contracts.trace.Determinant as determinant;
+
+    ghost coded = { Prim.hlevel (codes, mark.the_row.coded, determinant.the_row.coded, set.code {R = nat_cmp} coded_ℕ) };
+
+    ghost use Rattle.fbl_base.specs.DumpParts.{parts_of};
+
+    ghost view = { λ d. parts_of d.raw };
+
+    ghost invariant = { λ d. IsDump (parts_of d.raw) };
+}
+
+impl<A: Allocator> Dump<A> {
+    /// How many members the group had.
+    pub fn members(&self) -> u8
+        ensures { result ≡ self.now.members }
+    {
+        self.raw.members
+    }
+
+    /// How many of them might be lost at once.
+    pub fn f(&self) -> u8
+        ensures { result ≡ self.now.f }
+    {
+        self.raw.f
+    }
+
+    /// The events, in order.
+    pub fn events(&self) -> &[Mark]
+        ensures events { result.now ≡ self.now.events }
+        ensures rules { IsDump self.now }
+    {
+        self.raw.events.as_slice()
+    }
+
+    /// Who held which determinants, in the order in which the pairs were given.
+    pub fn held(&self) -> &[(Member, Determinant)]
+        ensures { result.now ≡ self.now.held }
+    {
+        self.raw.held.as_slice()
+    }
+
+    /// The members that were struck.
+    pub fn strike(&self) -> MemberSet
+        ensures { result ≡ self.now.strike }
+    {
+        self.raw.strike
+    }
+}
+
+/// Determinants by their hashes.
+type DeterminantSet<A> = HashSet<Determinant, BuildHasherDefault<FoldHasher>, A>;
+
+/// What a pass over the events has found: the members that a lost receipt reaches, and the number
+/// of each member's last send before it was reached.
+#[derive(Drop)]
+struct Reach {
+    reached: MemberSet,
+    unreached_sends: [u32; 16],
+}
+
+impl Reach {
+    fn new() -> Reach
+        ensures reached { result.reached ≡ set.empty }
+        ensures unreached_sends { result.unreached_sends ≡ replicate 16 0 }
+    {
+        Reach {
+            reached: MemberSet::empty(),
+            unreached_sends: [0; 16],
+        }
+    }
+
+    /// Takes in the next event.
+    fn follow(&mut self, event: Mark, lost: bool)
+        ensures reached { self.new.reached ≡ reached_after event lost self.old.reached self.old.unreached_sends }
+        ensures unreached_sends { self.new.unreached_sends ≡ unreached_sends_after event self.old.reached self.old.unreached_sends }
+    {
+        match event {
+            Mark::Send { from, ssn, to: _ } => {
+                if !self.reached.has(from) {
+                    self.unreached_sends[from.number() as usize] = ssn;
+                }
+            }
+            Mark::Receipt {
+                to,
+                rsn: _,
+                from,
+                ssn,
+            } => {
+                if lost || self.unreached_sends[from.number() as usize] < ssn {
+                    self.reached = self.reached.with(to);
+                }
+            }
+        }
+    }
+}
+
+/// The determinants that a member outside the strike set holds.
+fn recorded_determinants<A: Allocator + Copy>(
+    alloc: A,
+    dump: &Dump<A>,
+) -> Result<DeterminantSet<A>, AllocError>
+    ensures { IfOk result
+        (λ s. (d : _) → hash_set.contains same_determinant s d ≡ is_recorded dump.now d) }
+{
+    let strike = dump.strike();
+    let mut recorded = HashSet::new(alloc);
+    for (holder, determinant) in dump.held() {
+        if !strike.has(*holder) {
+            recorded.insert(*determinant)?;
+        }
+    }
+    Ok(recorded)
+}
+
+/// The determinants of the receipts that no member outside the strike set holds, in the order of the
+/// events. The time taken is linear in the events and the held pairs, on every dump, whether or not a group made it.
+pub fn lost<A: Allocator + Copy>(
+    alloc: A,
+    dump: &Dump<A>,
+) -> Result<Vec<Determinant, A>, AllocError>
+    ensures { IfOk result (λ v. v.items ≡ lost_determinants dump.now) }
+{
+    let recorded = recorded_determinants(alloc, dump)?;
+    let mut lost = Vec::new(alloc);
+    for event in dump.events() {
+        if let Some(determinant) = event.determinant() {
+            if !recorded.contains(&determinant) {
+                lost.push(determinant)?;
+            }
+        }
+    }
+    Ok(lost)
+}
+
+/// Whether the event is a receipt whose determinant isn't among those recorded.
+fn is_lost<A: Allocator>(recorded: &DeterminantSet<A>, event: Mark) -> bool
+    ensures { result ≡ is_lost_test same_determinant recorded.now.keys event }
+{
+    match event {
+        Mark::Send { .. } => false,
+        Mark::Receipt { to, rsn, from, ssn } => !recorded.contains(&Determinant {
+            from,
+            ssn,
+            to,
+            rsn,
+        }),
+    }
+}
+
+/// The members outside the strike set that depend on a receipt whose determinant no such member
+/// holds. The time taken is linear in the events and the held pairs, on every dump, whether or not a group made it.
+pub fn orphans<A: Allocator + Copy>(alloc: A, dump: &Dump<A>) -> Result<MemberSet, AllocError>
+    ensures { IfOk result (λ s. (q : ℕ) → (set.contains s q ≡ true) ↔ IsOrphan dump.now q) }
+{
+    let recorded = recorded_determinants(alloc, dump)?;
+    let mut reach = Reach::new();
+    for event in dump.events() {
+        let lost = is_lost(&recorded, *event);
+        reach.follow(*event, lost);
+    }
+    Ok(reach.reached.without(dump.strike()))
+}
+
+/// The first event that breaks a rule.
+fn first_bad_event<A: Allocator + Copy>(
+    alloc: A,
+    n: u8,
+    events: &[Mark],
+) -> Result<Option<usize>, AllocError>
+    requires { n ≤ 16 }
+    ensures { IfOk result (λ r. MatchOption r (WellFormed n events.now) (IsFirstBreach (ObeysAt n events.now))) }
+{
+    let mut counts = Counts::new(alloc)?;
+    for place in 0..events.len() {
+        if place >= 8192 {
+            return Ok(Some(place));
+        }
+        if !counts.admit(n, events, place)? {
+            return Ok(Some(place));
+        }
+    }
+    Ok(None)
+}
+
+/// The determinants of the receipts among the events.
+fn receipts<A: Allocator + Copy>(alloc: A, events: &[Mark]) -> Result<DeterminantSet<A>, AllocError>
+    ensures { IfOk result (λ s. (d : _) → hash_set.contains same_determinant s d ≡ is_received events.now d) }
+{
+    let mut receipts = HashSet::new(alloc);
+    for event in events {
+        if let Some(determinant) = event.determinant() {
+            receipts.insert(determinant)?;
+        }
+    }
+    Ok(receipts)
+}
+
+/// Whether the pair at `place` has a member below `n` and the determinant of one of the receipts.
+fn pair_fits<A: Allocator>(
+    n: u8,
+    receipts: &DeterminantSet<A>,
+    place: usize,
+    pair: (Member, Determinant),
+) -> bool
+    ensures { result ≡ (nat_lt place 131072 && (nat_lt pair.0 n && hash_set.contains same_determinant receipts.now pair.1)) }
+{
+    place < 131_072 && pair.0.number() < n && receipts.contains(&pair.1)
+}
+
+/// The first pair whose holder isn't below `n`, or that holds no receipt's determinant, or that is one
+/// too many.
+fn first_bad_pair<A: Allocator + Copy>(
+    alloc: A,
+    raw: &RawDump<A>,
+) -> Result<Option<usize>, AllocError>
+    ensures { IfOk result (λ r. MatchOption r ((i : ℕ) → HeldAt (parts_of raw.now) i) (IsFirstBreach (HeldAt (parts_of raw.now)))) }
+{
+    let receipts = receipts(alloc, raw.events.as_slice())?;
+    for place in 0..raw.held.len() {
+        let pair = raw.held[place];
+        if !pair_fits(raw.members, &receipts, place, pair) {
+            return Ok(Some(place));
+        }
+    }
+    Ok(None)
+}
+
+/// The dump, if it obeys the rules. A refused one is dropped. The time taken is linear in the events and the held
+/// pairs.
+pub fn check_dump<A: Allocator + Copy>(alloc: A, raw: RawDump<A>) -> Result<Dump<A>, DumpRefusal>
+    ensures accepted { IfOk result (λ d. d ≡ parts_of raw) }
+    ensures rules { IfOk result IsDump }
+    ensures refused { IfErr result (RefusesDump (parts_of raw)) }
+{
+    if raw.members < 2 || raw.members > 16 {
+        return Err(DumpRefusal::BadMembers);
+    }
+    if raw.f < 1 || raw.f >= raw.members {
+        return Err(DumpRefusal::BadF);
+    }
+    match first_bad_event(alloc, raw.members, raw.events.as_slice()) {
+        Ok(None) => {}
+        Ok(Some(place)) => return Err(DumpRefusal::BadEvent(place)),
+        Err(_) => return Err(DumpRefusal::Memory),
+    }
+    match first_bad_pair(alloc, &raw) {
+        Ok(None) => {}
+        Ok(Some(place)) => return Err(DumpRefusal::BadHeld(place)),
+        Err(_) => return Err(DumpRefusal::Memory),
+    }
+    if !raw.strike.within(raw.members) {
+        return Err(DumpRefusal::BadStrike);
+    }
+    Ok(Dump { raw })
+}

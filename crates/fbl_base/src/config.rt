@@ -1,0 +1,150 @@
+ghost use Rattle.std.specs.Prelude.{◌≡◌, ◌↔◌, IsTrue, IfOk, IfErr, MatchResult, length};
+ghost use Rattle.fbl_base.specs.Configs.{IsConfig, RefusesConfig};
+
+use crate::trace::Start;
+use std::alloc::{AllocError, Allocator, Global};
+use std::marker::Model;
+use thiserror::Error;
+
+/// Why there is no configuration of these parameters. The refusals are tested in this order.
+#[derive(Clone, Copy, PartialEq, Eq, Debug, Error)]
+pub enum ConfigRefusal {
+    /// There are not 2 to 16 members.
+    #[error("BadMembers")]
+    BadMembers,
+    /// The number of members that may be lost at once is not 1 to one less than that of members.
+    #[error("BadF")]
+    BadF,
+    /// The limit of the trace is not 1 to 8192 events.
+    #[error("BadLimit")]
+    BadLimit,
+    /// There are more than 64 starts.
+    #[error("TooManyStarts")]
+    TooManyStarts,
+    /// The start at this place, the first such, has an end outside the group, goes from a member to itself, or has
+    /// more than 15 hops.
+    #[error("BadStart {0}")]
+    BadStart(usize),
+    /// The trace may have fewer events than there are starts.
+    #[error("LimitBelowStarts")]
+    LimitBelowStarts,
+    /// There is no memory for a copy of the starts.
+    #[error("Memory")]
+    Memory,
+}
+
+/// The parameters of a group: how many members it has and how many of them may be lost at once, how many events its
+/// trace may have, and the messages that members send before anything is received.
+#[derive(Drop, Debug)]
+pub struct Config<A: Allocator = Global> {
+    members: u8,
+    f: u8,
+    limit: u32,
+    starts: Vec<Start, A>,
+}
+
+impl<A: Allocator> Model for Config<A> {
+    ghost use Rattle.fbl_base.specs.Configs.{Settings, IsConfig};
+
+    ghost Value = { Settings };
+
+    ghost view = { λ c. record { members = c.members; f = c.f; limit = c.limit; starts = c.starts.items } };
+
+    ghost invariant = { λ c. IsConfig (record { members = c.members; f = c.f; limit = c.limit; starts = c.starts.items }) };
+}
+
+impl<A: Allocator + Copy> Config<A> {
+    /// A configuration of these parameters, with a copy of the starts in the allocator's memory.
+    pub fn new(
+        alloc: A,
+        members: u8,
+        f: u8,
+        limit: u32,
+        starts: &[Start],
+    ) -> Result<Config<A>, ConfigRefusal>
+        ensures accepted { IfOk result (λ c. c ≡ record { members = members; f = f; limit = limit; starts = starts.now }) }
+        ensures rules { IfOk result IsConfig }
+        ensures refused { IfErr result (RefusesConfig (record { members = members; f = f; limit = limit; starts = starts.now })) }
+    {
+        if members < 2 || members > 16 {
+            return Err(ConfigRefusal::BadMembers);
+        }
+        if f < 1 || f >= members {
+            return Err(ConfigRefusal::BadF);
+        }
+        if limit < 1 || limit > 8192 {
+            return Err(ConfigRefusal::BadLimit);
+        }
+        if starts.len() > 64 {
+            return Err(ConfigRefusal::TooManyStarts);
+        }
+        for (place, start) in starts.iter().enumerate() {
+            if !start.is_allowed(members) {
+                return Err(ConfigRefusal::BadStart(place));
+            }
+        }
+        if (limit as usize) < starts.len() {
+            return Err(ConfigRefusal::LimitBelowStarts);
+        }
+        match starts.to_vec(alloc) {
+            Ok(starts) => Ok(Config {
+                members,
+                f,
+                limit,
+                starts,
+            }),
+            Err(_) => Err(ConfigRefusal::Memory),
+        }
+    }
+
+    /// How many members there are, 2 to 16.
+    pub fn members(&self) -> u8
+        ensures value { result ≡ self.now.members }
+        ensures rules { IsConfig self.now }
+    {
+        self.members
+    }
+
+    /// How many members may be lost at once, 1 to one less than there are.
+    pub fn f(&self) -> u8
+        ensures { result ≡ self.now.f }
+    {
+        self.f
+    }
+
+    /// How many events the trace may have, 1 to 8192.
+    pub fn limit(&self) -> u32
+        ensures { result ≡ self.now.limit }
+    {
+        self.limit
+    }
+
+    /// The messages that members send before anything is received, in order.
+    pub fn starts(&self) -> &[Start]
+        ensures { result.now ≡ self.now.starts }
+    {
+        self.starts.as_slice()
+    }
+
+    /// Whether the two have the same parameters.
+    pub fn same(&self, other: &Config<A>) -> bool
+        ensures { IsTrue result ↔ (self.now ≡ other.now) }
+    {
+        if self.members != other.members || self.f != other.f || self.limit != other.limit {
+            return false;
+        }
+        self.starts.as_slice() == other.starts.as_slice()
+    }
+
+    /// An equal configuration, in the same allocator's memory.
+    pub fn copy(&self) -> Result<Config<A>, AllocError>
+        ensures { IfOk result (λ c. c ≡ self.now) }
+    {
+        Ok(Config {
+            members: self.members,
+            f: self.f,
+            limit: self.limit,
+            starts: self.starts.as_slice().to_vec(*self.starts.allocator())?,
+        })
+    }
+}

@@ -1,0 +1,25 @@
+//! Laws of the definitions, each the contract of a function that does nothing.
+
+ghost use Rattle.fbl_base.specs.Laws.{ReceiptLaw, DependsLaw, PlacesLaw, DeliveryLaw};
+
+/// What precedes an added receipt: the receipt itself, what its member depended on, and what precedes its send.
+pub fn receipt_law()
+    ensures { ReceiptLaw }
+{}
+
+/// Who depends on an event after one more event: who did before, and the added event's member where the added event is
+/// preceded by it.
+pub fn depends_law()
+    ensures { DependsLaw }
+{}
+
+/// On a well-formed trace precedence between events is precedence between the places at which they stand.
+pub fn places_law()
+    ensures { PlacesLaw }
+{}
+
+/// A lawful trace with one more receipt, of the first message in flight on its channel, and with the sends that the
+/// behaviour answers, is lawful, and so well formed.
+pub fn delivery_law()
+    ensures { DeliveryLaw }
+{}

@@ -1,0 +1,89 @@
+ghost use Rattle.std.specs.Prelude.{◌≡◌, ◌<◌, ◌≤◌, ◌↔◌, ℕ, IsTrue, true, ◌&&◌, not};
+ghost use Rattle.std.specs.FinSet as set;
+ghost use Rattle.fbl_base.specs.MemberSets.{AllBelow};
+
+use crate::member::Member;
+use std::marker::Model;
+
+/// A set of members.
+#[derive(Clone, Copy, PartialEq, Eq, Debug)]
+pub struct MemberSet {
+    bits: u16,
+}
+
+impl Model for MemberSet {
+    ghost use Rattle.std.specs.Prelude.{◌<◌};
+    ghost use Rattle.std.specs.Ordering.{nat_cmp};
+    ghost use Rattle.std.specs.Coded.{coded_ℕ};
+    ghost use Rattle.std.specs.FinSet as set;
+    ghost use Rattle.fbl_base.specs.Bits.{set_of, number_of, number_of-set_of};
+
+    ghost Value = { set.FinSet nat_cmp };
+
+    ghost coded = { set.code coded_ℕ };
+
+    ghost view = { λ s. set_of s.bits };
+
+    ghost invariant = { λ s. s.bits < 65536 };
+
+    ghost inverse = { λ s. record { bits = number_of 16 0 s } };
+
+    ghost inverse_ok = { λ s h i. record { bits = number_of-set_of s.bits h i } };
+}
+
+impl MemberSet {
+    /// No members.
+    pub fn empty() -> MemberSet
+        ensures { result ≡ set.empty }
+    {
+        MemberSet { bits: 0 }
+    }
+
+    /// Whether the member is in the set.
+    pub fn has(self, member: Member) -> bool
+        ensures { result ≡ set.contains self member }
+    {
+        (self.bits >> member.number()) & 1 == 1
+    }
+
+    /// The set and the member.
+    pub fn with(self, member: Member) -> MemberSet
+        ensures { result ≡ set.insert self member }
+    {
+        MemberSet {
+            bits: self.bits | (1 << member.number()),
+        }
+    }
+
+    /// How many members there are.
+    pub fn count(self) -> u32
+        ensures { result ≡ set.len self }
+    {
+        self.bits.count_ones()
+    }
+
+    /// The members of either set.
+    pub fn union(self, other: MemberSet) -> MemberSet
+        ensures { result ≡ set.union self other }
+    {
+        MemberSet {
+            bits: self.bits | other.bits,
+        }
+    }
+
+    /// Whether each member is below `n`.
+    pub fn within(self, n: u8) -> bool
+        ensures { IsTrue result ↔ AllBelow self n }
+    {
+        n >= 16 || self.bits >> n == 0
+    }
+
+    /// The members that are not in the other set.
+    pub fn without(self, other: MemberSet) -> MemberSet
+        ensures { result ≡ set.difference self other }
+    {
+        MemberSet {
+            bits: self.bits & !other.bits,
+        }
+    }
+}

@@ -1,0 +1,19 @@
+use crate::member::Member;
+use crate::member_set::MemberSet;
+use crate::trace::{Determinant, Mark};
+use std::alloc::{Allocator, Global};
+
+/// A recorded trace, who held which determinants, and who was struck, from any source and not yet checked.
+#[derive(Drop)]
+pub struct RawDump<A: Allocator = Global> {
+    /// How many members the group had.
+    pub members: u8,
+    /// How many of them might be lost at once.
+    pub f: u8,
+    /// The events, in order.
+    pub events: Vec<Mark, A>,
+    /// Each pair says that the member held the determinant. A repeated pair counts once.
+    pub held: Vec<(Member, Determinant), A>,
+    /// The members that were struck. It may be empty, and may have more than `f` members.
+    pub strike: MemberSet,
+}

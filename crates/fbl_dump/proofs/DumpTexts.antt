@@ -1,0 +1,67 @@
+-- The text of a dump: it has no float, and its brackets nest to a depth of three.
+use Rattle.std.proofs.Common.{◌≡◌, ℕ, ◌≤◌, List, [], ◌∷◌, map, length, false, refl, ap, sym, subst, ◌∙◌, arith, cond, nat_lt, Some, Ok, Err}
+use Rattle.std.proofs.lemmas.Bool.{le-ltb}
+use Rattle.std.specs.Str.{IsUtf8}
+use Rattle.serde_json.specs.Data.{Data, depth, items_depth}
+use Rattle.serde_json.specs.Read.{read, max_depth}
+use Rattle.serde_json.specs.View.{items_of}
+use Rattle.serde_json.specs.Written.{has_float, items_have_float, compact_text}
+use Rattle.fbl_base.specs.declared.trace.Determinant.{Determinant}
+use Rattle.fbl_base.specs.declared.trace.Mark.{Mark}
+use Rattle.fbl_base.specs.declared.trace.Mark.TheVariants.{Send, Receipt}
+use Rattle.fbl_base.specs.Audit.{Parts}
+use Rattle.fbl_lines.specs.Sets.{member_list}
+use Rattle.fbl_script.specs.declared.fault.RunFault.TheVariants as faults
+use Rattle.fbl_script.specs.Shapes.{json_of, longest, or_fault, ◌>>=◌}
+use Rattle.fbl_dump.specs.Dumps.{parts_of_data, parts_of_input}
+use Rattle.fbl_dump.specs.DumpLines.{ReadsBack, dump_data, event_data, number_data, pair_data}
+use Rattle.fbl_script.proofs.Lists.{json_read}
+
+events_float : (es : List Mark) → items_have_float (items_of (map event_data es)) ≡ false
+events_float [] = refl
+events_float (Send from ssn to ∷ es) = events_float es
+events_float (Receipt to rsn from ssn ∷ es) = events_float es
+
+pairs_float : (hs : List (ℕ × Determinant)) → items_have_float (items_of (map pair_data hs)) ≡ false
+pairs_float [] = refl
+pairs_float (h ∷ hs) = pairs_float hs
+
+numbers_float : (ns : List ℕ) → items_have_float (items_of (map number_data ns)) ≡ false
+numbers_float [] = refl
+numbers_float (n ∷ ns) = numbers_float ns
+
+dump_float : (dump : Parts) → has_float (dump_data dump) ≡ false
+unfolding dump_data
+dump_float dump = rw (events_float dump.events, pairs_float dump.held, numbers_float (member_list dump.strike)) refl
+
+events_depth : (es : List Mark) → items_depth (items_of (map event_data es)) ≤ 1
+events_depth [] = omega arith
+events_depth (Send from ssn to ∷ es) = omega (arith, events_depth es)
+events_depth (Receipt to rsn from ssn ∷ es) = omega (arith, events_depth es)
+
+pairs_depth : (hs : List (ℕ × Determinant)) → items_depth (items_of (map pair_data hs)) ≤ 1
+pairs_depth [] = omega arith
+pairs_depth (h ∷ hs) = omega (arith, pairs_depth hs)
+
+numbers_depth : (ns : List ℕ) → items_depth (items_of (map number_data ns)) ≤ 1
+numbers_depth [] = omega arith
+numbers_depth (n ∷ ns) = omega (arith, numbers_depth ns)
+
+dump_depth : (dump : Parts) → depth (dump_data dump) ≤ max_depth
+unfolding dump_data
+dump_depth dump = omega (arith, events_depth dump.events, pairs_depth dump.held, numbers_depth (member_list dump.strike))
+
+-- the text of a value that is a dump
+pub text_of_dump : (d : Data) (dump : Parts) (text : List ℕ) → d ≡ dump_data dump → (has_float d ≡ false → text ≡ compact_text d) → text ≡ compact_text (dump_data dump)
+text_of_dump d dump text e h = h (ap has_float e ∙ dump_float dump) ∙ ap compact_text e
+
+short_read : (bytes : List ℕ) (d : Data) → length bytes ≤ longest → json_of bytes ≡ Some d → parts_of_input bytes ≡ parts_of_data d
+short_read bytes d short e =
+    let within : nat_lt longest (length bytes) ≡ false = le-ltb longest (length bytes) short in
+    ap (λ b. cond b (Err faults.TooLong) (or_fault faults.NotJson (json_of bytes)) >>= parts_of_data) within ∙ ap (λ o. or_fault faults.NotJson o >>= parts_of_data) e
+
+pub text_reads_back : (d : Data) (dump : Parts) (text : List ℕ) → d ≡ dump_data dump → IsUtf8 text → text ≡ compact_text (dump_data dump) → (depth d ≤ max_depth → read text ≡ Some d) → parts_of_data (dump_data dump) ≡ Ok dump → ReadsBack dump
+text_reads_back d dump text e valid is reads parts short =
+    let P : List ℕ → Type 0 = λ t. json_of t ≡ Some (dump_data dump) in
+    let flat : depth d ≤ max_depth = subst (λ (x : Data). depth x ≤ max_depth) (sym e) (dump_depth dump) in
+    short_read _ (dump_data dump) short (subst P is (json_read text _ valid (reads flat ∙ ap Some e))) ∙ parts

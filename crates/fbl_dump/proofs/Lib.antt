@@ -1,0 +1,4 @@
+pub mod Faults
+pub mod DumpValues
+pub mod DumpTexts
+pub mod Audits

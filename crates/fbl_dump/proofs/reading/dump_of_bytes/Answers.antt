@@ -1,0 +1,6 @@
+use Rattle.std.proofs.lemmas.Result.{IfErr-weaker}
+use Rattle.fbl_dump.proofs.Faults.{dump_refused}
+use Rattle.fbl_dump.proofs.reading.dump_of_bytes.Goals as goal
+
+pub returns-clause-fault : goal.returns-clause-fault
+returns-clause-fault c = IfErr-weaker c.checked.result _ _ (λ e h. dump_refused _ _ e c.in_ok-raw.ensures.exact h) c.checked.ensures.refused

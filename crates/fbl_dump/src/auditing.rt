@@ -1,0 +1,54 @@
+//! The audit of a dump that a reader has.
+
+ghost use Rattle.std.specs.Prelude.{◌≡◌, ◌≤◌, ℕ, length, IfOk, IfErr, OnErr, IfSome, string_bytes};
+ghost use Rattle.fbl_dump.specs.Auditing.{Audits, AuditsDump, IsAuditText};
+
+use crate::reading::dump_of_bytes;
+use fbl_base::audit::{Dump, lost, orphans};
+use fbl_lines::audit_text;
+use fbl_script::{RunFault, put, read_input};
+use std::alloc::{AllocError, Global};
+use std::io::{Read, Write};
+
+/// What the audit says of the dump.
+fn text_of(alloc: Global, dump: &Dump) -> Result<String, AllocError>
+    ensures { IfOk result (λ text. IsAuditText dump.now (string_bytes text)) }
+{
+    let lost = lost(alloc, dump)?;
+    let orphans = orphans(alloc, dump)?;
+    audit_text(alloc, lost.as_slice(), orphans)
+}
+
+/// Audits a dump.
+fn audit_dump<W: Write>(alloc: Global, writer: &mut W, dump: &Dump) -> Result<(), RunFault>
+    ensures { AuditsDump dump.now (W.contents writer.old) (W.contents writer.new) result }
+{
+    let text = text_of(alloc, dump)?;
+    put(writer, text.as_bytes())
+}
+
+/// Audits the dump that the bytes spell.
+fn audit_input<W: Write>(alloc: Global, writer: &mut W, input: &[u8]) -> Result<(), RunFault>
+    ensures { Audits input.now (W.contents writer.old) (W.contents writer.new) result }
+{
+    match dump_of_bytes(alloc, input) {
+        Ok(dump) => audit_dump(alloc, writer, &dump),
+        Err(fault) => Err(fault),
+    }
+}
+
+/// Audits the dump that the reader has, and writes how many receipts are lost, the determinant of each, and the orphans.
+/// It is `Ok` whatever the audit finds. Nothing is written where the fault is another than `Write`, and after `Write` a
+/// front of the text.
+pub fn audit<R: Read, W: Write>(
+    alloc: Global,
+    reader: &mut R,
+    writer: &mut W,
+) -> Result<(), RunFault>
+    ensures { IfSome (R.remaining reader.old) (λ input. Audits input (W.contents writer.old) (W.contents writer.new) result) }
+{
+    match read_input(alloc, reader) {
+        Ok(input) => audit_input(alloc, writer, input.as_slice()),
+        Err(fault) => Err(fault),
+    }
+}

@@ -1,0 +1,13 @@
+//! Dumps as JSON, and their audit over any reader and writer.
+#![tactic(auto)]
+
+mod auditing;
+mod reading;
+mod writing;
+
+pub use auditing::audit;
+pub use reading::dump_of_bytes;
+pub use writing::dump_text;
+
+#[cfg(test)]
+mod tests;

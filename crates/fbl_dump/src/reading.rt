@@ -1,0 +1,203 @@
+//! Dumps as JSON.
+
+ghost use Rattle.std.specs.Prelude.{◌≡◌, ◌≤◌, map, IfOk, IfErr, option_map, not, string_bytes};
+ghost use Rattle.std.specs.List.{list_any};
+ghost use Rattle.std.specs.BTreeMap.{keys};
+ghost use Rattle.serde_json.specs.View.{view, members_view};
+ghost use Rattle.fbl_base.specs.Audit.{IsDump};
+ghost use Rattle.fbl_base.specs.DumpParts.{parts_of};
+ghost use Rattle.fbl_script.specs.Shapes.{Gives, IsOfShape, all_shaped, field, has_other_key, is_key_of, list_of};
+ghost use Rattle.fbl_dump.specs.Dumps.{dump_keys, IsDumpOf, IsDumpFault, IsDumpRefused, event_from, event_shape, pair_from, pair_shape, parts_of_data, parts_of_input, receipt_from, send_from};
+
+use fbl_base::audit::{Dump, check_dump};
+use fbl_base::{Determinant, Mark, Member, RawDump};
+use fbl_script::shapes::{
+    count_in, is_named, list_in, member_in, number_field, set_field, value_in,
+};
+use fbl_script::{Key, RunFault};
+use serde_json::{Map, Value};
+use std::alloc::{AllocError, Global};
+
+fn send_of(name: &Value, from: &Value, ssn: &Value, to: &Value) -> Option<Mark>
+    ensures { result ≡ send_from (view name.now) (view from.now) (view ssn.now) (view to.now) }
+{
+    if !is_named(name, "send") {
+        return None;
+    }
+    let from = member_in(from)?;
+    let ssn = count_in(ssn)?;
+    let to = member_in(to)?;
+    Some(Mark::Send { from, ssn, to })
+}
+
+fn receipt_of(name: &Value, to: &Value, rsn: &Value, from: &Value, ssn: &Value) -> Option<Mark>
+    ensures { result ≡ receipt_from (view name.now) (view to.now) (view rsn.now) (view from.now) (view ssn.now) }
+{
+    if !is_named(name, "receipt") {
+        return None;
+    }
+    let to = member_in(to)?;
+    let rsn = count_in(rsn)?;
+    let from = member_in(from)?;
+    let ssn = count_in(ssn)?;
+    Some(Mark::Receipt { to, rsn, from, ssn })
+}
+
+fn event_of(list: &[Value]) -> Option<Mark>
+    ensures { result ≡ event_from (map view list.now) }
+{
+    match list {
+        [name, from, ssn, to] => send_of(name, from, ssn, to),
+        [name, to, rsn, from, ssn] => receipt_of(name, to, rsn, from, ssn),
+        _ => None,
+    }
+}
+
+fn event_in(value: &Value) -> Option<Mark>
+    ensures { result ≡ event_shape (view value.now) }
+{
+    event_of(list_in(value)?)
+}
+
+fn pair_of(list: &[Value]) -> Option<(Member, Determinant)>
+    ensures { result ≡ pair_from (map view list.now) }
+{
+    match list {
+        [holder, from, ssn, to, rsn] => {
+            let holder = member_in(holder)?;
+            let from = member_in(from)?;
+            let ssn = count_in(ssn)?;
+            let to = member_in(to)?;
+            let rsn = count_in(rsn)?;
+            Some((holder, Determinant { from, ssn, to, rsn }))
+        }
+        _ => None,
+    }
+}
+
+fn pair_in(value: &Value) -> Option<(Member, Determinant)>
+    ensures { result ≡ pair_shape (view value.now) }
+{
+    pair_of(list_in(value)?)
+}
+
+/// The values of a list, if each has the shape of an event.
+fn events_in(alloc: Global, list: &[Value]) -> Result<Option<Vec<Mark>>, AllocError>
+    ensures { IfOk result (λ found. option_map (λ v. v.items) found ≡ all_shaped event_shape (map view list.now)) }
+{
+    let mut events = Vec::new(alloc);
+    for value in list {
+        match event_in(value) {
+            Some(event) => events.push(event)?,
+            None => return Ok(None),
+        }
+    }
+    Ok(Some(events))
+}
+
+/// The values of a list, if each has the shape of a held pair.
+fn pairs_in(alloc: Global, list: &[Value]) -> Result<Option<Vec<(Member, Determinant)>>, AllocError>
+    ensures { IfOk result (λ found. option_map (λ v. v.items) found ≡ all_shaped pair_shape (map view list.now)) }
+{
+    let mut pairs = Vec::new(alloc);
+    for value in list {
+        match pair_in(value) {
+            Some(pair) => pairs.push(pair)?,
+            None => return Ok(None),
+        }
+    }
+    Ok(Some(pairs))
+}
+
+fn events_field(alloc: Global, value: &Value, key: Key) -> Result<Vec<Mark>, RunFault>
+    ensures exact { Gives (λ v. v.items) result (field key (list_of event_shape) (view value.now)) }
+    ensures faults { IfErr result IsOfShape }
+{
+    let found = value.get(key.name()).ok_or(RunFault::BadField(key))?;
+    let list = list_in(found).ok_or(RunFault::BadField(key))?;
+    events_in(alloc, list)?.ok_or(RunFault::BadField(key))
+}
+
+fn pairs_field(
+    alloc: Global,
+    value: &Value,
+    key: Key,
+) -> Result<Vec<(Member, Determinant)>, RunFault>
+    ensures exact { Gives (λ v. v.items) result (field key (list_of pair_shape) (view value.now)) }
+    ensures faults { IfErr result IsOfShape }
+{
+    let found = value.get(key.name()).ok_or(RunFault::BadField(key))?;
+    let list = list_in(found).ok_or(RunFault::BadField(key))?;
+    pairs_in(alloc, list)?.ok_or(RunFault::BadField(key))
+}
+
+fn is_known_key(text: &str) -> bool
+    ensures { result ≡ is_key_of dump_keys text.now }
+{
+    matches!(text, "members" | "f" | "events" | "held" | "strike")
+}
+
+fn has_key_but_known(object: &Map<String, Value>) -> bool
+    ensures { result ≡ list_any (λ k. not (is_key_of dump_keys (string_bytes k))) (keys object.now) }
+{
+    object.keys().any(|key| !is_known_key(key.as_str()))
+}
+
+/// Whether there is a key that no dump has.
+fn has_unknown_key(object: &Map<String, Value>) -> bool
+    ensures { result ≡ has_other_key dump_keys (members_view object.now.entries) }
+{
+    has_key_but_known(object)
+}
+
+/// The dump that a value gives, not yet checked.
+#[tactic(auto, unfolding(crate::specs::Dumps::parts_of_data))]
+fn raw_dump_of(alloc: Global, value: &Value) -> Result<RawDump, RunFault>
+    ensures exact { Gives parts_of result (parts_of_data (view value.now)) }
+    ensures faults { IfErr result IsOfShape }
+{
+    let object = value.as_object().ok_or(RunFault::NotObject)?;
+    let members = number_field(value, Key::Members, 0, 255)? as u8;
+    let f = number_field(value, Key::F, 0, 255)? as u8;
+    let events = events_field(alloc, value, Key::Events)?;
+    let held = pairs_field(alloc, value, Key::Held)?;
+    let strike = set_field(value, Key::Strike)?;
+    if has_unknown_key(object) {
+        return Err(RunFault::UnknownKey);
+    }
+    Ok(RawDump {
+        members,
+        f,
+        events,
+        held,
+        strike,
+    })
+}
+
+/// The dump that an input gives, not yet checked.
+fn raw_dump_in(alloc: Global, input: &[u8]) -> Result<RawDump, RunFault>
+    ensures exact { Gives parts_of result (parts_of_input input.now) }
+    ensures faults { IfErr result IsOfShape }
+{
+    let value = value_in(alloc, input)?;
+    raw_dump_of(alloc, &value)
+}
+
+/// The dump, if it obeys the rules.
+fn checked(alloc: Global, raw: RawDump) -> Result<Dump, RunFault>
+    ensures same { IfOk result (λ d. d ≡ parts_of raw) }
+    ensures rules { IfOk result IsDump }
+    ensures refused { IfErr result (IsDumpRefused (parts_of raw)) }
+{
+    Ok(check_dump(alloc, raw)?)
+}
+
+/// The dump that the bytes spell, as one JSON object. Each fault that isn't want of memory is the first of the input;
+/// neither `Read` nor `Write` nor `BadCommand` nor `Config` is among them.
+pub fn dump_of_bytes(alloc: Global, input: &[u8]) -> Result<Dump, RunFault>
+    ensures dump { IfOk result (IsDumpOf input.now) }
+    ensures fault { IfErr result (IsDumpFault input.now) }
+{
+    let raw = raw_dump_in(alloc, input)?;
+    checked(alloc, raw)
+}

@@ -1,0 +1,147 @@
+//! A dump as one line of JSON.
+
+ghost use Rattle.std.specs.Prelude.{◌≡◌, ◌≤◌, ◌++◌, ◌∷◌, [], ℕ, length, map, Some, Ok, IfOk, string_bytes};
+ghost use Rattle.std.specs.List.{All};
+ghost use Rattle.serde_json.specs.View.{view};
+ghost use Rattle.serde_json.specs.Written.{compact_text};
+ghost use Rattle.fbl_script.specs.Shapes.{longest, member_shape};
+ghost use Rattle.fbl_dump.specs.Dumps.{event_shape, pair_shape, parts_of_data, parts_of_input};
+ghost use Rattle.fbl_lines.specs.Sets.{member_list};
+ghost use Rattle.fbl_dump.specs.DumpLines.{dump_data, dump_object, dump_line, ReadsBack, event_data, list_data, number_data, pair_data};
+
+use fbl_base::audit::Dump;
+use fbl_base::{Determinant, Mark, Member, MemberSet};
+use fbl_lines::members_in;
+use serde_json::{Value, json};
+use std::alloc::{AllocError, Global};
+
+/// An event as a list.
+fn event_value(alloc: Global, event: Mark) -> Result<Value, AllocError>
+    ensures value { IfOk result (λ v. view v ≡ event_data event) }
+    ensures reads_back { event_shape (event_data event) ≡ Some event }
+{
+    match event {
+        Mark::Send { from, ssn, to } => {
+            let from = from.number();
+            let to = to.number();
+            json!(in alloc; ["send", from, ssn, to])
+        }
+        Mark::Receipt { to, rsn, from, ssn } => {
+            let to = to.number();
+            let from = from.number();
+            json!(in alloc; ["receipt", to, rsn, from, ssn])
+        }
+    }
+}
+
+fn events_value(alloc: Global, events: &[Mark]) -> Result<Value, AllocError>
+    ensures value { IfOk result (λ v. view v ≡ list_data (map event_data events.now)) }
+    ensures reads_back { IfOk result (λ v. All (λ e. event_shape (event_data e) ≡ Some e) events.now) }
+{
+    let mut values = Vec::new(alloc);
+    for event in events {
+        values.push(event_value(alloc, *event)?)?;
+    }
+    Ok(Value::Array(values))
+}
+
+/// A held pair as a list.
+fn pair_value(alloc: Global, pair: (Member, Determinant)) -> Result<Value, AllocError>
+    ensures value { IfOk result (λ v. view v ≡ pair_data pair) }
+    ensures reads_back { pair_shape (pair_data pair) ≡ Some pair }
+{
+    let (holder, determinant) = pair;
+    let holder = holder.number();
+    let from = determinant.from.number();
+    let ssn = determinant.ssn;
+    let to = determinant.to.number();
+    let rsn = determinant.rsn;
+    json!(in alloc; [holder, from, ssn, to, rsn])
+}
+
+fn pairs_value(alloc: Global, pairs: &[(Member, Determinant)]) -> Result<Value, AllocError>
+    ensures value { IfOk result (λ v. view v ≡ list_data (map pair_data pairs.now)) }
+    ensures reads_back { IfOk result (λ v. All (λ h. pair_shape (pair_data h) ≡ Some h) pairs.now) }
+{
+    let mut values = Vec::new(alloc);
+    for pair in pairs {
+        values.push(pair_value(alloc, *pair)?)?;
+    }
+    Ok(Value::Array(values))
+}
+
+/// A member as its number.
+fn member_value(alloc: Global, member: Member) -> Result<Value, AllocError>
+    ensures value { IfOk result (λ v. view v ≡ number_data member) }
+    ensures reads_back { member_shape (number_data member) ≡ Some member }
+{
+    let number = member.number();
+    json!(in alloc; number)
+}
+
+/// The members as a list of numbers.
+fn members_value(alloc: Global, members: &[Member]) -> Result<Value, AllocError>
+    ensures value { IfOk result (λ v. view v ≡ list_data (map number_data members.now)) }
+    ensures reads_back { IfOk result (λ v. All (λ m. member_shape (number_data m) ≡ Some m) members.now) }
+{
+    let mut values = Vec::new(alloc);
+    for member in members {
+        values.push(member_value(alloc, *member)?)?;
+    }
+    Ok(Value::Array(values))
+}
+
+/// A set as the list of its members, rising.
+fn set_value(alloc: Global, set: MemberSet) -> Result<Value, AllocError>
+    ensures value { IfOk result (λ v. view v ≡ list_data (map number_data (member_list set))) }
+    ensures reads_back { IfOk result (λ v. All (λ m. member_shape (number_data m) ≡ Some m) (member_list set)) }
+{
+    let members = members_in(alloc, set)?;
+    members_value(alloc, members.as_slice())
+}
+
+/// An object with the keys of a dump.
+fn object_value(
+    alloc: Global,
+    members: u8,
+    f: u8,
+    events: Value,
+    held: Value,
+    strike: Value,
+) -> Result<Value, AllocError>
+    ensures { IfOk result (λ v. view v ≡ dump_object members f (view events) (view held) (view strike)) }
+{
+    json!(in alloc; {"members": members, "f": f, "events": events, "held": held, "strike": strike})
+}
+
+/// A dump as an object.
+fn dump_value(alloc: Global, dump: &Dump) -> Result<Value, AllocError>
+    ensures value { IfOk result (λ v. view v ≡ dump_data dump.now) }
+    ensures reads_back { IfOk result (λ v. parts_of_data (dump_data dump.now) ≡ Ok dump.now) }
+{
+    let events = events_value(alloc, dump.events())?;
+    let held = pairs_value(alloc, dump.held())?;
+    let strike = set_value(alloc, dump.strike())?;
+    object_value(alloc, dump.members(), dump.f(), events, held, strike)
+}
+
+/// The dump as JSON with no space.
+fn json_text(alloc: Global, dump: &Dump) -> Result<String, AllocError>
+    ensures text { IfOk result (λ text. string_bytes text ≡ compact_text (dump_data dump.now)) }
+    ensures reads_back { IfOk result (λ text. ReadsBack dump.now) }
+{
+    let value = dump_value(alloc, dump)?;
+    let text = value.to_string(alloc)?;
+    let _text = text.as_str();
+    Ok(text)
+}
+
+/// The dump as one line of JSON, which ends with a newline.
+pub fn dump_text(alloc: Global, dump: &Dump) -> Result<String, AllocError>
+    ensures line { IfOk result (λ text. string_bytes text ≡ dump_line dump.now) }
+    ensures reads_back { IfOk result (λ text. ReadsBack dump.now) }
+{
+    let mut text = json_text(alloc, dump)?;
+    text.push_str("\n")?;
+    Ok(text)
+}

@@ -1,0 +1,144 @@
+-- What a recovery leaves, once the records that were rebuilt are in place.
+use Rattle.std.proofs.Common.{◌≡◌, ◌≢◌, ℕ, zero, suc, ◌+◌, ◌-◌, ◌*◌, ◌<◌, ◌≤◌, ◌||◌, ◌⊎◌, inl, inr, not, nat_le, Bool, true, false, cond, List, [], ◌∷◌, ◌++◌, length, map, Option, Some, None, refl, sym, subst, ap, ◌∙◌, arith, Result, Ok, Err, Fits, w64, ◌^◌}
+use Rattle.std.specs.Prelude.{slice_index_or, count_by}
+use Rattle.std.specs.List.{filter, cons_option}
+use Rattle.std.specs.Option.{is_some}
+use Rattle.std.specs.Result.{OnErr}
+use Rattle.std.specs.Ordering.{nat_cmp}
+use Rattle.std.specs.FinSet as set
+use Rattle.std.proofs.lemmas.Bool.{cases_lt}
+use Rattle.std.proofs.lemmas.List.Sums.{sum_by-cons}
+use Rattle.fbl_base.specs.declared.trace.Determinant.{Determinant}
+use Rattle.fbl_base.specs.declared.trace.Event.{Event}
+use Rattle.fbl_base.specs.declared.trace.Event.TheVariants as event
+use Rattle.fbl_base.specs.Events.{mark_of, determinant_of}
+use Rattle.fbl_base.specs.Fold.{Next}
+use Rattle.fbl_member.specs.Members.{Message, MemberRecord, blank}
+use Rattle.fbl_law.specs.Record.{Members, IsUp, IsDown}
+use Rattle.fbl_law.specs.Groups.{GroupRecord, member, marks, knowledge, receipts}
+use Rattle.fbl_law.specs.Sound.{IsSound}
+use Rattle.fbl_law.specs.GroupSteps.{IsRecovery}
+use Rattle.fbl_law.specs.Replaying.{stays_by, recovered_trace, working, replayed_in, resent_rows, IsRebuilt}
+use Rattle.fbl_law.proofs.Safe.{down_or_up}
+use Rattle.fbl_law.proofs.GroupRecovery.{length-left, recovery-keeps}
+use Rattle.fbl_law.proofs.Undone.{cut-undone}
+use Rattle.fbl_law.proofs.CutTrace.{recovered_trace-cut}
+use Rattle.fbl_law.proofs.Resending.{rows-short, resent_rows-agree, flight-channels, flight-resent, flight-outside, flight-count}
+use Rattle.fbl_law.proofs.Rebuilding.{with-table, working-log, replayed_in-all, recovered_trace-rebuilt, recovery-made}
+use Rattle.fbl_group.specs.declared.answers.Recovered.{Recovered}
+use Rattle.fbl_group.specs.Recoveries.{Recovers}
+use Rattle.fbl_group.specs.Rebuilding.{HasReplayed, IsReady, IsPutBack}
+
+-- receipts are counted event by event
+pub counted-receipts : (trace : List Event) → count_by (λ e. is_some (determinant_of (mark_of e))) trace ≡ length (receipts (map mark_of trace))
+counted-receipts [] = refl
+counted-receipts (e ∷ trace) = sum_by-cons (λ x. cond (is_some (determinant_of (mark_of x))) 1 0) e trace ∙ at e (counted-receipts trace) where
+  at : (x : Event) → count_by (λ y. is_some (determinant_of (mark_of y))) trace ≡ length (receipts (map mark_of trace))
+      → cond (is_some (determinant_of (mark_of x))) 1 0 + count_by (λ y. is_some (determinant_of (mark_of y))) trace ≡ length (cons_option (determinant_of (mark_of x)) (receipts (map mark_of trace)))
+  at (event.Send from ssn to note) ih = omega (arith, ih)
+  at (event.Receipt to rsn from ssn) ih = omega (arith, ih)
+
+pub on_err : {X E : Type 0} {P : Type 0} (result : Result X E) → P → OnErr result P
+on_err (Ok x) holds = tt
+on_err (Err e) holds = holds
+
+-- somebody is down, or nobody
+pub nobody : (down : Members) (count : ℕ) → count ≡ set.len down → count ≡ 0 → down ≡ set.empty
+nobody down count is none = set.empty_of_len down (omega (arith, is, none))
+
+pub somebody : (down : Members) (count : ℕ) → count ≡ set.len down → count ≢ 0 → ¬ (down ≡ set.empty)
+somebody down count is some none = some (is ∙ ap (λ (s : Members). set.len s) none ∙ set.len-empty nat_cmp)
+
+-- what is no greater than a number that fits
+pub within : (most k : ℕ) → most < 2 ^ 64 → k ≤ most → Fits w64 k
+within most k fits few = omega (arith, fits, few)
+
+receipts-short : (trace : List Event) → length (receipts (map mark_of trace)) ≤ length trace
+receipts-short [] = omega arith
+receipts-short (event.Send from ssn to note ∷ trace) = omega (arith, receipts-short trace)
+receipts-short (event.Receipt to rsn from ssn ∷ trace) = omega (arith, receipts-short trace)
+
+module _ (next : Next) (old : GroupRecord) (sound : IsSound next old) where
+  pub few-events : length old.trace ≤ 8192
+  few-events = omega (arith, sound.room, sound.config.limit.1)
+
+  pub few-members : old.config.members ≤ 16
+  few-members = sound.config.members.1
+
+  module _ (rebuilt : List MemberRecord) (ready : IsReady next old rebuilt) where
+    pub size : length rebuilt ≡ old.config.members
+    size = ready.replayed.replaying.size
+
+    pub down-within : (q : ℕ) → set.contains old.down q ≡ true → q < length rebuilt
+    down-within q down = omega (arith, sound.down q down, size)
+
+    abbrev left : List Event
+    left = filter (λ e. stays_by old.down (λ p. slice_index_or rebuilt p blank) (mark_of e)) old.trace
+
+    left-is : left ≡ recovered_trace old
+    left-is = recovered_trace-rebuilt next old sound rebuilt ready.replayed.replaying ready.replayed.waiting
+
+    pub few-left : length left ≤ 8192
+    few-left = omega (arith, few-events, length-left (λ e. stays_by old.down (λ p. slice_index_or rebuilt p blank) (mark_of e)) old.trace)
+
+    -- no more receipts are left than there were
+    pub fewer-receipts : length (receipts (map mark_of left)) ≤ length (receipts (map mark_of old.trace))
+    fewer-receipts =
+        let undone = cut-undone next old sound (recovered_trace old) (recovered_trace-cut next old sound) in
+        let same : length (receipts (map mark_of left)) ≡ length (receipts (map mark_of (recovered_trace old))) = ap (λ (es : List Event). length (receipts (map mark_of es))) left-is in
+        omega (arith, undone, same)
+
+    -- the counter of undone receipts stays within that of all receipts
+    pub few-undone : (undone : ℕ) → undone ≤ length (receipts (map mark_of old.trace)) → old.undone_ever + undone ≤ old.receipts_ever
+    few-undone undone most = omega (arith, most, sound.counted)
+
+    pub few-again : length (resent_rows old.config.f old.down (working old rebuilt) old.config.members old.config.members) ≤ 2097152
+    few-again =
+        let few = few-members in
+        omega (arith, few, rows-short old.config.f old.down (working old rebuilt) old.config.members old.config.members few (working-log next old sound rebuilt ready.replayed.replaying))
+
+    module _ (new : GroupRecord) (config : new.config ≡ old.config) (members : IsPutBack old.down rebuilt old.members new.members)
+        (flight : new.flight ≡ old.flight ++ resent_rows old.config.f old.down (working old rebuilt) old.config.members old.config.members)
+        (trace : new.trace ≡ left) (down : new.down ≡ set.empty) (receipts_ever : new.receipts_ever ≡ old.receipts_ever)
+        (undone : ℕ) (undone_is : undone + length (receipts (map mark_of left)) ≡ length (receipts (map mark_of old.trace))) (undone_ever : new.undone_ever ≡ old.undone_ever + undone) where
+      works : (q : ℕ) → q < old.config.members → member new q ≡ working old rebuilt q
+      works q below = at (set.contains old.down q) refl where
+        at : (b : Bool) → set.contains old.down q ≡ b → member new q ≡ working old rebuilt q
+        at true is = rw is (members.put q (omega (arith, below, sound.members)) is)
+        at false is = rw is (members.kept q is)
+
+      again : new.flight ≡ old.flight ++ resent_rows old.config.f old.down (λ q. member new q) old.config.members old.config.members
+      again = flight ∙ ap (λ (ms : List Message). old.flight ++ ms) (sym (resent_rows-agree old.config.f old.down (λ q. member new q) (working old rebuilt) old.config.members old.config.members (omega arith) works))
+
+      marks_left : length (receipts (marks new)) ≡ length (receipts (map mark_of left))
+      marks_left = ap (λ (es : List Event). length (receipts (map mark_of es))) trace
+
+      is_rebuilt : IsRebuilt old new rebuilt
+      is_rebuilt = record {
+        nobody_down = down;
+        trace = trace ∙ left-is;
+        size = members.size;
+        survivors = members.kept;
+        rebuilt = λ m below is. members.put m (omega (arith, below, sound.members)) is ∙ with-table (slice_index_or rebuilt m blank) _ (ready.tables m below is);
+        channels = flight-channels next old sound new again;
+        resent = flight-resent next old sound new again;
+        outside = flight-outside next old sound new again;
+        config = config;
+        receipts_ever = receipts_ever;
+        undone_ever = omega (arith, undone_ever, undone_is, marks_left);
+      }
+
+      is_recovery : IsRecovery next old new
+      is_recovery = recovery-made next old sound rebuilt ready.replayed.replaying ready.replayed.waiting new is_rebuilt
+
+      pub is_sound : IsSound next new
+      is_sound = recovery-keeps next old new is_recovery sound
+
+      -- what the recovery answers
+      pub recovers : (answer : Recovered) → answer.replayed ≡ replayed_in old rebuilt → answer.resent ≡ length (resent_rows old.config.f old.down (working old rebuilt) old.config.members old.config.members) → answer.undone ≡ undone → Recovers next old new answer
+      recovers answer replayed resent lost = record {
+        recovery = is_recovery;
+        replayed = replayed ∙ replayed_in-all next old sound rebuilt ready.replayed.replaying ready.replayed.waiting ∙ ap (λ (es : List Event). length (filter (λ (d : Determinant). set.contains old.down d.to) (receipts (map mark_of es)))) (sym (trace ∙ left-is));
+        resent = resent ∙ ap length (sym (resent_rows-agree old.config.f old.down (λ q. member new q) (working old rebuilt) old.config.members old.config.members (omega arith) works)) ∙ sym (flight-count next old sound new again);
+        undone = omega (arith, lost, undone_is, marks_left);
+      }

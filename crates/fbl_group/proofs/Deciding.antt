@@ -1,0 +1,167 @@
+-- Which refusal of a delivery, a ticket or a commit holds.
+use Rattle.std.proofs.Common.{◌≡◌, ◌≢◌, ℕ, ◌+◌, ◌<◌, ◌≤◌, Bool, true, false, ◌&&◌, ◌==◌, not, cond, length, arith, refl, sym, ap, ◌∙◌, Option, Some, None, slice_get}
+use Rattle.std.specs.Prelude.{nat_lt}
+use Rattle.std.proofs.lemmas.Bool.Decides.{nat_tests}
+use Rattle.std.specs.FinSet as set
+use Rattle.fbl_base.specs.declared.outcome.Outcome.{Outcome}
+use Rattle.fbl_base.specs.Fold.{Next}
+use Rattle.fbl_base.specs.declared.trace.Note.{Note}
+use Rattle.fbl_member.specs.Members.{Message, MemberRecord}
+use Rattle.fbl_law.specs.Groups.{GroupRecord, member, channel}
+use Rattle.fbl_law.specs.GroupSteps.{step_of}
+use Rattle.fbl_group.specs.declared.refusals.DeliverRefusal.{DeliverRefusal}
+use Rattle.fbl_group.specs.declared.refusals.DeliverRefusal.TheVariants.{BadMember, Down, Empty, Full}
+use Rattle.fbl_group.specs.Flight.{front_place, message_at}
+use Rattle.fbl_group.specs.Deliveries.{deliver_refusal, message_refusal, is_full, has_no_room, front, IsPlanned}
+use Rattle.fbl_group.specs.declared.ticket.Ticket.{Ticket}
+use Rattle.fbl_group.specs.declared.refusals.TakeRefusal.TheVariants as take
+use Rattle.fbl_group.specs.declared.refusals.CommitRefusal.{CommitRefusal}
+use Rattle.fbl_group.specs.declared.refusals.CommitRefusal.TheVariants as commit
+use Rattle.fbl_group.specs.Tickets.{take_refusal, empty_refusal, IsTicket, commit_refusal, stale_or_full, is_current, same_note}
+use Rattle.fbl_law.specs.Sound.{IsSound}
+use Rattle.fbl_law.proofs.GroupFacts.{all_up, receipts_fit}
+use Rattle.fbl_group.proofs.Flights.{IsFrontAt, front_at, no_front, on_ends}
+
+pub below_test : (m n : ℕ) → m < n → nat_lt m n ≡ true
+below_test m n below = grind (arith, nat_tests)
+
+pub none_test : (k : ℕ) → k ≡ 0 → (k == 0) ≡ true
+none_test k is = grind (arith, nat_tests)
+
+-- between members of a group of which nobody is down the front decides
+pub refusal_at_front : (next : Next) (r : GroupRecord) (p q : ℕ) → p < r.config.members → q < r.config.members → set.len r.down ≡ 0 → deliver_refusal next r p q ≡ message_refusal next r (front r q p)
+refusal_at_front next r p q below_p below_q nobody =
+    let a : nat_lt p r.config.members ≡ true = below_test p r.config.members below_p in
+    let b : nat_lt q r.config.members ≡ true = below_test q r.config.members below_q in
+    let d : (set.len r.down == 0) ≡ true = none_test (set.len r.down) nobody in
+    rw (a, b, d) refl
+
+module _ (next : Next) (r : GroupRecord) (p q : ℕ) (below_p : p < r.config.members) (below_q : q < r.config.members) (nobody : set.len r.down ≡ 0) where
+  pub is_empty : front_place r.flight q p ≡ None → deliver_refusal next r p q ≡ Some Empty
+  is_empty none = refusal_at_front next r p q below_p below_q nobody ∙ ap (message_refusal next r) (no_front r.flight q p none)
+
+  module _ (place : ℕ) (outcome : Outcome) (at : front_place r.flight q p ≡ Some place) (step : outcome ≡ next p r.config.members (member r p).state (message_at r.flight place).note) where
+    abbrev v : Message
+    v = message_at r.flight place
+
+    first : IsFrontAt r.flight q p place v
+    first = front_at r.flight q p place at
+
+    ends : (v.from ≡ q) × (v.to ≡ p)
+    ends = on_ends q p v first.on
+
+    steps : outcome ≡ step_of next r v
+    steps = step ∙ ap (λ (m : ℕ). next m r.config.members (member r m).state v.note) (sym ends.1)
+
+    decided : deliver_refusal next r p q ≡ cond (is_full r (length outcome.sends.items)) (Some Full) None
+    decided = refusal_at_front next r p q below_p below_q nobody ∙ ap (message_refusal next r) first.front ∙ ap (λ (o : Outcome). cond (is_full r (length o.sends.items)) (Some Full) None) (sym steps)
+
+    pub is_refused_full : is_full r (length outcome.sends.items) ≡ true → deliver_refusal next r p q ≡ Some Full
+    is_refused_full full = decided ∙ ap (λ (b : Bool). cond b (Some Full) None) full
+
+    pub is_planned : is_full r (length outcome.sends.items) ≡ false → (deliver_refusal next r p q ≡ None) × ((v.from ≡ q) × (v.to ≡ p) × IsPlanned next r place outcome)
+    is_planned room = (
+      decided ∙ ap (λ (b : Bool). cond b (Some Full) None) room,
+      (
+        ends.0,
+        ends.1,
+        record {
+          nobody_down = set.empty_of_len r.down nobody;
+          to_member = rw ends.1 below_p;
+          from_member = rw ends.0 below_q;
+          front_at = rw (ends.0, ends.1) at;
+          step = steps;
+          room = room;
+        },
+      ),
+    )
+
+-- between members of a group of which nobody is down the front decides about a ticket
+take_at_front : (r : GroupRecord) (p q : ℕ) → p < r.config.members → q < r.config.members → set.len r.down ≡ 0 → take_refusal r p q ≡ empty_refusal (front r q p)
+take_at_front r p q below_p below_q nobody =
+    let a : nat_lt p r.config.members ≡ true = below_test p r.config.members below_p in
+    let b : nat_lt q r.config.members ≡ true = below_test q r.config.members below_q in
+    let d : (set.len r.down == 0) ≡ true = none_test (set.len r.down) nobody in
+    rw (a, b, d) refl
+
+module _ (r : GroupRecord) (p q : ℕ) (below_p : p < r.config.members) (below_q : q < r.config.members) (nobody : set.len r.down ≡ 0) where
+  pub nothing_to_take : front_place r.flight q p ≡ None → take_refusal r p q ≡ Some take.Empty
+  nothing_to_take none = take_at_front r p q below_p below_q nobody ∙ ap empty_refusal (no_front r.flight q p none)
+
+  pub few_received : (next : Next) → IsSound next r → (member r p).received ≤ 8192
+  few_received next sound = omega (arith, receipts_fit next r sound p below_p (all_up next r sound (set.empty_of_len r.down nobody) p), sound.room, sound.config.limit.1)
+
+  pub is_taken : (place : ℕ) (t : Ticket) → front_place r.flight q p ≡ Some place → t.n ≡ r.config.members → t.to ≡ p → t.from ≡ q → t.state ≡ (member r p).state → t.rsn ≡ (member r p).received + 1 → t.ssn ≡ (message_at r.flight place).ssn → t.note ≡ (message_at r.flight place).note → (take_refusal r p q ≡ None) × ((v : Message) × (front r q p ≡ Some v) × IsTicket r v t)
+  is_taken place t at size to from state rsn ssn note =
+      let v : Message = message_at r.flight place in
+      let first = front_at r.flight q p place at in
+      let ends = on_ends q p v first.on in (
+        take_at_front r p q below_p below_q nobody ∙ ap empty_refusal first.front,
+        (
+          v,
+          first.front,
+          record {
+            n = size;
+            to = to ∙ sym ends.1;
+            from = from ∙ sym ends.0;
+            state = state ∙ ap (λ (m : ℕ). (member r m).state) (sym ends.1);
+            rsn = rsn ∙ ap (λ (m : ℕ). (member r m).received + 1) (sym ends.1);
+            ssn = ssn;
+            note = note;
+          },
+        ),
+      )
+
+-- what holds where a ticket is current
+current_parts : (m : MemberRecord) (v : Message) (t : Ticket) → is_current m v t ≡ true → (m.state ≡ t.state) × (v.note ≡ t.note)
+current_parts m v t all = parts (m.state == t.state) (m.received + 1 == t.rsn) (v.ssn == t.ssn) (v.note.value == t.note.value) (v.note.hops == t.note.hops) refl refl refl all where
+  same : (a b : Note) → a.value ≡ b.value → a.hops ≡ b.hops → a ≡ b
+  same a b e1 e2 i = record { value = e1 i; hops = e2 i }
+
+  parts : (a b c d e : Bool) → (m.state == t.state) ≡ a → (v.note.value == t.note.value) ≡ d → (v.note.hops == t.note.hops) ≡ e → (a && (b && (c && (d && e)))) ≡ true → (m.state ≡ t.state) × (v.note ≡ t.note)
+  parts true true true true true ea ed ee h = (grind (arith, nat_tests), same v.note t.note (grind (arith, nat_tests)) (grind (arith, nat_tests)))
+  parts true true true true false ea ed ee h = cc
+  parts true true true false e ea ed ee h = cc
+  parts true true false d e ea ed ee h = cc
+  parts true false c d e ea ed ee h = cc
+  parts false b c d e ea ed ee h = cc
+
+module _ (next : Next) (r : GroupRecord) (t : Ticket) (nobody : set.len r.down ≡ 0) (size : r.config.members ≡ t.n) where
+  abbrev sends : ℕ
+  sends = length (next t.to t.n t.state t.note).sends.items
+
+  commit_at_front : commit_refusal next r t ≡ stale_or_full r t sends (front r t.from t.to)
+  commit_at_front =
+      let d : (set.len r.down == 0) ≡ true = none_test (set.len r.down) nobody in
+      let s : (r.config.members == t.n) ≡ true = grind (arith, nat_tests) in
+      rw (d, s) refl
+
+  pub nothing_to_commit : front_place r.flight t.from t.to ≡ None → commit_refusal next r t ≡ Some commit.Stale
+  nothing_to_commit none = commit_at_front ∙ ap (stale_or_full r t sends) (no_front r.flight t.from t.to none)
+
+  module _ (place : ℕ) (at : front_place r.flight t.from t.to ≡ Some place) where
+    abbrev w : Message
+    w = message_at r.flight place
+
+    first_is : IsFrontAt r.flight t.from t.to place w
+    first_is = front_at r.flight t.from t.to place at
+
+    commit_decided : commit_refusal next r t ≡ cond (not (is_current (member r t.to) w t)) (Some commit.Stale) (cond (is_full r sends) (Some commit.Full) None)
+    commit_decided = commit_at_front ∙ ap (stale_or_full r t sends) first_is.front
+
+    pub is_stale : is_current (member r t.to) w t ≡ false → commit_refusal next r t ≡ Some commit.Stale
+    is_stale off = commit_decided ∙ ap (λ (b : Bool). cond (not b) (Some commit.Stale) (cond (is_full r sends) (Some commit.Full) None)) off
+
+    module _ (outcome : Outcome) (step : outcome ≡ next t.to t.n t.state t.note) (current : is_current (member r t.to) w t ≡ true) where
+      room_decides : commit_refusal next r t ≡ cond (is_full r (length outcome.sends.items)) (Some commit.Full) None
+      room_decides = commit_decided ∙ ap (λ (b : Bool). cond (not b) (Some commit.Stale) (cond (is_full r sends) (Some commit.Full) None)) current ∙ ap (λ (o : Outcome). cond (is_full r (length o.sends.items)) (Some commit.Full) None) (sym step)
+
+      pub is_commit_full : is_full r (length outcome.sends.items) ≡ true → commit_refusal next r t ≡ Some commit.Full
+      is_commit_full full = room_decides ∙ ap (λ (b : Bool). cond b (Some commit.Full) None) full
+
+      pub is_commit_planned : t.to < t.n → t.from < t.n → is_full r (length outcome.sends.items) ≡ false → (commit_refusal next r t ≡ None) × ((w.from ≡ t.from) × (w.to ≡ t.to) × IsPlanned next r place outcome)
+      is_commit_planned below_to below_from room =
+          let parts = current_parts (member r t.to) w t current in
+          let steps : outcome ≡ next t.to r.config.members (member r t.to).state w.note = rw (size, parts.0, parts.1) step in
+          let planned = is_planned next r t.to t.from (rw size below_to) (rw size below_from) nobody place outcome at steps room in
+          (room_decides ∙ ap (λ (b : Bool). cond b (Some commit.Full) None) room, planned.1)

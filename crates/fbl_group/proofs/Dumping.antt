@@ -1,0 +1,48 @@
+-- The parts of a dump.
+use Rattle.std.proofs.Common.{◌≡◌, ◌≢◌, ℕ, zero, suc, ◌+◌, ◌<◌, ◌==◌, Bool, true, false, List, [], ◌∷◌, ◌++◌, length, take, get_or, Some, slice_get, refl, sym, ap, ◌∙◌, arith}
+use Rattle.std.specs.Prelude.{slice_index_or}
+use Rattle.std.proofs.lemmas.Bool.Decides.{nat_tests}
+use Rattle.std.proofs.lemmas.List.{map-append, length-take-le}
+use Rattle.fbl_base.specs.Audit.{Parts, IsDump, RefusesDump}
+use Rattle.fbl_base.specs.declared.refusal.DumpRefusal.{DumpRefusal}
+use Rattle.fbl_base.specs.declared.refusal.DumpRefusal.TheVariants.{BadMembers, BadF, BadEvent, BadHeld, BadStrike, Memory}
+use Rattle.fbl_table.specs.declared.entry.Entry.{Entry}
+use Rattle.fbl_member.specs.Carried.{IsOnce}
+use Rattle.fbl_member.specs.Members.{MemberRecord, blank}
+use Rattle.fbl_law.specs.Dumps.{pairs_of, pairs_from}
+use Rattle.fbl_law.proofs.DumpLaws.{pairs_from-push}
+
+take-more : {X : Type 0} (xs : List X) (i : ℕ) (x : X) → slice_get xs i ≡ Some x → take (suc i) xs ≡ take i xs ++ x ∷ []
+take-more [] i x at = cc
+take-more (y ∷ xs) zero x at = (let e : y ≡ x = cc in rw e refl)
+take-more (y ∷ xs) (suc i) x at = ap (λ ys. y ∷ ys) (take-more xs i x at)
+
+get-at : {X : Type 0} (xs : List X) (i : ℕ) (x d : X) → i < length xs → x ≡ get_or xs i x → (slice_get xs i ≡ Some x) × (slice_index_or xs i d ≡ x)
+get-at [] i x d below at = absurd (omega arith)
+get-at (y ∷ xs) zero x d below at = (ap (λ z. Some z) (sym at), sym at)
+get-at (y ∷ xs) (suc i) x d below at = get-at xs i x d (omega arith) at
+
+-- one more entry
+pub pairs_of-more : (m : ℕ) (entries : List Entry) (i : ℕ) (e : Entry) → slice_get entries i ≡ Some e → pairs_of m (take (suc i) entries) ≡ pairs_of m (take i entries) ++ (m, e.det) ∷ []
+pairs_of-more m entries i e at = ap (λ es. pairs_of m es) (take-more entries i e at) ∙ map-append (λ (x : Entry). (m, x.det)) (take i entries) (e ∷ [])
+
+-- one more member
+pub pairs_from-more : (ms : List MemberRecord) (i : ℕ) (x : MemberRecord) → i < length ms → x ≡ get_or ms i x → pairs_from 0 (take (suc i) ms) ≡ pairs_from 0 (take i ms) ++ pairs_of i x.table
+pairs_from-more ms i x below at =
+    let place : 0 + length (take i ms) ≡ i = omega (arith, length-take-le i ms (omega arith)) in
+    ap (λ xs. pairs_from 0 xs) (take-more ms i x (get-at ms i x blank below at).0) ∙ (rw place at (pairs_from-push 0 (take i ms) x))
+
+pub distinct-more : (ms : List MemberRecord) (i : ℕ) (x : MemberRecord) → i < length ms → x ≡ get_or ms i x → ((m : ℕ) → m < i → IsOnce (slice_index_or ms m blank).table) → IsOnce x.table → (m : ℕ) → m < i + 1 → IsOnce (slice_index_or ms m blank).table
+distinct-more ms i x below at so_far once m within = here (m == i) refl where
+  here : (b : Bool) → (m == i) ≡ b → IsOnce (slice_index_or ms m blank).table
+  here true e = (let same : m ≡ i = grind (arith, nat_tests) in rw (same, (get-at ms i x blank below at).1) once)
+  here false e = so_far m (let apart : m ≢ i = (λ same. (let t : (m == i) ≡ true = grind (arith, nat_tests) in cc)) in omega (arith, apart, within))
+
+-- a dump that obeys the rules is refused only for want of memory
+pub only_memory : (dump : Parts) (refusal : DumpRefusal) → IsDump dump → RefusesDump dump refusal → refusal ≡ Memory
+only_memory dump BadMembers rules refused = absurd (refused rules.members)
+only_memory dump BadF rules refused = absurd (refused.1 rules.f)
+only_memory dump (BadEvent place) rules refused = absurd (refused.2.1 (rules.events place))
+only_memory dump (BadHeld place) rules refused = absurd (refused.3.1 (rules.held place))
+only_memory dump BadStrike rules refused = absurd (refused.4 rules.strike)
+only_memory dump Memory rules refused = refl

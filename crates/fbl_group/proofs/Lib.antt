@@ -1,0 +1,12 @@
+pub mod Flights
+pub mod Planning
+pub mod Deciding
+pub mod Striking
+pub mod Reading
+pub mod Starting
+pub mod Dumping
+pub mod Numbers
+pub mod Again
+pub mod Recovering
+pub mod PuttingBack
+pub mod BringingBack

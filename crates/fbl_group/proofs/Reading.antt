@@ -1,0 +1,48 @@
+-- How large the parts of a sound group are.
+use Rattle.std.proofs.Common.{◌≡◌, ℕ, ◌≤◌, ◌==◌, not, Bool, List, [], ◌∷◌, length, map, inl, inr, Option, Some, None, ap, arith}
+use Rattle.std.specs.List.{filter_map, cons_option, list_any}
+use Rattle.std.proofs.lemmas.List.{length-map}
+use Rattle.std.proofs.lemmas.List.Sums.{length-filter, count_by-le-length}
+use Rattle.fbl_base.specs.declared.trace.Mark.{Mark}
+use Rattle.fbl_base.specs.declared.trace.Mark.TheVariants.{Send}
+use Rattle.fbl_base.specs.Events.{determinant_of}
+use Rattle.fbl_base.specs.Rules.{in_flight, sent_on, taken_on}
+use Rattle.fbl_base.specs.Fold.{Next}
+use Rattle.fbl_member.specs.Carried.{IsOnce}
+use Rattle.fbl_law.specs.Record.{send_mark, MatchesTrace}
+use Rattle.fbl_law.specs.Groups.{GroupRecord, member, channel, marks, knowledge}
+use Rattle.fbl_law.specs.Sound.{IsSound}
+use Rattle.fbl_law.proofs.Safe.{down_or_up}
+use Rattle.fbl_law.proofs.GroupFacts.{trace_fits}
+use Rattle.fbl_law.proofs.DumpLaws.{table_fits}
+
+pub length-filter_map : {X Y : Type 0} (h : X → Option Y) (xs : List X) → length (filter_map h xs) ≤ length xs
+length-filter_map h [] = omega arith
+length-filter_map {Y = Y} h (x ∷ xs) = at (h x) (length-filter_map h xs) where
+  at : (o : Option Y) → length (filter_map h xs) ≤ length xs → length (cons_option o (filter_map h xs)) ≤ length (x ∷ xs)
+  at None ih = omega (arith, ih)
+  at (Some y) ih = omega (arith, ih)
+
+in_flight-fits : (t : List Mark) (q p : ℕ) → length (in_flight t q p) ≤ length t
+in_flight-fits t q p =
+    let sent : List ℕ = filter_map (sent_on q p) t in
+    let untaken : ℕ → Bool = (λ ssn. not (list_any (λ taken. taken == ssn) (filter_map (taken_on q p) t))) in
+    omega (arith, length-filter untaken sent, count_by-le-length untaken sent, length-filter_map (sent_on q p) t)
+
+module _ (next : Next) (r : GroupRecord) (sound : IsSound next r) where
+  -- a channel has at most as many messages as the trace may have events
+  pub channel_fits : (q p : ℕ) → length (channel r q p) ≤ 8192
+  channel_fits q p = elim (down_or_up r.down q) [
+    | inl down ↦ rw (sound.causes.down.channels q p (inl down)) omega arith
+    | inr up ↦ elim (down_or_up r.down p) [
+      | inl down ↦ rw (sound.causes.down.channels q p (inr down)) omega arith
+      | inr up_to ↦
+          let matches : MatchesTrace (knowledge r) q p = sound.causes.channels q p up up_to in
+          let same : length (map send_mark (channel r q p)) ≡ length (map (λ ssn. Send q ssn p) (in_flight (marks r) q p)) = ap length matches in
+          omega (arith, same, length-map (channel r q p) send_mark, length-map (in_flight (marks r) q p) (λ ssn. Send q ssn p), in_flight-fits (marks r) q p, trace_fits next r sound)
+    ]
+  ]
+
+  -- and so has a table at most as many entries
+  pub held_fits : (m : ℕ) → IsOnce (member r m).table → length (member r m).table ≤ 8192
+  held_fits m once = omega (arith, table_fits next r sound m once, length-filter_map determinant_of (marks r), trace_fits next r sound)

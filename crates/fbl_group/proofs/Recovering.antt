@@ -1,0 +1,192 @@
+-- The steps of a recovery before it changes the group: gathering, replay in rounds, tables given.
+use Rattle.std.proofs.Common.{◌≡◌, ◌≢◌, ℕ, zero, suc, ◌+◌, ◌<◌, ◌≤◌, ◌==◌, ◌⊎◌, inl, inr, Bool, true, false, List, [], ◌∷◌, ◌++◌, length, map, take, Option, Some, None, get_or, refl, sym, subst, ap, ◌∙◌, arith, length-append, get_or-set_same}
+use Rattle.std.specs.Prelude.{slice_index_or, slice_set}
+use Rattle.std.specs.Option.{SomeIff, IsSome}
+use Rattle.std.specs.FinSet as set
+use Rattle.std.proofs.lemmas.Bool.{cases_lt}
+use Rattle.std.proofs.lemmas.List.{length-set, get_or-set_other, take_all}
+use Rattle.fbl_base.specs.declared.trace.Determinant.{Determinant}
+use Rattle.fbl_base.specs.declared.trace.Note.{Note}
+use Rattle.fbl_base.specs.declared.trace.Start.{Start}
+use Rattle.fbl_base.specs.Fold.{Next, Logged}
+use Rattle.fbl_table.specs.declared.entry.Entry.{Entry}
+use Rattle.fbl_table.specs.Tables.{found, gathered, marked}
+use Rattle.fbl_member.specs.Members.{MemberRecord, blank, fresh, logged_note, replayed_by}
+use Rattle.fbl_law.specs.Record.{Members, IsUp, IsDown}
+use Rattle.fbl_law.specs.Steps.{gathered_all}
+use Rattle.fbl_law.specs.Groups.{GroupRecord, member, knowledge, tables}
+use Rattle.fbl_law.specs.Sound.{IsSound}
+use Rattle.fbl_law.specs.Replaying.{IsNextReplay, gathered_table, working, IsReplaying, IsWaiting, replayed_in}
+use Rattle.fbl_law.proofs.Safe.{down_or_up}
+use Rattle.fbl_law.proofs.Gathering.{gathered_all-more}
+use Rattle.fbl_law.proofs.Rebuilding.{replaying-start, replaying-next, replaying-room, replaying-step, replayed_in-step, replayed_in-short, replaying-tables}
+use Rattle.fbl_group.specs.Rebuilding.{Tries, Rounds, HasReplayed, IsReady}
+
+-- the member with a number
+pub numbered : (o : Option ℕ) (x k : ℕ) → SomeIff o (k < 16) k → k < 16 → o ≡ Some x → x ≡ k
+numbered None x k made below is = absurd (made below)
+numbered (Some y) x k made below is = (let e : y ≡ x = cc in sym e ∙ made.1)
+
+pub is-made : (o : Option ℕ) (k : ℕ) → SomeIff o (k < 16) k → k < 16 → IsSome o
+is-made None k made below = absurd (made below)
+is-made (Some y) k made below = refl
+
+-- a record that is read at a place of the list, whatever stands past its end
+pub read_at : (ms : List MemberRecord) (i : ℕ) (d m : MemberRecord) → i < length ms → m ≡ get_or ms i d → m ≡ slice_index_or ms i blank
+read_at [] i d m below read = absurd (omega (arith, below))
+read_at (x ∷ ms) zero d m below read = read
+read_at (x ∷ ms) (suc i) d m below read = read_at ms i d m (omega (arith, below)) read
+
+-- the table of one member more
+pub gathered-step : (ms : List MemberRecord) (i : ℕ) (before after : List Entry) (m : MemberRecord) → i < length ms → m ≡ slice_index_or ms i blank
+    → before ≡ gathered_all [] (map (λ (x : MemberRecord). x.table) (take i ms)) → after ≡ gathered before m.table → after ≡ gathered_all [] (map (λ (x : MemberRecord). x.table) (take (i + 1) ms))
+gathered-step ms i before after m below read was is =
+    is ∙ ap (λ (t : List Entry). gathered t m.table) was ∙ ap (λ (x : MemberRecord). gathered (gathered_all [] (map (λ (y : MemberRecord). y.table) (take i ms))) x.table) read ∙ sym (gathered_all-more ms i below)
+
+pub gathered-end : (r : GroupRecord) (i : ℕ) (before after : List Entry) → length r.members ≤ i → before ≡ gathered_all [] (map (λ (x : MemberRecord). x.table) (take i r.members)) → after ≡ marked r.down before → after ≡ gathered_table r
+gathered-end r i before after all was is =
+    is ∙ ap (marked r.down) (was ∙ ap (λ (ms : List MemberRecord). gathered_all [] (map (λ (x : MemberRecord). x.table) ms)) (take_all i r.members all))
+
+-- one record more
+pub begun-at : (s : Members) (starts : List Start) (ms : List MemberRecord) (i : ℕ) (m : MemberRecord) → length ms ≡ i
+    → ((p : ℕ) → p < i → set.contains s p ≡ true → slice_index_or ms p blank ≡ fresh p starts) → (set.contains s i ≡ true → m ≡ fresh i starts)
+    → (p : ℕ) → p < i + 1 → set.contains s p ≡ true → slice_index_or (ms ++ m ∷ []) p blank ≡ fresh p starts
+begun-at s starts ms i m size before here p below down = at (cases_lt p i) where
+  first : (xs : List MemberRecord) (j : ℕ) → j < length xs → slice_index_or (xs ++ m ∷ []) j blank ≡ slice_index_or xs j blank
+  first [] j h = absurd (omega (arith, h))
+  first (x ∷ xs) zero h = refl
+  first (x ∷ xs) (suc j) h = first xs j (omega (arith, h))
+
+  last : (xs : List MemberRecord) (j : ℕ) → length xs ≡ j → slice_index_or (xs ++ m ∷ []) j blank ≡ m
+  last [] zero h = refl
+  last [] (suc j) h = absurd (omega (arith, h))
+  last (x ∷ xs) zero h = absurd (omega (arith, h))
+  last (x ∷ xs) (suc j) h = last xs j (omega (arith, h))
+
+  at : (p < i) ⊎ (i ≤ p) → slice_index_or (ms ++ m ∷ []) p blank ≡ fresh p starts
+  at (inl less) = first ms p (omega (arith, size, less)) ∙ before p less down
+  at (inr past) =
+      let same : p ≡ i = omega (arith, past, below) in
+      last ms p (size ∙ sym same) ∙ here (ap (λ x. set.contains s x) (sym same) ∙ down) ∙ ap (λ x. fresh x starts) (sym same)
+
+module _ (next : Next) (r : GroupRecord) (sound : IsSound next r) where
+  pub member-below : (p : ℕ) → set.contains r.down p ≡ true → p < r.config.members
+  member-below p down = sound.down p down
+
+  pub begun : (rebuilt : List MemberRecord) (i : ℕ) → i ≡ r.config.members → length rebuilt ≡ i → ((p : ℕ) → p < i → set.contains r.down p ≡ true → slice_index_or rebuilt p blank ≡ fresh p r.config.starts) → IsReplaying next r rebuilt
+  begun rebuilt i all size each = replaying-start next r sound rebuilt (size ∙ all) (λ p below down. each p (omega (arith, all, below)) down)
+
+  -- what one try needs, and what it leaves
+  module _ (rebuilt : List MemberRecord) (p place : ℕ) (held : List Entry) (replaying : IsReplaying next r rebuilt) (down : set.contains r.down p ≡ true) (is_held : held ≡ gathered_table r) (is_place : place ≡ p) where
+    pub at-place : place < length rebuilt
+    at-place = omega (arith, sound.down p down, replaying.size, is_place)
+
+    is-record : (m : MemberRecord) → m ≡ get_or rebuilt place m → m ≡ slice_index_or rebuilt p blank
+    is-record m read = read_at rebuilt place m m at-place read ∙ ap (λ x. slice_index_or rebuilt x blank) is_place
+
+    module _ (m : MemberRecord) (read : m ≡ get_or rebuilt place m) (answer : Option Determinant) (sought : answer ≡ found p (m.received + 1) held) where
+      is-found : (d : Determinant) → answer ≡ Some d → found p ((slice_index_or rebuilt p blank).received + 1) (gathered_table r) ≡ Some d
+      is-found d is =
+          ap (found p ((slice_index_or rebuilt p blank).received + 1)) (sym is_held) ∙ ap (λ (x : MemberRecord). found p (x.received + 1) held) (sym (is-record m read)) ∙ sym sought ∙ is
+
+      its-next : (d : Determinant) → answer ≡ Some d → IsNextReplay r.config.members p (slice_index_or rebuilt p blank) d
+      its-next d is = replaying-next next r sound rebuilt p d replaying (sound.down p down) down (is-found d is)
+
+      -- the table has no such receipt
+      pub waits-unfound : answer ≡ None → Tries next r p rebuilt rebuilt false
+      waits-unfound none = (refl, λ d is. absurd (let some : answer ≡ Some d = back d is in cc)) where
+        back : (d : Determinant) → found p ((slice_index_or rebuilt p blank).received + 1) (gathered_table r) ≡ Some d → answer ≡ Some d
+        back d is =
+            sought ∙ ap (λ (x : MemberRecord). found p (x.received + 1) held) (is-record m read) ∙ ap (found p ((slice_index_or rebuilt p blank).received + 1)) is_held ∙ is
+
+      module _ (d : Determinant) (is : answer ≡ Some d) where
+        pub from-member : d.from < r.config.members
+        from-member = (its-next d is).from
+
+        pub to-member : d.to ≡ p
+        to-member = (its-next d is).to
+
+        pub next-number : (x : MemberRecord) → x ≡ get_or rebuilt place x → d.rsn ≡ x.received + 1
+        next-number x here = (its-next d is).rsn ∙ ap (λ (y : MemberRecord). y.received + 1) (sym (is-record x here))
+
+        pub few-received : (x : MemberRecord) → x ≡ get_or rebuilt place x → x.received < 8192
+        few-received x here = (let room = (its-next d is).room in let same : x.received ≡ (slice_index_or rebuilt p blank).received = ap (λ (y : MemberRecord). y.received) (is-record x here) in omega (arith, room, same))
+
+        -- its message is not sent again yet
+        pub waits-unsent : logged_note (working r rebuilt d.from).log d.ssn ≡ None → Tries next r p rebuilt rebuilt false
+        waits-unsent none = (refl, λ c found_c. ap (λ (x : Determinant). logged_note (working r rebuilt x.from).log x.ssn) (same c found_c) ∙ none) where
+          same : (c : Determinant) → found p ((slice_index_or rebuilt p blank).received + 1) (gathered_table r) ≡ Some c → c ≡ d
+          same c found_c = (let e : Some c ≡ Some d = sym found_c ∙ is-found d is in cc)
+
+        module _ (n : ℕ) (all : n ≡ r.config.members) (note : Note) (named : logged_note (working r rebuilt d.from).log d.ssn ≡ Some note) (x : MemberRecord) (here : x ≡ get_or rebuilt place x) where
+          pub few-sent : length x.log + length (next p n x.state note).sends.items ≤ 8192
+          few-sent =
+              subst (λ (k : ℕ). length x.log + length (next p k x.state note).sends.items ≤ 8192) (sym all)
+              (subst (λ (y : MemberRecord). length y.log + length (next p r.config.members y.state note).sends.items ≤ 8192) (sym (is-record x here)) (replaying-room next r sound rebuilt p d note replaying (sound.down p down) down (is-found d is) named))
+
+          after-is : (after : MemberRecord) → after ≡ replayed_by next p n x d note → after ≡ replayed_by next p r.config.members (slice_index_or rebuilt p blank) d note
+          after-is after is_after = is_after ∙ ap (λ (k : ℕ). replayed_by next p k x d note) all ∙ ap (λ (y : MemberRecord). replayed_by next p r.config.members y d note) (is-record x here)
+
+          pub replays-one : (after : MemberRecord) → after ≡ replayed_by next p n x d note → Tries next r p rebuilt (slice_set rebuilt place after) true
+          replays-one after is_after =
+              subst (λ (k : ℕ). Tries next r p rebuilt (slice_set rebuilt k after) true) (sym is_place)
+              (subst (λ (y : MemberRecord). Tries next r p rebuilt (slice_set rebuilt p y) true) (sym (after-is after is_after))
+              (replaying-step next r sound rebuilt p d note replaying (sound.down p down) down (is-found d is) named, replayed_in-step next r sound rebuilt p d note replaying (sound.down p down) down))
+
+  -- a try keeps what is so of the replay
+  pub tried-replaying : (p : ℕ) (before after : List MemberRecord) (moved : Bool) → IsReplaying next r before → Tries next r p before after moved → IsReplaying next r after
+  tried-replaying p before after true replaying tried = tried.0
+  tried-replaying p before after false replaying tried = subst (IsReplaying next r) (sym tried.0) replaying
+
+  -- a round so far, and one more member
+  pub round-start : (rebuilt : List MemberRecord) → Rounds next r 0 rebuilt rebuilt false
+  round-start rebuilt = (refl, λ p below. absurd (omega arith))
+
+  pub round-moved : (i p : ℕ) (first before after : List MemberRecord) (moved : Bool) → Rounds next r i first before moved → Tries next r p before after true → Rounds next r (i + 1) first after true
+  round-moved i p first before after true so_far tried = (tried.0, omega (arith, so_far.1, tried.1))
+  round-moved i p first before after false so_far tried = (tried.0, (let e : replayed_in r before ≡ replayed_in r first = ap (replayed_in r) so_far.0 in omega (arith, e, tried.1)))
+
+  pub round-waits : (i : ℕ) (first before after : List MemberRecord) (moved : Bool) → Rounds next r i first before moved → Tries next r i before after false → Rounds next r (i + 1) first after moved
+  round-waits i first before after true so_far tried = (subst (IsReplaying next r) (sym tried.0) so_far.0, (let e : replayed_in r after ≡ replayed_in r before = ap (replayed_in r) tried.0 in omega (arith, e, so_far.1)))
+  round-waits i first before after false so_far tried = (tried.0 ∙ so_far.0, λ p below down. at p below down (cases_lt p i)) where
+    at : (p : ℕ) → p < i + 1 → IsDown (knowledge r) p → (p < i) ⊎ (i ≤ p) → IsWaiting r first p
+    at p below down (inl less) = so_far.1 p less down
+    at p below down (inr past) = (let same : p ≡ i = omega arith in subst (IsWaiting r first) (sym same) (subst (λ (ms : List MemberRecord). IsWaiting r ms i) so_far.0 tried.1))
+
+  pub round-up : (i : ℕ) (first now : List MemberRecord) (moved : Bool) → Rounds next r i first now moved → set.contains r.down i ≡ false → Rounds next r (i + 1) first now moved
+  round-up i first now true so_far up = so_far
+  round-up i first now false so_far up = (so_far.0, λ p below down. at p below down (cases_lt p i)) where
+    at : (p : ℕ) → p < i + 1 → IsDown (knowledge r) p → (p < i) ⊎ (i ≤ p) → IsWaiting r first p
+    at p below down (inl less) = so_far.1 p less down
+    at p below down (inr past) = (let same : p ≡ i = omega arith in let is : set.contains r.down p ≡ false = ap (λ x. set.contains r.down x) same ∙ up in cc)
+
+  -- rounds end
+  pub round-more : (before after : List MemberRecord) → Rounds next r r.config.members before after true → replayed_in r before < replayed_in r after
+  round-more before after round = round.1
+
+  pub few-replayed : (rebuilt : List MemberRecord) → IsReplaying next r rebuilt → replayed_in r rebuilt ≤ 8192
+  few-replayed rebuilt replaying = replayed_in-short next r sound rebuilt replaying
+
+  pub round-last : (before after : List MemberRecord) → IsReplaying next r before → Rounds next r r.config.members before after false → HasReplayed next r after
+  round-last before after replaying round = subst (HasReplayed next r) (sym round.0) (record { replaying = replaying; waiting = round.1 })
+
+  -- the tables are given
+  module _ (before after : List MemberRecord) (replayed : HasReplayed next r before) (size : length after ≡ length before)
+      (given : (p : ℕ) → p < r.config.members → IsDown (knowledge r) p → slice_index_or after p blank ≡ record (slice_index_or before p blank) { table = gathered_table r }) where
+    same-log : (q : ℕ) → q < r.config.members → (working r after q).log ≡ (working r before q).log
+    same-log q below = at (set.contains r.down q) refl where
+      at : (b : Bool) → set.contains r.down q ≡ b → (working r after q).log ≡ (working r before q).log
+      at true is = rw is (ap (λ (m : MemberRecord). m.log) (given q below is))
+      at false is = rw is refl
+
+    still-waits : (p : ℕ) → p < r.config.members → IsDown (knowledge r) p → IsWaiting r after p
+    still-waits p below down d is =
+        let was : found p ((slice_index_or before p blank).received + 1) (gathered_table r) ≡ Some d = ap (λ (m : MemberRecord). found p (m.received + 1) (gathered_table r)) (sym (given p below down)) ∙ is in
+        let from = (replaying-next next r sound before p d replayed.replaying below down was).from in
+        ap (λ (log : List Logged). logged_note log d.ssn) (same-log d.from from) ∙ replayed.waiting p below down d was
+
+    pub tables-given : IsReady next r after
+    tables-given = record {
+      replayed = record { replaying = replaying-tables next r sound before after (gathered_table r) replayed.replaying size given; waiting = still-waits };
+      tables = λ p below down. ap (λ (m : MemberRecord). m.table) (given p below down);
+    }

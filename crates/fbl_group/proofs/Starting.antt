@@ -1,0 +1,80 @@
+-- What a group is made of at its start.
+use Rattle.std.proofs.Common.{◌≡◌, ◌≢◌, ℕ, zero, suc, ◌+◌, ◌<◌, ◌==◌, Bool, true, false, cond, List, [], ◌∷◌, ◌++◌, length, map, take, drop, get_or, Option, Some, None, refl, sym, ap, ◌∙◌, arith}
+use Rattle.std.specs.Prelude.{slice_index, slice_index_or, slice_set, count_by}
+use Rattle.std.specs.List.{filter_map, cons_option, IsDistinct}
+use Rattle.std.proofs.lemmas.Bool.Decides.{nat_tests}
+use Rattle.std.proofs.lemmas.List.{map-append}
+use Rattle.std.proofs.lemmas.List.Sums.{sum_by-append}
+use Rattle.fbl_base.specs.declared.trace.Note.{Note}
+use Rattle.fbl_base.specs.declared.trace.Start.{Start}
+use Rattle.fbl_base.specs.declared.trace.Event.{Event}
+use Rattle.fbl_base.specs.declared.trace.Event.TheVariants.{Send}
+use Rattle.fbl_base.specs.declared.trace.Mark.TheVariants as mark
+use Rattle.fbl_base.specs.Events.{mark_of, same_determinant}
+use Rattle.fbl_base.specs.Rules.{is_send_of, sends_of}
+use Rattle.fbl_member.specs.Members.{MemberRecord, fresh, blank}
+use Rattle.fbl_law.specs.GroupSteps.{start_events}
+
+-- no two entries of none are equal
+pub once-none : IsDistinct same_determinant []
+unfolding IsDistinct
+once-none = tt
+
+-- one more element under a map that drops some
+pub filter_map-more : {X Y : Type 0} (h : X → Option Y) (xs : List X) (i : ℕ) (x : X) → i < length xs → x ≡ get_or xs i x → filter_map h (take (suc i) xs) ≡ filter_map h (take i xs) ++ cons_option (h x) []
+filter_map-more h [] i x below at = absurd (omega arith)
+filter_map-more h (y ∷ xs) zero x below at = ap (λ z. cons_option (h z) []) (sym at)
+filter_map-more {Y = Y} h (y ∷ xs) (suc i) x below at = here (h y) (filter_map-more h xs i x (omega arith) at) where
+  here : (o : Option Y) → filter_map h (take (suc i) xs) ≡ filter_map h (take i xs) ++ cons_option (h x) [] → cons_option o (filter_map h (take (suc i) xs)) ≡ cons_option o (filter_map h (take i xs)) ++ cons_option (h x) []
+  here None ih = ih
+  here (Some z) ih = ap (λ zs. z ∷ zs) ih
+
+-- one more member
+pub members-more : (ms : List MemberRecord) (starts : List Start) (n : ℕ) (x : MemberRecord) → length ms ≡ n → x ≡ fresh n starts → ((m : ℕ) → m < n → slice_index_or ms m blank ≡ fresh m starts) → (m : ℕ) → m < n + 1 → slice_index_or (ms ++ x ∷ []) m blank ≡ fresh m starts
+members-more ms starts n x size is so_far m below = at (m == n) refl where
+  old : (ys : List MemberRecord) (k : ℕ) → k < length ys → slice_index_or (ys ++ x ∷ []) k blank ≡ slice_index_or ys k blank
+  old [] k lt = absurd (omega arith)
+  old (y ∷ ys) zero lt = refl
+  old (y ∷ ys) (suc k) lt = old ys k (omega arith)
+
+  last : (ys : List MemberRecord) → slice_index_or (ys ++ x ∷ []) (length ys) blank ≡ x
+  last [] = refl
+  last (y ∷ ys) = last ys
+
+  at : (b : Bool) → (m == n) ≡ b → slice_index_or (ms ++ x ∷ []) m blank ≡ fresh m starts
+  at true e =
+      let same : m ≡ n = grind (arith, nat_tests) in
+      rw (same, ← size) (last ms ∙ is ∙ ap (λ (k : ℕ). fresh k starts) (sym size))
+  at false e =
+      let apart : m ≢ n = (λ same. (let t : (m == n) ≡ true = grind (arith, nat_tests) in cc)) in
+      let less : m < n = omega (arith, apart, below) in
+      old ms m (omega (arith, size, less)) ∙ so_far m less
+
+-- one more send of a start
+pub starts-more : (done : List Event) (ss : List Start) (i : ℕ) (s : Start) → i < length ss → s ≡ get_or ss i s → start_events (done ++ Send s.from (sends_of (map mark_of done) s.from + 1) s.to s.note ∷ []) (drop (suc i) ss) ≡ start_events done (drop i ss)
+starts-more done [] i s below at = absurd (omega arith)
+starts-more done (x ∷ ss) zero s below at = rw at refl
+starts-more done (x ∷ ss) (suc i) s below at = starts-more done ss i s (omega arith) at
+
+-- how many sends the events have, with one more
+sends-more : (done : List Event) (from ssn to : ℕ) (note : Note) (m : ℕ) → sends_of (map mark_of (done ++ Send from ssn to note ∷ [])) m ≡ sends_of (map mark_of done) m + cond (from == m) 1 0
+sends-more done from ssn to note m =
+    ap (λ marks. count_by (is_send_of m) marks) (map-append mark_of done (Send from ssn to note ∷ []))
+    ∙ sum_by-append (λ e. cond (is_send_of m e) 1 0) (map mark_of done) (mark.Send from ssn to ∷ []) ∙ ap (λ k. sends_of (map mark_of done) m + k) (omega arith)
+
+-- the counts of sends, with one more
+pub counts-more : (done : List Event) (sent : List ℕ) (from to : ℕ) (note : Note) → ((m : ℕ) → m < 16 → slice_index sent m ≡ sends_of (map mark_of done) m) → length sent ≡ 16 → from < 16 → (m : ℕ) → m < 16
+    → slice_index (slice_set sent from (slice_index sent from + 1)) m ≡ sends_of (map mark_of (done ++ Send from (sends_of (map mark_of done) from + 1) to note ∷ [])) m
+counts-more done sent from to note counts places within m below = read sent from m _ (omega (arith, places, within)) ∙ at (from == m) refl ∙ sym (sends-more done from _ to note m) where
+  read : (xs : List ℕ) (k j x : ℕ) → k < length xs → slice_index (slice_set xs k x) j ≡ cond (k == j) x (slice_index xs j)
+  read [] k j x lt = absurd (omega arith)
+  read (y ∷ xs) zero zero x lt = refl
+  read (y ∷ xs) zero (suc j) x lt = rw (let e : (0 == suc j) ≡ false = grind (arith, nat_tests) in e) refl
+  read (y ∷ xs) (suc k) zero x lt = rw (let e : (suc k == 0) ≡ false = grind (arith, nat_tests) in e) refl
+  read (y ∷ xs) (suc k) (suc j) x lt = rw (let e : (suc k == suc j) ≡ (k == j) = grind (arith, nat_tests) in e) (read xs k j x (omega arith))
+
+  at : (b : Bool) → (from == m) ≡ b → cond b (slice_index sent from + 1) (slice_index sent m) ≡ sends_of (map mark_of done) m + cond b 1 0
+  at true e =
+      let same : from ≡ m = grind (arith, nat_tests) in
+      rw same (ap (λ k. k + 1) (counts m below))
+  at false e = omega (arith, counts m below)

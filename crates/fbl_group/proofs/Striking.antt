@@ -1,0 +1,219 @@
+-- When a strike is refused, and what it leaves.
+use Rattle.std.proofs.Common.{◌≡◌, ◌≢◌, ℕ, ◌+◌, ◌<◌, ◌≤◌, ◌==◌, ◌&&◌, ◌||◌, not, Bool, true, false, cond, List, [], ◌∷◌, length, map, inl, inr, ◌⊎◌, Some, None, refl, sym, ap, ◌∙◌, arith}
+use Rattle.std.specs.Prelude.{nat_lt, count_by, slice_index_or}
+use Rattle.std.specs.List.{filter, list_any, list_all, cons_option}
+use Rattle.std.specs.Ordering.{nat_cmp, eq_by_cmp}
+use Rattle.std.specs.Cmp.{unsigned_tied, nat_cmp_total}
+use Rattle.std.specs.FinSet as sets
+use Rattle.std.proofs.lemmas.Bool.Decides.{nat_tests}
+use Rattle.std.proofs.lemmas.List.Sums.{sum_by-cons}
+use Rattle.fbl_base.specs.declared.trace.Determinant.{Determinant}
+use Rattle.fbl_base.specs.declared.trace.Event.{Event}
+use Rattle.fbl_base.specs.declared.trace.Event.TheVariants as event
+use Rattle.fbl_base.specs.Events.{determinant_of, mark_of}
+use Rattle.fbl_base.specs.MemberSets.{AllBelow, same_from_contains}
+use Rattle.fbl_base.specs.Fold.{Next}
+use Rattle.fbl_base.proofs.RulesLaws.{eqb-self}
+use Rattle.fbl_member.specs.Members.{Message, MemberRecord, blank}
+use Rattle.fbl_table.specs.Tables.{is_held}
+use Rattle.fbl_law.specs.Record.{Members, IsOrphan}
+use Rattle.fbl_law.specs.Steps.{is_on}
+use Rattle.fbl_law.specs.Groups.{GroupRecord, channel, knowledge, receipts}
+use Rattle.fbl_law.specs.Sound.{IsSound}
+use Rattle.fbl_law.specs.GroupSteps.{IsStrike}
+use Rattle.fbl_law.proofs.GroupStrike.{group_strike_keeps}
+use Rattle.fbl_law.proofs.Promises.{sound_has_no_orphan}
+use Rattle.fbl_group.specs.declared.refusals.StrikeRefusal.TheVariants.{BadMember, Nobody, TooMany, Down}
+use Rattle.fbl_group.specs.Recoveries.{has_end_in}
+use Rattle.fbl_group.specs.Strikes.{is_within, strike_refusal, lost_receipts, is_lost, IsBlanked}
+
+-- the test of who is below n
+all_below : (n : ℕ) (ks : List ℕ) → ((q : ℕ) → list_any (eq_by_cmp nat_cmp q) ks ≡ true → q < n) → list_all (λ m. nat_lt m n) ks ≡ true
+all_below n [] below = refl
+all_below n (k ∷ ks) below =
+    let tie : eq_by_cmp nat_cmp k k ≡ true = unsigned_tied k k ∙ eqb-self k in
+    let first : k < n = below k (ap (λ b. b || list_any (eq_by_cmp nat_cmp k) ks) tie) in
+    let is : nat_lt k n ≡ true = grind (arith, nat_tests) in
+    rw is (all_below n ks (λ q among. below q (rw among (or_true (eq_by_cmp nat_cmp q k)))))
+  where
+    or_true : (b : Bool) → (b || true) ≡ true
+    or_true true = refl
+    or_true false = refl
+
+below_all : (n : ℕ) (ks : List ℕ) → list_all (λ m. nat_lt m n) ks ≡ true → (q : ℕ) → list_any (eq_by_cmp nat_cmp q) ks ≡ true → q < n
+below_all n [] all q among = cc
+below_all n (k ∷ ks) all q among = at (nat_lt k n) (eq_by_cmp nat_cmp q k) refl refl all among (below_all n ks) where
+  at : (a b : Bool) → nat_lt k n ≡ a → eq_by_cmp nat_cmp q k ≡ b → (a && list_all (λ m. nat_lt m n) ks) ≡ true → (b || list_any (eq_by_cmp nat_cmp q) ks) ≡ true → (list_all (λ m. nat_lt m n) ks ≡ true → (q : ℕ) → list_any (eq_by_cmp nat_cmp q) ks ≡ true → q < n) → q < n
+  at false b ea eb all among rest = cc
+  at true true ea eb all among rest =
+      let same : (q == k) ≡ true = sym (unsigned_tied q k) ∙ eb in
+      let equal : q ≡ k = grind (arith, nat_tests) in
+      let below : k < n = grind (arith, nat_tests) in
+      omega (arith, equal, below)
+  at true false ea eb all among rest = rest all q among
+
+within-below : (s : Members) (n : ℕ) → is_within s n ≡ true → AllBelow s n
+within-below s n within q among = below_all n (sets.items s) within q (sym (sets.contains-items s q) ∙ among)
+
+below-within : (s : Members) (n : ℕ) → AllBelow s n → is_within s n ≡ true
+below-within s n below = all_below n (sets.items s) (λ q among. below q (sets.contains-items s q ∙ among))
+
+not-below : (s : Members) (n : ℕ) → ¬ (AllBelow s n) → is_within s n ≡ false
+not-below s n not_all = at (is_within s n) refl where
+  at : (b : Bool) → is_within s n ≡ b → b ≡ false
+  at true is = absurd (not_all (within-below s n is))
+  at false is = refl
+
+-- each refusal comes where its rule is broken and those before it are kept
+module _ (r : GroupRecord) (struck : Members) where
+  pub is_bad_member : ¬ (AllBelow struck r.config.members) → strike_refusal r struck ≡ Some BadMember
+  is_bad_member outside = (let e = not-below struck r.config.members outside in rw e refl)
+
+  module _ (below : AllBelow struck r.config.members) where
+    pub is_nobody : sets.len struck ≡ 0 → strike_refusal r struck ≡ Some Nobody
+    is_nobody none = (let e = below-within struck r.config.members below in rw (e, none) refl)
+
+    module _ (some : sets.len struck ≢ 0) where
+      named : (sets.len struck == 0) ≡ false
+      named = grind (arith, nat_tests)
+
+      pub is_too_many : r.config.f < sets.len struck → strike_refusal r struck ≡ Some TooMany
+      is_too_many more =
+          let e = below-within struck r.config.members below in
+          let over : nat_lt r.config.f (sets.len struck) ≡ true = grind (arith, nat_tests) in
+          rw (e, named, over) refl
+
+      module _ (few : sets.len struck ≤ r.config.f) where
+        within_f : nat_lt r.config.f (sets.len struck) ≡ false
+        within_f = grind (arith, nat_tests)
+
+        pub is_down : sets.len r.down ≢ 0 → strike_refusal r struck ≡ Some Down
+        is_down down =
+            let e = below-within struck r.config.members below in
+            let are : (sets.len r.down == 0) ≡ false = grind (arith, nat_tests) in
+            rw (e, named, within_f, are) refl
+
+        pub is_allowed : sets.len r.down ≡ 0 → strike_refusal r struck ≡ None
+        is_allowed up =
+            let e = below-within struck r.config.members below in
+            rw (e, named, within_f, up) refl
+
+-- what holds where no refusal does
+pub record MayStrike (r : GroupRecord) (struck : Members) : Type 0 where
+  pub below : AllBelow struck r.config.members
+  pub few : sets.len struck ≤ r.config.f
+  pub nobody_down : r.down ≡ sets.empty
+
+pub may_strike : (r : GroupRecord) (struck : Members) → strike_refusal r struck ≡ None → MayStrike r struck
+may_strike r struck allowed = at (is_within struck r.config.members) (sets.len struck == 0) (nat_lt r.config.f (sets.len struck)) (sets.len r.down == 0) refl refl refl refl allowed where
+  at : (a b c d : Bool) → is_within struck r.config.members ≡ a → (sets.len struck == 0) ≡ b → nat_lt r.config.f (sets.len struck) ≡ c → (sets.len r.down == 0) ≡ d
+      → cond (not a) (Some BadMember) (cond b (Some Nobody) (cond c (Some TooMany) (cond (not d) (Some Down) None))) ≡ None → MayStrike r struck
+  at false b c d ea eb ec ed none = cc
+  at true true c d ea eb ec ed none = cc
+  at true false true d ea eb ec ed none = cc
+  at true false false false ea eb ec ed none = cc
+  at true false false true ea eb ec ed none = record {
+    below = within-below struck r.config.members ea;
+    few = grind (arith, nat_tests);
+    nobody_down = sets.empty_of_len r.down (grind (arith, nat_tests));
+  }
+
+-- the messages on a channel with no struck end stay, and the others go
+both_filters : {X : Type 0} (p q : X → Bool) → ((x : X) → q x ≡ true → p x ≡ true) → (xs : List X) → filter q (filter p xs) ≡ filter q xs
+both_filters p q passes [] = refl
+both_filters p q passes (x ∷ xs) = at (p x) (q x) refl refl (both_filters p q passes xs) where
+  at : (a b : Bool) → p x ≡ a → q x ≡ b → filter q (filter p xs) ≡ filter q xs → filter q (cond a (x ∷ filter p xs) (filter p xs)) ≡ cond b (x ∷ filter q xs) (filter q xs)
+  at true true ea eb ih = rw eb (ap (λ ys. x ∷ ys) ih)
+  at true false ea eb ih = rw eb ih
+  at false true ea eb ih = absurd (let e = passes x eb in cc)
+  at false false ea eb ih = ih
+
+neither_filter : {X : Type 0} (p q : X → Bool) → ((x : X) → q x ≡ true → p x ≡ false) → (xs : List X) → filter q (filter p xs) ≡ []
+neither_filter p q fails [] = refl
+neither_filter p q fails (x ∷ xs) = at (p x) (q x) refl refl (neither_filter p q fails xs) where
+  at : (a b : Bool) → p x ≡ a → q x ≡ b → filter q (filter p xs) ≡ [] → filter q (cond a (x ∷ filter p xs) (filter p xs)) ≡ []
+  at true true ea eb ih = absurd (let e = fails x eb in cc)
+  at true false ea eb ih = rw eb ih
+  at false b ea eb ih = ih
+
+both_equal : (a b : Bool) → (a && b) ≡ true → (a ≡ true) × (b ≡ true)
+both_equal true b h = (refl, h)
+both_equal false b h = cc
+
+module _ (next : Next) (old new : GroupRecord) (struck : Members) (sound : IsSound next old) (allowed : strike_refusal old struck ≡ None) (blanked : IsBlanked struck old.members new.members) (flight : new.flight ≡ filter (λ v. not (has_end_in struck v)) old.flight) (down : new.down ≡ sets.union old.down struck) (trace : new.trace ≡ old.trace) (config : new.config ≡ old.config) (receipts_ever : new.receipts_ever ≡ old.receipts_ever) (undone_ever : new.undone_ever ≡ old.undone_ever) where
+  may : MayStrike old struck
+  may = may_strike old struck allowed
+
+  only_struck : (m : ℕ) → sets.contains new.down m ≡ sets.contains struck m
+  only_struck m = ap (λ (s : Members). sets.contains s m) down ∙ sets.contains-union {R = nat_cmp} nat_cmp_total old.down struck m ∙ ap (λ b. b || sets.contains struck m) (ap (λ (s : Members). sets.contains s m) may.nobody_down ∙ sets.contains-empty nat_cmp m)
+
+  same_down : new.down ≡ struck
+  same_down = same_from_contains new.down struck only_struck
+
+  on : (q p : ℕ) (v : Message) → is_on q p v ≡ true → has_end_in struck v ≡ (sets.contains struck q || sets.contains struck p)
+  on q p v is =
+      let both = both_equal (v.from == q) (v.to == p) is in
+      let b0 = both.0 in
+      let b1 = both.1 in
+      let from : v.from ≡ q = grind (arith, nat_tests) in
+      let to : v.to ≡ p = grind (arith, nat_tests) in
+      rw (from, to) refl
+
+  kept : (q p : ℕ) → sets.contains struck q ≡ false → sets.contains struck p ≡ false → channel new q p ≡ channel old q p
+  kept q p up_q up_p = ap (filter (is_on q p)) flight ∙ both_filters (λ v. not (has_end_in struck v)) (is_on q p) (λ v is. (let e = on q p v is in rw (e, up_q, up_p) refl)) old.flight
+
+  emptied : (q p : ℕ) → (sets.contains struck q || sets.contains struck p) ≡ true → channel new q p ≡ []
+  emptied q p ends = ap (filter (is_on q p)) flight ∙ neither_filter (λ v. not (has_end_in struck v)) (is_on q p) (λ v is. (let e = on q p v is in rw (e, ends) refl)) old.flight
+
+  either : (a b : Bool) → (a ≡ true) ⊎ (b ≡ true) → (a || b) ≡ true
+  either true b h = refl
+  either false b (inl h) = cc
+  either false b (inr h) = h
+
+  pub is_strike : IsStrike old new struck
+  is_strike = record {
+    down = down;
+    size = blanked.size;
+    survivors = λ m up. blanked.others m (sym (only_struck m) ∙ up);
+    blanks = λ m is. blanked.named m (sym (only_struck m) ∙ is);
+    channels = λ q p up_q up_p. kept q p (sym (only_struck q) ∙ up_q) (sym (only_struck p) ∙ up_p);
+    emptied = λ q p ends. emptied q p (rw (← only_struck q, ← only_struck p) (either (sets.contains new.down q) (sets.contains new.down p) ends));
+    trace = trace;
+    config = config;
+    receipts_ever = receipts_ever;
+    undone_ever = undone_ever;
+  }
+
+  pub few_down : sets.len new.down ≤ old.config.f
+  few_down = rw same_down may.few
+
+  pub is_sound : IsSound next new
+  is_sound = group_strike_keeps next old new struck is_strike may.below few_down sound
+
+  pub no_orphan : (m : ℕ) → ¬ (IsOrphan (knowledge new) m)
+  no_orphan m = sound_has_no_orphan next new m is_sound
+
+-- the records of the members named below k are made blank, and the others are as they were
+pub record IsBlankedBelow (k : ℕ) (struck : Members) (old new : List MemberRecord) : Type 0 where
+  pub size : length new ≡ length old
+  pub named : (m : ℕ) → m < k → sets.contains struck m ≡ true → slice_index_or new m blank ≡ blank
+  pub later : (m : ℕ) → k ≤ m → slice_index_or new m blank ≡ slice_index_or old m blank
+  pub others : (m : ℕ) → sets.contains struck m ≡ false → slice_index_or new m blank ≡ slice_index_or old m blank
+
+-- how many receipts are lost, counted over the events
+pub count-lost : (r : GroupRecord) → count_by (is_lost r.members) r.trace ≡ length (lost_receipts r)
+count-lost r = counted r.trace where
+  unrecorded : Determinant → Bool
+  unrecorded d = not (list_any (λ (m : MemberRecord). is_held m.table d) r.members)
+
+  counted : (events : List Event) → count_by (is_lost r.members) events ≡ length (filter unrecorded (receipts (map mark_of events)))
+  counted [] = refl
+  counted (e ∷ events) = sum_by-cons (λ x. cond (is_lost r.members x) 1 0) e events ∙ at e (counted events) where
+    at : (x : Event) → count_by (is_lost r.members) events ≡ length (filter unrecorded (receipts (map mark_of events)))
+        → cond (is_lost r.members x) 1 0 + count_by (is_lost r.members) events ≡ length (filter unrecorded (cons_option (determinant_of (mark_of x)) (receipts (map mark_of events))))
+    at (event.Send from ssn to note) ih = omega (arith, ih)
+    at (event.Receipt to rsn from ssn) ih = here (unrecorded (record { from = from; ssn = ssn; to = to; rsn = rsn })) ih where
+      here : (b : Bool) → count_by (is_lost r.members) events ≡ length (filter unrecorded (receipts (map mark_of events)))
+          → cond b 1 0 + count_by (is_lost r.members) events ≡ length (cond b (record { from = from; ssn = ssn; to = to; rsn = rsn } ∷ filter unrecorded (receipts (map mark_of events))) (filter unrecorded (receipts (map mark_of events))))
+      here true ih = omega (arith, ih)
+      here false ih = omega (arith, ih)

@@ -1,0 +1,12 @@
+use Rattle.std.proofs.Common.{◌≡◌, ℕ, ◌<◌, take}
+use Rattle.std.specs.Prelude.{slice_index_or}
+use Rattle.fbl_member.specs.Carried.{IsOnce}
+use Rattle.fbl_member.specs.Members.{blank}
+use Rattle.fbl_law.specs.Dumps.{pairs_from}
+use Rattle.fbl_group.proofs.dump.held_pairs.Given as goal
+
+abbrev pub invariant-loop-place : goal.invariant-loop-place
+invariant-loop-place g l = record {
+  pairs : l.held.items ≡ pairs_from 0 (take l.place l.members);
+  distinct : (m : ℕ) → m < l.place → IsOnce (slice_index_or l.members m blank).table;
+}

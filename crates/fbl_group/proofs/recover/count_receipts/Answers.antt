@@ -1,0 +1,11 @@
+use Rattle.std.proofs.Common.{◌≡◌, ◌∙◌, rules}
+use Rattle.std.specs.Prelude.{count_by}
+use Rattle.std.specs.Option.{is_some}
+use Rattle.fbl_base.specs.Events.{mark_of, determinant_of}
+use Rattle.fbl_group.proofs.BringingBack.{counted-receipts}
+use Rattle.fbl_group.proofs.recover.count_receipts.Goals as goal
+
+pub returns : goal.returns
+returns c =
+    let counted : c.count.result ≡ count_by (λ e. is_some (determinant_of (mark_of e))) c.args.trace.now = search rules in
+    counted ∙ counted-receipts c.args.trace.now

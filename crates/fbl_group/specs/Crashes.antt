@@ -1,0 +1,33 @@
+-- A crash: a strike and the recovery from it.
+use Rattle.std.specs.Prelude.{◌≡◌, Some, None}
+use Rattle.fbl_base.specs.Fold.{Next}
+use Rattle.fbl_law.specs.Record.{Members}
+use Rattle.fbl_law.specs.Groups.{GroupRecord}
+use Rattle.fbl_group.specs.declared.answers.Struck.{Struck}
+use Rattle.fbl_group.specs.declared.answers.Recovered.{Recovered}
+use Rattle.fbl_group.specs.declared.refusals.StrikeRefusal.{StrikeRefusal}
+use Rattle.fbl_group.specs.declared.refusals.StrikeRefusal.TheVariants as strike
+use Rattle.fbl_group.specs.declared.refusals.CrashRefusal.{CrashRefusal}
+use Rattle.fbl_group.specs.declared.refusals.CrashRefusal.TheVariants as crash
+use Rattle.fbl_group.specs.Strikes.{strike_refusal, Strikes}
+use Rattle.fbl_group.specs.Recoveries.{Recovers}
+
+-- a crash leads from old to new: the members are struck, and then recovered
+abbrev pub Crashes : Next → GroupRecord → GroupRecord → Members → Struck → Recovered → Type 0
+Crashes next old new set struck recovered = (down : GroupRecord) × Strikes old down set struck × Recovers next down new recovered
+
+-- a refusal of the strike as one of the crash
+abbrev pub of_strike : StrikeRefusal → CrashRefusal
+of_strike strike.BadMember = crash.BadMember
+of_strike strike.Nobody = crash.Nobody
+of_strike strike.TooMany = crash.TooMany
+of_strike strike.Down = crash.Down
+
+-- the crash is refused as the strike is, with nothing changed
+abbrev pub IsStrikeRefused : GroupRecord → GroupRecord → Members → CrashRefusal → Type 0
+IsStrikeRefused old new set refusal = (reason : StrikeRefusal) × (strike_refusal old set ≡ Some reason) × (of_strike reason ≡ refusal) × (new ≡ old)
+
+-- what a refused crash leaves: for want of memory the strike stands, else nothing has changed
+abbrev pub CrashLeaves : GroupRecord → GroupRecord → Members → CrashRefusal → Type 0
+CrashLeaves old new set crash.Memory = (strike_refusal old set ≡ None) × ((struck : Struck) × Strikes old new set struck)
+CrashLeaves old new set refusal = IsStrikeRefused old new set refusal

@@ -1,0 +1,34 @@
+-- What a recovery makes before it changes the group: records that are rebuilt by replay, in rounds.
+use Rattle.std.specs.Prelude.{◌≡◌, ℕ, ◌+◌, ◌<◌, Bool, true, false, List, length, slice_index_or, if◌then◌else◌}
+use Rattle.std.specs.FinSet as set
+use Rattle.fbl_base.specs.Fold.{Next}
+use Rattle.fbl_member.specs.Members.{MemberRecord, blank}
+use Rattle.fbl_law.specs.Record.{Members, IsDown}
+use Rattle.fbl_law.specs.Groups.{GroupRecord, knowledge}
+use Rattle.fbl_law.specs.Replaying.{gathered_table, IsReplaying, IsWaiting, replayed_in}
+
+-- a try of the member p to replay its next receipt: one receipt more is replayed, or p waits and nothing changes
+abbrev pub Tries : Next → GroupRecord → ℕ → List MemberRecord → List MemberRecord → Bool → Type 0
+Tries next r p before after true = IsReplaying next r after × (replayed_in r after ≡ replayed_in r before + 1)
+Tries next r p before after false = (after ≡ before) × IsWaiting r before p
+
+-- tries of the members below n that are down: some receipt is replayed, or each of them waits and nothing changes
+abbrev pub Rounds : Next → GroupRecord → ℕ → List MemberRecord → List MemberRecord → Bool → Type 0
+Rounds next r n before after true = IsReplaying next r after × (replayed_in r before < replayed_in r after)
+Rounds next r n before after false = (after ≡ before) × ((p : ℕ) → p < n → IsDown (knowledge r) p → IsWaiting r before p)
+
+-- each member that is down has replayed what it can
+pub record HasReplayed (next : Next) (r : GroupRecord) (rebuilt : List MemberRecord) : Type 0 where
+  pub replaying : IsReplaying next r rebuilt
+  pub waiting : (p : ℕ) → p < r.config.members → IsDown (knowledge r) p → IsWaiting r rebuilt p
+
+-- and has the gathered table
+pub record IsReady (next : Next) (r : GroupRecord) (rebuilt : List MemberRecord) : Type 0 where
+  pub replayed : HasReplayed next r rebuilt
+  pub tables : (p : ℕ) → p < r.config.members → IsDown (knowledge r) p → (slice_index_or rebuilt p blank).table ≡ gathered_table r
+
+-- exactly the members of the set are put back, each with the record that was rebuilt
+pub record IsPutBack (down : Members) (rebuilt old new : List MemberRecord) : Type 0 where
+  pub size : length new ≡ length old
+  pub put : (m : ℕ) → m < length old → set.contains down m ≡ true → slice_index_or new m blank ≡ slice_index_or rebuilt m blank
+  pub kept : (m : ℕ) → set.contains down m ≡ false → slice_index_or new m blank ≡ slice_index_or old m blank

@@ -1,0 +1,50 @@
+-- When a strike is refused, and what it answers.
+use Rattle.std.specs.Prelude.{◌≡◌, ℕ, ◌==◌, not, nat_lt, Bool, true, false, length, Option, Some, None, if◌then◌else◌, List, slice_index_or}
+use Rattle.std.specs.List.{filter, list_any, list_all}
+use Rattle.std.specs.FinSet as set
+use Rattle.fbl_base.specs.declared.trace.Determinant.{Determinant}
+use Rattle.fbl_base.specs.declared.trace.Event.{Event}
+use Rattle.fbl_base.specs.Events.{determinant_of, mark_of}
+use Rattle.fbl_table.specs.Tables.{is_held}
+use Rattle.fbl_member.specs.Members.{MemberRecord, blank}
+use Rattle.fbl_law.specs.Record.{Members}
+use Rattle.fbl_law.specs.Groups.{GroupRecord, marks, receipts, is_recorded}
+use Rattle.fbl_law.specs.GroupSteps.{IsStrike}
+use Rattle.fbl_group.specs.declared.refusals.StrikeRefusal.{StrikeRefusal}
+use Rattle.fbl_group.specs.declared.refusals.StrikeRefusal.TheVariants.{BadMember, Nobody, TooMany, Down}
+use Rattle.fbl_group.specs.declared.answers.Struck.{Struck}
+
+-- whether each member of the set is below n
+abbrev pub is_within : Members → ℕ → Bool
+is_within s n = list_all (λ m. nat_lt m n) (set.items s)
+
+-- the first refusal of a strike of these members that holds
+abbrev pub strike_refusal : GroupRecord → Members → Option StrikeRefusal
+strike_refusal r struck =
+    if not (is_within struck r.config.members) then Some BadMember
+    else (if set.len struck == 0 then Some Nobody
+    else (if nat_lt r.config.f (set.len struck) then Some TooMany
+    else (if not (set.len r.down == 0) then Some Down else None)))
+
+-- the determinants of the lost receipts: those that no survivor has recorded
+abbrev pub lost_receipts : GroupRecord → List Determinant
+lost_receipts r = filter (λ d. not (is_recorded r d)) (receipts (marks r))
+
+-- whether there is a determinant, and none of these members' tables has it
+abbrev pub is_unheld : List MemberRecord → Option Determinant → Bool
+is_unheld members None = false
+is_unheld members (Some d) = not (list_any (λ (m : MemberRecord). is_held m.table d) members)
+
+-- whether the event is a receipt whose determinant none of these members' tables has
+abbrev pub is_lost : List MemberRecord → Event → Bool
+is_lost members event = is_unheld members (determinant_of (mark_of event))
+
+-- exactly the records of the members named are made blank
+pub record IsBlanked (struck : Members) (old new : List MemberRecord) : Type 0 where
+  pub size : length new ≡ length old
+  pub named : (m : ℕ) → set.contains struck m ≡ true → slice_index_or new m blank ≡ blank
+  pub others : (m : ℕ) → set.contains struck m ≡ false → slice_index_or new m blank ≡ slice_index_or old m blank
+
+-- a strike of these members leads from old to new, and answers how many receipts are lost
+abbrev pub Strikes : GroupRecord → GroupRecord → Members → Struck → Type 0
+Strikes old new struck answer = IsStrike old new struck × (answer.lost ≡ length (lost_receipts new))

@@ -1,0 +1,30 @@
+//! What calls of a group answer.
+
+/// A delivery.
+#[derive(Clone, Copy, PartialEq, Eq, Debug)]
+pub struct Receipted {
+    /// The receipt's number, from 1 per receiver.
+    pub rsn: u32,
+    /// How many entries the message carried.
+    pub carried: u32,
+    /// The receiver's new state.
+    pub state: u64,
+}
+
+/// A strike.
+#[derive(Clone, Copy, PartialEq, Eq, Debug)]
+pub struct Struck {
+    /// How many receipts of the trace no survivor's table holds.
+    pub lost: u32,
+}
+
+/// A recovery.
+#[derive(Clone, Copy, PartialEq, Eq, Debug)]
+pub struct Recovered {
+    /// How many receipts the struck members replayed.
+    pub replayed: u32,
+    /// How many messages are now in channels with a struck end.
+    pub resent: u32,
+    /// How many receipts the trace lost.
+    pub undone: u32,
+}

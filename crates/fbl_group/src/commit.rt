@@ -1,0 +1,103 @@
+//! Steps that are made apart from the record: a ticket is taken, and the step is committed later.
+
+ghost use Rattle.std.specs.Prelude.{◌≡◌, ◌+◌, ◌<◌, IfOk, IfErr, OnErr, None, Some};
+ghost use Rattle.fbl_member.specs.Members.{Message};
+ghost use Rattle.fbl_group.specs.Flight.{message_at};
+ghost use Rattle.fbl_group.specs.Deliveries.{front, Delivers, IsPlanned};
+ghost use Rattle.fbl_group.specs.Tickets.{take_refusal, IsTicket, commit_refusal, IsCommitRefusal, is_current as is_current_of};
+
+use crate::answers::Receipted;
+use crate::deliver::is_full;
+use crate::flight::front_place;
+use crate::group::Group;
+use crate::refusals::{CommitRefusal, TakeRefusal};
+use crate::ticket::{Done, Ticket};
+use fbl_base::{Behaviour, Member};
+use fbl_member::{MemberRec, Wire};
+use std::alloc::Allocator;
+
+impl<B: Behaviour, A: Allocator + Copy> Group<B, A> {
+    /// What the step of a delivery to one member from another is made from. Nothing changes, and the message stays in
+    /// its channel.
+    pub fn take(&self, to: Member, from: Member) -> Result<Ticket, TakeRefusal>
+        ensures taken { IfOk result (λ ticket. (take_refusal self.now to from ≡ None) × ((v : Message) × (front self.now from to ≡ Some v) × IsTicket self.now v ticket)) }
+        ensures refused { IfErr result (λ refusal. take_refusal self.now to from ≡ Some refusal) }
+    {
+        let n = self.config.members();
+        if to.number() >= n || from.number() >= n {
+            return Err(TakeRefusal::BadMember);
+        }
+        if self.down.count() != 0 {
+            return Err(TakeRefusal::Down);
+        }
+        let Some(place) = front_place(self.flight.as_slice(), from, to) else {
+            return Err(TakeRefusal::Empty);
+        };
+        let wire = &self.flight[place];
+        let member = &self.members[usize::from(to.number())];
+        Ok(Ticket {
+            n,
+            to,
+            from,
+            state: member.state(),
+            rsn: member.received() + 1,
+            ssn: wire.ssn(),
+            note: wire.note(),
+        })
+    }
+
+    /// Does what the delivery of the ticket's message does, with a step that was made apart from the record. After a
+    /// refusal the step may be committed again.
+    pub fn commit(&mut self, done: &Done<B>) -> Result<Receipted, CommitRefusal>
+        ensures delivered { IfOk result (λ answer. (commit_refusal B.next self.old done.now.ticket ≡ None) × Delivers B.next self.old self.new done.now.ticket.to done.now.ticket.from answer) }
+        ensures refused { IfErr result (IsCommitRefusal (commit_refusal B.next self.old done.now.ticket)) }
+        ensures unchanged { OnErr result (self.new ≡ self.old) }
+    {
+        let place = self.plan_commit(done)?;
+        match self.carry_out(place, &done.outcome) {
+            Ok(answer) => Ok(answer),
+            Err(_) => Err(CommitRefusal::Memory),
+        }
+    }
+
+    /// Where the step's message stands, if nothing but want of memory refuses the commit.
+    fn plan_commit(&self, done: &Done<B>) -> Result<usize, CommitRefusal>
+        ensures planned { IfOk result (λ place. (commit_refusal B.next self.now done.now.ticket ≡ None) × (((message_at self.now.flight place).from ≡ done.now.ticket.from) × ((message_at self.now.flight place).to ≡ done.now.ticket.to) × IsPlanned B.next self.now place done.now.outcome)) }
+        ensures refused { IfErr result (λ refusal. commit_refusal B.next self.now done.now.ticket ≡ Some refusal) }
+    {
+        let ticket = done.ticket;
+        if self.down.count() != 0 {
+            return Err(CommitRefusal::Down);
+        }
+        if self.config.members() != ticket.n {
+            return Err(CommitRefusal::Stale);
+        }
+        let Some(place) = front_place(self.flight.as_slice(), ticket.from, ticket.to) else {
+            return Err(CommitRefusal::Stale);
+        };
+        let member = &self.members[usize::from(ticket.to.number())];
+        if !is_current(member, &self.flight[place], &ticket) {
+            return Err(CommitRefusal::Stale);
+        }
+        let sends = done.outcome.sends.len();
+        if is_full(
+            self.config.limit(),
+            self.trace.len(),
+            self.receipts_ever,
+            sends,
+        ) {
+            return Err(CommitRefusal::Full);
+        }
+        Ok(place)
+    }
+}
+
+/// Whether the receiver's record and the message are still the ticket's.
+fn is_current<A: Allocator + Copy>(member: &MemberRec<A>, wire: &Wire<A>, ticket: &Ticket) -> bool
+    ensures { result ≡ is_current_of member.now wire.now ticket.now }
+{
+    member.state() == ticket.state
+        && u64::from(member.received()) + 1 == u64::from(ticket.rsn)
+        && wire.ssn() == ticket.ssn
+        && wire.note() == ticket.note
+}

@@ -1,0 +1,39 @@
+//! A strike and the recovery from it in one call.
+
+ghost use Rattle.std.specs.Prelude.{◌≡◌, IfOk, IfErr, None};
+ghost use Rattle.fbl_group.specs.Strikes.{strike_refusal};
+ghost use Rattle.fbl_group.specs.Crashes.{Crashes, CrashLeaves, of_strike};
+
+use crate::answers::{Recovered, Struck};
+use crate::group::Group;
+use crate::refusals::{CrashRefusal, StrikeRefusal};
+use fbl_base::{Behaviour, MemberSet};
+use std::alloc::Allocator;
+
+impl<B: Behaviour, A: Allocator + Copy> Group<B, A> {
+    /// Strikes the members named, and recovers them.
+    pub fn crash(&mut self, set: MemberSet) -> Result<(Struck, Recovered), CrashRefusal>
+        ensures crashed { IfOk result (λ answer. (strike_refusal self.old set ≡ None) × Crashes B.next self.old self.new set answer.0 answer.1) }
+        ensures refused { IfErr result (CrashLeaves self.old self.new set) }
+    {
+        match self.strike(set) {
+            Ok(struck) => match self.recover() {
+                Ok(recovered) => Ok((struck, recovered)),
+                Err(_) => Err(CrashRefusal::Memory),
+            },
+            Err(refusal) => Err(crash_refusal(refusal)),
+        }
+    }
+}
+
+/// The refusal of a strike as one of a crash.
+fn crash_refusal(refusal: StrikeRefusal) -> CrashRefusal
+    ensures { result ≡ of_strike refusal }
+{
+    match refusal {
+        StrikeRefusal::BadMember => CrashRefusal::BadMember,
+        StrikeRefusal::Nobody => CrashRefusal::Nobody,
+        StrikeRefusal::TooMany => CrashRefusal::TooMany,
+        StrikeRefusal::Down => CrashRefusal::Down,
+    }
+}

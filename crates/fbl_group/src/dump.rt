@@ -1,0 +1,116 @@
+//! Dumps of a group, for the audit.
+
+ghost use Rattle.std.specs.Prelude.{◌≡◌, ℕ, ◌<◌, ◌≤◌, ◌++◌, IfOk, IfErr, OnOk, length, map, slice_index_or};
+ghost use Rattle.std.specs.FinSet as set;
+ghost use Rattle.fbl_base.specs.Audit.{IsOrphan};
+ghost use Rattle.fbl_base.specs.DumpParts.{parts_of};
+ghost use Rattle.fbl_base.specs.Events.{mark_of};
+ghost use Rattle.fbl_base.specs.MemberSets.{AllBelow};
+ghost use Rattle.fbl_base.specs.declared.refusal.DumpRefusal.TheVariants as dump_refusal;
+ghost use Rattle.fbl_member.specs.Carried.{IsOnce};
+ghost use Rattle.fbl_member.specs.Members.{blank};
+ghost use Rattle.fbl_law.specs.Record.{Includes, IsDown};
+ghost use Rattle.fbl_law.specs.Groups.{knowledge};
+ghost use Rattle.fbl_law.specs.Sound.{IsSound};
+ghost use Rattle.fbl_law.specs.Dumps.{pairs_of, pairs_from, dump_of, HasDistinctTables};
+ghost use Rattle.fbl_group.specs.declared.refusals.DumpGroupRefusal.TheVariants as group_refusal;
+ghost use Rattle.fbl_group.specs.Readers.{IsDumpRefusal};
+
+use crate::group::Group;
+use crate::refusals::DumpGroupRefusal;
+use fbl_base::audit::{Dump, check_dump};
+use fbl_base::{Behaviour, Determinant, DumpRefusal, Event, Mark, Member, MemberSet, RawDump};
+use fbl_member::MemberRec;
+use fbl_table::Table;
+use std::alloc::{AllocError, Allocator};
+
+impl<B: Behaviour, A: Allocator + Copy> Group<B, A> {
+    /// The trace without notes, who holds which determinants, and these members as the strike set, for the audit. Where
+    /// the set has those that are down and at most f members in all, the audit finds no orphan.
+    pub fn dump(&self, strike: MemberSet) -> Result<Dump<A>, DumpGroupRefusal>
+        ensures dumped { IfOk result (λ dump. AllBelow strike self.now.config.members × (dump ≡ dump_of self.now strike)) }
+        ensures refused { IfErr result (IsDumpRefusal self.now strike) }
+        ensures no_orphan { ((q : ℕ) → IsDown (knowledge self.now) q → Includes strike q) → set.len strike ≤ self.now.config.f → IfOk result (λ dump. (m : ℕ) → ¬ (IsOrphan dump m)) }
+    {
+        if !strike.within(self.config.members()) {
+            return Err(DumpGroupRefusal::BadStrike);
+        }
+        let Ok(raw) = self.raw_dump(strike) else {
+            return Err(DumpGroupRefusal::Memory);
+        };
+        match check_dump(*self.trace.allocator(), raw) {
+            Ok(dump) => Ok(dump),
+            Err(refusal) => Err(of_lawful_dump(refusal)),
+        }
+    }
+
+    /// The parts of a dump.
+    fn raw_dump(&self, strike: MemberSet) -> Result<RawDump<A>, AllocError>
+        ensures parts { IfOk result (λ raw. parts_of raw ≡ dump_of self.now strike) }
+        ensures distinct { IfOk result (λ raw. HasDistinctTables self.now) }
+    {
+        let alloc = *self.trace.allocator();
+        Ok(RawDump {
+            members: self.config.members(),
+            f: self.config.f(),
+            events: marks(alloc, &self.trace)?,
+            held: held_pairs(alloc, &self.members)?,
+            strike,
+        })
+    }
+}
+
+/// The refusal of a dump that obeys the rules, which is refused only for want of memory.
+fn of_lawful_dump(refusal: DumpRefusal) -> DumpGroupRefusal
+    requires { refusal ≡ dump_refusal.Memory }
+    ensures { result ≡ group_refusal.Memory }
+{
+    match refusal {
+        DumpRefusal::Memory => DumpGroupRefusal::Memory,
+        _ => unreachable!(),
+    }
+}
+
+/// The events without their notes.
+fn marks<A: Allocator>(alloc: A, trace: &[Event]) -> Result<Vec<Mark, A>, AllocError>
+    ensures { IfOk result (λ marks. marks.items ≡ map mark_of trace.now) }
+{
+    let mut marks = Vec::with_capacity(alloc, trace.len())?;
+    for event in trace {
+        marks.push_reserved(event.mark());
+    }
+    Ok(marks)
+}
+
+/// Each member with each determinant of its table: the members in order, and each table in its order.
+fn held_pairs<A: Allocator + Copy>(
+    alloc: A,
+    members: &[MemberRec<A>],
+) -> Result<Vec<(Member, Determinant), A>, AllocError>
+    requires { length members.now ≤ 16 }
+    ensures pairs { IfOk result (λ held. held.items ≡ pairs_from 0 members.now) }
+    ensures distinct { IfOk result (λ held. (m : ℕ) → m < length members.now → IsOnce (slice_index_or members.now m blank).table) }
+{
+    let mut held = Vec::new(alloc);
+    for place in 0..members.len() {
+        let holder = Member::new(place as u8).unwrap();
+        push_pairs(&mut held, holder, members[place].table())?;
+    }
+    Ok(held)
+}
+
+/// Adds the member with each determinant of its table.
+fn push_pairs<A: Allocator + Copy>(
+    held: &mut Vec<(Member, Determinant), A>,
+    holder: Member,
+    table: &Table<A>,
+) -> Result<(), AllocError>
+    ensures pairs { OnOk result (held.new.items ≡ held.old.items ++ pairs_of holder table.now) }
+    ensures distinct { IsOnce table.now }
+{
+    held.reserve(table.len())?;
+    for place in 0..table.len() {
+        held.push_reserved((holder, table.entry_at(place).det));
+    }
+    Ok(())
+}

@@ -1,0 +1,43 @@
+//! The record of a group.
+
+ghost use Rattle.std.specs.Prelude.{◌≡◌, ℕ, ◌<◌, length, IfOk, IsTrue, ◌↔◌};
+
+use fbl_base::{Behaviour, Config, Event, MemberSet};
+use fbl_member::{MemberRec, Wire};
+use std::alloc::{Allocator, Global};
+use std::marker::{Model, PhantomData};
+
+/// A group of deterministic members: its members' volatile records, the messages in flight, and the trace of what
+/// happened. Contracts see the record as data; it is sound between any two calls.
+#[derive(Drop)]
+pub struct Group<B: Behaviour, A: Allocator = Global> {
+    pub(crate) config: Config<A>,
+    pub(crate) members: Vec<MemberRec<A>, A>,
+    pub(crate) flight: Vec<Wire<A>, A>,
+    pub(crate) trace: Vec<Event, A>,
+    pub(crate) down: MemberSet,
+    pub(crate) receipts_ever: u64,
+    pub(crate) undone_ever: u64,
+    pub(crate) behaviour: PhantomData<B>,
+}
+
+impl<B: Behaviour, A: Allocator> Model for Group<B, A> {
+    ghost use Rattle.fbl_law.specs.Groups.{GroupRecord};
+    ghost use Rattle.fbl_law.specs.Sound.{IsSound};
+
+    ghost Value = { GroupRecord };
+
+    ghost use Rattle.std.specs.Coded.{codes, coded_ℕ};
+    ghost use Rattle.std.specs.Ordering.{nat_cmp};
+    ghost use Rattle.std.specs.FinSet as set;
+    ghost use Rattle.fbl_table.specs.contracts.entry.Entry as entry;
+    ghost use Rattle.fbl_base.specs.contracts.trace.Note as content;
+    ghost use Rattle.fbl_base.specs.contracts.trace.Start as start;
+    ghost use Rattle.fbl_base.specs.contracts.trace.Event as event;
+
+    ghost coded = { Prim.hlevel (codes, content.the_row.coded, entry.the_row.coded, start.the_row.coded, event.the_row.coded, set.code {R = nat_cmp} coded_ℕ) };
+
+    ghost view = { λ g. record { config = g.config; members = g.members.items; flight = g.flight.items; trace = g.trace.items; down = g.down; receipts_ever = g.receipts_ever; undone_ever = g.undone_ever } };
+
+    ghost invariant = { λ g. IsSound B.next (record { config = g.config; members = g.members.items; flight = g.flight.items; trace = g.trace.items; down = g.down; receipts_ever = g.receipts_ever; undone_ever = g.undone_ever }) };
+}

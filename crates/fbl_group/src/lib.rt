@@ -1,0 +1,28 @@
+//! A group of members over one record: deliveries, strikes and recoveries, each of which keeps the record sound.
+#![tactic(auto)]
+
+mod answers;
+mod commit;
+mod crash;
+mod deliver;
+mod dump;
+mod flight;
+mod group;
+mod plan;
+mod readers;
+mod recover;
+mod refusals;
+mod replay;
+mod resend;
+mod start;
+mod strike;
+mod ticket;
+
+pub use answers::{Receipted, Recovered, Struck};
+pub use group::Group;
+pub use plan::Planned;
+pub use refusals::{
+    CommitRefusal, CrashRefusal, DeliverRefusal, DumpGroupRefusal, RecoverRefusal, StrikeRefusal,
+    TakeRefusal,
+};
+pub use ticket::{Done, Ticket, run_step};

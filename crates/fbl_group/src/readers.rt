@@ -1,0 +1,141 @@
+//! What a group answers of itself.
+
+ghost use Rattle.std.specs.Prelude.{◌≡◌, ℕ, ◌<◌, length};
+ghost use Rattle.std.specs.List.{filter};
+ghost use Rattle.fbl_law.specs.Record.{IsOrphan};
+ghost use Rattle.fbl_law.specs.Steps.{is_on};
+ghost use Rattle.fbl_law.specs.Groups.{channel, knowledge, member as record_of};
+ghost use Rattle.fbl_law.specs.Sound.{IsSound};
+ghost use Rattle.fbl_group.specs.Readers.{is_quiet as is_quiet_now, HoldsEachReceipt};
+
+use crate::flight::is_between;
+use crate::group::Group;
+use fbl_base::{Behaviour, Config, Event, Member, MemberSet};
+use fbl_member::{MemberRec, Wire};
+use fbl_table::Table;
+use std::alloc::Allocator;
+
+impl<B: Behaviour, A: Allocator + Copy> Group<B, A> {
+    /// The parameters.
+    pub fn config(&self) -> &Config<A>
+        ensures { result.now ≡ self.now.config }
+    {
+        &self.config
+    }
+
+    /// The member's state, 0 if it is down.
+    pub fn state(&self, member: Member) -> u64
+        requires { member < self.now.config.members }
+        ensures { result ≡ (record_of self.now member).state }
+    {
+        self.record(member).state()
+    }
+
+    /// How many messages the member has received, 0 if it is down.
+    pub fn received(&self, member: Member) -> u32
+        requires { member < self.now.config.members }
+        ensures { result ≡ (record_of self.now member).received }
+    {
+        self.record(member).received()
+    }
+
+    /// How many messages the member has sent, 0 if it is down.
+    pub fn sent(&self, member: Member) -> u32
+        requires { member < self.now.config.members }
+        ensures { result ≡ length (record_of self.now member).log }
+    {
+        self.record(member).sent()
+    }
+
+    /// How many determinants the member holds, 0 if it is down.
+    pub fn held(&self, member: Member) -> u32
+        requires { member < self.now.config.members }
+        ensures { result ≡ length (record_of self.now member).table }
+    {
+        self.record(member).table().len() as u32
+    }
+
+    /// The determinants that the member holds, none if it is down.
+    pub fn table(&self, member: Member) -> &Table<A>
+        requires { member < self.now.config.members }
+        ensures { result.now ≡ (record_of self.now member).table }
+    {
+        self.record(member).table()
+    }
+
+    /// How many messages are in flight from one member to the other.
+    pub fn in_flight(&self, from: Member, to: Member) -> u32
+        requires from { from < self.now.config.members }
+        requires to { to < self.now.config.members }
+        ensures { result ≡ length (channel self.now from to) }
+    {
+        count_between(&self.flight, from, to) as u32
+    }
+
+    /// What happened, in order: the starts' sends, and then the receipts and sends that no recovery has undone.
+    ///
+    /// Where nobody is down, each of its receipts is held by more than f members or by every member whose state depends on
+    /// it. So whoever is down, nobody is an orphan.
+    pub fn trace(&self) -> &[Event]
+        ensures trace { result.now ≡ self.now.trace }
+        ensures sound { IsSound B.next self.now }
+        ensures held { HoldsEachReceipt self.now }
+        ensures no_orphan { (m : ℕ) → ¬ (IsOrphan (knowledge self.now) m) }
+    {
+        self.trace.as_slice()
+    }
+
+    /// Who is down.
+    pub fn down(&self) -> MemberSet
+        ensures { result ≡ self.now.down }
+    {
+        self.down
+    }
+
+    /// Whether nothing is in flight and nobody is down.
+    pub fn is_quiet(&self) -> bool
+        ensures { result ≡ is_quiet_now self.now }
+    {
+        self.flight.is_empty() && self.down.count() == 0
+    }
+
+    /// How many messages are in all channels.
+    pub fn messages_in_flight(&self) -> usize
+        ensures { result ≡ length self.now.flight }
+    {
+        self.flight.len()
+    }
+
+    /// How many receipts were ever made, also those that recoveries have undone. It never falls.
+    pub fn receipts_ever(&self) -> u64
+        ensures { result ≡ self.now.receipts_ever }
+    {
+        self.receipts_ever
+    }
+
+    /// How many receipts recoveries have undone. It never falls.
+    pub fn undone_ever(&self) -> u64
+        ensures { result ≡ self.now.undone_ever }
+    {
+        self.undone_ever
+    }
+
+    /// The member's record.
+    pub(crate) fn record(&self, member: Member) -> &MemberRec<A>
+        requires { member < self.now.config.members }
+        ensures value { result.now ≡ record_of self.now member }
+        ensures sound { IsSound B.next self.now }
+    {
+        &self.members[usize::from(member.number())]
+    }
+}
+
+/// How many messages go from one member to the other.
+fn count_between<A: Allocator>(flight: &[Wire<A>], from: Member, to: Member) -> usize
+    ensures { result ≡ length (filter (is_on from to) flight.now) }
+{
+    flight
+        .iter()
+        .filter(|wire| is_between(*wire, from, to))
+        .count()
+}

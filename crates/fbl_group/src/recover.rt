@@ -1,0 +1,197 @@
+//! Recovery of the members that are down.
+
+ghost use Rattle.std.specs.Prelude.{◌≡◌, ℕ, ◌+◌, ◌<◌, ◌≤◌, ◌++◌, if◌then◌else◌, length, map, slice_index_or, IfOk, IfErr, OnErr, vec_len, vec_capacity};
+ghost use Rattle.std.specs.List.{filter};
+ghost use Rattle.std.specs.Option.{is_some};
+ghost use Rattle.std.specs.FinSet as set;
+ghost use Rattle.fbl_base.specs.Events.{mark_of, determinant_of};
+ghost use Rattle.fbl_member.specs.Members.{blank};
+ghost use Rattle.fbl_law.specs.Groups.{receipts};
+ghost use Rattle.fbl_law.specs.Replaying.{stays_by, count_in};
+ghost use Rattle.fbl_group.specs.Rebuilding.{IsPutBack};
+ghost use Rattle.fbl_group.specs.Recoveries.{Recovers, IsRecoverRefusal};
+
+use crate::answers::Recovered;
+use crate::group::Group;
+use crate::refusals::RecoverRefusal;
+use fbl_base::{Behaviour, Event, Member, MemberSet};
+use fbl_member::{MemberRec, Wire};
+use std::alloc::{AllocError, Allocator};
+use std::mem;
+
+impl<B: Behaviour, A: Allocator + Copy> Group<B, A> {
+    /// Recovers the members that are down: each is put at the fold of the receipts that a survivor's table has, in their
+    /// order, and knows what the survivors know. Receipts that no survivor has are undone, with all that came after them
+    /// at their member, and each message on a channel with an end that was down is sent again, unless its receiver has
+    /// had it. Survivors and the channels between them stay as they are.
+    pub fn recover(&mut self) -> Result<Recovered, RecoverRefusal>
+        ensures recovered { IfOk result (λ answer. ¬ (self.old.down ≡ set.empty) × Recovers B.next self.old self.new answer) }
+        ensures refused { IfErr result (IsRecoverRefusal self.old) }
+        ensures unchanged { OnErr result (self.new ≡ self.old) }
+    {
+        if self.down.count() == 0 {
+            return Err(RecoverRefusal::NotDown);
+        }
+        match self.bring_back() {
+            Ok(recovered) => Ok(recovered),
+            Err(_) => Err(RecoverRefusal::Memory),
+        }
+    }
+
+    /// Makes all that the recovery needs, and then puts it in place.
+    fn bring_back(&mut self) -> Result<Recovered, AllocError>
+        ensures recovered { IfOk result (λ answer. Recovers B.next self.old self.new answer) }
+        ensures unchanged { OnErr result (self.new ≡ self.old) }
+    {
+        let rebuilt = self.rebuild()?;
+        let wires = self.resend(rebuilt.as_slice())?;
+        self.flight.reserve(wires.len())?;
+        let down = self.down;
+        let n = self.config.members();
+        let replayed = count_replayed(rebuilt.as_slice(), down, n);
+        let resent = wires.len() as u32;
+        let before = count_receipts(self.trace.as_slice());
+        cut(&mut self.trace, down, &rebuilt);
+        let undone = before - count_receipts(self.trace.as_slice());
+        put_back(&mut self.members, rebuilt, down, n);
+        put_in_flight(&mut self.flight, wires);
+        self.down = MemberSet::empty();
+        self.undone_ever += u64::from(undone);
+        Ok(Recovered {
+            replayed,
+            resent,
+            undone,
+        })
+    }
+}
+
+/// How many receipts the members of the set have, of `n`.
+fn count_replayed<A: Allocator + Copy>(rebuilt: &[MemberRec<A>], down: MemberSet, n: u8) -> u32
+    requires { n ≤ 16 }
+    ensures { result ≡ count_in down (λ p. (slice_index_or rebuilt.now p blank).received) n }
+{
+    let mut replayed = 0;
+    for number in 0..n {
+        replayed += replayed_by(rebuilt, down, Member::new(number).unwrap());
+    }
+    replayed
+}
+
+/// How many receipts the member has, if it is one of the set.
+fn replayed_by<A: Allocator + Copy>(
+    rebuilt: &[MemberRec<A>],
+    down: MemberSet,
+    member: Member,
+) -> u32
+    ensures value { result ≡ (if set.contains down member then (slice_index_or rebuilt.now member blank).received else 0) }
+    ensures bound { result ≤ 8192 }
+{
+    if down.has(member) {
+        received_by(rebuilt, member)
+    } else {
+        0
+    }
+}
+
+/// How many receipts the member has.
+fn received_by<A: Allocator + Copy>(rebuilt: &[MemberRec<A>], member: Member) -> u32
+    ensures value { result ≡ (slice_index_or rebuilt.now member blank).received }
+    ensures bound { result ≤ 8192 }
+{
+    match rebuilt.get(usize::from(member.number())) {
+        Some(record) => record.received(),
+        None => 0,
+    }
+}
+
+/// How many messages the member has sent.
+fn sent_by<A: Allocator + Copy>(rebuilt: &[MemberRec<A>], member: Member) -> u32
+    ensures { result ≡ length (slice_index_or rebuilt.now member blank).log }
+{
+    match rebuilt.get(usize::from(member.number())) {
+        Some(record) => record.sent(),
+        None => 0,
+    }
+}
+
+/// How many receipts the trace has.
+fn count_receipts(trace: &[Event]) -> u32
+    requires { length trace.now ≤ 8192 }
+    ensures { result ≡ length (receipts (map mark_of trace.now)) }
+{
+    let received = trace.iter().filter(|event| is_receipt(**event));
+    received.count() as u32
+}
+
+/// Whether the event is a receipt.
+fn is_receipt(event: Event) -> bool
+    ensures { result ≡ is_some (determinant_of (mark_of event)) }
+{
+    event.mark().determinant().is_some()
+}
+
+/// Drops the events that come after the replay of the members that are down.
+fn cut<A: Allocator + Copy>(
+    trace: &mut Vec<Event, A>,
+    down: MemberSet,
+    rebuilt: &Vec<MemberRec<A>, A>,
+)
+    ensures { trace.new.items ≡ filter (λ e. stays_by down (λ p. slice_index_or rebuilt.now.items p blank) (mark_of e)) trace.old.items }
+{
+    trace.retain(|event| stays(down, rebuilt, event));
+}
+
+/// Whether the event's member is up, or has come as far again as the event.
+fn stays<A: Allocator + Copy>(
+    down: MemberSet,
+    rebuilt: &Vec<MemberRec<A>, A>,
+    event: &Event,
+) -> bool
+    ensures { result ≡ stays_by down (λ p. slice_index_or rebuilt.now.items p blank) (mark_of event.now) }
+{
+    match *event {
+        Event::Send {
+            from,
+            ssn,
+            to: _,
+            note: _,
+        } => !down.has(from) || ssn <= sent_by(rebuilt.as_slice(), from),
+        Event::Receipt {
+            to,
+            rsn,
+            from: _,
+            ssn: _,
+        } => !down.has(to) || rsn <= received_by(rebuilt.as_slice(), to),
+    }
+}
+
+/// Puts the records that were rebuilt in the places of the members that are down, of `n`.
+fn put_back<A: Allocator + Copy>(
+    members: &mut Vec<MemberRec<A>, A>,
+    rebuilt: Vec<MemberRec<A>, A>,
+    down: MemberSet,
+    n: u8,
+)
+    requires members { vec_len members.old ≡ n }
+    requires rebuilt { vec_len rebuilt ≡ n }
+    requires few { n ≤ 16 }
+    ensures { IsPutBack down rebuilt.items members.old.items members.new.items }
+{
+    let mut rebuilt = rebuilt;
+    for number in 0..n {
+        let place = usize::from(number);
+        if down.has(Member::new(number).unwrap()) {
+            mem::swap(&mut members[place], &mut rebuilt[place]);
+        }
+    }
+}
+
+/// Puts the messages in flight, behind those that are. There is room for them.
+fn put_in_flight<A: Allocator>(flight: &mut Vec<Wire<A>, A>, wires: Vec<Wire<A>, A>)
+    requires { vec_len flight.old + vec_len wires ≤ vec_capacity flight.old }
+    ensures { flight.new.items ≡ flight.old.items ++ wires.items }
+{
+    for wire in wires {
+        flight.push_reserved(wire);
+    }
+}

@@ -1,0 +1,158 @@
+//! Replay: the records of the members that are down are made again from what the survivors' tables and the logs have.
+
+ghost use Rattle.std.specs.Prelude.{◌≡◌, ℕ, ◌<◌, true, length, slice_index_or, IfOk, OnOk};
+ghost use Rattle.std.specs.FinSet as set;
+ghost use Rattle.fbl_member.specs.Members.{fresh, logged_note};
+ghost use Rattle.fbl_law.specs.Sound.{IsSound};
+ghost use Rattle.fbl_law.specs.Replaying.{gathered_table, working, IsReplaying};
+ghost use Rattle.fbl_group.specs.Rebuilding.{Tries, Rounds, HasReplayed, IsReady};
+
+use crate::group::Group;
+use fbl_base::{Behaviour, Determinant, Member, Note};
+use fbl_member::MemberRec;
+use fbl_table::Table;
+use std::alloc::{AllocError, Allocator};
+
+impl<B: Behaviour, A: Allocator + Copy> Group<B, A> {
+    /// The records with which the members that are down come back. The others' are blank.
+    pub(crate) fn rebuild(&self) -> Result<Vec<MemberRec<A>, A>, AllocError>
+        ensures { IfOk result (λ rebuilt. IsReady B.next self.now rebuilt.items) }
+    {
+        let gathered = self.gather()?;
+        let mut rebuilt = self.begin()?;
+        while self.replay_round(&gathered, &mut rebuilt)? {}
+        self.give_tables(&gathered, &mut rebuilt)?;
+        Ok(rebuilt)
+    }
+
+    /// The survivors' tables, gathered in member order, where those that are down count as holders.
+    fn gather(&self) -> Result<Table<A>, AllocError>
+        ensures table { IfOk result (λ table. table ≡ gathered_table self.now) }
+        ensures sound { IsSound B.next self.now }
+    {
+        let mut gathered = Table::for_limit(*self.members.allocator(), self.config.f());
+        for record in &self.members {
+            gathered.gather(record.table())?;
+        }
+        gathered.mark_all(self.down);
+        Ok(gathered)
+    }
+
+    /// The records before any replay.
+    fn begin(&self) -> Result<Vec<MemberRec<A>, A>, AllocError>
+        ensures { IfOk result (λ rebuilt. IsReplaying B.next self.now rebuilt.items) }
+    {
+        let mut rebuilt = Vec::new(*self.members.allocator());
+        for number in 0..self.config.members() {
+            let member = Member::new(number).unwrap();
+            rebuilt.push(self.begin_one(member)?)?;
+        }
+        Ok(rebuilt)
+    }
+
+    /// A member that is down begins fresh.
+    fn begin_one(&self, member: Member) -> Result<MemberRec<A>, AllocError>
+        ensures { set.contains self.now.down member ≡ true → IfOk result (λ begun. begun ≡ fresh member self.now.config.starts) }
+    {
+        let alloc = *self.members.allocator();
+        if self.down.has(member) {
+            MemberRec::fresh(alloc, &self.config, member)
+        } else {
+            Ok(MemberRec::blank(alloc, self.config.f()))
+        }
+    }
+
+    /// Each member that is down tries to replay its next receipt, and the answer is whether one did.
+    fn replay_round(
+        &self,
+        gathered: &Table<A>,
+        rebuilt: &mut Vec<MemberRec<A>, A>,
+    ) -> Result<bool, AllocError>
+        requires gathered { gathered.now ≡ gathered_table self.now }
+        requires replaying { IsReplaying B.next self.now rebuilt.old.items }
+        ensures { IfOk result (λ moved. Rounds B.next self.now self.now.config.members rebuilt.old.items rebuilt.new.items moved) }
+    {
+        let mut moved = false;
+        for number in 0..self.config.members() {
+            let member = Member::new(number).unwrap();
+            if self.down.has(member) {
+                if self.replay_next(gathered, member, rebuilt)? {
+                    moved = true;
+                }
+            }
+        }
+        Ok(moved)
+    }
+
+    /// Replays the member's next receipt, if the gathered table has it and its message is sent again.
+    fn replay_next(
+        &self,
+        gathered: &Table<A>,
+        member: Member,
+        rebuilt: &mut Vec<MemberRec<A>, A>,
+    ) -> Result<bool, AllocError>
+        requires gathered { gathered.now ≡ gathered_table self.now }
+        requires down { set.contains self.now.down member ≡ true }
+        requires replaying { IsReplaying B.next self.now rebuilt.old.items }
+        ensures { IfOk result (λ moved. Tries B.next self.now member rebuilt.old.items rebuilt.new.items moved) }
+    {
+        let n = self.config.members();
+        let place = usize::from(member.number());
+        let rsn = rebuilt[place].received() + 1;
+        let Some(determinant) = gathered.find(member, rsn) else {
+            return Ok(false);
+        };
+        let Some(note) = self.note_sent(rebuilt.as_slice(), &determinant) else {
+            return Ok(false);
+        };
+        rebuilt[place].replay_one::<B>(member, n, &determinant, note)?;
+        Ok(true)
+    }
+
+    /// The content of the message that the receipt took, where its sender's log has it.
+    fn note_sent(&self, rebuilt: &[MemberRec<A>], determinant: &Determinant) -> Option<Note>
+        requires size { length rebuilt.now ≡ self.now.config.members }
+        requires from { determinant.now.from < self.now.config.members }
+        ensures { result ≡ logged_note (working self.now rebuilt.now determinant.now.from).log determinant.now.ssn }
+    {
+        let record = self.working(rebuilt, determinant.from);
+        record.log_note(determinant.ssn)
+    }
+
+    /// The record of a member while those that are down are rebuilt.
+    pub(crate) fn working<'a>(
+        &'a self,
+        rebuilt: &'a [MemberRec<A>],
+        member: Member,
+    ) -> &'a MemberRec<A>
+        requires size { length rebuilt.now ≡ self.now.config.members }
+        requires member { member < self.now.config.members }
+        ensures { result.now ≡ working self.now rebuilt.now member }
+    {
+        let place = usize::from(member.number());
+        if self.down.has(member) {
+            &rebuilt[place]
+        } else {
+            &self.members[place]
+        }
+    }
+
+    /// Gives each member that is down a copy of the gathered table.
+    fn give_tables(
+        &self,
+        gathered: &Table<A>,
+        rebuilt: &mut Vec<MemberRec<A>, A>,
+    ) -> Result<(), AllocError>
+        requires gathered { gathered.now ≡ gathered_table self.now }
+        requires replayed { HasReplayed B.next self.now rebuilt.old.items }
+        ensures { OnOk result (IsReady B.next self.now rebuilt.new.items) }
+    {
+        for number in 0..self.config.members() {
+            let member = Member::new(number).unwrap();
+            if self.down.has(member) {
+                rebuilt[usize::from(number)].set_table(gathered.copy()?);
+            }
+        }
+        Ok(())
+    }
+}

@@ -1,0 +1,102 @@
+//! Groups in which nothing is received yet.
+
+ghost use Rattle.std.specs.Prelude.{◌≡◌, ℕ, ◌<◌, ◌≤◌, [], length, IfOk, slice_index_or};
+ghost use Rattle.std.specs.List.{filter_map};
+ghost use Rattle.fbl_member.specs.Members.{fresh, blank};
+ghost use Rattle.fbl_law.specs.GroupSteps.{IsGroupStart, start_events, message_of};
+
+use crate::group::Group;
+use fbl_base::{Behaviour, Config, Event, Member, MemberSet, Start};
+use fbl_member::{MemberRec, Wire};
+use std::alloc::{AllocError, Allocator};
+use std::marker::PhantomData;
+
+impl<B: Behaviour, A: Allocator + Copy> Group<B, A> {
+    /// A group of these parameters in which the starts are sent and nothing is received yet. Where memory is wanting the
+    /// configuration is dropped.
+    pub fn new(alloc: A, config: Config<A>) -> Result<Group<B, A>, AllocError>
+        ensures { IfOk result (λ g. IsGroupStart config g) }
+    {
+        let members = fresh_members(alloc, &config)?;
+        let trace = start_sends(alloc, config.starts())?;
+        let flight = sent_messages(alloc, &trace)?;
+        Ok(Group {
+            config,
+            members,
+            flight,
+            trace,
+            down: MemberSet::empty(),
+            receipts_ever: 0,
+            undone_ever: 0,
+            behaviour: PhantomData,
+        })
+    }
+}
+
+/// The members, none of which has received anything.
+fn fresh_members<A: Allocator + Copy>(
+    alloc: A,
+    config: &Config<A>,
+) -> Result<Vec<MemberRec<A>, A>, AllocError>
+    ensures size { IfOk result (λ members. length members.items ≡ config.now.members) }
+    ensures fresh { IfOk result (λ members. (m : ℕ) → m < config.now.members → slice_index_or members.items m blank ≡ fresh m config.now.starts) }
+{
+    let mut members = Vec::new(alloc);
+    for number in 0..config.members() {
+        let member = Member::new(number).unwrap();
+        members.push(MemberRec::fresh(alloc, config, member)?)?;
+    }
+    Ok(members)
+}
+
+/// The starts' sends in their order, each with its sender's next number.
+fn start_sends<A: Allocator>(alloc: A, starts: &[Start]) -> Result<Vec<Event, A>, AllocError>
+    requires { length starts.now ≤ 64 }
+    ensures { IfOk result (λ trace. trace.items ≡ start_events [] starts.now) }
+{
+    let mut sent = [0u32; 16];
+    let mut trace = Vec::with_capacity(alloc, starts.len())?;
+    for start in starts {
+        let from = usize::from(start.from.number());
+        let ssn = sent[from] + 1;
+        sent[from] = ssn;
+        trace.push_reserved(Event::Send {
+            from: start.from,
+            ssn,
+            to: start.to,
+            note: start.note,
+        });
+    }
+    Ok(trace)
+}
+
+/// The messages of the sends among the events. They carry nothing.
+fn sent_messages<A: Allocator + Copy>(
+    alloc: A,
+    events: &[Event],
+) -> Result<Vec<Wire<A>, A>, AllocError>
+    ensures { IfOk result (λ flight. flight.items ≡ filter_map message_of events.now) }
+{
+    let mut flight = Vec::new(alloc);
+    for event in events {
+        if let Some(wire) = message(alloc, *event) {
+            flight.push(wire)?;
+        }
+    }
+    Ok(flight)
+}
+
+/// The message of a send. It carries nothing.
+fn message<A: Allocator>(alloc: A, event: Event) -> Option<Wire<A>>
+    ensures { result ≡ message_of event }
+{
+    match event {
+        Event::Send {
+            from,
+            ssn,
+            to,
+            note,
+        } => Some(Wire::new(from, to, ssn, note, Vec::new(alloc))),
+        Event::Receipt { .. } => None,
+    }
+}

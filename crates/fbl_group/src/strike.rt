@@ -1,0 +1,124 @@
+//! Strikes.
+
+ghost use Rattle.std.specs.Prelude.{◌≡◌, ℕ, ◌≤◌, IfOk, IfErr, OnOk, OnErr, None, Some, length, not, vec_len, count_by};
+ghost use Rattle.std.specs.List.{filter, list_any};
+ghost use Rattle.fbl_table.specs.Tables.{is_held};
+ghost use Rattle.fbl_law.specs.Record.{IsOrphan};
+ghost use Rattle.fbl_law.specs.Groups.{knowledge};
+ghost use Rattle.fbl_group.specs.Recoveries.{has_end_in as is_at_end};
+ghost use Rattle.fbl_group.specs.Strikes.{strike_refusal, Strikes, IsBlanked, is_lost as is_lost_in};
+
+use crate::answers::Struck;
+use crate::group::Group;
+use crate::refusals::StrikeRefusal;
+use fbl_base::{Behaviour, Determinant, Event, Member, MemberSet};
+use fbl_member::{MemberRec, Wire};
+use std::alloc::Allocator;
+
+impl<B: Behaviour, A: Allocator + Copy> Group<B, A> {
+    /// Strikes the members named: they lose what they kept in memory, and each message in flight from them or to them is
+    /// lost. They are down until the group is recovered. It takes no memory.
+    pub fn strike(&mut self, set: MemberSet) -> Result<Struck, StrikeRefusal>
+        ensures struck { IfOk result (λ answer. (strike_refusal self.old set ≡ None) × Strikes self.old self.new set answer) }
+        ensures refused { IfErr result (λ refusal. strike_refusal self.old set ≡ Some refusal) }
+        ensures unchanged { OnErr result (self.new ≡ self.old) }
+        ensures no_orphan { (m : ℕ) → ¬ (IsOrphan (knowledge self.new) m) }
+    {
+        self.allow_strike(set)?;
+        blank_members(
+            &mut self.members,
+            set,
+            self.config.members(),
+            self.config.f(),
+        );
+        drop_at(&mut self.flight, set);
+        self.down = self.down.union(set);
+        Ok(Struck {
+            lost: count_lost(&self.members, &self.trace),
+        })
+    }
+
+    /// Whether these members may be struck.
+    fn allow_strike(&self, set: MemberSet) -> Result<(), StrikeRefusal>
+        ensures allowed { OnOk result (strike_refusal self.now set ≡ None) }
+        ensures refused { IfErr result (λ refusal. strike_refusal self.now set ≡ Some refusal) }
+    {
+        if !set.within(self.config.members()) {
+            return Err(StrikeRefusal::BadMember);
+        }
+        if set.count() == 0 {
+            return Err(StrikeRefusal::Nobody);
+        }
+        if set.count() > u32::from(self.config.f()) {
+            return Err(StrikeRefusal::TooMany);
+        }
+        if self.down.count() != 0 {
+            return Err(StrikeRefusal::Down);
+        }
+        Ok(())
+    }
+}
+
+/// How many of the events are receipts whose determinant no member's table holds.
+fn count_lost<A: Allocator + Copy>(members: &[MemberRec<A>], trace: &[Event]) -> u32
+    requires { length trace.now ≤ 8192 }
+    ensures { result ≡ count_by (is_lost_in members.now) trace.now }
+{
+    trace
+        .iter()
+        .filter(|event| is_lost(members, **event))
+        .count() as u32
+}
+
+/// Whether the event is a receipt whose determinant no member's table holds.
+fn is_lost<A: Allocator + Copy>(members: &[MemberRec<A>], event: Event) -> bool
+    ensures { result ≡ is_lost_in members.now event }
+{
+    match event.mark().determinant() {
+        Some(determinant) => !is_recorded(members, &determinant),
+        None => false,
+    }
+}
+
+/// Whether some member's table holds the determinant.
+fn is_recorded<A: Allocator + Copy>(members: &[MemberRec<A>], determinant: &Determinant) -> bool
+    ensures { result ≡ list_any (λ m. is_held m.table determinant.now) members.now }
+{
+    members
+        .iter()
+        .any(|member| member.table().holds(determinant))
+}
+
+/// Makes the records of the members named blank.
+fn blank_members<A: Allocator + Copy>(
+    members: &mut Vec<MemberRec<A>, A>,
+    set: MemberSet,
+    n: u8,
+    f: u8,
+)
+    requires size { vec_len members.old ≡ n }
+    requires few { n ≤ 16 }
+    ensures { IsBlanked set members.old.items members.new.items }
+{
+    let alloc = *members.allocator();
+    for number in 0..n {
+        let member = Member::new(number).unwrap();
+        if set.has(member) {
+            members[usize::from(number)] = MemberRec::blank(alloc, f);
+        }
+    }
+}
+
+/// Drops the messages in flight with an end among the members named.
+fn drop_at<A: Allocator>(flight: &mut Vec<Wire<A>, A>, set: MemberSet)
+    ensures { flight.new.items ≡ filter (λ v. not (is_at_end set v)) flight.old.items }
+{
+    flight.retain(|wire| !has_end_in(wire, set));
+}
+
+/// Whether the message has an end among the members named.
+fn has_end_in<A: Allocator>(wire: &Wire<A>, set: MemberSet) -> bool
+    ensures { result ≡ is_at_end set wire.now }
+{
+    set.has(wire.from()) || set.has(wire.to())
+}

@@ -1,0 +1,69 @@
+-- Precedence where several events are appended.
+use Rattle.std.proofs.Common.{◌≡◌, ℕ, ◌<◌, List, ◌++◌, inl, inr, ◌⊎◌, arith, ◌∙◌, Some}
+use Rattle.fbl_base.specs.declared.trace.Mark.{Mark}
+use Rattle.fbl_base.specs.Events.{At, member_of, send_of}
+use Rattle.fbl_base.specs.Precedence.{Has, Earlier, Precedes, itself, step}
+use Rattle.fbl_base.specs.Rules.{WellFormed}
+use Rattle.fbl_base.proofs.Gets.{At-front, At-below, slice_get-take}
+use Rattle.fbl_base.proofs.RulesLaws.{MayFollow-new, WellFormed-take}
+use Rattle.std.proofs.lemmas.Bool.{cases_lt}
+use Rattle.fbl_law.proofs.Lists.{At-append, At-behind}
+
+-- in a trace that obeys the rules no event stands at two places
+pub once : (n : ℕ) (t : List Mark) (e : Mark) (i j : ℕ) → WellFormed n t → At t i e → At t j e → ¬ (i < j)
+once n t e i j obeys here there below =
+    MayFollow-new n _ e (WellFormed-take n j t obeys) (obeys j e there) (i, slice_get-take t j i e below here)
+
+pub Earlier-joined : (n : ℕ) (t : List Mark) (a b c : Mark) → WellFormed n t → Earlier t a b → Earlier t b c → Earlier t a c
+Earlier-joined n t a b c obeys first second =
+    elim (cases_lt second.0 first.1) [
+      | inl below ↦ absurd (once n t b second.0 first.1 obeys second.3 first.4 below)
+      | inr above ↦ elim (cases_lt first.1 second.0) [
+        | inl below ↦ absurd (once n t b first.1 second.0 obeys first.4 second.3 below)
+        | inr same ↦ (first.0, second.1, omega (arith, first.2, second.2, above, same), first.3, second.4)
+      ]
+    ]
+
+pub Has-append : (t added : List Mark) (e : Mark) → Has (t ++ added) e → Has t e ⊎ Has added e
+Has-append t added e h = elim (At-append t added h.0 e h.1) [ inl here ↦ inl (h.0, here) | inr there ↦ inr (there.0, there.2) ]
+
+pub Has-behind : (t added : List Mark) (e : Mark) → Has added e → Has (t ++ added) e
+Has-behind t added e h = let r = At-behind t added h.0 e h.1 in (r.0, r.2)
+
+-- so the events appended are new
+pub disjoint : (n : ℕ) (t added : List Mark) → WellFormed n (t ++ added) → (e : Mark) → Has added e → ¬ (Has t e)
+disjoint n t added obeys e new old =
+    let r = At-behind t added new.0 e new.1 in
+    let below = At-below t old.0 e old.1 in
+    once n (t ++ added) e old.0 r.0 obeys (At-front t added old.0 e old.1) r.2 (omega (arith, below, r.1))
+
+module _ (t added : List Mark) (apart : (e : Mark) → Has added e → ¬ (Has t e)) where
+  Earlier-within : (a b : Mark) → Has t b → Earlier (t ++ added) a b → Earlier t a b
+  Earlier-within a b old h =
+      elim (At-append t added h.1 b h.4) [
+        | inl y ↦ elim (At-append t added h.0 a h.3) [
+          | inl x ↦ (h.0, h.1, h.2, x, y)
+          | inr x ↦ absurd (let below = At-below t h.1 b y in omega (arith, x.1, h.2, below))
+        ]
+        | inr y ↦ absurd (apart b (y.0, y.2) old)
+      ]
+
+  -- nothing new precedes an old event
+  pub Precedes-within : {a b : Mark} → Has t b → Precedes (t ++ added) a b → Precedes t a b
+  Precedes-within old (itself h) = itself old
+  Precedes-within old (step {b} {c} p l) =
+      let e = Earlier-within b c old l.0 in
+      step (Precedes-within (e.0, e.3) p) (e, l.1)
+
+  -- where the events appended are of one member and receive no message but one: what precedes one of them is one of
+  -- them, or precedes an event of the member or the send of the message
+  module _ (to : ℕ) (sent : Mark) (ours : (e : Mark) → Has added e → (member_of e ≡ to) × ((a : Mark) → send_of e ≡ Some a → sent ≡ a)) where
+    pub Precedes-entered : {a b : Mark} → Has added b → Precedes (t ++ added) a b → Has added a ⊎ ((c : Mark) × Precedes t a c × ((member_of c ≡ to) ⊎ (sent ≡ c)))
+    Precedes-entered new (itself h) = inl new
+    Precedes-entered new (step {b} {c} p l) =
+        elim (Has-append t added b (l.0.0, l.0.3)) [
+          | inr late ↦ Precedes-entered late p
+          | inl early ↦
+              let at = ours c new in
+              inr (b, Precedes-within early p, elim l.1 [ inl same ↦ inl (same ∙ at.0) | inr received ↦ inr (at.1 b received) ])
+        ]

@@ -1,0 +1,96 @@
+-- What a cut keeps of notes and actions.
+use Rattle.std.proofs.Common.{◌≡◌, ℕ, zero, suc, ◌==◌, ◌⊎◌, inl, inr, Bool, true, false, cond, List, [], ◌∷◌, map, Option, Some, None, slice_get, refl, ap, ◌∙◌, arith}
+use Rattle.std.specs.List.{filter, filter_map, cons_option}
+use Rattle.std.proofs.lemmas.Bool.Decides.{nat_tests}
+use Rattle.std.proofs.lemmas.Option.{slice_get-map}
+use Rattle.fbl_base.specs.declared.trace.Note.{Note}
+use Rattle.fbl_base.specs.declared.trace.Event.{Event}
+use Rattle.fbl_base.specs.declared.trace.Event.TheVariants.{Send, Receipt}
+use Rattle.fbl_base.specs.declared.trace.Mark.{Mark}
+use Rattle.fbl_base.specs.declared.trace.Mark.TheVariants as mark
+use Rattle.fbl_base.specs.Events.{mark_of, member_of}
+use Rattle.fbl_base.specs.Precedence.{Has}
+use Rattle.fbl_base.specs.Rules.{taken_on, WellFormed}
+use Rattle.fbl_base.specs.Fold.{action_of, actions_of, note_of}
+use Rattle.fbl_base.proofs.Gets.{At-filter}
+use Rattle.fbl_base.proofs.LawfulLaws.{receipts-noted}
+use Rattle.fbl_law.specs.Sound.{last_taken}
+use Rattle.fbl_law.proofs.Cut.{KeepsCauses, WellFormed-kept, map-kept, taken_at}
+use Rattle.fbl_law.proofs.LawfulCut.{marks-filter}
+use Rattle.fbl_law.proofs.Notes.{noted-sent, sent-noted}
+
+-- a place that passes the test is a place of what is left
+pub filter-At : {X : Type 0} (p : X → Bool) (xs : List X) (i : ℕ) (x : X) → slice_get xs i ≡ Some x → p x ≡ true → (j : ℕ) × (slice_get (filter p xs) j ≡ Some x)
+filter-At p [] i x here passes = absurd cc
+filter-At p (y ∷ xs) zero x here passes = (let k : p y ≡ true = (let same : y ≡ x = cc in ap p same ∙ passes) in rw k (0, here))
+filter-At {X} p (y ∷ xs) (suc i) x here passes = later (p y) (filter-At p xs i x here passes) where
+  later : (b : Bool) → (j : ℕ) × (slice_get (filter p xs) j ≡ Some x) → (j : ℕ) × (slice_get (cond b (y ∷ filter p xs) (filter p xs)) j ≡ Some x)
+  later true r = (suc r.0, r.1)
+  later false r = r
+
+-- two maps agree where each element is kept and mapped alike, or mapped to nothing
+pub filter_map-kept : {X Y : Type 0} (K : X → Bool) (g h : X → Option Y) (xs : List X)
+    → ((i : ℕ) (x : X) → slice_get xs i ≡ Some x → ((K x ≡ true) × (g x ≡ h x)) ⊎ ((g x ≡ None) × (h x ≡ None))) → filter_map g (filter K xs) ≡ filter_map h xs
+filter_map-kept K g h [] each = refl
+filter_map-kept {X} {Y} K g h (x ∷ xs) each = at (each 0 x refl) (filter_map-kept K g h xs (λ i. each (suc i))) where
+  at : ((K x ≡ true) × (g x ≡ h x)) ⊎ ((g x ≡ None) × (h x ≡ None)) → filter_map g (filter K xs) ≡ filter_map h xs → filter_map g (filter K (x ∷ xs)) ≡ filter_map h (x ∷ xs)
+  at (inl here) ih = rw here.0 (ap (λ o. cons_option o (filter_map g (filter K xs))) here.1 ∙ ap (λ ys. cons_option (h x) ys) ih)
+  at (inr here) ih = rw here.1 (dropped (K x) ih) where
+    dropped : (b : Bool) → filter_map g (filter K xs) ≡ filter_map h xs → filter_map g (cond b (x ∷ filter K xs) (filter K xs)) ≡ filter_map h xs
+    dropped true e = rw here.0 e
+    dropped false e = e
+
+module _ (n : ℕ) (keep : Mark → Bool) (t : List Event) (obeys : WellFormed n (map mark_of t)) (causes : KeepsCauses keep (map mark_of t)) where
+  abbrev left : List Event
+  left = filter (λ e. keep (mark_of e)) t
+
+  pub left-obeys : WellFormed n (map mark_of left)
+  left-obeys = rw (marks-filter keep t) (WellFormed-kept n keep (map mark_of t) obeys causes)
+
+  -- a note that is left was there
+  pub note-was : (q k : ℕ) (x : Note) → note_of left q k ≡ Some x → note_of t q k ≡ Some x
+  note-was q k x is =
+      let sent = noted-sent left q k x is in
+      let was = At-filter (λ e. keep (mark_of e)) t sent.0 (Send q k sent.1 x) sent.2 in
+      sent-noted n t obeys was.0 q k sent.1 x was.1
+
+  -- the note of a send that is kept is left
+  pub note-left : (i q k to : ℕ) (x : Note) → slice_get t i ≡ Some (Send q k to x) → keep (mark.Send q k to) ≡ true → note_of left q k ≡ Some x
+  note-left i q k to x here kept =
+      let place = filter-At (λ e. keep (mark_of e)) t i (Send q k to x) here kept in
+      sent-noted n left left-obeys place.0 q k to x place.1
+
+  -- so it is of each member whose sends are kept
+  pub note-stays : (q k : ℕ) (x : Note) → ((e : Mark) → Has (map mark_of t) e → member_of e ≡ q → keep e ≡ true) → note_of t q k ≡ Some x → note_of left q k ≡ Some x
+  note-stays q k x all is =
+      let sent = noted-sent t q k x is in
+      note-left sent.0 q k sent.1 x sent.2 (all (mark.Send q k sent.1) (sent.0, slice_get-map mark_of t sent.0 ∙ (let h = sent.2 in rw h refl)) refl)
+
+  module _ (m : ℕ) (all : (e : Mark) → Has (map mark_of t) e → member_of e ≡ m → keep e ≡ true) where
+    Has-mark : (i : ℕ) (e : Event) → slice_get t i ≡ Some e → Has (map mark_of t) (mark_of e)
+    Has-mark i e here = (i, slice_get-map mark_of t i ∙ (rw here refl))
+
+    each-action : (i : ℕ) (e : Event) → slice_get t i ≡ Some e → ((keep (mark_of e) ≡ true) × (action_of left m e ≡ action_of t m e)) ⊎ ((action_of left m e ≡ None) × (action_of t m e ≡ None))
+    each-action i (Send q k to x) here = at (q == m) refl where
+      at : (b : Bool) → (q == m) ≡ b → ((keep (mark.Send q k to) ≡ true) × (action_of left m (Send q k to x) ≡ action_of t m (Send q k to x))) ⊎ ((action_of left m (Send q k to x) ≡ None) × (action_of t m (Send q k to x) ≡ None))
+      at true is = inl (all (mark.Send q k to) (Has-mark i (Send q k to x) here) (let same : q ≡ m = grind (arith, nat_tests) in same), refl)
+      at false is = inr (rw is refl, rw is refl)
+    each-action i (Receipt to r q k) here = at (to == m) refl where
+      at : (b : Bool) → (to == m) ≡ b → ((keep (mark.Receipt to r q k) ≡ true) × (action_of left m (Receipt to r q k) ≡ action_of t m (Receipt to r q k))) ⊎ ((action_of left m (Receipt to r q k) ≡ None) × (action_of t m (Receipt to r q k) ≡ None))
+      at true is =
+          let kept : keep (mark.Receipt to r q k) ≡ true = all (mark.Receipt to r q k) (Has-mark i (Receipt to r q k) here) (let same : to ≡ m = grind (arith, nat_tests) in same) in
+          let place = filter-At (λ e. keep (mark_of e)) t i (Receipt to r q k) here kept in
+          let noted = receipts-noted n left left-obeys place.0 to r q k place.1 in
+          let was : note_of t q k ≡ Some noted.0 = note-was q k noted.0 noted.1 in
+          let now : note_of left q k ≡ Some noted.0 = noted.1 in
+          inl (kept, (rw (now, was) refl))
+      at false is = inr (rw is refl, rw is refl)
+
+    -- the actions of a member whose events are all kept stay
+    pub actions-stay : actions_of left m ≡ actions_of t m
+    actions-stay = filter_map-kept (λ e. keep (mark_of e)) (action_of left m) (action_of t m) t each-action
+
+    pub last_taken-stays : (q : ℕ) → last_taken (map mark_of left) q m ≡ last_taken (map mark_of t) q m
+    last_taken-stays q =
+        let same : filter_map (taken_on q m) (filter keep (map mark_of t)) ≡ filter_map (taken_on q m) (map mark_of t) = map-kept keep (taken_on q m) (map mark_of t) (λ e y there is. all e there (taken_at q m y e is)) in
+        rw (marks-filter keep t, same) refl

@@ -1,0 +1,108 @@
+-- A closed record always has each receipt held.
+use Rattle.std.proofs.Common.{◌≡◌, ℕ, zero, suc, ◌<◌, Bool, true, false, List, [], ◌∷◌, length, inl, inr, ◌⊎◌, arith, refl, get_or, subst, ap, ◌∙◌}
+use Rattle.std.specs.Ordering.{nat_cmp}
+use Rattle.std.specs.FinSet as set
+use Rattle.std.proofs.lemmas.Bool.{cases_lt, cases_eq}
+use Rattle.fbl_base.specs.declared.trace.Determinant.{Determinant}
+use Rattle.fbl_base.specs.Events.{same_determinant}
+use Rattle.fbl_base.proofs.Recorded.{Decides-same_determinant}
+use Rattle.fbl_base.proofs.Sizes.{some_member, len-within}
+use Rattle.fbl_table.specs.declared.entry.Entry.{Entry}
+use Rattle.fbl_law.specs.Record.{Members, Includes, Record, table, IsUp, Names, Holds, IsRecorded, IsHolder, IsStable, IsClosed, IsAlwaysHeld}
+use Rattle.fbl_law.proofs.Lists.{Contains-here, Contains-there, Contains-cons_cases, Contains-none}
+use Rattle.fbl_law.proofs.Safe.{down_or_up, never_both}
+use Rattle.fbl_law.proofs.Tables.{Includes-insert, Includes-insert_cases, Includes-union, Includes-left, Includes-right}
+use Rattle.fbl_base.specs.MemberSets.{contains-insert_other}
+
+-- whether P holds is known
+abbrev Known : Type 0 → Type 0
+Known P = P ⊎ ¬ P
+
+Known-and : (P Q : Type 0) → Known P → Known Q → Known (P × Q)
+Known-and P Q (inl p) (inl q) = inl (p, q)
+Known-and P Q (inl p) (inr q) = inr (λ h. q h.1)
+Known-and P Q (inr p) q = inr (λ h. p h.0)
+
+Known-same : (a b : Determinant) → Known (a ≡ b)
+Known-same a b = at (same_determinant a b) refl where
+  at : (v : Bool) → same_determinant a b ≡ v → Known (a ≡ b)
+  at true is = inl ((Decides-same_determinant a b).0 is)
+  at false is = inr (λ same. let yes' = (Decides-same_determinant a b).1 same in cc)
+
+Known-names : (xs : List Entry) (d : Determinant) → Known (Names xs d)
+Known-names [] d = inr (λ h. Contains-none h.0 h.1)
+Known-names (x ∷ xs) d =
+    elim (Known-same x.det d) [
+      | inl same ↦ inl (x, Contains-here x xs, same)
+      | inr other ↦ elim (Known-names xs d) [
+        | inl named ↦ inl (named.0, Contains-there x xs named.0 named.1, named.2)
+        | inr none ↦ inr (λ h. elim (Contains-cons_cases x xs h.0 h.1) [ inl first ↦ other (ap (λ (y : Entry). y.det) first ∙ h.2) | inr later ↦ none (h.0, later, h.2) ])
+      ]
+    ]
+
+Includes-insert_other : (s : Members) (k m : ℕ) → Includes s m → Includes (set.insert s k) m
+Includes-insert_other s k m h = elim (cases_eq m k) [ inl same ↦ rw same (Includes-insert s k) | inr other ↦ contains-insert_other s k m other ∙ h ]
+
+-- the set of the members below n at which P holds
+set_of : (n : ℕ) (P : ℕ → Type 0) → ((m : ℕ) → Known (P m)) → (s : Members) × ((m : ℕ) → Includes s m → P m) × ((m : ℕ) → m < n → P m → Includes s m)
+set_of zero P decide = (set.empty, λ m h. absurd (let none : set.contains set.empty m ≡ false = set.contains-empty nat_cmp m in cc), λ m below p. absurd (omega arith))
+set_of (suc n) P decide =
+    let rest = set_of n P decide in
+    elim (decide n) [
+      | inl here ↦ (
+        set.insert rest.0 n,
+        λ m h. elim (Includes-insert_cases rest.0 n m h) [ inl same ↦ rw same here | inr was ↦ rest.1 m was ],
+        λ m below p. elim (cases_eq m n) [ inl same ↦ rw same (Includes-insert rest.0 n) | inr other ↦ Includes-insert_other rest.0 n m (rest.2 m (omega arith) p) ],
+      )
+      | inr none ↦ (rest.0, rest.1, λ m below p. elim (cases_eq m n) [ inl same ↦ absurd (none (subst P same p)) | inr other ↦ rest.2 m (omega arith) p ])
+    ]
+
+named_within : (tables : List (List Entry)) (d : Determinant) (m : ℕ) → Names (get_or tables m []) d → m < length tables
+named_within [] d m named = absurd (Contains-none named.0 named.1)
+named_within (t ∷ tables) d zero named = omega arith
+named_within (t ∷ tables) d (suc m) named = omega (arith, named_within tables d m named)
+
+some_has : (s : Members) (m : ℕ) → Includes s m → 0 < set.len s
+some_has s m has = at (set.len s) refl where
+  at : (k : ℕ) → set.len s ≡ k → 0 < k
+  at zero none = absurd (let e : s ≡ set.empty = set.empty_of_len s none in let f : set.contains set.empty m ≡ false = set.contains-empty nat_cmp m in let g : set.contains set.empty m ≡ true = rw e at has in cc)
+  at (suc k) some = omega arith
+
+module _ (f : ℕ) (r : Record) (d : Determinant) where
+  Known-holds : (m : ℕ) → Known (Holds r d m)
+  Known-holds m = Known-and _ _ (known_up (down_or_up r.down m)) (Known-names (table r m) d) where
+    known_up : Includes r.down m ⊎ (set.contains r.down m ≡ false) → Known (IsUp r m)
+    known_up (inl down) = inr (λ up. never_both r.down m down up)
+    known_up (inr up) = inl up
+
+  -- where the set has exactly the holders, it tells whether the determinant is stable
+  told : (s : Members) → ((m : ℕ) → Includes s m → IsHolder r d m) → ((m : ℕ) → IsHolder r d m → Includes s m) → Known (IsStable f r d)
+  told s only every =
+      elim (cases_lt f (set.len s)) [
+        | inl many ↦ inl (s, many, only)
+        | inr few ↦ inr (λ stable. let within = len-within (set.len stable.0) stable.0 s refl (λ q h. every q (stable.2 q h)) in omega (arith, few, stable.1, within))
+      ]
+
+  Known-stable : Known (IsStable f r d)
+  Known-stable =
+      let holders = set_of (length r.tables) (Holds r d) Known-holds in
+      let every : (m : ℕ) → Holds r d m → Includes holders.0 m = λ m h. holders.2 m (named_within r.tables d m h.1) h in
+      elim (cases_lt 0 (set.len holders.0)) [
+        | inl some ↦
+            let one = some_member holders.0 some in
+            let recorded : IsRecorded r d = (one.0, holders.1 one.0 one.1) in
+            told (set.union holders.0 r.down)
+            (λ m h. elim (Includes-union holders.0 r.down m h) [ inl holds ↦ inl (holders.1 m holds) | inr down ↦ inr (down, recorded) ])
+            (λ m h. elim h [ inl holds ↦ Includes-left holders.0 r.down m (every m holds) | inr down ↦ Includes-right holders.0 r.down m down.0 ])
+        | inr none ↦
+            told holders.0 (λ m h. inl (holders.1 m h))
+            (λ m h. elim h [ inl holds ↦ every m holds | inr down ↦ absurd (let some = some_has holders.0 down.1.0 (every down.1.0 down.1.1) in omega (arith, some, none)) ])
+      ]
+
+-- each receipt of a closed record is stable, or held by each up member that depends on it
+pub IsAlwaysHeld-closed : (f : ℕ) (r : Record) → IsClosed f r → IsAlwaysHeld f r
+IsAlwaysHeld-closed f r closed d there =
+    elim (Known-stable f r d) [
+      | inl stable ↦ inl stable
+      | inr unstable ↦ inr (λ m up depends. elim (closed.events m depends.0 up depends.2 d depends.1) [ inl named ↦ (up, named) | inr stable ↦ absurd (unstable stable) ])
+    ]

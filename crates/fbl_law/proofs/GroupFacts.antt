@@ -1,0 +1,230 @@
+-- What holds in a sound group.
+use Rattle.std.proofs.Common.{◌≡◌, ◌≢◌, ℕ, zero, suc, ◌+◌, ◌<◌, ◌≤◌, ◌==◌, ◌&&◌, ◌||◌, Bool, true, false, cond, List, [], ◌∷◌, length, map, inl, inr, Some, slice_get, get_or, refl, sym, ap, ◌∙◌, arith, subst}
+use Rattle.std.specs.List.{Contains, filter}
+use Rattle.std.specs.FinSet as sets
+use Rattle.std.specs.Ordering.{nat_cmp}
+use Rattle.std.proofs.lemmas.Bool.Decides.{nat_tests}
+use Rattle.std.proofs.lemmas.List.{length-map}
+use Rattle.std.proofs.lemmas.List.Sums.{count_by-le-length}
+use Rattle.std.proofs.lemmas.Option.{get_or_from_slice_get}
+use Rattle.fbl_base.specs.declared.trace.Determinant.{Determinant}
+use Rattle.fbl_base.specs.declared.trace.Mark.{Mark}
+use Rattle.fbl_base.specs.declared.trace.Mark.TheVariants.{Send, Receipt}
+use Rattle.fbl_base.specs.Events.{mark_of, receipt_of, same_determinant}
+use Rattle.fbl_base.specs.Precedence.{Has}
+use Rattle.fbl_base.specs.Rules.{is_send_of, is_receipt_of, sends_of, receipts_of, in_flight, MayFollow, WellFormed}
+use Rattle.fbl_base.specs.Fold.{Next, Progress, note_of}
+use Rattle.fbl_base.proofs.Gets.{At-below}
+use Rattle.fbl_base.proofs.RulesLaws.{count_at, eqb-self}
+use Rattle.fbl_base.proofs.Recorded.{Decides-same_determinant}
+use Rattle.fbl_table.specs.declared.entry.Entry.{Entry}
+use Rattle.fbl_table.specs.Tables.{is_held, learned}
+use Rattle.fbl_member.specs.Members.{Message, MemberRecord, blank, next_determinant, last_from}
+use Rattle.fbl_law.specs.Record.{table, send_mark, IsUp, Names, MatchesTrace}
+use Rattle.fbl_law.specs.Steps.{is_on}
+use Rattle.fbl_law.specs.Groups.{GroupRecord, member, channel, marks, knowledge}
+use Rattle.fbl_law.specs.Sound.{IsSound}
+use Rattle.fbl_law.proofs.Lists.{Contains-here, Contains-there, Contains-cons_cases, Contains-filter, Contains-from_filter, Contains-none}
+use Rattle.fbl_law.proofs.Safe.{down_or_up}
+use Rattle.fbl_law.proofs.Tables.{Names-from_learned}
+use Rattle.fbl_law.proofs.Channels.{matched-Has}
+use Rattle.fbl_law.proofs.InOrder.{in_flight-beyond}
+use Rattle.fbl_law.proofs.Counts.{after_notes-received, after_notes-log}
+
+-- the table of a member is that of its record
+table_of : (members : List MemberRecord) (m : ℕ) → get_or (map (λ (x : MemberRecord). x.table) members) m [] ≡ (get_or members m blank).table
+table_of [] m = refl
+table_of (x ∷ members) zero = refl
+table_of (x ∷ members) (suc m) = table_of members m
+
+pub table_member : (r : GroupRecord) (m : ℕ) → table (knowledge r) m ≡ (member r m).table
+table_member r m = table_of r.members m
+
+-- a list with an element at a place contains it
+pub Contains-at : {X : Type 0} (xs : List X) (i : ℕ) (x : X) → slice_get xs i ≡ Some x → Contains xs x
+Contains-at xs i x at = (i, At-below xs i x at, get_or_from_slice_get xs i x x at)
+
+both : (a b : Bool) → (a && b) ≡ true → (a ≡ true) × (b ≡ true)
+both true b h = (refl, h)
+both false b h = cc
+
+equal : (a b : ℕ) → (a == b) ≡ true → a ≡ b
+equal a b h = grind (arith, nat_tests)
+
+-- what passes a filter passes its test
+passes : {X : Type 0} (p : X → Bool) (xs : List X) (x : X) → Contains (filter p xs) x → p x ≡ true
+passes p [] x h = absurd (Contains-none x h)
+passes p (y ∷ xs) x h =
+    (elim (p y) as (λ b. p y ≡ b → Contains (cond b (y ∷ filter p xs) (filter p xs)) x → p x ≡ true) [
+      | true ↦ λ e g. elim (Contains-cons_cases y (filter p xs) x g) [ inl first ↦ ap p (sym first) ∙ e | inr later ↦ passes p xs x later ]
+      | false ↦ λ e g. passes p xs x g
+    ]) refl h
+
+-- a message in a channel is in flight between its ends
+pub channel_flight : (r : GroupRecord) (q p : ℕ) (v : Message) → Contains (channel r q p) v → Contains r.flight v × (v.from ≡ q) × (v.to ≡ p)
+channel_flight r q p v among =
+    let on = both (v.from == q) (v.to == p) (passes (is_on q p) r.flight v among) in
+    (Contains-from_filter (is_on q p) r.flight v among, equal v.from q on.0, equal v.to p on.1)
+
+-- and a message in flight is in its channel
+pub flight_channel : (r : GroupRecord) (v : Message) → Contains r.flight v → Contains (channel r v.from v.to) v
+flight_channel r v among = Contains-filter (is_on v.from v.to) r.flight v among both_same where
+  both_same : is_on v.from v.to v ≡ true
+  both_same = (let a : (v.from == v.from) ≡ true = eqb-self v.from in let b : (v.to == v.to) ≡ true = eqb-self v.to in rw (a, b))
+
+-- a table that has a determinant names it
+pub Names-held : (entries : List Entry) (d : Determinant) → is_held entries d ≡ true → Names entries d
+Names-held [] d h = cc
+Names-held (e ∷ entries) d h = at (same_determinant d e.det) refl h (Names-held entries d) where
+  at : (b : Bool) → same_determinant d e.det ≡ b → (b || is_held entries d) ≡ true → (is_held entries d ≡ true → Names entries d) → Names (e ∷ entries) d
+  at true is g ih = (e, Contains-here e entries, sym ((Decides-same_determinant d e.det).0 is))
+  at false is g ih = let r = ih g in (r.0, Contains-there e entries r.0 r.1, r.2)
+
+pub held-Names : (entries : List Entry) (d : Determinant) → Names entries d → is_held entries d ≡ true
+held-Names [] d named = absurd (Contains-none named.0 named.1)
+held-Names (e ∷ entries) d named = elim (Contains-cons_cases e entries named.0 named.1) [
+  | inl first ↦ (let same : same_determinant d e.det ≡ true = (Decides-same_determinant d e.det).1 (sym (ap (λ (x : Entry). x.det) first ∙ named.2)) in rw same)
+  | inr later ↦ (let rest : is_held entries d ≡ true = held-Names entries d (named.0, later, named.2) in rw rest (or_true (same_determinant d e.det)))
+]
+  where
+    or_true : (b : Bool) → (b || true) ≡ true
+    or_true true = refl
+    or_true false = refl
+
+pub not-held : (entries : List Entry) (d : Determinant) → ¬ (Names entries d) → is_held entries d ≡ false
+not-held entries d none = at (is_held entries d) refl where
+  at : (b : Bool) → is_held entries d ≡ b → b ≡ false
+  at true is = absurd (none (Names-held entries d is))
+  at false is = refl
+
+-- the numbers that the trace has in flight, where the channel matches it
+pub front_number : (numbers : List ℕ) (q p : ℕ) (xs : List Message) (v : Message) → map send_mark xs ≡ map (λ ssn. Send q ssn p) numbers → slice_get xs 0 ≡ Some v → slice_get numbers 0 ≡ Some v.ssn
+front_number numbers q p [] v same first = cc
+front_number [] q p (x ∷ xs) v same first = cc
+front_number (k ∷ numbers) q p (x ∷ xs) v same first =
+    let is : x ≡ v = cc in
+    let here : send_mark x ≡ Send q k p = ap (λ l. get_or l 0 (send_mark x)) same in
+    let number : x.ssn ≡ k = cc in
+    cc
+
+-- an event of a member's next number is new
+pub next_is_new : (n : ℕ) (t : List Mark) (to rsn from ssn : ℕ) → WellFormed n t → receipts_of t to < rsn → ¬ (Has t (Receipt to rsn from ssn))
+next_is_new n t to rsn from ssn obeys beyond has =
+    let before = obeys has.0 (Receipt to rsn from ssn) has.1 in
+    let fewer = count_at (is_receipt_of to) t has.0 (Receipt to rsn from ssn) has.1 (eqb-self to) in
+    omega (arith, before.3, beyond, fewer)
+
+module _ (next : Next) (r : GroupRecord) (sound : IsSound next r) where
+  -- an up member has as many receipts and sends as the trace says
+  pub received_counted : (m : ℕ) → m < r.config.members → IsUp (knowledge r) m → (member r m).received ≡ receipts_of (marks r) m
+  received_counted m below up =
+      ap (λ (p : Progress). p.received) (sound.folds m below up).progress ∙ after_notes-received next r.config.members r.config.starts r.trace m sound.lawful
+
+  pub log_counted : (m : ℕ) → m < r.config.members → IsUp (knowledge r) m → length (member r m).log ≡ sends_of (marks r) m
+  log_counted m below up =
+      ap (λ (p : Progress). length p.log) (sound.folds m below up).progress ∙ after_notes-log next r.config.members r.config.starts r.trace m sound.lawful
+
+  pub trace_fits : length (marks r) ≤ 8192
+  trace_fits = omega (arith, length-map r.trace mark_of, sound.room, sound.config.limit.1)
+
+  pub receipts_fit : (m : ℕ) → m < r.config.members → IsUp (knowledge r) m → (member r m).received ≤ length r.trace
+  receipts_fit m below up = omega (arith, received_counted m below up, count_by-le-length (is_receipt_of m) (marks r), length-map r.trace mark_of)
+
+  pub sends_fit : (m : ℕ) → m < r.config.members → IsUp (knowledge r) m → length (member r m).log ≤ length r.trace
+  sends_fit m below up = omega (arith, log_counted m below up, count_by-le-length (is_send_of m) (marks r), length-map r.trace mark_of)
+
+  -- the receipt that an up member makes next is new
+  pub receipt_is_new : (m from ssn : ℕ) → m < r.config.members → IsUp (knowledge r) m → ¬ (Has (marks r) (receipt_of (next_determinant m (member r m) from ssn)))
+  receipt_is_new m from ssn below up = next_is_new r.config.members (marks r) m _ from ssn sound.lawful.well_formed (omega (arith, received_counted m below up))
+
+  -- tables and messages in flight name only receipts of the trace
+  pub named_received : (m : ℕ) (d : Determinant) → Names (member r m).table d → Has (marks r) (receipt_of d)
+  named_received m d named =
+      let here : Names (table (knowledge r) m) d = rw (table_member r m) named in
+      elim (down_or_up r.down m) [
+        | inl down ↦ absurd (Contains-none here.0 (rw (sound.causes.down.tables m down) at here.1))
+        | inr up ↦ subst (λ (x : Determinant). Has (marks r) (receipt_of x)) here.2 (sound.causes.truth.tables m here.0 up here.1).0.0
+      ]
+
+  pub carried_received : (v : Message) (d : Determinant) → Contains r.flight v → Names v.carried d → Has (marks r) (receipt_of d)
+  carried_received v d flies named =
+      subst (λ (x : Determinant). Has (marks r) (receipt_of x)) named.2 (sound.causes.truth.messages v named.0 (flight_channel r v flies) named.1).0.0
+
+  -- so no table has a determinant that is new, also after it has learned what a message in flight carries
+  pub new_not_held : (m : ℕ) (d : Determinant) → ¬ (Has (marks r) (receipt_of d)) → is_held (member r m).table d ≡ false
+  new_not_held m d new = not-held (member r m).table d (λ named. new (named_received m d named))
+
+  pub new_not_learned : (m me : ℕ) (v : Message) (d : Determinant) → Contains r.flight v → ¬ (Has (marks r) (receipt_of d)) → is_held (learned me (member r m).table v.carried) d ≡ false
+  new_not_learned m me v d flies new =
+      not-held (learned me (member r m).table v.carried) d (λ named. elim (Names-from_learned me (member r m).table v.carried d named) [
+        | inl here ↦ new (named_received m d here)
+        | inr there ↦ new (carried_received v d flies there)
+      ])
+
+  pub new_not_carried : (v : Message) (d : Determinant) → Contains r.flight v → ¬ (Has (marks r) (receipt_of d)) → is_held v.carried d ≡ false
+  new_not_carried v d flies new = not-held v.carried d (λ named. new (carried_received v d flies named))
+
+  -- a message in flight goes from one up member of the group to another
+  pub ends_up : (v : Message) → Contains r.flight v → IsUp (knowledge r) v.from × IsUp (knowledge r) v.to
+  ends_up v flies =
+      let among = flight_channel r v flies in
+      elim (down_or_up r.down v.from) [
+        | inl down ↦ absurd (Contains-none v (rw (sound.causes.down.channels v.from v.to (inl down)) at among))
+        | inr up ↦ elim (down_or_up r.down v.to) [
+          | inl down ↦ absurd (Contains-none v (rw (sound.causes.down.channels v.from v.to (inr down)) at among))
+          | inr up_to ↦ (up, up_to)
+        ]
+      ]
+
+  pub flight_sent : (v : Message) → Contains r.flight v → Has (marks r) (send_mark v)
+  flight_sent v flies =
+      let ends = ends_up v flies in
+      matched-Has (knowledge r) v (sound.causes.channels v.from v.to ends.0 ends.1) (flight_channel r v flies)
+
+  pub flight_ends : (v : Message) → Contains r.flight v → (v.from < r.config.members) × (v.to < r.config.members) × (v.from ≢ v.to)
+  flight_ends v flies =
+      let sent = flight_sent v flies in
+      let may = sound.lawful.well_formed sent.0 (send_mark v) sent.1 in
+      (may.0, may.1, may.2)
+
+  -- the front of a channel is in flight from the one to the other, and it is what the trace has first in flight
+  pub front_flight : (q p : ℕ) (v : Message) → slice_get (channel r q p) 0 ≡ Some v → Contains r.flight v × (v.from ≡ q) × (v.to ≡ p)
+  front_flight q p v front = channel_flight r q p v (Contains-at (channel r q p) 0 v front)
+
+  pub front_first : (q p : ℕ) (v : Message) → slice_get (channel r q p) 0 ≡ Some v → slice_get (in_flight (marks r) q p) 0 ≡ Some v.ssn
+  front_first q p v front =
+      let flies = front_flight q p v front in
+      let ends = ends_up v flies.0 in
+      let matches : MatchesTrace (knowledge r) q p = sound.causes.channels q p (rw flies.1 at ends.0) (rw flies.2 at ends.1) in
+      front_number (in_flight (marks r) q p) q p (channel r q p) v matches front
+
+  pub front_noted : (q p : ℕ) (v : Message) → slice_get (channel r q p) 0 ≡ Some v → note_of r.trace v.from v.ssn ≡ Some v.note
+  front_noted q p v front = sound.notes v (front_flight q p v front).0
+
+  -- so its receipt may come next, where the trace has room
+  pub front_may_follow : (v : Message) → slice_get (channel r v.from v.to) 0 ≡ Some v → length r.trace < 8192 → MayFollow r.config.members (marks r) (Receipt v.to ((member r v.to).received + 1) v.from v.ssn)
+  front_may_follow v front room =
+      let flies = (front_flight v.from v.to v front).0 in
+      let ends = flight_ends v flies in
+      (ends.0, ends.1, ends.2, ap (λ k. k + 1) (received_counted v.to ends.1 (ends_up v flies).1), omega (arith, length-map r.trace mark_of, room), front_first v.from v.to v front)
+
+  -- and its number is beyond the last one that its receiver received from its sender
+  pub front_is_later : (q p : ℕ) (v : Message) → slice_get (channel r q p) 0 ≡ Some v → last_from (member r p) q < v.ssn
+  front_is_later q p v front =
+      let flies = front_flight q p v front in
+      let ends = flight_ends v flies.0 in
+      let below_p : p < r.config.members = (rw flies.2 at ends.1) in
+      let below_q : q < r.config.members = (rw flies.1 at ends.0) in
+      let up_p : IsUp (knowledge r) p = (rw flies.2 at (ends_up v flies.0).1) in
+      let last = (sound.folds p below_p up_p).last q (omega (arith, below_q, sound.config.members.1)) in
+      let later = in_flight-beyond r.config.members (marks r) q p 0 v.ssn sound.lawful.well_formed (front_first q p v front) in
+      omega (arith, last, later)
+
+  -- when a message is received, the receiver's table doesn't yet have the receipt's determinant
+  pub own_not_learned : (v : Message) → Contains r.flight v → is_held (learned v.to (member r v.to).table v.carried) (next_determinant v.to (member r v.to) v.from v.ssn) ≡ false
+  own_not_learned v flies =
+      new_not_learned v.to v.to v (next_determinant v.to (member r v.to) v.from v.ssn) flies (receipt_is_new v.to v.from v.ssn (flight_ends v flies).1 (ends_up v flies).1)
+
+  -- where nobody is down, each member is up
+  pub all_up : r.down ≡ sets.empty → (m : ℕ) → IsUp (knowledge r) m
+  all_up nobody m = rw nobody (sets.contains-empty nat_cmp m)

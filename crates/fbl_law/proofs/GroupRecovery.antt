@@ -1,0 +1,133 @@
+-- A recovery keeps a group sound.
+use Rattle.std.proofs.Common.{◌≡◌, ℕ, ◌<◌, ◌≤◌, ◌==◌, inl, inr, Bool, true, false, cond, List, [], ◌∷◌, length, map, Some, refl, sym, ap, ◌∙◌, arith}
+use Rattle.std.specs.List.{Contains, filter}
+use Rattle.std.specs.Ordering.{nat_cmp}
+use Rattle.std.specs.FinSet as set
+use Rattle.std.proofs.Math.ListN.{get_or-map}
+use Rattle.fbl_base.specs.declared.trace.Event.{Event}
+use Rattle.fbl_base.specs.declared.trace.Mark.{Mark}
+use Rattle.fbl_base.specs.Events.{mark_of, member_of}
+use Rattle.fbl_base.specs.Precedence.{Has, step}
+use Rattle.fbl_base.specs.Fold.{Next, Lawful, note_of}
+use Rattle.fbl_base.proofs.RulesLaws.{eqb-self}
+use Rattle.fbl_table.specs.Tables.{piggybacked}
+use Rattle.fbl_member.specs.Members.{Message, MemberRecord, blank}
+use Rattle.fbl_law.specs.Record.{table, IsUp, IsDown}
+use Rattle.fbl_law.specs.Steps.{Stays, IsCut, IsEventCut, IsRecovered, is_on}
+use Rattle.fbl_law.specs.Groups.{GroupRecord, member, channel, marks, knowledge}
+use Rattle.fbl_law.specs.Sound.{IsFold, IsSound}
+use Rattle.fbl_law.specs.GroupSteps.{IsRecovery}
+use Rattle.fbl_law.specs.GroupLaws.{GroupRecoveryKeeps}
+use Rattle.fbl_law.proofs.Lists.{Contains-filter, Contains-from_filter}
+use Rattle.fbl_law.proofs.Safe.{down_or_up, never_both}
+use Rattle.fbl_law.proofs.Cut.{KeepsCauses}
+use Rattle.fbl_law.proofs.CutLaw.{cut_is_lawful, stays_is_recorded}
+use Rattle.fbl_law.proofs.Run.{recovery_keeps}
+use Rattle.fbl_law.proofs.CutFolds.{actions-stay, last_taken-stays, note-stays}
+
+-- the tables of a group's record are those of its members
+pub table-member : (r : GroupRecord) (m : ℕ) → table (knowledge r) m ≡ (member r m).table
+table-member r m = get_or-map (λ (x : MemberRecord). x.table) r.members m blank
+
+-- a message in flight is in its channel
+pub channel-flight : (r : GroupRecord) (v : Message) → Contains r.flight v → Contains (channel r v.from v.to) v
+channel-flight r v among = Contains-filter (is_on v.from v.to) r.flight v among (let e : (v.from == v.from) ≡ true = eqb-self v.from in let g : (v.to == v.to) ≡ true = eqb-self v.to in rw (e, g) refl)
+
+pub flight-channel : (r : GroupRecord) (q p : ℕ) (v : Message) → Contains (channel r q p) v → Contains r.flight v
+flight-channel r q p v among = Contains-from_filter (is_on q p) r.flight v among
+
+-- what is left is no longer
+pub length-left : {X : Type 0} (p : X → Bool) (xs : List X) → length (filter p xs) ≤ length xs
+length-left p [] = omega arith
+length-left {X} p (x ∷ xs) = at (p x) (length-left p xs) where
+  at : (b : Bool) → length (filter p xs) ≤ length xs → length (cond b (x ∷ filter p xs) (filter p xs)) ≤ length (x ∷ xs)
+  at true h = omega (arith, h)
+  at false h = omega (arith, h)
+
+-- a cut of a sound group's trace keeps what leads to an event that stays, and the events of up members
+module _ (next : Next) (old : GroupRecord) (sound : IsSound next old) (new : List Event) (cut : IsEventCut (Stays (knowledge old)) old.trace new) where
+  pub cut-causes : KeepsCauses cut.0 (marks old)
+  cut-causes a b kept leads =
+      let there_a : Has (marks old) a = (leads.0.0, leads.0.3) in
+      let there_b : Has (marks old) b = (leads.0.1, leads.0.4) in
+      let all = (stays_is_recorded old.config.members old.config.f (knowledge old) sound.causes b there_b).0 ((cut.2 b there_b).0 kept) in
+      (cut.2 a there_a).1 ((stays_is_recorded old.config.members old.config.f (knowledge old) sound.causes a there_a).1 (λ c before. all c (step before leads)))
+
+  pub cut-keeps_up : (m : ℕ) → IsUp (knowledge old) m → (e : Mark) → Has (marks old) e → member_of e ≡ m → cut.0 e ≡ true
+  cut-keeps_up m up e there at_m = (cut.2 e there).1 (λ down. never_both old.down m (rw at_m at down) up)
+
+  pub cut-lawful : Lawful next old.config.members old.config.starts new × IsCut (Stays (knowledge old)) (marks old) (map mark_of new)
+  cut-lawful = cut_is_lawful next old.config.members old.config.f old.config.starts (knowledge old) old.trace new sound.causes refl cut sound.lawful
+
+  -- a survivor stays at the fold of its receipts
+  pub fold-survives : (r : GroupRecord) (m : ℕ) → IsUp (knowledge old) m → r.trace ≡ new → r.config ≡ old.config → member r m ≡ member old m → IsFold next old m → IsFold next r m
+  fold-survives r m up trace config same fold =
+      let is : r.trace ≡ filter (λ e. cut.0 (mark_of e)) old.trace = trace ∙ cut.1 in
+      let actions = actions-stay old.config.members cut.0 old.trace sound.lawful.well_formed cut-causes m (cut-keeps_up m up) in
+      record {
+        progress = rw (same, config, is, actions) fold.progress;
+        places = rw same fold.places;
+        last = λ q below. rw (same, is) (fold.last q below ∙ sym (last_taken-stays old.config.members cut.0 old.trace sound.lawful.well_formed cut-causes m (cut-keeps_up m up) q));
+      }
+
+module _ (next : Next) (old new : GroupRecord) (step : IsRecovery next old new) (sound : IsSound next old) where
+  down-member : (m : ℕ) → IsDown (knowledge old) m → m < old.config.members
+  down-member m down = sound.down m down
+
+  -- the tables' part of the recovery
+  pub recovery-knowledge : IsRecovered old.config.f (knowledge old) (knowledge new)
+  recovery-knowledge = record {
+    nobody_down = step.nobody_down;
+    trace = (cut-lawful next old sound new.trace step.trace).1;
+    tables = λ m up. table-member new m ∙ ap (λ (x : MemberRecord). x.table) (step.survivors m up) ∙ sym (table-member old m);
+    gathered = λ m down. table-member new m ∙ step.gathered m (down-member m down) down;
+    channels = step.channels;
+    rebuilt = λ q p down. (step.made_again q p down).sends;
+    messages = λ v flies down. (step.made_again v.from v.to down).carried v flies ∙ ap (λ c. piggybacked c (member new v.from).table) (let e = step.config in rw e refl) ∙ ap (λ t. piggybacked old.config.f t) (sym (table-member new v.from));
+  }
+
+  fold-stays : (m : ℕ) → IsUp (knowledge old) m → IsFold next old m → IsFold next new m
+  fold-stays m up fold = fold-survives next old sound new.trace step.trace new m up refl step.config (step.survivors m up) fold
+
+  note-flies : (v : Message) → Contains new.flight v → note_of new.trace v.from v.ssn ≡ Some v.note
+  note-flies v among =
+      let on = channel-flight new v among in
+      elim (down_or_up old.down v.from) [
+        | inl down ↦ (step.made_again v.from v.to (inl down)).notes v on
+        | inr up ↦ elim (down_or_up old.down v.to) [
+          | inl down ↦ (step.made_again v.from v.to (inr down)).notes v on
+          | inr up_to ↦
+              let stayed : Contains (channel old v.from v.to) v = rw (step.channels v.from v.to up up_to) at on in
+              let was = sound.notes v (flight-channel old v.from v.to v stayed) in
+              let is : new.trace ≡ filter (λ e. step.trace.0 (mark_of e)) old.trace = step.trace.1 in
+              rw is (note-stays old.config.members step.trace.0 old.trace sound.lawful.well_formed (cut-causes next old sound new.trace step.trace) v.from v.ssn v.note (cut-keeps_up next old sound new.trace step.trace v.from up) was)
+        ]
+      ]
+
+  folds-after : (m : ℕ) → m < old.config.members → IsFold next new m
+  folds-after m below = elim (down_or_up old.down m) [ inl down ↦ step.folds m below down | inr up ↦ fold-stays m up (sound.folds m below up) ]
+
+  nobody : (m : ℕ) → IsUp (knowledge new) m
+  nobody m = rw step.nobody_down (set.contains-empty nat_cmp m)
+
+  shorter : length new.trace ≤ length old.trace
+  shorter = (let is : new.trace ≡ filter (λ e. step.trace.0 (mark_of e)) old.trace = step.trace.1 in rw is (length-left (λ e. step.trace.0 (mark_of e)) old.trace))
+
+  pub recovery-keeps : IsSound next new
+  recovery-keeps =
+      let config : new.config ≡ old.config = step.config in
+      record {
+        config = rw config sound.config;
+        members = rw config (step.size ∙ sound.members);
+        down = λ m down. never_both new.down m down (nobody m);
+        lawful = rw config (cut-lawful next old sound new.trace step.trace).0;
+        room = rw config (omega (arith, shorter, sound.room));
+        causes = rw config (recovery_keeps old.config.members old.config.f (knowledge old) (knowledge new) recovery-knowledge sound.causes);
+        folds = λ m below up. folds-after m (rw config at below);
+        blanks = λ m below down. never_both new.down m down (nobody m);
+        notes = note-flies;
+        counted = omega (arith, step.undone_ever, sound.counted, step.receipts_ever);
+      }
+
+pub group_recovery_keeps : GroupRecoveryKeeps
+group_recovery_keeps = recovery-keeps

@@ -1,0 +1,220 @@
+-- A group in which nothing is received yet is sound.
+use Rattle.std.proofs.Common.{◌≡◌, ℕ, zero, suc, ◌+◌, ◌<◌, ◌≤◌, ◌==◌, ◌&&◌, not, Bool, true, false, cond, List, [], ◌∷◌, ◌++◌, length, map, inl, inr, Option, Some, None, slice_get, get_or, replicate, refl, sym, ap, ◌∙◌, arith, append_assoc, append-nil, length-append, if◌then◌else◌}
+use Rattle.std.specs.List.{Contains, filter, filter_map, cons_option, list_any}
+use Rattle.std.specs.Ordering.{nat_cmp}
+use Rattle.std.specs.FinSet as sets
+use Rattle.std.proofs.lemmas.Bool.{cases_lt}
+use Rattle.std.proofs.lemmas.Bool.Decides.{nat_tests}
+use Rattle.std.proofs.lemmas.List.{length-map, map-append, take_all}
+use Rattle.std.proofs.lemmas.List.Elements.{filter_map-append}
+use Rattle.fbl_base.specs.declared.trace.Note.{Note}
+use Rattle.fbl_base.specs.declared.trace.Start.{Start}
+use Rattle.fbl_base.specs.declared.trace.Determinant.{Determinant}
+use Rattle.fbl_base.specs.declared.trace.Event.{Event}
+use Rattle.fbl_base.specs.declared.trace.Event.TheVariants as event
+use Rattle.fbl_base.specs.declared.trace.Mark.{Mark}
+use Rattle.fbl_base.specs.declared.trace.Mark.TheVariants.{Send, Receipt}
+use Rattle.fbl_base.specs.Configs.{Settings, IsConfig, StartAllowed}
+use Rattle.fbl_base.specs.Events.{At, mark_of, determinant_of, receipt_of}
+use Rattle.fbl_base.specs.Precedence.{Has}
+use Rattle.fbl_base.specs.Rules.{sent_on, taken_on, in_flight, sends_of, WellFormed, MayFollow}
+use Rattle.fbl_base.specs.Fold.{Next, Lawful, sent, action_of, actions_of, notes_of, start_of, starts_of, responses}
+use Rattle.fbl_base.proofs.RulesLaws.{WellFormed-none, WellFormed-push}
+use Rattle.fbl_base.proofs.LawfulLaws.{notes_of-sent}
+use Rattle.fbl_member.specs.Members.{Message, MemberRecord, blank}
+use Rattle.fbl_law.specs.Record.{table, send_mark, IsUp, MatchesTrace}
+use Rattle.fbl_law.specs.Run.{IsStart, starts}
+use Rattle.fbl_law.specs.Steps.{is_on}
+use Rattle.fbl_law.specs.Groups.{GroupRecord, knowledge, receipts}
+use Rattle.fbl_law.specs.Sound.{IsFold, IsSound, received_notes}
+use Rattle.fbl_law.specs.GroupSteps.{IsGroupStart, start_events, message_of}
+use Rattle.fbl_law.specs.GroupLaws.{GroupStartIsSound}
+use Rattle.fbl_law.proofs.Lists.{Contains-cons_cases, Contains-none}
+use Rattle.fbl_law.proofs.Safe.{never_both}
+use Rattle.fbl_law.proofs.Run.{run_is_sound}
+use Rattle.fbl_law.proofs.Grown.{note_of-at}
+use Rattle.fbl_law.proofs.GroupFacts.{table_member, channel_flight}
+
+-- the send of a start after the events so far
+abbrev send_of : List Event → Start → Event
+send_of done s = event.Send s.from (sends_of (map mark_of done) s.from + 1) s.to s.note
+
+-- what a map that drops receipts gives of the starts' events
+starts_given : {Y : Type 0} (g : Event → Option Y) (h : Start → Option Y) → ((s : Start) (k : ℕ) → g (event.Send s.from k s.to s.note) ≡ h s) → (done : List Event) (ss : List Start) → filter_map g (start_events done ss) ≡ filter_map g done ++ filter_map h ss
+starts_given g h is done [] = sym (append-nil (filter_map g done))
+starts_given g h is done (s ∷ ss) =
+    starts_given g h is (done ++ send_of done s ∷ []) ss
+    ∙ ap (λ ys. ys ++ filter_map h ss) (filter_map-append g done (send_of done s ∷ []) ∙ ap (λ o. filter_map g done ++ cons_option o []) (is s (sends_of (map mark_of done) s.from + 1)))
+    ∙ append_assoc (filter_map g done) (cons_option (h s) []) (filter_map h ss)
+    ∙ ap (λ ys. filter_map g done ++ ys) (joined (h s) (filter_map h ss))
+  where
+    joined : {Z : Type 0} (o : Option Z) (ys : List Z) → cons_option o [] ++ ys ≡ cons_option o ys
+    joined None ys = refl
+    joined (Some z) ys = refl
+
+filter_map-all : (ss : List Start) → filter_map (λ s. Some s) ss ≡ ss
+filter_map-all [] = refl
+filter_map-all (s ∷ ss) = ap (λ ys. s ∷ ys) (filter_map-all ss)
+
+filter_map-none : {Y : Type 0} (ss : List Start) → filter_map {X = Start} {Y = Y} (λ s. None) ss ≡ []
+filter_map-none [] = refl
+filter_map-none (s ∷ ss) = filter_map-none ss
+
+length-starts : (done : List Event) (ss : List Start) → length (start_events done ss) ≡ length done + length ss
+length-starts done [] = omega arith
+length-starts done (s ∷ ss) = omega (arith, length-starts (done ++ send_of done s ∷ []) ss, length-append done (send_of done s ∷ []))
+
+-- the starts obey the rules
+starts_obey : (n : ℕ) (done : List Event) (ss : List Start) → WellFormed n (map mark_of done) → ((i : ℕ) (s : Start) → slice_get ss i ≡ Some s → StartAllowed n s) → length done + length ss ≤ 8192 → WellFormed n (map mark_of (start_events done ss))
+starts_obey n done [] obeys allowed room = obeys
+starts_obey n done (s ∷ ss) obeys allowed room =
+    let here = allowed 0 s refl in
+    let e : Mark = Send s.from (sends_of (map mark_of done) s.from + 1) s.to in
+    let may : MayFollow n (map mark_of done) e = (here.0, here.1, here.2, refl, omega (arith, length-map done mark_of, room)) in
+    let more : WellFormed n (map mark_of (done ++ send_of done s ∷ [])) = rw (map-append mark_of done (send_of done s ∷ [])) (WellFormed-push n (map mark_of done) e obeys may) in
+    starts_obey n (done ++ send_of done s ∷ []) ss more (λ i x at. allowed (suc i) x at) (omega (arith, length-append done (send_of done s ∷ []), room))
+
+-- what nothing is taken of is all in flight
+none_dropped : (ks : List ℕ) → filter (λ ssn. not (list_any (λ taken. taken == ssn) [])) ks ≡ ks
+none_dropped [] = refl
+none_dropped (k ∷ ks) = ap (λ ys. k ∷ ys) (none_dropped ks)
+
+no_receipt : (t : List Mark) → filter_map determinant_of t ≡ [] → (d : Determinant) → ¬ (Has t (receipt_of d))
+no_receipt t none d has = at t none has.0 has.1 where
+  at : (u : List Mark) → filter_map determinant_of u ≡ [] → (i : ℕ) → At u i (receipt_of d) → ⊥
+  at [] e i here = cc
+  at (Send from ssn to ∷ u) e zero here = cc
+  at (Send from ssn to ∷ u) e (suc i) here = at u e i here
+  at (Receipt to rsn from ssn ∷ u) e i here = cc
+
+none_taken : (q p : ℕ) (t : List Mark) → filter_map determinant_of t ≡ [] → filter_map (taken_on q p) t ≡ []
+none_taken q p [] e = refl
+none_taken q p (Send from ssn to ∷ t) e = none_taken q p t e
+none_taken q p (Receipt to rsn from ssn ∷ t) e = cc
+
+-- the messages of the sends on a channel, by their marks
+marks_between : (q p : ℕ) (t : List Event) → map send_mark (filter (is_on q p) (filter_map message_of t)) ≡ map (λ ssn. Send q ssn p) (filter_map (sent_on q p) (map mark_of t))
+marks_between q p [] = refl
+marks_between q p (event.Receipt to rsn from ssn ∷ t) = marks_between q p t
+marks_between q p (event.Send from ssn to note ∷ t) = at (from == q) (to == p) refl refl (marks_between q p t) where
+  message : Message
+  message = record { from = from; to = to; ssn = ssn; note = note; carried = [] }
+
+  at : (a b : Bool) → (from == q) ≡ a → (to == p) ≡ b → map send_mark (filter (is_on q p) (filter_map message_of t)) ≡ map (λ ssn. Send q ssn p) (filter_map (sent_on q p) (map mark_of t))
+      → map send_mark (cond (a && b) (message ∷ filter (is_on q p) (filter_map message_of t)) (filter (is_on q p) (filter_map message_of t))) ≡ map (λ ssn. Send q ssn p) (cons_option (cond (a && b) (Some ssn) None) (filter_map (sent_on q p) (map mark_of t)))
+  at true true ea eb ih =
+      let e1 : from ≡ q = grind (arith, nat_tests) in
+      let e2 : to ≡ p = grind (arith, nat_tests) in
+      let here : Send from ssn to ≡ Send q ssn p = cc in
+      cc
+  at true false ea eb ih = ih
+  at false b ea eb ih = ih
+
+-- each message of the sends is sent, and carries nothing
+message_sent : (t : List Event) (v : Message) → Contains (filter_map message_of t) v → (v.carried ≡ []) × ((i : ℕ) × (slice_get t i ≡ Some (event.Send v.from v.ssn v.to v.note)))
+message_sent [] v among = absurd (Contains-none v among)
+message_sent (event.Receipt to rsn from ssn ∷ t) v among = let r = message_sent t v among in (r.0, (suc r.1.0, r.1.1))
+message_sent (event.Send from ssn to note ∷ t) v among = elim (Contains-cons_cases _ (filter_map message_of t) v among) [
+  | inl first ↦ (sym (ap (λ (x : Message). x.carried) first), (0, ap (λ (x : Message). Some (event.Send x.from x.ssn x.to x.note)) first))
+  | inr later ↦ let r = message_sent t v later in (r.0, (suc r.1.0, r.1.1))
+]
+
+sends_of_one : (m : ℕ) (ss : List Start) → filter_map (λ s. if s.from == m then Some (sent (s.to, s.note)) else None) ss ≡ map sent (starts_of m ss)
+sends_of_one m [] = refl
+sends_of_one m (s ∷ ss) = at (s.from == m) (sends_of_one m ss) where
+  at : (b : Bool) → filter_map (λ s. if s.from == m then Some (sent (s.to, s.note)) else None) ss ≡ map sent (starts_of m ss) → cons_option (cond b (Some (sent (s.to, s.note))) None) (filter_map (λ s. if s.from == m then Some (sent (s.to, s.note)) else None) ss) ≡ map sent (cons_option (cond b (Some (s.to, s.note)) None) (starts_of m ss))
+  at true ih = ap (λ ys. sent (s.to, s.note) ∷ ys) ih
+  at false ih = ih
+
+no_member : (ms : List MemberRecord) (m : ℕ) → length ms ≤ m → get_or ms m blank ≡ blank
+no_member [] m beyond = refl
+no_member (x ∷ ms) zero beyond = absurd (omega arith)
+no_member (x ∷ ms) (suc m) beyond = no_member ms m (omega arith)
+
+zeros : (k q : ℕ) → ◌≡◌ {A = ℕ} (get_or {A = ℕ} (replicate k 0) q 0) 0
+zeros zero q = refl
+zeros (suc k) zero = refl
+zeros (suc k) (suc q) = zeros k q
+
+module _ (next : Next) (config : Settings) (r : GroupRecord) (is : IsConfig config) (s : IsGroupStart config r) where
+  abbrev n : ℕ
+  n = config.members
+
+  abbrev events : List Event
+  events = start_events [] config.starts
+
+  up : (m : ℕ) → IsUp (knowledge r) m
+  up m = rw s.nobody_down (sets.contains-empty nat_cmp m)
+
+  obeys : WellFormed n (map mark_of events)
+  obeys = starts_obey n [] config.starts (WellFormed-none n) is.starts (omega (arith, is.few_starts))
+
+  acted : (m : ℕ) → actions_of events m ≡ map sent (starts_of m config.starts)
+  acted m = starts_given (action_of events m) (λ s. if s.from == m then Some (sent (s.to, s.note)) else None) (λ s k. refl) [] config.starts ∙ sends_of_one m config.starts
+
+  no_notes : (m : ℕ) → received_notes events m ≡ []
+  no_notes m = ap notes_of (acted m) ∙ notes_of-sent (starts_of m config.starts)
+
+  is_lawful : Lawful next n config.starts events
+  is_lawful = record {
+    well_formed = obeys;
+    starts_first =
+        ap (filter_map start_of) (take_all (length config.starts) events (omega (arith, length-starts [] config.starts)))
+        ∙ starts_given start_of (λ s. Some s) (λ s k. refl) [] config.starts ∙ filter_map-all config.starts;
+    responds = λ m. acted m ∙ sym (append-nil (map sent (starts_of m config.starts))) ∙ ap (λ (notes : List Note). map sent (starts_of m config.starts) ++ responses next m n 0 notes) (sym (no_notes m));
+  }
+
+  unreceived : receipts (map mark_of events) ≡ []
+  unreceived = mapped events ∙ starts_given (λ e. determinant_of (mark_of e)) (λ s. None) (λ s k. refl) [] config.starts ∙ filter_map-none config.starts where
+    mapped : (t : List Event) → filter_map determinant_of (map mark_of t) ≡ filter_map (λ e. determinant_of (mark_of e)) t
+    mapped [] = refl
+    mapped (e ∷ t) = ap (λ ys. cons_option (determinant_of (mark_of e)) ys) (mapped t)
+
+  no_table : (m : ℕ) → table (knowledge r) m ≡ []
+  no_table m = table_member r m ∙ elim (cases_lt m n) [
+    | inl below ↦ ap (λ (x : MemberRecord). x.table) (s.members m below)
+    | inr above ↦ ap (λ (x : MemberRecord). x.table) (no_member r.members m (omega (arith, above, s.size)))
+  ]
+
+  matches : (q p : ℕ) → MatchesTrace (knowledge r) q p
+  matches q p =
+      let flying : in_flight (map mark_of events) q p ≡ filter_map (sent_on q p) (map mark_of events) =
+      ap (λ (ks : List ℕ). filter (λ ssn. not (list_any (λ taken. taken == ssn) ks)) (filter_map (sent_on q p) (map mark_of events))) (none_taken q p (map mark_of events) unreceived)
+      ∙ none_dropped (filter_map (sent_on q p) (map mark_of events)) in
+      rw (s.flight, s.trace, flying) (marks_between q p events)
+
+  is_start : IsStart n (knowledge r)
+  is_start = record {
+    rules = rw s.trace obeys;
+    nobody_down = s.nobody_down;
+    unreceived = rw s.trace (no_receipt (map mark_of events) unreceived);
+    tables = no_table;
+    channels = matches;
+    messages = λ v flies. (message_sent r.trace v (rw s.flight at (channel_flight r v.from v.to v flies).0)).0;
+  }
+
+  fold_now : (m : ℕ) → m < n → IsFold next r m
+  fold_now m below = record {
+    progress = rw (s.members m below, s.parameters, s.trace, no_notes m) refl;
+    places = rw (s.members m below) refl;
+    last = λ q below_q. rw (s.members m below, s.trace, none_taken q m (map mark_of events) unreceived) (zeros 16 q);
+  }
+
+  IsSound-started : IsSound next r
+  IsSound-started = record {
+    config = rw s.parameters is;
+    members = s.size ∙ sym (ap (λ (c : Settings). c.members) s.parameters);
+    down = λ q down. never_both r.down q down (up q);
+    lawful = rw (s.parameters, s.trace) is_lawful;
+    room = rw (s.parameters, s.trace) omega (arith, length-starts [] config.starts, is.room);
+    causes = rw s.parameters (run_is_sound n config.f (knowledge r) (knowledge r) is_start starts);
+    folds = λ m below up_m. fold_now m (rw s.parameters at below);
+    blanks = λ m below down. never_both r.down m down (up m);
+    notes = λ v flying.
+        let sent_at = (message_sent r.trace v (rw s.flight at flying)).1 in
+        note_of-at n r.trace sent_at.0 v.from v.ssn v.to v.note (rw s.trace obeys) sent_at.1;
+    counted = rw (s.undone_ever, s.receipts_ever, s.trace, unreceived) refl;
+  }
+
+pub group_start_is_sound : GroupStartIsSound
+group_start_is_sound next config r is s = IsSound-started next config r is s

@@ -1,0 +1,388 @@
+-- What is left of a lawful trace is lawful.
+use Rattle.std.proofs.Common.{◌≡◌, ℕ, zero, suc, ◌<◌, ◌≤◌, ◌==◌, ◌&&◌, inl, inr, Bool, true, false, cond, List, [], ◌∷◌, ◌++◌, length, take, drop, map, Option, Some, None, option_map, slice_get, refl, sym, ap, ◌∙◌, arith, append_assoc, length-take}
+use Rattle.std.specs.List.{filter, filter_map, cons_option}
+use Rattle.std.proofs.lemmas.Bool.{cases_lt}
+use Rattle.std.proofs.lemmas.Bool.Decides.{nat_tests}
+use Rattle.std.proofs.lemmas.List.{take-append-le, take-append-drop, map-append}
+use Rattle.std.proofs.lemmas.List.Elements.{filter-append}
+use Rattle.std.proofs.lemmas.Option.{slice_get-map}
+use Rattle.fbl_base.specs.declared.trace.Note.{Note}
+use Rattle.fbl_base.specs.declared.trace.Start.{Start}
+use Rattle.fbl_base.specs.declared.trace.Determinant.{Determinant}
+use Rattle.fbl_base.specs.declared.trace.Event.{Event}
+use Rattle.fbl_base.specs.declared.trace.Event.TheVariants.{Send, Receipt}
+use Rattle.fbl_base.specs.declared.trace.Mark.{Mark}
+use Rattle.fbl_base.specs.declared.trace.Mark.TheVariants as mark
+use Rattle.fbl_base.specs.Events.{At, mark_of, member_of}
+use Rattle.fbl_base.specs.Precedence.{Has, Earlier}
+use Rattle.fbl_base.specs.Rules.{is_send_of, sends_of, WellFormed}
+use Rattle.fbl_base.specs.Events.{receipt_of}
+use Rattle.fbl_base.specs.Fold.{Next, Action, took, sent, action_of, actions_of, notes_of, note_of, responses, start_of, starts_of, Lawful}
+use Rattle.fbl_base.proofs.Gets.{At-front, At-below, slice_get-take}
+use Rattle.fbl_base.proofs.RulesLaws.{count_at, eqb-self, in_flight-sent}
+use Rattle.fbl_base.proofs.LawfulLaws.{receipts-noted, notes_of-sent, notes_of-append, Lawful-begun}
+use Rattle.fbl_law.proofs.Lists.{At-append}
+use Rattle.fbl_law.proofs.Appended.{once, Has-append}
+use Rattle.fbl_law.proofs.Cut.{KeepsCauses, WellFormed-kept, At-seam}
+
+-- an action, and whether it is kept
+abbrev Flagged : Type 0
+Flagged = Bool × Action
+
+abbrev flags : List Flagged → List Action
+flags fs = map (λ (x : Flagged). x.1) fs
+
+abbrev kept : List Flagged → List Action
+kept fs = flags (filter (λ (x : Flagged). x.0) fs)
+
+-- actions are kept up to a note that isn't taken in, and none from there on
+abbrev Orderly : Bool → List Flagged → Type 0
+Orderly alive [] = Unit {0}
+Orderly alive ((b, sent s) ∷ fs) = (b ≡ alive) × Orderly alive fs
+Orderly alive ((b, took note) ∷ fs) = (b ≡ true → alive ≡ true) × Orderly b fs
+
+none_kept : (fs : List Flagged) → Orderly false fs → kept fs ≡ []
+none_kept [] o = refl
+none_kept ((b, sent s) ∷ fs) o = rw o.0 (none_kept fs o.1)
+none_kept ((true, took note) ∷ fs) o = absurd (let bad = o.0 refl in cc)
+none_kept ((false, took note) ∷ fs) o = none_kept fs o.1
+
+-- sends that come next are kept
+sends_kept : (fs : List Flagged) (sends : List (ℕ × Note)) (rest : List Action) → Orderly true fs → flags fs ≡ map sent sends ++ rest
+    → (gs : List Flagged) × (flags gs ≡ rest) × Orderly true gs × (kept fs ≡ map sent sends ++ kept gs)
+sends_kept fs [] rest o is = (fs, is, o, refl)
+sends_kept [] (s ∷ sends) rest o is = absurd cc
+sends_kept ((b, took note) ∷ fs) (s ∷ sends) rest o is = absurd (let bad : took note ≡ sent s = cc in cc)
+sends_kept ((b, sent x) ∷ fs) (s ∷ sends) rest o is =
+    let same : sent x ≡ sent s = cc in
+    let r = sends_kept fs sends rest o.1 (cc) in
+    (r.0, r.1, r.2, rw (o.0, same) (ap (λ (ys : List Action). sent s ∷ ys) r.3))
+
+-- what is kept of a behaviour's responses are its responses to the first of the notes
+responses_kept : (next : Next) (p n state : ℕ) (notes : List Note) (fs : List Flagged) → Orderly true fs → flags fs ≡ responses next p n state notes → (some : List Note) × (kept fs ≡ responses next p n state some)
+responses_kept next p n state [] [] o is = ([], refl)
+responses_kept next p n state [] (x ∷ fs) o is = absurd cc
+responses_kept next p n state (note ∷ notes) [] o is = absurd cc
+responses_kept next p n state (note ∷ notes) ((b, sent s) ∷ fs) o is = absurd (let bad : sent s ≡ took note = cc in cc)
+responses_kept next p n state (note ∷ notes) ((false, took x) ∷ fs) o is = ([], none_kept fs o.1)
+responses_kept next p n state (note ∷ notes) ((true, took x) ∷ fs) o is =
+    let same : took x ≡ took note = cc in
+    let r = sends_kept fs (next p n state note).sends.items (responses next p n (next p n state note).state notes) o.1 (cc) in
+    let more = responses_kept next p n (next p n state note).state notes r.0 r.2 r.1 in
+    (note ∷ more.0, rw (same, r.3, more.1) refl)
+
+notes_of-responses : (next : Next) (p n state : ℕ) (notes : List Note) → notes_of (responses next p n state notes) ≡ notes
+notes_of-responses next p n state [] = refl
+notes_of-responses next p n state (note ∷ notes) =
+    let sends = (next p n state note).sends.items in
+    let rest = responses next p n (next p n state note).state notes in
+    ap (λ (ys : List Note). note ∷ ys) (notes_of-append (map sent sends) rest ∙ ap (λ (ys : List Note). ys ++ notes_of rest) (notes_of-sent sends) ∙ notes_of-responses next p n (next p n state note).state notes)
+
+-- so a member's kept actions are those of a run
+responds_kept : (next : Next) (p n : ℕ) (sends : List (ℕ × Note)) (notes : List Note) (fs : List Flagged) → Orderly true fs → flags fs ≡ map sent sends ++ responses next p n 0 notes → kept fs ≡ map sent sends ++ responses next p n 0 (notes_of (kept fs))
+responds_kept next p n sends notes fs o is =
+    let r = sends_kept fs sends (responses next p n 0 notes) o is in
+    let some = responses_kept next p n 0 notes r.0 r.2 r.1 in
+    let all : kept fs ≡ map sent sends ++ responses next p n 0 some.0 = r.3 ∙ ap (λ (ys : List Action). map sent sends ++ ys) some.1 in
+    let taken : notes_of (kept fs) ≡ some.0 = ap notes_of all ∙ notes_of-append (map sent sends) (responses next p n 0 some.0) ∙ ap (λ (ys : List Note). ys ++ notes_of (responses next p n 0 some.0)) (notes_of-sent sends) ∙ notes_of-responses next p n 0 some.0 in
+    rw taken all
+
+-- a send is kept where each receipt of its member that comes before it is
+abbrev pub KeepsResponses : (Mark → Bool) → List Mark → Type 0
+KeepsResponses keep t =
+    (e : Mark) → Has t e → ((d : Determinant) → ¬ (e ≡ receipt_of d)) → ((d : Determinant) → d.to ≡ member_of e → Earlier t (receipt_of d) e → keep (receipt_of d) ≡ true) → keep e ≡ true
+
+-- the two ways to leave events out
+pub marks-filter : (keep : Mark → Bool) (t : List Event) → map mark_of (filter (λ e. keep (mark_of e)) t) ≡ filter keep (map mark_of t)
+marks-filter keep [] = refl
+marks-filter keep (x ∷ t) = at (keep (mark_of x)) (marks-filter keep t) where
+  at : (b : Bool) → map mark_of (filter (λ e. keep (mark_of e)) t) ≡ filter keep (map mark_of t) → map mark_of (cond b (x ∷ filter (λ e. keep (mark_of e)) t) (filter (λ e. keep (mark_of e)) t)) ≡ cond b (mark_of x ∷ filter keep (map mark_of t)) (filter keep (map mark_of t))
+  at true ih = ap (λ (ys : List Mark). mark_of x ∷ ys) ih
+  at false ih = ih
+
+-- a message's note stays where its send is kept
+note_of-kept : (keep : Mark → Bool) (t : List Event) (from ssn : ℕ) → ((to : ℕ) → Has (map mark_of t) (mark.Send from ssn to) → keep (mark.Send from ssn to) ≡ true) → note_of (filter (λ e. keep (mark_of e)) t) from ssn ≡ note_of t from ssn
+note_of-kept keep [] from ssn sends = refl
+note_of-kept keep (Receipt to rsn q k ∷ t) from ssn sends = at (keep (mark.Receipt to rsn q k)) (note_of-kept keep t from ssn (λ to' h. sends to' (suc h.0, h.1))) where
+  at : (b : Bool) → note_of (filter (λ e. keep (mark_of e)) t) from ssn ≡ note_of t from ssn → note_of (cond b (Receipt to rsn q k ∷ filter (λ e. keep (mark_of e)) t) (filter (λ e. keep (mark_of e)) t)) from ssn ≡ note_of t from ssn
+  at true ih = ih
+  at false ih = ih
+note_of-kept keep (Send q k to x ∷ t) from ssn sends = at (keep (mark.Send q k to)) (q == from) (k == ssn) refl refl refl (note_of-kept keep t from ssn (λ to' h. sends to' (suc h.0, h.1))) where
+  at : (b c d : Bool) → keep (mark.Send q k to) ≡ b → (q == from) ≡ c → (k == ssn) ≡ d → note_of (filter (λ e. keep (mark_of e)) t) from ssn ≡ note_of t from ssn → note_of (cond b (Send q k to x ∷ filter (λ e. keep (mark_of e)) t) (filter (λ e. keep (mark_of e)) t)) from ssn ≡ cond (c && d) (Some x) (note_of t from ssn)
+  at true true true eb ec ed ih = rw (ec, ed) refl
+  at true true false eb ec ed ih = rw (ec, ed) ih
+  at true false d eb ec ed ih = rw ec ih
+  at false true true eb ec ed ih =
+      let e1 : q ≡ from = grind (arith, nat_tests) in
+      let e2 : k ≡ ssn = grind (arith, nat_tests) in
+      absurd (let yes' : keep (mark.Send from ssn to) ≡ true = sends to (0, (rw (e1, e2) refl)) in cc)
+  at false true false eb ec ed ih = ih
+  at false false d eb ec ed ih = ih
+
+take_shorter : {X : Type 0} (xs : List X) (i j : ℕ) → i ≤ j → take i (take j xs) ≡ take i xs
+take_shorter xs zero j below = refl
+take_shorter xs (suc i) zero below = absurd (omega arith)
+take_shorter [] (suc i) (suc j) below = refl
+take_shorter (x ∷ xs) (suc i) (suc j) below = ap (λ ys. x ∷ ys) (take_shorter xs i j (omega arith))
+
+-- a sender's number names one message
+send_once : (n : ℕ) (t : List Mark) (q s p p' : ℕ) → WellFormed n t → Has t (mark.Send q s p) → Has t (mark.Send q s p') → p ≡ p'
+send_once n t q s p p' obeys a b =
+    elim (cases_lt a.0 b.0) [
+      | inl below ↦ absurd (apart a.0 b.0 p p' a.1 b.1 below)
+      | inr above ↦ elim (cases_lt b.0 a.0) [
+        | inl below ↦ absurd (apart b.0 a.0 p' p b.1 a.1 below)
+        | inr same ↦ (let e : a.0 ≡ b.0 = omega (arith, above, same) in let h : At t b.0 (mark.Send q s p) = (rw e at a.1) in let g = b.1 in cc)
+      ]
+    ]
+  where
+    apart : (i j x y : ℕ) → At t i (mark.Send q s x) → At t j (mark.Send q s y) → i < j → ⊥
+    apart i j x y here there below =
+        let first = obeys i (mark.Send q s x) here in
+        let second = obeys j (mark.Send q s y) there in
+        let more = count_at (is_send_of q) (take j t) i (mark.Send q s x) (slice_get-take t j i (mark.Send q s x) below here) (eqb-self q) in
+        let fewer : take i (take j t) ≡ take i t = take_shorter t i j (omega arith) in
+        omega (arith, first.3, second.3, more, ap (λ (u : List Mark). sends_of u q) fewer)
+
+seam : {X : Type 0} (xs : List X) (y : X) (ys : List X) → slice_get (xs ++ y ∷ ys) (length xs) ≡ Some y
+seam [] y ys = refl
+seam (x ∷ xs) y ys = seam xs y ys
+
+only : (x y : Mark) → Has (x ∷ []) y → x ≡ y
+only x y h = at h.0 h.1 where
+  at : (i : ℕ) → At (x ∷ []) i y → x ≡ y
+  at zero here = cc
+  at (suc i) here = cc
+
+last : (u : List Event) (e : Event) → Has (map mark_of (u ++ e ∷ [])) (mark_of e)
+last u e = rw map-append (length (map mark_of u), At-seam (map mark_of u) (mark_of e) [])
+
+more : (u : List Event) (e : Event) (x : Mark) → Has (map mark_of u) x → Has (map mark_of (u ++ e ∷ [])) x
+more u e x h = rw map-append (h.0, At-front (map mark_of u) (mark_of e ∷ []) h.0 x h.1)
+
+module _ (n : ℕ) (keep : Mark → Bool) (t : List Event) (obeys : WellFormed n (map mark_of t)) (causes : KeepsCauses keep (map mark_of t)) (follow : KeepsResponses keep (map mark_of t)) (p : ℕ) where
+  abbrev M : List Mark
+  M = map mark_of t
+
+  abbrev keeps : Event → Bool
+  keeps e = keep (mark_of e)
+
+  abbrev flag : Event → Option Flagged
+  flag e = option_map (λ (a : Action). (keeps e, a)) (action_of t p e)
+
+  abbrev flagged : List Event → List Flagged
+  flagged u = filter_map flag u
+
+  flags-flagged : (u : List Event) → flags (flagged u) ≡ filter_map (action_of t p) u
+  flags-flagged [] = refl
+  flags-flagged (e ∷ u) = at (action_of t p e) (flags-flagged u) where
+    at : (o : Option Action) → flags (flagged u) ≡ filter_map (action_of t p) u → flags (cons_option (option_map (λ (a : Action). (keeps e, a)) o) (flagged u)) ≡ cons_option o (filter_map (action_of t p) u)
+    at None ih = ih
+    at (Some a) ih = ap (λ (ys : List Action). a ∷ ys) ih
+
+  kept-flagged : (u : List Event) → kept (flagged u) ≡ filter_map (action_of t p) (filter keeps u)
+  kept-flagged [] = refl
+  kept-flagged (e ∷ u) = at (action_of t p e) (keeps e) refl refl (kept-flagged u) where
+    at : (o : Option Action) (b : Bool) → action_of t p e ≡ o → keeps e ≡ b → kept (flagged u) ≡ filter_map (action_of t p) (filter keeps u)
+        → kept (cons_option (option_map (λ (a : Action). (keeps e, a)) (action_of t p e)) (flagged u)) ≡ filter_map (action_of t p) (cond (keeps e) (e ∷ filter keeps u) (filter keeps u))
+    at None true eo eb ih = rw (eb, eo) ih
+    at None false eo eb ih = rw (eb, eo) ih
+    at (Some a) true eo eb ih = rw (eb, eo) (ap (λ (ys : List Action). a ∷ ys) ih)
+    at (Some a) false eo eb ih = rw (eb, eo) ih
+
+  -- the state of a member after the events u: whether its receipts so far are kept
+  abbrev Alive : Bool → List Event → Type 0
+  Alive b u =
+      (b ≡ true → (d : Determinant) → d.to ≡ p → Has (map mark_of u) (receipt_of d) → keep (receipt_of d) ≡ true)
+      × (b ≡ false → (x : Mark) × Has (map mark_of u) x × (member_of x ≡ p) × (keep x ≡ false))
+
+  split : (u : List Event) (e : Event) (rest : List Event) → t ≡ u ++ e ∷ rest → M ≡ map mark_of u ++ mark_of e ∷ map mark_of rest
+  split u e rest is = ap (map mark_of) is ∙ map-append mark_of u (e ∷ rest)
+
+  Has-all : (u : List Event) (e : Event) (rest : List Event) → t ≡ u ++ e ∷ rest → Has M (mark_of e)
+  Has-all u e rest is = (length (map mark_of u), rw (split u e rest is) (At-seam (map mark_of u) (mark_of e) (map mark_of rest)))
+
+  earlier_of : (u : List Event) (e : Event) (rest : List Event) → t ≡ u ++ e ∷ rest → (x : Mark) → Has (map mark_of u) x → Earlier M x (mark_of e)
+  earlier_of u e rest is x h =
+      rw (split u e rest is) (h.0, length (map mark_of u), At-below (map mark_of u) h.0 x h.1, At-front (map mark_of u) (mark_of e ∷ map mark_of rest) h.0 x h.1, At-seam (map mark_of u) (mark_of e) (map mark_of rest))
+
+  earlier_back : (u : List Event) (e : Event) (rest : List Event) → t ≡ u ++ e ∷ rest → (x : Mark) → Earlier M x (mark_of e) → Has (map mark_of u) x
+  earlier_back u e rest is x h =
+      let here : At M (length (map mark_of u)) (mark_of e) = rw (split u e rest is) (At-seam (map mark_of u) (mark_of e) (map mark_of rest)) in
+      let there : At (map mark_of u ++ mark_of e ∷ map mark_of rest) h.0 x = rw (split u e rest is) at h.3 in
+      elim (cases_lt (length (map mark_of u)) h.1) [
+        | inl late ↦ absurd (once n M (mark_of e) (length (map mark_of u)) h.1 obeys here h.4 late)
+        | inr not_late ↦ elim (At-append (map mark_of u) (mark_of e ∷ map mark_of rest) h.0 x there) [
+          | inl old ↦ (h.0, old)
+          | inr new ↦ absurd (omega (arith, h.2, not_late, new.1))
+        ]
+      ]
+
+  -- where an earlier event of the member isn't kept, none is
+  dead : (u : List Event) (e : Event) (rest : List Event) → t ≡ u ++ e ∷ rest → member_of (mark_of e) ≡ p → Alive false u → keeps e ≡ false
+  dead u e rest is at_p state =
+      let gone = state.1 refl in
+      tells (keeps e) refl (λ yes'. let before = causes gone.0 (mark_of e) yes' (earlier_of u e rest is gone.0 gone.1, inl (gone.2 ∙ sym at_p)) in let not_kept = gone.3 in cc)
+    where
+      tells : (b : Bool) → keeps e ≡ b → (keeps e ≡ true → ⊥) → keeps e ≡ false
+      tells true is never = absurd (never is)
+      tells false is never = is
+
+  -- one more event that isn't a receipt of the member
+  same_state : (b : Bool) (u : List Event) (e : Event) → ((d : Determinant) → d.to ≡ p → ¬ (mark_of e ≡ receipt_of d)) → Alive b u → Alive b (u ++ e ∷ [])
+  same_state b u e other state = (
+    λ yes' d to has. elim (Has-append (map mark_of u) (mark_of e ∷ []) (receipt_of d) (rw map-append at has)) [
+      | inl old ↦ state.0 yes' d to old
+      | inr new ↦ absurd (other d to (only (mark_of e) (receipt_of d) new))
+    ],
+    λ no'. let gone = state.1 no' in (gone.0, more u e gone.0 gone.1, gone.2, gone.3),
+  )
+
+  -- one more receipt of the member
+  next_state : (b : Bool) (u : List Event) (e : Event) → member_of (mark_of e) ≡ p → (keeps e ≡ true → b ≡ true) → Alive b u → Alive (keeps e) (u ++ e ∷ [])
+  next_state b u e at_p alive state = (
+    λ yes' d to has. elim (Has-append (map mark_of u) (mark_of e ∷ []) (receipt_of d) (rw map-append at has)) [
+      | inl old ↦ state.0 (alive yes') d to old
+      | inr new ↦ let same = only (mark_of e) (receipt_of d) new in rw (← same) yes'
+    ],
+    λ no'. (mark_of e, last u e, at_p, no'),
+  )
+
+  -- a send of the member is kept where the receipts so far are
+  send_flag : (b : Bool) (u : List Event) (e : Event) (rest : List Event) → t ≡ u ++ e ∷ rest → member_of (mark_of e) ≡ p → ((d : Determinant) → ¬ (mark_of e ≡ receipt_of d)) → Alive b u → keeps e ≡ b
+  send_flag true u e rest is at_p no_receipt state = follow (mark_of e) (Has-all u e rest is) no_receipt (λ d to earlier. state.0 refl d (to ∙ at_p) (earlier_back u e rest is (receipt_of d) earlier))
+  send_flag false u e rest is at_p no_receipt state = dead u e rest is at_p state
+
+  receipt_flag : (b : Bool) (u : List Event) (e : Event) (rest : List Event) → t ≡ u ++ e ∷ rest → member_of (mark_of e) ≡ p → Alive b u → keeps e ≡ true → b ≡ true
+  receipt_flag true u e rest is at_p state yes' = refl
+  receipt_flag false u e rest is at_p state yes' = (let no' = dead u e rest is at_p state in absurd cc)
+
+  orderly_from : (b : Bool) (u rest : List Event) → t ≡ u ++ rest → Alive b u → Orderly b (flagged rest)
+  orderly_from b u [] is state = tt
+  orderly_from b u (Send q k to x ∷ rest) is state = at (q == p) refl (orderly_from b (u ++ Send q k to x ∷ []) rest (is ∙ sym (append_assoc u (Send q k to x ∷ []) rest)))
+    where
+      at : (c : Bool) → (q == p) ≡ c → (Alive b (u ++ Send q k to x ∷ []) → Orderly b (flagged rest)) → Orderly b (cons_option (option_map (λ (a : Action). (keep (mark.Send q k to), a)) (cond c (Some (sent (to, x))) None)) (flagged rest))
+      at true ec more =
+          let at_p : q ≡ p = grind (arith, nat_tests) in
+          (send_flag b u (Send q k to x) rest is at_p (λ d h. cc) state, more (same_state b u (Send q k to x) (λ d to' h. cc) state))
+      at false ec more = more (same_state b u (Send q k to x) (λ d to' h. cc) state)
+  orderly_from b u (Receipt to r q k ∷ rest) is state = at (to == p) refl (λ c. orderly_from c (u ++ Receipt to r q k ∷ []) rest (is ∙ sym (append_assoc u (Receipt to r q k ∷ []) rest)))
+    where
+      at : (c : Bool) → (to == p) ≡ c → ((v : Bool) → Alive v (u ++ Receipt to r q k ∷ []) → Orderly v (flagged rest)) → Orderly b (cons_option (option_map (λ (a : Action). (keep (mark.Receipt to r q k), a)) (action_of t p (Receipt to r q k))) (flagged rest))
+      at true ec more =
+          let at_p : to ≡ p = grind (arith, nat_tests) in
+          let here : slice_get t (length u) ≡ Some (Receipt to r q k) = rw is (seam u (Receipt to r q k) rest) in
+          let noted = receipts-noted n t obeys (length u) to r q k here in
+          let alive = receipt_flag b u (Receipt to r q k) rest is at_p state in
+          rw (ec, noted.1) (alive, more (keep (mark.Receipt to r q k)) (next_state b u (Receipt to r q k) at_p alive state))
+      at false ec more = rw ec (more b (same_state b u (Receipt to r q k) elsewhere state))
+        where
+          elsewhere : (d : Determinant) → d.to ≡ p → ¬ (mark.Receipt to r q k ≡ receipt_of d)
+          elsewhere d at_p same =
+              let e1 : to ≡ d.to = cc in
+              let e2 : to ≡ p = e1 ∙ at_p in
+              let e3 : (to == p) ≡ true = grind (arith, nat_tests) in
+              cc
+
+  orderly : Orderly true (flagged t)
+  orderly = orderly_from true [] t refl (λ yes' d to has. absurd (let here : At [] has.0 (receipt_of d) = has.1 in cc), λ no'. absurd cc)
+
+  -- the notes of kept receipts stay
+  same_notes : (u : List Event) → ((i to rsn from ssn : ℕ) → slice_get u i ≡ Some (Receipt to rsn from ssn) → keep (mark.Receipt to rsn from ssn) ≡ true → note_of (filter keeps t) from ssn ≡ note_of t from ssn)
+      → filter_map (action_of (filter keeps t) p) (filter keeps u) ≡ filter_map (action_of t p) (filter keeps u)
+  same_notes [] notes = refl
+  same_notes (Send q k to x ∷ u) notes = at (keep (mark.Send q k to)) (same_notes u (λ i. notes (suc i))) where
+    at : (b : Bool) → filter_map (action_of (filter keeps t) p) (filter keeps u) ≡ filter_map (action_of t p) (filter keeps u)
+        → filter_map (action_of (filter keeps t) p) (cond b (Send q k to x ∷ filter keeps u) (filter keeps u)) ≡ filter_map (action_of t p) (cond b (Send q k to x ∷ filter keeps u) (filter keeps u))
+    at true ih = ap (λ ys. cons_option (action_of t p (Send q k to x)) ys) ih
+    at false ih = ih
+  same_notes (Receipt to r q k ∷ u) notes = at (keep (mark.Receipt to r q k)) refl (same_notes u (λ i. notes (suc i))) where
+    at : (b : Bool) → keep (mark.Receipt to r q k) ≡ b → filter_map (action_of (filter keeps t) p) (filter keeps u) ≡ filter_map (action_of t p) (filter keeps u)
+        → filter_map (action_of (filter keeps t) p) (cond b (Receipt to r q k ∷ filter keeps u) (filter keeps u)) ≡ filter_map (action_of t p) (cond b (Receipt to r q k ∷ filter keeps u) (filter keeps u))
+    at true eb ih = let e = notes 0 to r q k refl eb in rw e (ap (λ ys. cons_option (action_of t p (Receipt to r q k)) ys) ih)
+    at false eb ih = ih
+
+  note_stays : (i to rsn from ssn : ℕ) → slice_get t i ≡ Some (Receipt to rsn from ssn) → keep (mark.Receipt to rsn from ssn) ≡ true → note_of (filter keeps t) from ssn ≡ note_of t from ssn
+  note_stays i to rsn from ssn here kept' =
+      let at_mark : At M i (mark.Receipt to rsn from ssn) = slice_get-map mark_of t i ∙ (rw here) in
+      let may = obeys i (mark.Receipt to rsn from ssn) at_mark in
+      let sent' = in_flight-sent (take i M) from ssn to may.5 in
+      let whole : At M sent'.0 (mark.Send from ssn to) = (rw take-append-drop at (At-front (take i M) (drop i M) sent'.0 (mark.Send from ssn to) sent'.1)) in
+      let below : sent'.0 < i = (let b = At-below (take i M) sent'.0 (mark.Send from ssn to) sent'.1 in omega (arith, b, length-take i M)) in
+      let send_kept : keep (mark.Send from ssn to) ≡ true = causes (mark.Send from ssn to) (mark.Receipt to rsn from ssn) kept' ((sent'.0, i, below, whole, at_mark), inr refl) in
+      note_of-kept keep t from ssn (λ to' has. let same : to ≡ to' = send_once n M from ssn to to' obeys (sent'.0, whole) has in rw (← same) send_kept)
+
+  pub responds_left : (next : Next) (starts : List Start) → actions_of t p ≡ map sent (starts_of p starts) ++ responses next p n 0 (notes_of (actions_of t p))
+      → actions_of (filter keeps t) p ≡ map sent (starts_of p starts) ++ responses next p n 0 (notes_of (actions_of (filter keeps t) p))
+  responds_left next starts was =
+      let all : actions_of (filter keeps t) p ≡ kept (flagged t) = same_notes t note_stays ∙ sym (kept-flagged t) in
+      rw all (responds_kept next p n (starts_of p starts) (notes_of (actions_of t p)) (flagged t) orderly (flags-flagged t ∙ was))
+
+-- the events of a list that are all kept
+filter_all : {X : Type 0} (K : X → Bool) (xs : List X) → ((i : ℕ) (x : X) → slice_get xs i ≡ Some x → K x ≡ true) → filter K xs ≡ xs
+filter_all K [] all = refl
+filter_all K (x ∷ xs) all = (let h : K x ≡ true = all 0 x refl in rw h (ap (λ ys. x ∷ ys) (filter_all K xs (λ i y at. all (suc i) y at))))
+
+shorter : (xs : List Event) → length (filter_map start_of xs) ≤ length xs
+shorter [] = omega arith
+shorter (Send q k to x ∷ xs) = omega (arith, shorter xs)
+shorter (Receipt to r q k ∷ xs) = omega (arith, shorter xs)
+
+-- where each event is a start, none is a receipt
+all_sends : (xs : List Event) → length xs ≤ length (filter_map start_of xs) → (i to r q k : ℕ) → ¬ (slice_get xs i ≡ Some (Receipt to r q k))
+all_sends [] whole i to r q k here = cc
+all_sends (Send q' k' to' x ∷ xs) whole zero to r q k here = cc
+all_sends (Send q' k' to' x ∷ xs) whole (suc i) to r q k here = all_sends xs (omega (arith, whole)) i to r q k here
+all_sends (Receipt to' r' q' k' ∷ xs) whole i to r q k here = omega (arith, whole, shorter xs)
+
+module _ (next : Next) (n : ℕ) (starts : List Start) (keep : Mark → Bool) (t : List Event) (lawful : Lawful next n starts t) (causes : KeepsCauses keep (map mark_of t)) (follow : KeepsResponses keep (map mark_of t)) where
+  abbrev first : List Event
+  first = take (length starts) t
+
+  in_trace : (i : ℕ) (e : Event) → slice_get first i ≡ Some e → slice_get t i ≡ Some e
+  in_trace i e here = (rw take-append-drop at (At-front first (drop (length starts) t) i e here))
+
+  no_receipt_first : (i to r q k : ℕ) → ¬ (slice_get first i ≡ Some (Receipt to r q k))
+  no_receipt_first = all_sends first (omega (arith, ap length lawful.starts_first, length-take (length starts) t))
+
+  starts_kept : (i : ℕ) (e : Event) → slice_get first i ≡ Some e → keep (mark_of e) ≡ true
+  starts_kept i (Receipt to r q k) here = absurd (no_receipt_first i to r q k here)
+  starts_kept i (Send q k to x) here = follow (mark.Send q k to) (i, at_mark) (λ d h. cc) (λ d to' earlier. absurd (before d earlier))
+    where
+      at_mark : At (map mark_of t) i (mark.Send q k to)
+      at_mark = slice_get-map mark_of t i ∙ (let e : slice_get t i ≡ Some (Send q k to x) = in_trace i (Send q k to x) here in rw e refl)
+
+      within : i < length starts
+      within = (let below = At-below first i (Send q k to x) here in omega (arith, below, length-take (length starts) t))
+
+      receipt_at : (d : Determinant) (j : ℕ) (o : Option Event) → j < length starts → slice_get t j ≡ o → option_map mark_of o ≡ Some (receipt_of d) → ⊥
+      receipt_at d j None below is h = cc
+      receipt_at d j (Some (Send q' k' to' x')) below is h = cc
+      receipt_at d j (Some (Receipt to' r' q' k')) below is h = no_receipt_first j to' r' q' k' (slice_get-take t (length starts) j (Receipt to' r' q' k') below is)
+
+      before : (d : Determinant) → Earlier (map mark_of t) (receipt_of d) (mark.Send q k to) → ⊥
+      before d earlier =
+          elim (cases_lt i earlier.1) [
+            | inl late ↦ once n (map mark_of t) (mark.Send q k to) i earlier.1 lawful.well_formed at_mark earlier.4 late
+            | inr not_late ↦ receipt_at d earlier.0 (slice_get t earlier.0) (omega (arith, earlier.2, not_late, within)) refl (sym (slice_get-map mark_of t earlier.0) ∙ earlier.3)
+          ]
+
+  abbrev keeps_event : Event → Bool
+  keeps_event e = keep (mark_of e)
+
+  begins : filter keeps_event t ≡ first ++ filter keeps_event (drop (length starts) t)
+  begins =
+      ap (filter keeps_event) (sym (take-append-drop (length starts) t)) ∙ filter-append keeps_event first (drop (length starts) t)
+      ∙ ap (λ (ys : List Event). ys ++ filter keeps_event (drop (length starts) t)) (filter_all keeps_event first starts_kept)
+
+  same_first : take (length starts) (filter keeps_event t) ≡ first
+  same_first =
+      let long : length starts ≤ length first = (let begun = Lawful-begun next n starts t lawful in omega (arith, begun, length-take (length starts) t)) in
+      ap (take (length starts)) begins ∙ take-append-le (length starts) first (filter keeps_event (drop (length starts) t)) long ∙ take_shorter t (length starts) (length starts) (omega arith)
+
+  pub Lawful-kept : Lawful next n starts (filter (λ e. keep (mark_of e)) t)
+  Lawful-kept = record {
+    well_formed = rw (marks-filter keep t) (WellFormed-kept n keep (map mark_of t) lawful.well_formed causes);
+    starts_first = rw same_first lawful.starts_first;
+    responds = λ p. responds_left n keep t lawful.well_formed causes follow p next starts (lawful.responds p);
+  }

@@ -1,0 +1,82 @@
+-- The headline.
+use Rattle.std.proofs.Common.{◌≡◌, ℕ, ◌<◌, inl, inr, arith, List}
+use Rattle.std.specs.FinSet as sets
+use Rattle.std.specs.Ordering.{nat_cmp}
+use Rattle.std.proofs.lemmas.Bool.{cases_lt}
+use Rattle.fbl_base.specs.declared.trace.Determinant.{Determinant}
+use Rattle.fbl_base.specs.declared.trace.Mark.{Mark}
+use Rattle.fbl_base.specs.declared.trace.Mark.TheVariants.{Receipt}
+use Rattle.fbl_base.specs.Events.{At, receipt_of}
+use Rattle.fbl_base.specs.Precedence.{Has, itself}
+use Rattle.fbl_base.specs.Rules.{is_receipt_of, WellFormed}
+use Rattle.fbl_base.proofs.Gets.{slice_get-take}
+use Rattle.fbl_base.proofs.RulesLaws.{count_at, eqb-self, WellFormed-take}
+use Rattle.fbl_law.specs.Record.{IsUp, Names, table, IsHolder}
+use Rattle.fbl_law.specs.Groups.{GroupRecord, member, marks, knowledge}
+use Rattle.fbl_law.specs.Headline.{IsHeldBy, EachReceiptIsHeld, SoundIsAlwaysHeld, SoundHasNoOrphan, NoSurvivorIsOrphan, SurvivorsHold, RecordedIsPrefix}
+use Rattle.fbl_law.proofs.Safe.{never_both, no_orphan, IsRecorded-before, IsRecorded-prefix}
+use Rattle.fbl_law.proofs.Decide.{IsAlwaysHeld-closed}
+use Rattle.fbl_law.proofs.Run.{strike_keeps}
+use Rattle.fbl_law.proofs.Survivors.{survivors_record}
+use Rattle.fbl_law.proofs.GroupFacts.{table_member, held-Names, named_received}
+use Rattle.fbl_law.proofs.GroupStrike.{is_struck}
+
+-- what a table names, the member holds
+pub is_held_by : (r : GroupRecord) (d : Determinant) (m : ℕ) → Names (table (knowledge r) m) d → IsHeldBy r d m
+is_held_by r d m named = held-Names (member r m).table d (rw (table_member r m) at named)
+
+pub sound_is_always_held : SoundIsAlwaysHeld
+sound_is_always_held next r sound = IsAlwaysHeld-closed r.config.f (knowledge r) sound.causes.closed
+
+pub sound_has_no_orphan : SoundHasNoOrphan
+sound_has_no_orphan next r m sound = no_orphan r.config.f (knowledge r) sound.causes.closed m
+
+pub each_receipt_is_held : EachReceiptIsHeld
+each_receipt_is_held next r d sound nobody there =
+    elim (sound_is_always_held next r sound d there) [
+      | inl stable ↦ inl (stable.0, stable.1, λ m among. holder m (stable.2 m among))
+      | inr held ↦ inr (λ m depends. is_held_by r d m (held m (up m) depends).1)
+    ]
+  where
+    up : (m : ℕ) → IsUp (knowledge r) m
+    up m = rw nobody (sets.contains-empty nat_cmp m)
+
+    holder : (m : ℕ) → IsHolder (knowledge r) d m → IsHeldBy r d m
+    holder m (inl holds) = is_held_by r d m holds.1
+    holder m (inr down) = never_both r.down m down.0 (rw nobody (sets.contains-empty nat_cmp m))
+
+pub no_survivor_is_orphan : NoSurvivorIsOrphan
+no_survivor_is_orphan next old new struck m sound s few =
+    let keeps = strike_keeps old.config.members old.config.f (knowledge old) (knowledge new) struck (is_struck next old new struck s sound) few sound.causes in
+    no_orphan old.config.f (knowledge new) keeps.closed m
+
+pub survivors_hold : SurvivorsHold
+survivors_hold next r struck m d sound few out depends =
+    let one = survivors_record r.config.members r.config.f (knowledge r) struck sound.causes few m d out depends in
+    (one.0, one.1, is_held_by r d one.0 one.2)
+
+-- the numbers of a member's receipts rise
+receipts_rise : (n : ℕ) (t : List Mark) (i j p a b q s q' s' : ℕ) → WellFormed n t → At t i (Receipt p a q s) → At t j (Receipt p b q' s') → i < j → a < b
+receipts_rise n t i j p a b q s q' s' obeys first second below =
+    let front : At _ i (Receipt p a q s) = slice_get-take t j i (Receipt p a q s) below first in
+    let number = WellFormed-take n j t obeys i (Receipt p a q s) front in
+    let later = obeys j (Receipt p b q' s') second in
+    omega (arith, number.3, later.3, count_at (is_receipt_of p) _ i (Receipt p a q s) front (eqb-self p))
+
+pub recorded_is_prefix : RecordedIsPrefix
+recorded_is_prefix next r c d sound there same before recorded =
+    let found : Has (marks r) (receipt_of d) = named_received next r sound recorded.0 d (rw (table_member r recorded.0) at recorded.1.1) in
+    elim (cases_lt there.0 found.0) [
+      | inl earlier ↦ IsRecorded-prefix r.config.f (knowledge r) sound.causes.closed c d same (there.0, found.0, earlier, there.1, found.1) recorded
+      | inr past ↦ elim (cases_lt found.0 there.0) [
+        | inl later ↦
+            let at_same : At (marks r) there.0 (Receipt d.to c.rsn c.from c.ssn) = rw (← same) there.1 in
+            let rises = receipts_rise r.config.members (marks r) found.0 there.0 d.to d.rsn c.rsn d.from d.ssn c.from c.ssn sound.lawful.well_formed found.1 at_same later in
+            absurd (omega (arith, rises, before))
+        | inr equal ↦
+            let place : there.0 ≡ found.0 = omega (arith, past, equal) in
+            let here : At (marks r) found.0 (receipt_of c) = rw (← place) there.1 in
+            let one : receipt_of c ≡ receipt_of d = (let e1 = here in let e2 = found.1 in cc) in
+            IsRecorded-before r.config.f (knowledge r) sound.causes.closed c d recorded (rw one (itself found))
+      ]
+    ]

@@ -1,0 +1,241 @@
+-- From the replay of the members that are down to a recovery.
+use Rattle.std.proofs.Common.{◌≡◌, ◌≢◌, ℕ, ◌+◌, ◌<◌, ◌≤◌, ◌==◌, ◌||◌, not, nat_le, ◌⊎◌, inl, inr, Bool, true, false, List, length, map, Some, refl, sym, subst, ap, ◌∙◌, arith}
+use Rattle.std.specs.Prelude.{slice_set, slice_index_or}
+use Rattle.std.specs.List.{filter}
+use Rattle.std.specs.FinSet as set
+use Rattle.std.proofs.lemmas.Bool.{cases_lt}
+use Rattle.std.proofs.lemmas.Bool.Decides.{nat_tests}
+use Rattle.std.proofs.lemmas.List.{length-set, get_or-set_same, get_or-set_other}
+use Rattle.fbl_base.specs.declared.trace.Determinant.{Determinant}
+use Rattle.fbl_base.specs.declared.trace.Note.{Note}
+use Rattle.fbl_base.specs.declared.trace.Event.{Event}
+use Rattle.fbl_base.specs.declared.trace.Mark.{Mark}
+use Rattle.fbl_base.specs.declared.trace.Mark.TheVariants.{Send, Receipt}
+use Rattle.fbl_base.specs.Events.{mark_of}
+use Rattle.fbl_base.specs.Fold.{Next, Lawful}
+use Rattle.fbl_table.specs.declared.entry.Entry.{Entry}
+use Rattle.fbl_table.specs.Tables.{found}
+use Rattle.fbl_member.specs.Members.{MemberRecord, blank, fresh, logged_note, replayed_by}
+use Rattle.fbl_law.specs.Record.{Members, IsUp, IsDown}
+use Rattle.fbl_law.specs.Steps.{Stays, IsEventCut}
+use Rattle.fbl_law.specs.Groups.{GroupRecord, member, knowledge, receipts}
+use Rattle.fbl_law.specs.Sound.{IsFold, IsSound}
+use Rattle.fbl_law.specs.GroupSteps.{IsRecovery, IsMadeAgain}
+use Rattle.fbl_law.specs.Replaying.{receipts_at, IsReplayed, IsNextReplay, is_of, gathered_table, recovered_trace, stays_by, resent_to, working, IsReplaying, IsWaiting, replayed_in, IsRebuilt}
+use Rattle.fbl_law.specs.RecoveryLaws.{ReplayIsRight, ReplayEnds, RebuiltIsRecovered}
+use Rattle.fbl_law.proofs.Safe.{down_or_up}
+use Rattle.fbl_law.proofs.GroupRecovery.{cut-lawful, fold-survives}
+use Rattle.fbl_law.proofs.Replayed.{replayed-fresh, fold-received, fold-replayed, replayed-fold}
+use Rattle.fbl_law.proofs.Replaying.{found-next, replay-room, replayed-next, replays-log, all-replayed}
+use Rattle.fbl_law.proofs.Counting.{count_in-none, count_in-same, count_in-step, replayed-most, replayed-count, to-replay-short}
+use Rattle.fbl_law.proofs.CutTrace.{recovered_trace-cut}
+use Rattle.fbl_law.proofs.CutCounts.{filter-agree, stays_by-cut}
+use Rattle.fbl_law.proofs.MadeAgain.{made-again, made-again-outside}
+
+-- a replay does not read the table
+pub replayed-table : (next : Next) (n : ℕ) (r : GroupRecord) (trace : List Event) (p : ℕ) (m : MemberRecord) (t : List Entry) → IsReplayed next n r.config.starts trace p m → IsReplayed next n r.config.starts trace p (record m { table = t })
+replayed-table next n r trace p m t replayed = record { within = replayed.within; progress = replayed.progress; places = replayed.places; last = replayed.last }
+
+-- a record with a table that it has
+pub with-table : (m : MemberRecord) (t : List Entry) → m.table ≡ t → m ≡ record m { table = t }
+with-table m t is = ap (λ (x : List Entry). record m { table = x }) is
+
+-- what stays depends on the members of the set alone
+pub stays_by-agree : (s : Members) (a b : ℕ → MemberRecord) → ((p : ℕ) → set.contains s p ≡ true → a p ≡ b p) → (e : Mark) → stays_by s a e ≡ stays_by s b e
+stays_by-agree s a b agree (Send from ssn to) = at (set.contains s from) refl where
+  at : (c : Bool) → set.contains s from ≡ c → (not c || nat_le ssn (length (a from).log)) ≡ (not c || nat_le ssn (length (b from).log))
+  at true is = ap (λ (m : MemberRecord). nat_le ssn (length m.log)) (agree from is)
+  at false is = refl
+stays_by-agree s a b agree (Receipt to rsn from ssn) = at (set.contains s to) refl where
+  at : (c : Bool) → set.contains s to ≡ c → (not c || nat_le rsn (a to).received) ≡ (not c || nat_le rsn (b to).received)
+  at true is = ap (λ (m : MemberRecord). nat_le rsn m.received) (agree to is)
+  at false is = refl
+
+module _ (next : Next) (old : GroupRecord) (sound : IsSound next old) where
+  abbrev cut : IsEventCut (Stays (knowledge old)) old.trace (recovered_trace old)
+  cut = recovered_trace-cut next old sound
+
+  abbrev lawful : Lawful next old.config.members old.config.starts (recovered_trace old)
+  lawful = (cut-lawful next old sound (recovered_trace old) cut).0
+
+  abbrev Replays : ℕ → MemberRecord → Type 0
+  Replays p m = IsReplayed next old.config.members old.config.starts (recovered_trace old) p m
+
+  -- a survivor is at the fold of all its receipts
+  pub survivor-replays : (q : ℕ) → q < old.config.members → IsUp (knowledge old) q → Replays q (member old q) × ((member old q).received ≡ length (receipts_at (map mark_of (recovered_trace old)) q))
+  survivor-replays q below up =
+      let r : GroupRecord = record old { trace = recovered_trace old } in
+      let fold : IsFold next r q = fold-survives next old sound (recovered_trace old) cut r q up refl refl refl (sound.folds q below up) in
+      (fold-replayed next r q lawful.well_formed fold, fold-received next r q lawful.well_formed fold)
+
+  working-down : (rebuilt : List MemberRecord) (q : ℕ) → IsDown (knowledge old) q → working old rebuilt q ≡ slice_index_or rebuilt q blank
+  working-down rebuilt q down = rw down refl
+
+  working-up : (rebuilt : List MemberRecord) (q : ℕ) → IsUp (knowledge old) q → working old rebuilt q ≡ member old q
+  working-up rebuilt q up = rw up refl
+
+  pub working-replays : (rebuilt : List MemberRecord) → IsReplaying next old rebuilt → (q : ℕ) → q < old.config.members → Replays q (working old rebuilt q)
+  working-replays rebuilt replaying q below = elim (down_or_up old.down q) [
+    | inl down ↦ subst (Replays q) (sym (working-down rebuilt q down)) (replaying.replayed q below down)
+    | inr up ↦ subst (Replays q) (sym (working-up rebuilt q up)) (survivor-replays q below up).0
+  ]
+
+  working-all : (rebuilt : List MemberRecord) (q : ℕ) → q < old.config.members → IsUp (knowledge old) q → (working old rebuilt q).received ≡ length (receipts_at (map mark_of (recovered_trace old)) q)
+  working-all rebuilt q below up = ap (λ (m : MemberRecord). m.received) (working-up rebuilt q up) ∙ (survivor-replays q below up).1
+
+  -- each member that is down begins fresh
+  pub replaying-start : (rebuilt : List MemberRecord) → length rebuilt ≡ old.config.members → ((p : ℕ) → p < old.config.members → IsDown (knowledge old) p → slice_index_or rebuilt p blank ≡ fresh p old.config.starts) → IsReplaying next old rebuilt
+  replaying-start rebuilt size begins = record {
+    size = size;
+    replayed = λ p below down. subst (Replays p) (sym (begins p below down)) (replayed-fresh next old.config.members old.config.starts (recovered_trace old) p);
+  }
+
+  pub replayed_in-start : (rebuilt : List MemberRecord) → ((p : ℕ) → p < old.config.members → IsDown (knowledge old) p → slice_index_or rebuilt p blank ≡ fresh p old.config.starts) → replayed_in old rebuilt ≡ 0
+  replayed_in-start rebuilt begins =
+      count_in-same old.down (λ p. (slice_index_or rebuilt p blank).received) (λ p. 0) old.config.members (λ p below down. ap (λ (m : MemberRecord). m.received) (begins p below down)) ∙ count_in-none old.down old.config.members
+
+  -- what the gathered tables find is the next receipt
+  pub replaying-next : (rebuilt : List MemberRecord) (p : ℕ) (d : Determinant) → IsReplaying next old rebuilt → p < old.config.members → IsDown (knowledge old) p
+      → found p ((slice_index_or rebuilt p blank).received + 1) (gathered_table old) ≡ Some d → IsNextReplay old.config.members p (slice_index_or rebuilt p blank) d
+  replaying-next rebuilt p d replaying below down is = found-next next old sound (recovered_trace old) cut p (slice_index_or rebuilt p blank) d (replaying.replayed p below down) is
+
+  -- its step's sends have room in the log
+  pub replaying-room : (rebuilt : List MemberRecord) (p : ℕ) (d : Determinant) (note : Note) → IsReplaying next old rebuilt → p < old.config.members → IsDown (knowledge old) p
+      → found p ((slice_index_or rebuilt p blank).received + 1) (gathered_table old) ≡ Some d → logged_note (working old rebuilt d.from).log d.ssn ≡ Some note
+      → length (slice_index_or rebuilt p blank).log + length (next p old.config.members (slice_index_or rebuilt p blank).state note).sends.items ≤ 8192
+  replaying-room rebuilt p d note replaying below down is named =
+      replay-room next old sound (recovered_trace old) cut p (slice_index_or rebuilt p blank) d (working old rebuilt d.from) note (replaying.replayed p below down) is
+      (working-replays rebuilt replaying d.from (replaying-next rebuilt p d replaying below down is).from) named
+
+  -- its replay
+  pub replaying-step : (rebuilt : List MemberRecord) (p : ℕ) (d : Determinant) (note : Note) → IsReplaying next old rebuilt → p < old.config.members → IsDown (knowledge old) p
+      → found p ((slice_index_or rebuilt p blank).received + 1) (gathered_table old) ≡ Some d → logged_note (working old rebuilt d.from).log d.ssn ≡ Some note
+      → IsReplaying next old (slice_set rebuilt p (replayed_by next p old.config.members (slice_index_or rebuilt p blank) d note))
+  replaying-step rebuilt p d note replaying below down is named = record {
+    size = length-set rebuilt p after ∙ replaying.size;
+    replayed = λ q below_q down_q. at q below_q down_q (q == p) refl;
+  }
+    where
+      after : MemberRecord
+      after = replayed_by next p old.config.members (slice_index_or rebuilt p blank) d note
+
+      there : Replays p after
+      there = replayed-next next old sound (recovered_trace old) cut p (slice_index_or rebuilt p blank) d (working old rebuilt d.from) note (replaying.replayed p below down) is
+          (working-replays rebuilt replaying d.from (replaying-next rebuilt p d replaying below down is).from) named
+
+      at : (q : ℕ) → q < old.config.members → IsDown (knowledge old) q → (b : Bool) → (q == p) ≡ b → Replays q (slice_index_or (slice_set rebuilt p after) q blank)
+      at q below_q down_q true eq =
+          let same : q ≡ p = grind (arith, nat_tests) in
+          rw same (subst (Replays p) (sym (get_or-set_same rebuilt p after blank (omega (arith, replaying.size, below)))) there)
+      at q below_q down_q false eq =
+          let other : q ≢ p = grind (arith, nat_tests) in
+          subst (Replays q) (sym (get_or-set_other rebuilt p q after blank other)) (replaying.replayed q below_q down_q)
+
+  -- one more is replayed
+  pub replayed_in-step : (rebuilt : List MemberRecord) (p : ℕ) (d : Determinant) (note : Note) → IsReplaying next old rebuilt → p < old.config.members → IsDown (knowledge old) p
+      → replayed_in old (slice_set rebuilt p (replayed_by next p old.config.members (slice_index_or rebuilt p blank) d note)) ≡ replayed_in old rebuilt + 1
+  replayed_in-step rebuilt p d note replaying below down =
+      let after = replayed_by next p old.config.members (slice_index_or rebuilt p blank) d note in
+      count_in-step old.down (λ q. (slice_index_or rebuilt q blank).received) (λ q. (slice_index_or (slice_set rebuilt p after) q blank).received) old.config.members p below down
+      (ap (λ (m : MemberRecord). m.received) (get_or-set_same rebuilt p after blank (omega (arith, replaying.size, below))))
+      (λ q other. ap (λ (m : MemberRecord). m.received) (get_or-set_other rebuilt p q after blank other))
+
+  -- no more are replayed than the trace that recovery leaves has of the members that are down
+  pub replayed_in-most : (rebuilt : List MemberRecord) → IsReplaying next old rebuilt → replayed_in old rebuilt ≤ length (filter (is_of old.down) (receipts (map mark_of (recovered_trace old))))
+  replayed_in-most rebuilt replaying = replayed-most next old sound (recovered_trace old) cut (λ p. slice_index_or rebuilt p blank) replaying.replayed
+
+  pub replayed_in-short : (rebuilt : List MemberRecord) → IsReplaying next old rebuilt → replayed_in old rebuilt ≤ 8192
+  replayed_in-short rebuilt replaying = omega (arith, replayed_in-most rebuilt replaying, to-replay-short next old sound (recovered_trace old) cut, sound.room, sound.config.limit.1)
+
+  -- the logs stay within their bound
+  pub working-log : (rebuilt : List MemberRecord) → IsReplaying next old rebuilt → (q : ℕ) → q < old.config.members → length (working old rebuilt q).log ≤ 8192
+  working-log rebuilt replaying q below = replays-log next old sound (recovered_trace old) cut q (working old rebuilt q) (working-replays rebuilt replaying q below)
+
+  -- new tables change nothing of the replay
+  pub replaying-tables : (rebuilt given : List MemberRecord) (t : List Entry) → IsReplaying next old rebuilt → length given ≡ length rebuilt
+      → ((p : ℕ) → p < old.config.members → IsDown (knowledge old) p → slice_index_or given p blank ≡ record (slice_index_or rebuilt p blank) { table = t }) → IsReplaying next old given
+  replaying-tables rebuilt given t replaying size same = record {
+    size = size ∙ replaying.size;
+    replayed = λ p below down. subst (Replays p) (sym (same p below down)) (replayed-table next old.config.members old (recovered_trace old) p (slice_index_or rebuilt p blank) t (replaying.replayed p below down));
+  }
+
+  -- where each member that is down waits, all is replayed
+  module _ (rebuilt : List MemberRecord) (replaying : IsReplaying next old rebuilt) (waiting : (p : ℕ) → p < old.config.members → IsDown (knowledge old) p → IsWaiting old rebuilt p) where
+    pub working-received : (q : ℕ) → q < old.config.members → (working old rebuilt q).received ≡ length (receipts_at (map mark_of (recovered_trace old)) q)
+    working-received =
+        all-replayed next old sound (recovered_trace old) cut (working old rebuilt) (working-replays rebuilt replaying) (working-all rebuilt)
+        (λ p below down d is. waiting p below down d (rw (working-down rebuilt p down) at is))
+
+    pub rebuilt-received : (p : ℕ) → p < old.config.members → IsDown (knowledge old) p → (slice_index_or rebuilt p blank).received ≡ length (receipts_at (map mark_of (recovered_trace old)) p)
+    rebuilt-received p below down = ap (λ (m : MemberRecord). m.received) (sym (working-down rebuilt p down)) ∙ working-received p below
+
+    -- as many are replayed as the trace has of the members that are down
+    pub replayed_in-all : replayed_in old rebuilt ≡ length (filter (is_of old.down) (receipts (map mark_of (recovered_trace old))))
+    replayed_in-all =
+        count_in-same old.down (λ p. (slice_index_or rebuilt p blank).received) (λ p. (working old rebuilt p).received) old.config.members (λ p below down. ap (λ (m : MemberRecord). m.received) (sym (working-down rebuilt p down)))
+        ∙ replayed-count next old sound (recovered_trace old) cut (working old rebuilt) working-received
+
+    -- the events that stay are those that the counts of the members that are down cover
+    pub recovered_trace-counts : filter (λ e. stays_by old.down (working old rebuilt) (mark_of e)) old.trace ≡ recovered_trace old
+    recovered_trace-counts = stays_by-cut next old sound (recovered_trace old) cut (working old rebuilt) (working-replays rebuilt replaying) working-received
+
+    pub recovered_trace-rebuilt : filter (λ e. stays_by old.down (λ p. slice_index_or rebuilt p blank) (mark_of e)) old.trace ≡ recovered_trace old
+    recovered_trace-rebuilt =
+        filter-agree (λ e. stays_by old.down (λ p. slice_index_or rebuilt p blank) (mark_of e)) (λ e. stays_by old.down (working old rebuilt) (mark_of e)) old.trace
+        (λ i e here. stays_by-agree old.down (λ p. slice_index_or rebuilt p blank) (working old rebuilt) (λ p down. sym (working-down rebuilt p down)) (mark_of e))
+        ∙ recovered_trace-counts
+
+    -- so a group with these records, and with channels made again, is the group recovered
+    module _ (new : GroupRecord) (step : IsRebuilt old new rebuilt) where
+      is-lawful : Lawful next new.config.members new.config.starts new.trace
+      is-lawful = (let config : new.config ≡ old.config = step.config in let trace : new.trace ≡ recovered_trace old = step.trace in rw (config, trace) lawful)
+
+      rebuilt-fold : (m : ℕ) → m < old.config.members → IsDown (knowledge old) m → IsFold next new m
+      rebuilt-fold m below down =
+          let config : new.config ≡ old.config = step.config in
+          let trace : new.trace ≡ recovered_trace old = step.trace in
+          let is : member new m ≡ record (slice_index_or rebuilt m blank) { table = gathered_table old } = step.rebuilt m below down in
+          replayed-fold next new m is-lawful.well_formed
+          (rw (config, trace, is) (replayed-table next old.config.members old (recovered_trace old) m (slice_index_or rebuilt m blank) (gathered_table old) (replaying.replayed m below down)))
+          (rw (trace, is) (rebuilt-received m below down))
+
+      fold-all : (m : ℕ) → m < old.config.members → IsFold next new m
+      fold-all m below = elim (down_or_up old.down m) [
+        | inl down ↦ rebuilt-fold m below down
+        | inr up ↦ fold-survives next old sound (recovered_trace old) cut new m up step.trace step.config (step.survivors m up) (sound.folds m below up)
+      ]
+
+      made : (q p : ℕ) → IsDown (knowledge old) q ⊎ IsDown (knowledge old) p → IsMadeAgain new q p
+      made q p down = elim (cases_lt q old.config.members) [
+        | inr past ↦ made-again-outside new q p is-lawful.well_formed (inl (let config : new.config ≡ old.config = step.config in rw config past)) (step.outside q p (inl past))
+        | inl below_q ↦ elim (cases_lt p old.config.members) [
+          | inr past ↦ made-again-outside new q p is-lawful.well_formed (inr (let config : new.config ≡ old.config = step.config in rw config past)) (step.outside q p (inr past))
+          | inl below_p ↦
+              made-again next new is-lawful q p (fold-all q below_q) (fold-all p below_p) (omega (arith, below_q, sound.config.members.1))
+              (step.resent q p down below_q below_p ∙ ap (λ f. resent_to f q p (member new q) (member new p)) (let config : new.config ≡ old.config = step.config in rw config refl))
+        ]
+      ]
+
+      pub recovery-made : IsRecovery next old new
+      recovery-made = record {
+        nobody_down = step.nobody_down;
+        trace = (let trace : new.trace ≡ recovered_trace old = step.trace in rw trace cut);
+        size = step.size;
+        survivors = step.survivors;
+        folds = rebuilt-fold;
+        gathered = λ m below down. ap (λ (x : MemberRecord). x.table) (step.rebuilt m below down);
+        channels = step.channels;
+        made_again = made;
+        config = step.config;
+        receipts_ever = step.receipts_ever;
+        undone_ever = step.undone_ever;
+      }
+
+pub replay_is_right : ReplayIsRight
+replay_is_right next old rebuilt p d note sound = replaying-step next old sound rebuilt p d note
+
+pub replay_ends : ReplayEnds
+replay_ends next old rebuilt sound replaying waiting = rebuilt-received next old sound rebuilt replaying waiting
+
+pub rebuilt_is_recovered : RebuiltIsRecovered
+rebuilt_is_recovered next old new rebuilt sound replaying waiting step = recovery-made next old sound rebuilt replaying waiting new step

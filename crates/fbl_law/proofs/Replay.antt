@@ -1,0 +1,81 @@
+-- Replay never gets stuck.
+use Rattle.std.proofs.Common.{◌≡◌, ℕ, zero, suc, ◌<◌, ◌≤◌, ◌+◌, ◌==◌, Bool, true, false, cond, List, [], ◌∷◌, ◌++◌, take, drop, inl, inr, arith, refl, subst, ap, Option, Some, None, slice_get, count_by, length-take}
+use Rattle.std.proofs.lemmas.Bool.{cases_lt}
+use Rattle.std.proofs.lemmas.Bool.Decides.{nat_tests}
+use Rattle.std.proofs.lemmas.List.{take-append-drop}
+use Rattle.std.proofs.lemmas.List.Sums.{sum_by-append}
+use Rattle.fbl_base.specs.declared.trace.Determinant.{Determinant}
+use Rattle.fbl_base.specs.declared.trace.Mark.{Mark}
+use Rattle.fbl_base.specs.declared.trace.Mark.TheVariants.{Send, Receipt}
+use Rattle.fbl_base.specs.Events.{At}
+use Rattle.fbl_base.specs.Rules.{is_receipt_of, receipts_of, MayFollow, WellFormed}
+use Rattle.fbl_base.specs.Events.{receipt_of}
+use Rattle.fbl_base.proofs.Gets.{At-front, At-below}
+use Rattle.fbl_base.proofs.RulesLaws.{in_flight-sent}
+use Rattle.fbl_law.specs.Laws.{NeverStuck}
+use Rattle.fbl_law.specs.Replay.{IsSentAgain, IsStuck}
+use Rattle.fbl_law.proofs.Appended.{once}
+
+take_end : (xs : List Mark) (i : ℕ) → slice_get xs i ≡ None → take (suc i) xs ≡ take i xs
+take_end [] zero is = refl
+take_end [] (suc i) is = refl
+take_end (x ∷ xs) zero is = cc
+take_end (x ∷ xs) (suc i) is = ap (λ ys. x ∷ ys) (take_end xs i is)
+
+take_next : (xs : List Mark) (i : ℕ) (e : Mark) → slice_get xs i ≡ Some e → take (suc i) xs ≡ take i xs ++ e ∷ []
+take_next [] i e is = cc
+take_next (x ∷ xs) zero e is = (let same : x ≡ e = cc in rw same refl)
+take_next (x ∷ xs) (suc i) e is = ap (λ ys. x ∷ ys) (take_next xs i e is)
+
+module _ (n : ℕ) (t : List Mark) (done : ℕ → ℕ) (obeys : WellFormed n t) (stuck : IsStuck t done) where
+  abbrev DoneBefore : ℕ → Type 0
+  DoneBefore i = (j : ℕ) (c : Determinant) → j < i → At t j (receipt_of c) → c.rsn ≤ done c.to
+
+  -- where the receipts before a place are replayed, they are no more than were replayed
+  count_before : (m i : ℕ) → DoneBefore i → receipts_of (take i t) m ≤ done m
+  count_before m zero before = omega arith
+  count_before m (suc i) before = at (slice_get t i) refl (count_before m i (λ j c below. before j c (omega arith)))
+    where
+      one : (e : Mark) → At t i e → receipts_of (take i t) m ≤ done m → receipts_of (take i t ++ e ∷ []) m ≤ done m
+      one (Send from ssn to) here rest = (let more = sum_by-append (λ y. cond (is_receipt_of m y) 1 0) (take i t) (Send from ssn to ∷ []) in rw more (omega (arith, rest)))
+      one (Receipt to rsn from ssn) here rest = (let more = sum_by-append (λ y. cond (is_receipt_of m y) 1 0) (take i t) (Receipt to rsn from ssn ∷ []) in rw more (mine (to == m) refl))
+        where
+          mine : (b : Bool) → (to == m) ≡ b → receipts_of (take i t) m + count_by (is_receipt_of m) (Receipt to rsn from ssn ∷ []) ≤ done m
+          mine false is = rw is (omega (arith, rest))
+          mine true is =
+              let same : to ≡ m = grind (arith, nat_tests) in
+              let may = obeys i (Receipt to rsn from ssn) here in
+              let le = before i (record { from = from; ssn = ssn; to = to; rsn = rsn }) (omega arith) here in
+              let count : receipts_of (take i t) to ≡ receipts_of (take i t) m = ap (λ x. receipts_of (take i t) x) same in
+              let dones : done to ≡ done m = ap done same in
+              rw is (omega (arith, may.3, le, count, dones))
+
+      at : (o : Option Mark) → slice_get t i ≡ o → receipts_of (take i t) m ≤ done m → receipts_of (take (suc i) t) m ≤ done m
+      at None is rest = rw (take_end t i is) rest
+      at (Some e) is rest = rw (take_next t i e is) (one e is rest)
+
+  done_at : (i : ℕ) (d : Determinant) → DoneBefore i → At t i (receipt_of d) → d.rsn ≤ done d.to
+  done_at i d before here =
+      let may = obeys i (receipt_of d) here in
+      let count = count_before d.to i before in
+      elim (cases_lt (done d.to) d.rsn) [
+        | inr le ↦ le
+        | inl gt ↦ absurd (stuck d (i, here) (omega (arith, may.3, count, gt)) (λ c to earlier. sent_again may.5 c to earlier))
+      ]
+    where
+      sent_again : slice_get (Rattle.fbl_base.specs.Rules.in_flight (take i t) d.from d.to) 0 ≡ Some d.ssn → IsSentAgain t done d.from d.ssn d.to
+      sent_again first c to earlier =
+          let sent = in_flight-sent (take i t) d.from d.ssn d.to first in
+          let whole : At t sent.0 (Send d.from d.ssn d.to) = (rw take-append-drop at (At-front (take i t) (drop i t) sent.0 (Send d.from d.ssn d.to) sent.1)) in
+          let below : sent.0 < i = (let b = At-below (take i t) sent.0 (Send d.from d.ssn d.to) sent.1 in omega (arith, b, length-take i t)) in
+          elim (cases_lt sent.0 earlier.1) [
+            | inl late ↦ absurd (once n t (Send d.from d.ssn d.to) sent.0 earlier.1 obeys whole earlier.4 late)
+            | inr not_late ↦ subst (λ (x : ℕ). c.rsn ≤ done x) to (before earlier.0 c (omega (arith, earlier.2, not_late, below)) earlier.3)
+          ]
+
+  all_done : (k : ℕ) → DoneBefore k
+  all_done zero j c below = absurd (omega arith)
+  all_done (suc k) j c below = done_at j c (λ i d less. all_done k i d (omega arith))
+
+pub never_stuck : NeverStuck
+never_stuck n t done obeys stuck d there = all_done n t done obeys stuck (suc there.0) there.0 d (omega arith) there.1

@@ -1,0 +1,252 @@
+-- How the members that are down replay what the survivors have recorded.
+use Rattle.std.proofs.Common.{◌≡◌, ℕ, zero, suc, ◌+◌, ◌<◌, ◌≤◌, ◌==◌, ◌&&◌, inl, inr, Bool, true, false, cond, List, [], ◌∷◌, ◌++◌, length, take, drop, map, Option, Some, None, option_map, slice_get, refl, sym, subst, ap, ◌∙◌, arith, length-take, length-append}
+use Rattle.std.specs.List.{filter, find}
+use Rattle.std.proofs.lemmas.Bool.Decides.{nat_tests}
+use Rattle.std.proofs.lemmas.List.{take-append-drop, map-append, length-map}
+use Rattle.std.proofs.lemmas.List.Sums.{count_by-le-length}
+use Rattle.std.proofs.lemmas.Option.{slice_get_within, slice_get-map}
+use Rattle.fbl_base.specs.declared.trace.Determinant.{Determinant}
+use Rattle.fbl_base.specs.declared.trace.Note.{Note}
+use Rattle.fbl_base.specs.declared.trace.Event.{Event}
+use Rattle.fbl_base.specs.declared.trace.Event.TheVariants as event
+use Rattle.fbl_base.specs.declared.trace.Mark.{Mark}
+use Rattle.fbl_base.specs.declared.trace.Mark.TheVariants.{Send}
+use Rattle.fbl_base.specs.Events.{At, mark_of, receipt_of}
+use Rattle.fbl_base.specs.Precedence.{Has, itself}
+use Rattle.fbl_base.specs.Rules.{is_receipt_of, is_send_of, WellFormed}
+use Rattle.fbl_base.specs.Fold.{Next, Progress, numbered, after_notes, note_of}
+use Rattle.fbl_base.proofs.Gets.{At-front, At-below}
+use Rattle.fbl_base.proofs.PrecedenceLaws.{Has-filter}
+use Rattle.fbl_base.proofs.RulesLaws.{in_flight-sent, WellFormed-front}
+use Rattle.fbl_table.specs.declared.entry.Entry.{Entry}
+use Rattle.fbl_table.specs.Tables.{found, names}
+use Rattle.fbl_member.specs.Members.{MemberRecord, logged_note, replayed_by}
+use Rattle.fbl_law.specs.Record.{Names, IsUp, IsDown, IsRecorded}
+use Rattle.fbl_law.specs.Steps.{Stays, IsEventCut}
+use Rattle.fbl_law.specs.Groups.{GroupRecord, marks, knowledge}
+use Rattle.fbl_law.specs.Sound.{received_notes, IsSound}
+use Rattle.fbl_law.specs.Replay.{IsSentAgain, IsStuck}
+use Rattle.fbl_law.specs.Replaying.{receipts_at, IsReplayed, IsNextReplay, gathered_table}
+use Rattle.fbl_law.proofs.Lists.{Contains-here, Contains-there, Contains-cons_cases, Contains-none}
+use Rattle.fbl_law.proofs.Safe.{down_or_up, IsRecorded-before}
+use Rattle.fbl_law.proofs.Cut.{Has-kept, kept-Has}
+use Rattle.fbl_law.proofs.CutLaw.{stays_is_recorded}
+use Rattle.fbl_law.proofs.LawfulCut.{marks-filter}
+use Rattle.fbl_law.proofs.Gather.{entries_gathered, recorded_gathered}
+use Rattle.fbl_law.proofs.Replay.{never_stuck}
+use Rattle.fbl_law.proofs.GroupRecovery.{cut-lawful, length-left}
+use Rattle.fbl_law.proofs.Counts.{length-numbered}
+use Rattle.fbl_law.proofs.Logs.{logged-noted, logged-by, log-short}
+use Rattle.fbl_law.proofs.Receipts.{receipts_at-number, receipts_at-Has, Has-receipts_at, length-receipts_at}
+use Rattle.fbl_law.proofs.Replayed.{replayed-step}
+
+same-number : (a b : ℕ) → (a == b) ≡ true → a ≡ b
+same-number a b is = grind (arith, nat_tests)
+
+both : (a b : Bool) → (a && b) ≡ true → (a ≡ true) × (b ≡ true)
+both true true is = (refl, refl)
+both true false is = absurd cc
+both false b is = absurd cc
+
+-- what a table finds is one of its entries' determinants, of that receipt
+pub found-named : (p k : ℕ) (table : List Entry) (d : Determinant) → found p k table ≡ Some d → Names table d × (d.to ≡ p) × (d.rsn ≡ k)
+found-named p k [] d is = absurd cc
+found-named p k (e ∷ table) d is = at (names p k e) refl is (found-named p k table d) where
+  at : (b : Bool) → names p k e ≡ b → option_map (λ (x : Entry). x.det) (cond b (Some e) (find (names p k) table)) ≡ Some d → (found p k table ≡ Some d → Names table d × (d.to ≡ p) × (d.rsn ≡ k)) → Names (e ∷ table) d × (d.to ≡ p) × (d.rsn ≡ k)
+  at true yes' g rest =
+      let same : e.det ≡ d = cc in
+      let parts = both (e.det.to == p) (e.det.rsn == k) yes' in
+      ((e, Contains-here e table, same), ap (λ (x : Determinant). x.to) (sym same) ∙ same-number e.det.to p parts.0, ap (λ (x : Determinant). x.rsn) (sym same) ∙ same-number e.det.rsn k parts.1)
+  at false no' g rest = (let r = rest g in ((r.0.0, Contains-there e table r.0.0 r.0.1, r.0.2), r.1, r.2))
+
+-- where it finds none, no entry is of that receipt
+pub found-none : (p k : ℕ) (table : List Entry) (d : Determinant) → found p k table ≡ None → Names table d → d.to ≡ p → d.rsn ≡ k → ⊥
+found-none p k [] d is named to rsn = Contains-none named.0 named.1
+found-none p k (e ∷ table) d is named to rsn = at (names p k e) refl is (found-none p k table d) where
+  at : (b : Bool) → names p k e ≡ b → option_map (λ (x : Entry). x.det) (cond b (Some e) (find (names p k) table)) ≡ None → (found p k table ≡ None → Names table d → d.to ≡ p → d.rsn ≡ k → ⊥) → ⊥
+  at true yes' g rest = cc
+  at false no' g rest = elim (Contains-cons_cases e table named.0 named.1) [
+    | inl first ↦
+        let det : e.det ≡ d = ap (λ (x : Entry). x.det) first ∙ named.2 in
+        let t : e.det.to ≡ p = ap (λ (x : Determinant). x.to) det ∙ to in
+        let r : e.det.rsn ≡ k = ap (λ (x : Determinant). x.rsn) det ∙ rsn in
+        let yes' : names p k e ≡ true = (let a : (e.det.to == p) ≡ true = grind (arith, nat_tests) in let b : (e.det.rsn == k) ≡ true = grind (arith, nat_tests) in rw (a, b) refl) in
+        cc
+    | inr later ↦ rest g (named.0, later, named.2) to rsn
+  ]
+
+-- a list, cut at a place
+split-at : {X : Type 0} (xs : List X) (i : ℕ) (x : X) → slice_get xs i ≡ Some x → xs ≡ take i xs ++ x ∷ drop (suc i) xs
+split-at [] i x here = absurd cc
+split-at (y ∷ xs) zero x here = (let same : y ≡ x = cc in ap (λ z. z ∷ xs) same)
+split-at (y ∷ xs) (suc i) x here = ap (λ zs. y ∷ zs) (split-at xs i x here)
+
+-- where each receipt of a member is numbered at most k, it has at most k
+at-most : (n : ℕ) (t : List Mark) (p k : ℕ) → WellFormed n t → ((d : Determinant) → Has t (receipt_of d) → d.to ≡ p → d.rsn ≤ k) → length (receipts_at t p) ≤ k
+at-most n t p k obeys all = at (length (receipts_at t p)) refl where
+  last : (j : ℕ) → suc j ≡ length (receipts_at t p) → (o : Option Determinant) → slice_get (receipts_at t p) j ≡ o → suc j ≤ k
+  last j long None is = absurd (let some = within (receipts_at t p) j (omega arith) in let bad = some.1 in cc) where
+    within : {X : Type 0} (xs : List X) (i : ℕ) → i < length xs → (x : X) × (slice_get xs i ≡ Some x)
+    within [] i below = absurd (omega arith)
+    within (x ∷ xs) zero below = (x, refl)
+    within (x ∷ xs) (suc i) below = within xs i (omega arith)
+  last j long (Some d) is =
+      let has = receipts_at-Has t p j d is in
+      let number = receipts_at-number n t p j d obeys is in
+      let few = all d has.0 has.1 in
+      omega arith
+
+  at : (len : ℕ) → len ≡ length (receipts_at t p) → length (receipts_at t p) ≤ k
+  at zero is = omega (arith, is)
+  at (suc j) is = (let few = last j is (slice_get (receipts_at t p) j) refl in omega (arith, is))
+
+module _ (next : Next) (old : GroupRecord) (sound : IsSound next old) (new : List Event) (cut : IsEventCut (Stays (knowledge old)) old.trace new) where
+  -- the member has come so far in its replay of the cut
+  abbrev pub Replays : ℕ → MemberRecord → Type 0
+  Replays p m = IsReplayed next old.config.members old.config.starts new p m
+
+  pub cut-obeys : WellFormed old.config.members (map mark_of new)
+  cut-obeys = (cut-lawful next old sound new cut).0.well_formed
+
+  is-marks : map mark_of new ≡ filter cut.0 (marks old)
+  is-marks = (let e = cut.1 in rw e (marks-filter cut.0 old.trace))
+
+  -- a receipt is in the cut exactly where it is recorded
+  pub cut-recorded : (d : Determinant) → Has (map mark_of new) (receipt_of d) → IsRecorded (knowledge old) d
+  cut-recorded d there =
+      let left : Has (filter cut.0 (marks old)) (receipt_of d) = rw is-marks at there in
+      let was = Has-filter cut.0 (marks old) (receipt_of d) left in
+      let stays = (cut.2 (receipt_of d) was).0 (kept-Has cut.0 (marks old) (receipt_of d) left) in
+      (stays_is_recorded old.config.members old.config.f (knowledge old) sound.causes (receipt_of d) was).0 stays d (itself was)
+
+  pub recorded-Has : (d : Determinant) → IsRecorded (knowledge old) d → Has (marks old) (receipt_of d)
+  recorded-Has d recorded = subst (λ (c : Determinant). Has (marks old) (receipt_of c)) recorded.1.1.2 (sound.causes.truth.tables recorded.0 recorded.1.1.0 recorded.1.0 recorded.1.1.1).0.0
+
+  pub recorded-cut : (d : Determinant) → IsRecorded (knowledge old) d → Has (map mark_of new) (receipt_of d)
+  recorded-cut d recorded =
+      let was = recorded-Has d recorded in
+      let stays = (stays_is_recorded old.config.members old.config.f (knowledge old) sound.causes (receipt_of d) was).1 (λ c before. IsRecorded-before old.config.f (knowledge old) sound.causes.closed c d recorded before) in
+      rw is-marks (Has-kept cut.0 (marks old) (receipt_of d) was ((cut.2 (receipt_of d) was).1 stays))
+
+  -- the gathered tables name exactly what is recorded
+  pub gathering-recorded : (d : Determinant) → Names (gathered_table old) d → IsRecorded (knowledge old) d
+  gathering-recorded d named = subst (λ (c : Determinant). IsRecorded (knowledge old) c) named.2 (entries_gathered old.config.f (knowledge old) sound.causes.down named.0 named.1).0
+
+  pub recorded-gathering : (d : Determinant) → IsRecorded (knowledge old) d → Names (gathered_table old) d
+  recorded-gathering d recorded = recorded_gathered old.config.f (knowledge old) sound.causes.down d recorded
+
+  -- what the gathered tables find of a member is its receipt in the cut with that number
+  pub found-receipt : (p k : ℕ) (d : Determinant) → found p (k + 1) (gathered_table old) ≡ Some d → slice_get (receipts_at (map mark_of new) p) k ≡ Some d
+  found-receipt p k d is =
+      let named = found-named p (k + 1) (gathered_table old) d is in
+      Has-receipts_at old.config.members (map mark_of new) p k d cut-obeys (recorded-cut d (gathering-recorded d named.0)) named.1 named.2
+
+  -- and they find each receipt of the cut
+  pub found-all : (p k : ℕ) (d : Determinant) → slice_get (receipts_at (map mark_of new) p) k ≡ Some d → found p (k + 1) (gathered_table old) ≡ Some d
+  found-all p k d here = at (found p (k + 1) (gathered_table old)) refl where
+    has : Has (map mark_of new) (receipt_of d) × (d.to ≡ p)
+    has = receipts_at-Has (map mark_of new) p k d here
+
+    at : (o : Option Determinant) → found p (k + 1) (gathered_table old) ≡ o → found p (k + 1) (gathered_table old) ≡ Some d
+    at None is = absurd (found-none p (k + 1) (gathered_table old) d is (recorded-gathering d (cut-recorded d has.0)) has.1 (receipts_at-number old.config.members (map mark_of new) p k d cut-obeys here))
+    at (Some c) is = (let there = found-receipt p k c is in is ∙ sym there ∙ here)
+
+  -- a note that a replaying member's log names is the note of that message in the cut
+  pub replayed-noted : (q : ℕ) (w : MemberRecord) (ssn : ℕ) (note : Note) → Replays q w → logged_note w.log ssn ≡ Some note → note_of new q ssn ≡ Some note
+  replayed-noted q w ssn note replayed named =
+      let log : w.log ≡ (after_notes next q old.config.members old.config.starts (take w.received (received_notes new q))).log = ap (λ (x : Progress). x.log) replayed.progress in
+      logged-noted next old.config.members old.config.starts new q w.received ssn note (cut-lawful next old sound new cut).0 (rw log at named)
+
+  -- the next replay of a member: the gathered tables find its next receipt, and the sender's log has the message
+  pub replayed-next : (p : ℕ) (m : MemberRecord) (d : Determinant) (w : MemberRecord) (note : Note) → Replays p m → found p (m.received + 1) (gathered_table old) ≡ Some d → Replays d.from w → logged_note w.log d.ssn ≡ Some note → Replays p (replayed_by next p old.config.members m d note)
+  replayed-next p m d w note replayed is sender named =
+      replayed-step next old.config.members old.config.starts new p m d note cut-obeys replayed (found-receipt p m.received d is) (replayed-noted d.from w d.ssn note sender named)
+
+  cut-short : length (map mark_of new) ≤ 8192
+  cut-short =
+      let left : length new ≤ length old.trace = (let e = cut.1 in rw e (length-left (λ x. cut.0 (mark_of x)) old.trace)) in
+      omega (arith, left, sound.room, sound.config.limit.1, length-map new mark_of)
+
+  -- a replaying member's counts are within their bounds
+  pub replays-received : (p : ℕ) (m : MemberRecord) → Replays p m → m.received ≤ 8192
+  replays-received p m replayed = omega (arith, replayed.within, length-receipts_at (map mark_of new) p, count_by-le-length (is_receipt_of p) (map mark_of new), cut-short)
+
+  pub replays-log : (p : ℕ) (m : MemberRecord) → Replays p m → length m.log ≤ 8192
+  replays-log p m replayed =
+      let log : length m.log ≡ length (after_notes next p old.config.members old.config.starts (take m.received (received_notes new p))).log = ap (λ (x : Progress). length x.log) replayed.progress in
+      omega (arith, log, log-short next old.config.members old.config.starts new p m.received (cut-lawful next old sound new cut).0, count_by-le-length (is_send_of p) (map mark_of new), cut-short)
+
+  -- the next receipt that the gathered tables find is that of the member's next number, from another member
+  pub found-next : (p : ℕ) (m : MemberRecord) (d : Determinant) → Replays p m → found p (m.received + 1) (gathered_table old) ≡ Some d → IsNextReplay old.config.members p m d
+  found-next p m d replayed is =
+      let here = found-receipt p m.received d is in
+      let has = receipts_at-Has (map mark_of new) p m.received d here in
+      let may = cut-obeys has.0.0 (receipt_of d) has.0.1 in
+      let below = slice_get_within (receipts_at (map mark_of new) p) m.received d here in
+      record {
+        to = has.1;
+        rsn = receipts_at-number old.config.members (map mark_of new) p m.received d cut-obeys here;
+        from = may.0;
+        other = λ same. may.2 (same ∙ sym has.1);
+        room = omega (arith, below, length-receipts_at (map mark_of new) p, count_by-le-length (is_receipt_of p) (map mark_of new), cut-short);
+      }
+
+  -- and its step's sends have room in the log
+  pub replay-room : (p : ℕ) (m : MemberRecord) (d : Determinant) (w : MemberRecord) (note : Note) → Replays p m → found p (m.received + 1) (gathered_table old) ≡ Some d → Replays d.from w → logged_note w.log d.ssn ≡ Some note
+      → length m.log + length (next p old.config.members m.state note).sends.items ≤ 8192
+  replay-room p m d w note replayed is sender named =
+      let after = replays-log p (replayed_by next p old.config.members m d note) (replayed-next p m d w note replayed is sender named) in
+      let items = (next p old.config.members m.state note).sends.items in
+      omega (arith, after, length-append m.log (numbered (length m.log) items), length-numbered (length m.log) items)
+
+  -- the receipt that a member would replay next waits for its message: the sender's log has none yet
+  abbrev pub Waits : (ℕ → MemberRecord) → ℕ → Type 0
+  Waits work p = (d : Determinant) → found p ((work p).received + 1) (gathered_table old) ≡ Some d → logged_note (work d.from).log d.ssn ≡ None
+
+  module _ (work : ℕ → MemberRecord) (replays : (q : ℕ) → q < old.config.members → Replays q (work q))
+      (survivors : (q : ℕ) → q < old.config.members → IsUp (knowledge old) q → (work q).received ≡ length (receipts_at (map mark_of new) q))
+      (waiting : (p : ℕ) → p < old.config.members → IsDown (knowledge old) p → Waits work p) where
+    send-event : (j q k to : ℕ) (o : Option Event) → slice_get new j ≡ o → option_map mark_of o ≡ Some (Send q k to) → (x : Note) × (slice_get new j ≡ Some (event.Send q k to x))
+    send-event j q k to None is h = absurd cc
+    send-event j q k to (Some (event.Receipt p r q' k')) is h = absurd cc
+    send-event j q k to (Some (event.Send q' k' to' x)) is h =
+        let e1 : q' ≡ q = cc in
+        let e2 : k' ≡ k = cc in
+        let e3 : to' ≡ to = cc in
+        (x, is ∙ (rw (e1, e2, e3) refl))
+
+    -- a message whose sender has replayed all that comes before it is in the sender's log
+    sent-again : (q k to : ℕ) → q < old.config.members → Has (map mark_of new) (Send q k to) → IsSentAgain (map mark_of new) (λ m. (work m).received) q k to → (note : Note) × (logged_note (work q).log k ≡ Some note)
+    sent-again q k to below has sent =
+        let j = has.0 in
+        let here = send-event j q k to (slice_get new j) refl (sym (slice_get-map mark_of new j) ∙ has.1) in
+        let cut-at = split-at new j (event.Send q k to here.0) here.1 in
+        let marks-at : map mark_of new ≡ map mark_of (take j new) ++ map mark_of (drop j new) = ap (map mark_of) (sym (take-append-drop j new)) ∙ map-append mark_of (take j new) (drop j new) in
+        let obeys : WellFormed old.config.members (map mark_of (take j new)) = WellFormed-front old.config.members (map mark_of (take j new)) (map mark_of (drop j new)) (rw marks-at at cut-obeys) in
+        let few : length (receipts_at (map mark_of (take j new)) q) ≤ (work q).received = at-most old.config.members (map mark_of (take j new)) q (work q).received obeys (λ c there at_q.
+        let before : there.0 < j = omega (arith, At-below (map mark_of (take j new)) there.0 (receipt_of c) there.1, length-map (take j new) mark_of, length-take j new) in
+        sent c at_q (there.0, j, before, rw marks-at (At-front (map mark_of (take j new)) (map mark_of (drop j new)) there.0 (receipt_of c) there.1), has.1)) in
+        let logged = logged-by next old.config.members old.config.starts new (take j new) (drop (suc j) new) q k to (work q).received here.0 (cut-lawful next old sound new cut).0 cut-at (omega (arith, few, length-receipts_at (map mark_of (take j new)) q)) in
+        let log : (work q).log ≡ (after_notes next q old.config.members old.config.starts (take (work q).received (received_notes new q))).log = ap (λ (x : Progress). x.log) (replays q below).progress in
+        (logged.0, rw log logged.1)
+
+    is-stuck : IsStuck (map mark_of new) (λ q. (work q).received)
+    is-stuck d has number sent =
+        let may = cut-obeys has.0 (receipt_of d) has.1 in
+        let here = Has-receipts_at old.config.members (map mark_of new) d.to (work d.to).received d cut-obeys has refl number in
+        elim (down_or_up old.down d.to) [
+          | inr up ↦ (let within = slice_get_within (receipts_at (map mark_of new) d.to) (work d.to).received d here in omega (arith, within, survivors d.to may.1 up))
+          | inl down ↦
+              let none = waiting d.to may.1 down d (found-all d.to (work d.to).received d here) in
+              let front = in_flight-sent (take has.0 (map mark_of new)) d.from d.ssn d.to may.5 in
+              let whole : At (map mark_of new) front.0 (Send d.from d.ssn d.to) = (rw take-append-drop at (At-front (take has.0 (map mark_of new)) (drop has.0 (map mark_of new)) front.0 (Send d.from d.ssn d.to) front.1)) in
+              let some = sent-again d.from d.ssn d.to may.0 (front.0, whole) sent in
+              let some-is = some.1 in
+              cc
+        ]
+
+    -- where no member that is down can go on, each has replayed all its receipts of the cut
+    pub all-replayed : (p : ℕ) → p < old.config.members → (work p).received ≡ length (receipts_at (map mark_of new) p)
+    all-replayed p below =
+        let most = at-most old.config.members (map mark_of new) p (work p).received cut-obeys (λ d has to. subst (λ (x : ℕ). d.rsn ≤ (work x).received) to (never_stuck old.config.members (map mark_of new) (λ q. (work q).received) cut-obeys is-stuck d has)) in
+        omega (arith, most, (replays p below).within)

@@ -1,0 +1,170 @@
+-- What tables name after they have learned.
+use Rattle.std.proofs.Common.{◌≡◌, ℕ, ◌<◌, Bool, true, false, cond, ◌||◌, List, [], ◌∷◌, inl, inr, ◌⊎◌, map, refl, sym, subst, ap, ◌∙◌}
+use Rattle.std.specs.List.{Contains}
+use Rattle.std.specs.Prelude.{nat_le}
+use Rattle.std.specs.Ordering.{nat_cmp}
+use Rattle.std.specs.Cmp.{nat_cmp_total}
+use Rattle.std.specs.FinSet as set
+use Rattle.std.proofs.lemmas.Bool.{cases_eq}
+use Rattle.std.proofs.lemmas.Bool.Decides.{leb_tells}
+use Rattle.std.proofs.lemmas.List.Elements.{Contains-push, Contains-append_left, Contains-push_cases}
+use Rattle.fbl_base.specs.declared.trace.Determinant.{Determinant}
+use Rattle.fbl_base.specs.Events.{same_determinant}
+use Rattle.fbl_base.specs.MemberSets.{contains-insert_same, contains-insert_other}
+use Rattle.fbl_base.proofs.Recorded.{Decides-same_determinant}
+use Rattle.fbl_table.specs.declared.entry.Entry.{Entry}
+use Rattle.fbl_law.specs.Record.{Members, Includes, Names}
+use Rattle.fbl_table.specs.Tables.{added, held_by, gathered, learned, noted, piggybacked}
+use Rattle.fbl_law.proofs.Lists.{Contains-here, Contains-there, Contains-cons_cases, Contains-none, Contains-filter, Contains-from_filter}
+
+pub Includes-insert : (s : Members) (m : ℕ) → Includes (set.insert s m) m
+Includes-insert s m = contains-insert_same s m
+
+pub Includes-insert_cases : (s : Members) (p m : ℕ) → Includes (set.insert s p) m → (m ≡ p) ⊎ Includes s m
+Includes-insert_cases s p m h = elim (cases_eq m p) [ inl same ↦ inl same | inr other ↦ inr (sym (contains-insert_other s p m other) ∙ h) ]
+
+pub Includes-only : (p m : ℕ) → Includes (set.insert set.empty p) m → m ≡ p
+Includes-only p m h = elim (Includes-insert_cases set.empty p m h) [ inl same ↦ same | inr in_none ↦ absurd (let none : set.contains set.empty m ≡ false = set.contains-empty nat_cmp m in cc) ]
+
+pub Includes-union : (s t : Members) (m : ℕ) → Includes (set.union s t) m → Includes s m ⊎ Includes t m
+Includes-union s t m h = either (set.contains s m) (set.contains t m) refl refl (sym (set.contains-union nat_cmp_total s t m) ∙ h) where
+  either : (a b : Bool) → set.contains s m ≡ a → set.contains t m ≡ b → (a || b) ≡ true → Includes s m ⊎ Includes t m
+  either true b ea eb h = inl ea
+  either false true ea eb h = inr eb
+  either false false ea eb h = absurd cc
+
+pub Includes-left : (s t : Members) (m : ℕ) → Includes s m → Includes (set.union s t) m
+Includes-left s t m h = set.contains-union nat_cmp_total s t m ∙ (rw h refl)
+
+pub Includes-right : (s t : Members) (m : ℕ) → Includes t m → Includes (set.union s t) m
+Includes-right s t m h = set.contains-union nat_cmp_total s t m ∙ (rw h (always (set.contains s m))) where
+  always : (b : Bool) → (b || true) ≡ true
+  always true = refl
+  always false = refl
+
+pub same-is : (a b : Determinant) → same_determinant a b ≡ true → a ≡ b
+same-is a b h = (Decides-same_determinant a b).0 h
+
+-- two entries of one determinant as one
+abbrev pub joined : Entry → Entry → Entry
+joined x e = record { det = x.det; known = set.union x.known e.known }
+
+pub Names-none : (d : Determinant) → ¬ (Names [] d)
+Names-none d named = Contains-none named.0 named.1
+
+pub Names-added_kept : (xs : List Entry) (e : Entry) (d : Determinant) → Names xs d → Names (added xs e) d
+unfolding added
+Names-added_kept [] e d named = absurd (Names-none d named)
+Names-added_kept (x ∷ xs) e d named =
+    elim (same_determinant e.det x.det) as (λ b. Names (cond b (joined x e ∷ xs) (x ∷ added xs e)) d) [
+      | true ↦ elim (Contains-cons_cases x xs named.0 named.1) [
+        | inl first ↦ (joined x e, Contains-here (joined x e) xs, ap (λ (y : Entry). y.det) first ∙ named.2)
+        | inr later ↦ (named.0, Contains-there (joined x e) xs named.0 later, named.2)
+      ]
+      | false ↦ elim (Contains-cons_cases x xs named.0 named.1) [
+        | inl first ↦ (x, Contains-here x (added xs e), ap (λ (y : Entry). y.det) first ∙ named.2)
+        | inr later ↦ let r = Names-added_kept xs e d (named.0, later, named.2) in (r.0, Contains-there x (added xs e) r.0 r.1, r.2)
+      ]
+    ]
+
+pub Names-added : (xs : List Entry) (e : Entry) → Names (added xs e) e.det
+unfolding added
+Names-added [] e = (e, Contains-here e [], refl)
+Names-added (x ∷ xs) e =
+    (elim (same_determinant e.det x.det) as (λ b. same_determinant e.det x.det ≡ b → Names (cond b (joined x e ∷ xs) (x ∷ added xs e)) e.det) [
+      | true ↦ λ h. (joined x e, Contains-here (joined x e) xs, sym (same-is e.det x.det h))
+      | false ↦ λ _. let r = Names-added xs e in (r.0, Contains-there x (added xs e) r.0 r.1, r.2)
+    ]) refl
+
+pub Names-gathered_kept : (xs es : List Entry) (d : Determinant) → Names xs d → Names (gathered xs es) d
+Names-gathered_kept xs [] d named = named
+Names-gathered_kept xs (e ∷ es) d named = Names-gathered_kept (added xs e) es d (Names-added_kept xs e d named)
+
+pub Names-gathered : (xs es : List Entry) (d : Determinant) → Names es d → Names (gathered xs es) d
+Names-gathered xs [] d named = absurd (Names-none d named)
+Names-gathered xs (e ∷ es) d named =
+    elim (Contains-cons_cases e es named.0 named.1) [
+      | inl first ↦ Names-gathered_kept (added xs e) es d (let r = Names-added xs e in (r.0, r.1, r.2 ∙ (ap (λ (y : Entry). y.det) first ∙ named.2)))
+      | inr later ↦ Names-gathered (added xs e) es d (named.0, later, named.2)
+    ]
+
+-- entries under a map that keeps their determinants
+module _ (g : Entry → Entry) (keeps : (e : Entry) → (g e).det ≡ e.det) where
+  pub Contains-changed : (es : List Entry) (y : Entry) → Contains (map g es) y → (e : Entry) × Contains es e × (g e ≡ y)
+  Contains-changed [] y among = absurd (Contains-none y among)
+  Contains-changed (e ∷ es) y among = elim (Contains-cons_cases (g e) (map g es) y among) [
+    | inl first ↦ (e, Contains-here e es, first)
+    | inr later ↦ let r = Contains-changed es y later in (r.0, Contains-there e es r.0 r.1, r.2)
+  ]
+
+  pub Names-changed : (es : List Entry) (d : Determinant) → Names es d → Names (map g es) d
+  Names-changed [] d named = absurd (Names-none d named)
+  Names-changed (e ∷ es) d named = elim (Contains-cons_cases e es named.0 named.1) [
+    | inl first ↦ (g e, Contains-here (g e) (map g es), keeps e ∙ (ap (λ (y : Entry). y.det) first ∙ named.2))
+    | inr later ↦ let r = Names-changed es d (named.0, later, named.2) in (r.0, Contains-there (g e) (map g es) r.0 r.1, r.2)
+  ]
+
+pub Names-learned_kept : (p : ℕ) (xs es : List Entry) (d : Determinant) → Names xs d → Names (learned p xs es) d
+Names-learned_kept p xs es d named = Names-gathered_kept xs (map (held_by p) es) d named
+
+pub Names-learned_gained : (p : ℕ) (xs es : List Entry) (d : Determinant) → Names es d → Names (learned p xs es) d
+Names-learned_gained p xs es d named = Names-gathered xs (map (held_by p) es) d (Names-changed (held_by p) (λ e. refl) es d named)
+
+-- what holds of each entry of the tables, and of two that are joined, holds of each that is gathered
+module _ (Q : Entry → Type 0) (join : (x e : Entry) → Q x → Q e → x.det ≡ e.det → Q (joined x e)) where
+  added-keeps : (xs : List Entry) (e : Entry) → ((x : Entry) → Contains xs x → Q x) → Q e → (y : Entry) → Contains (added xs e) y → Q y
+  unfolding added
+  added-keeps [] e all r y among = elim (Contains-cons_cases e [] y among) [ inl first ↦ subst Q first r | inr none ↦ all y none ]
+  added-keeps (x ∷ xs) e all r y among =
+      (elim (same_determinant e.det x.det) as (λ b. same_determinant e.det x.det ≡ b → Contains (cond b (joined x e ∷ xs) (x ∷ added xs e)) y → Q y) [
+        | true ↦ λ h among. elim (Contains-cons_cases (joined x e) xs y among) [
+          | inl first ↦ subst Q first (join x e (all x (Contains-here x xs)) r (sym (same-is e.det x.det h)))
+          | inr later ↦ all y (Contains-there x xs y later)
+        ]
+        | false ↦ λ _ among. elim (Contains-cons_cases x (added xs e) y among) [
+          | inl first ↦ subst Q first (all x (Contains-here x xs))
+          | inr later ↦ added-keeps xs e (λ z h. all z (Contains-there x xs z h)) r y later
+        ]
+      ]) refl among
+
+  pub gathered-keeps : (xs es : List Entry) → ((x : Entry) → Contains xs x → Q x) → ((e : Entry) → Contains es e → Q e) → (y : Entry) → Contains (gathered xs es) y → Q y
+  gathered-keeps xs [] all each y among = all y among
+  gathered-keeps xs (e ∷ es) all each y among =
+      gathered-keeps (added xs e) es (added-keeps xs e all (each e (Contains-here e es))) (λ x h. each x (Contains-there e es x h)) y among
+
+  pub learned-keeps : (p : ℕ) (xs es : List Entry) → ((x : Entry) → Contains xs x → Q x) → ((e : Entry) → Contains es e → Q (held_by p e)) → (y : Entry) → Contains (learned p xs es) y → Q y
+  learned-keeps p xs es all each y among =
+      gathered-keeps xs (map (held_by p) es) all (λ x h. let r = Contains-changed (held_by p) (λ e. refl) es x h in subst Q r.2 (each r.0 r.1)) y among
+
+-- what the member's own determinant adds
+pub Names-noted_kept : (p : ℕ) (xs : List Entry) (own : Determinant) (d : Determinant) → Names xs d → Names (noted p xs own) d
+Names-noted_kept p xs own d named = (named.0, Contains-append_left xs _ named.0 named.1, named.2)
+
+pub Names-noted : (p : ℕ) (xs : List Entry) (own : Determinant) → Names (noted p xs own) own
+Names-noted p xs own = (record { det = own; known = set.insert set.empty p }, Contains-push xs _, refl)
+
+pub Contains-noted : (p : ℕ) (xs : List Entry) (own : Determinant) (e : Entry) → Contains (noted p xs own) e → Contains xs e ⊎ (record { det = own; known = set.insert set.empty p } ≡ e)
+Contains-noted p xs own e among = Contains-push_cases xs _ e among
+
+pub Contains-piggybacked : (f : ℕ) (xs : List Entry) (e : Entry) → Contains (piggybacked f xs) e → Contains xs e
+Contains-piggybacked f xs e among = Contains-from_filter (λ e. nat_le (set.len e.known) f) xs e among
+
+-- an entry is passed on, or more than f members are known to hold it
+pub passed_or_known : (f : ℕ) (xs : List Entry) (e : Entry) → Contains xs e → Contains (piggybacked f xs) e ⊎ (f < set.len e.known)
+passed_or_known f xs e among =
+    elim (leb_tells (set.len e.known) f) [
+      | inl few ↦ inl (Contains-filter (λ e. nat_le (set.len e.known) f) xs e among few.0)
+      | inr many ↦ inr many.1
+    ]
+
+pub Names-from_learned : (p : ℕ) (xs es : List Entry) (d : Determinant) → Names (learned p xs es) d → Names xs d ⊎ Names es d
+Names-from_learned p xs es d named =
+    subst (λ (c : Determinant). Names xs c ⊎ Names es c) named.2
+    (learned-keeps (λ e. Names xs e.det ⊎ Names es e.det) (λ x e q r same. q) p xs es (λ x h. inl (x, h, refl)) (λ e h. inr (e, h, refl)) named.0 named.1)
+
+pub Names-from_table : (p : ℕ) (xs es : List Entry) (own d : Determinant) → Names (noted p (learned p xs es) own) d → Names xs d ⊎ (Names es d ⊎ (own ≡ d))
+Names-from_table p xs es own d named =
+    elim (Contains-noted p (learned p xs es) own named.0 named.1) [
+      | inl among ↦ elim (Names-from_learned p xs es d (named.0, among, named.2)) [ inl h ↦ inl h | inr h ↦ inr (inl h) ]
+      | inr last ↦ inr (inr (ap (λ (y : Entry). y.det) last ∙ named.2))
+    ]

@@ -1,0 +1,5 @@
+use Rattle.fbl_law.proofs.GroupDeliver.{group_delivery_keeps}
+use Rattle.fbl_law.proofs.group_laws.group_delivery_law.Goals as goal
+
+pub returns : goal.returns
+returns c = group_delivery_keeps

@@ -1,0 +1,5 @@
+use Rattle.fbl_law.proofs.Run.{delivery_keeps}
+use Rattle.fbl_law.proofs.laws.delivery_law.Goals as goal
+
+pub returns : goal.returns
+returns c = delivery_keeps

@@ -1,0 +1,49 @@
+-- What a dump of a group has, for the audit.
+use Rattle.std.specs.Prelude.{ℕ, ◌+◌, ◌<◌, ◌≤◌, List, [], ◌∷◌, ◌++◌, map}
+use Rattle.std.specs.List.{IsDistinct}
+use Rattle.std.specs.FinSet as set
+use Rattle.fbl_base.specs.declared.trace.Determinant.{Determinant}
+use Rattle.fbl_base.specs.Events.{same_determinant}
+use Rattle.fbl_base.specs.MemberSets.{AllBelow}
+use Rattle.fbl_base.specs.Fold.{Next}
+use Rattle.fbl_base.specs.Audit.{Parts, IsDump, IsOrphan}
+use Rattle.fbl_table.specs.declared.entry.Entry.{Entry}
+use Rattle.fbl_member.specs.Members.{MemberRecord}
+use Rattle.fbl_law.specs.Record.{Members, Includes, IsDown}
+use Rattle.fbl_law.specs.Groups.{GroupRecord, member, marks, knowledge}
+use Rattle.fbl_law.specs.Sound.{IsSound}
+
+-- the member with each determinant of its table, in order
+abbrev pub pairs_of : ℕ → List Entry → List (ℕ × Determinant)
+pairs_of m table = map (λ e. (m, e.det)) table
+
+-- the pairs of the members, of which the first has the number m
+abbrev pub pairs_from : ℕ → List MemberRecord → List (ℕ × Determinant)
+pairs_from m [] = []
+pairs_from m (x ∷ members) = pairs_of m x.table ++ pairs_from (m + 1) members
+
+-- the held pairs: members in order, each table in its order
+abbrev pub held_pairs : GroupRecord → List (ℕ × Determinant)
+held_pairs r = pairs_from 0 r.members
+
+-- the trace without notes, the held pairs and the strike set given
+abbrev pub dump_of : GroupRecord → Members → Parts
+dump_of r strike =
+    record { members = r.config.members; f = r.config.f; events = marks r; held = held_pairs r; strike = strike }
+
+-- no table has a determinant twice
+abbrev pub HasDistinctTables : GroupRecord → Type 0
+HasDistinctTables r = (m : ℕ) → m < r.config.members → IsDistinct same_determinant (map (λ e. e.det) (member r m).table)
+
+-- a dump of a sound group, whose tables have no determinant twice, obeys the rules of dumps
+abbrev pub DumpObeysRules : Type 0
+DumpObeysRules =
+    (next : Next) (r : GroupRecord) (strike : Members)
+    → IsSound next r → HasDistinctTables r → AllBelow strike r.config.members → IsDump (dump_of r strike)
+
+-- whichever strike set has those that are down and at most f members in all, its dump has no orphan
+abbrev pub DumpHasNoOrphan : Type 0
+DumpHasNoOrphan =
+    (next : Next) (r : GroupRecord) (strike : Members) (m : ℕ)
+    → IsSound next r → ((q : ℕ) → IsDown (knowledge r) q → Includes strike q) → set.len strike ≤ r.config.f
+    → ¬ (IsOrphan (dump_of r strike) m)

@@ -1,0 +1,48 @@
+-- The laws of a group's record, for the functions that state them.
+use Rattle.std.specs.Prelude.{◌≡◌, ℕ, ◌<◌, ◌≤◌, ◌↔◌, true}
+use Rattle.std.specs.FinSet as set
+use Rattle.fbl_base.specs.declared.trace.Determinant.{Determinant}
+use Rattle.fbl_base.specs.declared.trace.Note.{Note}
+use Rattle.fbl_base.specs.Configs.{Settings, IsConfig}
+use Rattle.fbl_base.specs.MemberSets.{AllBelow}
+use Rattle.fbl_base.specs.Fold.{Next}
+use Rattle.fbl_base.specs.Steps.{SendsAllowed}
+use Rattle.fbl_member.specs.Members.{Message}
+use Rattle.fbl_law.specs.Record.{Members, IsRecorded}
+use Rattle.fbl_law.specs.Groups.{GroupRecord, knowledge, is_recorded}
+use Rattle.fbl_law.specs.Sound.{IsSound}
+use Rattle.fbl_law.specs.GroupSteps.{IsGroupStart, IsDelivery, IsStrike, IsRecovery}
+
+-- the behaviour's sends go to other members of the group, at most four at a step
+abbrev pub SendsWell : Next → Type 0
+SendsWell next = (me n state : ℕ) (note : Note) → 2 ≤ n → me < n → SendsAllowed me n (next me n state note)
+
+-- a group in which nothing is received yet is sound
+abbrev pub GroupStartIsSound : Type 0
+GroupStartIsSound =
+    (next : Next) (config : Settings) (r : GroupRecord)
+    → IsConfig config → IsGroupStart config r → IsSound next r
+
+-- a delivery keeps a group sound
+abbrev pub GroupDeliveryKeeps : Type 0
+GroupDeliveryKeeps =
+    (next : Next) (old new : GroupRecord) (v : Message)
+    → SendsWell next → IsDelivery next old new v → IsSound next old → IsSound next new
+
+-- so does a strike after which at most f members are down
+abbrev pub GroupStrikeKeeps : Type 0
+GroupStrikeKeeps =
+    (next : Next) (old new : GroupRecord) (struck : Members)
+    → IsStrike old new struck → AllBelow struck old.config.members → set.len new.down ≤ old.config.f → IsSound next old → IsSound next new
+
+-- so does a recovery
+abbrev pub GroupRecoveryKeeps : Type 0
+GroupRecoveryKeeps =
+    (next : Next) (old new : GroupRecord)
+    → IsRecovery next old new → IsSound next old → IsSound next new
+
+-- in a sound group the test of who has recorded a receipt is right
+abbrev pub RecordedTest : Type 0
+RecordedTest =
+    (next : Next) (r : GroupRecord) (d : Determinant)
+    → IsSound next r → (is_recorded r d ≡ true) ↔ IsRecorded (knowledge r) d

@@ -1,0 +1,52 @@
+-- A group's record as data.
+use Rattle.std.specs.Prelude.{ℕ, List, map, slice_index_or, Bool}
+use Rattle.std.specs.List.{filter, filter_map, list_any}
+use Rattle.fbl_base.specs.declared.trace.Determinant.{Determinant}
+use Rattle.fbl_base.specs.declared.trace.Event.{Event}
+use Rattle.fbl_base.specs.declared.trace.Mark.{Mark}
+use Rattle.fbl_base.specs.Configs.{Settings}
+use Rattle.fbl_base.specs.Events.{determinant_of, mark_of}
+use Rattle.fbl_table.specs.declared.entry.Entry.{Entry}
+use Rattle.fbl_table.specs.Tables.{is_held}
+use Rattle.fbl_member.specs.Members.{Message, MemberRecord, blank}
+use Rattle.fbl_law.specs.Record.{Members, Record}
+use Rattle.fbl_law.specs.Steps.{is_on}
+
+-- a group: its parameters, its members' records, the messages in flight in the order in which they were sent, its trace,
+-- who is down, and how many receipts were ever made and ever undone
+pub record GroupRecord : Type 0 where
+  pub config : Settings
+  pub members : List MemberRecord
+  pub flight : List Message
+  pub trace : List Event
+  pub down : Members
+  pub receipts_ever : ℕ
+  pub undone_ever : ℕ
+
+-- the record of a member
+abbrev pub member : GroupRecord → ℕ → MemberRecord
+member r m = slice_index_or r.members m blank
+
+-- the channel from q to p: the messages in flight from q to p, first in, first out
+abbrev pub channel : GroupRecord → ℕ → ℕ → List Message
+channel r q p = filter (is_on q p) r.flight
+
+-- the tables of the members, in member order
+abbrev pub tables : GroupRecord → List (List Entry)
+tables r = map (λ (m : MemberRecord). m.table) r.members
+
+-- the marks of the trace
+abbrev pub marks : GroupRecord → List Mark
+marks r = map mark_of r.trace
+
+-- the part of the record that the laws of causes speak of
+abbrev pub knowledge : GroupRecord → Record
+knowledge r = record { trace = marks r; tables = tables r; channel = channel r; down = r.down }
+
+-- whether some member's table has the determinant (that of a member that is down is empty)
+abbrev pub is_recorded : GroupRecord → Determinant → Bool
+is_recorded r d = list_any (λ (m : MemberRecord). is_held m.table d) r.members
+
+-- the determinants of the receipts of a trace, in order
+abbrev pub receipts : List Mark → List Determinant
+receipts trace = filter_map determinant_of trace

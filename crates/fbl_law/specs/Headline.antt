@@ -1,0 +1,58 @@
+-- What family-based logging promises of a group between any two calls: each receipt is held by more than f members or by
+-- each member that depends on it (always no orphans: Alvisi and Marzullo 1998), so a strike of at most f members leaves no
+-- orphan, and of each member's receipts the first ones are recorded.
+use Rattle.std.specs.Prelude.{◌≡◌, ℕ, ◌<◌, ◌≤◌, ◌⊎◌, true}
+use Rattle.std.specs.FinSet as set
+use Rattle.fbl_base.specs.declared.trace.Determinant.{Determinant}
+use Rattle.fbl_base.specs.Events.{receipt_of}
+use Rattle.fbl_base.specs.Precedence.{Has, Depends}
+use Rattle.fbl_base.specs.Fold.{Next}
+use Rattle.fbl_table.specs.Tables.{is_held}
+use Rattle.fbl_law.specs.Record.{Members, Includes, IsRecorded, IsAlwaysHeld, IsOrphan}
+use Rattle.fbl_law.specs.Groups.{GroupRecord, member, marks, knowledge}
+use Rattle.fbl_law.specs.GroupSteps.{IsStrike}
+use Rattle.fbl_law.specs.Sound.{IsSound}
+
+-- the member's table has the determinant
+abbrev pub IsHeldBy : GroupRecord → Determinant → ℕ → Type 0
+IsHeldBy r d m = is_held (member r m).table d ≡ true
+
+-- more than f members hold the determinant
+abbrev pub IsHeldByMore : GroupRecord → Determinant → Type 0
+IsHeldByMore r d = (holders : Members) × (r.config.f < set.len holders) × ((m : ℕ) → Includes holders m → IsHeldBy r d m)
+
+-- where nobody is down, each receipt of the trace is held by more than f members or by each member that depends on it
+abbrev pub EachReceiptIsHeld : Type 0
+EachReceiptIsHeld =
+    (next : Next) (r : GroupRecord) (d : Determinant)
+    → IsSound next r → r.down ≡ set.empty → Has (marks r) (receipt_of d)
+    → IsHeldByMore r d ⊎ ((m : ℕ) → Depends (marks r) m (receipt_of d) → IsHeldBy r d m)
+
+-- whoever is down, each receipt has more than f holders or is held by each up member that depends on it
+abbrev pub SoundIsAlwaysHeld : Type 0
+SoundIsAlwaysHeld = (next : Next) (r : GroupRecord) → IsSound next r → IsAlwaysHeld r.config.f (knowledge r)
+
+-- nobody is an orphan in a sound group
+abbrev pub SoundHasNoOrphan : Type 0
+SoundHasNoOrphan = (next : Next) (r : GroupRecord) (m : ℕ) → IsSound next r → ¬ (IsOrphan (knowledge r) m)
+
+-- nor is any survivor of a strike after which at most f members are down
+abbrev pub NoSurvivorIsOrphan : Type 0
+NoSurvivorIsOrphan =
+    (next : Next) (old new : GroupRecord) (struck : Members) (m : ℕ)
+    → IsSound next old → IsStrike old new struck → set.len new.down ≤ old.config.f → ¬ (IsOrphan (knowledge new) m)
+
+-- whichever members are struck, at most f with those that are down: what another member depends on, another member has
+-- in its table
+abbrev pub SurvivorsHold : Type 0
+SurvivorsHold =
+    (next : Next) (r : GroupRecord) (struck : Members) (m : ℕ) (d : Determinant)
+    → IsSound next r → set.len (set.union r.down struck) ≤ r.config.f
+    → ¬ (Includes (set.union r.down struck) m) → Depends (marks r) m (receipt_of d)
+    → (q : ℕ) × ¬ (Includes (set.union r.down struck) q) × IsHeldBy r d q
+
+-- of the receipts of each member, up or down, those up to a recorded one are recorded
+abbrev pub RecordedIsPrefix : Type 0
+RecordedIsPrefix =
+    (next : Next) (r : GroupRecord) (c d : Determinant)
+    → IsSound next r → Has (marks r) (receipt_of c) → c.to ≡ d.to → c.rsn ≤ d.rsn → IsRecorded (knowledge r) d → IsRecorded (knowledge r) c

@@ -1,0 +1,13 @@
+pub mod Record
+pub mod Steps
+pub mod Run
+pub mod Laws
+pub mod Replay
+pub mod Groups
+pub mod Sound
+pub mod GroupSteps
+pub mod GroupLaws
+pub mod Headline
+pub mod Dumps
+pub mod Replaying
+pub mod RecoveryLaws

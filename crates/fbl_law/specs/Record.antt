@@ -1,0 +1,120 @@
+-- What a group's tables know: holders, recorded, stable, true knowledge, closed, always held. A receipt's holders are
+-- Log(m), the members that depend on it Depend(m), and that each receipt is stable or held by each member that depends
+-- on it is the always-no-orphans condition, of Alvisi and Marzullo, Message Logging: Pessimistic, Optimistic, Causal and
+-- Optimal (IEEE TSE 24(2), 1998). Orphans are those of Elnozahy, Alvisi, Wang and Johnson (ACM CSUR 34(3), 2002).
+use Rattle.std.specs.Prelude.{◌≡◌, ℕ, ◌<◌, ◌≤◌, ◌⊎◌, true, false, List, [], get_or, map}
+use Rattle.std.specs.List.{Contains}
+use Rattle.std.specs.Ordering.{nat_cmp}
+use Rattle.std.specs.FinSet as set
+use Rattle.fbl_base.specs.declared.trace.Determinant.{Determinant}
+use Rattle.fbl_base.specs.declared.trace.Mark.{Mark}
+use Rattle.fbl_base.specs.declared.trace.Mark.TheVariants.{Send}
+use Rattle.fbl_base.specs.Events.{member_of}
+use Rattle.fbl_base.specs.Precedence.{Has, Precedes, Depends}
+use Rattle.fbl_base.specs.Rules.{WellFormed, in_flight}
+use Rattle.fbl_base.specs.Events.{receipt_of}
+use Rattle.fbl_table.specs.declared.entry.Entry.{Entry}
+use Rattle.fbl_member.specs.Members.{Message}
+
+-- a set of members
+abbrev pub Members : Type 0
+Members = set.FinSet nat_cmp
+
+-- the set has the member
+abbrev pub Includes : Members → ℕ → Type 0
+Includes s m = set.contains s m ≡ true
+
+-- what the laws of causes speak of: the group's trace, each member's table, the channel of each pair of members, and
+-- who is down
+pub record Record : Type 0 where
+  pub trace : List Mark
+  pub tables : List (List Entry)
+  pub channel : ℕ → ℕ → List Message
+  pub down : Members
+
+-- the table of a member
+abbrev pub table : Record → ℕ → List Entry
+table r m = get_or r.tables m []
+
+-- the send of a message
+abbrev pub send_mark : Message → Mark
+send_mark v = Send v.from v.ssn v.to
+
+-- the message is in the channel from its sender to its receiver
+abbrev pub IsInFlight : Record → Message → Type 0
+IsInFlight r v = Contains (r.channel v.from v.to) v
+
+abbrev pub IsDown : Record → ℕ → Type 0
+IsDown r m = set.contains r.down m ≡ true
+
+abbrev pub IsUp : Record → ℕ → Type 0
+IsUp r m = set.contains r.down m ≡ false
+
+-- some entry has the determinant
+abbrev pub Names : List Entry → Determinant → Type 0
+Names entries d = (e : Entry) × Contains entries e × (e.det ≡ d)
+
+-- the member is up, and its table has the determinant
+abbrev pub Holds : Record → Determinant → ℕ → Type 0
+Holds r d m = IsUp r m × Names (table r m) d
+
+-- the determinant is recorded: some member holds it
+abbrev pub IsRecorded : Record → Determinant → Type 0
+IsRecorded r d = (m : ℕ) × Holds r d m
+
+-- the member counts as a holder: it holds the determinant, or it is down and recovery will give it to it
+abbrev pub IsHolder : Record → Determinant → ℕ → Type 0
+IsHolder r d m = Holds r d m ⊎ (IsDown r m × IsRecorded r d)
+
+-- more than f members are holders
+abbrev pub IsStable : ℕ → Record → Determinant → Type 0
+IsStable f r d = (s : Members) × (f < set.len s) × ((m : ℕ) → Includes s m → IsHolder r d m)
+
+-- the entry is of a receipt of the trace, and each member known to it is a holder
+abbrev pub IsTrueEntry : Record → Entry → Type 0
+IsTrueEntry r e = Has r.trace (receipt_of e.det) × ((m : ℕ) → Includes e.known m → IsHolder r e.det m)
+
+-- true knowledge: entries are true, a table's entry is known to be held by the table's member, and a message's sender
+-- holds what the message carries
+pub record KnowsTruth (r : Record) : Type 0 where
+  pub tables : (m : ℕ) (e : Entry) → IsUp r m → Contains (table r m) e → IsTrueEntry r e × Includes e.known m
+  pub messages : (v : Message) (e : Entry) → IsInFlight r v → Contains v.carried e → IsTrueEntry r e × Holds r e.det v.from
+
+-- the entries name each receipt that precedes the event, but for stable ones
+abbrev pub NamesCauses : ℕ → Record → List Entry → Mark → Type 0
+NamesCauses f r entries b = (d : Determinant) → Precedes r.trace (receipt_of d) b → Names entries d ⊎ IsStable f r d
+
+-- the tables of up members and the carried lists are closed: a table names the causes of its member's events and of
+-- the receipts that it names, a carried list those of its message's send and of the receipts that it names
+pub record IsClosed (f : ℕ) (r : Record) : Type 0 where
+  pub events : (m : ℕ) (b : Mark) → IsUp r m → member_of b ≡ m → NamesCauses f r (table r m) b
+  pub tables : (m : ℕ) (c : Determinant) → IsUp r m → Names (table r m) c → NamesCauses f r (table r m) (receipt_of c)
+  pub sends : (v : Message) → IsInFlight r v → NamesCauses f r v.carried (send_mark v)
+  pub carried : (v : Message) (c : Determinant) → IsInFlight r v → Names v.carried c → NamesCauses f r v.carried (receipt_of c)
+
+-- each receipt of the trace has more than f holders, or is held by each up member that depends on it
+abbrev pub IsAlwaysHeld : ℕ → Record → Type 0
+IsAlwaysHeld f r =
+    (d : Determinant) → Has r.trace (receipt_of d) → IsStable f r d ⊎ ((m : ℕ) → IsUp r m → Depends r.trace m (receipt_of d) → Holds r d m)
+
+-- an up member is an orphan where it depends on a receipt that isn't recorded
+abbrev pub IsOrphan : Record → ℕ → Type 0
+IsOrphan r m = IsUp r m × ((d : Determinant) × Depends r.trace m (receipt_of d) × ¬ (IsRecorded r d))
+
+-- the channel from q to p has the messages that the trace has in flight from q to p, in order
+abbrev pub MatchesTrace : Record → ℕ → ℕ → Type 0
+MatchesTrace r q p = map send_mark (r.channel q p) ≡ map (λ ssn. Send q ssn p) (in_flight r.trace q p)
+
+-- at most f members are down, and they have nothing, nor is anything in flight from them or to them
+pub record IsDownEmpty (f : ℕ) (r : Record) : Type 0 where
+  pub few : set.len r.down ≤ f
+  pub tables : (m : ℕ) → IsDown r m → table r m ≡ []
+  pub channels : (q p : ℕ) → IsDown r q ⊎ IsDown r p → r.channel q p ≡ []
+
+-- what holds of what the tables of a group of n members know, between two calls
+pub record IsSoundKnowledge (n f : ℕ) (r : Record) : Type 0 where
+  pub rules : WellFormed n r.trace
+  pub truth : KnowsTruth r
+  pub closed : IsClosed f r
+  pub channels : (q p : ℕ) → IsUp r q → IsUp r p → MatchesTrace r q p
+  pub down : IsDownEmpty f r

@@ -1,0 +1,73 @@
+-- The laws of a group's recovery, for the functions that state them.
+use Rattle.std.specs.Prelude.{◌≡◌, ℕ, ◌+◌, ◌<◌, ◌⊎◌, ◌↔◌, not, List, length, map, slice_index_or, slice_set, Some}
+use Rattle.std.specs.List.{filter}
+use Rattle.fbl_base.specs.declared.trace.Determinant.{Determinant}
+use Rattle.fbl_base.specs.declared.trace.Note.{Note}
+use Rattle.fbl_base.specs.Events.{mark_of}
+use Rattle.fbl_base.specs.Fold.{Next}
+use Rattle.fbl_table.specs.Tables.{found}
+use Rattle.fbl_member.specs.Members.{MemberRecord, blank, logged_note, replayed_by}
+use Rattle.fbl_law.specs.Record.{Holds, IsHolder, IsDown, IsRecorded}
+use Rattle.fbl_law.specs.Steps.{Stays, IsEventCut}
+use Rattle.fbl_law.specs.Groups.{GroupRecord, marks, knowledge, receipts, is_recorded}
+use Rattle.fbl_law.specs.Sound.{IsSound}
+use Rattle.fbl_law.specs.GroupSteps.{IsRecovery}
+use Rattle.fbl_law.specs.Replaying.{receipts_at, gathered_table, recovered_trace, working, IsReplaying, IsWaiting, IsRebuilt}
+
+-- the holders of a receipt after a recovery are those before
+abbrev pub GroupHoldersStay : Type 0
+GroupHoldersStay =
+    (next : Next) (old new : GroupRecord) (d : Determinant) (m : ℕ)
+    → IsRecovery next old new → IsSound next old → Holds (knowledge new) d m ↔ IsHolder (knowledge old) d m
+
+-- so those of a recorded receipt are those before, and the members that were down
+abbrev pub HoldersGainTheDown : Type 0
+HoldersGainTheDown =
+    (next : Next) (old new : GroupRecord) (d : Determinant) (m : ℕ)
+    → IsRecovery next old new → IsSound next old → IsRecorded (knowledge old) d → Holds (knowledge new) d m ↔ Holds (knowledge old) d m ⊎ IsDown (knowledge old) m
+
+-- a recovery leaves the recorded receipts, in their order
+abbrev pub RecoveryLeavesRecorded : Type 0
+RecoveryLeavesRecorded =
+    (next : Next) (old new : GroupRecord)
+    → IsRecovery next old new → IsSound next old → receipts (marks new) ≡ filter (is_recorded old) (receipts (marks old))
+
+-- and it undoes the others
+abbrev pub RecoveryUndoesLost : Type 0
+RecoveryUndoesLost =
+    (next : Next) (old new : GroupRecord)
+    → IsRecovery next old new → IsSound next old
+    → length (receipts (marks new)) + length (filter (λ d. not (is_recorded old d)) (receipts (marks old))) ≡ length (receipts (marks old))
+
+-- one pass over the trace computes the cut, and there is no other
+abbrev pub OnePassCuts : Type 0
+OnePassCuts =
+    (next : Next) (old : GroupRecord) → IsSound next old → IsEventCut (Stays (knowledge old)) old.trace (recovered_trace old)
+
+abbrev pub CutIsOne : Type 0
+CutIsOne =
+    (next : Next) (old new : GroupRecord) → IsRecovery next old new → IsSound next old → new.trace ≡ recovered_trace old
+
+-- a receipt that the gathered tables find is the member's next one, and its replay, with the note that the sender's log
+-- has, is right
+abbrev pub ReplayIsRight : Type 0
+ReplayIsRight =
+    (next : Next) (old : GroupRecord) (rebuilt : List MemberRecord) (p : ℕ) (d : Determinant) (note : Note)
+    → IsSound next old → IsReplaying next old rebuilt → p < old.config.members → IsDown (knowledge old) p
+    → found p ((slice_index_or rebuilt p blank).received + 1) (gathered_table old) ≡ Some d
+    → logged_note (working old rebuilt d.from).log d.ssn ≡ Some note
+    → IsReplaying next old (slice_set rebuilt p (replayed_by next p old.config.members (slice_index_or rebuilt p blank) d note))
+
+-- replay never gets stuck: where each member that is down waits, each has replayed all its receipts that stay
+abbrev pub ReplayEnds : Type 0
+ReplayEnds =
+    (next : Next) (old : GroupRecord) (rebuilt : List MemberRecord)
+    → IsSound next old → IsReplaying next old rebuilt → ((p : ℕ) → p < old.config.members → IsDown (knowledge old) p → IsWaiting old rebuilt p)
+    → (p : ℕ) → p < old.config.members → IsDown (knowledge old) p → (slice_index_or rebuilt p blank).received ≡ length (receipts_at (map mark_of (recovered_trace old)) p)
+
+-- and the records then rebuilt make a recovery
+abbrev pub RebuiltIsRecovered : Type 0
+RebuiltIsRecovered =
+    (next : Next) (old new : GroupRecord) (rebuilt : List MemberRecord)
+    → IsSound next old → IsReplaying next old rebuilt → ((p : ℕ) → p < old.config.members → IsDown (knowledge old) p → IsWaiting old rebuilt p)
+    → IsRebuilt old new rebuilt → IsRecovery next old new

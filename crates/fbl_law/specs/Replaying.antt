@@ -1,0 +1,131 @@
+-- Where a member that replays its receipts has come.
+use Rattle.std.specs.Prelude.{◌≡◌, ◌≢◌, ℕ, zero, suc, ◌+◌, ◌<◌, ◌≤◌, ◌==◌, ◌&&◌, ◌||◌, ◌⊎◌, not, nat_le, Bool, false, List, [], ◌∷◌, ◌++◌, length, map, take, slice_index_or, Some, None, if◌then◌else◌}
+use Rattle.std.specs.List.{filter, filter_map, fold}
+use Rattle.std.specs.FinSet as set
+use Rattle.fbl_base.specs.declared.trace.Determinant.{Determinant}
+use Rattle.fbl_base.specs.declared.trace.Note.{Note}
+use Rattle.fbl_base.specs.declared.trace.Event.{Event}
+use Rattle.fbl_base.specs.declared.trace.Mark.{Mark}
+use Rattle.fbl_base.specs.declared.trace.Mark.TheVariants.{Send, Receipt}
+use Rattle.fbl_base.specs.declared.trace.Start.{Start}
+use Rattle.fbl_base.specs.Events.{determinant_of, mark_of, member_of}
+use Rattle.fbl_base.specs.Fold.{Next, after_notes}
+use Rattle.fbl_table.specs.declared.entry.Entry.{Entry}
+use Rattle.fbl_table.specs.Tables.{is_held, found, marked, piggybacked}
+use Rattle.fbl_member.specs.Members.{Message, MemberRecord, progress_of, last_from, blank, logged_note, logged_beyond}
+use Rattle.fbl_law.specs.Record.{Members, IsDown, IsUp}
+use Rattle.fbl_law.specs.Steps.{gathered_all}
+use Rattle.fbl_law.specs.Groups.{GroupRecord, member, channel, tables, marks, knowledge, receipts}
+use Rattle.fbl_law.specs.Sound.{received_notes}
+
+-- the determinants of the member's receipts, in order
+abbrev pub receipts_at : List Mark → ℕ → List Determinant
+receipts_at trace p = filter (λ d. d.to == p) (filter_map determinant_of trace)
+
+-- the number of the last message from q that these receipts take, 0 if there is none
+abbrev pub last_among : List Determinant → ℕ → ℕ
+last_among ds q = fold (λ last d. if d.from == q then d.ssn else last) 0 ds
+
+-- the member p is at the fold of its first receipts in the trace, as many as it has had
+pub record IsReplayed (next : Next) (n : ℕ) (starts : List Start) (trace : List Event) (p : ℕ) (m : MemberRecord) : Type 0 where
+  pub within : m.received ≤ length (receipts_at (map mark_of trace) p)
+  pub progress : progress_of m ≡ after_notes next p n starts (take m.received (received_notes trace p))
+  pub places : length m.last ≡ 16
+  pub last : (q : ℕ) → q < 16 → last_from m q ≡ last_among (take m.received (receipts_at (map mark_of trace) p)) q
+
+-- the determinant is that of the next receipt of the member p, from another member, and there is room for it
+pub record IsNextReplay (n p : ℕ) (m : MemberRecord) (d : Determinant) : Type 0 where
+  pub to : d.to ≡ p
+  pub rsn : d.rsn ≡ m.received + 1
+  pub from : d.from < n
+  pub other : d.from ≢ p
+  pub room : m.received < 8192
+
+-- these counts of the members of the set that are below n, in all
+abbrev pub count_in : Members → (ℕ → ℕ) → ℕ → ℕ
+count_in s count zero = 0
+count_in s count (suc n) = count_in s count n + (if set.contains s n then count n else 0)
+
+-- the determinant of a receipt of a member of the set
+abbrev pub is_of : Members → Determinant → Bool
+is_of s d = set.contains s d.to
+
+-- whether the event is a receipt, of a member of the set, whose determinant isn't in the table
+abbrev pub is_lost : Members → List Entry → Mark → Bool
+is_lost s held (Send from ssn to) = false
+is_lost s held (Receipt to rsn from ssn) = set.contains s to && not (is_held held (record { from = from; ssn = ssn; to = to; rsn = rsn }))
+
+-- the trace in one pass, where the members that have stopped are left out, and a member stops at its first lost receipt
+abbrev pub cut_from : Members → List Entry → Members → List Event → List Event
+cut_from s held stopped [] = []
+cut_from s held stopped (e ∷ trace) =
+    if set.contains stopped (member_of (mark_of e)) then cut_from s held stopped trace
+    else (if is_lost s held (mark_of e) then cut_from s held (set.insert stopped (member_of (mark_of e))) trace
+    else e ∷ cut_from s held stopped trace)
+
+-- what recovery gives the members that are down: the survivors' tables, gathered in member order, where those that are
+-- down count as holders
+abbrev pub gathered_table : GroupRecord → List Entry
+gathered_table r = marked r.down (gathered_all [] (tables r))
+
+-- the trace that recovery leaves
+abbrev pub recovered_trace : GroupRecord → List Event
+recovered_trace r = cut_from r.down (gathered_table r) set.empty r.trace
+
+-- whether the event stays, by how many receipts and sends the members of the set have after their replay
+abbrev pub stays_by : Members → (ℕ → MemberRecord) → Mark → Bool
+stays_by s work (Send from ssn to) = not (set.contains s from) || nat_le ssn (length (work from).log)
+stays_by s work (Receipt to rsn from ssn) = not (set.contains s to) || nat_le rsn (work to).received
+
+-- messages from one member to another with these numbers and notes, all with the same entries
+abbrev pub resent : ℕ → ℕ → List Entry → List (ℕ × Note) → List Message
+resent q p carried sends = map (λ s. record { from = q; to = p; ssn = s.0; note = s.1; carried = carried }) sends
+
+-- what q sends to p again: the messages of its log beyond the last one that p received, each with what q passes on
+abbrev pub resent_to : ℕ → ℕ → ℕ → MemberRecord → MemberRecord → List Message
+resent_to f q p from to = resent q p (piggybacked f from.table) (logged_beyond from.log p (last_from to q))
+
+-- the records while the members that are down replay: theirs are rebuilt, the survivors' are as they were
+abbrev pub working : GroupRecord → List MemberRecord → ℕ → MemberRecord
+working r rebuilt q = if set.contains r.down q then slice_index_or rebuilt q blank else member r q
+
+-- each member that is down has a record that has come so far in its replay of the trace that recovery leaves
+pub record IsReplaying (next : Next) (r : GroupRecord) (rebuilt : List MemberRecord) : Type 0 where
+  pub size : length rebuilt ≡ r.config.members
+  pub replayed : (p : ℕ) → p < r.config.members → IsDown (knowledge r) p → IsReplayed next r.config.members r.config.starts (recovered_trace r) p (slice_index_or rebuilt p blank)
+
+-- a member that is down waits for the message that it received next: the gathered tables find no such receipt, or the
+-- sender has not sent the message again
+abbrev pub IsWaiting : GroupRecord → List MemberRecord → ℕ → Type 0
+IsWaiting r rebuilt p =
+    (d : Determinant) → found p ((slice_index_or rebuilt p blank).received + 1) (gathered_table r) ≡ Some d → logged_note (working r rebuilt d.from).log d.ssn ≡ None
+
+-- how many receipts were replayed
+abbrev pub replayed_in : GroupRecord → List MemberRecord → ℕ
+replayed_in r rebuilt = count_in r.down (λ p. (slice_index_or rebuilt p blank).received) r.config.members
+
+-- a group after the replay: the trace is cut, survivors and their channels stay, each member that was down has its
+-- rebuilt record with the gathered table, and each channel with such an end has what its sender sends again
+pub record IsRebuilt (old new : GroupRecord) (replayed : List MemberRecord) : Type 0 where
+  pub nobody_down : new.down ≡ set.empty
+  pub trace : new.trace ≡ recovered_trace old
+  pub size : length new.members ≡ length old.members
+  pub survivors : (m : ℕ) → IsUp (knowledge old) m → member new m ≡ member old m
+  pub rebuilt : (m : ℕ) → m < old.config.members → IsDown (knowledge old) m → member new m ≡ record (slice_index_or replayed m blank) { table = gathered_table old }
+  pub channels : (q p : ℕ) → IsUp (knowledge old) q → IsUp (knowledge old) p → channel new q p ≡ channel old q p
+  pub resent : (q p : ℕ) → IsDown (knowledge old) q ⊎ IsDown (knowledge old) p → q < old.config.members → p < old.config.members → channel new q p ≡ resent_to old.config.f q p (member new q) (member new p)
+  pub outside : (q p : ℕ) → old.config.members ≤ q ⊎ old.config.members ≤ p → channel new q p ≡ []
+  pub config : new.config ≡ old.config
+  pub receipts_ever : new.receipts_ever ≡ old.receipts_ever
+  pub undone_ever : new.undone_ever + length (receipts (marks new)) ≡ old.undone_ever + length (receipts (marks old))
+
+-- what q sends again to each member below p, where one of the two was down
+abbrev pub resent_row : ℕ → Members → (ℕ → MemberRecord) → ℕ → ℕ → List Message
+resent_row f s work q zero = []
+resent_row f s work q (suc p) =
+    resent_row f s work q p ++ (if set.contains s q || set.contains s p then resent_to f q p (work q) (work p) else [])
+
+-- what each member below q sends again to the members below n
+abbrev pub resent_rows : ℕ → Members → (ℕ → MemberRecord) → ℕ → ℕ → List Message
+resent_rows f s work n zero = []
+resent_rows f s work n (suc q) = resent_rows f s work n q ++ resent_row f s work q n

@@ -1,0 +1,43 @@
+-- What holds of a group's record between any two calls.
+use Rattle.std.specs.Prelude.{◌≡◌, ℕ, ◌+◌, ◌<◌, ◌≤◌, List, length, Some}
+use Rattle.std.specs.List.{Contains, filter_map, fold}
+use Rattle.fbl_base.specs.declared.trace.Note.{Note}
+use Rattle.fbl_base.specs.declared.trace.Event.{Event}
+use Rattle.fbl_base.specs.declared.trace.Mark.{Mark}
+use Rattle.fbl_base.specs.Configs.{IsConfig}
+use Rattle.fbl_base.specs.Fold.{Next, Lawful, actions_of, notes_of, note_of, after_notes}
+use Rattle.fbl_base.specs.MemberSets.{AllBelow}
+use Rattle.fbl_base.specs.Rules.{taken_on}
+use Rattle.fbl_member.specs.Members.{Message, progress_of, last_from, blank}
+use Rattle.fbl_law.specs.Record.{IsUp, IsDown, IsSoundKnowledge}
+use Rattle.fbl_law.specs.Groups.{GroupRecord, member, marks, knowledge, receipts}
+
+-- the notes that the member received in the trace, in order
+abbrev pub received_notes : List Event → ℕ → List Note
+received_notes trace m = notes_of (actions_of trace m)
+
+-- the number of the last message that p received from q, 0 if there is none
+abbrev pub last_taken : List Mark → ℕ → ℕ → ℕ
+last_taken trace q p = fold (λ last ssn. ssn) 0 (filter_map (taken_on q p) trace)
+
+-- the member is at the fold of its receipts in the trace: its state, its counts and its log are those of its starts and
+-- then each receipt in turn, and it knows the last message from each member
+pub record IsFold (next : Next) (r : GroupRecord) (m : ℕ) : Type 0 where
+  pub progress : progress_of (member r m) ≡ after_notes next m r.config.members r.config.starts (received_notes r.trace m)
+  pub places : length (member r m).last ≡ 16
+  pub last : (q : ℕ) → q < 16 → last_from (member r m) q ≡ last_taken (marks r) q m
+
+-- a group's record is sound: its trace is lawful and within its limit, each up member is at the fold of its receipts and
+-- each down member is blank, what the tables know is true and closed, the channels have exactly the messages not yet
+-- received, each with the note with which it was sent, at most f members are down, and the counters agree with the trace
+pub record IsSound (next : Next) (r : GroupRecord) : Type 0 where
+  pub config : IsConfig r.config
+  pub members : length r.members ≡ r.config.members
+  pub down : AllBelow r.down r.config.members
+  pub lawful : Lawful next r.config.members r.config.starts r.trace
+  pub room : length r.trace ≤ r.config.limit
+  pub causes : IsSoundKnowledge r.config.members r.config.f (knowledge r)
+  pub folds : (m : ℕ) → m < r.config.members → IsUp (knowledge r) m → IsFold next r m
+  pub blanks : (m : ℕ) → m < r.config.members → IsDown (knowledge r) m → member r m ≡ blank
+  pub notes : (v : Message) → Contains r.flight v → note_of r.trace v.from v.ssn ≡ Some v.note
+  pub counted : length (receipts (marks r)) + r.undone_ever ≡ r.receipts_ever

@@ -1,0 +1,88 @@
+-- The steps of a record: a delivery, a strike, a recovery.
+use Rattle.std.specs.Prelude.{◌≡◌, ◌≢◌, ℕ, ◌⊎◌, ◌↔◌, ◌==◌, ◌&&◌, Bool, true, Some, List, [], ◌∷◌, ◌++◌, map, drop, slice_get, if◌then◌else◌}
+use Rattle.std.specs.List.{Contains, filter}
+use Rattle.std.specs.FinSet as set
+use Rattle.fbl_base.specs.declared.trace.Determinant.{Determinant}
+use Rattle.fbl_base.specs.declared.trace.Mark.{Mark}
+use Rattle.fbl_base.specs.declared.trace.Event.{Event}
+use Rattle.fbl_base.specs.Events.{member_of, mark_of}
+use Rattle.fbl_base.specs.Precedence.{Has, Earlier}
+use Rattle.fbl_base.specs.Rules.{WellFormed}
+use Rattle.fbl_base.specs.Events.{receipt_of}
+use Rattle.fbl_law.specs.Record.{Members, Record, table, send_mark, IsInFlight, IsDown, IsUp, IsRecorded, MatchesTrace}
+use Rattle.fbl_table.specs.declared.entry.Entry.{Entry}
+use Rattle.fbl_table.specs.Tables.{learned, noted, piggybacked, gathered, marked}
+use Rattle.fbl_member.specs.Members.{Message}
+
+-- several tables' entries, one table after the other
+abbrev pub gathered_all : List Entry → List (List Entry) → List Entry
+gathered_all table [] = table
+gathered_all table (t ∷ ts) = gathered_all (gathered table t) ts
+
+-- the determinant of the receipt of a message
+abbrev pub determinant : Message → ℕ → Determinant
+determinant v rsn = record { from = v.from; ssn = v.ssn; to = v.to; rsn = rsn }
+
+-- the message goes from q to p
+abbrev pub is_on : ℕ → ℕ → Message → Bool
+is_on q p v = v.from == q && v.to == p
+
+-- the messages among these that go from q to p
+abbrev pub between : ℕ → ℕ → List Message → List Message
+between q p made = filter (is_on q p) made
+
+-- what is left of a channel where the message v is taken off its front
+abbrev pub taken_off : Message → ℕ → ℕ → List Message → List Message
+taken_off v q p channel = if v.from == q && v.to == p then drop 1 channel else channel
+
+-- what the delivery of the message v leaves, where the step makes these messages: v is off its channel, the receiver
+-- has learned what v carried and noted its receipt, and the messages made carry what the receiver then passes on
+pub record IsDelivered (n f : ℕ) (old new : Record) (v : Message) (rsn : ℕ) (made : List Message) : Type 0 where
+  pub nobody_down : old.down ≡ set.empty
+  pub down : new.down ≡ set.empty
+  pub front : slice_get (old.channel v.from v.to) 0 ≡ Some v
+  pub trace : new.trace ≡ old.trace ++ receipt_of (determinant v rsn) ∷ map send_mark made
+  pub rules : WellFormed n new.trace
+  pub receiver : table new v.to ≡ noted v.to (learned v.to (table old v.to) v.carried) (determinant v rsn)
+  pub others : (m : ℕ) → m ≢ v.to → table new m ≡ table old m
+  pub messages : (x : Message) → Contains made x → (x.from ≡ v.to) × (x.carried ≡ piggybacked f (table new v.to))
+  pub channels : (q p : ℕ) → new.channel q p ≡ taken_off v q p (old.channel q p) ++ between q p made
+
+-- what a strike leaves: the members named are down beside those that were, and what they held and what was in flight
+-- from them or to them is gone
+pub record IsStruck (old new : Record) (struck : Members) : Type 0 where
+  pub down : new.down ≡ set.union old.down struck
+  pub trace : new.trace ≡ old.trace
+  pub tables : (m : ℕ) → IsUp new m → table new m ≡ table old m
+  pub blank : (m : ℕ) → IsDown new m → table new m ≡ []
+  pub channels : (q p : ℕ) → IsUp new q → IsUp new p → new.channel q p ≡ old.channel q p
+  pub emptied : (q p : ℕ) → IsDown new q ⊎ IsDown new p → new.channel q p ≡ []
+
+-- a comes no later than b
+abbrev pub UpTo : List Mark → Mark → Mark → Type 0
+UpTo trace a b = (a ≡ b) ⊎ Earlier trace a b
+
+-- the event stays: its member is up, or each of the member's receipts up to it is recorded
+abbrev pub Stays : Record → Mark → Type 0
+Stays r e = IsDown r (member_of e) → (c : Determinant) → c.to ≡ member_of e → UpTo r.trace (receipt_of c) e → IsRecorded r c
+
+-- the second trace is the first one without the events that don't stay
+abbrev pub IsCut : (Mark → Type 0) → List Mark → List Mark → Type 0
+IsCut Kept old new = (keep : Mark → Bool) × (new ≡ filter keep old) × ((e : Mark) → Has old e → (keep e ≡ true) ↔ Kept e)
+
+-- the same of traces with notes
+abbrev pub IsEventCut : (Mark → Type 0) → List Event → List Event → Type 0
+IsEventCut Kept old new =
+    (keep : Mark → Bool) × (new ≡ filter (λ e. keep (mark_of e)) old) × ((e : Mark) → Has (map mark_of old) e → (keep e ≡ true) ↔ Kept e)
+
+-- what recovery leaves: nobody is down, the trace is cut, the tables of up members and the channels between them stay,
+-- the others have the tables gathered in member order, marked with those that were down (whose own tables are empty),
+-- and their channels are made again from the trace, carrying what the sender then passes on
+pub record IsRecovered (f : ℕ) (old new : Record) : Type 0 where
+  pub nobody_down : new.down ≡ set.empty
+  pub trace : IsCut (Stays old) old.trace new.trace
+  pub tables : (m : ℕ) → IsUp old m → table new m ≡ table old m
+  pub gathered : (m : ℕ) → IsDown old m → table new m ≡ marked old.down (gathered_all [] old.tables)
+  pub channels : (q p : ℕ) → IsUp old q → IsUp old p → new.channel q p ≡ old.channel q p
+  pub rebuilt : (q p : ℕ) → IsDown old q ⊎ IsDown old p → MatchesTrace new q p
+  pub messages : (v : Message) → IsInFlight new v → IsDown old v.from ⊎ IsDown old v.to → v.carried ≡ piggybacked f (table new v.from)

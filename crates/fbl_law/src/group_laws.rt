@@ -1,0 +1,23 @@
+ghost use Rattle.fbl_law.specs.GroupLaws.{GroupDeliveryKeeps, GroupStartIsSound, GroupStrikeKeeps, RecordedTest};
+
+/// A group in which nothing is received yet is sound: its trace has the starts alone, so there is no determinant to hold.
+pub fn group_start_law()
+    ensures { GroupStartIsSound }
+{}
+
+/// A delivery keeps a group sound: the determinants of the receipts that the message depends on come with it, so the
+/// receiver's state is again a fold of its receipts and its table names what it depends on, but for stable receipts.
+pub fn group_delivery_law()
+    ensures { GroupDeliveryKeeps }
+{}
+
+/// A strike after which at most f members are down keeps a group sound: of the more than f holders of a stable receipt
+/// one survives.
+pub fn group_strike_law()
+    ensures { GroupStrikeKeeps }
+{}
+
+/// In a sound group a receipt is recorded exactly where some member's table has its determinant.
+pub fn recorded_law()
+    ensures { RecordedTest }
+{}

@@ -1,0 +1,28 @@
+ghost use Rattle.fbl_law.specs.Dumps.{DumpHasNoOrphan, DumpObeysRules};
+ghost use Rattle.fbl_law.specs.Headline.{EachReceiptIsHeld, NoSurvivorIsOrphan, RecordedIsPrefix, SoundHasNoOrphan, SoundIsAlwaysHeld, SurvivorsHold};
+
+/// In a sound group each receipt is held by more than f members or by each member that depends on it: the condition of
+/// "always no orphans".
+pub fn always_held_law()
+    ensures tables { EachReceiptIsHeld }
+    ensures holders { SoundIsAlwaysHeld }
+{}
+
+/// Whichever at most f members are struck, no survivor is an orphan: what a survivor depends on, a survivor has recorded.
+pub fn no_orphan_law()
+    ensures sound { SoundHasNoOrphan }
+    ensures struck { NoSurvivorIsOrphan }
+    ensures recorded { SurvivorsHold }
+{}
+
+/// The recorded receipts of a member, up or down, are its first ones, so that it can be put at the fold of them.
+pub fn recorded_prefix_law()
+    ensures { RecordedIsPrefix }
+{}
+
+/// A dump of a sound group obeys the rules of dumps, and where its strike set has those that are down and at most f
+/// members in all, the audit finds no orphan in it.
+pub fn dump_law()
+    ensures rules { DumpObeysRules }
+    ensures no_orphan { DumpHasNoOrphan }
+{}

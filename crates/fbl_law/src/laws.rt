@@ -1,0 +1,40 @@
+ghost use Rattle.fbl_law.specs.Laws.{ClosedIsHeld, ClosedHasNoOrphan, RecordedFromBelow, RecordedFirst, SurvivorsRecord, DeliveryKeeps, StrikeKeeps, RecoveryKeeps, StaysIsRecorded, CutIsClosed, CutIsRecorded, HoldersStay, CutIsLawful, NeverStuck, RunIsSound, RunIsHeld};
+
+/// Tables that name their causes hold each receipt that isn't stable, so nobody is an orphan, and what is recorded of a
+/// member's receipts are its first ones.
+pub fn closed_law()
+    ensures held { ClosedIsHeld }
+    ensures orphans { ClosedHasNoOrphan }
+    ensures causes { RecordedFromBelow }
+    ensures first { RecordedFirst }
+{}
+
+/// A delivery keeps a record sound.
+pub fn delivery_law()
+    ensures { DeliveryKeeps }
+{}
+
+/// A strike keeps a record sound, and what a survivor depends on a survivor has recorded.
+pub fn strike_law()
+    ensures sound { StrikeKeeps }
+    ensures survivors { SurvivorsRecord }
+{}
+
+/// A recovery keeps a record sound, and its trace is the recorded part of the old one.
+pub fn recovery_law()
+    ensures sound { RecoveryKeeps }
+    ensures stays { StaysIsRecorded }
+    ensures closed { CutIsClosed }
+    ensures recorded { CutIsRecorded }
+    ensures holders { HoldersStay }
+    ensures lawful { CutIsLawful }
+    ensures replay { NeverStuck }
+{}
+
+/// After every run of deliveries, strikes of at most f members and recoveries the record is sound, each receipt has
+/// more than f holders or is held by each member that depends on it, and nobody depends on a receipt that isn't
+/// recorded.
+pub fn run_law()
+    ensures sound { RunIsSound }
+    ensures held { RunIsHeld }
+{}

@@ -1,0 +1,58 @@
+ghost use Rattle.std.specs.Prelude.{◌≡◌, ◌++◌, ◌≤◌, IfOk, OnOk, string_bytes};
+ghost use Rattle.fbl_lines.specs.Sets.{after_commas, listed, member_list, set_words};
+
+use fbl_base::{Member, MemberSet};
+use std::alloc::{AllocError, Allocator, Global};
+
+/// The members of the set, rising.
+#[tactic(auto, unfolding(crate::specs::Sets::member_list))]
+pub fn members_in<A: Allocator + Copy>(
+    alloc: A,
+    set: MemberSet,
+) -> Result<Vec<Member, A>, AllocError>
+    ensures { IfOk result (λ v. v.items ≡ member_list set) }
+{
+    let mut members = Vec::new(alloc);
+    for number in 0..16u8 {
+        if let Some(member) = Member::new(number) {
+            if set.has(member) {
+                members.push(member)?;
+            }
+        }
+    }
+    Ok(members)
+}
+
+/// Writes each member after a comma.
+fn push_members(text: &mut String, members: &[Member]) -> Result<(), AllocError>
+    ensures { OnOk result (string_bytes text.new ≡ string_bytes text.old ++ after_commas members.now) }
+{
+    for member in members {
+        let number = member.number();
+        write!(text, ",{number}")?;
+    }
+    Ok(())
+}
+
+/// The members with commas between.
+fn listed_text(alloc: Global, members: &[Member]) -> Result<String, AllocError>
+    ensures { IfOk result (λ text. string_bytes text ≡ listed members.now) }
+{
+    match members {
+        [] => String::from_str(alloc, "none"),
+        [first, others @ ..] => {
+            let number = first.number();
+            let mut text = format!(in alloc; "{number}")?;
+            push_members(&mut text, others)?;
+            Ok(text)
+        }
+    }
+}
+
+/// The set as it is printed: its members, rising, with commas between and no spaces. The empty set is `none`.
+pub fn set_text(alloc: Global, set: MemberSet) -> Result<String, AllocError>
+    ensures { IfOk result (λ text. string_bytes text ≡ set_words set) }
+{
+    let members = members_in(alloc, set)?;
+    listed_text(alloc, members.as_slice())
+}

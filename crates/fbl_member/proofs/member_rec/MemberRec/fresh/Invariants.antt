@@ -1,0 +1,6 @@
+use Rattle.std.proofs.Common.{◌≡◌, take}
+use Rattle.fbl_base.specs.Fold.{starts_of}
+use Rattle.fbl_member.proofs.member_rec.MemberRec.fresh.Given as goal
+
+abbrev pub invariant-loop-start : goal.invariant-loop-start
+invariant-loop-start g l = l.log.items ≡ starts_of l.me (take l.start-index l.start-items)

@@ -1,0 +1,7 @@
+use Rattle.std.proofs.Common.{◌≡◌, take}
+use Rattle.fbl_base.specs.Fold.{numbered}
+use Rattle.fbl_member.specs.Members.{logged_beyond}
+use Rattle.fbl_member.proofs.member_rec.MemberRec.unsent_beyond.Given as goal
+
+abbrev pub invariant-loop-place : goal.invariant-loop-place
+invariant-loop-place g l = l.beyond.items ≡ logged_beyond (numbered 0 (take l.place l.self-inside.log.items)) l.to l.ssn

@@ -1,0 +1,12 @@
+use Rattle.std.proofs.Common.{◌≡◌}
+use Rattle.std.specs.List.{All}
+use Rattle.std.specs.Vec.{vec_len, vec_capacity}
+use Rattle.fbl_member.specs.Rooms.{HasRoom}
+use Rattle.fbl_member.proofs.member_rec.empty_lists.Given as goal
+
+abbrev pub invariant-loop-place : goal.invariant-loop-place
+invariant-loop-place g l = record {
+  len : vec_len l.lists ≡ l._place;
+  capacity : vec_capacity l.lists ≡ vec_capacity l.initial.lists;
+  room : All (HasRoom l.room) l.lists.items;
+}

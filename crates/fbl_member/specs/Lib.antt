@@ -1,0 +1,4 @@
+pub mod Members
+pub mod Kept
+pub mod Rooms
+pub mod Carried

@@ -1,0 +1,88 @@
+-- A member's volatile record: what it keeps in memory, and what a receipt does to it. State as a fold of receipts, the
+-- sender's log and replay are those of message logging with piecewise determinism (Elnozahy, Alvisi, Wang and Johnson
+-- 2002); that determinants ride on application messages is family-based logging (Alvisi, Hoppe and Marzullo 1993).
+use Rattle.std.specs.Prelude.{ℕ, ◌+◌, ◌==◌, ◌&&◌, nat_lt, List, [], ◌∷◌, ◌++◌, length, map, Option, slice_index, slice_set, replicate}
+use Rattle.std.specs.List.{filter, find}
+use Rattle.std.specs.Option.{option_map}
+use Rattle.fbl_base.specs.declared.trace.Determinant.{Determinant}
+use Rattle.fbl_base.specs.declared.trace.Note.{Note}
+use Rattle.fbl_base.specs.declared.trace.Start.{Start}
+use Rattle.fbl_base.specs.declared.outcome.Outcome.{Outcome}
+use Rattle.fbl_base.specs.Fold.{Logged, Progress, Next, numbered, starts_of}
+use Rattle.fbl_table.specs.declared.entry.Entry.{Entry}
+use Rattle.fbl_table.specs.Tables.{learned, noted}
+
+-- a message in flight: its ends, its number, its content, and the entries that it carries
+pub record Message : Type 0 where
+  pub from : ℕ
+  pub to : ℕ
+  pub ssn : ℕ
+  pub note : Note
+  pub carried : List Entry
+
+-- what a member keeps: its state, how many receipts it has had, the number of the last message from each of sixteen
+-- members, its log of sends, and its table of determinants
+pub record MemberRecord : Type 0 where
+  pub state : ℕ
+  pub received : ℕ
+  pub last : List ℕ
+  pub log : List Logged
+  pub table : List Entry
+
+-- how far the member has come
+abbrev pub progress_of : MemberRecord → Progress
+progress_of m = record { state = m.state; received = m.received; log = m.log }
+
+-- the number of the last message received from a member, 0 if there was none
+abbrev pub last_from : MemberRecord → ℕ → ℕ
+last_from m from = slice_index m.last from
+
+-- a member that has received nothing and sent its starts
+abbrev pub fresh : ℕ → List Start → MemberRecord
+fresh me starts = record { state = 0; received = 0; last = replicate 16 0; log = numbered 0 (starts_of me starts); table = [] }
+
+-- a member that has received nothing and sent nothing
+abbrev pub blank : MemberRecord
+blank = record { state = 0; received = 0; last = replicate 16 0; log = []; table = [] }
+
+-- one receipt of the fold: the new state, one receipt more, the message's number as the sender's last, and the step's
+-- sends with the next numbers at the end of the log
+abbrev pub advanced_by : MemberRecord → ℕ → ℕ → Outcome → MemberRecord
+advanced_by m from ssn outcome =
+    record {
+      state = outcome.state;
+      received = m.received + 1;
+      last = slice_set m.last from ssn;
+      log = m.log ++ numbered (length m.log) outcome.sends.items;
+      table = m.table;
+    }
+
+-- the determinant of the member's next receipt, if it is of this message
+abbrev pub next_determinant : ℕ → MemberRecord → ℕ → ℕ → Determinant
+next_determinant me m from ssn = record { from = from; ssn = ssn; to = me; rsn = m.received + 1 }
+
+-- the table after the receipt of a message: what was carried is learned, then the receipt's own determinant is noted
+abbrev pub table_after : ℕ → MemberRecord → Message → List Entry
+table_after me m v = noted me (learned me m.table v.carried) (next_determinant me m v.from v.ssn)
+
+-- the member after the receipt of a message
+abbrev pub received_by : ℕ → MemberRecord → Message → Outcome → MemberRecord
+received_by me m v outcome = record (advanced_by m v.from v.ssn outcome) { table = table_after me m v }
+
+-- the member after the replay of a receipt, which leaves its table
+abbrev pub replayed_by : Next → ℕ → ℕ → MemberRecord → Determinant → Note → MemberRecord
+replayed_by next me n m d note = advanced_by m d.from d.ssn (next me n m.state note)
+
+-- the messages of a step's sends, numbered from one more than `before`, all with the same entries
+abbrev pub messages_from : ℕ → ℕ → List Entry → List (ℕ × Note) → List Message
+messages_from me before carried [] = []
+messages_from me before carried (s ∷ sends) =
+    record { from = me; to = s.0; ssn = before + 1; note = s.1; carried = carried } ∷ messages_from me (before + 1) carried sends
+
+-- the content of the message sent under this number, if there is one
+abbrev pub logged_note : List Logged → ℕ → Option Note
+logged_note log ssn = option_map (λ l. l.note) (find (λ l. l.ssn == ssn) log)
+
+-- the messages to a member with numbers beyond this one, in order
+abbrev pub logged_beyond : List Logged → ℕ → ℕ → List (ℕ × Note)
+logged_beyond log to ssn = map (λ l. (l.ssn, l.note)) (filter (λ l. l.to == to && nat_lt ssn l.ssn) log)

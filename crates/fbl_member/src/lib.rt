@@ -1,0 +1,11 @@
+//! One member's volatile record, and the messages in flight.
+#![tactic(auto)]
+
+mod member_rec;
+mod wire;
+
+pub use member_rec::MemberRec;
+pub use wire::Wire;
+
+#[cfg(test)]
+mod tests;

@@ -1,0 +1,268 @@
+ghost use Rattle.std.specs.Prelude.{◌≡◌, ℕ, ◌+◌, ◌<◌, ◌≤◌, [], false, length, map, OnOk, OnErr, IfOk, vec_len, vec_capacity};
+ghost use Rattle.std.specs.List.{All};
+ghost use Rattle.fbl_base.specs.Fold.{Logged};
+ghost use Rattle.fbl_table.specs.Tables.{is_held, piggybacked};
+ghost use Rattle.fbl_member.specs.Carried.{IsOnce};
+ghost use Rattle.fbl_member.specs.Kept.{IsKept};
+ghost use Rattle.fbl_member.specs.Rooms.{HasRoom};
+ghost use Rattle.fbl_member.specs.Members.{fresh, blank, last_from, next_determinant, received_by, replayed_by, messages_from, logged_note, logged_beyond};
+
+use crate::wire::Wire;
+use fbl_base::{Behaviour, Config, Determinant, Member, Note, Outcome};
+use fbl_table::{Entry, Table};
+use std::alloc::{AllocError, Allocator, Global};
+use std::marker::Model;
+
+/// What a member keeps in memory: its state, how many receipts it has had, the number of the last message from each
+/// member, its sends in order, and its table.
+#[derive(Drop)]
+pub struct MemberRec<A: Allocator = Global> {
+    state: u64,
+    received: u32,
+    last: [u32; 16],
+    log: Vec<(Member, Note), A>,
+    table: Table<A>,
+}
+
+impl<A: Allocator> Model for MemberRec<A> {
+    ghost use Rattle.fbl_member.specs.Members.{MemberRecord};
+
+    ghost Value = { MemberRecord };
+
+    ghost use Rattle.std.specs.Coded.{codes};
+    ghost use Rattle.fbl_base.specs.contracts.trace.Note as content;
+    ghost use Rattle.fbl_table.specs.contracts.entry.Entry as entry;
+
+    ghost coded = { Prim.hlevel (codes, content.the_row.coded, entry.the_row.coded) };
+
+    ghost use Rattle.std.specs.Prelude.{◌≡◌, ◌≤◌, length};
+    ghost use Rattle.fbl_base.specs.Fold.{numbered};
+
+    ghost view = { λ m. record { state = m.state; received = m.received; last = m.last; log = numbered 0 m.log.items; table = m.table } };
+
+    ghost invariant = { λ m. (length m.last ≡ 16) × (m.received ≤ 8192) × (length m.log.items ≤ 8192) };
+}
+
+impl<A: Allocator + Copy> MemberRec<A> {
+    /// A member that has received nothing and sent its starts.
+    pub fn fresh(alloc: A, config: &Config<A>, me: Member) -> Result<MemberRec<A>, AllocError>
+        ensures { IfOk result (λ m. m ≡ fresh me config.now.starts) }
+    {
+        let _members = config.members();
+        let mut log = Vec::new(alloc);
+        for start in config.starts() {
+            if start.from == me {
+                log.push((start.to, start.note))?;
+            }
+        }
+        let mut member = MemberRec::blank(alloc, config.f());
+        member.log = log;
+        Ok(member)
+    }
+
+    /// A member that has received nothing and sent nothing.
+    pub fn blank(alloc: A, f: u8) -> MemberRec<A>
+        ensures { result ≡ blank }
+    {
+        MemberRec {
+            state: 0,
+            received: 0,
+            last: [0; 16],
+            log: Vec::new(alloc),
+            table: Table::for_limit(alloc, f),
+        }
+    }
+
+    /// Takes the message in, and answers those that the step sends.
+    pub fn receive<B: Behaviour>(
+        &mut self,
+        me: Member,
+        n: u8,
+        f: u8,
+        wire: &Wire<A>,
+        outcome: &Outcome,
+    ) -> Result<Vec<Wire<A>, A>, AllocError>
+        requires least { 2 ≤ n }
+        requires most { n ≤ 16 }
+        requires member { me < n }
+        requires to_me { wire.now.to ≡ me }
+        requires newer { last_from self.old wire.now.from < wire.now.ssn }
+        requires not_held { is_held self.old.table (next_determinant me self.old wire.now.from wire.now.ssn) ≡ false }
+        requires not_carried { is_held wire.now.carried (next_determinant me self.old wire.now.from wire.now.ssn) ≡ false }
+        requires step { outcome.now ≡ B.next me n self.old.state wire.now.note }
+        requires receipts { self.old.received < 8192 }
+        requires sends { length self.old.log + length outcome.now.sends.items ≤ 8192 }
+        ensures received { OnOk result (self.new ≡ received_by me self.old wire.now outcome.now) }
+        ensures sent { IfOk result (λ wires. wires.items ≡ messages_from me (length self.old.log) (piggybacked f self.new.table) outcome.now.sends.items) }
+        ensures unchanged { OnErr result (self.new ≡ self.old) }
+    {
+        let before = self.sent();
+        let sends = outcome.sends.as_slice();
+        let carried = wire.carried();
+        let room = self.table.room_to_piggyback(f, carried);
+        let lists = empty_lists(*self.log.allocator(), sends.len(), room)?;
+        let mut wires = Vec::with_capacity(*self.log.allocator(), sends.len())?;
+        self.log.reserve(sends.len())?;
+        let determinant = Determinant {
+            from: wire.from(),
+            ssn: wire.ssn(),
+            to: me,
+            rsn: self.received + 1,
+        };
+        self.table.learn_and_note(me, carried, determinant)?;
+        let _distinct_entries = self.table.len();
+        put_wires(&mut wires, lists, me, before, sends, &self.table, f);
+        self.log.extend_from_slice(sends).unwrap();
+        self.state = outcome.state;
+        self.received += 1;
+        self.last[wire.from().number() as usize] = wire.ssn();
+        Ok(wires)
+    }
+
+    /// Takes the message of a receipt in again, by the receipt's determinant and the message's content.
+    pub fn replay_one<B: Behaviour>(
+        &mut self,
+        me: Member,
+        n: u8,
+        determinant: &Determinant,
+        note: Note,
+    ) -> Result<(), AllocError>
+        requires least { 2 ≤ n }
+        requires most { n ≤ 16 }
+        requires member { me < n }
+        requires to_me { determinant.now.to ≡ me }
+        requires next { determinant.now.rsn ≡ self.old.received + 1 }
+        requires receipts { self.old.received < 8192 }
+        requires sends { length self.old.log + length (B.next me n self.old.state note).sends.items ≤ 8192 }
+        ensures replayed { OnOk result (self.new ≡ replayed_by B.next me n self.old determinant.now note) }
+        ensures unchanged { OnErr result (self.new ≡ self.old) }
+    {
+        let outcome = B::step(me, n, self.state, note);
+        self.log.extend_from_slice(outcome.sends.as_slice())?;
+        self.state = outcome.state;
+        self.received += 1;
+        self.last[determinant.from.number() as usize] = determinant.ssn;
+        Ok(())
+    }
+
+    /// Puts this table in the place of the member's.
+    pub fn set_table(&mut self, table: Table<A>)
+        ensures { self.new ≡ record self.old { table = table } }
+    {
+        self.table = table;
+    }
+
+    /// The member's table.
+    pub fn table(&self) -> &Table<A>
+        ensures { result.now ≡ self.now.table }
+    {
+        &self.table
+    }
+
+    /// The content of the message sent under this number, if there is one.
+    pub fn log_note(&self, ssn: u32) -> Option<Note>
+        ensures { result ≡ logged_note self.now.log ssn }
+    {
+        let log = self.log.as_slice();
+        if ssn == 0 {
+            return None;
+        }
+        let place = ssn as usize - 1;
+        if place < log.len() {
+            Some(log[place].1)
+        } else {
+            None
+        }
+    }
+
+    /// The messages to a member with numbers beyond this one, in order, each with its number.
+    pub fn unsent_beyond(&self, to: Member, ssn: u32) -> Result<Vec<(u32, Note), A>, AllocError>
+        ensures { IfOk result (λ v. v.items ≡ logged_beyond self.now.log to ssn) }
+    {
+        let mut beyond = Vec::new(*self.log.allocator());
+        for place in 0..self.log.len() {
+            let send = self.log[place];
+            let number = place as u32 + 1;
+            if send.0 == to && ssn < number {
+                beyond.push((number, send.1))?;
+            }
+        }
+        Ok(beyond)
+    }
+
+    /// The state.
+    pub fn state(&self) -> u64
+        ensures { result ≡ self.now.state }
+    {
+        self.state
+    }
+
+    /// How many receipts the member has had, at most 8192.
+    pub fn received(&self) -> u32
+        ensures value { result ≡ self.now.received }
+        ensures kept { IsKept self.now }
+    {
+        self.received
+    }
+
+    /// How many messages the member has sent, at most 8192.
+    pub fn sent(&self) -> u32
+        ensures value { result ≡ length self.now.log }
+        ensures kept { IsKept self.now }
+    {
+        self.log.len() as u32
+    }
+
+    /// The number of the last message received from the member, 0 if there was none.
+    pub fn last_from(&self, from: Member) -> u32
+        ensures { result ≡ last_from self.now from }
+    {
+        self.last[from.number() as usize]
+    }
+}
+
+/// As many empty lists as this, each with this much room.
+fn empty_lists<A: Allocator + Copy>(
+    alloc: A,
+    count: usize,
+    room: usize,
+) -> Result<Vec<Vec<Entry, A>, A>, AllocError>
+    ensures len { IfOk result (λ lists. vec_len lists ≡ count) }
+    ensures room { IfOk result (λ lists. All (HasRoom room) lists.items) }
+{
+    let mut lists = Vec::with_capacity(alloc, count)?;
+    for _place in 0..count {
+        lists.push_reserved(Vec::with_capacity(alloc, room)?);
+    }
+    Ok(lists)
+}
+
+/// Makes the messages of a step's sends, numbered from one more than `before`, each with what the table passes on in
+/// one of the lists.
+fn put_wires<A: Allocator + Copy>(
+    wires: &mut Vec<Wire<A>, A>,
+    lists: Vec<Vec<Entry, A>, A>,
+    me: Member,
+    before: u32,
+    sends: &[(Member, Note)],
+    table: &Table<A>,
+    f: u8,
+)
+    requires once { IsOnce (piggybacked f table.now) }
+    requires none { wires.old.items ≡ [] }
+    requires no_len { vec_len wires.old ≡ 0 }
+    requires wires { length sends.now ≤ vec_capacity wires.old }
+    requires numbers { before + length sends.now ≤ 8192 }
+    requires lists { vec_len lists ≡ length sends.now }
+    requires room { All (HasRoom (length (piggybacked f table.now))) lists.items }
+    ensures { wires.new.items ≡ messages_from me before (piggybacked f table.now) sends.now }
+{
+    let mut lists = lists;
+    for place in 0..sends.len() {
+        let send = sends[place];
+        let number = before + place as u32 + 1;
+        let mut carried = lists.take_last();
+        table.piggyback_into(f, &mut carried);
+        wires.push_reserved(Wire::new(me, send.0, number, send.1, carried));
+    }
+}

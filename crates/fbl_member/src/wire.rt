@@ -1,0 +1,88 @@
+ghost use Rattle.std.specs.Prelude.{◌≡◌};
+ghost use Rattle.fbl_member.specs.Carried.{IsOnce};
+
+use fbl_base::{Member, Note};
+use fbl_table::Entry;
+use std::alloc::{Allocator, Global};
+use std::marker::Model;
+
+/// A message in flight, with the entries that it carries: what its sender knew to be held by few when it was made. It
+/// carries each determinant once.
+#[derive(Drop)]
+pub struct Wire<A: Allocator = Global> {
+    from: Member,
+    to: Member,
+    ssn: u32,
+    note: Note,
+    carried: Vec<Entry, A>,
+}
+
+impl<A: Allocator> Model for Wire<A> {
+    ghost use Rattle.fbl_member.specs.Members.{Message};
+
+    ghost Value = { Message };
+
+    ghost use Rattle.std.specs.Coded.{codes};
+    ghost use Rattle.fbl_base.specs.contracts.trace.Note as content;
+    ghost use Rattle.fbl_table.specs.contracts.entry.Entry as entry;
+
+    ghost coded = { Prim.hlevel (codes, content.the_row.coded, entry.the_row.coded) };
+
+    ghost use Rattle.fbl_member.specs.Carried.{IsOnce};
+
+    ghost view = { λ w. record { from = w.from; to = w.to; ssn = w.ssn; note = w.note; carried = w.carried.items } };
+
+    ghost invariant = { λ w. IsOnce w.carried.items };
+}
+
+impl<A: Allocator> Wire<A> {
+    /// A message with these ends, this number among its sender's, this content and these entries.
+    pub fn new(from: Member, to: Member, ssn: u32, note: Note, carried: Vec<Entry, A>) -> Wire<A>
+        requires { IsOnce carried.items }
+        ensures { result ≡ record { from = from; to = to; ssn = ssn; note = note; carried = carried.items } }
+    {
+        Wire {
+            from,
+            to,
+            ssn,
+            note,
+            carried,
+        }
+    }
+
+    /// The sender.
+    pub fn from(&self) -> Member
+        ensures { result ≡ self.now.from }
+    {
+        self.from
+    }
+
+    /// The receiver.
+    pub fn to(&self) -> Member
+        ensures { result ≡ self.now.to }
+    {
+        self.to
+    }
+
+    /// The message's number among its sender's, which count from 1.
+    pub fn ssn(&self) -> u32
+        ensures { result ≡ self.now.ssn }
+    {
+        self.ssn
+    }
+
+    /// The content.
+    pub fn note(&self) -> Note
+        ensures { result ≡ self.now.note }
+    {
+        self.note
+    }
+
+    /// The entries that it carries.
+    pub fn carried(&self) -> &[Entry]
+        ensures value { result.now ≡ self.now.carried }
+        ensures once { IsOnce result.now }
+    {
+        self.carried.as_slice()
+    }
+}

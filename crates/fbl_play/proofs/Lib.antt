@@ -1,0 +1,3 @@
+pub mod RunTexts
+pub mod RunPlans
+pub mod Playing

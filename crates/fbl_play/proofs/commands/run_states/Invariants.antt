@@ -1,0 +1,6 @@
+use Rattle.std.proofs.Common.{◌≡◌}
+use Rattle.fbl_play.specs.Texts.{per_member, shown_state}
+use Rattle.fbl_play.proofs.commands.run_states.Given as goal
+
+abbrev pub invariant-loop-number : goal.invariant-loop-number
+invariant-loop-number g l = l.states.items ≡ per_member (shown_state l.group) l.number

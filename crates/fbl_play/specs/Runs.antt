@@ -1,0 +1,145 @@
+-- The runs of a script's commands, with the text that they print.
+use Rattle.std.specs.Prelude.{◌≡◌, ℕ, ◌⊎◌, List, [], ◌∷◌, ◌++◌, take, Option, Some, None, Result, Ok, Err, codes}
+use Rattle.std.specs.Io.KnownBytes.{Keeps, Appends}
+use Rattle.std.specs.FinSet as set
+use Rattle.fbl_base.specs.Configs.{Settings}
+use Rattle.fbl_base.specs.Fold.{Next}
+use Rattle.fbl_base.specs.MemberSets.{AllBelow}
+use Rattle.fbl_base.specs.Steps.{relay_step, mix_step}
+use Rattle.fbl_law.specs.Dumps.{dump_of}
+use Rattle.fbl_law.specs.Groups.{GroupRecord}
+use Rattle.fbl_law.specs.GroupSteps.{IsGroupStart}
+use Rattle.fbl_law.specs.Record.{Members}
+use Rattle.fbl_group.specs.declared.answers.Receipted.{Receipted}
+use Rattle.fbl_group.specs.declared.answers.Recovered.{Recovered}
+use Rattle.fbl_group.specs.declared.answers.Struck.{Struck}
+use Rattle.fbl_group.specs.declared.refusals.DeliverRefusal.{DeliverRefusal}
+use Rattle.fbl_group.specs.declared.refusals.StrikeRefusal.{StrikeRefusal}
+use Rattle.fbl_group.specs.Deliveries.{deliver_refusal, Delivers}
+use Rattle.fbl_group.specs.Recoveries.{Recovers}
+use Rattle.fbl_group.specs.Strikes.{strike_refusal, Strikes}
+use Rattle.fbl_lines.specs.declared.lines.Totals.{Totals}
+use Rattle.fbl_lines.specs.Lines.{deliver_line, refused_line, states_line, report_lines, strike_line, recover_line}
+use Rattle.fbl_dump.specs.DumpLines.{dump_line}
+use Rattle.fbl_script.specs.declared.fault.RunFault.{RunFault}
+use Rattle.fbl_script.specs.declared.fault.RunFault.TheVariants as faults
+use Rattle.fbl_script.specs.declared.script.BehaviourName.{BehaviourName}
+use Rattle.fbl_script.specs.declared.script.BehaviourName.TheVariants.{Relay, Mix}
+use Rattle.fbl_script.specs.declared.script.Command.{Command}
+use Rattle.fbl_script.specs.declared.script.Command.TheVariants as commands
+use Rattle.fbl_script.specs.Scripts.{Outline, IsScriptOf, IsScriptFault}
+use Rattle.fbl_play.specs.Texts.{deliver_name, strike_name, shown_states, shown_statuses, AreTotals}
+use Rattle.fbl_play.specs.RunSteps.{RunStep}
+
+-- ---- one command
+
+-- a delivery, by its first refusal: a refused one changes nothing
+abbrev pub DeliveryBy : Option DeliverRefusal → Next → GroupRecord → ℕ → ℕ → GroupRecord → List ℕ → Type 0
+DeliveryBy None next old to from new text =
+    (answer : Receipted) × Delivers next old new to from answer × (text ≡ deliver_line to from answer.rsn answer.carried answer.state)
+DeliveryBy (Some refusal) next old to from new text = (new ≡ old) × (text ≡ refused_line (codes "deliver") (deliver_name refusal))
+
+abbrev pub DeliverStep : Next → GroupRecord → ℕ → ℕ → GroupRecord → List ℕ → Type 0
+DeliverStep next old to from new text = DeliveryBy (deliver_refusal next old to from) next old to from new text
+
+abbrev pub StatesStep : GroupRecord → GroupRecord → List ℕ → Type 0
+StatesStep old new text = (new ≡ old) × (text ≡ states_line (shown_states old))
+
+-- the lines of a report of the group
+abbrev pub IsReport : GroupRecord → List ℕ → Type 0
+IsReport r text = (totals : Totals) × AreTotals r totals × (text ≡ report_lines (shown_statuses r) totals)
+
+abbrev pub ReportStep : GroupRecord → GroupRecord → List ℕ → Type 0
+ReportStep old new text = (new ≡ old) × IsReport old text
+
+-- a strike, by its first refusal: a refused one changes nothing
+abbrev pub StrikeBy : Option StrikeRefusal → GroupRecord → Members → GroupRecord → List ℕ → Type 0
+StrikeBy None old struck new text = (answer : Struck) × Strikes old new struck answer × (text ≡ strike_line struck answer.lost)
+StrikeBy (Some refusal) old struck new text = (new ≡ old) × (text ≡ refused_line (codes "strike") (strike_name refusal))
+
+abbrev pub StrikeStep : GroupRecord → Members → GroupRecord → List ℕ → Type 0
+StrikeStep old struck new text = StrikeBy (strike_refusal old struck) old struck new text
+
+-- a recovery where nobody is down
+abbrev pub RefusedRecovery : GroupRecord → GroupRecord → List ℕ → Type 0
+RefusedRecovery old new text = (old.down ≡ set.empty) × (new ≡ old) × (text ≡ refused_line (codes "recover") (codes "NotDown"))
+
+-- a recovery of those that are down
+abbrev pub AcceptedRecovery : Next → GroupRecord → GroupRecord → List ℕ → Type 0
+AcceptedRecovery next old new text =
+    ¬ (old.down ≡ set.empty) × ((answer : Recovered) × Recovers next old new answer × (text ≡ recover_line answer.replayed answer.resent answer.undone))
+
+abbrev pub RecoverStep : Next → GroupRecord → GroupRecord → List ℕ → Type 0
+RecoverStep next old new text = RefusedRecovery old new text ⊎ AcceptedRecovery next old new text
+
+-- the line of a dump of the group with this strike set
+abbrev pub IsDumpText : GroupRecord → Members → List ℕ → Type 0
+IsDumpText r strike text =
+    (AllBelow strike r.config.members × (text ≡ dump_line (dump_of r strike)))
+    ⊎ (¬ (AllBelow strike r.config.members) × (text ≡ refused_line (codes "dump") (codes "BadStrike")))
+
+abbrev pub DumpStep : GroupRecord → Members → GroupRecord → List ℕ → Type 0
+DumpStep old strike new text = (new ≡ old) × IsDumpText old strike text
+
+-- a command, with this many workers, may lead from old to new, and print the text
+abbrev pub Step : Next → ℕ → GroupRecord → Command → GroupRecord → List ℕ → Type 0
+Step next workers old (commands.Deliver to from) new text = DeliverStep next old to from new text
+Step next workers old commands.States new text = StatesStep old new text
+Step next workers old commands.Report new text = ReportStep old new text
+Step next workers old (commands.Strike struck) new text = StrikeStep old struck new text
+Step next workers old commands.Recover new text = RecoverStep next old new text
+Step next workers old (commands.Dump strike) new text = DumpStep old strike new text
+Step next workers old (commands.Run plan) new text = RunStep next workers plan old new text
+
+-- ---- the commands of a script
+
+-- the commands may lead from old to new, one after another, and print the text
+abbrev pub Run : Next → ℕ → GroupRecord → List Command → GroupRecord → List ℕ → Type 0
+Run next workers old [] new text = (new ≡ old) × (text ≡ [])
+Run next workers old (c ∷ cs) new text =
+    (mid : GroupRecord) × (first : List ℕ) × (rest : List ℕ) × Step next workers old c mid first × Run next workers mid cs new rest × (text ≡ first ++ rest)
+
+-- some run of the commands, from a new group of this config, prints the text
+abbrev pub IsTextOf : Next → ℕ → Settings → List Command → List ℕ → Type 0
+IsTextOf next workers config commands text =
+    (start : GroupRecord) × (end : GroupRecord) × IsGroupStart config start × Run next workers start commands end text
+
+-- ---- what a play of the commands leaves in the writer
+
+-- the text of a run of the first so many commands
+abbrev pub IsTextUpTo : Next → ℕ → Settings → List Command → ℕ → List ℕ → Type 0
+IsTextUpTo next workers config commands done text = IsTextOf next workers config (take done commands) text
+
+abbrev pub PlaysOn : Next → ℕ → Settings → List Command → Option (List ℕ) → Option (List ℕ) → Result (Unit {0}) RunFault → Type 0
+-- the text of a run of all commands
+PlaysOn next workers config commands before after (Ok _) =
+    (text : List ℕ) × IsTextOf next workers config commands text × Appends before after text
+-- nothing where no group could be made, else the text of a run of the commands before the one that met it
+PlaysOn next workers config commands before after (Err faults.Memory) =
+    Keeps before after ⊎ ((done : ℕ) × (text : List ℕ) × IsTextUpTo next workers config commands done text × Appends before after text)
+-- a front of the text of a run
+PlaysOn next workers config commands before after (Err faults.Write) =
+    (done : ℕ) × (text : List ℕ) × (part : ℕ) × IsTextUpTo next workers config commands done text × Appends before after (take part text)
+PlaysOn next workers config commands before after (Err e) = ⊥
+
+-- ---- what a play of an input leaves in the writer
+
+-- the step of a behaviour
+abbrev pub next_of : BehaviourName → Next
+next_of Relay = relay_step
+next_of Mix = mix_step
+
+-- the input is a script, and this is a play of it
+abbrev pub PlaysScript : ℕ → List ℕ → Option (List ℕ) → Option (List ℕ) → Result (Unit {0}) RunFault → Type 0
+PlaysScript workers input before after result =
+    (s : Outline) × IsScriptOf input s × PlaysOn (next_of s.behaviour) workers s.config s.commands before after result
+
+abbrev pub Plays : ℕ → List ℕ → Option (List ℕ) → Option (List ℕ) → Result (Unit {0}) RunFault → Type 0
+Plays workers input before after (Ok x) = PlaysScript workers input before after (Ok x)
+Plays workers input before after (Err faults.Write) = PlaysScript workers input before after (Err faults.Write)
+-- memory may be wanting while the input is read, and then nothing is written
+Plays workers input before after (Err faults.Memory) = Keeps before after ⊎ PlaysScript workers input before after (Err faults.Memory)
+-- so may a read fail
+Plays workers input before after (Err faults.Read) = Keeps before after
+-- any other fault is the input's first as a script
+Plays workers input before after (Err e) = IsScriptFault input e × Keeps before after

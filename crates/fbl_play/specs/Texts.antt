@@ -1,0 +1,60 @@
+-- What is printed of a group.
+use Rattle.std.specs.Prelude.{◌≡◌, ℕ, zero, suc, ◌+◌, ◌↔◌, true, false, Bool, List, [], ◌∷◌, ◌++◌, length, map, Option, Some, None, codes, if◌then◌else◌}
+use Rattle.std.specs.Ordering.{nat_cmp}
+use Rattle.std.specs.FinSet as set
+use Rattle.fbl_base.specs.Audit.{IsOrphan, lost_determinants}
+use Rattle.fbl_member.specs.Members.{MemberRecord}
+use Rattle.fbl_law.specs.Groups.{GroupRecord, member, channel}
+use Rattle.fbl_law.specs.Dumps.{dump_of}
+use Rattle.fbl_lines.specs.declared.lines.MemberStatus.{MemberStatus}
+use Rattle.fbl_lines.specs.declared.lines.Totals.{Totals}
+use Rattle.fbl_group.specs.declared.refusals.DeliverRefusal.{DeliverRefusal}
+use Rattle.fbl_group.specs.declared.refusals.DeliverRefusal.TheVariants as deliver
+use Rattle.fbl_group.specs.declared.refusals.StrikeRefusal.{StrikeRefusal}
+use Rattle.fbl_group.specs.declared.refusals.StrikeRefusal.TheVariants as strike
+
+-- ---- names of refusals
+
+abbrev pub deliver_name : DeliverRefusal → List ℕ
+deliver_name deliver.BadMember = codes "BadMember"
+deliver_name deliver.Down = codes "Down"
+deliver_name deliver.Empty = codes "Empty"
+deliver_name deliver.Full = codes "Full"
+deliver_name deliver.Memory = codes "Memory"
+
+abbrev pub strike_name : StrikeRefusal → List ℕ
+strike_name strike.BadMember = codes "BadMember"
+strike_name strike.Nobody = codes "Nobody"
+strike_name strike.TooMany = codes "TooMany"
+strike_name strike.Down = codes "Down"
+
+-- ---- what a group shows
+
+-- what is asked of each member, from the first one on
+abbrev pub per_member : {X : Type 0} → (ℕ → X) → ℕ → List X
+per_member show zero = []
+per_member show (suc n) = per_member show n ++ show n ∷ []
+
+-- a member's state, nothing where it is down
+abbrev pub shown_state : GroupRecord → ℕ → Option ℕ
+shown_state r m = if set.contains r.down m then None else Some (member r m).state
+
+abbrev pub shown_states : GroupRecord → List (Option ℕ)
+shown_states r = per_member (shown_state r) r.config.members
+
+-- what a report says of a member
+abbrev pub status_of : MemberRecord → MemberStatus
+status_of m = record { state = m.state; received = m.received; sent = length m.log; held = length m.table }
+
+abbrev pub shown_status : GroupRecord → ℕ → Option MemberStatus
+shown_status r m = if set.contains r.down m then None else Some (status_of (member r m))
+
+abbrev pub shown_statuses : GroupRecord → List (Option MemberStatus)
+shown_statuses r = per_member (shown_status r) r.config.members
+
+-- these totals are the group's: messages in flight, length of the trace, and the audit of its dump with those that are down
+pub record AreTotals (r : GroupRecord) (t : Totals) : Type 0 where
+  pub flight : t.flight ≡ length r.flight
+  pub trace : t.trace ≡ length r.trace
+  pub lost : t.lost ≡ length (lost_determinants (dump_of r r.down))
+  pub orphans : (q : ℕ) → (set.contains t.orphans q ≡ true) ↔ IsOrphan (dump_of r r.down) q

@@ -1,0 +1,198 @@
+//! The commands of a script, each with the lines that it prints.
+
+ghost use Rattle.std.specs.Prelude.{◌≡◌, ◌≤◌, ◌<◌, IfOk, OnErr, string_bytes};
+ghost use Rattle.fbl_play.specs.Runs.{Step, DeliverStep, IsReport, IsDumpText, StrikeStep, RecoverStep};
+ghost use Rattle.fbl_play.specs.Texts.{shown_state as shown_state_of, shown_states, shown_status as shown_status_of, shown_statuses, AreTotals};
+ghost use Rattle.fbl_lines.specs.Lines.{states_line};
+
+use crate::names::{deliver_name, strike_name};
+use crate::runs::run_plan;
+use fbl_base::audit::{lost, orphans};
+use fbl_base::{Behaviour, Member, MemberSet};
+use fbl_dump::dump_text;
+use fbl_group::{DeliverRefusal, DumpGroupRefusal, Group, RecoverRefusal};
+use fbl_lines::{
+    MemberStatus, Totals, deliver_text, recover_text, refused_text, report_text, states_text,
+    strike_text,
+};
+use fbl_script::Command;
+use std::alloc::{AllocError, Global};
+use std::sync::Wait;
+use std::thread::Threads;
+
+/// Delivers, and answers the line.
+fn run_deliver<B: Behaviour>(
+    alloc: Global,
+    group: &mut Group<B>,
+    to: Member,
+    from: Member,
+) -> Result<String, AllocError>
+    ensures { IfOk result (λ text. DeliverStep B.next group.old to from group.new (string_bytes text)) }
+{
+    match group.deliver(to, from) {
+        Ok(answer) => deliver_text(alloc, to, from, answer.rsn, answer.carried, answer.state),
+        Err(DeliverRefusal::Memory) => Err(AllocError),
+        Err(refusal) => refused_text(alloc, "deliver", deliver_name(refusal)),
+    }
+}
+
+/// The member's state, none if it is down.
+fn shown_state<B: Behaviour>(group: &Group<B>, member: Member) -> Option<u64>
+    requires { member < group.now.config.members }
+    ensures { result ≡ shown_state_of group.now member }
+{
+    if group.down().has(member) {
+        return None;
+    }
+    Some(group.state(member))
+}
+
+/// The line of the members' states.
+fn run_states<B: Behaviour>(alloc: Global, group: &Group<B>) -> Result<String, AllocError>
+    ensures { IfOk result (λ text. string_bytes text ≡ states_line (shown_states group.now)) }
+{
+    let mut states = Vec::new(alloc);
+    for number in 0..group.config().members() {
+        let member = Member::new(number).unwrap();
+        states.push(shown_state(group, member))?;
+    }
+    states_text(alloc, states.as_slice())
+}
+
+/// What a report says of the member, none if it is down.
+fn shown_status<B: Behaviour>(group: &Group<B>, member: Member) -> Option<MemberStatus>
+    requires { member < group.now.config.members }
+    ensures { result ≡ shown_status_of group.now member }
+{
+    if group.down().has(member) {
+        return None;
+    }
+    Some(MemberStatus {
+        state: group.state(member),
+        received: group.received(member),
+        sent: group.sent(member),
+        held: group.held(member) as usize,
+    })
+}
+
+/// What a report says of each member.
+fn statuses<B: Behaviour>(
+    alloc: Global,
+    group: &Group<B>,
+) -> Result<Vec<Option<MemberStatus>>, AllocError>
+    ensures { IfOk result (λ v. v.items ≡ shown_statuses group.now) }
+{
+    let mut statuses = Vec::new(alloc);
+    for number in 0..group.config().members() {
+        let member = Member::new(number).unwrap();
+        statuses.push(shown_status(group, member))?;
+    }
+    Ok(statuses)
+}
+
+/// What a report says of the whole group.
+fn totals<B: Behaviour>(alloc: Global, group: &Group<B>) -> Result<Totals, AllocError>
+    ensures { IfOk result (AreTotals group.now) }
+{
+    let Ok(dump) = group.dump(group.down()) else {
+        return Err(AllocError);
+    };
+    let lost = lost(alloc, &dump)?;
+    let orphans = orphans(alloc, &dump)?;
+    Ok(Totals {
+        flight: group.messages_in_flight(),
+        trace: group.trace().len(),
+        lost: lost.len(),
+        orphans,
+    })
+}
+
+/// The lines of a report.
+fn run_report<B: Behaviour>(alloc: Global, group: &Group<B>) -> Result<String, AllocError>
+    ensures { IfOk result (λ text. IsReport group.now (string_bytes text)) }
+{
+    let statuses = statuses(alloc, group)?;
+    let totals = totals(alloc, group)?;
+    report_text(alloc, statuses.as_slice(), &totals)
+}
+
+/// Strikes, and answers the line.
+fn run_strike<B: Behaviour>(
+    alloc: Global,
+    group: &mut Group<B>,
+    set: MemberSet,
+) -> Result<String, AllocError>
+    ensures { IfOk result (λ text. StrikeStep group.old set group.new (string_bytes text)) }
+{
+    match group.strike(set) {
+        Ok(struck) => strike_text(alloc, set, struck.lost),
+        Err(refusal) => refused_text(alloc, "strike", strike_name(refusal)),
+    }
+}
+
+/// Recovers, and answers the line.
+fn run_recover<B: Behaviour>(alloc: Global, group: &mut Group<B>) -> Result<String, AllocError>
+    ensures { IfOk result (λ text. RecoverStep B.next group.old group.new (string_bytes text)) }
+{
+    match group.recover() {
+        Ok(answer) => recover_text(alloc, answer.replayed, answer.resent, answer.undone),
+        Err(RecoverRefusal::NotDown) => refused_text(alloc, "recover", "NotDown"),
+        Err(RecoverRefusal::Memory) => Err(AllocError),
+    }
+}
+
+/// The line of a dump.
+fn run_dump<B: Behaviour>(
+    alloc: Global,
+    group: &Group<B>,
+    strike: MemberSet,
+) -> Result<String, AllocError>
+    ensures { IfOk result (λ text. IsDumpText group.now strike (string_bytes text)) }
+{
+    match group.dump(strike) {
+        Ok(dump) => dump_text(alloc, &dump),
+        Err(DumpGroupRefusal::BadStrike) => refused_text(alloc, "dump", "BadStrike"),
+        Err(DumpGroupRefusal::Memory) => Err(AllocError),
+    }
+}
+
+/// Runs one command, and answers the lines that it prints. The group comes back.
+pub(crate) fn run_command<B: Behaviour + Send + Sync, T: Threads + Wait + Sync>(
+    rt: &T,
+    alloc: Global,
+    workers: u8,
+    mut group: Group<B>,
+    command: &Command,
+) -> (Group<B>, Result<String, AllocError>)
+    requires some { 1 ≤ workers }
+    requires few { workers ≤ 8 }
+    ensures { IfOk result.1 (λ text. Step B.next workers group command.now result.0 (string_bytes text)) }
+{
+    match command {
+        Command::Deliver { to, from } => {
+            let text = run_deliver(alloc, &mut group, *to, *from);
+            (group, text)
+        }
+        Command::States => {
+            let text = run_states(alloc, &group);
+            (group, text)
+        }
+        Command::Report => {
+            let text = run_report(alloc, &group);
+            (group, text)
+        }
+        Command::Strike(set) => {
+            let text = run_strike(alloc, &mut group, *set);
+            (group, text)
+        }
+        Command::Recover => {
+            let text = run_recover(alloc, &mut group);
+            (group, text)
+        }
+        Command::Dump(strike) => {
+            let text = run_dump(alloc, &group, *strike);
+            (group, text)
+        }
+        Command::Run(plan) => run_plan(rt, alloc, workers, group, plan),
+    }
+}

@@ -1,0 +1,103 @@
+//! Plays a script.
+
+ghost use Rattle.std.specs.Prelude.{◌≡◌, ◌≤◌, ℕ, length, IfOk, OnErr, IfSome, string_bytes};
+ghost use Rattle.fbl_script.specs.Scripts.{outline};
+ghost use Rattle.fbl_play.specs.Runs.{PlaysOn, Plays, next_of};
+
+use crate::commands::run_command;
+use fbl_base::{Behaviour, Config, Mix, Relay};
+use fbl_group::Group;
+use fbl_script::{BehaviourName, Command, RunFault, Script, put, read_input, script_of_bytes};
+use std::alloc::Global;
+use std::io::{Read, Write};
+use std::sync::Wait;
+use std::thread::Threads;
+
+/// Runs the commands on a new group, and writes each one's lines when it ends.
+fn play_with<B: Behaviour + Send + Sync, T: Threads + Wait + Sync, W: Write>(
+    rt: &T,
+    alloc: Global,
+    writer: &mut W,
+    workers: u8,
+    config: Config,
+    commands: &[Command],
+) -> Result<(), RunFault>
+    requires some { 1 ≤ workers }
+    requires few { workers ≤ 8 }
+    ensures { PlaysOn B.next workers config commands.now (W.contents writer.old) (W.contents writer.new) result }
+{
+    let mut group: Group<B> = Group::new(alloc, config)?;
+    for command in commands {
+        let (after, text) = run_command(rt, alloc, workers, group, command);
+        group = after;
+        let text = text?;
+        put(writer, text.as_bytes())?;
+    }
+    Ok(())
+}
+
+/// Plays a script under the behaviour that it names.
+fn play_script<T: Threads + Wait + Sync, W: Write>(
+    rt: &T,
+    alloc: Global,
+    writer: &mut W,
+    workers: u8,
+    script: Script,
+) -> Result<(), RunFault>
+    requires some { 1 ≤ workers }
+    requires few { workers ≤ 8 }
+    ensures { PlaysOn (next_of script.behaviour) workers script.config script.commands.items (W.contents writer.old) (W.contents writer.new) result }
+{
+    let Script {
+        behaviour,
+        config,
+        commands,
+    } = script;
+    let commands = commands.as_slice();
+    match behaviour {
+        BehaviourName::Relay => {
+            play_with::<Relay, T, W>(rt, alloc, writer, workers, config, commands)
+        }
+        BehaviourName::Mix => play_with::<Mix, T, W>(rt, alloc, writer, workers, config, commands),
+    }
+}
+
+/// Plays the script that the bytes spell.
+fn play_input<T: Threads + Wait + Sync, W: Write>(
+    rt: &T,
+    alloc: Global,
+    writer: &mut W,
+    workers: u8,
+    input: &[u8],
+) -> Result<(), RunFault>
+    requires some { 1 ≤ workers }
+    requires few { workers ≤ 8 }
+    ensures { Plays workers input.now (W.contents writer.old) (W.contents writer.new) result }
+{
+    match script_of_bytes(alloc, input) {
+        Ok(script) => play_script(rt, alloc, writer, workers, script),
+        Err(fault) => Err(fault),
+    }
+}
+
+/// Plays the script that the reader has, and writes each command's lines when it ends, before the next one begins.
+///
+/// The script is read whole and checked before anything is run: nothing is written where the fault is `Read` or one of
+/// the script. A refused command prints its refusal, and the play goes on; want of memory ends it, and the command that
+/// met it prints nothing. After `Write` a front of the text is written. A `run` is made by `workers` workers, 1 to 8.
+pub fn play<T: Threads + Wait + Sync, R: Read, W: Write>(
+    rt: &T,
+    alloc: Global,
+    reader: &mut R,
+    writer: &mut W,
+    workers: u8,
+) -> Result<(), RunFault>
+    requires some { 1 ≤ workers }
+    requires few { workers ≤ 8 }
+    ensures { IfSome (R.remaining reader.old) (λ input. Plays workers input (W.contents writer.old) (W.contents writer.new) result) }
+{
+    match read_input(alloc, reader) {
+        Ok(input) => play_input(rt, alloc, writer, workers, input.as_slice()),
+        Err(fault) => Err(fault),
+    }
+}

@@ -1,0 +1,12 @@
+//! Plays of scripts over any reader and writer.
+#![tactic(auto)]
+
+mod commands;
+mod engine;
+mod names;
+mod runs;
+
+pub use engine::play;
+
+#[cfg(test)]
+mod tests;

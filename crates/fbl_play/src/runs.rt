@@ -1,0 +1,112 @@
+//! Runs by workers.
+
+ghost use Rattle.std.specs.Prelude.{◌≡◌, ◌≤◌, false, IfOk, IfErr, string_bytes};
+ghost use Rattle.fbl_lines.specs.Lines.{run_line};
+ghost use Rattle.fbl_play.specs.RunSteps.{RunStep, IsDrain, IsRefusedRunText, IsRunText, end_of as end_of_run, plan_of as plan_of_script};
+ghost use Rattle.fbl_threads.specs.Drains.{IsRefused, Leaves};
+
+use fbl_base::Behaviour;
+use fbl_group::Group;
+use fbl_lines::{RunEnd, bad_plan_text, refused_text, run_text};
+use fbl_script::Plan;
+use fbl_threads::{DrainRefusal, Drained, NoGate, Strike, drain};
+use std::alloc::{AllocError, Global};
+use std::sync::Wait;
+use std::thread::Threads;
+
+/// How many turns each worker may take.
+const TURNS: u32 = 1_000_000;
+
+/// The plan as one for the workers.
+fn plan_of(alloc: Global, plan: &Plan) -> Result<Vec<Strike>, AllocError>
+    ensures { IfOk result (λ v. v.items ≡ plan_of_script plan.now) }
+{
+    let mut strikes = Vec::new(alloc);
+    for planned in plan.strikes() {
+        strikes.push(Strike {
+            at: planned.at,
+            set: planned.set,
+        })?;
+    }
+    Ok(strikes)
+}
+
+/// How a run ended.
+fn end_of(quiet: bool, full: bool) -> RunEnd
+    ensures { result ≡ end_of_run quiet full }
+{
+    if quiet {
+        RunEnd::Quiet
+    } else if full {
+        RunEnd::Full
+    } else {
+        RunEnd::Stopped
+    }
+}
+
+/// The line of an accepted run. There is none where a worker ended for want of memory.
+fn drained_text(alloc: Global, drained: &Drained) -> Result<String, AllocError>
+    ensures memory { IfOk result (λ text. drained.now.memory ≡ false) }
+    ensures line { IfOk result (λ text. string_bytes text ≡ run_line (end_of_run drained.now.quiet drained.now.full)) }
+{
+    if drained.memory {
+        return Err(AllocError);
+    }
+    run_text(alloc, end_of(drained.quiet, drained.full))
+}
+
+/// The line of a refused run. There is none for want of memory.
+fn refused_run_text(alloc: Global, refusal: DrainRefusal) -> Result<String, AllocError>
+    ensures { IfOk result (λ text. IsRefusedRunText refusal (string_bytes text)) }
+{
+    match refusal {
+        DrainRefusal::BadWorkers => refused_text(alloc, "run", "BadWorkers"),
+        DrainRefusal::BadPlan(place) => bad_plan_text(alloc, place),
+        DrainRefusal::Down => refused_text(alloc, "run", "Down"),
+        DrainRefusal::NoTable => refused_text(alloc, "run", "NoTable"),
+        DrainRefusal::NoThread => refused_text(alloc, "run", "NoThread"),
+        DrainRefusal::Uneven => refused_text(alloc, "run", "Uneven"),
+        DrainRefusal::Memory => Err(AllocError),
+    }
+}
+
+/// The line of a run that answered this.
+fn answer_text(alloc: Global, answer: Result<Drained, DrainRefusal>) -> Result<String, AllocError>
+    ensures { IfOk result (λ text. IsRunText answer (string_bytes text)) }
+{
+    match answer {
+        Ok(drained) => drained_text(alloc, &drained),
+        Err(refusal) => refused_run_text(alloc, refusal),
+    }
+}
+
+/// Drains the group by workers, and says what is known of the group that comes back.
+fn drain_by<B: Behaviour + Send + Sync, T: Threads + Wait + Sync>(
+    rt: &T,
+    alloc: Global,
+    workers: u8,
+    group: Group<B>,
+    plan: &[Strike],
+) -> (Group<B>, Result<Drained, DrainRefusal>)
+    ensures drained { IfOk result.1 (IsDrain workers plan.now group result.0) }
+    ensures refused { IfErr result.1 (λ refusal. IsRefused workers plan.now group refusal × Leaves refusal group result.0) }
+{
+    drain(rt, alloc, group, plan, workers, TURNS, &NoGate)
+}
+
+/// Lets workers deliver, strike and recover, and answers the line.
+pub(crate) fn run_plan<B: Behaviour + Send + Sync, T: Threads + Wait + Sync>(
+    rt: &T,
+    alloc: Global,
+    workers: u8,
+    group: Group<B>,
+    plan: &Plan,
+) -> (Group<B>, Result<String, AllocError>)
+    ensures { IfOk result.1 (λ text. RunStep B.next workers plan.now group result.0 (string_bytes text)) }
+{
+    let Ok(strikes) = plan_of(alloc, plan) else {
+        return (group, Err(AllocError));
+    };
+    let (group, answer) = drain_by(rt, alloc, workers, group, strikes.as_slice());
+    (group, answer_text(alloc, answer))
+}

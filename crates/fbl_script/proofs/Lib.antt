@@ -1,0 +1,4 @@
+pub mod Lists
+pub mod ScriptFaults
+pub mod Bytes
+pub mod Inputs

@@ -1,0 +1,140 @@
+-- The script that an input is, or its first fault.
+use Rattle.std.specs.Prelude.{◌≡◌, ℕ, ◌+◌, ◌==◌, List, [], ◌∷◌, ◌++◌, Option, Some, None, option_and_then, option_map, Result, Ok, Err, codes, if◌then◌else◌}
+use Rattle.serde_json.specs.Data.{Data}
+use Rattle.serde_json.specs.Find.{get, as_object}
+use Rattle.fbl_base.specs.declared.trace.Start.{Start}
+use Rattle.fbl_base.specs.declared.config.ConfigRefusal.TheVariants as refusals
+use Rattle.fbl_base.specs.Configs.{Settings, IsConfig, RefusesConfig}
+use Rattle.fbl_script.specs.declared.fault.Key.{Key}
+use Rattle.fbl_script.specs.declared.fault.Key.TheVariants as keys
+use Rattle.fbl_script.specs.declared.fault.RunFault.{RunFault}
+use Rattle.fbl_script.specs.declared.fault.RunFault.TheVariants as faults
+use Rattle.fbl_script.specs.declared.script.BehaviourName.{BehaviourName}
+use Rattle.fbl_script.specs.declared.script.BehaviourName.TheVariants.{Relay, Mix}
+use Rattle.fbl_script.specs.declared.script.PlannedStrike.{PlannedStrike}
+use Rattle.fbl_script.specs.declared.script.Command.{Command}
+use Rattle.fbl_script.specs.declared.script.Command.TheVariants.{Deliver, States, Report, Strike, Recover, Dump, Run}
+use Rattle.fbl_script.specs.declared.script.Script.{Script}
+use Rattle.fbl_script.specs.declared.script_reading.Request.{Request}
+use Rattle.fbl_script.specs.Shapes.{◌>>=◌, or_fault, number_within, count_shape, member_shape, as_list, is_text, list_of, set_shape, name_of, field, field_or, has_other_key, value_of_input}
+
+-- what a script asks for
+pub record Outline : Type 0 where
+  pub behaviour : BehaviourName
+  pub config : Settings
+  pub commands : List Command
+
+abbrev pub outline : Script → Outline
+outline s = record { behaviour = s.behaviour; config = s.config; commands = s.commands.items }
+
+-- ---- shapes
+
+abbrev pub behaviour_shape : Data → Option BehaviourName
+behaviour_shape d = if is_text (codes "relay") d then Some Relay else (if is_text (codes "mix") d then Some Mix else None)
+
+-- `[from, to, value, hops]`
+abbrev pub start_from : List Data → Option Start
+start_from (from ∷ to ∷ value ∷ hops ∷ []) =
+    option_and_then (λ p. option_and_then (λ q. option_and_then (λ v. option_map (λ h.
+    record { from = p; to = q; note = record { value = v; hops = h } })
+    (number_within 0 255 hops)) (count_shape value)) (member_shape to)) (member_shape from)
+start_from _ = None
+
+abbrev pub start_shape : Data → Option Start
+start_shape d = option_and_then start_from (as_list d)
+
+-- `[at, set]`
+abbrev pub planned_from : List Data → Option PlannedStrike
+planned_from (at ∷ members ∷ []) = option_and_then (λ n. option_map (λ s. record { at = n; set = s }) (set_shape members)) (count_shape at)
+planned_from _ = None
+
+abbrev pub planned_shape : Data → Option PlannedStrike
+planned_shape d = option_and_then planned_from (as_list d)
+
+-- `["states"]`, `["report"]`, `["recover"]`
+abbrev pub lone_command : Data → Option Command
+lone_command name =
+    if is_text (codes "states") name then Some States
+    else (if is_text (codes "report") name then Some Report
+    else (if is_text (codes "recover") name then Some Recover else None))
+
+-- `["strike", set]`, `["dump", set]`, `["run", plan]`
+abbrev pub command_on : Data → Data → Option Command
+command_on name value =
+    if is_text (codes "strike") name then option_map Strike (set_shape value)
+    else (if is_text (codes "dump") name then option_map Dump (set_shape value)
+    else (if is_text (codes "run") name then option_map Run (list_of planned_shape value) else None))
+
+-- `["deliver", to, from]`
+abbrev pub delivery : Data → Data → Data → Option Command
+delivery name to from =
+    if is_text (codes "deliver") name then option_and_then (λ p. option_map (λ q. Deliver p q) (member_shape from)) (member_shape to) else None
+
+abbrev pub command_from : List Data → Option Command
+command_from (name ∷ []) = lone_command name
+command_from (name ∷ value ∷ []) = command_on name value
+command_from (name ∷ to ∷ from ∷ []) = delivery name to from
+command_from _ = None
+
+abbrev pub command_shape : Data → Option Command
+command_shape d = option_and_then command_from (as_list d)
+
+-- ---- the script
+
+-- the commands from a place on: the first of another shape, or at place 1024, is the fault
+abbrev pub commands_from : ℕ → List Data → Result (List Command) RunFault
+commands_from place [] = Ok []
+commands_from place (d ∷ ds) =
+    (if place == 1024 then Err (faults.BadCommand place) else or_fault (faults.BadCommand place) (command_shape d)) >>= λ c.
+    commands_from (place + 1) ds >>= λ cs.
+    Ok (c ∷ cs)
+
+abbrev pub script_keys : List Key
+script_keys = keys.Version ∷ keys.Members ∷ keys.F ∷ keys.Behaviour ∷ keys.Limit ∷ keys.Start ∷ keys.Commands ∷ []
+
+-- what a value asks for as a script, or its first fault
+unfoldable pub outline_of : Data → Result Outline RunFault
+outline_of d = do
+  object ← or_fault faults.NotObject (as_object d)
+  version ← field keys.Version (number_within 1 1) d
+  members ← field keys.Members (number_within 0 255) d
+  f ← field keys.F (number_within 0 255) d
+  behaviour ← field keys.Behaviour behaviour_shape d
+  limit ← field_or 8192 keys.Limit count_shape (get (name_of keys.Limit) d)
+  starts ← field keys.Start (list_of start_shape) d
+  listed ← field keys.Commands as_list d
+  commands ← commands_from 0 listed
+  if has_other_key script_keys object then Err faults.UnknownKey else Ok (record { behaviour = behaviour; config = record { members = members; f = f; limit = limit; starts = starts }; commands = commands })
+
+-- what an input asks for as a script, or its first fault
+abbrev pub outline_of_input : List ℕ → Result Outline RunFault
+outline_of_input input = value_of_input input >>= outline_of
+
+-- the input is this script, and there is such a group
+abbrev pub IsScriptOf : List ℕ → Outline → Type 0
+IsScriptOf input s = (outline_of_input input ≡ Ok s) × IsConfig s.config
+
+-- the fault is the input's first as a script; memory may be wanting for any input
+abbrev pub IsScriptFault : List ℕ → RunFault → Type 0
+IsScriptFault input faults.Memory = Unit {0}
+IsScriptFault input faults.Read = ⊥
+IsScriptFault input faults.Write = ⊥
+IsScriptFault input (faults.Dump e) = ⊥
+IsScriptFault input (faults.Config refusals.Memory) = ⊥
+IsScriptFault input (faults.Config e) = (s : Outline) × (outline_of_input input ≡ Ok s) × RefusesConfig s.config e
+IsScriptFault input e = outline_of_input input ≡ Err e
+
+-- what is asked for as a script, before it is known whether there is such a group
+abbrev pub request_outline : Request → Outline
+request_outline r = record { behaviour = r.behaviour; config = record { members = r.members; f = r.f; limit = r.limit; starts = r.starts.items }; commands = r.commands.items }
+
+-- there is no such group, or memory was wanting
+abbrev pub IsRequestRefused : Outline → RunFault → Type 0
+IsRequestRefused s faults.Memory = Unit {0}
+IsRequestRefused s (faults.Config refusals.Memory) = ⊥
+IsRequestRefused s (faults.Config e) = RefusesConfig s.config e
+IsRequestRefused s e = ⊥
+
+-- a list that was read after a front that was read before
+abbrev pub with_front : {A : Type 0} → List A → Result (List A) RunFault → Result (List A) RunFault
+with_front front read = read >>= λ rest. Ok (front ++ rest)

@@ -1,0 +1,133 @@
+//! Commands as JSON.
+
+ghost use Rattle.std.specs.Prelude.{◌≡◌, ◌≤◌, map, IfOk, IfErr, option_map};
+ghost use Rattle.serde_json.specs.View.{view};
+ghost use Rattle.fbl_script.specs.Shapes.{Gives, IsOfShape, all_shaped, list_of};
+ghost use Rattle.fbl_script.specs.Scripts.{command_from, command_on, command_shape, commands_from, delivery, lone_command, planned_from, planned_shape};
+
+use crate::fault::RunFault;
+use crate::script::{Command, Plan, PlannedStrike};
+use crate::shapes::{count_in, is_named, list_in, member_in, set_in};
+use serde_json::Value;
+use std::alloc::{AllocError, Global};
+
+fn planned_of(list: &[Value]) -> Option<PlannedStrike>
+    ensures { result ≡ planned_from (map view list.now) }
+{
+    match list {
+        [at, members] => {
+            let at = u64::from(count_in(at)?);
+            let set = set_in(members)?;
+            Some(PlannedStrike { at, set })
+        }
+        _ => None,
+    }
+}
+
+fn planned_in(value: &Value) -> Option<PlannedStrike>
+    ensures { result ≡ planned_shape (view value.now) }
+{
+    planned_of(list_in(value)?)
+}
+
+/// The strikes of a plan, if each value has the shape of one.
+fn strikes_in(alloc: Global, list: &[Value]) -> Result<Option<Vec<PlannedStrike>>, AllocError>
+    ensures { IfOk result (λ found. option_map (λ v. v.items) found ≡ all_shaped planned_shape (map view list.now)) }
+{
+    let mut strikes = Vec::new(alloc);
+    for value in list {
+        match planned_in(value) {
+            Some(strike) => strikes.push(strike)?,
+            None => return Ok(None),
+        }
+    }
+    Ok(Some(strikes))
+}
+
+fn plan_in(alloc: Global, value: &Value) -> Result<Option<Plan>, AllocError>
+    ensures { IfOk result (λ plan. plan ≡ list_of planned_shape (view value.now)) }
+{
+    match list_in(value) {
+        Some(list) => Ok(strikes_in(alloc, list)?.map(Plan::new)),
+        None => Ok(None),
+    }
+}
+
+fn lone_command_in(name: &Value) -> Option<Command>
+    ensures { result ≡ lone_command (view name.now) }
+{
+    if is_named(name, "states") {
+        return Some(Command::States);
+    }
+    if is_named(name, "report") {
+        return Some(Command::Report);
+    }
+    if is_named(name, "recover") {
+        return Some(Command::Recover);
+    }
+    None
+}
+
+fn command_on_in(alloc: Global, name: &Value, value: &Value) -> Result<Option<Command>, AllocError>
+    ensures { IfOk result (λ c. c ≡ command_on (view name.now) (view value.now)) }
+{
+    if is_named(name, "strike") {
+        return Ok(set_in(value).map(Command::Strike));
+    }
+    if is_named(name, "dump") {
+        return Ok(set_in(value).map(Command::Dump));
+    }
+    if is_named(name, "run") {
+        return Ok(plan_in(alloc, value)?.map(Command::Run));
+    }
+    Ok(None)
+}
+
+fn delivery_in(name: &Value, to: &Value, from: &Value) -> Option<Command>
+    ensures { result ≡ delivery (view name.now) (view to.now) (view from.now) }
+{
+    if !is_named(name, "deliver") {
+        return None;
+    }
+    let to = member_in(to)?;
+    let from = member_in(from)?;
+    Some(Command::Deliver { to, from })
+}
+
+fn command_of(alloc: Global, list: &[Value]) -> Result<Option<Command>, AllocError>
+    ensures { IfOk result (λ c. c ≡ command_from (map view list.now)) }
+{
+    match list {
+        [name] => Ok(lone_command_in(name)),
+        [name, value] => command_on_in(alloc, name, value),
+        [name, to, from] => Ok(delivery_in(name, to, from)),
+        _ => Ok(None),
+    }
+}
+
+fn command_in(alloc: Global, value: &Value) -> Result<Option<Command>, AllocError>
+    ensures { IfOk result (λ c. c ≡ command_shape (view value.now)) }
+{
+    match list_in(value) {
+        Some(list) => command_of(alloc, list),
+        None => Ok(None),
+    }
+}
+
+/// The commands, or the first fault among them.
+pub fn commands_in(alloc: Global, list: &[Value]) -> Result<Vec<Command>, RunFault>
+    ensures exact { Gives (λ v. v.items) result (commands_from 0 (map view list.now)) }
+    ensures faults { IfErr result IsOfShape }
+{
+    let mut commands = Vec::new(alloc);
+    let mut place = 0;
+    for value in list {
+        if place == 1024 {
+            return Err(RunFault::BadCommand(place));
+        }
+        let command = command_in(alloc, value)?.ok_or(RunFault::BadCommand(place))?;
+        commands.push(command)?;
+        place += 1;
+    }
+    Ok(commands)
+}

@@ -1,0 +1,19 @@
+//! Scripts as JSON, why a script or a dump is not taken to its end, and reading and writing whole texts.
+#![tactic(auto)]
+
+mod commands;
+mod fault;
+mod input;
+mod output;
+mod script;
+mod script_reading;
+pub mod shapes;
+
+pub use fault::{Key, RunFault};
+pub use input::read_input;
+pub use output::put;
+pub use script::{BehaviourName, Command, Plan, PlannedStrike, Script};
+pub use script_reading::script_of_bytes;
+
+#[cfg(test)]
+mod tests;

@@ -1,0 +1,85 @@
+ghost use Rattle.std.specs.Prelude.{◌≡◌};
+
+use fbl_base::{Config, Member, MemberSet};
+use std::marker::Model;
+
+/// A behaviour that a script names.
+#[derive(Clone, Copy, Debug, PartialEq, Eq)]
+pub enum BehaviourName {
+    /// `relay`
+    Relay,
+    /// `mix`
+    Mix,
+}
+
+/// A strike that a plan asks for.
+#[derive(Clone, Copy, Debug, PartialEq, Eq)]
+pub struct PlannedStrike {
+    /// The receipts that there must have been, all told.
+    pub at: u64,
+    /// The members to strike.
+    pub set: MemberSet,
+}
+
+/// The strikes that a run makes on its way, in the order given. Contracts see the list.
+#[derive(Debug, Drop)]
+pub struct Plan {
+    strikes: Vec<PlannedStrike>,
+}
+
+impl Model for Plan {
+    ghost use Rattle.std.specs.Prelude.{List};
+    ghost use Rattle.fbl_script.specs.declared.script.PlannedStrike.{PlannedStrike};
+
+    ghost Value = { List PlannedStrike };
+
+    ghost use Rattle.std.specs.Coded.{codes};
+    ghost use Rattle.fbl_script.specs.contracts.script.PlannedStrike as planned_strike;
+
+    ghost coded = { Prim.hlevel (codes, planned_strike.the_row.coded) };
+
+    ghost view = { λ p. p.strikes.items };
+}
+
+impl Plan {
+    /// A plan of these strikes.
+    pub fn new(strikes: Vec<PlannedStrike>) -> Plan
+        ensures { result ≡ strikes.items }
+    {
+        Plan { strikes }
+    }
+
+    /// The strikes, in order.
+    pub fn strikes(&self) -> &[PlannedStrike]
+        ensures { result.now ≡ self.now }
+    {
+        self.strikes.as_slice()
+    }
+}
+
+/// A command of a script.
+#[derive(Debug, Drop)]
+pub enum Command {
+    /// Deliver the first message from `from` to `to`.
+    Deliver { to: Member, from: Member },
+    /// Print the members' states.
+    States,
+    /// Print what each member has, and the totals.
+    Report,
+    /// Strike the members.
+    Strike(MemberSet),
+    /// Recover the members that are down.
+    Recover,
+    /// Print the dump in which these members are struck.
+    Dump(MemberSet),
+    /// Let workers deliver until nothing is in flight.
+    Run(Plan),
+}
+
+/// What a script asks for.
+#[derive(Debug, Drop)]
+pub struct Script {
+    pub behaviour: BehaviourName,
+    pub config: Config,
+    pub commands: Vec<Command>,
+}

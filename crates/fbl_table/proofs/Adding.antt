@@ -1,0 +1,158 @@
+-- Tables as a map has them.
+use Rattle.std.proofs.Common.{◌≡◌, ℕ, zero, suc, ◌+◌, ◌<◌, ◌≤◌, Bool, true, false, cond, ◌||◌, if◌then◌else◌, List, [], ◌∷◌, ◌++◌, map, Option, Some, None, is_some, unwrap_or, max, refl, sym, ap, ◌∙◌, arith, take, drop, length, slice_get, get_or}
+use Rattle.std.specs.Map.{lookup, values_of, keys_of}
+use Rattle.std.specs.Ordering.{nat_cmp}
+use Rattle.std.specs.Option.{option_or}
+use Rattle.std.proofs.lemmas.Bool.{false≢true}
+use Rattle.std.specs.List.{list_any, filter, find, fold}
+use Rattle.std.proofs.lemmas.List.{take_all, take_more, take-append-drop, map-append}
+use Rattle.std.proofs.lemmas.List.Elements.{filter-append}
+use Rattle.std.proofs.lemmas.List.Folds.{find-append}
+use Rattle.std.proofs.lemmas.List.Sums.{fold_push}
+use Rattle.std.proofs.lemmas.Option.{slice_get_within, get_or_from_slice_get, slice_get-get_or}
+use Rattle.indexmap.specs.Layout.{set_value_at}
+use Rattle.std.specs.FinSet as set
+use Rattle.fbl_base.specs.declared.trace.Determinant.{Determinant}
+use Rattle.std.specs.Cmp.{nat_cmp_total}
+use Rattle.fbl_base.specs.MemberSets.{same_from_contains}
+use Rattle.fbl_base.specs.Events.{same_determinant}
+use Rattle.indexmap.specs.IndexMap.{insert_entry}
+use Rattle.fbl_table.specs.declared.entry.Entry.{Entry}
+use Rattle.fbl_table.specs.Tables.{is_held, added, entry_of, is_unstable, piggybacked, gathered, learned, held_by, names, found, greatest_rsn, rsn_of, marked}
+
+Pair : Type 0
+Pair = Determinant × set.FinSet nat_cmp
+
+pub held-lookup : (es : List (Determinant × set.FinSet nat_cmp)) (d : Determinant) → is_some (lookup (same_determinant d) es) ≡ is_held (map entry_of es) d
+held-lookup [] d = refl
+held-lookup (e ∷ es) d =
+    elim (same_determinant d e.0) as (λ b. is_some (cond b (Some e.1) (lookup (same_determinant d) es)) ≡ (b || is_held (map entry_of es) d)) [
+      | true ↦ refl
+      | false ↦ held-lookup es d
+    ]
+
+-- what is known of the determinant, united with more
+abbrev pub more_known : Option (set.FinSet nat_cmp) → set.FinSet nat_cmp → set.FinSet nat_cmp
+more_known known more = set.union (unwrap_or known set.empty) more
+
+pub union-none : (more : set.FinSet nat_cmp) → set.union set.empty more ≡ more
+union-none more = same_from_contains _ _ (λ q. set.contains-union nat_cmp_total set.empty more q ∙ ap (λ b. b || set.contains more q) (set.contains-empty nat_cmp q))
+
+pub insert-added : (es : List (Determinant × set.FinSet nat_cmp)) (entry : Entry) → map entry_of (insert_entry same_determinant es entry.det (more_known (lookup (same_determinant entry.det) es) entry.known)) ≡ added (map entry_of es) entry
+unfolding added
+insert-added [] entry = ap (λ known. record { det = entry.det; known = known } ∷ []) (union-none entry.known)
+insert-added (e ∷ es) entry =
+    elim (same_determinant entry.det e.0) as (λ b. map entry_of (if b then (e.0, more_known (cond b (Some e.1) (lookup (same_determinant entry.det) es)) entry.known) ∷ es else e ∷ insert_entry same_determinant es entry.det (more_known (cond b (Some e.1) (lookup (same_determinant entry.det) es)) entry.known)) ≡ (if b then record { det = e.0; known = set.union e.1 entry.known } ∷ map entry_of es else entry_of e ∷ added (map entry_of es) entry)) [
+      | true ↦ refl
+      | false ↦ ap (λ t. entry_of e ∷ t) (insert-added es entry)
+    ]
+
+pub noted-insert : (es : List (Determinant × set.FinSet nat_cmp)) (d : Determinant) (known : set.FinSet nat_cmp) → is_held (map entry_of es) d ≡ false → map entry_of (insert_entry same_determinant es d known) ≡ map entry_of es ++ record { det = d; known = known } ∷ []
+noted-insert [] d known none = refl
+noted-insert (e ∷ es) d known none = at (noted-insert es d known) (same_determinant d e.0) refl where
+  at : (is_held (map entry_of es) d ≡ false → map entry_of (insert_entry same_determinant es d known) ≡ map entry_of es ++ record { det = d; known = known } ∷ []) → (b : Bool) → same_determinant d e.0 ≡ b → map entry_of (insert_entry same_determinant (e ∷ es) d known) ≡ entry_of e ∷ map entry_of es ++ record { det = d; known = known } ∷ []
+  at more true is = absurd (false≢true (sym none ∙ ap (λ b. b || is_held (map entry_of es) d) is))
+  at more false is =
+      let rest : is_held (map entry_of es) d ≡ false = sym (ap (λ b. b || is_held (map entry_of es) d) is) ∙ none in
+      ap (λ b. map entry_of (if b then (e.0, known) ∷ es else e ∷ insert_entry same_determinant es d known)) is ∙ ap (λ t. entry_of e ∷ t) (more rest)
+
+pub take-next : {X : Type 0} (xs : List X) (i : ℕ) (x : X) → slice_get xs i ≡ Some x → take (i + 1) xs ≡ take i xs ++ x ∷ []
+take-next xs i x is = take_more xs i x (slice_get_within xs i x is) ∙ ap (λ y. take i xs ++ y ∷ []) (get_or_from_slice_get xs i x x is)
+
+pub piggyback-step : (f : ℕ) (table : List Entry) (i : ℕ) (e : Entry) → slice_get table i ≡ Some e → piggybacked f (take (i + 1) table) ≡ piggybacked f (take i table) ++ cond (is_unstable f e) (e ∷ []) []
+piggyback-step f table i e is = ap (piggybacked f) (take-next table i e is) ∙ filter-append (is_unstable f) (take i table) (e ∷ [])
+
+pub greatest-step : (to : ℕ) (table : List Entry) (i : ℕ) (e : Entry) → slice_get table i ≡ Some e → greatest_rsn to (take (i + 1) table) ≡ max (greatest_rsn to (take i table)) (rsn_of to e)
+greatest-step to table i e is = ap (greatest_rsn to) (take-next table i e is) ∙ fold_push (λ last x. max last (rsn_of to x)) 0 (take i table) e
+
+pub gather-step : (table other : List Entry) (i : ℕ) (e : Entry) → slice_get other i ≡ Some e → gathered table (take (i + 1) other) ≡ added (gathered table (take i other)) e
+gather-step table other i e is = ap (gathered table) (take-next other i e is) ∙ fold_push added table (take i other) e
+
+pub learn-step : (me : ℕ) (table carried : List Entry) (i : ℕ) (e : Entry) → slice_get carried i ≡ Some e → learned me table (take (i + 1) carried) ≡ added (learned me table (take i carried)) (held_by me e)
+learn-step me table carried i e is = ap (learned me table) (take-next carried i e is) ∙ ap (gathered table) (map-append (held_by me) (take i carried) (e ∷ [])) ∙ fold_push added table (map (held_by me) (take i carried)) (held_by me e)
+
+-- the search among the first places
+pub find-step : {X : Type 0} (p : X → Bool) (xs : List X) (i : ℕ) (x : X) → slice_get xs i ≡ Some x → find p (take i xs) ≡ None → find p (take (i + 1) xs) ≡ cond (p x) (Some x) None
+find-step p xs i x is none = ap (find p) (take-next xs i x is) ∙ find-append p (take i xs) (x ∷ []) ∙ ap (λ o. option_or o (find p (x ∷ []))) none
+
+pub find-here : {X : Type 0} (p : X → Bool) (xs : List X) (i : ℕ) (x : X) → slice_get xs i ≡ Some x → find p (take i xs) ≡ None → p x ≡ true → find p xs ≡ Some x
+find-here p xs i x is none passes =
+    let first : find p (take (i + 1) xs) ≡ Some x = find-step p xs i x is none ∙ ap (λ b. cond b (Some x) None) passes in
+    ap (find p) (sym (take-append-drop (i + 1) xs)) ∙ find-append p (take (i + 1) xs) (drop (i + 1) xs) ∙ ap (λ o. option_or o (find p (drop (i + 1) xs))) first
+
+pub item_at : {X : Type 0} (xs : List X) (i : ℕ) (x : X) → i < length xs → x ≡ get_or xs i x → slice_get xs i ≡ Some x
+item_at xs i x below is = slice_get-get_or xs i x below ∙ ap Some (sym is)
+
+-- the first `i` entries marked
+unfoldable pub marked_first : ℕ → set.FinSet nat_cmp → List Entry → List Entry
+marked_first zero members table = table
+marked_first (suc i) members [] = []
+marked_first (suc i) members (e ∷ table) = record { det = e.det; known = set.union e.known members } ∷ marked_first i members table
+
+pub mark-none : (members : set.FinSet nat_cmp) (table : List Entry) → marked_first 0 members table ≡ table
+unfolding marked_first
+mark-none members table = refl
+
+pub mark-all : (i : ℕ) (members : set.FinSet nat_cmp) (table : List Entry) → length table ≤ i → marked_first i members table ≡ marked members table
+unfolding marked_first
+mark-all zero members [] done = refl
+mark-all zero members (e ∷ table) done = absurd (omega (arith, done))
+mark-all (suc i) members [] done = refl
+mark-all (suc i) members (e ∷ table) done = ap (λ t. record { det = e.det; known = set.union e.known members } ∷ t) (mark-all i members table (omega (arith, done)))
+
+mark-at : (i : ℕ) (members : set.FinSet nat_cmp) (table : List Entry) (es : List (Determinant × set.FinSet nat_cmp)) (v : set.FinSet nat_cmp) → map entry_of es ≡ marked_first i members table → slice_get (values_of es) i ≡ Some v → map entry_of (set_value_at es i (set.union v members)) ≡ marked_first (suc i) members table
+unfolding marked_first
+mark-at zero members [] [] v same is = refl
+mark-at zero members [] (p ∷ es) v same is = cc
+mark-at zero members (e ∷ table) [] v same is = cc
+mark-at zero members (e ∷ table) (p ∷ es) v same is =
+    let first : entry_of p ≡ e = ap (λ l. get_or l 0 e) same in
+    let rest : map entry_of es ≡ table = ap (drop 1) same in
+    let value : v ≡ p.1 = sym (ap (λ o. unwrap_or o v) is) in
+    let known : v ≡ e.known = value ∙ ap (λ x. x.known) first in
+    λ j. record { det = (first j).det; known = set.union (known j) members } ∷ rest j
+mark-at (suc i) members [] [] v same is = refl
+mark-at (suc i) members [] (p ∷ es) v same is = cc
+mark-at (suc i) members (e ∷ table) [] v same is = cc
+mark-at (suc i) members (e ∷ table) (p ∷ es) v same is =
+    let first : entry_of p ≡ record { det = e.det; known = set.union e.known members } = ap (λ l. get_or l 0 e) same in
+    let rest : map entry_of es ≡ marked_first i members table = ap (drop 1) same in
+    let more : map entry_of (set_value_at es i (set.union v members)) ≡ marked_first (suc i) members table = mark-at i members table es v rest is in
+    λ j. first j ∷ more j
+
+pub mark-step : (i : ℕ) (members : set.FinSet nat_cmp) (table : List Entry) (es : List (Determinant × set.FinSet nat_cmp)) (v : set.FinSet nat_cmp) → map entry_of es ≡ marked_first i members table → slice_get (values_of es) i ≡ Some v → map entry_of (set_value_at es i (set.union v members)) ≡ marked_first (i + 1) members table
+mark-step i members table es v same is = mark-at i members table es v same is ∙ ap (λ k. marked_first k members table) (let e : suc i ≡ i + 1 = omega arith in e)
+
+pub length-set_value_at : (es : List (Determinant × set.FinSet nat_cmp)) (i : ℕ) (v : set.FinSet nat_cmp) → length (set_value_at es i v) ≡ length es
+length-set_value_at [] i v = refl
+length-set_value_at (e ∷ es) zero v = refl
+length-set_value_at (e ∷ es) (suc i) v = ap suc (length-set_value_at es i v)
+
+pub keys-view : (es : List (Determinant × set.FinSet nat_cmp)) → map (λ e. e.det) (map entry_of es) ≡ keys_of es
+keys-view [] = refl
+keys-view (e ∷ es) = ap (λ t. e.0 ∷ t) (keys-view es)
+
+-- what was not held before, and is not the entry's, is not held afterwards
+not_held-added : (table : List Entry) (entry : Entry) (d : Determinant) → is_held table d ≡ false → same_determinant d entry.det ≡ false → is_held (added table entry) d ≡ false
+unfolding added
+not_held-added [] entry d none other = ap (λ b. b || false) other
+not_held-added (e ∷ table) entry d none other = at (not_held-added table entry d) (same_determinant entry.det e.det) (same_determinant d e.det) refl where
+  at : (is_held table d ≡ false → same_determinant d entry.det ≡ false → is_held (added table entry) d ≡ false) → (same here : Bool) → same_determinant d e.det ≡ here → is_held (if same then record { det = e.det; known = set.union e.known entry.known } ∷ table else e ∷ added table entry) d ≡ false
+  at more true here is = none
+  at more false true is = absurd (false≢true (sym none ∙ ap (λ b. b || is_held table d) is))
+  at more false false is = ap (λ b. b || is_held (added table entry) d) is ∙ more (sym (ap (λ b. b || is_held table d) is) ∙ none) other
+
+pub not_held-gathered : (table other : List Entry) (d : Determinant) → is_held table d ≡ false → is_held other d ≡ false → is_held (gathered table other) d ≡ false
+not_held-gathered table [] d none others = none
+not_held-gathered table (e ∷ other) d none others = at (λ here. not_held-gathered (added table e) other d (not_held-added table e d none here)) (same_determinant d e.det) refl where
+  at : (same_determinant d e.det ≡ false → is_held other d ≡ false → is_held (gathered (added table e) other) d ≡ false) → (here : Bool) → same_determinant d e.det ≡ here → is_held (gathered (added table e) other) d ≡ false
+  at more true is = absurd (false≢true (sym others ∙ ap (λ b. b || is_held other d) is))
+  at more false is = more is (sym (ap (λ b. b || is_held other d) is) ∙ others)
+
+held-carried : (me : ℕ) (carried : List Entry) (d : Determinant) → is_held (map (held_by me) carried) d ≡ is_held carried d
+held-carried me [] d = refl
+held-carried me (e ∷ carried) d = ap (λ b. same_determinant d e.det || b) (held-carried me carried d)
+
+-- what was neither held nor carried is not held after what was carried is learned
+pub not_held-learned : (me : ℕ) (table carried : List Entry) (d : Determinant) → is_held table d ≡ false → is_held carried d ≡ false → is_held (learned me table carried) d ≡ false
+not_held-learned me table carried d none others = not_held-gathered table (map (held_by me) carried) d none (held-carried me carried d ∙ others)

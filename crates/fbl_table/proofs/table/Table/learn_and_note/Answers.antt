@@ -1,0 +1,8 @@
+use Rattle.std.proofs.Common.{◌≡◌, sym, ◌∙◌, ap, map}
+use Rattle.fbl_table.specs.Tables.{learned, entry_of}
+use Rattle.fbl_table.proofs.Adding.{not_held-learned}
+use Rattle.fbl_table.proofs.table.Table.learn_and_note.Goals as goal
+
+pub add_own-requires-clause-new : goal.add_own-requires-clause-new
+add_own-requires-clause-new g c =
+    rw (c.add_carried.ensures.entries, c.in_ok-reserve.ensures.entries) (not_held-learned c.args.me _ c.args.carried.now c.args.det (rw c.self.view_is c.requires.table) c.requires.carried)

@@ -1,0 +1,15 @@
+use Rattle.std.proofs.Common.{◌≡◌, ap, ◌∙◌, sym, arith, refl}
+use Rattle.fbl_table.proofs.Adding.{learn-step, item_at}
+use Rattle.fbl_table.proofs.table.add_carried.Goals as goal
+
+pub loop-entry-preserved : goal.loop-entry-preserved
+loop-entry-preserved g c =
+    let e = c.entry-item.result in
+    let at = item_at c.args.carried.now c.loop-entry.entry-index e (omega (arith, c.loop-entry-test.true)) c.entry-item.is in
+    record {
+      so_far = rw (c.add.ensures.entries, c.loop-entry.invariant.so_far, c.with.ensures) (sym (learn-step c.args.me _ c.args.carried.now c.loop-entry.entry-index e at));
+      room = omega (arith, c.add.ensures.room, c.loop-entry.invariant.room);
+      open_len = omega (arith, c.add.ensures.open_len, c.loop-entry.invariant.open_len);
+      open_room = omega (arith, c.add.ensures.open_room, c.loop-entry.invariant.open_room);
+      index = λ limit before. c.add.ensures.places limit (c.loop-entry.invariant.index limit before);
+    }

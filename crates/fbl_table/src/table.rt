@@ -1,0 +1,378 @@
+ghost use Rattle.std.specs.Prelude.{◌≡◌, ℕ, ◌+◌, ◌^◌, ◌<◌, ◌≤◌, ◌++◌, [], length, OnOk, OnErr, IfOk, Some, None, false, slice_get, map, vec_len, vec_capacity};
+ghost use Rattle.std.specs.List.{IsDistinct, filter_map};
+ghost use Rattle.fbl_base.specs.Events.{same_determinant};
+ghost use Rattle.indexmap.specs.IndexMap.{insert_entry, spare, get};
+ghost use Rattle.fbl_table.specs.Index.{IsIndex, unstable_at};
+ghost use Rattle.fbl_table.specs.Tables.{is_held, found, greatest_rsn, learned, noted, piggybacked, gathered, marked, added, entry_of};
+
+use crate::entry::Entry;
+use fbl_base::{Determinant, Member, MemberSet};
+use indexmap::IndexMap;
+use std::alloc::{AllocError, Allocator, Global};
+use std::hash::{BuildHasherDefault, FoldHasher};
+use std::marker::Model;
+
+/// What a table keeps: each determinant with the members that are known to hold it.
+type Entries<A> = IndexMap<Determinant, MemberSet, BuildHasherDefault<FoldHasher>, A>;
+
+/// Determinants in the order in which they came, each with the members that are known to hold it.
+///
+/// It keeps the places of the entries that at most `limit` members are known to hold.
+#[derive(Drop)]
+pub struct Table<A: Allocator = Global> {
+    entries: Entries<A>,
+    open_places: Vec<usize, A>,
+    limit: u8,
+}
+
+impl<A: Allocator> Model for Table<A> {
+    ghost use Rattle.std.specs.Prelude.{List, map};
+    ghost use Rattle.fbl_table.specs.declared.entry.Entry.{Entry};
+
+    ghost Value = { List Entry };
+
+    ghost use Rattle.std.specs.Coded.{codes, coded_ℕ, coded_list};
+    ghost use Rattle.std.specs.Ordering.{nat_cmp};
+    ghost use Rattle.std.specs.FinSet as set;
+    ghost use Rattle.fbl_table.specs.contracts.entry.Entry as entry;
+
+    ghost coded = { coded_list entry.the_row.coded };
+
+    ghost use Rattle.fbl_table.specs.Tables.{entry_of};
+    ghost use Rattle.fbl_table.specs.Index.{IsIndex};
+
+    ghost view = { λ t. map entry_of t.entries.entries };
+
+    ghost invariant = { λ t. IsIndex t.limit (map entry_of t.entries.entries) t.open_places.items };
+}
+
+impl<A: Allocator + Copy> Table<A> {
+    /// No entries.
+    pub fn new(alloc: A) -> Table<A>
+        ensures { result ≡ [] }
+    {
+        Table::for_limit(alloc, 15)
+    }
+
+    /// No entries. What at most `limit` members are known to hold is found fast.
+    pub fn for_limit(alloc: A, limit: u8) -> Table<A>
+        ensures { result ≡ [] }
+    {
+        Table {
+            entries: IndexMap::new(alloc),
+            open_places: Vec::new(alloc),
+            limit,
+        }
+    }
+
+    /// How many entries there are.
+    pub fn len(&self) -> usize
+        ensures len { result ≡ length self.now }
+        ensures unique { IsDistinct same_determinant (map (λ e. e.det) self.now) }
+        ensures small { result < 2 ^ 63 }
+    {
+        self.entries.len()
+    }
+
+    /// Whether the determinant is among the entries.
+    pub fn holds(&self, det: &Determinant) -> bool
+        ensures { result ≡ is_held self.now det.now }
+    {
+        self.entries.contains_key(det)
+    }
+
+    /// The entry at this place.
+    pub fn entry_at(&self, place: usize) -> Entry
+        requires { place < length self.now }
+        ensures { slice_get self.now place ≡ Some result }
+    {
+        let (det, known) = self.entries.get_index(place).unwrap();
+        Entry {
+            det: *det,
+            known: *known,
+        }
+    }
+
+    /// The greatest number of the member's receipts among the entries, or 0.
+    pub fn last_rsn(&self, to: Member) -> u32
+        ensures { result ≡ greatest_rsn to self.now }
+    {
+        let mut last = 0;
+        for place in 0..self.len() {
+            let entry = self.entry_at(place);
+            let rsn = entry.rsn_of(to);
+            if rsn > last {
+                last = rsn;
+            }
+        }
+        last
+    }
+
+    /// The determinant of the member's receipt with this number, the first if there are several.
+    pub fn find(&self, to: Member, rsn: u32) -> Option<Determinant>
+        ensures { result ≡ found to rsn self.now }
+    {
+        for place in 0..self.len() {
+            let entry = self.entry_at(place);
+            if entry.names(to, rsn) {
+                return Some(entry.det);
+            }
+        }
+        None
+    }
+
+    /// Takes in what a message carried to the member.
+    pub fn learn(&mut self, me: Member, carried: &[Entry]) -> Result<(), AllocError>
+        ensures learned { OnOk result (self.new ≡ learned me self.old carried.now) }
+        ensures unchanged { OnErr result (self.new ≡ self.old) }
+    {
+        self.entries.reserve(carried.len())?;
+        self.open_places.reserve(carried.len())?;
+        add_carried(&mut self.entries, &mut self.open_places, me, carried);
+        prune(&self.entries, &mut self.open_places, self.limit);
+        Ok(())
+    }
+
+    /// Adds the member's own new determinant.
+    pub fn note_own(&mut self, me: Member, det: Determinant) -> Result<(), AllocError>
+        requires { is_held self.old det ≡ false }
+        ensures noted { OnOk result (self.new ≡ noted me self.old det) }
+        ensures unchanged { OnErr result (self.new ≡ self.old) }
+    {
+        self.entries.reserve(1)?;
+        self.open_places.reserve(1)?;
+        add_own(&mut self.entries, &mut self.open_places, me, det);
+        Ok(())
+    }
+
+    /// Takes in what a message carried to the member, and then the determinant of the message's receipt.
+    pub fn learn_and_note(
+        &mut self,
+        me: Member,
+        carried: &[Entry],
+        det: Determinant,
+    ) -> Result<(), AllocError>
+        requires table { is_held self.old det ≡ false }
+        requires carried { is_held carried.now det ≡ false }
+        ensures ok { OnOk result (self.new ≡ noted me (learned me self.old carried.now) det) }
+        ensures unchanged { OnErr result (self.new ≡ self.old) }
+    {
+        self.entries.reserve(carried.len() + 1)?;
+        self.open_places.reserve(carried.len() + 1)?;
+        add_carried(&mut self.entries, &mut self.open_places, me, carried);
+        prune(&self.entries, &mut self.open_places, self.limit);
+        add_own(&mut self.entries, &mut self.open_places, me, det);
+        Ok(())
+    }
+
+    /// The entries that at most `f` members are known to hold.
+    pub fn piggyback(&self, f: u8) -> Result<Vec<Entry, A>, AllocError>
+        ensures { IfOk result (λ v. v.items ≡ piggybacked f self.now) }
+    {
+        let mut carried = Vec::with_capacity(*self.entries.allocator(), self.at_most_unstable(f))?;
+        self.piggyback_into(f, &mut carried);
+        Ok(carried)
+    }
+
+    /// Puts the entries that at most `f` members are known to hold at the end of the list, which has room for them.
+    pub fn piggyback_into(&self, f: u8, carried: &mut Vec<Entry, A>)
+        requires { vec_len carried.old + length (piggybacked f self.now) ≤ vec_capacity carried.old }
+        ensures { carried.new.items ≡ carried.old.items ++ piggybacked f self.now }
+    {
+        if f > self.limit {
+            self.piggyback_all(f, carried);
+        } else {
+            push_unstable(&self.entries, &self.open_places, f, carried);
+        }
+    }
+
+    /// How many entries at most are passed on once the member has taken in these and its own: room enough for them.
+    pub fn room_to_piggyback(&self, f: u8, carried: &[Entry]) -> usize
+        ensures { (me : ℕ) (det : Determinant) → length (piggybacked f (noted me (learned me self.now carried.now) det)) ≤ result }
+    {
+        self.at_most_unstable(f) + carried.len() + 1
+    }
+
+    /// Takes in another table's entries.
+    pub fn gather(&mut self, other: &Table<A>) -> Result<(), AllocError>
+        ensures gathered { OnOk result (self.new ≡ gathered self.old other.now) }
+        ensures unchanged { OnErr result (self.new ≡ self.old) }
+    {
+        self.entries.reserve(other.len())?;
+        self.open_places.reserve(other.len())?;
+        for place in 0..other.len() {
+            let entry = other.entry_at(place);
+            add(&mut self.entries, &mut self.open_places, entry);
+        }
+        prune(&self.entries, &mut self.open_places, self.limit);
+        Ok(())
+    }
+
+    /// Adds the members to those that are known to hold each determinant.
+    pub fn mark_all(&mut self, members: MemberSet)
+        ensures { self.new ≡ marked members self.old }
+    {
+        for place in 0..self.entries.len() {
+            let known = self.entries[place].union(members);
+            self.entries[place] = known;
+        }
+        prune(&self.entries, &mut self.open_places, self.limit);
+    }
+
+    /// An equal table.
+    pub fn copy(&self) -> Result<Table<A>, AllocError>
+        ensures { IfOk result (λ t. t ≡ self.now) }
+    {
+        let mut open_places = Vec::new(*self.entries.allocator());
+        open_places.extend_from_slice(&self.open_places)?;
+        Ok(Table {
+            entries: self.entries.clone()?,
+            open_places,
+            limit: self.limit,
+        })
+    }
+
+    /// A number of entries that those that at most `f` members are known to hold don't exceed.
+    fn at_most_unstable(&self, f: u8) -> usize
+        ensures enough { length (piggybacked f self.now) ≤ result }
+        ensures small { result < 2 ^ 63 }
+    {
+        if f > self.limit {
+            self.len()
+        } else {
+            self.open_places.len()
+        }
+    }
+
+    fn piggyback_all(&self, f: u8, carried: &mut Vec<Entry, A>)
+        requires { vec_len carried.old + length (piggybacked f self.now) ≤ vec_capacity carried.old }
+        ensures { carried.new.items ≡ carried.old.items ++ piggybacked f self.now }
+    {
+        for place in 0..self.len() {
+            let held = self.entry_at(place);
+            if held.is_unstable(f) {
+                carried.push_reserved(held);
+            }
+        }
+    }
+}
+
+/// Adds an entry where there is room for one. The place of a new one is open.
+fn add<A: Allocator>(entries: &mut Entries<A>, open_places: &mut Vec<usize, A>, entry: Entry)
+    requires entries { 0 < spare entries.old }
+    requires places { vec_len open_places.old < vec_capacity open_places.old }
+    ensures entries { map entry_of entries.new.entries ≡ added (map entry_of entries.old.entries) entry }
+    ensures places { (limit : ℕ) → IsIndex limit (map entry_of entries.old.entries) open_places.old.items → IsIndex limit (map entry_of entries.new.entries) open_places.new.items }
+    ensures room { spare entries.old ≤ spare entries.new + 1 }
+    ensures open_len { vec_len open_places.new ≤ vec_len open_places.old + 1 }
+    ensures open_room { vec_capacity open_places.old ≤ vec_capacity open_places.new }
+{
+    let place = entries.len();
+    let old = entries.get(&entry.det).copied();
+    let known = old.unwrap_or(MemberSet::empty());
+    entries.insert(entry.det, known.union(entry.known)).unwrap();
+    if old.is_none() {
+        open_places.push_reserved(place);
+    }
+}
+
+/// Adds each entry that was carried to the member, where there is room for all of them.
+fn add_carried<A: Allocator>(
+    entries: &mut Entries<A>,
+    open_places: &mut Vec<usize, A>,
+    me: Member,
+    carried: &[Entry],
+)
+    requires entries { length carried.now ≤ spare entries.old }
+    requires places { vec_len open_places.old + length carried.now ≤ vec_capacity open_places.old }
+    ensures entries { map entry_of entries.new.entries ≡ learned me (map entry_of entries.old.entries) carried.now }
+    ensures places { (limit : ℕ) → IsIndex limit (map entry_of entries.old.entries) open_places.old.items → IsIndex limit (map entry_of entries.new.entries) open_places.new.items }
+    ensures room { spare entries.old ≤ spare entries.new + length carried.now }
+    ensures open_len { vec_len open_places.new ≤ vec_len open_places.old + length carried.now }
+    ensures open_room { vec_capacity open_places.old ≤ vec_capacity open_places.new }
+{
+    for entry in carried {
+        add(
+            entries,
+            open_places,
+            Entry {
+                det: entry.det,
+                known: entry.known.with(me),
+            },
+        );
+    }
+}
+
+/// Adds the member's own new determinant, where there is room for it.
+fn add_own<A: Allocator>(
+    entries: &mut Entries<A>,
+    open_places: &mut Vec<usize, A>,
+    me: Member,
+    det: Determinant,
+)
+    requires new { is_held (map entry_of entries.old.entries) det ≡ false }
+    requires entries { 0 < spare entries.old }
+    requires places { vec_len open_places.old < vec_capacity open_places.old }
+    ensures entries { map entry_of entries.new.entries ≡ noted me (map entry_of entries.old.entries) det }
+    ensures places { (limit : ℕ) → IsIndex limit (map entry_of entries.old.entries) open_places.old.items → IsIndex limit (map entry_of entries.new.entries) open_places.new.items }
+{
+    add(
+        entries,
+        open_places,
+        Entry {
+            det,
+            known: MemberSet::empty().with(me),
+        },
+    );
+}
+
+/// Puts the entries at these places that at most `f` members are known to hold at the end of the list.
+fn push_unstable<A: Allocator>(
+    entries: &Entries<A>,
+    places: &[usize],
+    f: u8,
+    carried: &mut Vec<Entry, A>,
+)
+    requires { vec_len carried.old + length (piggybacked f (filter_map (slice_get (map entry_of entries.now.entries)) places.now)) ≤ vec_capacity carried.old }
+    ensures { carried.new.items ≡ carried.old.items ++ piggybacked f (filter_map (slice_get (map entry_of entries.now.entries)) places.now) }
+{
+    for index in 0..places.len() {
+        let place = places[index];
+        if let Some(entry) = get_entry(entries, place) {
+            if entry.is_unstable(f) {
+                carried.push_reserved(entry);
+            }
+        }
+    }
+}
+
+/// Lets go of the places of entries that more than `limit` members are known to hold.
+fn prune<A: Allocator>(entries: &Entries<A>, open_places: &mut Vec<usize, A>, limit: u8)
+    requires { IsIndex limit (map entry_of entries.now.entries) open_places.old.items }
+    ensures index { IsIndex limit (map entry_of entries.now.entries) open_places.new.items }
+    ensures len { vec_len open_places.new ≤ vec_len open_places.old }
+    ensures room { vec_capacity open_places.new ≡ vec_capacity open_places.old }
+{
+    open_places.retain(|place| is_open(entries, *place, limit));
+}
+
+fn is_open<A: Allocator>(entries: &Entries<A>, place: usize, limit: u8) -> bool
+    ensures { result ≡ unstable_at limit (map entry_of entries.now.entries) place }
+{
+    match get_entry(entries, place) {
+        Some(entry) => entry.is_unstable(limit),
+        None => false,
+    }
+}
+
+fn get_entry<A: Allocator>(entries: &Entries<A>, place: usize) -> Option<Entry>
+    ensures { result ≡ slice_get (map entry_of entries.now.entries) place }
+{
+    match entries.get_index(place) {
+        Some((det, known)) => Some(Entry {
+            det: *det,
+            known: *known,
+        }),
+        None => None,
+    }
+}

@@ -1,0 +1,6 @@
+use Rattle.std.proofs.Common.{ℕ, ◌<◌}
+use Rattle.fbl_threads.specs.Turns.{MayTake}
+use Rattle.fbl_threads.proofs.ledgered.Ledgered.take_first.Given as goal
+
+abbrev pub invariant-loop-number : goal.invariant-loop-number
+invariant-loop-number g l = (from : ℕ) → from < l.number → ¬ (MayTake l.self.group l.to from)

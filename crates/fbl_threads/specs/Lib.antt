@@ -1,0 +1,5 @@
+pub mod Claims
+pub mod Drains
+pub mod Pasts
+pub mod Plans
+pub mod Turns

@@ -1,0 +1,246 @@
+//! A group that workers drain.
+
+ghost use Rattle.std.specs.Prelude.{◌≡◌, ◌+◌, ◌≤◌, length, sum, IfOk, IfErr};
+ghost use Rattle.fbl_law.specs.Groups.{GroupRecord};
+ghost use Rattle.fbl_group.specs.Readers.{is_quiet};
+ghost use Rattle.fbl_threads.specs.Pasts.{KeepsPast, IsPast};
+ghost use Rattle.fbl_threads.specs.Drains.{Leaves, IsAccepted, IsRefused, IsLate};
+ghost use Rattle.arrayvec.specs.ArrayVec.{array_vec_len};
+
+use crate::claims::{ClaimRefusal, Claims, Pass};
+use crate::gate::Gate;
+use crate::ledgered::Ledgered;
+use crate::past::Past;
+use crate::plan::{Strike, first_bad};
+use crate::scope::{Gathered, run_all};
+use crate::worker::Work;
+use arrayvec::ArrayVec;
+use fbl_base::Behaviour;
+use fbl_group::Group;
+use std::alloc::Global;
+use std::marker::Brand;
+use std::sync::atomic::AtomicU64;
+use std::sync::ledger::{Blank, Ledger};
+use std::sync::{Mutex, Wait};
+use std::thread::Threads;
+use thiserror::Error;
+
+/// What a drain did. Both lists have a place for each worker, and a worker that could not be started has 0.
+#[derive(Drop, Debug)]
+pub struct Drained {
+    /// How many receipts each worker committed.
+    pub by_worker: ArrayVec<u64, 8>,
+    /// How many receipts were undone by the recoveries that each worker ran.
+    pub undone_by_worker: ArrayVec<u64, 8>,
+    /// How many workers were started.
+    pub started: u8,
+    /// Whether nothing is in flight and nobody is down in the group that comes back.
+    pub quiet: bool,
+    /// Whether some worker ended because the trace had no room for a receipt.
+    pub full: bool,
+    /// Whether some worker ended for want of memory, of a commit or of a recovery.
+    pub memory: bool,
+}
+
+/// Why a group is not drained. The first three are tested in this order, before any worker is started; then come `NoTable`
+/// and `Memory`, as the work meets them.
+#[derive(Clone, Copy, PartialEq, Eq, Debug, Error)]
+pub enum DrainRefusal {
+    /// There are not 1 to 8 workers.
+    #[error("BadWorkers")]
+    BadWorkers,
+    /// The entry of the plan at this place, the first such, stands at place 64 or later, has a number that is not greater
+    /// than the one before (than 0, for the first), or names nobody, more members than may be lost at once, or one that
+    /// is not of the group.
+    #[error("BadPlan {0}")]
+    BadPlan(usize),
+    /// Some member of the group is down.
+    #[error("Down")]
+    Down,
+    /// The table of claims is refused for another cause than want of memory. The present one never is.
+    #[error("NoTable")]
+    NoTable,
+    /// No worker could be started. The configuration, the trace and the counters are those of the group given.
+    #[error("NoThread")]
+    NoThread,
+    /// The group that comes back does not go on from the one given: the configuration differs, or the old events of a
+    /// member that the plan does not name are not the first of its new ones, or no worker was started and the trace or
+    /// a counter differs. It is a test of the workers' work, which no run is known to fail.
+    #[error("Uneven")]
+    Uneven,
+    /// There is no memory for the claims, or for a copy of the group's past. No worker was started.
+    #[error("Memory")]
+    Memory,
+}
+
+/// Runs the group by several workers at once, until nothing is in flight, somebody is down, or each worker has taken its
+/// turns. The group always comes back.
+///
+/// Worker `w` at its turn `t`, both from 0, first asks whether nothing is in flight or somebody is down, and then ends.
+/// Else it tries to claim member `(w + t) mod n`. With the claim it takes the front of the channel to that member from the
+/// least sender that has a message, passes the gate, makes the step with no lock held, and commits it. Where the group has
+/// then made as many receipts as an entry of the plan says, its set is struck and recovered in the same hold of the lock.
+/// The claim is released on every way out. A step that is refused as stale costs the turn, and a worker ends at a refusal
+/// by want of room in the trace or of memory.
+pub fn drain<B: Behaviour + Send + Sync, G: Gate + Sync, R: Threads + Wait + Sync>(
+    rt: &R,
+    alloc: Global,
+    group: Group<B>,
+    plan: &[Strike],
+    workers: u8,
+    turns: u32,
+    gate: &G,
+) -> (Group<B>, Result<Drained, DrainRefusal>)
+    ensures accepted { IfOk result.1 (λ _. IsAccepted workers plan.now group) }
+    ensures cause { IfErr result.1 (IsRefused workers plan.now group) }
+    ensures receipts { IfOk result.1 (λ d. result.0.receipts_ever ≡ group.receipts_ever + sum d.by_worker.items) }
+    ensures undone { IfOk result.1 (λ d. result.0.undone_ever ≡ group.undone_ever + sum d.undone_by_worker.items) }
+    ensures empty { IfOk result.1 (λ d. length plan.now ≡ 0 → sum d.undone_by_worker.items ≡ 0) }
+    ensures config { IfOk result.1 (λ _. result.0.config ≡ group.config) }
+    ensures past { IfOk result.1 (λ _. KeepsPast plan.now group result.0) }
+    ensures places { IfOk result.1 (λ d. (array_vec_len d.by_worker ≡ workers) × (array_vec_len d.undone_by_worker ≡ workers)) }
+    ensures started { IfOk result.1 (λ d. (1 ≤ d.started) × (d.started ≤ workers)) }
+    ensures quiet { IfOk result.1 (λ d. d.quiet ≡ is_quiet result.0) }
+    ensures refused { IfErr result.1 (λ refusal. Leaves refusal group result.0) }
+{
+    if workers < 1 || workers > 8 {
+        return (group, Err(DrainRefusal::BadWorkers));
+    }
+    if let Some(place) = first_bad(plan, group.config()) {
+        return (group, Err(DrainRefusal::BadPlan(place)));
+    }
+    if group.down().count() != 0 {
+        return (group, Err(DrainRefusal::Down));
+    }
+    let (claims, pass) = match Claims::new(alloc, group.config().members()) {
+        Ok(made) => made,
+        Err(ClaimRefusal::NoTable) => return (group, Err(DrainRefusal::NoTable)),
+        Err(ClaimRefusal::Memory) => return (group, Err(DrainRefusal::Memory)),
+    };
+    let Ok(past) = Past::of(alloc, &group) else {
+        return (group, Err(DrainRefusal::Memory));
+    };
+    let parts = u64::from(workers) + 1;
+    let task = Task {
+        plan,
+        workers,
+        turns,
+        gate,
+    };
+    run::<B, G, Brand, Brand, R>(
+        rt,
+        Blank::new(parts),
+        Blank::new(parts),
+        group,
+        &past,
+        (claims, pass),
+        &task,
+    )
+}
+
+/// What workers are asked for.
+#[derive(Drop)]
+struct Task<'a, G: Gate> {
+    plan: &'a [Strike],
+    workers: u8,
+    turns: u32,
+    gate: &'a G,
+}
+
+/// Runs the workers over a ledger of receipts and one of what is undone.
+fn run<
+    B: Behaviour + Send + Sync,
+    G: Gate + Sync,
+    C: Ledger + Send + Sync,
+    U: Ledger + Send + Sync,
+    R: Threads + Wait + Sync,
+>(
+    rt: &R,
+    receipts: Blank,
+    undone: Blank,
+    group: Group<B>,
+    past: &Past,
+    claims: (Claims, Pass),
+    task: &Task<G>,
+) -> (Group<B>, Result<Drained, DrainRefusal>)
+    requires past { IsPast past.now group }
+    requires receipts { (receipts.name ≡ C.name) × (receipts.parts ≡ C.parts) × (C.parts ≡ task.now.workers + 1) }
+    requires undone { (undone.name ≡ U.name) × (undone.parts ≡ U.parts) × (U.parts ≡ task.now.workers + 1) }
+    requires claims { (claims.1 ≡ claims.0) × (claims.0.words ≡ group.config.members) }
+    requires workers { task.now.workers ≤ 8 }
+    ensures receipts { IfOk result.1 (λ d. result.0.receipts_ever ≡ group.receipts_ever + sum d.by_worker.items) }
+    ensures undone { IfOk result.1 (λ d. result.0.undone_ever ≡ group.undone_ever + sum d.undone_by_worker.items) }
+    ensures empty { IfOk result.1 (λ d. length task.now.plan.now ≡ 0 → sum d.undone_by_worker.items ≡ 0) }
+    ensures config { IfOk result.1 (λ _. result.0.config ≡ group.config) }
+    ensures past { IfOk result.1 (λ _. KeepsPast task.now.plan.now group result.0) }
+    ensures places { IfOk result.1 (λ d. (array_vec_len d.by_worker ≡ task.now.workers) × (array_vec_len d.undone_by_worker ≡ task.now.workers)) }
+    ensures started { IfOk result.1 (λ d. (1 ≤ d.started) × (d.started ≤ task.now.workers)) }
+    ensures quiet { IfOk result.1 (λ d. d.quiet ≡ is_quiet result.0) }
+    ensures refused { IfErr result.1 (λ refusal. Leaves refusal group result.0) }
+    ensures late { IfErr result.1 IsLate }
+{
+    let (claims, pass) = claims;
+    let members = group.config().members();
+    let (ledgered, receipts, undone) = Ledgered::<B, C, U>::open(group, receipts, undone);
+    let shared = Mutex::new(ledgered);
+    let work = Work {
+        shared: &shared,
+        claims: &claims,
+        plan: task.plan,
+        gate: task.gate,
+        members,
+        turns: task.turns,
+        held_back: AtomicU64::new(0),
+    };
+    let gathered = run_all(rt, &work, task.workers, pass, receipts, undone);
+    drop(work);
+    let Gathered {
+        pass: _,
+        receipts,
+        undone,
+        by_worker,
+        undone_by_worker,
+        started,
+        full,
+        memory,
+    } = gathered;
+    let group = shared.into_inner().close(receipts, undone);
+    let quiet = group.is_quiet();
+    let drained = Drained {
+        by_worker,
+        undone_by_worker,
+        started,
+        quiet,
+        full,
+        memory,
+    };
+    let outcome = judge(past, &group, task.plan, drained);
+    (group, outcome)
+}
+
+/// What is answered of a group that comes back.
+fn judge<B: Behaviour>(
+    past: &Past,
+    group: &Group<B>,
+    plan: &[Strike],
+    drained: Drained,
+) -> Result<Drained, DrainRefusal>
+    ensures drained { IfOk result (λ d. d ≡ drained) }
+    ensures started { IfOk result (λ d. 1 ≤ d.started) }
+    ensures config { IfOk result (λ _. group.now.config ≡ past.now.config) }
+    ensures past { IfOk result (λ _. (old : GroupRecord) → IsPast past.now old → KeepsPast plan.now old group.now) }
+    ensures late { IfErr result IsLate }
+    ensures refused { IfErr result (λ refusal. (old : GroupRecord) → IsPast past.now old → Leaves refusal old group.now) }
+{
+    if drained.started == 0 {
+        return Err(if past.is_same(group) {
+            DrainRefusal::NoThread
+        } else {
+            DrainRefusal::Uneven
+        });
+    }
+    if !past.goes_on(group, plan) {
+        return Err(DrainRefusal::Uneven);
+    }
+    Ok(drained)
+}

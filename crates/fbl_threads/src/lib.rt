@@ -1,0 +1,21 @@
+//! A group of members under a lock: claims on members, and workers that drain the group.
+#![tactic(auto)]
+
+mod claims;
+mod draining;
+mod gate;
+mod ledgered;
+mod past;
+mod plan;
+mod scope;
+mod worker;
+
+pub use claims::{Claim, ClaimRefusal, Claims, Pass};
+pub use draining::{DrainRefusal, Drained, drain};
+use fbl_group::Group;
+pub use gate::{Gate, NoGate};
+pub use plan::Strike;
+use std::sync::Mutex;
+
+/// A group that threads share, each call of it in a hold of the lock.
+pub type SharedGroup<B> = Mutex<Group<B>>;

@@ -1,0 +1,117 @@
+//! What a group was, and whether it goes on from there.
+
+ghost use Rattle.std.specs.Prelude.{◌≡◌, ℕ, ◌<◌, ◌∷◌, [], ◌↔◌, IsTrue, IfOk, MatchOption, false};
+ghost use Rattle.fbl_base.specs.Events.{mark_of, member_of as member_at_mark};
+ghost use Rattle.fbl_threads.specs.Pasts.{events_of, BeginsWith, IsPast, GoesOn};
+ghost use Rattle.fbl_threads.specs.Plans.{is_named as is_named_in};
+
+use crate::plan::{Strike, is_named};
+use fbl_base::{Behaviour, Config, Event, Member};
+use fbl_group::Group;
+use std::alloc::{AllocError, Global};
+
+/// A copy of a group's configuration, trace and counters.
+#[derive(Drop)]
+pub(crate) struct Past {
+    config: Config,
+    trace: Vec<Event>,
+    receipts_ever: u64,
+    undone_ever: u64,
+}
+
+impl Past {
+    /// The past of the group.
+    pub(crate) fn of<B: Behaviour>(alloc: Global, group: &Group<B>) -> Result<Past, AllocError>
+        ensures { IfOk result (λ past. IsPast past group.now) }
+    {
+        Ok(Past {
+            config: group.config().copy()?,
+            trace: group.trace().to_vec(alloc)?,
+            receipts_ever: group.receipts_ever(),
+            undone_ever: group.undone_ever(),
+        })
+    }
+
+    /// Whether the configuration, the trace and the counters are the same.
+    pub(crate) fn is_same<B: Behaviour>(&self, group: &Group<B>) -> bool
+        ensures { IsTrue result ↔ IsPast self.now group.now }
+    {
+        self.config.same(group.config())
+            && is_equal(&self.trace, group.trace())
+            && self.receipts_ever == group.receipts_ever()
+            && self.undone_ever == group.undone_ever()
+    }
+
+    /// Whether the configuration is the same, and the old events of each member that no set of the plan has are the first
+    /// of its events.
+    pub(crate) fn goes_on<B: Behaviour>(&self, group: &Group<B>, plan: &[Strike]) -> bool
+        ensures { IsTrue result ↔ GoesOn plan.now self.now group.now }
+    {
+        if !self.config.same(group.config()) {
+            return false;
+        }
+        for number in 0..self.config.members() {
+            let member = Member::new(number).unwrap();
+            if !self.goes_on_at(member, group, plan) {
+                return false;
+            }
+        }
+        true
+    }
+
+    /// The same of one member's events.
+    fn goes_on_at<B: Behaviour>(&self, member: Member, group: &Group<B>, plan: &[Strike]) -> bool
+        ensures { IsTrue result ↔ (is_named_in plan.now member ≡ false → BeginsWith (events_of member group.now.trace) (events_of member self.now.trace.items)) }
+    {
+        is_named(plan, member) || goes_on(member, &self.trace, group.trace())
+    }
+}
+
+/// Whether the two traces are the same.
+fn is_equal(one: &[Event], other: &[Event]) -> bool
+    ensures { IsTrue result ↔ (one.now ≡ other.now) }
+{
+    one == other
+}
+
+/// The member at which the event happens.
+fn member_of(event: &Event) -> Member
+    ensures { result ≡ member_at_mark (mark_of event.now) }
+{
+    match event {
+        Event::Send { from, .. } => *from,
+        Event::Receipt { to, .. } => *to,
+    }
+}
+
+/// What stands after the member's first event, where that is this one.
+fn after_next<'a>(member: Member, events: &'a [Event], next: &Event) -> Option<&'a [Event]>
+    ensures { MatchOption result (¬ (BeginsWith (events_of member events.now) (next.now ∷ []))) (λ later. events_of member events.now ≡ next.now ∷ events_of member later.now) }
+{
+    for (i, event) in events.iter().enumerate() {
+        if member_of(event) == member {
+            return if event == next {
+                Some(&events[i + 1..])
+            } else {
+                None
+            };
+        }
+    }
+    None
+}
+
+/// Whether the old events of the member are the first of its new ones.
+fn goes_on(member: Member, old: &[Event], new: &[Event]) -> bool
+    ensures { IsTrue result ↔ BeginsWith (events_of member new.now) (events_of member old.now) }
+{
+    let mut rest = new;
+    for event in old {
+        if member_of(event) == member {
+            let Some(later) = after_next(member, rest, event) else {
+                return false;
+            };
+            rest = later;
+        }
+    }
+    true
+}

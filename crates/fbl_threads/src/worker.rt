@@ -1,0 +1,144 @@
+//! A worker's turns.
+
+ghost use Rattle.std.specs.Prelude.{◌≡◌, ◌+◌, ◌%◌, ◌<◌, ◌≤◌, length};
+
+use crate::claims::{Claims, Pass};
+use crate::gate::Gate;
+use crate::ledgered::{Ledgered, StepRefusal, Tally};
+use crate::plan::Strike;
+use fbl_base::{Behaviour, Member};
+use fbl_group::{CommitRefusal, CrashRefusal, run_step};
+use std::sync::atomic::{AtomicU64, Ordering};
+use std::sync::ledger::Ledger;
+use std::sync::{Mutex, Wait};
+use std::thread;
+
+/// Why a worker ends before its last turn.
+#[derive(Clone, Copy, PartialEq, Eq, Debug)]
+enum End {
+    /// Nothing is in flight, or somebody is down.
+    Over,
+    /// A commit was refused by `Full`.
+    Full,
+    /// A commit or a recovery was refused by `Memory`.
+    Memory,
+}
+
+/// What the workers share.
+#[derive(Drop)]
+pub(crate) struct Work<'a, B: Behaviour, G: Gate, C: Ledger, U: Ledger> {
+    pub(crate) shared: &'a Mutex<Ledgered<B, C, U>>,
+    pub(crate) claims: &'a Claims,
+    pub(crate) plan: &'a [Strike],
+    pub(crate) gate: &'a G,
+    pub(crate) members: u8,
+    pub(crate) turns: u32,
+    /// One more than the number of a worker that has no thread, and takes no turn. Else 0.
+    pub(crate) held_back: AtomicU64,
+    ghost a_word_each: { (claims.now.words ≡ members) × (2 ≤ members) × (members ≤ 16) },
+}
+
+/// What a worker hands back.
+#[derive(Drop)]
+pub(crate) struct Report<C: Ledger, U: Ledger> {
+    pub(crate) tally: Tally<C, U>,
+    pub(crate) pass: Pass,
+    pub(crate) full: bool,
+    pub(crate) memory: bool,
+}
+
+/// All turns of a worker.
+pub(crate) fn take_turns<B: Behaviour, G: Gate, C: Ledger, U: Ledger, R: Wait>(
+    rt: &R,
+    work: &Work<B, G, C, U>,
+    worker: u8,
+    pass: Pass,
+    tally: Tally<C, U>,
+) -> Report<C, U>
+    requires pass { pass ≡ work.now.claims.now }
+    ensures pass { result.pass ≡ work.now.claims.now }
+    ensures undone { length work.now.plan.now ≡ 0 → result.tally.undone ≡ tally.undone }
+{
+    let mut pass = pass;
+    let mut tally = tally;
+    let mut full = false;
+    let mut memory = false;
+    let is_held_back = work.held_back.load(Ordering::SeqCst) == u64::from(worker) + 1;
+    let turns = if is_held_back { 0 } else { work.turns };
+    for number in 0..turns {
+        let member = member_at(worker, number, work.members);
+        let (back, end) = take_turn(rt, work, pass, member, &mut tally);
+        pass = back;
+        if let Some(end) = end {
+            full = end == End::Full;
+            memory = end == End::Memory;
+            break;
+        }
+    }
+    Report {
+        tally,
+        pass,
+        full,
+        memory,
+    }
+}
+
+/// The member that the worker tries to claim at its turn of this number.
+fn member_at(worker: u8, number: u32, members: u8) -> Member
+    requires { (2 ≤ members) × (members ≤ 16) }
+    ensures { result ≡ (worker + number) % members }
+{
+    let place = (u64::from(worker) + u64::from(number)) % u64::from(members);
+    Member::new(place as u8).unwrap()
+}
+
+/// One turn of a worker.
+fn take_turn<B: Behaviour, G: Gate, C: Ledger, U: Ledger, R: Wait>(
+    rt: &R,
+    work: &Work<B, G, C, U>,
+    pass: Pass,
+    member: Member,
+    mine: &mut Tally<C, U>,
+) -> (Pass, Option<End>)
+    requires pass { pass ≡ work.now.claims.now }
+    requires member { member < work.now.members }
+    ensures pass { result.0 ≡ work.now.claims.now }
+    ensures undone { length work.now.plan.now ≡ 0 → mine.new.undone ≡ mine.old.undone }
+{
+    if work.shared.lock(rt).is_over() {
+        return (pass, Some(End::Over));
+    }
+    match work.claims.try_claim(pass, member) {
+        Ok(claim) => {
+            let end = step(rt, work, member, mine);
+            (work.claims.release(claim), end)
+        }
+        Err(pass) => {
+            thread::yield_now();
+            (pass, None)
+        }
+    }
+}
+
+/// Takes a message for a member that is claimed, if there is one, and makes and commits the step: the first and the last
+/// in a hold of the lock each, and the step with no lock held.
+fn step<B: Behaviour, G: Gate, C: Ledger, U: Ledger, R: Wait>(
+    rt: &R,
+    work: &Work<B, G, C, U>,
+    member: Member,
+    mine: &mut Tally<C, U>,
+) -> Option<End>
+    ensures undone { length work.now.plan.now ≡ 0 → mine.new.undone ≡ mine.old.undone }
+{
+    let ticket = work.shared.lock(rt).take_first(member)?;
+    work.gate.pass(member);
+    let done = run_step::<B>(ticket);
+    let outcome = work.shared.lock(rt).commit_planned(&done, work.plan, mine);
+    match outcome {
+        Err(StepRefusal::Commit(CommitRefusal::Full)) => Some(End::Full),
+        Err(
+            StepRefusal::Commit(CommitRefusal::Memory) | StepRefusal::Crash(CrashRefusal::Memory),
+        ) => { Some(End::Memory) }
+        _ => None,
+    }
+}

@@ -1,0 +1,115 @@
+//! Plays the script, or audits the dump, that standard input has.
+#![tactic(auto)]
+
+ghost use Rattle.std.specs.Prelude.{◌≤◌};
+
+use clap::error::ErrorKind;
+use clap::{Arg, ArgAction, Command};
+use fbl_dump::audit;
+use fbl_play::play;
+use fbl_script::RunFault;
+use std::alloc::Global;
+use std::process::ExitCode;
+use std::{env, io};
+
+/// Everything was done.
+const DONE: u8 = 0;
+
+/// The command line, the script or the dump has a fault.
+const INPUT_FAULT: u8 = 2;
+
+/// A read or a write failed.
+const CHANNEL_FAULT: u8 = 3;
+
+/// Memory is wanting.
+const MEMORY_FAULT: u8 = 4;
+
+/// What the command line asks for.
+enum Order {
+    /// Play a script, with this many workers.
+    Play(u8),
+    /// Audit a dump.
+    Audit,
+}
+
+/// The order that the command line gives.
+fn order_of(alloc: Global, words: &[String]) -> Result<Order, clap::Error> {
+    let workers = Arg::new(alloc, "workers")
+        .long("workers")
+        .action(ArgAction::Set)
+        .value_parser(clap::value_parser!(u8).range(1..=8))
+        .default_value("2");
+    let play = Command::new(alloc, "play").arg(workers)?;
+    let audit = Command::new(alloc, "audit");
+    let command = Command::new(alloc, "fblrun")
+        .subcommand_required(true)
+        .subcommand(play)?
+        .subcommand(audit)?;
+    let matches = command.try_get_matches_from(words)?;
+    match matches.subcommand() {
+        Some(("play", found)) => Ok(Order::Play(found.get_one::<u8>("workers").unwrap_or(2))),
+        _ => Ok(Order::Audit),
+    }
+}
+
+/// The exit status of a fault.
+fn status_of(fault: &RunFault) -> u8 {
+    match fault {
+        RunFault::Read | RunFault::Write => CHANNEL_FAULT,
+        RunFault::Memory => MEMORY_FAULT,
+        _ => INPUT_FAULT,
+    }
+}
+
+/// Prints why the command line gives no order, or the help that it asks for, and answers the exit status.
+fn refuse(rt: &HostRuntime, error: clap::Error) -> u8 {
+    let printed = error.print(rt);
+    match error.kind() {
+        ErrorKind::OutOfMemory => MEMORY_FAULT,
+        ErrorKind::DisplayHelp => { if printed.is_ok() { DONE } else { CHANNEL_FAULT } }
+        _ => INPUT_FAULT,
+    }
+}
+
+/// The order that the words of the process give, or the exit status where they give none.
+fn order_in(rt: &HostRuntime) -> Result<Order, u8> {
+    let Ok(words) = env::args(rt) else {
+        return Err(INPUT_FAULT);
+    };
+    let Ok(words) = words.collect::<Vec<String>>(rt.alloc()) else {
+        return Err(MEMORY_FAULT);
+    };
+    match order_of(rt.alloc(), words.as_slice()) {
+        Ok(order) => Ok(order),
+        Err(error) => Err(refuse(rt, error)),
+    }
+}
+
+/// Prints the fault, if there is one, and answers the exit status.
+fn status_after(rt: &HostRuntime, done: Result<(), RunFault>) -> u8 {
+    match done {
+        Ok(()) => DONE,
+        Err(fault) => {
+            let status = status_of(&fault);
+            let _ = eprintln!(rt; "fault: {fault}");
+            status
+        }
+    }
+}
+
+fn main(rt: HostRuntime) -> ExitCode {
+    let order = match order_in(&rt) {
+        Ok(order) => order,
+        Err(status) => return ExitCode::from(status),
+    };
+    let mut reader = rt.reader();
+    let mut writer = io::writer(&rt);
+    let done = match order {
+        Order::Play(workers) => match workers {
+            1..=8 => play(&rt, rt.alloc(), &mut reader, &mut writer, workers),
+            _ => return ExitCode::from(INPUT_FAULT),
+        },
+        Order::Audit => audit(rt.alloc(), &mut reader, &mut writer),
+    };
+    ExitCode::from(status_after(&rt, done))
+}

@@ -1,0 +1,3 @@
+mod Asks
+mod Parts
+mod Steps

@@ -1,0 +1,9 @@
+-- What the clauses say of a `Refusing`: the allocator that it wraps, and the number of the request that it refuses.
+use Rattle.std.specs.Prelude.{ℕ}
+use Rattle.refusing_allocator.specs.declared.Refusing.{Refusing}
+
+abbrev pub wrapped : {A : Type 0} → Refusing A → A
+wrapped heap = heap.inner
+
+abbrev pub refused_number : {A : Type 0} → Refusing A → ℕ
+refused_number heap = heap.gate.refused_at
