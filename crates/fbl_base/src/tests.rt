@@ -188,17 +188,44 @@ fn configurations(rt: HostRuntime) -> Result<(), Fail> {
     let mixed = [fine, start(1, 1, 0)?];
     let two = [fine, fine];
     let many = [fine; 65];
-    assert_eq!(rt; refusal(alloc, 1, 0, 0, &itself), Some(ConfigRefusal::BadMembers));
-    assert_eq!(rt; refusal(alloc, 17, 1, 8, &two), Some(ConfigRefusal::BadMembers));
+    assert_eq!(rt;
+        refusal(alloc, 1, 0, 0, &itself),
+        Some(ConfigRefusal::BadMembers)
+    );
+    assert_eq!(rt;
+        refusal(alloc, 17, 1, 8, &two),
+        Some(ConfigRefusal::BadMembers)
+    );
     assert_eq!(rt; refusal(alloc, 2, 0, 0, &itself), Some(ConfigRefusal::BadF));
     assert_eq!(rt; refusal(alloc, 2, 2, 8, &two), Some(ConfigRefusal::BadF));
-    assert_eq!(rt; refusal(alloc, 2, 1, 0, &itself), Some(ConfigRefusal::BadLimit));
-    assert_eq!(rt; refusal(alloc, 2, 1, 8193, &two), Some(ConfigRefusal::BadLimit));
-    assert_eq!(rt; refusal(alloc, 2, 1, 1, &many), Some(ConfigRefusal::TooManyStarts));
-    assert_eq!(rt; refusal(alloc, 2, 1, 1, &mixed), Some(ConfigRefusal::BadStart(1)));
-    assert_eq!(rt; refusal(alloc, 2, 1, 8, &stranger), Some(ConfigRefusal::BadStart(0)));
-    assert_eq!(rt; refusal(alloc, 2, 1, 8, &far), Some(ConfigRefusal::BadStart(0)));
-    assert_eq!(rt; refusal(alloc, 2, 1, 1, &two), Some(ConfigRefusal::LimitBelowStarts));
+    assert_eq!(rt;
+        refusal(alloc, 2, 1, 0, &itself),
+        Some(ConfigRefusal::BadLimit)
+    );
+    assert_eq!(rt;
+        refusal(alloc, 2, 1, 8193, &two),
+        Some(ConfigRefusal::BadLimit)
+    );
+    assert_eq!(rt;
+        refusal(alloc, 2, 1, 1, &many),
+        Some(ConfigRefusal::TooManyStarts)
+    );
+    assert_eq!(rt;
+        refusal(alloc, 2, 1, 1, &mixed),
+        Some(ConfigRefusal::BadStart(1))
+    );
+    assert_eq!(rt;
+        refusal(alloc, 2, 1, 8, &stranger),
+        Some(ConfigRefusal::BadStart(0))
+    );
+    assert_eq!(rt;
+        refusal(alloc, 2, 1, 8, &far),
+        Some(ConfigRefusal::BadStart(0))
+    );
+    assert_eq!(rt;
+        refusal(alloc, 2, 1, 1, &two),
+        Some(ConfigRefusal::LimitBelowStarts)
+    );
     assert_eq!(rt; refusal(alloc, 2, 1, 2, &two), None);
     assert_eq!(rt; refusal(alloc, 16, 15, 8192, &two), None);
     Ok(())
