@@ -8,7 +8,7 @@ use std::test::Fail;
 
 /// Gives at most `most` bytes a read, is interrupted first, and fails at one read.
 #[derive(Drop)]
-struct Fitful<'a> {
+struct UnsteadyReader<'a> {
     rest: &'a [u8],
     most: usize,
     interruptions: u32,
@@ -16,7 +16,7 @@ struct Fitful<'a> {
     fails_at: u32,
 }
 
-impl Read for Fitful<'_> {
+impl Read for UnsteadyReader<'_> {
     fn read(&mut self, buf: &mut [u8]) -> io::Result<usize> {
         self.reads = self.reads.wrapping_add(1);
         if self.reads == self.fails_at {
@@ -35,9 +35,9 @@ impl Read for Fitful<'_> {
 
 /// A reader that never ends.
 #[derive(Drop)]
-struct Endless;
+struct EndlessReader;
 
-impl Read for Endless {
+impl Read for EndlessReader {
     fn read(&mut self, buf: &mut [u8]) -> io::Result<usize> {
         for byte in buf.iter_mut() {
             *byte = b' ';
@@ -46,9 +46,9 @@ impl Read for Endless {
     }
 }
 
-/// How a writer fails.
+/// What a write does where it fails.
 #[derive(Clone, Copy, PartialEq, Eq, Debug)]
-enum Failure {
+enum FailedWrite {
     Error,
     Interruption,
     NoByte,
@@ -56,22 +56,22 @@ enum Failure {
 
 /// Takes at most `most` bytes a write, and fails at one write.
 #[derive(Drop)]
-struct Stingy {
+struct UnsteadyWriter {
     held: Vec<u8>,
     most: usize,
     writes: u32,
     fails_at: u32,
-    failure: Failure,
+    failure: FailedWrite,
 }
 
-impl Write for Stingy {
+impl Write for UnsteadyWriter {
     fn write(&mut self, buf: &[u8]) -> io::Result<usize> {
         self.writes = self.writes.wrapping_add(1);
         if self.writes == self.fails_at {
             return match self.failure {
-                Failure::Error => Err(io::Error::other("no")),
-                Failure::Interruption => Err(io::Error::from(ErrorKind::Interrupted)),
-                Failure::NoByte => Ok(0),
+                FailedWrite::Error => Err(io::Error::other("no")),
+                FailedWrite::Interruption => Err(io::Error::from(ErrorKind::Interrupted)),
+                FailedWrite::NoByte => Ok(0),
             };
         }
         let n = self.most.min(buf.len());
@@ -256,7 +256,7 @@ fn writes_a_dump_as_its_line(rt: HostRuntime) -> Result<(), Fail> {
 #[test]
 fn reads_through_interruptions(rt: HostRuntime) -> Result<(), Fail> {
     for (interruptions, fine) in [(0, true), (1000, true), (1001, false)] {
-        let mut reader = Fitful {
+        let mut reader = UnsteadyReader {
             rest: LOST.as_bytes(),
             most: 1,
             interruptions,
@@ -280,7 +280,7 @@ fn reads_through_interruptions(rt: HostRuntime) -> Result<(), Fail> {
 fn stops_at_a_failed_read(rt: HostRuntime) {
     let mut finished = false;
     for fails_at in 1..=20u32 {
-        let mut reader = Fitful {
+        let mut reader = UnsteadyReader {
             rest: LOST.as_bytes(),
             most: 20,
             interruptions: 0,
@@ -304,10 +304,14 @@ fn stops_at_a_failed_read(rt: HostRuntime) {
 
 #[test]
 fn stops_at_a_failed_write(rt: HostRuntime) {
-    for failure in [Failure::Error, Failure::Interruption, Failure::NoByte] {
+    for failure in [
+        FailedWrite::Error,
+        FailedWrite::Interruption,
+        FailedWrite::NoByte,
+    ] {
         for fails_at in 1..=8u32 {
             let mut reader = LOST.as_bytes();
-            let mut writer = Stingy {
+            let mut writer = UnsteadyWriter {
                 held: Vec::new(rt.alloc()),
                 most: 7,
                 writes: 0,
@@ -331,7 +335,7 @@ fn stops_at_a_failed_write(rt: HostRuntime) {
 #[test]
 fn refuses_a_reader_that_never_ends(rt: HostRuntime) {
     let mut held = Vec::new(rt.alloc());
-    let done = audit(rt.alloc(), &mut Endless, &mut held);
+    let done = audit(rt.alloc(), &mut EndlessReader, &mut held);
     assert!(rt; matches!(done, Err(RunFault::TooLong)));
     assert!(rt; held.is_empty());
 }

@@ -2,6 +2,8 @@
 
 ghost use Rattle.std.specs.Prelude.{◌≤◌};
 
+mod runs;
+
 use crate::play;
 use fbl_script::RunFault;
 use std::io::{self, ErrorKind, Read, Write};
