@@ -1,0 +1,59 @@
+//! A claim with its release, against a lock that nobody else wants with its unlock.
+
+ghost use Rattle.std.specs.Prelude.{◌≡◌, ◌<◌};
+
+use crate::failure::Failure;
+use crate::times::print_rate;
+use fbl_base::Member;
+use fbl_threads::{Claims, Pass};
+use std::sync::{Mutex, Wait};
+use std::time::Instant;
+
+/// How often each is done.
+const COUNT: u32 = 1_000_000;
+
+/// How many members there are words for.
+const MEMBERS: u8 = 16;
+
+/// Times both, on one thread.
+pub fn time_claims<W: Wait>(rt: &HostRuntime, waits: &W) -> Result<(), Failure> {
+    let (claims, pass) = Claims::new(rt.alloc(), MEMBERS)?;
+    let start = Instant::now(rt)?;
+    let won = claim_often(&claims, pass);
+    let taken = start.elapsed(rt)?;
+    println!(rt; "claims: won {won}")?;
+    print_rate(rt, "claims", "claims and releases", COUNT, taken)?;
+    time_locks(rt, waits)
+}
+
+/// Claims and releases member 0, and answers how often the claim was won.
+fn claim_often(claims: &Claims, pass: Pass) -> u32
+    requires pass { pass ≡ claims.now }
+    requires member { 0 < claims.now.words }
+{
+    let mut pass = pass;
+    let mut won: u32 = 0;
+    for _ in 0..COUNT {
+        pass = match claims.try_claim(pass, Member::default()) {
+            Ok(claim) => {
+                won = won.saturating_add(1);
+                claims.release(claim)
+            }
+            Err(back) => back,
+        };
+    }
+    won
+}
+
+/// Times the lock of a number, and its unlock.
+fn time_locks<W: Wait>(rt: &HostRuntime, waits: &W) -> Result<(), Failure> {
+    let number = Mutex::new(0u32);
+    let start = Instant::now(rt)?;
+    for _ in 0..COUNT {
+        let mut held = number.lock(waits);
+        *held = held.saturating_add(1);
+    }
+    let taken = start.elapsed(rt)?;
+    println!(rt; "locks: taken {}", number.into_inner())?;
+    print_rate(rt, "locks", "locks and unlocks", COUNT, taken)
+}
