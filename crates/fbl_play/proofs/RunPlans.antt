@@ -5,6 +5,7 @@ use Rattle.std.specs.declared.alloc.Global.{Global}
 use Rattle.std.specs.declared.alloc.AllocError.{AllocError}
 use Rattle.fbl_base.specs.Fold.{Next}
 use Rattle.fbl_law.specs.Groups.{GroupRecord}
+use Rattle.fbl_law.specs.Sound.{IsSound}
 use Rattle.fbl_script.specs.declared.script.PlannedStrike.{PlannedStrike}
 use Rattle.fbl_threads.specs.declared.draining.Drained.{Drained}
 use Rattle.fbl_threads.specs.declared.draining.DrainRefusal.{DrainRefusal}
@@ -20,9 +21,9 @@ pub plan_more : (plan : List PlannedStrike) (i : ℕ) (x : PlannedStrike) → i 
 plan_more plan i x h is =
     ap plan_of (take_more plan i x h) ∙ plan_append (take i plan) (get_or plan i x ∷ []) ∙ ap (λ w. plan_of (take i plan) ++ strike_of w ∷ []) (sym is)
 
--- what a drain answered and left, and the line of its answer
+-- what a drain answered and left, which is sound, and the line of its answer
 pub run_step : (next : Next) (workers : ℕ) (plan : List PlannedStrike) (old new : GroupRecord) (answer : Result Drained DrainRefusal) (text : List ℕ)
-    → IfOk answer (IsDrain workers (plan_of plan) old new) → IfErr answer (λ refusal. IsRefused workers (plan_of plan) old refusal × Leaves refusal old new) → IsRunText answer text
+    → IsSound next new → IfOk answer (IsDrain workers (plan_of plan) old new) → IfErr answer (λ refusal. IsRefused workers (plan_of plan) old refusal × Leaves refusal old new) → IsRunText answer text
     → RunStep next workers plan old new text
-run_step next workers plan old new (Ok drained) text is refused line = inl (drained, is, line)
-run_step next workers plan old new (Err refusal) text is refused line = inr (refusal, refused.0, refused.1, line)
+run_step next workers plan old new (Ok drained) text sound is refused line = (sound, inl (drained, is, line))
+run_step next workers plan old new (Err refusal) text sound is refused line = (sound, inr (refusal, refused.0, refused.1, line))

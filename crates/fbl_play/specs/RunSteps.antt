@@ -3,6 +3,7 @@ use Rattle.std.specs.Prelude.{◌≡◌, ℕ, ◌+◌, ◌⊎◌, Bool, true, fa
 use Rattle.fbl_base.specs.Fold.{Next}
 use Rattle.fbl_group.specs.Readers.{is_quiet}
 use Rattle.fbl_law.specs.Groups.{GroupRecord}
+use Rattle.fbl_law.specs.Sound.{IsSound}
 use Rattle.fbl_lines.specs.declared.lines.RunEnd.{RunEnd}
 use Rattle.fbl_lines.specs.declared.lines.RunEnd.TheVariants.{Quiet, Full, Stopped}
 use Rattle.fbl_lines.specs.Lines.{run_line, refused_line, bad_plan_line}
@@ -68,8 +69,8 @@ abbrev pub RefusedRun : ℕ → List Strike → GroupRecord → GroupRecord → 
 RefusedRun workers plan old new text =
     (refusal : DrainRefusal) × IsRefused workers plan old refusal × Leaves refusal old new × IsRefusedRunText refusal text
 
--- a run with this plan by this many workers may lead from old to new, and print the text; which of them it is and where
--- it ends is left open
+-- a run with this plan by this many workers may lead from old to new, which is sound, and print the text; which of them
+-- it is and where it ends is left open
 abbrev pub RunStep : Next → ℕ → List PlannedStrike → GroupRecord → GroupRecord → List ℕ → Type 0
 RunStep next workers plan old new text =
-    AcceptedRun workers (plan_of plan) old new text ⊎ RefusedRun workers (plan_of plan) old new text
+    IsSound next new × (AcceptedRun workers (plan_of plan) old new text ⊎ RefusedRun workers (plan_of plan) old new text)

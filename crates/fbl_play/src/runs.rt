@@ -1,6 +1,7 @@
 //! Runs by workers.
 
 ghost use Rattle.std.specs.Prelude.{◌≡◌, ◌≤◌, false, IfOk, IfErr, string_bytes};
+ghost use Rattle.fbl_law.specs.Sound.{IsSound};
 ghost use Rattle.fbl_lines.specs.Lines.{run_line};
 ghost use Rattle.fbl_play.specs.RunSteps.{RunStep, IsDrain, IsRefusedRunText, IsRunText, end_of as end_of_run, plan_of as plan_of_script};
 ghost use Rattle.fbl_threads.specs.Drains.{IsRefused, Leaves};
@@ -88,6 +89,7 @@ fn drain_by<B: Behaviour + Send + Sync, T: Threads + Wait + Sync>(
     group: Group<B>,
     plan: &[Strike],
 ) -> (Group<B>, Result<Drained, DrainRefusal>)
+    ensures sound { IsSound B.next result.0 }
     ensures drained { IfOk result.1 (IsDrain workers plan.now group result.0) }
     ensures refused { IfErr result.1 (λ refusal. IsRefused workers plan.now group refusal × Leaves refusal group result.0) }
 {

@@ -14,4 +14,4 @@ returns g c =
     let same = c.as_slice.ensures.value ∙ c.in-Ok.ensures in
     let P : List Strike → Type 0 = λ w. IfOk answer (IsDrain c.args.workers w old new) in
     let Q : List Strike → Type 0 = λ w. IfErr answer (λ refusal. IsRefused c.args.workers w old refusal × Leaves refusal old new) in
-    IfOk-weaker c.answer_text.result _ _ (λ text h. run_step g.B.Behaviour.next c.args.workers c.args.plan.now old new answer (string_bytes text) (subst P same c.drain_by-group.ensures.drained) (subst Q same c.drain_by-group.ensures.refused) h) c.answer_text.ensures
+    IfOk-weaker c.answer_text.result _ _ (λ text h. run_step g.B.Behaviour.next c.args.workers c.args.plan.now old new answer (string_bytes text) c.drain_by-group.ensures.sound (subst P same c.drain_by-group.ensures.drained) (subst Q same c.drain_by-group.ensures.refused) h) c.answer_text.ensures
