@@ -2,6 +2,7 @@
 
 ghost use Rattle.std.specs.Prelude.{◌≡◌, ◌+◌, ◌≤◌, length, sum, IfOk, IfErr};
 ghost use Rattle.fbl_law.specs.Groups.{GroupRecord};
+ghost use Rattle.fbl_law.specs.Sound.{IsSound};
 ghost use Rattle.fbl_group.specs.Readers.{is_quiet};
 ghost use Rattle.fbl_threads.specs.Pasts.{KeepsPast, IsPast};
 ghost use Rattle.fbl_threads.specs.Drains.{Leaves, IsAccepted, IsRefused, IsLate};
@@ -74,7 +75,7 @@ pub enum DrainRefusal {
 }
 
 /// Runs the group by several workers at once, until nothing is in flight, somebody is down, or each worker has taken its
-/// turns. The group always comes back.
+/// turns. The group always comes back, and is sound.
 ///
 /// Worker `w` at its turn `t`, both from 0, first asks whether nothing is in flight or somebody is down, and then ends.
 /// Else it tries to claim member `(w + t) mod n`. With the claim it takes the front of the channel to that member from the
@@ -100,9 +101,11 @@ pub fn drain<B: Behaviour + Send + Sync, G: Gate + Sync, R: Threads + Wait + Syn
     ensures past { IfOk result.1 (λ _. KeepsPast plan.now group result.0) }
     ensures places { IfOk result.1 (λ d. (array_vec_len d.by_worker ≡ workers) × (array_vec_len d.undone_by_worker ≡ workers)) }
     ensures started { IfOk result.1 (λ d. (1 ≤ d.started) × (d.started ≤ workers)) }
+    ensures sound { IsSound B.next result.0 }
     ensures quiet { IfOk result.1 (λ d. d.quiet ≡ is_quiet result.0) }
     ensures refused { IfErr result.1 (λ refusal. Leaves refusal group result.0) }
 {
+    let _trace = group.trace();
     if workers < 1 || workers > 8 {
         return (group, Err(DrainRefusal::BadWorkers));
     }
@@ -175,6 +178,7 @@ fn run<
     ensures past { IfOk result.1 (λ _. KeepsPast task.now.plan.now group result.0) }
     ensures places { IfOk result.1 (λ d. (array_vec_len d.by_worker ≡ task.now.workers) × (array_vec_len d.undone_by_worker ≡ task.now.workers)) }
     ensures started { IfOk result.1 (λ d. (1 ≤ d.started) × (d.started ≤ task.now.workers)) }
+    ensures sound { IsSound B.next result.0 }
     ensures quiet { IfOk result.1 (λ d. d.quiet ≡ is_quiet result.0) }
     ensures refused { IfErr result.1 (λ refusal. Leaves refusal group result.0) }
     ensures late { IfErr result.1 IsLate }

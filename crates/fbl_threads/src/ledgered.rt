@@ -1,6 +1,7 @@
 //! A group with the books of what was ever received and undone.
 
 ghost use Rattle.std.specs.Prelude.{◌≡◌, ℕ, ◌+◌, ◌<◌, IfOk, OnOk, IfErr, OnErr, MatchOption, is_ok, if◌then◌else◌, length, None};
+ghost use Rattle.fbl_law.specs.Sound.{IsSound};
 ghost use Rattle.fbl_group.specs.Tickets.{commit_refusal, IsCommitRefusal};
 ghost use Rattle.fbl_group.specs.Crashes.{CrashLeaves};
 ghost use Rattle.fbl_threads.specs.Turns.{is_over as is_over_now, IsFirstTicket, NoTicket, MayTake, Commits, IsCrash, CommitsByPlan, StepLeaves};
@@ -84,6 +85,7 @@ impl<B: Behaviour, C: Ledger, U: Ledger> Ledgered<B, C, U> {
     pub(crate) fn close(self, receipts: Share<C>, undone: Share<U>) -> Group<B>
         requires parts { (receipts.parts ≡ C.parts) × (undone.parts ≡ U.parts) }
         ensures group { result ≡ self.group }
+        ensures sound { IsSound B.next result }
         ensures receipts { result.receipts_ever ≡ receipts.amount }
         ensures undone { result.undone_ever ≡ undone.amount }
     {
@@ -95,6 +97,7 @@ impl<B: Behaviour, C: Ledger, U: Ledger> Ledgered<B, C, U> {
         let (mut receipts, mut undone) = (receipts, undone);
         receipts_book.audit(&mut receipts);
         undone_book.audit(&mut undone);
+        let _trace = group.trace();
         group
     }
 

@@ -20,3 +20,8 @@ pub returns-in-Some-clause-cause : goal.returns-in-Some-clause-cause
 returns-in-Some-clause-cause g c =
     let first = subst (λ (s : Settings). IsFirstBad c.args.plan.now s c.in-Some.place) c.config.ensures c.in-Some.ensures in
     (search rules, first)
+
+pub returns-in_default-of-clause-cause : goal.returns-in_default-of-clause-cause
+returns-in_default-of-clause-cause g c =
+    let fits = subst (λ (s : Settings). IsPlan c.args.plan.now s) c.config.ensures c.in_default.ensures in
+    record { workers_allowed = search rules; plan_fits = fits; nobody_down = search rules }
