@@ -1,0 +1,92 @@
+//! Members, plans and groups.
+
+ghost use Rattle.std.specs.Prelude.{◌≡◌, IfOk};
+
+use arrayvec::ArrayVec;
+use fbl_base::{Config, ConfigRefusal, Member, MemberSet, Note, Relay, Start};
+use fbl_group::Group;
+use fbl_threads::Strike;
+use std::alloc::Global;
+use std::test::Fail;
+
+/// More turns than a worker of these tests ever needs.
+pub(crate) const TURNS: u32 = 1_000_000;
+
+pub(crate) fn member(number: u8) -> Result<Member, Fail>
+    ensures { IfOk result (λ m. m ≡ number) }
+{
+    Ok(Member::new(number).ok_or("no such member")?)
+}
+
+pub(crate) fn set(numbers: &[u8]) -> Result<MemberSet, Fail> {
+    let mut set = MemberSet::empty();
+    for number in numbers {
+        set = set.with(member(*number)?);
+    }
+    Ok(set)
+}
+
+/// An entry of a plan.
+pub(crate) fn strike(at: u64, numbers: &[u8]) -> Result<Strike, Fail> {
+    Ok(Strike {
+        at,
+        set: set(numbers)?,
+    })
+}
+
+/// A message that is sent at the start: from whom, to whom, its value and its hops.
+pub(crate) fn start(from: u8, to: u8, value: u32, hops: u8) -> Result<Start, Fail> {
+    Ok(Start {
+        from: member(from)?,
+        to: member(to)?,
+        note: Note { value, hops },
+    })
+}
+
+/// A group of members that pass each message on.
+pub(crate) fn group(
+    alloc: Global,
+    members: u8,
+    f: u8,
+    limit: u32,
+    starts: &[Start],
+) -> Result<Group<Relay>, ConfigRefusal> {
+    let config = Config::new(alloc, members, f, limit, starts)?;
+    Group::new(alloc, config).map_err(|_| ConfigRefusal::Memory)
+}
+
+/// The starts of a group of four, in which two may be lost, with twelve receipts in all.
+pub(crate) fn starts_of_twelve() -> Result<[Start; 3], Fail> {
+    Ok([start(0, 1, 5, 6)?, start(2, 3, 7, 3)?, start(3, 0, 11, 0)?])
+}
+
+/// That group.
+pub(crate) fn twelve_receipts(alloc: Global) -> Result<Group<Relay>, Fail> {
+    Ok(group(alloc, 4, 2, 8192, &starts_of_twelve()?)?)
+}
+
+/// The states of that group's members once all messages are delivered, in whichever order.
+pub(crate) const STATES_OF_TWELVE: [u64; 4] = [23, 17, 17, 17];
+
+/// Whether these are the states of the members in turn.
+pub(crate) fn has_states(group: &Group<Relay>, expected: &[u64]) -> bool {
+    if expected.len() != usize::from(group.config().members()) {
+        return false;
+    }
+    for number in 0..group.config().members() {
+        let member = Member::new(number).unwrap();
+        if group.state(member) != expected[usize::from(number)] {
+            return false;
+        }
+    }
+    true
+}
+
+/// The sum of what the workers did.
+pub(crate) fn total(by_worker: &ArrayVec<u64, 8>) -> u64 {
+    let mut total = 0u64;
+    for count in by_worker.as_slice() {
+        total = total.saturating_add(*count);
+    }
+    total
+}
