@@ -1,7 +1,8 @@
 //! Plays the script, or audits the dump, that standard input has.
 #![tactic(auto)]
 
-ghost use Rattle.std.specs.Prelude.{◌≤◌};
+ghost use Rattle.std.specs.Prelude.{◌≡◌, ◌≤◌};
+ghost use Rattle.fblrun.specs.Statuses.{status_after as status_after_result, status_of as status_of_fault};
 
 use clap::error::ErrorKind;
 use clap::{Arg, ArgAction, Command};
@@ -25,6 +26,7 @@ const CHANNEL_FAULT: u8 = 3;
 const MEMORY_FAULT: u8 = 4;
 
 /// What the command line asks for.
+#[derive(Clone, Copy, PartialEq, Eq, Debug)]
 enum Order {
     /// Play a script, with this many workers.
     Play(u8),
@@ -53,7 +55,9 @@ fn order_of(alloc: Global, words: &[String]) -> Result<Order, clap::Error> {
 }
 
 /// The exit status of a fault.
-fn status_of(fault: &RunFault) -> u8 {
+fn status_of(fault: &RunFault) -> u8
+    ensures { result ≡ status_of_fault fault.now }
+{
     match fault {
         RunFault::Read | RunFault::Write => CHANNEL_FAULT,
         RunFault::Memory => MEMORY_FAULT,
@@ -62,22 +66,34 @@ fn status_of(fault: &RunFault) -> u8 {
 }
 
 /// Prints why the command line gives no order, or the help that it asks for, and answers the exit status.
-fn refuse(rt: &HostRuntime, error: clap::Error) -> u8 {
+fn refuse<R: Print + Eprint>(rt: &R, error: clap::Error) -> u8 {
+    if error.kind() == ErrorKind::OutOfMemory {
+        return status_after(rt, Err(RunFault::Memory));
+    }
     let printed = error.print(rt);
     match error.kind() {
-        ErrorKind::OutOfMemory => MEMORY_FAULT,
         ErrorKind::DisplayHelp => { if printed.is_ok() { DONE } else { CHANNEL_FAULT } }
+        _ => INPUT_FAULT,
+    }
+}
+
+/// The exit status where the words of the process can't be had. Want of memory is printed; other words than UTF-8 are a
+/// fault of the command line.
+fn refuse_words<R: Eprint>(rt: &R, kind: io::ErrorKind) -> u8 {
+    match kind {
+        io::ErrorKind::OutOfMemory => status_after(rt, Err(RunFault::Memory)),
         _ => INPUT_FAULT,
     }
 }
 
 /// The order that the words of the process give, or the exit status where they give none.
 fn order_in(rt: &HostRuntime) -> Result<Order, u8> {
-    let Ok(words) = env::args(rt) else {
-        return Err(INPUT_FAULT);
+    let words = match env::args(rt) {
+        Ok(words) => words,
+        Err(error) => return Err(refuse_words(rt, error.kind())),
     };
     let Ok(words) = words.collect::<Vec<String>>(rt.alloc()) else {
-        return Err(MEMORY_FAULT);
+        return Err(status_after(rt, Err(RunFault::Memory)));
     };
     match order_of(rt.alloc(), words.as_slice()) {
         Ok(order) => Ok(order),
@@ -86,7 +102,9 @@ fn order_in(rt: &HostRuntime) -> Result<Order, u8> {
 }
 
 /// Prints the fault, if there is one, and answers the exit status.
-fn status_after(rt: &HostRuntime, done: Result<(), RunFault>) -> u8 {
+fn status_after<R: Eprint>(rt: &R, done: Result<(), RunFault>) -> u8
+    ensures { result ≡ status_after_result done }
+{
     match done {
         Ok(()) => DONE,
         Err(fault) => {
@@ -113,3 +131,6 @@ fn main(rt: HostRuntime) -> ExitCode {
     };
     ExitCode::from(status_after(&rt, done))
 }
+
+#[cfg(test)]
+mod tests;
