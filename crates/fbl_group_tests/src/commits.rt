@@ -1,0 +1,106 @@
+//! Steps that are made apart from the record.
+
+use crate::facts::Fact::{Ever, Has, InFlight, Length, Trace};
+use crate::facts::Happening::{Received, Sent};
+use crate::setting::{Setting, member};
+use crate::steps::Step::{Commit, Crash, Deliver, Recover, Show, Strike, Take};
+use crate::steps::play;
+use fbl_base::Relay;
+use fbl_group::{CommitRefusal, Group, TakeRefusal, run_step};
+use std::test::Fail;
+
+const SMALL: Setting = Setting {
+    n: 2,
+    f: 1,
+    limit: 3,
+    starts: &[(0, 1, 5, 1)],
+};
+
+#[test]
+fn a_step_is_committed_after_a_crash(rt: HostRuntime) -> Result<(), Fail> {
+    let setting = Setting {
+        n: 3,
+        f: 1,
+        limit: 8192,
+        starts: &[(0, 1, 5, 0), (0, 1, 6, 0)],
+    };
+    let steps = [
+        Deliver((1, 0), Ok((1, 0, 5))),
+        Take((1, 0), Ok((5, 2, 2, 6, 0))),
+        Show(InFlight((0, 1), 1)),
+        Crash(&[1], Ok((1, (0, 2, 1)))),
+        Commit(Err(CommitRefusal::Stale)),
+        Show(Has(1, (0, 0, 0, 0))),
+        Show(InFlight((0, 1), 2)),
+        Show(Ever(1, 1)),
+        Deliver((1, 0), Ok((1, 0, 5))),
+        Commit(Ok((2, 0, 11))),
+        Commit(Err(CommitRefusal::Stale)),
+        Show(Has(1, (11, 2, 0, 2))),
+        Show(Trace(&[
+            Sent(0, 1, 1, 5, 0),
+            Sent(0, 2, 1, 6, 0),
+            Received((0, 1, 1, 1)),
+            Received((0, 2, 1, 2)),
+        ])),
+        Show(Ever(3, 1)),
+    ];
+    play::<Relay>(&rt, rt.alloc(), &setting, &steps)
+}
+
+#[test]
+fn a_step_is_committed_once_nobody_is_down(rt: HostRuntime) -> Result<(), Fail> {
+    let steps = [
+        Take((1, 0), Ok((0, 1, 1, 5, 1))),
+        Strike(&[0], Ok(0)),
+        Commit(Err(CommitRefusal::Down)),
+        Recover(Ok((0, 1, 0))),
+        Commit(Ok((1, 0, 5))),
+        Commit(Err(CommitRefusal::Stale)),
+        Show(Has(1, (5, 1, 1, 1))),
+        Show(InFlight((1, 0), 1)),
+    ];
+    play::<Relay>(&rt, rt.alloc(), &SMALL, &steps)
+}
+
+#[test]
+fn a_full_trace_refuses_a_commit(rt: HostRuntime) -> Result<(), Fail> {
+    let setting = Setting { limit: 2, ..SMALL };
+    let steps = [
+        Take((1, 0), Ok((0, 1, 1, 5, 1))),
+        Commit(Err(CommitRefusal::Full)),
+        Commit(Err(CommitRefusal::Full)),
+        Show(Has(1, (0, 0, 0, 0))),
+        Show(InFlight((0, 1), 1)),
+        Show(Length(1)),
+        Show(Ever(0, 0)),
+    ];
+    play::<Relay>(&rt, rt.alloc(), &setting, &steps)
+}
+
+// The ticket is of a group of three members, whose step sends to the third.
+#[test]
+fn a_step_of_a_larger_group_is_stale(rt: HostRuntime) -> Result<(), Fail> {
+    let larger: Group<Relay> = Setting { n: 3, ..SMALL }.group(rt.alloc())?;
+    let done = run_step::<Relay>(larger.take(member(1)?, member(0)?)?);
+    assert_eq!(rt; done.ticket().n, 3);
+    assert_eq!(rt; (done.outcome().state, done.outcome().sends.len()), (5, 1));
+    let mut smaller: Group<Relay> = SMALL.group(rt.alloc())?;
+    assert_eq!(rt; smaller.commit(&done), Err(CommitRefusal::Stale));
+    assert_eq!(rt; smaller.messages_in_flight(), 1);
+    Ok(())
+}
+
+#[test]
+fn tickets_are_refused_in_order(rt: HostRuntime) -> Result<(), Fail> {
+    let steps = [
+        Take((2, 0), Err(TakeRefusal::BadMember)),
+        Take((0, 2), Err(TakeRefusal::BadMember)),
+        Take((0, 1), Err(TakeRefusal::Empty)),
+        Take((1, 1), Err(TakeRefusal::Empty)),
+        Strike(&[0], Ok(0)),
+        Take((2, 0), Err(TakeRefusal::BadMember)),
+        Take((1, 0), Err(TakeRefusal::Down)),
+    ];
+    play::<Relay>(&rt, rt.alloc(), &SMALL, &steps)
+}

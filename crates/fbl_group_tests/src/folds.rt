@@ -1,0 +1,199 @@
+//! A strike of each member after each delivery: what comes back is the fold of the receipts that the trace still has.
+
+use crate::setting::{Setting, member};
+use fbl_base::audit::orphans;
+use fbl_base::{Behaviour, Event, Member, MemberSet, Mix, Note, Relay};
+use fbl_group::Group;
+use std::alloc::Global;
+use std::process::Abort;
+use std::test::Fail;
+
+/// The state after a message, as a formula: the sum of what was received, or its mixture.
+#[derive(Clone, Copy)]
+enum Formula {
+    Sum,
+    Mixture,
+}
+
+impl Formula {
+    fn next(self, state: u64, value: u32) -> u64 {
+        let sum = match self {
+            Formula::Sum => u128::from(state) + u128::from(value),
+            Formula::Mixture => 31 * u128::from(state) + u128::from(value) + 1,
+        };
+        (sum % 1_000_000_007) as u64
+    }
+}
+
+/// The content of the message with this number of the sender's.
+fn note_sent(trace: &[Event], sender: Member, number: u32) -> Option<Note> {
+    for event in trace {
+        if let Event::Send {
+            from,
+            ssn,
+            to: _,
+            note,
+        } = *event
+        {
+            if from == sender && ssn == number {
+                return Some(note);
+            }
+        }
+    }
+    None
+}
+
+/// The fold of the contents that the member received, in the order of its receipts in the trace.
+fn folded(formula: Formula, trace: &[Event], me: Member) -> Result<u64, Fail> {
+    let mut state = 0;
+    for event in trace {
+        if let Event::Receipt {
+            to,
+            rsn: _,
+            from,
+            ssn,
+        } = *event
+        {
+            if to == me {
+                let note = note_sent(trace, from, ssn).ok_or("a receipt of nothing")?;
+                state = formula.next(state, note.value);
+            }
+        }
+    }
+    Ok(state)
+}
+
+/// Whether each member is at the fold of its receipts.
+fn is_folded<B: Behaviour>(formula: Formula, group: &Group<B>) -> Result<bool, Fail> {
+    for number in 0..group.config().members() {
+        let me = Member::new(number).ok_or("no such member")?;
+        if group.state(me) != folded(formula, group.trace(), me)? {
+            return Ok(false);
+        }
+    }
+    Ok(true)
+}
+
+fn count_receipts(trace: &[Event]) -> usize {
+    trace
+        .iter()
+        .filter(|event| event.mark().determinant().is_some())
+        .count()
+}
+
+/// The least member that has a message, and its least sender.
+fn next_delivery<B: Behaviour>(group: &Group<B>) -> Option<(Member, Member)> {
+    let n = group.config().members();
+    for receiver in 0..n {
+        let to = Member::new(receiver)?;
+        for sender in 0..n {
+            let from = Member::new(sender)?;
+            if group.in_flight(from, to) > 0 {
+                return Some((to, from));
+            }
+        }
+    }
+    None
+}
+
+/// Makes so many deliveries, or as many as there are, and answers how many it made.
+fn deliver_some<B: Behaviour>(group: &mut Group<B>, count: u32) -> Result<u32, Fail> {
+    for made in 0..count {
+        let Some((to, from)) = next_delivery(group) else {
+            return Ok(made);
+        };
+        group.deliver(to, from)?;
+    }
+    Ok(count)
+}
+
+/// Two of the four may be lost, and twelve messages are received.
+const FOUR: Setting = Setting {
+    n: 4,
+    f: 2,
+    limit: 8192,
+    starts: &[(0, 1, 5, 6), (2, 3, 7, 3), (3, 0, 11, 0)],
+};
+
+/// The members' states.
+fn states<B: Behaviour>(group: &Group<B>) -> Result<[u64; 4], Fail> {
+    let mut states = [0; 4];
+    for number in 0..group.config().members().min(4) {
+        let member = Member::new(number).ok_or("no such member")?;
+        states[usize::from(number)] = group.state(member);
+    }
+    Ok(states)
+}
+
+/// Whether the audit finds no orphan where the member is struck.
+fn is_safe_without<B: Behaviour>(
+    alloc: Global,
+    group: &Group<B>,
+    struck: MemberSet,
+) -> Result<bool, Fail> {
+    let dump = group.dump(struck)?;
+    Ok(orphans(alloc, &dump)? == MemberSet::empty())
+}
+
+/// Strikes the member and recovers it. Afterwards each member is at the fold of its receipts, and the others are where
+/// they were.
+fn strike<B: Behaviour>(
+    rt: &impl Abort,
+    alloc: Global,
+    formula: Formula,
+    group: &mut Group<B>,
+    number: u8,
+) -> Result<(), Fail> {
+    let struck = MemberSet::empty().with(member(number)?);
+    assert!(rt; is_safe_without(alloc, group, struck)?);
+    let mut expected = states(group)?;
+    group.strike(struck)?;
+    group.recover()?;
+    assert!(rt; is_folded(formula, group)?);
+    let after = states(group)?;
+    let place = usize::from(number).min(3);
+    expected[place] = after[place];
+    assert_eq!(rt; after, expected);
+    Ok(())
+}
+
+/// Makes so many deliveries, strikes the member, recovers it, and delivers what is left. The answer is the members'
+/// states in the end.
+fn strike_after<B: Behaviour>(
+    rt: &impl Abort,
+    alloc: Global,
+    formula: Formula,
+    count: u32,
+    number: u8,
+) -> Result<[u64; 4], Fail> {
+    let mut group: Group<B> = FOUR.group(alloc)?;
+    assert_eq!(rt; deliver_some(&mut group, count)?, count);
+    assert_eq!(rt; group.is_quiet(), count == 12);
+    assert!(rt; is_folded(formula, &group)?);
+    strike(rt, alloc, formula, &mut group, number)?;
+    deliver_some(&mut group, 100)?;
+    assert!(rt; group.is_quiet() && is_folded(formula, &group)?);
+    assert_eq!(rt; count_receipts(group.trace()), 12);
+    states(&group)
+}
+
+#[test]
+fn members_that_add_up_are_struck_after_each_delivery(rt: HostRuntime) -> Result<(), Fail> {
+    for count in 0..13 {
+        for number in 0..4 {
+            let states = strike_after::<Relay>(&rt, rt.alloc(), Formula::Sum, count, number)?;
+            assert_eq!(rt; states, [23, 17, 17, 17], "{count}, {number}");
+        }
+    }
+    Ok(())
+}
+
+#[test]
+fn members_that_mix_are_struck_after_each_delivery(rt: HostRuntime) -> Result<(), Fail> {
+    for count in 0..13 {
+        for number in 0..4 {
+            strike_after::<Mix>(&rt, rt.alloc(), Formula::Mixture, count, number)?;
+        }
+    }
+    Ok(())
+}

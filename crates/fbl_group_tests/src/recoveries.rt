@@ -1,0 +1,206 @@
+//! Strikes, and the recoveries from them.
+
+use crate::facts::Fact::{Down, Ever, Flight, Has, Holds, InFlight, Length, Trace};
+use crate::facts::Happening::{Received, Sent};
+use crate::setting::Setting;
+use crate::steps::Step::{Crash, Deliver, Recover, Show, Strike};
+use crate::steps::play;
+use fbl_base::{Mix, Relay};
+use fbl_group::{CrashRefusal, DeliverRefusal, RecoverRefusal, StrikeRefusal};
+use std::test::Fail;
+
+const ROUND: Setting = Setting {
+    n: 3,
+    f: 1,
+    limit: 8192,
+    starts: &[(0, 1, 5, 2)],
+};
+
+#[test]
+fn receipts_that_nobody_else_knows_are_made_again(rt: HostRuntime) -> Result<(), Fail> {
+    let setting = Setting {
+        starts: &[(0, 2, 4, 0), (1, 2, 7, 0)],
+        ..ROUND
+    };
+    let steps = [
+        Deliver((2, 1), Ok((1, 0, 8))),
+        Deliver((2, 0), Ok((2, 0, 253))),
+        Strike(&[2], Ok(2)),
+        Recover(Ok((0, 2, 2))),
+        Deliver((2, 0), Ok((1, 0, 5))),
+        Deliver((2, 1), Ok((2, 0, 163))),
+        Show(Ever(4, 2)),
+    ];
+    play::<Mix>(&rt, rt.alloc(), &setting, &steps)
+}
+
+#[test]
+fn a_receipt_that_a_survivor_knows_is_replayed(rt: HostRuntime) -> Result<(), Fail> {
+    let setting = Setting {
+        starts: &[(0, 2, 4, 0), (1, 2, 7, 1)],
+        ..ROUND
+    };
+    let steps = [
+        Deliver((2, 1), Ok((1, 0, 8))),
+        Deliver((2, 0), Ok((2, 0, 253))),
+        Deliver((0, 2), Ok((1, 1, 9))),
+        Strike(&[2], Ok(1)),
+        Show(Down(&[2])),
+        Show(Has(2, (0, 0, 0, 0))),
+        Show(Length(6)),
+        Recover(Ok((1, 1, 1))),
+        Show(Down(&[])),
+        Show(Has(0, (9, 1, 1, 2))),
+        Show(Has(1, (0, 0, 1, 0))),
+        Show(Has(2, (8, 1, 1, 2))),
+        Show(Holds(0, &[((1, 1, 2, 1), &[0, 2]), ((2, 1, 0, 1), &[0])])),
+        Show(Holds(2, &[((1, 1, 2, 1), &[0, 2]), ((2, 1, 0, 1), &[0, 2])])),
+        Show(Flight(1, false)),
+        Show(InFlight((0, 2), 1)),
+        Show(Trace(&[
+            Sent(0, 1, 2, 4, 0),
+            Sent(1, 1, 2, 7, 1),
+            Received((1, 1, 2, 1)),
+            Sent(2, 1, 0, 8, 0),
+            Received((2, 1, 0, 1)),
+        ])),
+        Show(Ever(3, 1)),
+        Deliver((2, 0), Ok((2, 1, 253))),
+    ];
+    play::<Mix>(&rt, rt.alloc(), &setting, &steps)
+}
+
+#[test]
+fn a_member_that_took_the_first_message_is_struck(rt: HostRuntime) -> Result<(), Fail> {
+    let steps = [
+        Deliver((1, 0), Ok((1, 0, 5))),
+        Deliver((2, 1), Ok((1, 1, 5))),
+        Deliver((0, 2), Ok((1, 1, 5))),
+        Strike(&[1], Ok(0)),
+        Recover(Ok((1, 0, 0))),
+        Show(Has(0, (5, 1, 1, 2))),
+        Show(Has(1, (5, 1, 1, 3))),
+        Show(Has(2, (5, 1, 1, 2))),
+        Show(Holds(
+            1,
+            &[
+                ((1, 1, 2, 1), &[0, 1, 2]),
+                ((2, 1, 0, 1), &[0, 1]),
+                ((0, 1, 1, 1), &[1, 2]),
+            ],
+        )),
+        Show(Flight(0, true)),
+        Show(Length(6)),
+    ];
+    play::<Relay>(&rt, rt.alloc(), &ROUND, &steps)
+}
+
+#[test]
+fn a_sender_and_its_receiver_are_struck(rt: HostRuntime) -> Result<(), Fail> {
+    let setting = Setting { f: 2, ..ROUND };
+    let steps = [
+        Deliver((1, 0), Ok((1, 0, 5))),
+        Deliver((2, 1), Ok((1, 1, 5))),
+        Deliver((0, 2), Ok((1, 2, 5))),
+        Strike(&[1, 2], Ok(0)),
+        Recover(Ok((2, 0, 0))),
+        Show(Has(0, (5, 1, 1, 3))),
+        Show(Has(1, (5, 1, 1, 3))),
+        Show(Has(2, (5, 1, 1, 3))),
+        Show(Flight(0, true)),
+        Show(Length(6)),
+    ];
+    play::<Relay>(&rt, rt.alloc(), &setting, &steps)
+}
+
+#[test]
+fn one_member_is_struck_after_another(rt: HostRuntime) -> Result<(), Fail> {
+    let steps = [
+        Deliver((1, 0), Ok((1, 0, 5))),
+        Deliver((2, 1), Ok((1, 1, 5))),
+        Deliver((0, 2), Ok((1, 1, 5))),
+        Strike(&[2], Ok(0)),
+        Recover(Ok((1, 0, 0))),
+        Strike(&[1], Ok(0)),
+        Show(Has(0, (5, 1, 1, 2))),
+        Show(Down(&[1])),
+        Show(Has(1, (0, 0, 0, 0))),
+        Show(Has(2, (5, 1, 1, 3))),
+        Show(Flight(0, false)),
+        Show(Length(6)),
+        Recover(Ok((1, 0, 0))),
+        Show(Has(0, (5, 1, 1, 2))),
+        Show(Has(1, (5, 1, 1, 3))),
+        Show(Has(2, (5, 1, 1, 3))),
+    ];
+    play::<Relay>(&rt, rt.alloc(), &ROUND, &steps)
+}
+
+#[test]
+fn all_that_know_of_receipts_are_struck(rt: HostRuntime) -> Result<(), Fail> {
+    let setting = Setting { f: 2, ..ROUND };
+    let steps = [
+        Deliver((1, 0), Ok((1, 0, 5))),
+        Deliver((2, 1), Ok((1, 1, 5))),
+        Strike(&[1, 2], Ok(2)),
+        Recover(Ok((0, 1, 2))),
+        Show(Has(0, (0, 0, 1, 0))),
+        Show(Has(1, (0, 0, 0, 0))),
+        Show(Has(2, (0, 0, 0, 0))),
+        Show(Flight(1, false)),
+        Show(InFlight((0, 1), 1)),
+        Show(Trace(&[Sent(0, 1, 1, 5, 2)])),
+        Show(Ever(2, 2)),
+    ];
+    play::<Relay>(&rt, rt.alloc(), &setting, &steps)
+}
+
+#[test]
+fn strikes_and_recoveries_are_refused_in_order(rt: HostRuntime) -> Result<(), Fail> {
+    let steps = [
+        Strike(&[], Err(StrikeRefusal::Nobody)),
+        Strike(&[0, 1], Err(StrikeRefusal::TooMany)),
+        Strike(&[3], Err(StrikeRefusal::BadMember)),
+        Strike(&[0, 1, 3], Err(StrikeRefusal::BadMember)),
+        Recover(Err(RecoverRefusal::NotDown)),
+        Deliver((1, 2), Err(DeliverRefusal::Empty)),
+        Deliver((1, 1), Err(DeliverRefusal::Empty)),
+        Deliver((3, 0), Err(DeliverRefusal::BadMember)),
+        Deliver((0, 3), Err(DeliverRefusal::BadMember)),
+        Strike(&[1], Ok(0)),
+        Strike(&[2], Err(StrikeRefusal::Down)),
+        Strike(&[1, 2], Err(StrikeRefusal::TooMany)),
+        Strike(&[], Err(StrikeRefusal::Nobody)),
+        Deliver((2, 0), Err(DeliverRefusal::Down)),
+        Deliver((3, 0), Err(DeliverRefusal::BadMember)),
+        Recover(Ok((0, 1, 0))),
+        Recover(Err(RecoverRefusal::NotDown)),
+        Deliver((1, 0), Ok((1, 0, 5))),
+    ];
+    play::<Relay>(&rt, rt.alloc(), &ROUND, &steps)
+}
+
+#[test]
+fn a_crash_is_a_strike_and_a_recovery(rt: HostRuntime) -> Result<(), Fail> {
+    let setting = Setting {
+        starts: &[(0, 1, 5, 0), (0, 1, 6, 0)],
+        ..ROUND
+    };
+    let steps = [
+        Recover(Err(RecoverRefusal::NotDown)),
+        Deliver((1, 0), Ok((1, 0, 5))),
+        Deliver((1, 0), Ok((2, 0, 11))),
+        Crash(&[0, 1], Err(CrashRefusal::TooMany)),
+        Crash(&[], Err(CrashRefusal::Nobody)),
+        Crash(&[0, 1, 3], Err(CrashRefusal::BadMember)),
+        Show(Has(1, (11, 2, 0, 2))),
+        Crash(&[1], Ok((2, (0, 2, 2)))),
+        Show(Ever(2, 2)),
+        Show(Has(1, (0, 0, 0, 0))),
+        Show(InFlight((0, 1), 2)),
+        Strike(&[2], Ok(0)),
+        Crash(&[1], Err(CrashRefusal::Down)),
+        Show(Down(&[2])),
+    ];
+    play::<Relay>(&rt, rt.alloc(), &setting, &steps)
+}
