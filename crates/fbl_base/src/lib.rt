@@ -21,6 +21,3 @@ pub use outcome::Outcome;
 pub use raw_dump::RawDump;
 pub use refusal::DumpRefusal;
 pub use trace::{Determinant, Event, Mark, Note, Start};
-
-#[cfg(test)]
-mod tests;

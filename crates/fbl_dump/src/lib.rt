@@ -8,6 +8,3 @@ mod writing;
 pub use auditing::audit;
 pub use reading::dump_of_bytes;
 pub use writing::dump_text;
-
-#[cfg(test)]
-mod tests;

@@ -9,6 +9,3 @@ pub use lines::{
     refused_text, report_text, run_text, states_text, strike_text,
 };
 pub use sets::{members_in, set_text};
-
-#[cfg(test)]
-mod tests;

@@ -6,6 +6,3 @@ mod wire;
 
 pub use member_rec::MemberRec;
 pub use wire::Wire;
-
-#[cfg(test)]
-mod tests;

@@ -7,6 +7,3 @@ mod names;
 mod runs;
 
 pub use engine::play;
-
-#[cfg(test)]
-mod tests;

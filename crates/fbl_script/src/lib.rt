@@ -14,6 +14,3 @@ pub use input::read_input;
 pub use output::put;
 pub use script::{BehaviourName, Command, Plan, PlannedStrike, Script};
 pub use script_reading::script_of_bytes;
-
-#[cfg(test)]
-mod tests;

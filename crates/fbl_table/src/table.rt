@@ -188,7 +188,8 @@ impl<A: Allocator + Copy> Table<A> {
 
     /// How many entries at most are passed on once the member has taken in these and its own: room enough for them.
     pub fn room_to_piggyback(&self, f: u8, carried: &[Entry]) -> usize
-        ensures { (me : ℕ) (det : Determinant) → length (piggybacked f (noted me (learned me self.now carried.now) det)) ≤ result }
+        ensures enough { (me : ℕ) (det : Determinant) → length (piggybacked f (noted me (learned me self.now carried.now) det)) ≤ result }
+        ensures few { result ≤ length self.now + length carried.now + 1 }
     {
         self.at_most_unstable(f) + carried.len() + 1
     }
@@ -235,12 +236,13 @@ impl<A: Allocator + Copy> Table<A> {
     /// A number of entries that those that at most `f` members are known to hold don't exceed.
     fn at_most_unstable(&self, f: u8) -> usize
         ensures enough { length (piggybacked f self.now) ≤ result }
+        ensures few { result ≤ length self.now }
         ensures small { result < 2 ^ 63 }
     {
         if f > self.limit {
             self.len()
         } else {
-            self.open_places.len()
+            self.open_places.len().min(self.len())
         }
     }
 

@@ -18,7 +18,7 @@ put_wires-requires-clause-numbers g c =
 pub put_wires-requires-clause-room : goal.put_wires-requires-clause-room
 put_wires-requires-clause-room g c =
     let own : Determinant = record { from = c.from.result; ssn = c.ssn.result; to = c.args.me; rsn = c.self.inside.received + 1 } in
-    let most : length (piggybacked c.args.f (noted c.args.me (learned c.args.me c.self.inside.table c.carried-carried.result.now) own)) ≤ c.room_to_piggyback-room.result = c.room_to_piggyback-room.ensures c.args.me own in
+    let most : length (piggybacked c.args.f (noted c.args.me (learned c.args.me c.self.inside.table c.carried-carried.result.now) own)) ≤ c.room_to_piggyback-room.result = c.room_to_piggyback-room.ensures.enough c.args.me own in
     let enough : length (piggybacked c.args.f c.learn_and_note.new.self) ≤ c.room_to_piggyback-room.result = rw c.in_ok-learn_and_note.ensures.ok most in
     All-weaker (HasRoom c.room_to_piggyback-room.result) (HasRoom (length (piggybacked c.args.f c.learn_and_note.new.self))) (λ list h. (h.0, h.1, omega (arith, enough, h.2))) c.in_ok-lists.lists.items c.in_ok-lists.ensures.room
 

@@ -10,6 +10,7 @@ returns-then-f-self-clause-enough g c = omega (arith, length-filter (is_unstable
 pub returns-else-f-self-clause-enough : goal.returns-else-f-self-clause-enough
 returns-else-f-self-clause-enough g c =
     let table = map entry_of c.self.inside.entries.entries in
-    let few : length (piggybacked c.args.f table) ≤ length c.self.inside.open_places.items = unstable-open c.args.f c.self.inside.limit table c.self.inside.open_places.items (omega (arith, c.if-f-self.false)) c.self.invariant in
-    let len : c.len-else-f-self.result ≡ length c.self.inside.open_places.items = search rules in
-    rw (← c.self.view_is) (omega (arith, few, len))
+    let unstable : length (piggybacked c.args.f table) ≤ length c.self.inside.open_places.items = unstable-open c.args.f c.self.inside.limit table c.self.inside.open_places.items (omega (arith, c.if-f-self.false)) c.self.invariant in
+    let opened : length (piggybacked c.args.f c.args.self.now) ≤ length c.self.inside.open_places.items = rw (← c.self.view_is) unstable in
+    let places : c.len-else-f-self.result ≡ length c.self.inside.open_places.items = search rules in
+    omega (arith, opened, places, length-filter (is_unstable c.args.f) c.args.self.now, c.len-else-f-self-2.ensures.len, c.min.ensures)

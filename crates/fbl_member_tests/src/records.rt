@@ -1,0 +1,306 @@
+ghost use Rattle.std.specs.Prelude.{◌≡◌, ◌<◌, IfOk};
+
+use crate::fixtures::member;
+use fbl_base::{Behaviour, Config, Determinant, Member, MemberSet, Mix, Note, Relay, Start};
+use fbl_member::{MemberRec, Wire};
+use fbl_table::{Entry, Table};
+use refusing_allocator::Refusing;
+use std::alloc::{AllocError, Allocator, Global};
+use std::test::Fail;
+
+/// A group of three in which one may be lost, where the first member sends the second a message with two hops.
+fn config<A: Allocator + Copy>(
+    alloc: A,
+    first: Member,
+    second: Member,
+) -> Result<Config<A>, AllocError> {
+    let start = Start {
+        from: first,
+        to: second,
+        note: Note { value: 5, hops: 2 },
+    };
+    Config::new(alloc, 3, 1, 8192, &[start]).map_err(|_| AllocError)
+}
+
+/// Delivers a message that carries nothing to a member of the group, where that is the member's next receipt.
+fn deliver<B: Behaviour, A: Allocator + Copy>(
+    alloc: A,
+    record: &mut MemberRec<A>,
+    me: Member,
+    determinant: Determinant,
+    note: Note,
+) -> Result<Vec<Wire<A>, A>, AllocError>
+    requires { me < 3 }
+{
+    let outcome = B::step(me, 3, record.state(), note);
+    let wire = Wire::new(determinant.from, me, determinant.ssn, note, Vec::new(alloc));
+    if record.received() < 8192
+        && determinant.to == me
+        && determinant.rsn == record.received() + 1
+        && record.last_from(determinant.from) < determinant.ssn
+        && !record.table().holds(&determinant)
+        && record.sent() as usize + outcome.sends.len() <= 8192
+    {
+        return record.receive::<B>(me, 3, 1, &wire, &outcome);
+    }
+    Ok(Vec::new(alloc))
+}
+
+/// Replays one receipt, where it is the member's next.
+fn replay<B: Behaviour, A: Allocator + Copy>(
+    record: &mut MemberRec<A>,
+    me: Member,
+    determinant: &Determinant,
+    note: Note,
+) -> Result<(), AllocError>
+    requires { me < 3 }
+{
+    let outcome = B::step(me, 3, record.state(), note);
+    if record.received() < 8192
+        && determinant.to == me
+        && determinant.rsn == record.received() + 1
+        && record.sent() as usize + outcome.sends.len() <= 8192
+    {
+        return record.replay_one::<B>(me, 3, determinant, note);
+    }
+    Ok(())
+}
+
+/// The receipt of the first member's message.
+fn receipt(first: Member, second: Member) -> Determinant
+    ensures { result ≡ record { from = first; ssn = 1; to = second; rsn = 1 } }
+{
+    Determinant {
+        from: first,
+        ssn: 1,
+        to: second,
+        rsn: 1,
+    }
+}
+
+/// The group's member `me`, fresh.
+fn fresh(
+    alloc: Global,
+    first: Member,
+    second: Member,
+    me: Member,
+) -> Result<MemberRec, AllocError> {
+    let group = config(alloc, first, second)?;
+    MemberRec::fresh(alloc, &group, me)
+}
+
+/// Whether these are the messages that the member sent to another with numbers beyond this one.
+fn sent_beyond(
+    record: &MemberRec,
+    to: Member,
+    ssn: u32,
+    expected: &[(u32, Note)],
+) -> Result<bool, AllocError> {
+    let beyond = record.unsent_beyond(to, ssn)?;
+    Ok(beyond.as_slice() == expected)
+}
+
+#[test]
+fn a_fresh_member_has_sent_its_starts(rt: HostRuntime) -> Result<(), Fail> {
+    let (first, second) = (member(0)?, member(1)?);
+    let start = Note { value: 5, hops: 2 };
+    let record = fresh(rt.alloc(), first, second, first)?;
+    assert!(rt; record.sent() == 1 && record.state() == 0 && record.received() == 0);
+    assert!(rt; sent_beyond(&record, second, 0, &[(1, start)])?);
+    assert!(rt; sent_beyond(&record, second, 1, &[])?);
+    assert!(rt; record.log_note(1) == Some(start) && record.log_note(2) == None);
+    Ok(())
+}
+
+#[test]
+fn a_member_replays_a_receipt(rt: HostRuntime) -> Result<(), Fail> {
+    let (first, second, third) = (member(0)?, member(1)?, member(2)?);
+    let note = Note { value: 5, hops: 2 };
+    let mut record = fresh(rt.alloc(), first, second, second)?;
+    replay::<Relay, _>(&mut record, second, &receipt(first, second), note)?;
+    assert!(rt; record.state() == 5 && record.received() == 1 && record.sent() == 1);
+    assert!(rt; record.last_from(first) == 1 && record.table().len() == 0);
+    let passed_on = Note { value: 5, hops: 1 };
+    assert!(rt; sent_beyond(&record, third, 0, &[(1, passed_on)])?);
+    Ok(())
+}
+
+#[test]
+fn a_member_takes_a_message_in(rt: HostRuntime) -> Result<(), Fail> {
+    let (first, second, third) = (member(0)?, member(1)?, member(2)?);
+    let det = receipt(first, second);
+    let note = Note { value: 5, hops: 2 };
+    let mut record = fresh(rt.alloc(), first, second, second)?;
+    let wires = deliver::<Relay, _>(rt.alloc(), &mut record, second, det, note)?;
+    let known = MemberSet::empty().with(second);
+    assert_eq!(rt; wires.len(), 1);
+    for wire in &wires {
+        assert!(rt; wire.from() == second && wire.to() == third && wire.ssn() == 1);
+        assert!(rt; wire.note() == Note { value: 5, hops: 1 });
+        assert!(rt; wire.carried() == [Entry { det, known }].as_slice());
+    }
+    assert!(rt; record.state() == 5 && record.received() == 1 && record.last_from(first) == 1);
+    Ok(())
+}
+
+// The state is 31 * 0 + 4 + 1, and as it is odd the message goes two members on.
+#[test]
+fn a_member_that_had_nothing_mixes_what_it_gets(rt: HostRuntime) -> Result<(), Fail> {
+    let (first, second) = (member(0)?, member(1)?);
+    let note = Note { value: 4, hops: 1 };
+    let mut record = MemberRec::blank(rt.alloc(), 1);
+    assert!(rt; record.state() == 0 && record.received() == 0 && record.sent() == 0);
+    let wires = deliver::<Mix, _>(
+        rt.alloc(),
+        &mut record,
+        second,
+        receipt(first, second),
+        note,
+    )?;
+    assert_eq!(rt; wires.len(), 1);
+    for wire in &wires {
+        assert!(rt; wire.to() == first && wire.note() == Note { value: 5, hops: 0 });
+    }
+    Ok(())
+}
+
+#[test]
+fn a_replayed_member_is_given_a_table(rt: HostRuntime) -> Result<(), Fail> {
+    let (first, second) = (member(0)?, member(1)?);
+    let det = receipt(first, second);
+    let mut record = MemberRec::blank(rt.alloc(), 1);
+    replay::<Mix, _>(&mut record, second, &det, Note { value: 4, hops: 1 })?;
+    let mut table = Table::new(rt.alloc());
+    table.note_own(second, det)?;
+    record.set_table(table);
+    assert!(rt; record.state() == 5 && record.table().holds(&det));
+    Ok(())
+}
+
+/// The calls that take memory.
+#[derive(Clone, Copy, Debug)]
+enum Call {
+    Fresh,
+    Receive,
+    ReplayOne,
+    UnsentBeyond,
+}
+
+impl Call {
+    /// The member whose record the call is made on: the first, or, where the log has to be empty to grow, the second.
+    fn member(self, first: Member, second: Member) -> Member {
+        match self {
+            Call::Fresh | Call::UnsentBeyond => first,
+            Call::Receive | Call::ReplayOne => second,
+        }
+    }
+
+    fn make<A: Allocator + Copy>(
+        self,
+        alloc: A,
+        group: &Config<A>,
+        record: &mut MemberRec<A>,
+        first: Member,
+        second: Member,
+    ) -> Result<(), AllocError>
+        requires { second < 3 }
+    {
+        let receipt = receipt(first, second);
+        let note = Note { value: 5, hops: 2 };
+        match self {
+            Call::Fresh => MemberRec::fresh(alloc, group, first).map(drop),
+            Call::Receive => deliver::<Relay, A>(alloc, record, second, receipt, note).map(drop),
+            Call::ReplayOne => replay::<Relay, A>(record, second, &receipt, note),
+            Call::UnsentBeyond => record.unsent_beyond(second, 0).map(drop),
+        }
+    }
+}
+
+/// What the readers answer of a record: the state, the numbers of receipts and sends, the last number from a member,
+/// and how many entries the table has.
+fn readings<A: Allocator + Copy>(
+    record: &MemberRec<A>,
+    from: Member,
+) -> (u64, u32, u32, u32, usize) {
+    (
+        record.state(),
+        record.received(),
+        record.sent(),
+        record.last_from(from),
+        record.table().len(),
+    )
+}
+
+/// What became of a call whose request with some number was refused.
+#[derive(Clone, Copy, Debug)]
+enum Refusal {
+    /// There was no such request, and the call succeeded.
+    NotAsked,
+    /// The call failed, and the record was as before.
+    Kept,
+    /// The call failed with no refusal, or succeeded in spite of one, or changed the record.
+    Broken,
+}
+
+/// How many requests for memory it takes to make the group's parameters and a fresh member.
+fn requests(alloc: Global, first: Member, second: Member, me: Member) -> Result<u64, AllocError> {
+    let heap = Refusing::new(alloc, 0);
+    let group = config(&heap, first, second)?;
+    let _record = MemberRec::fresh(&heap, &group, me)?;
+    Ok(heap.requests())
+}
+
+/// Makes the call, and refuses its request with this number, counted from 1.
+fn refuse(
+    alloc: Global,
+    call: Call,
+    first: Member,
+    second: Member,
+    request: u64,
+) -> Result<Refusal, AllocError>
+    requires { second < 3 }
+{
+    let me = call.member(first, second);
+    let earlier = requests(alloc, first, second, me)?;
+    let heap = Refusing::new(alloc, earlier.saturating_add(request));
+    let group = config(&heap, first, second)?;
+    let mut record = MemberRec::fresh(&heap, &group, me)?;
+    let before = readings(&record, first);
+    let done = call.make(&heap, &group, &mut record, first, second);
+    Ok(match (heap.has_refused(), done.is_ok()) {
+        (false, true) => Refusal::NotAsked,
+        (true, false) if readings(&record, first) == before => Refusal::Kept,
+        _ => Refusal::Broken,
+    })
+}
+
+/// Refuses each request of the call in turn, and answers how many there were, or 0 where a refused one was not kept to.
+fn refuse_each(alloc: Global, call: Call, first: Member, second: Member) -> Result<u64, AllocError>
+    requires { second < 3 }
+{
+    for request in 1..u64::MAX {
+        match refuse(alloc, call, first, second, request)? {
+            Refusal::Kept => {}
+            Refusal::NotAsked => return Ok(request - 1),
+            Refusal::Broken => return Ok(0),
+        }
+    }
+    Ok(0)
+}
+
+#[test]
+fn each_request_for_memory_may_be_refused(rt: HostRuntime) -> Result<(), Fail> {
+    let (first, second) = (member(0)?, member(1)?);
+    for call in [
+        Call::Fresh,
+        Call::Receive,
+        Call::ReplayOne,
+        Call::UnsentBeyond,
+    ] {
+        assert!(rt;
+            refuse_each(rt.alloc(), call, first, second)? > 0,
+            "{call:?}"
+        );
+    }
+    Ok(())
+}

@@ -1,0 +1,318 @@
+ghost use Rattle.std.specs.Prelude.{◌≤◌};
+
+use crate::unsteady::{FailedWrite, UnsteadyReader, UnsteadyWriter};
+use fbl_dump::{audit, dump_of_bytes, dump_text};
+use fbl_script::RunFault;
+use std::alloc::{AllocError, Global};
+use std::io::{self, Read, Write};
+use std::test::Fail;
+
+/// A reader that never ends.
+#[derive(Drop)]
+struct EndlessReader;
+
+impl Read for EndlessReader {
+    fn read(&mut self, buf: &mut [u8]) -> io::Result<usize> {
+        for byte in buf.iter_mut() {
+            *byte = b' ';
+        }
+        Ok(buf.len())
+    }
+}
+
+const EVENTS: &str =
+    r#"["send",0,1,1],["receipt",1,1,0,1],["send",1,1,2],["receipt",2,1,1,1],["send",2,1,0],["receipt",0,1,2,1]"#;
+
+const HELD: &str = "[0,1,1,2,1],[0,2,1,0,1],[1,0,1,1,1],[2,0,1,1,1],[2,1,1,2,1]";
+
+/// A message that went once round three members, with its determinants where a run leaves them.
+const LINE: &str =
+    r#"{"events":[["send",0,1,1],["receipt",1,1,0,1],["send",1,1,2],["receipt",2,1,1,1],["send",2,1,0],["receipt",0,1,2,1]],"f":1,"held":[[0,1,1,2,1],[0,2,1,0,1],[1,0,1,1,1],[2,0,1,1,1],[2,1,1,2,1]],"members":3,"strike":[1]}"#;
+
+/// The line without one of its pairs, which leaves a receipt lost.
+const LOST: &str =
+    r#"{"events":[["send",0,1,1],["receipt",1,1,0,1],["send",1,1,2],["receipt",2,1,1,1],["send",2,1,0],["receipt",0,1,2,1]],"f":1,"held":[[0,1,1,2,1],[0,2,1,0,1],[1,0,1,1,1],[2,1,1,2,1]],"members":3,"strike":[1]}"#;
+
+const LOST_TEXT: &str = "lost 1\ndeterminant 0 1 1 1\norphans 0,2\n";
+
+/// The dump with these parts.
+fn dump(
+    alloc: Global,
+    f: u8,
+    events: &str,
+    held: &str,
+    strike: &str,
+    tail: &str,
+) -> Result<String, AllocError> {
+    format!(in alloc;
+        r#"{{"events":[{events}],"f":{f},"held":[{held}],"members":3,"strike":{strike}{tail}}}"#
+    )
+}
+
+/// What the audit writes, or its fault's text.
+fn audited(alloc: Global, input: &[u8]) -> Result<String, Fail> {
+    let mut reader = input;
+    let mut held = Vec::new(alloc);
+    match audit(alloc, &mut reader, &mut held) {
+        Ok(()) => Ok(String::from_utf8(held)?),
+        Err(fault) => {
+            if !held.is_empty() {
+                return Err("written before a fault")?;
+            }
+            Ok(fault.to_string(alloc)?)
+        }
+    }
+}
+
+/// Strike sets, with what comes behind them, and what the audit says.
+const STRIKES: [(&str, &str, &str); 9] = [
+    ("[1]", "", "lost 0\norphans none\n"),
+    ("[2,1]", "", "lost 1\ndeterminant 0 1 1 1\norphans 0\n"),
+    ("[]", "", "lost 0\norphans none\n"),
+    ("[3]", "", "BadStrike"),
+    ("[16]", "", "bad field strike"),
+    ("1", "", "bad field strike"),
+    ("[1.0]", "", "bad field strike"),
+    ("[1]", r#","x":0"#, "unknown key"),
+    ("[3]", r#","limit":1"#, "unknown key"),
+];
+
+#[test]
+fn audits_each_strike_set(rt: HostRuntime) -> Result<(), Fail> {
+    let alloc = rt.alloc();
+    for (strike, tail, told) in STRIKES {
+        let text = dump(alloc, 1, EVENTS, HELD, strike, tail)?;
+        assert_eq!(rt;
+            audited(alloc, text.as_bytes())?.as_str(),
+            told,
+            "at {strike}{tail}"
+        );
+    }
+    assert_eq!(rt; audited(alloc, LOST.as_bytes())?.as_str(), LOST_TEXT);
+    Ok(())
+}
+
+/// Events and held pairs, and what the audit says where nobody was struck.
+const PARTS: [(&str, &str, &str); 9] = [
+    (
+        EVENTS,
+        "",
+        "lost 3\ndeterminant 0 1 1 1\ndeterminant 1 1 2 1\ndeterminant 2 1 0 1\norphans 0,1,2\n",
+    ),
+    (r#"["send",0,1,1],["receipt",1,2,0,1]"#, "", "BadEvent 1"),
+    (EVENTS, "[0,1,2,2,1]", "BadHeld 0"),
+    (EVENTS, "[2,0,1,1,1],[2,0,1,1,2]", "BadHeld 1"),
+    (
+        r#"["send",0,1,1],["receipt",1,1,0,1]"#,
+        "[1,0,1,1,1],[1,0,1,1,1]",
+        "lost 0\norphans none\n",
+    ),
+    (r#"["send",0,1]"#, "", "bad field events"),
+    (r#"["send",0,1,1,1]"#, "", "bad field events"),
+    ("", "[2,0,1,1]", "bad field held"),
+    ("", "[2,0,4294967296,1,1]", "bad field held"),
+];
+
+#[test]
+fn audits_other_events_and_pairs(rt: HostRuntime) -> Result<(), Fail> {
+    let alloc = rt.alloc();
+    for (events, held, told) in PARTS {
+        let text = dump(alloc, 1, events, held, "[]", "")?;
+        assert_eq!(rt;
+            audited(alloc, text.as_bytes())?.as_str(),
+            told,
+            "at {events}, {held}"
+        );
+    }
+    let text = dump(alloc, 3, EVENTS, HELD, "[1]", "")?;
+    assert_eq!(rt; audited(alloc, text.as_bytes())?.as_str(), "BadF");
+    assert_eq!(rt; audited(alloc, b"{}")?.as_str(), "bad field members");
+    assert_eq!(rt; audited(alloc, b"[]")?.as_str(), "not an object");
+    assert_eq!(rt;
+        audited(alloc, br#"{"members":3,"f":256}"#)?.as_str(),
+        "bad field f"
+    );
+    Ok(())
+}
+
+#[test]
+fn refuses_each_front_of_a_dump(rt: HostRuntime) -> Result<(), Fail> {
+    let bytes = LINE.as_bytes();
+    assert!(rt; bytes.len() > 200);
+    for end in 0..bytes.len() {
+        assert_eq!(rt;
+            audited(rt.alloc(), &bytes[..end])?.as_str(),
+            "not json",
+            "at {end}"
+        );
+    }
+    Ok(())
+}
+
+#[test]
+fn refuses_the_event_at_place_8192(rt: HostRuntime) -> Result<(), Fail> {
+    let alloc = rt.alloc();
+    let mut text = String::from_str(
+        alloc,
+        r#"{"members":2,"f":1,"held":[],"strike":[],"events":["#,
+    )?;
+    for place in 1..=8193u32 {
+        if place > 1 {
+            text.push_str(",")?;
+        }
+        write!(text, r#"["send",0,{place},1]"#)?;
+    }
+    text.push_str("]}")?;
+    assert_eq!(rt; audited(alloc, text.as_bytes())?.as_str(), "BadEvent 8192");
+    Ok(())
+}
+
+#[test]
+fn writes_a_dump_as_its_line(rt: HostRuntime) -> Result<(), Fail> {
+    let alloc = rt.alloc();
+    let text = dump(alloc, 1, EVENTS, HELD, "[2,0,2]", "")?;
+    let Ok(dump) = dump_of_bytes(alloc, text.as_bytes()) else {
+        return Err("no dump")?;
+    };
+    let line = dump_text(alloc, &dump)?;
+    let rising = text.as_str().replace(alloc, "[2,0,2]", "[0,2]")?;
+    assert_eq!(rt; line.as_str(), format!(in alloc; "{rising}\n")?.as_str());
+    let Ok(dump) = dump_of_bytes(alloc, LINE.as_bytes()) else {
+        return Err("no dump")?;
+    };
+    let line = dump_text(alloc, &dump)?;
+    assert_eq!(rt; line.as_str(), format!(in alloc; "{LINE}\n")?.as_str());
+    assert_eq!(rt;
+        audited(alloc, line.as_bytes())?.as_str(),
+        "lost 0\norphans none\n"
+    );
+    Ok(())
+}
+
+#[test]
+fn reads_through_interruptions(rt: HostRuntime) -> Result<(), Fail> {
+    for (interruptions, fine) in [(0, true), (1000, true), (1001, false)] {
+        let mut reader = UnsteadyReader {
+            rest: LOST.as_bytes(),
+            most: 1,
+            interruptions,
+            reads: 0,
+            fails_at: 0,
+        };
+        let mut held = Vec::new(rt.alloc());
+        let done = audit(rt.alloc(), &mut reader, &mut held);
+        assert_eq!(rt; done.is_ok(), fine, "at {interruptions}");
+        if fine {
+            assert!(rt; held.as_slice() == LOST_TEXT.as_bytes());
+        } else {
+            assert!(rt; matches!(done, Err(RunFault::Read)));
+            assert!(rt; held.is_empty());
+        }
+    }
+    Ok(())
+}
+
+#[test]
+fn stops_at_a_failed_read(rt: HostRuntime) {
+    let mut finished = false;
+    for fails_at in 1..=20u32 {
+        let mut reader = UnsteadyReader {
+            rest: LOST.as_bytes(),
+            most: 20,
+            interruptions: 0,
+            reads: 0,
+            fails_at,
+        };
+        let mut held = Vec::new(rt.alloc());
+        match audit(rt.alloc(), &mut reader, &mut held) {
+            Ok(()) => {
+                assert!(rt; reader.reads < fails_at && fails_at > 10);
+                finished = true;
+            }
+            Err(fault) => {
+                assert!(rt; matches!(fault, RunFault::Read), "at {fails_at}");
+                assert!(rt; held.is_empty());
+            }
+        }
+    }
+    assert!(rt; finished);
+}
+
+#[test]
+fn stops_at_a_failed_write(rt: HostRuntime) {
+    for failure in [
+        FailedWrite::Error,
+        FailedWrite::Interruption,
+        FailedWrite::NoByte,
+    ] {
+        for fails_at in 1..=8u32 {
+            let mut reader = LOST.as_bytes();
+            let mut writer = UnsteadyWriter {
+                held: Vec::new(rt.alloc()),
+                most: 7,
+                writes: 0,
+                fails_at,
+                failure,
+            };
+            let done = audit(rt.alloc(), &mut reader, &mut writer);
+            let text = LOST_TEXT.as_bytes();
+            assert!(rt; text.starts_with(writer.held.as_slice()));
+            if fails_at <= 6 {
+                assert!(rt; matches!(done, Err(RunFault::Write)), "at {fails_at}");
+                assert!(rt; writer.held.len() < text.len());
+            } else {
+                assert!(rt; done.is_ok(), "at {fails_at}");
+                assert_eq!(rt; writer.held.len(), text.len());
+            }
+        }
+    }
+}
+
+#[test]
+fn refuses_a_reader_that_never_ends(rt: HostRuntime) {
+    let mut held = Vec::new(rt.alloc());
+    let done = audit(rt.alloc(), &mut EndlessReader, &mut held);
+    assert!(rt; matches!(done, Err(RunFault::TooLong)));
+    assert!(rt; held.is_empty());
+}
+
+/// A writer that takes no memory.
+#[derive(Drop)]
+struct Page {
+    held: [u8; 256],
+    len: usize,
+    ghost within: { len ≤ 256 },
+}
+
+impl Write for Page {
+    fn write(&mut self, buf: &[u8]) -> io::Result<usize> {
+        let start = self.len;
+        let n = buf.len().min(256 - start);
+        self.held[start..start + n].copy_from_slice(&buf[..n]);
+        self.len = start + n;
+        Ok(n)
+    }
+
+    fn flush(&mut self) -> io::Result<()> {
+        Ok(())
+    }
+}
+
+/// To be run with each request for memory refused in turn, too.
+#[test]
+fn writes_all_or_ends_with_memory(rt: HostRuntime) {
+    let mut reader = LOST.as_bytes();
+    let mut page = Page {
+        held: [0; 256],
+        len: 0,
+    };
+    let done = audit(rt.alloc(), &mut reader, &mut page);
+    let held = &page.held[..page.len];
+    match done {
+        Ok(()) => assert!(rt; held == LOST_TEXT.as_bytes()),
+        Err(fault) => {
+            assert!(rt; matches!(fault, RunFault::Memory));
+            assert!(rt; held.is_empty());
+        }
+    }
+}

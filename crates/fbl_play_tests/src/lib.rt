@@ -1,0 +1,16 @@
+//! Tests of the texts and the engines: the printed lines, the faults of scripts and dumps, audits and plays over readers
+//! and writers that stumble. They stand apart from the crates that they test, so that these are proved once.
+#![tactic(auto)]
+
+#[cfg(test)]
+mod dumps;
+#[cfg(test)]
+mod plays;
+#[cfg(test)]
+mod printing;
+#[cfg(test)]
+mod runs;
+#[cfg(test)]
+mod scripts;
+#[cfg(test)]
+mod unsteady;

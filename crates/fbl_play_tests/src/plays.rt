@@ -1,0 +1,225 @@
+//! Scripts with the texts that they print, and readers and writers that stumble.
+
+ghost use Rattle.std.specs.Prelude.{◌≤◌};
+
+use crate::unsteady::{FailedWrite, UnsteadyReader, UnsteadyWriter};
+use fbl_play::play;
+use fbl_script::RunFault;
+use std::io::{self, Write};
+use std::test::Fail;
+
+const MESSAGE_AND_ANSWER: (&str, &str) = (
+    "{\"version\":1,\"members\":2,\"f\":1,\"behaviour\":\"mix\",\"start\":[[0,1,4,1]],\"commands\":[[\"deliver\",1,0],[\"deliver\",0,1],[\"report\"]]}",
+    "deliver 1 0 receipt 1 carried 0 state 5\ndeliver 0 1 receipt 1 carried 1 state 6\nmember 0 up state 6 received 1 sent 1 held 2\nmember 1 up state 5 received 1 sent 1 held 1\nflight 0\ntrace 4\nlost 0\norphans none\n",
+);
+
+const NO_STARTS: (&str, &str) = (
+    "{\"version\":1,\"members\":2,\"f\":1,\"behaviour\":\"relay\",\"start\":[],\"commands\":[[\"report\"]]}",
+    "member 0 up state 0 received 0 sent 0 held 0\nmember 1 up state 0 received 0 sent 0 held 0\nflight 0\ntrace 0\nlost 0\norphans none\n",
+);
+
+const TWO_SENDERS: (&str, &str) = (
+    "{\"version\":1,\"members\":3,\"f\":1,\"behaviour\":\"mix\",\"start\":[[0,2,4,0],[1,2,7,0]],\"commands\":[[\"deliver\",2,1],[\"deliver\",2,0]]}",
+    "deliver 2 1 receipt 1 carried 0 state 8\ndeliver 2 0 receipt 2 carried 0 state 253\n",
+);
+
+const TWO_SENDERS_IN_THE_OTHER_ORDER: (&str, &str) = (
+    "{\"version\":1,\"members\":3,\"f\":1,\"behaviour\":\"mix\",\"start\":[[0,2,4,0],[1,2,7,0]],\"commands\":[[\"deliver\",2,0],[\"deliver\",2,1]]}",
+    "deliver 2 0 receipt 1 carried 0 state 5\ndeliver 2 1 receipt 2 carried 0 state 163\n",
+);
+
+const LOST_RECEIPTS: (&str, &str) = (
+    "{\"version\":1,\"members\":3,\"f\":1,\"behaviour\":\"mix\",\"start\":[[0,2,4,0],[1,2,7,0]],\"commands\":[[\"deliver\",2,1],[\"deliver\",2,0],[\"strike\",[2]],[\"recover\"],[\"deliver\",2,0],[\"deliver\",2,1]]}",
+    "deliver 2 1 receipt 1 carried 0 state 8\ndeliver 2 0 receipt 2 carried 0 state 253\nstrike 2 lost 2\nrecover replayed 0 resent 2 undone 2\ndeliver 2 0 receipt 1 carried 0 state 5\ndeliver 2 1 receipt 2 carried 0 state 163\n",
+);
+
+const ONE_LOST_RECEIPT: (&str, &str) = (
+    "{\"version\":1,\"members\":3,\"f\":1,\"behaviour\":\"mix\",\"start\":[[0,2,4,0],[1,2,7,1]],\"commands\":[[\"deliver\",2,1],[\"deliver\",2,0],[\"deliver\",0,2],[\"strike\",[2]],[\"recover\"],[\"report\"],[\"deliver\",2,0]]}",
+    "deliver 2 1 receipt 1 carried 0 state 8\ndeliver 2 0 receipt 2 carried 0 state 253\ndeliver 0 2 receipt 1 carried 1 state 9\nstrike 2 lost 1\nrecover replayed 1 resent 1 undone 1\nmember 0 up state 9 received 1 sent 1 held 2\nmember 1 up state 0 received 0 sent 1 held 0\nmember 2 up state 8 received 1 sent 1 held 2\nflight 1\ntrace 5\nlost 0\norphans none\ndeliver 2 0 receipt 2 carried 1 state 253\n",
+);
+
+const ROUND: (&str, &str) = (
+    "{\"version\":1,\"members\":3,\"f\":1,\"behaviour\":\"relay\",\"start\":[[0,1,5,2]],\"commands\":[[\"deliver\",1,0],[\"deliver\",2,1],[\"deliver\",0,2],[\"report\"]]}",
+    "deliver 1 0 receipt 1 carried 0 state 5\ndeliver 2 1 receipt 1 carried 1 state 5\ndeliver 0 2 receipt 1 carried 1 state 5\nmember 0 up state 5 received 1 sent 1 held 2\nmember 1 up state 5 received 1 sent 1 held 1\nmember 2 up state 5 received 1 sent 1 held 2\nflight 0\ntrace 6\nlost 0\norphans none\n",
+);
+
+const FIRST_RECEIVER_STRUCK: (&str, &str) = (
+    "{\"version\":1,\"members\":3,\"f\":1,\"behaviour\":\"relay\",\"start\":[[0,1,5,2]],\"commands\":[[\"deliver\",1,0],[\"deliver\",2,1],[\"deliver\",0,2],[\"report\"],[\"strike\",[1]],[\"recover\"],[\"report\"]]}",
+    "deliver 1 0 receipt 1 carried 0 state 5\ndeliver 2 1 receipt 1 carried 1 state 5\ndeliver 0 2 receipt 1 carried 1 state 5\nmember 0 up state 5 received 1 sent 1 held 2\nmember 1 up state 5 received 1 sent 1 held 1\nmember 2 up state 5 received 1 sent 1 held 2\nflight 0\ntrace 6\nlost 0\norphans none\nstrike 1 lost 0\nrecover replayed 1 resent 0 undone 0\nmember 0 up state 5 received 1 sent 1 held 2\nmember 1 up state 5 received 1 sent 1 held 3\nmember 2 up state 5 received 1 sent 1 held 2\nflight 0\ntrace 6\nlost 0\norphans none\n",
+);
+
+const SENDER_AND_RECEIVER_STRUCK: (&str, &str) = (
+    "{\"version\":1,\"members\":3,\"f\":2,\"behaviour\":\"relay\",\"start\":[[0,1,5,2]],\"commands\":[[\"deliver\",1,0],[\"deliver\",2,1],[\"deliver\",0,2],[\"strike\",[1,2]],[\"recover\"]]}",
+    "deliver 1 0 receipt 1 carried 0 state 5\ndeliver 2 1 receipt 1 carried 1 state 5\ndeliver 0 2 receipt 1 carried 2 state 5\nstrike 1,2 lost 0\nrecover replayed 2 resent 0 undone 0\n",
+);
+
+const TWO_STRIKES: (&str, &str) = (
+    "{\"version\":1,\"members\":3,\"f\":1,\"behaviour\":\"relay\",\"start\":[[0,1,5,2]],\"commands\":[[\"deliver\",1,0],[\"deliver\",2,1],[\"deliver\",0,2],[\"strike\",[2]],[\"recover\"],[\"strike\",[1]],[\"report\"],[\"recover\"],[\"states\"]]}",
+    "deliver 1 0 receipt 1 carried 0 state 5\ndeliver 2 1 receipt 1 carried 1 state 5\ndeliver 0 2 receipt 1 carried 1 state 5\nstrike 2 lost 0\nrecover replayed 1 resent 0 undone 0\nstrike 1 lost 0\nmember 0 up state 5 received 1 sent 1 held 2\nmember 1 down\nmember 2 up state 5 received 1 sent 1 held 3\nflight 0\ntrace 6\nlost 0\norphans none\nrecover replayed 1 resent 0 undone 0\nstates 5 5 5\n",
+);
+
+const ALL_RECEIPTS_LOST: (&str, &str) = (
+    "{\"version\":1,\"members\":3,\"f\":2,\"behaviour\":\"relay\",\"start\":[[0,1,5,2]],\"commands\":[[\"deliver\",1,0],[\"deliver\",2,1],[\"strike\",[1,2]],[\"recover\"],[\"report\"]]}",
+    "deliver 1 0 receipt 1 carried 0 state 5\ndeliver 2 1 receipt 1 carried 1 state 5\nstrike 1,2 lost 2\nrecover replayed 0 resent 1 undone 2\nmember 0 up state 0 received 0 sent 1 held 0\nmember 1 up state 0 received 0 sent 0 held 0\nmember 2 up state 0 received 0 sent 0 held 0\nflight 1\ntrace 1\nlost 0\norphans none\n",
+);
+
+const REFUSALS: (&str, &str) = (
+    "{\"version\":1,\"members\":3,\"f\":1,\"behaviour\":\"relay\",\"start\":[[0,1,5,2]],\"commands\":[[\"strike\",[]],[\"strike\",[0,1]],[\"strike\",[3]],[\"recover\"],[\"deliver\",1,2],[\"deliver\",1,1],[\"deliver\",3,0],[\"strike\",[1]],[\"strike\",[2]],[\"strike\",[1,2]],[\"deliver\",2,0],[\"recover\"]]}",
+    "strike refused Nobody\nstrike refused TooMany\nstrike refused BadMember\nrecover refused NotDown\ndeliver refused Empty\ndeliver refused Empty\ndeliver refused BadMember\nstrike 1 lost 0\nstrike refused Down\nstrike refused TooMany\ndeliver refused Down\nrecover replayed 0 resent 1 undone 0\n",
+);
+
+const NO_ROOM: (&str, &str) = (
+    "{\"version\":1,\"members\":2,\"f\":1,\"behaviour\":\"relay\",\"limit\":1,\"start\":[[0,1,5,0]],\"commands\":[[\"deliver\",1,0],[\"report\"]]}",
+    "deliver refused Full\nmember 0 up state 0 received 0 sent 1 held 0\nmember 1 up state 0 received 0 sent 0 held 0\nflight 1\ntrace 1\nlost 0\norphans none\n",
+);
+
+const ROOM: (&str, &str) = (
+    "{\"version\":1,\"members\":2,\"f\":1,\"behaviour\":\"relay\",\"limit\":2,\"start\":[[0,1,5,0]],\"commands\":[[\"deliver\",1,0]]}",
+    "deliver 1 0 receipt 1 carried 0 state 5\n",
+);
+
+const LARGEST_VALUE: (&str, &str) = (
+    "{\"version\":1,\"members\":2,\"f\":1,\"behaviour\":\"relay\",\"start\":[[0,1,4294967295,0]],\"commands\":[[\"deliver\",1,0]]}",
+    "deliver 1 0 receipt 1 carried 0 state 294967267\n",
+);
+
+#[test]
+fn prints_the_text_of_each_script(rt: HostRuntime) -> Result<(), Fail> {
+    let rows = [
+        MESSAGE_AND_ANSWER,
+        NO_STARTS,
+        TWO_SENDERS,
+        TWO_SENDERS_IN_THE_OTHER_ORDER,
+        LOST_RECEIPTS,
+        ONE_LOST_RECEIPT,
+        ROUND,
+        FIRST_RECEIVER_STRUCK,
+        SENDER_AND_RECEIVER_STRUCK,
+        TWO_STRIKES,
+        ALL_RECEIPTS_LOST,
+        REFUSALS,
+        NO_ROOM,
+        ROOM,
+        LARGEST_VALUE,
+    ];
+    for (script, text) in rows {
+        let mut input = script.as_bytes();
+        let mut out = Vec::new(rt.alloc());
+        play(&rt, rt.alloc(), &mut input, &mut out, 2)?;
+        assert!(rt; out.as_slice() == text.as_bytes(), "{script}");
+    }
+    Ok(())
+}
+
+#[test]
+fn reads_one_byte_a_read(rt: HostRuntime) -> Result<(), Fail> {
+    let (script, text) = TWO_STRIKES;
+    for (interruptions, fine) in [(0, true), (1000, true), (1001, false)] {
+        let mut reader = UnsteadyReader {
+            rest: script.as_bytes(),
+            most: 1,
+            interruptions,
+            reads: 0,
+            fails_at: 0,
+        };
+        let mut out = Vec::new(rt.alloc());
+        let done = play(&rt, rt.alloc(), &mut reader, &mut out, 2);
+        assert_eq!(rt; done.is_ok(), fine, "at {interruptions}");
+        if fine {
+            assert!(rt; out.as_slice() == text.as_bytes());
+        } else {
+            assert!(rt; matches!(done, Err(RunFault::Read)));
+            assert!(rt; out.is_empty());
+        }
+    }
+    Ok(())
+}
+
+#[test]
+fn stops_at_a_failed_read(rt: HostRuntime) -> Result<(), Fail> {
+    let (script, _) = TWO_STRIKES;
+    for fails_at in 1..=4 {
+        let mut reader = UnsteadyReader {
+            rest: script.as_bytes(),
+            most: 100,
+            interruptions: 0,
+            reads: 0,
+            fails_at,
+        };
+        let mut out = Vec::new(rt.alloc());
+        let done = play(&rt, rt.alloc(), &mut reader, &mut out, 2);
+        assert!(rt; matches!(done, Err(RunFault::Read)), "at {fails_at}");
+        assert!(rt; out.is_empty());
+    }
+    Ok(())
+}
+
+#[test]
+fn stops_at_a_failed_write(rt: HostRuntime) -> Result<(), Fail> {
+    let (script, text) = TWO_STRIKES;
+    let failures = [
+        FailedWrite::Error,
+        FailedWrite::Interruption,
+        FailedWrite::NoByte,
+    ];
+    for failure in failures {
+        for fails_at in 1..=9 {
+            let mut input = script.as_bytes();
+            let mut writer = UnsteadyWriter {
+                held: Vec::new(rt.alloc()),
+                most: 40,
+                writes: 0,
+                fails_at,
+                failure,
+            };
+            let done = play(&rt, rt.alloc(), &mut input, &mut writer, 2);
+            assert!(rt; matches!(done, Err(RunFault::Write)), "at {fails_at}");
+            assert!(rt; text.as_bytes().starts_with(writer.held.as_slice()));
+            assert_eq!(rt; writer.writes, fails_at);
+        }
+    }
+    Ok(())
+}
+
+/// A writer that takes no memory.
+#[derive(Drop)]
+struct Page {
+    held: [u8; 2048],
+    len: usize,
+    ghost within: { len ≤ 2048 },
+}
+
+impl Write for Page {
+    fn write(&mut self, buf: &[u8]) -> io::Result<usize> {
+        let start = self.len;
+        let n = buf.len().min(2048 - start);
+        self.held[start..start + n].copy_from_slice(&buf[..n]);
+        self.len = start + n;
+        Ok(n)
+    }
+
+    fn flush(&mut self) -> io::Result<()> {
+        Ok(())
+    }
+}
+
+/// It holds too where any one growth is refused: then whole lines of the text are written, and the fault is `Memory`.
+#[test]
+fn ends_with_memory_where_it_is_refused(rt: HostRuntime) {
+    let (script, text) = TWO_STRIKES;
+    let mut input = script.as_bytes();
+    let mut page = Page {
+        held: [0; 2048],
+        len: 0,
+    };
+    let done = play(&rt, rt.alloc(), &mut input, &mut page, 2);
+    let held = &page.held[..page.len];
+    match done {
+        Ok(()) => assert!(rt; held == text.as_bytes()),
+        Err(fault) => {
+            assert!(rt; matches!(fault, RunFault::Memory));
+            assert!(rt; text.as_bytes().starts_with(held));
+            assert!(rt; held.is_empty() || held.ends_with(b"\n"));
+        }
+    }
+}

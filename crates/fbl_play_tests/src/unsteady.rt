@@ -1,0 +1,70 @@
+//! A reader and a writer that stumble.
+
+ghost use Rattle.std.specs.Prelude.{◌≤◌};
+
+use std::io::{self, ErrorKind, Read, Write};
+
+/// Gives at most `most` bytes a read, is interrupted first, and fails at one read.
+#[derive(Drop)]
+pub(crate) struct UnsteadyReader<'a> {
+    pub rest: &'a [u8],
+    pub most: usize,
+    pub interruptions: u32,
+    pub reads: u32,
+    pub fails_at: u32,
+}
+
+impl Read for UnsteadyReader<'_> {
+    fn read(&mut self, buf: &mut [u8]) -> io::Result<usize> {
+        self.reads = self.reads.wrapping_add(1);
+        if self.reads == self.fails_at {
+            return Err(io::Error::other("no"));
+        }
+        if self.interruptions > 0 {
+            self.interruptions -= 1;
+            return Err(io::Error::from(ErrorKind::Interrupted));
+        }
+        let n = self.most.min(self.rest.len()).min(buf.len());
+        buf[..n].copy_from_slice(&self.rest[..n]);
+        self.rest = &self.rest[n..];
+        Ok(n)
+    }
+}
+
+/// What a write does where it fails.
+#[derive(Clone, Copy, PartialEq, Eq, Debug)]
+pub(crate) enum FailedWrite {
+    Error,
+    Interruption,
+    NoByte,
+}
+
+/// Takes at most `most` bytes a write, and fails at one write.
+#[derive(Drop)]
+pub(crate) struct UnsteadyWriter {
+    pub held: Vec<u8>,
+    pub most: usize,
+    pub writes: u32,
+    pub fails_at: u32,
+    pub failure: FailedWrite,
+}
+
+impl Write for UnsteadyWriter {
+    fn write(&mut self, buf: &[u8]) -> io::Result<usize> {
+        self.writes = self.writes.wrapping_add(1);
+        if self.writes == self.fails_at {
+            return match self.failure {
+                FailedWrite::Error => Err(io::Error::other("no")),
+                FailedWrite::Interruption => Err(io::Error::from(ErrorKind::Interrupted)),
+                FailedWrite::NoByte => Ok(0),
+            };
+        }
+        let n = self.most.min(buf.len());
+        self.held.extend_from_slice(&buf[..n])?;
+        Ok(n)
+    }
+
+    fn flush(&mut self) -> io::Result<()> {
+        Ok(())
+    }
+}
