@@ -20,7 +20,6 @@ mod ticket;
 
 pub use answers::{Receipted, Recovered, Struck};
 pub use group::Group;
-pub use plan::Planned;
 pub use refusals::{
     CommitRefusal, CrashRefusal, DeliverRefusal, DumpGroupRefusal, RecoverRefusal, StrikeRefusal,
     TakeRefusal,

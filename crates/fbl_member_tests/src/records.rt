@@ -25,43 +25,43 @@ fn config<A: Allocator + Copy>(
 /// Delivers a message that carries nothing to a member of the group, where that is the member's next receipt.
 fn deliver<B: Behaviour, A: Allocator + Copy>(
     alloc: A,
-    record: &mut MemberRec<A>,
+    member_record: &mut MemberRec<A>,
     me: Member,
     determinant: Determinant,
     note: Note,
 ) -> Result<Vec<Wire<A>, A>, AllocError>
     requires { me < 3 }
 {
-    let outcome = B::step(me, 3, record.state(), note);
+    let outcome = B::step(me, 3, member_record.state(), note);
     let wire = Wire::new(determinant.from, me, determinant.ssn, note, Vec::new(alloc));
-    if record.received() < 8192
+    if member_record.received() < 8192
         && determinant.to == me
-        && determinant.rsn == record.received() + 1
-        && record.last_from(determinant.from) < determinant.ssn
-        && !record.table().holds(&determinant)
-        && record.sent() as usize + outcome.sends.len() <= 8192
+        && determinant.rsn == member_record.received() + 1
+        && member_record.last_from(determinant.from) < determinant.ssn
+        && !member_record.table().holds(&determinant)
+        && member_record.sent() as usize + outcome.sends.len() <= 8192
     {
-        return record.receive::<B>(me, 3, 1, &wire, &outcome);
+        return member_record.receive::<B>(me, 3, 1, &wire, &outcome);
     }
     Ok(Vec::new(alloc))
 }
 
 /// Replays one receipt, where it is the member's next.
 fn replay<B: Behaviour, A: Allocator + Copy>(
-    record: &mut MemberRec<A>,
+    member_record: &mut MemberRec<A>,
     me: Member,
     determinant: &Determinant,
     note: Note,
 ) -> Result<(), AllocError>
     requires { me < 3 }
 {
-    let outcome = B::step(me, 3, record.state(), note);
-    if record.received() < 8192
+    let outcome = B::step(me, 3, member_record.state(), note);
+    if member_record.received() < 8192
         && determinant.to == me
-        && determinant.rsn == record.received() + 1
-        && record.sent() as usize + outcome.sends.len() <= 8192
+        && determinant.rsn == member_record.received() + 1
+        && member_record.sent() as usize + outcome.sends.len() <= 8192
     {
-        return record.replay_one::<B>(me, 3, determinant, note);
+        return member_record.replay_one::<B>(me, 3, determinant, note);
     }
     Ok(())
 }
@@ -91,12 +91,12 @@ fn fresh(
 
 /// Whether these are the messages that the member sent to another with numbers beyond this one.
 fn sent_beyond(
-    record: &MemberRec,
+    member_record: &MemberRec,
     to: Member,
     ssn: u32,
     expected: &[(u32, Note)],
 ) -> Result<bool, AllocError> {
-    let beyond = record.unsent_beyond(to, ssn)?;
+    let beyond = member_record.unsent_beyond(to, ssn)?;
     Ok(beyond.as_slice() == expected)
 }
 
@@ -104,11 +104,13 @@ fn sent_beyond(
 fn a_fresh_member_has_sent_its_starts(rt: HostRuntime) -> Result<(), Fail> {
     let (first, second) = (member(0)?, member(1)?);
     let start = Note { value: 5, hops: 2 };
-    let record = fresh(rt.alloc(), first, second, first)?;
-    assert!(rt; record.sent() == 1 && record.state() == 0 && record.received() == 0);
-    assert!(rt; sent_beyond(&record, second, 0, &[(1, start)])?);
-    assert!(rt; sent_beyond(&record, second, 1, &[])?);
-    assert!(rt; record.log_note(1) == Some(start) && record.log_note(2) == None);
+    let member_record = fresh(rt.alloc(), first, second, first)?;
+    assert!(rt;
+        member_record.sent() == 1 && member_record.state() == 0 && member_record.received() == 0
+    );
+    assert!(rt; sent_beyond(&member_record, second, 0, &[(1, start)])?);
+    assert!(rt; sent_beyond(&member_record, second, 1, &[])?);
+    assert!(rt; member_record.log_note(1) == Some(start) && member_record.log_note(2) == None);
     Ok(())
 }
 
@@ -116,12 +118,14 @@ fn a_fresh_member_has_sent_its_starts(rt: HostRuntime) -> Result<(), Fail> {
 fn a_member_replays_a_receipt(rt: HostRuntime) -> Result<(), Fail> {
     let (first, second, third) = (member(0)?, member(1)?, member(2)?);
     let note = Note { value: 5, hops: 2 };
-    let mut record = fresh(rt.alloc(), first, second, second)?;
-    replay::<Relay, _>(&mut record, second, &receipt(first, second), note)?;
-    assert!(rt; record.state() == 5 && record.received() == 1 && record.sent() == 1);
-    assert!(rt; record.last_from(first) == 1 && record.table().len() == 0);
+    let mut member_record = fresh(rt.alloc(), first, second, second)?;
+    replay::<Relay, _>(&mut member_record, second, &receipt(first, second), note)?;
+    assert!(rt;
+        member_record.state() == 5 && member_record.received() == 1 && member_record.sent() == 1
+    );
+    assert!(rt; member_record.last_from(first) == 1 && member_record.table().len() == 0);
     let passed_on = Note { value: 5, hops: 1 };
-    assert!(rt; sent_beyond(&record, third, 0, &[(1, passed_on)])?);
+    assert!(rt; sent_beyond(&member_record, third, 0, &[(1, passed_on)])?);
     Ok(())
 }
 
@@ -130,8 +134,8 @@ fn a_member_takes_a_message_in(rt: HostRuntime) -> Result<(), Fail> {
     let (first, second, third) = (member(0)?, member(1)?, member(2)?);
     let det = receipt(first, second);
     let note = Note { value: 5, hops: 2 };
-    let mut record = fresh(rt.alloc(), first, second, second)?;
-    let wires = deliver::<Relay, _>(rt.alloc(), &mut record, second, det, note)?;
+    let mut member_record = fresh(rt.alloc(), first, second, second)?;
+    let wires = deliver::<Relay, _>(rt.alloc(), &mut member_record, second, det, note)?;
     let known = MemberSet::empty().with(second);
     assert_eq!(rt; wires.len(), 1);
     for wire in &wires {
@@ -139,7 +143,11 @@ fn a_member_takes_a_message_in(rt: HostRuntime) -> Result<(), Fail> {
         assert!(rt; wire.note() == Note { value: 5, hops: 1 });
         assert!(rt; wire.carried() == [Entry { det, known }].as_slice());
     }
-    assert!(rt; record.state() == 5 && record.received() == 1 && record.last_from(first) == 1);
+    assert!(rt;
+        member_record.state() == 5
+            && member_record.received() == 1
+            && member_record.last_from(first) == 1
+    );
     Ok(())
 }
 
@@ -148,11 +156,13 @@ fn a_member_takes_a_message_in(rt: HostRuntime) -> Result<(), Fail> {
 fn a_member_that_had_nothing_mixes_what_it_gets(rt: HostRuntime) -> Result<(), Fail> {
     let (first, second) = (member(0)?, member(1)?);
     let note = Note { value: 4, hops: 1 };
-    let mut record = MemberRec::blank(rt.alloc(), 1);
-    assert!(rt; record.state() == 0 && record.received() == 0 && record.sent() == 0);
+    let mut member_record = MemberRec::blank(rt.alloc(), 1);
+    assert!(rt;
+        member_record.state() == 0 && member_record.received() == 0 && member_record.sent() == 0
+    );
     let wires = deliver::<Mix, _>(
         rt.alloc(),
-        &mut record,
+        &mut member_record,
         second,
         receipt(first, second),
         note,
@@ -168,12 +178,12 @@ fn a_member_that_had_nothing_mixes_what_it_gets(rt: HostRuntime) -> Result<(), F
 fn a_replayed_member_is_given_a_table(rt: HostRuntime) -> Result<(), Fail> {
     let (first, second) = (member(0)?, member(1)?);
     let det = receipt(first, second);
-    let mut record = MemberRec::blank(rt.alloc(), 1);
-    replay::<Mix, _>(&mut record, second, &det, Note { value: 4, hops: 1 })?;
+    let mut member_record = MemberRec::blank(rt.alloc(), 1);
+    replay::<Mix, _>(&mut member_record, second, &det, Note { value: 4, hops: 1 })?;
     let mut table = Table::new(rt.alloc());
     table.note_own(second, det)?;
-    record.set_table(table);
-    assert!(rt; record.state() == 5 && record.table().holds(&det));
+    member_record.set_table(table);
+    assert!(rt; member_record.state() == 5 && member_record.table().holds(&det));
     Ok(())
 }
 
@@ -199,7 +209,7 @@ impl Call {
         self,
         alloc: A,
         group: &Config<A>,
-        record: &mut MemberRec<A>,
+        member_record: &mut MemberRec<A>,
         first: Member,
         second: Member,
     ) -> Result<(), AllocError>
@@ -209,9 +219,11 @@ impl Call {
         let note = Note { value: 5, hops: 2 };
         match self {
             Call::Fresh => MemberRec::fresh(alloc, group, first).map(drop),
-            Call::Receive => deliver::<Relay, A>(alloc, record, second, receipt, note).map(drop),
-            Call::ReplayOne => replay::<Relay, A>(record, second, &receipt, note),
-            Call::UnsentBeyond => record.unsent_beyond(second, 0).map(drop),
+            Call::Receive => deliver::<Relay, A>(alloc, member_record, second, receipt, note).map(
+                drop,
+            ),
+            Call::ReplayOne => replay::<Relay, A>(member_record, second, &receipt, note),
+            Call::UnsentBeyond => member_record.unsent_beyond(second, 0).map(drop),
         }
     }
 }
@@ -219,15 +231,15 @@ impl Call {
 /// What the readers answer of a record: the state, the numbers of receipts and sends, the last number from a member,
 /// and how many entries the table has.
 fn readings<A: Allocator + Copy>(
-    record: &MemberRec<A>,
+    member_record: &MemberRec<A>,
     from: Member,
 ) -> (u64, u32, u32, u32, usize) {
     (
-        record.state(),
-        record.received(),
-        record.sent(),
-        record.last_from(from),
-        record.table().len(),
+        member_record.state(),
+        member_record.received(),
+        member_record.sent(),
+        member_record.last_from(from),
+        member_record.table().len(),
     )
 }
 
@@ -238,7 +250,7 @@ enum Refusal {
     NotAsked,
     /// The call failed, and the record was as before.
     Kept,
-    /// The call failed with no refusal, or succeeded in spite of one, or changed the record.
+    /// The call failed with no refusal, or succeeded in spite of one, or changed the member_record.
     Broken,
 }
 
@@ -264,12 +276,12 @@ fn refuse(
     let earlier = requests(alloc, first, second, me)?;
     let heap = Refusing::new(alloc, earlier.saturating_add(request));
     let group = config(&heap, first, second)?;
-    let mut record = MemberRec::fresh(&heap, &group, me)?;
-    let before = readings(&record, first);
-    let done = call.make(&heap, &group, &mut record, first, second);
+    let mut member_record = MemberRec::fresh(&heap, &group, me)?;
+    let before = readings(&member_record, first);
+    let done = call.make(&heap, &group, &mut member_record, first, second);
     Ok(match (heap.has_refused(), done.is_ok()) {
         (false, true) => Refusal::NotAsked,
-        (true, false) if readings(&record, first) == before => Refusal::Kept,
+        (true, false) if readings(&member_record, first) == before => Refusal::Kept,
         _ => Refusal::Broken,
     })
 }
