@@ -1,10 +1,8 @@
-ghost use Rattle.std.specs.Prelude.{◌≤◌};
-
-use crate::unsteady::{FailedWrite, UnsteadyReader, UnsteadyWriter};
+use crate::unsteady::{FailedWrite, Page, UnsteadyReader, UnsteadyWriter};
 use fbl_dump::{audit, dump_of_bytes, dump_text};
 use fbl_script::RunFault;
 use std::alloc::{AllocError, Global};
-use std::io::{self, Read, Write};
+use std::io::{self, Read};
 use std::test::Fail;
 
 /// A reader that never ends.
@@ -276,34 +274,12 @@ fn refuses_a_reader_that_never_ends(rt: HostRuntime) {
     assert!(rt; held.is_empty());
 }
 
-/// A writer that takes no memory.
-#[derive(Drop)]
-struct Page {
-    held: [u8; 256],
-    len: usize,
-    ghost within: { len ≤ 256 },
-}
-
-impl Write for Page {
-    fn write(&mut self, buf: &[u8]) -> io::Result<usize> {
-        let start = self.len;
-        let n = buf.len().min(256 - start);
-        self.held[start..start + n].copy_from_slice(&buf[..n]);
-        self.len = start + n;
-        Ok(n)
-    }
-
-    fn flush(&mut self) -> io::Result<()> {
-        Ok(())
-    }
-}
-
 /// To be run with each request for memory refused in turn, too.
 #[test]
 fn writes_all_or_ends_with_memory(rt: HostRuntime) {
     let mut reader = LOST.as_bytes();
     let mut page = Page {
-        held: [0; 256],
+        held: [0; 2048],
         len: 0,
     };
     let done = audit(rt.alloc(), &mut reader, &mut page);

@@ -1,11 +1,8 @@
 //! Scripts with the texts that they print, and readers and writers that stumble.
 
-ghost use Rattle.std.specs.Prelude.{◌≤◌};
-
-use crate::unsteady::{FailedWrite, UnsteadyReader, UnsteadyWriter};
+use crate::unsteady::{FailedWrite, Page, UnsteadyReader, UnsteadyWriter};
 use fbl_play::play;
 use fbl_script::RunFault;
-use std::io::{self, Write};
 use std::test::Fail;
 
 const MESSAGE_AND_ANSWER: (&str, &str) = (
@@ -179,28 +176,6 @@ fn stops_at_a_failed_write(rt: HostRuntime) -> Result<(), Fail> {
         }
     }
     Ok(())
-}
-
-/// A writer that takes no memory.
-#[derive(Drop)]
-struct Page {
-    held: [u8; 2048],
-    len: usize,
-    ghost within: { len ≤ 2048 },
-}
-
-impl Write for Page {
-    fn write(&mut self, buf: &[u8]) -> io::Result<usize> {
-        let start = self.len;
-        let n = buf.len().min(2048 - start);
-        self.held[start..start + n].copy_from_slice(&buf[..n]);
-        self.len = start + n;
-        Ok(n)
-    }
-
-    fn flush(&mut self) -> io::Result<()> {
-        Ok(())
-    }
 }
 
 /// It holds too where any one growth is refused: then whole lines of the text are written, and the fault is `Memory`.

@@ -1,4 +1,4 @@
-//! A reader and a writer that stumble.
+//! A reader and a writer that stumble, and a writer that takes no memory.
 
 ghost use Rattle.std.specs.Prelude.{◌≤◌};
 
@@ -61,6 +61,28 @@ impl Write for UnsteadyWriter {
         }
         let n = self.most.min(buf.len());
         self.held.extend_from_slice(&buf[..n])?;
+        Ok(n)
+    }
+
+    fn flush(&mut self) -> io::Result<()> {
+        Ok(())
+    }
+}
+
+/// A writer that takes no memory, and at most 2048 bytes.
+#[derive(Drop)]
+pub(crate) struct Page {
+    pub held: [u8; 2048],
+    pub len: usize,
+    ghost within: { len ≤ 2048 },
+}
+
+impl Write for Page {
+    fn write(&mut self, buf: &[u8]) -> io::Result<usize> {
+        let start = self.len;
+        let n = buf.len().min(2048 - start);
+        self.held[start..start + n].copy_from_slice(&buf[..n]);
+        self.len = start + n;
         Ok(n)
     }
 
