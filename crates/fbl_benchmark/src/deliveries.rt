@@ -54,33 +54,59 @@ fn time_group(rt: &HostRuntime, members: u8, f: u8, count: u32) -> Result<(), Fa
     let alloc = rt.alloc();
     let mut group = group_of(alloc, members, f)?;
     let name = format!(in alloc; "members {members} f {f} after {count}")?;
+    time_deliveries(rt, &mut group, members, &name, count)?;
+    time_crashes(rt, &mut group, members, &name)?;
+    time_afterwards(rt, &mut group, members, &name)
+}
+
+/// Times so many deliveries.
+fn time_deliveries(
+    rt: &HostRuntime,
+    group: &mut Group<Circulate>,
+    members: u8,
+    name: &str,
+    count: u32,
+) -> Result<(), Failure> {
     let start = Instant::now(rt)?;
-    let counts = deliver_many(&mut group, members, count)?;
+    let counts = deliver_many(group, members, count)?;
     let taken = start.elapsed(rt)?;
     println!(rt; "{name}: delivered {count} carried {}", counts.carried)?;
-    print_rate(rt, &name, "deliveries", count, taken)?;
+    print_rate(rt, name, "deliveries", count, taken)
+}
+
+/// Times the crash of each member in turn.
+fn time_crashes(
+    rt: &HostRuntime,
+    group: &mut Group<Circulate>,
+    members: u8,
+    name: &str,
+) -> Result<(), Failure> {
     let start = Instant::now(rt)?;
-    let counts = crash_each(&mut group, members)?;
+    let counts = crash_each(group, members)?;
     let taken = start.elapsed(rt)?;
     println!(rt;
         "{name}: lost {} replayed {} resent {} undone {}",
         counts.lost, counts.replayed, counts.resent, counts.undone
     )?;
-    print_rate(
-        rt,
-        &name,
-        "strikes with recoveries",
-        u32::from(members),
-        taken,
-    )?;
+    let what = "strikes with recoveries";
+    print_rate(rt, name, what, u32::from(members), taken)
+}
+
+/// Times the deliveries after the crashes.
+fn time_afterwards(
+    rt: &HostRuntime,
+    group: &mut Group<Circulate>,
+    members: u8,
+    name: &str,
+) -> Result<(), Failure> {
     let start = Instant::now(rt)?;
-    let counts = deliver_many(&mut group, members, AFTERWARDS)?;
+    let counts = deliver_many(group, members, AFTERWARDS)?;
     let taken = start.elapsed(rt)?;
     println!(rt;
         "{name}: delivered {AFTERWARDS} more carried {}",
         counts.carried
     )?;
-    print_rate(rt, &name, "deliveries more", AFTERWARDS, taken)
+    print_rate(rt, name, "deliveries more", AFTERWARDS, taken)
 }
 
 /// Delivers the message, wherever it is, so many times, and counts the determinants that were carried.

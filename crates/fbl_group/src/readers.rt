@@ -2,6 +2,7 @@
 
 ghost use Rattle.std.specs.Prelude.{◌≡◌, ℕ, ◌<◌, length};
 ghost use Rattle.std.specs.List.{filter};
+ghost use Rattle.fbl_base.specs.MemberSets.{AllBelow};
 ghost use Rattle.fbl_law.specs.Record.{IsOrphan};
 ghost use Rattle.fbl_law.specs.Steps.{is_on};
 ghost use Rattle.fbl_law.specs.Groups.{channel, knowledge, member as record_of};
@@ -87,7 +88,8 @@ impl<B: Behaviour, A: Allocator + Copy> Group<B, A> {
 
     /// Who is down.
     pub fn down(&self) -> MemberSet
-        ensures { result ≡ self.now.down }
+        ensures down { result ≡ self.now.down }
+        ensures within { AllBelow result self.now.config.members }
     {
         self.down
     }

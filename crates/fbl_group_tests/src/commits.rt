@@ -6,7 +6,8 @@ use crate::setting::{Setting, member};
 use crate::steps::Step::{Commit, Crash, Deliver, Recover, Show, Strike, Take};
 use crate::steps::play;
 use fbl_base::Relay;
-use fbl_group::{CommitRefusal, Group, TakeRefusal, run_step};
+use fbl_group::{CommitRefusal, Done, Group, TakeRefusal, run_step};
+use std::alloc::Global;
 use std::test::Fail;
 
 const SMALL: Setting = Setting {
@@ -45,7 +46,7 @@ fn a_step_is_committed_after_a_crash(rt: HostRuntime) -> Result<(), Fail> {
         ])),
         Show(Ever(3, 1)),
     ];
-    play::<Relay>(&rt, rt.alloc(), &setting, &steps)
+    play::<Relay>(rt.alloc(), &setting, &steps)
 }
 
 #[test]
@@ -60,7 +61,7 @@ fn a_step_is_committed_once_nobody_is_down(rt: HostRuntime) -> Result<(), Fail> 
         Show(Has(1, (5, 1, 1, 1))),
         Show(InFlight((1, 0), 1)),
     ];
-    play::<Relay>(&rt, rt.alloc(), &SMALL, &steps)
+    play::<Relay>(rt.alloc(), &SMALL, &steps)
 }
 
 #[test]
@@ -75,19 +76,23 @@ fn a_full_trace_refuses_a_commit(rt: HostRuntime) -> Result<(), Fail> {
         Show(Length(1)),
         Show(Ever(0, 0)),
     ];
-    play::<Relay>(&rt, rt.alloc(), &setting, &steps)
+    play::<Relay>(rt.alloc(), &setting, &steps)
 }
 
-// The ticket is of a group of three members, whose step sends to the third.
+/// A step of member 1 in a group of three, which sends to the third.
+fn step_of_three(alloc: Global) -> Result<Done<Relay>, Fail> {
+    let group: Group<Relay> = Setting { n: 3, ..SMALL }.group(alloc)?;
+    Ok(run_step(group.take(member(1)?, member(0)?)?))
+}
+
 #[test]
 fn a_step_of_a_larger_group_is_stale(rt: HostRuntime) -> Result<(), Fail> {
-    let larger: Group<Relay> = Setting { n: 3, ..SMALL }.group(rt.alloc())?;
-    let done = run_step::<Relay>(larger.take(member(1)?, member(0)?)?);
-    assert_eq!(rt; done.ticket().n, 3);
-    assert_eq!(rt; (done.outcome().state, done.outcome().sends.len()), (5, 1));
+    let done = step_of_three(rt.alloc())?;
+    assert!(rt; done.ticket().n == 3);
+    assert!(rt; done.outcome().state == 5 && done.outcome().sends.len() == 1);
     let mut smaller: Group<Relay> = SMALL.group(rt.alloc())?;
-    assert_eq!(rt; smaller.commit(&done), Err(CommitRefusal::Stale));
-    assert_eq!(rt; smaller.messages_in_flight(), 1);
+    assert!(rt; smaller.commit(&done) == Err(CommitRefusal::Stale));
+    assert!(rt; smaller.messages_in_flight() == 1);
     Ok(())
 }
 
@@ -102,5 +107,5 @@ fn tickets_are_refused_in_order(rt: HostRuntime) -> Result<(), Fail> {
         Take((2, 0), Err(TakeRefusal::BadMember)),
         Take((1, 0), Err(TakeRefusal::Down)),
     ];
-    play::<Relay>(&rt, rt.alloc(), &SMALL, &steps)
+    play::<Relay>(rt.alloc(), &SMALL, &steps)
 }

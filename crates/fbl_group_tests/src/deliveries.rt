@@ -40,7 +40,7 @@ fn a_new_group_has_sent_its_starts(rt: HostRuntime) -> Result<(), Fail> {
         Show(Down(&[])),
         Show(Ever(0, 0)),
     ];
-    play::<Relay>(&rt, rt.alloc(), &setting, &steps)
+    play::<Relay>(rt.alloc(), &setting, &steps)
 }
 
 #[test]
@@ -69,7 +69,7 @@ fn a_group_without_starts_is_quiet(rt: HostRuntime) -> Result<(), Fail> {
         Show(Has(0, (0, 0, 0, 0))),
         Show(Has(1, (0, 0, 0, 0))),
     ];
-    play::<Relay>(&rt, rt.alloc(), &setting, &steps)
+    play::<Relay>(rt.alloc(), &setting, &steps)
 }
 
 // The states are 4 + 1 and 5 + 1.
@@ -97,7 +97,7 @@ fn a_message_is_answered(rt: HostRuntime) -> Result<(), Fail> {
         Show(Flight(0, true)),
         Show(Ever(2, 0)),
     ];
-    play::<Mix>(&rt, rt.alloc(), &setting, &steps)
+    play::<Mix>(rt.alloc(), &setting, &steps)
 }
 
 // 7 + 1 and then 31 * 8 + 4 + 1; in the other order 4 + 1 and then 31 * 5 + 7 + 1.
@@ -111,12 +111,12 @@ fn the_order_of_deliveries_decides_the_state(rt: HostRuntime) -> Result<(), Fail
         Deliver((2, 1), Ok((1, 0, 8))),
         Deliver((2, 0), Ok((2, 0, 253))),
     ];
-    play::<Mix>(&rt, rt.alloc(), &setting, &steps)?;
+    play::<Mix>(rt.alloc(), &setting, &steps)?;
     let steps = [
         Deliver((2, 0), Ok((1, 0, 5))),
         Deliver((2, 1), Ok((2, 0, 163))),
     ];
-    play::<Mix>(&rt, rt.alloc(), &setting, &steps)
+    play::<Mix>(rt.alloc(), &setting, &steps)
 }
 
 #[test]
@@ -132,7 +132,7 @@ fn a_channel_gives_its_messages_in_order(rt: HostRuntime) -> Result<(), Fail> {
         Deliver((1, 0), Ok((2, 0, 163))),
         Deliver((1, 0), Err(DeliverRefusal::Empty)),
     ];
-    play::<Mix>(&rt, rt.alloc(), &setting, &steps)
+    play::<Mix>(rt.alloc(), &setting, &steps)
 }
 
 #[test]
@@ -150,7 +150,7 @@ fn a_message_goes_round(rt: HostRuntime) -> Result<(), Fail> {
         Show(Flight(0, true)),
         Show(Length(6)),
     ];
-    play::<Relay>(&rt, rt.alloc(), &ROUND, &steps)
+    play::<Relay>(rt.alloc(), &ROUND, &steps)
 }
 
 #[test]
@@ -167,13 +167,13 @@ fn a_full_trace_refuses(rt: HostRuntime) -> Result<(), Fail> {
         Show(Trace(&[Sent(0, 1, 1, 5, 0)])),
         Show(Ever(0, 0)),
     ];
-    play::<Relay>(&rt, rt.alloc(), &setting, &steps)?;
+    play::<Relay>(rt.alloc(), &setting, &steps)?;
     let setting = Setting {
         limit: 2,
         ..setting
     };
     let steps = [Deliver((1, 0), Ok((1, 0, 5)))];
-    play::<Relay>(&rt, rt.alloc(), &setting, &steps)
+    play::<Relay>(rt.alloc(), &setting, &steps)
 }
 
 // 4294967295 is 4 * 1000000007 and 294967267.
@@ -185,5 +185,5 @@ fn a_state_wraps(rt: HostRuntime) -> Result<(), Fail> {
         ..ROUND
     };
     let steps = [Deliver((1, 0), Ok((1, 0, 294_967_267)))];
-    play::<Relay>(&rt, rt.alloc(), &setting, &steps)
+    play::<Relay>(rt.alloc(), &setting, &steps)
 }

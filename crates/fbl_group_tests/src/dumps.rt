@@ -25,8 +25,8 @@ fn round(alloc: Global, steps: &[Step]) -> Result<Group<Relay>, Fail> {
         Deliver((2, 1), Ok((1, 1, 5))),
         Deliver((0, 2), Ok((1, 1, 5))),
     ];
-    make_all(&mut group, &deliveries)?;
-    make_all(&mut group, steps)?;
+    make_all(&mut group, &mut None, &deliveries)?;
+    make_all(&mut group, &mut None, steps)?;
     Ok(group)
 }
 
@@ -60,30 +60,32 @@ fn has_pairs(
     Ok(true)
 }
 
+/// What happens where a message goes once round.
+const ONCE_ROUND: [Happening; 6] = [
+    Sent(0, 1, 1, 5, 2),
+    Received((0, 1, 1, 1)),
+    Sent(1, 1, 2, 5, 1),
+    Received((1, 1, 2, 1)),
+    Sent(2, 1, 0, 5, 0),
+    Received((2, 1, 0, 1)),
+];
+
+/// Who holds which receipt afterwards.
+const HELD: [(u8, (u8, u32, u8, u32)); 5] = [
+    (0, (1, 1, 2, 1)),
+    (0, (2, 1, 0, 1)),
+    (1, (0, 1, 1, 1)),
+    (2, (0, 1, 1, 1)),
+    (2, (1, 1, 2, 1)),
+];
+
 #[test]
 fn a_dump_has_the_trace_and_the_tables(rt: HostRuntime) -> Result<(), Fail> {
-    let dump = round(rt.alloc(), &[])?.dump(set(&[1])?)?;
-    assert_eq!(rt;
-        (dump.members(), dump.f(), dump.strike()),
-        (3, 1, set(&[1])?)
-    );
-    let events = [
-        Sent(0, 1, 1, 5, 2),
-        Received((0, 1, 1, 1)),
-        Sent(1, 1, 2, 5, 1),
-        Received((1, 1, 2, 1)),
-        Sent(2, 1, 0, 5, 0),
-        Received((2, 1, 0, 1)),
-    ];
-    assert!(rt; has_marks(dump.events(), &events)?);
-    let held = [
-        (0, (1, 1, 2, 1)),
-        (0, (2, 1, 0, 1)),
-        (1, (0, 1, 1, 1)),
-        (2, (0, 1, 1, 1)),
-        (2, (1, 1, 2, 1)),
-    ];
-    assert!(rt; has_pairs(dump.held(), &held)?);
+    let struck = set(&[1])?;
+    let dump = round(rt.alloc(), &[])?.dump(struck)?;
+    assert!(rt; dump.members() == 3 && dump.f() == 1 && dump.strike() == struck);
+    assert!(rt; has_marks(dump.events(), &ONCE_ROUND)?);
+    assert!(rt; has_pairs(dump.held(), &HELD)?);
     Ok(())
 }
 
@@ -121,5 +123,5 @@ fn a_dump_wants_members_of_the_group(rt: HostRuntime) -> Result<(), Fail> {
         Dump(&[0, 15], Err(DumpGroupRefusal::BadStrike)),
         Dump(&[0, 1, 2], Ok((1, 0))),
     ];
-    play::<Relay>(&rt, rt.alloc(), &ROUND, &steps)
+    play::<Relay>(rt.alloc(), &ROUND, &steps)
 }

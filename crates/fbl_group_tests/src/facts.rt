@@ -172,7 +172,13 @@ pub(crate) fn is_audited(
     expected_orphans: &[u8],
 ) -> Result<bool, Fail> {
     let found = lost(alloc, dump)?;
-    if found.len() != expected.len() || orphans(alloc, dump)? != set(expected_orphans)? {
+    let orphaned = orphans(alloc, dump)?;
+    Ok(has_determinants(&found, expected)? && orphaned == set(expected_orphans)?)
+}
+
+/// Whether these are the determinants, in order.
+fn has_determinants(found: &[Determinant], expected: &[(u8, u32, u8, u32)]) -> Result<bool, Fail> {
+    if found.len() != expected.len() {
         return Ok(false);
     }
     for place in 0..expected.len() {

@@ -1,5 +1,6 @@
 //! A strike of each member after each delivery: what comes back is the fold of the receipts that the trace still has.
 
+use crate::facts::reading;
 use crate::setting::{Setting, member};
 use fbl_base::audit::orphans;
 use fbl_base::{Behaviour, Event, Member, MemberSet, Mix, Note, Relay};
@@ -115,14 +116,18 @@ const FOUR: Setting = Setting {
     starts: &[(0, 1, 5, 6), (2, 3, 7, 3), (3, 0, 11, 0)],
 };
 
+fn state<B: Behaviour>(group: &Group<B>, number: u8) -> Result<u64, Fail> {
+    Ok(reading(group, number).ok_or("no such member")?.0)
+}
+
 /// The members' states.
 fn states<B: Behaviour>(group: &Group<B>) -> Result<[u64; 4], Fail> {
-    let mut states = [0; 4];
-    for number in 0..group.config().members().min(4) {
-        let member = Member::new(number).ok_or("no such member")?;
-        states[usize::from(number)] = group.state(member);
-    }
-    Ok(states)
+    Ok([
+        state(group, 0)?,
+        state(group, 1)?,
+        state(group, 2)?,
+        state(group, 3)?,
+    ])
 }
 
 /// Whether the audit finds no orphan where the member is struck.
@@ -157,6 +162,22 @@ fn strike<B: Behaviour>(
     Ok(())
 }
 
+/// Makes so many deliveries, and answers whether there were so many, and whether each member is at the fold of its receipts.
+fn is_delivered<B: Behaviour>(
+    formula: Formula,
+    group: &mut Group<B>,
+    count: u32,
+) -> Result<bool, Fail> {
+    let made = deliver_some(group, count)?;
+    Ok(made == count && group.is_quiet() == (count == 12) && is_folded(formula, group)?)
+}
+
+/// Delivers what is left, and answers whether all twelve messages are received and each member is at the fold of them.
+fn is_finished<B: Behaviour>(formula: Formula, group: &mut Group<B>) -> Result<bool, Fail> {
+    deliver_some(group, 100)?;
+    Ok(group.is_quiet() && count_receipts(group.trace()) == 12 && is_folded(formula, group)?)
+}
+
 /// Makes so many deliveries, strikes the member, recovers it, and delivers what is left. The answer is the members'
 /// states in the end.
 fn strike_after<B: Behaviour>(
@@ -167,13 +188,9 @@ fn strike_after<B: Behaviour>(
     number: u8,
 ) -> Result<[u64; 4], Fail> {
     let mut group: Group<B> = FOUR.group(alloc)?;
-    assert_eq!(rt; deliver_some(&mut group, count)?, count);
-    assert_eq!(rt; group.is_quiet(), count == 12);
-    assert!(rt; is_folded(formula, &group)?);
+    assert!(rt; is_delivered(formula, &mut group, count)?);
     strike(rt, alloc, formula, &mut group, number)?;
-    deliver_some(&mut group, 100)?;
-    assert!(rt; group.is_quiet() && is_folded(formula, &group)?);
-    assert_eq!(rt; count_receipts(group.trace()), 12);
+    assert!(rt; is_finished(formula, &mut group)?);
     states(&group)
 }
 

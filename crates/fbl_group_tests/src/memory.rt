@@ -3,44 +3,25 @@
 use crate::facts::{in_flight, reading, table};
 use crate::setting::Setting;
 use crate::steps::Step::{self, Commit, Crash, Deliver, Dump, Recover, Strike, Take};
-use crate::steps::Verdict;
+use crate::steps::{Verdict, make_all};
 use fbl_base::{Behaviour, Mix, Relay};
 use fbl_group::{Done, Group};
 use fbl_table::Table;
 use refusing_allocator::Refusing;
-use std::alloc::{AllocError, Allocator, Global};
+use std::alloc::{Allocator, Global};
 use std::process::Abort;
 use std::test::Fail;
 
-/// A group, and the step that was made last.
-#[derive(Drop)]
-struct Played<B: Behaviour, A: Allocator + Copy> {
-    group: Group<B, A>,
-    made: Option<Done<B>>,
-}
-
-impl<B: Behaviour, A: Allocator + Copy> Played<B, A> {
-    fn make(&mut self, step: Step) -> Result<Verdict, Fail> {
-        step.make(&mut self.group, &mut self.made)
-    }
-}
-
-/// A group on which these calls were made.
+/// A group on which these calls were made. `made` is the step that was made last.
 fn play<B: Behaviour, A: Allocator + Copy>(
     alloc: A,
     setting: &Setting,
+    made: &mut Option<Done<B>>,
     steps: &[Step],
-) -> Result<Played<B, A>, Fail> {
-    let mut played = Played {
-        group: setting.group(alloc)?,
-        made: None,
-    };
-    for step in steps {
-        if played.make(*step)? != Verdict::AsExpected {
-            return Err("unexpected".into());
-        }
-    }
-    Ok(played)
+) -> Result<Group<B, A>, Fail> {
+    let mut group = setting.group(alloc)?;
+    make_all(&mut group, made, steps)?;
+    Ok(group)
 }
 
 /// The group on which these calls were made, and then the last one, if there is one.
@@ -50,13 +31,12 @@ fn play_and_make<B: Behaviour>(
     steps: &[Step],
     last: Option<Step>,
 ) -> Result<Group<B>, Fail> {
-    let mut played = play(alloc, setting, steps)?;
+    let mut made = None;
+    let mut group = play(alloc, setting, &mut made, steps)?;
     if let Some(last) = last {
-        if played.make(last)? != Verdict::AsExpected {
-            return Err("unexpected".into());
-        }
+        make_all(&mut group, &mut made, &[last])?;
     }
-    Ok(played.group)
+    Ok(group)
 }
 
 /// An allocator that refuses the request with this number, counted from 1 after those of these calls.
@@ -67,12 +47,49 @@ fn heap<B: Behaviour>(
     request: u64,
 ) -> Result<Refusing<Global>, Fail> {
     let heap = Refusing::new(alloc, 0);
-    let _played: Played<B, _> = play(&heap, setting, steps)?;
+    let _group: Group<B, _> = play(&heap, setting, &mut None, steps)?;
     Ok(Refusing::new(alloc, heap.requests().saturating_add(request)))
 }
 
-/// Refuses the request of the call with this number, and answers whether there was such a request. Where there was, the
-/// group is as before the call, but struck by a crash, and the call or the crash's recovery then has its answer.
+/// Whether all readers answer as those of a group on which these calls were made, and then the last one, if there is one.
+fn is_as<B: Behaviour, A: Allocator + Copy>(
+    alloc: Global,
+    setting: &Setting,
+    steps: &[Step],
+    last: Option<Step>,
+    group: &Group<B, A>,
+) -> Result<bool, Fail> {
+    let played = play_and_make(alloc, setting, steps, last)?;
+    Ok(is_same(group, &played))
+}
+
+/// Makes the call, to which a request for memory may be refused. Where it is, the group is as before the call, but struck
+/// by a crash, and the call or the crash's recovery then has its answer.
+fn make_again<B: Behaviour>(
+    alloc: Global,
+    setting: &Setting,
+    before: &[Step],
+    call: Step,
+    heap: &Refusing<Global>,
+) -> Result<bool, Fail> {
+    let mut made = None;
+    let mut group: Group<B, _> = play(heap, setting, &mut made, before)?;
+    let verdict = call.make(&mut group, &mut made)?;
+    if verdict == Verdict::WithoutMemory {
+        if !is_as(alloc, setting, before, call.done_when_refused(), &group)? {
+            return Ok(false);
+        }
+        make_all(&mut group, &mut made, &[call.left_when_refused()])?;
+    }
+    let is_told = (verdict == Verdict::WithoutMemory) == heap.has_refused();
+    Ok(
+        is_told
+            && verdict != Verdict::Unexpected
+            && is_as(alloc, setting, before, Some(call), &group)?,
+    )
+}
+
+/// Refuses the request of the call with this number, and answers whether there was such a request.
 fn refuse<B: Behaviour>(
     rt: &impl Abort,
     alloc: Global,
@@ -82,18 +99,10 @@ fn refuse<B: Behaviour>(
     request: u64,
 ) -> Result<bool, Fail> {
     let heap = heap::<B>(alloc, setting, before, request)?;
-    let mut played: Played<B, _> = play(&heap, setting, before)?;
-    let verdict = played.make(call)?;
-    if heap.has_refused() {
-        assert_eq!(rt; verdict, Verdict::WithoutMemory, "request {request}");
-        let left: Group<B> = play_and_make(alloc, setting, before, call.done_when_refused())?;
-        assert!(rt; is_same(&played.group, &left), "request {request}");
-        assert_eq!(rt; played.make(call.left_when_refused())?, Verdict::AsExpected);
-    } else {
-        assert_eq!(rt; verdict, Verdict::AsExpected);
-    }
-    let whole: Group<B> = play_and_make(alloc, setting, before, Some(call))?;
-    assert!(rt; is_same(&played.group, &whole), "request {request}");
+    assert!(rt;
+        make_again::<B>(alloc, setting, before, call, &heap)?,
+        "request {request}"
+    );
     Ok(heap.has_refused())
 }
 
@@ -196,11 +205,26 @@ fn new_group<'a, B: Behaviour>(
     heap: &'a Refusing<Global>,
     setting: &Setting,
 ) -> Result<Option<Group<B, &'a Refusing<Global>>>, Fail> {
-    let config = setting.config(heap)?;
-    match Group::new(heap, config) {
-        Ok(group) => Ok(Some(group)),
-        Err(AllocError) => Ok(None),
-    }
+    Ok(Group::new(heap, setting.config(heap)?).ok())
+}
+
+/// How many requests for memory a group's parameters make.
+fn requests_of_config(alloc: Global, setting: &Setting) -> Result<u64, Fail> {
+    let heap = Refusing::new(alloc, 0);
+    let _config = setting.config(&heap)?;
+    Ok(heap.requests())
+}
+
+/// Whether a group is made where no request is refused, and is then the same as this one.
+fn is_made<B: Behaviour>(
+    heap: &Refusing<Global>,
+    setting: &Setting,
+    whole: &Group<B>,
+) -> Result<bool, Fail> {
+    Ok(match new_group::<B>(heap, setting)? {
+        Some(made) => !heap.has_refused() && is_same(&made, whole),
+        None => heap.has_refused(),
+    })
 }
 
 #[test]
@@ -211,15 +235,11 @@ fn a_new_group_without_memory(rt: HostRuntime) -> Result<(), Fail> {
         ..ROUND
     };
     let whole: Group<Mix> = setting.group(rt.alloc())?;
-    let heap = Refusing::new(rt.alloc(), 0);
-    let _config = setting.config(&heap)?;
-    let earlier = heap.requests();
+    let earlier = requests_of_config(rt.alloc(), &setting)?;
     for request in 1..u64::MAX {
         let heap = Refusing::new(rt.alloc(), earlier.saturating_add(request));
-        let made = new_group::<Mix>(&heap, &setting)?;
-        assert_eq!(rt; made.is_none(), heap.has_refused(), "request {request}");
-        if let Some(made) = made {
-            assert!(rt; is_same(&made, &whole));
+        assert!(rt; is_made(&heap, &setting, &whole)?, "request {request}");
+        if !heap.has_refused() {
             assert!(rt; request > 3, "few requests: {request}");
             return Ok(());
         }

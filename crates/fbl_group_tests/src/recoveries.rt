@@ -31,7 +31,7 @@ fn receipts_that_nobody_else_knows_are_made_again(rt: HostRuntime) -> Result<(),
         Deliver((2, 1), Ok((2, 0, 163))),
         Show(Ever(4, 2)),
     ];
-    play::<Mix>(&rt, rt.alloc(), &setting, &steps)
+    play::<Mix>(rt.alloc(), &setting, &steps)
 }
 
 #[test]
@@ -67,7 +67,7 @@ fn a_receipt_that_a_survivor_knows_is_replayed(rt: HostRuntime) -> Result<(), Fa
         Show(Ever(3, 1)),
         Deliver((2, 0), Ok((2, 1, 253))),
     ];
-    play::<Mix>(&rt, rt.alloc(), &setting, &steps)
+    play::<Mix>(rt.alloc(), &setting, &steps)
 }
 
 #[test]
@@ -92,7 +92,7 @@ fn a_member_that_took_the_first_message_is_struck(rt: HostRuntime) -> Result<(),
         Show(Flight(0, true)),
         Show(Length(6)),
     ];
-    play::<Relay>(&rt, rt.alloc(), &ROUND, &steps)
+    play::<Relay>(rt.alloc(), &ROUND, &steps)
 }
 
 #[test]
@@ -110,7 +110,7 @@ fn a_sender_and_its_receiver_are_struck(rt: HostRuntime) -> Result<(), Fail> {
         Show(Flight(0, true)),
         Show(Length(6)),
     ];
-    play::<Relay>(&rt, rt.alloc(), &setting, &steps)
+    play::<Relay>(rt.alloc(), &setting, &steps)
 }
 
 #[test]
@@ -133,7 +133,7 @@ fn one_member_is_struck_after_another(rt: HostRuntime) -> Result<(), Fail> {
         Show(Has(1, (5, 1, 1, 3))),
         Show(Has(2, (5, 1, 1, 3))),
     ];
-    play::<Relay>(&rt, rt.alloc(), &ROUND, &steps)
+    play::<Relay>(rt.alloc(), &ROUND, &steps)
 }
 
 #[test]
@@ -152,7 +152,7 @@ fn all_that_know_of_receipts_are_struck(rt: HostRuntime) -> Result<(), Fail> {
         Show(Trace(&[Sent(0, 1, 1, 5, 2)])),
         Show(Ever(2, 2)),
     ];
-    play::<Relay>(&rt, rt.alloc(), &setting, &steps)
+    play::<Relay>(rt.alloc(), &setting, &steps)
 }
 
 #[test]
@@ -177,7 +177,7 @@ fn strikes_and_recoveries_are_refused_in_order(rt: HostRuntime) -> Result<(), Fa
         Recover(Err(RecoverRefusal::NotDown)),
         Deliver((1, 0), Ok((1, 0, 5))),
     ];
-    play::<Relay>(&rt, rt.alloc(), &ROUND, &steps)
+    play::<Relay>(rt.alloc(), &ROUND, &steps)
 }
 
 #[test]
@@ -202,5 +202,5 @@ fn a_crash_is_a_strike_and_a_recovery(rt: HostRuntime) -> Result<(), Fail> {
         Crash(&[1], Err(CrashRefusal::Down)),
         Show(Down(&[2])),
     ];
-    play::<Relay>(&rt, rt.alloc(), &setting, &steps)
+    play::<Relay>(rt.alloc(), &setting, &steps)
 }

@@ -8,7 +8,6 @@ use fbl_group::{
     RecoverRefusal, Recovered, StrikeRefusal, Struck, TakeRefusal, Ticket, run_step,
 };
 use std::alloc::{Allocator, Global};
-use std::process::Abort;
 use std::test::Fail;
 
 /// A call and its answer. A delivery is to a member from another. A receipt is answered by its number, how many entries
@@ -191,39 +190,27 @@ fn dump<B: Behaviour, A: Allocator + Copy>(
     })
 }
 
-/// Makes the calls in turn, each of which has to answer as expected.
+/// Makes the calls in turn, each of which has to answer as expected: the place of the first that does not is the failure.
+/// `made` is the step that was made last.
 pub(crate) fn make_all<B: Behaviour, A: Allocator + Copy>(
     group: &mut Group<B, A>,
+    made: &mut Option<Done<B>>,
     steps: &[Step],
 ) -> Result<(), Fail> {
-    match first_unexpected(group, steps)? {
-        Some(place) => Err(place.into()),
-        None => Ok(()),
-    }
-}
-
-/// Makes the calls in turn, and answers the place of the first whose answer is not the one expected.
-fn first_unexpected<B: Behaviour, A: Allocator + Copy>(
-    group: &mut Group<B, A>,
-    steps: &[Step],
-) -> Result<Option<usize>, Fail> {
-    let mut made = None;
     for place in 0..steps.len() {
-        if steps[place].make(group, &mut made)? != Verdict::AsExpected {
-            return Ok(Some(place));
+        if steps[place].make(group, made)? != Verdict::AsExpected {
+            return Err(place.into());
         }
     }
-    Ok(None)
+    Ok(())
 }
 
 /// Makes the calls in turn on a new group. Each has to answer as expected.
 pub(crate) fn play<B: Behaviour>(
-    rt: &impl Abort,
     alloc: Global,
     setting: &Setting,
     steps: &[Step],
 ) -> Result<(), Fail> {
     let mut group: Group<B> = setting.group(alloc)?;
-    assert_eq!(rt; first_unexpected(&mut group, steps)?, None);
-    Ok(())
+    make_all(&mut group, &mut None, steps)
 }

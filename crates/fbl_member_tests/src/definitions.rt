@@ -1,6 +1,6 @@
 ghost use Rattle.std.specs.Prelude.{◌≡◌, IfOk};
 
-use crate::fixtures::member;
+use crate::fixtures::{member, set};
 use fbl_base::audit::{check_dump, lost, orphans};
 use fbl_base::{
     Behaviour, Config, ConfigRefusal, Determinant, DumpRefusal, Event, Mark, Member, MemberSet,
@@ -8,7 +8,6 @@ use fbl_base::{
 };
 use refusing_allocator::Refusing;
 use std::alloc::{AllocError, Allocator, Global};
-use std::process::Abort;
 use std::test::Fail;
 
 fn send(from: u8, ssn: u32, to: u8) -> Result<Mark, Fail> {
@@ -48,113 +47,126 @@ fn start(from: u8, to: u8, hops: u8) -> Result<Start, Fail> {
     })
 }
 
-fn set(members: &[u8]) -> Result<MemberSet, Fail> {
-    let mut set = MemberSet::empty();
-    for number in members {
-        set = set.with(member(*number)?);
-    }
-    Ok(set)
+/// How many receipts are lost, the first of them, and the orphans.
+type Audit = (usize, Option<Determinant>, MemberSet);
+
+/// A dump of three members.
+fn dump_of<A: Allocator + Copy>(
+    alloc: A,
+    events: &[Mark],
+    held: &[(Member, Determinant)],
+    strike: MemberSet,
+) -> Result<RawDump<A>, AllocError> {
+    Ok(RawDump {
+        members: 3,
+        f: 1,
+        events: events.to_vec(alloc)?,
+        held: held.to_vec(alloc)?,
+        strike,
+    })
 }
 
-/// The dump of a message that goes once round a group of three, with or without one of its pairs.
-fn round<A: Allocator + Copy>(alloc: A, whole: bool, strike: &[u8]) -> Result<RawDump<A>, Fail> {
-    let events = [
+/// The events of a message that goes once round a group of three.
+fn round_events() -> Result<[Mark; 6], Fail> {
+    Ok([
         send(0, 1, 1)?,
         receipt(1, 1, 0, 1)?,
         send(1, 1, 2)?,
         receipt(2, 1, 1, 1)?,
         send(2, 1, 0)?,
         receipt(0, 1, 2, 1)?,
-    ];
-    let held = [
+    ])
+}
+
+/// Who holds which of its receipts.
+fn round_held() -> Result<[(Member, Determinant); 5], Fail> {
+    Ok([
         pair(0, 1, 1, 2, 1)?,
         pair(0, 2, 1, 0, 1)?,
         pair(1, 0, 1, 1, 1)?,
         pair(2, 1, 1, 2, 1)?,
-    ];
-    let mut held = held.to_vec(alloc)?;
-    if whole {
-        held.push(pair(2, 0, 1, 1, 1)?)?;
-    }
-    Ok(RawDump {
-        members: 3,
-        f: 1,
-        events: events.to_vec(alloc)?,
-        held,
-        strike: set(strike)?,
-    })
+        pair(2, 0, 1, 1, 1)?,
+    ])
 }
 
+/// The dump of the message, with or without the last of the pairs.
+fn round(alloc: Global, whole: bool, strike: &[u8]) -> Result<RawDump, Fail> {
+    let (events, held) = (round_events()?, round_held()?);
+    let pairs = if whole { 5 } else { 4 };
+    Ok(dump_of(alloc, &events, &held[..pairs], set(strike)?)?)
+}
+
+/// Why the dump is refused, if it is.
 fn refused<A: Allocator + Copy>(alloc: A, raw: RawDump<A>) -> Option<DumpRefusal> {
-    match check_dump(alloc, raw) {
-        Ok(_) => None,
-        Err(refusal) => Some(refusal),
-    }
+    check_dump(alloc, raw).err()
+}
+
+/// How many receipts of the dump are lost, the first of them, and the orphans.
+fn audit<A: Allocator + Copy>(alloc: A, raw: RawDump<A>) -> Result<Audit, DumpRefusal> {
+    let dump = check_dump(alloc, raw)?;
+    let found = lost(alloc, &dump).ok().ok_or(DumpRefusal::Memory)?;
+    let orphans = orphans(alloc, &dump).ok().ok_or(DumpRefusal::Memory)?;
+    Ok((found.len(), found.first().copied(), orphans))
 }
 
 #[test]
 fn steps(rt: HostRuntime) -> Result<(), Fail> {
-    let note = Note { value: 4, hops: 1 };
-    let outcome = Mix::step(member(1)?, 2, 0, note);
-    assert_eq!(rt; outcome.state, 5);
-    assert_eq!(rt; outcome.sends.len(), 1);
+    let me = member(1)?;
+    let outcome = Mix::step(me, 2, 0, Note { value: 4, hops: 1 });
+    assert!(rt; outcome.state == 5 && outcome.sends.len() == 1);
     let note = Note {
         value: 4_294_967_295,
         hops: 0,
     };
-    assert_eq!(rt; Relay::step(member(1)?, 2, 0, note).state, 294_967_267);
-    assert_eq!(rt;
-        Relay::step(member(1)?, 2, u64::MAX, note).state,
-        877_311_274
-    );
+    assert!(rt; Relay::step(me, 2, 0, note).state == 294_967_267);
+    assert!(rt; Relay::step(me, 2, u64::MAX, note).state == 877_311_274);
     Ok(())
 }
 
 #[test]
 fn audits(rt: HostRuntime) -> Result<(), Fail> {
     let alloc = rt.alloc();
-    let dump = check_dump(alloc, round(alloc, false, &[1])?).map_err(|_| "refused")?;
-    let found = lost(alloc, &dump)?;
-    assert_eq!(rt; found.len(), 1);
-    assert_eq!(rt; found[0], pair(2, 0, 1, 1, 1)?.1);
-    assert_eq!(rt; orphans(alloc, &dump)?, set(&[0, 2])?);
-    let dump = check_dump(alloc, round(alloc, true, &[1])?).map_err(|_| "refused")?;
-    assert_eq!(rt; lost(alloc, &dump)?.len(), 0);
-    assert_eq!(rt; orphans(alloc, &dump)?, MemberSet::empty());
-    let dump = check_dump(alloc, round(alloc, true, &[1, 2])?).map_err(|_| "refused")?;
-    assert_eq!(rt; lost(alloc, &dump)?.len(), 1);
-    assert_eq!(rt; orphans(alloc, &dump)?, set(&[0])?);
+    let first = Some(pair(2, 0, 1, 1, 1)?.1);
+    let answer = audit(alloc, round(alloc, false, &[1])?);
+    assert!(rt; answer == Ok((1, first, set(&[0, 2])?)));
+    let answer = audit(alloc, round(alloc, true, &[1])?);
+    assert!(rt; answer == Ok((0, None, MemberSet::empty())));
+    let answer = audit(alloc, round(alloc, true, &[1, 2])?);
+    assert!(rt; answer == Ok((1, first, set(&[0])?)));
     let mut raw = round(alloc, true, &[])?;
     raw.held.clear();
-    let dump = check_dump(alloc, raw).map_err(|_| "refused")?;
-    assert_eq!(rt; lost(alloc, &dump)?.len(), 3);
-    assert_eq!(rt; orphans(alloc, &dump)?, set(&[0, 1, 2])?);
+    let answer = audit(alloc, raw);
+    assert!(rt; answer == Ok((3, first, set(&[0, 1, 2])?)));
     Ok(())
+}
+
+/// Puts an item in this place, if there is one.
+fn put<T: Copy>(items: &mut [T], place: usize, item: T) {
+    if let Some(old) = items.get_mut(place) {
+        *old = item;
+    }
 }
 
 #[test]
 fn refuses(rt: HostRuntime) -> Result<(), Fail> {
     let alloc = rt.alloc();
-    assert_eq!(rt;
-        refused(alloc, round(alloc, true, &[3])?),
-        Some(DumpRefusal::BadStrike)
-    );
+    let raw = round(alloc, true, &[3])?;
+    assert!(rt; refused(alloc, raw) == Some(DumpRefusal::BadStrike));
     let mut raw = round(alloc, true, &[1])?;
     raw.f = 3;
-    assert_eq!(rt; refused(alloc, raw), Some(DumpRefusal::BadF));
+    assert!(rt; refused(alloc, raw) == Some(DumpRefusal::BadF));
+    let skipped = receipt(1, 2, 0, 1)?;
     let mut raw = round(alloc, true, &[1])?;
-    if let Some(event) = raw.events.get_mut(1) {
-        *event = receipt(1, 2, 0, 1)?;
-    }
-    assert_eq!(rt; refused(alloc, raw), Some(DumpRefusal::BadEvent(1)));
+    put(raw.events.as_mut_slice(), 1, skipped);
+    assert!(rt; refused(alloc, raw) == Some(DumpRefusal::BadEvent(1)));
+    let unknown = pair(0, 1, 2, 2, 1)?;
     let mut raw = round(alloc, true, &[1])?;
-    if let Some(held) = raw.held.get_mut(0) {
-        *held = pair(0, 1, 2, 2, 1)?;
-    }
-    assert_eq!(rt; refused(alloc, raw), Some(DumpRefusal::BadHeld(0)));
+    put(raw.held.as_mut_slice(), 0, unknown);
+    assert!(rt; refused(alloc, raw) == Some(DumpRefusal::BadHeld(0)));
+    let again = pair(1, 0, 1, 1, 1)?;
     let mut raw = round(alloc, true, &[1])?;
-    raw.held.push(pair(1, 0, 1, 1, 1)?)?;
-    assert_eq!(rt; refused(alloc, raw), None);
+    raw.held.push(again)?;
+    assert!(rt; refused(alloc, raw) == None);
     Ok(())
 }
 
@@ -166,10 +178,7 @@ fn refusal(
     limit: u32,
     starts: &[Start],
 ) -> Option<ConfigRefusal> {
-    match Config::new(alloc, members, f, limit, starts) {
-        Ok(_) => None,
-        Err(refusal) => Some(refusal),
-    }
+    Config::new(alloc, members, f, limit, starts).err()
 }
 
 /// Each refusal of a configuration, and which one comes first where several hold.
@@ -183,58 +192,35 @@ fn configurations(rt: HostRuntime) -> Result<(), Fail> {
     let mixed = [fine, start(1, 1, 0)?];
     let two = [fine, fine];
     let many = [fine; 65];
-    assert_eq!(rt;
-        refusal(alloc, 1, 0, 0, &itself),
-        Some(ConfigRefusal::BadMembers)
-    );
-    assert_eq!(rt;
-        refusal(alloc, 17, 1, 8, &two),
-        Some(ConfigRefusal::BadMembers)
-    );
-    assert_eq!(rt; refusal(alloc, 2, 0, 0, &itself), Some(ConfigRefusal::BadF));
-    assert_eq!(rt; refusal(alloc, 2, 2, 8, &two), Some(ConfigRefusal::BadF));
-    assert_eq!(rt;
-        refusal(alloc, 2, 1, 0, &itself),
-        Some(ConfigRefusal::BadLimit)
-    );
-    assert_eq!(rt;
-        refusal(alloc, 2, 1, 8193, &two),
-        Some(ConfigRefusal::BadLimit)
-    );
-    assert_eq!(rt;
-        refusal(alloc, 2, 1, 1, &many),
-        Some(ConfigRefusal::TooManyStarts)
-    );
-    assert_eq!(rt;
-        refusal(alloc, 2, 1, 1, &mixed),
-        Some(ConfigRefusal::BadStart(1))
-    );
-    assert_eq!(rt;
-        refusal(alloc, 2, 1, 8, &stranger),
-        Some(ConfigRefusal::BadStart(0))
-    );
-    assert_eq!(rt;
-        refusal(alloc, 2, 1, 8, &far),
-        Some(ConfigRefusal::BadStart(0))
-    );
-    assert_eq!(rt;
-        refusal(alloc, 2, 1, 1, &two),
-        Some(ConfigRefusal::LimitBelowStarts)
-    );
-    assert_eq!(rt; refusal(alloc, 2, 1, 2, &two), None);
-    assert_eq!(rt; refusal(alloc, 16, 15, 8192, &two), None);
+    assert!(rt; refusal(alloc, 1, 0, 0, &itself) == Some(ConfigRefusal::BadMembers));
+    assert!(rt; refusal(alloc, 17, 1, 8, &two) == Some(ConfigRefusal::BadMembers));
+    assert!(rt; refusal(alloc, 2, 0, 0, &itself) == Some(ConfigRefusal::BadF));
+    assert!(rt; refusal(alloc, 2, 2, 8, &two) == Some(ConfigRefusal::BadF));
+    assert!(rt; refusal(alloc, 2, 1, 0, &itself) == Some(ConfigRefusal::BadLimit));
+    assert!(rt; refusal(alloc, 2, 1, 8193, &two) == Some(ConfigRefusal::BadLimit));
+    assert!(rt; refusal(alloc, 2, 1, 1, &many) == Some(ConfigRefusal::TooManyStarts));
+    assert!(rt; refusal(alloc, 2, 1, 1, &mixed) == Some(ConfigRefusal::BadStart(1)));
+    assert!(rt; refusal(alloc, 2, 1, 8, &stranger) == Some(ConfigRefusal::BadStart(0)));
+    assert!(rt; refusal(alloc, 2, 1, 8, &far) == Some(ConfigRefusal::BadStart(0)));
+    assert!(rt; refusal(alloc, 2, 1, 1, &two) == Some(ConfigRefusal::LimitBelowStarts));
+    assert!(rt; refusal(alloc, 2, 1, 2, &two) == None);
+    assert!(rt; refusal(alloc, 16, 15, 8192, &two) == None);
     Ok(())
 }
 
 #[test]
 fn configurations_are_kept(rt: HostRuntime) -> Result<(), Fail> {
     let starts = [start(0, 1, 15)?, start(2, 0, 0)?];
-    let config = Config::new(rt.alloc(), 3, 2, 100, &starts).map_err(|_| "refused")?;
-    assert_eq!(rt; (config.members(), config.f(), config.limit()), (3, 2, 100));
+    let config = Config::new(rt.alloc(), 3, 2, 100, &starts)
+        .ok()
+        .ok_or("refused")?;
+    assert!(rt; (config.members(), config.f(), config.limit()) == (3, 2, 100));
     assert!(rt; config.starts() == starts.as_slice());
     let copy = config.copy()?;
     assert!(rt; copy.same(&config));
-    let other = Config::new(rt.alloc(), 3, 2, 100, &starts[..1]).map_err(|_| "refused")?;
+    let other = Config::new(rt.alloc(), 3, 2, 100, &starts[..1])
+        .ok()
+        .ok_or("refused")?;
     assert!(rt; !other.same(&config));
     Ok(())
 }
@@ -242,12 +228,12 @@ fn configurations_are_kept(rt: HostRuntime) -> Result<(), Fail> {
 #[test]
 fn sets(rt: HostRuntime) -> Result<(), Fail> {
     let some = set(&[15, 0, 3])?;
-    assert_eq!(rt; some.count(), 3);
+    assert!(rt; some.count() == 3);
     assert!(rt; some.has(member(15)?) && !some.has(member(1)?));
     assert!(rt; some.within(16) && !some.within(15));
-    assert_eq!(rt; some.union(set(&[1, 3])?), set(&[0, 1, 3, 15])?);
-    assert_eq!(rt; some.without(set(&[0, 2])?), set(&[3, 15])?);
-    assert_eq!(rt; Member::new(16), None);
+    assert!(rt; some.union(set(&[1, 3])?) == set(&[0, 1, 3, 15])?);
+    assert!(rt; some.without(set(&[0, 2])?) == set(&[3, 15])?);
+    assert!(rt; Member::new(16) == None);
     Ok(())
 }
 
@@ -260,13 +246,20 @@ fn marks(rt: HostRuntime) -> Result<(), Fail> {
         to: member(1)?,
         note,
     };
-    assert_eq!(rt; sent.mark(), send(0, 1, 1)?);
-    assert_eq!(rt; sent.mark().determinant(), None);
-    assert_eq!(rt;
-        receipt(1, 2, 0, 1)?.determinant(),
-        Some(pair(0, 0, 1, 1, 2)?.1)
-    );
+    assert!(rt; sent.mark() == send(0, 1, 1)?);
+    assert!(rt; sent.mark().determinant() == None);
+    assert!(rt; receipt(1, 2, 0, 1)?.determinant() == Some(pair(0, 0, 1, 1, 2)?.1));
     Ok(())
+}
+
+/// Makes a configuration and its copy, and answers whether they are the same.
+fn configure_and_copy<A: Allocator + Copy>(
+    alloc: A,
+    starts: &[Start],
+) -> Result<bool, ConfigRefusal> {
+    let config = Config::new(alloc, 2, 1, 8, starts)?;
+    let copy = config.copy().ok().ok_or(ConfigRefusal::Memory)?;
+    Ok(copy.same(&config))
 }
 
 /// Each request for memory of a new configuration and its copy is refused in turn.
@@ -275,80 +268,44 @@ fn configurations_without_memory(rt: HostRuntime) -> Result<(), Fail> {
     let starts = [start(0, 1, 15)?, start(1, 0, 0)?];
     for at in 1..u64::MAX {
         let heap = Refusing::new(rt.alloc(), at);
-        match Config::new(&heap, 2, 1, 8, &starts) {
-            Ok(config) => match config.copy() {
-                Ok(copy) => {
-                    assert!(rt; !heap.has_refused() && copy.same(&config));
-                    assert!(rt; at > 2, "few requests: {at}");
-                    return Ok(());
-                }
-                Err(AllocError) => assert!(rt; heap.has_refused()),
-            },
-            Err(refusal) => {
-                assert!(rt; heap.has_refused());
-                assert_eq!(rt; refusal, ConfigRefusal::Memory);
-            }
-        }
-    }
-    Ok(())
-}
-
-/// Each request for memory of the check of a dump and of the two questions about it is refused in turn.
-#[test]
-fn audits_without_memory(rt: HostRuntime) -> Result<(), Fail> {
-    for at in 1..u64::MAX {
-        let heap = Refusing::new(rt.alloc(), 0);
-        let raw = round(&heap, true, &[1, 2])?;
-        let scarce = Refusing::new(rt.alloc(), at);
-        let answer = audit_scarcely(&rt, &scarce, raw_in(&scarce, &raw));
-        if !scarce.has_refused() {
-            assert_eq!(rt; answer, Some((1, set(&[0])?)));
-            assert!(rt; at > 5, "few requests: {at}");
+        let answer = configure_and_copy(&heap, &starts);
+        if !heap.has_refused() {
+            assert!(rt; answer == Ok(true) && at > 2, "at request {at}");
             return Ok(());
         }
-        assert_eq!(rt; answer, None, "at request {at}");
+        assert!(rt; answer == Err(ConfigRefusal::Memory), "at request {at}");
     }
     Ok(())
 }
 
-/// The number of lost receipts and the orphans of a dump, or nothing where memory is refused.
-fn audit_scarcely<A: Allocator + Copy>(
-    rt: &impl Abort,
-    alloc: A,
-    raw: Result<RawDump<A>, AllocError>,
-) -> Option<(usize, MemberSet)> {
-    let Ok(raw) = raw else {
-        return None;
-    };
-    match check_dump(alloc, raw) {
-        Ok(dump) => {
-            let Ok(found) = lost(alloc, &dump) else {
-                return None;
-            };
-            let Ok(orphans) = orphans(alloc, &dump) else {
-                return None;
-            };
-            Some((found.len(), orphans))
+/// Each request for memory of the making of a dump, of its check and of the two questions about it is refused in turn.
+#[test]
+fn audits_without_memory(rt: HostRuntime) -> Result<(), Fail> {
+    let (events, held, strike) = (round_events()?, round_held()?, set(&[1, 2])?);
+    let whole = Ok((1, Some(held[4].1), set(&[0])?));
+    for at in 1..u64::MAX {
+        let heap = Refusing::new(rt.alloc(), at);
+        let answer = make_and_audit(&heap, &events, &held, strike);
+        if !heap.has_refused() {
+            assert!(rt; answer == whole && at > 5, "at request {at}");
+            return Ok(());
         }
-        Err(refusal) => {
-            assert_eq!(rt; refusal, DumpRefusal::Memory);
-            None
-        }
+        assert!(rt; answer == Err(DumpRefusal::Memory), "at request {at}");
     }
+    Ok(())
 }
 
-/// The same dump in another allocator's memory.
-fn raw_in<A: Allocator + Copy, C: Allocator + Copy>(
-    alloc: C,
-    raw: &RawDump<A>,
-) -> Result<RawDump<C>, AllocError> {
-    Ok(RawDump {
-        members: raw.members,
-        f: raw.f,
-        events: raw.events.as_slice().to_vec(alloc)?,
-        held: raw.held.as_slice().to_vec(alloc)?,
-        strike: raw.strike,
-    })
+/// Makes a dump of these parts and answers its audit.
+fn make_and_audit<A: Allocator + Copy>(
+    alloc: A,
+    events: &[Mark],
+    held: &[(Member, Determinant)],
+    strike: MemberSet,
+) -> Result<Audit, DumpRefusal> {
+    let raw = dump_of(alloc, events, held, strike)
+        .ok()
+        .ok_or(DumpRefusal::Memory)?;
+    audit(alloc, raw)
 }
 
 /// An event is one too many at place 8192, and a held pair at place 131072.
@@ -366,7 +323,7 @@ fn large_dumps(rt: HostRuntime) -> Result<(), Fail> {
         held: Vec::new(alloc),
         strike: MemberSet::empty(),
     };
-    assert_eq!(rt; refused(alloc, raw), Some(DumpRefusal::BadEvent(8192)));
+    assert!(rt; refused(alloc, raw) == Some(DumpRefusal::BadEvent(8192)));
     for (pairs, want) in [
         (131_072u32, None),
         (131_073, Some(DumpRefusal::BadHeld(131_072))),
@@ -382,9 +339,19 @@ fn large_dumps(rt: HostRuntime) -> Result<(), Fail> {
             held,
             strike: MemberSet::empty(),
         };
-        assert_eq!(rt; refused(alloc, raw), want);
+        assert!(rt; refused(alloc, raw) == want);
     }
     Ok(())
+}
+
+/// The events of a message from member 0 to member 1 and back, each the sender's and the receiver's next.
+fn there_and_back(number: u32) -> Result<[Mark; 4], Fail> {
+    Ok([
+        send(0, number, 1)?,
+        receipt(1, number, 0, number)?,
+        send(1, number, 0)?,
+        receipt(0, number, 1, number)?,
+    ])
 }
 
 /// A message that goes round two members until the trace is full.
@@ -393,13 +360,10 @@ fn long(rt: HostRuntime) -> Result<(), Fail> {
     let alloc = rt.alloc();
     let mut events = Vec::new(alloc);
     let mut held = Vec::new(alloc);
-    for round in 0..2048u32 {
-        events.push(send(0, round + 1, 1)?)?;
-        events.push(receipt(1, round + 1, 0, round + 1)?)?;
-        held.push(pair(1, 0, round + 1, 1, round + 1)?)?;
-        events.push(send(1, round + 1, 0)?)?;
-        events.push(receipt(0, round + 1, 1, round + 1)?)?;
-        held.push(pair(0, 1, round + 1, 0, round + 1)?)?;
+    for number in 1..2049u32 {
+        events.extend_from_slice(&there_and_back(number)?)?;
+        held.push(pair(1, 0, number, 1, number)?)?;
+        held.push(pair(0, 1, number, 0, number)?)?;
     }
     let raw = RawDump {
         members: 2,
@@ -408,8 +372,7 @@ fn long(rt: HostRuntime) -> Result<(), Fail> {
         held,
         strike: set(&[0])?,
     };
-    let dump = check_dump(alloc, raw).map_err(|_| "refused")?;
-    assert_eq!(rt; lost(alloc, &dump)?.len(), 2048);
-    assert_eq!(rt; orphans(alloc, &dump)?, set(&[1])?);
+    let first = pair(0, 1, 1, 0, 1)?.1;
+    assert!(rt; audit(alloc, raw) == Ok((2048, Some(first), set(&[1])?)));
     Ok(())
 }

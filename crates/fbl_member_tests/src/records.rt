@@ -1,9 +1,9 @@
 ghost use Rattle.std.specs.Prelude.{◌≡◌, ◌<◌, IfOk};
 
-use crate::fixtures::member;
+use crate::fixtures::{Refusal, first_receipt, member, own_table};
 use fbl_base::{Behaviour, Config, Determinant, Member, MemberSet, Mix, Note, Relay, Start};
 use fbl_member::{MemberRec, Wire};
-use fbl_table::{Entry, Table};
+use fbl_table::Entry;
 use refusing_allocator::Refusing;
 use std::alloc::{AllocError, Allocator, Global};
 use std::test::Fail;
@@ -19,7 +19,9 @@ fn config<A: Allocator + Copy>(
         to: second,
         note: Note { value: 5, hops: 2 },
     };
-    Config::new(alloc, 3, 1, 8192, &[start]).map_err(|_| AllocError)
+    Config::new(alloc, 3, 1, 8192, &[start])
+        .ok()
+        .ok_or(AllocError)
 }
 
 /// Delivers a message that carries nothing to a member of the group, where that is the member's next receipt.
@@ -66,16 +68,16 @@ fn replay<B: Behaviour, A: Allocator + Copy>(
     Ok(())
 }
 
-/// The receipt of the first member's message.
-fn receipt(first: Member, second: Member) -> Determinant
-    ensures { result ≡ record { from = first; ssn = 1; to = second; rsn = 1 } }
-{
-    Determinant {
-        from: first,
-        ssn: 1,
-        to: second,
-        rsn: 1,
-    }
+/// The group's member `me`, fresh, and the group's parameters.
+fn prepared<A: Allocator + Copy>(
+    alloc: A,
+    first: Member,
+    second: Member,
+    me: Member,
+) -> Result<(Config<A>, MemberRec<A>), AllocError> {
+    let group = config(alloc, first, second)?;
+    let member_record = MemberRec::fresh(alloc, &group, me)?;
+    Ok((group, member_record))
 }
 
 /// The group's member `me`, fresh.
@@ -85,19 +87,51 @@ fn fresh(
     second: Member,
     me: Member,
 ) -> Result<MemberRec, AllocError> {
-    let group = config(alloc, first, second)?;
-    MemberRec::fresh(alloc, &group, me)
+    let (_, member_record) = prepared(alloc, first, second, me)?;
+    Ok(member_record)
+}
+
+/// What the readers answer of a record: the state, the numbers of receipts and sends, the last number from a member,
+/// and how many entries the table has.
+fn readings<A: Allocator + Copy>(
+    member_record: &MemberRec<A>,
+    from: Member,
+) -> (u64, u32, u32, u32, usize) {
+    (
+        member_record.state(),
+        member_record.received(),
+        member_record.sent(),
+        member_record.last_from(from),
+        member_record.table().len(),
+    )
 }
 
 /// Whether these are the messages that the member sent to another with numbers beyond this one.
-fn sent_beyond(
-    member_record: &MemberRec,
+fn sent_beyond(member_record: &MemberRec, to: Member, ssn: u32, expected: &[(u32, Note)]) -> bool {
+    match member_record.unsent_beyond(to, ssn) {
+        Ok(beyond) => beyond.as_slice() == expected,
+        Err(AllocError) => false,
+    }
+}
+
+/// Whether there is one message, the sender's first, with this receiver, this note and these entries.
+fn is_first_message(
+    wires: &[Wire],
+    from: Member,
     to: Member,
-    ssn: u32,
-    expected: &[(u32, Note)],
-) -> Result<bool, AllocError> {
-    let beyond = member_record.unsent_beyond(to, ssn)?;
-    Ok(beyond.as_slice() == expected)
+    note: Note,
+    carried: &[Entry],
+) -> bool {
+    match wires {
+        [wire] => {
+            wire.from() == from
+                && wire.to() == to
+                && wire.ssn() == 1
+                && wire.note() == note
+                && wire.carried() == carried
+        }
+        _ => false,
+    }
 }
 
 #[test]
@@ -105,11 +139,9 @@ fn a_fresh_member_has_sent_its_starts(rt: HostRuntime) -> Result<(), Fail> {
     let (first, second) = (member(0)?, member(1)?);
     let start = Note { value: 5, hops: 2 };
     let member_record = fresh(rt.alloc(), first, second, first)?;
-    assert!(rt;
-        member_record.sent() == 1 && member_record.state() == 0 && member_record.received() == 0
-    );
-    assert!(rt; sent_beyond(&member_record, second, 0, &[(1, start)])?);
-    assert!(rt; sent_beyond(&member_record, second, 1, &[])?);
+    assert!(rt; readings(&member_record, first) == (0, 0, 1, 0, 0));
+    assert!(rt; sent_beyond(&member_record, second, 0, &[(1, start)]));
+    assert!(rt; sent_beyond(&member_record, second, 1, &[]));
     assert!(rt; member_record.log_note(1) == Some(start) && member_record.log_note(2) == None);
     Ok(())
 }
@@ -119,35 +151,30 @@ fn a_member_replays_a_receipt(rt: HostRuntime) -> Result<(), Fail> {
     let (first, second, third) = (member(0)?, member(1)?, member(2)?);
     let note = Note { value: 5, hops: 2 };
     let mut member_record = fresh(rt.alloc(), first, second, second)?;
-    replay::<Relay, _>(&mut member_record, second, &receipt(first, second), note)?;
-    assert!(rt;
-        member_record.state() == 5 && member_record.received() == 1 && member_record.sent() == 1
-    );
-    assert!(rt; member_record.last_from(first) == 1 && member_record.table().len() == 0);
+    replay::<Relay, _>(
+        &mut member_record,
+        second,
+        &first_receipt(first, second),
+        note,
+    )?;
+    assert!(rt; readings(&member_record, first) == (5, 1, 1, 1, 0));
     let passed_on = Note { value: 5, hops: 1 };
-    assert!(rt; sent_beyond(&member_record, third, 0, &[(1, passed_on)])?);
+    assert!(rt; sent_beyond(&member_record, third, 0, &[(1, passed_on)]));
     Ok(())
 }
 
 #[test]
 fn a_member_takes_a_message_in(rt: HostRuntime) -> Result<(), Fail> {
     let (first, second, third) = (member(0)?, member(1)?, member(2)?);
-    let det = receipt(first, second);
+    let det = first_receipt(first, second);
     let note = Note { value: 5, hops: 2 };
+    let known = MemberSet::empty().with(second);
     let mut member_record = fresh(rt.alloc(), first, second, second)?;
     let wires = deliver::<Relay, _>(rt.alloc(), &mut member_record, second, det, note)?;
-    let known = MemberSet::empty().with(second);
-    assert_eq!(rt; wires.len(), 1);
-    for wire in &wires {
-        assert!(rt; wire.from() == second && wire.to() == third && wire.ssn() == 1);
-        assert!(rt; wire.note() == Note { value: 5, hops: 1 });
-        assert!(rt; wire.carried() == [Entry { det, known }].as_slice());
-    }
-    assert!(rt;
-        member_record.state() == 5
-            && member_record.received() == 1
-            && member_record.last_from(first) == 1
-    );
+    let passed_on = Note { value: 5, hops: 1 };
+    let carried = [Entry { det, known }];
+    assert!(rt; is_first_message(&wires, second, third, passed_on, &carried));
+    assert!(rt; readings(&member_record, first) == (5, 1, 1, 1, 1));
     Ok(())
 }
 
@@ -155,34 +182,25 @@ fn a_member_takes_a_message_in(rt: HostRuntime) -> Result<(), Fail> {
 #[test]
 fn a_member_that_had_nothing_mixes_what_it_gets(rt: HostRuntime) -> Result<(), Fail> {
     let (first, second) = (member(0)?, member(1)?);
+    let det = first_receipt(first, second);
     let note = Note { value: 4, hops: 1 };
+    let known = MemberSet::empty().with(second);
     let mut member_record = MemberRec::blank(rt.alloc(), 1);
-    assert!(rt;
-        member_record.state() == 0 && member_record.received() == 0 && member_record.sent() == 0
-    );
-    let wires = deliver::<Mix, _>(
-        rt.alloc(),
-        &mut member_record,
-        second,
-        receipt(first, second),
-        note,
-    )?;
-    assert_eq!(rt; wires.len(), 1);
-    for wire in &wires {
-        assert!(rt; wire.to() == first && wire.note() == Note { value: 5, hops: 0 });
-    }
+    assert!(rt; readings(&member_record, first) == (0, 0, 0, 0, 0));
+    let wires = deliver::<Mix, _>(rt.alloc(), &mut member_record, second, det, note)?;
+    let passed_on = Note { value: 5, hops: 0 };
+    let carried = [Entry { det, known }];
+    assert!(rt; is_first_message(&wires, second, first, passed_on, &carried));
     Ok(())
 }
 
 #[test]
 fn a_replayed_member_is_given_a_table(rt: HostRuntime) -> Result<(), Fail> {
     let (first, second) = (member(0)?, member(1)?);
-    let det = receipt(first, second);
+    let det = first_receipt(first, second);
     let mut member_record = MemberRec::blank(rt.alloc(), 1);
     replay::<Mix, _>(&mut member_record, second, &det, Note { value: 4, hops: 1 })?;
-    let mut table = Table::new(rt.alloc());
-    table.note_own(second, det)?;
-    member_record.set_table(table);
+    member_record.set_table(own_table(rt.alloc(), second, det)?);
     assert!(rt; member_record.state() == 5 && member_record.table().holds(&det));
     Ok(())
 }
@@ -215,50 +233,28 @@ impl Call {
     ) -> Result<(), AllocError>
         requires { second < 3 }
     {
-        let receipt = receipt(first, second);
+        let receipt = first_receipt(first, second);
         let note = Note { value: 5, hops: 2 };
         match self {
-            Call::Fresh => MemberRec::fresh(alloc, group, first).map(drop),
-            Call::Receive => deliver::<Relay, A>(alloc, member_record, second, receipt, note).map(
-                drop,
-            ),
-            Call::ReplayOne => replay::<Relay, A>(member_record, second, &receipt, note),
-            Call::UnsentBeyond => member_record.unsent_beyond(second, 0).map(drop),
+            Call::Fresh => {
+                MemberRec::fresh(alloc, group, first)?;
+            }
+            Call::Receive => {
+                deliver::<Relay, A>(alloc, member_record, second, receipt, note)?;
+            }
+            Call::ReplayOne => replay::<Relay, A>(member_record, second, &receipt, note)?,
+            Call::UnsentBeyond => {
+                member_record.unsent_beyond(second, 0)?;
+            }
         }
+        Ok(())
     }
-}
-
-/// What the readers answer of a record: the state, the numbers of receipts and sends, the last number from a member,
-/// and how many entries the table has.
-fn readings<A: Allocator + Copy>(
-    member_record: &MemberRec<A>,
-    from: Member,
-) -> (u64, u32, u32, u32, usize) {
-    (
-        member_record.state(),
-        member_record.received(),
-        member_record.sent(),
-        member_record.last_from(from),
-        member_record.table().len(),
-    )
-}
-
-/// What became of a call whose request with some number was refused.
-#[derive(Clone, Copy, Debug)]
-enum Refusal {
-    /// There was no such request, and the call succeeded.
-    NotAsked,
-    /// The call failed, and the record was as before.
-    Kept,
-    /// The call failed with no refusal, or succeeded in spite of one, or changed the member_record.
-    Broken,
 }
 
 /// How many requests for memory it takes to make the group's parameters and a fresh member.
 fn requests(alloc: Global, first: Member, second: Member, me: Member) -> Result<u64, AllocError> {
     let heap = Refusing::new(alloc, 0);
-    let group = config(&heap, first, second)?;
-    let _record = MemberRec::fresh(&heap, &group, me)?;
+    let _made = prepared(&heap, first, second, me)?;
     Ok(heap.requests())
 }
 
@@ -275,15 +271,11 @@ fn refuse(
     let me = call.member(first, second);
     let earlier = requests(alloc, first, second, me)?;
     let heap = Refusing::new(alloc, earlier.saturating_add(request));
-    let group = config(&heap, first, second)?;
-    let mut member_record = MemberRec::fresh(&heap, &group, me)?;
+    let (group, mut member_record) = prepared(&heap, first, second, me)?;
     let before = readings(&member_record, first);
     let done = call.make(&heap, &group, &mut member_record, first, second);
-    Ok(match (heap.has_refused(), done.is_ok()) {
-        (false, true) => Refusal::NotAsked,
-        (true, false) if readings(&member_record, first) == before => Refusal::Kept,
-        _ => Refusal::Broken,
-    })
+    let kept = readings(&member_record, first) == before;
+    Ok(Refusal::of(heap.has_refused(), done.is_ok(), kept))
 }
 
 /// Refuses each request of the call in turn, and answers how many there were, or 0 where a refused one was not kept to.

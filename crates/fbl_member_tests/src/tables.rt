@@ -1,23 +1,11 @@
 ghost use Rattle.std.specs.Prelude.{◌≡◌, ◌≤◌, IfOk};
 
-use crate::fixtures::member;
+use crate::fixtures::{Refusal, first_receipt, member, own_table, set};
 use fbl_base::{Determinant, Member, MemberSet};
 use fbl_table::{Entry, Table};
 use refusing_allocator::Refusing;
 use std::alloc::{AllocError, Allocator, Global};
 use std::test::Fail;
-
-/// The receipt of the sender's first message, which is the receiver's first.
-fn first_receipt(from: Member, to: Member) -> Determinant
-    ensures { result ≡ record { from = from; ssn = 1; to = to; rsn = 1 } }
-{
-    Determinant {
-        from,
-        ssn: 1,
-        to,
-        rsn: 1,
-    }
-}
 
 /// A table with these entries, which the member is known to hold too.
 fn table_of<A: Allocator + Copy>(
@@ -44,61 +32,81 @@ fn has<A: Allocator + Copy>(table: &Table<A>, expected: &[Entry]) -> bool {
 }
 
 /// Whether these are the entries that the table passes on, in order.
-fn passes_on<A: Allocator + Copy>(
-    table: &Table<A>,
-    f: u8,
-    expected: &[Entry],
-) -> Result<bool, AllocError> {
-    let carried = table.piggyback(f)?;
-    Ok(carried.as_slice() == expected)
+fn passes_on(table: &Table, f: u8, expected: &[Entry]) -> bool {
+    match table.piggyback(f) {
+        Ok(carried) => carried.as_slice() == expected,
+        Err(AllocError) => false,
+    }
 }
 
-/// A table with the member's own receipt alone.
-fn own_table(alloc: Global, me: Member, det: Determinant) -> Result<Table, AllocError> {
-    let mut table = Table::new(alloc);
-    table.note_own(me, det)?;
-    Ok(table)
+/// Whether these are the entries of the table's copy, in order.
+fn copies(table: &Table, expected: &[Entry]) -> bool {
+    match table.copy() {
+        Ok(copy) => has(&copy, expected),
+        Err(AllocError) => false,
+    }
+}
+
+/// The entry of a receipt that these members are known to hold.
+fn entry(det: Determinant, known: &[u8]) -> Result<Entry, Fail>
+    ensures { IfOk result (λ e. e.det ≡ det) }
+{
+    let known = set(known)?;
+    Ok(Entry { det, known })
 }
 
 #[test]
 fn a_receipt_is_passed_on_until_enough_members_know_it(rt: HostRuntime) -> Result<(), Fail> {
     let (zero, one, two) = (member(0)?, member(1)?, member(2)?);
     let det = first_receipt(zero, one);
-    let known = MemberSet::empty().with(one);
+    let carried = [entry(det, &[1])?];
+    let learned = [entry(det, &[1, 2])?];
     let receiver = own_table(rt.alloc(), one, det)?;
-    let carried = [Entry { det, known }];
-    assert!(rt; passes_on(&receiver, 1, &carried)?);
+    assert!(rt; passes_on(&receiver, 1, &carried));
     let mut next = table_of(rt.alloc(), two, &carried)?;
-    let learned = [Entry {
-        det,
-        known: known.with(two),
-    }];
-    assert!(rt;
-        has(&next, &learned) && passes_on(&next, 1, &[])? && passes_on(&next, 2, &learned)?
-    );
+    assert!(rt; has(&next, &learned) && passes_on(&next, 1, &[]) && passes_on(&next, 2, &learned));
     next.learn(two, &carried)?;
-    assert!(rt; has(&next, &learned) && has(&next.copy()?, &learned));
+    assert!(rt; has(&next, &learned) && copies(&next, &learned));
     Ok(())
+}
+
+/// A table that gathers the receiver's own table and that of a member who was told of the receipt by `carried`.
+fn gathered(
+    alloc: Global,
+    told: Member,
+    carried: &[Entry],
+    det: Determinant,
+) -> Result<Table, AllocError> {
+    let told = table_of(alloc, told, carried)?;
+    let own = own_table(alloc, det.to, det)?;
+    let mut table = Table::new(alloc);
+    table.gather(&told)?;
+    table.gather(&own)?;
+    Ok(table)
+}
+
+/// Whether the receiver's first receipt is found in the table, and no other of its sender and receiver.
+fn finds_alone(table: &Table, det: Determinant) -> bool {
+    let (from, to) = (det.from, det.to);
+    table.last_rsn(to) == 1
+        && table.last_rsn(from) == 0
+        && table.find(to, 1) == Some(det)
+        && table.find(to, 2) == None
+        && table.holds(&det)
+        && !table.holds(&first_receipt(to, from))
 }
 
 #[test]
 fn tables_are_gathered_and_marked(rt: HostRuntime) -> Result<(), Fail> {
     let (zero, one, two) = (member(0)?, member(1)?, member(2)?);
     let det = first_receipt(zero, one);
-    let known = MemberSet::empty().with(one);
-    let first = table_of(rt.alloc(), two, &[Entry { det, known }])?;
-    let second = own_table(rt.alloc(), one, det)?;
-    let mut table = Table::new(rt.alloc());
-    table.gather(&first)?;
-    table.gather(&second)?;
-    let known = known.with(two);
-    assert!(rt; has(&table, &[Entry { det, known }]));
+    let carried = [entry(det, &[1])?];
+    let both = [entry(det, &[1, 2])?];
+    let marked = [entry(det, &[0, 1, 2])?];
+    let mut table = gathered(rt.alloc(), two, &carried, det)?;
+    assert!(rt; has(&table, &both));
     table.mark_all(MemberSet::empty().with(zero));
-    let known = known.with(zero);
-    assert!(rt; has(&table, &[Entry { det, known }]));
-    assert!(rt; table.last_rsn(one) == 1 && table.last_rsn(zero) == 0);
-    assert!(rt; table.find(one, 1) == Some(det) && table.find(one, 2) == None);
-    assert!(rt; table.holds(&det) && !table.holds(&first_receipt(one, zero)));
+    assert!(rt; has(&table, &marked) && finds_alone(&table, det));
     Ok(())
 }
 
@@ -106,24 +114,14 @@ fn tables_are_gathered_and_marked(rt: HostRuntime) -> Result<(), Fail> {
 #[test]
 fn what_is_passed_on_goes_by_f_and_not_by_the_limit(rt: HostRuntime) -> Result<(), Fail> {
     let (zero, one, two) = (member(0)?, member(1)?, member(2)?);
-    let known = MemberSet::empty().with(zero).with(one);
-    let carried = [Entry {
-        det: first_receipt(zero, one),
-        known,
-    }];
+    let carried = [entry(first_receipt(zero, one), &[0, 1])?];
+    let learned = entry(first_receipt(zero, one), &[0, 1, 2])?;
+    let own = entry(first_receipt(one, two), &[2])?;
     let mut table = Table::for_limit(rt.alloc(), 1);
     assert!(rt; table.room_to_piggyback(3, &carried) >= 2);
     table.learn_and_note(two, &carried, first_receipt(one, two))?;
-    let learned = Entry {
-        det: first_receipt(zero, one),
-        known: known.with(two),
-    };
-    let own = Entry {
-        det: first_receipt(one, two),
-        known: MemberSet::empty().with(two),
-    };
     assert!(rt; has(&table, &[learned, own]));
-    assert!(rt; passes_on(&table, 2, &[own])? && passes_on(&table, 3, &[learned, own])?);
+    assert!(rt; passes_on(&table, 2, &[own]) && passes_on(&table, 3, &[learned, own]));
     Ok(())
 }
 
@@ -164,39 +162,42 @@ impl Call {
             rsn: 100,
         };
         match self {
-            Call::Learn => table.learn(me, carried),
-            Call::NoteOwn if !table.holds(&own) => table.note_own(me, own),
-            Call::LearnAndNote if !table.holds(&own) => table.learn_and_note(me, &[], own),
-            Call::NoteOwn | Call::LearnAndNote => Ok(()),
-            Call::Gather => table.gather(other),
-            Call::Piggyback => table.piggyback(1).map(drop),
-            Call::Copy => table.copy().map(drop),
+            Call::Learn => table.learn(me, carried)?,
+            Call::NoteOwn if !table.holds(&own) => table.note_own(me, own)?,
+            Call::LearnAndNote if !table.holds(&own) => table.learn_and_note(me, &[], own)?,
+            Call::NoteOwn | Call::LearnAndNote => {}
+            Call::Gather => table.gather(other)?,
+            Call::Piggyback => {
+                table.piggyback(1)?;
+            }
+            Call::Copy => {
+                table.copy()?;
+            }
         }
+        Ok(())
+    }
+}
+
+/// A receipt with this number of the member's message to itself, which it alone is known to hold.
+fn own_entry(me: Member, number: u32) -> Entry {
+    Entry {
+        det: Determinant {
+            from: me,
+            ssn: number,
+            to: me,
+            rsn: number,
+        },
+        known: MemberSet::empty().with(me),
     }
 }
 
 /// Twenty receipts of the member, which it alone is known to hold.
 fn twenty(me: Member) -> [Entry; 20] {
-    let mut entries = [Entry {
-        det: first_receipt(me, me),
-        known: MemberSet::empty().with(me),
-    }; 20];
-    for place in 0..20 {
-        entries[place].det.ssn = place as u32 + 1;
-        entries[place].det.rsn = place as u32 + 1;
+    let mut entries = [own_entry(me, 1); 20];
+    for place in 1..20 {
+        entries[place] = own_entry(me, place as u32 + 1);
     }
     entries
-}
-
-/// What became of a call whose request with some number was refused.
-#[derive(Clone, Copy, Debug)]
-enum Refusal {
-    /// There was no such request, and the call succeeded.
-    NotAsked,
-    /// The call failed, and the table was as before.
-    Kept,
-    /// The call failed with no refusal, or succeeded in spite of one, or changed the table.
-    Broken,
 }
 
 /// How many requests for memory it takes to make two tables.
@@ -221,11 +222,8 @@ fn refuse(alloc: Global, call: Call, me: Member, request: u64) -> Result<Refusal
     let mut table = table_of(&heap, me, before)?;
     let other = table_of(&heap, me, &entries)?;
     let done = call.make(me, &mut table, &other, &entries);
-    Ok(match (heap.has_refused(), done.is_ok()) {
-        (false, true) => Refusal::NotAsked,
-        (true, false) if has(&table, before) => Refusal::Kept,
-        _ => Refusal::Broken,
-    })
+    let kept = has(&table, before);
+    Ok(Refusal::of(heap.has_refused(), done.is_ok(), kept))
 }
 
 /// Refuses each request of the call in turn, and answers how many there were, or 0 where a refused one was not kept to.

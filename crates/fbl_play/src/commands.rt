@@ -94,8 +94,10 @@ fn statuses<B: Behaviour>(
 fn totals<B: Behaviour>(alloc: Global, group: &Group<B>) -> Result<Totals, AllocError>
     ensures { IfOk result (AreTotals group.now) }
 {
-    let Ok(dump) = group.dump(group.down()) else {
-        return Err(AllocError);
+    let dump = match group.dump(group.down()) {
+        Ok(dump) => dump,
+        Err(DumpGroupRefusal::Memory) => return Err(AllocError),
+        Err(DumpGroupRefusal::BadStrike) => unreachable!(),
     };
     let lost = lost(alloc, &dump)?;
     let orphans = orphans(alloc, &dump)?;

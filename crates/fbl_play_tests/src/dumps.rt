@@ -3,6 +3,7 @@ use fbl_dump::{audit, dump_of_bytes, dump_text};
 use fbl_script::RunFault;
 use std::alloc::{AllocError, Global};
 use std::io::{self, Read};
+use std::process::Abort;
 use std::test::Fail;
 
 /// A reader that never ends.
@@ -62,6 +63,12 @@ fn audited(alloc: Global, input: &[u8]) -> Result<String, Fail> {
     }
 }
 
+/// The audit of the input says so.
+fn says(rt: &impl Abort, alloc: Global, input: &[u8], told: &str) -> Result<(), Fail> {
+    assert_eq!(rt; audited(alloc, input)?.as_str(), told);
+    Ok(())
+}
+
 /// Strike sets, with what comes behind them, and what the audit says.
 const STRIKES: [(&str, &str, &str); 9] = [
     ("[1]", "", "lost 0\norphans none\n"),
@@ -77,17 +84,11 @@ const STRIKES: [(&str, &str, &str); 9] = [
 
 #[test]
 fn audits_each_strike_set(rt: HostRuntime) -> Result<(), Fail> {
-    let alloc = rt.alloc();
     for (strike, tail, told) in STRIKES {
-        let text = dump(alloc, 1, EVENTS, HELD, strike, tail)?;
-        assert_eq!(rt;
-            audited(alloc, text.as_bytes())?.as_str(),
-            told,
-            "at {strike}{tail}"
-        );
+        let text = dump(rt.alloc(), 1, EVENTS, HELD, strike, tail)?;
+        says(&rt, rt.alloc(), text.as_bytes(), told)?;
     }
-    assert_eq!(rt; audited(alloc, LOST.as_bytes())?.as_str(), LOST_TEXT);
-    Ok(())
+    says(&rt, rt.alloc(), LOST.as_bytes(), LOST_TEXT)
 }
 
 /// Events and held pairs, and what the audit says where nobody was struck.
@@ -113,24 +114,20 @@ const PARTS: [(&str, &str, &str); 9] = [
 
 #[test]
 fn audits_other_events_and_pairs(rt: HostRuntime) -> Result<(), Fail> {
-    let alloc = rt.alloc();
     for (events, held, told) in PARTS {
-        let text = dump(alloc, 1, events, held, "[]", "")?;
-        assert_eq!(rt;
-            audited(alloc, text.as_bytes())?.as_str(),
-            told,
-            "at {events}, {held}"
-        );
+        let text = dump(rt.alloc(), 1, events, held, "[]", "")?;
+        says(&rt, rt.alloc(), text.as_bytes(), told)?;
     }
-    let text = dump(alloc, 3, EVENTS, HELD, "[1]", "")?;
-    assert_eq!(rt; audited(alloc, text.as_bytes())?.as_str(), "BadF");
-    assert_eq!(rt; audited(alloc, b"{}")?.as_str(), "bad field members");
-    assert_eq!(rt; audited(alloc, b"[]")?.as_str(), "not an object");
-    assert_eq!(rt;
-        audited(alloc, br#"{"members":3,"f":256}"#)?.as_str(),
-        "bad field f"
-    );
     Ok(())
+}
+
+#[test]
+fn audits_other_members(rt: HostRuntime) -> Result<(), Fail> {
+    let text = dump(rt.alloc(), 3, EVENTS, HELD, "[1]", "")?;
+    says(&rt, rt.alloc(), text.as_bytes(), "BadF")?;
+    says(&rt, rt.alloc(), b"{}", "bad field members")?;
+    says(&rt, rt.alloc(), b"[]", "not an object")?;
+    says(&rt, rt.alloc(), br#"{"members":3,"f":256}"#, "bad field f")
 }
 
 #[test]
@@ -138,20 +135,15 @@ fn refuses_each_front_of_a_dump(rt: HostRuntime) -> Result<(), Fail> {
     let bytes = LINE.as_bytes();
     assert!(rt; bytes.len() > 200);
     for end in 0..bytes.len() {
-        assert_eq!(rt;
-            audited(rt.alloc(), &bytes[..end])?.as_str(),
-            "not json",
-            "at {end}"
-        );
+        says(&rt, rt.alloc(), &bytes[..end], "not json")?;
     }
     Ok(())
 }
 
 #[test]
 fn refuses_the_event_at_place_8192(rt: HostRuntime) -> Result<(), Fail> {
-    let alloc = rt.alloc();
     let mut text = String::from_str(
-        alloc,
+        rt.alloc(),
         r#"{"members":2,"f":1,"held":[],"strike":[],"events":["#,
     )?;
     for place in 1..=8193u32 {
@@ -161,29 +153,28 @@ fn refuses_the_event_at_place_8192(rt: HostRuntime) -> Result<(), Fail> {
         write!(text, r#"["send",0,{place},1]"#)?;
     }
     text.push_str("]}")?;
-    assert_eq!(rt; audited(alloc, text.as_bytes())?.as_str(), "BadEvent 8192");
-    Ok(())
+    says(&rt, rt.alloc(), text.as_bytes(), "BadEvent 8192")
+}
+
+/// The line of the dump that is read from the text.
+fn written_again(alloc: Global, text: &str) -> Result<String, Fail> {
+    let dump = dump_of_bytes(alloc, text.as_bytes()).ok().ok_or("no dump")?;
+    Ok(dump_text(alloc, &dump)?)
 }
 
 #[test]
 fn writes_a_dump_as_its_line(rt: HostRuntime) -> Result<(), Fail> {
-    let alloc = rt.alloc();
-    let text = dump(alloc, 1, EVENTS, HELD, "[2,0,2]", "")?;
-    let Ok(dump) = dump_of_bytes(alloc, text.as_bytes()) else {
-        return Err("no dump")?;
-    };
-    let line = dump_text(alloc, &dump)?;
-    let rising = text.as_str().replace(alloc, "[2,0,2]", "[0,2]")?;
-    assert_eq!(rt; line.as_str(), format!(in alloc; "{rising}\n")?.as_str());
-    let Ok(dump) = dump_of_bytes(alloc, LINE.as_bytes()) else {
-        return Err("no dump")?;
-    };
-    let line = dump_text(alloc, &dump)?;
-    assert_eq!(rt; line.as_str(), format!(in alloc; "{LINE}\n")?.as_str());
-    assert_eq!(rt;
-        audited(alloc, line.as_bytes())?.as_str(),
-        "lost 0\norphans none\n"
-    );
+    let line = written_again(rt.alloc(), LINE)?;
+    assert!(rt; line.as_str().strip_suffix("\n") == Some(LINE));
+    says(&rt, rt.alloc(), line.as_bytes(), "lost 0\norphans none\n")
+}
+
+#[test]
+fn writes_a_strike_set_rising(rt: HostRuntime) -> Result<(), Fail> {
+    let text = dump(rt.alloc(), 1, EVENTS, HELD, "[2,0,2]", "")?;
+    let rising = dump(rt.alloc(), 1, EVENTS, HELD, "[0,2]", "")?;
+    let line = written_again(rt.alloc(), text.as_str())?;
+    assert!(rt; line.as_str().strip_suffix("\n") == Some(rising.as_str()));
     Ok(())
 }
 

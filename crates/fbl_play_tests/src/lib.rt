@@ -13,4 +13,6 @@ mod runs;
 #[cfg(test)]
 mod scripts;
 #[cfg(test)]
+mod setting;
+#[cfg(test)]
 mod unsteady;

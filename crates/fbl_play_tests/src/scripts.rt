@@ -1,5 +1,10 @@
-use fbl_script::{BehaviourName, Command, Key, RunFault, Script, put, read_input, script_of_bytes};
+use crate::setting::{member, set};
+use fbl_base::{MemberSet, Note, Start};
+use fbl_script::{
+    BehaviourName, Command, Key, PlannedStrike, RunFault, Script, put, read_input, script_of_bytes,
+};
 use std::alloc::{AllocError, Global};
+use std::process::Abort;
 use std::test::Fail;
 
 const HEAD: &str = r#""version":1,"members":2,"f":1,"behaviour":"mix""#;
@@ -105,67 +110,60 @@ const TAILS: [(&str, &str); 8] = [
     (r#","held":[]"#, "unknown key"),
 ];
 
+/// The input has this fault, or `none`.
+fn has_fault(rt: &impl Abort, alloc: Global, input: &[u8], fault: &str) -> Result<(), Fail> {
+    assert_eq!(rt; fault_of(alloc, input)?.as_str(), fault);
+    Ok(())
+}
+
+/// The script with these parts has this fault, or `none`.
+fn has_script_fault(
+    rt: &impl Abort,
+    alloc: Global,
+    parts: [&str; 4],
+    fault: &str,
+) -> Result<(), Fail> {
+    let [head, start, commands, tail] = parts;
+    let text = script(alloc, head, start, commands, tail)?;
+    has_fault(rt, alloc, text.as_bytes(), fault)
+}
+
 #[test]
 fn names_the_fault_of_each_changed_script(rt: HostRuntime) -> Result<(), Fail> {
-    let alloc = rt.alloc();
     for (head, fault) in HEADS {
-        let text = script(alloc, head, START, COMMANDS, "")?;
-        assert_eq!(rt;
-            fault_of(alloc, text.as_bytes())?.as_str(),
-            fault,
-            "at {head}"
-        );
+        has_script_fault(&rt, rt.alloc(), [head, START, COMMANDS, ""], fault)?;
     }
     for (start, fault) in STARTS {
-        let text = script(alloc, HEAD, start, COMMANDS, "")?;
-        assert_eq!(rt;
-            fault_of(alloc, text.as_bytes())?.as_str(),
-            fault,
-            "at {start}"
-        );
+        has_script_fault(&rt, rt.alloc(), [HEAD, start, COMMANDS, ""], fault)?;
     }
     for (commands, fault) in COMMAND_LISTS {
-        let text = script(alloc, HEAD, START, commands, "")?;
-        assert_eq!(rt;
-            fault_of(alloc, text.as_bytes())?.as_str(),
-            fault,
-            "at {commands}"
-        );
+        has_script_fault(&rt, rt.alloc(), [HEAD, START, commands, ""], fault)?;
     }
     for (tail, fault) in TAILS {
-        let text = script(alloc, HEAD, START, COMMANDS, tail)?;
-        assert_eq!(rt;
-            fault_of(alloc, text.as_bytes())?.as_str(),
-            fault,
-            "at {tail}"
-        );
+        has_script_fault(&rt, rt.alloc(), [HEAD, START, COMMANDS, tail], fault)?;
     }
     Ok(())
 }
 
+/// Scripts with two faults, and the one that is told.
+const TWO_FAULTS: [([&str; 4], &str); 4] = [
+    ([HEAD, START, r#"["fly"]"#, r#","x":0"#], "bad command 0"),
+    ([HEAD, "[0,0,4,1]", COMMANDS, r#","x":0"#], "unknown key"),
+    (
+        [HEAD, "[0,1,4,1],[0,1,4,1]", COMMANDS, r#","limit":1"#],
+        "LimitBelowStarts",
+    ),
+    (
+        [HEAD, "[0,1]", COMMANDS, r#","limit":-1"#],
+        "bad field limit",
+    ),
+];
+
 #[test]
 fn tells_the_first_of_two_faults(rt: HostRuntime) -> Result<(), Fail> {
-    let alloc = rt.alloc();
-    let text = script(alloc, HEAD, START, r#"["fly"]"#, r#","x":0"#)?;
-    assert_eq!(rt; fault_of(alloc, text.as_bytes())?.as_str(), "bad command 0");
-    let text = script(alloc, HEAD, "[0,0,4,1]", COMMANDS, r#","x":0"#)?;
-    assert_eq!(rt; fault_of(alloc, text.as_bytes())?.as_str(), "unknown key");
-    let text = script(
-        alloc,
-        HEAD,
-        "[0,1,4,1],[0,1,4,1]",
-        COMMANDS,
-        r#","limit":1"#,
-    )?;
-    assert_eq!(rt;
-        fault_of(alloc, text.as_bytes())?.as_str(),
-        "LimitBelowStarts"
-    );
-    let text = script(alloc, HEAD, "[0,1]", COMMANDS, r#","limit":-1"#)?;
-    assert_eq!(rt;
-        fault_of(alloc, text.as_bytes())?.as_str(),
-        "bad field limit"
-    );
+    for (parts, fault) in TWO_FAULTS {
+        has_script_fault(&rt, rt.alloc(), parts, fault)?;
+    }
     Ok(())
 }
 
@@ -199,25 +197,25 @@ const INPUTS: [(&str, &str); 12] = [
 
 #[test]
 fn names_the_first_key_that_is_missing(rt: HostRuntime) -> Result<(), Fail> {
-    let alloc = rt.alloc();
     for (input, fault) in INPUTS {
-        assert_eq!(rt;
-            fault_of(alloc, input.as_bytes())?.as_str(),
-            fault,
-            "at {input}"
-        );
+        has_fault(&rt, rt.alloc(), input.as_bytes(), fault)?;
     }
-    assert_eq!(rt; fault_of(alloc, &[b'"', 0xff, b'"'])?.as_str(), "not json");
-    assert_eq!(rt; Key::F.name(), "f");
+    has_fault(&rt, rt.alloc(), &[b'"', 0xff, b'"'], "not json")?;
+    assert!(rt; Key::F.name() == "f");
     Ok(())
 }
 
-/// The piece so many times, with commas between.
-fn repeated(alloc: Global, piece: &str, times: usize) -> Result<String, AllocError> {
+/// The piece so many times, with the separator between.
+fn repeated(
+    alloc: Global,
+    piece: &str,
+    times: usize,
+    separator: &str,
+) -> Result<String, AllocError> {
     let mut text = String::new(alloc);
     for place in 0..times {
         if place > 0 {
-            text.push_str(",")?;
+            text.push_str(separator)?;
         }
         text.push_str(piece)?;
     }
@@ -226,60 +224,62 @@ fn repeated(alloc: Global, piece: &str, times: usize) -> Result<String, AllocErr
 
 #[test]
 fn takes_64_starts_and_1024_commands(rt: HostRuntime) -> Result<(), Fail> {
-    let alloc = rt.alloc();
     for (times, fault) in [(64, "none"), (65, "TooManyStarts")] {
-        let starts = repeated(alloc, START, times)?;
-        let text = script(alloc, HEAD, starts.as_str(), COMMANDS, "")?;
-        assert_eq!(rt; fault_of(alloc, text.as_bytes())?.as_str(), fault);
+        let starts = repeated(rt.alloc(), START, times, ",")?;
+        has_script_fault(
+            &rt,
+            rt.alloc(),
+            [HEAD, starts.as_str(), COMMANDS, ""],
+            fault,
+        )?;
     }
     for (times, fault) in [(1024, "none"), (1025, "bad command 1024")] {
-        let commands = repeated(alloc, r#"["states"]"#, times)?;
-        let text = script(alloc, HEAD, START, commands.as_str(), "")?;
-        assert_eq!(rt; fault_of(alloc, text.as_bytes())?.as_str(), fault);
+        let commands = repeated(rt.alloc(), r#"["states"]"#, times, ",")?;
+        has_script_fault(&rt, rt.alloc(), [HEAD, START, commands.as_str(), ""], fault)?;
     }
     Ok(())
 }
 
 #[test]
-fn refuses_each_front_and_deep_brackets(rt: HostRuntime) -> Result<(), Fail> {
-    let alloc = rt.alloc();
-    let text = script(alloc, HEAD, START, COMMANDS, "")?;
+fn refuses_each_front_of_a_script(rt: HostRuntime) -> Result<(), Fail> {
+    let text = script(rt.alloc(), HEAD, START, COMMANDS, "")?;
     let bytes = text.as_bytes();
     assert!(rt; bytes.len() > 100);
     for end in 0..bytes.len() {
-        assert_eq!(rt;
-            fault_of(alloc, &bytes[..end])?.as_str(),
-            "not json",
-            "at {end}"
-        );
+        has_fault(&rt, rt.alloc(), &bytes[..end], "not json")?;
     }
-    let mut brackets = String::new(alloc);
-    for _place in 0..200usize {
-        brackets.push_str("[")?;
-    }
-    for _place in 0..200usize {
-        brackets.push_str("]")?;
-    }
-    assert_eq!(rt; fault_of(alloc, brackets.as_bytes())?.as_str(), "not json");
     Ok(())
+}
+
+#[test]
+fn refuses_deep_brackets(rt: HostRuntime) -> Result<(), Fail> {
+    let mut brackets = repeated(rt.alloc(), "[", 200, "")?;
+    brackets.push_str(repeated(rt.alloc(), "]", 200, "")?.as_str())?;
+    has_fault(&rt, rt.alloc(), brackets.as_bytes(), "not json")
+}
+
+/// Whether the reader's bytes, so many, are read whole.
+fn reads_whole(alloc: Global, mut input: &[u8]) -> bool {
+    let len = input.len();
+    matches!(read_input(alloc, &mut input), Ok(read) if read.len() == len)
+}
+
+/// Whether the reader has too many bytes.
+fn reads_too_long(alloc: Global, mut input: &[u8]) -> bool {
+    matches!(read_input(alloc, &mut input), Err(RunFault::TooLong))
 }
 
 #[test]
 fn takes_1048576_bytes(rt: HostRuntime) -> Result<(), Fail> {
-    let alloc = rt.alloc();
-    let text = script(alloc, HEAD, START, COMMANDS, "")?;
-    let mut input = Vec::new(alloc);
-    input.extend_from_slice(text.as_bytes())?;
-    for _place in input.len()..1_048_576 {
-        input.push(b' ')?;
+    let mut text = script(rt.alloc(), HEAD, START, COMMANDS, "")?;
+    for _place in text.len()..1_048_576 {
+        text.push_str(" ")?;
     }
-    assert_eq!(rt; fault_of(alloc, input.as_slice())?.as_str(), "none");
-    let mut reader = input.as_slice();
-    assert_eq!(rt; read_input(alloc, &mut reader)?.len(), 1_048_576);
-    input.push(b' ')?;
-    assert_eq!(rt; fault_of(alloc, input.as_slice())?.as_str(), "too long");
-    let mut reader = input.as_slice();
-    assert!(rt; matches!(read_input(alloc, &mut reader), Err(RunFault::TooLong)));
+    has_fault(&rt, rt.alloc(), text.as_bytes(), "none")?;
+    assert!(rt; reads_whole(rt.alloc(), text.as_bytes()));
+    text.push_str(" ")?;
+    has_fault(&rt, rt.alloc(), text.as_bytes(), "too long")?;
+    assert!(rt; reads_too_long(rt.alloc(), text.as_bytes()));
     Ok(())
 }
 
@@ -289,51 +289,70 @@ const EACH: &str =
 fn each_command(alloc: Global) -> Result<Script, Fail> {
     let head = r#""version":1,"members":4,"f":2,"behaviour":"relay""#;
     let text = script(alloc, head, "[0,1,5,6],[2,3,7,3]", EACH, r#","limit":40"#)?;
-    match script_of_bytes(alloc, text.as_bytes()) {
-        Ok(script) => Ok(script),
-        Err(_) => Err("no script")?,
+    Ok(
+        script_of_bytes(alloc, text.as_bytes())
+            .ok()
+            .ok_or("no script")?,
+    )
+}
+
+fn start(from: u8, to: u8, value: u32, hops: u8) -> Result<Start, Fail> {
+    let note = Note { value, hops };
+    let (from, to) = (member(from)?, member(to)?);
+    Ok(Start { from, to, note })
+}
+
+#[test]
+fn reads_the_parameters(rt: HostRuntime) -> Result<(), Fail> {
+    let starts = [start(0, 1, 5, 6)?, start(2, 3, 7, 3)?];
+    let script = each_command(rt.alloc())?;
+    assert!(rt; script.behaviour == BehaviourName::Relay);
+    let config = &script.config;
+    assert!(rt; config.members() == 4 && config.f() == 2 && config.limit() == 40);
+    assert!(rt; config.starts() == starts.as_slice());
+    Ok(())
+}
+
+/// Whether these are one of each command, the strike and the dump with these sets, and the run with these strikes.
+fn is_each_command(
+    commands: &[Command],
+    struck: MemberSet,
+    dumped: MemberSet,
+    planned: &[PlannedStrike],
+) -> bool {
+    match commands {
+        [
+            Command::Deliver { to, from },
+            Command::States,
+            Command::Report,
+            Command::Strike(first),
+            Command::Recover,
+            Command::Dump(second),
+            Command::Run(plan),
+        ] => {
+            (to.number(), from.number()) == (3, 0)
+                && (*first, *second) == (struck, dumped)
+                && plan.strikes() == planned
+        }
+        _ => false,
     }
 }
 
 #[test]
 fn reads_each_command(rt: HostRuntime) -> Result<(), Fail> {
+    let planned = [
+        PlannedStrike {
+            at: 7,
+            set: set(&[0, 3])?,
+        },
+        PlannedStrike {
+            at: 9,
+            set: set(&[1])?,
+        },
+    ];
+    let (struck, dumped) = (set(&[1, 2])?, set(&[])?);
     let script = each_command(rt.alloc())?;
-    assert!(rt; script.behaviour == BehaviourName::Relay);
-    assert_eq!(rt; script.config.members(), 4);
-    assert_eq!(rt; script.config.f(), 2);
-    assert_eq!(rt; script.config.limit(), 40);
-    assert_eq!(rt; script.config.starts().len(), 2);
-    for start in script.config.starts() {
-        assert_eq!(rt; start.to.number(), start.from.number() + 1);
-        assert!(rt;
-            start.note.value == 5 && start.note.hops == 6
-                || start.note.value == 7 && start.note.hops == 3
-        );
-    }
-    match script.commands.as_slice() {
-        [
-            Command::Deliver { to, from },
-            Command::States,
-            Command::Report,
-            Command::Strike(struck),
-            Command::Recover,
-            Command::Dump(none),
-            Command::Run(plan),
-        ] => {
-            assert_eq!(rt; to.number(), 3);
-            assert_eq!(rt; from.number(), 0);
-            assert_eq!(rt; struck.count(), 2);
-            assert_eq!(rt; none.count(), 0);
-            assert_eq!(rt; plan.strikes().len(), 2);
-            for strike in plan.strikes() {
-                assert!(rt;
-                    strike.at == 7 && strike.set.count() == 2
-                        || strike.at == 9 && strike.set.count() == 1
-                );
-            }
-        }
-        _ => assert!(rt; false, "other commands"),
-    }
+    assert!(rt; is_each_command(script.commands.as_slice(), struck, dumped, &planned));
     Ok(())
 }
 

@@ -2,12 +2,13 @@
 
 ghost use Rattle.std.specs.Prelude.{◌≡◌, IfOk};
 
-use arrayvec::ArrayVec;
 use fbl_base::{Config, ConfigRefusal, Member, MemberSet, Note, Relay, Start};
 use fbl_group::Group;
-use fbl_threads::Strike;
+use fbl_threads::{DrainRefusal, Drained, NoGate, Strike, drain};
 use std::alloc::Global;
+use std::sync::Wait;
 use std::test::Fail;
+use std::thread::Threads;
 
 /// More turns than a worker of these tests ever needs.
 pub(crate) const TURNS: u32 = 1_000_000;
@@ -32,6 +33,15 @@ pub(crate) fn strike(at: u64, numbers: &[u8]) -> Result<Strike, Fail> {
         at,
         set: set(numbers)?,
     })
+}
+
+/// A plan of these entries.
+pub(crate) fn plan(alloc: Global, entries: &[(u64, &[u8])]) -> Result<Vec<Strike>, Fail> {
+    let mut plan = Vec::new(alloc);
+    for (at, numbers) in entries {
+        plan.push(strike(*at, numbers)?)?;
+    }
+    Ok(plan)
 }
 
 /// A message that is sent at the start: from whom, to whom, its value and its hops.
@@ -82,10 +92,26 @@ pub(crate) fn has_states(group: &Group<Relay>, expected: &[u64]) -> bool {
     true
 }
 
+/// Drains the group by this plan and this many workers, with no gate and with turns enough.
+pub(crate) fn drain_by<R: Threads + Wait + Sync>(
+    rt: &R,
+    alloc: Global,
+    group: Group<Relay>,
+    plan: &[Strike],
+    workers: u8,
+) -> (Group<Relay>, Result<Drained, DrainRefusal>) {
+    drain(rt, alloc, group, plan, workers, TURNS, &NoGate)
+}
+
+/// Whether these are the workers' receipts, and the receipts that they undid, worker by worker.
+pub(crate) fn has_counts(drained: &Drained, made: &[u64], undone: &[u64]) -> bool {
+    drained.by_worker.as_slice() == made && drained.undone_by_worker.as_slice() == undone
+}
+
 /// The sum of what the workers did.
-pub(crate) fn total(by_worker: &ArrayVec<u64, 8>) -> u64 {
+pub(crate) fn total(by_worker: &[u64]) -> u64 {
     let mut total = 0u64;
-    for count in by_worker.as_slice() {
+    for count in by_worker {
         total = total.saturating_add(*count);
     }
     total

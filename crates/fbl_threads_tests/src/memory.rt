@@ -1,8 +1,35 @@
 //! Want of memory in a drain.
 
-use crate::fixtures::{STATES_OF_TWELVE, TURNS, group, has_states, starts_of_twelve, strike};
-use fbl_threads::{DrainRefusal, NoGate, drain};
+use crate::fixtures::{STATES_OF_TWELVE, drain_by, group, has_states, starts_of_twelve, strike};
+use fbl_base::Relay;
+use fbl_group::Group;
+use fbl_threads::{DrainRefusal, Drained};
 use std::test::Fail;
+
+/// Recovers the members that are down, and answers whether nobody is down now.
+fn is_up(group: &mut Group<Relay>) -> bool {
+    group.down().count() == 0 || group.recover().is_ok()
+}
+
+/// Whether a drain of a group with so many receipts may be answered so and leave this group, where memory may be wanting.
+fn is_fair(
+    answer: &Result<Drained, DrainRefusal>,
+    group: &Group<Relay>,
+    ever: u64,
+    may_be_down: bool,
+) -> bool {
+    match answer {
+        Ok(drained) => {
+            (drained.quiet || drained.memory || drained.started < 2)
+                && drained.quiet == group.is_quiet()
+                && !drained.full
+        }
+        Err(DrainRefusal::Memory | DrainRefusal::NoTable | DrainRefusal::NoThread) => {
+            group.receipts_ever() == ever
+        }
+        Err(refusal) => *refusal == DrainRefusal::Down && may_be_down,
+    }
+}
 
 /// It holds too where any one request for memory is refused: then the group is drained in spite of it, or the answer says
 /// that memory was wanting, and what is left is drained afterwards as if nothing had been refused.
@@ -14,24 +41,16 @@ fn a_drain_goes_on_after_want_of_memory(rt: HostRuntime) -> Result<(), Fail> {
         return Ok(());
     };
     for number in 0..3 {
-        if group.down().count() != 0 {
-            let recovered = group.recover();
-            assert!(rt; recovered.is_ok() || number == 1);
-        }
+        let may_be_down = number == 1;
+        assert!(rt; is_up(&mut group) || may_be_down, "drain {number}");
         let ever = group.receipts_ever();
         let plan = if number == 0 { &strikes[..] } else { &[] };
-        let (back, answer) = drain(&rt, rt.alloc(), group, plan, 2, TURNS, &NoGate);
+        let (back, answer) = drain_by(&rt, rt.alloc(), group, plan, 2);
         group = back;
-        match answer {
-            Ok(drained) => {
-                assert!(rt; drained.quiet || drained.memory || drained.started < 2);
-                assert!(rt; drained.quiet == group.is_quiet() && !drained.full);
-            }
-            Err(DrainRefusal::Memory | DrainRefusal::NoTable | DrainRefusal::NoThread) => {
-                assert_eq!(rt; group.receipts_ever(), ever);
-            }
-            Err(refusal) => assert!(rt; refusal == DrainRefusal::Down && number == 1),
-        }
+        assert!(rt;
+            is_fair(&answer, &group, ever, may_be_down),
+            "drain {number}"
+        );
     }
     assert!(rt; group.is_quiet() && has_states(&group, &STATES_OF_TWELVE));
     Ok(())

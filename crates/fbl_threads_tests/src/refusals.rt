@@ -1,24 +1,35 @@
 //! Why a group is not drained.
 
-use crate::fixtures::{TURNS, set, strike, twelve_receipts};
-use fbl_base::{MemberSet, Relay};
+use crate::fixtures::{drain_by, plan, set, strike, twelve_receipts};
+use fbl_base::{Event, MemberSet, Relay};
 use fbl_group::Group;
-use fbl_threads::{DrainRefusal, NoGate, Strike, drain};
+use fbl_threads::{DrainRefusal, Strike};
 use std::alloc::Global;
+use std::process::Abort;
 use std::sync::Wait;
 use std::test::Fail;
 use std::thread::Threads;
 
-/// What refuses a drain of the group, which comes back.
-fn refused<R: Threads + Wait + Sync>(
+/// Drains the group, asserts what refuses that, and hands the group back.
+fn refuse<R: Threads + Wait + Sync + Abort>(
     rt: &R,
     alloc: Global,
     group: Group<Relay>,
     plan: &[Strike],
     workers: u8,
-) -> (Group<Relay>, Option<DrainRefusal>) {
-    let (group, answer) = drain(rt, alloc, group, plan, workers, TURNS, &NoGate);
-    (group, answer.err())
+    refusal: DrainRefusal,
+) -> Group<Relay> {
+    let (group, answer) = drain_by(rt, alloc, group, plan, workers);
+    assert_eq!(rt; answer.err(), Some(refusal), "{workers} workers");
+    group
+}
+
+/// Whether the group has made no receipt, and has this trace, so many messages in flight and these members down.
+fn is_kept(group: &Group<Relay>, trace: &[Event], in_flight: usize, down: MemberSet) -> bool {
+    group.receipts_ever() == 0
+        && group.trace() == trace
+        && group.messages_in_flight() == in_flight
+        && group.down() == down
 }
 
 #[test]
@@ -28,34 +39,29 @@ fn refusals_come_in_their_order(rt: HostRuntime) -> Result<(), Fail> {
     let bad = [strike(1, &[])?];
     let mut group = twelve_receipts(alloc)?;
     let trace = group.trace().to_vec(alloc)?;
-    group.strike(set(&[1])?)?;
+    let down = set(&[1])?;
+    group.strike(down)?;
     for workers in [0, 9, 255] {
-        let (back, refusal) = refused(&rt, alloc, group, &bad, workers);
-        group = back;
-        assert_eq!(rt;
-            refusal,
-            Some(DrainRefusal::BadWorkers),
-            "{workers} workers"
-        );
+        group = refuse(&rt, alloc, group, &bad, workers, DrainRefusal::BadWorkers);
     }
     for workers in [1, 8] {
-        let (back, refusal) = refused(&rt, alloc, group, &bad, workers);
-        assert_eq!(rt;
-            refusal,
-            Some(DrainRefusal::BadPlan(0)),
-            "{workers} workers"
-        );
-        let (back, refusal) = refused(&rt, alloc, back, &good, workers);
-        assert_eq!(rt; refusal, Some(DrainRefusal::Down), "{workers} workers");
-        let (back, refusal) = refused(&rt, alloc, back, &[], workers);
-        assert_eq!(rt; refusal, Some(DrainRefusal::Down), "{workers} workers");
-        group = back;
+        group = refuse(&rt, alloc, group, &bad, workers, DrainRefusal::BadPlan(0));
+        group = refuse(&rt, alloc, group, &good, workers, DrainRefusal::Down);
+        group = refuse(&rt, alloc, group, &[], workers, DrainRefusal::Down);
     }
-    assert!(rt; group.trace() == trace.as_slice());
-    assert!(rt; group.down() == set(&[1])? && group.receipts_ever() == 0);
-    assert_eq!(rt; group.messages_in_flight(), 2);
+    assert!(rt; is_kept(&group, &trace, 2, down));
     Ok(())
 }
+
+/// Plans, each with the place of its first bad entry.
+const PLANS: [(&[(u64, &[u8])], Option<usize>); 6] = [
+    (&[(0, &[1])], Some(0)),
+    (&[(3, &[1]), (3, &[2])], Some(1)),
+    (&[(3, &[1]), (4, &[]), (4, &[])], Some(1)),
+    (&[(3, &[1]), (4, &[1, 2]), (5, &[0, 1, 2])], Some(2)),
+    (&[(3, &[4])], Some(0)),
+    (&[(3, &[1]), (4, &[1, 2])], None),
+];
 
 /// The place of the bad entry that refuses a drain by this plan, where the drain leaves the group as it was.
 fn bad_place<R: Threads + Wait + Sync>(
@@ -65,31 +71,21 @@ fn bad_place<R: Threads + Wait + Sync>(
 ) -> Result<Option<usize>, Fail> {
     let group = twelve_receipts(alloc)?;
     let trace = group.trace().to_vec(alloc)?;
-    let (group, refusal) = refused(rt, alloc, group, plan, 2);
-    let is_kept = group.trace() == trace.as_slice()
-        && group.messages_in_flight() == 3
-        && group.down() == MemberSet::empty();
-    Ok(match refusal {
-        Some(DrainRefusal::BadPlan(place)) if is_kept => Some(place),
+    let (group, answer) = drain_by(rt, alloc, group, plan, 2);
+    Ok(match answer.err() {
+        Some(DrainRefusal::BadPlan(place)) if is_kept(&group, &trace, 3, MemberSet::empty()) => {
+            Some(place)
+        }
         _ => None,
     })
 }
 
 #[test]
 fn the_first_bad_entry_of_a_plan_is_named(rt: HostRuntime) -> Result<(), Fail> {
-    let one = strike(3, &[1])?;
-    let two = strike(4, &[1, 2])?;
-    let at_zero = [strike(0, &[1])?];
-    assert_eq!(rt; bad_place(&rt, rt.alloc(), &at_zero)?, Some(0));
-    let at_one_count = [one, strike(3, &[2])?];
-    assert_eq!(rt; bad_place(&rt, rt.alloc(), &at_one_count)?, Some(1));
-    let of_nobody = [one, strike(4, &[])?, strike(4, &[])?];
-    assert_eq!(rt; bad_place(&rt, rt.alloc(), &of_nobody)?, Some(1));
-    let of_three = [one, two, strike(5, &[0, 1, 2])?];
-    assert_eq!(rt; bad_place(&rt, rt.alloc(), &of_three)?, Some(2));
-    let of_no_member = [strike(3, &[4])?];
-    assert_eq!(rt; bad_place(&rt, rt.alloc(), &of_no_member)?, Some(0));
-    assert_eq!(rt; bad_place(&rt, rt.alloc(), &[one, two])?, None);
+    for (entries, place) in PLANS {
+        let plan = plan(rt.alloc(), entries)?;
+        assert_eq!(rt; bad_place(&rt, rt.alloc(), &plan)?, place, "{entries:?}");
+    }
     Ok(())
 }
 
@@ -100,10 +96,10 @@ fn a_plan_has_at_most_64_entries(rt: HostRuntime) -> Result<(), Fail> {
     for at in 1..=65 {
         plan.push(strike(at, &[0])?)?;
     }
-    let (group, refusal) = refused(&rt, alloc, twelve_receipts(alloc)?, &plan, 2);
-    assert_eq!(rt; refusal, Some(DrainRefusal::BadPlan(64)));
+    let group = twelve_receipts(alloc)?;
+    let group = refuse(&rt, alloc, group, &plan, 2, DrainRefusal::BadPlan(64));
     assert!(rt; plan.pop().is_some());
-    let (_, refusal) = refused(&rt, alloc, group, &plan, 2);
-    assert_eq!(rt; refusal, None);
+    let (_, answer) = drain_by(&rt, alloc, group, &plan, 2);
+    assert!(rt; answer.is_ok());
     Ok(())
 }

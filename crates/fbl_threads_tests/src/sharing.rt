@@ -4,10 +4,11 @@ use crate::fixtures::{group, member, set, start};
 use fbl_base::{Note, Relay, Start};
 use fbl_group::{
     CommitRefusal, CrashRefusal, DeliverRefusal, Done, Receipted, RecoverRefusal, Recovered,
-    Struck, run_step,
+    StrikeRefusal, Struck, run_step,
 };
 use fbl_threads::SharedGroup;
 use std::alloc::Global;
+use std::process::Abort;
 use std::sync::Wait;
 use std::test::Fail;
 
@@ -29,39 +30,6 @@ fn shared(
     Ok(SharedGroup::new(group(alloc, members, 1, limit, starts)?))
 }
 
-/// The step of member 1's next message from member 0.
-fn step<R: Wait>(rt: &R, shared: &SharedGroup<Relay>) -> Result<Done<Relay>, Fail> {
-    let ticket = shared.lock(rt).take(member(1)?, member(0)?)?;
-    Ok(run_step(ticket))
-}
-
-fn deliver<R: Wait>(
-    rt: &R,
-    shared: &SharedGroup<Relay>,
-) -> Result<Result<Receipted, DeliverRefusal>, Fail> {
-    Ok(shared.lock(rt).deliver(member(1)?, member(0)?))
-}
-
-fn commit<R: Wait>(
-    rt: &R,
-    shared: &SharedGroup<Relay>,
-    done: &Done<Relay>,
-) -> Result<Receipted, CommitRefusal> {
-    shared.lock(rt).commit(done)
-}
-
-fn crash<R: Wait>(
-    rt: &R,
-    shared: &SharedGroup<Relay>,
-    numbers: &[u8],
-) -> Result<Result<(Struck, Recovered), CrashRefusal>, Fail> {
-    Ok(shared.lock(rt).crash(set(numbers)?))
-}
-
-fn recover<R: Wait>(rt: &R, shared: &SharedGroup<Relay>) -> Result<Recovered, RecoverRefusal> {
-    shared.lock(rt).recover()
-}
-
 /// A recovery in which nobody had anything to replay.
 fn recovered(resent: u32, undone: u32) -> Recovered {
     Recovered {
@@ -71,6 +39,74 @@ fn recovered(resent: u32, undone: u32) -> Recovered {
     }
 }
 
+/// The step of member 1's next message from member 0.
+fn step<R: Wait>(rt: &R, shared: &SharedGroup<Relay>) -> Result<Done<Relay>, Fail> {
+    let ticket = shared.lock(rt).take(member(1)?, member(0)?)?;
+    Ok(run_step(ticket))
+}
+
+/// Whether the step's ticket has this state, receipt number and send number, and this note.
+fn has_ticket(done: &Done<Relay>, parts: (u64, u32, u32), note: Note) -> bool {
+    let ticket = done.ticket();
+    (ticket.state, ticket.rsn, ticket.ssn) == parts && ticket.note == note
+}
+
+/// Delivers member 1's next message from member 0, which has to be answered so.
+fn deliver<R: Wait + Abort>(
+    rt: &R,
+    shared: &SharedGroup<Relay>,
+    expected: Result<Receipted, DeliverRefusal>,
+) -> Result<(), Fail> {
+    let answer = shared.lock(rt).deliver(member(1)?, member(0)?);
+    assert_eq!(rt; answer, expected);
+    Ok(())
+}
+
+/// Commits the step, which has to be answered so.
+fn commit<R: Wait + Abort>(
+    rt: &R,
+    shared: &SharedGroup<Relay>,
+    done: &Done<Relay>,
+    expected: Result<Receipted, CommitRefusal>,
+) {
+    let answer = shared.lock(rt).commit(done);
+    assert_eq!(rt; answer, expected);
+}
+
+/// Strikes and recovers the members in one hold, which has to be answered so.
+fn crash<R: Wait + Abort>(
+    rt: &R,
+    shared: &SharedGroup<Relay>,
+    numbers: &[u8],
+    expected: Result<(Struck, Recovered), CrashRefusal>,
+) -> Result<(), Fail> {
+    let answer = shared.lock(rt).crash(set(numbers)?);
+    assert_eq!(rt; answer, expected);
+    Ok(())
+}
+
+/// Strikes the members, which has to be answered so.
+fn strike<R: Wait + Abort>(
+    rt: &R,
+    shared: &SharedGroup<Relay>,
+    numbers: &[u8],
+    expected: Result<Struck, StrikeRefusal>,
+) -> Result<(), Fail> {
+    let answer = shared.lock(rt).strike(set(numbers)?);
+    assert_eq!(rt; answer, expected);
+    Ok(())
+}
+
+/// Recovers the members that are down, which has to be answered so.
+fn recover<R: Wait + Abort>(
+    rt: &R,
+    shared: &SharedGroup<Relay>,
+    expected: Result<Recovered, RecoverRefusal>,
+) {
+    let answer = shared.lock(rt).recover();
+    assert_eq!(rt; answer, expected);
+}
+
 // The member is rolled back and comes to the same state again while its step is made.
 #[test]
 fn a_step_outlives_a_crash_only_where_its_member_comes_back_to_it(
@@ -78,17 +114,19 @@ fn a_step_outlives_a_crash_only_where_its_member_comes_back_to_it(
 ) -> Result<(), Fail> {
     let starts = [start(0, 1, 5, 0)?, start(0, 1, 6, 0)?];
     let shared = shared(rt.alloc(), 3, 8192, &starts)?;
-    assert_eq!(rt; deliver(&rt, &shared)?, Ok(receipted(1, 5)));
+    deliver(&rt, &shared, Ok(receipted(1, 5)))?;
     let done = step(&rt, &shared)?;
-    let ticket = done.ticket();
-    assert!(rt; ticket.state == 5 && ticket.rsn == 2 && ticket.ssn == 2);
-    assert!(rt; ticket.note == Note { value: 6, hops: 0 });
-    let crashed = crash(&rt, &shared, &[1])?;
-    assert_eq!(rt; crashed, Ok((Struck { lost: 1 }, recovered(2, 1))));
-    assert_eq!(rt; commit(&rt, &shared, &done), Err(CommitRefusal::Stale));
-    assert_eq!(rt; deliver(&rt, &shared)?, Ok(receipted(1, 5)));
-    assert_eq!(rt; commit(&rt, &shared, &done), Ok(receipted(2, 11)));
-    assert_eq!(rt; commit(&rt, &shared, &done), Err(CommitRefusal::Stale));
+    assert!(rt; has_ticket(&done, (5, 2, 2), Note { value: 6, hops: 0 }));
+    crash(
+        &rt,
+        &shared,
+        &[1],
+        Ok((Struck { lost: 1 }, recovered(2, 1))),
+    )?;
+    commit(&rt, &shared, &done, Err(CommitRefusal::Stale));
+    deliver(&rt, &shared, Ok(receipted(1, 5)))?;
+    commit(&rt, &shared, &done, Ok(receipted(2, 11)));
+    commit(&rt, &shared, &done, Err(CommitRefusal::Stale));
     Ok(())
 }
 
@@ -96,15 +134,12 @@ fn a_step_outlives_a_crash_only_where_its_member_comes_back_to_it(
 fn a_step_waits_for_a_recovery(rt: HostRuntime) -> Result<(), Fail> {
     let shared = shared(rt.alloc(), 2, 3, &[start(0, 1, 5, 1)?])?;
     let done = step(&rt, &shared)?;
-    let ticket = done.ticket();
-    assert!(rt; ticket.state == 0 && ticket.rsn == 1 && ticket.ssn == 1);
-    assert!(rt; ticket.note == Note { value: 5, hops: 1 });
-    let struck = shared.lock(&rt).strike(set(&[0])?);
-    assert_eq!(rt; struck, Ok(Struck { lost: 0 }));
-    assert_eq!(rt; commit(&rt, &shared, &done), Err(CommitRefusal::Down));
-    assert_eq!(rt; recover(&rt, &shared), Ok(recovered(1, 0)));
-    assert_eq!(rt; commit(&rt, &shared, &done), Ok(receipted(1, 5)));
-    assert_eq!(rt; commit(&rt, &shared, &done), Err(CommitRefusal::Stale));
+    assert!(rt; has_ticket(&done, (0, 1, 1), Note { value: 5, hops: 1 }));
+    strike(&rt, &shared, &[0], Ok(Struck { lost: 0 }))?;
+    commit(&rt, &shared, &done, Err(CommitRefusal::Down));
+    recover(&rt, &shared, Ok(recovered(1, 0)));
+    commit(&rt, &shared, &done, Ok(receipted(1, 5)));
+    commit(&rt, &shared, &done, Err(CommitRefusal::Stale));
     Ok(())
 }
 
@@ -113,7 +148,7 @@ fn a_step_without_room_may_be_committed_again(rt: HostRuntime) -> Result<(), Fai
     let shared = shared(rt.alloc(), 2, 2, &[start(0, 1, 5, 1)?])?;
     let done = step(&rt, &shared)?;
     for _ in 0..2 {
-        assert_eq!(rt; commit(&rt, &shared, &done), Err(CommitRefusal::Full));
+        commit(&rt, &shared, &done, Err(CommitRefusal::Full));
     }
     let group = shared.into_inner();
     assert!(rt; group.messages_in_flight() == 1 && group.trace().len() == 1);
@@ -124,12 +159,16 @@ fn a_step_without_room_may_be_committed_again(rt: HostRuntime) -> Result<(), Fai
 fn a_crash_is_a_strike_and_a_recovery_in_one_hold(rt: HostRuntime) -> Result<(), Fail> {
     let starts = [start(0, 1, 5, 0)?, start(0, 1, 6, 0)?];
     let shared = shared(rt.alloc(), 3, 8192, &starts)?;
-    assert_eq!(rt; recover(&rt, &shared), Err(RecoverRefusal::NotDown));
-    assert_eq!(rt; deliver(&rt, &shared)?, Ok(receipted(1, 5)));
-    assert_eq!(rt; deliver(&rt, &shared)?, Ok(receipted(2, 11)));
-    assert_eq!(rt; crash(&rt, &shared, &[0, 1])?, Err(CrashRefusal::TooMany));
-    let crashed = crash(&rt, &shared, &[1])?;
-    assert_eq!(rt; crashed, Ok((Struck { lost: 2 }, recovered(2, 2))));
+    recover(&rt, &shared, Err(RecoverRefusal::NotDown));
+    deliver(&rt, &shared, Ok(receipted(1, 5)))?;
+    deliver(&rt, &shared, Ok(receipted(2, 11)))?;
+    crash(&rt, &shared, &[0, 1], Err(CrashRefusal::TooMany))?;
+    crash(
+        &rt,
+        &shared,
+        &[1],
+        Ok((Struck { lost: 2 }, recovered(2, 2))),
+    )?;
     let group = shared.into_inner();
     assert!(rt; group.receipts_ever() == 2 && group.undone_ever() == 2);
     Ok(())

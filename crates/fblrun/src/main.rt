@@ -115,21 +115,39 @@ fn status_after<R: Eprint>(rt: &R, done: Result<(), RunFault>) -> u8
     }
 }
 
-fn main(rt: HostRuntime) -> ExitCode {
-    let order = match order_in(&rt) {
-        Ok(order) => order,
-        Err(status) => return ExitCode::from(status),
-    };
+/// Plays the script that standard input has, with this many workers.
+fn play_input(rt: &HostRuntime, workers: u8) -> Result<(), RunFault>
+    requires some { 1 ≤ workers }
+    requires few { workers ≤ 8 }
+{
     let mut reader = rt.reader();
-    let mut writer = io::writer(&rt);
-    let done = match order {
+    let mut writer = io::writer(rt);
+    play(rt, rt.alloc(), &mut reader, &mut writer, workers)
+}
+
+/// Audits the dump that standard input has.
+fn audit_input(rt: &HostRuntime) -> Result<(), RunFault> {
+    let mut reader = rt.reader();
+    let mut writer = io::writer(rt);
+    audit(rt.alloc(), &mut reader, &mut writer)
+}
+
+/// Obeys the order, and answers the exit status.
+fn obey(rt: &HostRuntime, order: Order) -> u8 {
+    match order {
         Order::Play(workers) => match workers {
-            1..=8 => play(&rt, rt.alloc(), &mut reader, &mut writer, workers),
-            _ => return ExitCode::from(INPUT_FAULT),
+            1..=8 => status_after(rt, play_input(rt, workers)),
+            _ => INPUT_FAULT,
         },
-        Order::Audit => audit(rt.alloc(), &mut reader, &mut writer),
-    };
-    ExitCode::from(status_after(&rt, done))
+        Order::Audit => status_after(rt, audit_input(rt)),
+    }
+}
+
+fn main(rt: HostRuntime) -> ExitCode {
+    match order_in(&rt) {
+        Ok(order) => ExitCode::from(obey(&rt, order)),
+        Err(status) => ExitCode::from(status),
+    }
 }
 
 #[cfg(test)]

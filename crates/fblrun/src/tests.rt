@@ -93,20 +93,71 @@ const PLAYS: [(&str, u8); 5] = [
     ("play --workers 007", 7),
 ];
 
+/// The order of the command line, if it gives one.
+fn order_in_line(alloc: Global, line: &str) -> Result<Option<Order>, Fail> {
+    let words = words_of(alloc, line)?;
+    Ok(order_of(alloc, words.as_slice()).ok())
+}
+
 #[test]
 fn plays_with_the_workers_asked_for(rt: HostRuntime) -> Result<(), Fail> {
     for (line, asked) in PLAYS {
-        let words = words_of(rt.alloc(), line)?;
-        let order = order_of(rt.alloc(), words.as_slice());
-        assert!(rt;
-            matches!(order, Ok(Order::Play(workers)) if workers == asked),
-            "{line}"
-        );
+        let order = order_in_line(rt.alloc(), line)?;
+        assert!(rt; order == Some(Order::Play(asked)), "{line}");
     }
-    let words = words_of(rt.alloc(), "audit")?;
-    let order = order_of(rt.alloc(), words.as_slice());
-    assert!(rt; matches!(order, Ok(Order::Audit)));
     Ok(())
+}
+
+#[test]
+fn audits_where_that_is_asked_for(rt: HostRuntime) -> Result<(), Fail> {
+    assert!(rt; order_in_line(rt.alloc(), "audit")? == Some(Order::Audit));
+    Ok(())
+}
+
+/// An exit status, and what was printed on each output.
+#[derive(Drop)]
+struct Told {
+    status: u8,
+    out: String,
+    err: String,
+}
+
+impl Told {
+    fn of(console: Console, status: u8) -> Told {
+        Told {
+            status,
+            out: console.out.into_inner(),
+            err: console.err.into_inner(),
+        }
+    }
+
+    /// Whether the status is this one, and each output has such a part. Nothing at all is on one whose part is empty.
+    fn has(&self, status: u8, out: &str, err: &str) -> bool {
+        self.status == status
+            && has_part(self.out.as_str(), out)
+            && has_part(self.err.as_str(), err)
+    }
+}
+
+/// Whether the text has the part, and is empty where the part is.
+fn has_part(text: &str, part: &str) -> bool {
+    text.contains(part) && text.is_empty() == part.is_empty()
+}
+
+/// What is told where the command line gives no order.
+fn told_of_line(alloc: Global, line: &str, is_closed: bool) -> Result<Told, Fail> {
+    let words = words_of(alloc, line)?;
+    let error = order_of(alloc, words.as_slice()).err().ok_or("an order")?;
+    let console = Console::new(alloc, is_closed);
+    let status = refuse(&console, error);
+    Ok(Told::of(console, status))
+}
+
+/// What is told after a play or an audit.
+fn told_after(alloc: Global, done: Result<(), RunFault>) -> Told {
+    let console = Console::new(alloc, false);
+    let status = status_after(&console, done);
+    Told::of(console, status)
 }
 
 /// Command lines that give no order, and a part of what is said of each.
@@ -133,18 +184,8 @@ const MISTAKES: [(&str, &str); 14] = [
 #[test]
 fn refuses_another_command_line(rt: HostRuntime) -> Result<(), Fail> {
     for (line, part) in MISTAKES {
-        let words = words_of(rt.alloc(), line)?;
-        match order_of(rt.alloc(), words.as_slice()) {
-            Ok(_) => assert!(rt; false, "{line}"),
-            Err(error) => {
-                let console = Console::new(rt.alloc(), false);
-                assert_eq!(rt; refuse(&console, error), 2, "{line}");
-                let out = console.out.into_inner();
-                let err = console.err.into_inner();
-                assert!(rt; out.is_empty(), "{line}");
-                assert!(rt; err.as_str().contains(part), "{line}: {err}");
-            }
-        }
+        let told = told_of_line(rt.alloc(), line, false)?;
+        assert!(rt; told.has(2, "", part), "{line}: {}", told.err);
     }
     Ok(())
 }
@@ -152,30 +193,23 @@ fn refuses_another_command_line(rt: HostRuntime) -> Result<(), Fail> {
 #[test]
 fn prints_help_on_the_standard_output(rt: HostRuntime) -> Result<(), Fail> {
     for line in ["--help", "-h", "help", "play --help", "help audit"] {
-        for is_closed in [false, true] {
-            let words = words_of(rt.alloc(), line)?;
-            match order_of(rt.alloc(), words.as_slice()) {
-                Ok(_) => assert!(rt; false, "{line}"),
-                Err(error) => {
-                    let console = Console::new(rt.alloc(), is_closed);
-                    let wanted = if is_closed { 3 } else { 0 };
-                    assert_eq!(rt; refuse(&console, error), wanted, "{line}");
-                    let out = console.out.into_inner();
-                    let err = console.err.into_inner();
-                    assert!(rt;
-                        is_closed || out.as_str().contains("Usage: fblrun"),
-                        "{line}: {out}"
-                    );
-                    assert!(rt; err.is_empty(), "{line}");
-                }
-            }
-        }
+        let told = told_of_line(rt.alloc(), line, false)?;
+        assert!(rt; told.has(0, "Usage: fblrun", ""), "{line}: {}", told.out);
     }
     Ok(())
 }
 
 #[test]
-fn ends_with_the_status_of_each_fault(rt: HostRuntime) -> Result<(), Fail> {
+fn fails_where_help_cannot_be_printed(rt: HostRuntime) -> Result<(), Fail> {
+    for line in ["--help", "-h", "help", "play --help", "help audit"] {
+        let told = told_of_line(rt.alloc(), line, true)?;
+        assert!(rt; told.has(3, "", ""), "{line}");
+    }
+    Ok(())
+}
+
+#[test]
+fn ends_with_the_status_of_each_fault(rt: HostRuntime) {
     let rows = [
         (Ok(()), 0, ""),
         (Err(RunFault::Read), 3, "fault: read\n"),
@@ -207,25 +241,34 @@ fn ends_with_the_status_of_each_fault(rt: HostRuntime) -> Result<(), Fail> {
         (Err(RunFault::Memory), 4, "fault: memory\n"),
     ];
     for (done, status, line) in rows {
-        let console = Console::new(rt.alloc(), false);
-        assert_eq!(rt; status_after(&console, done), status, "{line}");
-        let out = console.out.into_inner();
-        let err = console.err.into_inner();
-        assert!(rt; out.is_empty() && err.as_str() == line, "{err}");
+        let told = told_after(rt.alloc(), done);
+        assert!(rt;
+            told.has(status, "", line) && told.err.as_str() == line,
+            "{line}"
+        );
     }
-    Ok(())
+}
+
+#[test]
+fn tells_want_of_memory_for_the_command_line(rt: HostRuntime) {
+    let console = Console::new(rt.alloc(), false);
+    let status = refuse(&console, clap::Error::from(AllocError));
+    let told = Told::of(console, status);
+    assert!(rt; told.has(4, "", "fault: memory\n"));
 }
 
 #[test]
 fn tells_want_of_memory_for_the_words(rt: HostRuntime) {
     let console = Console::new(rt.alloc(), false);
-    assert_eq!(rt; refuse(&console, clap::Error::from(AllocError)), 4);
-    assert_eq!(rt; refuse_words(&console, io::ErrorKind::OutOfMemory), 4);
-    assert_eq!(rt; refuse_words(&console, io::ErrorKind::InvalidData), 2);
-    let out = console.out.into_inner();
-    let err = console.err.into_inner();
-    assert!(rt;
-        out.is_empty() && err.as_str() == "fault: memory\nfault: memory\n",
-        "{err}"
-    );
+    let status = refuse_words(&console, io::ErrorKind::OutOfMemory);
+    let told = Told::of(console, status);
+    assert!(rt; told.has(4, "", "fault: memory\n"));
+}
+
+#[test]
+fn refuses_other_words_without_a_line(rt: HostRuntime) {
+    let console = Console::new(rt.alloc(), false);
+    let status = refuse_words(&console, io::ErrorKind::InvalidData);
+    let told = Told::of(console, status);
+    assert!(rt; told.has(2, "", ""));
 }
