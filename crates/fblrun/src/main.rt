@@ -11,6 +11,8 @@ use fbl_play::play;
 use fbl_script::RunFault;
 use std::alloc::Global;
 use std::process::ExitCode;
+use std::sync::Wait;
+use std::thread::Threads;
 use std::{env, io};
 
 /// Everything was done.
@@ -116,13 +118,17 @@ fn status_after<R: Eprint>(rt: &R, done: Result<(), RunFault>) -> u8
 }
 
 /// Plays the script that standard input has, with this many workers.
-fn play_input(rt: &HostRuntime, workers: u8) -> Result<(), RunFault>
+fn play_input<T: Threads + Wait + Sync>(
+    rt: &HostRuntime,
+    threads: &T,
+    workers: u8,
+) -> Result<(), RunFault>
     requires some { 1 ≤ workers }
     requires few { workers ≤ 8 }
 {
     let mut reader = rt.reader();
     let mut writer = io::writer(rt);
-    play(rt, rt.alloc(), &mut reader, &mut writer, workers)
+    play(threads, rt.alloc(), &mut reader, &mut writer, workers)
 }
 
 /// Audits the dump that standard input has.
@@ -133,10 +139,10 @@ fn audit_input(rt: &HostRuntime) -> Result<(), RunFault> {
 }
 
 /// Obeys the order, and answers the exit status.
-fn obey(rt: &HostRuntime, order: Order) -> u8 {
+fn obey<T: Threads + Wait + Sync>(rt: &HostRuntime, threads: &T, order: Order) -> u8 {
     match order {
         Order::Play(workers) => match workers {
-            1..=8 => status_after(rt, play_input(rt, workers)),
+            1..=8 => status_after(rt, play_input(rt, threads, workers)),
             _ => INPUT_FAULT,
         },
         Order::Audit => status_after(rt, audit_input(rt)),
@@ -145,7 +151,7 @@ fn obey(rt: &HostRuntime, order: Order) -> u8 {
 
 fn main(rt: HostRuntime) -> ExitCode {
     match order_in(&rt) {
-        Ok(order) => ExitCode::from(obey(&rt, order)),
+        Ok(order) => ExitCode::from(obey(&rt, &rt, order)),
         Err(status) => ExitCode::from(status),
     }
 }
