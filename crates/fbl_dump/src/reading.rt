@@ -1,22 +1,21 @@
 //! Dumps as JSON.
 
-ghost use Rattle.std.specs.Prelude.{◌≡◌, ◌≤◌, map, IfOk, IfErr, option_map, not, string_bytes};
-ghost use Rattle.std.specs.List.{list_any};
-ghost use Rattle.std.specs.BTreeMap.{keys};
+ghost use Rattle.std.specs.Prelude.{◌≡◌, ◌≤◌, map, IfOk, IfErr};
 ghost use Rattle.serde_json.specs.View.{view, members_view};
 ghost use Rattle.fbl_base.specs.Audit.{IsDump};
 ghost use Rattle.fbl_base.specs.DumpParts.{parts_of};
-ghost use Rattle.fbl_script.specs.Shapes.{Gives, IsOfShape, all_shaped, field, has_other_key, is_key_of, list_of};
-ghost use Rattle.fbl_dump.specs.Dumps.{dump_keys, IsDumpOf, IsDumpFault, IsDumpRefused, event_from, event_shape, pair_from, pair_shape, parts_of_data, parts_of_input, receipt_from, send_from};
+ghost use Rattle.fbl_script.specs.Shapes.{Gives, IsOfShape, has_other_key as has_other_key_of};
+ghost use Rattle.fbl_dump.specs.Dumps.{dump_keys, IsDumpOf, IsDumpFault, IsDumpRefused, event_from, pair_from, parts_of_data, parts_of_input, receipt_from, send_from};
 
 use fbl_base::audit::{Dump, check_dump};
 use fbl_base::{Determinant, Mark, Member, RawDump};
 use fbl_script::shapes::{
-    count_in, is_named, list_in, member_in, number_field, set_field, value_in,
+    Shape, count_in, has_other_key, is_named, list_in, member_in, number_field, set_field,
+    value_in, values_field,
 };
 use fbl_script::{Key, RunFault};
 use serde_json::{Map, Value};
-use std::alloc::{AllocError, Global};
+use std::alloc::Global;
 
 fn send_of(name: &Value, from: &Value, ssn: &Value, to: &Value) -> Option<Mark>
     ensures { result ≡ send_from (view name.now) (view from.now) (view ssn.now) (view to.now) }
@@ -53,10 +52,17 @@ fn event_of(list: &[Value]) -> Option<Mark>
     }
 }
 
-fn event_in(value: &Value) -> Option<Mark>
-    ensures { result ≡ event_shape (view value.now) }
-{
-    event_of(list_in(value)?)
+/// An event: a list that begins with its name.
+struct EventShape;
+
+impl Shape<Mark> for EventShape {
+    ghost use Rattle.fbl_dump.specs.Dumps.{event_shape};
+
+    ghost shape = { event_shape };
+
+    fn in_value(value: &Value) -> Option<Mark> {
+        event_of(list_in(value)?)
+    }
 }
 
 fn pair_of(list: &[Value]) -> Option<(Member, Determinant)>
@@ -75,79 +81,25 @@ fn pair_of(list: &[Value]) -> Option<(Member, Determinant)>
     }
 }
 
-fn pair_in(value: &Value) -> Option<(Member, Determinant)>
-    ensures { result ≡ pair_shape (view value.now) }
-{
-    pair_of(list_in(value)?)
-}
+/// A held pair: a list of the holder and the parts of the determinant.
+struct PairShape;
 
-/// The values of a list, if each has the shape of an event.
-fn events_in(alloc: Global, list: &[Value]) -> Result<Option<Vec<Mark>>, AllocError>
-    ensures { IfOk result (λ found. option_map (λ v. v.items) found ≡ all_shaped event_shape (map view list.now)) }
-{
-    let mut events = Vec::new(alloc);
-    for value in list {
-        match event_in(value) {
-            Some(event) => events.push(event)?,
-            None => return Ok(None),
-        }
+impl Shape<(Member, Determinant)> for PairShape {
+    ghost use Rattle.fbl_dump.specs.Dumps.{pair_shape};
+
+    ghost shape = { pair_shape };
+
+    fn in_value(value: &Value) -> Option<(Member, Determinant)> {
+        pair_of(list_in(value)?)
     }
-    Ok(Some(events))
-}
-
-/// The values of a list, if each has the shape of a held pair.
-fn pairs_in(alloc: Global, list: &[Value]) -> Result<Option<Vec<(Member, Determinant)>>, AllocError>
-    ensures { IfOk result (λ found. option_map (λ v. v.items) found ≡ all_shaped pair_shape (map view list.now)) }
-{
-    let mut pairs = Vec::new(alloc);
-    for value in list {
-        match pair_in(value) {
-            Some(pair) => pairs.push(pair)?,
-            None => return Ok(None),
-        }
-    }
-    Ok(Some(pairs))
-}
-
-fn events_field(alloc: Global, value: &Value, key: Key) -> Result<Vec<Mark>, RunFault>
-    ensures exact { Gives (λ v. v.items) result (field key (list_of event_shape) (view value.now)) }
-    ensures faults { IfErr result IsOfShape }
-{
-    let found = value.get(key.name()).ok_or(RunFault::BadField(key))?;
-    let list = list_in(found).ok_or(RunFault::BadField(key))?;
-    events_in(alloc, list)?.ok_or(RunFault::BadField(key))
-}
-
-fn pairs_field(
-    alloc: Global,
-    value: &Value,
-    key: Key,
-) -> Result<Vec<(Member, Determinant)>, RunFault>
-    ensures exact { Gives (λ v. v.items) result (field key (list_of pair_shape) (view value.now)) }
-    ensures faults { IfErr result IsOfShape }
-{
-    let found = value.get(key.name()).ok_or(RunFault::BadField(key))?;
-    let list = list_in(found).ok_or(RunFault::BadField(key))?;
-    pairs_in(alloc, list)?.ok_or(RunFault::BadField(key))
-}
-
-fn is_known_key(text: &str) -> bool
-    ensures { result ≡ is_key_of dump_keys text.now }
-{
-    matches!(text, "members" | "f" | "events" | "held" | "strike")
-}
-
-fn has_key_but_known(object: &Map<String, Value>) -> bool
-    ensures { result ≡ list_any (λ k. not (is_key_of dump_keys (string_bytes k))) (keys object.now) }
-{
-    object.keys().any(|key| !is_known_key(key.as_str()))
 }
 
 /// Whether there is a key that no dump has.
 fn has_unknown_key(object: &Map<String, Value>) -> bool
-    ensures { result ≡ has_other_key dump_keys (members_view object.now.entries) }
+    ensures { result ≡ has_other_key_of dump_keys (members_view object.now.entries) }
 {
-    has_key_but_known(object)
+    let known = [Key::Members, Key::F, Key::Events, Key::Held, Key::Strike];
+    has_other_key(object, &known)
 }
 
 /// The dump that a value gives, not yet checked.
@@ -159,8 +111,8 @@ fn raw_dump_of(alloc: Global, value: &Value) -> Result<RawDump, RunFault>
     let object = value.as_object().ok_or(RunFault::NotObject)?;
     let members = number_field(value, Key::Members, 0, 255)? as u8;
     let f = number_field(value, Key::F, 0, 255)? as u8;
-    let events = events_field(alloc, value, Key::Events)?;
-    let held = pairs_field(alloc, value, Key::Held)?;
+    let events = values_field::<Mark, EventShape>(alloc, value, Key::Events)?;
+    let held = values_field::<(Member, Determinant), PairShape>(alloc, value, Key::Held)?;
     let strike = set_field(value, Key::Strike)?;
     if has_unknown_key(object) {
         return Err(RunFault::UnknownKey);

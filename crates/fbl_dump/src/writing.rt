@@ -15,78 +15,96 @@ use fbl_lines::members_in;
 use serde_json::{Value, json};
 use std::alloc::{AllocError, Global};
 
-/// An event as a list.
-fn event_value(alloc: Global, event: Mark) -> Result<Value, AllocError>
-    ensures value { IfOk result (λ v. view v ≡ event_data event) }
-    ensures reads_back { event_shape (event_data event) ≡ Some event }
-{
-    match event {
-        Mark::Send { from, ssn, to } => {
-            let from = from.number();
-            let to = to.number();
-            json!(in alloc; ["send", from, ssn, to])
-        }
-        Mark::Receipt { to, rsn, from, ssn } => {
-            let to = to.number();
-            let from = from.number();
-            json!(in alloc; ["receipt", to, rsn, from, ssn])
-        }
-    }
+/// How a value of a type is written as JSON, from which it is read back.
+trait Form<T> {
+    ghost use Rattle.std.specs.Prelude.{◌≡◌, Option, Some, IfOk};
+    ghost use Rattle.serde_json.specs.Data.{Data};
+    ghost use Rattle.serde_json.specs.View.{view};
+
+    ghost form: { T → Data };
+
+    ghost shape: { Data → Option T };
+
+    /// The item as JSON.
+    fn value_of(alloc: Global, item: T) -> Result<Value, AllocError>
+        ensures value { IfOk result (λ v. view v ≡ form item) }
+        ensures reads_back { shape (form item) ≡ Some item };
 }
 
-fn events_value(alloc: Global, events: &[Mark]) -> Result<Value, AllocError>
-    ensures value { IfOk result (λ v. view v ≡ list_data (map event_data events.now)) }
-    ensures reads_back { IfOk result (λ v. All (λ e. event_shape (event_data e) ≡ Some e) events.now) }
-{
-    let mut values = Vec::new(alloc);
-    for event in events {
-        values.push(event_value(alloc, *event)?)?;
+/// An event as a list.
+struct EventForm;
+
+impl Form<Mark> for EventForm {
+    ghost use Rattle.fbl_dump.specs.Dumps.{event_shape};
+    ghost use Rattle.fbl_dump.specs.DumpLines.{event_data};
+
+    ghost form = { event_data };
+
+    ghost shape = { event_shape };
+
+    fn value_of(alloc: Global, event: Mark) -> Result<Value, AllocError> {
+        match event {
+            Mark::Send { from, ssn, to } => {
+                let from = from.number();
+                let to = to.number();
+                json!(in alloc; ["send", from, ssn, to])
+            }
+            Mark::Receipt { to, rsn, from, ssn } => {
+                let to = to.number();
+                let from = from.number();
+                json!(in alloc; ["receipt", to, rsn, from, ssn])
+            }
+        }
     }
-    Ok(Value::Array(values))
 }
 
 /// A held pair as a list.
-fn pair_value(alloc: Global, pair: (Member, Determinant)) -> Result<Value, AllocError>
-    ensures value { IfOk result (λ v. view v ≡ pair_data pair) }
-    ensures reads_back { pair_shape (pair_data pair) ≡ Some pair }
-{
-    let (holder, determinant) = pair;
-    let holder = holder.number();
-    let from = determinant.from.number();
-    let ssn = determinant.ssn;
-    let to = determinant.to.number();
-    let rsn = determinant.rsn;
-    json!(in alloc; [holder, from, ssn, to, rsn])
-}
+struct PairForm;
 
-fn pairs_value(alloc: Global, pairs: &[(Member, Determinant)]) -> Result<Value, AllocError>
-    ensures value { IfOk result (λ v. view v ≡ list_data (map pair_data pairs.now)) }
-    ensures reads_back { IfOk result (λ v. All (λ h. pair_shape (pair_data h) ≡ Some h) pairs.now) }
-{
-    let mut values = Vec::new(alloc);
-    for pair in pairs {
-        values.push(pair_value(alloc, *pair)?)?;
+impl Form<(Member, Determinant)> for PairForm {
+    ghost use Rattle.fbl_dump.specs.Dumps.{pair_shape};
+    ghost use Rattle.fbl_dump.specs.DumpLines.{pair_data};
+
+    ghost form = { pair_data };
+
+    ghost shape = { pair_shape };
+
+    fn value_of(alloc: Global, pair: (Member, Determinant)) -> Result<Value, AllocError> {
+        let (holder, determinant) = pair;
+        let holder = holder.number();
+        let from = determinant.from.number();
+        let ssn = determinant.ssn;
+        let to = determinant.to.number();
+        let rsn = determinant.rsn;
+        json!(in alloc; [holder, from, ssn, to, rsn])
     }
-    Ok(Value::Array(values))
 }
 
 /// A member as its number.
-fn member_value(alloc: Global, member: Member) -> Result<Value, AllocError>
-    ensures value { IfOk result (λ v. view v ≡ number_data member) }
-    ensures reads_back { member_shape (number_data member) ≡ Some member }
-{
-    let number = member.number();
-    json!(in alloc; number)
+struct MemberForm;
+
+impl Form<Member> for MemberForm {
+    ghost use Rattle.fbl_script.specs.Shapes.{member_shape};
+    ghost use Rattle.fbl_dump.specs.DumpLines.{number_data};
+
+    ghost form = { number_data };
+
+    ghost shape = { member_shape };
+
+    fn value_of(alloc: Global, member: Member) -> Result<Value, AllocError> {
+        let number = member.number();
+        json!(in alloc; number)
+    }
 }
 
-/// The members as a list of numbers.
-fn members_value(alloc: Global, members: &[Member]) -> Result<Value, AllocError>
-    ensures value { IfOk result (λ v. view v ≡ list_data (map number_data members.now)) }
-    ensures reads_back { IfOk result (λ v. All (λ m. member_shape (number_data m) ≡ Some m) members.now) }
+/// The items as a list.
+fn list_value<T: Copy, F: Form<T>>(alloc: Global, items: &[T]) -> Result<Value, AllocError>
+    ensures value { IfOk result (λ v. view v ≡ list_data (map F.form items.now)) }
+    ensures reads_back { IfOk result (λ v. All (λ x. F.shape (F.form x) ≡ Some x) items.now) }
 {
     let mut values = Vec::new(alloc);
-    for member in members {
-        values.push(member_value(alloc, *member)?)?;
+    for item in items {
+        values.push(F::value_of(alloc, *item)?)?;
     }
     Ok(Value::Array(values))
 }
@@ -97,7 +115,7 @@ fn set_value(alloc: Global, set: MemberSet) -> Result<Value, AllocError>
     ensures reads_back { IfOk result (λ v. All (λ m. member_shape (number_data m) ≡ Some m) (member_list set)) }
 {
     let members = members_in(alloc, set)?;
-    members_value(alloc, members.as_slice())
+    list_value::<Member, MemberForm>(alloc, members.as_slice())
 }
 
 /// An object with the keys of a dump.
@@ -119,8 +137,8 @@ fn dump_value(alloc: Global, dump: &Dump) -> Result<Value, AllocError>
     ensures value { IfOk result (λ v. view v ≡ dump_data dump.now) }
     ensures reads_back { IfOk result (λ v. parts_of_data (dump_data dump.now) ≡ Ok dump.now) }
 {
-    let events = events_value(alloc, dump.events())?;
-    let held = pairs_value(alloc, dump.held())?;
+    let events = list_value::<Mark, EventForm>(alloc, dump.events())?;
+    let held = list_value::<(Member, Determinant), PairForm>(alloc, dump.held())?;
     let strike = set_value(alloc, dump.strike())?;
     object_value(alloc, dump.members(), dump.f(), events, held, strike)
 }

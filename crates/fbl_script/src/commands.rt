@@ -1,13 +1,13 @@
 //! Commands as JSON.
 
-ghost use Rattle.std.specs.Prelude.{◌≡◌, ◌≤◌, map, IfOk, IfErr, option_map};
+ghost use Rattle.std.specs.Prelude.{◌≡◌, ◌≤◌, map, IfOk, IfErr};
 ghost use Rattle.serde_json.specs.View.{view};
-ghost use Rattle.fbl_script.specs.Shapes.{Gives, IsOfShape, all_shaped, list_of};
+ghost use Rattle.fbl_script.specs.Shapes.{Gives, IsOfShape, list_of};
 ghost use Rattle.fbl_script.specs.Scripts.{command_from, command_on, command_shape, commands_from, delivery, lone_command, planned_from, planned_shape};
 
 use crate::fault::RunFault;
 use crate::script::{Command, Plan, PlannedStrike};
-use crate::shapes::{count_in, is_named, list_in, member_in, set_in};
+use crate::shapes::{Shape, all_in, count_in, is_named, list_in, member_in, set_in};
 use serde_json::Value;
 use std::alloc::{AllocError, Global};
 
@@ -24,31 +24,24 @@ fn planned_of(list: &[Value]) -> Option<PlannedStrike>
     }
 }
 
-fn planned_in(value: &Value) -> Option<PlannedStrike>
-    ensures { result ≡ planned_shape (view value.now) }
-{
-    planned_of(list_in(value)?)
-}
+/// A strike of a plan: a list of the count at which it comes and its members.
+struct PlannedShape;
 
-/// The strikes of a plan, if each value has the shape of one.
-fn strikes_in(alloc: Global, list: &[Value]) -> Result<Option<Vec<PlannedStrike>>, AllocError>
-    ensures { IfOk result (λ found. option_map (λ v. v.items) found ≡ all_shaped planned_shape (map view list.now)) }
-{
-    let mut strikes = Vec::new(alloc);
-    for value in list {
-        match planned_in(value) {
-            Some(strike) => strikes.push(strike)?,
-            None => return Ok(None),
-        }
+impl Shape<PlannedStrike> for PlannedShape {
+    ghost use Rattle.fbl_script.specs.Scripts.{planned_shape};
+
+    ghost shape = { planned_shape };
+
+    fn in_value(value: &Value) -> Option<PlannedStrike> {
+        planned_of(list_in(value)?)
     }
-    Ok(Some(strikes))
 }
 
 fn plan_in(alloc: Global, value: &Value) -> Result<Option<Plan>, AllocError>
     ensures { IfOk result (λ plan. plan ≡ list_of planned_shape (view value.now)) }
 {
     match list_in(value) {
-        Some(list) => Ok(strikes_in(alloc, list)?.map(Plan::new)),
+        Some(list) => Ok(all_in::<PlannedStrike, PlannedShape>(alloc, list)?.map(Plan::new)),
         None => Ok(None),
     }
 }

@@ -1,12 +1,10 @@
 //! Scripts as JSON.
 
-ghost use Rattle.std.specs.Prelude.{◌≡◌, ◌≤◌, map, IfOk, IfErr, option_map, not, string_bytes};
-ghost use Rattle.std.specs.List.{list_any};
-ghost use Rattle.std.specs.BTreeMap.{keys};
+ghost use Rattle.std.specs.Prelude.{◌≡◌, ◌≤◌, map, IfOk, IfErr};
 ghost use Rattle.serde_json.specs.View.{view, members_view};
 ghost use Rattle.serde_json.specs.Find.{get};
-ghost use Rattle.fbl_script.specs.Shapes.{Gives, IsOfShape, all_shaped, count_shape, field, field_or, has_other_key, is_key_of, list_of, name_of};
-ghost use Rattle.fbl_script.specs.Scripts.{IsScriptOf, IsScriptFault, IsRequestRefused, behaviour_shape, outline, outline_of, outline_of_input, request_outline, script_keys, start_from, start_shape};
+ghost use Rattle.fbl_script.specs.Shapes.{Gives, IsOfShape, count_shape, field, field_or, has_other_key as has_other_key_of, name_of};
+ghost use Rattle.fbl_script.specs.Scripts.{IsScriptOf, IsScriptFault, IsRequestRefused, behaviour_shape, outline, outline_of, outline_of_input, request_outline, script_keys, start_from};
 ghost use Rattle.fbl_base.specs.Configs.{IsConfig};
 ghost use Rattle.fbl_script.specs.declared.fault.RunFault.TheVariants.{Memory};
 
@@ -14,11 +12,12 @@ use crate::commands::commands_in;
 use crate::fault::{Key, RunFault};
 use crate::script::{BehaviourName, Command, Script};
 use crate::shapes::{
-    count_in, is_named, list_field, list_in, member_in, number_field, number_in, value_in,
+    Shape, count_in, has_other_key, is_named, list_field, list_in, member_in, number_field,
+    number_in, value_in, values_field,
 };
 use fbl_base::{Config, Note, Start};
 use serde_json::{Map, Value};
-use std::alloc::{AllocError, Global};
+use std::alloc::Global;
 
 /// What a script asks for, before it is known whether there is such a group.
 #[derive(Drop)]
@@ -62,33 +61,17 @@ fn start_of(list: &[Value]) -> Option<Start>
     }
 }
 
-fn start_in(value: &Value) -> Option<Start>
-    ensures { result ≡ start_shape (view value.now) }
-{
-    start_of(list_in(value)?)
-}
+/// A start: a list of its sender, its receiver, its value and its hops.
+struct StartShape;
 
-/// The values of a list, if each has the shape of a start.
-fn starts_in(alloc: Global, list: &[Value]) -> Result<Option<Vec<Start>>, AllocError>
-    ensures { IfOk result (λ found. option_map (λ v. v.items) found ≡ all_shaped start_shape (map view list.now)) }
-{
-    let mut starts = Vec::new(alloc);
-    for value in list {
-        match start_in(value) {
-            Some(start) => starts.push(start)?,
-            None => return Ok(None),
-        }
+impl Shape<Start> for StartShape {
+    ghost use Rattle.fbl_script.specs.Scripts.{start_shape};
+
+    ghost shape = { start_shape };
+
+    fn in_value(value: &Value) -> Option<Start> {
+        start_of(list_in(value)?)
     }
-    Ok(Some(starts))
-}
-
-fn starts_field(alloc: Global, value: &Value, key: Key) -> Result<Vec<Start>, RunFault>
-    ensures exact { Gives (λ v. v.items) result (field key (list_of start_shape) (view value.now)) }
-    ensures faults { IfErr result IsOfShape }
-{
-    let found = value.get(key.name()).ok_or(RunFault::BadField(key))?;
-    let list = list_in(found).ok_or(RunFault::BadField(key))?;
-    starts_in(alloc, list)?.ok_or(RunFault::BadField(key))
 }
 
 fn behaviour_field(value: &Value, key: Key) -> Result<BehaviourName, RunFault>
@@ -107,26 +90,20 @@ fn limit_field(value: &Value, key: Key) -> Result<u32, RunFault>
     }
 }
 
-fn is_known_key(text: &str) -> bool
-    ensures { result ≡ is_key_of script_keys text.now }
-{
-    matches!(
-        text,
-        "version" | "members" | "f" | "behaviour" | "limit" | "start" | "commands"
-    )
-}
-
-fn has_key_but_known(object: &Map<String, Value>) -> bool
-    ensures { result ≡ list_any (λ k. not (is_key_of script_keys (string_bytes k))) (keys object.now) }
-{
-    object.keys().any(|key| !is_known_key(key.as_str()))
-}
-
 /// Whether there is a key that no script has.
 fn has_unknown_key(object: &Map<String, Value>) -> bool
-    ensures { result ≡ has_other_key script_keys (members_view object.now.entries) }
+    ensures { result ≡ has_other_key_of script_keys (members_view object.now.entries) }
 {
-    has_key_but_known(object)
+    let known = [
+        Key::Version,
+        Key::Members,
+        Key::F,
+        Key::Behaviour,
+        Key::Limit,
+        Key::Start,
+        Key::Commands,
+    ];
+    has_other_key(object, &known)
 }
 
 /// What a value asks for as a script.
@@ -141,7 +118,7 @@ fn request_of(alloc: Global, value: &Value) -> Result<Request, RunFault>
     let f = number_field(value, Key::F, 0, 255)? as u8;
     let behaviour = behaviour_field(value, Key::Behaviour)?;
     let limit = limit_field(value, Key::Limit)?;
-    let starts = starts_field(alloc, value, Key::Start)?;
+    let starts = values_field::<Start, StartShape>(alloc, value, Key::Start)?;
     let listed = list_field(value, Key::Commands)?;
     let commands = commands_in(alloc, listed)?;
     if has_unknown_key(object) {

@@ -1,15 +1,30 @@
 //! Shapes of JSON values, as scripts and dumps ask for them.
 
-ghost use Rattle.std.specs.Prelude.{◌≡◌, ◌≤◌, ℕ, map, IfOk, IfErr, option_map};
+ghost use Rattle.std.specs.Prelude.{◌≡◌, ◌≤◌, ℕ, map, IfOk, IfErr, not, option_map, string_bytes};
 ghost use Rattle.std.specs.FinSet as set;
-ghost use Rattle.serde_json.specs.View.{view};
-ghost use Rattle.fbl_script.specs.Shapes.{Gives, IsOfShape, all_shaped, as_list, count_shape, field, is_text, json_of, member_shape, number_within, or_fault, set_shape, value_of_input};
+ghost use Rattle.std.specs.List.{list_any};
+ghost use Rattle.std.specs.BTreeMap.{keys};
+ghost use Rattle.serde_json.specs.View.{view, members_view};
+ghost use Rattle.fbl_script.specs.Shapes.{Gives, IsOfShape, all_shaped, as_list, count_shape, field, has_other_key as has_other_key_of, is_key_of, is_text, json_of, list_of, member_shape, number_within, or_fault, set_shape, value_of_input};
 ghost use Rattle.fbl_script.specs.declared.fault.RunFault.TheVariants.{NotJson};
 
 use crate::fault::{Key, RunFault};
 use fbl_base::{Member, MemberSet};
-use serde_json::Value;
-use std::alloc::Global;
+use serde_json::{Map, Value};
+use std::alloc::{AllocError, Global};
+
+/// How a value of a type is read from JSON.
+pub trait Shape<T> {
+    ghost use Rattle.std.specs.Prelude.{◌≡◌, Option};
+    ghost use Rattle.serde_json.specs.Data.{Data};
+    ghost use Rattle.serde_json.specs.View.{view};
+
+    ghost shape: { Data → Option T };
+
+    /// What the value gives, if it has the shape.
+    fn in_value(value: &Value) -> Option<T>
+        ensures { result ≡ shape (view value.now) };
+}
 
 /// The longest input.
 pub const LONGEST: usize = 1_048_576;
@@ -93,12 +108,62 @@ pub fn list_field(value: &Value, key: Key) -> Result<&[Value], RunFault>
     list_in(found).ok_or(RunFault::BadField(key))
 }
 
+/// What the values of a list give, if each has the shape.
+pub(crate) fn all_in<T: Copy, S: Shape<T>>(
+    alloc: Global,
+    list: &[Value],
+) -> Result<Option<Vec<T>>, AllocError>
+    ensures { IfOk result (λ found. option_map (λ v. v.items) found ≡ all_shaped S.shape (map view list.now)) }
+{
+    let mut all = Vec::new(alloc);
+    for value in list {
+        match S::in_value(value) {
+            Some(one) => all.push(one)?,
+            None => return Ok(None),
+        }
+    }
+    Ok(Some(all))
+}
+
+/// What the list at the key gives, if each of its values has the shape, and else `BadField`.
+pub fn values_field<T: Copy, S: Shape<T>>(
+    alloc: Global,
+    value: &Value,
+    key: Key,
+) -> Result<Vec<T>, RunFault>
+    ensures exact { Gives (λ v. v.items) result (field key (list_of S.shape) (view value.now)) }
+    ensures faults { IfErr result IsOfShape }
+{
+    let list = list_field(value, key)?;
+    all_in::<T, S>(alloc, list)?.ok_or(RunFault::BadField(key))
+}
+
 /// The set at the key, and else `BadField`.
 pub fn set_field(value: &Value, key: Key) -> Result<MemberSet, RunFault>
     ensures { result ≡ field key set_shape (view value.now) }
 {
     let found = value.get(key.name()).ok_or(RunFault::BadField(key))?;
     set_in(found).ok_or(RunFault::BadField(key))
+}
+
+/// Whether the text is the name of one of the keys.
+fn is_key_in(known: &[Key], text: &str) -> bool
+    ensures { result ≡ is_key_of known.now text.now }
+{
+    known.iter().any(|key| text == key.name())
+}
+
+fn has_key_but_in(object: &Map<String, Value>, known: &[Key]) -> bool
+    ensures { result ≡ list_any (λ k. not (is_key_of known.now (string_bytes k))) (keys object.now) }
+{
+    object.keys().any(|key| !is_key_in(known, key.as_str()))
+}
+
+/// Whether the object has a key that is none of these.
+pub fn has_other_key(object: &Map<String, Value>, known: &[Key]) -> bool
+    ensures { result ≡ has_other_key_of known.now (members_view object.now.entries) }
+{
+    has_key_but_in(object, known)
 }
 
 /// The JSON that the bytes spell.

@@ -1,9 +1,0 @@
--- the ones so far and those of what is left are those of the list
-use Rattle.std.proofs.Common.{◌≡◌, ◌++◌, map, option_map, drop}
-use Rattle.serde_json.specs.View.{view}
-use Rattle.fbl_script.specs.Shapes.{all_shaped}
-use Rattle.fbl_dump.specs.Dumps.{pair_shape}
-use Rattle.fbl_dump.proofs.reading.pairs_in.Given as goal
-
-abbrev pub invariant-loop-value : goal.invariant-loop-value
-invariant-loop-value l = option_map (λ rest. l.pairs.items ++ rest) (all_shaped pair_shape (map view (drop l.value-index l.list))) ≡ all_shaped pair_shape (map view l.list)

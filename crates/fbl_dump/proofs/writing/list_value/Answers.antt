@@ -1,0 +1,24 @@
+use Rattle.std.proofs.Common.{◌≡◌, ◌<◌, ap, ◌∙◌, length, Some, map}
+use Rattle.std.proofs.lemmas.List.{take_all}
+use Rattle.serde_json.specs.Data.{array}
+use Rattle.serde_json.specs.View.{view, items_of}
+use Rattle.serde_json.proofs.Views.{view-Array}
+use Rattle.fbl_dump.proofs.DumpValues.{next_value, next_read}
+use Rattle.fbl_dump.proofs.writing.list_value.Goals as goal
+
+pub loop-item-preserved : goal.loop-item-preserved
+loop-item-preserved g c =
+    let form = g.F.Form.form in
+    let xs = c.args.items.now in
+    let i = c.loop-item.item-index in
+    let x = c.item-item.result in
+    let lt : i < length xs = c.loop-item-test.true in
+    record {
+      value = ap (map view) c.in_ok-push.ensures.items ∙ next_value form _ c.in_ok-value_of.field-0 xs i x lt c.loop-item.invariant.value (c.in_ok-value_of.ensures.value ∙ ap form c.item-item.is);
+      reads_back = next_read (λ y. g.F.Form.shape (form y) ≡ Some y) xs i x lt c.loop-item.invariant.reads_back (rw (← c.item-item.is) c.in_ok-value_of.ensures.reads_back);
+    }
+
+pub returns-clause-value : goal.returns-clause-value
+returns-clause-value g c =
+    let n = c.loop-item.item-index in
+    view-Array c.loop-item.values ∙ ap (λ ds. array (items_of ds)) (c.loop-item.invariant.value ∙ ap (map g.F.Form.form) (take_all n c.args.items.now c.loop-item-test.false))
