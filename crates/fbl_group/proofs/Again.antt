@@ -1,5 +1,5 @@
 -- Messages that are sent again.
-use Rattle.std.proofs.Common.{◌≡◌, ◌≢◌, ℕ, zero, suc, ◌+◌, ◌<◌, ◌≤◌, ◌||◌, Bool, true, false, cond, List, [], ◌∷◌, ◌++◌, length, map, take, Result, Ok, Err, refl, sym, ap, ◌∙◌, subst, arith, append_assoc}
+use Rattle.std.proofs.Common.{◌≡◌, ℕ, ◌+◌, ◌<◌, ◌||◌, true, false, cond, List, [], ◌∷◌, ◌++◌, length, take, Result, Ok, Err, sym, ap, ◌∙◌, subst, append_assoc}
 use Rattle.std.proofs.Common.{Vec, get_or}
 use Rattle.std.specs.Result.{IfOk, OnOk}
 use Rattle.std.proofs.lemmas.List.{append-nil, map_more}

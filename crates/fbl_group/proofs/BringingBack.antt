@@ -1,12 +1,11 @@
 -- What a recovery leaves, once the records that were rebuilt are in place.
-use Rattle.std.proofs.Common.{◌≡◌, ◌≢◌, ℕ, zero, suc, ◌+◌, ◌-◌, ◌*◌, ◌<◌, ◌≤◌, ◌||◌, ◌⊎◌, inl, inr, not, nat_le, Bool, true, false, cond, List, [], ◌∷◌, ◌++◌, length, map, Option, Some, None, refl, sym, subst, ap, ◌∙◌, arith, Result, Ok, Err, Fits, w64, ◌^◌}
+use Rattle.std.proofs.Common.{◌≡◌, ◌≢◌, ℕ, ◌+◌, ◌<◌, ◌≤◌, Bool, true, false, cond, List, [], ◌∷◌, ◌++◌, length, map, refl, sym, ap, ◌∙◌, arith, Result, Ok, Err, Fits, w64, ◌^◌}
 use Rattle.std.specs.Prelude.{slice_index_or, count_by}
 use Rattle.std.specs.List.{filter, cons_option}
 use Rattle.std.specs.Option.{is_some}
 use Rattle.std.specs.Result.{OnErr}
 use Rattle.std.specs.Ordering.{nat_cmp}
 use Rattle.std.specs.FinSet as set
-use Rattle.std.proofs.lemmas.Bool.{cases_lt}
 use Rattle.std.proofs.lemmas.List.Sums.{sum_by-cons}
 use Rattle.fbl_base.specs.declared.trace.Determinant.{Determinant}
 use Rattle.fbl_base.specs.declared.trace.Event.{Event}
@@ -14,12 +13,11 @@ use Rattle.fbl_base.specs.declared.trace.Event.TheVariants as event
 use Rattle.fbl_base.specs.Events.{mark_of, determinant_of}
 use Rattle.fbl_base.specs.Fold.{Next}
 use Rattle.fbl_member.specs.Members.{Message, MemberRecord, blank}
-use Rattle.fbl_law.specs.Record.{Members, IsUp, IsDown}
-use Rattle.fbl_law.specs.Groups.{GroupRecord, member, marks, knowledge, receipts}
+use Rattle.fbl_law.specs.Record.{Members}
+use Rattle.fbl_law.specs.Groups.{GroupRecord, member, marks, receipts}
 use Rattle.fbl_law.specs.Sound.{IsSound}
 use Rattle.fbl_law.specs.GroupSteps.{IsRecovery}
 use Rattle.fbl_law.specs.Replaying.{stays_by, recovered_trace, working, replayed_in, resent_rows, IsRebuilt}
-use Rattle.fbl_law.proofs.Safe.{down_or_up}
 use Rattle.fbl_law.proofs.GroupRecovery.{length-left, recovery-keeps}
 use Rattle.fbl_law.proofs.Undone.{cut-undone}
 use Rattle.fbl_law.proofs.CutTrace.{recovered_trace-cut}
@@ -27,7 +25,7 @@ use Rattle.fbl_law.proofs.Resending.{rows-short, resent_rows-agree, flight-chann
 use Rattle.fbl_law.proofs.Rebuilding.{with-table, working-log, replayed_in-all, recovered_trace-rebuilt, recovery-made}
 use Rattle.fbl_group.specs.declared.answers.Recovered.{Recovered}
 use Rattle.fbl_group.specs.Recoveries.{Recovers}
-use Rattle.fbl_group.specs.Rebuilding.{HasReplayed, IsReady, IsPutBack}
+use Rattle.fbl_group.specs.Rebuilding.{IsReady, IsPutBack}
 
 -- receipts are counted event by event
 pub counted-receipts : (trace : List Event) → count_by (λ e. is_some (determinant_of (mark_of e))) trace ≡ length (receipts (map mark_of trace))

@@ -1,5 +1,5 @@
 -- Which refusal of a delivery, a ticket or a commit holds.
-use Rattle.std.proofs.Common.{◌≡◌, ◌≢◌, ℕ, ◌+◌, ◌<◌, ◌≤◌, Bool, true, false, ◌&&◌, ◌==◌, not, cond, length, arith, refl, sym, ap, ◌∙◌, Option, Some, None, slice_get}
+use Rattle.std.proofs.Common.{◌≡◌, ℕ, ◌+◌, ◌<◌, ◌≤◌, Bool, true, false, ◌&&◌, ◌==◌, not, cond, length, arith, refl, sym, ap, ◌∙◌, Some, None}
 use Rattle.std.specs.Prelude.{nat_lt}
 use Rattle.std.proofs.lemmas.Bool.Decides.{nat_tests}
 use Rattle.std.specs.FinSet as set
@@ -7,17 +7,15 @@ use Rattle.fbl_base.specs.declared.outcome.Outcome.{Outcome}
 use Rattle.fbl_base.specs.Fold.{Next}
 use Rattle.fbl_base.specs.declared.trace.Note.{Note}
 use Rattle.fbl_member.specs.Members.{Message, MemberRecord}
-use Rattle.fbl_law.specs.Groups.{GroupRecord, member, channel}
+use Rattle.fbl_law.specs.Groups.{GroupRecord, member}
 use Rattle.fbl_law.specs.GroupSteps.{step_of}
-use Rattle.fbl_group.specs.declared.refusals.DeliverRefusal.{DeliverRefusal}
-use Rattle.fbl_group.specs.declared.refusals.DeliverRefusal.TheVariants.{BadMember, Down, Empty, Full}
+use Rattle.fbl_group.specs.declared.refusals.DeliverRefusal.TheVariants.{Empty, Full}
 use Rattle.fbl_group.specs.Flight.{front_place, message_at}
-use Rattle.fbl_group.specs.Deliveries.{deliver_refusal, message_refusal, is_full, has_no_room, front, IsPlanned}
+use Rattle.fbl_group.specs.Deliveries.{deliver_refusal, message_refusal, is_full, front, IsPlanned}
 use Rattle.fbl_group.specs.declared.ticket.Ticket.{Ticket}
 use Rattle.fbl_group.specs.declared.refusals.TakeRefusal.TheVariants as take
-use Rattle.fbl_group.specs.declared.refusals.CommitRefusal.{CommitRefusal}
 use Rattle.fbl_group.specs.declared.refusals.CommitRefusal.TheVariants as commit
-use Rattle.fbl_group.specs.Tickets.{take_refusal, empty_refusal, IsTicket, commit_refusal, stale_or_full, is_current, same_note}
+use Rattle.fbl_group.specs.Tickets.{take_refusal, empty_refusal, IsTicket, commit_refusal, stale_or_full, is_current}
 use Rattle.fbl_law.specs.Sound.{IsSound}
 use Rattle.fbl_law.proofs.GroupFacts.{all_up, receipts_fit}
 use Rattle.fbl_group.proofs.Flights.{IsFrontAt, front_at, no_front, on_ends}

@@ -2,6 +2,7 @@ pub mod Flights
 pub mod Planning
 pub mod Deciding
 pub mod Striking
+pub mod Promised
 pub mod Reading
 pub mod Starting
 pub mod Dumping

@@ -1,34 +1,29 @@
 -- What is known of a delivery that is planned.
-use Rattle.std.proofs.Common.{◌≡◌, ◌≢◌, ℕ, zero, suc, ◌+◌, ◌-◌, ◌<◌, ◌≤◌, Bool, true, false, cond, ◌||◌, ◌&&◌, ◌==◌, List, [], ◌∷◌, ◌++◌, length, map, refl, sym, ap, ◌∙◌, arith, subst, Option, Some, None, slice_get, get_or, append_assoc, length-append, get_or-set_same}
-use Rattle.std.specs.Prelude.{remove, slice_set, slice_index_or, nat_lt}
-use Rattle.std.specs.List.{filter, Contains, All}
+use Rattle.std.proofs.Common.{◌≡◌, ◌≢◌, ℕ, suc, ◌+◌, ◌<◌, ◌≤◌, Bool, true, false, ◌||◌, ◌==◌, List, ◌∷◌, ◌++◌, length, refl, sym, ap, ◌∙◌, arith, get_or, length-append, get_or-set_same}
+use Rattle.std.specs.Prelude.{remove, slice_set, nat_lt}
+use Rattle.std.specs.List.{filter, Contains}
 use Rattle.std.proofs.lemmas.Bool.Decides.{nat_tests}
-use Rattle.std.proofs.lemmas.List.{length-set}
 use Rattle.std.proofs.lemmas.List.Elements.{filter-append}
 use Rattle.std.proofs.lemmas.Option.{slice_get_within, get_or_from_slice_get}
-use Rattle.std.specs.FinSet as set
-use Rattle.fbl_base.specs.declared.trace.Note.{Note}
-use Rattle.fbl_base.specs.declared.trace.Event.{Event}
 use Rattle.fbl_base.specs.declared.trace.Event.TheVariants.{Receipt}
 use Rattle.fbl_base.specs.declared.outcome.Outcome.{Outcome}
 use Rattle.fbl_base.specs.Fold.{Next, step_events}
-use Rattle.fbl_base.specs.Steps.{SendsAllowed}
 use Rattle.fbl_table.specs.Tables.{is_held, piggybacked}
-use Rattle.fbl_member.specs.Members.{Message, MemberRecord, blank, last_from, received_by, messages_from, table_after, next_determinant}
+use Rattle.fbl_member.specs.Members.{Message, MemberRecord, last_from, received_by, messages_from, table_after, next_determinant}
 use Rattle.fbl_law.specs.Record.{IsUp}
 use Rattle.fbl_law.specs.Steps.{is_on, taken_off, between}
-use Rattle.fbl_law.specs.Groups.{GroupRecord, member, channel, marks, knowledge}
+use Rattle.fbl_law.specs.Groups.{GroupRecord, member, channel, knowledge}
 use Rattle.fbl_law.specs.Sound.{IsSound}
-use Rattle.fbl_law.specs.GroupSteps.{step_of, receiver, made, delivery_events, IsDelivery}
+use Rattle.fbl_law.specs.GroupSteps.{step_of, made, delivery_events, IsDelivery}
 use Rattle.fbl_law.specs.GroupLaws.{SendsWell}
 use Rattle.fbl_law.proofs.GroupFacts.{all_up, receipts_fit, sends_fit, receipt_is_new, new_not_held, new_not_carried, front_flight, front_is_later}
 use Rattle.fbl_member.specs.Carried.{IsOnce}
 use Rattle.fbl_law.proofs.DumpLaws.{carried_fits}
 use Rattle.fbl_law.proofs.GroupDeliver.{length-step_events, group_delivery_keeps}
-use Rattle.fbl_group.specs.Flight.{message_at, front_place}
+use Rattle.fbl_group.specs.Flight.{message_at}
 use Rattle.fbl_group.specs.declared.answers.Receipted.{Receipted}
-use Rattle.fbl_group.specs.Deliveries.{has_no_room, is_full, IsPlanned, Delivered, front}
-use Rattle.fbl_group.proofs.Flights.{IsFrontAt, front_at, channels_left, on_ends}
+use Rattle.fbl_group.specs.Deliveries.{has_no_room, IsPlanned, Delivered}
+use Rattle.fbl_group.proofs.Flights.{IsFrontAt, front_at, channels_left}
 
 -- where there is room, the limit holds and the counter can rise
 pub has_room : (limit len ever sends : ℕ) → has_no_room limit len ever sends ≡ false → (len + 1 + sends ≤ limit) × (ever ≢ 18446744073709551615)

@@ -1,10 +1,10 @@
 -- The steps of a recovery before it changes the group: gathering, replay in rounds, tables given.
-use Rattle.std.proofs.Common.{◌≡◌, ◌≢◌, ℕ, zero, suc, ◌+◌, ◌<◌, ◌≤◌, ◌==◌, ◌⊎◌, inl, inr, Bool, true, false, List, [], ◌∷◌, ◌++◌, length, map, take, Option, Some, None, get_or, refl, sym, subst, ap, ◌∙◌, arith, length-append, get_or-set_same}
+use Rattle.std.proofs.Common.{◌≡◌, ℕ, zero, suc, ◌+◌, ◌<◌, ◌≤◌, ◌⊎◌, inl, inr, Bool, true, false, List, [], ◌∷◌, ◌++◌, length, map, take, Option, Some, None, get_or, refl, sym, subst, ap, ◌∙◌, arith}
 use Rattle.std.specs.Prelude.{slice_index_or, slice_set}
 use Rattle.std.specs.Option.{SomeIff, IsSome}
 use Rattle.std.specs.FinSet as set
 use Rattle.std.proofs.lemmas.Bool.{cases_lt}
-use Rattle.std.proofs.lemmas.List.{length-set, get_or-set_other, take_all}
+use Rattle.std.proofs.lemmas.List.{take_all}
 use Rattle.fbl_base.specs.declared.trace.Determinant.{Determinant}
 use Rattle.fbl_base.specs.declared.trace.Note.{Note}
 use Rattle.fbl_base.specs.declared.trace.Start.{Start}
@@ -12,12 +12,11 @@ use Rattle.fbl_base.specs.Fold.{Next, Logged}
 use Rattle.fbl_table.specs.declared.entry.Entry.{Entry}
 use Rattle.fbl_table.specs.Tables.{found, gathered, marked}
 use Rattle.fbl_member.specs.Members.{MemberRecord, blank, fresh, logged_note, replayed_by}
-use Rattle.fbl_law.specs.Record.{Members, IsUp, IsDown}
+use Rattle.fbl_law.specs.Record.{Members, IsDown}
 use Rattle.fbl_law.specs.Steps.{gathered_all}
-use Rattle.fbl_law.specs.Groups.{GroupRecord, member, knowledge, tables}
+use Rattle.fbl_law.specs.Groups.{GroupRecord, knowledge}
 use Rattle.fbl_law.specs.Sound.{IsSound}
 use Rattle.fbl_law.specs.Replaying.{IsNextReplay, gathered_table, working, IsReplaying, IsWaiting, replayed_in}
-use Rattle.fbl_law.proofs.Safe.{down_or_up}
 use Rattle.fbl_law.proofs.Gathering.{gathered_all-more}
 use Rattle.fbl_law.proofs.Rebuilding.{replaying-start, replaying-next, replaying-room, replaying-step, replayed_in-step, replayed_in-short, replaying-tables}
 use Rattle.fbl_group.specs.Rebuilding.{Tries, Rounds, HasReplayed, IsReady}

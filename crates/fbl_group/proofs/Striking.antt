@@ -11,19 +11,19 @@ use Rattle.fbl_base.specs.declared.trace.Determinant.{Determinant}
 use Rattle.fbl_base.specs.declared.trace.Event.{Event}
 use Rattle.fbl_base.specs.declared.trace.Event.TheVariants as event
 use Rattle.fbl_base.specs.Events.{determinant_of, mark_of}
-use Rattle.fbl_base.specs.MemberSets.{AllBelow, same_from_contains}
+use Rattle.fbl_base.specs.MemberSets.{AllBelow}
 use Rattle.fbl_base.specs.Fold.{Next}
 use Rattle.fbl_base.proofs.RulesLaws.{eqb-self}
 use Rattle.fbl_member.specs.Members.{Message, MemberRecord, blank}
 use Rattle.fbl_table.specs.Tables.{is_held}
-use Rattle.fbl_law.specs.Record.{Members, IsOrphan}
+use Rattle.fbl_law.specs.Record.{Members, IsUp, IsDown, IsOrphan}
 use Rattle.fbl_law.specs.Steps.{is_on}
 use Rattle.fbl_law.specs.Groups.{GroupRecord, channel, knowledge, receipts}
 use Rattle.fbl_law.specs.Sound.{IsSound}
 use Rattle.fbl_law.specs.GroupSteps.{IsStrike}
 use Rattle.fbl_law.proofs.GroupStrike.{group_strike_keeps}
 use Rattle.fbl_law.proofs.Promises.{sound_has_no_orphan}
-use Rattle.fbl_group.specs.declared.refusals.StrikeRefusal.TheVariants.{BadMember, Nobody, TooMany, Down}
+use Rattle.fbl_group.specs.declared.refusals.StrikeRefusal.TheVariants.{BadMember, Nobody, TooMany}
 use Rattle.fbl_group.specs.Recoveries.{has_end_in}
 use Rattle.fbl_group.specs.Strikes.{is_within, strike_refusal, lost_receipts, is_lost, IsBlanked}
 
@@ -77,45 +77,33 @@ module _ (r : GroupRecord) (struck : Members) where
       named : (sets.len struck == 0) ≡ false
       named = grind (arith, nat_tests)
 
-      pub is_too_many : r.config.f < sets.len struck → strike_refusal r struck ≡ Some TooMany
+      pub is_too_many : r.config.f < sets.len (sets.union r.down struck) → strike_refusal r struck ≡ Some TooMany
       is_too_many more =
           let e = below-within struck r.config.members below in
-          let over : nat_lt r.config.f (sets.len struck) ≡ true = grind (arith, nat_tests) in
+          let over : nat_lt r.config.f (sets.len (sets.union r.down struck)) ≡ true = grind (arith, nat_tests) in
           rw (e, named, over) refl
 
-      module _ (few : sets.len struck ≤ r.config.f) where
-        within_f : nat_lt r.config.f (sets.len struck) ≡ false
-        within_f = grind (arith, nat_tests)
-
-        pub is_down : sets.len r.down ≢ 0 → strike_refusal r struck ≡ Some Down
-        is_down down =
-            let e = below-within struck r.config.members below in
-            let are : (sets.len r.down == 0) ≡ false = grind (arith, nat_tests) in
-            rw (e, named, within_f, are) refl
-
-        pub is_allowed : sets.len r.down ≡ 0 → strike_refusal r struck ≡ None
-        is_allowed up =
-            let e = below-within struck r.config.members below in
-            rw (e, named, within_f, up) refl
+      pub is_allowed : sets.len (sets.union r.down struck) ≤ r.config.f → strike_refusal r struck ≡ None
+      is_allowed few =
+          let e = below-within struck r.config.members below in
+          let within_f : nat_lt r.config.f (sets.len (sets.union r.down struck)) ≡ false = grind (arith, nat_tests) in
+          rw (e, named, within_f) refl
 
 -- what holds where no refusal does
 pub record MayStrike (r : GroupRecord) (struck : Members) : Type 0 where
   pub below : AllBelow struck r.config.members
-  pub few : sets.len struck ≤ r.config.f
-  pub nobody_down : r.down ≡ sets.empty
+  pub few : sets.len (sets.union r.down struck) ≤ r.config.f
 
 pub may_strike : (r : GroupRecord) (struck : Members) → strike_refusal r struck ≡ None → MayStrike r struck
-may_strike r struck allowed = at (is_within struck r.config.members) (sets.len struck == 0) (nat_lt r.config.f (sets.len struck)) (sets.len r.down == 0) refl refl refl refl allowed where
-  at : (a b c d : Bool) → is_within struck r.config.members ≡ a → (sets.len struck == 0) ≡ b → nat_lt r.config.f (sets.len struck) ≡ c → (sets.len r.down == 0) ≡ d
-      → cond (not a) (Some BadMember) (cond b (Some Nobody) (cond c (Some TooMany) (cond (not d) (Some Down) None))) ≡ None → MayStrike r struck
-  at false b c d ea eb ec ed none = cc
-  at true true c d ea eb ec ed none = cc
-  at true false true d ea eb ec ed none = cc
-  at true false false false ea eb ec ed none = cc
-  at true false false true ea eb ec ed none = record {
+may_strike r struck allowed = at (is_within struck r.config.members) (sets.len struck == 0) (nat_lt r.config.f (sets.len (sets.union r.down struck))) refl refl refl allowed where
+  at : (a b c : Bool) → is_within struck r.config.members ≡ a → (sets.len struck == 0) ≡ b → nat_lt r.config.f (sets.len (sets.union r.down struck)) ≡ c
+      → cond (not a) (Some BadMember) (cond b (Some Nobody) (cond c (Some TooMany) None)) ≡ None → MayStrike r struck
+  at false b c ea eb ec none = cc
+  at true true c ea eb ec none = cc
+  at true false true ea eb ec none = cc
+  at true false false ea eb ec none = record {
     below = within-below struck r.config.members ea;
     few = grind (arith, nat_tests);
-    nobody_down = sets.empty_of_len r.down (grind (arith, nat_tests));
   }
 
 -- the messages on a channel with no struck end stay, and the others go
@@ -144,11 +132,24 @@ module _ (next : Next) (old new : GroupRecord) (struck : Members) (sound : IsSou
   may : MayStrike old struck
   may = may_strike old struck allowed
 
-  only_struck : (m : ℕ) → sets.contains new.down m ≡ sets.contains struck m
-  only_struck m = ap (λ (s : Members). sets.contains s m) down ∙ sets.contains-union {R = nat_cmp} nat_cmp_total old.down struck m ∙ ap (λ b. b || sets.contains struck m) (ap (λ (s : Members). sets.contains s m) may.nobody_down ∙ sets.contains-empty nat_cmp m)
+  -- who is down was down before or is struck
+  both_down : (m : ℕ) → sets.contains new.down m ≡ (sets.contains old.down m || sets.contains struck m)
+  both_down m = ap (λ (s : Members). sets.contains s m) down ∙ sets.contains-union {R = nat_cmp} nat_cmp_total old.down struck m
 
-  same_down : new.down ≡ struck
-  same_down = same_from_contains new.down struck only_struck
+  neither : (a b : Bool) → (a || b) ≡ false → (a ≡ false) × (b ≡ false)
+  neither true b h = cc
+  neither false b h = (refl, h)
+
+  not_struck : (m : ℕ) → IsUp (knowledge new) m → sets.contains struck m ≡ false
+  not_struck m up = (neither (sets.contains old.down m) (sets.contains struck m) (sym (both_down m) ∙ up)).1
+
+  -- a member that is down now and is not struck was blank before
+  blank_now : (m : ℕ) → IsDown (knowledge new) m → slice_index_or new.members m blank ≡ blank
+  blank_now m is = at (sets.contains old.down m) (sets.contains struck m) refl refl (sym (both_down m) ∙ is) where
+    at : (a b : Bool) → sets.contains old.down m ≡ a → sets.contains struck m ≡ b → (a || b) ≡ true → slice_index_or new.members m blank ≡ blank
+    at a true ea eb either = blanked.named m eb
+    at true false ea eb either = blanked.others m eb ∙ sound.blanks m (sound.down m ea) ea
+    at false false ea eb either = cc
 
   on : (q p : ℕ) (v : Message) → is_on q p v ≡ true → has_end_in struck v ≡ (sets.contains struck q || sets.contains struck p)
   on q p v is =
@@ -170,14 +171,31 @@ module _ (next : Next) (old new : GroupRecord) (struck : Members) (sound : IsSou
   either false b (inl h) = cc
   either false b (inr h) = h
 
+  -- a channel with an end that was down before was empty before
+  was_empty : (q p : ℕ) → IsDown (knowledge old) q ⊎ IsDown (knowledge old) p → channel old q p ≡ []
+  was_empty q p ends = sound.causes.down.channels q p ends
+
+  emptied_now : (q p : ℕ) → IsDown (knowledge new) q ⊎ IsDown (knowledge new) p → channel new q p ≡ []
+  emptied_now q p ends = at (sets.contains struck q) (sets.contains struck p) refl refl where
+    before : (m : ℕ) → sets.contains struck m ≡ false → IsDown (knowledge new) m → IsDown (knowledge old) m
+    before m out is = right (sets.contains old.down m) (sets.contains struck m) out (sym (both_down m) ∙ is) where
+      right : (a b : Bool) → b ≡ false → (a || b) ≡ true → a ≡ true
+      right true b eb h = refl
+      right false b eb h = cc
+
+    at : (a b : Bool) → sets.contains struck q ≡ a → sets.contains struck p ≡ b → channel new q p ≡ []
+    at true b ea eb = emptied q p (either (sets.contains struck q) (sets.contains struck p) (inl ea))
+    at false true ea eb = emptied q p (either (sets.contains struck q) (sets.contains struck p) (inr eb))
+    at false false ea eb = kept q p ea eb ∙ was_empty q p (elim ends [ inl is ↦ inl (before q ea is) | inr is ↦ inr (before p eb is) ])
+
   pub is_strike : IsStrike old new struck
   is_strike = record {
     down = down;
     size = blanked.size;
-    survivors = λ m up. blanked.others m (sym (only_struck m) ∙ up);
-    blanks = λ m is. blanked.named m (sym (only_struck m) ∙ is);
-    channels = λ q p up_q up_p. kept q p (sym (only_struck q) ∙ up_q) (sym (only_struck p) ∙ up_p);
-    emptied = λ q p ends. emptied q p (rw (← only_struck q, ← only_struck p) (either (sets.contains new.down q) (sets.contains new.down p) ends));
+    survivors = λ m up. blanked.others m (not_struck m up);
+    blanks = blank_now;
+    channels = λ q p up_q up_p. kept q p (not_struck q up_q) (not_struck p up_p);
+    emptied = emptied_now;
     trace = trace;
     config = config;
     receipts_ever = receipts_ever;
@@ -185,7 +203,7 @@ module _ (next : Next) (old new : GroupRecord) (struck : Members) (sound : IsSou
   }
 
   pub few_down : sets.len new.down ≤ old.config.f
-  few_down = rw same_down may.few
+  few_down = rw down may.few
 
   pub is_sound : IsSound next new
   is_sound = group_strike_keeps next old new struck is_strike may.below few_down sound

@@ -12,7 +12,7 @@ use Rattle.fbl_group.specs.declared.refusals.CrashRefusal.TheVariants as crash
 use Rattle.fbl_group.specs.Strikes.{strike_refusal, Strikes}
 use Rattle.fbl_group.specs.Recoveries.{Recovers}
 
--- a crash leads from old to new: the members are struck, and then recovered
+-- a crash leads from old to new: the members are struck, and then all that are down are recovered
 abbrev pub Crashes : Next → GroupRecord → GroupRecord → Members → Struck → Recovered → Type 0
 Crashes next old new set struck recovered = (down : GroupRecord) × Strikes old down set struck × Recovers next down new recovered
 
@@ -21,7 +21,6 @@ abbrev pub of_strike : StrikeRefusal → CrashRefusal
 of_strike strike.BadMember = crash.BadMember
 of_strike strike.Nobody = crash.Nobody
 of_strike strike.TooMany = crash.TooMany
-of_strike strike.Down = crash.Down
 
 -- the crash is refused as the strike is, with nothing changed
 abbrev pub IsStrikeRefused : GroupRecord → GroupRecord → Members → CrashRefusal → Type 0

@@ -1,5 +1,5 @@
 -- When a delivery is refused, and what it leaves and answers.
-use Rattle.std.specs.Prelude.{◌≡◌, ℕ, ◌+◌, ◌==◌, ◌&&◌, ◌||◌, not, nat_lt, ◌<◌, false, Bool, length, Option, Some, None, slice_get, if◌then◌else◌, List}
+use Rattle.std.specs.Prelude.{◌≡◌, ℕ, ◌+◌, ◌==◌, ◌&&◌, ◌||◌, not, nat_lt, ◌<◌, false, Bool, length, Option, Some, None, slice_get, if◌then◌else◌}
 use Rattle.std.specs.FinSet as set
 use Rattle.fbl_base.specs.declared.outcome.Outcome.{Outcome}
 use Rattle.fbl_base.specs.Fold.{Next}

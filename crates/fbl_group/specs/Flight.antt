@@ -1,5 +1,5 @@
 -- The messages in flight, as one list in the order in which they were sent.
-use Rattle.std.specs.Prelude.{◌≡◌, ℕ, List, [], Option, slice_index_or}
+use Rattle.std.specs.Prelude.{ℕ, List, [], Option, slice_index_or}
 use Rattle.std.specs.List.{position}
 use Rattle.fbl_base.specs.declared.trace.Event.{Event}
 use Rattle.fbl_base.specs.declared.trace.Event.TheVariants.{Send}

@@ -6,3 +6,4 @@ pub mod Tickets
 pub mod Crashes
 pub mod Readers
 pub mod Rebuilding
+pub mod Promises

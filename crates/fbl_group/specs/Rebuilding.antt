@@ -1,5 +1,5 @@
 -- What a recovery makes before it changes the group: records that are rebuilt by replay, in rounds.
-use Rattle.std.specs.Prelude.{◌≡◌, ℕ, ◌+◌, ◌<◌, Bool, true, false, List, length, slice_index_or, if◌then◌else◌}
+use Rattle.std.specs.Prelude.{◌≡◌, ℕ, ◌+◌, ◌<◌, Bool, true, false, List, length, slice_index_or}
 use Rattle.std.specs.FinSet as set
 use Rattle.fbl_base.specs.Fold.{Next}
 use Rattle.fbl_member.specs.Members.{MemberRecord, blank}

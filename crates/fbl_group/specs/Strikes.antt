@@ -11,20 +11,20 @@ use Rattle.fbl_law.specs.Record.{Members}
 use Rattle.fbl_law.specs.Groups.{GroupRecord, marks, receipts, is_recorded}
 use Rattle.fbl_law.specs.GroupSteps.{IsStrike}
 use Rattle.fbl_group.specs.declared.refusals.StrikeRefusal.{StrikeRefusal}
-use Rattle.fbl_group.specs.declared.refusals.StrikeRefusal.TheVariants.{BadMember, Nobody, TooMany, Down}
+use Rattle.fbl_group.specs.declared.refusals.StrikeRefusal.TheVariants.{BadMember, Nobody, TooMany}
 use Rattle.fbl_group.specs.declared.answers.Struck.{Struck}
 
 -- whether each member of the set is below n
 abbrev pub is_within : Members → ℕ → Bool
 is_within s n = list_all (λ m. nat_lt m n) (set.items s)
 
--- the first refusal of a strike of these members that holds
+-- the first refusal of a strike of these members that holds: with those that are down already, which may be named again,
+-- they may be f together
 abbrev pub strike_refusal : GroupRecord → Members → Option StrikeRefusal
 strike_refusal r struck =
     if not (is_within struck r.config.members) then Some BadMember
     else (if set.len struck == 0 then Some Nobody
-    else (if nat_lt r.config.f (set.len struck) then Some TooMany
-    else (if not (set.len r.down == 0) then Some Down else None)))
+    else (if nat_lt r.config.f (set.len (set.union r.down struck)) then Some TooMany else None))
 
 -- the determinants of the lost receipts: those that no survivor has recorded
 abbrev pub lost_receipts : GroupRecord → List Determinant

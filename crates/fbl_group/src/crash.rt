@@ -1,6 +1,7 @@
 //! A strike and the recovery from it in one call.
 
-ghost use Rattle.std.specs.Prelude.{◌≡◌, IfOk, IfErr, None};
+ghost use Rattle.std.specs.Prelude.{◌≡◌, IfOk, IfErr, OnOk, None};
+ghost use Rattle.fbl_group.specs.Promises.{KeepsHolders};
 ghost use Rattle.fbl_group.specs.Strikes.{strike_refusal};
 ghost use Rattle.fbl_group.specs.Crashes.{Crashes, CrashLeaves, of_strike};
 
@@ -11,9 +12,10 @@ use fbl_base::{Behaviour, MemberSet};
 use std::alloc::Allocator;
 
 impl<B: Behaviour, A: Allocator + Copy> Group<B, A> {
-    /// Strikes the members named, and recovers them.
+    /// Strikes the members named, and recovers all that are down then.
     pub fn crash(&mut self, set: MemberSet) -> Result<(Struck, Recovered), CrashRefusal>
         ensures crashed { IfOk result (λ answer. (strike_refusal self.old set ≡ None) × Crashes B.next self.old self.new set answer.0 answer.1) }
+        ensures holders { OnOk result (KeepsHolders self.old self.new) }
         ensures refused { IfErr result (CrashLeaves self.old self.new set) }
     {
         match self.strike(set) {
@@ -34,6 +36,5 @@ fn crash_refusal(refusal: StrikeRefusal) -> CrashRefusal
         StrikeRefusal::BadMember => CrashRefusal::BadMember,
         StrikeRefusal::Nobody => CrashRefusal::Nobody,
         StrikeRefusal::TooMany => CrashRefusal::TooMany,
-        StrikeRefusal::Down => CrashRefusal::Down,
     }
 }

@@ -1,6 +1,6 @@
 //! Recovery of the members that are down.
 
-ghost use Rattle.std.specs.Prelude.{◌≡◌, ℕ, ◌+◌, ◌<◌, ◌≤◌, ◌++◌, if◌then◌else◌, length, map, slice_index_or, IfOk, IfErr, OnErr, vec_len, vec_capacity};
+ghost use Rattle.std.specs.Prelude.{◌≡◌, ℕ, ◌+◌, ◌<◌, ◌≤◌, ◌++◌, if◌then◌else◌, length, map, slice_index_or, IfOk, IfErr, OnErr, OnOk, vec_len, vec_capacity};
 ghost use Rattle.std.specs.List.{filter};
 ghost use Rattle.std.specs.Option.{is_some};
 ghost use Rattle.std.specs.FinSet as set;
@@ -9,7 +9,9 @@ ghost use Rattle.fbl_member.specs.Members.{blank};
 ghost use Rattle.fbl_law.specs.Groups.{receipts};
 ghost use Rattle.fbl_law.specs.Replaying.{stays_by, count_in};
 ghost use Rattle.fbl_group.specs.Rebuilding.{IsPutBack};
+ghost use Rattle.fbl_group.specs.Promises.{GainsHolders, LeavesRecorded, RecordsFirst};
 ghost use Rattle.fbl_group.specs.Recoveries.{Recovers, IsRecoverRefusal};
+ghost use Rattle.fbl_group.specs.Strikes.{lost_receipts};
 
 use crate::answers::Recovered;
 use crate::group::Group;
@@ -26,6 +28,10 @@ impl<B: Behaviour, A: Allocator + Copy> Group<B, A> {
     /// had it. Survivors and the channels between them stay as they are.
     pub fn recover(&mut self) -> Result<Recovered, RecoverRefusal>
         ensures recovered { IfOk result (λ answer. ¬ (self.old.down ≡ set.empty) × Recovers B.next self.old self.new answer) }
+        ensures left { OnOk result (LeavesRecorded self.old self.new) }
+        ensures undone { IfOk result (λ answer. answer.undone ≡ length (lost_receipts self.old)) }
+        ensures first { RecordsFirst self.old }
+        ensures holders { OnOk result (GainsHolders self.old self.new) }
         ensures refused { IfErr result (IsRecoverRefusal self.old) }
         ensures unchanged { OnErr result (self.new ≡ self.old) }
     {

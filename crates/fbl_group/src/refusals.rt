@@ -63,12 +63,9 @@ pub enum StrikeRefusal {
     /// No member is named.
     #[error("Nobody")]
     Nobody,
-    /// More members are named than may be lost at once.
+    /// The members named and those that are down are more than f together.
     #[error("TooMany")]
     TooMany,
-    /// Some member of the group is down already.
-    #[error("Down")]
-    Down,
 }
 
 /// Why nobody is recovered. The refusals are tested in this order.
@@ -82,7 +79,7 @@ pub enum RecoverRefusal {
     Memory,
 }
 
-/// Why a crash is refused. The refusals are tested in this order: the first four are those of a strike.
+/// Why a crash is refused. The refusals are tested in this order: the first three are those of a strike.
 #[derive(Clone, Copy, PartialEq, Eq, Debug, Error)]
 pub enum CrashRefusal {
     /// A member named is not a member of the group.
@@ -91,13 +88,10 @@ pub enum CrashRefusal {
     /// No member is named.
     #[error("Nobody")]
     Nobody,
-    /// More members are named than may be lost at once.
+    /// The members named and those that are down are more than f together.
     #[error("TooMany")]
     TooMany,
-    /// Some member of the group is down already.
-    #[error("Down")]
-    Down,
-    /// There is no memory for the recovery. The members named are struck and still down.
+    /// There is no memory for the recovery. The members named are struck, and all that are down stay so.
     #[error("Memory")]
     Memory,
 }

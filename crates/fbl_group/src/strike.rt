@@ -6,6 +6,7 @@ ghost use Rattle.fbl_table.specs.Tables.{is_held};
 ghost use Rattle.fbl_law.specs.Record.{IsOrphan};
 ghost use Rattle.fbl_law.specs.Groups.{knowledge};
 ghost use Rattle.fbl_group.specs.Recoveries.{has_end_in as is_at_end};
+ghost use Rattle.fbl_group.specs.Promises.{SurvivorsHold, RecordsFirst, RecordsCauses};
 ghost use Rattle.fbl_group.specs.Strikes.{strike_refusal, Strikes, IsBlanked, is_lost as is_lost_in};
 
 use crate::answers::Struck;
@@ -17,12 +18,16 @@ use std::alloc::Allocator;
 
 impl<B: Behaviour, A: Allocator + Copy> Group<B, A> {
     /// Strikes the members named: they lose what they kept in memory, and each message in flight from them or to them is
-    /// lost. They are down until the group is recovered. It takes no memory.
+    /// lost. They are down, beside those that were down before, until the group is recovered. A member that is down may be
+    /// named again. The answer counts all receipts that are lost then. It takes no memory.
     pub fn strike(&mut self, set: MemberSet) -> Result<Struck, StrikeRefusal>
         ensures struck { IfOk result (λ answer. (strike_refusal self.old set ≡ None) × Strikes self.old self.new set answer) }
         ensures refused { IfErr result (λ refusal. strike_refusal self.old set ≡ Some refusal) }
         ensures unchanged { OnErr result (self.new ≡ self.old) }
         ensures no_orphan { (m : ℕ) → ¬ (IsOrphan (knowledge self.new) m) }
+        ensures survivors { SurvivorsHold self.new }
+        ensures first { RecordsFirst self.new }
+        ensures causes { RecordsCauses self.new }
     {
         self.allow_strike(set)?;
         blank_members(
@@ -49,11 +54,8 @@ impl<B: Behaviour, A: Allocator + Copy> Group<B, A> {
         if set.count() == 0 {
             return Err(StrikeRefusal::Nobody);
         }
-        if set.count() > u32::from(self.config.f()) {
+        if self.down.union(set).count() > u32::from(self.config.f()) {
             return Err(StrikeRefusal::TooMany);
-        }
-        if self.down.count() != 0 {
-            return Err(StrikeRefusal::Down);
         }
         Ok(())
     }

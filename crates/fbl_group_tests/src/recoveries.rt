@@ -168,8 +168,11 @@ fn strikes_and_recoveries_are_refused_in_order(rt: HostRuntime) -> Result<(), Fa
         Deliver((3, 0), Err(DeliverRefusal::BadMember)),
         Deliver((0, 3), Err(DeliverRefusal::BadMember)),
         Strike(&[1], Ok(0)),
-        Strike(&[2], Err(StrikeRefusal::Down)),
+        Strike(&[2], Err(StrikeRefusal::TooMany)),
         Strike(&[1, 2], Err(StrikeRefusal::TooMany)),
+        Strike(&[2, 3], Err(StrikeRefusal::BadMember)),
+        Strike(&[1], Ok(0)),
+        Show(Down(&[1])),
         Strike(&[], Err(StrikeRefusal::Nobody)),
         Deliver((2, 0), Err(DeliverRefusal::Down)),
         Deliver((3, 0), Err(DeliverRefusal::BadMember)),
@@ -199,8 +202,72 @@ fn a_crash_is_a_strike_and_a_recovery(rt: HostRuntime) -> Result<(), Fail> {
         Show(Has(1, (0, 0, 0, 0))),
         Show(InFlight((0, 1), 2)),
         Strike(&[2], Ok(0)),
-        Crash(&[1], Err(CrashRefusal::Down)),
+        Crash(&[1], Err(CrashRefusal::TooMany)),
         Show(Down(&[2])),
+        Crash(&[2], Ok((0, (0, 0, 0)))),
+        Show(Down(&[])),
+    ];
+    play::<Relay>(rt.alloc(), &setting, &steps)
+}
+
+#[test]
+fn members_are_struck_while_others_are_down(rt: HostRuntime) -> Result<(), Fail> {
+    let setting = Setting { f: 2, ..ROUND };
+    let steps = [
+        Deliver((1, 0), Ok((1, 0, 5))),
+        Deliver((2, 1), Ok((1, 1, 5))),
+        Deliver((0, 2), Ok((1, 2, 5))),
+        Strike(&[1], Ok(0)),
+        Strike(&[2], Ok(0)),
+        Show(Down(&[1, 2])),
+        Show(Has(0, (5, 1, 1, 3))),
+        Show(Has(1, (0, 0, 0, 0))),
+        Show(Has(2, (0, 0, 0, 0))),
+        Show(Flight(0, false)),
+        Show(Length(6)),
+        Strike(&[1], Ok(0)),
+        Strike(&[0], Err(StrikeRefusal::TooMany)),
+        Strike(&[0, 1], Err(StrikeRefusal::TooMany)),
+        Show(Down(&[1, 2])),
+        Recover(Ok((2, 0, 0))),
+        Show(Has(1, (5, 1, 1, 3))),
+        Show(Has(2, (5, 1, 1, 3))),
+        Show(Down(&[])),
+    ];
+    play::<Relay>(rt.alloc(), &setting, &steps)
+}
+
+#[test]
+fn each_strike_counts_all_lost_receipts(rt: HostRuntime) -> Result<(), Fail> {
+    let setting = Setting { f: 2, ..ROUND };
+    let steps = [
+        Deliver((1, 0), Ok((1, 0, 5))),
+        Deliver((2, 1), Ok((1, 1, 5))),
+        Strike(&[2], Ok(1)),
+        Strike(&[1], Ok(2)),
+        Recover(Ok((0, 1, 2))),
+        Show(Has(0, (0, 0, 1, 0))),
+        Show(Has(1, (0, 0, 0, 0))),
+        Show(Has(2, (0, 0, 0, 0))),
+        Show(Ever(2, 2)),
+    ];
+    play::<Relay>(rt.alloc(), &setting, &steps)
+}
+
+#[test]
+fn a_crash_recovers_those_that_were_down_before(rt: HostRuntime) -> Result<(), Fail> {
+    let setting = Setting { f: 2, ..ROUND };
+    let steps = [
+        Deliver((1, 0), Ok((1, 0, 5))),
+        Deliver((2, 1), Ok((1, 1, 5))),
+        Deliver((0, 2), Ok((1, 2, 5))),
+        Strike(&[1], Ok(0)),
+        Crash(&[0, 2], Err(CrashRefusal::TooMany)),
+        Show(Down(&[1])),
+        Crash(&[2], Ok((0, (2, 0, 0)))),
+        Show(Down(&[])),
+        Show(Has(1, (5, 1, 1, 3))),
+        Show(Has(2, (5, 1, 1, 3))),
     ];
     play::<Relay>(rt.alloc(), &setting, &steps)
 }

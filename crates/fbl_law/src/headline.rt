@@ -1,14 +1,16 @@
 ghost use Rattle.fbl_law.specs.Dumps.{DumpHasNoOrphan, DumpObeysRules};
 ghost use Rattle.fbl_law.specs.Headline.{EachReceiptIsHeld, NoSurvivorIsOrphan, RecordedIsPrefix, SoundHasNoOrphan, SoundIsAlwaysHeld, SurvivorsHold};
 
-/// In a sound group each receipt is held by more than f members or by each member that depends on it: the condition of
-/// "always no orphans".
+/// In a sound group in which nobody is down each receipt is held by more than f members or by each member that depends on
+/// it. Whoever is down, each receipt has more than f holders or is held by each up member that depends on it. This is the
+/// condition of "always no orphans" (Alvisi and Marzullo 1998).
 pub fn always_held_law()
     ensures tables { EachReceiptIsHeld }
     ensures holders { SoundIsAlwaysHeld }
 {}
 
-/// Whichever at most f members are struck, no survivor is an orphan: what a survivor depends on, a survivor has recorded.
+/// Whichever at most f members are struck, in one call or several, no survivor is an orphan: what a survivor depends on, a
+/// survivor has recorded.
 pub fn no_orphan_law()
     ensures sound { SoundHasNoOrphan }
     ensures struck { NoSurvivorIsOrphan }

@@ -26,7 +26,6 @@ abbrev pub strike_name : StrikeRefusal → List ℕ
 strike_name strike.BadMember = codes "BadMember"
 strike_name strike.Nobody = codes "Nobody"
 strike_name strike.TooMany = codes "TooMany"
-strike_name strike.Down = codes "Down"
 
 -- ---- what a group shows
 

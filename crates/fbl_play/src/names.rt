@@ -26,6 +26,5 @@ pub(crate) fn strike_name(refusal: StrikeRefusal) -> &'static str
         StrikeRefusal::BadMember => "BadMember",
         StrikeRefusal::Nobody => "Nobody",
         StrikeRefusal::TooMany => "TooMany",
-        StrikeRefusal::Down => "Down",
     }
 }

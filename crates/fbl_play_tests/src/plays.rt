@@ -62,7 +62,17 @@ const ALL_RECEIPTS_LOST: (&str, &str) = (
 
 const REFUSALS: (&str, &str) = (
     "{\"version\":1,\"members\":3,\"f\":1,\"behaviour\":\"relay\",\"start\":[[0,1,5,2]],\"commands\":[[\"strike\",[]],[\"strike\",[0,1]],[\"strike\",[3]],[\"recover\"],[\"deliver\",1,2],[\"deliver\",1,1],[\"deliver\",3,0],[\"strike\",[1]],[\"strike\",[2]],[\"strike\",[1,2]],[\"deliver\",2,0],[\"recover\"]]}",
-    "strike refused Nobody\nstrike refused TooMany\nstrike refused BadMember\nrecover refused NotDown\ndeliver refused Empty\ndeliver refused Empty\ndeliver refused BadMember\nstrike 1 lost 0\nstrike refused Down\nstrike refused TooMany\ndeliver refused Down\nrecover replayed 0 resent 1 undone 0\n",
+    "strike refused Nobody\nstrike refused TooMany\nstrike refused BadMember\nrecover refused NotDown\ndeliver refused Empty\ndeliver refused Empty\ndeliver refused BadMember\nstrike 1 lost 0\nstrike refused TooMany\nstrike refused TooMany\ndeliver refused Down\nrecover replayed 0 resent 1 undone 0\n",
+);
+
+const STRIKES_WHILE_DOWN: (&str, &str) = (
+    "{\"version\":1,\"members\":3,\"f\":2,\"behaviour\":\"relay\",\"start\":[[0,1,5,2]],\"commands\":[[\"deliver\",1,0],[\"deliver\",2,1],[\"deliver\",0,2],[\"strike\",[1]],[\"strike\",[2]],[\"report\"],[\"strike\",[1]],[\"strike\",[0]],[\"recover\"],[\"states\"]]}",
+    "deliver 1 0 receipt 1 carried 0 state 5\ndeliver 2 1 receipt 1 carried 1 state 5\ndeliver 0 2 receipt 1 carried 2 state 5\nstrike 1 lost 0\nstrike 2 lost 0\nmember 0 up state 5 received 1 sent 1 held 3\nmember 1 down\nmember 2 down\nflight 0\ntrace 6\nlost 0\norphans none\nstrike 1 lost 0\nstrike refused TooMany\nrecover replayed 2 resent 0 undone 0\nstates 5 5 5\n",
+);
+
+const LOST_BY_TWO_STRIKES: (&str, &str) = (
+    "{\"version\":1,\"members\":3,\"f\":2,\"behaviour\":\"relay\",\"start\":[[0,1,5,2]],\"commands\":[[\"deliver\",1,0],[\"deliver\",2,1],[\"strike\",[2]],[\"strike\",[1]],[\"recover\"],[\"states\"]]}",
+    "deliver 1 0 receipt 1 carried 0 state 5\ndeliver 2 1 receipt 1 carried 1 state 5\nstrike 2 lost 1\nstrike 1 lost 2\nrecover replayed 0 resent 1 undone 2\nstates 0 0 0\n",
 );
 
 const NO_ROOM: (&str, &str) = (
@@ -95,6 +105,8 @@ fn prints_the_text_of_each_script(rt: HostRuntime) -> Result<(), Fail> {
         TWO_STRIKES,
         ALL_RECEIPTS_LOST,
         REFUSALS,
+        STRIKES_WHILE_DOWN,
+        LOST_BY_TWO_STRIKES,
         NO_ROOM,
         ROOM,
         LARGEST_VALUE,

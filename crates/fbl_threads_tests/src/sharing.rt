@@ -173,3 +173,29 @@ fn a_crash_is_a_strike_and_a_recovery_in_one_hold(rt: HostRuntime) -> Result<(),
     assert!(rt; group.receipts_ever() == 2 && group.undone_ever() == 2);
     Ok(())
 }
+
+// Members 1 and 2 are struck, the second one in the crash that recovers both.
+#[test]
+fn a_crash_recovers_those_that_were_down_before(rt: HostRuntime) -> Result<(), Fail> {
+    let mut group = group(rt.alloc(), 3, 2, 8192, &[start(0, 1, 5, 2)?])?;
+    let answers = [
+        group.deliver(member(1)?, member(0)?)?.carried,
+        group.deliver(member(2)?, member(1)?)?.carried,
+        group.deliver(member(0)?, member(2)?)?.carried,
+    ];
+    assert_eq!(rt; answers, [0, 1, 2]);
+    assert_eq!(rt; group.strike(set(&[1])?)?, Struck { lost: 0 });
+    let shared = SharedGroup::new(group);
+    let both = Recovered {
+        replayed: 2,
+        resent: 0,
+        undone: 0,
+    };
+    crash(&rt, &shared, &[2], Ok((Struck { lost: 0 }, both)))?;
+    let group = shared.into_inner();
+    assert_eq!(rt; group.down(), set(&[])?);
+    assert_eq!(rt; group.config().members(), 3);
+    assert_eq!(rt; group.state(member(1)?), 5);
+    assert_eq!(rt; group.state(member(2)?), 5);
+    Ok(())
+}

@@ -1,10 +1,9 @@
-use Rattle.std.proofs.Common.{rules, ◌≡◌, ℕ, ◌+◌, ◌<◌, ◌≤◌, ◌++◌, ◌∷◌, [], List, length, map, get_or, arith, sym, ap, ◌∙◌, append_assoc, vec_len, vec_capacity}
+use Rattle.std.proofs.Common.{rules, ◌≡◌, ◌+◌, ◌<◌, ◌++◌, ◌∷◌, [], List, length, get_or, arith, ap, ◌∙◌, vec_len}
 use Rattle.fbl_base.specs.declared.trace.Event.{Event}
 use Rattle.fbl_base.specs.declared.trace.Event.TheVariants.{Receipt}
-use Rattle.fbl_base.specs.declared.outcome.Outcome.{Outcome}
 use Rattle.fbl_member.specs.Members.{Message, MemberRecord, blank}
 use Rattle.fbl_group.specs.Flight.{message_at}
-use Rattle.fbl_group.proofs.Flights.{sends-messages, length-messages, read_any, settled_trace}
+use Rattle.fbl_group.proofs.Flights.{length-messages, read_any, settled_trace}
 use Rattle.fbl_group.proofs.deliver.settle.Goals as goal
 
 pub send_all-requires-clause-flight : goal.send_all-requires-clause-flight

@@ -1,4 +1,4 @@
-use Rattle.std.proofs.Common.{◌≡◌, ◌+◌, ℕ, cond, sym, ap, ◌∙◌, arith}
+use Rattle.std.proofs.Common.{◌≡◌, ap, ◌∙◌, arith}
 use Rattle.std.specs.Prelude.{slice_index_or}
 use Rattle.fbl_member.specs.Members.{blank}
 use Rattle.fbl_law.specs.Replaying.{count_in}

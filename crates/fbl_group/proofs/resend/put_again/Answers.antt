@@ -1,8 +1,6 @@
-use Rattle.std.proofs.Common.{◌≡◌, get_or, ap, ◌∙◌, List}
-use Rattle.fbl_base.specs.declared.trace.Note.{Note}
+use Rattle.std.proofs.Common.{get_or, ap, ◌∙◌, List}
 use Rattle.fbl_table.specs.declared.entry.Entry.{Entry}
 use Rattle.fbl_table.specs.Tables.{piggybacked}
-use Rattle.fbl_member.specs.Members.{Message}
 use Rattle.fbl_group.proofs.Again.{again-step}
 use Rattle.fbl_group.proofs.resend.put_again.Goals as goal
 

@@ -1,4 +1,4 @@
-use Rattle.std.proofs.Common.{◌≡◌, ◌+◌, ◌-◌, ◌≤◌, ◌++◌, ℕ, List, length, map, refl, sym, subst, ap, ◌∙◌, arith}
+use Rattle.std.proofs.Common.{◌≡◌, ◌+◌, ◌-◌, ◌≤◌, ◌++◌, List, length, map, refl, sym, subst, ap, ◌∙◌, arith}
 use Rattle.std.specs.Prelude.{slice_index_or}
 use Rattle.std.specs.List.{filter}
 use Rattle.fbl_base.specs.declared.trace.Event.{Event}
@@ -6,9 +6,9 @@ use Rattle.fbl_base.specs.Events.{mark_of}
 use Rattle.fbl_member.specs.Members.{Message, MemberRecord, blank}
 use Rattle.fbl_law.specs.Groups.{GroupRecord, receipts}
 use Rattle.fbl_law.specs.Replaying.{stays_by, working, count_in, replayed_in, resent_rows}
-use Rattle.fbl_group.specs.Rebuilding.{IsReady, IsPutBack}
+use Rattle.fbl_group.specs.Rebuilding.{IsReady}
 use Rattle.fbl_group.specs.Recoveries.{Recovers}
-use Rattle.fbl_group.proofs.BringingBack.{few-events, size, few-left, fewer-receipts, few-undone, few-again, is_sound, recovers, on_err, within}
+use Rattle.fbl_group.proofs.BringingBack.{size, few-left, fewer-receipts, few-undone, few-again, is_sound, recovers, on_err, within}
 use Rattle.fbl_group.proofs.group.Group.bring_back.Goals as goal
 
 pub returns-in_err-reserve-clause-unchanged : goal.returns-in_err-reserve-clause-unchanged

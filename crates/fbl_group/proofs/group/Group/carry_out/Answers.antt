@@ -1,10 +1,9 @@
 use Rattle.std.proofs.Common.{rules, ◌≡◌, ◌≢◌, ℕ, ◌+◌, ◌<◌, ◌≤◌, ◌^◌, length, arith, sym, subst, ap, ◌∙◌, refl, Fits, w32, w64}
 use Rattle.std.proofs.lemmas.List.{length-set}
-use Rattle.fbl_member.specs.Carried.{IsOnce}
 use Rattle.fbl_member.specs.Members.{Message}
 use Rattle.fbl_law.specs.Groups.{GroupRecord}
 use Rattle.fbl_group.specs.Flight.{message_at}
-use Rattle.fbl_group.specs.Deliveries.{IsPlanned, Delivered}
+use Rattle.fbl_group.specs.Deliveries.{IsPlanned}
 use Rattle.fbl_group.proofs.Planning as planning
 use Rattle.fbl_group.proofs.group.Group.carry_out.Goals as goal
 

@@ -1,6 +1,4 @@
-use Rattle.std.proofs.Common.{rules, ◌≡◌, ℕ, ◌<◌, length, get_or, arith, sym, ap, ◌∙◌, Option, Some, None}
-use Rattle.fbl_base.specs.declared.outcome.Outcome.{Outcome}
-use Rattle.fbl_base.specs.declared.trace.Note.{Note}
+use Rattle.std.proofs.Common.{rules, ◌≡◌, ◌<◌, length, get_or, arith, sym, ap, ◌∙◌, Some, None}
 use Rattle.fbl_member.specs.Members.{Message, MemberRecord, blank}
 use Rattle.fbl_group.specs.Deliveries.{has_no_room}
 use Rattle.fbl_group.specs.Flight.{message_at, front_place}

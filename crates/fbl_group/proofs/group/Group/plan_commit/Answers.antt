@@ -1,5 +1,5 @@
-use Rattle.std.proofs.Common.{rules, ◌≡◌, ℕ, ◌+◌, ◌<◌, ◌≤◌, Bool, true, false, not, length, get_or, arith, refl, sym, ap, ◌∙◌, Option, Some, None}
-use Rattle.fbl_member.specs.Members.{Message, MemberRecord, blank}
+use Rattle.std.proofs.Common.{rules, ◌≡◌, ◌<◌, length, get_or, arith, sym, ◌∙◌, Some, None}
+use Rattle.fbl_member.specs.Members.{blank}
 use Rattle.fbl_group.specs.Flight.{message_at, front_place}
 use Rattle.fbl_group.specs.Deliveries.{has_no_room}
 use Rattle.fbl_group.specs.Tickets.{is_current}

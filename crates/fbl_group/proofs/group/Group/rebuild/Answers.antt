@@ -1,5 +1,4 @@
-use Rattle.std.proofs.Common.{◌≡◌, ◌<◌, true, false, subst, arith}
-use Rattle.fbl_law.specs.Replaying.{IsReplaying, replayed_in}
+use Rattle.std.proofs.Common.{true, subst, arith}
 use Rattle.fbl_group.specs.Rebuilding.{Rounds}
 use Rattle.fbl_group.proofs.Recovering.{few-replayed, round-more, round-last}
 use Rattle.fbl_group.proofs.group.Group.rebuild.Goals as goal

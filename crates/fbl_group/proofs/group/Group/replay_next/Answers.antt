@@ -1,4 +1,4 @@
-use Rattle.std.proofs.Common.{◌≡◌, ◌+◌, ℕ, Some, None, List, sym, subst, ap, ◌∙◌, arith}
+use Rattle.std.proofs.Common.{◌≡◌, ◌+◌, Some, None, List, sym, subst, ap, ◌∙◌, arith}
 use Rattle.fbl_member.specs.Members.{MemberRecord, logged_note}
 use Rattle.fbl_table.specs.Tables.{found}
 use Rattle.fbl_law.specs.Groups.{GroupRecord}

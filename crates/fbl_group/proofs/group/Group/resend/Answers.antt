@@ -1,5 +1,4 @@
-use Rattle.std.proofs.Common.{◌≡◌, ◌+◌, ◌++◌, ℕ, true, false, List, sym, subst, ap, ◌∙◌, arith}
-use Rattle.fbl_member.specs.Members.{Message}
+use Rattle.std.proofs.Common.{◌≡◌, ◌++◌, ap, ◌∙◌, arith}
 use Rattle.fbl_law.specs.Groups.{GroupRecord}
 use Rattle.fbl_law.specs.Replaying.{working, resent_row, resent_rows}
 use Rattle.fbl_group.proofs.Recovering.{numbered, is-made}

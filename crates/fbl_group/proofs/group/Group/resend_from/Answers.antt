@@ -1,6 +1,5 @@
-use Rattle.std.proofs.Common.{◌≡◌, ◌+◌, ◌++◌, ◌||◌, ℕ, true, false, List, sym, subst, ap, ◌∙◌, arith}
+use Rattle.std.proofs.Common.{◌≡◌, ◌++◌, ◌||◌, sym, ap, ◌∙◌, arith}
 use Rattle.std.specs.FinSet as set
-use Rattle.fbl_member.specs.Members.{Message}
 use Rattle.fbl_law.specs.Groups.{GroupRecord}
 use Rattle.fbl_law.specs.Replaying.{working, resent_to, resent_row}
 use Rattle.fbl_group.proofs.Recovering.{numbered, is-made}

@@ -1,11 +1,6 @@
-use Rattle.std.proofs.Common.{◌≡◌, ◌++◌, ℕ, List, Ok, Err, sym, ap, ◌∙◌}
-use Rattle.std.specs.Result.{OnOk}
-use Rattle.fbl_base.specs.declared.trace.Note.{Note}
-use Rattle.fbl_table.specs.declared.entry.Entry.{Entry}
-use Rattle.fbl_table.specs.Tables.{piggybacked}
-use Rattle.fbl_member.specs.Members.{Message, MemberRecord, last_from, logged_beyond}
+use Rattle.std.proofs.Common.{ap, ◌∙◌}
 use Rattle.fbl_law.specs.Groups.{GroupRecord}
-use Rattle.fbl_law.specs.Replaying.{working, resent, resent_to}
+use Rattle.fbl_law.specs.Replaying.{working}
 use Rattle.fbl_group.proofs.Again.{resent-is}
 use Rattle.fbl_group.proofs.group.Group.resend_to.Goals as goal
 

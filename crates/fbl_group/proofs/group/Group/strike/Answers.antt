@@ -4,6 +4,7 @@ use Rattle.fbl_law.specs.GroupSteps.{IsStrike}
 use Rattle.fbl_law.proofs.Promises.{sound_has_no_orphan}
 use Rattle.std.specs.Prelude.{count_by}
 use Rattle.fbl_group.specs.Strikes.{strike_refusal, is_lost}
+use Rattle.fbl_group.proofs.Promised.{survivors_hold, records_first, records_causes}
 use Rattle.fbl_group.proofs.Striking.{is_strike, is_sound, no_orphan, count-lost}
 use Rattle.fbl_group.proofs.group.Group.strike.Goals as goal
 
@@ -27,3 +28,27 @@ pub returns-clause-no_orphan : goal.returns-clause-no_orphan
 returns-clause-no_orphan g c =
     let allowed = subst (λ (r : GroupRecord). strike_refusal r c.args.set ≡ None) (sym c.self.view_is) c.in_ok-allow_strike.ensures.allowed in
     no_orphan g.B.Behaviour.next _ _ c.args.set c.self.invariant allowed c.blank_members.ensures c.drop_at.ensures c.union-self-inside.ensures refl refl refl refl
+
+pub returns-in_err-allow_strike-clause-survivors : goal.returns-in_err-allow_strike-clause-survivors
+returns-in_err-allow_strike-clause-survivors g c = rw (← c.self.view_is) (survivors_hold g.B.Behaviour.next _ c.self.invariant)
+
+pub returns-clause-survivors : goal.returns-clause-survivors
+returns-clause-survivors g c =
+    let allowed = subst (λ (r : GroupRecord). strike_refusal r c.args.set ≡ None) (sym c.self.view_is) c.in_ok-allow_strike.ensures.allowed in
+    survivors_hold g.B.Behaviour.next _ (is_sound g.B.Behaviour.next _ _ c.args.set c.self.invariant allowed c.blank_members.ensures c.drop_at.ensures c.union-self-inside.ensures refl refl refl refl)
+
+pub returns-in_err-allow_strike-clause-first : goal.returns-in_err-allow_strike-clause-first
+returns-in_err-allow_strike-clause-first g c = rw (← c.self.view_is) (records_first g.B.Behaviour.next _ c.self.invariant)
+
+pub returns-clause-first : goal.returns-clause-first
+returns-clause-first g c =
+    let allowed = subst (λ (r : GroupRecord). strike_refusal r c.args.set ≡ None) (sym c.self.view_is) c.in_ok-allow_strike.ensures.allowed in
+    records_first g.B.Behaviour.next _ (is_sound g.B.Behaviour.next _ _ c.args.set c.self.invariant allowed c.blank_members.ensures c.drop_at.ensures c.union-self-inside.ensures refl refl refl refl)
+
+pub returns-in_err-allow_strike-clause-causes : goal.returns-in_err-allow_strike-clause-causes
+returns-in_err-allow_strike-clause-causes g c = rw (← c.self.view_is) (records_causes g.B.Behaviour.next _ c.self.invariant)
+
+pub returns-clause-causes : goal.returns-clause-causes
+returns-clause-causes g c =
+    let allowed = subst (λ (r : GroupRecord). strike_refusal r c.args.set ≡ None) (sym c.self.view_is) c.in_ok-allow_strike.ensures.allowed in
+    records_causes g.B.Behaviour.next _ (is_sound g.B.Behaviour.next _ _ c.args.set c.self.invariant allowed c.blank_members.ensures c.drop_at.ensures c.union-self-inside.ensures refl refl refl refl)

@@ -1,4 +1,4 @@
-use Rattle.std.proofs.Common.{rules, ◌≡◌, ℕ, ◌+◌, ◌<◌, ◌≤◌, length, get_or, arith, refl, sym, ap, ◌∙◌, Option, Some, None, Fits, w32}
+use Rattle.std.proofs.Common.{◌≡◌, ℕ, ◌+◌, ◌<◌, ◌≤◌, length, get_or, arith, refl, sym, ap, ◌∙◌, Some, None, Fits, w32}
 use Rattle.fbl_member.specs.Members.{Message, MemberRecord, blank}
 use Rattle.fbl_group.specs.Flight.{message_at, front_place}
 use Rattle.fbl_group.proofs.Flights.{read_any}
