@@ -29,9 +29,9 @@ abbrev pub count_in : Members → (ℕ → ℕ) → ℕ → ℕ
 count_in s count zero = 0
 count_in s count (suc n) = count_in s count n + (if set.contains s n then count n else 0)
 
--- whether the receipt is one that a member of the set replays: one beyond those of the member's checkpoint
-abbrev pub is_replayed : Members → (ℕ → MemberRecord) → Determinant → Bool
-is_replayed s saved d = set.contains s d.to && nat_lt (saved d.to).received d.rsn
+-- whether the receipt is one that a member that is down replays: one beyond those of its checkpoint
+abbrev pub is_replayed : GroupRecord → Determinant → Bool
+is_replayed r d = set.contains r.down d.to && nat_lt (checkpoint r d.to).received d.rsn
 
 -- whether the event is a receipt, of a member of the set, whose determinant isn't in the table
 abbrev pub is_lost : Members → List Entry → Mark → Bool
