@@ -21,8 +21,8 @@ use Rattle.fbl_base.proofs.PrecedenceLaws.{Has-filter}
 use Rattle.fbl_member.specs.Members.{MemberRecord}
 use Rattle.fbl_law.specs.Steps.{Stays, IsEventCut}
 use Rattle.fbl_law.specs.Groups.{GroupRecord, marks, knowledge}
-use Rattle.fbl_law.specs.Sound.{received_notes, IsSound}
-use Rattle.fbl_law.specs.Replaying.{receipts_at, IsReplayed, stays_by}
+use Rattle.fbl_law.specs.Sound.{received_notes, receipts_at, IsReplayed, IsSound}
+use Rattle.fbl_law.specs.Replaying.{stays_by}
 use Rattle.fbl_law.proofs.Cut.{Has-kept, kept-Has}
 use Rattle.fbl_law.proofs.LawfulCut.{marks-filter}
 use Rattle.fbl_law.proofs.GroupRecovery.{cut-lawful, cut-keeps_up}

@@ -234,7 +234,7 @@ module _ (next : Next) (old : GroupRecord) (sound : IsSound next old) where
   keep e = not (loses lost (marks old) e)
 
   recorded-held : (d : Determinant) → IsRecorded (knowledge old) d → is_held (gathered_table old) d ≡ true
-  recorded-held d recorded = held-Names (gathered_table old) d (recorded_gathered old.config.f (knowledge old) sound.causes.down d recorded)
+  recorded-held d recorded = held-Names (gathered_table old) d (recorded_gathered old.config.f (knowledge old) sound.causes.down sound.causes.checkpoints d recorded)
 
   held-recorded : (d : Determinant) → is_held (gathered_table old) d ≡ true → IsRecorded (knowledge old) d
   held-recorded d held =

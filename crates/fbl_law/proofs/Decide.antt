@@ -8,10 +8,10 @@ use Rattle.fbl_base.specs.Events.{same_determinant}
 use Rattle.fbl_base.proofs.Recorded.{Decides-same_determinant}
 use Rattle.fbl_base.proofs.Sizes.{some_member, len-within}
 use Rattle.fbl_table.specs.declared.entry.Entry.{Entry}
-use Rattle.fbl_law.specs.Record.{Members, Includes, Record, table, IsUp, Names, Holds, IsRecorded, IsHolder, IsStable, IsClosed, IsAlwaysHeld}
+use Rattle.fbl_law.specs.Record.{Members, Includes, Record, table, checkpoint, IsUp, Names, Holds, IsRecorded, IsHolder, IsStable, IsClosed, IsAlwaysHeld}
 use Rattle.fbl_law.proofs.Lists.{Contains-here, Contains-there, Contains-cons_cases, Contains-none}
 use Rattle.fbl_law.proofs.Safe.{down_or_up, never_both}
-use Rattle.fbl_law.proofs.Tables.{Includes-insert, Includes-insert_cases, Includes-union, Includes-left, Includes-right}
+use Rattle.fbl_law.proofs.Tables.{Includes-insert, Includes-insert_cases, Includes-union, Includes-left, Includes-right, named_record}
 use Rattle.fbl_base.specs.MemberSets.{contains-insert_other}
 
 -- whether P holds is known
@@ -83,20 +83,31 @@ module _ (f : ℕ) (r : Record) (d : Determinant) where
         | inr few ↦ inr (λ stable. let within = len-within (set.len stable.0) stable.0 s refl (λ q h. every q (stable.2 q h)) in omega (arith, few, stable.1, within))
       ]
 
+  Known-recorded : Known (IsRecorded r d)
+  Known-recorded =
+      let holders = set_of (length r.tables) (Holds r d) Known-holds in
+      let savers = set_of (length r.checkpoints) (λ m. Names (checkpoint r m).table d) (λ m. Known-names (checkpoint r m).table d) in
+      elim (cases_lt 0 (set.len holders.0)) [
+        | inl some ↦ let one = some_member holders.0 some in inl (inl (one.0, holders.1 one.0 one.1))
+        | inr no_holder ↦ elim (cases_lt 0 (set.len savers.0)) [
+          | inl some ↦ let one = some_member savers.0 some in inl (inr (one.0, savers.1 one.0 one.1))
+          | inr no_saver ↦ inr (λ recorded. elim recorded [
+            | inl held ↦ let some = some_has holders.0 held.0 (holders.2 held.0 (named_within r.tables d held.0 held.1.1) held.1) in omega (arith, some, no_holder)
+            | inr saved ↦ let some = some_has savers.0 saved.0 (savers.2 saved.0 (named_record r.checkpoints saved.0 d saved.1) saved.1) in omega (arith, some, no_saver)
+          ])
+        ]
+      ]
+
   Known-stable : Known (IsStable f r d)
   Known-stable =
       let holders = set_of (length r.tables) (Holds r d) Known-holds in
       let every : (m : ℕ) → Holds r d m → Includes holders.0 m = λ m h. holders.2 m (named_within r.tables d m h.1) h in
-      elim (cases_lt 0 (set.len holders.0)) [
-        | inl some ↦
-            let one = some_member holders.0 some in
-            let recorded : IsRecorded r d = (one.0, holders.1 one.0 one.1) in
+      elim Known-recorded [
+        | inl recorded ↦
             told (set.union holders.0 r.down)
             (λ m h. elim (Includes-union holders.0 r.down m h) [ inl holds ↦ inl (holders.1 m holds) | inr down ↦ inr (down, recorded) ])
             (λ m h. elim h [ inl holds ↦ Includes-left holders.0 r.down m (every m holds) | inr down ↦ Includes-right holders.0 r.down m down.0 ])
-        | inr none ↦
-            told holders.0 (λ m h. inl (holders.1 m h))
-            (λ m h. elim h [ inl holds ↦ every m holds | inr down ↦ absurd (let some = some_has holders.0 down.1.0 (every down.1.0 down.1.1) in omega (arith, some, none)) ])
+        | inr never ↦ told holders.0 (λ m h. inl (holders.1 m h)) (λ m h. elim h [ inl holds ↦ every m holds | inr down ↦ absurd (never down.1) ])
       ]
 
 -- each receipt of a closed record is stable, or held by each up member that depends on it

@@ -1,5 +1,5 @@
 -- What a delivery keeps.
-use Rattle.std.proofs.Common.{◌≡◌, ◌≢◌, ℕ, Bool, true, false, List, [], ◌∷◌, inl, inr, ◌⊎◌, refl, sym, subst, ap, ◌∙◌, zero, suc, Some, cond, map, drop, ◌&&◌, ◌==◌}
+use Rattle.std.proofs.Common.{◌≡◌, ◌≢◌, ℕ, arith, Bool, true, false, List, [], ◌∷◌, inl, inr, ◌⊎◌, refl, sym, subst, ap, ◌∙◌, zero, suc, Some, cond, map, drop, ◌&&◌, ◌==◌}
 use Rattle.std.specs.List.{Contains}
 use Rattle.std.specs.FinSet as set
 use Rattle.std.proofs.lemmas.Bool.{cases_eq}
@@ -11,17 +11,19 @@ use Rattle.fbl_base.specs.Events.{receipt_of}
 use Rattle.std.specs.Ordering.{nat_cmp}
 use Rattle.std.proofs.lemmas.Option.{get_or_from_slice_get}
 use Rattle.std.proofs.lemmas.List.Elements.{Contains-append_cases}
+use Rattle.fbl_base.specs.Rules.{is_send_of, is_receipt_of}
 use Rattle.fbl_base.proofs.Gets.{At-front, At-below}
 use Rattle.fbl_base.proofs.PrecedenceLaws.{Has-last, Precedes-front}
 use Rattle.fbl_table.specs.declared.entry.Entry.{Entry}
 use Rattle.fbl_member.specs.Members.{Message}
-use Rattle.fbl_law.specs.Record.{Includes, Record, table, send_mark, IsInFlight, IsUp, Names, Holds, IsHolder, IsStable, IsTrueEntry, KnowsTruth, NamesCauses, IsClosed, MatchesTrace, IsDownEmpty}
+use Rattle.fbl_law.specs.Record.{Includes, Record, table, send_mark, IsInFlight, IsUp, Names, Holds, IsHolder, IsStable, IsTrueEntry, KnowsTruth, NamesCauses, IsClosed, MatchesTrace, IsDownEmpty, checkpoint, IsBeforeCheckpoint, IsCheckpointKept}
 use Rattle.fbl_table.specs.Tables.{learned, piggybacked}
 use Rattle.fbl_law.specs.Steps.{IsDelivered, is_on, taken_off, between, determinant}
 use Rattle.fbl_law.proofs.Appended.{Has-append, Has-behind, disjoint, Precedes-within, Precedes-entered}
 use Rattle.fbl_law.proofs.Lists.{Contains-there, Contains-from_filter}
 use Rattle.fbl_law.proofs.Channels.{AreSent, Has-made, made-Has, channel-delivered}
-use Rattle.fbl_law.proofs.Safe.{never_both, nobody_down_empty}
+use Rattle.fbl_law.proofs.Numbered.{count-grown, added-later}
+use Rattle.fbl_law.proofs.Safe.{never_both, nobody_down_empty, IsBeforeCheckpoint-same}
 use Rattle.fbl_law.proofs.Tables.{Includes-insert, Includes-insert_cases, Includes-only, Includes-union, Includes-left, Names-learned_kept, Names-learned_gained, Names-noted_kept, Names-noted, Contains-noted, Contains-piggybacked, passed_or_known, Names-from_table, learned-keeps}
 
 pub Names-piggybacked : (f : ℕ) (entries : List Entry) (d : Determinant) → Names (piggybacked f entries) d → Names entries d
@@ -47,7 +49,7 @@ receipt_names c d same =
     let rsn : c.rsn ≡ d.rsn = cc in
     λ i. record { from = from i; ssn = ssn i; to = to i; rsn = rsn i }
 
-module _ (n f : ℕ) (old new : Record) (v : Message) (rsn : ℕ) (made : List Message) (s : IsDelivered n f old new v rsn made) (known : KnowsTruth old) (closed : IsClosed f old) (sent : AreSent old) where
+module _ (n f : ℕ) (old new : Record) (v : Message) (rsn : ℕ) (made : List Message) (s : IsDelivered n f old new v rsn made) (known : KnowsTruth old) (closed : IsClosed f old) (sent : AreSent old) (kept_all : (m : ℕ) → IsCheckpointKept old m) where
   abbrev own : Determinant
   own = determinant v rsn
 
@@ -62,6 +64,9 @@ module _ (n f : ℕ) (old new : Record) (v : Message) (rsn : ℕ) (made : List M
 
   flies : IsInFlight old v
   flies = (0, At-below (old.channel v.from v.to) 0 v s.front, get_or_from_slice_get (old.channel v.from v.to) 0 v v s.front)
+
+  same_checkpoint : (m : ℕ) → checkpoint new m ≡ checkpoint old m
+  same_checkpoint m = rw s.checkpoints refl
 
   -- a message in flight was so before, or was made
   messages : (x : Message) → IsInFlight new x → IsInFlight old x ⊎ ((x.from ≡ v.to) × Contains made x × (x.carried ≡ piggybacked f (table new v.to)))
@@ -152,6 +157,7 @@ module _ (n f : ℕ) (old new : Record) (v : Message) (rsn : ℕ) (made : List M
       | inl old_one ↦ let fact = known.messages x e old_one among in (IsTrueEntry-delivered e fact.0, Holds-delivered e.det x.from fact.1)
       | inr made ↦ let mine = Contains-piggybacked f (table new v.to) e (rw made.2 at among) in ((good e mine).0, rw made.0 (up v.to, (e, mine, refl)))
     ];
+    checkpoints = λ m e among. let fact = known.checkpoints m e (rw (same_checkpoint m) at among) in (IsTrueEntry-delivered e fact.0, fact.1);
   }
 
   made_is_added : (x : Message) → Contains made x → Has added (send_mark x)
@@ -234,6 +240,17 @@ module _ (n f : ℕ) (old new : Record) (v : Message) (rsn : ℕ) (made : List M
   Has-carried : (x : Message) (c : Determinant) → IsInFlight old x → Names x.carried c → Has old.trace (receipt_of c)
   Has-carried x c flies named = subst (λ (y : Determinant). Has old.trace (receipt_of y)) named.2 (known.messages x named.0 flies named.1).0.0
 
+  Has-saved : (m : ℕ) (c : Determinant) → Names (checkpoint old m).table c → Has old.trace (receipt_of c)
+  Has-saved m c named = subst (λ (x : Determinant). Has old.trace (receipt_of x)) named.2 (known.checkpoints m named.0 named.1).0.0
+
+  -- the events added are no earlier than a checkpoint
+  reached_event : (b : Mark) → IsBeforeCheckpoint old b → NamesCauses f new (checkpoint old (member_of b)).table b
+  reached_event b reached d before =
+      elim (Has-cases b (Has-last before)) [
+        | inl old_one ↦ kept (checkpoint old (member_of b)).table b old_one (closed.reached b reached) d before
+        | inr new_one ↦ absurd (added-later n old added (rw s.trace at s.rules) kept_all b new_one reached)
+      ]
+
   other_events : (m : ℕ) (b : Mark) → m ≢ v.to → member_of b ≡ m → NamesCauses f new (table old m) b
   other_events m b other at_m d before =
       elim (Has-cases b (Has-last before)) [
@@ -264,6 +281,10 @@ module _ (n f : ℕ) (old new : Record) (v : Message) (rsn : ℕ) (made : List M
       | inl old_one ↦ kept x.carried (receipt_of c) (Has-carried x c old_one named) (closed.carried x c old_one named)
       | inr made ↦ rw made.2 (new_table v.to (receipt_of c) refl (receiver_named c (Names-piggybacked f (table new v.to) c (rw made.2 at named))))
     ];
+    reached = λ b reached. rw (same_checkpoint (member_of b)) (reached_event b (IsBeforeCheckpoint-same old new b (same_checkpoint (member_of b)) reached));
+    checkpoints = λ m c named.
+        let was : Names (checkpoint old m).table c = rw (same_checkpoint m) at named in
+        rw (same_checkpoint m) (kept (checkpoint old m).table (receipt_of c) (Has-saved m c was) (closed.checkpoints m c was));
   }
 
   pub MatchesTrace-delivered : ((q p : ℕ) → IsUp old q → IsUp old p → MatchesTrace old q p) → (q p : ℕ) → MatchesTrace new q p
@@ -271,3 +292,10 @@ module _ (n f : ℕ) (old new : Record) (v : Message) (rsn : ℕ) (made : List M
 
   pub IsDownEmpty-delivered : IsDownEmpty f new
   IsDownEmpty-delivered = nobody_down_empty f new s.down
+
+  pub IsCheckpointKept-delivered : (m : ℕ) → IsCheckpointKept new m
+  IsCheckpointKept-delivered m = record {
+    receipts = rw (same_checkpoint m, s.trace) (omega (arith, (kept_all m).receipts, count-grown (is_receipt_of m) old.trace added));
+    sends = rw (same_checkpoint m, s.trace) (omega (arith, (kept_all m).sends, count-grown (is_send_of m) old.trace added));
+    table = λ d up_m named. Names-delivered d m ((kept_all m).table d (was_up m) (rw (same_checkpoint m) at named));
+  }

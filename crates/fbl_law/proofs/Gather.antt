@@ -1,15 +1,18 @@
 -- What gathered tables have.
-use Rattle.std.proofs.Common.{◌≡◌, ℕ, zero, suc, ◌<◌, List, [], ◌∷◌, length, inl, inr, ◌⊎◌, arith, refl, sym, get_or, subst, ◌∙◌}
+use Rattle.std.proofs.Common.{◌≡◌, ℕ, zero, suc, ◌<◌, Bool, true, false, cond, List, [], ◌∷◌, ◌++◌, length, inl, inr, ◌⊎◌, arith, refl, sym, get_or, subst, ap, ◌∙◌}
+use Rattle.std.proofs.lemmas.Bool.{cases_eq}
+use Rattle.std.proofs.lemmas.List.Elements.{Contains-append_cases, Contains-append_left, Contains-append_right}
 use Rattle.std.specs.List.{Contains}
 use Rattle.std.specs.FinSet as set
 use Rattle.fbl_base.specs.declared.trace.Determinant.{Determinant}
 use Rattle.fbl_table.specs.declared.entry.Entry.{Entry}
-use Rattle.fbl_law.specs.Record.{Members, Includes, Names, Record, table, IsDown, IsUp, IsRecorded, IsDownEmpty}
-use Rattle.fbl_table.specs.Tables.{gathered, marked}
-use Rattle.fbl_law.specs.Steps.{gathered_all}
+use Rattle.fbl_member.specs.Members.{MemberRecord, blank}
+use Rattle.fbl_law.specs.Record.{Members, Includes, Names, Record, table, checkpoint, IsDown, IsUp, IsRecorded, IsDownEmpty, IsCheckpointKept}
+use Rattle.fbl_table.specs.Tables.{gathered}
+use Rattle.fbl_law.specs.Steps.{gathered_all, saved_tables, recovery_table}
 use Rattle.fbl_law.proofs.Lists.{Contains-here, Contains-there, Contains-cons_cases, Contains-none}
-use Rattle.fbl_law.proofs.Safe.{down_or_up, IsRecorded-held}
-use Rattle.fbl_law.proofs.Tables.{joined, Includes-union, Includes-right, Names-gathered, Names-gathered_kept, gathered-keeps, Contains-changed, Names-changed}
+use Rattle.fbl_law.proofs.Safe.{down_or_up, IsRecorded-held, IsRecorded-saved}
+use Rattle.fbl_law.proofs.Tables.{joined, Includes-union, Includes-right, Names-gathered, Names-gathered_kept, gathered-keeps, Contains-changed, Names-changed, named_record}
 
 abbrev mark : Members → Entry → Entry
 mark s e = record { det = e.det; known = set.union e.known s }
@@ -47,39 +50,90 @@ Contains-table [] m e among = absurd (Contains-none e among)
 Contains-table (t ∷ tables) zero e among = Contains-here t tables
 Contains-table (t ∷ tables) (suc m) e among = Contains-there t tables _ (Contains-table tables m e among)
 
--- the entry unites what up members know of a recorded determinant, and names those that are down
+-- the tables of checkpoints are those of the members of the set
+Contains-saved : (s : Members) (checkpoints : List MemberRecord) (n m : ℕ) → m < n → Includes s m → Contains (saved_tables s checkpoints n) (get_or checkpoints m blank).table
+Contains-saved s checkpoints zero m below among = absurd (omega arith)
+Contains-saved s checkpoints (suc n) m below among =
+    elim (cases_eq m n) [
+      | inl same ↦
+          Contains-append_right (saved_tables s checkpoints n) _ (get_or checkpoints m blank).table
+          (let here : set.contains s n ≡ true = ap (λ k. set.contains s k) (sym same) ∙ among in rw (here, same) (Contains-here (get_or checkpoints n blank).table []))
+      | inr other ↦ Contains-append_left (saved_tables s checkpoints n) _ (get_or checkpoints m blank).table (Contains-saved s checkpoints n m (omega arith) among)
+    ]
+
+saved-Contains : (s : Members) (checkpoints : List MemberRecord) (n : ℕ) (t : List Entry) → Contains (saved_tables s checkpoints n) t → (m : ℕ) × ((get_or checkpoints m blank).table ≡ t)
+saved-Contains s checkpoints zero t among = absurd (Contains-none t among)
+saved-Contains s checkpoints (suc n) t among =
+    elim (Contains-append_cases (saved_tables s checkpoints n) (cond (set.contains s n) ((get_or checkpoints n blank).table ∷ []) []) t among) [
+      | inl before ↦ saved-Contains s checkpoints n t before
+      | inr last ↦ (n, one (set.contains s n) last)
+    ]
+  where
+    one : (b : Bool) → Contains (cond b ((get_or checkpoints n blank).table ∷ []) []) t → (get_or checkpoints n blank).table ≡ t
+    one true h = elim (Contains-cons_cases (get_or checkpoints n blank).table [] t h) [ inl first ↦ first | inr none ↦ absurd (Contains-none t none) ]
+    one false h = absurd (Contains-none t h)
+
+-- an up member, or a checkpoint, knows of the entry's determinant that the member m holds it
+abbrev pub IsTold : Record → Entry → ℕ → Type 0
+IsTold r e m =
+    ((q : ℕ) × (x : Entry) × IsUp r q × Contains (table r q) x × (x.det ≡ e.det) × Includes x.known m)
+    ⊎ ((q : ℕ) × (x : Entry) × Contains (checkpoint r q).table x × (x.det ≡ e.det) × Includes x.known m)
+
+-- the entry unites what up members and checkpoints know of a recorded determinant, and names those that are down
 abbrev pub IsGathered : Record → Entry → Type 0
-IsGathered r e =
-    IsRecorded r e.det × ((m : ℕ) → IsDown r m → Includes e.known m)
-    × ((m : ℕ) → Includes e.known m → IsDown r m ⊎ ((q : ℕ) × (x : Entry) × IsUp r q × Contains (table r q) x × (x.det ≡ e.det) × Includes x.known m))
+IsGathered r e = IsRecorded r e.det × ((m : ℕ) → IsDown r m → Includes e.known m) × ((m : ℕ) → Includes e.known m → IsDown r m ⊎ IsTold r e m)
 
 module _ (f : ℕ) (r : Record) (empty : IsDownEmpty f r) where
-  -- what an up member of the table's entries told
-  abbrev IsTold : Entry → Type 0
-  IsTold e = IsRecorded r e.det × ((m : ℕ) → Includes e.known m → (q : ℕ) × (x : Entry) × IsUp r q × Contains (table r q) x × (x.det ≡ e.det) × Includes x.known m)
+  -- the tables that are gathered
+  abbrev sources : List (List Entry)
+  sources = r.tables ++ saved_tables r.down r.checkpoints (length r.checkpoints)
 
-  join_told : (x e : Entry) → IsTold x → IsTold e → x.det ≡ e.det → IsTold (record { det = x.det; known = set.union x.known e.known })
-  join_told x e a b same = (
+  -- what is known of a recorded determinant was told
+  abbrev IsKnown : Entry → Type 0
+  IsKnown e = IsRecorded r e.det × ((m : ℕ) → Includes e.known m → IsTold r e m)
+
+  join_known : (x e : Entry) → IsKnown x → IsKnown e → x.det ≡ e.det → IsKnown (record { det = x.det; known = set.union x.known e.known })
+  join_known x e a b same = (
     a.0,
     λ m h. elim (Includes-union x.known e.known m h) [
       | inl left ↦ a.1 m left
-      | inr right ↦ let t = b.1 m right in (t.0, t.1, t.2, t.3, t.4 ∙ sym same, t.5)
+      | inr right ↦ elim (b.1 m right) [ inl t ↦ inl (t.0, t.1, t.2, t.3, t.4 ∙ sym same, t.5) | inr t ↦ inr (t.0, t.1, t.2, t.3 ∙ sym same, t.4) ]
     ],
   )
 
-  table_told : (t : List Entry) (e : Entry) → Contains r.tables t → Contains t e → IsTold e
-  table_told t e among of_t =
+  table_known : (t : List Entry) (e : Entry) → Contains r.tables t → Contains t e → IsKnown e
+  table_known t e among of_t =
       let is : table r among.0 ≡ t = any_default r.tables among.0 [] t among.1 ∙ among.2 in
       let here : Contains (table r among.0) e = rw is of_t in
       let up : IsUp r among.0 = elim (down_or_up r.down among.0) [ inl down ↦ absurd (Contains-none e (rw (empty.tables among.0 down) at here)) | inr h ↦ h ] in
-      (IsRecorded-held r e.det among.0 (up, (e, here, refl)), λ m h. (among.0, e, up, here, refl, h))
+      (IsRecorded-held r e.det among.0 (up, (e, here, refl)), λ m h. inl (among.0, e, up, here, refl, h))
 
-  pub entries_gathered : (e : Entry) → Contains (marked r.down (gathered_all [] r.tables)) e → IsGathered r e
+  saved_known : (t : List Entry) (e : Entry) → Contains (saved_tables r.down r.checkpoints (length r.checkpoints)) t → Contains t e → IsKnown e
+  saved_known t e among of_t =
+      let saved = saved-Contains r.down r.checkpoints (length r.checkpoints) t among in
+      let here : Contains (checkpoint r saved.0).table e = rw saved.1 of_t in
+      (IsRecorded-saved r e.det saved.0 (e, here, refl), λ m h. inr (saved.0, e, here, refl, h))
+
+  pub entries_gathered : (e : Entry) → Contains (recovery_table r) e → IsGathered r e
   entries_gathered e among =
-      let was = Contains-changed (mark r.down) (λ e. refl) (gathered_all [] r.tables) e among in
-      let told = gathered_all-keeps IsTold join_told [] r.tables (λ x h. absurd (Contains-none x h)) table_told was.0 was.1 in
-      subst (IsGathered r) was.2 (told.0, (λ m down. Includes-right was.0.known r.down m down), λ m h. elim (Includes-union was.0.known r.down m h) [ inl known ↦ inr (told.1 m known) | inr down ↦ inl down ])
+      let was = Contains-changed (mark r.down) (λ e. refl) (gathered_all [] sources) e among in
+      let known = gathered_all-keeps IsKnown join_known [] sources (λ x h. absurd (Contains-none x h)) (λ t x h k. elim (Contains-append_cases r.tables _ t h) [ inl one ↦ table_known t x one k | inr other ↦ saved_known t x other k ]) was.0 was.1 in
+      subst (IsGathered r) was.2 (known.0, (λ m down. Includes-right was.0.known r.down m down), λ m h. elim (Includes-union was.0.known r.down m h) [ inl told ↦ inr (known.1 m told) | inr down ↦ inl down ])
 
-  pub recorded_gathered : (d : Determinant) → IsRecorded r d → Names (marked r.down (gathered_all [] r.tables)) d
-  recorded_gathered d recorded =
-      Names-changed (mark r.down) (λ e. refl) (gathered_all [] r.tables) d (gathered_all-named [] r.tables (table r recorded.0) d (Contains-table r.tables recorded.0 recorded.1.1.0 recorded.1.1.1) recorded.1.1)
+  source_gathered : (t : List Entry) (d : Determinant) → Contains sources t → Names t d → Names (recovery_table r) d
+  source_gathered t d among named = Names-changed (mark r.down) (λ e. refl) (gathered_all [] sources) d (gathered_all-named [] sources t d among named)
+
+  table_gathered : (m : ℕ) (d : Determinant) → Names (table r m) d → Names (recovery_table r) d
+  table_gathered m d named = source_gathered (table r m) d (Contains-append_left r.tables _ (table r m) (Contains-table r.tables m named.0 named.1)) named
+
+  -- what an up member's checkpoint names, the member's table names
+  pub recorded_gathered : ((m : ℕ) → IsCheckpointKept r m) → (d : Determinant) → IsRecorded r d → Names (recovery_table r) d
+  recorded_gathered kept d (inl held) = table_gathered held.0 d held.1.1
+  recorded_gathered kept d (inr saved) =
+      elim (down_or_up r.down saved.0) [
+        | inr up ↦ table_gathered saved.0 d ((kept saved.0).table d up saved.1)
+        | inl down ↦
+            source_gathered (checkpoint r saved.0).table d
+            (Contains-append_right r.tables _ (checkpoint r saved.0).table (Contains-saved r.down r.checkpoints (length r.checkpoints) saved.0 (named_record r.checkpoints saved.0 d saved.1) down))
+            saved.1
+      ]

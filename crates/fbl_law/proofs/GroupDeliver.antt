@@ -1,12 +1,13 @@
 -- A delivery keeps a group sound.
 use Rattle.std.proofs.Common.{◌≡◌, ◌≢◌, ℕ, suc, ◌+◌, ◌<◌, ◌≤◌, ◌==◌, ◌&&◌, Bool, true, false, cond, List, [], ◌∷◌, ◌++◌, length, map, drop, inl, inr, Some, None, slice_get, get_or, refl, sym, ap, ◌∙◌, arith, append-nil, length-append}
-use Rattle.std.specs.List.{Contains, filter_map, cons_option, fold}
+use Rattle.std.specs.List.{Contains, filter, filter_map, cons_option, fold}
 use Rattle.std.specs.Ordering.{nat_cmp}
 use Rattle.std.specs.FinSet as sets
 use Rattle.std.proofs.lemmas.Bool.{cases_eq}
 use Rattle.std.proofs.lemmas.Bool.Decides.{nat_tests}
 use Rattle.std.proofs.lemmas.List.{map-append, length-set, get_or-set_same, get_or-set_other}
-use Rattle.std.proofs.lemmas.List.Elements.{filter_map-append, Contains-append_cases}
+use Rattle.std.proofs.lemmas.List.Elements.{filter-append, filter_map-append, Contains-append_cases}
+use Rattle.fbl_base.specs.declared.trace.Determinant.{Determinant}
 use Rattle.fbl_base.specs.declared.trace.Note.{Note}
 use Rattle.fbl_base.specs.declared.trace.Event.{Event}
 use Rattle.fbl_base.specs.declared.trace.Event.TheVariants as event
@@ -22,8 +23,8 @@ use Rattle.fbl_table.specs.Tables.{piggybacked}
 use Rattle.fbl_member.specs.Members.{Message, MemberRecord, blank, progress_of, messages_from}
 use Rattle.fbl_law.specs.Record.{table, send_mark, IsUp}
 use Rattle.fbl_law.specs.Steps.{IsDelivered, is_on, between, taken_off}
-use Rattle.fbl_law.specs.Groups.{GroupRecord, member, channel, marks, knowledge, receipts}
-use Rattle.fbl_law.specs.Sound.{IsFold, IsSound, received_notes, last_taken}
+use Rattle.fbl_law.specs.Groups.{GroupRecord, member, checkpoint, channel, marks, knowledge, receipts}
+use Rattle.fbl_law.specs.Sound.{IsFold, IsReplayed, IsSound, received_notes, receipts_at, last_taken}
 use Rattle.fbl_law.specs.GroupSteps.{IsDelivery, step_of, receiver, made, delivery_events}
 use Rattle.fbl_law.specs.GroupLaws.{SendsWell, GroupDeliveryKeeps}
 use Rattle.fbl_law.proofs.Lists.{Contains-there, Contains-cons_cases, Contains-none, Contains-from_filter, At-behind}
@@ -31,6 +32,7 @@ use Rattle.fbl_law.proofs.Safe.{never_both}
 use Rattle.fbl_law.proofs.Run.{delivery_keeps}
 use Rattle.fbl_law.proofs.Grown.{note_of-grown, note_of-at, received_notes-delivered}
 use Rattle.fbl_law.proofs.InOrder.{last_taken-push, last_taken-same}
+use Rattle.fbl_law.proofs.Replayed.{replayed-grown}
 use Rattle.fbl_law.proofs.GroupFacts.{table_member, log_counted, flight_channel, channel_flight, front_flight, front_may_follow}
 
 -- the events of a step are the sends of its messages
@@ -143,6 +145,7 @@ module _ (next : Next) (old new : GroupRecord) (v : Message) (well : SendsWell n
         let r = made_event v.to (length was.log) (piggybacked old.config.f (receiver next old v).table) sends x among in
         (r.0, r.1 ∙ ap (piggybacked old.config.f) (sym table_now));
     channels = s.channels;
+    checkpoints = s.checkpoints;
   }
 
   notes_now : (m : ℕ) → received_notes new.trace m ≡ received_notes old.trace m ++ cond (v.to == m) (v.note ∷ []) []
@@ -223,10 +226,19 @@ module _ (next : Next) (old new : GroupRecord) (v : Message) (well : SendsWell n
       ap (λ t. length (receipts t)) marks_split ∙ ap length (filter_map-append determinant_of (marks old) added_marks)
       ∙ length-append (receipts (marks old)) (receipts added_marks) ∙ ap (λ k. length (receipts (marks old)) + suc k) (ap length (no_receipts v.to (length was.log) sends))
 
+  -- a checkpoint is at the fold of its receipts also where the trace has more
+  saved_grown : (m : ℕ) → m < n → IsReplayed next n old.config.starts new.trace m (checkpoint old m)
+  saved_grown m below =
+      replayed-grown next n old.config.starts old.trace new.trace m (checkpoint old m) _ _ sound.lawful.well_formed
+      (ap (λ t. receipts_at t m) marks_split ∙ ap (filter (λ (d : Determinant). d.to == m)) (filter_map-append determinant_of (marks old) added_marks) ∙ filter-append (λ (d : Determinant). d.to == m) (receipts (marks old)) (receipts added_marks))
+      (notes_now m) (sound.saved m below)
+
   IsSound-delivered : IsSound next new
   IsSound-delivered = record {
     config = rw s.config sound.config;
     members = ap length s.members ∙ length-set old.members v.to (receiver next old v) ∙ sound.members ∙ sym (ap (λ c. c.members) s.config);
+    checkpoints = ap length s.checkpoints ∙ sound.checkpoints ∙ sym (ap (λ c. c.members) s.config);
+    saved = λ m below. rw (s.config, s.checkpoints) (saved_grown m (rw s.config at below));
     down = λ q down. never_both new.down q down (rw nobody_down (sets.contains-empty nat_cmp q));
     lawful = rw s.config is_lawful;
     room = rw s.config s.room;

@@ -6,24 +6,25 @@ use Rattle.std.specs.FinSet as set
 use Rattle.std.proofs.Math.ListN.{get_or-map}
 use Rattle.fbl_base.specs.declared.trace.Event.{Event}
 use Rattle.fbl_base.specs.declared.trace.Mark.{Mark}
-use Rattle.fbl_base.specs.Events.{mark_of, member_of}
-use Rattle.fbl_base.specs.Precedence.{Has, step}
+use Rattle.fbl_base.specs.Events.{mark_of, member_of, receipt_of}
+use Rattle.fbl_base.specs.Precedence.{Has, itself, step}
 use Rattle.fbl_base.specs.Fold.{Next, Lawful, note_of}
 use Rattle.fbl_base.proofs.RulesLaws.{eqb-self}
 use Rattle.fbl_table.specs.Tables.{piggybacked}
 use Rattle.fbl_member.specs.Members.{Message, MemberRecord, blank}
 use Rattle.fbl_law.specs.Record.{table, IsUp, IsDown}
 use Rattle.fbl_law.specs.Steps.{Stays, IsCut, IsEventCut, IsRecovered, is_on}
-use Rattle.fbl_law.specs.Groups.{GroupRecord, member, channel, marks, knowledge}
-use Rattle.fbl_law.specs.Sound.{IsFold, IsSound}
+use Rattle.fbl_law.specs.Groups.{GroupRecord, member, checkpoint, channel, marks, knowledge}
+use Rattle.fbl_law.specs.Sound.{IsFold, IsReplayed, IsSound}
 use Rattle.fbl_law.specs.GroupSteps.{IsRecovery}
 use Rattle.fbl_law.specs.GroupLaws.{GroupRecoveryKeeps}
 use Rattle.fbl_law.proofs.Lists.{Contains-filter, Contains-from_filter}
-use Rattle.fbl_law.proofs.Safe.{down_or_up, never_both}
+use Rattle.fbl_law.proofs.Safe.{down_or_up, never_both, IsRecorded-reached}
 use Rattle.fbl_law.proofs.Cut.{KeepsCauses}
 use Rattle.fbl_law.proofs.CutLaw.{cut_is_lawful, stays_is_recorded}
-use Rattle.fbl_law.proofs.Run.{recovery_keeps}
-use Rattle.fbl_law.proofs.CutFolds.{actions-stay, last_taken-stays, note-stays}
+use Rattle.fbl_law.proofs.Run.{recovery_keeps, cut_is_recorded}
+use Rattle.fbl_law.proofs.Replayed.{replayed-cut}
+use Rattle.fbl_law.proofs.CutFolds.{actions-stay, last_taken-stays, note-stays, note-was}
 
 -- the tables of a group's record are those of its members
 pub table-member : (r : GroupRecord) (m : ℕ) → table (knowledge r) m ≡ (member r m).table
@@ -83,6 +84,7 @@ module _ (next : Next) (old new : GroupRecord) (step : IsRecovery next old new) 
     gathered = λ m down. table-member new m ∙ step.gathered m (down-member m down) down;
     channels = step.channels;
     rebuilt = λ q p down. (step.made_again q p down).sends;
+    checkpoints = step.checkpoints;
     messages = λ v flies down. (step.made_again v.from v.to down).carried v flies ∙ ap (λ c. piggybacked c (member new v.from).table) (let e = step.config in rw e refl) ∙ ap (λ t. piggybacked old.config.f t) (sym (table-member new v.from));
   }
 
@@ -107,6 +109,18 @@ module _ (next : Next) (old new : GroupRecord) (step : IsRecovery next old new) 
   folds-after : (m : ℕ) → m < old.config.members → IsFold next new m
   folds-after m below = elim (down_or_up old.down m) [ inl down ↦ step.folds m below down | inr up ↦ fold-stays m up (sound.folds m below up) ]
 
+  -- a checkpoint's receipts are recorded, so they stay
+  saved-after : (m : ℕ) → m < old.config.members → IsReplayed next old.config.members old.config.starts new.trace m (checkpoint new m)
+  saved-after m below =
+      let is : new.trace ≡ filter (λ e. step.trace.0 (mark_of e)) old.trace = step.trace.1 in
+      rw step.checkpoints
+      (replayed-cut next old.config.members old.config.starts old.trace new.trace m (checkpoint old m) sound.lawful.well_formed (cut-lawful next old sound new.trace step.trace).0.well_formed
+      (λ q k x noted. note-was old.config.members step.trace.0 old.trace sound.lawful.well_formed (cut-causes next old sound new.trace step.trace) q k x (rw is at noted))
+      (λ d there to within.
+      (cut_is_recorded old.config.members old.config.f (knowledge old) (knowledge new) recovery-knowledge sound.causes d).1
+      (there, IsRecorded-reached old.config.f (knowledge old) sound.causes.closed d (receipt_of d) (rw to within) (itself there)))
+      (sound.saved m below))
+
   nobody : (m : ℕ) → IsUp (knowledge new) m
   nobody m = rw step.nobody_down (set.contains-empty nat_cmp m)
 
@@ -119,6 +133,8 @@ module _ (next : Next) (old new : GroupRecord) (step : IsRecovery next old new) 
       record {
         config = rw config sound.config;
         members = rw config (step.size ∙ sound.members);
+        checkpoints = rw config (ap length step.checkpoints ∙ sound.checkpoints);
+        saved = λ m below. rw config (saved-after m (rw config at below));
         down = λ m down. never_both new.down m down (nobody m);
         lawful = rw config (cut-lawful next old sound new.trace step.trace).0;
         room = rw config (omega (arith, shorter, sound.room));

@@ -18,15 +18,15 @@ use Rattle.fbl_base.specs.Configs.{Settings, IsConfig, StartAllowed}
 use Rattle.fbl_base.specs.Events.{At, mark_of, determinant_of, receipt_of}
 use Rattle.fbl_base.specs.Precedence.{Has}
 use Rattle.fbl_base.specs.Rules.{sent_on, taken_on, in_flight, sends_of, WellFormed, MayFollow}
-use Rattle.fbl_base.specs.Fold.{Next, Lawful, sent, action_of, actions_of, notes_of, start_of, starts_of, responses}
+use Rattle.fbl_base.specs.Fold.{Next, Lawful, sent, action_of, actions_of, notes_of, start_of, starts_of, responses, after_notes}
 use Rattle.fbl_base.proofs.RulesLaws.{WellFormed-none, WellFormed-push}
 use Rattle.fbl_base.proofs.LawfulLaws.{notes_of-sent}
 use Rattle.fbl_member.specs.Members.{Message, MemberRecord, blank}
 use Rattle.fbl_law.specs.Record.{table, send_mark, IsUp, MatchesTrace}
 use Rattle.fbl_law.specs.Run.{IsStart, starts}
 use Rattle.fbl_law.specs.Steps.{is_on}
-use Rattle.fbl_law.specs.Groups.{GroupRecord, knowledge, receipts}
-use Rattle.fbl_law.specs.Sound.{IsFold, IsSound, received_notes}
+use Rattle.fbl_law.specs.Groups.{GroupRecord, checkpoint, knowledge, receipts}
+use Rattle.fbl_law.specs.Sound.{IsFold, IsReplayed, IsSound, received_notes}
 use Rattle.fbl_law.specs.GroupSteps.{IsGroupStart, start_events, message_of}
 use Rattle.fbl_law.specs.GroupLaws.{GroupStartIsSound}
 use Rattle.fbl_law.proofs.Lists.{Contains-cons_cases, Contains-none}
@@ -34,6 +34,8 @@ use Rattle.fbl_law.proofs.Safe.{never_both}
 use Rattle.fbl_law.proofs.Run.{run_is_sound}
 use Rattle.fbl_law.proofs.Grown.{note_of-at}
 use Rattle.fbl_law.proofs.GroupFacts.{table_member, channel_flight}
+use Rattle.fbl_law.proofs.Counts.{length-numbered, after_notes-log}
+use Rattle.fbl_law.proofs.Replayed.{replayed-fresh}
 
 -- the send of a start after the events so far
 abbrev send_of : List Event → Start → Event
@@ -176,6 +178,27 @@ module _ (next : Next) (config : Settings) (r : GroupRecord) (is : IsConfig conf
     | inr above ↦ ap (λ (x : MemberRecord). x.table) (no_member r.members m (omega (arith, above, s.size)))
   ]
 
+  -- the starts of a member are its sends in the trace
+  starts_sent : (m : ℕ) → length (starts_of m config.starts) ≡ sends_of (map mark_of events) m
+  starts_sent m =
+      sym (length-numbered 0 (starts_of m config.starts)) ∙ ap (λ (notes : List Note). length (after_notes next m n config.starts notes).log) (sym (no_notes m)) ∙ after_notes-log next n config.starts events m is_lawful
+
+  no_checkpoint : (m : ℕ) → ((checkpoint r m).table ≡ []) × ((checkpoint r m).received ≡ 0) × (length (checkpoint r m).log ≤ sends_of (map mark_of r.trace) m)
+  no_checkpoint m = elim (cases_lt m n) [
+    | inl below ↦ (
+      ap (λ (x : MemberRecord). x.table) (s.saved m below),
+      ap (λ (x : MemberRecord). x.received) (s.saved m below),
+      (let log = ap (λ (x : MemberRecord). length x.log) (s.saved m below) in rw s.trace (omega (arith, log, length-numbered 0 (starts_of m config.starts), starts_sent m))),
+    )
+    | inr above ↦ (
+        let none = no_member r.checkpoints m (omega (arith, above, s.checkpoints)) in
+        (ap (λ (x : MemberRecord). x.table) none, ap (λ (x : MemberRecord). x.received) none, (let log = ap (λ (x : MemberRecord). length x.log) none in omega (arith, log)))
+        )
+  ]
+
+  saved_now : (m : ℕ) → m < n → IsReplayed next n config.starts r.trace m (checkpoint r m)
+  saved_now m below = rw (s.saved m below) (replayed-fresh next n config.starts r.trace m)
+
   matches : (q p : ℕ) → MatchesTrace (knowledge r) q p
   matches q p =
       let flying : in_flight (map mark_of events) q p ≡ filter_map (sent_on q p) (map mark_of events) =
@@ -189,6 +212,7 @@ module _ (next : Next) (config : Settings) (r : GroupRecord) (is : IsConfig conf
     nobody_down = s.nobody_down;
     unreceived = rw s.trace (no_receipt (map mark_of events) unreceived);
     tables = no_table;
+    checkpoints = no_checkpoint;
     channels = matches;
     messages = λ v flies. (message_sent r.trace v (rw s.flight at (channel_flight r v.from v.to v flies).0)).0;
   }
@@ -204,6 +228,8 @@ module _ (next : Next) (config : Settings) (r : GroupRecord) (is : IsConfig conf
   IsSound-started = record {
     config = rw s.parameters is;
     members = s.size ∙ sym (ap (λ (c : Settings). c.members) s.parameters);
+    checkpoints = s.checkpoints ∙ sym (ap (λ (c : Settings). c.members) s.parameters);
+    saved = λ m below. rw s.parameters (saved_now m (rw s.parameters at below));
     down = λ q down. never_both r.down q down (up q);
     lawful = rw (s.parameters, s.trace) is_lawful;
     room = rw (s.parameters, s.trace) omega (arith, length-starts [] config.starts, is.room);

@@ -1,21 +1,21 @@
 -- A strike keeps a group sound, and what the tables of a sound group say of recorded receipts.
-use Rattle.std.proofs.Common.{◌≡◌, ℕ, zero, suc, ◌<◌, ◌≤◌, List, [], ◌∷◌, length, inl, inr, Some, get_or, refl, sym, ap, ◌∙◌, arith}
-use Rattle.std.specs.List.{Contains}
+use Rattle.std.proofs.Common.{◌≡◌, ℕ, zero, suc, ◌<◌, ◌≤◌, ◌||◌, ◌⊎◌, Bool, true, false, List, [], ◌∷◌, length, inl, inr, Some, get_or, refl, sym, ap, ◌∙◌, arith}
+use Rattle.std.specs.List.{Contains, list_any}
 use Rattle.std.specs.FinSet as sets
 use Rattle.fbl_base.specs.MemberSets.{AllBelow}
 use Rattle.fbl_base.specs.Fold.{Next, note_of}
-use Rattle.fbl_base.proofs.Recorded.{any_at, at_any}
+use Rattle.fbl_base.proofs.Recorded.{at_any}
 use Rattle.fbl_table.specs.Tables.{is_held}
 use Rattle.fbl_member.specs.Members.{Message, MemberRecord, blank}
-use Rattle.fbl_law.specs.Record.{Members, table, IsUp, Names}
+use Rattle.fbl_law.specs.Record.{Members, table, IsUp, Names, IsRecorded}
 use Rattle.fbl_law.specs.Steps.{IsStruck}
-use Rattle.fbl_law.specs.Groups.{GroupRecord, member, knowledge}
+use Rattle.fbl_law.specs.Groups.{GroupRecord, member, checkpoint, knowledge, is_recorded}
 use Rattle.fbl_law.specs.Sound.{IsFold, IsSound}
 use Rattle.fbl_law.specs.GroupSteps.{IsStrike}
 use Rattle.fbl_law.specs.GroupLaws.{GroupStrikeKeeps, RecordedTest}
 use Rattle.fbl_law.proofs.Lists.{Contains-none}
-use Rattle.fbl_law.proofs.Safe.{down_or_up, never_both}
-use Rattle.fbl_law.proofs.Tables.{Includes-union, Includes-left}
+use Rattle.fbl_law.proofs.Safe.{down_or_up, never_both, IsRecorded-held, IsRecorded-saved}
+use Rattle.fbl_law.proofs.Tables.{Includes-union, Includes-left, named_record}
 use Rattle.fbl_law.proofs.Run.{strike_keeps}
 use Rattle.fbl_law.proofs.GroupFacts.{table_member, Names-held, held-Names, flight_channel, channel_flight}
 
@@ -31,6 +31,7 @@ module _ (next : Next) (old new : GroupRecord) (struck : Members) (s : IsStrike 
     blank = λ m down. table_member new m ∙ ap (λ (x : MemberRecord). x.table) (s.blanks m down);
     channels = s.channels;
     emptied = s.emptied;
+    checkpoints = s.checkpoints;
   }
 
   notes_kept : (v : Message) → Contains new.flight v → note_of new.trace v.from v.ssn ≡ Some v.note
@@ -55,6 +56,8 @@ module _ (next : Next) (old new : GroupRecord) (struck : Members) (s : IsStrike 
   IsSound-struck within few = record {
     config = rw s.config sound.config;
     members = s.size ∙ sound.members ∙ sym (ap (λ c. c.members) s.config);
+    checkpoints = ap length s.checkpoints ∙ sound.checkpoints ∙ sym (ap (λ c. c.members) s.config);
+    saved = λ m below. rw (s.config, s.trace, s.checkpoints) (sound.saved m (rw s.config at below));
     down = λ q down. rw s.config elim (Includes-union old.down struck q (rw s.down at down)) [ inl was ↦ sound.down q was | inr now ↦ within q now ];
     lawful = rw (s.config, s.trace) sound.lawful;
     room = rw (s.config, s.trace) sound.room;
@@ -68,31 +71,54 @@ module _ (next : Next) (old new : GroupRecord) (struck : Members) (s : IsStrike 
 pub group_strike_keeps : GroupStrikeKeeps
 group_strike_keeps next old new struck s within few sound = IsSound-struck next old new struck s sound within few
 
+-- a test holds of some member's record or of none
+some_record : (p : MemberRecord → Bool) (xs : List MemberRecord) → list_any p xs ≡ true → (k : ℕ) × (k < length xs) × (p (get_or xs k blank) ≡ true)
+some_record p [] h = absurd cc
+some_record p (x ∷ xs) h = at (p x) refl h (some_record p xs) where
+  at : (b : Bool) → p x ≡ b → (b || list_any p xs) ≡ true → (list_any p xs ≡ true → (k : ℕ) × (k < length xs) × (p (get_or xs k blank) ≡ true)) → (k : ℕ) × (k < length (x ∷ xs)) × (p (get_or (x ∷ xs) k blank) ≡ true)
+  at true is g rest = (0, omega arith, is)
+  at false is g rest = let r = rest g in (suc r.0, omega (arith, r.1), r.2)
+
+record_some : (p : MemberRecord → Bool) (xs : List MemberRecord) (k : ℕ) → k < length xs → p (get_or xs k blank) ≡ true → list_any p xs ≡ true
+record_some p xs k below is = at_any p xs k (get_or xs k blank) below (at_self xs k below) is where
+  at_self : (xs : List MemberRecord) (k : ℕ) → k < length xs → get_or xs k (get_or xs k blank) ≡ get_or xs k blank
+  at_self [] k lt = absurd (omega arith)
+  at_self (y ∷ xs) zero lt = refl
+  at_self (y ∷ xs) (suc k) lt = at_self xs k (omega arith)
+
+either_true : (a b : Bool) → (a || b) ≡ true → (a ≡ true) ⊎ (b ≡ true)
+either_true true b h = inl refl
+either_true false b h = inr h
+
+or_left : (a b : Bool) → a ≡ true → (a || b) ≡ true
+or_left true b h = refl
+or_left false b h = absurd cc
+
+or_right : (a b : Bool) → b ≡ true → (a || b) ≡ true
+or_right true b h = refl
+or_right false b h = h
+
 pub recorded_test : RecordedTest
-recorded_test next r d sound = (
-  λ h.
-      let some = any_at (λ (m : MemberRecord). is_held m.table d) r.members h in
-      let named : Names (table (knowledge r) some.0) d = rw (table_member r some.0, at_place r.members some.0 some.1 some.2 some.3) (Names-held some.1.table d some.4) in
-      elim (down_or_up r.down some.0) [
-        | inl down ↦ absurd (Contains-none named.0 (rw (sound.causes.down.tables some.0 down) at named.1))
-        | inr up ↦ (some.0, (up, named))
-      ],
-  λ recorded.
-      let named : Names (member r recorded.0).table d = (rw (table_member r recorded.0) at recorded.1.1) in
-      at_any (λ (m : MemberRecord). is_held m.table d) r.members recorded.0 (member r recorded.0) (below r.members recorded.0 named) (at_self r.members recorded.0 (below r.members recorded.0 named)) (held-Names (member r recorded.0).table d named),
-)
+recorded_test next r d sound = (λ h. elim (either_true _ _ h) [ inl member ↦ held member | inr saved ↦ kept saved ], back)
   where
-    at_place : (xs : List MemberRecord) (k : ℕ) (x : MemberRecord) → k < length xs → get_or xs k x ≡ x → get_or xs k blank ≡ x
-    at_place [] k x lt is = absurd (omega arith)
-    at_place (y ∷ xs) zero x lt is = is
-    at_place (y ∷ xs) (suc k) x lt is = at_place xs k x (omega arith) is
+    held : list_any (λ (m : MemberRecord). is_held m.table d) r.members ≡ true → IsRecorded (knowledge r) d
+    held h =
+        let some = some_record (λ (m : MemberRecord). is_held m.table d) r.members h in
+        let named : Names (table (knowledge r) some.0) d = rw (table_member r some.0) (Names-held (member r some.0).table d some.2) in
+        elim (down_or_up r.down some.0) [
+          | inl down ↦ absurd (Contains-none named.0 (rw (sound.causes.down.tables some.0 down) at named.1))
+          | inr up ↦ IsRecorded-held (knowledge r) d some.0 (up, named)
+        ]
 
-    at_self : (xs : List MemberRecord) (k : ℕ) → k < length xs → get_or xs k (get_or xs k blank) ≡ get_or xs k blank
-    at_self [] k lt = absurd (omega arith)
-    at_self (y ∷ xs) zero lt = refl
-    at_self (y ∷ xs) (suc k) lt = at_self xs k (omega arith)
+    kept : list_any (λ (m : MemberRecord). is_held m.table d) r.checkpoints ≡ true → IsRecorded (knowledge r) d
+    kept h =
+        let some = some_record (λ (m : MemberRecord). is_held m.table d) r.checkpoints h in
+        IsRecorded-saved (knowledge r) d some.0 (Names-held (checkpoint r some.0).table d some.2)
 
-    below : (xs : List MemberRecord) (k : ℕ) → Names (get_or xs k blank).table d → k < length xs
-    below [] k named = absurd (Contains-none named.0 named.1)
-    below (y ∷ xs) zero named = omega arith
-    below (y ∷ xs) (suc k) named = omega (arith, below xs k named)
+    back : IsRecorded (knowledge r) d → is_recorded r d ≡ true
+    back (inl held') =
+        let named : Names (member r held'.0).table d = (rw (table_member r held'.0) at held'.1.1) in
+        or_left _ _ (record_some (λ (m : MemberRecord). is_held m.table d) r.members held'.0 (named_record r.members held'.0 d named) (held-Names (member r held'.0).table d named))
+    back (inr saved) =
+        or_right (list_any (λ (m : MemberRecord). is_held m.table d) r.members) _
+        (record_some (λ (m : MemberRecord). is_held m.table d) r.checkpoints saved.0 (named_record r.checkpoints saved.0 d saved.1) (held-Names (checkpoint r saved.0).table d saved.1))

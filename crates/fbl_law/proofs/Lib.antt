@@ -1,8 +1,10 @@
 pub mod Lists
 pub mod Appended
 pub mod Tables
+pub mod Numbered
 pub mod Safe
 pub mod Strike
+pub mod Checkpoint
 pub mod Deliver
 pub mod Cut
 pub mod Recover
@@ -20,6 +22,7 @@ pub mod GroupFacts
 pub mod InOrder
 pub mod GroupDeliver
 pub mod GroupStrike
+pub mod GroupCheckpoint
 pub mod GroupStart
 pub mod Promises
 pub mod DumpLaws

@@ -14,11 +14,11 @@ use Rattle.fbl_base.proofs.RulesLaws.{count_at, eqb-self, WellFormed-take}
 use Rattle.fbl_law.specs.Record.{IsUp, Names, table, IsHolder}
 use Rattle.fbl_law.specs.Groups.{GroupRecord, member, marks, knowledge}
 use Rattle.fbl_law.specs.Headline.{IsHeldBy, EachReceiptIsHeld, SoundIsAlwaysHeld, SoundHasNoOrphan, NoSurvivorIsOrphan, SurvivorsHold, RecordedIsPrefix}
-use Rattle.fbl_law.proofs.Safe.{never_both, no_orphan, IsRecorded-before, IsRecorded-prefix}
+use Rattle.fbl_law.proofs.Safe.{never_both, no_orphan, IsRecorded-before, IsRecorded-prefix, Has-recorded}
 use Rattle.fbl_law.proofs.Decide.{IsAlwaysHeld-closed}
 use Rattle.fbl_law.proofs.Run.{strike_keeps}
 use Rattle.fbl_law.proofs.Survivors.{survivors_record}
-use Rattle.fbl_law.proofs.GroupFacts.{table_member, held-Names, named_received}
+use Rattle.fbl_law.proofs.GroupFacts.{table_member, held-Names}
 use Rattle.fbl_law.proofs.GroupStrike.{is_struck}
 
 -- what a table names, the member holds
@@ -65,7 +65,7 @@ receipts_rise n t i j p a b q s q' s' obeys first second below =
 
 pub recorded_is_prefix : RecordedIsPrefix
 recorded_is_prefix next r c d sound there same before recorded =
-    let found : Has (marks r) (receipt_of d) = named_received next r sound recorded.0 d (rw (table_member r recorded.0) at recorded.1.1) in
+    let found : Has (marks r) (receipt_of d) = Has-recorded (knowledge r) sound.causes.truth d recorded in
     elim (cases_lt there.0 found.0) [
       | inl earlier ↦ IsRecorded-prefix r.config.f (knowledge r) sound.causes.closed c d same (there.0, found.0, earlier, there.1, found.1) recorded
       | inr past ↦ elim (cases_lt found.0 there.0) [

@@ -1,5 +1,5 @@
 -- From the replay of the members that are down to a recovery.
-use Rattle.std.proofs.Common.{◌≡◌, ◌≢◌, ℕ, ◌+◌, ◌<◌, ◌≤◌, ◌==◌, ◌||◌, not, nat_le, ◌⊎◌, inl, inr, Bool, true, false, List, length, map, Some, refl, sym, subst, ap, ◌∙◌, arith}
+use Rattle.std.proofs.Common.{◌≡◌, ◌≢◌, ℕ, ◌+◌, ◌-◌, ◌<◌, ◌≤◌, ◌==◌, ◌||◌, not, nat_le, ◌⊎◌, inl, inr, Bool, true, false, List, length, map, Some, refl, sym, subst, ap, ◌∙◌, arith}
 use Rattle.std.specs.Prelude.{slice_set, slice_index_or}
 use Rattle.std.specs.List.{filter}
 use Rattle.std.specs.FinSet as set
@@ -15,19 +15,21 @@ use Rattle.fbl_base.specs.Events.{mark_of}
 use Rattle.fbl_base.specs.Fold.{Next, Lawful}
 use Rattle.fbl_table.specs.declared.entry.Entry.{Entry}
 use Rattle.fbl_table.specs.Tables.{found}
-use Rattle.fbl_member.specs.Members.{MemberRecord, blank, fresh, logged_note, replayed_by}
+use Rattle.fbl_member.specs.Members.{MemberRecord, blank, logged_note, replayed_by}
 use Rattle.fbl_law.specs.Record.{Members, IsUp, IsDown}
 use Rattle.fbl_law.specs.Steps.{Stays, IsEventCut}
-use Rattle.fbl_law.specs.Groups.{GroupRecord, member, knowledge, receipts}
-use Rattle.fbl_law.specs.Sound.{IsFold, IsSound}
+use Rattle.fbl_law.specs.Groups.{GroupRecord, member, checkpoint, knowledge, receipts}
+use Rattle.fbl_law.specs.Sound.{receipts_at, IsReplayed, IsFold, IsSound}
 use Rattle.fbl_law.specs.GroupSteps.{IsRecovery, IsMadeAgain}
-use Rattle.fbl_law.specs.Replaying.{receipts_at, IsReplayed, IsNextReplay, is_of, gathered_table, recovered_trace, stays_by, resent_to, working, IsReplaying, IsWaiting, replayed_in, IsRebuilt}
-use Rattle.fbl_law.specs.RecoveryLaws.{ReplayIsRight, ReplayEnds, RebuiltIsRecovered}
+use Rattle.fbl_law.specs.Replaying.{IsNextReplay, is_replayed, gathered_table, recovered_trace, stays_by, resent_to, working, IsReplaying, IsWaiting, replayed_in, IsRebuilt}
+use Rattle.fbl_law.specs.RecoveryLaws.{ReplayBegins, ReplayIsRight, ReplayEnds, RebuiltIsRecovered}
 use Rattle.fbl_law.proofs.Safe.{down_or_up}
-use Rattle.fbl_law.proofs.GroupRecovery.{cut-lawful, fold-survives}
-use Rattle.fbl_law.proofs.Replayed.{replayed-fresh, fold-received, fold-replayed, replayed-fold}
-use Rattle.fbl_law.proofs.Replaying.{found-next, replay-room, replayed-next, replays-log, all-replayed}
-use Rattle.fbl_law.proofs.Counting.{count_in-none, count_in-same, count_in-step, replayed-most, replayed-count, to-replay-short}
+use Rattle.fbl_law.proofs.CutFolds.{note-was}
+use Rattle.fbl_law.proofs.GroupCheckpoint.{checkpoint_is_recorded}
+use Rattle.fbl_law.proofs.GroupRecovery.{cut-causes, cut-lawful, fold-survives}
+use Rattle.fbl_law.proofs.Replayed.{replayed-cut, fold-received, fold-replayed, replayed-fold}
+use Rattle.fbl_law.proofs.Replaying.{recorded-cut, found-next, replay-room, replayed-next, replays-log, all-replayed}
+use Rattle.fbl_law.proofs.Counting.{is_of, count_in-none, count_in-same, count_in-most, count_in-step, replayed-most, replayed-count, to-replay-short}
 use Rattle.fbl_law.proofs.CutTrace.{recovered_trace-cut}
 use Rattle.fbl_law.proofs.CutCounts.{filter-agree, stays_by-cut}
 use Rattle.fbl_law.proofs.MadeAgain.{made-again, made-again-outside}
@@ -83,16 +85,27 @@ module _ (next : Next) (old : GroupRecord) (sound : IsSound next old) where
   working-all : (rebuilt : List MemberRecord) (q : ℕ) → q < old.config.members → IsUp (knowledge old) q → (working old rebuilt q).received ≡ length (receipts_at (map mark_of (recovered_trace old)) q)
   working-all rebuilt q below up = ap (λ (m : MemberRecord). m.received) (working-up rebuilt q up) ∙ (survivor-replays q below up).1
 
-  -- each member that is down begins fresh
-  pub replaying-start : (rebuilt : List MemberRecord) → length rebuilt ≡ old.config.members → ((p : ℕ) → p < old.config.members → IsDown (knowledge old) p → slice_index_or rebuilt p blank ≡ fresh p old.config.starts) → IsReplaying next old rebuilt
+  -- a checkpoint's receipts stay, so its replay is one of the trace that is left
+  pub checkpoint-replays : (p : ℕ) → p < old.config.members → Replays p (checkpoint old p)
+  checkpoint-replays p below =
+      let is : recovered_trace old ≡ filter (λ e. cut.0 (mark_of e)) old.trace = cut.1 in
+      replayed-cut next old.config.members old.config.starts old.trace (recovered_trace old) p (checkpoint old p) sound.lawful.well_formed lawful.well_formed
+      (λ q k x noted. note-was old.config.members cut.0 old.trace sound.lawful.well_formed (cut-causes next old sound (recovered_trace old) cut) q k x (rw is at noted))
+      (λ d there to within. recorded-cut next old sound (recovered_trace old) cut d ((checkpoint_is_recorded next old p sound below).1 d there to within))
+      (sound.saved p below)
+
+  -- each member that is down begins at its checkpoint
+  pub replaying-start : (rebuilt : List MemberRecord) → length rebuilt ≡ old.config.members → ((p : ℕ) → p < old.config.members → IsDown (knowledge old) p → slice_index_or rebuilt p blank ≡ checkpoint old p) → IsReplaying next old rebuilt
   replaying-start rebuilt size begins = record {
     size = size;
-    replayed = λ p below down. subst (Replays p) (sym (begins p below down)) (replayed-fresh next old.config.members old.config.starts (recovered_trace old) p);
+    replayed = λ p below down. subst (Replays p) (sym (begins p below down)) (checkpoint-replays p below);
+    begun = λ p below down. (let e = ap (λ (m : MemberRecord). m.received) (begins p below down) in omega (arith, e));
   }
 
-  pub replayed_in-start : (rebuilt : List MemberRecord) → ((p : ℕ) → p < old.config.members → IsDown (knowledge old) p → slice_index_or rebuilt p blank ≡ fresh p old.config.starts) → replayed_in old rebuilt ≡ 0
+  pub replayed_in-start : (rebuilt : List MemberRecord) → ((p : ℕ) → p < old.config.members → IsDown (knowledge old) p → slice_index_or rebuilt p blank ≡ checkpoint old p) → replayed_in old rebuilt ≡ 0
   replayed_in-start rebuilt begins =
-      count_in-same old.down (λ p. (slice_index_or rebuilt p blank).received) (λ p. 0) old.config.members (λ p below down. ap (λ (m : MemberRecord). m.received) (begins p below down)) ∙ count_in-none old.down old.config.members
+      count_in-same old.down (λ p. (slice_index_or rebuilt p blank).received - (checkpoint old p).received) (λ p. 0) old.config.members (λ p below down. (let e = ap (λ (m : MemberRecord). m.received) (begins p below down) in omega (arith, e)))
+      ∙ count_in-none old.down old.config.members
 
   -- what the gathered tables find is the next receipt
   pub replaying-next : (rebuilt : List MemberRecord) (p : ℕ) (d : Determinant) → IsReplaying next old rebuilt → p < old.config.members → IsDown (knowledge old) p
@@ -114,6 +127,7 @@ module _ (next : Next) (old : GroupRecord) (sound : IsSound next old) where
   replaying-step rebuilt p d note replaying below down is named = record {
     size = length-set rebuilt p after ∙ replaying.size;
     replayed = λ q below_q down_q. at q below_q down_q (q == p) refl;
+    begun = λ q below_q down_q. more q below_q down_q (q == p) refl;
   }
     where
       after : MemberRecord
@@ -131,18 +145,31 @@ module _ (next : Next) (old : GroupRecord) (sound : IsSound next old) where
           let other : q ≢ p = grind (arith, nat_tests) in
           subst (Replays q) (sym (get_or-set_other rebuilt p q after blank other)) (replaying.replayed q below_q down_q)
 
+      more : (q : ℕ) → q < old.config.members → IsDown (knowledge old) q → (b : Bool) → (q == p) ≡ b → (checkpoint old q).received ≤ (slice_index_or (slice_set rebuilt p after) q blank).received
+      more q below_q down_q true eq =
+          let same : q ≡ p = grind (arith, nat_tests) in
+          let e : (slice_index_or (slice_set rebuilt p after) p blank).received ≡ after.received = ap (λ (m : MemberRecord). m.received) (get_or-set_same rebuilt p after blank (omega (arith, replaying.size, below))) in
+          rw same (omega (arith, e, replaying.begun p below down))
+      more q below_q down_q false eq =
+          let other : q ≢ p = grind (arith, nat_tests) in
+          let e = ap (λ (m : MemberRecord). m.received) (get_or-set_other rebuilt p q after blank other) in
+          omega (arith, e, replaying.begun q below_q down_q)
+
   -- one more is replayed
   pub replayed_in-step : (rebuilt : List MemberRecord) (p : ℕ) (d : Determinant) (note : Note) → IsReplaying next old rebuilt → p < old.config.members → IsDown (knowledge old) p
       → replayed_in old (slice_set rebuilt p (replayed_by next p old.config.members (slice_index_or rebuilt p blank) d note)) ≡ replayed_in old rebuilt + 1
   replayed_in-step rebuilt p d note replaying below down =
       let after = replayed_by next p old.config.members (slice_index_or rebuilt p blank) d note in
-      count_in-step old.down (λ q. (slice_index_or rebuilt q blank).received) (λ q. (slice_index_or (slice_set rebuilt p after) q blank).received) old.config.members p below down
-      (ap (λ (m : MemberRecord). m.received) (get_or-set_same rebuilt p after blank (omega (arith, replaying.size, below))))
-      (λ q other. ap (λ (m : MemberRecord). m.received) (get_or-set_other rebuilt p q after blank other))
+      let own = ap (λ (m : MemberRecord). m.received) (get_or-set_same rebuilt p after blank (omega (arith, replaying.size, below))) in
+      count_in-step old.down (λ q. (slice_index_or rebuilt q blank).received - (checkpoint old q).received) (λ q. (slice_index_or (slice_set rebuilt p after) q blank).received - (checkpoint old q).received) old.config.members p below down
+      (omega (arith, own, replaying.begun p below down))
+      (λ q other. ap (λ (m : MemberRecord). m.received - (checkpoint old q).received) (get_or-set_other rebuilt p q after blank other))
 
   -- no more are replayed than the trace that recovery leaves has of the members that are down
   pub replayed_in-most : (rebuilt : List MemberRecord) → IsReplaying next old rebuilt → replayed_in old rebuilt ≤ length (filter (is_of old.down) (receipts (map mark_of (recovered_trace old))))
-  replayed_in-most rebuilt replaying = replayed-most next old sound (recovered_trace old) cut (λ p. slice_index_or rebuilt p blank) replaying.replayed
+  replayed_in-most rebuilt replaying =
+      let fewer = count_in-most old.down (λ p. (slice_index_or rebuilt p blank).received - (checkpoint old p).received) (λ p. (slice_index_or rebuilt p blank).received) old.config.members (λ p below down. omega arith) in
+      omega (arith, fewer, replayed-most next old sound (recovered_trace old) cut (λ p. slice_index_or rebuilt p blank) replaying.replayed)
 
   pub replayed_in-short : (rebuilt : List MemberRecord) → IsReplaying next old rebuilt → replayed_in old rebuilt ≤ 8192
   replayed_in-short rebuilt replaying = omega (arith, replayed_in-most rebuilt replaying, to-replay-short next old sound (recovered_trace old) cut, sound.room, sound.config.limit.1)
@@ -157,6 +184,7 @@ module _ (next : Next) (old : GroupRecord) (sound : IsSound next old) where
   replaying-tables rebuilt given t replaying size same = record {
     size = size ∙ replaying.size;
     replayed = λ p below down. subst (Replays p) (sym (same p below down)) (replayed-table next old.config.members old (recovered_trace old) p (slice_index_or rebuilt p blank) t (replaying.replayed p below down));
+    begun = λ p below down. (let e = ap (λ (m : MemberRecord). m.received) (same p below down) in omega (arith, e, replaying.begun p below down));
   }
 
   -- where each member that is down waits, all is replayed
@@ -169,11 +197,12 @@ module _ (next : Next) (old : GroupRecord) (sound : IsSound next old) where
     pub rebuilt-received : (p : ℕ) → p < old.config.members → IsDown (knowledge old) p → (slice_index_or rebuilt p blank).received ≡ length (receipts_at (map mark_of (recovered_trace old)) p)
     rebuilt-received p below down = ap (λ (m : MemberRecord). m.received) (sym (working-down rebuilt p down)) ∙ working-received p below
 
-    -- as many are replayed as the trace has of the members that are down
-    pub replayed_in-all : replayed_in old rebuilt ≡ length (filter (is_of old.down) (receipts (map mark_of (recovered_trace old))))
+    -- as many are replayed as the trace has of the members that are down, beyond those of their checkpoints
+    pub replayed_in-all : replayed_in old rebuilt ≡ length (filter (is_replayed old) (receipts (map mark_of (recovered_trace old))))
     replayed_in-all =
-        count_in-same old.down (λ p. (slice_index_or rebuilt p blank).received) (λ p. (working old rebuilt p).received) old.config.members (λ p below down. ap (λ (m : MemberRecord). m.received) (sym (working-down rebuilt p down)))
-        ∙ replayed-count next old sound (recovered_trace old) cut (working old rebuilt) working-received
+        count_in-same old.down (λ p. (slice_index_or rebuilt p blank).received - (checkpoint old p).received) (λ p. (working old rebuilt p).received - (checkpoint old p).received) old.config.members
+        (λ p below down. ap (λ (m : MemberRecord). m.received - (checkpoint old p).received) (sym (working-down rebuilt p down)))
+        ∙ replayed-count next old sound (recovered_trace old) cut (working old rebuilt) (λ p. (checkpoint old p).received) working-received
 
     -- the events that stay are those that the counts of the members that are down cover
     pub recovered_trace-counts : filter (λ e. stays_by old.down (working old rebuilt) (mark_of e)) old.trace ≡ recovered_trace old
@@ -229,7 +258,11 @@ module _ (next : Next) (old : GroupRecord) (sound : IsSound next old) where
         config = step.config;
         receipts_ever = step.receipts_ever;
         undone_ever = step.undone_ever;
+        checkpoints = step.checkpoints;
       }
+
+pub replay_begins : ReplayBegins
+replay_begins next old rebuilt sound = replaying-start next old sound rebuilt
 
 pub replay_is_right : ReplayIsRight
 replay_is_right next old rebuilt p d note sound = replaying-step next old sound rebuilt p d note

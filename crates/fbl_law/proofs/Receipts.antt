@@ -18,8 +18,7 @@ use Rattle.fbl_base.specs.Fold.{sent, action_of, notes_of, note_of}
 use Rattle.fbl_base.proofs.Gets.{At-filter, At-filter_map}
 use Rattle.fbl_base.proofs.RulesLaws.{WellFormed-front, MayFollow-last}
 use Rattle.fbl_base.proofs.LawfulLaws.{receipts-noted}
-use Rattle.fbl_law.specs.Sound.{received_notes, last_taken}
-use Rattle.fbl_law.specs.Replaying.{receipts_at, last_among}
+use Rattle.fbl_law.specs.Sound.{received_notes, last_taken, receipts_at, last_among}
 use Rattle.fbl_law.proofs.CutFolds.{filter-At}
 
 -- what is left passes the test

@@ -1,5 +1,5 @@
 -- What a recovery keeps.
-use Rattle.std.proofs.Common.{◌≡◌, ℕ, ◌↔◌, Bool, true, List, inl, inr, ◌⊎◌, refl, sym, subst, ap, ◌∙◌, Some}
+use Rattle.std.proofs.Common.{◌≡◌, ℕ, zero, suc, ◌≤◌, length, arith, ◌↔◌, Bool, true, List, inl, inr, ◌⊎◌, refl, sym, subst, ap, ◌∙◌, Some}
 use Rattle.std.specs.List.{Contains, filter}
 use Rattle.std.specs.Ordering.{nat_cmp}
 use Rattle.std.specs.FinSet as set
@@ -8,19 +8,21 @@ use Rattle.fbl_base.specs.declared.trace.Mark.{Mark}
 use Rattle.fbl_base.specs.declared.trace.Mark.TheVariants.{Send, Receipt}
 use Rattle.fbl_base.specs.Events.{member_of, send_of}
 use Rattle.fbl_base.specs.Precedence.{Has, Earlier, Leads, Precedes, itself, step}
-use Rattle.fbl_base.specs.Rules.{WellFormed, sent_on, taken_on}
+use Rattle.fbl_base.specs.Rules.{WellFormed, sent_on, taken_on, receipts_of, sends_of}
+use Rattle.fbl_base.proofs.InFlightLaws.{sent-number}
 use Rattle.fbl_base.specs.Events.{receipt_of}
 use Rattle.fbl_base.proofs.PrecedenceLaws.{Has-filter, Precedes-filter, Has-first}
 use Rattle.fbl_table.specs.declared.entry.Entry.{Entry}
 use Rattle.fbl_member.specs.Members.{Message}
-use Rattle.fbl_law.specs.Record.{Includes, Record, table, send_mark, IsInFlight, IsDown, IsUp, Names, Holds, IsRecorded, IsHolder, IsStable, IsTrueEntry, KnowsTruth, NamesCauses, IsClosed, MatchesTrace, IsDownEmpty}
+use Rattle.fbl_law.specs.Record.{Includes, Record, table, send_mark, IsInFlight, IsDown, IsUp, Names, Holds, IsRecorded, IsHolder, IsStable, IsTrueEntry, KnowsTruth, NamesCauses, IsClosed, MatchesTrace, IsDownEmpty, checkpoint, IsBeforeCheckpoint, IsCheckpointKept}
 use Rattle.fbl_table.specs.Tables.{piggybacked}
 use Rattle.fbl_law.specs.Steps.{Stays, UpTo, IsRecovered}
 use Rattle.fbl_law.proofs.Cut.{Has-kept, kept-Has, KeepsCauses, Has-before, WellFormed-kept, map-kept, is_sent, taken_at}
 use Rattle.fbl_law.proofs.Appended.{Earlier-joined}
 use Rattle.fbl_law.proofs.Channels.{AreSent, matched-Has}
 use Rattle.fbl_law.proofs.Gather.{IsGathered, entries_gathered, recorded_gathered}
-use Rattle.fbl_law.proofs.Safe.{down_or_up, never_both, nobody_down_empty, IsRecorded-depended, IsRecorded-before, IsRecorded-held}
+use Rattle.fbl_law.proofs.Numbered.{receipt-there, send-there, receipt-number}
+use Rattle.fbl_law.proofs.Safe.{down_or_up, never_both, nobody_down_empty, IsRecorded-depended, IsRecorded-before, IsRecorded-held, IsRecorded-saved, IsRecorded-reached, Has-recorded, IsBeforeCheckpoint-same}
 use Rattle.fbl_law.proofs.Tables.{Contains-piggybacked}
 use Rattle.fbl_law.proofs.Deliver.{NamesCauses-piggybacked, Names-piggybacked}
 
@@ -70,18 +72,21 @@ module _ (n f : ℕ) (old : Record) (obeys : WellFormed n old.trace) (closed : I
       path : Precedes old.trace (receipt_of c) a
       path = elim up_to [ inl same ↦ rw same (itself (leads.0.0, leads.0.3)) | inr earlier ↦ step (itself (earlier.0, earlier.3)) (earlier, inl at_a) ]
 
-module _ (n f : ℕ) (old new : Record) (s : IsRecovered f old new) (obeys : WellFormed n old.trace) (known : KnowsTruth old) (closed : IsClosed f old) (sent : AreSent old) (empty : IsDownEmpty f old) where
+module _ (n f : ℕ) (old new : Record) (s : IsRecovered f old new) (obeys : WellFormed n old.trace) (known : KnowsTruth old) (closed : IsClosed f old) (sent : AreSent old) (empty : IsDownEmpty f old) (kept_all : (m : ℕ) → IsCheckpointKept old m) where
   abbrev keep : Mark → Bool
   keep = s.trace.0
 
   gathered : (m : ℕ) (d : Determinant) → IsDown old m → IsRecorded old d → Names (table new m) d
-  gathered m d down recorded = rw (s.gathered m down) (recorded_gathered f old empty d recorded)
+  gathered m d down recorded = rw (s.gathered m down) (recorded_gathered f old empty kept_all d recorded)
 
   entries : (m : ℕ) (e : Entry) → IsDown old m → Contains (table new m) e → IsGathered old e
   entries m e down among = entries_gathered f old empty e (rw (s.gathered m down) at among)
 
   up_now : (m : ℕ) → IsUp new m
   up_now m = rw s.nobody_down (set.contains-empty nat_cmp m)
+
+  same_checkpoint : (m : ℕ) → checkpoint new m ≡ checkpoint old m
+  same_checkpoint m = rw s.checkpoints refl
 
   stays : (e : Mark) → Has old.trace e → keep e ≡ true → Stays old e
   stays e there kept = (s.trace.2 e there).0 kept
@@ -147,20 +152,17 @@ module _ (n f : ℕ) (old new : Record) (s : IsRecovered f old new) (obeys : Wel
   IsTrueEntry-recovered : (e : Entry) → IsRecorded old e.det → IsTrueEntry old e → IsTrueEntry new e
   IsTrueEntry-recovered e recorded fact = (left_if_recorded e.det fact.0 recorded, λ m h. inl (Holds-recovered e.det m (fact.1 m h)))
 
-  -- a recorded determinant is that of a receipt
-  Has-recorded : (d : Determinant) → IsRecorded old d → Has old.trace (receipt_of d)
-  Has-recorded d recorded = subst (λ (c : Determinant). Has old.trace (receipt_of c)) recorded.1.1.2 (known.tables recorded.0 recorded.1.1.0 recorded.1.0 recorded.1.1.1).0.0
-
   good : (m : ℕ) (e : Entry) → Contains (table new m) e → IsTrueEntry new e × Includes e.known m
   good m e among =
       elim (down_or_up old.down m) [
         | inl down ↦
             let g = entries m e down among in (
               (
-                left_if_recorded e.det (Has-recorded e.det g.0) g.0,
+                left_if_recorded e.det (Has-recorded old known e.det g.0) g.0,
                 λ q h. elim (g.2 q h) [
                   | inl struck ↦ inl (Holds-recovered e.det q (inr (struck, g.0)))
-                  | inr told ↦ inl (Holds-recovered e.det q (rw told.4 at ((known.tables told.0 told.1 told.2 told.3).0.1 q told.5)))
+                  | inr (inl told) ↦ inl (Holds-recovered e.det q (rw told.4 at ((known.tables told.0 told.1 told.2 told.3).0.1 q told.5)))
+                  | inr (inr told) ↦ inl (Holds-recovered e.det q (rw told.3 at ((known.checkpoints told.0 told.1 told.2).0.1 q told.4)))
                 ],
               ),
               g.1 m down,
@@ -196,6 +198,10 @@ module _ (n f : ℕ) (old new : Record) (s : IsRecovered f old new) (obeys : Wel
           let mine = Contains-piggybacked f (table new v.from) e (rw made.1 at among) in
           ((good v.from e mine).0, (up_now v.from, (e, mine, refl)))
     ];
+    checkpoints = λ m e among.
+        let was : Contains (checkpoint old m).table e = rw (same_checkpoint m) at among in
+        let fact = known.checkpoints m e was in
+        (IsTrueEntry-recovered e (IsRecorded-saved old e.det m (e, was, refl)) fact.0, fact.1);
   }
 
   -- the events of up members stay, so what is in flight between them stays
@@ -249,4 +255,39 @@ module _ (n f : ℕ) (old new : Record) (s : IsRecovered f old new) (obeys : Wel
       | inl old_one ↦ NamesCauses-recovered v.carried (receipt_of c) (closed.carried v c old_one.0 named)
       | inr made ↦ rw made.1 (NamesCauses-piggybacked f new v.from (receipt_of c) KnowsTruth-recovered (up_now v.from) (named_of v.from c (Names-piggybacked f (table new v.from) c (rw made.1 at named))))
     ];
+    reached = λ b reached. rw (same_checkpoint (member_of b)) (NamesCauses-recovered (checkpoint old (member_of b)).table b (closed.reached b (IsBeforeCheckpoint-same old new b (same_checkpoint (member_of b)) reached)));
+    checkpoints = λ m c named. rw (same_checkpoint m) (NamesCauses-recovered (checkpoint old m).table (receipt_of c) (closed.checkpoints m c (rw (same_checkpoint m) at named)));
+  }
+
+  -- an event from before its member's checkpoint stays
+  reached_left : (b : Mark) → Has old.trace b → IsBeforeCheckpoint old b → Has new.trace b
+  reached_left b there reached =
+      left b there
+      (λ down c same up_to. IsRecorded-reached f old closed c b reached (elim up_to [
+        | inl is ↦ rw is (itself there)
+        | inr earlier ↦ step (itself (earlier.0, earlier.3)) (earlier, inl same)
+      ]))
+
+  receipts_left : (m k : ℕ) → k ≤ (checkpoint old m).received → k ≤ receipts_of new.trace m
+  receipts_left m zero within = omega arith
+  receipts_left m (suc k) within =
+      let there = receipt-there n old.trace m (suc k) obeys (omega arith) (omega (arith, within, (kept_all m).receipts)) in
+      receipt-number n new.trace m (suc k) there.0 there.1 WellFormed-recovered (reached_left (Receipt m (suc k) there.0 there.1) there.2 within)
+
+  sends_left : (m k : ℕ) → k ≤ length (checkpoint old m).log → k ≤ sends_of new.trace m
+  sends_left m zero within = omega arith
+  sends_left m (suc k) within =
+      let there = send-there n old.trace m (suc k) obeys (omega arith) (omega (arith, within, (kept_all m).sends)) in
+      sent-number n new.trace WellFormed-recovered m (suc k) there.0 (reached_left (Send m (suc k) there.0) there.1 within)
+
+  pub IsCheckpointKept-recovered : (m : ℕ) → IsCheckpointKept new m
+  IsCheckpointKept-recovered m = record {
+    receipts = rw (same_checkpoint m) (receipts_left m (checkpoint old m).received (omega arith));
+    sends = rw (same_checkpoint m) (sends_left m (length (checkpoint old m).log) (omega arith));
+    table = λ d up named.
+        let was : Names (checkpoint old m).table d = rw (same_checkpoint m) at named in
+        elim (down_or_up old.down m) [
+          | inl down ↦ gathered m d down (IsRecorded-saved old d m was)
+          | inr up ↦ rw (s.tables m up) ((kept_all m).table d up was)
+        ];
   }

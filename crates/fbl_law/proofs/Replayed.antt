@@ -1,24 +1,27 @@
 -- A member that replays its receipts one after the other.
-use Rattle.std.proofs.Common.{◌≡◌, ◌≢◌, ℕ, ◌+◌, ◌<◌, ◌==◌, Bool, true, false, cond, List, [], ◌∷◌, ◌++◌, length, take, map, get_or, Some, slice_get, refl, sym, ap, ◌∙◌, arith}
+use Rattle.std.proofs.Common.{◌≡◌, ◌≢◌, ℕ, zero, suc, ◌+◌, ◌<◌, ◌≤◌, length-append, ◌==◌, Bool, true, false, cond, List, [], ◌∷◌, ◌++◌, length, take, map, get_or, Some, slice_get, refl, sym, ap, ◌∙◌, arith}
 use Rattle.std.specs.Prelude.{slice_set}
 use Rattle.std.proofs.lemmas.Bool.Decides.{nat_tests}
-use Rattle.std.proofs.lemmas.List.{take_more, take_all, length-set, length-replicate, get_or-replicate, get_or-set_same, get_or-set_other}
+use Rattle.std.proofs.lemmas.List.{take_more, take_all, take-append-le, length-set, length-replicate, get_or-replicate, get_or-set_same, get_or-set_other}
 use Rattle.std.proofs.lemmas.List.Sums.{fold_push}
 use Rattle.std.proofs.lemmas.Option.{slice_get_within, get_or_from_slice_get}
 use Rattle.fbl_base.specs.declared.trace.Determinant.{Determinant}
 use Rattle.fbl_base.specs.declared.trace.Note.{Note}
 use Rattle.fbl_base.specs.declared.trace.Start.{Start}
 use Rattle.fbl_base.specs.declared.trace.Event.{Event}
-use Rattle.fbl_base.specs.Events.{mark_of}
+use Rattle.fbl_base.specs.declared.trace.Event.TheVariants as event
+use Rattle.fbl_base.specs.declared.trace.Mark.TheVariants.{Receipt}
+use Rattle.fbl_base.specs.Events.{mark_of, receipt_of}
+use Rattle.fbl_base.specs.Precedence.{Has}
 use Rattle.fbl_base.specs.Rules.{WellFormed}
 use Rattle.fbl_base.specs.Fold.{Next, Progress, advanced, begun, after_notes, note_of}
 use Rattle.fbl_base.proofs.FoldLaws.{after_notes-push}
+use Rattle.fbl_base.proofs.LawfulLaws.{receipts-noted}
 use Rattle.fbl_member.specs.Members.{MemberRecord, fresh, replayed_by}
 use Rattle.fbl_law.specs.Groups.{GroupRecord, member, marks}
-use Rattle.fbl_law.specs.Sound.{received_notes, IsFold}
-use Rattle.fbl_law.specs.Replaying.{receipts_at, last_among, IsReplayed}
+use Rattle.fbl_law.specs.Sound.{received_notes, IsFold, receipts_at, last_among, IsReplayed}
 use Rattle.fbl_law.proofs.Logs.{received-fold}
-use Rattle.fbl_law.proofs.Receipts.{length-received_notes, note-at, last_taken-among}
+use Rattle.fbl_law.proofs.Receipts.{receipts_at-number, receipts_at-Has, Has-receipts_at, length-received_notes, note-at, last_taken-among}
 
 -- one element more from the front of a list
 pub take-next : {X : Type 0} (xs : List X) (k : ℕ) (x : X) → slice_get xs k ≡ Some x → take (k + 1) xs ≡ take k xs ++ x ∷ []
@@ -87,3 +90,82 @@ replayed-fold next r m obeys replayed count =
       places = replayed.places;
       last = λ q below. replayed.last q below ∙ ap (λ (ds : List Determinant). last_among ds q) all_receipts ∙ sym (last_taken-among (marks r) q m);
     }
+
+some-at : {X : Type 0} (xs : List X) (i : ℕ) → i < length xs → (x : X) × (slice_get xs i ≡ Some x)
+some-at [] i below = absurd (omega arith)
+some-at (x ∷ xs) zero below = (x, refl)
+some-at (x ∷ xs) (suc i) below = some-at xs i (omega arith)
+
+-- the receipt at a place of the marks is one of the events
+receipt-event : (t : List Event) (i to rsn from ssn : ℕ) → slice_get (map mark_of t) i ≡ Some (Receipt to rsn from ssn) → slice_get t i ≡ Some (event.Receipt to rsn from ssn)
+receipt-event [] i to rsn from ssn here = absurd cc
+receipt-event (event.Send q k p x ∷ t) zero to rsn from ssn here = absurd cc
+receipt-event (event.Receipt p r q k ∷ t) zero to rsn from ssn here =
+    let e1 : p ≡ to = cc in
+    let e2 : r ≡ rsn = cc in
+    let e3 : q ≡ from = cc in
+    let e4 : k ≡ ssn = cc in
+    rw (e1, e2, e3, e4) refl
+receipt-event (e ∷ t) (suc i) to rsn from ssn here = receipt-event t i to rsn from ssn here
+
+-- lists that agree on their first elements
+take-agree : {X : Type 0} (k : ℕ) (xs ys : List X) → k ≤ length xs → ((j : ℕ) (x : X) → j < k → slice_get xs j ≡ Some x → slice_get ys j ≡ Some x) → (k ≤ length ys) × (take k xs ≡ take k ys)
+take-agree zero xs ys within agree = (omega arith, refl)
+take-agree (suc k) [] ys within agree = absurd (omega arith)
+take-agree (suc k) (x ∷ xs) [] within agree = (let e = agree 0 x (omega arith) refl in cc)
+take-agree (suc k) (x ∷ xs) (y ∷ ys) within agree =
+    let first : y ≡ x = (let e = agree 0 x (omega arith) refl in cc) in
+    let rest = take-agree k xs ys (omega arith) (λ j z below at. agree (suc j) z (omega arith) at) in
+    (omega (arith, rest.0), (rw first (ap (λ zs. x ∷ zs) rest.1)))
+
+-- a member that has replayed its first receipts of a trace has replayed them of another trace that has the same
+replayed-same : (next : Next) (n : ℕ) (starts : List Start) (old new : List Event) (p : ℕ) (m : MemberRecord)
+    → m.received ≤ length (receipts_at (map mark_of new) p)
+    → take m.received (receipts_at (map mark_of old) p) ≡ take m.received (receipts_at (map mark_of new) p)
+    → take m.received (received_notes old p) ≡ take m.received (received_notes new p)
+    → IsReplayed next n starts old p m → IsReplayed next n starts new p m
+replayed-same next n starts old new p m within receipts notes replayed = record {
+  within = within;
+  progress = replayed.progress ∙ ap (λ (xs : List Note). after_notes next p n starts xs) notes;
+  places = replayed.places;
+  last = λ q below. replayed.last q below ∙ ap (λ (ds : List Determinant). last_among ds q) receipts;
+}
+
+-- so also where the other trace keeps its receipts so far, and no note is new
+pub replayed-cut : (next : Next) (n : ℕ) (starts : List Start) (old new : List Event) (p : ℕ) (m : MemberRecord) → WellFormed n (map mark_of old) → WellFormed n (map mark_of new)
+    → ((q k : ℕ) (x : Note) → note_of new q k ≡ Some x → note_of old q k ≡ Some x)
+    → ((d : Determinant) → Has (map mark_of old) (receipt_of d) → d.to ≡ p → d.rsn ≤ m.received → Has (map mark_of new) (receipt_of d))
+    → IsReplayed next n starts old p m → IsReplayed next n starts new p m
+replayed-cut next n starts old new p m obeys_old obeys_new note-was stays replayed =
+    let receipts = take-agree m.received (receipts_at (map mark_of old) p) (receipts_at (map mark_of new) p) replayed.within there in
+    let notes = take-agree m.received (received_notes old p) (received_notes new p) (omega (arith, replayed.within, length-received_notes n old p obeys_old)) noted in
+    replayed-same next n starts old new p m receipts.0 receipts.1 notes.1 replayed
+  where
+    there : (j : ℕ) (d : Determinant) → j < m.received → slice_get (receipts_at (map mark_of old) p) j ≡ Some d → slice_get (receipts_at (map mark_of new) p) j ≡ Some d
+    there j d below here =
+        let has = receipts_at-Has (map mark_of old) p j d here in
+        let number = receipts_at-number n (map mark_of old) p j d obeys_old here in
+        Has-receipts_at n (map mark_of new) p j d obeys_new (stays d has.0 has.1 (omega (arith, number, below))) has.1 number
+
+    noted : (j : ℕ) (x : Note) → j < m.received → slice_get (received_notes old p) j ≡ Some x → slice_get (received_notes new p) j ≡ Some x
+    noted j x below here =
+        let receipt = some-at (receipts_at (map mark_of old) p) j (omega (arith, replayed.within, below)) in
+        let d = receipt.0 in
+        let left = there j d below receipt.1 in
+        let has = receipts_at-Has (map mark_of new) p j d left in
+        let event = receipt-event new has.0.0 d.to d.rsn d.from d.ssn has.0.1 in
+        let note = receipts-noted n new obeys_new has.0.0 d.to d.rsn d.from d.ssn event in
+        let now = note-at n new p j d note.0 obeys_new left note.1 in
+        let before = note-at n old p j d note.0 obeys_old receipt.1 (note-was d.from d.ssn note.0 note.1) in
+        now ∙ sym before ∙ here
+
+-- and where the trace grows
+pub replayed-grown : (next : Next) (n : ℕ) (starts : List Start) (old new : List Event) (p : ℕ) (m : MemberRecord) (more : List Determinant) (notes : List Note) → WellFormed n (map mark_of old)
+    → receipts_at (map mark_of new) p ≡ receipts_at (map mark_of old) p ++ more → received_notes new p ≡ received_notes old p ++ notes
+    → IsReplayed next n starts old p m → IsReplayed next n starts new p m
+replayed-grown next n starts old new p m more notes obeys receipts_now notes_now replayed =
+    replayed-same next n starts old new p m
+    (omega (arith, ap length receipts_now, length-append (receipts_at (map mark_of old) p) more, replayed.within))
+    (sym (ap (take m.received) receipts_now ∙ take-append-le m.received (receipts_at (map mark_of old) p) more replayed.within))
+    (sym (ap (take m.received) notes_now ∙ take-append-le m.received (received_notes old p) notes (omega (arith, replayed.within, length-received_notes n old p obeys))))
+    replayed

@@ -24,11 +24,11 @@ use Rattle.fbl_member.specs.Members.{MemberRecord, logged_note, replayed_by}
 use Rattle.fbl_law.specs.Record.{Names, IsUp, IsDown, IsRecorded}
 use Rattle.fbl_law.specs.Steps.{Stays, IsEventCut}
 use Rattle.fbl_law.specs.Groups.{GroupRecord, marks, knowledge}
-use Rattle.fbl_law.specs.Sound.{received_notes, IsSound}
+use Rattle.fbl_law.specs.Sound.{received_notes, receipts_at, IsReplayed, IsSound}
 use Rattle.fbl_law.specs.Replay.{IsSentAgain, IsStuck}
-use Rattle.fbl_law.specs.Replaying.{receipts_at, IsReplayed, IsNextReplay, gathered_table}
+use Rattle.fbl_law.specs.Replaying.{IsNextReplay, gathered_table}
 use Rattle.fbl_law.proofs.Lists.{Contains-here, Contains-there, Contains-cons_cases, Contains-none}
-use Rattle.fbl_law.proofs.Safe.{down_or_up, IsRecorded-before}
+use Rattle.fbl_law.proofs.Safe.{down_or_up, IsRecorded-before, Has-recorded}
 use Rattle.fbl_law.proofs.Cut.{Has-kept, kept-Has}
 use Rattle.fbl_law.proofs.CutLaw.{stays_is_recorded}
 use Rattle.fbl_law.proofs.LawfulCut.{marks-filter}
@@ -120,7 +120,7 @@ module _ (next : Next) (old : GroupRecord) (sound : IsSound next old) (new : Lis
       (stays_is_recorded old.config.members old.config.f (knowledge old) sound.causes (receipt_of d) was).0 stays d (itself was)
 
   pub recorded-Has : (d : Determinant) → IsRecorded (knowledge old) d → Has (marks old) (receipt_of d)
-  recorded-Has d recorded = subst (λ (c : Determinant). Has (marks old) (receipt_of c)) recorded.1.1.2 (sound.causes.truth.tables recorded.0 recorded.1.1.0 recorded.1.0 recorded.1.1.1).0.0
+  recorded-Has d recorded = Has-recorded (knowledge old) sound.causes.truth d recorded
 
   pub recorded-cut : (d : Determinant) → IsRecorded (knowledge old) d → Has (map mark_of new) (receipt_of d)
   recorded-cut d recorded =
@@ -133,7 +133,7 @@ module _ (next : Next) (old : GroupRecord) (sound : IsSound next old) (new : Lis
   gathering-recorded d named = subst (λ (c : Determinant). IsRecorded (knowledge old) c) named.2 (entries_gathered old.config.f (knowledge old) sound.causes.down named.0 named.1).0
 
   pub recorded-gathering : (d : Determinant) → IsRecorded (knowledge old) d → Names (gathered_table old) d
-  recorded-gathering d recorded = recorded_gathered old.config.f (knowledge old) sound.causes.down d recorded
+  recorded-gathering d recorded = recorded_gathered old.config.f (knowledge old) sound.causes.down sound.causes.checkpoints d recorded
 
   -- what the gathered tables find of a member is its receipt in the cut with that number
   pub found-receipt : (p k : ℕ) (d : Determinant) → found p (k + 1) (gathered_table old) ≡ Some d → slice_get (receipts_at (map mark_of new) p) k ≡ Some d

@@ -1,12 +1,14 @@
 -- What a closed record promises.
-use Rattle.std.proofs.Common.{◌≡◌, ℕ, Bool, true, false, inl, inr, ◌⊎◌, arith, refl}
+use Rattle.std.proofs.Common.{◌≡◌, ℕ, Bool, true, false, inl, inr, ◌⊎◌, arith, refl, subst}
 use Rattle.std.specs.Ordering.{nat_cmp}
 use Rattle.std.specs.FinSet as set
 use Rattle.fbl_base.specs.declared.trace.Determinant.{Determinant}
-use Rattle.fbl_base.specs.Precedence.{Earlier, Precedes, itself, step, Depends}
-use Rattle.fbl_base.specs.Events.{receipt_of}
+use Rattle.fbl_base.specs.declared.trace.Mark.{Mark}
+use Rattle.fbl_base.specs.declared.trace.Mark.TheVariants.{Send, Receipt}
+use Rattle.fbl_base.specs.Precedence.{Has, Earlier, Precedes, itself, step, Depends}
+use Rattle.fbl_base.specs.Events.{member_of, receipt_of}
 use Rattle.fbl_base.proofs.Sizes.{some_member}
-use Rattle.fbl_law.specs.Record.{Members, Includes, Record, table, IsUp, Names, Holds, IsRecorded, IsStable, IsClosed, IsOrphan, IsDownEmpty}
+use Rattle.fbl_law.specs.Record.{Members, Includes, Record, table, checkpoint, IsUp, Names, Holds, IsRecorded, IsStable, KnowsTruth, IsBeforeCheckpoint, IsClosed, IsOrphan, IsDownEmpty}
 
 -- a set has a member or has not
 pub down_or_up : (s : Members) (m : ℕ) → Includes s m ⊎ (set.contains s m ≡ false)
@@ -21,7 +23,11 @@ never_both s m is is_not = absurd cc
 
 -- what a member holds is recorded
 pub IsRecorded-held : (r : Record) (d : Determinant) (m : ℕ) → Holds r d m → IsRecorded r d
-IsRecorded-held r d m holds = (m, holds)
+IsRecorded-held r d m holds = inl (m, holds)
+
+-- and so is what a checkpoint names
+pub IsRecorded-saved : (r : Record) (d : Determinant) (m : ℕ) → Names (checkpoint r m).table d → IsRecorded r d
+IsRecorded-saved r d m named = inr (m, named)
 
 pub IsRecorded-stable : (f : ℕ) (r : Record) (d : Determinant) → IsStable f r d → IsRecorded r d
 IsRecorded-stable f r d s =
@@ -31,14 +37,31 @@ IsRecorded-stable f r d s =
 recorded_by : (f : ℕ) (r : Record) (d : Determinant) (m : ℕ) → IsUp r m → Names (table r m) d ⊎ IsStable f r d → IsRecorded r d
 recorded_by f r d m up cause = elim cause [ inl named ↦ IsRecorded-held r d m (up, named) | inr stable ↦ IsRecorded-stable f r d stable ]
 
+saved_by : (f : ℕ) (r : Record) (d : Determinant) (m : ℕ) → Names (checkpoint r m).table d ⊎ IsStable f r d → IsRecorded r d
+saved_by f r d m cause = elim cause [ inl named ↦ IsRecorded-saved r d m named | inr stable ↦ IsRecorded-stable f r d stable ]
+
+-- a recorded determinant is that of a receipt
+pub Has-recorded : (r : Record) → KnowsTruth r → (d : Determinant) → IsRecorded r d → Has r.trace (receipt_of d)
+Has-recorded r known d (inl held) = subst (λ (c : Determinant). Has r.trace (receipt_of c)) held.1.1.2 (known.tables held.0 held.1.1.0 held.1.0 held.1.1.1).0.0
+Has-recorded r known d (inr saved) = subst (λ (c : Determinant). Has r.trace (receipt_of c)) saved.1.2 (known.checkpoints saved.0 saved.1.0 saved.1.1).0.0
+
 -- what an up member depends on is recorded
 pub IsRecorded-depended : (f : ℕ) (r : Record) → IsClosed f r → (d : Determinant) (m : ℕ) → IsUp r m → Depends r.trace m (receipt_of d) → IsRecorded r d
 IsRecorded-depended f r closed d m up depends = recorded_by f r d m up (closed.events m depends.0 up depends.2 d depends.1)
 
 -- what precedes a recorded receipt is recorded
 pub IsRecorded-before : (f : ℕ) (r : Record) → IsClosed f r → (c d : Determinant) → IsRecorded r d → Precedes r.trace (receipt_of c) (receipt_of d) → IsRecorded r c
-IsRecorded-before f r closed c d recorded before =
-    recorded_by f r c recorded.0 recorded.1.0 (closed.tables recorded.0 d recorded.1.0 recorded.1.1 c before)
+IsRecorded-before f r closed c d (inl held) before = recorded_by f r c held.0 held.1.0 (closed.tables held.0 d held.1.0 held.1.1 c before)
+IsRecorded-before f r closed c d (inr saved) before = saved_by f r c saved.0 (closed.checkpoints saved.0 d saved.1 c before)
+
+-- what precedes an event from before its member's checkpoint is recorded
+pub IsRecorded-reached : (f : ℕ) (r : Record) → IsClosed f r → (d : Determinant) (b : Mark) → IsBeforeCheckpoint r b → Precedes r.trace (receipt_of d) b → IsRecorded r d
+IsRecorded-reached f r closed d b reached before = saved_by f r d _ (closed.reached b reached d before)
+
+-- where the checkpoint of its member is the same, an event is from before it or not
+pub IsBeforeCheckpoint-same : (old new : Record) (b : Mark) → checkpoint new (member_of b) ≡ checkpoint old (member_of b) → IsBeforeCheckpoint new b → IsBeforeCheckpoint old b
+IsBeforeCheckpoint-same old new (Send from ssn to) same reached = rw same at reached
+IsBeforeCheckpoint-same old new (Receipt to rsn from ssn) same reached = rw same at reached
 
 -- so a member's recorded receipts are its first ones
 pub IsRecorded-prefix : (f : ℕ) (r : Record) → IsClosed f r → (c d : Determinant) → c.to ≡ d.to → Earlier r.trace (receipt_of c) (receipt_of d) → IsRecorded r d → IsRecorded r c

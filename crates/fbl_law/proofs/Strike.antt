@@ -1,18 +1,18 @@
 -- What a strike keeps.
-use Rattle.std.proofs.Common.{ℕ, ◌≤◌, List, inl, inr, arith, refl, sym, subst}
+use Rattle.std.proofs.Common.{◌≡◌, ℕ, ◌≤◌, List, inl, inr, arith, refl, sym, subst}
 use Rattle.std.specs.List.{Contains}
 use Rattle.std.specs.FinSet as set
 use Rattle.fbl_base.specs.declared.trace.Determinant.{Determinant}
 use Rattle.fbl_base.specs.declared.trace.Mark.{Mark}
-use Rattle.fbl_base.specs.Events.{receipt_of}
+use Rattle.fbl_base.specs.Events.{member_of, receipt_of}
 use Rattle.fbl_base.proofs.Sizes.{some_outside}
 use Rattle.fbl_table.specs.declared.entry.Entry.{Entry}
 use Rattle.fbl_member.specs.Members.{Message}
-use Rattle.fbl_law.specs.Record.{Members, Includes, Record, table, send_mark, IsInFlight, IsDown, IsUp, Names, Holds, IsRecorded, IsHolder, IsStable, IsTrueEntry, KnowsTruth, NamesCauses, IsClosed, MatchesTrace, IsDownEmpty}
+use Rattle.fbl_law.specs.Record.{Members, Includes, Record, table, send_mark, IsInFlight, IsDown, IsUp, Names, Holds, checkpoint, IsRecorded, IsHolder, IsStable, IsTrueEntry, KnowsTruth, NamesCauses, IsClosed, MatchesTrace, IsDownEmpty, IsCheckpointKept}
 use Rattle.fbl_law.specs.Steps.{IsStruck}
 use Rattle.fbl_law.proofs.Lists.{Contains-none}
 use Rattle.fbl_law.proofs.Tables.{Includes-left}
-use Rattle.fbl_law.proofs.Safe.{down_or_up, never_both, IsRecorded-held}
+use Rattle.fbl_law.proofs.Safe.{down_or_up, never_both, IsRecorded-held, IsRecorded-saved, IsBeforeCheckpoint-same}
 
 module _ (f : ℕ) (old new : Record) (struck : Members) (s : IsStruck old new struck) (few : set.len new.down ≤ f) where
   stays_down : (m : ℕ) → IsDown old m → IsDown new m
@@ -23,6 +23,9 @@ module _ (f : ℕ) (old new : Record) (struck : Members) (s : IsStruck old new s
 
   Holds-struck : (d : Determinant) (m : ℕ) → IsUp new m → Names (table old m) d → Holds new d m
   Holds-struck d m up named = (up, rw (s.tables m up) named)
+
+  same_checkpoint : (m : ℕ) → checkpoint new m ≡ checkpoint old m
+  same_checkpoint m = rw s.checkpoints refl
 
   IsHolder-struck : (d : Determinant) (m : ℕ) → IsRecorded new d → IsHolder old d m → IsHolder new d m
   IsHolder-struck d m recorded holder =
@@ -64,6 +67,10 @@ module _ (f : ℕ) (old new : Record) (struck : Members) (s : IsStruck old new s
         let fact = known.messages v e was.0 among in
         let holds : Holds new e.det v.from = Holds-struck e.det v.from was.1 fact.1.1 in
         (IsTrueEntry-struck e (IsRecorded-held new e.det v.from holds) fact.0, holds);
+    checkpoints = λ m e among.
+        let was : Contains (checkpoint old m).table e = rw (same_checkpoint m) at among in
+        let fact = known.checkpoints m e was in
+        (IsTrueEntry-struck e (IsRecorded-saved new e.det m (e, among, refl)) fact.0, fact.1);
   }
 
   NamesCauses-struck : (entries : List Entry) (b : Mark) → NamesCauses f old entries b → NamesCauses f new entries b
@@ -75,6 +82,8 @@ module _ (f : ℕ) (old new : Record) (struck : Members) (s : IsStruck old new s
     tables = λ m c up named. rw (s.tables m up) (NamesCauses-struck (table old m) (receipt_of c) (closed.tables m c (was_up m up) (rw (s.tables m up) at named)));
     sends = λ v flies. NamesCauses-struck v.carried (send_mark v) (closed.sends v (flew v flies).0);
     carried = λ v c flies named. NamesCauses-struck v.carried (receipt_of c) (closed.carried v c (flew v flies).0 named);
+    reached = λ b reached. rw (same_checkpoint (member_of b)) (NamesCauses-struck (checkpoint old (member_of b)).table b (closed.reached b (IsBeforeCheckpoint-same old new b (same_checkpoint (member_of b)) reached)));
+    checkpoints = λ m c named. rw (same_checkpoint m) (NamesCauses-struck (checkpoint old m).table (receipt_of c) (closed.checkpoints m c (rw (same_checkpoint m) at named)));
   }
 
   pub MatchesTrace-struck : ((q p : ℕ) → IsUp old q → IsUp old p → MatchesTrace old q p) → (q p : ℕ) → IsUp new q → IsUp new p → MatchesTrace new q p
@@ -82,3 +91,10 @@ module _ (f : ℕ) (old new : Record) (struck : Members) (s : IsStruck old new s
 
   pub IsDownEmpty-struck : IsDownEmpty f new
   IsDownEmpty-struck = record { few = few; tables = s.blank; channels = s.emptied }
+
+  pub IsCheckpointKept-struck : ((m : ℕ) → IsCheckpointKept old m) → (m : ℕ) → IsCheckpointKept new m
+  IsCheckpointKept-struck kept m = record {
+    receipts = rw (same_checkpoint m, s.trace) (kept m).receipts;
+    sends = rw (same_checkpoint m, s.trace) (kept m).sends;
+    table = λ d up named. rw (s.tables m up) ((kept m).table d (was_up m up) (rw (same_checkpoint m) at named));
+  }

@@ -1,5 +1,5 @@
 -- What tables name after they have learned.
-use Rattle.std.proofs.Common.{◌≡◌, ℕ, ◌<◌, Bool, true, false, cond, ◌||◌, List, [], ◌∷◌, inl, inr, ◌⊎◌, map, refl, sym, subst, ap, ◌∙◌}
+use Rattle.std.proofs.Common.{◌≡◌, ℕ, zero, suc, ◌<◌, length, get_or, arith, Bool, true, false, cond, ◌||◌, List, [], ◌∷◌, inl, inr, ◌⊎◌, map, refl, sym, subst, ap, ◌∙◌}
 use Rattle.std.specs.List.{Contains}
 use Rattle.std.specs.Prelude.{nat_le}
 use Rattle.std.specs.Ordering.{nat_cmp}
@@ -13,6 +13,7 @@ use Rattle.fbl_base.specs.Events.{same_determinant}
 use Rattle.fbl_base.specs.MemberSets.{contains-insert_same, contains-insert_other}
 use Rattle.fbl_base.proofs.Recorded.{Decides-same_determinant}
 use Rattle.fbl_table.specs.declared.entry.Entry.{Entry}
+use Rattle.fbl_member.specs.Members.{MemberRecord, blank}
 use Rattle.fbl_law.specs.Record.{Members, Includes, Names}
 use Rattle.fbl_table.specs.Tables.{added, held_by, gathered, learned, noted, piggybacked}
 use Rattle.fbl_law.proofs.Lists.{Contains-here, Contains-there, Contains-cons_cases, Contains-none, Contains-filter, Contains-from_filter}
@@ -51,6 +52,12 @@ joined x e = record { det = x.det; known = set.union x.known e.known }
 
 pub Names-none : (d : Determinant) → ¬ (Names [] d)
 Names-none d named = Contains-none named.0 named.1
+
+-- a record whose table names something is one of the list
+pub named_record : (xs : List MemberRecord) (m : ℕ) (d : Determinant) → Names (get_or xs m blank).table d → m < length xs
+named_record [] m d named = absurd (Names-none d named)
+named_record (x ∷ xs) zero d named = omega arith
+named_record (x ∷ xs) (suc m) d named = omega (arith, named_record xs m d named)
 
 pub Names-added_kept : (xs : List Entry) (e : Entry) (d : Determinant) → Names xs d → Names (added xs e) d
 unfolding added

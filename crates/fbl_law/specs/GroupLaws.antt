@@ -1,17 +1,19 @@
 -- The laws of a group's record, for the functions that state them.
-use Rattle.std.specs.Prelude.{◌≡◌, ℕ, ◌<◌, ◌≤◌, ◌↔◌, true}
+use Rattle.std.specs.Prelude.{◌≡◌, ℕ, ◌<◌, ◌≤◌, ◌↔◌, true, length}
 use Rattle.std.specs.FinSet as set
 use Rattle.fbl_base.specs.declared.trace.Determinant.{Determinant}
 use Rattle.fbl_base.specs.declared.trace.Note.{Note}
 use Rattle.fbl_base.specs.Configs.{Settings, IsConfig}
+use Rattle.fbl_base.specs.Events.{receipt_of}
 use Rattle.fbl_base.specs.MemberSets.{AllBelow}
+use Rattle.fbl_base.specs.Precedence.{Has}
 use Rattle.fbl_base.specs.Fold.{Next}
 use Rattle.fbl_base.specs.Steps.{SendsAllowed}
 use Rattle.fbl_member.specs.Members.{Message}
 use Rattle.fbl_law.specs.Record.{Members, IsRecorded}
-use Rattle.fbl_law.specs.Groups.{GroupRecord, knowledge, is_recorded}
-use Rattle.fbl_law.specs.Sound.{IsSound}
-use Rattle.fbl_law.specs.GroupSteps.{IsGroupStart, IsDelivery, IsStrike, IsRecovery}
+use Rattle.fbl_law.specs.Groups.{GroupRecord, checkpoint, marks, knowledge, is_recorded}
+use Rattle.fbl_law.specs.Sound.{receipts_at, IsSound}
+use Rattle.fbl_law.specs.GroupSteps.{IsGroupStart, IsDelivery, IsStrike, IsCheckpoint, IsRecovery}
 
 -- the behaviour's sends go to other members of the group, at most four at a step
 abbrev pub SendsWell : Next → Type 0
@@ -35,6 +37,12 @@ GroupStrikeKeeps =
     (next : Next) (old new : GroupRecord) (struck : Members)
     → IsStrike old new struck → AllBelow struck old.config.members → set.len new.down ≤ old.config.f → IsSound next old → IsSound next new
 
+-- so does a checkpoint of a member
+abbrev pub GroupCheckpointKeeps : Type 0
+GroupCheckpointKeeps =
+    (next : Next) (old new : GroupRecord) (p : ℕ)
+    → IsCheckpoint old new p → IsSound next old → IsSound next new
+
 -- so does a recovery
 abbrev pub GroupRecoveryKeeps : Type 0
 GroupRecoveryKeeps =
@@ -46,3 +54,12 @@ abbrev pub RecordedTest : Type 0
 RecordedTest =
     (next : Next) (r : GroupRecord) (d : Determinant)
     → IsSound next r → (is_recorded r d ≡ true) ↔ IsRecorded (knowledge r) d
+
+-- the receipts of a member's checkpoint are always recorded: the trace has them, and each of the member's first receipts,
+-- as many as the checkpoint has, is recorded
+abbrev pub CheckpointIsRecorded : Type 0
+CheckpointIsRecorded =
+    (next : Next) (r : GroupRecord) (m : ℕ)
+    → IsSound next r → m < r.config.members
+    → ((checkpoint r m).received ≤ length (receipts_at (marks r) m))
+    × ((d : Determinant) → Has (marks r) (receipt_of d) → d.to ≡ m → d.rsn ≤ (checkpoint r m).received → IsRecorded (knowledge r) d)

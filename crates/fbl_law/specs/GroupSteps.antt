@@ -1,4 +1,4 @@
--- What deliveries, strikes and recoveries do to a group's record.
+-- What deliveries, strikes, checkpoints and recoveries do to a group's record.
 use Rattle.std.specs.Prelude.{◌≡◌, ℕ, ◌+◌, ◌<◌, ◌≤◌, ◌⊎◌, ◌++◌, ◌∷◌, List, [], length, map, Option, Some, None, slice_get, slice_set}
 use Rattle.std.specs.List.{Contains, filter_map}
 use Rattle.std.specs.FinSet as set
@@ -10,11 +10,11 @@ use Rattle.fbl_base.specs.Configs.{Settings}
 use Rattle.fbl_base.specs.Events.{mark_of}
 use Rattle.fbl_base.specs.Rules.{sends_of}
 use Rattle.fbl_base.specs.Fold.{Next, note_of, step_events}
-use Rattle.fbl_table.specs.Tables.{piggybacked, marked}
+use Rattle.fbl_table.specs.Tables.{piggybacked}
 use Rattle.fbl_member.specs.Members.{Message, MemberRecord, fresh, blank, received_by, messages_from}
 use Rattle.fbl_law.specs.Record.{Members, IsUp, IsDown, MatchesTrace}
-use Rattle.fbl_law.specs.Steps.{Stays, IsEventCut, gathered_all, between, taken_off}
-use Rattle.fbl_law.specs.Groups.{GroupRecord, member, channel, tables, marks, knowledge, receipts}
+use Rattle.fbl_law.specs.Steps.{Stays, IsEventCut, recovery_table, between, taken_off}
+use Rattle.fbl_law.specs.Groups.{GroupRecord, member, checkpoint, channel, marks, knowledge, receipts}
 use Rattle.fbl_law.specs.Sound.{IsFold}
 
 -- the events so far, and then the starts' sends in list order, each with its sender's next number
@@ -29,13 +29,15 @@ message_of (Send from ssn to note) = Some (record { from = from; to = to; ssn = 
 message_of (Receipt to rsn from ssn) = None
 
 -- a group in which nothing is received yet: its trace has the starts' sends, their messages are in flight and carry
--- nothing, and each member is fresh
+-- nothing, and each member and its checkpoint are fresh
 pub record IsGroupStart (config : Settings) (new : GroupRecord) : Type 0 where
   pub parameters : new.config ≡ config
   pub trace : new.trace ≡ start_events [] config.starts
   pub flight : new.flight ≡ filter_map message_of new.trace
   pub size : length new.members ≡ config.members
   pub members : (m : ℕ) → m < config.members → member new m ≡ fresh m config.starts
+  pub checkpoints : length new.checkpoints ≡ config.members
+  pub saved : (m : ℕ) → m < config.members → checkpoint new m ≡ fresh m config.starts
   pub nobody_down : new.down ≡ set.empty
   pub receipts_ever : new.receipts_ever ≡ 0
   pub undone_ever : new.undone_ever ≡ 0
@@ -74,6 +76,7 @@ pub record IsDelivery (next : Next) (old new : GroupRecord) (v : Message) : Type
   pub undone_ever : new.undone_ever ≡ old.undone_ever
   pub config : new.config ≡ old.config
   pub down : new.down ≡ old.down
+  pub checkpoints : new.checkpoints ≡ old.checkpoints
 
 -- a strike leads from old to new: the members named are down beside those that were, the records of those that are down
 -- are blank and the channels with such an end are empty, and nothing else changes
@@ -88,6 +91,14 @@ pub record IsStrike (old new : GroupRecord) (struck : Members) : Type 0 where
   pub config : new.config ≡ old.config
   pub receipts_ever : new.receipts_ever ≡ old.receipts_ever
   pub undone_ever : new.undone_ever ≡ old.undone_ever
+  pub checkpoints : new.checkpoints ≡ old.checkpoints
+
+-- a checkpoint of the member p leads from old to new: nobody is down, the member's record is kept in the place of its
+-- older checkpoint, and nothing else changes
+pub record IsCheckpoint (old new : GroupRecord) (p : ℕ) : Type 0 where
+  pub nobody_down : old.down ≡ set.empty
+  pub below : p < old.config.members
+  pub saved : new ≡ record old { checkpoints = slice_set old.checkpoints p (member old p) }
 
 -- the channel from q to p is made again: it has exactly the sends from q to p that p has not received, in order, with
 -- their notes, and each message carries what its sender then passes on
@@ -98,18 +109,19 @@ pub record IsMadeAgain (r : GroupRecord) (q p : ℕ) : Type 0 where
 
 -- a recovery leads from old to new: nobody is down; the trace loses, for each member that was down, its first lost
 -- receipt and all its later events; survivors and the channels between them stay; each member that was down is at the
--- fold of its receipts that are left, with a table that gathers the survivors' tables in member order and counts those
--- that were down as holders; each channel with such an end is made again; and the counter of undone receipts rises by the
--- receipts that the trace lost
+-- fold of its receipts that are left, with a table that gathers the survivors' tables and those of the checkpoints of the
+-- members that were down and counts these as holders; each channel with such an end is made again; the counter of undone
+-- receipts rises by the receipts that the trace lost; and the checkpoints stay
 pub record IsRecovery (next : Next) (old new : GroupRecord) : Type 0 where
   pub nobody_down : new.down ≡ set.empty
   pub trace : IsEventCut (Stays (knowledge old)) old.trace new.trace
   pub size : length new.members ≡ length old.members
   pub survivors : (m : ℕ) → IsUp (knowledge old) m → member new m ≡ member old m
   pub folds : (m : ℕ) → m < old.config.members → IsDown (knowledge old) m → IsFold next new m
-  pub gathered : (m : ℕ) → m < old.config.members → IsDown (knowledge old) m → (member new m).table ≡ marked old.down (gathered_all [] (tables old))
+  pub gathered : (m : ℕ) → m < old.config.members → IsDown (knowledge old) m → (member new m).table ≡ recovery_table (knowledge old)
   pub channels : (q p : ℕ) → IsUp (knowledge old) q → IsUp (knowledge old) p → channel new q p ≡ channel old q p
   pub made_again : (q p : ℕ) → IsDown (knowledge old) q ⊎ IsDown (knowledge old) p → IsMadeAgain new q p
   pub config : new.config ≡ old.config
   pub receipts_ever : new.receipts_ever ≡ old.receipts_ever
   pub undone_ever : new.undone_ever + length (receipts (marks new)) ≡ old.undone_ever + length (receipts (marks old))
+  pub checkpoints : new.checkpoints ≡ old.checkpoints

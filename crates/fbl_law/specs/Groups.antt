@@ -1,5 +1,5 @@
 -- A group's record as data.
-use Rattle.std.specs.Prelude.{ℕ, List, map, slice_index_or, Bool}
+use Rattle.std.specs.Prelude.{ℕ, List, map, slice_index_or, Bool, ◌||◌}
 use Rattle.std.specs.List.{filter, filter_map, list_any}
 use Rattle.fbl_base.specs.declared.trace.Determinant.{Determinant}
 use Rattle.fbl_base.specs.declared.trace.Event.{Event}
@@ -12,11 +12,12 @@ use Rattle.fbl_member.specs.Members.{Message, MemberRecord, blank}
 use Rattle.fbl_law.specs.Record.{Members, Record}
 use Rattle.fbl_law.specs.Steps.{is_on}
 
--- a group: its parameters, its members' records, the messages in flight in the order in which they were sent, its trace,
--- who is down, and how many receipts were ever made and ever undone
+-- a group: its parameters, its members' records and their checkpoints, the messages in flight in the order in which they
+-- were sent, its trace, who is down, and how many receipts were ever made and ever undone
 pub record GroupRecord : Type 0 where
   pub config : Settings
   pub members : List MemberRecord
+  pub checkpoints : List MemberRecord
   pub flight : List Message
   pub trace : List Event
   pub down : Members
@@ -26,6 +27,10 @@ pub record GroupRecord : Type 0 where
 -- the record of a member
 abbrev pub member : GroupRecord → ℕ → MemberRecord
 member r m = slice_index_or r.members m blank
+
+-- the checkpoint of a member: its record as it was when it was last kept where no crash empties it
+abbrev pub checkpoint : GroupRecord → ℕ → MemberRecord
+checkpoint r m = slice_index_or r.checkpoints m blank
 
 -- the channel from q to p: the messages in flight from q to p, first in, first out
 abbrev pub channel : GroupRecord → ℕ → ℕ → List Message
@@ -41,11 +46,12 @@ marks r = map mark_of r.trace
 
 -- the part of the record that the laws of causes speak of
 abbrev pub knowledge : GroupRecord → Record
-knowledge r = record { trace = marks r; tables = tables r; channel = channel r; down = r.down }
+knowledge r = record { trace = marks r; tables = tables r; checkpoints = r.checkpoints; channel = channel r; down = r.down }
 
--- whether some member's table has the determinant (that of a member that is down is empty)
+-- whether some member's table (that of a member that is down is empty) or some checkpoint's has the determinant
 abbrev pub is_recorded : GroupRecord → Determinant → Bool
-is_recorded r d = list_any (λ (m : MemberRecord). is_held m.table d) r.members
+is_recorded r d =
+    list_any (λ (m : MemberRecord). is_held m.table d) r.members || list_any (λ (m : MemberRecord). is_held m.table d) r.checkpoints
 
 -- the determinants of the receipts of a trace, in order
 abbrev pub receipts : List Mark → List Determinant

@@ -11,7 +11,7 @@ use Rattle.fbl_base.specs.Precedence.{Has, Earlier, Precedes, Depends}
 use Rattle.fbl_base.specs.Events.{receipt_of}
 use Rattle.fbl_law.specs.Record.{Members, Includes, Record, table, Names, Holds, IsHolder, IsRecorded, IsClosed, IsAlwaysHeld, IsOrphan, IsSoundKnowledge}
 use Rattle.fbl_member.specs.Members.{Message}
-use Rattle.fbl_law.specs.Steps.{IsDelivered, IsStruck, IsRecovered, Stays, IsCut, IsEventCut}
+use Rattle.fbl_law.specs.Steps.{IsDelivered, IsStruck, IsCheckpointed, IsRecovered, Stays, IsCut, IsEventCut}
 use Rattle.fbl_base.specs.Rules.{WellFormed}
 use Rattle.fbl_law.specs.Replay.{IsStuck}
 use Rattle.fbl_law.specs.Run.{IsStart, Run}
@@ -48,6 +48,10 @@ DeliveryKeeps = (n f : ℕ) (old new : Record) (v : Message) (rsn : ℕ) (made :
 -- so does a strike after which at most f members are down, whoever was down before
 abbrev pub StrikeKeeps : Type 0
 StrikeKeeps = (n f : ℕ) (old new : Record) (struck : Members) → IsStruck old new struck → set.len new.down ≤ f → IsSoundKnowledge n f old → IsSoundKnowledge n f new
+
+-- so does a checkpoint of a member
+abbrev pub CheckpointKeeps : Type 0
+CheckpointKeeps = (n f : ℕ) (old new : Record) (p : ℕ) → IsCheckpointed old new p → IsSoundKnowledge n f old → IsSoundKnowledge n f new
 
 -- so does a recovery
 abbrev pub RecoveryKeeps : Type 0

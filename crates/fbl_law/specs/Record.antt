@@ -1,20 +1,21 @@
 -- What a group's tables know: holders, recorded, stable, true knowledge, closed, always held. A receipt's holders are
 -- Log(m), the members that depend on it Depend(m), and that each receipt is stable or held by each member that depends
 -- on it is the always-no-orphans condition, of Alvisi and Marzullo, Message Logging: Pessimistic, Optimistic, Causal and
--- Optimal (IEEE TSE 24(2), 1998). Orphans are those of Elnozahy, Alvisi, Wang and Johnson (ACM CSUR 34(3), 2002).
-use Rattle.std.specs.Prelude.{◌≡◌, ℕ, ◌<◌, ◌≤◌, ◌⊎◌, true, false, List, [], get_or, map}
+-- Optimal (IEEE TSE 24(2), 1998). Checkpoints and orphans are those of Elnozahy, Alvisi, Wang and Johnson (ACM CSUR
+-- 34(3), 2002).
+use Rattle.std.specs.Prelude.{◌≡◌, ℕ, ◌<◌, ◌≤◌, ◌⊎◌, true, false, List, [], length, get_or, slice_index_or, map}
 use Rattle.std.specs.List.{Contains}
 use Rattle.std.specs.Ordering.{nat_cmp}
 use Rattle.std.specs.FinSet as set
 use Rattle.fbl_base.specs.declared.trace.Determinant.{Determinant}
 use Rattle.fbl_base.specs.declared.trace.Mark.{Mark}
-use Rattle.fbl_base.specs.declared.trace.Mark.TheVariants.{Send}
+use Rattle.fbl_base.specs.declared.trace.Mark.TheVariants.{Send, Receipt}
 use Rattle.fbl_base.specs.Events.{member_of}
 use Rattle.fbl_base.specs.Precedence.{Has, Precedes, Depends}
-use Rattle.fbl_base.specs.Rules.{WellFormed, in_flight}
+use Rattle.fbl_base.specs.Rules.{WellFormed, in_flight, receipts_of, sends_of}
 use Rattle.fbl_base.specs.Events.{receipt_of}
 use Rattle.fbl_table.specs.declared.entry.Entry.{Entry}
-use Rattle.fbl_member.specs.Members.{Message}
+use Rattle.fbl_member.specs.Members.{Message, MemberRecord, blank}
 
 -- a set of members
 abbrev pub Members : Type 0
@@ -24,17 +25,23 @@ Members = set.FinSet nat_cmp
 abbrev pub Includes : Members → ℕ → Type 0
 Includes s m = set.contains s m ≡ true
 
--- what the laws of causes speak of: the group's trace, each member's table, the channel of each pair of members, and
--- who is down
+-- what the laws of causes speak of: the group's trace, each member's table and its checkpoint, the channel of each pair
+-- of members, and who is down
 pub record Record : Type 0 where
   pub trace : List Mark
   pub tables : List (List Entry)
+  pub checkpoints : List MemberRecord
   pub channel : ℕ → ℕ → List Message
   pub down : Members
 
 -- the table of a member
 abbrev pub table : Record → ℕ → List Entry
 table r m = get_or r.tables m []
+
+-- the checkpoint of a member: its record as it was at an earlier time, at first its fresh one, which no crash empties and
+-- from which it recovers
+abbrev pub checkpoint : Record → ℕ → MemberRecord
+checkpoint r m = slice_index_or r.checkpoints m blank
 
 -- the send of a message
 abbrev pub send_mark : Message → Mark
@@ -58,9 +65,9 @@ Names entries d = (e : Entry) × Contains entries e × (e.det ≡ d)
 abbrev pub Holds : Record → Determinant → ℕ → Type 0
 Holds r d m = IsUp r m × Names (table r m) d
 
--- the determinant is recorded: some member holds it
+-- the determinant is recorded: some member holds it, or the table of some member's checkpoint names it
 abbrev pub IsRecorded : Record → Determinant → Type 0
-IsRecorded r d = (m : ℕ) × Holds r d m
+IsRecorded r d = ((m : ℕ) × Holds r d m) ⊎ ((m : ℕ) × Names (checkpoint r m).table d)
 
 -- the member counts as a holder: it holds the determinant, or it is down and recovery will give it to it
 abbrev pub IsHolder : Record → Determinant → ℕ → Type 0
@@ -74,23 +81,32 @@ IsStable f r d = (s : Members) × (f < set.len s) × ((m : ℕ) → Includes s m
 abbrev pub IsTrueEntry : Record → Entry → Type 0
 IsTrueEntry r e = Has r.trace (receipt_of e.det) × ((m : ℕ) → Includes e.known m → IsHolder r e.det m)
 
--- true knowledge: entries are true, a table's entry is known to be held by the table's member, and a message's sender
--- holds what the message carries
+-- true knowledge: entries are true, an entry of a table or of a checkpoint's table is known to be held by the member, and
+-- a message's sender holds what the message carries
 pub record KnowsTruth (r : Record) : Type 0 where
   pub tables : (m : ℕ) (e : Entry) → IsUp r m → Contains (table r m) e → IsTrueEntry r e × Includes e.known m
   pub messages : (v : Message) (e : Entry) → IsInFlight r v → Contains v.carried e → IsTrueEntry r e × Holds r e.det v.from
+  pub checkpoints : (m : ℕ) (e : Entry) → Contains (checkpoint r m).table e → IsTrueEntry r e × Includes e.known m
 
 -- the entries name each receipt that precedes the event, but for stable ones
 abbrev pub NamesCauses : ℕ → Record → List Entry → Mark → Type 0
 NamesCauses f r entries b = (d : Determinant) → Precedes r.trace (receipt_of d) b → Names entries d ⊎ IsStable f r d
 
--- the tables of up members and the carried lists are closed: a table names the causes of its member's events and of
--- the receipts that it names, a carried list those of its message's send and of the receipts that it names
+-- the event comes from before its member's checkpoint: its number is within the counts that the member then had
+abbrev pub IsBeforeCheckpoint : Record → Mark → Type 0
+IsBeforeCheckpoint r (Send from ssn to) = ssn ≤ length (checkpoint r from).log
+IsBeforeCheckpoint r (Receipt to rsn from ssn) = rsn ≤ (checkpoint r to).received
+
+-- the tables of up members, the carried lists and the tables of checkpoints are closed: a table names the causes of its
+-- member's events and of the receipts that it names, a carried list those of its message's send and of the receipts that
+-- it names, a checkpoint's table those of its member's events before it and of the receipts that it names
 pub record IsClosed (f : ℕ) (r : Record) : Type 0 where
   pub events : (m : ℕ) (b : Mark) → IsUp r m → member_of b ≡ m → NamesCauses f r (table r m) b
   pub tables : (m : ℕ) (c : Determinant) → IsUp r m → Names (table r m) c → NamesCauses f r (table r m) (receipt_of c)
   pub sends : (v : Message) → IsInFlight r v → NamesCauses f r v.carried (send_mark v)
   pub carried : (v : Message) (c : Determinant) → IsInFlight r v → Names v.carried c → NamesCauses f r v.carried (receipt_of c)
+  pub reached : (b : Mark) → IsBeforeCheckpoint r b → NamesCauses f r (checkpoint r (member_of b)).table b
+  pub checkpoints : (m : ℕ) (c : Determinant) → Names (checkpoint r m).table c → NamesCauses f r (checkpoint r m).table (receipt_of c)
 
 -- each receipt of the trace has more than f holders, or is held by each up member that depends on it
 abbrev pub IsAlwaysHeld : ℕ → Record → Type 0
@@ -111,6 +127,13 @@ pub record IsDownEmpty (f : ℕ) (r : Record) : Type 0 where
   pub tables : (m : ℕ) → IsDown r m → table r m ≡ []
   pub channels : (q p : ℕ) → IsDown r q ⊎ IsDown r p → r.channel q p ≡ []
 
+-- the trace has the receipts and sends that a member had when its checkpoint was taken, and an up member's table names
+-- what the checkpoint's table names
+pub record IsCheckpointKept (r : Record) (m : ℕ) : Type 0 where
+  pub receipts : (checkpoint r m).received ≤ receipts_of r.trace m
+  pub sends : length (checkpoint r m).log ≤ sends_of r.trace m
+  pub table : (d : Determinant) → IsUp r m → Names (checkpoint r m).table d → Names (table r m) d
+
 -- what holds of what the tables of a group of n members know, between two calls
 pub record IsSoundKnowledge (n f : ℕ) (r : Record) : Type 0 where
   pub rules : WellFormed n r.trace
@@ -118,3 +141,4 @@ pub record IsSoundKnowledge (n f : ℕ) (r : Record) : Type 0 where
   pub closed : IsClosed f r
   pub channels : (q p : ℕ) → IsUp r q → IsUp r p → MatchesTrace r q p
   pub down : IsDownEmpty f r
+  pub checkpoints : (m : ℕ) → IsCheckpointKept r m

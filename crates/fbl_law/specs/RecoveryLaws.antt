@@ -9,10 +9,10 @@ use Rattle.fbl_table.specs.Tables.{found}
 use Rattle.fbl_member.specs.Members.{MemberRecord, blank, logged_note, replayed_by}
 use Rattle.fbl_law.specs.Record.{Holds, IsHolder, IsDown, IsRecorded}
 use Rattle.fbl_law.specs.Steps.{Stays, IsEventCut}
-use Rattle.fbl_law.specs.Groups.{GroupRecord, marks, knowledge, receipts, is_recorded}
-use Rattle.fbl_law.specs.Sound.{IsSound}
+use Rattle.fbl_law.specs.Groups.{GroupRecord, checkpoint, marks, knowledge, receipts, is_recorded}
+use Rattle.fbl_law.specs.Sound.{receipts_at, IsSound}
 use Rattle.fbl_law.specs.GroupSteps.{IsRecovery}
-use Rattle.fbl_law.specs.Replaying.{receipts_at, gathered_table, recovered_trace, working, IsReplaying, IsWaiting, IsRebuilt}
+use Rattle.fbl_law.specs.Replaying.{gathered_table, recovered_trace, working, IsReplaying, IsWaiting, IsRebuilt}
 
 -- the holders of a receipt after a recovery are those before
 abbrev pub GroupHoldersStay : Type 0
@@ -47,6 +47,13 @@ OnePassCuts =
 abbrev pub CutIsOne : Type 0
 CutIsOne =
     (next : Next) (old new : GroupRecord) → IsRecovery next old new → IsSound next old → new.trace ≡ recovered_trace old
+
+-- replay begins at the checkpoints of the members that are down
+abbrev pub ReplayBegins : Type 0
+ReplayBegins =
+    (next : Next) (old : GroupRecord) (rebuilt : List MemberRecord)
+    → IsSound next old → length rebuilt ≡ old.config.members → ((p : ℕ) → p < old.config.members → IsDown (knowledge old) p → slice_index_or rebuilt p blank ≡ checkpoint old p)
+    → IsReplaying next old rebuilt
 
 -- a receipt that the gathered tables find is the member's next one, and its replay, with the note that the sender's log
 -- has, is right

@@ -1,37 +1,20 @@
 -- Where a member that replays its receipts has come.
-use Rattle.std.specs.Prelude.{◌≡◌, ◌≢◌, ℕ, zero, suc, ◌+◌, ◌<◌, ◌≤◌, ◌==◌, ◌&&◌, ◌||◌, ◌⊎◌, not, nat_le, Bool, false, List, [], ◌∷◌, ◌++◌, length, map, take, slice_index_or, Some, None, if◌then◌else◌}
-use Rattle.std.specs.List.{filter, filter_map, fold}
+use Rattle.std.specs.Prelude.{◌≡◌, ◌≢◌, ℕ, zero, suc, ◌+◌, ◌-◌, ◌<◌, ◌≤◌, ◌&&◌, ◌||◌, ◌⊎◌, not, nat_le, nat_lt, Bool, false, List, [], ◌∷◌, ◌++◌, length, map, slice_index_or, Some, None, if◌then◌else◌}
 use Rattle.std.specs.FinSet as set
 use Rattle.fbl_base.specs.declared.trace.Determinant.{Determinant}
 use Rattle.fbl_base.specs.declared.trace.Note.{Note}
 use Rattle.fbl_base.specs.declared.trace.Event.{Event}
 use Rattle.fbl_base.specs.declared.trace.Mark.{Mark}
 use Rattle.fbl_base.specs.declared.trace.Mark.TheVariants.{Send, Receipt}
-use Rattle.fbl_base.specs.declared.trace.Start.{Start}
-use Rattle.fbl_base.specs.Events.{determinant_of, mark_of, member_of}
-use Rattle.fbl_base.specs.Fold.{Next, after_notes}
+use Rattle.fbl_base.specs.Events.{mark_of, member_of}
+use Rattle.fbl_base.specs.Fold.{Next}
 use Rattle.fbl_table.specs.declared.entry.Entry.{Entry}
-use Rattle.fbl_table.specs.Tables.{is_held, found, marked, piggybacked}
-use Rattle.fbl_member.specs.Members.{Message, MemberRecord, progress_of, last_from, blank, logged_note, logged_beyond}
+use Rattle.fbl_table.specs.Tables.{is_held, found, piggybacked}
+use Rattle.fbl_member.specs.Members.{Message, MemberRecord, last_from, blank, logged_note, logged_beyond}
 use Rattle.fbl_law.specs.Record.{Members, IsDown, IsUp}
-use Rattle.fbl_law.specs.Steps.{gathered_all}
-use Rattle.fbl_law.specs.Groups.{GroupRecord, member, channel, tables, marks, knowledge, receipts}
-use Rattle.fbl_law.specs.Sound.{received_notes}
-
--- the determinants of the member's receipts, in order
-abbrev pub receipts_at : List Mark → ℕ → List Determinant
-receipts_at trace p = filter (λ d. d.to == p) (filter_map determinant_of trace)
-
--- the number of the last message from q that these receipts take, 0 if there is none
-abbrev pub last_among : List Determinant → ℕ → ℕ
-last_among ds q = fold (λ last d. if d.from == q then d.ssn else last) 0 ds
-
--- the member p is at the fold of its first receipts in the trace, as many as it has had
-pub record IsReplayed (next : Next) (n : ℕ) (starts : List Start) (trace : List Event) (p : ℕ) (m : MemberRecord) : Type 0 where
-  pub within : m.received ≤ length (receipts_at (map mark_of trace) p)
-  pub progress : progress_of m ≡ after_notes next p n starts (take m.received (received_notes trace p))
-  pub places : length m.last ≡ 16
-  pub last : (q : ℕ) → q < 16 → last_from m q ≡ last_among (take m.received (receipts_at (map mark_of trace) p)) q
+use Rattle.fbl_law.specs.Steps.{recovery_table}
+use Rattle.fbl_law.specs.Groups.{GroupRecord, member, checkpoint, channel, marks, knowledge, receipts}
+use Rattle.fbl_law.specs.Sound.{IsReplayed}
 
 -- the determinant is that of the next receipt of the member p, from another member, and there is room for it
 pub record IsNextReplay (n p : ℕ) (m : MemberRecord) (d : Determinant) : Type 0 where
@@ -46,9 +29,9 @@ abbrev pub count_in : Members → (ℕ → ℕ) → ℕ → ℕ
 count_in s count zero = 0
 count_in s count (suc n) = count_in s count n + (if set.contains s n then count n else 0)
 
--- the determinant of a receipt of a member of the set
-abbrev pub is_of : Members → Determinant → Bool
-is_of s d = set.contains s d.to
+-- whether the receipt is one that a member that is down replays: one beyond those of its checkpoint
+abbrev pub is_replayed : GroupRecord → Determinant → Bool
+is_replayed r d = set.contains r.down d.to && nat_lt (checkpoint r d.to).received d.rsn
 
 -- whether the event is a receipt, of a member of the set, whose determinant isn't in the table
 abbrev pub is_lost : Members → List Entry → Mark → Bool
@@ -63,10 +46,9 @@ cut_from s held stopped (e ∷ trace) =
     else (if is_lost s held (mark_of e) then cut_from s held (set.insert stopped (member_of (mark_of e))) trace
     else e ∷ cut_from s held stopped trace)
 
--- what recovery gives the members that are down: the survivors' tables, gathered in member order, where those that are
--- down count as holders
+-- what recovery gives the members that are down
 abbrev pub gathered_table : GroupRecord → List Entry
-gathered_table r = marked r.down (gathered_all [] (tables r))
+gathered_table r = recovery_table (knowledge r)
 
 -- the trace that recovery leaves
 abbrev pub recovered_trace : GroupRecord → List Event
@@ -89,10 +71,12 @@ resent_to f q p from to = resent q p (piggybacked f from.table) (logged_beyond f
 abbrev pub working : GroupRecord → List MemberRecord → ℕ → MemberRecord
 working r rebuilt q = if set.contains r.down q then slice_index_or rebuilt q blank else member r q
 
--- each member that is down has a record that has come so far in its replay of the trace that recovery leaves
+-- each member that is down has a record that has come so far, from its checkpoint on, in its replay of the trace that
+-- recovery leaves
 pub record IsReplaying (next : Next) (r : GroupRecord) (rebuilt : List MemberRecord) : Type 0 where
   pub size : length rebuilt ≡ r.config.members
   pub replayed : (p : ℕ) → p < r.config.members → IsDown (knowledge r) p → IsReplayed next r.config.members r.config.starts (recovered_trace r) p (slice_index_or rebuilt p blank)
+  pub begun : (p : ℕ) → p < r.config.members → IsDown (knowledge r) p → (checkpoint r p).received ≤ (slice_index_or rebuilt p blank).received
 
 -- a member that is down waits for the message that it received next: the gathered tables find no such receipt, or the
 -- sender has not sent the message again
@@ -100,9 +84,9 @@ abbrev pub IsWaiting : GroupRecord → List MemberRecord → ℕ → Type 0
 IsWaiting r rebuilt p =
     (d : Determinant) → found p ((slice_index_or rebuilt p blank).received + 1) (gathered_table r) ≡ Some d → logged_note (working r rebuilt d.from).log d.ssn ≡ None
 
--- how many receipts were replayed
+-- how many receipts were replayed: those that the members that are down have beyond their checkpoints
 abbrev pub replayed_in : GroupRecord → List MemberRecord → ℕ
-replayed_in r rebuilt = count_in r.down (λ p. (slice_index_or rebuilt p blank).received) r.config.members
+replayed_in r rebuilt = count_in r.down (λ p. (slice_index_or rebuilt p blank).received - (checkpoint r p).received) r.config.members
 
 -- a group after the replay: the trace is cut, survivors and their channels stay, each member that was down has its
 -- rebuilt record with the gathered table, and each channel with such an end has what its sender sends again
@@ -118,6 +102,7 @@ pub record IsRebuilt (old new : GroupRecord) (replayed : List MemberRecord) : Ty
   pub config : new.config ≡ old.config
   pub receipts_ever : new.receipts_ever ≡ old.receipts_ever
   pub undone_ever : new.undone_ever + length (receipts (marks new)) ≡ old.undone_ever + length (receipts (marks old))
+  pub checkpoints : new.checkpoints ≡ old.checkpoints
 
 -- what q sends again to each member below p, where one of the two was down
 abbrev pub resent_row : ℕ → Members → (ℕ → MemberRecord) → ℕ → ℕ → List Message

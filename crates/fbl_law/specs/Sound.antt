@@ -1,16 +1,19 @@
 -- What holds of a group's record between any two calls.
-use Rattle.std.specs.Prelude.{◌≡◌, ℕ, ◌+◌, ◌<◌, ◌≤◌, List, length, Some}
-use Rattle.std.specs.List.{Contains, filter_map, fold}
+use Rattle.std.specs.Prelude.{◌≡◌, ℕ, ◌+◌, ◌<◌, ◌≤◌, ◌==◌, List, length, map, take, Some, if◌then◌else◌}
+use Rattle.std.specs.List.{Contains, filter, filter_map, fold}
+use Rattle.fbl_base.specs.declared.trace.Determinant.{Determinant}
 use Rattle.fbl_base.specs.declared.trace.Note.{Note}
 use Rattle.fbl_base.specs.declared.trace.Event.{Event}
 use Rattle.fbl_base.specs.declared.trace.Mark.{Mark}
+use Rattle.fbl_base.specs.declared.trace.Start.{Start}
 use Rattle.fbl_base.specs.Configs.{IsConfig}
+use Rattle.fbl_base.specs.Events.{mark_of}
 use Rattle.fbl_base.specs.Fold.{Next, Lawful, actions_of, notes_of, note_of, after_notes}
 use Rattle.fbl_base.specs.MemberSets.{AllBelow}
 use Rattle.fbl_base.specs.Rules.{taken_on}
-use Rattle.fbl_member.specs.Members.{Message, progress_of, last_from, blank}
+use Rattle.fbl_member.specs.Members.{Message, MemberRecord, progress_of, last_from, blank}
 use Rattle.fbl_law.specs.Record.{IsUp, IsDown, IsSoundKnowledge}
-use Rattle.fbl_law.specs.Groups.{GroupRecord, member, marks, knowledge, receipts}
+use Rattle.fbl_law.specs.Groups.{GroupRecord, member, checkpoint, marks, knowledge, receipts}
 
 -- the notes that the member received in the trace, in order
 abbrev pub received_notes : List Event → ℕ → List Note
@@ -27,17 +30,35 @@ pub record IsFold (next : Next) (r : GroupRecord) (m : ℕ) : Type 0 where
   pub places : length (member r m).last ≡ 16
   pub last : (q : ℕ) → q < 16 → last_from (member r m) q ≡ last_taken (marks r) q m
 
+-- the determinants of the member's receipts, in order
+abbrev pub receipts_at : List Mark → ℕ → List Determinant
+receipts_at trace p = filter (λ d. d.to == p) (receipts trace)
+
+-- the number of the last message from q that these receipts take, 0 if there is none
+abbrev pub last_among : List Determinant → ℕ → ℕ
+last_among ds q = fold (λ last d. if d.from == q then d.ssn else last) 0 ds
+
+-- the member p is at the fold of its first receipts in the trace, as many as it has had
+pub record IsReplayed (next : Next) (n : ℕ) (starts : List Start) (trace : List Event) (p : ℕ) (m : MemberRecord) : Type 0 where
+  pub within : m.received ≤ length (receipts_at (map mark_of trace) p)
+  pub progress : progress_of m ≡ after_notes next p n starts (take m.received (received_notes trace p))
+  pub places : length m.last ≡ 16
+  pub last : (q : ℕ) → q < 16 → last_from m q ≡ last_among (take m.received (receipts_at (map mark_of trace) p)) q
+
 -- a group's record is sound: its trace is lawful and within its limit, each up member is at the fold of its receipts and
--- each down member is blank, what the tables know is true and closed, the channels have exactly the messages not yet
--- received, each with the note with which it was sent, at most f members are down, and the counters agree with the trace
+-- each down member is blank, each checkpoint is at the fold of its member's first receipts, what the tables know is true
+-- and closed, the channels have exactly the messages not yet received, each with the note with which it was sent, at most
+-- f members are down, and the counters agree with the trace
 pub record IsSound (next : Next) (r : GroupRecord) : Type 0 where
   pub config : IsConfig r.config
   pub members : length r.members ≡ r.config.members
+  pub checkpoints : length r.checkpoints ≡ r.config.members
   pub down : AllBelow r.down r.config.members
   pub lawful : Lawful next r.config.members r.config.starts r.trace
   pub room : length r.trace ≤ r.config.limit
   pub causes : IsSoundKnowledge r.config.members r.config.f (knowledge r)
   pub folds : (m : ℕ) → m < r.config.members → IsUp (knowledge r) m → IsFold next r m
   pub blanks : (m : ℕ) → m < r.config.members → IsDown (knowledge r) m → member r m ≡ blank
+  pub saved : (m : ℕ) → m < r.config.members → IsReplayed next r.config.members r.config.starts r.trace m (checkpoint r m)
   pub notes : (v : Message) → Contains r.flight v → note_of r.trace v.from v.ssn ≡ Some v.note
   pub counted : length (receipts (marks r)) + r.undone_ever ≡ r.receipts_ever

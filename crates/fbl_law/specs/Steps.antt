@@ -1,5 +1,5 @@
--- The steps of a record: a delivery, a strike, a recovery.
-use Rattle.std.specs.Prelude.{◌≡◌, ◌≢◌, ℕ, ◌⊎◌, ◌↔◌, ◌==◌, ◌&&◌, Bool, true, Some, List, [], ◌∷◌, ◌++◌, map, drop, slice_get, if◌then◌else◌}
+-- The steps of a record: a delivery, a strike, a checkpoint, a recovery.
+use Rattle.std.specs.Prelude.{◌≡◌, ◌≢◌, ℕ, zero, suc, ◌⊎◌, ◌↔◌, ◌==◌, ◌&&◌, Bool, true, Some, List, [], ◌∷◌, ◌++◌, length, map, drop, slice_get, slice_index_or, if◌then◌else◌}
 use Rattle.std.specs.List.{Contains, filter}
 use Rattle.std.specs.FinSet as set
 use Rattle.fbl_base.specs.declared.trace.Determinant.{Determinant}
@@ -7,17 +7,28 @@ use Rattle.fbl_base.specs.declared.trace.Mark.{Mark}
 use Rattle.fbl_base.specs.declared.trace.Event.{Event}
 use Rattle.fbl_base.specs.Events.{member_of, mark_of}
 use Rattle.fbl_base.specs.Precedence.{Has, Earlier}
-use Rattle.fbl_base.specs.Rules.{WellFormed}
+use Rattle.fbl_base.specs.Rules.{WellFormed, receipts_of, sends_of}
 use Rattle.fbl_base.specs.Events.{receipt_of}
-use Rattle.fbl_law.specs.Record.{Members, Record, table, send_mark, IsInFlight, IsDown, IsUp, IsRecorded, MatchesTrace}
+use Rattle.fbl_law.specs.Record.{Members, Record, table, send_mark, IsInFlight, IsDown, IsUp, IsRecorded, MatchesTrace, checkpoint}
 use Rattle.fbl_table.specs.declared.entry.Entry.{Entry}
 use Rattle.fbl_table.specs.Tables.{learned, noted, piggybacked, gathered, marked}
-use Rattle.fbl_member.specs.Members.{Message}
+use Rattle.fbl_member.specs.Members.{Message, MemberRecord, blank}
 
 -- several tables' entries, one table after the other
 abbrev pub gathered_all : List Entry → List (List Entry) → List Entry
 gathered_all table [] = table
 gathered_all table (t ∷ ts) = gathered_all (gathered table t) ts
+
+-- the tables of the checkpoints of the members of the set that are below n, in member order
+abbrev pub saved_tables : Members → List MemberRecord → ℕ → List (List Entry)
+saved_tables s checkpoints zero = []
+saved_tables s checkpoints (suc m) =
+    saved_tables s checkpoints m ++ (if set.contains s m then (slice_index_or checkpoints m blank).table ∷ [] else [])
+
+-- what recovery gives the members that are down: the survivors' tables in member order (the others' are empty) and then
+-- those of the checkpoints of the members that are down, in member order, where those that are down count as holders
+abbrev pub recovery_table : Record → List Entry
+recovery_table r = marked r.down (gathered_all [] (r.tables ++ saved_tables r.down r.checkpoints (length r.checkpoints)))
 
 -- the determinant of the receipt of a message
 abbrev pub determinant : Message → ℕ → Determinant
@@ -47,9 +58,10 @@ pub record IsDelivered (n f : ℕ) (old new : Record) (v : Message) (rsn : ℕ) 
   pub others : (m : ℕ) → m ≢ v.to → table new m ≡ table old m
   pub messages : (x : Message) → Contains made x → (x.from ≡ v.to) × (x.carried ≡ piggybacked f (table new v.to))
   pub channels : (q p : ℕ) → new.channel q p ≡ taken_off v q p (old.channel q p) ++ between q p made
+  pub checkpoints : new.checkpoints ≡ old.checkpoints
 
--- what a strike leaves: the members named are down beside those that were, and what they held and what was in flight
--- from them or to them is gone
+-- what a strike leaves: the members named are down beside those that were, what they held and what was in flight from
+-- them or to them is gone, and the checkpoints stay
 pub record IsStruck (old new : Record) (struck : Members) : Type 0 where
   pub down : new.down ≡ set.union old.down struck
   pub trace : new.trace ≡ old.trace
@@ -57,6 +69,20 @@ pub record IsStruck (old new : Record) (struck : Members) : Type 0 where
   pub blank : (m : ℕ) → IsDown new m → table new m ≡ []
   pub channels : (q p : ℕ) → IsUp new q → IsUp new p → new.channel q p ≡ old.channel q p
   pub emptied : (q p : ℕ) → IsDown new q ⊎ IsDown new p → new.channel q p ≡ []
+  pub checkpoints : new.checkpoints ≡ old.checkpoints
+
+-- what a checkpoint of the member p leaves: its table and how far it has come are kept, in the place of its older
+-- checkpoint, and nothing else changes
+pub record IsCheckpointed (old new : Record) (p : ℕ) : Type 0 where
+  pub nobody_down : old.down ≡ set.empty
+  pub down : new.down ≡ old.down
+  pub trace : new.trace ≡ old.trace
+  pub tables : new.tables ≡ old.tables
+  pub channels : (q m : ℕ) → new.channel q m ≡ old.channel q m
+  pub table : (checkpoint new p).table ≡ table old p
+  pub receipts : (checkpoint new p).received ≡ receipts_of old.trace p
+  pub sends : length (checkpoint new p).log ≡ sends_of old.trace p
+  pub others : (m : ℕ) → m ≢ p → checkpoint new m ≡ checkpoint old m
 
 -- a comes no later than b
 abbrev pub UpTo : List Mark → Mark → Mark → Type 0
@@ -75,14 +101,15 @@ abbrev pub IsEventCut : (Mark → Type 0) → List Event → List Event → Type
 IsEventCut Kept old new =
     (keep : Mark → Bool) × (new ≡ filter (λ e. keep (mark_of e)) old) × ((e : Mark) → Has (map mark_of old) e → (keep e ≡ true) ↔ Kept e)
 
--- what recovery leaves: nobody is down, the trace is cut, the tables of up members and the channels between them stay,
--- the others have the tables gathered in member order, marked with those that were down (whose own tables are empty),
--- and their channels are made again from the trace, carrying what the sender then passes on
+-- what recovery leaves: nobody is down, the trace is cut, the tables of up members, the channels between them and the
+-- checkpoints stay, the others have what is gathered from survivors and from checkpoints, and their channels are made
+-- again from the trace, carrying what the sender then passes on
 pub record IsRecovered (f : ℕ) (old new : Record) : Type 0 where
   pub nobody_down : new.down ≡ set.empty
   pub trace : IsCut (Stays old) old.trace new.trace
   pub tables : (m : ℕ) → IsUp old m → table new m ≡ table old m
-  pub gathered : (m : ℕ) → IsDown old m → table new m ≡ marked old.down (gathered_all [] old.tables)
+  pub gathered : (m : ℕ) → IsDown old m → table new m ≡ recovery_table old
   pub channels : (q p : ℕ) → IsUp old q → IsUp old p → new.channel q p ≡ old.channel q p
   pub rebuilt : (q p : ℕ) → IsDown old q ⊎ IsDown old p → MatchesTrace new q p
   pub messages : (v : Message) → IsInFlight new v → IsDown old v.from ⊎ IsDown old v.to → v.carried ≡ piggybacked f (table new v.from)
+  pub checkpoints : new.checkpoints ≡ old.checkpoints

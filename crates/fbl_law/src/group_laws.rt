@@ -1,4 +1,4 @@
-ghost use Rattle.fbl_law.specs.GroupLaws.{GroupDeliveryKeeps, GroupStartIsSound, GroupStrikeKeeps, RecordedTest};
+ghost use Rattle.fbl_law.specs.GroupLaws.{CheckpointIsRecorded, GroupCheckpointKeeps, GroupDeliveryKeeps, GroupStartIsSound, GroupStrikeKeeps, RecordedTest};
 
 /// A group in which nothing is received yet is sound: its trace has the starts alone, so there is no determinant to hold.
 pub fn group_start_law()
@@ -17,7 +17,18 @@ pub fn group_strike_law()
     ensures { GroupStrikeKeeps }
 {}
 
-/// In a sound group a receipt is recorded exactly where some member's table has its determinant.
+/// A checkpoint of a member keeps a group sound: the member is at the fold of its receipts, and its table names what they
+/// depend on.
+pub fn group_checkpoint_law()
+    ensures { GroupCheckpointKeeps }
+{}
+
+/// The receipts of a member's checkpoint are always recorded.
+pub fn checkpoint_recorded_law()
+    ensures { CheckpointIsRecorded }
+{}
+
+/// In a sound group a receipt is recorded exactly where some member's table or some checkpoint's has its determinant.
 pub fn recorded_law()
     ensures { RecordedTest }
 {}

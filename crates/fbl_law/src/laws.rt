@@ -1,4 +1,4 @@
-ghost use Rattle.fbl_law.specs.Laws.{ClosedIsHeld, ClosedHasNoOrphan, RecordedFromBelow, RecordedFirst, SurvivorsRecord, DeliveryKeeps, StrikeKeeps, RecoveryKeeps, StaysIsRecorded, CutIsClosed, CutIsRecorded, HoldersStay, CutIsLawful, NeverStuck, RunIsSound, RunIsHeld};
+ghost use Rattle.fbl_law.specs.Laws.{ClosedIsHeld, ClosedHasNoOrphan, RecordedFromBelow, RecordedFirst, SurvivorsRecord, DeliveryKeeps, StrikeKeeps, CheckpointKeeps, RecoveryKeeps, StaysIsRecorded, CutIsClosed, CutIsRecorded, HoldersStay, CutIsLawful, NeverStuck, RunIsSound, RunIsHeld};
 
 /// Tables that name their causes hold each receipt that isn't stable, so nobody is an orphan, and what is recorded of a
 /// member's receipts are its first ones.
@@ -20,6 +20,11 @@ pub fn strike_law()
     ensures survivors { SurvivorsRecord }
 {}
 
+/// A checkpoint of a member keeps a record sound.
+pub fn checkpoint_law()
+    ensures { CheckpointKeeps }
+{}
+
 /// A recovery keeps a record sound, and its trace is the recorded part of the old one.
 pub fn recovery_law()
     ensures sound { RecoveryKeeps }
@@ -31,7 +36,7 @@ pub fn recovery_law()
     ensures replay { NeverStuck }
 {}
 
-/// After every run of deliveries, strikes of at most f members and recoveries the record is sound, each receipt has
+/// After every run of deliveries, strikes of at most f members, checkpoints and recoveries the record is sound, each receipt has
 /// more than f holders or is held by each member that depends on it, and nobody depends on a receipt that isn't
 /// recorded.
 pub fn run_law()

@@ -1,7 +1,7 @@
 //! What a recovery of a group keeps, and how its replay goes.
 
 ghost use Rattle.fbl_law.specs.GroupLaws.{GroupRecoveryKeeps};
-ghost use Rattle.fbl_law.specs.RecoveryLaws.{GroupHoldersStay, HoldersGainTheDown, RecoveryLeavesRecorded, RecoveryUndoesLost, OnePassCuts, CutIsOne, ReplayIsRight, ReplayEnds, RebuiltIsRecovered};
+ghost use Rattle.fbl_law.specs.RecoveryLaws.{GroupHoldersStay, HoldersGainTheDown, RecoveryLeavesRecorded, RecoveryUndoesLost, OnePassCuts, CutIsOne, ReplayBegins, ReplayIsRight, ReplayEnds, RebuiltIsRecovered};
 
 /// A recovery keeps a group sound.
 pub fn group_recovery_law()
@@ -26,9 +26,10 @@ pub fn cut_law()
     ensures one { CutIsOne }
 {}
 
-/// Replay of what the gathered tables find, with the notes of the senders' logs, is right and never gets stuck, and what
-/// it rebuilds makes a recovery.
+/// Replay begins at the checkpoints; that of what the gathered tables find, with the notes of the senders' logs, is right
+/// and never gets stuck, and what it rebuilds makes a recovery.
 pub fn replay_law()
+    ensures begins { ReplayBegins }
     ensures right { ReplayIsRight }
     ensures ends { ReplayEnds }
     ensures recovered { RebuiltIsRecovered }

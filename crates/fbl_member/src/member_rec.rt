@@ -73,6 +73,21 @@ impl<A: Allocator + Copy> MemberRec<A> {
         }
     }
 
+    /// An equal record.
+    pub fn copy(&self) -> Result<MemberRec<A>, AllocError>
+        ensures { IfOk result (λ m. m ≡ self.now) }
+    {
+        let mut log = Vec::new(*self.log.allocator());
+        log.extend_from_slice(self.log.as_slice())?;
+        Ok(MemberRec {
+            state: self.state,
+            received: self.received,
+            last: self.last,
+            log,
+            table: self.table.copy()?,
+        })
+    }
+
     /// Takes the message in, and answers those that the step sends.
     pub fn receive<B: Behaviour>(
         &mut self,

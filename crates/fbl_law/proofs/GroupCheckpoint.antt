@@ -1,0 +1,83 @@
+-- What checkpoints of a group record, and that a checkpoint keeps a group sound.
+use Rattle.std.proofs.Common.{◌≡◌, ◌≢◌, ℕ, ◌<◌, length, inl, inr, refl, sym, ap, ◌∙◌, arith, subst}
+use Rattle.std.specs.Prelude.{slice_set}
+use Rattle.std.specs.FinSet as sets
+use Rattle.std.specs.Ordering.{nat_cmp}
+use Rattle.std.proofs.lemmas.Bool.{cases_eq}
+use Rattle.std.proofs.lemmas.List.{length-set, get_or-set_same, get_or-set_other}
+use Rattle.fbl_base.specs.Events.{receipt_of}
+use Rattle.fbl_base.specs.Fold.{Next}
+use Rattle.fbl_base.specs.Precedence.{itself}
+use Rattle.fbl_member.specs.Members.{MemberRecord, blank}
+use Rattle.fbl_law.specs.Record.{IsUp}
+use Rattle.fbl_law.specs.Steps.{IsCheckpointed}
+use Rattle.fbl_law.specs.Groups.{GroupRecord, member, checkpoint, knowledge}
+use Rattle.fbl_law.specs.Sound.{IsFold, IsReplayed, IsSound}
+use Rattle.fbl_law.specs.GroupSteps.{IsCheckpoint}
+use Rattle.fbl_law.specs.GroupLaws.{GroupCheckpointKeeps, CheckpointIsRecorded}
+use Rattle.fbl_law.proofs.Safe.{IsRecorded-reached}
+use Rattle.fbl_law.proofs.Run.{checkpoint_keeps}
+use Rattle.fbl_law.proofs.GroupFacts.{table_member, received_counted, log_counted}
+use Rattle.fbl_law.proofs.Replayed.{fold-replayed}
+
+-- the receipts of a member's checkpoint are recorded
+pub checkpoint_is_recorded : CheckpointIsRecorded
+checkpoint_is_recorded next r m sound below = (
+  (sound.saved m below).within,
+  λ d there to within. IsRecorded-reached r.config.f (knowledge r) sound.causes.closed d (receipt_of d) (rw to within) (itself there),
+)
+
+-- a member's checkpoint is its record
+module _ (next : Next) (old new : GroupRecord) (p : ℕ) (s : IsCheckpoint old new p) (sound : IsSound next old) where
+  abbrev now : GroupRecord
+  now = record old { checkpoints = slice_set old.checkpoints p (member old p) }
+
+  up : (m : ℕ) → IsUp (knowledge old) m
+  up m = rw s.nobody_down (sets.contains-empty nat_cmp m)
+
+  own : checkpoint now p ≡ member old p
+  own = get_or-set_same old.checkpoints p (member old p) blank (omega (arith, s.below, sound.checkpoints))
+
+  other : (m : ℕ) → m ≢ p → checkpoint now m ≡ checkpoint old m
+  other m apart = get_or-set_other old.checkpoints p m (member old p) blank apart
+
+  is_checkpointed : IsCheckpointed (knowledge old) (knowledge now) p
+  is_checkpointed = record {
+    nobody_down = s.nobody_down;
+    down = refl;
+    trace = refl;
+    tables = refl;
+    channels = λ q m. refl;
+    table = ap (λ (x : MemberRecord). x.table) own ∙ sym (table_member old p);
+    receipts = ap (λ (x : MemberRecord). x.received) own ∙ received_counted next old sound p s.below (up p);
+    sends = ap (λ (x : MemberRecord). length x.log) own ∙ log_counted next old sound p s.below (up p);
+    others = other;
+  }
+
+  saved_now : (m : ℕ) → m < old.config.members → IsReplayed next old.config.members old.config.starts old.trace m (checkpoint now m)
+  saved_now m below = elim (cases_eq m p) [
+    | inl same ↦ rw (same, own) (fold-replayed next old p sound.lawful.well_formed (sound.folds p s.below (up p)))
+    | inr apart ↦ rw (other m apart) (sound.saved m below)
+  ]
+
+  fold_now : (m : ℕ) → IsFold next old m → IsFold next now m
+  fold_now m f = record { progress = f.progress; places = f.places; last = f.last }
+
+  IsSound-checkpoint : IsSound next now
+  IsSound-checkpoint = record {
+    config = sound.config;
+    members = sound.members;
+    checkpoints = length-set old.checkpoints p (member old p) ∙ sound.checkpoints;
+    down = sound.down;
+    lawful = sound.lawful;
+    room = sound.room;
+    causes = checkpoint_keeps old.config.members old.config.f (knowledge old) (knowledge now) p is_checkpointed sound.causes;
+    folds = λ m below up_m. fold_now m (sound.folds m below up_m);
+    blanks = sound.blanks;
+    saved = saved_now;
+    notes = sound.notes;
+    counted = sound.counted;
+  }
+
+pub group_checkpoint_keeps : GroupCheckpointKeeps
+group_checkpoint_keeps next old new p s sound = subst (IsSound next) (sym s.saved) (IsSound-checkpoint next old new p s sound)

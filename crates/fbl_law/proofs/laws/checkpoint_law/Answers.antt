@@ -1,0 +1,5 @@
+use Rattle.fbl_law.proofs.Run.{checkpoint_keeps}
+use Rattle.fbl_law.proofs.laws.checkpoint_law.Goals as goal
+
+pub returns : goal.returns
+returns c = checkpoint_keeps
