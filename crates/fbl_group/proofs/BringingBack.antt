@@ -17,7 +17,7 @@ use Rattle.fbl_law.specs.Record.{Members}
 use Rattle.fbl_law.specs.Groups.{GroupRecord, member, marks, receipts}
 use Rattle.fbl_law.specs.Sound.{IsSound}
 use Rattle.fbl_law.specs.GroupSteps.{IsRecovery}
-use Rattle.fbl_law.specs.Replaying.{stays_by, recovered_trace, working, replayed_in, resent_rows, IsRebuilt}
+use Rattle.fbl_law.specs.Replaying.{is_replayed, stays_by, recovered_trace, working, replayed_in, resent_rows, IsRebuilt}
 use Rattle.fbl_law.proofs.GroupRecovery.{length-left, recovery-keeps}
 use Rattle.fbl_law.proofs.Undone.{cut-undone}
 use Rattle.fbl_law.proofs.CutTrace.{recovered_trace-cut}
@@ -97,7 +97,7 @@ module _ (next : Next) (old : GroupRecord) (sound : IsSound next old) where
 
     module _ (new : GroupRecord) (config : new.config ≡ old.config) (members : IsPutBack old.down rebuilt old.members new.members)
         (flight : new.flight ≡ old.flight ++ resent_rows old.config.f old.down (working old rebuilt) old.config.members old.config.members)
-        (trace : new.trace ≡ left) (down : new.down ≡ set.empty) (receipts_ever : new.receipts_ever ≡ old.receipts_ever)
+        (trace : new.trace ≡ left) (checkpoints : new.checkpoints ≡ old.checkpoints) (down : new.down ≡ set.empty) (receipts_ever : new.receipts_ever ≡ old.receipts_ever)
         (undone : ℕ) (undone_is : undone + length (receipts (map mark_of left)) ≡ length (receipts (map mark_of old.trace))) (undone_ever : new.undone_ever ≡ old.undone_ever + undone) where
       works : (q : ℕ) → q < old.config.members → member new q ≡ working old rebuilt q
       works q below = at (set.contains old.down q) refl where
@@ -124,6 +124,7 @@ module _ (next : Next) (old : GroupRecord) (sound : IsSound next old) where
         config = config;
         receipts_ever = receipts_ever;
         undone_ever = omega (arith, undone_ever, undone_is, marks_left);
+        checkpoints = checkpoints;
       }
 
       is_recovery : IsRecovery next old new
@@ -136,7 +137,7 @@ module _ (next : Next) (old : GroupRecord) (sound : IsSound next old) where
       pub recovers : (answer : Recovered) → answer.replayed ≡ replayed_in old rebuilt → answer.resent ≡ length (resent_rows old.config.f old.down (working old rebuilt) old.config.members old.config.members) → answer.undone ≡ undone → Recovers next old new answer
       recovers answer replayed resent lost = record {
         recovery = is_recovery;
-        replayed = replayed ∙ replayed_in-all next old sound rebuilt ready.replayed.replaying ready.replayed.waiting ∙ ap (λ (es : List Event). length (filter (λ (d : Determinant). set.contains old.down d.to) (receipts (map mark_of es)))) (sym (trace ∙ left-is));
+        replayed = replayed ∙ replayed_in-all next old sound rebuilt ready.replayed.replaying ready.replayed.waiting ∙ ap (λ (es : List Event). length (filter (is_replayed old) (receipts (map mark_of es)))) (sym (trace ∙ left-is));
         resent = resent ∙ ap length (sym (resent_rows-agree old.config.f old.down (λ q. member new q) (working old rebuilt) old.config.members old.config.members (omega arith) works)) ∙ sym (flight-count next old sound new again);
         undone = omega (arith, lost, undone_is, marks_left);
       }

@@ -81,7 +81,7 @@ module _ (next : Next) (r : GroupRecord) (place : ℕ) (outcome : Outcome) (well
   four = rw plan.step (well v.to r.config.members m.state v.note sound.config.members.0 plan.to_member).1
 
   -- the record after the delivery, by its fields
-  module _ (new : GroupRecord) (config : new.config ≡ r.config) (members : new.members ≡ slice_set r.members v.to (received_by v.to m v outcome)) (flight : new.flight ≡ remove r.flight place ++ messages_from v.to (length m.log) (piggybacked r.config.f (table_after v.to m v)) outcome.sends.items) (events : new.trace ≡ r.trace ++ Receipt v.to (m.received + 1) v.from v.ssn ∷ step_events v.to (length m.log) outcome.sends.items) (down : new.down ≡ r.down) (receipts_ever : new.receipts_ever ≡ r.receipts_ever + 1) (undone_ever : new.undone_ever ≡ r.undone_ever) where
+  module _ (new : GroupRecord) (config : new.config ≡ r.config) (members : new.members ≡ slice_set r.members v.to (received_by v.to m v outcome)) (flight : new.flight ≡ remove r.flight place ++ messages_from v.to (length m.log) (piggybacked r.config.f (table_after v.to m v)) outcome.sends.items) (events : new.trace ≡ r.trace ++ Receipt v.to (m.received + 1) v.from v.ssn ∷ step_events v.to (length m.log) outcome.sends.items) (down : new.down ≡ r.down) (checkpoints : new.checkpoints ≡ r.checkpoints) (receipts_ever : new.receipts_ever ≡ r.receipts_ever + 1) (undone_ever : new.undone_ever ≡ r.undone_ever) where
     made_is : messages_from v.to (length m.log) (piggybacked r.config.f (table_after v.to m v)) outcome.sends.items ≡ made next r v
     made_is = ap (λ (o : Outcome). messages_from v.to (length m.log) (piggybacked r.config.f (table_after v.to m v)) o.sends.items) plan.step
 
@@ -108,6 +108,7 @@ module _ (next : Next) (r : GroupRecord) (place : ℕ) (outcome : Outcome) (well
       undone_ever = undone_ever;
       config = config;
       down = down;
+      checkpoints = checkpoints;
     }
 
     pub is_sound : IsSound next new

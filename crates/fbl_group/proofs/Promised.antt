@@ -1,11 +1,16 @@
 -- What strikes and recoveries promise.
-use Rattle.std.proofs.Common.{◌≡◌, length, inl, inr, arith}
+use Rattle.std.proofs.Common.{◌≡◌, ℕ, ◌≤◌, ◌||◌, Bool, true, false, length, inl, inr, refl, ap, ◌∙◌, arith}
+use Rattle.std.specs.FinSet as sets
+use Rattle.std.specs.Ordering.{nat_cmp}
+use Rattle.std.specs.Cmp.{nat_cmp_total}
+use Rattle.fbl_base.specs.MemberSets.{same_from_contains}
 use Rattle.fbl_base.specs.Fold.{Next}
-use Rattle.fbl_law.specs.Record.{IsUp, Names, table, Members}
+use Rattle.fbl_law.specs.Record.{Includes, IsUp, Names, table, Members}
 use Rattle.fbl_law.specs.Groups.{GroupRecord, knowledge}
 use Rattle.fbl_law.specs.Sound.{IsSound}
 use Rattle.fbl_law.specs.GroupSteps.{IsRecovery, IsStrike}
-use Rattle.fbl_law.proofs.Safe.{down_or_up, IsRecorded-before, IsRecorded-depended}
+use Rattle.fbl_law.proofs.Safe.{down_or_up, never_both, IsRecorded-before}
+use Rattle.fbl_law.proofs.Survivors.{survivors_record}
 use Rattle.fbl_law.proofs.Run.{cut_is_recorded}
 use Rattle.fbl_law.proofs.GroupFacts.{table_member}
 use Rattle.fbl_law.proofs.GroupRecovery.{recovery-knowledge}
@@ -18,7 +23,21 @@ use Rattle.fbl_group.specs.Promises.{SurvivorsHold, RecordsFirst, RecordsCauses,
 
 module _ (next : Next) (r : GroupRecord) (sound : IsSound next r) where
   pub survivors_hold : SurvivorsHold r
-  survivors_hold m d up depends = IsRecorded-depended r.config.f (knowledge r) sound.causes.closed d m up depends
+  survivors_hold m d up depends =
+      let same : sets.union r.down sets.empty ≡ r.down = same_from_contains (sets.union r.down sets.empty) r.down nobody_more in
+      let few : sets.len (sets.union r.down sets.empty) ≤ r.config.f = rw same sound.causes.down.few in
+      let out : ¬ (Includes (sets.union r.down sets.empty) m) = λ down. never_both r.down m (rw same at down) up in
+      let one = survivors_record r.config.members r.config.f (knowledge r) sets.empty sound.causes few m d out depends in
+      elim (down_or_up r.down one.0) [
+        | inl down ↦ absurd (one.1 (rw same down))
+        | inr is ↦ (one.0, is, one.2)
+      ]
+    where
+      nobody_more : (q : ℕ) → sets.contains (sets.union r.down sets.empty) q ≡ sets.contains r.down q
+      nobody_more q = sets.contains-union {R = nat_cmp} nat_cmp_total r.down sets.empty q ∙ ap (λ b. sets.contains r.down q || b) (sets.contains-empty nat_cmp q) ∙ or_false (sets.contains r.down q) where
+        or_false : (b : Bool) → (b || false) ≡ b
+        or_false true = refl
+        or_false false = refl
 
   pub records_first : RecordsFirst r
   records_first c d there same before recorded = recorded_is_prefix next r c d sound there same before recorded

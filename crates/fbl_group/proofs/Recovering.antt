@@ -4,20 +4,19 @@ use Rattle.std.specs.Prelude.{slice_index_or, slice_set}
 use Rattle.std.specs.Option.{SomeIff, IsSome}
 use Rattle.std.specs.FinSet as set
 use Rattle.std.proofs.lemmas.Bool.{cases_lt}
-use Rattle.std.proofs.lemmas.List.{take_all}
+use Rattle.std.proofs.lemmas.List.{append-nil, take_all}
 use Rattle.fbl_base.specs.declared.trace.Determinant.{Determinant}
 use Rattle.fbl_base.specs.declared.trace.Note.{Note}
-use Rattle.fbl_base.specs.declared.trace.Start.{Start}
 use Rattle.fbl_base.specs.Fold.{Next, Logged}
 use Rattle.fbl_table.specs.declared.entry.Entry.{Entry}
 use Rattle.fbl_table.specs.Tables.{found, gathered, marked}
-use Rattle.fbl_member.specs.Members.{MemberRecord, blank, fresh, logged_note, replayed_by}
+use Rattle.fbl_member.specs.Members.{MemberRecord, blank, logged_note, replayed_by}
 use Rattle.fbl_law.specs.Record.{Members, IsDown}
-use Rattle.fbl_law.specs.Steps.{gathered_all}
-use Rattle.fbl_law.specs.Groups.{GroupRecord, knowledge}
+use Rattle.fbl_law.specs.Steps.{gathered_all, saved_tables}
+use Rattle.fbl_law.specs.Groups.{GroupRecord, checkpoint, knowledge}
 use Rattle.fbl_law.specs.Sound.{IsSound}
 use Rattle.fbl_law.specs.Replaying.{IsNextReplay, gathered_table, working, IsReplaying, IsWaiting, replayed_in}
-use Rattle.fbl_law.proofs.Gathering.{gathered_all-more}
+use Rattle.fbl_law.proofs.Gathering.{gathered_all-more, gathered_all-push}
 use Rattle.fbl_law.proofs.Rebuilding.{replaying-start, replaying-next, replaying-room, replaying-step, replayed_in-step, replayed_in-short, replaying-tables}
 use Rattle.fbl_group.specs.Rebuilding.{Tries, Rounds, HasReplayed, IsReady}
 
@@ -42,15 +41,37 @@ pub gathered-step : (ms : List MemberRecord) (i : ℕ) (before after : List Entr
 gathered-step ms i before after m below read was is =
     is ∙ ap (λ (t : List Entry). gathered t m.table) was ∙ ap (λ (x : MemberRecord). gathered (gathered_all [] (map (λ (y : MemberRecord). y.table) (take i ms))) x.table) read ∙ sym (gathered_all-more ms i below)
 
-pub gathered-end : (r : GroupRecord) (i : ℕ) (before after : List Entry) → length r.members ≤ i → before ≡ gathered_all [] (map (λ (x : MemberRecord). x.table) (take i r.members)) → after ≡ marked r.down before → after ≡ gathered_table r
-gathered-end r i before after all was is =
-    is ∙ ap (marked r.down) (was ∙ ap (λ (ms : List MemberRecord). gathered_all [] (map (λ (x : MemberRecord). x.table) ms)) (take_all i r.members all))
+-- some tables, and then others
+gathered_all-then : (t : List Entry) (xs ys : List (List Entry)) → gathered_all t (xs ++ ys) ≡ gathered_all (gathered_all t xs) ys
+gathered_all-then t [] ys = refl
+gathered_all-then t (x ∷ xs) ys = gathered_all-then (gathered t x) xs ys
+
+pub gathered-end : (r : GroupRecord) (i n : ℕ) (before saved after : List Entry) → length r.members ≤ i → length r.checkpoints ≡ n → before ≡ gathered_all [] (map (λ (x : MemberRecord). x.table) (take i r.members))
+    → saved ≡ gathered_all before (saved_tables r.down r.checkpoints n) → after ≡ marked r.down saved → after ≡ gathered_table r
+gathered-end r i n before saved after all size was adds is =
+    let first : before ≡ gathered_all [] (map (λ (x : MemberRecord). x.table) r.members) = was ∙ ap (λ (ms : List MemberRecord). gathered_all [] (map (λ (x : MemberRecord). x.table) ms)) (take_all i r.members all) in
+    is ∙ ap (marked r.down) (adds ∙ ap (λ (t : List Entry). gathered_all t (saved_tables r.down r.checkpoints n)) first ∙ ap (λ k. gathered_all (gathered_all [] (map (λ (x : MemberRecord). x.table) r.members)) (saved_tables r.down r.checkpoints k)) (sym size) ∙ sym (gathered_all-then [] (map (λ (x : MemberRecord). x.table) r.members) (saved_tables r.down r.checkpoints (length r.checkpoints))))
+
+-- the table of one checkpoint more
+pub saved-step : (s : Members) (ms : List MemberRecord) (i x place : ℕ) (first before after : List Entry) (m : MemberRecord) → x ≡ i → place ≡ i → i < length ms → m ≡ get_or ms place m → set.contains s x ≡ true
+    → before ≡ gathered_all first (saved_tables s ms i) → after ≡ gathered before m.table → after ≡ gathered_all first (saved_tables s ms (i + 1))
+saved-step s ms i x place first before after m same is_place below read down was is =
+    let here : set.contains s i ≡ true = ap (λ k. set.contains s k) (sym same) ∙ down in
+    let it : m ≡ slice_index_or ms i blank = read_at ms place m m (omega (arith, below, is_place)) read ∙ ap (λ k. slice_index_or ms k blank) is_place in
+    let e : i + 1 ≡ suc i = omega arith in
+    rw (e, here) (is ∙ ap (λ (t : List Entry). gathered t m.table) was ∙ ap (λ (y : MemberRecord). gathered (gathered_all first (saved_tables s ms i)) y.table) it ∙ sym (gathered_all-push first (saved_tables s ms i) (slice_index_or ms i blank).table))
+
+pub saved-skip : (s : Members) (ms : List MemberRecord) (i x : ℕ) (first before : List Entry) → x ≡ i → set.contains s x ≡ false → before ≡ gathered_all first (saved_tables s ms i) → before ≡ gathered_all first (saved_tables s ms (i + 1))
+saved-skip s ms i x first before same up was =
+    let here : set.contains s i ≡ false = ap (λ k. set.contains s k) (sym same) ∙ up in
+    let e : i + 1 ≡ suc i = omega arith in
+    rw (e, here) (was ∙ ap (gathered_all first) (sym (append-nil (saved_tables s ms i))))
 
 -- one record more
-pub begun-at : (s : Members) (starts : List Start) (ms : List MemberRecord) (i : ℕ) (m : MemberRecord) → length ms ≡ i
-    → ((p : ℕ) → p < i → set.contains s p ≡ true → slice_index_or ms p blank ≡ fresh p starts) → (set.contains s i ≡ true → m ≡ fresh i starts)
-    → (p : ℕ) → p < i + 1 → set.contains s p ≡ true → slice_index_or (ms ++ m ∷ []) p blank ≡ fresh p starts
-begun-at s starts ms i m size before here p below down = at (cases_lt p i) where
+pub begun-at : (s : Members) (begins : ℕ → MemberRecord) (ms : List MemberRecord) (i : ℕ) (m : MemberRecord) → length ms ≡ i
+    → ((p : ℕ) → p < i → set.contains s p ≡ true → slice_index_or ms p blank ≡ begins p) → (set.contains s i ≡ true → m ≡ begins i)
+    → (p : ℕ) → p < i + 1 → set.contains s p ≡ true → slice_index_or (ms ++ m ∷ []) p blank ≡ begins p
+begun-at s begins ms i m size before here p below down = at (cases_lt p i) where
   first : (xs : List MemberRecord) (j : ℕ) → j < length xs → slice_index_or (xs ++ m ∷ []) j blank ≡ slice_index_or xs j blank
   first [] j h = absurd (omega (arith, h))
   first (x ∷ xs) zero h = refl
@@ -62,17 +83,17 @@ begun-at s starts ms i m size before here p below down = at (cases_lt p i) where
   last (x ∷ xs) zero h = absurd (omega (arith, h))
   last (x ∷ xs) (suc j) h = last xs j (omega (arith, h))
 
-  at : (p < i) ⊎ (i ≤ p) → slice_index_or (ms ++ m ∷ []) p blank ≡ fresh p starts
+  at : (p < i) ⊎ (i ≤ p) → slice_index_or (ms ++ m ∷ []) p blank ≡ begins p
   at (inl less) = first ms p (omega (arith, size, less)) ∙ before p less down
   at (inr past) =
       let same : p ≡ i = omega (arith, past, below) in
-      last ms p (size ∙ sym same) ∙ here (ap (λ x. set.contains s x) (sym same) ∙ down) ∙ ap (λ x. fresh x starts) (sym same)
+      last ms p (size ∙ sym same) ∙ here (ap (λ x. set.contains s x) (sym same) ∙ down) ∙ ap begins (sym same)
 
 module _ (next : Next) (r : GroupRecord) (sound : IsSound next r) where
   pub member-below : (p : ℕ) → set.contains r.down p ≡ true → p < r.config.members
   member-below p down = sound.down p down
 
-  pub begun : (rebuilt : List MemberRecord) (i : ℕ) → i ≡ r.config.members → length rebuilt ≡ i → ((p : ℕ) → p < i → set.contains r.down p ≡ true → slice_index_or rebuilt p blank ≡ fresh p r.config.starts) → IsReplaying next r rebuilt
+  pub begun : (rebuilt : List MemberRecord) (i : ℕ) → i ≡ r.config.members → length rebuilt ≡ i → ((p : ℕ) → p < i → set.contains r.down p ≡ true → slice_index_or rebuilt p blank ≡ checkpoint r p) → IsReplaying next r rebuilt
   begun rebuilt i all size each = replaying-start next r sound rebuilt (size ∙ all) (λ p below down. each p (omega (arith, all, below)) down)
 
   -- what one try needs, and what it leaves

@@ -18,7 +18,7 @@ use Rattle.fbl_member.specs.Members.{Message, MemberRecord, blank}
 use Rattle.fbl_table.specs.Tables.{is_held}
 use Rattle.fbl_law.specs.Record.{Members, IsUp, IsDown, IsOrphan}
 use Rattle.fbl_law.specs.Steps.{is_on}
-use Rattle.fbl_law.specs.Groups.{GroupRecord, channel, knowledge, receipts}
+use Rattle.fbl_law.specs.Groups.{GroupRecord, channel, knowledge, receipts, is_recorded}
 use Rattle.fbl_law.specs.Sound.{IsSound}
 use Rattle.fbl_law.specs.GroupSteps.{IsStrike}
 use Rattle.fbl_law.proofs.GroupStrike.{group_strike_keeps}
@@ -128,7 +128,7 @@ both_equal : (a b : Bool) → (a && b) ≡ true → (a ≡ true) × (b ≡ true)
 both_equal true b h = (refl, h)
 both_equal false b h = cc
 
-module _ (next : Next) (old new : GroupRecord) (struck : Members) (sound : IsSound next old) (allowed : strike_refusal old struck ≡ None) (blanked : IsBlanked struck old.members new.members) (flight : new.flight ≡ filter (λ v. not (has_end_in struck v)) old.flight) (down : new.down ≡ sets.union old.down struck) (trace : new.trace ≡ old.trace) (config : new.config ≡ old.config) (receipts_ever : new.receipts_ever ≡ old.receipts_ever) (undone_ever : new.undone_ever ≡ old.undone_ever) where
+module _ (next : Next) (old new : GroupRecord) (struck : Members) (sound : IsSound next old) (allowed : strike_refusal old struck ≡ None) (blanked : IsBlanked struck old.members new.members) (flight : new.flight ≡ filter (λ v. not (has_end_in struck v)) old.flight) (down : new.down ≡ sets.union old.down struck) (trace : new.trace ≡ old.trace) (checkpoints : new.checkpoints ≡ old.checkpoints) (config : new.config ≡ old.config) (receipts_ever : new.receipts_ever ≡ old.receipts_ever) (undone_ever : new.undone_ever ≡ old.undone_ever) where
   may : MayStrike old struck
   may = may_strike old struck allowed
 
@@ -200,6 +200,7 @@ module _ (next : Next) (old new : GroupRecord) (struck : Members) (sound : IsSou
     config = config;
     receipts_ever = receipts_ever;
     undone_ever = undone_ever;
+    checkpoints = checkpoints;
   }
 
   pub few_down : sets.len new.down ≤ old.config.f
@@ -219,19 +220,19 @@ pub record IsBlankedBelow (k : ℕ) (struck : Members) (old new : List MemberRec
   pub others : (m : ℕ) → sets.contains struck m ≡ false → slice_index_or new m blank ≡ slice_index_or old m blank
 
 -- how many receipts are lost, counted over the events
-pub count-lost : (r : GroupRecord) → count_by (is_lost r.members) r.trace ≡ length (lost_receipts r)
+pub count-lost : (r : GroupRecord) → count_by (is_lost r.members r.checkpoints) r.trace ≡ length (lost_receipts r)
 count-lost r = counted r.trace where
   unrecorded : Determinant → Bool
-  unrecorded d = not (list_any (λ (m : MemberRecord). is_held m.table d) r.members)
+  unrecorded d = not (is_recorded r d)
 
-  counted : (events : List Event) → count_by (is_lost r.members) events ≡ length (filter unrecorded (receipts (map mark_of events)))
+  counted : (events : List Event) → count_by (is_lost r.members r.checkpoints) events ≡ length (filter unrecorded (receipts (map mark_of events)))
   counted [] = refl
-  counted (e ∷ events) = sum_by-cons (λ x. cond (is_lost r.members x) 1 0) e events ∙ at e (counted events) where
-    at : (x : Event) → count_by (is_lost r.members) events ≡ length (filter unrecorded (receipts (map mark_of events)))
-        → cond (is_lost r.members x) 1 0 + count_by (is_lost r.members) events ≡ length (filter unrecorded (cons_option (determinant_of (mark_of x)) (receipts (map mark_of events))))
+  counted (e ∷ events) = sum_by-cons (λ x. cond (is_lost r.members r.checkpoints x) 1 0) e events ∙ at e (counted events) where
+    at : (x : Event) → count_by (is_lost r.members r.checkpoints) events ≡ length (filter unrecorded (receipts (map mark_of events)))
+        → cond (is_lost r.members r.checkpoints x) 1 0 + count_by (is_lost r.members r.checkpoints) events ≡ length (filter unrecorded (cons_option (determinant_of (mark_of x)) (receipts (map mark_of events))))
     at (event.Send from ssn to note) ih = omega (arith, ih)
     at (event.Receipt to rsn from ssn) ih = here (unrecorded (record { from = from; ssn = ssn; to = to; rsn = rsn })) ih where
-      here : (b : Bool) → count_by (is_lost r.members) events ≡ length (filter unrecorded (receipts (map mark_of events)))
-          → cond b 1 0 + count_by (is_lost r.members) events ≡ length (cond b (record { from = from; ssn = ssn; to = to; rsn = rsn } ∷ filter unrecorded (receipts (map mark_of events))) (filter unrecorded (receipts (map mark_of events))))
+      here : (b : Bool) → count_by (is_lost r.members r.checkpoints) events ≡ length (filter unrecorded (receipts (map mark_of events)))
+          → cond b 1 0 + count_by (is_lost r.members r.checkpoints) events ≡ length (cond b (record { from = from; ssn = ssn; to = to; rsn = rsn } ∷ filter unrecorded (receipts (map mark_of events))) (filter unrecorded (receipts (map mark_of events))))
       here true ih = omega (arith, ih)
       here false ih = omega (arith, ih)

@@ -7,3 +7,4 @@ pub mod Crashes
 pub mod Readers
 pub mod Rebuilding
 pub mod Promises
+pub mod Checkpoints

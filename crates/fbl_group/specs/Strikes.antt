@@ -1,5 +1,5 @@
 -- When a strike is refused, and what it answers.
-use Rattle.std.specs.Prelude.{◌≡◌, ℕ, ◌==◌, not, nat_lt, Bool, true, false, length, Option, Some, None, if◌then◌else◌, List, slice_index_or}
+use Rattle.std.specs.Prelude.{◌≡◌, ℕ, ◌==◌, ◌||◌, not, nat_lt, Bool, true, false, length, Option, Some, None, if◌then◌else◌, List, slice_index_or}
 use Rattle.std.specs.List.{filter, list_any, list_all}
 use Rattle.std.specs.FinSet as set
 use Rattle.fbl_base.specs.declared.trace.Determinant.{Determinant}
@@ -26,18 +26,19 @@ strike_refusal r struck =
     else (if set.len struck == 0 then Some Nobody
     else (if nat_lt r.config.f (set.len (set.union r.down struck)) then Some TooMany else None))
 
--- the determinants of the lost receipts: those that no survivor has recorded
+-- the determinants of the lost receipts: those that no survivor and no checkpoint has recorded
 abbrev pub lost_receipts : GroupRecord → List Determinant
 lost_receipts r = filter (λ d. not (is_recorded r d)) (receipts (marks r))
 
--- whether there is a determinant, and none of these members' tables has it
-abbrev pub is_unheld : List MemberRecord → Option Determinant → Bool
-is_unheld members None = false
-is_unheld members (Some d) = not (list_any (λ (m : MemberRecord). is_held m.table d) members)
+-- whether there is a determinant, and none of these members' and checkpoints' tables has it
+abbrev pub is_unheld : List MemberRecord → List MemberRecord → Option Determinant → Bool
+is_unheld members checkpoints None = false
+is_unheld members checkpoints (Some d) =
+    not (list_any (λ (m : MemberRecord). is_held m.table d) members || list_any (λ (m : MemberRecord). is_held m.table d) checkpoints)
 
--- whether the event is a receipt whose determinant none of these members' tables has
-abbrev pub is_lost : List MemberRecord → Event → Bool
-is_lost members event = is_unheld members (determinant_of (mark_of event))
+-- whether the event is a receipt whose determinant none of these members' and checkpoints' tables has
+abbrev pub is_lost : List MemberRecord → List MemberRecord → Event → Bool
+is_lost members checkpoints event = is_unheld members checkpoints (determinant_of (mark_of event))
 
 -- exactly the records of the members named are made blank
 pub record IsBlanked (struck : Members) (old new : List MemberRecord) : Type 0 where

@@ -14,14 +14,14 @@ pub struct Receipted {
 /// A strike.
 #[derive(Clone, Copy, PartialEq, Eq, Debug)]
 pub struct Struck {
-    /// How many receipts of the trace no survivor's table holds.
+    /// How many receipts of the trace neither a survivor's table nor a checkpoint has.
     pub lost: u32,
 }
 
 /// A recovery.
 #[derive(Clone, Copy, PartialEq, Eq, Debug)]
 pub struct Recovered {
-    /// How many receipts the struck members replayed.
+    /// How many receipts the struck members replayed: those beyond their checkpoints.
     pub replayed: u32,
     /// How many messages are now in channels with a struck end.
     pub resent: u32,

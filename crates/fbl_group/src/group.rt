@@ -7,12 +7,13 @@ use fbl_member::{MemberRec, Wire};
 use std::alloc::{Allocator, Global};
 use std::marker::{Model, PhantomData};
 
-/// A group of deterministic members: its members' volatile records, the messages in flight, and the trace of what
-/// happened. Contracts see the record as data; it is sound between any two calls.
+/// A group of deterministic members: its members' volatile records and their checkpoints, the messages in flight, and the
+/// trace of what happened. Contracts see the record as data; it is sound between any two calls.
 #[derive(Drop)]
 pub struct Group<B: Behaviour, A: Allocator = Global> {
     pub(crate) config: Config<A>,
     pub(crate) members: Vec<MemberRec<A>, A>,
+    pub(crate) checkpoints: Vec<MemberRec<A>, A>,
     pub(crate) flight: Vec<Wire<A>, A>,
     pub(crate) trace: Vec<Event, A>,
     pub(crate) down: MemberSet,
@@ -37,7 +38,7 @@ impl<B: Behaviour, A: Allocator> Model for Group<B, A> {
 
     ghost coded = { Prim.hlevel (codes, content.the_row.coded, entry.the_row.coded, start.the_row.coded, event.the_row.coded, set.code {R = nat_cmp} coded_ℕ) };
 
-    ghost view = { λ g. record { config = g.config; members = g.members.items; flight = g.flight.items; trace = g.trace.items; down = g.down; receipts_ever = g.receipts_ever; undone_ever = g.undone_ever } };
+    ghost view = { λ g. record { config = g.config; members = g.members.items; checkpoints = g.checkpoints.items; flight = g.flight.items; trace = g.trace.items; down = g.down; receipts_ever = g.receipts_ever; undone_ever = g.undone_ever } };
 
-    ghost invariant = { λ g. IsSound B.next (record { config = g.config; members = g.members.items; flight = g.flight.items; trace = g.trace.items; down = g.down; receipts_ever = g.receipts_ever; undone_ever = g.undone_ever }) };
+    ghost invariant = { λ g. IsSound B.next (record { config = g.config; members = g.members.items; checkpoints = g.checkpoints.items; flight = g.flight.items; trace = g.trace.items; down = g.down; receipts_ever = g.receipts_ever; undone_ever = g.undone_ever }) };
 }

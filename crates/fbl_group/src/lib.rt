@@ -1,7 +1,8 @@
-//! A group of members over one record: deliveries, strikes and recoveries, each of which keeps the record sound.
+//! A group of members over one record: deliveries, checkpoints, strikes and recoveries, each of which keeps the record sound.
 #![tactic(auto)]
 
 mod answers;
+mod checkpoint;
 mod commit;
 mod crash;
 mod deliver;
@@ -21,7 +22,7 @@ mod ticket;
 pub use answers::{Receipted, Recovered, Struck};
 pub use group::Group;
 pub use refusals::{
-    CommitRefusal, CrashRefusal, DeliverRefusal, DumpGroupRefusal, RecoverRefusal, StrikeRefusal,
+    CheckpointRefusal, CommitRefusal, CrashRefusal, DeliverRefusal, DumpGroupRefusal, RecoverRefusal, StrikeRefusal,
     TakeRefusal,
 };
 pub use ticket::{Done, Ticket, run_step};

@@ -1,6 +1,6 @@
 //! Recovery of the members that are down.
 
-ghost use Rattle.std.specs.Prelude.{◌≡◌, ℕ, ◌+◌, ◌<◌, ◌≤◌, ◌++◌, if◌then◌else◌, length, map, slice_index_or, IfOk, IfErr, OnErr, OnOk, vec_len, vec_capacity};
+ghost use Rattle.std.specs.Prelude.{◌≡◌, ℕ, ◌+◌, ◌-◌, ◌<◌, ◌≤◌, ◌++◌, if◌then◌else◌, length, map, slice_index_or, IfOk, IfErr, OnErr, OnOk, vec_len, vec_capacity};
 ghost use Rattle.std.specs.List.{filter};
 ghost use Rattle.std.specs.Option.{is_some};
 ghost use Rattle.std.specs.FinSet as set;
@@ -22,10 +22,11 @@ use std::alloc::{AllocError, Allocator};
 use std::mem;
 
 impl<B: Behaviour, A: Allocator + Copy> Group<B, A> {
-    /// Recovers the members that are down: each is put at the fold of the receipts that a survivor's table has, in their
-    /// order, and knows what the survivors know. Receipts that no survivor has are undone, with all that came after them
-    /// at their member, and each message on a channel with an end that was down is sent again, unless its receiver has
-    /// had it. Survivors and the channels between them stay as they are.
+    /// Recovers the members that are down: each begins at its checkpoint and is put at the fold of the receipts that a
+    /// survivor's table or a checkpoint has, in their order, and knows what the survivors and these checkpoints know.
+    /// Receipts that neither has are undone, with all that came after them at their member, and each message on a channel
+    /// with an end that was down is sent again, unless its receiver has had it. Survivors, the channels between them and
+    /// the checkpoints stay as they are.
     pub fn recover(&mut self) -> Result<Recovered, RecoverRefusal>
         ensures recovered { IfOk result (λ answer. ¬ (self.old.down ≡ set.empty) × Recovers B.next self.old self.new answer) }
         ensures left { OnOk result (LeavesRecorded self.old self.new) }
@@ -54,7 +55,7 @@ impl<B: Behaviour, A: Allocator + Copy> Group<B, A> {
         self.flight.reserve(wires.len())?;
         let down = self.down;
         let n = self.config.members();
-        let replayed = count_replayed(rebuilt.as_slice(), down, n);
+        let replayed = count_replayed(rebuilt.as_slice(), self.checkpoints.as_slice(), down, n);
         let resent = wires.len() as u32;
         let before = count_receipts(self.trace.as_slice());
         cut(&mut self.trace, down, &rebuilt);
@@ -71,29 +72,35 @@ impl<B: Behaviour, A: Allocator + Copy> Group<B, A> {
     }
 }
 
-/// How many receipts the members of the set have, of `n`.
-fn count_replayed<A: Allocator + Copy>(rebuilt: &[MemberRec<A>], down: MemberSet, n: u8) -> u32
+/// How many receipts the members of the set have beyond their checkpoints, of `n`.
+fn count_replayed<A: Allocator + Copy>(
+    rebuilt: &[MemberRec<A>],
+    checkpoints: &[MemberRec<A>],
+    down: MemberSet,
+    n: u8,
+) -> u32
     requires { n ≤ 16 }
-    ensures { result ≡ count_in down (λ p. (slice_index_or rebuilt.now p blank).received) n }
+    ensures { result ≡ count_in down (λ p. (slice_index_or rebuilt.now p blank).received - (slice_index_or checkpoints.now p blank).received) n }
 {
     let mut replayed = 0;
     for number in 0..n {
-        replayed += replayed_by(rebuilt, down, Member::new(number).unwrap());
+        replayed += replayed_by(rebuilt, checkpoints, down, Member::new(number).unwrap());
     }
     replayed
 }
 
-/// How many receipts the member has, if it is one of the set.
+/// How many receipts the member has beyond its checkpoint, if it is one of the set.
 fn replayed_by<A: Allocator + Copy>(
     rebuilt: &[MemberRec<A>],
+    checkpoints: &[MemberRec<A>],
     down: MemberSet,
     member: Member,
 ) -> u32
-    ensures value { result ≡ (if set.contains down member then (slice_index_or rebuilt.now member blank).received else 0) }
+    ensures value { result ≡ (if set.contains down member then (slice_index_or rebuilt.now member blank).received - (slice_index_or checkpoints.now member blank).received else 0) }
     ensures bound { result ≤ 8192 }
 {
     if down.has(member) {
-        received_by(rebuilt, member)
+        received_by(rebuilt, member).saturating_sub(received_by(checkpoints, member))
     } else {
         0
     }

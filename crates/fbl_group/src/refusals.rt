@@ -68,6 +68,20 @@ pub enum StrikeRefusal {
     TooMany,
 }
 
+/// Why no checkpoint is taken. The refusals are tested in this order.
+#[derive(Clone, Copy, PartialEq, Eq, Debug, Error)]
+pub enum CheckpointRefusal {
+    /// The member is not one of the group.
+    #[error("BadMember")]
+    BadMember,
+    /// Some member of the group is down, whichever.
+    #[error("Down")]
+    Down,
+    /// There is no memory for a copy of the member's record. The older checkpoint stands.
+    #[error("Memory")]
+    Memory,
+}
+
 /// Why nobody is recovered. The refusals are tested in this order.
 #[derive(Clone, Copy, PartialEq, Eq, Debug, Error)]
 pub enum RecoverRefusal {

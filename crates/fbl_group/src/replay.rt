@@ -2,7 +2,9 @@
 
 ghost use Rattle.std.specs.Prelude.{◌≡◌, ℕ, ◌<◌, true, length, slice_index_or, IfOk, OnOk};
 ghost use Rattle.std.specs.FinSet as set;
-ghost use Rattle.fbl_member.specs.Members.{fresh, logged_note};
+ghost use Rattle.fbl_member.specs.Members.{logged_note};
+ghost use Rattle.fbl_law.specs.Groups.{checkpoint as checkpoint_of};
+ghost use Rattle.fbl_law.specs.Steps.{gathered_all, saved_tables};
 ghost use Rattle.fbl_law.specs.Sound.{IsSound};
 ghost use Rattle.fbl_law.specs.Replaying.{gathered_table, working, IsReplaying};
 ghost use Rattle.fbl_group.specs.Rebuilding.{Tries, Rounds, HasReplayed, IsReady};
@@ -25,7 +27,8 @@ impl<B: Behaviour, A: Allocator + Copy> Group<B, A> {
         Ok(rebuilt)
     }
 
-    /// The survivors' tables, gathered in member order, where those that are down count as holders.
+    /// The survivors' tables in member order and then those of the checkpoints of the members that are down, where these
+    /// count as holders.
     fn gather(&self) -> Result<Table<A>, AllocError>
         ensures table { IfOk result (λ table. table ≡ gathered_table self.now) }
         ensures sound { IsSound B.next self.now }
@@ -34,8 +37,21 @@ impl<B: Behaviour, A: Allocator + Copy> Group<B, A> {
         for record in &self.members {
             gathered.gather(record.table())?;
         }
+        self.gather_saved(&mut gathered)?;
         gathered.mark_all(self.down);
         Ok(gathered)
+    }
+
+    /// Gathers the tables of the checkpoints of the members that are down, in member order.
+    fn gather_saved(&self, gathered: &mut Table<A>) -> Result<(), AllocError>
+        ensures { OnOk result (gathered.new ≡ gathered_all gathered.old (saved_tables self.now.down self.now.checkpoints self.now.config.members)) }
+    {
+        for number in 0..self.config.members() {
+            if self.down.has(Member::new(number).unwrap()) {
+                gathered.gather(self.checkpoints[usize::from(number)].table())?;
+            }
+        }
+        Ok(())
     }
 
     /// The records before any replay.
@@ -50,15 +66,14 @@ impl<B: Behaviour, A: Allocator + Copy> Group<B, A> {
         Ok(rebuilt)
     }
 
-    /// A member that is down begins fresh.
+    /// A member that is down begins at its checkpoint.
     fn begin_one(&self, member: Member) -> Result<MemberRec<A>, AllocError>
-        ensures { set.contains self.now.down member ≡ true → IfOk result (λ begun. begun ≡ fresh member self.now.config.starts) }
+        ensures { set.contains self.now.down member ≡ true → IfOk result (λ begun. begun ≡ checkpoint_of self.now member) }
     {
-        let alloc = *self.members.allocator();
         if self.down.has(member) {
-            MemberRec::fresh(alloc, &self.config, member)
+            self.checkpoints[usize::from(member.number())].copy()
         } else {
-            Ok(MemberRec::blank(alloc, self.config.f()))
+            Ok(MemberRec::blank(*self.members.allocator(), self.config.f()))
         }
     }
 

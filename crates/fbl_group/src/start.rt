@@ -12,17 +12,20 @@ use std::alloc::{AllocError, Allocator};
 use std::marker::PhantomData;
 
 impl<B: Behaviour, A: Allocator + Copy> Group<B, A> {
-    /// A group of these parameters in which the starts are sent and nothing is received yet. Where memory is wanting the
+    /// A group of these parameters in which the starts are sent and nothing is received yet. Each member's first checkpoint
+    /// is its fresh record. Where memory is wanting the
     /// configuration is dropped.
     pub fn new(alloc: A, config: Config<A>) -> Result<Group<B, A>, AllocError>
         ensures { IfOk result (λ g. IsGroupStart config g) }
     {
         let members = fresh_members(alloc, &config)?;
+        let checkpoints = fresh_members(alloc, &config)?;
         let trace = start_sends(alloc, config.starts())?;
         let flight = sent_messages(alloc, &trace)?;
         Ok(Group {
             config,
             members,
+            checkpoints,
             flight,
             trace,
             down: MemberSet::empty(),

@@ -19,7 +19,8 @@ use std::alloc::Allocator;
 impl<B: Behaviour, A: Allocator + Copy> Group<B, A> {
     /// Strikes the members named: they lose what they kept in memory, and each message in flight from them or to them is
     /// lost. They are down, beside those that were down before, until the group is recovered. A member that is down may be
-    /// named again. The answer counts all receipts that are lost then. It takes no memory.
+    /// named again. Checkpoints stay. The answer counts all receipts that are lost then: those that neither the table of a
+    /// survivor nor a checkpoint has. It takes no memory.
     pub fn strike(&mut self, set: MemberSet) -> Result<Struck, StrikeRefusal>
         ensures struck { IfOk result (λ answer. (strike_refusal self.old set ≡ None) × Strikes self.old self.new set answer) }
         ensures refused { IfErr result (λ refusal. strike_refusal self.old set ≡ Some refusal) }
@@ -39,7 +40,7 @@ impl<B: Behaviour, A: Allocator + Copy> Group<B, A> {
         drop_at(&mut self.flight, set);
         self.down = self.down.union(set);
         Ok(Struck {
-            lost: count_lost(&self.members, &self.trace),
+            lost: count_lost(&self.members, &self.checkpoints, &self.trace),
         })
     }
 
@@ -61,34 +62,44 @@ impl<B: Behaviour, A: Allocator + Copy> Group<B, A> {
     }
 }
 
-/// How many of the events are receipts whose determinant no member's table holds.
-fn count_lost<A: Allocator + Copy>(members: &[MemberRec<A>], trace: &[Event]) -> u32
+/// How many of the events are receipts whose determinant no member's table and no checkpoint's table holds.
+fn count_lost<A: Allocator + Copy>(
+    members: &[MemberRec<A>],
+    checkpoints: &[MemberRec<A>],
+    trace: &[Event],
+) -> u32
     requires { length trace.now ≤ 8192 }
-    ensures { result ≡ count_by (is_lost_in members.now) trace.now }
+    ensures { result ≡ count_by (is_lost_in members.now checkpoints.now) trace.now }
 {
     trace
         .iter()
-        .filter(|event| is_lost(members, **event))
+        .filter(|event| is_lost(members, checkpoints, **event))
         .count() as u32
 }
 
-/// Whether the event is a receipt whose determinant no member's table holds.
-fn is_lost<A: Allocator + Copy>(members: &[MemberRec<A>], event: Event) -> bool
-    ensures { result ≡ is_lost_in members.now event }
+/// Whether the event is a receipt whose determinant no member's table and no checkpoint's table holds.
+fn is_lost<A: Allocator + Copy>(
+    members: &[MemberRec<A>],
+    checkpoints: &[MemberRec<A>],
+    event: Event,
+) -> bool
+    ensures { result ≡ is_lost_in members.now checkpoints.now event }
 {
     match event.mark().determinant() {
-        Some(determinant) => !is_recorded(members, &determinant),
+        Some(determinant) => {
+            !(is_held_in(members, &determinant) || is_held_in(checkpoints, &determinant))
+        }
         None => false,
     }
 }
 
-/// Whether some member's table holds the determinant.
-fn is_recorded<A: Allocator + Copy>(members: &[MemberRec<A>], determinant: &Determinant) -> bool
-    ensures { result ≡ list_any (λ m. is_held m.table determinant.now) members.now }
+/// Whether the table of some of these records holds the determinant.
+fn is_held_in<A: Allocator + Copy>(records: &[MemberRec<A>], determinant: &Determinant) -> bool
+    ensures { result ≡ list_any (λ m. is_held m.table determinant.now) records.now }
 {
-    members
+    records
         .iter()
-        .any(|member| member.table().holds(determinant))
+        .any(|record| record.table().holds(determinant))
 }
 
 /// Makes the records of the members named blank.

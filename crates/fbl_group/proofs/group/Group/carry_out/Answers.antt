@@ -60,7 +60,7 @@ overflow_add-self g c =
     let plan = subst (λ (r : GroupRecord). IsPlanned g.B.Behaviour.next r c.args.place c.args.outcome.now) (sym c.self.view_is) c.requires in
     let room = planning.room g.B.Behaviour.next _ c.args.place c.args.outcome.now g.met.B.Behaviour.sends_allowed c.self.invariant plan in
     let ranges = c.self.ranges in
-    rises c.self.inside.receipts_ever ranges.1.1.1.1.1.0.1 room.1 where
+    rises c.self.inside.receipts_ever ranges.1.1.1.1.1.1.0.1 room.1 where
       rises : (n : ℕ) → n < 2 ^ 64 → n ≢ 18446744073709551615 → Fits w64 (n + 1)
       rises n below other = omega (arith, below, other)
 
@@ -89,7 +89,7 @@ index-requires-3 g c =
 pub invariant_of-self-2 : goal.invariant_of-self-2
 invariant_of-self-2 g c =
     let plan = subst (λ (r : GroupRecord). IsPlanned g.B.Behaviour.next r c.args.place c.args.outcome.now) (sym c.self.view_is) c.requires in
-    planning.is_sound g.B.Behaviour.next _ c.args.place c.args.outcome.now g.met.B.Behaviour.sends_allowed c.self.invariant plan _ refl c.in_ok-settle.ensures.members (rw c.f.ensures at c.in_ok-settle.ensures.flight) c.in_ok-settle.ensures.trace refl refl refl
+    planning.is_sound g.B.Behaviour.next _ c.args.place c.args.outcome.now g.met.B.Behaviour.sends_allowed c.self.invariant plan _ refl c.in_ok-settle.ensures.members (rw c.f.ensures at c.in_ok-settle.ensures.flight) c.in_ok-settle.ensures.trace refl refl refl refl
 
 pub returns-clause-delivered : goal.returns-clause-delivered
 returns-clause-delivered g c =
@@ -101,4 +101,4 @@ returns-clause-delivered g c =
     let read = rw at at c.index-3.ensures in
     let is = planning.read_is g.B.Behaviour.next _ c.args.place c.args.outcome.now g.met.B.Behaviour.sends_allowed c.self.invariant plan c.index-2.result.now c.index-2.ensures in
     let same = c.carried.ensures.value ∙ ap (λ (v : Message). v.carried) is in
-    rw (← c.self.view_is) (planning.is_delivered g.B.Behaviour.next _ c.args.place c.args.outcome.now g.met.B.Behaviour.sends_allowed c.self.invariant plan _ refl c.in_ok-settle.ensures.members (rw c.f.ensures at c.in_ok-settle.ensures.flight) c.in_ok-settle.ensures.trace refl refl refl _ (c.received.ensures.value ∙ planning.counted g.B.Behaviour.next _ c.args.place c.args.outcome.now g.met.B.Behaviour.sends_allowed c.self.invariant plan _ refl c.in_ok-settle.ensures.members (rw c.f.ensures at c.in_ok-settle.ensures.flight) c.in_ok-settle.ensures.trace refl refl refl c.index-3.result.now read) (ap length same) refl)
+    rw (← c.self.view_is) (planning.is_delivered g.B.Behaviour.next _ c.args.place c.args.outcome.now g.met.B.Behaviour.sends_allowed c.self.invariant plan _ refl c.in_ok-settle.ensures.members (rw c.f.ensures at c.in_ok-settle.ensures.flight) c.in_ok-settle.ensures.trace refl refl refl refl _ (c.received.ensures.value ∙ planning.counted g.B.Behaviour.next _ c.args.place c.args.outcome.now g.met.B.Behaviour.sends_allowed c.self.invariant plan _ refl c.in_ok-settle.ensures.members (rw c.f.ensures at c.in_ok-settle.ensures.flight) c.in_ok-settle.ensures.trace refl refl refl refl c.index-3.result.now read) (ap length same) refl)

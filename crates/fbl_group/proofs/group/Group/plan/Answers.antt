@@ -11,7 +11,7 @@ returns-in_default-clause-refused g c =
     let none : front_place c.self.inside.flight.items c.args.from c.args.to ≡ None = rw c.as_slice.ensures.value at (sym c.in_default.ensures.place) in
     let below_p : c.args.to < c.self.inside.config.members = omega (arith, c.if-number-n.false, c.members-n.ensures.value, c.number.ensures.value) in
     let below_q : c.args.from < c.self.inside.config.members = omega (arith, c.if-number-n-2.false, c.members-n.ensures.value, c.number-else-number-n.ensures.value) in
-    rw (← c.self.view_is) (deciding.is_empty g.B.Behaviour.next (record { config = c.self.inside.config; members = c.self.inside.members.items; flight = c.self.inside.flight.items; trace = c.self.inside.trace.items; down = c.self.inside.down; receipts_ever = c.self.inside.receipts_ever; undone_ever = c.self.inside.undone_ever }) c.args.to c.args.from below_p below_q (sym c.count.ensures ∙ c.if-count-ne0.false) none)
+    rw (← c.self.view_is) (deciding.is_empty g.B.Behaviour.next (record { config = c.self.inside.config; members = c.self.inside.members.items; checkpoints = c.self.inside.checkpoints.items; flight = c.self.inside.flight.items; trace = c.self.inside.trace.items; down = c.self.inside.down; receipts_ever = c.self.inside.receipts_ever; undone_ever = c.self.inside.undone_ever }) c.args.to c.args.from below_p below_q (sym c.count.ensures ∙ c.if-count-ne0.false) none)
 
 pub returns-then-is_full-clause-refused : goal.returns-then-is_full-clause-refused
 returns-then-is_full-clause-refused g c =
@@ -29,7 +29,7 @@ returns-then-is_full-clause-refused g c =
     let len : c.len.result ≡ length c.self.inside.trace.items = search (rules, c.len.ensures) in
     let sends : c.len-sends.result ≡ length c.step-outcome.result.sends.items = c.len-sends.ensures.value in
     let told : c.is_full.result ≡ has_no_room c.limit.result c.len.result c.self.inside.receipts_ever c.len-sends.result = c.is_full.ensures in
-    rw (← c.self.view_is) (deciding.is_refused_full g.B.Behaviour.next (record { config = c.self.inside.config; members = c.self.inside.members.items; flight = c.self.inside.flight.items; trace = c.self.inside.trace.items; down = c.self.inside.down; receipts_ever = c.self.inside.receipts_ever; undone_ever = c.self.inside.undone_ever }) c.args.to c.args.from below_p below_q (sym c.count.ensures ∙ c.if-count-ne0.false) c.in-Some.place c.step-outcome.result at step (rw (← limit, ← len, ← sends) (sym told ∙ c.if-is_full.true)))
+    rw (← c.self.view_is) (deciding.is_refused_full g.B.Behaviour.next (record { config = c.self.inside.config; members = c.self.inside.members.items; checkpoints = c.self.inside.checkpoints.items; flight = c.self.inside.flight.items; trace = c.self.inside.trace.items; down = c.self.inside.down; receipts_ever = c.self.inside.receipts_ever; undone_ever = c.self.inside.undone_ever }) c.args.to c.args.from below_p below_q (sym c.count.ensures ∙ c.if-count-ne0.false) c.in-Some.place c.step-outcome.result at step (rw (← limit, ← len, ← sends) (sym told ∙ c.if-is_full.true)))
 
 pub returns-clause-planned : goal.returns-clause-planned
 returns-clause-planned g c =
@@ -47,4 +47,4 @@ returns-clause-planned g c =
     let len : c.len.result ≡ length c.self.inside.trace.items = search (rules, c.len.ensures) in
     let sends : c.len-sends.result ≡ length c.step-outcome.result.sends.items = c.len-sends.ensures.value in
     let told : c.is_full.result ≡ has_no_room c.limit.result c.len.result c.self.inside.receipts_ever c.len-sends.result = c.is_full.ensures in
-    rw (← c.self.view_is) (deciding.is_planned g.B.Behaviour.next (record { config = c.self.inside.config; members = c.self.inside.members.items; flight = c.self.inside.flight.items; trace = c.self.inside.trace.items; down = c.self.inside.down; receipts_ever = c.self.inside.receipts_ever; undone_ever = c.self.inside.undone_ever }) c.args.to c.args.from below_p below_q (sym c.count.ensures ∙ c.if-count-ne0.false) c.in-Some.place c.step-outcome.result at step (rw (← limit, ← len, ← sends) (sym told ∙ c.if-is_full.false)))
+    rw (← c.self.view_is) (deciding.is_planned g.B.Behaviour.next (record { config = c.self.inside.config; members = c.self.inside.members.items; checkpoints = c.self.inside.checkpoints.items; flight = c.self.inside.flight.items; trace = c.self.inside.trace.items; down = c.self.inside.down; receipts_ever = c.self.inside.receipts_ever; undone_ever = c.self.inside.undone_ever }) c.args.to c.args.from below_p below_q (sym c.count.ensures ∙ c.if-count-ne0.false) c.in-Some.place c.step-outcome.result at step (rw (← limit, ← len, ← sends) (sym told ∙ c.if-is_full.false)))

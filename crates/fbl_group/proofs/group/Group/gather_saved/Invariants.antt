@@ -1,0 +1,6 @@
+use Rattle.std.proofs.Common.{◌≡◌}
+use Rattle.fbl_law.specs.Steps.{gathered_all, saved_tables}
+use Rattle.fbl_group.proofs.group.Group.gather_saved.Given as goal
+
+abbrev pub invariant-loop-number : goal.invariant-loop-number
+invariant-loop-number g l = l.gathered ≡ gathered_all l.fn.gathered (saved_tables l.self.down l.self.checkpoints l.number)

@@ -1,0 +1,67 @@
+//! Checkpoints: a member's record is kept where no strike empties it, and a recovery of the member begins there.
+
+ghost use Rattle.std.specs.Prelude.{◌≡◌, ℕ, ◌<◌, ◌≤◌, IfErr, OnErr, OnOk, None, Some};
+ghost use Rattle.fbl_base.specs.declared.trace.Determinant.{Determinant};
+ghost use Rattle.fbl_base.specs.Events.{receipt_of};
+ghost use Rattle.fbl_base.specs.Precedence.{Has};
+ghost use Rattle.fbl_law.specs.Record.{IsRecorded};
+ghost use Rattle.fbl_law.specs.Groups.{checkpoint as checkpoint_of, knowledge, marks};
+ghost use Rattle.fbl_law.specs.GroupSteps.{IsCheckpoint};
+ghost use Rattle.fbl_group.specs.Checkpoints.{checkpoint_refusal, IsCheckpointRefusal};
+
+use crate::group::Group;
+use crate::refusals::CheckpointRefusal;
+use fbl_base::{Behaviour, Member};
+use std::alloc::{AllocError, Allocator};
+
+impl<B: Behaviour, A: Allocator + Copy> Group<B, A> {
+    /// Keeps a copy of the member's record, in the place of its older checkpoint: its state, its counts, its log and its
+    /// table. What the checkpoint has recorded is never lost, and a recovery of the member replays only the receipts after
+    /// it. Strikes and recoveries leave it as it is. A member that has received nothing may be checkpointed.
+    pub fn checkpoint(&mut self, member: Member) -> Result<(), CheckpointRefusal>
+        ensures taken { OnOk result ((checkpoint_refusal self.old member ≡ None) × IsCheckpoint self.old self.new member) }
+        ensures refused { IfErr result (IsCheckpointRefusal (checkpoint_refusal self.old member)) }
+        ensures unchanged { OnErr result (self.new ≡ self.old) }
+    {
+        self.allow_checkpoint(member)?;
+        match self.save(member) {
+            Ok(()) => Ok(()),
+            Err(_) => Err(CheckpointRefusal::Memory),
+        }
+    }
+
+    /// How many receipts the member's checkpoint has, 0 where none was taken. These receipts are always recorded.
+    pub fn checkpoint_received(&self, member: Member) -> u32
+        requires { member < self.now.config.members }
+        ensures value { result ≡ (checkpoint_of self.now member).received }
+        ensures recorded { (d : Determinant) → Has (marks self.now) (receipt_of d) → d.to ≡ member → d.rsn ≤ result → IsRecorded (knowledge self.now) d }
+    {
+        self.checkpoints[usize::from(member.number())].received()
+    }
+
+    /// Whether a checkpoint of the member may be taken, if there is memory for it.
+    fn allow_checkpoint(&self, member: Member) -> Result<(), CheckpointRefusal>
+        ensures allowed { OnOk result (checkpoint_refusal self.now member ≡ None) }
+        ensures refused { IfErr result (λ refusal. checkpoint_refusal self.now member ≡ Some refusal) }
+    {
+        if member.number() >= self.config.members() {
+            return Err(CheckpointRefusal::BadMember);
+        }
+        if self.down.count() != 0 {
+            return Err(CheckpointRefusal::Down);
+        }
+        Ok(())
+    }
+
+    /// Copies the member's record, and then puts the copy in its place.
+    fn save(&mut self, member: Member) -> Result<(), AllocError>
+        requires { checkpoint_refusal self.old member ≡ None }
+        ensures saved { OnOk result (IsCheckpoint self.old self.new member) }
+        ensures unchanged { OnErr result (self.new ≡ self.old) }
+    {
+        let place = usize::from(member.number());
+        let copy = self.members[place].copy()?;
+        self.checkpoints[place] = copy;
+        Ok(())
+    }
+}
