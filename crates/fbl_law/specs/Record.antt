@@ -38,8 +38,8 @@ pub record Record : Type 0 where
 abbrev pub table : Record → ℕ → List Entry
 table r m = get_or r.tables m []
 
--- the checkpoint of a member: its record as it was at an earlier time, at first its fresh one, which no crash empties and
--- from which it recovers
+-- the checkpoint of a member (Elnozahy and others 2002): its record as it was at an earlier time, at first its fresh one,
+-- which no crash empties and from which it recovers
 abbrev pub checkpoint : Record → ℕ → MemberRecord
 checkpoint r m = slice_index_or r.checkpoints m blank
 

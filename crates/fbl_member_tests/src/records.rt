@@ -3,7 +3,7 @@ ghost use Rattle.std.specs.Prelude.{◌≡◌, ◌<◌, IfOk};
 use crate::fixtures::{Refusal, first_receipt, member, own_table};
 use fbl_base::{Behaviour, Config, Determinant, Member, MemberSet, Mix, Note, Relay, Start};
 use fbl_member::{MemberRec, Wire};
-use fbl_table::Entry;
+use fbl_table::{Entry, Table};
 use refusing_allocator::Refusing;
 use std::alloc::{AllocError, Allocator, Global};
 use std::test::Fail;
@@ -202,6 +202,85 @@ fn a_replayed_member_is_given_a_table(rt: HostRuntime) -> Result<(), Fail> {
     replay::<Mix, _>(&mut member_record, second, &det, Note { value: 4, hops: 1 })?;
     member_record.set_table(own_table(rt.alloc(), second, det)?);
     assert!(rt; member_record.state() == 5 && member_record.table().holds(&det));
+    Ok(())
+}
+
+/// The group's second member after it has taken the first one's message in, whose log and table have one entry each.
+fn received<A: Allocator + Copy>(
+    alloc: A,
+    first: Member,
+    second: Member,
+) -> Result<MemberRec<A>, AllocError>
+    requires { second < 3 }
+{
+    let (_, mut member_record) = prepared(alloc, first, second, second)?;
+    let note = Note { value: 5, hops: 2 };
+    let receipt = first_receipt(first, second);
+    deliver::<Relay, A>(alloc, &mut member_record, second, receipt, note)?;
+    Ok(member_record)
+}
+
+/// A copy has all that the record had, and keeps it when the record goes on.
+#[test]
+fn a_copy_is_an_equal_record(rt: HostRuntime) -> Result<(), Fail> {
+    let (first, second, third) = (member(0)?, member(1)?, member(2)?);
+    let det = first_receipt(first, second);
+    let mut member_record = received(rt.alloc(), first, second)?;
+    let copy = member_record.copy()?;
+    member_record.set_table(Table::new(rt.alloc()));
+    let next = Determinant {
+        ssn: 2,
+        rsn: 2,
+        ..det
+    };
+    replay::<Relay, _>(
+        &mut member_record,
+        second,
+        &next,
+        Note { value: 1, hops: 1 },
+    )?;
+    assert!(rt; readings(&member_record, first) == (6, 2, 2, 2, 0));
+    assert!(rt; readings(&copy, first) == (5, 1, 1, 1, 1) && copy.table().holds(&det));
+    let passed_on = Note { value: 5, hops: 1 };
+    assert!(rt; sent_beyond(&copy, third, 0, &[(1, passed_on)]));
+    Ok(())
+}
+
+/// Copies a record, refuses the request with this number, counted from 1, and copies it again.
+fn refuse_copy(
+    alloc: Global,
+    first: Member,
+    second: Member,
+    request: u64,
+) -> Result<Refusal, AllocError>
+    requires { second < 3 }
+{
+    let counting = Refusing::new(alloc, 0);
+    let _received = received(&counting, first, second)?;
+    let heap = Refusing::new(alloc, counting.requests().saturating_add(request));
+    let member_record = received(&heap, first, second)?;
+    let before = readings(&member_record, first);
+    let done = member_record.copy().is_ok();
+    let refused = heap.has_refused();
+    let kept = readings(&member_record, first) == before && member_record.copy().is_ok();
+    Ok(Refusal::of(refused, done, kept))
+}
+
+/// Each request for memory of a copy is refused in turn: the record stays as it was, and is then copied. The log and the
+/// table take memory each.
+#[test]
+fn a_copy_without_memory(rt: HostRuntime) -> Result<(), Fail> {
+    let (first, second) = (member(0)?, member(1)?);
+    for request in 1..u64::MAX {
+        match refuse_copy(rt.alloc(), first, second, request)? {
+            Refusal::Kept => {}
+            Refusal::NotAsked => {
+                assert!(rt; request > 2, "{request}");
+                return Ok(());
+            }
+            Refusal::Broken => assert!(rt; false, "{request}"),
+        }
+    }
     Ok(())
 }
 
