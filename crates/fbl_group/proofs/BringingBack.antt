@@ -7,7 +7,6 @@ use Rattle.std.specs.Result.{OnErr}
 use Rattle.std.specs.Ordering.{nat_cmp}
 use Rattle.std.specs.FinSet as set
 use Rattle.std.proofs.lemmas.List.Sums.{sum_by-cons}
-use Rattle.fbl_base.specs.declared.trace.Determinant.{Determinant}
 use Rattle.fbl_base.specs.declared.trace.Event.{Event}
 use Rattle.fbl_base.specs.declared.trace.Event.TheVariants as event
 use Rattle.fbl_base.specs.Events.{mark_of, determinant_of}

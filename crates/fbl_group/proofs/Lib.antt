@@ -3,6 +3,7 @@ pub mod Planning
 pub mod Deciding
 pub mod Striking
 pub mod Promised
+pub mod Checkpointing
 pub mod Reading
 pub mod Starting
 pub mod Dumping

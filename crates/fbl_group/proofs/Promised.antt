@@ -1,5 +1,5 @@
 -- What strikes and recoveries promise.
-use Rattle.std.proofs.Common.{◌≡◌, ℕ, ◌≤◌, ◌||◌, Bool, true, false, length, inl, inr, refl, ap, ◌∙◌, arith}
+use Rattle.std.proofs.Common.{◌≡◌, ℕ, ◌≤◌, ◌||◌, Bool, true, false, length, inl, inr, refl, sym, subst, ap, ◌∙◌, arith}
 use Rattle.std.specs.FinSet as sets
 use Rattle.std.specs.Ordering.{nat_cmp}
 use Rattle.std.specs.Cmp.{nat_cmp_total}
@@ -25,12 +25,12 @@ module _ (next : Next) (r : GroupRecord) (sound : IsSound next r) where
   pub survivors_hold : SurvivorsHold r
   survivors_hold m d up depends =
       let same : sets.union r.down sets.empty ≡ r.down = same_from_contains (sets.union r.down sets.empty) r.down nobody_more in
-      let few : sets.len (sets.union r.down sets.empty) ≤ r.config.f = rw same sound.causes.down.few in
-      let out : ¬ (Includes (sets.union r.down sets.empty) m) = λ down. never_both r.down m (rw same at down) up in
+      let few : sets.len (sets.union r.down sets.empty) ≤ r.config.f = subst (λ (s : Members). sets.len s ≤ r.config.f) (sym same) sound.causes.down.few in
+      let out : ¬ (Includes (sets.union r.down sets.empty) m) = λ down. never_both r.down m (subst (λ (s : Members). Includes s m) same down) up in
       let one = survivors_record r.config.members r.config.f (knowledge r) sets.empty sound.causes few m d out depends in
       elim (down_or_up r.down one.0) [
-        | inl down ↦ absurd (one.1 (rw same down))
-        | inr is ↦ (one.0, is, one.2)
+        | inl down ↦ absurd (one.1 (subst (λ (s : Members). Includes s one.0) (sym same) down))
+        | inr is ↦ (one.0, (is, one.2))
       ]
     where
       nobody_more : (q : ℕ) → sets.contains (sets.union r.down sets.empty) q ≡ sets.contains r.down q

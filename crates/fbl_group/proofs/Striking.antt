@@ -15,7 +15,6 @@ use Rattle.fbl_base.specs.MemberSets.{AllBelow}
 use Rattle.fbl_base.specs.Fold.{Next}
 use Rattle.fbl_base.proofs.RulesLaws.{eqb-self}
 use Rattle.fbl_member.specs.Members.{Message, MemberRecord, blank}
-use Rattle.fbl_table.specs.Tables.{is_held}
 use Rattle.fbl_law.specs.Record.{Members, IsUp, IsDown, IsOrphan}
 use Rattle.fbl_law.specs.Steps.{is_on}
 use Rattle.fbl_law.specs.Groups.{GroupRecord, channel, knowledge, receipts, is_recorded}

@@ -22,7 +22,7 @@ mod ticket;
 pub use answers::{Receipted, Recovered, Struck};
 pub use group::Group;
 pub use refusals::{
-    CheckpointRefusal, CommitRefusal, CrashRefusal, DeliverRefusal, DumpGroupRefusal, RecoverRefusal, StrikeRefusal,
-    TakeRefusal,
+    CheckpointRefusal, CommitRefusal, CrashRefusal, DeliverRefusal, DumpGroupRefusal,
+    RecoverRefusal, StrikeRefusal, TakeRefusal,
 };
 pub use ticket::{Done, Ticket, run_step};

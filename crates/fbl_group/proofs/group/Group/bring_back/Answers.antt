@@ -29,14 +29,14 @@ pub count_receipts-requires : goal.count_receipts-requires
 count_receipts-requires g c =
     let old : GroupRecord = record { config = c.self.inside.config; members = c.self.inside.members.items; checkpoints = c.self.inside.checkpoints.items; flight = c.self.inside.flight.items; trace = c.self.inside.trace.items; down = c.self.inside.down; receipts_ever = c.self.inside.receipts_ever; undone_ever = c.self.inside.undone_ever } in
     let ready : IsReady g.B.Behaviour.next old c.in_ok-rebuilt.rebuilt.items = subst (λ (r : GroupRecord). IsReady g.B.Behaviour.next r c.in_ok-rebuilt.rebuilt.items) (sym c.self.view_is) c.in_ok-rebuilt.ensures in
-    subst (λ (es : List Event). length es ≤ 8192) (sym (c.as_slice-4.ensures.value ∙ c.cut.ensures)) (few-left g.B.Behaviour.next old c.self.invariant c.in_ok-rebuilt.rebuilt.items ready)
+    subst (λ (es : List Event). length es ≤ 8192) (sym (c.as_slice-5.ensures.value ∙ c.cut.ensures)) (few-left g.B.Behaviour.next old c.self.invariant c.in_ok-rebuilt.rebuilt.items ready)
 
 pub overflow_sub-undone : goal.overflow_sub-undone
 overflow_sub-undone g c =
     let old : GroupRecord = record { config = c.self.inside.config; members = c.self.inside.members.items; checkpoints = c.self.inside.checkpoints.items; flight = c.self.inside.flight.items; trace = c.self.inside.trace.items; down = c.self.inside.down; receipts_ever = c.self.inside.receipts_ever; undone_ever = c.self.inside.undone_ever } in
     let ready : IsReady g.B.Behaviour.next old c.in_ok-rebuilt.rebuilt.items = subst (λ (r : GroupRecord). IsReady g.B.Behaviour.next r c.in_ok-rebuilt.rebuilt.items) (sym c.self.view_is) c.in_ok-rebuilt.ensures in
-    let before : c.count_receipts-before.result ≡ length (receipts (map mark_of old.trace)) = c.count_receipts-before.ensures ∙ ap (λ (es : List Event). length (receipts (map mark_of es))) c.as_slice-3.ensures.value in
-    let left : c.count_receipts.result ≡ length (receipts (map mark_of (filter (λ e. stays_by old.down (λ p. slice_index_or c.in_ok-rebuilt.rebuilt.items p blank) (mark_of e)) old.trace))) = c.count_receipts.ensures ∙ ap (λ (es : List Event). length (receipts (map mark_of es))) (c.as_slice-4.ensures.value ∙ c.cut.ensures) in
+    let before : c.count_receipts-before.result ≡ length (receipts (map mark_of old.trace)) = c.count_receipts-before.ensures ∙ ap (λ (es : List Event). length (receipts (map mark_of es))) c.as_slice-4.ensures.value in
+    let left : c.count_receipts.result ≡ length (receipts (map mark_of (filter (λ e. stays_by old.down (λ p. slice_index_or c.in_ok-rebuilt.rebuilt.items p blank) (mark_of e)) old.trace))) = c.count_receipts.ensures ∙ ap (λ (es : List Event). length (receipts (map mark_of es))) (c.as_slice-5.ensures.value ∙ c.cut.ensures) in
     let fewer = fewer-receipts g.B.Behaviour.next old c.self.invariant c.in_ok-rebuilt.rebuilt.items ready in
     omega (arith, before, left, fewer)
 
@@ -54,8 +54,8 @@ pub overflow_add-self : goal.overflow_add-self
 overflow_add-self g c =
     let old : GroupRecord = record { config = c.self.inside.config; members = c.self.inside.members.items; checkpoints = c.self.inside.checkpoints.items; flight = c.self.inside.flight.items; trace = c.self.inside.trace.items; down = c.self.inside.down; receipts_ever = c.self.inside.receipts_ever; undone_ever = c.self.inside.undone_ever } in
     let ready : IsReady g.B.Behaviour.next old c.in_ok-rebuilt.rebuilt.items = subst (λ (r : GroupRecord). IsReady g.B.Behaviour.next r c.in_ok-rebuilt.rebuilt.items) (sym c.self.view_is) c.in_ok-rebuilt.ensures in
-    let before : c.count_receipts-before.result ≡ length (receipts (map mark_of old.trace)) = c.count_receipts-before.ensures ∙ ap (λ (es : List Event). length (receipts (map mark_of es))) c.as_slice-3.ensures.value in
-    let left : c.count_receipts.result ≡ length (receipts (map mark_of (filter (λ e. stays_by old.down (λ p. slice_index_or c.in_ok-rebuilt.rebuilt.items p blank) (mark_of e)) old.trace))) = c.count_receipts.ensures ∙ ap (λ (es : List Event). length (receipts (map mark_of es))) (c.as_slice-4.ensures.value ∙ c.cut.ensures) in
+    let before : c.count_receipts-before.result ≡ length (receipts (map mark_of old.trace)) = c.count_receipts-before.ensures ∙ ap (λ (es : List Event). length (receipts (map mark_of es))) c.as_slice-4.ensures.value in
+    let left : c.count_receipts.result ≡ length (receipts (map mark_of (filter (λ e. stays_by old.down (λ p. slice_index_or c.in_ok-rebuilt.rebuilt.items p blank) (mark_of e)) old.trace))) = c.count_receipts.ensures ∙ ap (λ (es : List Event). length (receipts (map mark_of es))) (c.as_slice-5.ensures.value ∙ c.cut.ensures) in
     let fewer = fewer-receipts g.B.Behaviour.next old c.self.invariant c.in_ok-rebuilt.rebuilt.items ready in
     let few = few-undone g.B.Behaviour.next old c.self.invariant c.in_ok-rebuilt.rebuilt.items ready c.from.result (omega (arith, c.from.ensures, before)) in
     let ranges = c.self.ranges in
@@ -68,8 +68,8 @@ invariant_of-self-2 g c =
     let wires : c.in_ok-wires.wires.items ≡ resent_rows old.config.f old.down (working old c.in_ok-rebuilt.rebuilt.items) old.config.members old.config.members =
     subst (λ (r : GroupRecord). c.in_ok-wires.wires.items ≡ resent_rows r.config.f r.down (working r c.in_ok-rebuilt.rebuilt.items) r.config.members r.config.members) (sym c.self.view_is)
     (subst (λ (ms : List MemberRecord). c.in_ok-wires.wires.items ≡ resent_rows c.args.self.now.config.f c.args.self.now.down (working c.args.self.now ms) c.args.self.now.config.members c.args.self.now.config.members) c.as_slice.ensures.value c.in_ok-wires.ensures) in
-    let before : c.count_receipts-before.result ≡ length (receipts (map mark_of old.trace)) = c.count_receipts-before.ensures ∙ ap (λ (es : List Event). length (receipts (map mark_of es))) c.as_slice-3.ensures.value in
-    let left : c.count_receipts.result ≡ length (receipts (map mark_of (filter (λ e. stays_by old.down (λ p. slice_index_or c.in_ok-rebuilt.rebuilt.items p blank) (mark_of e)) old.trace))) = c.count_receipts.ensures ∙ ap (λ (es : List Event). length (receipts (map mark_of es))) (c.as_slice-4.ensures.value ∙ c.cut.ensures) in
+    let before : c.count_receipts-before.result ≡ length (receipts (map mark_of old.trace)) = c.count_receipts-before.ensures ∙ ap (λ (es : List Event). length (receipts (map mark_of es))) c.as_slice-4.ensures.value in
+    let left : c.count_receipts.result ≡ length (receipts (map mark_of (filter (λ e. stays_by old.down (λ p. slice_index_or c.in_ok-rebuilt.rebuilt.items p blank) (mark_of e)) old.trace))) = c.count_receipts.ensures ∙ ap (λ (es : List Event). length (receipts (map mark_of es))) (c.as_slice-5.ensures.value ∙ c.cut.ensures) in
     let fewer = fewer-receipts g.B.Behaviour.next old c.self.invariant c.in_ok-rebuilt.rebuilt.items ready in
     let new : GroupRecord = record { config = c.self.inside.config; members = c.put_back.new.members.items; checkpoints = c.self.inside.checkpoints.items; flight = c.put_in_flight.new.flight.items; trace = c.cut.new.trace.items; down = c.empty-self-inside.result; receipts_ever = c.self.inside.receipts_ever; undone_ever = c.self.inside.undone_ever + c.from.result } in
     let flight : c.put_in_flight.new.flight.items ≡ old.flight ++ resent_rows old.config.f old.down (working old c.in_ok-rebuilt.rebuilt.items) old.config.members old.config.members =
@@ -84,8 +84,8 @@ returns-clause-recovered g c =
     let wires : c.in_ok-wires.wires.items ≡ resent_rows old.config.f old.down (working old c.in_ok-rebuilt.rebuilt.items) old.config.members old.config.members =
     subst (λ (r : GroupRecord). c.in_ok-wires.wires.items ≡ resent_rows r.config.f r.down (working r c.in_ok-rebuilt.rebuilt.items) r.config.members r.config.members) (sym c.self.view_is)
     (subst (λ (ms : List MemberRecord). c.in_ok-wires.wires.items ≡ resent_rows c.args.self.now.config.f c.args.self.now.down (working c.args.self.now ms) c.args.self.now.config.members c.args.self.now.config.members) c.as_slice.ensures.value c.in_ok-wires.ensures) in
-    let before : c.count_receipts-before.result ≡ length (receipts (map mark_of old.trace)) = c.count_receipts-before.ensures ∙ ap (λ (es : List Event). length (receipts (map mark_of es))) c.as_slice-3.ensures.value in
-    let left : c.count_receipts.result ≡ length (receipts (map mark_of (filter (λ e. stays_by old.down (λ p. slice_index_or c.in_ok-rebuilt.rebuilt.items p blank) (mark_of e)) old.trace))) = c.count_receipts.ensures ∙ ap (λ (es : List Event). length (receipts (map mark_of es))) (c.as_slice-4.ensures.value ∙ c.cut.ensures) in
+    let before : c.count_receipts-before.result ≡ length (receipts (map mark_of old.trace)) = c.count_receipts-before.ensures ∙ ap (λ (es : List Event). length (receipts (map mark_of es))) c.as_slice-4.ensures.value in
+    let left : c.count_receipts.result ≡ length (receipts (map mark_of (filter (λ e. stays_by old.down (λ p. slice_index_or c.in_ok-rebuilt.rebuilt.items p blank) (mark_of e)) old.trace))) = c.count_receipts.ensures ∙ ap (λ (es : List Event). length (receipts (map mark_of es))) (c.as_slice-5.ensures.value ∙ c.cut.ensures) in
     let fewer = fewer-receipts g.B.Behaviour.next old c.self.invariant c.in_ok-rebuilt.rebuilt.items ready in
     let new : GroupRecord = record { config = c.self.inside.config; members = c.put_back.new.members.items; checkpoints = c.self.inside.checkpoints.items; flight = c.put_in_flight.new.flight.items; trace = c.cut.new.trace.items; down = c.empty-self-inside.result; receipts_ever = c.self.inside.receipts_ever; undone_ever = c.self.inside.undone_ever + c.from.result } in
     let flight : c.put_in_flight.new.flight.items ≡ old.flight ++ resent_rows old.config.f old.down (working old c.in_ok-rebuilt.rebuilt.items) old.config.members old.config.members =
@@ -93,7 +93,7 @@ returns-clause-recovered g c =
     let undone : c.from.result + length (receipts (map mark_of (filter (λ e. stays_by old.down (λ p. slice_index_or c.in_ok-rebuilt.rebuilt.items p blank) (mark_of e)) old.trace))) ≡ length (receipts (map mark_of old.trace)) = omega (arith, c.from.ensures, before, left, fewer) in
     let all : c.members-n.result ≡ old.config.members = c.members-n.ensures.value in
     let replayed : c.count_replayed-replayed.result ≡ replayed_in old c.in_ok-rebuilt.rebuilt.items =
-    c.count_replayed-replayed.ensures ∙ ap (λ n. count_in old.down (λ p. (slice_index_or c.as_slice-2.result.now p blank).received - (slice_index_or c.as_slice-3.result.now p blank).received) n) all ∙ ap (λ (ms : List MemberRecord). count_in old.down (λ p. (slice_index_or ms p blank).received) old.config.members) c.as_slice-2.ensures.value in
+    c.count_replayed-replayed.ensures ∙ ap (λ n. count_in old.down (λ p. (slice_index_or c.as_slice-2.result.now p blank).received - (slice_index_or c.as_slice-3.result.now p blank).received) n) all ∙ ap (λ (ms : List MemberRecord). count_in old.down (λ p. (slice_index_or ms p blank).received - (slice_index_or c.as_slice-3.result.now p blank).received) old.config.members) c.as_slice-2.ensures.value ∙ ap (λ (ms : List MemberRecord). count_in old.down (λ p. (slice_index_or c.in_ok-rebuilt.rebuilt.items p blank).received - (slice_index_or ms p blank).received) old.config.members) c.as_slice-3.ensures.value in
     let resent : c.len-resent.result ≡ length (resent_rows old.config.f old.down (working old c.in_ok-rebuilt.rebuilt.items) old.config.members old.config.members) = omega (arith, c.len-resent.ensures, c.in_ok-wires.wires.ok.0, ap length wires) in
     subst (λ (r : GroupRecord). Recovers g.B.Behaviour.next r new (record { replayed = c.count_replayed-replayed.result; resent = c.len-resent.result; undone = c.count_receipts-before.result - c.count_receipts.result })) c.self.view_is
     (recovers g.B.Behaviour.next old c.self.invariant c.in_ok-rebuilt.rebuilt.items ready new refl c.put_back.ensures flight c.cut.ensures refl c.empty-self-inside.ensures refl c.from.result undone refl (record { replayed = c.count_replayed-replayed.result; resent = c.len-resent.result; undone = c.count_receipts-before.result - c.count_receipts.result }) replayed resent (sym c.from.ensures))

@@ -25,3 +25,17 @@ invariant_of-result g c =
       receipts_ever = refl;
       undone_ever = refl;
     })
+
+pub returns : goal.returns
+returns g c = record {
+  parameters = refl;
+  trace = c.in_ok-trace.ensures ∙ ap (λ (ss : List Start). start_events [] ss) c.starts.ensures;
+  flight = c.in_ok-flight.ensures ∙ ap (λ (es : List Event). filter_map message_of es) c.deref.ensures.value;
+  size = c.in_ok-members.ensures.size;
+  members = c.in_ok-members.ensures.fresh;
+  checkpoints = c.in_ok-checkpoints.ensures.size;
+  saved = c.in_ok-checkpoints.ensures.fresh;
+  nobody_down = c.empty.ensures;
+  receipts_ever = refl;
+  undone_ever = refl;
+}
