@@ -28,7 +28,7 @@ pub enum ConfigRefusal {
     /// The trace may have fewer events than there are starts.
     #[error("LimitBelowStarts")]
     LimitBelowStarts,
-    /// There is no memory for a copy of the starts.
+    /// There is no memory for a copy of the starts. It is answered only where no other refusal holds.
     #[error("Memory")]
     Memory,
 }
