@@ -1,4 +1,5 @@
--- What a member does with the messages that it receives, and lawful traces.
+-- What a member does with the messages that it receives, and lawful traces. That a member's state is a function of the
+-- messages that it received, in their order, is piecewise determinism (Elnozahy, Alvisi, Wang and Johnson 2002).
 use Rattle.std.specs.Prelude.{◌≡◌, ℕ, ◌+◌, ◌==◌, ◌&&◌, List, [], ◌∷◌, ◌++◌, length, take, map, Option, Some, None, if◌then◌else◌}
 use Rattle.std.specs.List.{filter_map, fold}
 use Rattle.fbl_base.specs.declared.trace.Note.{Note}

@@ -1,4 +1,8 @@
-//! Laws of the definitions, each the contract of a function that does nothing.
+//! Laws of the definitions, each the contract of a function that does nothing, so that the check of the crate proves
+//! it.
+//!
+//! They are of causal precedence (Lamport 1978), of what a member depends on (Alvisi and Marzullo 1998), and of the
+//! traces of runs in which nobody crashes.
 
 ghost use Rattle.fbl_base.specs.Laws.{ReceiptLaw, DependsLaw, PlacesLaw, DependsOnPlacesLaw, DeliveryLaw};
 
