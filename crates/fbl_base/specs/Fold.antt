@@ -39,11 +39,14 @@ begun member starts = record { state = 0; received = 0; log = numbered 0 (starts
 abbrev pub Next : Type 0
 Next = ℕ → ℕ → ℕ → Note → Outcome
 
+-- a member after a step: the new state, one receipt more, and the step's sends with the next numbers at the log's end
+abbrev pub stepped : Progress → Outcome → Progress
+stepped p outcome =
+    record { state = outcome.state; received = p.received + 1; log = p.log ++ numbered (length p.log) outcome.sends.items }
+
 -- a member after one more receipt
 abbrev pub advanced : Next → ℕ → ℕ → Progress → Note → Progress
-advanced next member n p note =
-    let outcome = next member n p.state note in
-    record { state = outcome.state; received = p.received + 1; log = p.log ++ numbered (length p.log) outcome.sends.items }
+advanced next member n p note = stepped p (next member n p.state note)
 
 -- a member after its starts and then the notes in order
 abbrev pub after_notes : Next → ℕ → ℕ → List Start → List Note → Progress
