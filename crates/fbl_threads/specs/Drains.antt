@@ -1,5 +1,5 @@
 -- When a drain is refused, and what it leaves.
-use Rattle.std.specs.Prelude.{◌≡◌, ℕ, ◌<◌, ◌≤◌, List}
+use Rattle.std.specs.Prelude.{◌≡◌, ℕ, ◌≤◌, List}
 use Rattle.std.specs.FinSet as set
 use Rattle.fbl_law.specs.Groups.{GroupRecord}
 use Rattle.fbl_threads.specs.Plans.{IsPlan, IsFirstBad}

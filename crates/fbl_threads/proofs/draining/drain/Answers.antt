@@ -1,6 +1,5 @@
-use Rattle.std.proofs.Common.{◌≡◌, ℕ, rules, subst}
+use Rattle.std.proofs.Common.{rules, subst}
 use Rattle.fbl_base.specs.Configs.{Settings}
-use Rattle.fbl_law.specs.Groups.{GroupRecord}
 use Rattle.fbl_threads.specs.Plans.{IsPlan, IsFirstBad}
 use Rattle.fbl_threads.specs.Drains.{IsAccepted}
 use Rattle.fbl_threads.proofs.Refusals.{late, accepted}
