@@ -2,10 +2,11 @@
 use Rattle.std.proofs.Common.{ℕ, ◌≡◌, ◌<◌, ◌⊎◌, inl, inr, List, take, arith}
 use Rattle.fbl_base.specs.declared.trace.Mark.{Mark}
 use Rattle.fbl_base.specs.Events.{At}
-use Rattle.fbl_base.specs.Precedence.{Precedes, itself, step}
+use Rattle.fbl_base.specs.Precedence.{Precedes, Depends, itself, step}
 use Rattle.fbl_base.specs.Rules.{WellFormed}
 use Rattle.fbl_base.specs.Places as places
 use Rattle.fbl_base.proofs.Gets.{slice_get-take}
+use Rattle.fbl_base.proofs.PrecedenceLaws.{Has-last}
 use Rattle.fbl_base.proofs.RulesLaws.{MayFollow-new, WellFormed-take}
 
 -- no event stands twice
@@ -35,3 +36,11 @@ places-from_events n t obeys i a at_a j b at_b (step {b = c} {c = d} p l) =
     let first = places-from_events n t obeys i a at_a l.0.0 c l.0.3 p in
     let e = one_place n t obeys b l.0.1 j l.0.4 at_b in
     (rw e at (places.step first (c, b, l.0.2, l.0.3, l.0.4, l.1)))
+
+pub depends-from_places : (t : List Mark) (member i : ℕ) (a : Mark) → At t i a → places.Depends t member i → Depends t member a
+depends-from_places t member i a at_a d = (d.1, events-from_places t i d.0 a d.1 at_a d.3 d.2, d.4)
+
+pub places-from_depends : (n : ℕ) (t : List Mark) → WellFormed n t → (member i : ℕ) (a : Mark) → At t i a → Depends t member a → places.Depends t member i
+places-from_depends n t obeys member i a at_a d =
+    let stands = Has-last d.1 in
+    (stands.0, d.0, places-from_events n t obeys i a at_a stands.0 d.0 stands.1 d.1, stands.1, d.2)

@@ -1,4 +1,5 @@
--- The events of a trace.
+-- The events of a trace. A determinant names a receipt, by the message's source and send sequence number and by the
+-- destination and its receive sequence number (Alvisi and Marzullo 1998).
 use Rattle.std.specs.Prelude.{ℕ, Bool, ◌==◌, ◌&&◌, Option, Some, None, List, slice_get, ◌≡◌}
 use Rattle.fbl_base.specs.declared.trace.Event.{Event}
 use Rattle.fbl_base.specs.declared.trace.Event.TheVariants as event

@@ -1,4 +1,5 @@
--- What a member does with the messages that it receives, and lawful traces.
+-- What a member does with the messages that it receives, and lawful traces. That a member's state is a function of the
+-- messages that it received, in their order, is piecewise determinism (Elnozahy, Alvisi, Wang and Johnson 2002).
 use Rattle.std.specs.Prelude.{◌≡◌, ℕ, ◌+◌, ◌==◌, ◌&&◌, List, [], ◌∷◌, ◌++◌, length, take, map, Option, Some, None, if◌then◌else◌}
 use Rattle.std.specs.List.{filter_map, fold}
 use Rattle.fbl_base.specs.declared.trace.Note.{Note}
@@ -38,11 +39,14 @@ begun member starts = record { state = 0; received = 0; log = numbered 0 (starts
 abbrev pub Next : Type 0
 Next = ℕ → ℕ → ℕ → Note → Outcome
 
+-- a member after a step: the new state, one receipt more, and the step's sends with the next numbers at the log's end
+abbrev pub stepped : Progress → Outcome → Progress
+stepped p outcome =
+    record { state = outcome.state; received = p.received + 1; log = p.log ++ numbered (length p.log) outcome.sends.items }
+
 -- a member after one more receipt
 abbrev pub advanced : Next → ℕ → ℕ → Progress → Note → Progress
-advanced next member n p note =
-    let outcome = next member n p.state note in
-    record { state = outcome.state; received = p.received + 1; log = p.log ++ numbered (length p.log) outcome.sends.items }
+advanced next member n p note = stepped p (next member n p.state note)
 
 -- a member after its starts and then the notes in order
 abbrev pub after_notes : Next → ℕ → ℕ → List Start → List Note → Progress

@@ -34,6 +34,13 @@ PlacesLaw =
     → (i j : ℕ) (a b : Mark) → At t i a → At t j b
     → Precedes t a b ↔ places.Precedes t i j
 
+-- a member depends on an event exactly where it depends on the event's place
+abbrev pub DependsOnPlacesLaw : Type 0
+DependsOnPlacesLaw =
+    (n : ℕ) (t : List Mark) → WellFormed n t
+    → (member i : ℕ) (a : Mark) → At t i a
+    → Depends t member a ↔ places.Depends t member i
+
 -- a delivery keeps a trace lawful
 abbrev pub DeliveryLaw : Type 0
 DeliveryLaw =

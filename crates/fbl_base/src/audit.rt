@@ -1,3 +1,10 @@
+//! The audit of a recorded trace: whether it obeys the rules, which receipts nobody left holds (the lost ones), and
+//! which members left depend on one (the orphans).
+//!
+//! The answers are exact for every dump that obeys the rules, whether or not a group made it. Lost receipts and orphans
+//! are those of Alvisi and Marzullo (1998): a receipt is recorded while a member outside the strike set holds its
+//! determinant.
+
 ghost use Rattle.std.specs.Prelude.{◌≡◌, ◌<◌, ◌≤◌, ◌↔◌, ℕ, true, Decides, ◌&&◌, nat_lt, IfOk, IfErr, MatchOption, replicate, length, IsTrue};
 ghost use Rattle.std.specs.FinSet as set;
 ghost use Rattle.fbl_base.specs.Audit.{HeldAt, IsDump, IsFirstBreach, IsLost, IsOrphan, RefusesDump, is_recorded, lost_determinants};
@@ -149,6 +156,7 @@ fn recorded_determinants<A: Allocator + Copy>(
 
 /// The determinants of the receipts that no member outside the strike set holds, in the order of the
 /// events. The time taken is linear in the events and the held pairs, on every dump, whether or not a group made it.
+/// `Err` comes only where there is no memory for an index of the held determinants or for the answer.
 pub fn lost<A: Allocator + Copy>(
     alloc: A,
     dump: &Dump<A>,
@@ -184,6 +192,7 @@ fn is_lost<A: Allocator>(recorded: &DeterminantSet<A>, event: Mark) -> bool
 
 /// The members outside the strike set that depend on a receipt whose determinant no such member
 /// holds. The time taken is linear in the events and the held pairs, on every dump, whether or not a group made it.
+/// `Err` comes only where there is no memory for an index of the held determinants.
 pub fn orphans<A: Allocator + Copy>(alloc: A, dump: &Dump<A>) -> Result<MemberSet, AllocError>
     ensures { IfOk result (λ s. (q : ℕ) → (set.contains s q ≡ true) ↔ IsOrphan dump.now q) }
 {
@@ -260,8 +269,9 @@ fn first_bad_pair<A: Allocator + Copy>(
     Ok(None)
 }
 
-/// The dump, if it obeys the rules. A refused one is dropped. The time taken is linear in the events and the held
-/// pairs.
+/// The dump, if it obeys the rules. A refused one is dropped. Where several refusals hold, the first in the order of
+/// `DumpRefusal` is answered, but for `Memory`: the indexes that the check builds may want it before any other is
+/// found. The time taken is linear in the events and the held pairs.
 pub fn check_dump<A: Allocator + Copy>(alloc: A, raw: RawDump<A>) -> Result<Dump<A>, DumpRefusal>
     ensures accepted { IfOk result (λ d. d ≡ parts_of raw) }
     ensures rules { IfOk result IsDump }

@@ -28,7 +28,7 @@ pub enum ConfigRefusal {
     /// The trace may have fewer events than there are starts.
     #[error("LimitBelowStarts")]
     LimitBelowStarts,
-    /// There is no memory for a copy of the starts.
+    /// There is no memory for a copy of the starts. It is answered only where no other refusal holds.
     #[error("Memory")]
     Memory,
 }
@@ -54,7 +54,8 @@ impl<A: Allocator> Model for Config<A> {
 }
 
 impl<A: Allocator + Copy> Config<A> {
-    /// A configuration of these parameters, with a copy of the starts in the allocator's memory.
+    /// A configuration of these parameters, with a copy of the starts in the allocator's memory. Where several refusals
+    /// hold, the first in the order of `ConfigRefusal` is answered.
     pub fn new(
         alloc: A,
         members: u8,
@@ -136,7 +137,8 @@ impl<A: Allocator + Copy> Config<A> {
         self.starts.as_slice() == other.starts.as_slice()
     }
 
-    /// An equal configuration, in the same allocator's memory.
+    /// An equal configuration, in the same allocator's memory. `Err` comes only where there is no memory for the
+    /// starts.
     pub fn copy(&self) -> Result<Config<A>, AllocError>
         ensures { IfOk result (λ c. c ≡ self.now) }
     {

@@ -1,6 +1,10 @@
-//! Laws of the definitions, each the contract of a function that does nothing.
+//! Laws of the definitions, each the contract of a function that does nothing, so that the check of the crate proves
+//! it.
+//!
+//! They are of causal precedence (Lamport 1978), of what a member depends on (Alvisi and Marzullo 1998), and of the
+//! traces of runs in which nobody crashes.
 
-ghost use Rattle.fbl_base.specs.Laws.{ReceiptLaw, DependsLaw, PlacesLaw, DeliveryLaw};
+ghost use Rattle.fbl_base.specs.Laws.{ReceiptLaw, DependsLaw, PlacesLaw, DependsOnPlacesLaw, DeliveryLaw};
 
 /// What precedes an added receipt: the receipt itself, what its member depended on, and what precedes its send.
 pub fn receipt_law()
@@ -13,9 +17,11 @@ pub fn depends_law()
     ensures { DependsLaw }
 {}
 
-/// On a well-formed trace precedence between events is precedence between the places at which they stand.
+/// On a well-formed trace precedence between events is precedence between the places at which they stand, and a member
+/// depends on an event where it depends on the event's place.
 pub fn places_law()
-    ensures { PlacesLaw }
+    ensures precedes { PlacesLaw }
+    ensures depends { DependsOnPlacesLaw }
 {}
 
 /// A lawful trace with one more receipt, of the first message in flight on its channel, and with the sends that the

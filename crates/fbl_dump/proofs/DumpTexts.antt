@@ -1,5 +1,5 @@
 -- The text of a dump: it has no float, and its brackets nest to a depth of three.
-use Rattle.std.proofs.Common.{◌≡◌, ℕ, ◌≤◌, List, [], ◌∷◌, map, length, false, refl, ap, sym, subst, ◌∙◌, arith, cond, nat_lt, Some, Ok, Err}
+use Rattle.std.proofs.Common.{◌≡◌, ℕ, ◌≤◌, List, [], ◌∷◌, ◌++◌, map, length, false, refl, ap, sym, subst, ◌∙◌, arith, cond, nat_lt, Some, Ok, Err}
 use Rattle.std.proofs.lemmas.Bool.{le-ltb}
 use Rattle.std.specs.Str.{IsUtf8}
 use Rattle.serde_json.specs.Data.{Data, depth, items_depth}
@@ -15,7 +15,7 @@ use Rattle.fbl_script.specs.declared.fault.RunFault.TheVariants as faults
 use Rattle.fbl_script.specs.Shapes.{json_of, longest, or_fault, ◌>>=◌}
 use Rattle.fbl_dump.specs.Dumps.{parts_of_data, parts_of_input}
 use Rattle.fbl_dump.specs.DumpLines.{ReadsBack, dump_data, event_data, number_data, pair_data}
-use Rattle.fbl_script.proofs.Lists.{json_read}
+use Rattle.fbl_dump.proofs.Newlines.{read_newline}
 
 events_float : (es : List Mark) → items_have_float (items_of (map event_data es)) ≡ false
 events_float [] = refl
@@ -62,6 +62,6 @@ short_read bytes d short e =
 
 pub text_reads_back : (d : Data) (dump : Parts) (text : List ℕ) → d ≡ dump_data dump → IsUtf8 text → text ≡ compact_text (dump_data dump) → (depth d ≤ max_depth → read text ≡ Some d) → parts_of_data (dump_data dump) ≡ Ok dump → ReadsBack dump
 text_reads_back d dump text e valid is reads parts short =
-    let P : List ℕ → Type 0 = λ t. json_of t ≡ Some (dump_data dump) in
+    let P : List ℕ → Type 0 = λ t. json_of (t ++ 10 ∷ []) ≡ Some (dump_data dump) in
     let flat : depth d ≤ max_depth = subst (λ (x : Data). depth x ≤ max_depth) (sym e) (dump_depth dump) in
-    short_read _ (dump_data dump) short (subst P is (json_read text _ valid (reads flat ∙ ap Some e))) ∙ parts
+    short_read _ (dump_data dump) short (subst P is (read_newline text _ valid (reads flat ∙ ap Some e))) ∙ parts

@@ -1,4 +1,5 @@
 pub mod Faults
+pub mod Newlines
 pub mod DumpValues
 pub mod DumpTexts
 pub mod Audits

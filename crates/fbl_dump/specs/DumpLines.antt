@@ -44,6 +44,6 @@ dump_data dump = dump_object dump.members dump.f (list_data (map event_data dump
 abbrev pub dump_line : Parts → List ℕ
 dump_line dump = compact_text (dump_data dump) ++ 10 ∷ []
 
--- the line without its end, where it is no longer than an input may be, is read as the same dump
+-- the line, where it is no longer than an input may be, is read as the same dump
 abbrev pub ReadsBack : Parts → Type 0
-ReadsBack dump = length (compact_text (dump_data dump)) ≤ longest → parts_of_input (compact_text (dump_data dump)) ≡ Ok dump
+ReadsBack dump = length (dump_line dump) ≤ longest → parts_of_input (dump_line dump) ≡ Ok dump

@@ -1,7 +1,7 @@
 //! The audit of a dump that a reader has.
 
 ghost use Rattle.std.specs.Prelude.{◌≡◌, ◌≤◌, ℕ, length, IfOk, IfErr, OnErr, IfSome, string_bytes};
-ghost use Rattle.fbl_dump.specs.Auditing.{Audits, AuditsDump, IsAuditText};
+ghost use Rattle.fbl_dump.specs.Auditing.{Audits, AuditsDump, IsAuditText, ReadsAndAudits};
 
 use crate::reading::dump_of_bytes;
 use fbl_base::audit::{Dump, lost, orphans};
@@ -27,8 +27,10 @@ fn audit_dump<W: Write>(alloc: Global, writer: &mut W, dump: &Dump) -> Result<()
     put(writer, text.as_bytes())
 }
 
-/// Audits the dump that the bytes spell.
-fn audit_input<W: Write>(alloc: Global, writer: &mut W, input: &[u8]) -> Result<(), RunFault>
+/// Audits the dump that the bytes spell, and writes how many receipts are lost, the determinant of each, and the orphans.
+/// It is `Ok` whatever the audit finds. Nothing is written where the fault is another than `Write`, and after `Write` a
+/// front of the text. `Read` is no answer.
+pub fn audit_bytes<W: Write>(alloc: Global, input: &[u8], writer: &mut W) -> Result<(), RunFault>
     ensures { Audits input.now (W.contents writer.old) (W.contents writer.new) result }
 {
     match dump_of_bytes(alloc, input) {
@@ -37,18 +39,16 @@ fn audit_input<W: Write>(alloc: Global, writer: &mut W, input: &[u8]) -> Result<
     }
 }
 
-/// Audits the dump that the reader has, and writes how many receipts are lost, the determinant of each, and the orphans.
-/// It is `Ok` whatever the audit finds. Nothing is written where the fault is another than `Write`, and after `Write` a
-/// front of the text.
+/// Audits the dump that the reader has, as `audit_bytes` does. Where a read fails nothing is written.
 pub fn audit<R: Read, W: Write>(
     alloc: Global,
     reader: &mut R,
     writer: &mut W,
 ) -> Result<(), RunFault>
-    ensures { IfSome (R.remaining reader.old) (λ input. Audits input (W.contents writer.old) (W.contents writer.new) result) }
+    ensures { IfSome (R.remaining reader.old) (λ input. ReadsAndAudits input (W.contents writer.old) (W.contents writer.new) result) }
 {
     match read_input(alloc, reader) {
-        Ok(input) => audit_input(alloc, writer, input.as_slice()),
+        Ok(input) => audit_bytes(alloc, input.as_slice(), writer),
         Err(fault) => Err(fault),
     }
 }

@@ -143,7 +143,7 @@ fn dump_value(alloc: Global, dump: &Dump) -> Result<Value, AllocError>
     object_value(alloc, dump.members(), dump.f(), events, held, strike)
 }
 
-/// The dump as JSON with no space.
+/// The dump as JSON with no space. A newline may stand behind it where it is read.
 fn json_text(alloc: Global, dump: &Dump) -> Result<String, AllocError>
     ensures text { IfOk result (λ text. string_bytes text ≡ compact_text (dump_data dump.now)) }
     ensures reads_back { IfOk result (λ text. ReadsBack dump.now) }

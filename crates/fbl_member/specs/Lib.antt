@@ -2,3 +2,4 @@ pub mod Members
 pub mod Kept
 pub mod Rooms
 pub mod Carried
+pub mod Laws

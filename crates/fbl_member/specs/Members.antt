@@ -1,14 +1,14 @@
 -- A member's volatile record: what it keeps in memory, and what a receipt does to it. State as a fold of receipts, the
 -- sender's log and replay are those of message logging with piecewise determinism (Elnozahy, Alvisi, Wang and Johnson
 -- 2002); that determinants ride on application messages is family-based logging (Alvisi, Hoppe and Marzullo 1993).
-use Rattle.std.specs.Prelude.{ℕ, ◌+◌, ◌==◌, ◌&&◌, nat_lt, List, [], ◌∷◌, ◌++◌, length, map, Option, slice_index, slice_set, replicate}
+use Rattle.std.specs.Prelude.{ℕ, ◌+◌, ◌==◌, ◌&&◌, nat_lt, List, [], ◌∷◌, map, Option, slice_index, slice_set, replicate}
 use Rattle.std.specs.List.{filter, find}
 use Rattle.std.specs.Option.{option_map}
 use Rattle.fbl_base.specs.declared.trace.Determinant.{Determinant}
 use Rattle.fbl_base.specs.declared.trace.Note.{Note}
 use Rattle.fbl_base.specs.declared.trace.Start.{Start}
 use Rattle.fbl_base.specs.declared.outcome.Outcome.{Outcome}
-use Rattle.fbl_base.specs.Fold.{Logged, Progress, Next, numbered, starts_of}
+use Rattle.fbl_base.specs.Fold.{Logged, Progress, Next, begun, stepped}
 use Rattle.fbl_table.specs.declared.entry.Entry.{Entry}
 use Rattle.fbl_table.specs.Tables.{learned, noted}
 
@@ -33,29 +33,25 @@ pub record MemberRecord : Type 0 where
 abbrev pub progress_of : MemberRecord → Progress
 progress_of m = record { state = m.state; received = m.received; log = m.log }
 
+-- the record of a member that has come this far, with these last numbers and this table
+abbrev pub record_of : Progress → List ℕ → List Entry → MemberRecord
+record_of p last table = record { state = p.state; received = p.received; last = last; log = p.log; table = table }
+
 -- the number of the last message received from a member, 0 if there was none
 abbrev pub last_from : MemberRecord → ℕ → ℕ
 last_from m from = slice_index m.last from
 
 -- a member that has received nothing and sent its starts
 abbrev pub fresh : ℕ → List Start → MemberRecord
-fresh me starts = record { state = 0; received = 0; last = replicate 16 0; log = numbered 0 (starts_of me starts); table = [] }
+fresh me starts = record_of (begun me starts) (replicate 16 0) []
 
 -- a member that has received nothing and sent nothing
 abbrev pub blank : MemberRecord
 blank = record { state = 0; received = 0; last = replicate 16 0; log = []; table = [] }
 
--- one receipt of the fold: the new state, one receipt more, the message's number as the sender's last, and the step's
--- sends with the next numbers at the end of the log
+-- a member after one more step of the fold: the message's number is its sender's last one, and the table stays
 abbrev pub advanced_by : MemberRecord → ℕ → ℕ → Outcome → MemberRecord
-advanced_by m from ssn outcome =
-    record {
-      state = outcome.state;
-      received = m.received + 1;
-      last = slice_set m.last from ssn;
-      log = m.log ++ numbered (length m.log) outcome.sends.items;
-      table = m.table;
-    }
+advanced_by m from ssn outcome = record_of (stepped (progress_of m) outcome) (slice_set m.last from ssn) m.table
 
 -- the determinant of the member's next receipt, if it is of this message
 abbrev pub next_determinant : ℕ → MemberRecord → ℕ → ℕ → Determinant

@@ -15,6 +15,8 @@ use std::marker::Model;
 
 /// What a member keeps in memory: its state, how many receipts it has had, the number of the last message from each
 /// member, its sends in order, and its table.
+///
+/// Where a call that takes memory answers `Err`, there was too little of it, and what the call was lent is as it was.
 #[derive(Drop)]
 pub struct MemberRec<A: Allocator = Global> {
     state: u64,
@@ -44,7 +46,8 @@ impl<A: Allocator> Model for MemberRec<A> {
 }
 
 impl<A: Allocator + Copy> MemberRec<A> {
-    /// A member that has received nothing and sent its starts.
+    /// A member that has received nothing and sent its starts, in their order, with the numbers 1, 2, and so on. `Err`
+    /// comes only where there is no memory for the log.
     pub fn fresh(alloc: A, config: &Config<A>, me: Member) -> Result<MemberRec<A>, AllocError>
         ensures { IfOk result (λ m. m ≡ fresh me config.now.starts) }
     {
@@ -60,7 +63,9 @@ impl<A: Allocator + Copy> MemberRec<A> {
         Ok(member)
     }
 
-    /// A member that has received nothing and sent nothing.
+    /// A member that has received nothing and sent nothing. `f` is how many members of its group may be lost at once:
+    /// the member's table finds fast what at most that many are known to hold. It changes no answer. No memory is
+    /// taken.
     pub fn blank(alloc: A, f: u8) -> MemberRec<A>
         ensures { result ≡ blank }
     {
@@ -73,7 +78,7 @@ impl<A: Allocator + Copy> MemberRec<A> {
         }
     }
 
-    /// An equal record.
+    /// An equal record: state, counts, log and table. `Err` comes for want of memory, and the record is unchanged then.
     pub fn copy(&self) -> Result<MemberRec<A>, AllocError>
         ensures { IfOk result (λ m. m ≡ self.now) }
     {
@@ -88,7 +93,13 @@ impl<A: Allocator + Copy> MemberRec<A> {
         })
     }
 
-    /// Takes the message in, and answers those that the step sends.
+    /// Takes the message in, and answers those that the step sends, in their order. `n` is the group's size, and `f`
+    /// how many of its members may be lost at once.
+    ///
+    /// First the table learns what the message carried, then it notes the receipt's own determinant. Then the member
+    /// takes the new state, and each send gets the next number and goes to the log. What is answered carries the
+    /// entries that at most `f` members are known to hold by the table as it then is. All memory is taken before the
+    /// first change, so that after `Err` the member is unchanged.
     pub fn receive<B: Behaviour>(
         &mut self,
         me: Member,
@@ -134,7 +145,8 @@ impl<A: Allocator + Copy> MemberRec<A> {
         Ok(wires)
     }
 
-    /// Takes the message of a receipt in again, by the receipt's determinant and the message's content.
+    /// Takes the message of a receipt in again, by the receipt's determinant and the message's content: the step's
+    /// sends go to the log, and nothing is sent. The table stays as it is. After `Err` the member is unchanged.
     pub fn replay_one<B: Behaviour>(
         &mut self,
         me: Member,
@@ -174,7 +186,7 @@ impl<A: Allocator + Copy> MemberRec<A> {
         &self.table
     }
 
-    /// The content of the message sent under this number, if there is one.
+    /// The content of the message sent under this number, if there is one. Numbers count from 1.
     pub fn log_note(&self, ssn: u32) -> Option<Note>
         ensures { result ≡ logged_note self.now.log ssn }
     {
@@ -190,7 +202,8 @@ impl<A: Allocator + Copy> MemberRec<A> {
         }
     }
 
-    /// The messages to a member with numbers beyond this one, in order, each with its number.
+    /// The messages to a member with numbers beyond this one, in order, each with its number. `Err` comes only where
+    /// there is no memory for the list.
     pub fn unsent_beyond(&self, to: Member, ssn: u32) -> Result<Vec<(u32, Note), A>, AllocError>
         ensures { IfOk result (λ v. v.items ≡ logged_beyond self.now.log to ssn) }
     {
@@ -205,7 +218,7 @@ impl<A: Allocator + Copy> MemberRec<A> {
         Ok(beyond)
     }
 
-    /// The state.
+    /// The state, 0 at first.
     pub fn state(&self) -> u64
         ensures { result ≡ self.now.state }
     {

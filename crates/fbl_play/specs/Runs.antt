@@ -1,5 +1,5 @@
 -- The runs of a script's commands, with the text that they print.
-use Rattle.std.specs.Prelude.{◌≡◌, ℕ, ◌⊎◌, List, [], ◌∷◌, ◌++◌, take, Option, Some, None, Result, Ok, Err, codes}
+use Rattle.std.specs.Prelude.{◌≡◌, ℕ, ◌<◌, ◌⊎◌, List, [], ◌∷◌, ◌++◌, length, take, Option, Some, None, Result, Ok, Err, codes}
 use Rattle.std.specs.Io.KnownBytes.{Keeps, Appends}
 use Rattle.std.specs.FinSet as set
 use Rattle.fbl_base.specs.Configs.{Settings}
@@ -10,6 +10,7 @@ use Rattle.fbl_law.specs.Dumps.{dump_of}
 use Rattle.fbl_law.specs.Groups.{GroupRecord}
 use Rattle.fbl_law.specs.GroupSteps.{IsGroupStart}
 use Rattle.fbl_law.specs.Record.{Members}
+use Rattle.fbl_law.specs.Sound.{IsSound}
 use Rattle.fbl_group.specs.declared.answers.Receipted.{Receipted}
 use Rattle.fbl_group.specs.declared.answers.Recovered.{Recovered}
 use Rattle.fbl_group.specs.declared.answers.Struck.{Struck}
@@ -27,6 +28,7 @@ use Rattle.fbl_script.specs.declared.script.BehaviourName.{BehaviourName}
 use Rattle.fbl_script.specs.declared.script.BehaviourName.TheVariants.{Relay, Mix}
 use Rattle.fbl_script.specs.declared.script.Command.{Command}
 use Rattle.fbl_script.specs.declared.script.Command.TheVariants as commands
+use Rattle.fbl_script.specs.Faults.{FailsToRead}
 use Rattle.fbl_script.specs.Scripts.{Outline, IsScriptOf, IsScriptFault}
 use Rattle.fbl_play.specs.Texts.{deliver_name, strike_name, shown_states, shown_statuses, AreTotals}
 use Rattle.fbl_play.specs.RunSteps.{RunStep}
@@ -93,16 +95,17 @@ Step next workers old (commands.Run plan) new text = RunStep next workers plan o
 
 -- ---- the commands of a script
 
--- the commands may lead from old to new, one after another, and print the text
+-- the commands may lead from old to new, one after another, and print the text; each record that a command leaves is sound
 abbrev pub Run : Next → ℕ → GroupRecord → List Command → GroupRecord → List ℕ → Type 0
 Run next workers old [] new text = (new ≡ old) × (text ≡ [])
 Run next workers old (c ∷ cs) new text =
-    (mid : GroupRecord) × (first : List ℕ) × (rest : List ℕ) × Step next workers old c mid first × Run next workers mid cs new rest × (text ≡ first ++ rest)
+    (mid : GroupRecord) × (first : List ℕ) × (rest : List ℕ) × Step next workers old c mid first × IsSound next mid × Run next workers mid cs new rest × (text ≡ first ++ rest)
 
--- some run of the commands, from a new group of this config, prints the text
+-- some run of the commands, from a new group of this config, prints the text; each record of the run is sound, so that
+-- each state that is printed is the fold of the member's receipts in the trace
 abbrev pub IsTextOf : Next → ℕ → Settings → List Command → List ℕ → Type 0
 IsTextOf next workers config commands text =
-    (start : GroupRecord) × (end : GroupRecord) × IsGroupStart config start × Run next workers start commands end text
+    (start : GroupRecord) × (end : GroupRecord) × IsGroupStart config start × IsSound next start × Run next workers start commands end text
 
 -- ---- what a play of the commands leaves in the writer
 
@@ -110,16 +113,18 @@ IsTextOf next workers config commands text =
 abbrev pub IsTextUpTo : Next → ℕ → Settings → List Command → ℕ → List ℕ → Type 0
 IsTextUpTo next workers config commands done text = IsTextOf next workers config (take done commands) text
 
+-- what a play of the commands leaves in the writer
 abbrev pub PlaysOn : Next → ℕ → Settings → List Command → Option (List ℕ) → Option (List ℕ) → Result (Unit {0}) RunFault → Type 0
 -- the text of a run of all commands
 PlaysOn next workers config commands before after (Ok _) =
     (text : List ℕ) × IsTextOf next workers config commands text × Appends before after text
--- nothing where no group could be made, else the text of a run of the commands before the one that met it
+-- nothing where no group could be made, else the text of a run of the commands before the one that met it: there is one
 PlaysOn next workers config commands before after (Err faults.Memory) =
-    Keeps before after ⊎ ((done : ℕ) × (text : List ℕ) × IsTextUpTo next workers config commands done text × Appends before after text)
--- a front of the text of a run
+    Keeps before after
+    ⊎ ((done : ℕ) × (text : List ℕ) × (done < length commands) × IsTextUpTo next workers config commands done text × Appends before after text)
+-- a front of the text of a run, without its end
 PlaysOn next workers config commands before after (Err faults.Write) =
-    (done : ℕ) × (text : List ℕ) × (part : ℕ) × IsTextUpTo next workers config commands done text × Appends before after (take part text)
+    (done : ℕ) × (text : List ℕ) × (part : ℕ) × IsTextUpTo next workers config commands done text × (part < length text) × Appends before after (take part text)
 PlaysOn next workers config commands before after (Err e) = ⊥
 
 -- ---- what a play of an input leaves in the writer
@@ -134,12 +139,15 @@ abbrev pub PlaysScript : ℕ → List ℕ → Option (List ℕ) → Option (List
 PlaysScript workers input before after result =
     (s : Outline) × IsScriptOf input s × PlaysOn (next_of s.behaviour) workers s.config s.commands before after result
 
+-- what a play of the bytes leaves in the writer
 abbrev pub Plays : ℕ → List ℕ → Option (List ℕ) → Option (List ℕ) → Result (Unit {0}) RunFault → Type 0
 Plays workers input before after (Ok x) = PlaysScript workers input before after (Ok x)
 Plays workers input before after (Err faults.Write) = PlaysScript workers input before after (Err faults.Write)
 -- memory may be wanting while the input is read, and then nothing is written
 Plays workers input before after (Err faults.Memory) = Keeps before after ⊎ PlaysScript workers input before after (Err faults.Memory)
--- so may a read fail
-Plays workers input before after (Err faults.Read) = Keeps before after
--- any other fault is the input's first as a script
+-- any other fault is the input's first as a script; so a failed read is none
 Plays workers input before after (Err e) = IsScriptFault input e × Keeps before after
+
+-- what a play of what a reader has leaves in the writer: a read may fail, and else it is a play of the bytes
+abbrev pub ReadsAndPlays : ℕ → List ℕ → Option (List ℕ) → Option (List ℕ) → Result (Unit {0}) RunFault → Type 0
+ReadsAndPlays workers input before after result = FailsToRead before after result ⊎ Plays workers input before after result

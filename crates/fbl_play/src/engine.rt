@@ -2,7 +2,7 @@
 
 ghost use Rattle.std.specs.Prelude.{◌≡◌, ◌≤◌, ℕ, length, IfOk, OnErr, IfSome, string_bytes};
 ghost use Rattle.fbl_script.specs.Scripts.{outline};
-ghost use Rattle.fbl_play.specs.Runs.{PlaysOn, Plays, next_of};
+ghost use Rattle.fbl_play.specs.Runs.{PlaysOn, Plays, ReadsAndPlays, next_of};
 
 use crate::commands::run_command;
 use fbl_base::{Behaviour, Config, Mix, Relay};
@@ -27,9 +27,12 @@ fn play_with<B: Behaviour + Send + Sync, T: Threads + Wait + Sync, W: Write>(
     ensures { PlaysOn B.next workers config commands.now (W.contents writer.old) (W.contents writer.new) result }
 {
     let mut group: Group<B> = Group::new(alloc, config)?;
+    // a group's trace tells that the group is sound
+    let _trace = group.trace();
     for command in commands {
         let (after, text) = run_command(rt, alloc, workers, group, command);
         group = after;
+        let _trace = group.trace();
         let text = text?;
         put(writer, text.as_bytes())?;
     }
@@ -62,13 +65,18 @@ fn play_script<T: Threads + Wait + Sync, W: Write>(
     }
 }
 
-/// Plays the script that the bytes spell.
-fn play_input<T: Threads + Wait + Sync, W: Write>(
+/// Plays the script that the bytes spell, and writes each command's lines when it ends, before the next one begins.
+///
+/// The script is read whole and checked before anything is run: nothing is written where the fault is one of the script.
+/// A refused command prints its refusal, and the play goes on; want of memory ends it, and the command that met it prints
+/// nothing. After `Write` a front of the text is written. `Read` is no answer. A `run` is made by `workers` workers, 1 to
+/// 8.
+pub fn play_bytes<T: Threads + Wait + Sync, W: Write>(
     rt: &T,
     alloc: Global,
+    input: &[u8],
     writer: &mut W,
     workers: u8,
-    input: &[u8],
 ) -> Result<(), RunFault>
     requires some { 1 ≤ workers }
     requires few { workers ≤ 8 }
@@ -80,11 +88,7 @@ fn play_input<T: Threads + Wait + Sync, W: Write>(
     }
 }
 
-/// Plays the script that the reader has, and writes each command's lines when it ends, before the next one begins.
-///
-/// The script is read whole and checked before anything is run: nothing is written where the fault is `Read` or one of
-/// the script. A refused command prints its refusal, and the play goes on; want of memory ends it, and the command that
-/// met it prints nothing. After `Write` a front of the text is written. A `run` is made by `workers` workers, 1 to 8.
+/// Plays the script that the reader has, as `play_bytes` does. Where a read fails nothing is written.
 pub fn play<T: Threads + Wait + Sync, R: Read, W: Write>(
     rt: &T,
     alloc: Global,
@@ -94,10 +98,10 @@ pub fn play<T: Threads + Wait + Sync, R: Read, W: Write>(
 ) -> Result<(), RunFault>
     requires some { 1 ≤ workers }
     requires few { workers ≤ 8 }
-    ensures { IfSome (R.remaining reader.old) (λ input. Plays workers input (W.contents writer.old) (W.contents writer.new) result) }
+    ensures { IfSome (R.remaining reader.old) (λ input. ReadsAndPlays workers input (W.contents writer.old) (W.contents writer.new) result) }
 {
     match read_input(alloc, reader) {
-        Ok(input) => play_input(rt, alloc, writer, workers, input.as_slice()),
+        Ok(input) => play_bytes(rt, alloc, input.as_slice(), writer, workers),
         Err(fault) => Err(fault),
     }
 }

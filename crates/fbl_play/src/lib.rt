@@ -6,4 +6,4 @@ mod engine;
 mod names;
 mod runs;
 
-pub use engine::play;
+pub use engine::{play, play_bytes};

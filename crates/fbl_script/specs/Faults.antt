@@ -1,4 +1,6 @@
--- Refusals as faults.
+-- Refusals as faults, and what a failed read leaves.
+use Rattle.std.specs.Prelude.{◌≡◌, ℕ, List, Option, Result, Err}
+use Rattle.std.specs.Io.KnownBytes.{Keeps}
 use Rattle.fbl_base.specs.declared.config.ConfigRefusal.{ConfigRefusal}
 use Rattle.fbl_base.specs.declared.config.ConfigRefusal.TheVariants as config
 use Rattle.fbl_base.specs.declared.refusal.DumpRefusal.{DumpRefusal}
@@ -15,3 +17,7 @@ config_fault e = faults.Config e
 abbrev pub dump_fault : DumpRefusal → RunFault
 dump_fault dump.Memory = faults.Memory
 dump_fault e = faults.Dump e
+
+-- a read failed, and nothing was written
+abbrev pub FailsToRead : Option (List ℕ) → Option (List ℕ) → Result (Unit {0}) RunFault → Type 0
+FailsToRead before after result = (result ≡ Err faults.Read) × Keeps before after

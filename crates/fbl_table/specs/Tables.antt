@@ -1,4 +1,7 @@
--- What a table is after each call: a list of entries, no two with the same determinant.
+-- What a table is after each call: a list of entries, no two with the same determinant. The members known to hold a
+-- determinant are an estimate from below of those that do, its Log (Alvisi and Marzullo 1998). That determinants are passed
+-- on with messages until more than f members are known to hold them is called family-based logging (Alvisi, Hoppe and
+-- Marzullo 1993).
 use Rattle.std.specs.Prelude.{ℕ, Bool, ◌&&◌, ◌==◌, nat_le, if◌then◌else◌, List, [], ◌∷◌, ◌++◌, map, max, Option}
 use Rattle.std.specs.List.{filter, fold, find, list_any, IsDistinct}
 use Rattle.std.specs.Option.{option_map}

@@ -15,9 +15,10 @@ use std::marker::Model;
 /// What a table keeps: each determinant with the members that are known to hold it.
 type Entries<A> = IndexMap<Determinant, MemberSet, BuildHasherDefault<FoldHasher>, A>;
 
-/// Determinants in the order in which they came, each with the members that are known to hold it.
+/// Determinants in the order in which they came, no two the same, each with the members that are known to hold it.
 ///
-/// It keeps the places of the entries that at most `limit` members are known to hold.
+/// It keeps the places of the entries that at most `limit` members are known to hold. Where a call that takes memory
+/// answers `Err`, there was too little of it, and the table is as it was.
 #[derive(Drop)]
 pub struct Table<A: Allocator = Global> {
     entries: Entries<A>,
@@ -47,14 +48,16 @@ impl<A: Allocator> Model for Table<A> {
 }
 
 impl<A: Allocator + Copy> Table<A> {
-    /// No entries.
+    /// No entries, for a group of any size. The limit is 15: a group has at most 16 members, so at most 15 of them may
+    /// be lost at once, and passing on is fast for each such number. It takes no memory.
     pub fn new(alloc: A) -> Table<A>
         ensures { result ≡ [] }
     {
         Table::for_limit(alloc, 15)
     }
 
-    /// No entries. What at most `limit` members are known to hold is found fast.
+    /// No entries. What at most `limit` members are known to hold is found fast: give the number of members that may be
+    /// lost at once. It changes no answer, and takes no memory.
     pub fn for_limit(alloc: A, limit: u8) -> Table<A>
         ensures { result ≡ [] }
     {
@@ -81,7 +84,7 @@ impl<A: Allocator + Copy> Table<A> {
         self.entries.contains_key(det)
     }
 
-    /// The entry at this place.
+    /// The entry at this place. Places count from 0.
     pub fn entry_at(&self, place: usize) -> Entry
         requires { place < length self.now }
         ensures { slice_get self.now place ≡ Some result }
@@ -121,7 +124,8 @@ impl<A: Allocator + Copy> Table<A> {
         None
     }
 
-    /// Takes in what a message carried to the member.
+    /// Takes in what a message carried to the member: of each entry what is known is united with what the table knows,
+    /// the member added, and new determinants go last, in the order given. After `Err` the table is unchanged.
     pub fn learn(&mut self, me: Member, carried: &[Entry]) -> Result<(), AllocError>
         ensures learned { OnOk result (self.new ≡ learned me self.old carried.now) }
         ensures unchanged { OnErr result (self.new ≡ self.old) }
@@ -133,7 +137,8 @@ impl<A: Allocator + Copy> Table<A> {
         Ok(())
     }
 
-    /// Adds the member's own new determinant.
+    /// Adds the member's own new determinant, last, known to be held by the member alone. After `Err` the table is
+    /// unchanged.
     pub fn note_own(&mut self, me: Member, det: Determinant) -> Result<(), AllocError>
         requires { is_held self.old det ≡ false }
         ensures noted { OnOk result (self.new ≡ noted me self.old det) }
@@ -145,7 +150,8 @@ impl<A: Allocator + Copy> Table<A> {
         Ok(())
     }
 
-    /// Takes in what a message carried to the member, and then the determinant of the message's receipt.
+    /// Takes in what a message carried to the member, and then the determinant of the message's receipt, as `learn` and
+    /// `note_own` do in turn. After `Err` neither is done.
     pub fn learn_and_note(
         &mut self,
         me: Member,
@@ -165,7 +171,8 @@ impl<A: Allocator + Copy> Table<A> {
         Ok(())
     }
 
-    /// The entries that at most `f` members are known to hold.
+    /// The entries that at most `f` members are known to hold, in the table's order. `Err` comes only where there is no
+    /// memory for the list.
     pub fn piggyback(&self, f: u8) -> Result<Vec<Entry, A>, AllocError>
         ensures { IfOk result (λ v. v.items ≡ piggybacked f self.now) }
     {
@@ -194,7 +201,8 @@ impl<A: Allocator + Copy> Table<A> {
         self.at_most_unstable(f) + carried.len() + 1
     }
 
-    /// Takes in another table's entries.
+    /// Takes in another table's entries: of each what is known is united, and new determinants go last, in the other's
+    /// order. After `Err` the table is unchanged.
     pub fn gather(&mut self, other: &Table<A>) -> Result<(), AllocError>
         ensures gathered { OnOk result (self.new ≡ gathered self.old other.now) }
         ensures unchanged { OnErr result (self.new ≡ self.old) }
@@ -220,7 +228,7 @@ impl<A: Allocator + Copy> Table<A> {
         prune(&self.entries, &mut self.open_places, self.limit);
     }
 
-    /// An equal table.
+    /// An equal table, in the same allocator's memory. `Err` comes only where there is no memory for it.
     pub fn copy(&self) -> Result<Table<A>, AllocError>
         ensures { IfOk result (λ t. t ≡ self.now) }
     {
@@ -246,6 +254,7 @@ impl<A: Allocator + Copy> Table<A> {
         }
     }
 
+    /// Does what `piggyback_into` does, over all entries.
     fn piggyback_all(&self, f: u8, carried: &mut Vec<Entry, A>)
         requires { vec_len carried.old + length (piggybacked f self.now) ≤ vec_capacity carried.old }
         ensures { carried.new.items ≡ carried.old.items ++ piggybacked f self.now }
@@ -358,6 +367,7 @@ fn prune<A: Allocator>(entries: &Entries<A>, open_places: &mut Vec<usize, A>, li
     open_places.retain(|place| is_open(entries, *place, limit));
 }
 
+/// Whether at most `limit` members are known to hold the determinant at the place.
 fn is_open<A: Allocator>(entries: &Entries<A>, place: usize, limit: u8) -> bool
     ensures { result ≡ unstable_at limit (map entry_of entries.now.entries) place }
 {
@@ -367,6 +377,7 @@ fn is_open<A: Allocator>(entries: &Entries<A>, place: usize, limit: u8) -> bool
     }
 }
 
+/// The entry at the place, if there is one.
 fn get_entry<A: Allocator>(entries: &Entries<A>, place: usize) -> Option<Entry>
     ensures { result ≡ slice_get (map entry_of entries.now.entries) place }
 {

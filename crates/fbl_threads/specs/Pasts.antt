@@ -29,12 +29,10 @@ pub record HasSamePast (old new : GroupRecord) : Type 0 where
   pub receipts_ever : new.receipts_ever ≡ old.receipts_ever
   pub undone_ever : new.undone_ever ≡ old.undone_ever
 
--- the copy is of the group's config, trace and counters
+-- the copy is of the group's config and trace
 pub record IsPast (past : Past) (r : GroupRecord) : Type 0 where
   pub config : r.config ≡ past.config
   pub trace : r.trace ≡ past.trace.items
-  pub receipts_ever : r.receipts_ever ≡ past.receipts_ever
-  pub undone_ever : r.undone_ever ≡ past.undone_ever
 
 -- the group goes on from the past: its config is the same, and the old events of each member that no set of the plan has
 -- are the first of its events

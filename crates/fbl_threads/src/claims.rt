@@ -1,21 +1,24 @@
 //! The right to take and to commit for a member, which one pass at a time has: a word for each member says whether the
 //! member is claimed.
 
-ghost use Rattle.std.specs.Prelude.{◌≡◌, ◌==◌, ℕ, ◌<◌, ◌≤◌, [], None, Some, if◌then◌else◌, IfOk, IfErr};
-ghost use Rattle.fbl_threads.specs.Claims.{IsExclusive, HasOneHolder};
+ghost use Rattle.std.specs.Prelude.{◌≡◌, ◌≢◌, ℕ, ◌<◌, ◌≤◌, [], None, Some, IfOk, IfErr};
+ghost use Rattle.fbl_threads.specs.Claims.{IsExclusive, Gains, GivesBack, Looks, HasOneHolder, WordsFollowViews};
 ghost use Rattle.atomic_table.specs.Seated.{TableId};
 
 use atomic_table::{Join, Play, Seat, Split, Table, TableRule};
 use fbl_base::Member;
 use std::alloc::{AllocError, Allocator, Global};
 use std::marker::Model;
+use std::mem;
 use thiserror::Error;
 
 /// What a pass knows: the member that it claims. No value of it is made.
 type View = Option<Member>;
 
-/// The rule of the words and the views: each member is free, or one view holds it.
-struct Exclusive;
+/// The rule of the words and the views, which holds between any two atomic steps: each member is free, its word 0 and no
+/// view with it, or claimed, its word 1 and exactly one view with it. A table under the rule has no other kinds of step
+/// than those below.
+pub struct Exclusive;
 
 impl TableRule<(), View, u8> for Exclusive {
     ghost holds = { IsExclusive };
@@ -23,22 +26,24 @@ impl TableRule<(), View, u8> for Exclusive {
     ghost first = { λ _. None };
 }
 
-/// A pass gains the member where its word was 0.
-struct Gain;
+/// The step of `Claims::try_claim`: one compare-exchange of the member's word from 0 to 1. The pass gains the member where
+/// the word was 0, and else nothing changes.
+pub struct Gain;
 
 impl Play<(), View> for Gain {
-    ghost then = { λ step _ found after. after ≡ ((if found == 0 then Some step.word else None), []) };
+    ghost then = { Gains };
 }
 
-/// A pass gives its member back.
-struct GiveBack;
+/// The step of `Claims::release`: one store of 0 to the word of the pass's member, which the pass gives back.
+pub struct GiveBack;
 
 impl Play<(), View> for GiveBack {
-    ghost then = { λ _ _ _ after. after ≡ (None, []) };
+    ghost then = { GivesBack };
 }
 
-/// A new pass claims nothing, and one that is joined to another is left with nothing.
-struct Nothing;
+/// The steps of `Claims::split` and `Claims::join`, which leave the words alone: a new pass claims nothing, and one that is
+/// joined to another is left with nothing.
+pub struct Nothing;
 
 impl Split<View> for Nothing {
     ghost left = { λ v. v };
@@ -48,6 +53,22 @@ impl Split<View> for Nothing {
 
 impl Join<View> for Nothing {
     ghost both = { λ v _. v };
+
+    ghost spent = { None };
+}
+
+/// A load, which changes nothing.
+struct Look;
+
+impl Play<(), View> for Look {
+    ghost then = { Looks };
+}
+
+/// What two passes with one member would be joined to: a pass with a member that no group has.
+struct NoPass;
+
+impl Join<View> for NoPass {
+    ghost both = { λ _ _. Some 16 };
 
     ghost spent = { None };
 }
@@ -76,7 +97,7 @@ impl<A: Allocator> Model for Claims<A> {
 
     ghost view = { λ c. c.table.shared.table_id };
 
-    ghost invariant = { λ c. (c.table.shared.key ≡ c.table.shared.table_id.words) × (2 ≤ c.table.shared.table_id.words) };
+    ghost invariant = { λ c. (c.table.shared.key ≡ c.table.shared.table_id.words) × (2 ≤ c.table.shared.table_id.words) × (c.table.shared.table_id.words ≤ 16) };
 }
 
 /// A seat whose view holds no member, of the claims that contracts see.
@@ -172,9 +193,41 @@ impl<A: Allocator> Claims<A> {
         self.table.shared.store::<GiveBack>(&mut seat, place, 0);
         Pass { seat }
     }
+
+    /// Two claims of the same `Claims` are of two members. The claims stay as they are, and no step is made: were they of
+    /// one member, a join of their passes and a look at a word would find what the rule excludes.
+    pub fn are_apart(&self, one: &mut Claim, other: &mut Claim)
+        requires { (one.old.0 ≡ self.now) × (other.old.0 ≡ self.now) }
+        ensures apart { one.old.1 ≢ other.old.1 }
+        ensures same { (one.new ≡ one.old) × (other.new ≡ other.old) }
+    {
+        if one.member == other.member {
+            let spare = self.table.shared.split_seat::<Nothing>(&mut one.seat);
+            let seat = mem::replace(&mut other.seat, spare);
+            self.table.shared.join_seat::<NoPass>(&mut one.seat, seat);
+            self.table.shared.load::<Look>(&mut one.seat, 0);
+            unreachable!()
+        }
+    }
+}
+
+impl Claim {
+    /// The member that is claimed.
+    pub fn member(&self) -> Member
+        ensures { result ≡ self.now.1 }
+    {
+        self.member
+    }
 }
 
 /// The law that while the rule holds, no member is claimed by two passes.
 pub fn one_holder()
     ensures { HasOneHolder }
+{}
+
+/// The law that under the rule the words are what the views say: a step by which a pass gains a member turns the member's
+/// word, which was 0, to 1 and no other word, one by which it gives the member back turns it from 1 to 0, and any step that
+/// leaves the views or makes a pass without a member leaves the words.
+pub fn words_follow_views()
+    ensures { WordsFollowViews }
 {}

@@ -1,12 +1,8 @@
 //! A group that workers drain.
 
-ghost use Rattle.std.specs.Prelude.{◌≡◌, ◌+◌, ◌≤◌, length, sum, IfOk, IfErr};
-ghost use Rattle.fbl_law.specs.Groups.{GroupRecord};
-ghost use Rattle.fbl_law.specs.Sound.{IsSound};
-ghost use Rattle.fbl_group.specs.Readers.{is_quiet};
-ghost use Rattle.fbl_threads.specs.Pasts.{KeepsPast, IsPast};
-ghost use Rattle.fbl_threads.specs.Drains.{Leaves, IsAccepted, IsRefused, IsLate};
-ghost use Rattle.arrayvec.specs.ArrayVec.{array_vec_len};
+ghost use Rattle.std.specs.Prelude.{◌≡◌, ◌+◌, ◌≤◌};
+ghost use Rattle.fbl_threads.specs.Pasts.{IsPast};
+ghost use Rattle.fbl_threads.specs.Drains.{Drains, IsAccepted, IsJudged};
 
 use crate::claims::{ClaimRefusal, Claims, Pass};
 use crate::gate::Gate;
@@ -33,7 +29,7 @@ pub struct Drained {
     pub by_worker: ArrayVec<u64, 8>,
     /// How many receipts were undone by the recoveries that each worker ran.
     pub undone_by_worker: ArrayVec<u64, 8>,
-    /// How many workers were started.
+    /// How many workers were started. One for which no thread can be had takes no turn.
     pub started: u8,
     /// Whether nothing is in flight and nobody is down in the group that comes back.
     pub quiet: bool,
@@ -65,8 +61,8 @@ pub enum DrainRefusal {
     #[error("NoThread")]
     NoThread,
     /// The group that comes back does not go on from the one given: the configuration differs, or the old events of a
-    /// member that the plan does not name are not the first of its new ones, or no worker was started and the trace or
-    /// a counter differs. It is a test of the workers' work, which no run is known to fail.
+    /// member that the plan does not name are not the first of its new ones, or no worker was started and the trace
+    /// differs. It is a test of the workers' work, which no run is known to fail.
     #[error("Uneven")]
     Uneven,
     /// There is no memory for the claims, or for a copy of the group's past. No worker was started.
@@ -92,18 +88,7 @@ pub fn drain<B: Behaviour + Send + Sync, G: Gate + Sync, R: Threads + Wait + Syn
     turns: u32,
     gate: &G,
 ) -> (Group<B>, Result<Drained, DrainRefusal>)
-    ensures accepted { IfOk result.1 (λ _. IsAccepted workers plan.now group) }
-    ensures cause { IfErr result.1 (IsRefused workers plan.now group) }
-    ensures receipts { IfOk result.1 (λ d. result.0.receipts_ever ≡ group.receipts_ever + sum d.by_worker.items) }
-    ensures undone { IfOk result.1 (λ d. result.0.undone_ever ≡ group.undone_ever + sum d.undone_by_worker.items) }
-    ensures empty { IfOk result.1 (λ d. length plan.now ≡ 0 → sum d.undone_by_worker.items ≡ 0) }
-    ensures config { IfOk result.1 (λ _. result.0.config ≡ group.config) }
-    ensures past { IfOk result.1 (λ _. KeepsPast plan.now group result.0) }
-    ensures places { IfOk result.1 (λ d. (array_vec_len d.by_worker ≡ workers) × (array_vec_len d.undone_by_worker ≡ workers)) }
-    ensures started { IfOk result.1 (λ d. (1 ≤ d.started) × (d.started ≤ workers)) }
-    ensures sound { IsSound B.next result.0 }
-    ensures quiet { IfOk result.1 (λ d. d.quiet ≡ is_quiet result.0) }
-    ensures refused { IfErr result.1 (λ refusal. Leaves refusal group result.0) }
+    ensures { Drains B.next workers plan.now group result.0 result.1 }
 {
     let _trace = group.trace();
     if workers < 1 || workers > 8 {
@@ -170,18 +155,8 @@ fn run<
     requires receipts { (receipts.name ≡ C.name) × (receipts.parts ≡ C.parts) × (C.parts ≡ task.now.workers + 1) }
     requires undone { (undone.name ≡ U.name) × (undone.parts ≡ U.parts) × (U.parts ≡ task.now.workers + 1) }
     requires claims { (claims.1 ≡ claims.0) × (claims.0.words ≡ group.config.members) }
-    requires workers { task.now.workers ≤ 8 }
-    ensures receipts { IfOk result.1 (λ d. result.0.receipts_ever ≡ group.receipts_ever + sum d.by_worker.items) }
-    ensures undone { IfOk result.1 (λ d. result.0.undone_ever ≡ group.undone_ever + sum d.undone_by_worker.items) }
-    ensures empty { IfOk result.1 (λ d. length task.now.plan.now ≡ 0 → sum d.undone_by_worker.items ≡ 0) }
-    ensures config { IfOk result.1 (λ _. result.0.config ≡ group.config) }
-    ensures past { IfOk result.1 (λ _. KeepsPast task.now.plan.now group result.0) }
-    ensures places { IfOk result.1 (λ d. (array_vec_len d.by_worker ≡ task.now.workers) × (array_vec_len d.undone_by_worker ≡ task.now.workers)) }
-    ensures started { IfOk result.1 (λ d. (1 ≤ d.started) × (d.started ≤ task.now.workers)) }
-    ensures sound { IsSound B.next result.0 }
-    ensures quiet { IfOk result.1 (λ d. d.quiet ≡ is_quiet result.0) }
-    ensures refused { IfErr result.1 (λ refusal. Leaves refusal group result.0) }
-    ensures late { IfErr result.1 IsLate }
+    requires accepted { IsAccepted task.now.workers task.now.plan.now group }
+    ensures { Drains B.next task.now.workers task.now.plan.now group result.0 result.1 }
 {
     let (claims, pass) = claims;
     let members = group.config().members();
@@ -222,19 +197,14 @@ fn run<
     (group, outcome)
 }
 
-/// What is answered of a group that comes back.
+/// What is answered of a group that comes back, and of what the workers did.
 fn judge<B: Behaviour>(
     past: &Past,
     group: &Group<B>,
     plan: &[Strike],
     drained: Drained,
 ) -> Result<Drained, DrainRefusal>
-    ensures drained { IfOk result (λ d. d ≡ drained) }
-    ensures started { IfOk result (λ d. 1 ≤ d.started) }
-    ensures config { IfOk result (λ _. group.now.config ≡ past.now.config) }
-    ensures past { IfOk result (λ _. (old : GroupRecord) → IsPast past.now old → KeepsPast plan.now old group.now) }
-    ensures late { IfErr result IsLate }
-    ensures refused { IfErr result (λ refusal. (old : GroupRecord) → IsPast past.now old → Leaves refusal old group.now) }
+    ensures { IsJudged past.now plan.now group.now drained result }
 {
     if drained.started == 0 {
         return Err(if past.is_same(group) {

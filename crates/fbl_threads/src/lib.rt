@@ -10,7 +10,10 @@ mod plan;
 mod scope;
 mod worker;
 
-pub use claims::{Claim, ClaimRefusal, Claims, Pass};
+pub use claims::{
+    Claim, ClaimRefusal, Claims, Exclusive, Gain, GiveBack, Nothing, Pass, one_holder,
+    words_follow_views,
+};
 pub use draining::{DrainRefusal, Drained, drain};
 use fbl_group::Group;
 pub use gate::{Gate, NoGate};

@@ -10,13 +10,11 @@ use fbl_base::{Behaviour, Config, Event, Member};
 use fbl_group::Group;
 use std::alloc::{AllocError, Global};
 
-/// A copy of a group's configuration, trace and counters.
+/// A copy of a group's configuration and trace.
 #[derive(Drop)]
 pub(crate) struct Past {
     config: Config,
     trace: Vec<Event>,
-    receipts_ever: u64,
-    undone_ever: u64,
 }
 
 impl Past {
@@ -27,19 +25,14 @@ impl Past {
         Ok(Past {
             config: group.config().copy()?,
             trace: group.trace().to_vec(alloc)?,
-            receipts_ever: group.receipts_ever(),
-            undone_ever: group.undone_ever(),
         })
     }
 
-    /// Whether the configuration, the trace and the counters are the same.
+    /// Whether the configuration and the trace are the same.
     pub(crate) fn is_same<B: Behaviour>(&self, group: &Group<B>) -> bool
         ensures { IsTrue result ↔ IsPast self.now group.now }
     {
-        self.config.same(group.config())
-            && is_equal(&self.trace, group.trace())
-            && self.receipts_ever == group.receipts_ever()
-            && self.undone_ever == group.undone_ever()
+        self.config.same(group.config()) && is_equal(&self.trace, group.trace())
     }
 
     /// Whether the configuration is the same, and the old events of each member that no set of the plan has are the first

@@ -1,6 +1,6 @@
 //! Workers in threads of their own, and what they did.
 
-ghost use Rattle.std.specs.Prelude.{◌≡◌, ◌+◌, ◌<◌, ◌≤◌, ◌==◌, [], ◌∷◌, ◌++◌, true, length, sum, IfOk, IfErr};
+ghost use Rattle.std.specs.Prelude.{◌≡◌, ◌+◌, ◌<◌, ◌≤◌, ◌==◌, [], ◌∷◌, ◌++◌, true, false, if◌then◌else◌, length, sum, IfOk, IfErr};
 ghost use Rattle.arrayvec.specs.ArrayVec.{array_vec_len};
 
 use crate::claims::{Claims, Pass};
@@ -29,7 +29,8 @@ pub(crate) struct Gathered<C: Ledger, U: Ledger> {
     pub(crate) memory: bool,
 }
 
-/// What a worker promises: its pass is still one of these claims, and it undoes nothing under an empty plan.
+/// What a worker promises: its pass is still one of these claims, it undoes nothing under an empty plan, and it does nothing
+/// where it is held back.
 #[derive(Drop)]
 struct EndsFairly {
     plan_is_empty: bool,
@@ -37,7 +38,7 @@ struct EndsFairly {
 }
 
 impl<C: Ledger, U: Ledger> Promise<Report<C, U>> for EndsFairly {
-    ghost kept_by = { λ p r. (r.pass ≡ p.claims.value) × (p.plan_is_empty ≡ true → r.tally.undone ≡ 0) };
+    ghost kept_by = { λ p r. (r.pass ≡ p.claims.value) × (p.plan_is_empty ≡ true → r.tally.undone ≡ 0) × (r.started ≡ false → (r.tally.receipts ≡ 0) × (r.tally.undone ≡ 0)) };
 }
 
 /// Runs this many workers, and waits until they have ended.
@@ -63,6 +64,7 @@ pub(crate) fn run_all<
     ensures undone { result.undone.amount ≡ undone.amount + sum result.undone_by_worker.items }
     ensures places { (array_vec_len result.by_worker ≡ workers) × (array_vec_len result.undone_by_worker ≡ workers) }
     ensures started { result.started ≤ workers }
+    ensures idle { result.started ≡ 0 → (sum result.by_worker.items ≡ 0) × (sum result.undone_by_worker.items ≡ 0) }
     ensures empty { length work.now.plan.now ≡ 0 → sum result.undone_by_worker.items ≡ 0 }
 {
     thread::scope(
@@ -75,6 +77,7 @@ pub(crate) fn run_all<
             ensures undone { result.undone.amount ≡ undone.amount + sum result.undone_by_worker.items }
             ensures places { (array_vec_len result.by_worker ≡ workers) × (array_vec_len result.undone_by_worker ≡ workers) }
             ensures started { result.started ≤ workers }
+            ensures idle { result.started ≡ 0 → (sum result.by_worker.items ≡ 0) × (sum result.undone_by_worker.items ≡ 0) }
             ensures empty { length work.entry.now.plan.now ≡ 0 → sum result.undone_by_worker.items ≡ 0 }
         { run_workers(rt, scope, work, workers, pass, receipts, undone) },
     )
@@ -107,6 +110,7 @@ fn run_workers<
     ensures undone { result.undone.amount ≡ undone.amount + sum result.undone_by_worker.items }
     ensures places { (array_vec_len result.by_worker ≡ workers) × (array_vec_len result.undone_by_worker ≡ workers) }
     ensures started { result.started ≤ workers }
+    ensures idle { result.started ≡ 0 → (sum result.by_worker.items ≡ 0) × (sum result.undone_by_worker.items ≡ 0) }
     ensures empty { length work.entry.now.plan.now ≡ 0 → sum result.undone_by_worker.items ≡ 0 }
 {
     if workers == 0 {
@@ -119,8 +123,7 @@ fn run_workers<
     let tally = Tally::new(receipts.split_off(1, 0), undone.split_off(1, 0));
     match start(rt, scope, work, worker, other, tally) {
         Ok(handle) => {
-            let mut gathered = run_workers(rt, scope, work, worker, pass, receipts, undone);
-            gathered.started += 1;
+            let gathered = run_workers(rt, scope, work, worker, pass, receipts, undone);
             gathered.with(work.claims, handle.join(rt))
         }
         Err(report) => {
@@ -148,10 +151,11 @@ fn start<
     tally: Tally<C, U>,
 ) -> Result<PromisedHandle<Report<C, U>, EndsFairly>, Report<C, U>>
     requires pass { pass ≡ work.now.claims.now }
-    requires zero { tally.undone ≡ 0 }
+    requires zero { (tally.receipts ≡ 0) × (tally.undone ≡ 0) }
     ensures ok { IfOk result (λ h. (h.promise.claims.value ≡ work.entry.now.claims.now) × (h.promise.plan_is_empty ≡ (length work.entry.now.plan.now == 0))) }
     ensures pass { IfErr result (λ r. r.pass ≡ work.entry.now.claims.now) }
     ensures undone { IfErr result (λ r. length work.entry.now.plan.now ≡ 0 → r.tally.undone ≡ 0) }
+    ensures idle { IfErr result (λ r. r.started ≡ false → (r.tally.receipts ≡ 0) × (r.tally.undone ≡ 0)) }
 {
     let promise = EndsFairly {
         plan_is_empty: work.plan.is_empty(),
@@ -193,13 +197,14 @@ impl<C: Ledger, U: Ledger> Gathered<C, U> {
     fn with(self, claims: &Claims, report: Report<C, U>) -> Gathered<C, U>
         requires pass { (self.pass ≡ claims.now) × (report.pass ≡ claims.now) }
         requires room { (array_vec_len self.by_worker < 8) × (array_vec_len self.undone_by_worker < 8) }
+        requires few { self.started ≤ 8 }
         ensures pass { result.pass ≡ claims.now }
         ensures parts { (result.receipts.parts ≡ self.receipts.parts + 1) × (result.undone.parts ≡ self.undone.parts + 1) }
         ensures receipts { result.receipts.amount ≡ self.receipts.amount + report.tally.receipts }
         ensures undone { result.undone.amount ≡ self.undone.amount + report.tally.undone }
         ensures by_worker { result.by_worker.items ≡ self.by_worker.items ++ report.tally.receipts ∷ [] }
         ensures undone_by_worker { result.undone_by_worker.items ≡ self.undone_by_worker.items ++ report.tally.undone ∷ [] }
-        ensures started { result.started ≡ self.started }
+        ensures started { result.started ≡ self.started + (if report.started then 1 else 0) }
     {
         let Gathered {
             pass,
@@ -227,7 +232,7 @@ impl<C: Ledger, U: Ledger> Gathered<C, U> {
             undone,
             by_worker,
             undone_by_worker,
-            started,
+            started: started + u8::from(report.started),
             full: full || report.full,
             memory: memory || report.memory,
         }

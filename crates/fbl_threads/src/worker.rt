@@ -1,6 +1,6 @@
 //! A worker's turns.
 
-ghost use Rattle.std.specs.Prelude.{◌≡◌, ◌+◌, ◌%◌, ◌<◌, ◌≤◌, length};
+ghost use Rattle.std.specs.Prelude.{◌≡◌, ◌+◌, ◌%◌, ◌<◌, ◌≤◌, false, length};
 
 use crate::claims::{Claims, Pass};
 use crate::gate::Gate;
@@ -43,11 +43,13 @@ pub(crate) struct Work<'a, B: Behaviour, G: Gate, C: Ledger, U: Ledger> {
 pub(crate) struct Report<C: Ledger, U: Ledger> {
     pub(crate) tally: Tally<C, U>,
     pub(crate) pass: Pass,
+    /// Whether the worker had a thread, and so was not held back.
+    pub(crate) started: bool,
     pub(crate) full: bool,
     pub(crate) memory: bool,
 }
 
-/// All turns of a worker.
+/// All turns of a worker, of which one that is held back takes none.
 pub(crate) fn take_turns<B: Behaviour, G: Gate, C: Ledger, U: Ledger, R: Wait>(
     rt: &R,
     work: &Work<B, G, C, U>,
@@ -58,14 +60,22 @@ pub(crate) fn take_turns<B: Behaviour, G: Gate, C: Ledger, U: Ledger, R: Wait>(
     requires pass { pass ≡ work.now.claims.now }
     ensures pass { result.pass ≡ work.now.claims.now }
     ensures undone { length work.now.plan.now ≡ 0 → result.tally.undone ≡ tally.undone }
+    ensures held_back { result.started ≡ false → result.tally ≡ tally }
 {
+    if work.held_back.load(Ordering::SeqCst) == u64::from(worker) + 1 {
+        return Report {
+            tally,
+            pass,
+            started: false,
+            full: false,
+            memory: false,
+        };
+    }
     let mut pass = pass;
     let mut tally = tally;
     let mut full = false;
     let mut memory = false;
-    let is_held_back = work.held_back.load(Ordering::SeqCst) == u64::from(worker) + 1;
-    let turns = if is_held_back { 0 } else { work.turns };
-    for number in 0..turns {
+    for number in 0..work.turns {
         let member = member_at(worker, number, work.members);
         let (back, end) = take_turn(rt, work, pass, member, &mut tally);
         pass = back;
@@ -78,6 +88,7 @@ pub(crate) fn take_turns<B: Behaviour, G: Gate, C: Ledger, U: Ledger, R: Wait>(
     Report {
         tally,
         pass,
+        started: true,
         full,
         memory,
     }

@@ -1,7 +1,8 @@
 //! Plays the script, or audits the dump, that standard input has.
 #![tactic(auto)]
 
-ghost use Rattle.std.specs.Prelude.{◌≡◌, ◌≤◌};
+ghost use Rattle.std.specs.Prelude.{◌≡◌, ◌≤◌, IfSome};
+ghost use Rattle.fblrun.specs.Orders.{Obeys};
 ghost use Rattle.fblrun.specs.Statuses.{status_after as status_after_result, status_of as status_of_fault};
 
 use clap::error::ErrorKind;
@@ -10,6 +11,7 @@ use fbl_dump::audit;
 use fbl_play::play;
 use fbl_script::RunFault;
 use std::alloc::Global;
+use std::io::{Read, Write};
 use std::process::ExitCode;
 use std::sync::Wait;
 use std::thread::Threads;
@@ -117,41 +119,33 @@ fn status_after<R: Eprint>(rt: &R, done: Result<(), RunFault>) -> u8
     }
 }
 
-/// Plays the script that standard input has, with this many workers.
-fn play_input<T: Threads + Wait + Sync>(
-    rt: &HostRuntime,
-    threads: &T,
-    workers: u8,
-) -> Result<(), RunFault>
-    requires some { 1 ≤ workers }
-    requires few { workers ≤ 8 }
+/// Obeys the order over what the reader has, and answers the exit status. It is 2, and nothing is read, where a play is
+/// asked for with another number of workers than 1 to 8, which the command line does not give.
+fn obey<T: Eprint + Threads + Wait + Sync, R: Read, W: Write>(
+    rt: &T,
+    alloc: Global,
+    order: Order,
+    reader: &mut R,
+    writer: &mut W,
+) -> u8
+    ensures { IfSome (R.remaining reader.old) (λ input. Obeys order input (W.contents writer.old) (W.contents writer.new) result) }
 {
-    let mut reader = rt.reader();
-    let mut writer = io::writer(rt);
-    play(threads, rt.alloc(), &mut reader, &mut writer, workers)
-}
-
-/// Audits the dump that standard input has.
-fn audit_input(rt: &HostRuntime) -> Result<(), RunFault> {
-    let mut reader = rt.reader();
-    let mut writer = io::writer(rt);
-    audit(rt.alloc(), &mut reader, &mut writer)
-}
-
-/// Obeys the order, and answers the exit status.
-fn obey<T: Threads + Wait + Sync>(rt: &HostRuntime, threads: &T, order: Order) -> u8 {
     match order {
         Order::Play(workers) => match workers {
-            1..=8 => status_after(rt, play_input(rt, threads, workers)),
+            1..=8 => status_after(rt, play(rt, alloc, reader, writer, workers)),
             _ => INPUT_FAULT,
         },
-        Order::Audit => status_after(rt, audit_input(rt)),
+        Order::Audit => status_after(rt, audit(alloc, reader, writer)),
     }
 }
 
 fn main(rt: HostRuntime) -> ExitCode {
     match order_in(&rt) {
-        Ok(order) => ExitCode::from(obey(&rt, &rt, order)),
+        Ok(order) => {
+            let mut reader = rt.reader();
+            let mut writer = io::writer(&rt);
+            ExitCode::from(obey(&rt, rt.alloc(), order, &mut reader, &mut writer))
+        }
         Err(status) => ExitCode::from(status),
     }
 }

@@ -1,13 +1,15 @@
 //! Command lines with the orders that they give, or with the exit statuses and what is printed.
 
-use crate::{Order, order_of, refuse, refuse_words, status_after};
+use crate::{Order, obey, order_of, refuse, refuse_words, status_after};
 use fbl_base::{ConfigRefusal, DumpRefusal};
 use fbl_script::{Key, RunFault};
 use std::alloc::{AllocError, Global};
 use std::cell::RefCell;
 use std::fmt::Display;
 use std::io;
+use std::sync::Wait;
 use std::test::Fail;
+use std::thread::Threads;
 
 /// Keeps what is printed on each output. Nothing can be printed where it is closed.
 #[derive(Drop)]
@@ -112,6 +114,67 @@ fn plays_with_the_workers_asked_for(rt: HostRuntime) -> Result<(), Fail> {
 fn audits_where_that_is_asked_for(rt: HostRuntime) -> Result<(), Fail> {
     assert!(rt; order_in_line(rt.alloc(), "audit")? == Some(Order::Audit));
     Ok(())
+}
+
+/// A script whose lines are the same with each number of workers.
+const SCRIPT: &str =
+    r#"{"version":1,"members":4,"f":2,"behaviour":"relay","start":[[0,1,5,6],[2,3,7,3],[3,0,11,0]],"commands":[["run",[[2,[1]],[5,[0,3]],[9,[2]]]],["states"]]}"#;
+
+const SCRIPT_TEXT: &str = "run quiet\nstates 23 17 17 17\n";
+
+/// A dump in which one receipt is lost.
+const DUMP: &str =
+    r#"{"events":[["send",0,1,1],["receipt",1,1,0,1],["send",1,1,2],["receipt",2,1,1,1],["send",2,1,0],["receipt",0,1,2,1]],"f":1,"held":[[0,1,1,2,1],[0,2,1,0,1],[1,0,1,1,1],[2,1,1,2,1]],"members":3,"strike":[1]}"#;
+
+const DUMP_TEXT: &str = "lost 1\ndeterminant 0 1 1 1\norphans 0,2\n";
+
+/// The exit status and what is written where the order of the command line is obeyed over the input.
+fn obeyed<T: Eprint + Threads + Wait + Sync>(
+    rt: &T,
+    alloc: Global,
+    line: &str,
+    input: &str,
+) -> Result<(u8, String), Fail> {
+    let order = order_in_line(alloc, line)?.ok_or("no order")?;
+    let mut reader = input.as_bytes();
+    let mut writer = Vec::new(alloc);
+    let status = obey(rt, alloc, order, &mut reader, &mut writer);
+    Ok((status, String::from_utf8(writer)?))
+}
+
+#[test]
+fn plays_where_a_play_is_asked_for(rt: HostRuntime) -> Result<(), Fail> {
+    for workers in 1..=8u8 {
+        let line = format!(in rt.alloc(); "play --workers {workers}")?;
+        let (status, text) = obeyed(&rt, rt.alloc(), line.as_str(), SCRIPT)?;
+        assert!(rt;
+            status == 0 && text.as_str() == SCRIPT_TEXT,
+            "{line}: {text}"
+        );
+    }
+    let (status, text) = obeyed(&rt, rt.alloc(), "play", DUMP)?;
+    assert!(rt; status == 2 && text.is_empty());
+    Ok(())
+}
+
+#[test]
+fn audits_where_an_audit_is_asked_for(rt: HostRuntime) -> Result<(), Fail> {
+    let (status, text) = obeyed(&rt, rt.alloc(), "audit", DUMP)?;
+    assert!(rt; status == 0 && text.as_str() == DUMP_TEXT, "{text}");
+    let (status, text) = obeyed(&rt, rt.alloc(), "audit", SCRIPT)?;
+    assert!(rt; status == 2 && text.is_empty());
+    Ok(())
+}
+
+#[test]
+fn plays_with_no_other_number_of_workers(rt: HostRuntime) {
+    for workers in [0, 9, 255] {
+        let mut reader = SCRIPT.as_bytes();
+        let mut writer = Vec::new(rt.alloc());
+        let order = Order::Play(workers);
+        let status = obey(&rt, rt.alloc(), order, &mut reader, &mut writer);
+        assert!(rt; status == 2 && writer.is_empty(), "at {workers}");
+    }
 }
 
 /// An exit status, and what was printed on each output.

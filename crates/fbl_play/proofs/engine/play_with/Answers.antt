@@ -6,10 +6,10 @@ use Rattle.fbl_play.proofs.RunTexts.{play_none, play_more, play_front, play_all,
 use Rattle.fbl_play.proofs.engine.play_with.Goals as goal
 
 pub loop-command-init : goal.loop-command-init
-loop-command-init g c = play_none g.B.Behaviour.next c.args.workers c.args.config c.in_ok-group.group c.args.commands.now _ c.in_ok-group.ensures
+loop-command-init g c = play_none g.B.Behaviour.next c.args.workers c.args.config c.in_ok-group.group c.args.commands.now _ c.in_ok-group.ensures c.trace-trace.ensures.sound
 
 pub returns-in_err-text : goal.returns-in_err-text
-returns-in_err-text g c = play_short g.B.Behaviour.next c.args.workers c.args.config c.loop-command.group c.args.commands.now c.loop-command.command-index _ _ c.from_residual-in_err-text.result c.from_residual-in_err-text.ensures.1 c.loop-command.invariant
+returns-in_err-text g c = play_short g.B.Behaviour.next c.args.workers c.args.config c.loop-command.group c.args.commands.now c.loop-command.command-index _ _ c.from_residual-in_err-text.result c.from_residual-in_err-text.ensures.1 c.loop-command-test.true c.loop-command.invariant
 
 pub returns-in_err-put : goal.returns-in_err-put
 returns-in_err-put g c =
@@ -21,7 +21,7 @@ returns-in_err-put g c =
     let step = IfOk-at_ok (λ text. Step g.B.Behaviour.next c.args.workers c.loop-command.group d new (string_bytes text)) c.in_ok-text.was c.run_command-after.ensures in
     let P : List ℕ → Type 0 = λ w. Appends (g.W.Write.contents c.loop-command.writer) (g.W.Write.contents c.put.new.writer) (take front.0 w) in
     play_cut g.B.Behaviour.next c.args.workers c.args.config cs _ _ c.in_err-put.field-0.0 c.from_residual-in_err-put.result c.from_residual-in_err-put.ensures.1 c.in_err-put.ensures.fault
-    (play_front g.B.Behaviour.next c.args.workers c.args.config c.loop-command.group new cs i d _ _ _ _ front.0 c.loop-command-test.true c.loop-command.invariant c.command-item.is step (subst P c.as_bytes.ensures.value front.1))
+    (play_front g.B.Behaviour.next c.args.workers c.args.config c.loop-command.group new cs i d _ _ _ _ front.0 c.loop-command-test.true c.loop-command.invariant c.command-item.is step c.trace-trace-in-loop-command.ensures.sound (rw (← c.as_bytes.ensures.value) front.1) (subst P c.as_bytes.ensures.value front.2))
 
 pub loop-command-preserved : goal.loop-command-preserved
 loop-command-preserved g c =
@@ -31,7 +31,7 @@ loop-command-preserved g c =
     let new = c.run_command-after.result.0 in
     let step = IfOk-at_ok (λ text. Step g.B.Behaviour.next c.args.workers c.loop-command.group d new (string_bytes text)) c.in_ok-text.was c.run_command-after.ensures in
     let P : List ℕ → Type 0 = λ w. Appends (g.W.Write.contents c.loop-command.writer) (g.W.Write.contents c.put.new.writer) w in
-    play_more g.B.Behaviour.next c.args.workers c.args.config c.loop-command.group new cs i d _ _ _ _ c.loop-command-test.true c.loop-command.invariant c.command-item.is step (subst P c.as_bytes.ensures.value c.in_ok-put.ensures.whole)
+    play_more g.B.Behaviour.next c.args.workers c.args.config c.loop-command.group new cs i d _ _ _ _ c.loop-command-test.true c.loop-command.invariant c.command-item.is step c.trace-trace-in-loop-command.ensures.sound (subst P c.as_bytes.ensures.value c.in_ok-put.ensures.whole)
 
 pub returns : goal.returns
 returns g c = play_all g.B.Behaviour.next c.args.workers c.args.config c.loop-command.group c.args.commands.now c.loop-command.command-index _ _ (omega (arith, c.loop-command-test.false)) c.loop-command.invariant

@@ -1,4 +1,4 @@
-use Rattle.std.proofs.Common.{◌≡◌, ◌∷◌, ◌++◌, List, [], true≢false, take, drop, ◌+◌, sym, ◌∙◌, ap, subst}
+use Rattle.std.proofs.Common.{◌∷◌, ◌++◌, List, true≢false, take, drop, ◌+◌, sym, ◌∙◌, subst}
 use Rattle.fbl_base.specs.declared.trace.Event.{Event}
 use Rattle.fbl_threads.specs.Pasts.{events_of, BeginsWith}
 use Rattle.fbl_threads.proofs.Pasts.{event_at, parts}

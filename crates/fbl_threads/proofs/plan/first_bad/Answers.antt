@@ -1,4 +1,4 @@
-use Rattle.std.proofs.Common.{rules, ◌≡◌, ◌≤◌, ⊎_elim, ℕ, ◌<◌, ◌∷◌, ◌∙◌, ◌+◌, suc, List, map, get_or, sym, below_more, ap, arith, length}
+use Rattle.std.proofs.Common.{rules, ◌≡◌, ⊎_elim, ℕ, ◌<◌, ◌∷◌, ◌∙◌, ◌+◌, suc, List, get_or, sym, below_more, ap, arith, length}
 use Rattle.std.proofs.lemmas.List.{get_or-map}
 use Rattle.std.specs.FinSet as set
 use Rattle.fbl_base.specs.Configs.{Settings}

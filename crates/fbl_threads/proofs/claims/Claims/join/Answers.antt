@@ -1,5 +1,5 @@
 use Rattle.std.proofs.Common.{rules, ap}
-use Rattle.fbl_threads.proofs.Exclusive.{joins}
+use Rattle.fbl_threads.proofs.Exclusion.{joins}
 use Rattle.fbl_threads.proofs.claims.Claims.join.Goals as goal
 
 pub join_seat-requires : goal.join_seat-requires

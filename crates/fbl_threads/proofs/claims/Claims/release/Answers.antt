@@ -1,5 +1,5 @@
-use Rattle.std.proofs.Common.{◌≡◌, rules, sym, ◌∙◌}
-use Rattle.fbl_threads.proofs.Exclusive.{gives_back}
+use Rattle.std.proofs.Common.{◌≡◌, rules}
+use Rattle.fbl_threads.proofs.Exclusion.{gives_back}
 use Rattle.fbl_threads.proofs.claims.Claims.release.Goals as goal
 
 pub store-requires : goal.store-requires

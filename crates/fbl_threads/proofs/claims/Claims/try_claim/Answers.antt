@@ -1,5 +1,5 @@
 use Rattle.std.proofs.Common.{rules}
-use Rattle.fbl_threads.proofs.Exclusive.{takes}
+use Rattle.fbl_threads.proofs.Exclusion.{takes}
 use Rattle.fbl_threads.proofs.claims.Claims.try_claim.Goals as goal
 
 pub compare_exchange-found-requires : goal.compare_exchange-found-requires

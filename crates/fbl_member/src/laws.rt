@@ -1,0 +1,11 @@
+//! A law of the definitions, as the contract of a function that does nothing.
+
+ghost use Rattle.fbl_member.specs.Laws.{FreshIsBegun, ReceivedIsAdvanced, ReplayedIsAdvanced};
+
+/// A member's record follows the fold of its receipts: what a new one has of state, count and log is the fold of no
+/// notes, and the receipt of a message, or its replay, is one step of the fold.
+pub fn fold_law()
+    ensures fresh { FreshIsBegun }
+    ensures received { ReceivedIsAdvanced }
+    ensures replayed { ReplayedIsAdvanced }
+{}

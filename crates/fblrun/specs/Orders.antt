@@ -1,0 +1,26 @@
+-- What the program leaves in its writer, and its exit status, by the order that it is given.
+use Rattle.std.specs.Prelude.{◌≡◌, ℕ, ◌≤◌, ◌⊎◌, List, Option, Result}
+use Rattle.std.specs.Io.KnownBytes.{Keeps}
+use Rattle.fbl_script.specs.declared.fault.RunFault.{RunFault}
+use Rattle.fbl_dump.specs.Auditing.{ReadsAndAudits}
+use Rattle.fbl_play.specs.Runs.{ReadsAndPlays}
+use Rattle.fblrun.specs.declared.Order.{Order}
+use Rattle.fblrun.specs.declared.Order.TheVariants.{Play, Audit}
+use Rattle.fblrun.specs.Statuses.{status_after}
+
+-- so many workers can make a run
+abbrev pub IsWorkerCount : ℕ → Type 0
+IsWorkerCount workers = (1 ≤ workers) × (workers ≤ 8)
+
+-- this holds of the answer, and the exit status is that of the answer
+abbrev pub EndsAfter : (Result (Unit {0}) RunFault → Type 0) → ℕ → Type 0
+EndsAfter Answers status = (answer : Result (Unit {0}) RunFault) × Answers answer × (status ≡ status_after answer)
+
+-- what is left in the writer, and the exit status, where the order is obeyed over an input
+abbrev pub Obeys : Order → List ℕ → Option (List ℕ) → Option (List ℕ) → ℕ → Type 0
+-- a play with so many workers; where there can't be so many, the command line has a fault, and nothing is written
+Obeys (Play workers) input before after status =
+    (IsWorkerCount workers × EndsAfter (ReadsAndPlays workers input before after) status)
+    ⊎ (¬ (IsWorkerCount workers) × (status ≡ 2) × Keeps before after)
+-- an audit
+Obeys Audit input before after status = EndsAfter (ReadsAndAudits input before after) status
