@@ -7,7 +7,7 @@ use Rattle.fbl_group.specs.Readers.{is_quiet}
 use Rattle.fbl_law.specs.Groups.{GroupRecord}
 use Rattle.fbl_law.specs.Sound.{IsSound}
 use Rattle.fbl_threads.specs.Plans.{IsPlan, IsFirstBad}
-use Rattle.fbl_threads.specs.Pasts.{HasSamePast, KeepsPast, IsPast, GoesOn}
+use Rattle.fbl_threads.specs.Pasts.{HasSamePast, KeepsPast, KeepsCheckpoints, IsPast, GoesOn}
 use Rattle.fbl_threads.specs.declared.plan.Strike.{Strike}
 use Rattle.fbl_threads.specs.declared.past.Past.{Past}
 use Rattle.fbl_threads.specs.declared.draining.Drained.{Drained}
@@ -38,8 +38,8 @@ IsRefused workers plan old NoThread = IsAccepted workers plan old
 IsRefused workers plan old Uneven = IsAccepted workers plan old
 IsRefused workers plan old Memory = IsAccepted workers plan old
 
--- what a refusal leaves: the group unchanged; where there was no thread, its config, trace and counters; and where it is
--- uneven, not all of these
+-- what a refusal leaves: the group unchanged; where there was no thread, its config, trace, counters and the numbers of
+-- receipts of its checkpoints; and where it is uneven, not all of these
 abbrev pub Leaves : DrainRefusal → GroupRecord → GroupRecord → Type 0
 Leaves BadWorkers old new = new ≡ old
 Leaves (BadPlan place) old new = new ≡ old
@@ -51,7 +51,7 @@ Leaves Uneven old new = ¬ (HasSamePast old new)
 
 -- an accepted drain leads from old to new, and answers this: the counters rise by the totals of the workers, of whom each
 -- has a place in both lists and at least one was started; nothing is undone under an empty plan; the config stays, and so
--- do the old events of each member that no set of the plan has
+-- do the old events of each member that no set of the plan has and the number of receipts of each checkpoint
 pub record IsDrain (workers : ℕ) (plan : List Strike) (old new : GroupRecord) (drained : Drained) : Type 0 where
   pub accepted : IsAccepted workers plan old
   pub receipts : new.receipts_ever ≡ old.receipts_ever + sum drained.by_worker.items
@@ -59,6 +59,7 @@ pub record IsDrain (workers : ℕ) (plan : List Strike) (old new : GroupRecord) 
   pub empty : length plan ≡ 0 → sum drained.undone_by_worker.items ≡ 0
   pub config : new.config ≡ old.config
   pub past : KeepsPast plan old new
+  pub checkpoints : KeepsCheckpoints old new
   pub places : (array_vec_len drained.by_worker ≡ workers) × (array_vec_len drained.undone_by_worker ≡ workers)
   pub started : (1 ≤ drained.started) × (drained.started ≤ workers)
   pub quiet : drained.quiet ≡ is_quiet new

@@ -1,9 +1,9 @@
 -- What a drain keeps of a group's past.
-use Rattle.std.specs.Prelude.{◌≡◌, ℕ, ◌<◌, ◌==◌, ◌++◌, false, List}
+use Rattle.std.specs.Prelude.{◌≡◌, ℕ, ◌<◌, ◌==◌, ◌++◌, false, List, slice_index}
 use Rattle.std.specs.List.{filter}
 use Rattle.fbl_base.specs.declared.trace.Event.{Event}
 use Rattle.fbl_base.specs.Events.{mark_of, member_of}
-use Rattle.fbl_law.specs.Groups.{GroupRecord}
+use Rattle.fbl_law.specs.Groups.{GroupRecord, checkpoint}
 use Rattle.fbl_threads.specs.declared.plan.Strike.{Strike}
 use Rattle.fbl_threads.specs.declared.past.Past.{Past}
 use Rattle.fbl_threads.specs.Plans.{is_named}
@@ -22,21 +22,33 @@ KeepsPast plan old new =
     (member : ℕ) → member < old.config.members → is_named plan member ≡ false
     → BeginsWith (events_of member new.trace) (events_of member old.trace)
 
--- the config, the trace and the counters are the same
+-- each member's checkpoint has as many receipts as before
+abbrev pub KeepsCheckpoints : GroupRecord → GroupRecord → Type 0
+KeepsCheckpoints old new =
+    (member : ℕ) → member < old.config.members → (checkpoint new member).received ≡ (checkpoint old member).received
+
+-- these are the numbers of receipts of the members' checkpoints
+abbrev pub AreSaved : List ℕ → GroupRecord → Type 0
+AreSaved saved r = (member : ℕ) → member < r.config.members → (checkpoint r member).received ≡ slice_index saved member
+
+-- the config, the trace, the counters and the numbers of receipts of the checkpoints are the same
 pub record HasSamePast (old new : GroupRecord) : Type 0 where
   pub config : new.config ≡ old.config
   pub trace : new.trace ≡ old.trace
   pub receipts_ever : new.receipts_ever ≡ old.receipts_ever
   pub undone_ever : new.undone_ever ≡ old.undone_ever
+  pub checkpoints : KeepsCheckpoints old new
 
--- the copy is of the group's config and trace
+-- the copy is of the group's config and trace and of the numbers of receipts of its checkpoints
 pub record IsPast (past : Past) (r : GroupRecord) : Type 0 where
   pub config : r.config ≡ past.config
   pub trace : r.trace ≡ past.trace.items
+  pub checkpoints : AreSaved past.saved r
 
--- the group goes on from the past: its config is the same, and the old events of each member that no set of the plan has
--- are the first of its events
+-- the group goes on from the past: its config is the same, its checkpoints have as many receipts, and the old events of
+-- each member that no set of the plan has are the first of its events
 abbrev pub GoesOn : List Strike → Past → GroupRecord → Type 0
 GoesOn plan past r =
     (r.config ≡ past.config)
+    × AreSaved past.saved r
     × ((member : ℕ) → member < past.config.members → is_named plan member ≡ false → BeginsWith (events_of member r.trace) (events_of member past.trace.items))

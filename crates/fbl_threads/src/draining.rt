@@ -57,12 +57,13 @@ pub enum DrainRefusal {
     /// The table of claims is refused for another cause than want of memory. The present one never is.
     #[error("NoTable")]
     NoTable,
-    /// No worker could be started. The configuration, the trace and the counters are those of the group given.
+    /// No worker could be started. The configuration, the trace, the counters and the numbers of receipts of the
+    /// checkpoints are those of the group given.
     #[error("NoThread")]
     NoThread,
-    /// The group that comes back does not go on from the one given: the configuration differs, or the old events of a
-    /// member that the plan does not name are not the first of its new ones, or no worker was started and the trace
-    /// differs. It is a test of the workers' work, which no run is known to fail.
+    /// The group that comes back does not go on from the one given: the configuration or the number of receipts of some
+    /// checkpoint differs, or the old events of a member that the plan does not name are not the first of its new ones, or
+    /// no worker was started and the trace differs. It is a test of the workers' work, which no run is known to fail.
     #[error("Uneven")]
     Uneven,
     /// There is no memory for the claims, or for a copy of the group's past. No worker was started.

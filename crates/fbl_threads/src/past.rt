@@ -2,7 +2,7 @@
 
 ghost use Rattle.std.specs.Prelude.{◌≡◌, ℕ, ◌<◌, ◌∷◌, [], ◌↔◌, IsTrue, IfOk, MatchOption, false};
 ghost use Rattle.fbl_base.specs.Events.{mark_of, member_of as member_at_mark};
-ghost use Rattle.fbl_threads.specs.Pasts.{events_of, BeginsWith, IsPast, GoesOn};
+ghost use Rattle.fbl_threads.specs.Pasts.{events_of, AreSaved, BeginsWith, IsPast, GoesOn};
 ghost use Rattle.fbl_threads.specs.Plans.{is_named as is_named_in};
 
 use crate::plan::{Strike, is_named};
@@ -10,11 +10,12 @@ use fbl_base::{Behaviour, Config, Event, Member};
 use fbl_group::Group;
 use std::alloc::{AllocError, Global};
 
-/// A copy of a group's configuration and trace.
+/// A copy of a group's configuration and trace, and how many receipts each member's checkpoint has.
 #[derive(Drop)]
 pub(crate) struct Past {
     config: Config,
     trace: Vec<Event>,
+    saved: [u32; 16],
 }
 
 impl Past {
@@ -25,22 +26,25 @@ impl Past {
         Ok(Past {
             config: group.config().copy()?,
             trace: group.trace().to_vec(alloc)?,
+            saved: saved_receipts(group),
         })
     }
 
-    /// Whether the configuration and the trace are the same.
+    /// Whether the configuration and the trace are the same, and the checkpoints have as many receipts.
     pub(crate) fn is_same<B: Behaviour>(&self, group: &Group<B>) -> bool
         ensures { IsTrue result ↔ IsPast self.now group.now }
     {
-        self.config.same(group.config()) && is_equal(&self.trace, group.trace())
+        self.config.same(group.config())
+            && is_equal(&self.trace, group.trace())
+            && are_saved(&self.saved, group)
     }
 
-    /// Whether the configuration is the same, and the old events of each member that no set of the plan has are the first
-    /// of its events.
+    /// Whether the configuration is the same, the checkpoints have as many receipts, and the old events of each member that
+    /// no set of the plan has are the first of its events.
     pub(crate) fn goes_on<B: Behaviour>(&self, group: &Group<B>, plan: &[Strike]) -> bool
         ensures { IsTrue result ↔ GoesOn plan.now self.now group.now }
     {
-        if !self.config.same(group.config()) {
+        if !self.config.same(group.config()) || !are_saved(&self.saved, group) {
             return false;
         }
         for number in 0..self.config.members() {
@@ -58,6 +62,31 @@ impl Past {
     {
         is_named(plan, member) || goes_on(member, &self.trace, group.trace())
     }
+}
+
+/// How many receipts each member's checkpoint has.
+fn saved_receipts<B: Behaviour>(group: &Group<B>) -> [u32; 16]
+    ensures { AreSaved result group.now }
+{
+    let mut saved = [0; 16];
+    for number in 0..group.config().members() {
+        let member = Member::new(number).unwrap();
+        saved[usize::from(number)] = group.checkpoint_received(member);
+    }
+    saved
+}
+
+/// Whether each member's checkpoint has as many receipts as is said here.
+fn are_saved<B: Behaviour>(saved: &[u32; 16], group: &Group<B>) -> bool
+    ensures { IsTrue result ↔ AreSaved saved.now group.now }
+{
+    for number in 0..group.config().members() {
+        let member = Member::new(number).unwrap();
+        if group.checkpoint_received(member) != saved[usize::from(number)] {
+            return false;
+        }
+    }
+    true
 }
 
 /// Whether the two traces are the same.
