@@ -1,9 +1,7 @@
 -- What a run by workers does to a group, and what it prints.
-use Rattle.std.specs.Prelude.{◌≡◌, ℕ, ◌+◌, ◌⊎◌, Bool, true, false, List, map, length, sum, codes, Result, Ok, Err}
+use Rattle.std.specs.Prelude.{◌≡◌, ℕ, Bool, true, false, List, map, codes, Result, Ok, Err}
 use Rattle.fbl_base.specs.Fold.{Next}
-use Rattle.fbl_group.specs.Readers.{is_quiet}
 use Rattle.fbl_law.specs.Groups.{GroupRecord}
-use Rattle.fbl_law.specs.Sound.{IsSound}
 use Rattle.fbl_lines.specs.declared.lines.RunEnd.{RunEnd}
 use Rattle.fbl_lines.specs.declared.lines.RunEnd.TheVariants.{Quiet, Full, Stopped}
 use Rattle.fbl_lines.specs.Lines.{run_line, refused_line, bad_plan_line}
@@ -12,8 +10,7 @@ use Rattle.fbl_threads.specs.declared.draining.Drained.{Drained}
 use Rattle.fbl_threads.specs.declared.draining.DrainRefusal.{DrainRefusal}
 use Rattle.fbl_threads.specs.declared.draining.DrainRefusal.TheVariants as drain
 use Rattle.fbl_threads.specs.declared.plan.Strike.{Strike}
-use Rattle.fbl_threads.specs.Drains.{IsAccepted, IsRefused, Leaves}
-use Rattle.fbl_threads.specs.Pasts.{KeepsPast}
+use Rattle.fbl_threads.specs.Drains.{Drains}
 
 -- a strike of a script's plan as one of a drain's
 abbrev pub strike_of : PlannedStrike → Strike
@@ -29,25 +26,9 @@ end_of true full = Quiet
 end_of false true = Full
 end_of false false = Stopped
 
--- an accepted drain may lead from old to new, and answer this: the counters rise by the totals, and each member that the
--- plan does not name goes on from its past
-pub record IsDrain (workers : ℕ) (plan : List Strike) (old new : GroupRecord) (drained : Drained) : Type 0 where
-  pub accepted : IsAccepted workers plan old
-  pub receipts : new.receipts_ever ≡ old.receipts_ever + sum drained.by_worker.items
-  pub undone : new.undone_ever ≡ old.undone_ever + sum drained.undone_by_worker.items
-  pub empty : length plan ≡ 0 → sum drained.undone_by_worker.items ≡ 0
-  pub config : new.config ≡ old.config
-  pub past : KeepsPast plan old new
-  pub quiet : drained.quiet ≡ is_quiet new
-
 -- the line of an accepted run, which met no want of memory
 abbrev pub IsDrainedText : Drained → List ℕ → Type 0
 IsDrainedText drained text = (drained.memory ≡ false) × (text ≡ run_line (end_of drained.quiet drained.full))
-
--- an accepted run, which met no want of memory, and its line
-abbrev pub AcceptedRun : ℕ → List Strike → GroupRecord → GroupRecord → List ℕ → Type 0
-AcceptedRun workers plan old new text =
-    (drained : Drained) × IsDrain workers plan old new drained × IsDrainedText drained text
 
 -- the line of a refused run; want of memory has none
 abbrev pub IsRefusedRunText : DrainRefusal → List ℕ → Type 0
@@ -64,13 +45,8 @@ abbrev pub IsRunText : Result Drained DrainRefusal → List ℕ → Type 0
 IsRunText (Ok drained) text = IsDrainedText drained text
 IsRunText (Err refusal) text = IsRefusedRunText refusal text
 
--- a refused run, and its line
-abbrev pub RefusedRun : ℕ → List Strike → GroupRecord → GroupRecord → List ℕ → Type 0
-RefusedRun workers plan old new text =
-    (refusal : DrainRefusal) × IsRefused workers plan old refusal × Leaves refusal old new × IsRefusedRunText refusal text
-
--- a run with this plan by this many workers may lead from old to new, which is sound, and print the text; which of them
--- it is and where it ends is left open
+-- a run with this plan by this many workers may lead from old to new and print the text: it follows by an answer of the
+-- workers' drain, and the text is the line of that answer; which answer it is and where it ends is left open
 abbrev pub RunStep : Next → ℕ → List PlannedStrike → GroupRecord → GroupRecord → List ℕ → Type 0
 RunStep next workers plan old new text =
-    IsSound next new × (AcceptedRun workers (plan_of plan) old new text ⊎ RefusedRun workers (plan_of plan) old new text)
+    (answer : Result Drained DrainRefusal) × Drains next workers (plan_of plan) old new answer × IsRunText answer text

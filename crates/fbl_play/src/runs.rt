@@ -1,10 +1,8 @@
 //! Runs by workers.
 
-ghost use Rattle.std.specs.Prelude.{◌≡◌, ◌≤◌, false, IfOk, IfErr, string_bytes};
-ghost use Rattle.fbl_law.specs.Sound.{IsSound};
+ghost use Rattle.std.specs.Prelude.{◌≡◌, ◌≤◌, false, IfOk, string_bytes};
 ghost use Rattle.fbl_lines.specs.Lines.{run_line};
-ghost use Rattle.fbl_play.specs.RunSteps.{RunStep, IsDrain, IsRefusedRunText, IsRunText, end_of as end_of_run, plan_of as plan_of_script};
-ghost use Rattle.fbl_threads.specs.Drains.{IsRefused, Leaves};
+ghost use Rattle.fbl_play.specs.RunSteps.{RunStep, IsRefusedRunText, IsRunText, end_of as end_of_run, plan_of as plan_of_script};
 
 use fbl_base::Behaviour;
 use fbl_group::Group;
@@ -81,21 +79,6 @@ fn answer_text(alloc: Global, answer: Result<Drained, DrainRefusal>) -> Result<S
     }
 }
 
-/// Drains the group by workers, and says what is known of the group that comes back.
-fn drain_by<B: Behaviour + Send + Sync, T: Threads + Wait + Sync>(
-    rt: &T,
-    alloc: Global,
-    workers: u8,
-    group: Group<B>,
-    plan: &[Strike],
-) -> (Group<B>, Result<Drained, DrainRefusal>)
-    ensures sound { IsSound B.next result.0 }
-    ensures drained { IfOk result.1 (IsDrain workers plan.now group result.0) }
-    ensures refused { IfErr result.1 (λ refusal. IsRefused workers plan.now group refusal × Leaves refusal group result.0) }
-{
-    drain(rt, alloc, group, plan, workers, TURNS, &NoGate)
-}
-
 /// Lets workers deliver, strike and recover, and answers the line.
 pub(crate) fn run_plan<B: Behaviour + Send + Sync, T: Threads + Wait + Sync>(
     rt: &T,
@@ -109,6 +92,7 @@ pub(crate) fn run_plan<B: Behaviour + Send + Sync, T: Threads + Wait + Sync>(
     let Ok(strikes) = plan_of(alloc, plan) else {
         return (group, Err(AllocError));
     };
-    let (group, answer) = drain_by(rt, alloc, workers, group, strikes.as_slice());
+    let plan = strikes.as_slice();
+    let (group, answer) = drain(rt, alloc, group, plan, workers, TURNS, &NoGate);
     (group, answer_text(alloc, answer))
 }

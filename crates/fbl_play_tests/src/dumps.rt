@@ -1,6 +1,6 @@
 use crate::unsteady::{FailedWrite, Page, UnsteadyReader, UnsteadyWriter};
-use fbl_dump::{audit, dump_of_bytes, dump_text};
-use fbl_script::RunFault;
+use fbl_dump::{audit, audit_bytes, dump_of_bytes, dump_text};
+use fbl_script::{Key, RunFault};
 use std::alloc::{AllocError, Global};
 use std::io::{self, Read};
 use std::process::Abort;
@@ -176,6 +176,24 @@ fn writes_a_strike_set_rising(rt: HostRuntime) -> Result<(), Fail> {
     let line = written_again(rt.alloc(), text.as_str())?;
     assert!(rt; line.as_str().strip_suffix("\n") == Some(rising.as_str()));
     Ok(())
+}
+
+#[test]
+fn audits_the_bytes_of_a_dump(rt: HostRuntime) -> Result<(), Fail> {
+    let mut held = Vec::new(rt.alloc());
+    audit_bytes(rt.alloc(), LOST.as_bytes(), &mut held)?;
+    assert!(rt; held.as_slice() == LOST_TEXT.as_bytes());
+    Ok(())
+}
+
+#[test]
+fn tells_the_fault_of_bytes_that_are_no_dump(rt: HostRuntime) {
+    let mut held = Vec::new(rt.alloc());
+    let done = audit_bytes(rt.alloc(), b"[]", &mut held);
+    assert!(rt; matches!(done, Err(RunFault::NotObject)));
+    let done = audit_bytes(rt.alloc(), b"{}", &mut held);
+    assert!(rt; matches!(done, Err(RunFault::BadField(Key::Members))));
+    assert!(rt; held.is_empty());
 }
 
 #[test]

@@ -1,8 +1,8 @@
 //! Scripts with the texts that they print, and readers and writers that stumble.
 
 use crate::unsteady::{FailedWrite, Page, UnsteadyReader, UnsteadyWriter};
-use fbl_play::play;
-use fbl_script::RunFault;
+use fbl_play::{play, play_bytes};
+use fbl_script::{Key, RunFault};
 use std::test::Fail;
 
 const MESSAGE_AND_ANSWER: (&str, &str) = (
@@ -118,6 +118,25 @@ fn prints_the_text_of_each_script(rt: HostRuntime) -> Result<(), Fail> {
         assert!(rt; out.as_slice() == text.as_bytes(), "{script}");
     }
     Ok(())
+}
+
+#[test]
+fn plays_the_bytes_of_a_script(rt: HostRuntime) -> Result<(), Fail> {
+    let (script, text) = TWO_STRIKES;
+    let mut out = Vec::new(rt.alloc());
+    play_bytes(&rt, rt.alloc(), script.as_bytes(), &mut out, 2)?;
+    assert!(rt; out.as_slice() == text.as_bytes());
+    Ok(())
+}
+
+#[test]
+fn tells_the_fault_of_bytes_that_are_no_script(rt: HostRuntime) {
+    let mut out = Vec::new(rt.alloc());
+    let done = play_bytes(&rt, rt.alloc(), b"[]", &mut out, 2);
+    assert!(rt; matches!(done, Err(RunFault::NotObject)));
+    let done = play_bytes(&rt, rt.alloc(), b"{}", &mut out, 2);
+    assert!(rt; matches!(done, Err(RunFault::BadField(Key::Version))));
+    assert!(rt; out.is_empty());
 }
 
 #[test]

@@ -1,7 +1,7 @@
 //! A group that workers drain.
 
-ghost use Rattle.std.specs.Prelude.{◌≡◌, ◌+◌, ◌≤◌};
-ghost use Rattle.fbl_threads.specs.Pasts.{IsPast};
+ghost use Rattle.std.specs.Prelude.{◌≡◌, ◌+◌, ◌⊎◌};
+ghost use Rattle.fbl_threads.specs.Pasts.{IsPast, GoesOn};
 ghost use Rattle.fbl_threads.specs.Drains.{Drains, IsAccepted, IsJudged};
 
 use crate::claims::{ClaimRefusal, Claims, Pass};
@@ -205,7 +205,8 @@ fn judge<B: Behaviour>(
     plan: &[Strike],
     drained: Drained,
 ) -> Result<Drained, DrainRefusal>
-    ensures { IsJudged past.now plan.now group.now drained result }
+    ensures judged { IsJudged past.now plan.now group.now drained result }
+    ensures uneven { result ≡ Err DrainRefusal.Uneven → (drained.started ≡ 0) ⊎ ¬ (GoesOn plan.now past.now group.now) }
 {
     if drained.started == 0 {
         return Err(if past.is_same(group) {
