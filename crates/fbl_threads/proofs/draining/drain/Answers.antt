@@ -17,3 +17,13 @@ pub run-requires-clause-accepted : goal.run-requires-clause-accepted
 run-requires-clause-accepted g c κs within =
     let fits = subst (λ (s : Settings). IsPlan c.args.plan.now s) c.config.ensures c.in_default.ensures in
     record { workers_allowed = search rules; plan_fits = fits; nobody_down = search rules }
+
+pub returns-in-Err-NoTable : goal.returns-in-Err-NoTable
+returns-in-Err-NoTable g c =
+    let fits = subst (λ (s : Settings). IsPlan c.args.plan.now s) c.config.ensures c.in_default.ensures in
+    (c.trace-trace.ensures.sound, (record { workers_allowed = search rules; plan_fits = fits; nobody_down = search rules }, refl))
+
+pub returns-in-Err-Memory : goal.returns-in-Err-Memory
+returns-in-Err-Memory g c =
+    let fits = subst (λ (s : Settings). IsPlan c.args.plan.now s) c.config.ensures c.in_default.ensures in
+    (c.trace-trace.ensures.sound, (record { workers_allowed = search rules; plan_fits = fits; nobody_down = search rules }, refl))
