@@ -68,6 +68,10 @@ strike_line struck lost = line (codes "strike " ∷ set_words struck ∷ codes "
 abbrev pub recover_line : ℕ → ℕ → ℕ → List ℕ
 recover_line replayed resent undone = line (codes "recover replayed " ∷ decimal replayed ∷ codes " resent " ∷ decimal resent ∷ codes " undone " ∷ decimal undone ∷ [])
 
+-- a checkpoint: the member, and how many messages it had received
+abbrev pub checkpoint_line : ℕ → ℕ → List ℕ
+checkpoint_line member received = line (codes "checkpoint " ∷ decimal member ∷ codes " receipt " ∷ decimal received ∷ [])
+
 -- how a run ended
 abbrev pub end_word : RunEnd → List ℕ
 end_word Quiet = codes "quiet"

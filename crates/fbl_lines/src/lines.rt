@@ -1,6 +1,6 @@
 ghost use Rattle.std.specs.Prelude.{◌≡◌, ◌++◌, IfOk, OnOk, string_bytes};
 ghost use Rattle.std.specs.List.{flat_map};
-ghost use Rattle.fbl_lines.specs.Lines.{audit_lines, bad_plan_line, deliver_line, determinant_line, end_word, member_line, member_lines, recover_line, refused_line, report_lines, run_line, states_line, strike_line, total_lines};
+ghost use Rattle.fbl_lines.specs.Lines.{audit_lines, bad_plan_line, checkpoint_line, deliver_line, determinant_line, end_word, member_line, member_lines, recover_line, refused_line, report_lines, run_line, states_line, strike_line, total_lines};
 
 use crate::sets::set_text;
 use fbl_base::{Determinant, Member, MemberSet};
@@ -186,6 +186,14 @@ pub fn recover_text(
     ensures { IfOk result (λ text. string_bytes text ≡ recover_line replayed resent undone) }
 {
     format!(in alloc; "recover replayed {replayed} resent {resent} undone {undone}\n")
+}
+
+/// The line of an accepted checkpoint of the member, with the number of messages that it had received by then.
+pub fn checkpoint_text(alloc: Global, member: Member, received: u32) -> Result<String, AllocError>
+    ensures { IfOk result (λ text. string_bytes text ≡ checkpoint_line member received) }
+{
+    let number = member.number();
+    format!(in alloc; "checkpoint {number} receipt {received}\n")
 }
 
 /// The line of a run that was accepted.

@@ -16,3 +16,5 @@ mod scripts;
 mod setting;
 #[cfg(test)]
 mod unsteady;
+#[cfg(test)]
+mod versions;

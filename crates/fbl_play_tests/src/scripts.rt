@@ -48,7 +48,7 @@ const HEADS: [(&str, &str); 9] = [
         "bad field behaviour",
     ),
     (
-        r#""version":2,"members":2,"f":1,"behaviour":"mix""#,
+        r#""version":3,"members":2,"f":1,"behaviour":"mix""#,
         "bad field version",
     ),
     (
@@ -117,7 +117,7 @@ fn has_fault(rt: &impl Abort, alloc: Global, input: &[u8], fault: &str) -> Resul
 }
 
 /// The script with these parts has this fault, or `none`.
-fn has_script_fault(
+pub(crate) fn has_script_fault(
     rt: &impl Abort,
     alloc: Global,
     parts: [&str; 4],
@@ -286,14 +286,26 @@ fn takes_1048576_bytes(rt: HostRuntime) -> Result<(), Fail> {
 const EACH: &str =
     r#"["deliver",3,0],["states"],["report"],["strike",[2,1,2]],["recover"],["dump",[]],["run",[[7,[3,0]],[9,[1]]]]"#;
 
-fn each_command(alloc: Global) -> Result<Script, Fail> {
-    let head = r#""version":1,"members":4,"f":2,"behaviour":"relay""#;
-    let text = script(alloc, head, "[0,1,5,6],[2,3,7,3]", EACH, r#","limit":40"#)?;
+/// The script with these parts.
+pub(crate) fn read_script(alloc: Global, parts: [&str; 4]) -> Result<Script, Fail> {
+    let [head, start, commands, tail] = parts;
+    let text = script(alloc, head, start, commands, tail)?;
     Ok(
         script_of_bytes(alloc, text.as_bytes())
             .ok()
             .ok_or("no script")?,
     )
+}
+
+/// The heads of a script in either version.
+const EACH_VERSION: [&str; 2] = [
+    r#""version":1,"members":4,"f":2,"behaviour":"relay""#,
+    r#""version":2,"members":4,"f":2,"behaviour":"relay""#,
+];
+
+/// The script with this head and each command that both versions have.
+fn each_command(alloc: Global, head: &str) -> Result<Script, Fail> {
+    read_script(alloc, [head, "[0,1,5,6],[2,3,7,3]", EACH, r#","limit":40"#])
 }
 
 fn start(from: u8, to: u8, value: u32, hops: u8) -> Result<Start, Fail> {
@@ -302,14 +314,23 @@ fn start(from: u8, to: u8, value: u32, hops: u8) -> Result<Start, Fail> {
     Ok(Start { from, to, note })
 }
 
+/// Whether the script asks for this group.
+fn has_parameters(script: &Script, starts: &[Start]) -> bool {
+    let config = &script.config;
+    script.behaviour == BehaviourName::Relay
+        && config.members() == 4
+        && config.f() == 2
+        && config.limit() == 40
+        && config.starts() == starts
+}
+
 #[test]
 fn reads_the_parameters(rt: HostRuntime) -> Result<(), Fail> {
     let starts = [start(0, 1, 5, 6)?, start(2, 3, 7, 3)?];
-    let script = each_command(rt.alloc())?;
-    assert!(rt; script.behaviour == BehaviourName::Relay);
-    let config = &script.config;
-    assert!(rt; config.members() == 4 && config.f() == 2 && config.limit() == 40);
-    assert!(rt; config.starts() == starts.as_slice());
+    for head in EACH_VERSION {
+        let script = each_command(rt.alloc(), head)?;
+        assert!(rt; has_parameters(&script, &starts));
+    }
     Ok(())
 }
 
@@ -351,8 +372,10 @@ fn reads_each_command(rt: HostRuntime) -> Result<(), Fail> {
         },
     ];
     let (struck, dumped) = (set(&[1, 2])?, set(&[])?);
-    let script = each_command(rt.alloc())?;
-    assert!(rt; is_each_command(script.commands.as_slice(), struck, dumped, &planned));
+    for head in EACH_VERSION {
+        let script = each_command(rt.alloc(), head)?;
+        assert!(rt; is_each_command(script.commands.as_slice(), struck, dumped, &planned));
+    }
     Ok(())
 }
 

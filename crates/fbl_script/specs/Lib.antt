@@ -1,3 +1,4 @@
 pub mod Shapes
 pub mod Faults
 pub mod Scripts
+pub mod Laws

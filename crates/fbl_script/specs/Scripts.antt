@@ -1,6 +1,7 @@
 -- The script that an input is, or its first fault.
 use Rattle.std.specs.Prelude.{◌≡◌, ℕ, ◌+◌, ◌==◌, List, [], ◌∷◌, ◌++◌, Option, Some, None, option_and_then, option_map, Result, Ok, Err, codes, if◌then◌else◌}
-use Rattle.serde_json.specs.Data.{Data}
+use Rattle.std.specs.Option.{option_or}
+use Rattle.serde_json.specs.Data.{Data, Members}
 use Rattle.serde_json.specs.Find.{get, as_object}
 use Rattle.fbl_base.specs.declared.trace.Start.{Start}
 use Rattle.fbl_base.specs.declared.config.ConfigRefusal.TheVariants as refusals
@@ -9,11 +10,13 @@ use Rattle.fbl_script.specs.declared.fault.Key.{Key}
 use Rattle.fbl_script.specs.declared.fault.Key.TheVariants as keys
 use Rattle.fbl_script.specs.declared.fault.RunFault.{RunFault}
 use Rattle.fbl_script.specs.declared.fault.RunFault.TheVariants as faults
+use Rattle.fbl_script.specs.declared.script.Version.{Version}
+use Rattle.fbl_script.specs.declared.script.Version.TheVariants.{First, Second}
 use Rattle.fbl_script.specs.declared.script.BehaviourName.{BehaviourName}
 use Rattle.fbl_script.specs.declared.script.BehaviourName.TheVariants.{Relay, Mix}
 use Rattle.fbl_script.specs.declared.script.PlannedStrike.{PlannedStrike}
 use Rattle.fbl_script.specs.declared.script.Command.{Command}
-use Rattle.fbl_script.specs.declared.script.Command.TheVariants.{Deliver, States, Report, Strike, Recover, Dump, Run}
+use Rattle.fbl_script.specs.declared.script.Command.TheVariants.{Deliver, States, Report, Strike, Recover, Dump, Run, Checkpoint}
 use Rattle.fbl_script.specs.declared.script.Script.{Script}
 use Rattle.fbl_script.specs.declared.script_reading.Request.{Request}
 use Rattle.fbl_script.specs.Shapes.{◌>>=◌, or_fault, number_within, count_shape, member_shape, as_list, is_text, list_of, set_shape, name_of, field, field_or, has_other_key, value_of_input}
@@ -28,6 +31,13 @@ abbrev pub outline : Script → Outline
 outline s = record { behaviour = s.behaviour; config = s.config; commands = s.commands.items }
 
 -- ---- shapes
+
+-- the version with this number
+abbrev pub version_from : ℕ → Option Version
+version_from n = if n == 1 then Some First else (if n == 2 then Some Second else None)
+
+abbrev pub version_shape : Data → Option Version
+version_shape d = option_and_then version_from (count_shape d)
 
 abbrev pub behaviour_shape : Data → Option BehaviourName
 behaviour_shape d = if is_text (codes "relay") d then Some Relay else (if is_text (codes "mix") d then Some Mix else None)
@@ -70,6 +80,7 @@ abbrev pub delivery : Data → Data → Data → Option Command
 delivery name to from =
     if is_text (codes "deliver") name then option_and_then (λ p. option_map (λ q. Deliver p q) (member_shape from)) (member_shape to) else None
 
+-- a command of version 1
 abbrev pub command_from : List Data → Option Command
 command_from (name ∷ []) = lone_command name
 command_from (name ∷ value ∷ []) = command_on name value
@@ -79,36 +90,69 @@ command_from _ = None
 abbrev pub command_shape : Data → Option Command
 command_shape d = option_and_then command_from (as_list d)
 
+-- `["checkpoint", p]`
+abbrev pub checkpoint_from : List Data → Option Command
+checkpoint_from (name ∷ member ∷ []) = if is_text (codes "checkpoint") name then option_map Checkpoint (member_shape member) else None
+checkpoint_from _ = None
+
+-- a command of this version: one of version 1, and in version 2 also a checkpoint
+abbrev pub versioned_from : Version → List Data → Option Command
+versioned_from First list = command_from list
+versioned_from Second list = option_or (command_from list) (checkpoint_from list)
+
+abbrev pub versioned_shape : Version → Data → Option Command
+versioned_shape version d = option_and_then (versioned_from version) (as_list d)
+
 -- ---- the script
 
--- the commands from a place on: the first of another shape, or at place 1024, is the fault
-abbrev pub commands_from : ℕ → List Data → Result (List Command) RunFault
-commands_from place [] = Ok []
-commands_from place (d ∷ ds) =
-    (if place == 1024 then Err (faults.BadCommand place) else or_fault (faults.BadCommand place) (command_shape d)) >>= λ c.
-    commands_from (place + 1) ds >>= λ cs.
+-- the commands of a shape, from a place on: the first of another shape, or at place 1024, is the fault
+abbrev pub commands_from : (Data → Option Command) → ℕ → List Data → Result (List Command) RunFault
+commands_from shape place [] = Ok []
+commands_from shape place (d ∷ ds) =
+    (if place == 1024 then Err (faults.BadCommand place) else or_fault (faults.BadCommand place) (shape d)) >>= λ c.
+    commands_from shape (place + 1) ds >>= λ cs.
     Ok (c ∷ cs)
 
 abbrev pub script_keys : List Key
 script_keys = keys.Version ∷ keys.Members ∷ keys.F ∷ keys.Behaviour ∷ keys.Limit ∷ keys.Start ∷ keys.Commands ∷ []
 
--- what a value asks for as a script, or its first fault
-unfoldable pub outline_of : Data → Result Outline RunFault
-outline_of d = do
-  object ← or_fault faults.NotObject (as_object d)
-  version ← field keys.Version (number_within 1 1) d
+-- what an object asks for as a script once its version is read, where commands have this shape, or its first fault
+unfoldable pub outline_by : (Data → Option Command) → Members → Data → Result Outline RunFault
+outline_by shape object d = do
   members ← field keys.Members (number_within 0 255) d
   f ← field keys.F (number_within 0 255) d
   behaviour ← field keys.Behaviour behaviour_shape d
   limit ← field_or 8192 keys.Limit count_shape (get (name_of keys.Limit) d)
   starts ← field keys.Start (list_of start_shape) d
   listed ← field keys.Commands as_list d
-  commands ← commands_from 0 listed
+  commands ← commands_from shape 0 listed
   if has_other_key script_keys object then Err faults.UnknownKey else Ok (record { behaviour = behaviour; config = record { members = members; f = f; limit = limit; starts = starts }; commands = commands })
+
+-- what a value asks for as a script, or its first fault
+unfoldable pub outline_of : Data → Result Outline RunFault
+outline_of d = do
+  object ← or_fault faults.NotObject (as_object d)
+  version ← field keys.Version version_shape d
+  outline_by (versioned_shape version) object d
+
+-- what a value asks for as a script where version 1 is the only one, or its first fault
+unfoldable pub first_outline_of : Data → Result Outline RunFault
+first_outline_of d = do
+  object ← or_fault faults.NotObject (as_object d)
+  version ← field keys.Version (number_within 1 1) d
+  outline_by command_shape object d
 
 -- what an input asks for as a script, or its first fault
 abbrev pub outline_of_input : List ℕ → Result Outline RunFault
 outline_of_input input = value_of_input input >>= outline_of
+
+-- what an input asks for as a script where version 1 is the only one, or its first fault
+abbrev pub first_outline_of_input : List ℕ → Result Outline RunFault
+first_outline_of_input input = value_of_input input >>= first_outline_of
+
+-- the input is JSON with this number as its version
+abbrev pub IsOfVersion : ℕ → List ℕ → Type 0
+IsOfVersion n input = (value_of_input input >>= field keys.Version count_shape) ≡ Ok n
 
 -- the input is this script, and there is such a group
 abbrev pub IsScriptOf : List ℕ → Outline → Type 0

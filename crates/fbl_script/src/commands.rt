@@ -3,10 +3,10 @@
 ghost use Rattle.std.specs.Prelude.{◌≡◌, ◌≤◌, map, IfOk, IfErr};
 ghost use Rattle.serde_json.specs.View.{view};
 ghost use Rattle.fbl_script.specs.Shapes.{Gives, IsOfShape, list_of};
-ghost use Rattle.fbl_script.specs.Scripts.{command_from, command_on, command_shape, commands_from, delivery, lone_command, planned_from, planned_shape};
+ghost use Rattle.fbl_script.specs.Scripts.{checkpoint_from, command_from, command_on, commands_from, delivery, lone_command, planned_from, planned_shape, versioned_from, versioned_shape};
 
 use crate::fault::RunFault;
-use crate::script::{Command, Plan, PlannedStrike};
+use crate::script::{Command, Plan, PlannedStrike, Version};
 use crate::shapes::{Shape, all_in, count_in, is_named, list_in, member_in, set_in};
 use serde_json::Value;
 use std::alloc::{AllocError, Global};
@@ -98,18 +98,47 @@ fn command_of(alloc: Global, list: &[Value]) -> Result<Option<Command>, AllocErr
     }
 }
 
-fn command_in(alloc: Global, value: &Value) -> Result<Option<Command>, AllocError>
-    ensures { IfOk result (λ c. c ≡ command_shape (view value.now)) }
+fn checkpoint_of(list: &[Value]) -> Option<Command>
+    ensures { result ≡ checkpoint_from (map view list.now) }
+{
+    match list {
+        [name, member] if is_named(name, "checkpoint") => {
+            member_in(member).map(Command::Checkpoint)
+        }
+        _ => None,
+    }
+}
+
+fn versioned_of(
+    alloc: Global,
+    version: Version,
+    list: &[Value],
+) -> Result<Option<Command>, AllocError>
+    ensures { IfOk result (λ c. c ≡ versioned_from version (map view list.now)) }
+{
+    let command = command_of(alloc, list)?;
+    match version {
+        Version::First => Ok(command),
+        Version::Second => Ok(command.or(checkpoint_of(list))),
+    }
+}
+
+fn command_in(alloc: Global, version: Version, value: &Value) -> Result<Option<Command>, AllocError>
+    ensures { IfOk result (λ c. c ≡ versioned_shape version (view value.now)) }
 {
     match list_in(value) {
-        Some(list) => command_of(alloc, list),
+        Some(list) => versioned_of(alloc, version, list),
         None => Ok(None),
     }
 }
 
-/// The commands, or the first fault among them.
-pub fn commands_in(alloc: Global, list: &[Value]) -> Result<Vec<Command>, RunFault>
-    ensures exact { Gives (λ v. v.items) result (commands_from 0 (map view list.now)) }
+/// The commands of a script of this version, or the first fault among them.
+pub(crate) fn commands_in(
+    alloc: Global,
+    version: Version,
+    list: &[Value],
+) -> Result<Vec<Command>, RunFault>
+    ensures exact { Gives (λ v. v.items) result (commands_from (versioned_shape version) 0 (map view list.now)) }
     ensures faults { IfErr result IsOfShape }
 {
     let mut commands = Vec::new(alloc);
@@ -118,7 +147,7 @@ pub fn commands_in(alloc: Global, list: &[Value]) -> Result<Vec<Command>, RunFau
         if place == 1024 {
             return Err(RunFault::BadCommand(place));
         }
-        let command = command_in(alloc, value)?.ok_or(RunFault::BadCommand(place))?;
+        let command = command_in(alloc, version, value)?.ok_or(RunFault::BadCommand(place))?;
         commands.push(command)?;
         place += 1;
     }

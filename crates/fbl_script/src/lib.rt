@@ -4,6 +4,7 @@
 mod commands;
 mod fault;
 mod input;
+pub mod laws;
 mod output;
 mod script;
 mod script_reading;

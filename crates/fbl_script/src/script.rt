@@ -3,6 +3,15 @@ ghost use Rattle.std.specs.Prelude.{◌≡◌};
 use fbl_base::{Config, Member, MemberSet};
 use std::marker::Model;
 
+/// The version of a script, which says what commands it may have.
+#[derive(Clone, Copy, Debug, PartialEq, Eq)]
+pub(crate) enum Version {
+    /// Version 1: every command but the checkpoint.
+    First,
+    /// Version 2: every command.
+    Second,
+}
+
 /// A behaviour that a script names.
 #[derive(Clone, Copy, Debug, PartialEq, Eq)]
 pub enum BehaviourName {
@@ -74,6 +83,8 @@ pub enum Command {
     Dump(MemberSet),
     /// Let workers deliver until nothing is in flight.
     Run(Plan),
+    /// Take a checkpoint of the member. Only scripts of version 2 have it.
+    Checkpoint(Member),
 }
 
 /// What a script asks for.

@@ -4,13 +4,13 @@ ghost use Rattle.std.specs.Prelude.{◌≡◌, ◌≤◌, map, IfOk, IfErr};
 ghost use Rattle.serde_json.specs.View.{view, members_view};
 ghost use Rattle.serde_json.specs.Find.{get};
 ghost use Rattle.fbl_script.specs.Shapes.{Gives, IsOfShape, count_shape, field, field_or, has_other_key as has_other_key_of, name_of};
-ghost use Rattle.fbl_script.specs.Scripts.{IsScriptOf, IsScriptFault, IsRequestRefused, behaviour_shape, outline, outline_of, outline_of_input, request_outline, script_keys, start_from};
+ghost use Rattle.fbl_script.specs.Scripts.{IsScriptOf, IsScriptFault, IsRequestRefused, behaviour_shape, outline, outline_of, outline_of_input, request_outline, script_keys, start_from, version_shape};
 ghost use Rattle.fbl_base.specs.Configs.{IsConfig};
 ghost use Rattle.fbl_script.specs.declared.fault.RunFault.TheVariants.{Memory};
 
 use crate::commands::commands_in;
 use crate::fault::{Key, RunFault};
-use crate::script::{BehaviourName, Command, Script};
+use crate::script::{BehaviourName, Command, Script, Version};
 use crate::shapes::{
     Shape, count_in, has_other_key, is_named, list_field, list_in, member_in, number_field,
     number_in, value_in, values_field,
@@ -28,6 +28,16 @@ pub(crate) struct Request {
     limit: u32,
     starts: Vec<Start>,
     commands: Vec<Command>,
+}
+
+fn version_in(value: &Value) -> Option<Version>
+    ensures { result ≡ version_shape (view value.now) }
+{
+    match count_in(value)? {
+        1 => Some(Version::First),
+        2 => Some(Version::Second),
+        _ => None,
+    }
 }
 
 fn behaviour_in(value: &Value) -> Option<BehaviourName>
@@ -74,6 +84,13 @@ impl Shape<Start> for StartShape {
     }
 }
 
+fn version_field(value: &Value, key: Key) -> Result<Version, RunFault>
+    ensures { result ≡ field key version_shape (view value.now) }
+{
+    let found = value.get(key.name()).ok_or(RunFault::BadField(key))?;
+    version_in(found).ok_or(RunFault::BadField(key))
+}
+
 fn behaviour_field(value: &Value, key: Key) -> Result<BehaviourName, RunFault>
     ensures { result ≡ field key behaviour_shape (view value.now) }
 {
@@ -107,20 +124,20 @@ fn has_unknown_key(object: &Map<String, Value>) -> bool
 }
 
 /// What a value asks for as a script.
-#[tactic(auto, unfolding(crate::specs::Scripts::outline_of))]
+#[tactic(auto, unfolding(crate::specs::Scripts::outline_of, crate::specs::Scripts::outline_by))]
 fn request_of(alloc: Global, value: &Value) -> Result<Request, RunFault>
     ensures exact { Gives request_outline result (outline_of (view value.now)) }
     ensures faults { IfErr result IsOfShape }
 {
     let object = value.as_object().ok_or(RunFault::NotObject)?;
-    number_field(value, Key::Version, 1, 1)?;
+    let version = version_field(value, Key::Version)?;
     let members = number_field(value, Key::Members, 0, 255)? as u8;
     let f = number_field(value, Key::F, 0, 255)? as u8;
     let behaviour = behaviour_field(value, Key::Behaviour)?;
     let limit = limit_field(value, Key::Limit)?;
     let starts = values_field::<Start, StartShape>(alloc, value, Key::Start)?;
     let listed = list_field(value, Key::Commands)?;
-    let commands = commands_in(alloc, listed)?;
+    let commands = commands_in(alloc, version, listed)?;
     if has_unknown_key(object) {
         return Err(RunFault::UnknownKey);
     }
