@@ -7,8 +7,8 @@ use Rattle.fbl_base.specs.Fold.{Next}
 use Rattle.fbl_base.specs.MemberSets.{AllBelow}
 use Rattle.fbl_base.specs.Steps.{relay_step, mix_step}
 use Rattle.fbl_law.specs.Dumps.{dump_of}
-use Rattle.fbl_law.specs.Groups.{GroupRecord}
-use Rattle.fbl_law.specs.GroupSteps.{IsGroupStart}
+use Rattle.fbl_law.specs.Groups.{GroupRecord, checkpoint}
+use Rattle.fbl_law.specs.GroupSteps.{IsCheckpoint, IsGroupStart}
 use Rattle.fbl_law.specs.Record.{Members}
 use Rattle.fbl_law.specs.Sound.{IsSound}
 use Rattle.fbl_group.specs.declared.answers.Receipted.{Receipted}
@@ -16,11 +16,13 @@ use Rattle.fbl_group.specs.declared.answers.Recovered.{Recovered}
 use Rattle.fbl_group.specs.declared.answers.Struck.{Struck}
 use Rattle.fbl_group.specs.declared.refusals.DeliverRefusal.{DeliverRefusal}
 use Rattle.fbl_group.specs.declared.refusals.StrikeRefusal.{StrikeRefusal}
+use Rattle.fbl_group.specs.declared.refusals.CheckpointRefusal.{CheckpointRefusal}
+use Rattle.fbl_group.specs.Checkpoints.{checkpoint_refusal}
 use Rattle.fbl_group.specs.Deliveries.{deliver_refusal, Delivers}
 use Rattle.fbl_group.specs.Recoveries.{Recovers}
 use Rattle.fbl_group.specs.Strikes.{strike_refusal, Strikes}
 use Rattle.fbl_lines.specs.declared.lines.Totals.{Totals}
-use Rattle.fbl_lines.specs.Lines.{deliver_line, refused_line, states_line, report_lines, strike_line, recover_line}
+use Rattle.fbl_lines.specs.Lines.{checkpoint_line, deliver_line, refused_line, states_line, report_lines, strike_line, recover_line}
 use Rattle.fbl_dump.specs.DumpLines.{dump_line}
 use Rattle.fbl_script.specs.declared.fault.RunFault.{RunFault}
 use Rattle.fbl_script.specs.declared.fault.RunFault.TheVariants as faults
@@ -30,7 +32,7 @@ use Rattle.fbl_script.specs.declared.script.Command.{Command}
 use Rattle.fbl_script.specs.declared.script.Command.TheVariants as commands
 use Rattle.fbl_script.specs.Faults.{FailsToRead}
 use Rattle.fbl_script.specs.Scripts.{Outline, IsScriptOf, IsScriptFault}
-use Rattle.fbl_play.specs.Texts.{deliver_name, strike_name, shown_states, shown_statuses, AreTotals}
+use Rattle.fbl_play.specs.Texts.{checkpoint_name, deliver_name, strike_name, shown_states, shown_statuses, AreTotals}
 use Rattle.fbl_play.specs.RunSteps.{RunStep}
 
 -- ---- one command
@@ -83,6 +85,14 @@ IsDumpText r strike text =
 abbrev pub DumpStep : GroupRecord → Members → GroupRecord → List ℕ → Type 0
 DumpStep old strike new text = (new ≡ old) × IsDumpText old strike text
 
+-- a checkpoint, by its first refusal: a refused one changes nothing
+abbrev pub CheckpointBy : Option CheckpointRefusal → GroupRecord → ℕ → GroupRecord → List ℕ → Type 0
+CheckpointBy None old p new text = IsCheckpoint old new p × (text ≡ checkpoint_line p (checkpoint new p).received)
+CheckpointBy (Some refusal) old p new text = (new ≡ old) × (text ≡ refused_line (codes "checkpoint") (checkpoint_name refusal))
+
+abbrev pub CheckpointStep : GroupRecord → ℕ → GroupRecord → List ℕ → Type 0
+CheckpointStep old p new text = CheckpointBy (checkpoint_refusal old p) old p new text
+
 -- a command, with this many workers, may lead from old to new, and print the text
 abbrev pub Step : Next → ℕ → GroupRecord → Command → GroupRecord → List ℕ → Type 0
 Step next workers old (commands.Deliver to from) new text = DeliverStep next old to from new text
@@ -92,6 +102,7 @@ Step next workers old (commands.Strike struck) new text = StrikeStep old struck 
 Step next workers old commands.Recover new text = RecoverStep next old new text
 Step next workers old (commands.Dump strike) new text = DumpStep old strike new text
 Step next workers old (commands.Run plan) new text = RunStep next workers plan old new text
+Step next workers old (commands.Checkpoint p) new text = CheckpointStep old p new text
 
 -- ---- the commands of a script
 

@@ -8,6 +8,8 @@ use Rattle.fbl_law.specs.Groups.{GroupRecord, member, channel}
 use Rattle.fbl_law.specs.Dumps.{dump_of}
 use Rattle.fbl_lines.specs.declared.lines.MemberStatus.{MemberStatus}
 use Rattle.fbl_lines.specs.declared.lines.Totals.{Totals}
+use Rattle.fbl_group.specs.declared.refusals.CheckpointRefusal.{CheckpointRefusal}
+use Rattle.fbl_group.specs.declared.refusals.CheckpointRefusal.TheVariants as checkpoint
 use Rattle.fbl_group.specs.declared.refusals.DeliverRefusal.{DeliverRefusal}
 use Rattle.fbl_group.specs.declared.refusals.DeliverRefusal.TheVariants as deliver
 use Rattle.fbl_group.specs.declared.refusals.StrikeRefusal.{StrikeRefusal}
@@ -26,6 +28,11 @@ abbrev pub strike_name : StrikeRefusal → List ℕ
 strike_name strike.BadMember = codes "BadMember"
 strike_name strike.Nobody = codes "Nobody"
 strike_name strike.TooMany = codes "TooMany"
+
+abbrev pub checkpoint_name : CheckpointRefusal → List ℕ
+checkpoint_name checkpoint.BadMember = codes "BadMember"
+checkpoint_name checkpoint.Down = codes "Down"
+checkpoint_name checkpoint.Memory = codes "Memory"
 
 -- ---- what a group shows
 

@@ -1,18 +1,18 @@
 //! The commands of a script, each with the lines that it prints.
 
 ghost use Rattle.std.specs.Prelude.{◌≡◌, ◌≤◌, ◌<◌, IfOk, OnErr, string_bytes};
-ghost use Rattle.fbl_play.specs.Runs.{Step, DeliverStep, IsReport, IsDumpText, StrikeStep, RecoverStep};
+ghost use Rattle.fbl_play.specs.Runs.{Step, CheckpointStep, DeliverStep, IsReport, IsDumpText, StrikeStep, RecoverStep};
 ghost use Rattle.fbl_play.specs.Texts.{shown_state as shown_state_of, shown_states, shown_status as shown_status_of, shown_statuses, AreTotals};
 ghost use Rattle.fbl_lines.specs.Lines.{states_line};
 
-use crate::names::{deliver_name, strike_name};
+use crate::names::{checkpoint_name, deliver_name, strike_name};
 use crate::runs::run_plan;
 use fbl_base::audit::{lost, orphans};
 use fbl_base::{Behaviour, Member, MemberSet};
 use fbl_dump::dump_text;
-use fbl_group::{DeliverRefusal, DumpGroupRefusal, Group, RecoverRefusal};
+use fbl_group::{CheckpointRefusal, DeliverRefusal, DumpGroupRefusal, Group, RecoverRefusal};
 use fbl_lines::{
-    MemberStatus, Totals, deliver_text, recover_text, refused_text, report_text, states_text,
+    MemberStatus, Totals, checkpoint_text, deliver_text, recover_text, refused_text, report_text, states_text,
     strike_text,
 };
 use fbl_script::Command;
@@ -143,6 +143,21 @@ fn run_recover<B: Behaviour>(alloc: Global, group: &mut Group<B>) -> Result<Stri
     }
 }
 
+/// Takes a checkpoint, and answers the line.
+fn run_checkpoint<B: Behaviour>(
+    alloc: Global,
+    group: &mut Group<B>,
+    member: Member,
+) -> Result<String, AllocError>
+    ensures { IfOk result (λ text. CheckpointStep group.old member group.new (string_bytes text)) }
+{
+    match group.checkpoint(member) {
+        Ok(()) => checkpoint_text(alloc, member, group.checkpoint_received(member)),
+        Err(CheckpointRefusal::Memory) => Err(AllocError),
+        Err(refusal) => refused_text(alloc, "checkpoint", checkpoint_name(refusal)),
+    }
+}
+
 /// The line of a dump.
 fn run_dump<B: Behaviour>(
     alloc: Global,
@@ -193,6 +208,10 @@ pub(crate) fn run_command<B: Behaviour + Send + Sync, T: Threads + Wait + Sync>(
         }
         Command::Dump(strike) => {
             let text = run_dump(alloc, &group, *strike);
+            (group, text)
+        }
+        Command::Checkpoint(member) => {
+            let text = run_checkpoint(alloc, &mut group, *member);
             (group, text)
         }
         Command::Run(plan) => run_plan(rt, alloc, workers, group, plan),
