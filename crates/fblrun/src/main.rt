@@ -5,8 +5,10 @@ ghost use Rattle.std.specs.Prelude.{◌≡◌, ◌≤◌, IfSome};
 ghost use Rattle.fblrun.specs.Orders.{Obeys};
 ghost use Rattle.fblrun.specs.Statuses.{status_after as status_after_result, status_of as status_of_fault};
 
+mod command_line;
+
 use clap::error::ErrorKind;
-use clap::{Arg, ArgAction, Command};
+use command_line::order_of;
 use fbl_dump::audit;
 use fbl_play::play;
 use fbl_script::RunFault;
@@ -36,26 +38,6 @@ enum Order {
     Play(u8),
     /// Audit a dump.
     Audit,
-}
-
-/// The order that the command line gives.
-fn order_of(alloc: Global, words: &[String]) -> Result<Order, clap::Error> {
-    let workers = Arg::new(alloc, "workers")
-        .long("workers")
-        .action(ArgAction::Set)
-        .value_parser(clap::value_parser!(u8).range(1..=8))
-        .default_value("2");
-    let play = Command::new(alloc, "play").arg(workers)?;
-    let audit = Command::new(alloc, "audit");
-    let command = Command::new(alloc, "fblrun")
-        .subcommand_required(true)
-        .subcommand(play)?
-        .subcommand(audit)?;
-    let matches = command.try_get_matches_from(words)?;
-    match matches.subcommand() {
-        Some(("play", found)) => Ok(Order::Play(found.get_one::<u8>("workers").unwrap_or(2))),
-        _ => Ok(Order::Audit),
-    }
 }
 
 /// The exit status of a fault.

@@ -1,6 +1,7 @@
 //! Command lines with the orders that they give, or with the exit statuses and what is printed.
 
-use crate::{Order, obey, order_of, refuse, refuse_words, status_after};
+use crate::command_line::order_of;
+use crate::{Order, obey, refuse, refuse_words, status_after};
 use fbl_base::{ConfigRefusal, DumpRefusal};
 use fbl_script::{Key, RunFault};
 use std::alloc::{AllocError, Global};
