@@ -26,6 +26,8 @@ pub(crate) enum Fact<'a> {
     Length(usize),
     /// Who is down.
     Down(&'a [u8]),
+    /// How many receipts a member's checkpoint has.
+    Checkpointed(u8, u32),
     /// How many receipts were ever made, and ever undone.
     Ever(u64, u64),
 }
@@ -85,6 +87,9 @@ impl Fact<'_> {
             Fact::Trace(expected) => has_events(group.trace(), expected),
             Fact::Length(expected) => Ok(group.trace().len() == expected),
             Fact::Down(expected) => Ok(group.down() == set(expected)?),
+            Fact::Checkpointed(number, expected) => {
+                Ok(checkpoint_received(group, number) == Some(expected))
+            }
             Fact::Ever(made, undone) => {
                 Ok(group.receipts_ever() == made && group.undone_ever() == undone)
             }
@@ -107,6 +112,17 @@ pub(crate) fn reading<B: Behaviour, A: Allocator + Copy>(
         group.sent(member),
         group.held(member),
     ))
+}
+
+/// How many receipts the member's checkpoint has.
+pub(crate) fn checkpoint_received<B: Behaviour, A: Allocator + Copy>(
+    group: &Group<B, A>,
+    number: u8,
+) -> Option<u32> {
+    if number >= group.config().members() {
+        return None;
+    }
+    Some(group.checkpoint_received(Member::new(number)?))
 }
 
 /// The member's table.

@@ -1,9 +1,10 @@
-//! A strike of each member after each delivery: what comes back is the fold of the receipts that the trace still has.
+//! A strike of each member after each delivery, with a checkpoint of each member after each earlier delivery and without
+//! one: what comes back is the fold of the receipts that the trace still has.
 
-use crate::facts::reading;
+use crate::facts::{checkpoint_received, reading};
 use crate::setting::{Setting, member};
-use fbl_base::audit::orphans;
-use fbl_base::{Behaviour, Event, Member, MemberSet, Mix, Note, Relay};
+use fbl_base::audit::{lost, orphans};
+use fbl_base::{Behaviour, Determinant, Event, Member, MemberSet, Mix, Note, Relay};
 use fbl_group::Group;
 use std::alloc::Global;
 use std::process::Abort;
@@ -23,6 +24,14 @@ impl Formula {
             Formula::Mixture => 31 * u128::from(state) + u128::from(value) + 1,
         };
         (sum % 1_000_000_007) as u64
+    }
+
+    /// Whether these may be the members' states in the end. What is mixed depends on the order of deliveries.
+    fn may_end(self, states: [u64; 4]) -> bool {
+        match self {
+            Formula::Sum => states == [23, 17, 17, 17],
+            Formula::Mixture => true,
+        }
     }
 }
 
@@ -140,6 +149,63 @@ fn is_safe_without<B: Behaviour>(
     Ok(orphans(alloc, &dump)? == MemberSet::empty())
 }
 
+/// Whether the receipt comes after its member's checkpoint.
+fn is_after_checkpoint<B: Behaviour>(group: &Group<B>, receipt: Determinant) -> bool {
+    checkpoint_received(group, receipt.to.number()).is_some_and(|count| receipt.rsn > count)
+}
+
+/// How many receipts the audit finds lost where the member is struck, but for those that its checkpoint has. All of them are
+/// its own: every other receipt is known to the survivor that received it.
+fn count_lost<B: Behaviour>(
+    alloc: Global,
+    group: &Group<B>,
+    struck: MemberSet,
+) -> Result<usize, Fail> {
+    let dump = group.dump(struck)?;
+    let found = lost(alloc, &dump)?;
+    Ok(
+        found
+            .iter()
+            .filter(|receipt| is_after_checkpoint(group, **receipt))
+            .count(),
+    )
+}
+
+/// Strikes the member, and answers whether as many receipts are lost as the audit finds lost and its checkpoint lacks.
+fn is_struck<B: Behaviour>(
+    alloc: Global,
+    group: &mut Group<B>,
+    struck: MemberSet,
+) -> Result<bool, Fail> {
+    let expected = count_lost(alloc, group, struck)?;
+    let answer = group.strike(struck)?;
+    Ok(answer.lost as usize == expected)
+}
+
+/// How many of the events are receipts of the member.
+fn count_received(trace: &[Event], me: Member) -> usize {
+    trace
+        .iter()
+        .filter(|event| is_receipt_of(**event, me))
+        .count()
+}
+
+fn is_receipt_of(event: Event, me: Member) -> bool {
+    match event {
+        Event::Receipt { to, .. } => to == me,
+        Event::Send { .. } => false,
+    }
+}
+
+/// Recovers the one member that is down, and answers whether those of its receipts are replayed that the trace then has
+/// beyond its checkpoint.
+fn is_recovered<B: Behaviour>(group: &mut Group<B>, number: u8) -> Result<bool, Fail> {
+    let checkpointed = checkpoint_received(group, number).ok_or("no such member")?;
+    let recovered = group.recover()?;
+    let received = count_received(group.trace(), member(number)?);
+    Ok(received == checkpointed as usize + recovered.replayed as usize)
+}
+
 /// Strikes the member and recovers it. Afterwards each member is at the fold of its receipts, and the others are where
 /// they were.
 fn strike<B: Behaviour>(
@@ -152,8 +218,8 @@ fn strike<B: Behaviour>(
     let struck = MemberSet::empty().with(member(number)?);
     assert!(rt; is_safe_without(alloc, group, struck)?);
     let mut expected = states(group)?;
-    group.strike(struck)?;
-    group.recover()?;
+    assert!(rt; is_struck(alloc, group, struck)?);
+    assert!(rt; is_recovered(group, number)?);
     assert!(rt; is_folded(formula, group)?);
     let after = states(group)?;
     let place = usize::from(number).min(3);
@@ -169,7 +235,8 @@ fn is_delivered<B: Behaviour>(
     count: u32,
 ) -> Result<bool, Fail> {
     let made = deliver_some(group, count)?;
-    Ok(made == count && group.is_quiet() == (count == 12) && is_folded(formula, group)?)
+    let has_all = count_receipts(group.trace()) == 12;
+    Ok(made == count && group.is_quiet() == has_all && is_folded(formula, group)?)
 }
 
 /// Delivers what is left, and answers whether all twelve messages are received and each member is at the fold of them.
@@ -194,6 +261,65 @@ fn strike_after<B: Behaviour>(
     states(&group)
 }
 
+/// How many deliveries are made before a member is checkpointed, how many more then, and who is struck after them.
+#[derive(Clone, Copy, Debug)]
+struct Case {
+    earlier: u32,
+    checkpointed: u8,
+    later: u32,
+    struck: u8,
+}
+
+/// Checkpoints the member, and answers whether its checkpoint has all of its receipts in the trace.
+fn is_checkpointed<B: Behaviour>(group: &mut Group<B>, number: u8) -> Result<bool, Fail> {
+    let me = member(number)?;
+    group.checkpoint(me)?;
+    let checkpointed = checkpoint_received(group, number).ok_or("no such member")?;
+    Ok(checkpointed as usize == count_received(group.trace(), me))
+}
+
+/// Makes the case's deliveries and its checkpoint, strikes the member, recovers it, and delivers what is left. The answer is
+/// the members' states in the end.
+fn strike_after_checkpoint<B: Behaviour>(
+    rt: &impl Abort,
+    alloc: Global,
+    formula: Formula,
+    case: Case,
+) -> Result<[u64; 4], Fail> {
+    let mut group: Group<B> = FOUR.group(alloc)?;
+    assert!(rt; is_delivered(formula, &mut group, case.earlier)?);
+    assert!(rt; is_checkpointed(&mut group, case.checkpointed)?);
+    let checkpointed = checkpoint_received(&group, case.checkpointed);
+    assert!(rt; is_delivered(formula, &mut group, case.later)?);
+    strike(rt, alloc, formula, &mut group, case.struck)?;
+    assert!(rt; checkpoint_received(&group, case.checkpointed) == checkpointed);
+    assert!(rt; is_finished(formula, &mut group)?);
+    states(&group)
+}
+
+/// Each member is checkpointed after so many deliveries, and each is struck after so many more.
+fn strike_each_after_checkpoint<B: Behaviour>(
+    rt: &impl Abort,
+    alloc: Global,
+    formula: Formula,
+    earlier: u32,
+    later: u32,
+) -> Result<(), Fail> {
+    for checkpointed in 0..4 {
+        for struck in 0..4 {
+            let case = Case {
+                earlier,
+                checkpointed,
+                later,
+                struck,
+            };
+            let states = strike_after_checkpoint::<B>(rt, alloc, formula, case)?;
+            assert!(rt; formula.may_end(states), "{case:?}");
+        }
+    }
+    Ok(())
+}
+
 #[test]
 fn members_that_add_up_are_struck_after_each_delivery(rt: HostRuntime) -> Result<(), Fail> {
     for count in 0..13 {
@@ -210,6 +336,28 @@ fn members_that_mix_are_struck_after_each_delivery(rt: HostRuntime) -> Result<()
     for count in 0..13 {
         for number in 0..4 {
             strike_after::<Mix>(&rt, rt.alloc(), Formula::Mixture, count, number)?;
+        }
+    }
+    Ok(())
+}
+
+#[test]
+fn members_that_add_up_are_struck_after_each_checkpoint(rt: HostRuntime) -> Result<(), Fail> {
+    for earlier in 0..13 {
+        for later in 0..13 - earlier {
+            let alloc = rt.alloc();
+            strike_each_after_checkpoint::<Relay>(&rt, alloc, Formula::Sum, earlier, later)?;
+        }
+    }
+    Ok(())
+}
+
+#[test]
+fn members_that_mix_are_struck_after_each_checkpoint(rt: HostRuntime) -> Result<(), Fail> {
+    for earlier in 0..13 {
+        for later in 0..13 - earlier {
+            let alloc = rt.alloc();
+            strike_each_after_checkpoint::<Mix>(&rt, alloc, Formula::Mixture, earlier, later)?;
         }
     }
     Ok(())

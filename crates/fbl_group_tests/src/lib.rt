@@ -1,7 +1,11 @@
 //! Tests of the calls of a group: worked examples, each request for memory refused in turn, and a strike of each member
-//! after each delivery.
+//! after each delivery, with and without checkpoints.
 #![tactic(auto)]
 
+#[cfg(test)]
+mod checkpoint_memory;
+#[cfg(test)]
+mod checkpoints;
 #[cfg(test)]
 mod commits;
 #[cfg(test)]

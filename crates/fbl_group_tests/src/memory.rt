@@ -1,6 +1,6 @@
 //! Each request for memory of each call that takes some is refused in turn.
 
-use crate::facts::{in_flight, reading, table};
+use crate::facts::{checkpoint_received, in_flight, reading, table};
 use crate::setting::Setting;
 use crate::steps::Step::{self, Commit, Crash, Deliver, Dump, Recover, Strike, Take};
 use crate::steps::{Verdict, make_all};
@@ -13,7 +13,7 @@ use std::process::Abort;
 use std::test::Fail;
 
 /// A group on which these calls were made. `made` is the step that was made last.
-fn play<B: Behaviour, A: Allocator + Copy>(
+pub(crate) fn play<B: Behaviour, A: Allocator + Copy>(
     alloc: A,
     setting: &Setting,
     made: &mut Option<Done<B>>,
@@ -40,7 +40,7 @@ fn play_and_make<B: Behaviour>(
 }
 
 /// An allocator that refuses the request with this number, counted from 1 after those of these calls.
-fn heap<B: Behaviour>(
+pub(crate) fn heap<B: Behaviour>(
     alloc: Global,
     setting: &Setting,
     steps: &[Step],
@@ -52,7 +52,7 @@ fn heap<B: Behaviour>(
 }
 
 /// Whether all readers answer as those of a group on which these calls were made, and then the last one, if there is one.
-fn is_as<B: Behaviour, A: Allocator + Copy>(
+pub(crate) fn is_as<B: Behaviour, A: Allocator + Copy>(
     alloc: Global,
     setting: &Setting,
     steps: &[Step],
@@ -107,7 +107,7 @@ fn refuse<B: Behaviour>(
 }
 
 /// Refuses each request of the call in turn, and answers how many there were.
-fn refuse_each<B: Behaviour>(
+pub(crate) fn refuse_each<B: Behaviour>(
     rt: &impl Abort,
     alloc: Global,
     setting: &Setting,
@@ -144,7 +144,9 @@ fn has_same_member<B: Behaviour, A: Allocator + Copy, C: Allocator + Copy>(
     let (Some(one), Some(other)) = (table(first, number), table(second, number)) else {
         return false;
     };
-    reading(first, number) == reading(second, number) && has_same_entries(one, other)
+    reading(first, number) == reading(second, number)
+        && has_same_entries(one, other)
+        && checkpoint_received(first, number) == checkpoint_received(second, number)
 }
 
 /// Whether the same channels from the member have as many messages in both groups.

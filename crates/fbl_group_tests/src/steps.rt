@@ -1,11 +1,11 @@
 //! Calls that change a group, with the answers that are expected of them.
 
-use crate::facts::Fact;
+use crate::facts::{Fact, checkpoint_received};
 use crate::setting::{Setting, member, set};
 use fbl_base::Behaviour;
 use fbl_group::{
-    CommitRefusal, CrashRefusal, DeliverRefusal, Done, DumpGroupRefusal, Group, Receipted,
-    RecoverRefusal, Recovered, StrikeRefusal, Struck, TakeRefusal, Ticket, run_step,
+    CheckpointRefusal, CommitRefusal, CrashRefusal, DeliverRefusal, Done, DumpGroupRefusal, Group,
+    Receipted, RecoverRefusal, Recovered, StrikeRefusal, Struck, TakeRefusal, Ticket, run_step,
 };
 use std::alloc::{Allocator, Global};
 use std::test::Fail;
@@ -20,6 +20,8 @@ pub(crate) enum Step<'a> {
     Take((u8, u8), Result<(u64, u32, u32, u32, u8), TakeRefusal>),
     /// The step that was made last is committed.
     Commit(Result<(u32, u32, u64), CommitRefusal>),
+    /// The member, and how many receipts its checkpoint then has.
+    Checkpoint(u8, Result<u32, CheckpointRefusal>),
     /// The members, and how many receipts are lost.
     Strike(&'a [u8], Result<u32, StrikeRefusal>),
     Recover(Result<(u32, u32, u32), RecoverRefusal>),
@@ -58,6 +60,7 @@ impl<'a> Step<'a> {
             Step::Deliver(channel, expected) => deliver(group, channel, expected),
             Step::Take(channel, expected) => take(group, channel, expected, made),
             Step::Commit(expected) => commit(group, made, expected),
+            Step::Checkpoint(number, expected) => checkpoint(group, number, expected),
             Step::Strike(struck, expected) => strike(group, struck, expected),
             Step::Recover(expected) => Ok(recover(group, expected)),
             Step::Crash(struck, expected) => crash(group, struck, expected),
@@ -133,6 +136,21 @@ fn commit<B: Behaviour, A: Allocator + Copy>(
     Ok(match group.commit(done) {
         Ok(answer) => Verdict::of(expected == Ok(receipt_parts(answer))),
         Err(CommitRefusal::Memory) => Verdict::WithoutMemory,
+        Err(refusal) => Verdict::of(expected == Err(refusal)),
+    })
+}
+
+fn checkpoint<B: Behaviour, A: Allocator + Copy>(
+    group: &mut Group<B, A>,
+    number: u8,
+    expected: Result<u32, CheckpointRefusal>,
+) -> Result<Verdict, Fail> {
+    Ok(match group.checkpoint(member(number)?) {
+        Ok(()) => {
+            let received = checkpoint_received(group, number).ok_or("no such member")?;
+            Verdict::of(expected == Ok(received))
+        }
+        Err(CheckpointRefusal::Memory) => Verdict::WithoutMemory,
         Err(refusal) => Verdict::of(expected == Err(refusal)),
     })
 }
