@@ -1,12 +1,12 @@
 //! A group under a lock, each call of it in a hold of its own.
 
-use crate::fixtures::{group, member, set, start};
+use crate::fixtures::{TURNS, group, member, set, start};
 use fbl_base::{Note, Relay, Start};
 use fbl_group::{
     CommitRefusal, CrashRefusal, DeliverRefusal, Done, Receipted, RecoverRefusal, Recovered,
     StrikeRefusal, Struck, run_step,
 };
-use fbl_threads::SharedGroup;
+use fbl_threads::{NoGate, SharedGroup, drain};
 use std::alloc::Global;
 use std::process::Abort;
 use std::sync::Wait;
@@ -197,5 +197,34 @@ fn a_crash_recovers_those_that_were_down_before(rt: HostRuntime) -> Result<(), F
     assert_eq!(rt; group.config().members(), 3);
     assert_eq!(rt; group.state(member(1)?), 5);
     assert_eq!(rt; group.state(member(2)?), 5);
+    Ok(())
+}
+
+// The member begins at its checkpoint, and workers leave the checkpoint as it is.
+#[test]
+fn a_crash_recovers_from_a_checkpoint_that_a_drain_keeps(rt: HostRuntime) -> Result<(), Fail> {
+    let mut group = group(rt.alloc(), 3, 1, 8192, &[start(0, 1, 5, 2)?])?;
+    group.deliver(member(1)?, member(0)?)?;
+    group.checkpoint(member(1)?)?;
+    let shared = SharedGroup::new(group);
+    crash(
+        &rt,
+        &shared,
+        &[1],
+        Ok((Struck { lost: 0 }, recovered(1, 0))),
+    )?;
+    let (group, answer) = drain(
+        &rt,
+        rt.alloc(),
+        shared.into_inner(),
+        &[],
+        2,
+        TURNS,
+        &NoGate,
+    );
+    assert!(rt; answer?.quiet);
+    assert_eq!(rt; group.config().members(), 3);
+    assert_eq!(rt; group.checkpoint_received(member(1)?), 1);
+    assert_eq!(rt; group.state(member(1)?), 5);
     Ok(())
 }
