@@ -12,8 +12,8 @@ use fbl_base::{Behaviour, Member, MemberSet};
 use fbl_dump::dump_text;
 use fbl_group::{CheckpointRefusal, DeliverRefusal, DumpGroupRefusal, Group, RecoverRefusal};
 use fbl_lines::{
-    MemberStatus, Totals, checkpoint_text, deliver_text, recover_text, refused_text, report_text, states_text,
-    strike_text,
+    MemberStatus, Totals, checkpoint_text, deliver_text, recover_text, refused_text, report_text,
+    states_text, strike_text,
 };
 use fbl_script::Command;
 use std::alloc::{AllocError, Global};

@@ -47,7 +47,8 @@ fn prints_the_text_of_scripts_with_checkpoints(rt: HostRuntime) -> Result<(), Fa
 
 #[test]
 fn plays_no_checkpoint_of_version_1(rt: HostRuntime) {
-    let script = r#"{"version":1,"members":3,"f":1,"behaviour":"relay","start":[[0,1,5,2]],"commands":[["checkpoint",0],["deliver",1,0],["checkpoint",1],["strike",[1]],["recover"],["deliver",2,1]]}"#;
+    let script =
+        r#"{"version":1,"members":3,"f":1,"behaviour":"relay","start":[[0,1,5,2]],"commands":[["checkpoint",0],["deliver",1,0],["checkpoint",1],["strike",[1]],["recover"],["deliver",2,1]]}"#;
     let mut input = script.as_bytes();
     let mut out = Vec::new(rt.alloc());
     let done = play(&rt, rt.alloc(), &mut input, &mut out, 2);
@@ -57,7 +58,8 @@ fn plays_no_checkpoint_of_version_1(rt: HostRuntime) {
 
 #[test]
 fn plays_no_script_of_version_3(rt: HostRuntime) {
-    let script = r#"{"version":3,"members":3,"f":1,"behaviour":"relay","start":[[0,1,5,2]],"commands":[["checkpoint",0],["deliver",1,0],["checkpoint",1],["strike",[1]],["recover"],["deliver",2,1]]}"#;
+    let script =
+        r#"{"version":3,"members":3,"f":1,"behaviour":"relay","start":[[0,1,5,2]],"commands":[["checkpoint",0],["deliver",1,0],["checkpoint",1],["strike",[1]],["recover"],["deliver",2,1]]}"#;
     let mut input = script.as_bytes();
     let mut out = Vec::new(rt.alloc());
     let done = play(&rt, rt.alloc(), &mut input, &mut out, 2);

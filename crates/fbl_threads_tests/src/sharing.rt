@@ -213,15 +213,7 @@ fn a_crash_recovers_from_a_checkpoint_that_a_drain_keeps(rt: HostRuntime) -> Res
         &[1],
         Ok((Struck { lost: 0 }, recovered(1, 0))),
     )?;
-    let (group, answer) = drain(
-        &rt,
-        rt.alloc(),
-        shared.into_inner(),
-        &[],
-        2,
-        TURNS,
-        &NoGate,
-    );
+    let (group, answer) = drain(&rt, rt.alloc(), shared.into_inner(), &[], 2, TURNS, &NoGate);
     assert!(rt; answer?.quiet);
     assert_eq!(rt; group.config().members(), 3);
     assert_eq!(rt; group.checkpoint_received(member(1)?), 1);
