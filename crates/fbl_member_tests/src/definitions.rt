@@ -6,7 +6,6 @@ use fbl_base::{
     Behaviour, Config, ConfigRefusal, Determinant, DumpRefusal, Event, Mark, Member, MemberSet,
     Mix, Note, RawDump, Relay, Start,
 };
-use refusing_allocator::Refusing;
 use std::alloc::{AllocError, Allocator, Global};
 use std::test::Fail;
 
@@ -18,7 +17,7 @@ fn send(from: u8, ssn: u32, to: u8) -> Result<Mark, Fail> {
     })
 }
 
-fn receipt(to: u8, rsn: u32, from: u8, ssn: u32) -> Result<Mark, Fail> {
+pub(crate) fn receipt(to: u8, rsn: u32, from: u8, ssn: u32) -> Result<Mark, Fail> {
     Ok(Mark::Receipt {
         to: member(to)?,
         rsn,
@@ -27,7 +26,13 @@ fn receipt(to: u8, rsn: u32, from: u8, ssn: u32) -> Result<Mark, Fail> {
     })
 }
 
-fn pair(holder: u8, from: u8, ssn: u32, to: u8, rsn: u32) -> Result<(Member, Determinant), Fail> {
+pub(crate) fn pair(
+    holder: u8,
+    from: u8,
+    ssn: u32,
+    to: u8,
+    rsn: u32,
+) -> Result<(Member, Determinant), Fail> {
     Ok((
         member(holder)?,
         Determinant {
@@ -39,7 +44,7 @@ fn pair(holder: u8, from: u8, ssn: u32, to: u8, rsn: u32) -> Result<(Member, Det
     ))
 }
 
-fn start(from: u8, to: u8, hops: u8) -> Result<Start, Fail> {
+pub(crate) fn start(from: u8, to: u8, hops: u8) -> Result<Start, Fail> {
     Ok(Start {
         from: member(from)?,
         to: member(to)?,
@@ -48,10 +53,10 @@ fn start(from: u8, to: u8, hops: u8) -> Result<Start, Fail> {
 }
 
 /// How many receipts are lost, the first of them, and the orphans.
-type Audit = (usize, Option<Determinant>, MemberSet);
+pub(crate) type Audit = (usize, Option<Determinant>, MemberSet);
 
 /// A dump of three members.
-fn dump_of<A: Allocator + Copy>(
+pub(crate) fn dump_of<A: Allocator + Copy>(
     alloc: A,
     events: &[Mark],
     held: &[(Member, Determinant)],
@@ -67,7 +72,7 @@ fn dump_of<A: Allocator + Copy>(
 }
 
 /// The events of a message that goes once round a group of three.
-fn round_events() -> Result<[Mark; 6], Fail> {
+pub(crate) fn round_events() -> Result<[Mark; 6], Fail> {
     Ok([
         send(0, 1, 1)?,
         receipt(1, 1, 0, 1)?,
@@ -79,7 +84,7 @@ fn round_events() -> Result<[Mark; 6], Fail> {
 }
 
 /// Who holds which of its receipts.
-fn round_held() -> Result<[(Member, Determinant); 5], Fail> {
+pub(crate) fn round_held() -> Result<[(Member, Determinant); 5], Fail> {
     Ok([
         pair(0, 1, 1, 2, 1)?,
         pair(0, 2, 1, 0, 1)?,
@@ -102,7 +107,7 @@ fn refused<A: Allocator + Copy>(alloc: A, raw: RawDump<A>) -> Option<DumpRefusal
 }
 
 /// How many receipts of the dump are lost, the first of them, and the orphans.
-fn audit<A: Allocator + Copy>(alloc: A, raw: RawDump<A>) -> Result<Audit, DumpRefusal> {
+pub(crate) fn audit<A: Allocator + Copy>(alloc: A, raw: RawDump<A>) -> Result<Audit, DumpRefusal> {
     let dump = check_dump(alloc, raw)?;
     let found = lost(alloc, &dump).ok().ok_or(DumpRefusal::Memory)?;
     let orphans = orphans(alloc, &dump).ok().ok_or(DumpRefusal::Memory)?;
@@ -250,62 +255,6 @@ fn marks(rt: HostRuntime) -> Result<(), Fail> {
     assert!(rt; sent.mark().determinant() == None);
     assert!(rt; receipt(1, 2, 0, 1)?.determinant() == Some(pair(0, 0, 1, 1, 2)?.1));
     Ok(())
-}
-
-/// Makes a configuration and its copy, and answers whether they are the same.
-fn configure_and_copy<A: Allocator + Copy>(
-    alloc: A,
-    starts: &[Start],
-) -> Result<bool, ConfigRefusal> {
-    let config = Config::new(alloc, 2, 1, 8, starts)?;
-    let copy = config.copy().ok().ok_or(ConfigRefusal::Memory)?;
-    Ok(copy.same(&config))
-}
-
-/// Each request for memory of a new configuration and its copy is refused in turn.
-#[test]
-fn configurations_without_memory(rt: HostRuntime) -> Result<(), Fail> {
-    let starts = [start(0, 1, 15)?, start(1, 0, 0)?];
-    for at in 1..u64::MAX {
-        let heap = Refusing::new(rt.alloc(), at);
-        let answer = configure_and_copy(&heap, &starts);
-        if !heap.has_refused() {
-            assert!(rt; answer == Ok(true) && at > 2, "at request {at}");
-            return Ok(());
-        }
-        assert!(rt; answer == Err(ConfigRefusal::Memory), "at request {at}");
-    }
-    Ok(())
-}
-
-/// Each request for memory of the making of a dump, of its check and of the two questions about it is refused in turn.
-#[test]
-fn audits_without_memory(rt: HostRuntime) -> Result<(), Fail> {
-    let (events, held, strike) = (round_events()?, round_held()?, set(&[1, 2])?);
-    let whole = Ok((1, Some(held[4].1), set(&[0])?));
-    for at in 1..u64::MAX {
-        let heap = Refusing::new(rt.alloc(), at);
-        let answer = make_and_audit(&heap, &events, &held, strike);
-        if !heap.has_refused() {
-            assert!(rt; answer == whole && at > 5, "at request {at}");
-            return Ok(());
-        }
-        assert!(rt; answer == Err(DumpRefusal::Memory), "at request {at}");
-    }
-    Ok(())
-}
-
-/// Makes a dump of these parts and answers its audit.
-fn make_and_audit<A: Allocator + Copy>(
-    alloc: A,
-    events: &[Mark],
-    held: &[(Member, Determinant)],
-    strike: MemberSet,
-) -> Result<Audit, DumpRefusal> {
-    let raw = dump_of(alloc, events, held, strike)
-        .ok()
-        .ok_or(DumpRefusal::Memory)?;
-    audit(alloc, raw)
 }
 
 /// An event is one too many at place 8192, and a held pair at place 131072.

@@ -10,3 +10,5 @@ mod fixtures;
 mod records;
 #[cfg(test)]
 mod tables;
+#[cfg(test)]
+mod want_of_memory;

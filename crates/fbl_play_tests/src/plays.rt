@@ -1,5 +1,6 @@
 //! Scripts with the texts that they print, and readers and writers that stumble.
 
+use crate::scripts::INPUTS;
 use crate::unsteady::{FailedWrite, Page, UnsteadyReader, UnsteadyWriter};
 use fbl_play::{play, play_bytes};
 use fbl_script::{Key, RunFault};
@@ -75,6 +76,11 @@ const LOST_BY_TWO_STRIKES: (&str, &str) = (
     "deliver 1 0 receipt 1 carried 0 state 5\ndeliver 2 1 receipt 1 carried 1 state 5\nstrike 2 lost 1\nstrike 1 lost 2\nrecover replayed 0 resent 1 undone 2\nstates 0 0 0\n",
 );
 
+const DUMPS_AND_STATES: (&str, &str) = (
+    "{\"version\":1,\"members\":3,\"f\":1,\"behaviour\":\"relay\",\"start\":[[0,1,5,2]],\"commands\":[[\"deliver\",1,0],[\"deliver\",2,1],[\"deliver\",0,2],[\"dump\",[1]],[\"dump\",[3]],[\"strike\",[1]],[\"states\"]]}",
+    "deliver 1 0 receipt 1 carried 0 state 5\ndeliver 2 1 receipt 1 carried 1 state 5\ndeliver 0 2 receipt 1 carried 1 state 5\n{\"events\":[[\"send\",0,1,1],[\"receipt\",1,1,0,1],[\"send\",1,1,2],[\"receipt\",2,1,1,1],[\"send\",2,1,0],[\"receipt\",0,1,2,1]],\"f\":1,\"held\":[[0,1,1,2,1],[0,2,1,0,1],[1,0,1,1,1],[2,0,1,1,1],[2,1,1,2,1]],\"members\":3,\"strike\":[1]}\ndump refused BadStrike\nstrike 1 lost 0\nstates 5 - 5\n",
+);
+
 const NO_ROOM: (&str, &str) = (
     "{\"version\":1,\"members\":2,\"f\":1,\"behaviour\":\"relay\",\"limit\":1,\"start\":[[0,1,5,0]],\"commands\":[[\"deliver\",1,0],[\"report\"]]}",
     "deliver refused Full\nmember 0 up state 0 received 0 sent 1 held 0\nmember 1 up state 0 received 0 sent 0 held 0\nflight 1\ntrace 1\nlost 0\norphans none\n",
@@ -107,6 +113,7 @@ fn prints_the_text_of_each_script(rt: HostRuntime) -> Result<(), Fail> {
         REFUSALS,
         STRIKES_WHILE_DOWN,
         LOST_BY_TWO_STRIKES,
+        DUMPS_AND_STATES,
         NO_ROOM,
         ROOM,
         LARGEST_VALUE,
@@ -137,6 +144,39 @@ fn tells_the_fault_of_bytes_that_are_no_script(rt: HostRuntime) {
     let done = play_bytes(&rt, rt.alloc(), b"{}", &mut out, 2);
     assert!(rt; matches!(done, Err(RunFault::BadField(Key::Version))));
     assert!(rt; out.is_empty());
+}
+
+#[test]
+fn writes_nothing_for_an_input_that_is_no_script(rt: HostRuntime) -> Result<(), Fail> {
+    for (input, told) in INPUTS {
+        let mut out = Vec::new(rt.alloc());
+        match play_bytes(&rt, rt.alloc(), input.as_bytes(), &mut out, 2) {
+            Ok(()) => assert!(rt; told == "none"),
+            Err(fault) => assert!(rt; fault.to_string(rt.alloc())?.as_str() == told, "{input}"),
+        }
+        assert!(rt; out.is_empty(), "{input}");
+    }
+    Ok(())
+}
+
+#[test]
+fn plays_1048576_bytes(rt: HostRuntime) -> Result<(), Fail> {
+    let (script, text) = MESSAGE_AND_ANSWER;
+    let mut input = String::from_str(rt.alloc(), script)?;
+    for _place in script.len()..1_048_576 {
+        input.push_str(" ")?;
+    }
+    let mut out = Vec::new(rt.alloc());
+    let mut reader = input.as_bytes();
+    play(&rt, rt.alloc(), &mut reader, &mut out, 2)?;
+    assert!(rt; out.as_slice() == text.as_bytes());
+    input.push_str(" ")?;
+    let mut nothing = Vec::new(rt.alloc());
+    let mut reader = input.as_bytes();
+    let done = play(&rt, rt.alloc(), &mut reader, &mut nothing, 2);
+    assert!(rt; matches!(done, Err(RunFault::TooLong)));
+    assert!(rt; nothing.is_empty());
+    Ok(())
 }
 
 #[test]
@@ -191,7 +231,7 @@ fn stops_at_a_failed_write(rt: HostRuntime) -> Result<(), Fail> {
         FailedWrite::NoByte,
     ];
     for failure in failures {
-        for fails_at in 1..=9 {
+        for fails_at in 1..u32::MAX {
             let mut input = script.as_bytes();
             let mut writer = UnsteadyWriter {
                 held: Vec::new(rt.alloc()),
@@ -201,6 +241,10 @@ fn stops_at_a_failed_write(rt: HostRuntime) -> Result<(), Fail> {
                 failure,
             };
             let done = play(&rt, rt.alloc(), &mut input, &mut writer, 2);
+            if done.is_ok() {
+                assert!(rt; fails_at > 9 && writer.held.as_slice() == text.as_bytes());
+                break;
+            }
             assert!(rt; matches!(done, Err(RunFault::Write)), "at {fails_at}");
             assert!(rt; text.as_bytes().starts_with(writer.held.as_slice()));
             assert_eq!(rt; writer.writes, fails_at);
@@ -209,7 +253,17 @@ fn stops_at_a_failed_write(rt: HostRuntime) -> Result<(), Fail> {
     Ok(())
 }
 
-/// It holds too where any one growth is refused: then whole lines of the text are written, and the fault is `Memory`.
+/// After how many lines a command of the two strikes' script ends: the report has seven.
+const COMMANDS_END_AT: [usize; 10] = [0, 1, 2, 3, 4, 5, 6, 13, 14, 15];
+
+/// Whether so many bytes of the script's text end where a command does.
+fn ends_a_command(held: &[u8]) -> bool {
+    let lines = held.iter().filter(|byte| **byte == b'\n').count();
+    COMMANDS_END_AT.contains(&lines) && (held.is_empty() || held.ends_with(b"\n"))
+}
+
+/// It holds too where any one growth is refused: then the lines of the first commands are written, and the fault is
+/// `Memory`. The gate refuses each in turn.
 #[test]
 fn ends_with_memory_where_it_is_refused(rt: HostRuntime) {
     let (script, text) = TWO_STRIKES;
@@ -225,7 +279,7 @@ fn ends_with_memory_where_it_is_refused(rt: HostRuntime) {
         Err(fault) => {
             assert!(rt; matches!(fault, RunFault::Memory));
             assert!(rt; text.as_bytes().starts_with(held));
-            assert!(rt; held.is_empty() || held.ends_with(b"\n"));
+            assert!(rt; ends_a_command(held));
         }
     }
 }

@@ -168,7 +168,7 @@ fn tells_the_first_of_two_faults(rt: HostRuntime) -> Result<(), Fail> {
 }
 
 /// Inputs that are no script from the start, and those that lack a key.
-const INPUTS: [(&str, &str); 12] = [
+pub(crate) const INPUTS: [(&str, &str); 12] = [
     ("", "not json"),
     ("{\"version\":01}", "not json"),
     ("[]", "not an object"),

@@ -1,7 +1,9 @@
 //! Want of memory in a drain.
 
+ghost use Rattle.std.specs.Prelude.{◌≡◌, ◌<◌};
+
 use crate::fixtures::{STATES_OF_TWELVE, drain_by, group, has_states, starts_of_twelve, strike};
-use fbl_base::Relay;
+use fbl_base::{Event, Member, MemberSet, Relay};
 use fbl_group::Group;
 use fbl_threads::{DrainRefusal, Drained};
 use std::test::Fail;
@@ -11,11 +13,76 @@ fn is_up(group: &mut Group<Relay>) -> bool {
     group.down().count() == 0 || group.recover().is_ok()
 }
 
-/// Whether a drain of a group with so many receipts may be answered so and leave this group, where memory may be wanting.
+/// What the readers of a group of four answer, which takes no memory to keep.
+#[derive(Clone, Copy, PartialEq, Eq)]
+struct Shown {
+    /// State, receipts, sends, determinants held and the checkpoint's receipts of each member.
+    members: [(u64, u32, u32, u32, u32); 4],
+    /// How many messages are in each channel, by sender.
+    channels: [[u32; 4]; 4],
+    /// The events of the trace, of which there are fewer than 64.
+    trace: [Option<Event>; 64],
+    down: MemberSet,
+    receipts_ever: u64,
+    undone_ever: u64,
+}
+
+/// The events in their order.
+fn events(trace: &[Event]) -> [Option<Event>; 64] {
+    let mut events = [None; 64];
+    for (place, event) in trace.iter().enumerate() {
+        if place < 64 {
+            events[place] = Some(*event);
+        }
+    }
+    events
+}
+
+/// What the readers of the group answer, if it has four members.
+fn shown(group: &Group<Relay>) -> Option<Shown> {
+    if group.config().members() != 4 {
+        return None;
+    }
+    let mut members = [(0, 0, 0, 0, 0); 4];
+    let mut channels = [[0; 4]; 4];
+    for number in 0..4u8 {
+        let member = Member::new(number).unwrap();
+        members[usize::from(number)] = (
+            group.state(member),
+            group.received(member),
+            group.sent(member),
+            group.held(member),
+            group.checkpoint_received(member),
+        );
+        channels[usize::from(number)] = channels_from(group, member);
+    }
+    Some(Shown {
+        members,
+        channels,
+        trace: events(group.trace()),
+        down: group.down(),
+        receipts_ever: group.receipts_ever(),
+        undone_ever: group.undone_ever(),
+    })
+}
+
+/// How many messages are on the channels from the member of a group of four.
+fn channels_from(group: &Group<Relay>, from: Member) -> [u32; 4]
+    requires members { group.now.config.members ≡ 4 }
+    requires from { from < 4 }
+{
+    let mut channels = [0; 4];
+    for number in 0..4u8 {
+        channels[usize::from(number)] = group.in_flight(from, Member::new(number).unwrap());
+    }
+    channels
+}
+
+/// Whether a drain of a group that was as shown may be answered so and leave this group, where memory may be wanting.
 fn is_fair(
     answer: &Result<Drained, DrainRefusal>,
     group: &Group<Relay>,
-    ever: u64,
+    before: Option<Shown>,
     may_be_down: bool,
 ) -> bool {
     match answer {
@@ -25,14 +92,15 @@ fn is_fair(
                 && !drained.full
         }
         Err(DrainRefusal::Memory | DrainRefusal::NoTable | DrainRefusal::NoThread) => {
-            group.receipts_ever() == ever
+            before.is_some() && shown(group) == before
         }
-        Err(refusal) => *refusal == DrainRefusal::Down && may_be_down,
+        Err(refusal) => *refusal == DrainRefusal::Down && may_be_down && shown(group) == before,
     }
 }
 
 /// It holds too where any one request for memory is refused: then the group is drained in spite of it, or the answer says
-/// that memory was wanting, and what is left is drained afterwards as if nothing had been refused.
+/// that memory was wanting, and what is left is drained afterwards as if nothing had been refused. The gate refuses each in
+/// turn.
 #[test]
 fn a_drain_goes_on_after_want_of_memory(rt: HostRuntime) -> Result<(), Fail> {
     let strikes = [strike(2, &[1])?, strike(5, &[0, 3])?, strike(9, &[2])?];
@@ -43,12 +111,12 @@ fn a_drain_goes_on_after_want_of_memory(rt: HostRuntime) -> Result<(), Fail> {
     for number in 0..3 {
         let may_be_down = number == 1;
         assert!(rt; is_up(&mut group) || may_be_down, "drain {number}");
-        let ever = group.receipts_ever();
+        let before = shown(&group);
         let plan = if number == 0 { &strikes[..] } else { &[] };
         let (back, answer) = drain_by(&rt, rt.alloc(), group, plan, 2);
         group = back;
         assert!(rt;
-            is_fair(&answer, &group, ever, may_be_down),
+            is_fair(&answer, &group, before, may_be_down),
             "drain {number}"
         );
     }

@@ -48,7 +48,7 @@ fn make_up_for<R: Threads + Wait + Sync + Abort>(
     alloc: Global,
     plan: &[Strike],
 ) -> Result<(), Fail> {
-    for workers in [1, 2, 8] {
+    for workers in 1..=8 {
         assert!(rt;
             is_made_up_for(rt, alloc, plan, workers)?,
             "{plan:?}, {workers} workers"

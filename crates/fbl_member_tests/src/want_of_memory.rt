@@ -1,0 +1,189 @@
+//! Each request for memory of configurations and of audits refused in turn, on worked examples.
+
+use crate::definitions::{Audit, audit, dump_of, pair, receipt, round_events, round_held, start};
+use crate::fixtures::{Refusal, member, set};
+use fbl_base::{Config, ConfigRefusal, Determinant, DumpRefusal, Mark, Member, MemberSet, Start};
+use refusing_allocator::Refusing;
+use std::alloc::{Allocator, Global};
+use std::test::Fail;
+
+/// The parameters of a configuration.
+struct Parameters<'a> {
+    members: u8,
+    f: u8,
+    starts: &'a [Start],
+}
+
+impl Parameters<'_> {
+    fn config<A: Allocator + Copy>(&self, alloc: A) -> Result<Config<A>, ConfigRefusal> {
+        Config::new(alloc, self.members, self.f, 8192, self.starts)
+    }
+
+    /// Whether the configuration has these parameters.
+    fn are_of<A: Allocator + Copy>(&self, config: &Config<A>) -> bool {
+        config.members() == self.members
+            && config.f() == self.f
+            && config.limit() == 8192
+            && config.starts() == self.starts
+    }
+
+    /// Makes a configuration, and refuses this request.
+    fn refuse_new(&self, alloc: Global, request: u64) -> Refusal {
+        let heap = Refusing::new(alloc, request);
+        match self.config(&heap) {
+            Ok(config) => Refusal::of(heap.has_refused(), self.are_of(&config), false),
+            Err(refusal) => {
+                Refusal::of(heap.has_refused(), false, refusal == ConfigRefusal::Memory)
+            }
+        }
+    }
+
+    /// Copies a configuration, and refuses this request of the copy.
+    fn refuse_copy(&self, alloc: Global, request: u64) -> Result<Refusal, Fail> {
+        let whole = Refusing::new(alloc, 0);
+        let _config = self.config(&whole)?;
+        let heap = Refusing::new(alloc, whole.requests().saturating_add(request));
+        let config = self.config(&heap)?;
+        let copied = match config.copy() {
+            Ok(copy) => copy.same(&config) && self.are_of(&copy),
+            Err(_) => false,
+        };
+        Ok(Refusal::of(heap.has_refused(), copied, self.are_of(&config)))
+    }
+
+    /// Refuses each request of both in turn, and answers how many there were, or 0 where a refused one was not borne.
+    fn refuse_each(&self, alloc: Global) -> Result<u64, Fail> {
+        let made = self.refuse_each_of_new(alloc);
+        let copied = self.refuse_each_of_copy(alloc)?;
+        Ok(if copied == 0 { 0 } else { made })
+    }
+
+    fn refuse_each_of_new(&self, alloc: Global) -> u64 {
+        for request in 1..u64::MAX {
+            match self.refuse_new(alloc, request) {
+                Refusal::Kept => {}
+                Refusal::NotAsked => return request - 1,
+                Refusal::Broken => return 0,
+            }
+        }
+        0
+    }
+
+    fn refuse_each_of_copy(&self, alloc: Global) -> Result<u64, Fail> {
+        for request in 1..u64::MAX {
+            match self.refuse_copy(alloc, request)? {
+                Refusal::Kept => {}
+                Refusal::NotAsked => return Ok(request - 1),
+                Refusal::Broken => return Ok(0),
+            }
+        }
+        Ok(0)
+    }
+}
+
+#[test]
+fn configurations(rt: HostRuntime) -> Result<(), Fail> {
+    let one = [start(0, 1, 1)?];
+    let two = [start(0, 1, 0)?, start(1, 0, 0)?];
+    let three = [start(0, 1, 6)?, start(2, 3, 3)?, start(3, 0, 0)?];
+    let groups: [(u8, u8, &[Start]); 3] = [(2, 1, &one), (2, 1, &two), (4, 2, &three)];
+    for (members, f, starts) in groups {
+        let parameters = Parameters { members, f, starts };
+        assert!(rt;
+            parameters.refuse_each(rt.alloc())? > 0,
+            "{members} members"
+        );
+    }
+    Ok(())
+}
+
+/// Makes a dump of these parts and answers its audit.
+fn make_and_audit<A: Allocator + Copy>(
+    alloc: A,
+    events: &[Mark],
+    held: &[(Member, Determinant)],
+    strike: MemberSet,
+) -> Result<Audit, DumpRefusal> {
+    let raw = dump_of(alloc, events, held, strike)
+        .ok()
+        .ok_or(DumpRefusal::Memory)?;
+    audit(alloc, raw)
+}
+
+/// Refuses each request in turn of making, checking and asking a dump of these parts, and answers how many there were, or 0
+/// where the answer was neither this one nor want of memory where it was refused.
+fn refuse_each_of_audit(
+    alloc: Global,
+    events: &[Mark],
+    held: &[(Member, Determinant)],
+    strike: MemberSet,
+    whole: &Result<Audit, DumpRefusal>,
+) -> u64 {
+    for request in 1..u64::MAX {
+        let heap = Refusing::new(alloc, request);
+        let answer = make_and_audit(&heap, events, held, strike);
+        if !heap.has_refused() {
+            return if answer == *whole { request - 1 } else { 0 };
+        }
+        if answer != Err(DumpRefusal::Memory) {
+            return 0;
+        }
+    }
+    0
+}
+
+/// The lost receipt of the dumps that have one.
+fn lost_one() -> Result<Option<Determinant>, Fail> {
+    Ok(Some(pair(2, 0, 1, 1, 1)?.1))
+}
+
+#[test]
+fn audits(rt: HostRuntime) -> Result<(), Fail> {
+    let (events, held) = (round_events()?, round_held()?);
+    let cases: [(usize, &[u8], usize, &[u8]); 5] = [
+        (4, &[1], 1, &[0, 2]),
+        (5, &[1], 0, &[]),
+        (5, &[1, 2], 1, &[0]),
+        (5, &[], 0, &[]),
+        (0, &[], 3, &[0, 1, 2]),
+    ];
+    for (pairs, strike, lost, orphans) in cases {
+        let first = if lost > 0 { lost_one()? } else { None };
+        let whole = Ok((lost, first, set(orphans)?));
+        let requests = refuse_each_of_audit(
+            rt.alloc(),
+            &events,
+            &held[..pairs],
+            set(strike)?,
+            &whole,
+        );
+        assert!(rt; requests > 2, "{pairs} pairs, strike {strike:?}");
+    }
+    Ok(())
+}
+
+#[test]
+fn audits_of_a_pair_that_stands_twice(rt: HostRuntime) -> Result<(), Fail> {
+    let (events, held) = (round_events()?, round_held()?);
+    let twice = [held[0], held[1], held[2], held[2], held[3], held[4]];
+    let whole = Ok((0, None, MemberSet::empty()));
+    assert!(rt; refuse_each_of_audit(rt.alloc(), &events, &twice, set(&[1])?, &whole) > 2);
+    Ok(())
+}
+
+#[test]
+fn dumps_that_break_a_rule(rt: HostRuntime) -> Result<(), Fail> {
+    let (events, held) = (round_events()?, round_held()?);
+    let mut skipped = round_events()?;
+    skipped[1] = receipt(1, 2, 0, 1)?;
+    let mut unknown = round_held()?;
+    unknown[0] = pair(0, 1, 2, 2, 1)?;
+    let strike = MemberSet::empty().with(member(1)?);
+    let bad_strike = Err(DumpRefusal::BadStrike);
+    assert!(rt; refuse_each_of_audit(rt.alloc(), &events, &held, set(&[3])?, &bad_strike) > 2);
+    let bad_event = Err(DumpRefusal::BadEvent(1));
+    assert!(rt; refuse_each_of_audit(rt.alloc(), &skipped, &held, strike, &bad_event) > 0);
+    let bad_held = Err(DumpRefusal::BadHeld(0));
+    assert!(rt; refuse_each_of_audit(rt.alloc(), &events, &unknown, strike, &bad_held) > 0);
+    Ok(())
+}
