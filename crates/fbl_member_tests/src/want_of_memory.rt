@@ -8,6 +8,7 @@ use std::alloc::{Allocator, Global};
 use std::test::Fail;
 
 /// The parameters of a configuration.
+#[derive(Drop)]
 struct Parameters<'a> {
     members: u8,
     f: u8,

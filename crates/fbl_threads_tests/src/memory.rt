@@ -15,7 +15,7 @@ fn is_up(group: &mut Group<Relay>) -> bool {
 
 /// What the readers of a group of four answer, which takes no memory to keep.
 #[derive(Clone, Copy, PartialEq, Eq)]
-struct Shown {
+struct Reading {
     /// State, receipts, sends, determinants held and the checkpoint's receipts of each member.
     members: [(u64, u32, u32, u32, u32); 4],
     /// How many messages are in each channel, by sender.
@@ -39,7 +39,7 @@ fn events(trace: &[Event]) -> [Option<Event>; 64] {
 }
 
 /// What the readers of the group answer, if it has four members.
-fn shown(group: &Group<Relay>) -> Option<Shown> {
+fn reading_of(group: &Group<Relay>) -> Option<Reading> {
     if group.config().members() != 4 {
         return None;
     }
@@ -56,7 +56,7 @@ fn shown(group: &Group<Relay>) -> Option<Shown> {
         );
         channels[usize::from(number)] = channels_from(group, member);
     }
-    Some(Shown {
+    Some(Reading {
         members,
         channels,
         trace: events(group.trace()),
@@ -78,11 +78,11 @@ fn channels_from(group: &Group<Relay>, from: Member) -> [u32; 4]
     channels
 }
 
-/// Whether a drain of a group that was as shown may be answered so and leave this group, where memory may be wanting.
+/// Whether a drain of a group of which this was read before may be answered so and leave this group, where memory may be wanting.
 fn is_fair(
     answer: &Result<Drained, DrainRefusal>,
     group: &Group<Relay>,
-    before: Option<Shown>,
+    before: Option<Reading>,
     may_be_down: bool,
 ) -> bool {
     match answer {
@@ -92,9 +92,11 @@ fn is_fair(
                 && !drained.full
         }
         Err(DrainRefusal::Memory | DrainRefusal::NoTable | DrainRefusal::NoThread) => {
-            before.is_some() && shown(group) == before
+            before.is_some() && reading_of(group) == before
         }
-        Err(refusal) => *refusal == DrainRefusal::Down && may_be_down && shown(group) == before,
+        Err(refusal) => *refusal == DrainRefusal::Down
+            && may_be_down
+            && reading_of(group) == before,
     }
 }
 
@@ -111,7 +113,7 @@ fn a_drain_goes_on_after_want_of_memory(rt: HostRuntime) -> Result<(), Fail> {
     for number in 0..3 {
         let may_be_down = number == 1;
         assert!(rt; is_up(&mut group) || may_be_down, "drain {number}");
-        let before = shown(&group);
+        let before = reading_of(&group);
         let plan = if number == 0 { &strikes[..] } else { &[] };
         let (back, answer) = drain_by(&rt, rt.alloc(), group, plan, 2);
         group = back;
