@@ -16,8 +16,8 @@ use thiserror::Error;
 type View = Option<Member>;
 
 /// The rule of the words and the views, which holds between any two atomic steps: each member is free, its word 0 and no
-/// view with it, or claimed, its word 1 and exactly one view with it. A table under the rule has no other kinds of step
-/// than those below.
+/// view with it, or claimed, its word 1 and exactly one view with it. What a step can then do to the words is the law
+/// `words_follow_views`; the steps that the calls make are the types below.
 pub struct Exclusive;
 
 impl TableRule<(), View, u8> for Exclusive {
