@@ -1,12 +1,12 @@
 -- Logs of sends, which are numbered from 1.
-use Rattle.std.proofs.Common.{◌≡◌, ℕ, zero, suc, ◌+◌, ◌<◌, ◌≤◌, ◌==◌, ◌&&◌, nat_lt, Bool, true, false, cond, if◌then◌else◌, List, [], ◌∷◌, ◌++◌, map, Option, Some, None, refl, sym, ap, ◌∙◌, arith, take, length, slice_get, slice_set}
+use Rattle.std.proofs.Common.{◌≡◌, ℕ, zero, suc, ◌+◌, ◌<◌, ◌≤◌, ◌==◌, ◌&&◌, nat_lt, Bool, true, false, cond, if◌then◌else◌, List, [], ◌∷◌, ◌++◌, map, Option, Some, None, refl, sym, ap, ◌∙◌, arith, take, length, slice_get, slice_set, unwrap_or, IfSome, Bor}
 use Rattle.std.proofs.lemmas.Bool.Decides.{nat_tests}
-use Rattle.std.proofs.lemmas.List.{length-map, length-append, map-append, take_all, length-take-le}
+use Rattle.std.proofs.lemmas.List.{length-append, map-append, length-take-le}
 use Rattle.std.proofs.lemmas.List.Elements.{filter-append, filter_map-append}
 use Rattle.std.proofs.Math.ListN.{length-set}
 use Rattle.std.proofs.lemmas.Option.{slice_get_past}
 use Rattle.std.specs.List.{filter, filter_map, find, cons_option}
-use Rattle.std.specs.Option.{option_map}
+use Rattle.std.specs.Option.{option_map, option_copied}
 use Rattle.fbl_base.specs.declared.trace.Note.{Note}
 use Rattle.fbl_base.specs.declared.trace.Start.{Start}
 use Rattle.fbl_base.specs.declared.outcome.Outcome.{Outcome}
@@ -48,6 +48,17 @@ messages-next me before carried sends i s at below =
     ap (messages_from me before carried) (take-next sends i s at)
     ∙ messages-step me before carried (take i sends) s
     ∙ ap (λ k. messages_from me before carried (take i sends) ++ record { from = me; to = s.0; ssn = before + k + 1; note = s.1; carried = carried } ∷ []) (length-take-le i sends (omega (arith, below)))
+
+messages-carried : (me before : ℕ) (carried : List Entry) (sends : List (ℕ × Note)) (i : ℕ) (m : Message) → slice_get (messages_from me before carried sends) i ≡ Some m → m.carried ≡ carried
+messages-carried me before carried [] zero m is = cc
+messages-carried me before carried [] (suc i) m is = cc
+messages-carried me before carried (s ∷ sends) zero m is = sym (ap (λ o. (unwrap_or o m).carried) is)
+messages-carried me before carried (s ∷ sends) (suc i) m is = messages-carried me (before + 1) carried sends i m is
+
+-- what a message that was made carries
+pub made-carried : (me before : ℕ) (carried : List Entry) (sends : List (ℕ × Note)) (messages : List Message) (i : ℕ) (made : Option (Bor Message)) → messages ≡ messages_from me before carried sends → option_copied made ≡ slice_get messages i → IfSome made (λ wire. wire.now.carried ≡ carried)
+made-carried me before carried sends messages i None are at = tt
+made-carried me before carried sends messages i (Some wire) are at = messages-carried me before carried sends i wire.now (sym (ap (λ l. slice_get l i) are) ∙ sym at)
 
 length-cons_option : {X : Type 0} (o : Option X) (xs : List X) → length xs ≤ length (cons_option o xs)
 length-cons_option None xs = omega arith

@@ -1,5 +1,5 @@
 -- What is so of every member's record.
-use Rattle.std.specs.Prelude.{◌≡◌, ℕ, ◌≤◌, List, length, map}
+use Rattle.std.specs.Prelude.{◌≡◌, ℕ, ◌≤◌, length, map}
 use Rattle.fbl_base.specs.declared.trace.Note.{Note}
 use Rattle.fbl_base.specs.Fold.{Logged, numbered}
 use Rattle.fbl_member.specs.Members.{MemberRecord}

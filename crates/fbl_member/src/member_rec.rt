@@ -1,4 +1,4 @@
-ghost use Rattle.std.specs.Prelude.{◌≡◌, ℕ, ◌+◌, ◌<◌, ◌≤◌, [], false, length, map, OnOk, OnErr, IfOk, vec_len, vec_capacity};
+ghost use Rattle.std.specs.Prelude.{◌≡◌, ℕ, ◌+◌, ◌<◌, ◌≤◌, ◌++◌, [], false, length, map, OnOk, OnErr, IfOk, IfSome, vec_len, vec_capacity};
 ghost use Rattle.std.specs.List.{All};
 ghost use Rattle.fbl_base.specs.Fold.{Logged};
 ghost use Rattle.fbl_table.specs.Tables.{is_held, piggybacked};
@@ -290,7 +290,24 @@ fn put_wires<A: Allocator + Copy>(
         let send = sends[place];
         let number = before + place as u32 + 1;
         let mut carried = lists.take_last();
-        table.piggyback_into(f, &mut carried);
+        fill_carried(&mut carried, wires.last(), table, f);
         wires.push_reserved(Wire::new(me, send.0, number, send.1, carried));
+    }
+}
+
+/// Puts what the table passes on into the list, which has room for it. A message made before has a copy of it.
+fn fill_carried<A: Allocator + Copy>(
+    carried: &mut Vec<Entry, A>,
+    made: Option<&Wire<A>>,
+    table: &Table<A>,
+    f: u8,
+)
+    requires made { IfSome made (λ wire. wire.now.carried ≡ piggybacked f table.now) }
+    requires room { vec_len carried.old + length (piggybacked f table.now) ≤ vec_capacity carried.old }
+    ensures { carried.new.items ≡ carried.old.items ++ piggybacked f table.now }
+{
+    match made {
+        Some(wire) => carried.extend_from_slice(wire.carried()).unwrap(),
+        None => table.piggyback_into(f, carried),
     }
 }

@@ -1,11 +1,13 @@
 -- Tables as a map has them.
-use Rattle.std.proofs.Common.{◌≡◌, ℕ, zero, suc, ◌+◌, ◌<◌, ◌≤◌, Bool, true, false, cond, ◌||◌, if◌then◌else◌, List, [], ◌∷◌, ◌++◌, map, Option, Some, None, is_some, unwrap_or, max, refl, sym, ap, ◌∙◌, arith, take, drop, length, slice_get, get_or}
+use Rattle.std.proofs.Common.{◌≡◌, ℕ, zero, suc, ◌+◌, ◌<◌, ◌≤◌, Bool, true, false, cond, ◌||◌, if◌then◌else◌, List, [], ◌∷◌, ◌++◌, map, Option, Some, None, is_some, unwrap_or, max, refl, sym, ap, ◌∙◌, arith, take, drop, length, slice_get, get_or, position, IfSome, IfNone}
 use Rattle.std.specs.Map.{lookup, values_of, keys_of}
 use Rattle.std.specs.Ordering.{nat_cmp}
 use Rattle.std.specs.Option.{option_or}
 use Rattle.std.proofs.lemmas.Bool.{false≢true}
-use Rattle.std.specs.List.{list_any, filter, find, fold}
-use Rattle.std.proofs.lemmas.List.{take_all, take_more, take-append-drop, map-append}
+use Rattle.std.specs.List.{find, AllByRecursion, IsDistinct}
+use Rattle.std.proofs.lemmas.List.Quantifiers.{position-Some}
+use Rattle.fbl_base.proofs.Recorded.{Decides-same_determinant}
+use Rattle.std.proofs.lemmas.List.{take_more, take-append-drop, map-append}
 use Rattle.std.proofs.lemmas.List.Elements.{filter-append}
 use Rattle.std.proofs.lemmas.List.Folds.{find-append}
 use Rattle.std.proofs.lemmas.List.Sums.{fold_push}
@@ -13,12 +15,10 @@ use Rattle.std.proofs.lemmas.Option.{slice_get_within, get_or_from_slice_get, sl
 use Rattle.indexmap.specs.Layout.{set_value_at}
 use Rattle.std.specs.FinSet as set
 use Rattle.fbl_base.specs.declared.trace.Determinant.{Determinant}
-use Rattle.std.specs.Cmp.{nat_cmp_total}
-use Rattle.fbl_base.specs.MemberSets.{same_from_contains}
 use Rattle.fbl_base.specs.Events.{same_determinant}
 use Rattle.indexmap.specs.IndexMap.{insert_entry}
 use Rattle.fbl_table.specs.declared.entry.Entry.{Entry}
-use Rattle.fbl_table.specs.Tables.{is_held, added, entry_of, is_unstable, piggybacked, gathered, learned, held_by, names, found, greatest_rsn, rsn_of, marked}
+use Rattle.fbl_table.specs.Tables.{is_held, has_at, added, entry_of, is_unstable, piggybacked, gathered, learned, held_by, greatest_rsn, rsn_of, marked}
 
 Pair : Type 0
 Pair = Determinant × set.FinSet nat_cmp
@@ -31,22 +31,6 @@ held-lookup (e ∷ es) d =
       | false ↦ held-lookup es d
     ]
 
--- what is known of the determinant, united with more
-abbrev pub more_known : Option (set.FinSet nat_cmp) → set.FinSet nat_cmp → set.FinSet nat_cmp
-more_known known more = set.union (unwrap_or known set.empty) more
-
-pub union-none : (more : set.FinSet nat_cmp) → set.union set.empty more ≡ more
-union-none more = same_from_contains _ _ (λ q. set.contains-union nat_cmp_total set.empty more q ∙ ap (λ b. b || set.contains more q) (set.contains-empty nat_cmp q))
-
-pub insert-added : (es : List (Determinant × set.FinSet nat_cmp)) (entry : Entry) → map entry_of (insert_entry same_determinant es entry.det (more_known (lookup (same_determinant entry.det) es) entry.known)) ≡ added (map entry_of es) entry
-unfolding added
-insert-added [] entry = ap (λ known. record { det = entry.det; known = known } ∷ []) (union-none entry.known)
-insert-added (e ∷ es) entry =
-    elim (same_determinant entry.det e.0) as (λ b. map entry_of (if b then (e.0, more_known (cond b (Some e.1) (lookup (same_determinant entry.det) es)) entry.known) ∷ es else e ∷ insert_entry same_determinant es entry.det (more_known (cond b (Some e.1) (lookup (same_determinant entry.det) es)) entry.known)) ≡ (if b then record { det = e.0; known = set.union e.1 entry.known } ∷ map entry_of es else entry_of e ∷ added (map entry_of es) entry)) [
-      | true ↦ refl
-      | false ↦ ap (λ t. entry_of e ∷ t) (insert-added es entry)
-    ]
-
 pub noted-insert : (es : List (Determinant × set.FinSet nat_cmp)) (d : Determinant) (known : set.FinSet nat_cmp) → is_held (map entry_of es) d ≡ false → map entry_of (insert_entry same_determinant es d known) ≡ map entry_of es ++ record { det = d; known = known } ∷ []
 noted-insert [] d known none = refl
 noted-insert (e ∷ es) d known none = at (noted-insert es d known) (same_determinant d e.0) refl where
@@ -55,6 +39,63 @@ noted-insert (e ∷ es) d known none = at (noted-insert es d known) (same_determ
   at more false is =
       let rest : is_held (map entry_of es) d ≡ false = sym (ap (λ b. b || is_held (map entry_of es) d) is) ∙ none in
       ap (λ b. map entry_of (if b then (e.0, known) ∷ es else e ∷ insert_entry same_determinant es d known)) is ∙ ap (λ t. entry_of e ∷ t) (more rest)
+
+-- a determinant that has an entry at a place is held
+pub held-at : (table : List Entry) (d : Determinant) (i : ℕ) → has_at table d i ≡ true → is_held table d ≡ true
+held-at [] d zero has = absurd (false≢true has)
+held-at [] d (suc i) has = absurd (false≢true has)
+held-at (e ∷ table) d zero has = ap (λ b. b || is_held table d) has
+held-at (e ∷ table) d (suc i) has = at (same_determinant d e.det) (held-at table d i has) where
+  at : (b : Bool) → is_held table d ≡ true → (b || is_held table d) ≡ true
+  at true held = refl
+  at false held = held
+
+pub within-at : (table : List Entry) (d : Determinant) (i : ℕ) → has_at table d i ≡ true → i < length table
+within-at [] d zero has = absurd (false≢true has)
+within-at [] d (suc i) has = absurd (false≢true has)
+within-at (e ∷ table) d zero has = omega arith
+within-at (e ∷ table) d (suc i) has = omega (arith, within-at table d i has)
+
+has-key : (es : List (Determinant × set.FinSet nat_cmp)) (d x : Determinant) (i : ℕ) → i < length (keys_of es) → same_determinant d (get_or (keys_of es) i x) ≡ true → has_at (map entry_of es) d i ≡ true
+has-key [] d x i below is = absurd (omega (arith, below))
+has-key (e ∷ es) d x zero below is = is
+has-key (e ∷ es) d x (suc i) below is = has-key es d x i (omega (arith, below)) is
+
+-- where the map finds the determinant
+pub has-position : (es : List (Determinant × set.FinSet nat_cmp)) (d : Determinant) (i : ℕ) → position (same_determinant d) (keys_of es) ≡ Some i → has_at (map entry_of es) d i ≡ true
+has-position es d i is = let here = position-Some (same_determinant d) (keys_of es) i d is in has-key es d d i here.0 here.1
+
+pub has-found : (es : List (Determinant × set.FinSet nat_cmp)) (d : Determinant) (r : Option ℕ) → r ≡ position (same_determinant d) (keys_of es) → IfSome r (λ i. has_at (map entry_of es) d i ≡ true)
+has-found es d None is = tt
+has-found es d (Some i) is = has-position es d i (sym is)
+
+pub not_held-missing : (es : List (Determinant × set.FinSet nat_cmp)) (d : Determinant) (r : Option ℕ) → is_some r ≡ is_some (lookup (same_determinant d) es) → IfNone r (is_held (map entry_of es) d ≡ false)
+not_held-missing es d None is = sym (held-lookup es d) ∙ sym is
+not_held-missing es d (Some i) is = tt
+
+apart-at : (es : List (Determinant × set.FinSet nat_cmp)) (k d : Determinant) (i : ℕ) → AllByRecursion (λ y. same_determinant k y ≡ false) (keys_of es) → has_at (map entry_of es) d i ≡ true → same_determinant d k ≡ false
+apart-at [] k d zero all has = absurd (false≢true has)
+apart-at [] k d (suc i) all has = absurd (false≢true has)
+apart-at (e ∷ es) k d zero all has = at (same_determinant d k) refl where
+  at : (b : Bool) → same_determinant d k ≡ b → same_determinant d k ≡ false
+  at true is =
+      let other : k ≡ e.0 = sym ((Decides-same_determinant d k).0 is) ∙ (Decides-same_determinant d e.0).0 has in
+      absurd (false≢true (sym all.0 ∙ (Decides-same_determinant k e.0).1 other))
+  at false is = is
+apart-at (e ∷ es) k d (suc i) all has = apart-at es k d i all.1 has
+
+-- what is known at the determinant's place, united with more
+pub added-at : (es : List (Determinant × set.FinSet nat_cmp)) (entry : Entry) (i : ℕ) (v : set.FinSet nat_cmp) → IsDistinct same_determinant (keys_of es) → has_at (map entry_of es) entry.det i ≡ true → slice_get (values_of es) i ≡ Some v → map entry_of (set_value_at es i (set.union v entry.known)) ≡ added (map entry_of es) entry
+unfolding added IsDistinct
+added-at [] entry zero v once has is = absurd (false≢true has)
+added-at [] entry (suc i) v once has is = absurd (false≢true has)
+added-at (e ∷ es) entry zero v once has is =
+    let value : v ≡ e.1 = sym (ap (λ o. unwrap_or o v) is) in
+    (λ j. record { det = e.0; known = set.union (value j) entry.known } ∷ map entry_of es)
+    ∙ sym (ap (λ b. if b then record { det = e.0; known = set.union e.1 entry.known } ∷ map entry_of es else entry_of e ∷ added (map entry_of es) entry) has)
+added-at (e ∷ es) entry (suc i) v once has is =
+    ap (λ t. entry_of e ∷ t) (added-at es entry i v once.1 has is)
+    ∙ sym (ap (λ b. if b then record { det = e.0; known = set.union e.1 entry.known } ∷ map entry_of es else entry_of e ∷ added (map entry_of es) entry) (apart-at es e.0 entry.det i once.0 has))
 
 pub take-next : {X : Type 0} (xs : List X) (i : ℕ) (x : X) → slice_get xs i ≡ Some x → take (i + 1) xs ≡ take i xs ++ x ∷ []
 take-next xs i x is = take_more xs i x (slice_get_within xs i x is) ∙ ap (λ y. take i xs ++ y ∷ []) (get_or_from_slice_get xs i x x is)

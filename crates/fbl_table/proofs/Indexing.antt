@@ -4,7 +4,7 @@ use Rattle.std.proofs.lemmas.Bool.{false≢true}
 use Rattle.std.proofs.lemmas.Bool.Decides.{nat_tests}
 use Rattle.std.proofs.lemmas.List.{take_all}
 use Rattle.std.proofs.lemmas.List.Elements.{filter-append, filter_map-append}
-use Rattle.std.specs.List.{filter, filter_map, list_any, cons_option}
+use Rattle.std.specs.List.{filter, filter_map, cons_option}
 use Rattle.std.specs.Option.{option_map_or}
 use Rattle.std.specs.Ordering.{nat_cmp}
 use Rattle.std.specs.Cmp.{nat_cmp_total}
@@ -191,15 +191,7 @@ added-new (e ∷ table) entry new = at (added-new table entry) (same_determinant
 pub index-added_held : (limit : ℕ) (table : List Entry) (entry : Entry) (open_places : List ℕ) → is_held table entry.det ≡ true → IsIndex limit table open_places → IsIndex limit (added table entry) open_places
 index-added_held limit table entry open_places held index = index-grown limit table (added table entry) open_places (length-added table entry held) (added-weaker limit table entry held) index
 
-pub index-added_new : (limit : ℕ) (table : List Entry) (entry : Entry) (open_places : List ℕ) → is_held table entry.det ≡ false → IsIndex limit table open_places → IsIndex limit (added table entry) (open_places ++ length table ∷ [])
-index-added_new limit table entry open_places new index = rw (added-new table entry new) (index-push limit table entry open_places index)
-
 -- as the code has it
-pub new-index : (limit place : ℕ) (es new : List (Determinant × set.FinSet nat_cmp)) (entry : Entry) (before after : List ℕ) → is_held (map entry_of es) entry.det ≡ false → IsIndex limit (map entry_of es) before → place ≡ length es → map entry_of new ≡ added (map entry_of es) entry → after ≡ before ++ place ∷ [] → IsIndex limit (map entry_of new) after
-new-index limit place es new entry before after apart index at is items =
-    let last : after ≡ before ++ length (map entry_of es) ∷ [] = items ∙ ap (λ k. before ++ k ∷ []) (at ∙ sym (length-map es entry_of)) in
-    rw (is, last) (index-added_new limit (map entry_of es) entry before apart index)
-
 pub held-index : (limit : ℕ) (es new : List (Determinant × set.FinSet nat_cmp)) (entry : Entry) (open_places : List ℕ) → is_held (map entry_of es) entry.det ≡ true → IsIndex limit (map entry_of es) open_places → map entry_of new ≡ added (map entry_of es) entry → IsIndex limit (map entry_of new) open_places
 held-index limit es new entry open_places held index is = rw is (index-added_held limit (map entry_of es) entry open_places held index)
 

@@ -1,5 +1,5 @@
 -- The places of a table that are looked at when a message is sent.
-use Rattle.std.specs.Prelude.{◌≡◌, ℕ, ◌<◌, Bool, false, List, [], ◌∷◌, ◌++◌, length, map, Option, Some, None, slice_get}
+use Rattle.std.specs.Prelude.{◌≡◌, ℕ, ◌<◌, Bool, false, List, [], ◌∷◌, ◌++◌, length, slice_get}
 use Rattle.std.proofs.Common.{zero, suc}
 use Rattle.std.specs.List.{filter}
 use Rattle.std.specs.Option.{option_map_or}

@@ -2,9 +2,9 @@
 -- determinant are an estimate from below of those that do, its Log (Alvisi and Marzullo 1998). That determinants are passed
 -- on with messages until more than f members are known to hold them is called family-based logging (Alvisi, Hoppe and
 -- Marzullo 1993).
-use Rattle.std.specs.Prelude.{ℕ, Bool, ◌&&◌, ◌==◌, nat_le, if◌then◌else◌, List, [], ◌∷◌, ◌++◌, map, max, Option}
-use Rattle.std.specs.List.{filter, fold, find, list_any, IsDistinct}
-use Rattle.std.specs.Option.{option_map}
+use Rattle.std.specs.Prelude.{ℕ, Bool, false, ◌&&◌, ◌==◌, nat_le, if◌then◌else◌, List, [], ◌∷◌, ◌++◌, map, max, Option, slice_get}
+use Rattle.std.specs.List.{filter, fold, find, list_any}
+use Rattle.std.specs.Option.{option_map, option_map_or}
 use Rattle.std.specs.Ordering.{nat_cmp}
 use Rattle.std.specs.FinSet as set
 use Rattle.fbl_base.specs.declared.trace.Determinant.{Determinant}
@@ -50,6 +50,10 @@ marked members table = map (λ e. record { det = e.det; known = set.union e.know
 -- whether the table has the determinant
 abbrev pub is_held : List Entry → Determinant → Bool
 is_held table determinant = list_any (λ e. same_determinant determinant e.det) table
+
+-- whether the entry at the place is the determinant's
+abbrev pub has_at : List Entry → Determinant → ℕ → Bool
+has_at table determinant place = option_map_or (λ e. same_determinant determinant e.det) (slice_get table place) false
 
 -- whether it is the determinant of the member's receipt with this number
 abbrev pub names : ℕ → ℕ → Entry → Bool

@@ -1,9 +1,9 @@
-ghost use Rattle.std.specs.Prelude.{◌≡◌, ℕ, ◌+◌, ◌^◌, ◌<◌, ◌≤◌, ◌++◌, [], length, OnOk, OnErr, IfOk, Some, None, false, slice_get, map, vec_len, vec_capacity};
+ghost use Rattle.std.specs.Prelude.{◌≡◌, ℕ, ◌+◌, ◌^◌, ◌<◌, ◌≤◌, ◌++◌, [], ◌∷◌, length, OnOk, OnErr, IfOk, IfSome, IfNone, Some, None, true, false, slice_get, map, vec_len, vec_capacity};
 ghost use Rattle.std.specs.List.{IsDistinct, filter_map};
 ghost use Rattle.fbl_base.specs.Events.{same_determinant};
 ghost use Rattle.indexmap.specs.IndexMap.{insert_entry, spare, get};
 ghost use Rattle.fbl_table.specs.Index.{IsIndex, unstable_at};
-ghost use Rattle.fbl_table.specs.Tables.{is_held, found, greatest_rsn, learned, noted, piggybacked, gathered, marked, added, entry_of};
+ghost use Rattle.fbl_table.specs.Tables.{is_held, has_at, found, greatest_rsn, learned, noted, piggybacked, gathered, marked, added, entry_of};
 
 use crate::entry::Entry;
 use fbl_base::{Determinant, Member, MemberSet};
@@ -209,9 +209,11 @@ impl<A: Allocator + Copy> Table<A> {
     {
         self.entries.reserve(other.len())?;
         self.open_places.reserve(other.len())?;
+        let mut likely = 0;
         for place in 0..other.len() {
             let entry = other.entry_at(place);
-            add(&mut self.entries, &mut self.open_places, entry);
+            let found = add(&mut self.entries, &mut self.open_places, entry, likely);
+            likely = found.saturating_add(1);
         }
         prune(&self.entries, &mut self.open_places, self.limit);
         Ok(())
@@ -268,8 +270,14 @@ impl<A: Allocator + Copy> Table<A> {
     }
 }
 
-/// Adds an entry where there is room for one. The place of a new one is open.
-fn add<A: Allocator>(entries: &mut Entries<A>, open_places: &mut Vec<usize, A>, entry: Entry)
+/// Adds an entry where there is room for one, and answers its place. The place of a new one is open. It is looked for at
+/// the place `likely` first.
+fn add<A: Allocator>(
+    entries: &mut Entries<A>,
+    open_places: &mut Vec<usize, A>,
+    entry: Entry,
+    likely: usize,
+) -> usize
     requires entries { 0 < spare entries.old }
     requires places { vec_len open_places.old < vec_capacity open_places.old }
     ensures entries { map entry_of entries.new.entries ≡ added (map entry_of entries.old.entries) entry }
@@ -278,12 +286,59 @@ fn add<A: Allocator>(entries: &mut Entries<A>, open_places: &mut Vec<usize, A>, 
     ensures open_len { vec_len open_places.new ≤ vec_len open_places.old + 1 }
     ensures open_room { vec_capacity open_places.old ≤ vec_capacity open_places.new }
 {
+    let end = entries.len();
+    match place_of(entries, &entry.det, likely) {
+        Some(place) => {
+            let known = entries[place].union(entry.known);
+            entries[place] = known;
+            place
+        }
+        None => {
+            add_new(entries, open_places, entry);
+            end
+        }
+    }
+}
+
+/// Adds an entry of a determinant that there is none of, where there is room for one. Its place is open.
+fn add_new<A: Allocator>(entries: &mut Entries<A>, open_places: &mut Vec<usize, A>, entry: Entry)
+    requires new { is_held (map entry_of entries.old.entries) entry.det ≡ false }
+    requires entries { 0 < spare entries.old }
+    requires places { vec_len open_places.old < vec_capacity open_places.old }
+    ensures entries { map entry_of entries.new.entries ≡ map entry_of entries.old.entries ++ entry ∷ [] }
+    ensures places { (limit : ℕ) → IsIndex limit (map entry_of entries.old.entries) open_places.old.items → IsIndex limit (map entry_of entries.new.entries) open_places.new.items }
+    ensures room { spare entries.old ≤ spare entries.new + 1 }
+    ensures open_len { vec_len open_places.new ≤ vec_len open_places.old + 1 }
+    ensures open_room { vec_capacity open_places.old ≤ vec_capacity open_places.new }
+{
     let place = entries.len();
-    let old = entries.get(&entry.det).copied();
-    let known = old.unwrap_or(MemberSet::empty());
-    entries.insert(entry.det, known.union(entry.known)).unwrap();
-    if old.is_none() {
-        open_places.push_reserved(place);
+    entries.insert(entry.det, entry.known).unwrap();
+    open_places.push_reserved(place);
+}
+
+/// The place of the determinant's entry, if there is one. The place `likely` and the next are looked at before the hash:
+/// what one table passes on, another mostly has in the same order.
+fn place_of<A: Allocator>(entries: &Entries<A>, det: &Determinant, likely: usize) -> Option<usize>
+    ensures has { IfSome result (λ place. has_at (map entry_of entries.now.entries) det.now place ≡ true) }
+    ensures none { IfNone result (is_held (map entry_of entries.now.entries) det.now ≡ false) }
+{
+    if is_at(entries, det, likely) {
+        return Some(likely);
+    }
+    let next = likely.saturating_add(1);
+    if is_at(entries, det, next) {
+        return Some(next);
+    }
+    entries.get_index_of(det)
+}
+
+/// Whether the entry at the place is the determinant's.
+fn is_at<A: Allocator>(entries: &Entries<A>, det: &Determinant, place: usize) -> bool
+    ensures { result ≡ has_at (map entry_of entries.now.entries) det.now place }
+{
+    match get_entry(entries, place) {
+        Some(entry) => *det == entry.det,
+        None => false,
     }
 }
 
@@ -302,15 +357,13 @@ fn add_carried<A: Allocator>(
     ensures open_len { vec_len open_places.new ≤ vec_len open_places.old + length carried.now }
     ensures open_room { vec_capacity open_places.old ≤ vec_capacity open_places.new }
 {
+    let mut likely = 0;
     for entry in carried {
-        add(
-            entries,
-            open_places,
-            Entry {
-                det: entry.det,
-                known: entry.known.with(me),
-            },
-        );
+        let learned = Entry {
+            det: entry.det,
+            known: entry.known.with(me),
+        };
+        likely = add(entries, open_places, learned, likely).saturating_add(1);
     }
 }
 
@@ -327,14 +380,11 @@ fn add_own<A: Allocator>(
     ensures entries { map entry_of entries.new.entries ≡ noted me (map entry_of entries.old.entries) det }
     ensures places { (limit : ℕ) → IsIndex limit (map entry_of entries.old.entries) open_places.old.items → IsIndex limit (map entry_of entries.new.entries) open_places.new.items }
 {
-    add(
-        entries,
-        open_places,
-        Entry {
-            det,
-            known: MemberSet::empty().with(me),
-        },
-    );
+    let own = Entry {
+        det,
+        known: MemberSet::empty().with(me),
+    };
+    add_new(entries, open_places, own);
 }
 
 /// Puts the entries at these places that at most `f` members are known to hold at the end of the list.

@@ -1,12 +1,9 @@
-use Rattle.std.proofs.Common.{◌≡◌, ◌+◌, ◌<◌, ◌≤◌, ◌++◌, ◌∷◌, [], Some, ap, ◌∙◌, sym, arith, length, refl, take}
-use Rattle.std.specs.List.{All}
-use Rattle.std.specs.Vec.{vec_len, vec_capacity}
+use Rattle.std.proofs.Common.{◌≡◌, ◌-◌, ◌++◌, Some, ap, ◌∙◌, arith, length, refl, take}
 use Rattle.std.proofs.lemmas.List.Elements.{All-pop}
 use Rattle.fbl_table.specs.Tables.{piggybacked}
 use Rattle.fbl_table.proofs.Adding.{item_at}
 use Rattle.fbl_member.specs.Rooms.{HasRoom}
-use Rattle.fbl_member.specs.Members.{messages_from}
-use Rattle.fbl_member.proofs.Logs.{messages-next}
+use Rattle.fbl_member.proofs.Logs.{messages-next, made-carried}
 use Rattle.fbl_member.proofs.member_rec.put_wires.Goals as goal
 
 pub loop-place-preserved : goal.loop-place-preserved
@@ -17,7 +14,7 @@ loop-place-preserved g c =
     let at = item_at c.args.sends.now i s (omega (arith, c.loop-place-test.true)) c.index-sends-place.is in
     let next = messages-next c.args.me c.args.before carried c.args.sends.now i s at c.loop-place-test.true in
     let popped = All-pop (HasRoom (length carried)) c.loop-place.lists.items c.take_last-carried.new.self.items (Some c.take_last-carried.result) c.take_last-carried.ensures.items c.loop-place.invariant.room in
-    let entries : c.piggyback_into.new.carried.items ≡ carried = c.piggyback_into.ensures ∙ ap (λ l. l ++ carried) popped.1.0 in
+    let entries : c.fill_carried.new.carried.items ≡ carried = c.fill_carried.ensures ∙ ap (λ l. l ++ carried) popped.1.0 in
     record {
       so_far = rw (c.push_reserved.ensures.items, next, c.loop-place.invariant.so_far, c.new.ensures, entries) refl;
       wires = omega (arith, c.push_reserved.ensures.len, c.loop-place.invariant.wires);
@@ -30,5 +27,18 @@ pub new-requires : goal.new-requires
 new-requires g c =
     let carried = piggybacked c.args.f c.args.table.now in
     let popped = All-pop (HasRoom (length carried)) c.loop-place.lists.items c.take_last-carried.new.self.items (Some c.take_last-carried.result) c.take_last-carried.ensures.items c.loop-place.invariant.room in
-    let entries : c.piggyback_into.new.carried.items ≡ carried = c.piggyback_into.ensures ∙ ap (λ l. l ++ carried) popped.1.0 in
+    let entries : c.fill_carried.new.carried.items ≡ carried = c.fill_carried.ensures ∙ ap (λ l. l ++ carried) popped.1.0 in
     rw entries c.requires.once
+
+pub fill_carried-requires-clause-made : goal.fill_carried-requires-clause-made
+fill_carried-requires-clause-made g c =
+    let carried = piggybacked c.args.f c.args.table.now in
+    let wires = c.deref.result.now in
+    let are = c.deref.ensures.value ∙ c.loop-place.invariant.so_far in
+    made-carried c.args.me c.args.before carried (take c.loop-place.place c.args.sends.now) wires (length wires - 1) c.last.result are c.last.ensures.value
+
+pub fill_carried-requires-clause-room : goal.fill_carried-requires-clause-room
+fill_carried-requires-clause-room g c =
+    let carried = piggybacked c.args.f c.args.table.now in
+    let popped = All-pop (HasRoom (length carried)) c.loop-place.lists.items c.take_last-carried.new.self.items (Some c.take_last-carried.result) c.take_last-carried.ensures.items c.loop-place.invariant.room in
+    omega (arith, popped.1.1, popped.1.2)

@@ -1,4 +1,4 @@
-use Rattle.std.proofs.Common.{◌≡◌, ◌+◌, ◌≤◌, [], take, length}
+use Rattle.std.proofs.Common.{◌≡◌, ◌+◌, take, length}
 use Rattle.std.specs.List.{All}
 use Rattle.std.specs.Vec.{vec_len, vec_capacity}
 use Rattle.fbl_table.specs.Tables.{piggybacked}

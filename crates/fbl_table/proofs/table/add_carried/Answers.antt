@@ -1,4 +1,4 @@
-use Rattle.std.proofs.Common.{◌≡◌, ap, ◌∙◌, sym, arith, refl}
+use Rattle.std.proofs.Common.{sym, arith}
 use Rattle.fbl_table.proofs.Adding.{learn-step, item_at}
 use Rattle.fbl_table.proofs.table.add_carried.Goals as goal
 

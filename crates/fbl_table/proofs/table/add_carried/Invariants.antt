@@ -1,4 +1,4 @@
-use Rattle.std.proofs.Common.{◌≡◌, ◌+◌, ◌≤◌, ℕ, length, map, take}
+use Rattle.std.proofs.Common.{◌≡◌, ◌+◌, ◌≤◌, ℕ, map, take}
 use Rattle.std.specs.Vec.{vec_len, vec_capacity}
 use Rattle.indexmap.specs.IndexMap.{spare}
 use Rattle.fbl_table.specs.Tables.{learned, entry_of}

@@ -1,8 +1,8 @@
-use Rattle.std.proofs.Common.{◌≡◌, rules, map, sym, subst}
+use Rattle.std.proofs.Common.{◌≡◌, rules, map}
 use Rattle.std.specs.List.{filter}
 use Rattle.std.proofs.lemmas.Fn.{filter_same}
 use Rattle.fbl_table.specs.Tables.{entry_of}
-use Rattle.fbl_table.specs.Index.{IsIndex, unstable_at}
+use Rattle.fbl_table.specs.Index.{unstable_at}
 use Rattle.fbl_table.proofs.Indexing.{index-pruned}
 use Rattle.fbl_table.proofs.table.prune.Goals as goal
 

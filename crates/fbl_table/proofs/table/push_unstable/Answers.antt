@@ -1,7 +1,6 @@
-use Rattle.std.proofs.Common.{◌≡◌, ◌+◌, ◌++◌, ◌∷◌, [], map, ap, ◌∙◌, sym, arith, cond, true, false, Some, slice_get, get_or, take, length}
+use Rattle.std.proofs.Common.{◌+◌, map, ◌∙◌, sym, arith, true, false, get_or}
 use Rattle.std.proofs.lemmas.List.{append-nil}
-use Rattle.std.specs.List.{filter_map}
-use Rattle.fbl_table.specs.Tables.{piggybacked, entry_of}
+use Rattle.fbl_table.specs.Tables.{entry_of}
 use Rattle.std.proofs.lemmas.Option.{slice_get-get_or}
 use Rattle.fbl_table.proofs.Indexing.{picked-entry, picked-nothing}
 use Rattle.fbl_table.proofs.Passing.{pushed, pushed-length, fits, first-picked}

@@ -1,4 +1,4 @@
-use Rattle.std.proofs.Common.{◌≡◌, ◌≤◌, ◌==◌, ◌++◌, ◌∷◌, [], ap, ◌∙◌, sym, arith, refl, length, true, false, take}
+use Rattle.std.proofs.Common.{◌≡◌, ap, ◌∙◌, sym, arith, length, true, false, take}
 use Rattle.std.proofs.lemmas.List.{append-nil, take_all}
 use Rattle.fbl_base.specs.Fold.{starts_of}
 use Rattle.fbl_table.proofs.Adding.{item_at}

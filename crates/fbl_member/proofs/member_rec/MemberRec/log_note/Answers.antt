@@ -1,4 +1,4 @@
-use Rattle.std.proofs.Common.{◌≡◌, ℕ, ◌+◌, ◌-◌, ◌<◌, ◌≤◌, ap, ◌∙◌, sym, arith, length, get_or, Some, None, slice_get}
+use Rattle.std.proofs.Common.{◌≡◌, ℕ, ◌+◌, ◌-◌, ◌<◌, ◌≤◌, ap, ◌∙◌, sym, arith, length, get_or, Some, slice_get}
 use Rattle.std.specs.Option.{option_map}
 use Rattle.fbl_base.specs.declared.trace.Note.{Note}
 use Rattle.std.proofs.lemmas.Option.{slice_get-get_or}

@@ -1,13 +1,11 @@
-use Rattle.std.proofs.Common.{◌≡◌, ◌+◌, ◌≤◌, ◌++◌, ap, ◌∙◌, sym, arith, length, refl, rules}
-use Rattle.std.specs.Vec.{vec_len, vec_capacity}
-use Rattle.std.specs.List.{All}
+use Rattle.std.proofs.Common.{◌≡◌, ◌+◌, ◌≤◌, ◌++◌, ap, ◌∙◌, arith, length, refl}
 use Rattle.std.proofs.lemmas.List.Elements.{All-weaker}
 use Rattle.fbl_base.specs.declared.trace.Determinant.{Determinant}
 use Rattle.fbl_table.specs.Tables.{learned, noted, piggybacked}
-use Rattle.fbl_member.specs.Members.{table_after, messages_from}
+use Rattle.fbl_member.specs.Members.{table_after}
 use Rattle.fbl_member.specs.Rooms.{HasRoom}
 use Rattle.fbl_member.proofs.Once.{IsOnce-piggybacked}
-use Rattle.fbl_member.proofs.Logs.{stepped, bounded, length-numbered}
+use Rattle.fbl_member.proofs.Logs.{stepped, bounded}
 use Rattle.fbl_member.proofs.member_rec.MemberRec.receive.Goals as goal
 
 pub put_wires-requires-clause-numbers : goal.put_wires-requires-clause-numbers

@@ -1,4 +1,4 @@
-use Rattle.std.proofs.Common.{◌≡◌, ◌+◌, ◌≤◌, ◌++◌, ap, ◌∙◌, sym, arith, length, refl, rules}
+use Rattle.std.proofs.Common.{◌++◌, ap, ◌∙◌, length}
 use Rattle.fbl_member.proofs.Logs.{stepped, bounded}
 use Rattle.fbl_member.proofs.member_rec.MemberRec.replay_one.Goals as goal
 

@@ -1,5 +1,4 @@
 use Rattle.std.proofs.Common.{◌≡◌, ◌≤◌, arith, length, map, rules}
-use Rattle.std.proofs.lemmas.List.{length-map}
 use Rattle.fbl_table.specs.Tables.{piggybacked, entry_of, is_unstable}
 use Rattle.fbl_table.proofs.Passing.{length-filter, unstable-open}
 use Rattle.fbl_table.proofs.table.Table.at_most_unstable.Goals as goal

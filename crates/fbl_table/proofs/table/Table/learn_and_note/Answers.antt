@@ -1,5 +1,3 @@
-use Rattle.std.proofs.Common.{◌≡◌, sym, ◌∙◌, ap, map}
-use Rattle.fbl_table.specs.Tables.{learned, entry_of}
 use Rattle.fbl_table.proofs.Adding.{not_held-learned}
 use Rattle.fbl_table.proofs.table.Table.learn_and_note.Goals as goal
 

@@ -1,4 +1,4 @@
-use Rattle.std.proofs.Common.{◌≡◌, ◌≤◌, ap, ◌∙◌, sym, refl, arith, length, map}
+use Rattle.std.proofs.Common.{◌∙◌, sym, refl, arith, map}
 use Rattle.std.proofs.lemmas.List.{length-map}
 use Rattle.fbl_table.specs.Tables.{entry_of}
 use Rattle.fbl_table.proofs.Adding.{mark-none, mark-all, mark-step, length-set_value_at}

@@ -1,4 +1,4 @@
-use Rattle.std.proofs.Common.{◌≡◌, ◌+◌, ◌++◌, ◌∷◌, [], ap, ◌∙◌, sym, arith, cond, true, false, take, length}
+use Rattle.std.proofs.Common.{◌+◌, ◌++◌, ◌∷◌, [], ap, ◌∙◌, sym, arith, cond, take}
 use Rattle.std.proofs.lemmas.List.{append-nil}
 use Rattle.fbl_table.specs.Tables.{piggybacked}
 use Rattle.fbl_table.proofs.Adding.{piggyback-step}

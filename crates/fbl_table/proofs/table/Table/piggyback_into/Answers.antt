@@ -1,6 +1,5 @@
-use Rattle.std.proofs.Common.{◌≡◌, ◌∙◌, arith, map, ap, ◌++◌, slice_get, length, sym, refl}
-use Rattle.std.specs.List.{filter_map}
-use Rattle.fbl_table.specs.Tables.{piggybacked, entry_of}
+use Rattle.std.proofs.Common.{arith, map, refl}
+use Rattle.fbl_table.specs.Tables.{entry_of}
 use Rattle.fbl_table.proofs.Indexing.{index-piggybacked}
 use Rattle.fbl_table.proofs.table.Table.piggyback_into.Goals as goal
 
