@@ -4,6 +4,7 @@
 mod claims;
 mod draining;
 mod gate;
+mod hold;
 mod ledgered;
 mod past;
 mod plan;

@@ -4,6 +4,7 @@ ghost use Rattle.std.specs.Prelude.{◌≡◌, ◌+◌, ◌%◌, ◌<◌, ◌≤
 
 use crate::claims::{Claims, Pass};
 use crate::gate::Gate;
+use crate::hold::hold;
 use crate::ledgered::{Ledgered, StepRefusal, Tally};
 use crate::plan::Strike;
 use fbl_base::{Behaviour, Member};
@@ -116,7 +117,7 @@ fn take_turn<B: Behaviour, G: Gate, C: Ledger, U: Ledger, R: Wait>(
     ensures pass { result.0 ≡ work.now.claims.now }
     ensures undone { length work.now.plan.now ≡ 0 → mine.new.undone ≡ mine.old.undone }
 {
-    if work.shared.lock(rt).is_over() {
+    if hold(rt, work.shared).is_over() {
         return (pass, Some(End::Over));
     }
     match work.claims.try_claim(pass, member) {
@@ -141,10 +142,10 @@ fn step<B: Behaviour, G: Gate, C: Ledger, U: Ledger, R: Wait>(
 ) -> Option<End>
     ensures undone { length work.now.plan.now ≡ 0 → mine.new.undone ≡ mine.old.undone }
 {
-    let ticket = work.shared.lock(rt).take_first(member)?;
+    let ticket = hold(rt, work.shared).take_first(member)?;
     work.gate.pass(member);
     let done = run_step::<B>(ticket);
-    let outcome = work.shared.lock(rt).commit_planned(&done, work.plan, mine);
+    let outcome = hold(rt, work.shared).commit_planned(&done, work.plan, mine);
     match outcome {
         Err(StepRefusal::Commit(CommitRefusal::Full)) => Some(End::Full),
         Err(
