@@ -21,6 +21,8 @@ mod memory;
 #[cfg(test)]
 mod recoveries;
 #[cfg(test)]
+mod refusals_of_memory;
+#[cfg(test)]
 mod setting;
 #[cfg(test)]
 mod steps;

@@ -150,19 +150,13 @@ impl Call {
 
     fn make<A: Allocator + Copy>(
         self,
-        me: Member,
+        scene: &Scene,
         table: &mut Table<A>,
         other: &Table<A>,
-        carried: &[Entry],
     ) -> Result<(), AllocError> {
-        let own = Determinant {
-            from: me,
-            ssn: 1,
-            to: me,
-            rsn: 100,
-        };
+        let (me, own) = (scene.me, scene.own);
         match self {
-            Call::Learn => table.learn(me, carried)?,
+            Call::Learn => table.learn(me, scene.others)?,
             Call::NoteOwn if !table.holds(&own) => table.note_own(me, own)?,
             Call::LearnAndNote if !table.holds(&own) => table.learn_and_note(me, &[], own)?,
             Call::NoteOwn | Call::LearnAndNote => {}
@@ -176,6 +170,19 @@ impl Call {
         }
         Ok(())
     }
+}
+
+/// What a call is made on and with.
+#[derive(Clone, Copy)]
+struct Scene<'a> {
+    /// The member that learns and notes.
+    me: Member,
+    /// The entries that the table has before the call.
+    before: &'a [Entry],
+    /// The entries that are learned, or gathered from another table.
+    others: &'a [Entry],
+    /// The determinant that the member notes.
+    own: Determinant,
 }
 
 /// A receipt with this number of the member's message to itself, which it alone is known to hold.
@@ -200,36 +207,29 @@ fn twenty(me: Member) -> [Entry; 20] {
     entries
 }
 
-/// How many requests for memory it takes to make two tables.
-fn requests(
-    alloc: Global,
-    me: Member,
-    first: &[Entry],
-    second: &[Entry],
-) -> Result<u64, AllocError> {
+/// How many requests for memory it takes to make the scene's two tables.
+fn requests(alloc: Global, scene: &Scene) -> Result<u64, AllocError> {
     let heap = Refusing::new(alloc, 0);
-    let _first = table_of(&heap, me, first)?;
-    let _second = table_of(&heap, me, second)?;
+    let _table = table_of(&heap, scene.me, scene.before)?;
+    let _other = table_of(&heap, scene.me, scene.others)?;
     Ok(heap.requests())
 }
 
 /// Makes the call, and refuses its request with this number, counted from 1.
-fn refuse(alloc: Global, call: Call, me: Member, request: u64) -> Result<Refusal, AllocError> {
-    let entries = twenty(me);
-    let before = &entries[..call.held_before()];
-    let earlier = requests(alloc, me, before, &entries)?;
+fn refuse(alloc: Global, call: Call, scene: &Scene, request: u64) -> Result<Refusal, AllocError> {
+    let earlier = requests(alloc, scene)?;
     let heap = Refusing::new(alloc, earlier.saturating_add(request));
-    let mut table = table_of(&heap, me, before)?;
-    let other = table_of(&heap, me, &entries)?;
-    let done = call.make(me, &mut table, &other, &entries);
-    let kept = has(&table, before);
+    let mut table = table_of(&heap, scene.me, scene.before)?;
+    let other = table_of(&heap, scene.me, scene.others)?;
+    let done = call.make(scene, &mut table, &other);
+    let kept = has(&table, scene.before);
     Ok(Refusal::of(heap.has_refused(), done.is_ok(), kept))
 }
 
 /// Refuses each request of the call in turn, and answers how many there were, or 0 where a refused one was not kept to.
-fn refuse_each(alloc: Global, call: Call, me: Member) -> Result<u64, AllocError> {
+fn refuse_each(alloc: Global, call: Call, scene: &Scene) -> Result<u64, AllocError> {
     for request in 1..u64::MAX {
-        match refuse(alloc, call, me, request)? {
+        match refuse(alloc, call, scene, request)? {
             Refusal::Kept => {}
             Refusal::NotAsked => return Ok(request - 1),
             Refusal::Broken => return Ok(0),
@@ -241,6 +241,7 @@ fn refuse_each(alloc: Global, call: Call, me: Member) -> Result<u64, AllocError>
 #[test]
 fn each_request_for_memory_may_be_refused(rt: HostRuntime) -> Result<(), Fail> {
     let me = member(3)?;
+    let entries = twenty(me);
     for call in [
         Call::Learn,
         Call::NoteOwn,
@@ -249,7 +250,37 @@ fn each_request_for_memory_may_be_refused(rt: HostRuntime) -> Result<(), Fail> {
         Call::Piggyback,
         Call::Copy,
     ] {
-        assert!(rt; refuse_each(rt.alloc(), call, me)? > 0, "{call:?}");
+        let scene = Scene {
+            me,
+            before: &entries[..call.held_before()],
+            others: &entries,
+            own: own_entry(me, 100).det,
+        };
+        assert!(rt; refuse_each(rt.alloc(), call, &scene)? > 0, "{call:?}");
+    }
+    Ok(())
+}
+
+#[test]
+fn each_request_of_a_table_of_one_receipt_may_be_refused(rt: HostRuntime) -> Result<(), Fail> {
+    let (zero, one, two) = (member(0)?, member(1)?, member(2)?);
+    let own = first_receipt(zero, one);
+    let receiver = [entry(own, &[1])?];
+    let learned = [entry(own, &[1, 2])?];
+    for (call, me, before, others) in [
+        (Call::Learn, two, &[][..], &receiver[..]),
+        (Call::NoteOwn, one, &[], &[]),
+        (Call::Gather, two, &[], &receiver),
+        (Call::Piggyback, one, &receiver, &[]),
+        (Call::Copy, two, &learned, &[]),
+    ] {
+        let scene = Scene {
+            me,
+            before,
+            others,
+            own,
+        };
+        assert!(rt; refuse_each(rt.alloc(), call, &scene)? > 0, "{call:?}");
     }
     Ok(())
 }
