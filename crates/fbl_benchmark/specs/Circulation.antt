@@ -1,6 +1,7 @@
--- What the benchmark's behaviour does.
-use Rattle.std.specs.Prelude.{ℕ, ◌<◌, ◌≤◌}
-use Rattle.fbl_base.specs.Steps.{SendsAllowed, relay_step, relay_sends_allowed}
+-- What the benchmark's behaviours do that never end.
+use Rattle.std.specs.Prelude.{ℕ, ◌+◌, ◌*◌, ◌%◌, ◌<◌, ◌≤◌}
+use Rattle.std.proofs.Common.{zero, suc}
+use Rattle.fbl_base.specs.Steps.{SendsAllowed, relay_step, relay_sends_allowed, modulus}
 use Rattle.fbl_base.specs.declared.trace.Note.{Note}
 use Rattle.fbl_base.specs.declared.outcome.Outcome.{Outcome}
 
@@ -10,3 +11,19 @@ circulate_step me n state note = relay_step me n state (record { value = note.va
 
 pub circulate_sends_allowed : (me n state : ℕ) (note : Note) → 2 ≤ n → me < n → SendsAllowed me n (circulate_step me n state note)
 circulate_sends_allowed me n state note = relay_sends_allowed me n state (record { value = note.value; hops = 2 })
+
+-- how often a long step mixes its state
+abbrev pub rounds : ℕ
+rounds = 12000
+
+-- the state mixed so many times
+unfoldable pub mixed : ℕ → ℕ → ℕ
+mixed zero state = state
+mixed (suc count) state = (31 * mixed count state + 1) % modulus
+
+-- the same step with the new state mixed
+abbrev pub long_circulate_step : ℕ → ℕ → ℕ → Note → Outcome
+long_circulate_step me n state note = let outcome = circulate_step me n state note in record { state = mixed rounds outcome.state; sends = outcome.sends }
+
+pub long_circulate_sends_allowed : (me n state : ℕ) (note : Note) → 2 ≤ n → me < n → SendsAllowed me n (long_circulate_step me n state note)
+long_circulate_sends_allowed me n state note = circulate_sends_allowed me n state note

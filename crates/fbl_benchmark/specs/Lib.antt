@@ -1,1 +1,2 @@
 pub mod Circulation
+pub mod Spreading

@@ -3,7 +3,7 @@
 ghost use Rattle.std.specs.Prelude.{◌≡◌, ◌<◌};
 
 use crate::failure::Failure;
-use crate::times::print_rate;
+use crate::times::{microseconds_since, print_rate};
 use fbl_base::Member;
 use fbl_threads::{Claims, Pass};
 use std::sync::{Mutex, Wait};
@@ -20,7 +20,7 @@ pub fn time_claims<W: Wait>(rt: &HostRuntime, waits: &W) -> Result<(), Failure> 
     let (claims, pass) = Claims::new(rt.alloc(), MEMBERS)?;
     let start = Instant::now(rt)?;
     let won = claim_often(&claims, pass);
-    let taken = start.elapsed(rt)?;
+    let taken = microseconds_since(rt, start)?;
     println!(rt; "claims: won {won}")?;
     print_rate(rt, "claims", "claims and releases", COUNT, taken)?;
     time_locks(rt, waits)
@@ -53,7 +53,7 @@ fn time_locks<W: Wait>(rt: &HostRuntime, waits: &W) -> Result<(), Failure> {
         let mut held = number.lock(waits);
         *held = held.saturating_add(1);
     }
-    let taken = start.elapsed(rt)?;
+    let taken = microseconds_since(rt, start)?;
     println!(rt; "locks: taken {}", number.into_inner())?;
     print_rate(rt, "locks", "locks and unlocks", COUNT, taken)
 }

@@ -1,7 +1,7 @@
 //! Why a run of the benchmark ends early.
 
 use fbl_base::ConfigRefusal;
-use fbl_group::{DeliverRefusal, RecoverRefusal, StrikeRefusal};
+use fbl_group::{CheckpointRefusal, DeliverRefusal, RecoverRefusal, StrikeRefusal};
 use fbl_threads::{ClaimRefusal, DrainRefusal};
 use std::alloc::AllocError;
 use std::io;
@@ -22,6 +22,9 @@ pub enum Failure {
     /// A strike is refused.
     #[error("strike: {0}")]
     Strike(#[from] StrikeRefusal),
+    /// A checkpoint is refused.
+    #[error("checkpoint: {0}")]
+    Checkpoint(#[from] CheckpointRefusal),
     /// A recovery is refused.
     #[error("recover: {0}")]
     Recovery(#[from] RecoverRefusal),

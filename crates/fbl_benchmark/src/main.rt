@@ -1,5 +1,5 @@
-//! Times a group: deliveries, a strike with its recovery, drains by several workers, and claims. Counts go to standard
-//! output, and times to standard error.
+//! Times a group: deliveries, strikes with recoveries, drains by several workers, and claims. Counts go to standard output,
+//! and times to standard error.
 #![tactic(auto)]
 
 mod circulate;
@@ -7,6 +7,11 @@ mod claims;
 mod deliveries;
 mod drains;
 mod failure;
+mod long_circulate;
+mod recoveries;
+mod ring;
+mod spread;
+mod spreads;
 mod times;
 
 use failure::Failure;
@@ -20,6 +25,8 @@ const FAILED: u8 = 1;
 /// Everything that is timed, in turn.
 fn run<T: Threads + Wait + Sync>(rt: &HostRuntime, threads: &T) -> Result<(), Failure> {
     deliveries::time_groups(rt)?;
+    spreads::time_spreads(rt)?;
+    recoveries::time_recoveries(rt)?;
     drains::time_workers(rt, threads)?;
     claims::time_claims(rt, threads)
 }

@@ -1,20 +1,28 @@
-//! Printed times.
+//! Times that are measured and printed.
 
 use crate::failure::Failure;
-use std::time::Duration;
+use std::time::Instant;
+
+/// How often each thing is tried. The least time counts.
+pub const TRIES: u32 = 5;
 
 /// How many microseconds a second has.
 const MICROSECONDS: u128 = 1_000_000;
 
-/// Prints to standard error how long so many steps took, and how many a second that makes.
+/// How many whole microseconds have passed since the instant.
+pub fn microseconds_since(rt: &HostRuntime, start: Instant) -> Result<u128, Failure> {
+    Ok(start.elapsed(rt)?.as_micros())
+}
+
+/// Prints to standard error how many microseconds so many steps took, and how many a second that makes.
 pub fn print_rate(
     rt: &HostRuntime,
     name: &str,
     what: &str,
     count: u32,
-    taken: Duration,
+    taken: u128,
 ) -> Result<(), Failure> {
-    let taken = taken.as_micros().max(1);
+    let taken = taken.max(1);
     let rate = u128::from(count) * MICROSECONDS / taken;
     eprintln!(rt; "{name}: {count} {what} in {taken} microseconds, {rate} a second")?;
     Ok(())

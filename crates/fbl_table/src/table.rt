@@ -272,6 +272,7 @@ impl<A: Allocator + Copy> Table<A> {
 
 /// Adds an entry where there is room for one, and answers its place. The place of a new one is open. It is looked for at
 /// the place `likely` first.
+#[inline(always)]
 fn add<A: Allocator>(
     entries: &mut Entries<A>,
     open_places: &mut Vec<usize, A>,
@@ -301,6 +302,7 @@ fn add<A: Allocator>(
 }
 
 /// Adds an entry of a determinant that there is none of, where there is room for one. Its place is open.
+#[inline(never)]
 fn add_new<A: Allocator>(entries: &mut Entries<A>, open_places: &mut Vec<usize, A>, entry: Entry)
     requires new { is_held (map entry_of entries.old.entries) entry.det ≡ false }
     requires entries { 0 < spare entries.old }
@@ -318,6 +320,7 @@ fn add_new<A: Allocator>(entries: &mut Entries<A>, open_places: &mut Vec<usize, 
 
 /// The place of the determinant's entry, if there is one. The place `likely` and the next are looked at before the hash:
 /// what one table passes on, another mostly has in the same order.
+#[inline(always)]
 fn place_of<A: Allocator>(entries: &Entries<A>, det: &Determinant, likely: usize) -> Option<usize>
     ensures has { IfSome result (λ place. has_at (map entry_of entries.now.entries) det.now place ≡ true) }
     ensures none { IfNone result (is_held (map entry_of entries.now.entries) det.now ≡ false) }
@@ -329,6 +332,15 @@ fn place_of<A: Allocator>(entries: &Entries<A>, det: &Determinant, likely: usize
     if is_at(entries, det, next) {
         return Some(next);
     }
+    place_by_hash(entries, det)
+}
+
+/// The place of the determinant's entry, if there is one.
+#[inline(never)]
+fn place_by_hash<A: Allocator>(entries: &Entries<A>, det: &Determinant) -> Option<usize>
+    ensures has { IfSome result (λ place. has_at (map entry_of entries.now.entries) det.now place ≡ true) }
+    ensures none { IfNone result (is_held (map entry_of entries.now.entries) det.now ≡ false) }
+{
     entries.get_index_of(det)
 }
 

@@ -1,0 +1,75 @@
+//! Recoveries of one member, from its checkpoint and from its start.
+
+use crate::circulate::Circulate;
+use crate::failure::Failure;
+use crate::long_circulate::LongCirculate;
+use crate::ring::{deliver_many, group_of, next_member};
+use crate::times::{TRIES, microseconds_since, print_rate};
+use fbl_base::{Behaviour, Member, MemberSet};
+use fbl_group::{Group, Recovered};
+use std::time::Instant;
+
+/// How many members the group has.
+const MEMBERS: u8 = 3;
+
+/// How many of them may be lost at once.
+const LOST: u8 = 1;
+
+/// After how many receipts of the group each member is checkpointed, where it is.
+const BEFORE: u32 = 3900;
+
+/// How many receipts the group makes then.
+const SINCE: u32 = 100;
+
+/// Times recoveries with and without checkpoints, by a step that takes no time and by one that does.
+pub fn time_recoveries(rt: &HostRuntime) -> Result<(), Failure> {
+    time_recovery::<Circulate>(rt, "short step without checkpoint", false)?;
+    time_recovery::<Circulate>(rt, "short step with checkpoint", true)?;
+    time_recovery::<LongCirculate>(rt, "long step without checkpoint", false)?;
+    time_recovery::<LongCirculate>(rt, "long step with checkpoint", true)
+}
+
+/// Times the recovery of the member that has received last.
+fn time_recovery<B: Behaviour>(
+    rt: &HostRuntime,
+    name: &str,
+    checkpointed: bool,
+) -> Result<(), Failure> {
+    let mut group = group_of::<B>(rt.alloc(), MEMBERS, LOST)?;
+    deliver_many(&mut group, MEMBERS, BEFORE)?;
+    if checkpointed {
+        checkpoint_each(&mut group)?;
+    }
+    deliver_many(&mut group, MEMBERS, SINCE)?;
+    let member = next_member(Member::default(), MEMBERS);
+    let (recovered, mut least) = crash(rt, &mut group, member)?;
+    for _ in 1..TRIES {
+        let (_again, taken) = crash(rt, &mut group, member)?;
+        least = least.min(taken);
+    }
+    println!(rt;
+        "{name}: replayed {} undone {}",
+        recovered.replayed, recovered.undone
+    )?;
+    print_rate(rt, name, "recoveries", 1, least)
+}
+
+/// Takes a checkpoint of each member.
+fn checkpoint_each<B: Behaviour>(group: &mut Group<B>) -> Result<(), Failure> {
+    for number in 0..MEMBERS {
+        group.checkpoint(Member::new(number).unwrap_or_default())?;
+    }
+    Ok(())
+}
+
+/// Strikes the member, recovers it, and answers what the recovery did and how many microseconds it took.
+fn crash<B: Behaviour>(
+    rt: &HostRuntime,
+    group: &mut Group<B>,
+    member: Member,
+) -> Result<(Recovered, u128), Failure> {
+    group.strike(MemberSet::empty().with(member))?;
+    let start = Instant::now(rt)?;
+    let recovered = group.recover()?;
+    Ok((recovered, microseconds_since(rt, start)?))
+}

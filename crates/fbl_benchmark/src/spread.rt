@@ -1,0 +1,58 @@
+//! A behaviour that answers a message by four.
+
+ghost use Rattle.std.specs.Prelude.{◌≡◌, ◌+◌, ◌%◌, ◌<◌, ◌≤◌};
+
+use arrayvec::ArrayVec;
+use fbl_base::{Behaviour, Member, Note, Outcome, Relay};
+
+/// The least group in which anything is sent.
+const LEAST: u8 = 5;
+
+/// Adds up the values as a relay does, and answers each message that has hops left by one to each of the next four
+/// members, with its value and one hop fewer. A group of less than five sends nothing.
+pub struct Spread;
+
+impl Behaviour for Spread {
+    ghost use Rattle.fbl_benchmark.specs.Spreading.{spread_step, spread_sends_allowed};
+
+    ghost next = { spread_step };
+
+    ghost sends_allowed = { spread_sends_allowed };
+
+    fn step(me: Member, n: u8, state: u64, note: Note) -> Outcome {
+        let state = Relay::step(me, n, state, note).state;
+        if note.hops == 0 {
+            return Outcome {
+                state,
+                sends: ArrayVec::new(),
+            };
+        }
+        if n < LEAST {
+            return Outcome {
+                state,
+                sends: ArrayVec::new(),
+            };
+        }
+        let passed = Note {
+            value: note.value,
+            hops: note.hops - 1,
+        };
+        let sends = ArrayVec::from([
+            (after(me, 1, n), passed),
+            (after(me, 2, n), passed),
+            (after(me, 3, n), passed),
+            (after(me, 4, n), passed),
+        ]);
+        Outcome { state, sends }
+    }
+}
+
+/// The member so many places on, round a group of `n`.
+fn after(me: Member, by: u8, n: u8) -> Member
+    requires least { 2 ≤ n }
+    requires most { n ≤ 16 }
+    requires step { by ≤ 4 }
+    ensures { result ≡ (me + by) % n }
+{
+    Member::new((me.number() + by) % n).unwrap()
+}

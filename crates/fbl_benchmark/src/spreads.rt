@@ -1,0 +1,97 @@
+//! Deliveries of many messages that spread over a group.
+
+use crate::failure::Failure;
+use crate::ring::LIMIT;
+use crate::spread::Spread;
+use crate::times::{TRIES, microseconds_since, print_rate};
+use fbl_base::{Config, Member, Note, Start};
+use fbl_group::{DeliverRefusal, Group};
+use std::alloc::{AllocError, Global};
+use std::time::Instant;
+
+/// How many members the group has.
+const MEMBERS: u8 = 16;
+
+/// How many starts: each is to the next member, and they go round the group.
+const STARTS: u8 = 40;
+
+/// What delivering all messages counted.
+#[derive(Clone, Copy, Default)]
+struct Spreading {
+    delivered: u32,
+    carried: u64,
+    most_in_flight: usize,
+}
+
+/// Times the deliveries with 1, 3 and 15 members that may be lost at once.
+pub fn time_spreads(rt: &HostRuntime) -> Result<(), Failure> {
+    for f in [1, 3, 15] {
+        time_spread(rt, f)?;
+    }
+    Ok(())
+}
+
+/// Times the deliveries of all messages.
+fn time_spread(rt: &HostRuntime, f: u8) -> Result<(), Failure> {
+    let mut counts = Spreading::default();
+    let mut least = u128::MAX;
+    for _ in 0..TRIES {
+        let mut group = group_with_starts(rt.alloc(), f)?;
+        let start = Instant::now(rt)?;
+        counts = deliver_all(&mut group)?;
+        least = least.min(microseconds_since(rt, start)?);
+    }
+    let name = format!(in rt.alloc(); "spread f {f}")?;
+    println!(rt;
+        "{name}: delivered {} carried {} in flight at most {}",
+        counts.delivered, counts.carried, counts.most_in_flight
+    )?;
+    print_rate(rt, &name, "deliveries", counts.delivered, least)
+}
+
+/// A group in which the starts are in flight.
+fn group_with_starts(alloc: Global, f: u8) -> Result<Group<Spread>, Failure> {
+    let mut starts = Vec::new(alloc);
+    for number in 0..STARTS {
+        let from = Member::new(number % MEMBERS).unwrap_or_default();
+        let to = Member::new((number + 1) % MEMBERS).unwrap_or_default();
+        let note = Note { value: 5, hops: 3 };
+        starts
+            .push(Start { from, to, note })
+            .map_err(|_| AllocError)?;
+    }
+    let config = Config::new(alloc, MEMBERS, f, LIMIT, &starts)?;
+    Ok(Group::new(alloc, config)?)
+}
+
+/// Goes round the members and delivers one message to each, until a round finds nothing in flight.
+fn deliver_all(group: &mut Group<Spread>) -> Result<Spreading, Failure> {
+    let mut counts = Spreading::default();
+    for _ in 0..LIMIT {
+        if group.messages_in_flight() == 0 {
+            break;
+        }
+        for number in 0..MEMBERS {
+            let to = Member::new(number).unwrap_or_default();
+            if let Some(carried) = deliver_first(group, to)? {
+                counts.delivered = counts.delivered.saturating_add(1);
+                counts.carried = counts.carried.saturating_add(u64::from(carried));
+            }
+        }
+        counts.most_in_flight = counts.most_in_flight.max(group.messages_in_flight());
+    }
+    Ok(counts)
+}
+
+/// Delivers the front of the channel from the least sender that has a message for the member, and answers how many
+/// determinants it carried, or nothing where there is no message.
+fn deliver_first(group: &mut Group<Spread>, to: Member) -> Result<Option<u32>, Failure> {
+    for number in 0..MEMBERS {
+        let from = Member::new(number).unwrap_or_default();
+        match group.deliver(to, from) {
+            Err(DeliverRefusal::Empty) => {}
+            done => return Ok(Some(done?.carried)),
+        }
+    }
+    Ok(None)
+}
