@@ -104,8 +104,10 @@ module _ (next : Next) (r : GroupRecord) (sound : IsSound next r) where
   pub member-below : (p : ℕ) → set.contains r.down p ≡ true → p < r.config.members
   member-below p down = sound.down p down
 
-  pub begun : (rebuilt : List MemberRecord) (i : ℕ) → i ≡ r.config.members → length rebuilt ≡ i → ((p : ℕ) → p < i → set.contains r.down p ≡ true → slice_index_or rebuilt p blank ≡ checkpoint r p) → IsReplaying next r rebuilt
-  begun rebuilt i all size each = replaying-start next r sound rebuilt (size ∙ all) (λ p below down. each p (omega (arith, all, below)) down)
+  pub begun : (rebuilt : List MemberRecord) (i : ℕ) → i ≡ r.config.members → length rebuilt ≡ i → ((p : ℕ) → p < i → set.contains r.down p ≡ true → slice_index_or rebuilt p blank ≡ record (checkpoint r p) { table = [] }) → IsReplaying next r rebuilt
+  begun rebuilt i all size each =
+      replaying-tables next r sound r.checkpoints rebuilt [] (replaying-start next r sound r.checkpoints sound.checkpoints (λ p below down. refl)) (size ∙ all ∙ sym sound.checkpoints)
+      (λ p below down. each p (omega (arith, all, below)) down)
 
   -- what one try needs, and what it leaves
   module _ (rebuilt : List MemberRecord) (p place : ℕ) (replaying : IsReplaying next r rebuilt) (down : set.contains r.down p ≡ true) (is_place : place ≡ p) where

@@ -124,14 +124,17 @@ impl<B: Behaviour, A: Allocator + Copy> Group<B, A> {
         Ok(rebuilt)
     }
 
-    /// A member that is down begins at its checkpoint.
+    /// A member that is down begins at its checkpoint, without the table, for which it gets the gathered one in the end.
     fn begin_one(&self, member: Member) -> Result<MemberRec<A>, AllocError>
-        ensures { set.contains self.now.down member ≡ true → IfOk result (λ begun. begun ≡ checkpoint_of self.now member) }
+        ensures { set.contains self.now.down member ≡ true → IfOk result (λ begun. begun ≡ record (checkpoint_of self.now member) { table = [] }) }
     {
+        let alloc = *self.members.allocator();
+        let f = self.config.f();
         if self.down.has(member) {
-            self.checkpoints[usize::from(member.number())].copy()
+            let checkpoint = &self.checkpoints[usize::from(member.number())];
+            checkpoint.copy_with(Table::for_limit(alloc, f))
         } else {
-            Ok(MemberRec::blank(*self.members.allocator(), self.config.f()))
+            Ok(MemberRec::blank(alloc, f))
         }
     }
 
