@@ -4,7 +4,8 @@ use Rattle.std.specs.Prelude.{slice_index_or, slice_set}
 use Rattle.std.specs.Option.{SomeIff, IsSome}
 use Rattle.std.specs.FinSet as set
 use Rattle.std.proofs.lemmas.Bool.{cases_lt}
-use Rattle.std.proofs.lemmas.List.{append-nil, take_all}
+use Rattle.std.proofs.lemmas.List.{append-nil, take_all, get_or_append_left}
+use Rattle.std.proofs.Math.Seq.{get_or-append_seam}
 use Rattle.fbl_base.specs.declared.trace.Determinant.{Determinant}
 use Rattle.fbl_base.specs.declared.trace.Note.{Note}
 use Rattle.fbl_base.specs.Fold.{Next, Logged}
@@ -67,6 +68,16 @@ saved-skip s ms i x first before same up was =
     let e : i + 1 ≡ suc i = omega arith in
     rw (e, here) (was ∙ ap (gathered_all first) (sym (append-nil (saved_tables s ms i))))
 
+-- what is so of each element of a list, and of one more
+pub each-more : {X : Type 0} (P : ℕ → X → Type 0) (d : X) (xs : List X) (i : ℕ) (x : X) → length xs ≡ i → ((p : ℕ) → p < i → P p (slice_index_or xs p d)) → P i x → (p : ℕ) → p < i + 1 → P p (slice_index_or (xs ++ x ∷ []) p d)
+each-more P d xs i x size before here p below = elim (cases_lt p i) [
+  | inl less ↦ subst (P p) (sym (get_or_append_left xs (x ∷ []) d p (omega (arith, size, less)))) (before p less)
+  | inr past ↦
+      (let same : length xs ≡ p = omega (arith, size, past, below) in
+      let there : P p x = subst (λ k. P k x) (sym size ∙ same) here in
+      subst (P p) (sym (ap (λ k. slice_index_or (xs ++ x ∷ []) k d) (sym same) ∙ get_or-append_seam xs x [] d)) there)
+]
+
 -- one record more
 pub begun-at : (s : Members) (begins : ℕ → MemberRecord) (ms : List MemberRecord) (i : ℕ) (m : MemberRecord) → length ms ≡ i
     → ((p : ℕ) → p < i → set.contains s p ≡ true → slice_index_or ms p blank ≡ begins p) → (set.contains s i ≡ true → m ≡ begins i)
@@ -93,21 +104,22 @@ module _ (next : Next) (r : GroupRecord) (sound : IsSound next r) where
   pub member-below : (p : ℕ) → set.contains r.down p ≡ true → p < r.config.members
   member-below p down = sound.down p down
 
-  pub begun : (rebuilt : List MemberRecord) (i : ℕ) → i ≡ r.config.members → length rebuilt ≡ i → ((p : ℕ) → p < i → set.contains r.down p ≡ true → slice_index_or rebuilt p blank ≡ checkpoint r p) → IsReplaying next r rebuilt
-  begun rebuilt i all size each = replaying-start next r sound rebuilt (size ∙ all) (λ p below down. each p (omega (arith, all, below)) down)
+  pub begun : (rebuilt : List MemberRecord) (i : ℕ) → i ≡ r.config.members → length rebuilt ≡ i → ((p : ℕ) → p < i → set.contains r.down p ≡ true → slice_index_or rebuilt p blank ≡ record (checkpoint r p) { table = [] }) → IsReplaying next r rebuilt
+  begun rebuilt i all size each =
+      replaying-tables next r sound r.checkpoints rebuilt [] (replaying-start next r sound r.checkpoints sound.checkpoints (λ p below down. refl)) (size ∙ all ∙ sym sound.checkpoints)
+      (λ p below down. each p (omega (arith, all, below)) down)
 
   -- what one try needs, and what it leaves
-  module _ (rebuilt : List MemberRecord) (p place : ℕ) (held : List Entry) (replaying : IsReplaying next r rebuilt) (down : set.contains r.down p ≡ true) (is_held : held ≡ gathered_table r) (is_place : place ≡ p) where
+  module _ (rebuilt : List MemberRecord) (p place : ℕ) (replaying : IsReplaying next r rebuilt) (down : set.contains r.down p ≡ true) (is_place : place ≡ p) where
     pub at-place : place < length rebuilt
     at-place = omega (arith, sound.down p down, replaying.size, is_place)
 
     is-record : (m : MemberRecord) → m ≡ get_or rebuilt place m → m ≡ slice_index_or rebuilt p blank
     is-record m read = read_at rebuilt place m m at-place read ∙ ap (λ x. slice_index_or rebuilt x blank) is_place
 
-    module _ (m : MemberRecord) (read : m ≡ get_or rebuilt place m) (answer : Option Determinant) (sought : answer ≡ found p (m.received + 1) held) where
+    module _ (m : MemberRecord) (read : m ≡ get_or rebuilt place m) (answer : Option Determinant) (sought : answer ≡ found p (m.received + 1) (gathered_table r)) where
       is-found : (d : Determinant) → answer ≡ Some d → found p ((slice_index_or rebuilt p blank).received + 1) (gathered_table r) ≡ Some d
-      is-found d is =
-          ap (found p ((slice_index_or rebuilt p blank).received + 1)) (sym is_held) ∙ ap (λ (x : MemberRecord). found p (x.received + 1) held) (sym (is-record m read)) ∙ sym sought ∙ is
+      is-found d is = ap (λ (x : MemberRecord). found p (x.received + 1) (gathered_table r)) (sym (is-record m read)) ∙ sym sought ∙ is
 
       its-next : (d : Determinant) → answer ≡ Some d → IsNextReplay r.config.members p (slice_index_or rebuilt p blank) d
       its-next d is = replaying-next next r sound rebuilt p d replaying (sound.down p down) down (is-found d is)
@@ -116,8 +128,7 @@ module _ (next : Next) (r : GroupRecord) (sound : IsSound next r) where
       pub waits-unfound : answer ≡ None → Tries next r p rebuilt rebuilt false
       waits-unfound none = (refl, λ d is. absurd (let some : answer ≡ Some d = back d is in cc)) where
         back : (d : Determinant) → found p ((slice_index_or rebuilt p blank).received + 1) (gathered_table r) ≡ Some d → answer ≡ Some d
-        back d is =
-            sought ∙ ap (λ (x : MemberRecord). found p (x.received + 1) held) (is-record m read) ∙ ap (found p ((slice_index_or rebuilt p blank).received + 1)) is_held ∙ is
+        back d is = sought ∙ ap (λ (x : MemberRecord). found p (x.received + 1) (gathered_table r)) (is-record m read) ∙ is
 
       module _ (d : Determinant) (is : answer ≡ Some d) where
         pub from-member : d.from < r.config.members

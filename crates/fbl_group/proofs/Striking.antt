@@ -1,30 +1,34 @@
 -- When a strike is refused, and what it leaves.
-use Rattle.std.proofs.Common.{◌≡◌, ◌≢◌, ℕ, ◌+◌, ◌<◌, ◌≤◌, ◌==◌, ◌&&◌, ◌||◌, not, Bool, true, false, cond, List, [], ◌∷◌, length, map, inl, inr, ◌⊎◌, Some, None, refl, sym, ap, ◌∙◌, arith}
+use Rattle.std.proofs.Common.{◌≡◌, ◌≢◌, ℕ, suc, ◌+◌, ◌<◌, ◌≤◌, ◌==◌, ◌&&◌, ◌||◌, not, Bool, true, false, cond, List, [], ◌∷◌, length, map, inl, inr, ◌⊎◌, Some, None, refl, sym, ap, ◌∙◌, arith, slice_get}
 use Rattle.std.specs.Prelude.{nat_lt, count_by, slice_index_or}
 use Rattle.std.specs.List.{filter, list_any, list_all, cons_option}
 use Rattle.std.specs.Ordering.{nat_cmp, eq_by_cmp}
 use Rattle.std.specs.Cmp.{unsigned_tied, nat_cmp_total}
 use Rattle.std.specs.FinSet as sets
+use Rattle.std.proofs.lemmas.Bool.{false≢true}
 use Rattle.std.proofs.lemmas.Bool.Decides.{nat_tests}
+use Rattle.std.specs.Option.{option_map}
+use Rattle.std.proofs.lemmas.Option.{slice_get-map}
 use Rattle.std.proofs.lemmas.List.Sums.{sum_by-cons}
 use Rattle.fbl_base.specs.declared.trace.Determinant.{Determinant}
 use Rattle.fbl_base.specs.declared.trace.Event.{Event}
 use Rattle.fbl_base.specs.declared.trace.Event.TheVariants as event
-use Rattle.fbl_base.specs.Events.{determinant_of, mark_of}
+use Rattle.fbl_base.specs.Events.{determinant_of, mark_of, receipt_of}
+use Rattle.fbl_base.specs.Precedence.{Has, itself}
 use Rattle.fbl_base.specs.MemberSets.{AllBelow}
 use Rattle.fbl_base.specs.Fold.{Next}
 use Rattle.fbl_base.proofs.RulesLaws.{eqb-self}
 use Rattle.fbl_member.specs.Members.{Message, MemberRecord, blank}
 use Rattle.fbl_law.specs.Record.{Members, IsUp, IsDown, IsOrphan}
 use Rattle.fbl_law.specs.Steps.{is_on}
-use Rattle.fbl_law.specs.Groups.{GroupRecord, channel, knowledge, receipts, is_recorded}
+use Rattle.fbl_law.specs.Groups.{GroupRecord, channel, marks, knowledge, receipts, is_recorded}
 use Rattle.fbl_law.specs.Sound.{IsSound}
 use Rattle.fbl_law.specs.GroupSteps.{IsStrike}
-use Rattle.fbl_law.proofs.GroupStrike.{group_strike_keeps}
+use Rattle.fbl_law.proofs.GroupStrike.{group_strike_keeps, recorded_test}
 use Rattle.fbl_law.proofs.Promises.{sound_has_no_orphan}
 use Rattle.fbl_group.specs.declared.refusals.StrikeRefusal.TheVariants.{BadMember, Nobody, TooMany}
 use Rattle.fbl_group.specs.Recoveries.{has_end_in}
-use Rattle.fbl_group.specs.Strikes.{is_within, strike_refusal, lost_receipts, is_lost, IsBlanked}
+use Rattle.fbl_group.specs.Strikes.{is_within, strike_refusal, lost_receipts, is_lost, is_lost_of, IsBlanked}
 
 -- the test of who is below n
 all_below : (n : ℕ) (ks : List ℕ) → ((q : ℕ) → list_any (eq_by_cmp nat_cmp q) ks ≡ true → q < n) → list_all (λ m. nat_lt m n) ks ≡ true
@@ -235,3 +239,30 @@ count-lost r = counted r.trace where
           → cond b 1 0 + count_by (is_lost r.members r.checkpoints) events ≡ length (cond b (record { from = from; ssn = ssn; to = to; rsn = rsn } ∷ filter unrecorded (receipts (map mark_of events))) (filter unrecorded (receipts (map mark_of events))))
       here true ih = omega (arith, ih)
       here false ih = omega (arith, ih)
+
+-- in a sound group each receipt of a member that is up is recorded
+up-recorded : (next : Next) (r : GroupRecord) (d : Determinant) → IsSound next r → Has (marks r) (receipt_of d) → IsUp (knowledge r) d.to → is_recorded r d ≡ true
+up-recorded next r d sound there up = at (is_recorded r d) refl where
+  at : (b : Bool) → is_recorded r d ≡ b → b ≡ true
+  at true is = refl
+  at false is =
+      absurd (sound_has_no_orphan next r d.to sound (up, (d, (receipt_of d, itself there, refl), λ recorded. false≢true (sym is ∙ (recorded_test next r d sound).1 recorded))))
+
+-- tests that agree on each element count the same
+counted-agree : {X : Type 0} (p q : X → Bool) (xs : List X) → ((i : ℕ) (x : X) → slice_get xs i ≡ Some x → p x ≡ q x) → count_by p xs ≡ count_by q xs
+counted-agree p q [] agree = refl
+counted-agree p q (x ∷ xs) agree =
+    sum_by-cons (λ y. cond (p y) 1 0) x xs ∙ ap (λ b. cond b 1 0 + count_by p xs) (agree 0 x refl)
+    ∙ ap (λ k. cond (q x) 1 0 + k) (counted-agree p q xs (λ i. agree (suc i))) ∙ sym (sum_by-cons (λ y. cond (q y) 1 0) x xs)
+
+-- so the lost receipts are all of members that are down
+pub count-lost_of : (next : Next) (r : GroupRecord) → IsSound next r → count_by (is_lost_of r.down r.members r.checkpoints) r.trace ≡ length (lost_receipts r)
+count-lost_of next r sound = counted-agree (is_lost_of r.down r.members r.checkpoints) (is_lost r.members r.checkpoints) r.trace agree ∙ count-lost r where
+  of_down : (d : Determinant) → Has (marks r) (receipt_of d) → (b : Bool) → sets.contains r.down d.to ≡ b → (b && not (is_recorded r d)) ≡ not (is_recorded r d)
+  of_down d there true is = refl
+  of_down d there false is = sym (ap not (up-recorded next r d sound there is))
+
+  agree : (i : ℕ) (e : Event) → slice_get r.trace i ≡ Some e → is_lost_of r.down r.members r.checkpoints e ≡ is_lost r.members r.checkpoints e
+  agree i (event.Send from ssn to note) here = refl
+  agree i (event.Receipt to rsn from ssn) here =
+      of_down (record { from = from; ssn = ssn; to = to; rsn = rsn }) (i, slice_get-map mark_of r.trace i ∙ ap (option_map mark_of) here) (sets.contains r.down to) refl

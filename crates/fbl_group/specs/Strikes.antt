@@ -1,5 +1,5 @@
 -- When a strike is refused, and what it answers.
-use Rattle.std.specs.Prelude.{◌≡◌, ℕ, ◌==◌, ◌||◌, not, nat_lt, Bool, true, false, length, Option, Some, None, if◌then◌else◌, List, slice_index_or}
+use Rattle.std.specs.Prelude.{◌≡◌, ℕ, ◌==◌, ◌&&◌, ◌||◌, not, nat_lt, Bool, true, false, length, Option, Some, None, if◌then◌else◌, List, slice_index_or}
 use Rattle.std.specs.List.{filter, list_any, list_all}
 use Rattle.std.specs.FinSet as set
 use Rattle.fbl_base.specs.declared.trace.Determinant.{Determinant}
@@ -39,6 +39,15 @@ is_unheld members checkpoints (Some d) =
 -- whether the event is a receipt whose determinant none of these members' and checkpoints' tables has
 abbrev pub is_lost : List MemberRecord → List MemberRecord → Event → Bool
 is_lost members checkpoints event = is_unheld members checkpoints (determinant_of (mark_of event))
+
+-- the same of a receipt of a member of the set alone
+abbrev pub is_unheld_of : Members → List MemberRecord → List MemberRecord → Option Determinant → Bool
+is_unheld_of s members checkpoints None = false
+is_unheld_of s members checkpoints (Some d) = set.contains s d.to && is_unheld members checkpoints (Some d)
+
+-- whether the event is a receipt of a member of the set whose determinant none of these members' and checkpoints' tables has
+abbrev pub is_lost_of : Members → List MemberRecord → List MemberRecord → Event → Bool
+is_lost_of s members checkpoints event = is_unheld_of s members checkpoints (determinant_of (mark_of event))
 
 -- exactly the records of the members named are made blank
 pub record IsBlanked (struck : Members) (old new : List MemberRecord) : Type 0 where

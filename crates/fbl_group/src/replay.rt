@@ -1,19 +1,38 @@
 //! Replay: the records of the members that are down are made again from what the survivors' tables and the logs have.
 
-ghost use Rattle.std.specs.Prelude.{◌≡◌, ℕ, ◌<◌, true, length, slice_index_or, IfOk, OnOk};
+ghost use Rattle.std.specs.Prelude.{◌≡◌, ℕ, ◌<◌, [], true, length, slice_index_or, IfOk, OnOk};
 ghost use Rattle.std.specs.FinSet as set;
+ghost use Rattle.fbl_table.specs.Receipts.{receipt_at, IsByNumber};
 ghost use Rattle.fbl_member.specs.Members.{logged_note};
 ghost use Rattle.fbl_law.specs.Groups.{checkpoint as checkpoint_of};
 ghost use Rattle.fbl_law.specs.Steps.{gathered_all, saved_tables};
 ghost use Rattle.fbl_law.specs.Sound.{IsSound};
 ghost use Rattle.fbl_law.specs.Replaying.{gathered_table, working, IsReplaying};
-ghost use Rattle.fbl_group.specs.Rebuilding.{Tries, Rounds, HasReplayed, IsReady};
+ghost use Rattle.fbl_group.specs.Rebuilding.{AreByNumber, IsGathered, Tries, Rounds, HasReplayed, IsReady};
 
 use crate::group::Group;
 use fbl_base::{Behaviour, Determinant, Member, Note};
 use fbl_member::MemberRec;
-use fbl_table::Table;
+use fbl_table::{Receipts, Table};
 use std::alloc::{AllocError, Allocator};
+
+/// What recovery goes by: the table that the members that are down get, and the receipts that it has of each of them, by
+/// their numbers.
+#[derive(Drop)]
+struct Gathered<A: Allocator> {
+    table: Table<A>,
+    receipts: Vec<Receipts<A>, A>,
+}
+
+impl<A: Allocator + Copy> Gathered<A> {
+    /// The determinant of the member's receipt with this number, if the table has it.
+    fn receipt(&self, member: Member, rsn: u32) -> Option<Determinant>
+        requires { member < length self.now.receipts.items }
+        ensures { result ≡ receipt_at (slice_index_or self.now.receipts.items member []) rsn }
+    {
+        self.receipts[usize::from(member.number())].determinant(rsn)
+    }
+}
 
 impl<B: Behaviour, A: Allocator + Copy> Group<B, A> {
     /// The records with which the members that are down come back. The others' are blank.
@@ -23,13 +42,23 @@ impl<B: Behaviour, A: Allocator + Copy> Group<B, A> {
         let gathered = self.gather()?;
         let mut rebuilt = self.begin()?;
         while self.replay_round(&gathered, &mut rebuilt)? {}
-        self.give_tables(&gathered, &mut rebuilt)?;
+        self.give_tables(&gathered.table, &mut rebuilt)?;
         Ok(rebuilt)
+    }
+
+    /// The gathered table, and the receipts that it has of each member that is down.
+    fn gather(&self) -> Result<Gathered<A>, AllocError>
+        ensures gathered { IfOk result (λ gathered. IsGathered self.now gathered.table gathered.receipts.items) }
+        ensures sound { IsSound B.next self.now }
+    {
+        let table = self.gather_table()?;
+        let receipts = self.number_receipts(&table)?;
+        Ok(Gathered { table, receipts })
     }
 
     /// The survivors' tables in member order and then those of the checkpoints of the members that are down, where these
     /// count as holders.
-    fn gather(&self) -> Result<Table<A>, AllocError>
+    fn gather_table(&self) -> Result<Table<A>, AllocError>
         ensures table { IfOk result (λ table. table ≡ gathered_table self.now) }
         ensures sound { IsSound B.next self.now }
     {
@@ -54,6 +83,35 @@ impl<B: Behaviour, A: Allocator + Copy> Group<B, A> {
         Ok(())
     }
 
+    /// The receipts that the gathered table has of each member that is down, by their numbers.
+    fn number_receipts(&self, gathered: &Table<A>) -> Result<Vec<Receipts<A>, A>, AllocError>
+        requires { gathered.now ≡ gathered_table self.now }
+        ensures { IfOk result (λ receipts. AreByNumber self.now receipts.items) }
+    {
+        let mut receipts = Vec::new(*self.members.allocator());
+        for number in 0..self.config.members() {
+            let member = Member::new(number).unwrap();
+            receipts.push(self.number_receipts_of(member, gathered)?)?;
+        }
+        Ok(receipts)
+    }
+
+    /// The receipts that the table has of the member, by their numbers, if it is down. There are none of another.
+    fn number_receipts_of(
+        &self,
+        member: Member,
+        gathered: &Table<A>,
+    ) -> Result<Receipts<A>, AllocError>
+        ensures { set.contains self.now.down member ≡ true → IfOk result (IsByNumber member gathered.now) }
+    {
+        let alloc = *self.members.allocator();
+        if self.down.has(member) {
+            Receipts::of_member(alloc, gathered, member)
+        } else {
+            Ok(Receipts::none(alloc))
+        }
+    }
+
     /// The records before any replay.
     fn begin(&self) -> Result<Vec<MemberRec<A>, A>, AllocError>
         ensures { IfOk result (λ rebuilt. IsReplaying B.next self.now rebuilt.items) }
@@ -66,24 +124,27 @@ impl<B: Behaviour, A: Allocator + Copy> Group<B, A> {
         Ok(rebuilt)
     }
 
-    /// A member that is down begins at its checkpoint.
+    /// A member that is down begins at its checkpoint, without the table, for which it gets the gathered one in the end.
     fn begin_one(&self, member: Member) -> Result<MemberRec<A>, AllocError>
-        ensures { set.contains self.now.down member ≡ true → IfOk result (λ begun. begun ≡ checkpoint_of self.now member) }
+        ensures { set.contains self.now.down member ≡ true → IfOk result (λ begun. begun ≡ record (checkpoint_of self.now member) { table = [] }) }
     {
+        let alloc = *self.members.allocator();
+        let f = self.config.f();
         if self.down.has(member) {
-            self.checkpoints[usize::from(member.number())].copy()
+            let checkpoint = &self.checkpoints[usize::from(member.number())];
+            checkpoint.copy_with(Table::for_limit(alloc, f))
         } else {
-            Ok(MemberRec::blank(*self.members.allocator(), self.config.f()))
+            Ok(MemberRec::blank(alloc, f))
         }
     }
 
     /// Each member that is down tries to replay its next receipt, and the answer is whether one did.
     fn replay_round(
         &self,
-        gathered: &Table<A>,
+        gathered: &Gathered<A>,
         rebuilt: &mut Vec<MemberRec<A>, A>,
     ) -> Result<bool, AllocError>
-        requires gathered { gathered.now ≡ gathered_table self.now }
+        requires gathered { IsGathered self.now gathered.now.table gathered.now.receipts.items }
         requires replaying { IsReplaying B.next self.now rebuilt.old.items }
         ensures { IfOk result (λ moved. Rounds B.next self.now self.now.config.members rebuilt.old.items rebuilt.new.items moved) }
     {
@@ -102,11 +163,11 @@ impl<B: Behaviour, A: Allocator + Copy> Group<B, A> {
     /// Replays the member's next receipt, if the gathered table has it and its message is sent again.
     fn replay_next(
         &self,
-        gathered: &Table<A>,
+        gathered: &Gathered<A>,
         member: Member,
         rebuilt: &mut Vec<MemberRec<A>, A>,
     ) -> Result<bool, AllocError>
-        requires gathered { gathered.now ≡ gathered_table self.now }
+        requires gathered { IsGathered self.now gathered.now.table gathered.now.receipts.items }
         requires down { set.contains self.now.down member ≡ true }
         requires replaying { IsReplaying B.next self.now rebuilt.old.items }
         ensures { IfOk result (λ moved. Tries B.next self.now member rebuilt.old.items rebuilt.new.items moved) }
@@ -114,7 +175,7 @@ impl<B: Behaviour, A: Allocator + Copy> Group<B, A> {
         let n = self.config.members();
         let place = usize::from(member.number());
         let rsn = rebuilt[place].received() + 1;
-        let Some(determinant) = gathered.find(member, rsn) else {
+        let Some(determinant) = gathered.receipt(member, rsn) else {
             return Ok(false);
         };
         let Some(note) = self.note_sent(rebuilt.as_slice(), &determinant) else {

@@ -7,7 +7,7 @@ ghost use Rattle.fbl_law.specs.Record.{IsOrphan};
 ghost use Rattle.fbl_law.specs.Groups.{knowledge};
 ghost use Rattle.fbl_group.specs.Recoveries.{has_end_in as is_at_end};
 ghost use Rattle.fbl_group.specs.Promises.{SurvivorsHold, RecordsFirst, RecordsCauses};
-ghost use Rattle.fbl_group.specs.Strikes.{strike_refusal, Strikes, IsBlanked, is_lost as is_lost_in};
+ghost use Rattle.fbl_group.specs.Strikes.{strike_refusal, Strikes, IsBlanked, is_lost_of};
 
 use crate::answers::Struck;
 use crate::group::Group;
@@ -39,8 +39,9 @@ impl<B: Behaviour, A: Allocator + Copy> Group<B, A> {
         );
         drop_at(&mut self.flight, set);
         self.down = self.down.union(set);
+        // Each receipt of a member that is up is held, so that those of members that are down are counted alone.
         Ok(Struck {
-            lost: count_lost(&self.members, &self.checkpoints, &self.trace),
+            lost: count_lost(self.down, &self.members, &self.checkpoints, &self.trace),
         })
     }
 
@@ -62,32 +63,37 @@ impl<B: Behaviour, A: Allocator + Copy> Group<B, A> {
     }
 }
 
-/// How many of the events are receipts whose determinant no member's table and no checkpoint's table holds.
+/// How many of the events are receipts of members of the set whose determinant no member's table and no checkpoint's
+/// table holds.
 fn count_lost<A: Allocator + Copy>(
+    down: MemberSet,
     members: &[MemberRec<A>],
     checkpoints: &[MemberRec<A>],
     trace: &[Event],
 ) -> u32
     requires { length trace.now ≤ 8192 }
-    ensures { result ≡ count_by (is_lost_in members.now checkpoints.now) trace.now }
+    ensures { result ≡ count_by (is_lost_of down members.now checkpoints.now) trace.now }
 {
     trace
         .iter()
-        .filter(|event| is_lost(members, checkpoints, **event))
+        .filter(|event| is_lost(down, members, checkpoints, **event))
         .count() as u32
 }
 
-/// Whether the event is a receipt whose determinant no member's table and no checkpoint's table holds.
+/// Whether the event is a receipt of a member of the set whose determinant no member's table and no checkpoint's table
+/// holds. No table is looked at for a receipt of another member.
 fn is_lost<A: Allocator + Copy>(
+    down: MemberSet,
     members: &[MemberRec<A>],
     checkpoints: &[MemberRec<A>],
     event: Event,
 ) -> bool
-    ensures { result ≡ is_lost_in members.now checkpoints.now event }
+    ensures { result ≡ is_lost_of down members.now checkpoints.now event }
 {
     match event.mark().determinant() {
         Some(determinant) => {
-            !(is_held_in(members, &determinant) || is_held_in(checkpoints, &determinant))
+            down.has(determinant.to)
+                && !(is_held_in(members, &determinant) || is_held_in(checkpoints, &determinant))
         }
         None => false,
     }

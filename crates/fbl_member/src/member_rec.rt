@@ -82,6 +82,14 @@ impl<A: Allocator + Copy> MemberRec<A> {
     pub fn copy(&self) -> Result<MemberRec<A>, AllocError>
         ensures { IfOk result (λ m. m ≡ self.now) }
     {
+        self.copy_with(self.table.copy()?)
+    }
+
+    /// A record with this table, and equal to this one in state, counts and log. `Err` comes for want of memory, and the
+    /// record is unchanged then.
+    pub fn copy_with(&self, table: Table<A>) -> Result<MemberRec<A>, AllocError>
+        ensures { IfOk result (λ m. m ≡ record self.now { table = table }) }
+    {
         let mut log = Vec::new(*self.log.allocator());
         log.extend_from_slice(self.log.as_slice())?;
         Ok(MemberRec {
@@ -89,7 +97,7 @@ impl<A: Allocator + Copy> MemberRec<A> {
             received: self.received,
             last: self.last,
             log,
-            table: self.table.copy()?,
+            table,
         })
     }
 

@@ -243,6 +243,8 @@ fn a_copy_is_an_equal_record(rt: HostRuntime) -> Result<(), Fail> {
     assert!(rt; readings(&copy, first) == (5, 1, 1, 1, 1) && copy.table().holds(&det));
     let passed_on = Note { value: 5, hops: 1 };
     assert!(rt; sent_beyond(&copy, third, 0, &[(1, passed_on)]));
+    let bare = copy.copy_with(Table::new(rt.alloc()))?;
+    assert!(rt; readings(&bare, first) == (5, 1, 1, 1, 0) && !bare.table().holds(&det));
     Ok(())
 }
 

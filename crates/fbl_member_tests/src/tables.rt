@@ -2,7 +2,7 @@ ghost use Rattle.std.specs.Prelude.{◌≡◌, ◌≤◌, IfOk};
 
 use crate::fixtures::{Refusal, first_receipt, member, own_table, set};
 use fbl_base::{Determinant, Member, MemberSet};
-use fbl_table::{Entry, Table};
+use fbl_table::{Entry, Receipts, Table};
 use refusing_allocator::Refusing;
 use std::alloc::{AllocError, Allocator, Global};
 use std::test::Fail;
@@ -96,6 +96,19 @@ fn finds_alone(table: &Table, det: Determinant) -> bool {
         && !table.holds(&first_receipt(to, from))
 }
 
+/// Whether the receiver's first receipt is found by its number, and no other of its sender and receiver.
+fn numbers_alone(alloc: Global, table: &Table, det: Determinant) -> Result<bool, AllocError> {
+    let own = Receipts::of_member(alloc, table, det.to)?;
+    let other = Receipts::of_member(alloc, table, det.from)?;
+    Ok(
+        own.determinant(0) == None
+            && own.determinant(1) == Some(det)
+            && own.determinant(2) == None
+            && other.determinant(1) == None
+            && Receipts::none(alloc).determinant(1) == None,
+    )
+}
+
 #[test]
 fn tables_are_gathered_and_marked(rt: HostRuntime) -> Result<(), Fail> {
     let (zero, one, two) = (member(0)?, member(1)?, member(2)?);
@@ -107,6 +120,7 @@ fn tables_are_gathered_and_marked(rt: HostRuntime) -> Result<(), Fail> {
     assert!(rt; has(&table, &both));
     table.mark_all(MemberSet::empty().with(zero));
     assert!(rt; has(&table, &marked) && finds_alone(&table, det));
+    assert!(rt; numbers_alone(rt.alloc(), &table, det)?);
     Ok(())
 }
 

@@ -1,3 +1,4 @@
 pub mod Adding
 pub mod Indexing
 pub mod Passing
+pub mod Numbering

@@ -11,11 +11,11 @@ pub loop-number-preserved : goal.loop-number-preserved
 loop-number-preserved g c =
     let member : c.unwrap-member.result ≡ c.loop-number.number = numbered c.new.result c.unwrap-member.result c.loop-number.number c.new.ensures (let rules = c.members-number-end.ensures.rules in omega (arith, c.loop-number-test.true, c.members-number-end.ensures.value, rules.members.1)) c.unwrap-member.ensures in
     let pushed : c.push.new.self.items ≡ c.loop-number.rebuilt.items ++ c.in_ok-begin_one.field-0 ∷ [] = c.in_ok-push.ensures.items in
-    let here : set.contains c.args.self.now.down c.loop-number.number ≡ true → c.in_ok-begin_one.field-0 ≡ checkpoint c.args.self.now c.loop-number.number =
-    λ down. c.in_ok-begin_one.ensures (ap (λ x. set.contains c.args.self.now.down x) member ∙ down) ∙ ap (checkpoint c.args.self.now) member in
+    let here : set.contains c.args.self.now.down c.loop-number.number ≡ true → c.in_ok-begin_one.field-0 ≡ record (checkpoint c.args.self.now c.loop-number.number) { table = [] } =
+    λ down. c.in_ok-begin_one.ensures (ap (λ x. set.contains c.args.self.now.down x) member ∙ down) ∙ ap (λ p. record (checkpoint c.args.self.now p) { table = [] }) member in
     record {
       size = ap length pushed ∙ length-append c.loop-number.rebuilt.items (c.in_ok-begin_one.field-0 ∷ []) ∙ ap (λ k. k + 1) c.loop-number.invariant.size;
-      begun = λ p below down. ap (λ (ms : List MemberRecord). slice_index_or ms p blank) pushed ∙ begun-at c.args.self.now.down (checkpoint c.args.self.now) c.loop-number.rebuilt.items c.loop-number.number c.in_ok-begin_one.field-0 c.loop-number.invariant.size c.loop-number.invariant.begun here p below down;
+      begun = λ p below down. ap (λ (ms : List MemberRecord). slice_index_or ms p blank) pushed ∙ begun-at c.args.self.now.down (λ p. record (checkpoint c.args.self.now p) { table = [] }) c.loop-number.rebuilt.items c.loop-number.number c.in_ok-begin_one.field-0 c.loop-number.invariant.size c.loop-number.invariant.begun here p below down;
     }
 
 pub returns : goal.returns

@@ -1,7 +1,7 @@
 use Rattle.std.proofs.Common.{◌≡◌, [], take, map}
 use Rattle.fbl_member.specs.Members.{MemberRecord}
 use Rattle.fbl_law.specs.Steps.{gathered_all}
-use Rattle.fbl_group.proofs.group.Group.gather.Given as goal
+use Rattle.fbl_group.proofs.group.Group.gather_table.Given as goal
 
 abbrev pub invariant-loop-record : goal.invariant-loop-record
 invariant-loop-record g l = l.gathered ≡ gathered_all [] (map (λ (m : MemberRecord). m.table) (take l.record-index l.record-items))

@@ -7,7 +7,7 @@ use Rattle.fbl_law.specs.Sound.{IsSound}
 use Rattle.fbl_law.specs.Steps.{gathered_all}
 use Rattle.std.proofs.Common.{List}
 use Rattle.fbl_group.proofs.Recovering.{read_at, gathered-step, gathered-end}
-use Rattle.fbl_group.proofs.group.Group.gather.Goals as goal
+use Rattle.fbl_group.proofs.group.Group.gather_table.Goals as goal
 
 pub loop-record-preserved : goal.loop-record-preserved
 loop-record-preserved g c =

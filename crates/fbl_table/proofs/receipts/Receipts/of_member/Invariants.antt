@@ -1,0 +1,6 @@
+use Rattle.std.proofs.Common.{take}
+use Rattle.fbl_table.specs.Receipts.{IsByNumber}
+use Rattle.fbl_table.proofs.receipts.Receipts.of_member.Given as goal
+
+abbrev pub invariant-loop-place : goal.invariant-loop-place
+invariant-loop-place g l = IsByNumber l.member (take l.place l.table) l.places.items

@@ -1,0 +1,13 @@
+-- One member's receipts by their numbers.
+use Rattle.std.specs.Prelude.{◌≡◌, ℕ, List, Option, None, slice_index_or}
+use Rattle.fbl_base.specs.declared.trace.Determinant.{Determinant}
+use Rattle.fbl_table.specs.declared.entry.Entry.{Entry}
+use Rattle.fbl_table.specs.Tables.{found}
+
+-- the determinant at the place of a receipt number, if there is one
+abbrev pub receipt_at : List (Option Determinant) → ℕ → Option Determinant
+receipt_at places rsn = slice_index_or places rsn None
+
+-- under each number stands what the table finds of the member
+abbrev pub IsByNumber : ℕ → List Entry → List (Option Determinant) → Type 0
+IsByNumber member table places = (rsn : ℕ) → receipt_at places rsn ≡ found member rsn table

@@ -1,0 +1,85 @@
+//! One member's receipts, by their numbers.
+
+ghost use Rattle.std.specs.Prelude.{◌≡◌, ℕ, ◌==◌, [], Some, None, IfOk, OnOk, if◌then◌else◌};
+ghost use Rattle.std.specs.Option.{option_or};
+ghost use Rattle.fbl_table.specs.Receipts.{receipt_at, IsByNumber};
+
+use crate::table::Table;
+use fbl_base::{Determinant, Member};
+use std::alloc::{AllocError, Allocator, Global};
+use std::marker::Model;
+
+/// The determinants of one member's receipts, each at the place of its receipt number, so that one is found at once.
+#[derive(Drop)]
+pub struct Receipts<A: Allocator = Global> {
+    places: Vec<Option<Determinant>, A>,
+}
+
+impl<A: Allocator> Model for Receipts<A> {
+    ghost use Rattle.std.specs.Prelude.{List, Option};
+    ghost use Rattle.fbl_base.specs.declared.trace.Determinant.{Determinant};
+
+    ghost Value = { List (Option Determinant) };
+
+    ghost use Rattle.std.specs.Coded.{coded_list, coded_option};
+    ghost use Rattle.fbl_base.specs.contracts.trace.Determinant as determinant;
+
+    ghost coded = { coded_list (coded_option determinant.the_row.coded) };
+
+    ghost view = { λ r. r.places.items };
+}
+
+impl<A: Allocator + Copy> Receipts<A> {
+    /// No receipts. It takes no memory.
+    pub fn none(alloc: A) -> Receipts<A>
+        ensures { result ≡ [] }
+    {
+        Receipts {
+            places: Vec::new(alloc),
+        }
+    }
+
+    /// The member's receipts that the table has, of several with one number the first. It goes over the table once, and
+    /// takes memory for each number up to the greatest. `Err` comes only where there is no memory for them.
+    pub fn of_member(alloc: A, table: &Table<A>, member: Member) -> Result<Receipts<A>, AllocError>
+        ensures { IfOk result (IsByNumber member table.now) }
+    {
+        let mut places = Vec::new(alloc);
+        for place in 0..table.len() {
+            let entry = table.entry_at(place);
+            if entry.det.to == member {
+                put_first(&mut places, entry.det)?;
+            }
+        }
+        Ok(Receipts { places })
+    }
+
+    /// The determinant of the receipt with this number, if there is one.
+    pub fn determinant(&self, rsn: u32) -> Option<Determinant>
+        ensures { result ≡ receipt_at self.now rsn }
+    {
+        let place = rsn as usize;
+        if place < self.places.len() {
+            self.places[place]
+        } else {
+            None
+        }
+    }
+}
+
+/// Puts the determinant at the place of its receipt number, unless there is one already.
+fn put_first<A: Allocator>(
+    places: &mut Vec<Option<Determinant>, A>,
+    determinant: Determinant,
+) -> Result<(), AllocError>
+    ensures { OnOk result ((rsn : ℕ) → receipt_at places.new.items rsn ≡ option_or (receipt_at places.old.items rsn) (if determinant.rsn == rsn then Some determinant else None)) }
+{
+    let place = determinant.rsn as usize;
+    if places.len() <= place {
+        places.resize(place + 1, None)?;
+    }
+    if places[place].is_none() {
+        places[place] = Some(determinant);
+    }
+    Ok(())
+}
