@@ -82,23 +82,7 @@ each-more P d xs i x size before here p below = elim (cases_lt p i) [
 pub begun-at : (s : Members) (begins : ℕ → MemberRecord) (ms : List MemberRecord) (i : ℕ) (m : MemberRecord) → length ms ≡ i
     → ((p : ℕ) → p < i → set.contains s p ≡ true → slice_index_or ms p blank ≡ begins p) → (set.contains s i ≡ true → m ≡ begins i)
     → (p : ℕ) → p < i + 1 → set.contains s p ≡ true → slice_index_or (ms ++ m ∷ []) p blank ≡ begins p
-begun-at s begins ms i m size before here p below down = at (cases_lt p i) where
-  first : (xs : List MemberRecord) (j : ℕ) → j < length xs → slice_index_or (xs ++ m ∷ []) j blank ≡ slice_index_or xs j blank
-  first [] j h = absurd (omega (arith, h))
-  first (x ∷ xs) zero h = refl
-  first (x ∷ xs) (suc j) h = first xs j (omega (arith, h))
-
-  last : (xs : List MemberRecord) (j : ℕ) → length xs ≡ j → slice_index_or (xs ++ m ∷ []) j blank ≡ m
-  last [] zero h = refl
-  last [] (suc j) h = absurd (omega (arith, h))
-  last (x ∷ xs) zero h = absurd (omega (arith, h))
-  last (x ∷ xs) (suc j) h = last xs j (omega (arith, h))
-
-  at : (p < i) ⊎ (i ≤ p) → slice_index_or (ms ++ m ∷ []) p blank ≡ begins p
-  at (inl less) = first ms p (omega (arith, size, less)) ∙ before p less down
-  at (inr past) =
-      let same : p ≡ i = omega (arith, past, below) in
-      last ms p (size ∙ sym same) ∙ here (ap (λ x. set.contains s x) (sym same) ∙ down) ∙ ap begins (sym same)
+begun-at s begins ms i m size before here = each-more (λ (p : ℕ) (x : MemberRecord). set.contains s p ≡ true → x ≡ begins p) blank ms i m size before here
 
 module _ (next : Next) (r : GroupRecord) (sound : IsSound next r) where
   pub member-below : (p : ℕ) → set.contains r.down p ≡ true → p < r.config.members
