@@ -76,6 +76,9 @@ starts_obey n done (s ∷ ss) obeys allowed room =
     let more : WellFormed n (map mark_of (done ++ send_of done s ∷ [])) = rw (map-append mark_of done (send_of done s ∷ [])) (WellFormed-push n (map mark_of done) e obeys may) in
     starts_obey n (done ++ send_of done s ∷ []) ss more (λ i x at. allowed (suc i) x at) (omega (arith, length-append done (send_of done s ∷ []), room))
 
+pub starts-obey : (config : Settings) → IsConfig config → WellFormed config.members (map mark_of (start_events [] config.starts))
+starts-obey config is = starts_obey config.members [] config.starts (WellFormed-none config.members) is.starts (omega (arith, is.few_starts))
+
 -- what nothing is taken of is all in flight
 none_dropped : (ks : List ℕ) → filter (λ ssn. not (list_any (λ taken. taken == ssn) [])) ks ≡ ks
 none_dropped [] = refl
@@ -149,7 +152,7 @@ module _ (next : Next) (config : Settings) (r : GroupRecord) (is : IsConfig conf
   up m = rw s.nobody_down (sets.contains-empty nat_cmp m)
 
   obeys : WellFormed n (map mark_of events)
-  obeys = starts_obey n [] config.starts (WellFormed-none n) is.starts (omega (arith, is.few_starts))
+  obeys = starts-obey config is
 
   acted : (m : ℕ) → actions_of events m ≡ map sent (starts_of m config.starts)
   acted m = starts_given (action_of events m) (λ s. if s.from == m then Some (sent (s.to, s.note)) else None) (λ s k. refl) [] config.starts ∙ sends_of_one m config.starts
