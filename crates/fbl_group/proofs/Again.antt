@@ -1,18 +1,15 @@
 -- Messages that are sent again.
-use Rattle.std.proofs.Common.{◌≡◌, ℕ, ◌+◌, ◌<◌, ◌||◌, true, false, cond, List, [], ◌∷◌, ◌++◌, length, take, Result, Ok, Err, sym, ap, ◌∙◌, subst, append_assoc}
+use Rattle.std.proofs.Common.{◌≡◌, ℕ, ◌+◌, ◌<◌, List, [], ◌∷◌, ◌++◌, length, take, Result, Ok, Err, sym, ap, ◌∙◌, subst, append_assoc}
 use Rattle.std.proofs.Common.{Vec, get_or}
 use Rattle.std.specs.Result.{IfOk, OnOk}
-use Rattle.std.proofs.lemmas.List.{append-nil, map_more}
-use Rattle.std.specs.FinSet as set
+use Rattle.std.proofs.lemmas.List.{map_more}
 use Rattle.fbl_base.specs.declared.trace.Note.{Note}
 use Rattle.fbl_table.specs.declared.entry.Entry.{Entry}
 use Rattle.fbl_table.specs.Tables.{piggybacked}
 use Rattle.fbl_member.specs.Members.{Message, MemberRecord, last_from, logged_beyond}
 use Rattle.fbl_member.specs.Carried.{IsOnce}
 use Rattle.fbl_member.proofs.Once.{IsOnce-piggybacked}
-use Rattle.fbl_law.specs.Record.{Members}
-use Rattle.fbl_law.specs.Replaying.{resent, resent_to, resent_row, resent_rows}
-use Rattle.fbl_law.proofs.Resending.{resent_row-more, resent_rows-more}
+use Rattle.fbl_law.specs.Replaying.{resent, resent_to}
 
 -- one message more
 pub again-step : (q p i : ℕ) (carried : List Entry) (sends : List (ℕ × Note)) (d : ℕ × Note) (first before after : List Message) (v : Message) → i < length sends
@@ -40,18 +37,3 @@ resent-is q p f from to sender receiver last unsent given held limit before afte
     ∙ ap (λ k. before ++ resent q p (piggybacked k from.table) given) is_limit
     ∙ ap (λ (xs : List (ℕ × Note)). before ++ resent q p (piggybacked f from.table) xs)
     (is_given ∙ is_unsent ∙ ap (λ k. logged_beyond sender.log p k) (is_last ∙ ap (λ (m : MemberRecord). last_from m q) is_to) ∙ ap (λ (m : MemberRecord). logged_beyond m.log p (last_from to q)) is_from)
-
--- one channel more, and one row more
-pub row-sent : (f : ℕ) (s : Members) (work : ℕ → MemberRecord) (q p : ℕ) (first before after : List Message) → (set.contains s q || set.contains s p) ≡ true
-    → before ≡ first ++ resent_row f s work q p → after ≡ before ++ resent_to f q p (work q) (work p) → after ≡ first ++ resent_row f s work q (p + 1)
-row-sent f s work q p first before after ends was is =
-    is ∙ ap (λ (vs : List Message). vs ++ resent_to f q p (work q) (work p)) was ∙ append_assoc first (resent_row f s work q p) (resent_to f q p (work q) (work p))
-    ∙ ap (λ (vs : List Message). first ++ vs) (ap (λ b. resent_row f s work q p ++ cond b (resent_to f q p (work q) (work p)) []) (sym ends) ∙ sym (resent_row-more f s work q p))
-
-pub row-kept : (f : ℕ) (s : Members) (work : ℕ → MemberRecord) (q p : ℕ) (first before : List Message) → (set.contains s q || set.contains s p) ≡ false
-    → before ≡ first ++ resent_row f s work q p → before ≡ first ++ resent_row f s work q (p + 1)
-row-kept f s work q p first before ends was =
-    was ∙ ap (λ (vs : List Message). first ++ vs) (sym (append-nil (resent_row f s work q p)) ∙ ap (λ b. resent_row f s work q p ++ cond b (resent_to f q p (work q) (work p)) []) (sym ends) ∙ sym (resent_row-more f s work q p))
-
-pub rows-sent : (f : ℕ) (s : Members) (work : ℕ → MemberRecord) (n q : ℕ) (before after : List Message) → before ≡ resent_rows f s work n q → after ≡ before ++ resent_row f s work q n → after ≡ resent_rows f s work n (q + 1)
-rows-sent f s work n q before after was is = is ∙ ap (λ (vs : List Message). vs ++ resent_row f s work q n) was ∙ sym (resent_rows-more f s work n q)

@@ -1,29 +1,32 @@
 -- What a recovery leaves, once the records that were rebuilt are in place.
-use Rattle.std.proofs.Common.{◌≡◌, ◌≢◌, ℕ, ◌+◌, ◌<◌, ◌≤◌, Bool, true, false, cond, List, [], ◌∷◌, ◌++◌, length, map, refl, sym, ap, ◌∙◌, arith, Result, Ok, Err, Fits, w64, ◌^◌}
+use Rattle.std.proofs.Common.{◌||◌, ◌⊎◌, inl, inr, ◌≡◌, ◌≢◌, ℕ, ◌+◌, ◌<◌, ◌≤◌, Bool, true, false, cond, List, [], ◌∷◌, length, map, refl, sym, ap, ◌∙◌, arith, Result, Ok, Err, Fits, w64, ◌^◌}
 use Rattle.std.specs.Prelude.{slice_index_or, count_by}
 use Rattle.std.specs.List.{filter, cons_option}
 use Rattle.std.specs.Option.{is_some}
 use Rattle.std.specs.Result.{OnErr}
 use Rattle.std.specs.Ordering.{nat_cmp}
 use Rattle.std.specs.FinSet as set
+use Rattle.std.proofs.lemmas.Bool.{cases_lt}
 use Rattle.std.proofs.lemmas.List.Sums.{sum_by-cons}
+use Rattle.fbl_base.specs.Configs.{Settings}
 use Rattle.fbl_base.specs.declared.trace.Event.{Event}
 use Rattle.fbl_base.specs.declared.trace.Event.TheVariants as event
 use Rattle.fbl_base.specs.Events.{mark_of, determinant_of}
 use Rattle.fbl_base.specs.Fold.{Next}
 use Rattle.fbl_member.specs.Members.{Message, MemberRecord, blank}
-use Rattle.fbl_law.specs.Record.{Members}
-use Rattle.fbl_law.specs.Groups.{GroupRecord, member, marks, receipts}
+use Rattle.fbl_law.specs.Record.{Members, IsUp, IsDown}
+use Rattle.fbl_law.specs.Groups.{GroupRecord, channel_in, channel, sum_below, messages_in, member, knowledge, marks, receipts}
 use Rattle.fbl_law.specs.Sound.{IsSound}
 use Rattle.fbl_law.specs.GroupSteps.{IsRecovery}
-use Rattle.fbl_law.specs.Replaying.{is_replayed, stays_by, recovered_trace, working, replayed_in, resent_rows, IsRebuilt}
+use Rattle.fbl_law.specs.Replaying.{is_replayed, stays_by, recovered_trace, resent_to, sent_again, working, replayed_in, IsRebuilt}
 use Rattle.fbl_law.proofs.GroupRecovery.{length-left, recovery-keeps}
 use Rattle.fbl_law.proofs.Undone.{cut-undone}
 use Rattle.fbl_law.proofs.CutTrace.{recovered_trace-cut}
-use Rattle.fbl_law.proofs.Resending.{rows-short, resent_rows-agree, flight-channels, flight-resent, flight-outside, flight-count}
+use Rattle.fbl_law.proofs.Resending.{channel-outside, sum_below-agree, sent_again-agree, sent_again-short}
 use Rattle.fbl_law.proofs.Rebuilding.{with-table, working-log, replayed_in-all, recovered_trace-rebuilt, recovery-made}
 use Rattle.fbl_group.specs.declared.answers.Recovered.{Recovered}
-use Rattle.fbl_group.specs.Recoveries.{Recovers}
+use Rattle.fbl_group.specs.Recoveries.{messages_at, Recovers}
+use Rattle.fbl_group.specs.Channels.{AreReplaced}
 use Rattle.fbl_group.specs.Rebuilding.{IsReady, IsPutBack}
 
 -- receipts are counted event by event
@@ -89,13 +92,14 @@ module _ (next : Next) (old : GroupRecord) (sound : IsSound next old) where
     pub few-undone : (undone : ℕ) → undone ≤ length (receipts (map mark_of old.trace)) → old.undone_ever + undone ≤ old.receipts_ever
     few-undone undone most = omega (arith, most, sound.counted)
 
-    pub few-again : length (resent_rows old.config.f old.down (working old rebuilt) old.config.members old.config.members) ≤ 2097152
-    few-again =
-        let few = few-members in
-        omega (arith, few, rows-short old.config.f old.down (working old rebuilt) old.config.members old.config.members few (working-log next old sound rebuilt ready.replayed.replaying))
+    -- what is sent again on a channel is at most what the trace may have
+    pub few-again : (again : List (List (List Message))) → ((q p : ℕ) → q < old.config.members → p < old.config.members → channel_in again q p ≡ sent_again old.config.f old.down (working old rebuilt) q p) → (q p : ℕ) → q < old.config.members → p < old.config.members → length (channel_in again q p) ≤ 8192
+    few-again again made q p below_q below_p =
+        rw (made q p below_q below_p) (sent_again-short old.config.f old.down (working old rebuilt) q p 8192 (working-log next old sound rebuilt ready.replayed.replaying q below_q))
 
-    module _ (new : GroupRecord) (config : new.config ≡ old.config) (members : IsPutBack old.down rebuilt old.members new.members)
-        (flight : new.flight ≡ old.flight ++ resent_rows old.config.f old.down (working old rebuilt) old.config.members old.config.members)
+    module _ (new : GroupRecord) (again : List (List (List Message))) (config : new.config ≡ old.config) (members : IsPutBack old.down rebuilt old.members new.members)
+        (made : (q p : ℕ) → q < old.config.members → p < old.config.members → channel_in again q p ≡ sent_again old.config.f old.down (working old rebuilt) q p)
+        (replaced : AreReplaced old.config.members old.down again old.channels new.channels)
         (trace : new.trace ≡ left) (checkpoints : new.checkpoints ≡ old.checkpoints) (down : new.down ≡ set.empty) (receipts_ever : new.receipts_ever ≡ old.receipts_ever)
         (undone : ℕ) (undone_is : undone + length (receipts (map mark_of left)) ≡ length (receipts (map mark_of old.trace))) (undone_ever : new.undone_ever ≡ old.undone_ever + undone) where
       works : (q : ℕ) → q < old.config.members → member new q ≡ working old rebuilt q
@@ -104,8 +108,43 @@ module _ (next : Next) (old : GroupRecord) (sound : IsSound next old) where
         at true is = rw is (members.put q (omega (arith, below, sound.members)) is)
         at false is = rw is (members.kept q is)
 
-      again : new.flight ≡ old.flight ++ resent_rows old.config.f old.down (λ q. member new q) old.config.members old.config.members
-      again = flight ∙ ap (λ (ms : List Message). old.flight ++ ms) (sym (resent_rows-agree old.config.f old.down (λ q. member new q) (working old rebuilt) old.config.members old.config.members (omega arith) works))
+      -- a channel with an end that was down has what its sender sends again
+      resent_on : (q p : ℕ) → IsDown (knowledge old) q ⊎ IsDown (knowledge old) p → q < old.config.members → p < old.config.members → channel new q p ≡ resent_to old.config.f q p (member new q) (member new p)
+      resent_on q p down below_q below_p =
+          replaced.each q p below_q below_p ∙ ap (λ b. cond b (channel_in again q p) (channel old q p)) (ends down) ∙ made q p below_q below_p
+          ∙ sent_again-agree old.config.f old.down (working old rebuilt) (λ m. member new m) q p (sym (works q below_q)) (sym (works p below_p))
+          ∙ ap (λ b. cond b (resent_to old.config.f q p (member new q) (member new p)) []) (ends down)
+        where
+          ends : IsDown (knowledge old) q ⊎ IsDown (knowledge old) p → (set.contains old.down q || set.contains old.down p) ≡ true
+          ends (inl d) = rw d refl
+          ends (inr d) = rw d (at (set.contains old.down q)) where
+            at : (c : Bool) → (c || true) ≡ true
+            at true = refl
+            at false = refl
+
+      -- the others stay
+      survive : (q p : ℕ) → IsUp (knowledge old) q → IsUp (knowledge old) p → channel new q p ≡ channel old q p
+      survive q p up_q up_p = at (cases_lt q old.config.members) (cases_lt p old.config.members) where
+        outside : (old.config.members ≤ q) ⊎ (old.config.members ≤ p) → channel new q p ≡ channel old q p
+        outside out = channel-outside old.config.members new.channels q p replaced.shape out ∙ sym (channel-outside old.config.members old.channels q p sound.shape out)
+
+        at : (q < old.config.members) ⊎ (old.config.members ≤ q) → (p < old.config.members) ⊎ (old.config.members ≤ p) → channel new q p ≡ channel old q p
+        at (inl below_q) (inl below_p) = replaced.each q p below_q below_p ∙ ap (λ b. cond (b || set.contains old.down p) (channel_in again q p) (channel old q p)) up_q ∙ ap (λ b. cond b (channel_in again q p) (channel old q p)) up_p
+        at (inl below_q) (inr past) = outside (inr past)
+        at (inr past) within_p = outside (inl past)
+
+      -- how many messages are sent again
+      counted : messages_in old.config.members again ≡ messages_at old.down new
+      counted =
+          sum_below-agree old.config.members (λ q. sum_below old.config.members (λ p. length (channel_in again q p))) (λ q. sum_below old.config.members (λ p. cond (set.contains old.down q || set.contains old.down p) (length (channel new q p)) 0)) row
+          ∙ ap (λ n. sum_below n (λ q. sum_below n (λ p. cond (set.contains old.down q || set.contains old.down p) (length (channel new q p)) 0))) (sym (ap (λ (c : Settings). c.members) config))
+        where
+          one : (q p : ℕ) → q < old.config.members → p < old.config.members → (b : Bool) → (set.contains old.down q || set.contains old.down p) ≡ b → length (channel_in again q p) ≡ cond b (length (channel new q p)) 0
+          one q p below_q below_p true is = ap length (sym (replaced.each q p below_q below_p ∙ ap (λ b. cond b (channel_in again q p) (channel old q p)) is))
+          one q p below_q below_p false is = ap length (made q p below_q below_p ∙ ap (λ b. cond b (resent_to old.config.f q p (working old rebuilt q) (working old rebuilt p)) []) is)
+
+          row : (q : ℕ) → q < old.config.members → sum_below old.config.members (λ p. length (channel_in again q p)) ≡ sum_below old.config.members (λ p. cond (set.contains old.down q || set.contains old.down p) (length (channel new q p)) 0)
+          row q below_q = sum_below-agree old.config.members (λ p. length (channel_in again q p)) (λ p. cond (set.contains old.down q || set.contains old.down p) (length (channel new q p)) 0) (λ p below_p. one q p below_q below_p (set.contains old.down q || set.contains old.down p) refl)
 
       marks_left : length (receipts (marks new)) ≡ length (receipts (map mark_of left))
       marks_left = ap (λ (es : List Event). length (receipts (map mark_of es))) trace
@@ -117,9 +156,9 @@ module _ (next : Next) (old : GroupRecord) (sound : IsSound next old) where
         size = members.size;
         survivors = members.kept;
         rebuilt = λ m below is. members.put m (omega (arith, below, sound.members)) is ∙ with-table (slice_index_or rebuilt m blank) _ (ready.tables m below is);
-        channels = flight-channels next old sound new again;
-        resent = flight-resent next old sound new again;
-        outside = flight-outside next old sound new again;
+        shape = replaced.shape;
+        channels = survive;
+        resent = resent_on;
         config = config;
         receipts_ever = receipts_ever;
         undone_ever = omega (arith, undone_ever, undone_is, marks_left);
@@ -133,10 +172,10 @@ module _ (next : Next) (old : GroupRecord) (sound : IsSound next old) where
       is_sound = recovery-keeps next old new is_recovery sound
 
       -- what the recovery answers
-      pub recovers : (answer : Recovered) → answer.replayed ≡ replayed_in old rebuilt → answer.resent ≡ length (resent_rows old.config.f old.down (working old rebuilt) old.config.members old.config.members) → answer.undone ≡ undone → Recovers next old new answer
+      pub recovers : (answer : Recovered) → answer.replayed ≡ replayed_in old rebuilt → answer.resent ≡ messages_in old.config.members again → answer.undone ≡ undone → Recovers next old new answer
       recovers answer replayed resent lost = record {
         recovery = is_recovery;
         replayed = replayed ∙ replayed_in-all next old sound rebuilt ready.replayed.replaying ready.replayed.waiting ∙ ap (λ (es : List Event). length (filter (is_replayed old) (receipts (map mark_of es)))) (sym (trace ∙ left-is));
-        resent = resent ∙ ap length (sym (resent_rows-agree old.config.f old.down (λ q. member new q) (working old rebuilt) old.config.members old.config.members (omega arith) works)) ∙ sym (flight-count next old sound new again);
+        resent = resent ∙ counted;
         undone = omega (arith, lost, undone_is, marks_left);
       }

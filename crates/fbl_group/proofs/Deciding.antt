@@ -7,18 +7,18 @@ use Rattle.fbl_base.specs.declared.outcome.Outcome.{Outcome}
 use Rattle.fbl_base.specs.Fold.{Next}
 use Rattle.fbl_base.specs.declared.trace.Note.{Note}
 use Rattle.fbl_member.specs.Members.{Message, MemberRecord}
-use Rattle.fbl_law.specs.Groups.{GroupRecord, member}
+use Rattle.fbl_law.specs.Groups.{GroupRecord, member, channel}
 use Rattle.fbl_law.specs.GroupSteps.{step_of}
 use Rattle.fbl_group.specs.declared.refusals.DeliverRefusal.TheVariants.{Empty, Full}
-use Rattle.fbl_group.specs.Flight.{front_place, message_at}
+use Rattle.fbl_group.specs.Channels.{front_message}
 use Rattle.fbl_group.specs.Deliveries.{deliver_refusal, message_refusal, is_full, front, IsPlanned}
 use Rattle.fbl_group.specs.declared.ticket.Ticket.{Ticket}
 use Rattle.fbl_group.specs.declared.refusals.TakeRefusal.TheVariants as take
 use Rattle.fbl_group.specs.declared.refusals.CommitRefusal.TheVariants as commit
 use Rattle.fbl_group.specs.Tickets.{take_refusal, empty_refusal, IsTicket, commit_refusal, stale_or_full, is_current}
 use Rattle.fbl_law.specs.Sound.{IsSound}
-use Rattle.fbl_law.proofs.GroupFacts.{all_up, receipts_fit}
-use Rattle.fbl_group.proofs.Flights.{IsFrontAt, front_at, no_front, on_ends}
+use Rattle.fbl_law.proofs.GroupFacts.{all_up, receipts_fit, front_flight}
+use Rattle.fbl_group.proofs.Queues.{first-is}
 
 pub below_test : (m n : ℕ) → m < n → nat_lt m n ≡ true
 below_test m n below = grind (arith, nat_tests)
@@ -35,43 +35,36 @@ refusal_at_front next r p q below_p below_q nobody =
     rw (a, b, d) refl
 
 module _ (next : Next) (r : GroupRecord) (p q : ℕ) (below_p : p < r.config.members) (below_q : q < r.config.members) (nobody : set.len r.down ≡ 0) where
-  pub is_empty : front_place r.flight q p ≡ None → deliver_refusal next r p q ≡ Some Empty
-  is_empty none = refusal_at_front next r p q below_p below_q nobody ∙ ap (message_refusal next r) (no_front r.flight q p none)
+  pub is_empty : front r q p ≡ None → deliver_refusal next r p q ≡ Some Empty
+  is_empty none = refusal_at_front next r p q below_p below_q nobody ∙ ap (message_refusal next r) none
 
-  module _ (place : ℕ) (outcome : Outcome) (at : front_place r.flight q p ≡ Some place) (step : outcome ≡ next p r.config.members (member r p).state (message_at r.flight place).note) where
-    abbrev v : Message
-    v = message_at r.flight place
-
-    first : IsFrontAt r.flight q p place v
-    first = front_at r.flight q p place at
-
+  module _ (v : Message) (outcome : Outcome) (sound : IsSound next r) (at : front r q p ≡ Some v) (step : outcome ≡ next p r.config.members (member r p).state v.note) where
     ends : (v.from ≡ q) × (v.to ≡ p)
-    ends = on_ends q p v first.on
+    ends = (let flies = front_flight next r sound q p v at in (flies.1, flies.2))
+
+    first : front_message r q p ≡ v
+    first = first-is (channel r q p) v at
 
     steps : outcome ≡ step_of next r v
     steps = step ∙ ap (λ (m : ℕ). next m r.config.members (member r m).state v.note) (sym ends.1)
 
     decided : deliver_refusal next r p q ≡ cond (is_full r (length outcome.sends.items)) (Some Full) None
-    decided = refusal_at_front next r p q below_p below_q nobody ∙ ap (message_refusal next r) first.front ∙ ap (λ (o : Outcome). cond (is_full r (length o.sends.items)) (Some Full) None) (sym steps)
+    decided = refusal_at_front next r p q below_p below_q nobody ∙ ap (message_refusal next r) at ∙ ap (λ (o : Outcome). cond (is_full r (length o.sends.items)) (Some Full) None) (sym steps)
 
     pub is_refused_full : is_full r (length outcome.sends.items) ≡ true → deliver_refusal next r p q ≡ Some Full
     is_refused_full full = decided ∙ ap (λ (b : Bool). cond b (Some Full) None) full
 
-    pub is_planned : is_full r (length outcome.sends.items) ≡ false → (deliver_refusal next r p q ≡ None) × ((v.from ≡ q) × (v.to ≡ p) × IsPlanned next r place outcome)
+    pub is_planned : is_full r (length outcome.sends.items) ≡ false → (deliver_refusal next r p q ≡ None) × IsPlanned next r q p outcome
     is_planned room = (
       decided ∙ ap (λ (b : Bool). cond b (Some Full) None) room,
-      (
-        ends.0,
-        ends.1,
-        record {
-          nobody_down = set.empty_of_len r.down nobody;
-          to_member = rw ends.1 below_p;
-          from_member = rw ends.0 below_q;
-          front_at = rw (ends.0, ends.1) at;
-          step = steps;
-          room = room;
-        },
-      ),
+      record {
+        nobody_down = set.empty_of_len r.down nobody;
+        to_member = below_p;
+        from_member = below_q;
+        first = at ∙ ap (λ (w : Message). Some w) (sym first);
+        step = steps ∙ ap (step_of next r) (sym first);
+        room = room;
+      },
     )
 
 -- between members of a group of which nobody is down the front decides about a ticket
@@ -83,21 +76,20 @@ take_at_front r p q below_p below_q nobody =
     rw (a, b, d) refl
 
 module _ (r : GroupRecord) (p q : ℕ) (below_p : p < r.config.members) (below_q : q < r.config.members) (nobody : set.len r.down ≡ 0) where
-  pub nothing_to_take : front_place r.flight q p ≡ None → take_refusal r p q ≡ Some take.Empty
-  nothing_to_take none = take_at_front r p q below_p below_q nobody ∙ ap empty_refusal (no_front r.flight q p none)
+  pub nothing_to_take : front r q p ≡ None → take_refusal r p q ≡ Some take.Empty
+  nothing_to_take none = take_at_front r p q below_p below_q nobody ∙ ap empty_refusal none
 
   pub few_received : (next : Next) → IsSound next r → (member r p).received ≤ 8192
   few_received next sound = omega (arith, receipts_fit next r sound p below_p (all_up next r sound (set.empty_of_len r.down nobody) p), sound.room, sound.config.limit.1)
 
-  pub is_taken : (place : ℕ) (t : Ticket) → front_place r.flight q p ≡ Some place → t.n ≡ r.config.members → t.to ≡ p → t.from ≡ q → t.state ≡ (member r p).state → t.rsn ≡ (member r p).received + 1 → t.ssn ≡ (message_at r.flight place).ssn → t.note ≡ (message_at r.flight place).note → (take_refusal r p q ≡ None) × ((v : Message) × (front r q p ≡ Some v) × IsTicket r v t)
-  is_taken place t at size to from state rsn ssn note =
-      let v : Message = message_at r.flight place in
-      let first = front_at r.flight q p place at in
-      let ends = on_ends q p v first.on in (
-        take_at_front r p q below_p below_q nobody ∙ ap empty_refusal first.front,
+  pub is_taken : (next : Next) → IsSound next r → (v : Message) (t : Ticket) → front r q p ≡ Some v → t.n ≡ r.config.members → t.to ≡ p → t.from ≡ q → t.state ≡ (member r p).state → t.rsn ≡ (member r p).received + 1 → t.ssn ≡ v.ssn → t.note ≡ v.note → (take_refusal r p q ≡ None) × ((w : Message) × (front r q p ≡ Some w) × IsTicket r w t)
+  is_taken next sound v t at size to from state rsn ssn note =
+      let flies = front_flight next r sound q p v at in
+      let ends : (v.from ≡ q) × (v.to ≡ p) = (flies.1, flies.2) in (
+        take_at_front r p q below_p below_q nobody ∙ ap empty_refusal at,
         (
           v,
-          first.front,
+          at,
           record {
             n = size;
             to = to ∙ sym ends.1;
@@ -134,18 +126,12 @@ module _ (next : Next) (r : GroupRecord) (t : Ticket) (nobody : set.len r.down �
       let s : (r.config.members == t.n) ≡ true = grind (arith, nat_tests) in
       rw (d, s) refl
 
-  pub nothing_to_commit : front_place r.flight t.from t.to ≡ None → commit_refusal next r t ≡ Some commit.Stale
-  nothing_to_commit none = commit_at_front ∙ ap (stale_or_full r t sends) (no_front r.flight t.from t.to none)
+  pub nothing_to_commit : front r t.from t.to ≡ None → commit_refusal next r t ≡ Some commit.Stale
+  nothing_to_commit none = commit_at_front ∙ ap (stale_or_full r t sends) none
 
-  module _ (place : ℕ) (at : front_place r.flight t.from t.to ≡ Some place) where
-    abbrev w : Message
-    w = message_at r.flight place
-
-    first_is : IsFrontAt r.flight t.from t.to place w
-    first_is = front_at r.flight t.from t.to place at
-
+  module _ (w : Message) (at : front r t.from t.to ≡ Some w) where
     commit_decided : commit_refusal next r t ≡ cond (not (is_current (member r t.to) w t)) (Some commit.Stale) (cond (is_full r sends) (Some commit.Full) None)
-    commit_decided = commit_at_front ∙ ap (stale_or_full r t sends) first_is.front
+    commit_decided = commit_at_front ∙ ap (stale_or_full r t sends) at
 
     pub is_stale : is_current (member r t.to) w t ≡ false → commit_refusal next r t ≡ Some commit.Stale
     is_stale off = commit_decided ∙ ap (λ (b : Bool). cond (not b) (Some commit.Stale) (cond (is_full r sends) (Some commit.Full) None)) off
@@ -157,9 +143,9 @@ module _ (next : Next) (r : GroupRecord) (t : Ticket) (nobody : set.len r.down �
       pub is_commit_full : is_full r (length outcome.sends.items) ≡ true → commit_refusal next r t ≡ Some commit.Full
       is_commit_full full = room_decides ∙ ap (λ (b : Bool). cond b (Some commit.Full) None) full
 
-      pub is_commit_planned : t.to < t.n → t.from < t.n → is_full r (length outcome.sends.items) ≡ false → (commit_refusal next r t ≡ None) × ((w.from ≡ t.from) × (w.to ≡ t.to) × IsPlanned next r place outcome)
-      is_commit_planned below_to below_from room =
+      pub is_commit_planned : IsSound next r → t.to < t.n → t.from < t.n → is_full r (length outcome.sends.items) ≡ false → (commit_refusal next r t ≡ None) × IsPlanned next r t.from t.to outcome
+      is_commit_planned sound below_to below_from room =
           let parts = current_parts (member r t.to) w t current in
           let steps : outcome ≡ next t.to r.config.members (member r t.to).state w.note = rw (size, parts.0, parts.1) step in
-          let planned = is_planned next r t.to t.from (rw size below_to) (rw size below_from) nobody place outcome at steps room in
+          let planned = is_planned next r t.to t.from (rw size below_to) (rw size below_from) nobody w outcome sound at steps room in
           (room_decides ∙ ap (λ (b : Bool). cond b (Some commit.Full) None) room, planned.1)

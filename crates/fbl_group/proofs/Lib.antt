@@ -1,4 +1,4 @@
-pub mod Flights
+pub mod Queues
 pub mod Planning
 pub mod Deciding
 pub mod Striking

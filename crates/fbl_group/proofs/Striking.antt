@@ -1,11 +1,11 @@
 -- When a strike is refused, and what it leaves.
-use Rattle.std.proofs.Common.{◌≡◌, ◌≢◌, ℕ, suc, ◌+◌, ◌<◌, ◌≤◌, ◌==◌, ◌&&◌, ◌||◌, not, Bool, true, false, cond, List, [], ◌∷◌, length, map, inl, inr, ◌⊎◌, Some, None, refl, sym, ap, ◌∙◌, arith, slice_get}
+use Rattle.std.proofs.Common.{subst, ◌≡◌, ◌≢◌, ℕ, suc, ◌+◌, ◌<◌, ◌≤◌, ◌==◌, ◌&&◌, ◌||◌, not, Bool, true, false, cond, List, [], ◌∷◌, length, map, inl, inr, ◌⊎◌, Some, None, refl, sym, ap, ◌∙◌, arith, slice_get}
 use Rattle.std.specs.Prelude.{nat_lt, count_by, slice_index_or}
 use Rattle.std.specs.List.{filter, list_any, list_all, cons_option}
 use Rattle.std.specs.Ordering.{nat_cmp, eq_by_cmp}
 use Rattle.std.specs.Cmp.{unsigned_tied, nat_cmp_total}
 use Rattle.std.specs.FinSet as sets
-use Rattle.std.proofs.lemmas.Bool.{false≢true}
+use Rattle.std.proofs.lemmas.Bool.{cases_lt, false≢true}
 use Rattle.std.proofs.lemmas.Bool.Decides.{nat_tests}
 use Rattle.std.specs.Option.{option_map}
 use Rattle.std.proofs.lemmas.Option.{slice_get-map}
@@ -20,14 +20,14 @@ use Rattle.fbl_base.specs.Fold.{Next}
 use Rattle.fbl_base.proofs.RulesLaws.{eqb-self}
 use Rattle.fbl_member.specs.Members.{Message, MemberRecord, blank}
 use Rattle.fbl_law.specs.Record.{Members, IsUp, IsDown, IsOrphan}
-use Rattle.fbl_law.specs.Steps.{is_on}
 use Rattle.fbl_law.specs.Groups.{GroupRecord, channel, marks, knowledge, receipts, is_recorded}
 use Rattle.fbl_law.specs.Sound.{IsSound}
 use Rattle.fbl_law.specs.GroupSteps.{IsStrike}
 use Rattle.fbl_law.proofs.GroupStrike.{group_strike_keeps, recorded_test}
+use Rattle.fbl_law.proofs.Resending.{channel-outside}
 use Rattle.fbl_law.proofs.Promises.{sound_has_no_orphan}
 use Rattle.fbl_group.specs.declared.refusals.StrikeRefusal.TheVariants.{BadMember, Nobody, TooMany}
-use Rattle.fbl_group.specs.Recoveries.{has_end_in}
+use Rattle.fbl_group.specs.Channels.{AreEmptied}
 use Rattle.fbl_group.specs.Strikes.{is_within, strike_refusal, lost_receipts, is_lost, is_lost_of, IsBlanked}
 
 -- the test of who is below n
@@ -109,29 +109,11 @@ may_strike r struck allowed = at (is_within struck r.config.members) (sets.len s
     few = grind (arith, nat_tests);
   }
 
--- the messages on a channel with no struck end stay, and the others go
-both_filters : {X : Type 0} (p q : X → Bool) → ((x : X) → q x ≡ true → p x ≡ true) → (xs : List X) → filter q (filter p xs) ≡ filter q xs
-both_filters p q passes [] = refl
-both_filters p q passes (x ∷ xs) = at (p x) (q x) refl refl (both_filters p q passes xs) where
-  at : (a b : Bool) → p x ≡ a → q x ≡ b → filter q (filter p xs) ≡ filter q xs → filter q (cond a (x ∷ filter p xs) (filter p xs)) ≡ cond b (x ∷ filter q xs) (filter q xs)
-  at true true ea eb ih = rw eb (ap (λ ys. x ∷ ys) ih)
-  at true false ea eb ih = rw eb ih
-  at false true ea eb ih = absurd (let e = passes x eb in cc)
-  at false false ea eb ih = ih
+-- the channels are emptied, by a number that is that of the members
+pub emptied-by : {n k : ℕ} {s : Members} {old new : List (List (List Message))} → n ≡ k → AreEmptied n s old new → AreEmptied k s old new
+emptied-by {s = s} {old = old} {new = new} same emptied = subst (λ m. AreEmptied m s old new) same emptied
 
-neither_filter : {X : Type 0} (p q : X → Bool) → ((x : X) → q x ≡ true → p x ≡ false) → (xs : List X) → filter q (filter p xs) ≡ []
-neither_filter p q fails [] = refl
-neither_filter p q fails (x ∷ xs) = at (p x) (q x) refl refl (neither_filter p q fails xs) where
-  at : (a b : Bool) → p x ≡ a → q x ≡ b → filter q (filter p xs) ≡ [] → filter q (cond a (x ∷ filter p xs) (filter p xs)) ≡ []
-  at true true ea eb ih = absurd (let e = fails x eb in cc)
-  at true false ea eb ih = rw eb ih
-  at false b ea eb ih = ih
-
-both_equal : (a b : Bool) → (a && b) ≡ true → (a ≡ true) × (b ≡ true)
-both_equal true b h = (refl, h)
-both_equal false b h = cc
-
-module _ (next : Next) (old new : GroupRecord) (struck : Members) (sound : IsSound next old) (allowed : strike_refusal old struck ≡ None) (blanked : IsBlanked struck old.members new.members) (flight : new.flight ≡ filter (λ v. not (has_end_in struck v)) old.flight) (down : new.down ≡ sets.union old.down struck) (trace : new.trace ≡ old.trace) (checkpoints : new.checkpoints ≡ old.checkpoints) (config : new.config ≡ old.config) (receipts_ever : new.receipts_ever ≡ old.receipts_ever) (undone_ever : new.undone_ever ≡ old.undone_ever) where
+module _ (next : Next) (old new : GroupRecord) (struck : Members) (sound : IsSound next old) (allowed : strike_refusal old struck ≡ None) (blanked : IsBlanked struck old.members new.members) (channels : AreEmptied old.config.members struck old.channels new.channels) (down : new.down ≡ sets.union old.down struck) (trace : new.trace ≡ old.trace) (checkpoints : new.checkpoints ≡ old.checkpoints) (config : new.config ≡ old.config) (receipts_ever : new.receipts_ever ≡ old.receipts_ever) (undone_ever : new.undone_ever ≡ old.undone_ever) where
   may : MayStrike old struck
   may = may_strike old struck allowed
 
@@ -154,20 +136,26 @@ module _ (next : Next) (old new : GroupRecord) (struck : Members) (sound : IsSou
     at true false ea eb either = blanked.others m eb ∙ sound.blanks m (sound.down m ea) ea
     at false false ea eb either = cc
 
-  on : (q p : ℕ) (v : Message) → is_on q p v ≡ true → has_end_in struck v ≡ (sets.contains struck q || sets.contains struck p)
-  on q p v is =
-      let both = both_equal (v.from == q) (v.to == p) is in
-      let b0 = both.0 in
-      let b1 = both.1 in
-      let from : v.from ≡ q = grind (arith, nat_tests) in
-      let to : v.to ≡ p = grind (arith, nat_tests) in
-      rw (from, to) refl
+  -- a channel is emptied where one of its ends is struck, and no other is
+  emptied_where : (q p : ℕ) → channel new q p ≡ cond (sets.contains struck q || sets.contains struck p) [] (channel old q p)
+  emptied_where q p = at (cases_lt q old.config.members) (cases_lt p old.config.members) where
+    nothing : (b : Bool) (c : List Message) → c ≡ [] → [] ≡ cond b [] c
+    nothing true c is = refl
+    nothing false c is = sym is
+
+    outside : (old.config.members ≤ q) ⊎ (old.config.members ≤ p) → channel new q p ≡ cond (sets.contains struck q || sets.contains struck p) [] (channel old q p)
+    outside out = channel-outside old.config.members new.channels q p channels.shape out ∙ nothing (sets.contains struck q || sets.contains struck p) (channel old q p) (channel-outside old.config.members old.channels q p sound.shape out)
+
+    at : (q < old.config.members) ⊎ (old.config.members ≤ q) → (p < old.config.members) ⊎ (old.config.members ≤ p) → channel new q p ≡ cond (sets.contains struck q || sets.contains struck p) [] (channel old q p)
+    at (inl below_q) (inl below_p) = channels.each q p below_q below_p
+    at (inl below_q) (inr past) = outside (inr past)
+    at (inr past) within = outside (inl past)
 
   kept : (q p : ℕ) → sets.contains struck q ≡ false → sets.contains struck p ≡ false → channel new q p ≡ channel old q p
-  kept q p up_q up_p = ap (filter (is_on q p)) flight ∙ both_filters (λ v. not (has_end_in struck v)) (is_on q p) (λ v is. (let e = on q p v is in rw (e, up_q, up_p) refl)) old.flight
+  kept q p up_q up_p = emptied_where q p ∙ ap (λ b. cond (b || sets.contains struck p) [] (channel old q p)) up_q ∙ ap (λ b. cond b [] (channel old q p)) up_p
 
   emptied : (q p : ℕ) → (sets.contains struck q || sets.contains struck p) ≡ true → channel new q p ≡ []
-  emptied q p ends = ap (filter (is_on q p)) flight ∙ neither_filter (λ v. not (has_end_in struck v)) (is_on q p) (λ v is. (let e = on q p v is in rw (e, ends) refl)) old.flight
+  emptied q p ends = emptied_where q p ∙ ap (λ b. cond b [] (channel old q p)) ends
 
   either : (a b : Bool) → (a ≡ true) ⊎ (b ≡ true) → (a || b) ≡ true
   either true b h = refl
@@ -197,6 +185,7 @@ module _ (next : Next) (old new : GroupRecord) (struck : Members) (sound : IsSou
     size = blanked.size;
     survivors = λ m up. blanked.others m (not_struck m up);
     blanks = blank_now;
+    shape = channels.shape;
     channels = λ q p up_q up_p. kept q p (not_struck q up_q) (not_struck p up_p);
     emptied = emptied_now;
     trace = trace;

@@ -9,8 +9,7 @@ use Rattle.fbl_law.specs.GroupSteps.{step_of, IsDelivery}
 use Rattle.fbl_group.specs.declared.refusals.DeliverRefusal.{DeliverRefusal}
 use Rattle.fbl_group.specs.declared.refusals.DeliverRefusal.TheVariants.{BadMember, Down, Empty, Full, Memory}
 use Rattle.fbl_group.specs.declared.answers.Receipted.{Receipted}
-use Rattle.fbl_group.specs.declared.plan.Planned.{Planned}
-use Rattle.fbl_group.specs.Flight.{message_at, front_place}
+use Rattle.fbl_group.specs.Channels.{front_message}
 
 -- the front of the channel from q to p
 abbrev pub front : GroupRecord → ℕ → ℕ → Option Message
@@ -54,16 +53,11 @@ pub record Delivered (next : Next) (old new : GroupRecord) (v : Message) (answer
 abbrev pub Delivers : Next → GroupRecord → GroupRecord → ℕ → ℕ → Receipted → Type 0
 Delivers next old new p q answer = (v : Message) × (front old q p ≡ Some v) × Delivered next old new v answer
 
--- the step of the delivery of the message at a place, that nothing but want of memory refuses
-pub record IsPlanned (next : Next) (r : GroupRecord) (place : ℕ) (outcome : Outcome) : Type 0 where
+-- the step of the delivery to p of the front of its channel from q, that nothing but want of memory refuses
+pub record IsPlanned (next : Next) (r : GroupRecord) (q p : ℕ) (outcome : Outcome) : Type 0 where
   pub nobody_down : r.down ≡ set.empty
-  pub to_member : (message_at r.flight place).to < r.config.members
-  pub from_member : (message_at r.flight place).from < r.config.members
-  pub front_at : front_place r.flight (message_at r.flight place).from (message_at r.flight place).to ≡ Some place
-  pub step : outcome ≡ step_of next r (message_at r.flight place)
+  pub to_member : p < r.config.members
+  pub from_member : q < r.config.members
+  pub first : front r q p ≡ Some (front_message r q p)
+  pub step : outcome ≡ step_of next r (front_message r q p)
   pub room : is_full r (length outcome.sends.items) ≡ false
-
--- the plan of a delivery to p from q
-abbrev pub IsPlan : Next → GroupRecord → ℕ → ℕ → Planned → Type 0
-IsPlan next r p q plan =
-    ((message_at r.flight plan.place).from ≡ q) × ((message_at r.flight plan.place).to ≡ p) × IsPlanned next r plan.place plan.outcome

@@ -1,4 +1,4 @@
-pub mod Flight
+pub mod Channels
 pub mod Deliveries
 pub mod Strikes
 pub mod Recoveries

@@ -1,14 +1,13 @@
 //! Steps that are made apart from the record: a ticket is taken, and the step is committed later.
 
-ghost use Rattle.std.specs.Prelude.{◌≡◌, ◌+◌, ◌<◌, IfOk, IfErr, OnErr, None, Some};
+ghost use Rattle.std.specs.Prelude.{◌≡◌, ◌+◌, ◌<◌, IfOk, IfErr, OnOk, OnErr, None, Some};
 ghost use Rattle.fbl_member.specs.Members.{Message};
-ghost use Rattle.fbl_group.specs.Flight.{message_at};
-ghost use Rattle.fbl_group.specs.Deliveries.{front, Delivers, IsPlanned};
+ghost use Rattle.fbl_group.specs.Deliveries.{front as front_of, Delivers, IsPlanned};
 ghost use Rattle.fbl_group.specs.Tickets.{take_refusal, IsTicket, commit_refusal, IsCommitRefusal, is_current as is_current_of};
 
 use crate::answers::Receipted;
+use crate::channels::front;
 use crate::deliver::is_full;
-use crate::flight::front_place;
 use crate::group::Group;
 use crate::refusals::{CommitRefusal, TakeRefusal};
 use crate::ticket::{Done, Ticket};
@@ -20,7 +19,7 @@ impl<B: Behaviour, A: Allocator + Copy> Group<B, A> {
     /// What the step of a delivery to one member from another is made from. Nothing changes, and the message stays in
     /// its channel.
     pub fn take(&self, to: Member, from: Member) -> Result<Ticket, TakeRefusal>
-        ensures taken { IfOk result (λ ticket. (take_refusal self.now to from ≡ None) × ((v : Message) × (front self.now from to ≡ Some v) × IsTicket self.now v ticket)) }
+        ensures taken { IfOk result (λ ticket. (take_refusal self.now to from ≡ None) × ((v : Message) × (front_of self.now from to ≡ Some v) × IsTicket self.now v ticket)) }
         ensures refused { IfErr result (λ refusal. take_refusal self.now to from ≡ Some refusal) }
     {
         let n = self.config.members();
@@ -30,10 +29,9 @@ impl<B: Behaviour, A: Allocator + Copy> Group<B, A> {
         if self.down.count() != 0 {
             return Err(TakeRefusal::Down);
         }
-        let Some(place) = front_place(self.flight.as_slice(), from, to) else {
+        let Some(wire) = front(&self.channels, from, to) else {
             return Err(TakeRefusal::Empty);
         };
-        let wire = &self.flight[place];
         let member = &self.members[usize::from(to.number())];
         Ok(Ticket {
             n,
@@ -53,16 +51,16 @@ impl<B: Behaviour, A: Allocator + Copy> Group<B, A> {
         ensures refused { IfErr result (IsCommitRefusal (commit_refusal B.next self.old done.now.ticket)) }
         ensures unchanged { OnErr result (self.new ≡ self.old) }
     {
-        let place = self.plan_commit(done)?;
-        match self.carry_out(place, &done.outcome) {
+        self.plan_commit(done)?;
+        match self.carry_out(done.ticket.to, done.ticket.from, &done.outcome) {
             Ok(answer) => Ok(answer),
             Err(_) => Err(CommitRefusal::Memory),
         }
     }
 
-    /// Where the step's message stands, if nothing but want of memory refuses the commit.
-    fn plan_commit(&self, done: &Done<B>) -> Result<usize, CommitRefusal>
-        ensures planned { IfOk result (λ place. (commit_refusal B.next self.now done.now.ticket ≡ None) × (((message_at self.now.flight place).from ≡ done.now.ticket.from) × ((message_at self.now.flight place).to ≡ done.now.ticket.to) × IsPlanned B.next self.now place done.now.outcome)) }
+    /// Whether nothing but want of memory refuses the commit.
+    fn plan_commit(&self, done: &Done<B>) -> Result<(), CommitRefusal>
+        ensures planned { OnOk result ((commit_refusal B.next self.now done.now.ticket ≡ None) × IsPlanned B.next self.now done.now.ticket.from done.now.ticket.to done.now.outcome) }
         ensures refused { IfErr result (λ refusal. commit_refusal B.next self.now done.now.ticket ≡ Some refusal) }
     {
         let ticket = done.ticket;
@@ -72,11 +70,11 @@ impl<B: Behaviour, A: Allocator + Copy> Group<B, A> {
         if self.config.members() != ticket.n {
             return Err(CommitRefusal::Stale);
         }
-        let Some(place) = front_place(self.flight.as_slice(), ticket.from, ticket.to) else {
+        let Some(wire) = front(&self.channels, ticket.from, ticket.to) else {
             return Err(CommitRefusal::Stale);
         };
         let member = &self.members[usize::from(ticket.to.number())];
-        if !is_current(member, &self.flight[place], &ticket) {
+        if !is_current(member, wire, &ticket) {
             return Err(CommitRefusal::Stale);
         }
         let sends = done.outcome.sends.len();
@@ -88,7 +86,7 @@ impl<B: Behaviour, A: Allocator + Copy> Group<B, A> {
         ) {
             return Err(CommitRefusal::Full);
         }
-        Ok(place)
+        Ok(())
     }
 }
 

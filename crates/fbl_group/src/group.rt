@@ -2,19 +2,20 @@
 
 ghost use Rattle.std.specs.Prelude.{◌≡◌, ℕ, ◌<◌, length, IfOk, IsTrue, ◌↔◌};
 
+use crate::channels::Channels;
 use fbl_base::{Behaviour, Config, Event, MemberSet};
-use fbl_member::{MemberRec, Wire};
+use fbl_member::MemberRec;
 use std::alloc::{Allocator, Global};
 use std::marker::{Model, PhantomData};
 
-/// A group of deterministic members: its members' volatile records and their checkpoints, the messages in flight, and the
-/// trace of what happened. Contracts see the record as data; it is sound between any two calls.
+/// A group of deterministic members: its members' volatile records and their checkpoints, the messages in flight on
+/// each channel, and the trace of what happened. Contracts see the record as data; it is sound between any two calls.
 #[derive(Drop)]
 pub struct Group<B: Behaviour, A: Allocator = Global> {
     pub(crate) config: Config<A>,
     pub(crate) members: Vec<MemberRec<A>, A>,
     pub(crate) checkpoints: Vec<MemberRec<A>, A>,
-    pub(crate) flight: Vec<Wire<A>, A>,
+    pub(crate) channels: Channels<A>,
     pub(crate) trace: Vec<Event, A>,
     pub(crate) down: MemberSet,
     pub(crate) receipts_ever: u64,
@@ -25,6 +26,7 @@ pub struct Group<B: Behaviour, A: Allocator = Global> {
 impl<B: Behaviour, A: Allocator> Model for Group<B, A> {
     ghost use Rattle.fbl_law.specs.Groups.{GroupRecord};
     ghost use Rattle.fbl_law.specs.Sound.{IsSound};
+    ghost use Rattle.fbl_group.specs.Channels.{queued_rows};
 
     ghost Value = { GroupRecord };
 
@@ -38,7 +40,7 @@ impl<B: Behaviour, A: Allocator> Model for Group<B, A> {
 
     ghost coded = { Prim.hlevel (codes, content.the_row.coded, entry.the_row.coded, start.the_row.coded, event.the_row.coded, set.code {R = nat_cmp} coded_ℕ) };
 
-    ghost view = { λ g. record { config = g.config; members = g.members.items; checkpoints = g.checkpoints.items; flight = g.flight.items; trace = g.trace.items; down = g.down; receipts_ever = g.receipts_ever; undone_ever = g.undone_ever } };
+    ghost view = { λ g. record { config = g.config; members = g.members.items; checkpoints = g.checkpoints.items; channels = queued_rows g.channels.items; trace = g.trace.items; down = g.down; receipts_ever = g.receipts_ever; undone_ever = g.undone_ever } };
 
-    ghost invariant = { λ g. IsSound B.next (record { config = g.config; members = g.members.items; checkpoints = g.checkpoints.items; flight = g.flight.items; trace = g.trace.items; down = g.down; receipts_ever = g.receipts_ever; undone_ever = g.undone_ever }) };
+    ghost invariant = { λ g. IsSound B.next (record { config = g.config; members = g.members.items; checkpoints = g.checkpoints.items; channels = queued_rows g.channels.items; trace = g.trace.items; down = g.down; receipts_ever = g.receipts_ever; undone_ever = g.undone_ever }) };
 }

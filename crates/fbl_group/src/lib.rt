@@ -2,14 +2,13 @@
 #![tactic(auto)]
 
 mod answers;
+mod channels;
 mod checkpoint;
 mod commit;
 mod crash;
 mod deliver;
 mod dump;
-mod flight;
 mod group;
-mod plan;
 mod readers;
 mod recover;
 mod refusals;

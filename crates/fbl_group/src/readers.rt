@@ -1,18 +1,16 @@
 //! What a group answers of itself.
 
 ghost use Rattle.std.specs.Prelude.{◌≡◌, ℕ, ◌<◌, length};
-ghost use Rattle.std.specs.List.{filter};
 ghost use Rattle.fbl_base.specs.MemberSets.{AllBelow};
 ghost use Rattle.fbl_law.specs.Record.{IsOrphan};
-ghost use Rattle.fbl_law.specs.Steps.{is_on};
-ghost use Rattle.fbl_law.specs.Groups.{channel, knowledge, member as record_of};
+ghost use Rattle.fbl_law.specs.Groups.{channel as channel_of, messages_in_flight as messages_in_flight_of, knowledge, member as record_of};
 ghost use Rattle.fbl_law.specs.Sound.{IsSound};
 ghost use Rattle.fbl_group.specs.Readers.{is_quiet as is_quiet_now, HoldsEachReceipt};
 
-use crate::flight::is_between;
+use crate::channels::{channel_between, count_messages};
 use crate::group::Group;
 use fbl_base::{Behaviour, Config, Event, Member, MemberSet};
-use fbl_member::{MemberRec, Wire};
+use fbl_member::MemberRec;
 use fbl_table::Table;
 use std::alloc::Allocator;
 
@@ -68,9 +66,9 @@ impl<B: Behaviour, A: Allocator + Copy> Group<B, A> {
     pub fn in_flight(&self, from: Member, to: Member) -> u32
         requires from { from < self.now.config.members }
         requires to { to < self.now.config.members }
-        ensures { result ≡ length (channel self.now from to) }
+        ensures { result ≡ length (channel_of self.now from to) }
     {
-        count_between(&self.flight, from, to) as u32
+        channel_between(&self.channels, from, to).wires.len() as u32
     }
 
     /// What happened, in order: the starts' sends, and then the receipts and sends that no recovery has undone.
@@ -98,14 +96,14 @@ impl<B: Behaviour, A: Allocator + Copy> Group<B, A> {
     pub fn is_quiet(&self) -> bool
         ensures { result ≡ is_quiet_now self.now }
     {
-        self.flight.is_empty() && self.down.count() == 0
+        self.messages_in_flight() == 0 && self.down.count() == 0
     }
 
     /// How many messages are in all channels.
     pub fn messages_in_flight(&self) -> usize
-        ensures { result ≡ length self.now.flight }
+        ensures { result ≡ messages_in_flight_of self.now }
     {
-        self.flight.len()
+        count_messages(&self.channels, self.config.members())
     }
 
     /// How many receipts were ever made, also those that recoveries have undone. It never falls.
@@ -130,14 +128,4 @@ impl<B: Behaviour, A: Allocator + Copy> Group<B, A> {
     {
         &self.members[usize::from(member.number())]
     }
-}
-
-/// How many messages go from one member to the other.
-fn count_between<A: Allocator>(flight: &[Wire<A>], from: Member, to: Member) -> usize
-    ensures { result ≡ length (filter (is_on from to) flight.now) }
-{
-    flight
-        .iter()
-        .filter(|wire| is_between(*wire, from, to))
-        .count()
 }

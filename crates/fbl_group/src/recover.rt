@@ -1,23 +1,25 @@
 //! Recovery of the members that are down.
 
-ghost use Rattle.std.specs.Prelude.{◌≡◌, ℕ, ◌+◌, ◌-◌, ◌<◌, ◌≤◌, ◌++◌, if◌then◌else◌, length, map, slice_index_or, IfOk, IfErr, OnErr, OnOk, vec_len, vec_capacity};
+ghost use Rattle.std.specs.Prelude.{◌≡◌, ℕ, ◌+◌, ◌-◌, ◌<◌, ◌≤◌, ◌||◌, [], if◌then◌else◌, length, map, slice_index_or, IfOk, IfErr, OnErr, OnOk, vec_len};
 ghost use Rattle.std.specs.List.{filter};
 ghost use Rattle.std.specs.Option.{is_some};
 ghost use Rattle.std.specs.FinSet as set;
 ghost use Rattle.fbl_base.specs.Events.{mark_of, determinant_of};
 ghost use Rattle.fbl_member.specs.Members.{blank};
-ghost use Rattle.fbl_law.specs.Groups.{receipts};
+ghost use Rattle.fbl_law.specs.Groups.{HasChannels, receipts};
 ghost use Rattle.fbl_law.specs.Replaying.{stays_by, count_in};
+ghost use Rattle.fbl_group.specs.Channels.{queued, queued_rows, AreReplaced};
 ghost use Rattle.fbl_group.specs.Rebuilding.{IsPutBack};
 ghost use Rattle.fbl_group.specs.Promises.{GainsHolders, LeavesRecorded, RecordsFirst};
 ghost use Rattle.fbl_group.specs.Recoveries.{Recovers, IsRecoverRefusal};
 ghost use Rattle.fbl_group.specs.Strikes.{lost_receipts};
 
 use crate::answers::Recovered;
+use crate::channels::{Channels, Outgoing, count_messages, has_either};
 use crate::group::Group;
 use crate::refusals::RecoverRefusal;
 use fbl_base::{Behaviour, Event, Member, MemberSet};
-use fbl_member::{MemberRec, Wire};
+use fbl_member::MemberRec;
 use std::alloc::{AllocError, Allocator};
 use std::mem;
 
@@ -51,17 +53,16 @@ impl<B: Behaviour, A: Allocator + Copy> Group<B, A> {
         ensures unchanged { OnErr result (self.new ≡ self.old) }
     {
         let rebuilt = self.rebuild()?;
-        let wires = self.resend(rebuilt.as_slice())?;
-        self.flight.reserve(wires.len())?;
+        let again = self.resend(rebuilt.as_slice())?;
         let down = self.down;
         let n = self.config.members();
         let replayed = count_replayed(rebuilt.as_slice(), self.checkpoints.as_slice(), down, n);
-        let resent = wires.len() as u32;
+        let resent = count_messages(&again, n) as u32;
         let before = count_receipts(self.trace.as_slice());
         cut(&mut self.trace, down, &rebuilt);
         let undone = before - count_receipts(self.trace.as_slice());
         put_back(&mut self.members, rebuilt, down, n);
-        put_in_flight(&mut self.flight, wires);
+        replace_channels(&mut self.channels, again, down, n);
         self.down = MemberSet::empty();
         self.undone_ever += u64::from(undone);
         Ok(Recovered {
@@ -199,12 +200,44 @@ fn put_back<A: Allocator + Copy>(
     }
 }
 
-/// Puts the messages in flight, behind those that are. There is room for them.
-fn put_in_flight<A: Allocator>(flight: &mut Vec<Wire<A>, A>, wires: Vec<Wire<A>, A>)
-    requires { vec_len flight.old + vec_len wires ≤ vec_capacity flight.old }
-    ensures { flight.new.items ≡ flight.old.items ++ wires.items }
+/// Puts the channels that were made again in the places of those with an end that is down, of `n` members.
+fn replace_channels<A: Allocator>(
+    channels: &mut Channels<A>,
+    again: Channels<A>,
+    down: MemberSet,
+    n: u8,
+)
+    requires shape { HasChannels n (queued_rows channels.old.items) }
+    requires again { HasChannels n (queued_rows again.items) }
+    requires few { n ≤ 16 }
+    ensures { AreReplaced n down (queued_rows again.items) (queued_rows channels.old.items) (queued_rows channels.new.items) }
 {
-    for wire in wires {
-        flight.push_reserved(wire);
+    let mut again = again;
+    for number in 0..n {
+        let from = Member::new(number).unwrap();
+        let place = usize::from(number);
+        replace_outgoing(&mut channels[place], &mut again[place], down, from, n);
+    }
+}
+
+/// Puts those of the member's channels that were made again in the places of those with an end that is down.
+fn replace_outgoing<A: Allocator>(
+    outgoing: &mut Outgoing<A>,
+    again: &mut Outgoing<A>,
+    down: MemberSet,
+    from: Member,
+    n: u8,
+)
+    requires outgoing { vec_len outgoing.old ≡ n }
+    requires again { vec_len again.old ≡ n }
+    requires few { n ≤ 16 }
+    ensures size { length (queued outgoing.new.items) ≡ n }
+    ensures each { (p : ℕ) → p < n → slice_index_or (queued outgoing.new.items) p [] ≡ (if set.contains down from || set.contains down p then slice_index_or (queued again.old.items) p [] else slice_index_or (queued outgoing.old.items) p []) }
+{
+    for number in 0..n {
+        let place = usize::from(number);
+        if has_either(down, from, Member::new(number).unwrap()) {
+            mem::swap(&mut outgoing[place], &mut again[place]);
+        }
     }
 }

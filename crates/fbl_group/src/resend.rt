@@ -1,49 +1,67 @@
 //! Messages that are sent again: those of the members that were down, and those that these have not received.
 
-ghost use Rattle.std.specs.Prelude.{◌≡◌, ℕ, ◌<◌, ◌||◌, ◌++◌, length, map, IfOk, OnOk};
-ghost use Rattle.std.specs.FinSet as set;
+ghost use Rattle.std.specs.Prelude.{◌≡◌, ℕ, ◌<◌, ◌++◌, [], length, slice_index_or, IfOk, OnOk};
 ghost use Rattle.fbl_table.specs.Tables.{piggybacked};
 ghost use Rattle.fbl_member.specs.Carried.{IsOnce};
-ghost use Rattle.fbl_law.specs.Replaying.{working, resent, resent_to, resent_row, resent_rows};
+ghost use Rattle.fbl_law.specs.Groups.{HasChannels, channel_in};
+ghost use Rattle.fbl_law.specs.Replaying.{working, resent, resent_to, sent_again};
+ghost use Rattle.fbl_group.specs.Channels.{queued, queued_rows};
 
+use crate::channels::{Channel, Channels, Outgoing, has_either};
 use crate::group::Group;
-use fbl_base::{Behaviour, Member, MemberSet, Note};
+use fbl_base::{Behaviour, Member, Note};
 use fbl_member::{MemberRec, Wire};
 use fbl_table::{Entry, Table};
 use std::alloc::{AllocError, Allocator};
+use std::collections::VecDeque;
 
 impl<B: Behaviour, A: Allocator + Copy> Group<B, A> {
-    /// The messages of each channel with an end that is down, by sender and then by receiver.
-    pub(crate) fn resend(&self, rebuilt: &[MemberRec<A>]) -> Result<Vec<Wire<A>, A>, AllocError>
+    /// The channels made again: on each with an end that is down what its sender sends again, and nothing on the others.
+    pub(crate) fn resend(&self, rebuilt: &[MemberRec<A>]) -> Result<Channels<A>, AllocError>
         requires { length rebuilt.now ≡ self.now.config.members }
-        ensures { IfOk result (λ wires. wires.items ≡ resent_rows self.now.config.f self.now.down (working self.now rebuilt.now) self.now.config.members self.now.config.members) }
+        ensures shape { IfOk result (λ again. HasChannels self.now.config.members (queued_rows again.items)) }
+        ensures each { IfOk result (λ again. (q p : ℕ) → q < self.now.config.members → p < self.now.config.members → channel_in (queued_rows again.items) q p ≡ sent_again self.now.config.f self.now.down (working self.now rebuilt.now) q p) }
     {
-        let mut wires = Vec::new(*self.members.allocator());
+        let mut again = Vec::new(*self.members.allocator());
         for number in 0..self.config.members() {
             let from = Member::new(number).unwrap();
-            self.resend_from(rebuilt, from, &mut wires)?;
+            again.push(self.resend_from(rebuilt, from)?)?;
         }
-        Ok(wires)
+        Ok(again)
     }
 
-    /// Puts in the member's messages on each channel with an end that is down.
-    fn resend_from(
+    /// The member's channels made again.
+    fn resend_from(&self, rebuilt: &[MemberRec<A>], from: Member) -> Result<Outgoing<A>, AllocError>
+        requires size { length rebuilt.now ≡ self.now.config.members }
+        requires from { from < self.now.config.members }
+        ensures size { IfOk result (λ outgoing. length (queued outgoing.items) ≡ self.now.config.members) }
+        ensures each { IfOk result (λ outgoing. (p : ℕ) → p < self.now.config.members → slice_index_or (queued outgoing.items) p [] ≡ sent_again self.now.config.f self.now.down (working self.now rebuilt.now) from p) }
+    {
+        let mut outgoing = Vec::new(*self.members.allocator());
+        for number in 0..self.config.members() {
+            let to = Member::new(number).unwrap();
+            outgoing.push(self.resend_on(rebuilt, from, to)?)?;
+        }
+        Ok(outgoing)
+    }
+
+    /// The channel from one member to another made again, where one of the two is down.
+    fn resend_on(
         &self,
         rebuilt: &[MemberRec<A>],
         from: Member,
-        wires: &mut Vec<Wire<A>, A>,
-    ) -> Result<(), AllocError>
+        to: Member,
+    ) -> Result<Channel<A>, AllocError>
         requires size { length rebuilt.now ≡ self.now.config.members }
         requires from { from < self.now.config.members }
-        ensures { OnOk result (wires.new.items ≡ wires.old.items ++ resent_row self.now.config.f self.now.down (working self.now rebuilt.now) from self.now.config.members) }
+        requires to { to < self.now.config.members }
+        ensures { IfOk result (λ channel. channel.wires.items ≡ sent_again self.now.config.f self.now.down (working self.now rebuilt.now) from to) }
     {
-        for number in 0..self.config.members() {
-            let to = Member::new(number).unwrap();
-            if has_either(self.down, from, to) {
-                self.resend_to(rebuilt, from, to, wires)?;
-            }
+        let mut wires = VecDeque::new(*self.members.allocator());
+        if has_either(self.down, from, to) {
+            self.resend_to(rebuilt, from, to, &mut wires)?;
         }
-        Ok(())
+        Ok(Channel { wires })
     }
 
     /// Puts in the messages of the sender's log beyond the last one that the receiver has had.
@@ -52,7 +70,7 @@ impl<B: Behaviour, A: Allocator + Copy> Group<B, A> {
         rebuilt: &[MemberRec<A>],
         from: Member,
         to: Member,
-        wires: &mut Vec<Wire<A>, A>,
+        wires: &mut VecDeque<Wire<A>, A>,
     ) -> Result<(), AllocError>
         requires size { length rebuilt.now ≡ self.now.config.members }
         requires from { from < self.now.config.members }
@@ -73,16 +91,9 @@ impl<B: Behaviour, A: Allocator + Copy> Group<B, A> {
     }
 }
 
-/// Whether one of the two is in the set.
-fn has_either(members: MemberSet, from: Member, to: Member) -> bool
-    ensures { result ≡ (set.contains members from || set.contains members to) }
-{
-    members.has(from) || members.has(to)
-}
-
 /// Puts in these messages, each with what the sender's table passes on.
 fn put_again<A: Allocator + Copy>(
-    wires: &mut Vec<Wire<A>, A>,
+    wires: &mut VecDeque<Wire<A>, A>,
     from: Member,
     to: Member,
     unsent: &[(u32, Note)],
@@ -93,7 +104,7 @@ fn put_again<A: Allocator + Copy>(
 {
     for send in unsent {
         let carried = passed_on(table, f)?;
-        wires.push(Wire::new(from, to, send.0, send.1, carried))?;
+        wires.push_back(Wire::new(from, to, send.0, send.1, carried))?;
     }
     Ok(())
 }

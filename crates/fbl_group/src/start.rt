@@ -1,10 +1,16 @@
 //! Groups in which nothing is received yet.
 
-ghost use Rattle.std.specs.Prelude.{◌≡◌, ℕ, ◌<◌, ◌≤◌, [], length, IfOk, slice_index_or};
+ghost use Rattle.std.specs.Prelude.{◌≡◌, ℕ, ◌<◌, ◌≤◌, ◌++◌, [], length, map, IfOk, OnOk, slice_index_or};
 ghost use Rattle.std.specs.List.{filter_map};
 ghost use Rattle.fbl_member.specs.Members.{fresh, blank};
+ghost use Rattle.fbl_base.specs.Events.{mark_of};
+ghost use Rattle.fbl_base.specs.Rules.{WellFormed};
+ghost use Rattle.fbl_law.specs.Steps.{between};
+ghost use Rattle.fbl_law.specs.Groups.{HasChannels, channel_in};
+ghost use Rattle.fbl_group.specs.Channels.{queued_rows};
 ghost use Rattle.fbl_law.specs.GroupSteps.{IsGroupStart, start_events, message_of};
 
+use crate::channels::{Channels, empty_channels, send};
 use crate::group::Group;
 use fbl_base::{Behaviour, Config, Event, Member, MemberSet, Start};
 use fbl_member::{MemberRec, Wire};
@@ -21,12 +27,13 @@ impl<B: Behaviour, A: Allocator + Copy> Group<B, A> {
         let members = fresh_members(alloc, &config)?;
         let checkpoints = fresh_members(alloc, &config)?;
         let trace = start_sends(alloc, config.starts())?;
-        let flight = sent_messages(alloc, &trace)?;
+        let mut channels = empty_channels(alloc, config.members())?;
+        send_starts(alloc, &trace, &mut channels, config.members())?;
         Ok(Group {
             config,
             members,
             checkpoints,
-            flight,
+            channels,
             trace,
             down: MemberSet::empty(),
             receipts_ever: 0,
@@ -73,20 +80,24 @@ fn start_sends<A: Allocator>(alloc: A, starts: &[Start]) -> Result<Vec<Event, A>
     Ok(trace)
 }
 
-/// The messages of the sends among the events. They carry nothing.
-fn sent_messages<A: Allocator + Copy>(
+/// Puts the messages of the sends among the events into their channels. They carry nothing.
+fn send_starts<A: Allocator + Copy>(
     alloc: A,
     events: &[Event],
-) -> Result<Vec<Wire<A>, A>, AllocError>
-    ensures { IfOk result (λ flight. flight.items ≡ filter_map message_of events.now) }
+    channels: &mut Channels<A>,
+    n: u8,
+) -> Result<(), AllocError>
+    requires shape { HasChannels n (queued_rows channels.old.items) }
+    requires rules { WellFormed n (map mark_of events.now) }
+    ensures shape { OnOk result (HasChannels n (queued_rows channels.new.items)) }
+    ensures sent { OnOk result ((q p : ℕ) → channel_in (queued_rows channels.new.items) q p ≡ channel_in (queued_rows channels.old.items) q p ++ between q p (filter_map message_of events.now)) }
 {
-    let mut flight = Vec::new(alloc);
     for event in events {
         if let Some(wire) = message(alloc, *event) {
-            flight.push(wire)?;
+            send(&mut channels[usize::from(wire.from().number())], wire)?;
         }
     }
-    Ok(flight)
+    Ok(())
 }
 
 /// The message of a send. It carries nothing.

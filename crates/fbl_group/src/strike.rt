@@ -1,19 +1,21 @@
 //! Strikes.
 
-ghost use Rattle.std.specs.Prelude.{◌≡◌, ℕ, ◌≤◌, IfOk, IfErr, OnOk, OnErr, None, Some, length, not, vec_len, count_by};
-ghost use Rattle.std.specs.List.{filter, list_any};
+ghost use Rattle.std.specs.Prelude.{◌≡◌, ℕ, ◌<◌, ◌≤◌, ◌||◌, [], if◌then◌else◌, IfOk, IfErr, OnOk, OnErr, None, Some, length, slice_index_or, vec_len, count_by};
+ghost use Rattle.std.specs.List.{list_any};
+ghost use Rattle.std.specs.FinSet as sets;
 ghost use Rattle.fbl_table.specs.Tables.{is_held};
 ghost use Rattle.fbl_law.specs.Record.{IsOrphan};
-ghost use Rattle.fbl_law.specs.Groups.{knowledge};
-ghost use Rattle.fbl_group.specs.Recoveries.{has_end_in as is_at_end};
+ghost use Rattle.fbl_law.specs.Groups.{HasChannels, knowledge};
+ghost use Rattle.fbl_group.specs.Channels.{queued, queued_rows, AreEmptied};
 ghost use Rattle.fbl_group.specs.Promises.{SurvivorsHold, RecordsFirst, RecordsCauses};
 ghost use Rattle.fbl_group.specs.Strikes.{strike_refusal, Strikes, IsBlanked, is_lost_of};
 
 use crate::answers::Struck;
+use crate::channels::{Channels, Outgoing, has_either};
 use crate::group::Group;
 use crate::refusals::StrikeRefusal;
 use fbl_base::{Behaviour, Determinant, Event, Member, MemberSet};
-use fbl_member::{MemberRec, Wire};
+use fbl_member::MemberRec;
 use std::alloc::Allocator;
 
 impl<B: Behaviour, A: Allocator + Copy> Group<B, A> {
@@ -37,7 +39,7 @@ impl<B: Behaviour, A: Allocator + Copy> Group<B, A> {
             self.config.members(),
             self.config.f(),
         );
-        drop_at(&mut self.flight, set);
+        drop_at(&mut self.channels, set, self.config.members());
         self.down = self.down.union(set);
         // Each receipt of a member that is up is held, so that those of members that are down are counted alone.
         Ok(Struck {
@@ -128,16 +130,29 @@ fn blank_members<A: Allocator + Copy>(
     }
 }
 
-/// Drops the messages in flight with an end among the members named.
-fn drop_at<A: Allocator>(flight: &mut Vec<Wire<A>, A>, set: MemberSet)
-    ensures { flight.new.items ≡ filter (λ v. not (is_at_end set v)) flight.old.items }
+/// Drops the messages in flight with an end among the members named, of `n`.
+fn drop_at<A: Allocator>(channels: &mut Channels<A>, set: MemberSet, n: u8)
+    requires shape { HasChannels n (queued_rows channels.old.items) }
+    requires few { n ≤ 16 }
+    ensures { AreEmptied n set (queued_rows channels.old.items) (queued_rows channels.new.items) }
 {
-    flight.retain(|wire| !has_end_in(wire, set));
+    for number in 0..n {
+        let from = Member::new(number).unwrap();
+        drop_from(&mut channels[usize::from(number)], set, from, n);
+    }
 }
 
-/// Whether the message has an end among the members named.
-fn has_end_in<A: Allocator>(wire: &Wire<A>, set: MemberSet) -> bool
-    ensures { result ≡ is_at_end set wire.now }
+/// Drops the messages in flight from the member, where it or the receiver is one of those named.
+fn drop_from<A: Allocator>(outgoing: &mut Outgoing<A>, set: MemberSet, from: Member, n: u8)
+    requires size { vec_len outgoing.old ≡ n }
+    requires few { n ≤ 16 }
+    ensures size { length (queued outgoing.new.items) ≡ n }
+    ensures each { (p : ℕ) → p < n → slice_index_or (queued outgoing.new.items) p [] ≡ (if sets.contains set from || sets.contains set p then [] else slice_index_or (queued outgoing.old.items) p []) }
 {
-    set.has(wire.from()) || set.has(wire.to())
+    for number in 0..n {
+        let to = Member::new(number).unwrap();
+        if has_either(set, from, to) {
+            outgoing[usize::from(number)].wires.clear();
+        }
+    }
 }

@@ -18,7 +18,7 @@ use Rattle.fbl_base.proofs.Recorded.{Decides-same_determinant}
 use Rattle.fbl_base.proofs.Sizes.{len-within}
 use Rattle.fbl_table.specs.declared.entry.Entry.{Entry}
 use Rattle.fbl_member.specs.Members.{Message, MemberRecord, blank}
-use Rattle.fbl_law.specs.Record.{Members, Includes, IsDown, Names}
+use Rattle.fbl_law.specs.Record.{Members, Includes, IsDown, IsInFlight, Names}
 use Rattle.fbl_law.specs.Groups.{GroupRecord, member, marks, knowledge, receipts}
 use Rattle.fbl_law.specs.Sound.{IsSound}
 use Rattle.fbl_law.specs.Dumps.{pairs_of, pairs_from, held_pairs, dump_of, HasDistinctTables, DumpObeysRules, DumpHasNoOrphan}
@@ -132,7 +132,7 @@ module _ (next : Next) (r : GroupRecord) (sound : IsSound next r) where
   pub table_fits : (m : ℕ) → IsDistinct same_determinant (map (λ (e : Entry). e.det) (member r m).table) → length (member r m).table ≤ length (receipts (marks r))
   table_fits m distinct = entries_fit (member r m).table distinct (named_received next r sound m)
 
-  pub carried_fits : (v : Message) → Contains r.flight v → IsDistinct same_determinant (map (λ (e : Entry). e.det) v.carried) → length v.carried ≤ length r.trace
+  pub carried_fits : (v : Message) → IsInFlight (knowledge r) v → IsDistinct same_determinant (map (λ (e : Entry). e.det) v.carried) → length v.carried ≤ length r.trace
   carried_fits v flies distinct =
       omega (arith, entries_fit v.carried distinct (λ d. carried_received next r sound v d flies), length-receipts (marks r), length-map r.trace mark_of)
 

@@ -75,6 +75,7 @@ module _ (next : Next) (old new : GroupRecord) (p : ℕ) (s : IsCheckpoint old n
     folds = λ m below up_m. fold_now m (sound.folds m below up_m);
     blanks = sound.blanks;
     saved = saved_now;
+    shape = sound.shape;
     notes = sound.notes;
     counted = sound.counted;
   }

@@ -21,7 +21,7 @@ use Rattle.fbl_base.proofs.LawfulLaws.{Lawful-deliver, Lawful-begun, receipts-no
 use Rattle.fbl_table.specs.declared.entry.Entry.{Entry}
 use Rattle.fbl_table.specs.Tables.{piggybacked}
 use Rattle.fbl_member.specs.Members.{Message, MemberRecord, blank, progress_of, messages_from}
-use Rattle.fbl_law.specs.Record.{table, send_mark, IsUp}
+use Rattle.fbl_law.specs.Record.{table, send_mark, IsInFlight, IsUp}
 use Rattle.fbl_law.specs.Steps.{IsDelivered, is_on, between, taken_off}
 use Rattle.fbl_law.specs.Groups.{GroupRecord, member, checkpoint, channel, marks, knowledge, receipts}
 use Rattle.fbl_law.specs.Sound.{IsFold, IsReplayed, IsSound, received_notes, receipts_at, last_taken}
@@ -33,7 +33,7 @@ use Rattle.fbl_law.proofs.Run.{delivery_keeps}
 use Rattle.fbl_law.proofs.Grown.{note_of-grown, note_of-at, received_notes-delivered}
 use Rattle.fbl_law.proofs.InOrder.{last_taken-push, last_taken-same}
 use Rattle.fbl_law.proofs.Replayed.{replayed-grown}
-use Rattle.fbl_law.proofs.GroupFacts.{table_member, log_counted, flight_channel, channel_flight, front_flight, front_may_follow}
+use Rattle.fbl_law.proofs.GroupFacts.{table_member, log_counted, front_flight, front_may_follow}
 
 -- the events of a step are the sends of its messages
 marks_made : (p before : ℕ) (carried : List Entry) (sends : List (ℕ × Note)) → map mark_of (step_events p before sends) ≡ map send_mark (messages_from p before carried sends)
@@ -88,7 +88,7 @@ module _ (next : Next) (old new : GroupRecord) (v : Message) (well : SendsWell n
   nobody_down : new.down ≡ sets.empty
   nobody_down = s.down ∙ s.nobody_down
 
-  flies : Contains old.flight v
+  flies : IsInFlight (knowledge old) v
   flies = (front_flight next old sound v.from v.to v s.front).0
 
   longer : length new.trace ≡ length old.trace + suc (length sends)
@@ -208,12 +208,13 @@ module _ (next : Next) (old new : GroupRecord) (v : Message) (well : SendsWell n
         ];
       }
 
-  notes_kept : (x : Message) → Contains new.flight x → note_of new.trace x.from x.ssn ≡ Some x.note
+  notes_kept : (x : Message) → IsInFlight (knowledge new) x → note_of new.trace x.from x.ssn ≡ Some x.note
   notes_kept x flying =
-      elim (Contains-append_cases (taken_off v x.from x.to (channel old x.from x.to)) (between x.from x.to (made next old v)) x (rw (s.channels x.from x.to) at (flight_channel new x flying))) [
+      let now : Contains (channel new x.from x.to) x = flying in
+      elim (Contains-append_cases (taken_off v x.from x.to (channel old x.from x.to)) (between x.from x.to (made next old v)) x (rw (s.channels x.from x.to) at now)) [
         | inl left ↦
-            let of_old = channel_flight old x.from x.to x (taken_off-was v x.from x.to (channel old x.from x.to) x left) in
-            rw s.trace (note_of-grown old.trace added x.from x.ssn x.note (sound.notes x of_old.0))
+            let of_old = taken_off-was v x.from x.to (channel old x.from x.to) x left in
+            rw s.trace (note_of-grown old.trace added x.from x.ssn x.note (sound.notes x of_old))
         | inr fresh ↦
             let among = Contains-from_filter (is_on x.from x.to) (made next old v) x fresh in
             let sent = made_event v.to (length was.log) (piggybacked old.config.f (receiver next old v).table) sends x among in
@@ -247,6 +248,7 @@ module _ (next : Next) (old new : GroupRecord) (v : Message) (well : SendsWell n
         let within : m < n = (rw s.config at below) in
         elim (cases_eq m v.to) [ inl same ↦ rw same own_fold | inr other ↦ other_fold m within other (sound.folds m within (was_up m)) ];
     blanks = λ m below down. never_both new.down m down (rw nobody_down (sets.contains-empty nat_cmp m));
+    shape = rw s.config s.shape;
     notes = notes_kept;
     counted = omega (arith, receipts_now, sound.counted, s.undone_ever, s.receipts_ever);
   }

@@ -1,9 +1,8 @@
 -- What holds in a sound group.
-use Rattle.std.proofs.Common.{◌≡◌, ◌≢◌, ℕ, zero, suc, ◌+◌, ◌<◌, ◌≤◌, ◌==◌, ◌&&◌, ◌||◌, Bool, true, false, cond, List, [], ◌∷◌, length, map, inl, inr, Some, slice_get, get_or, refl, sym, ap, ◌∙◌, arith, subst}
-use Rattle.std.specs.List.{Contains, filter}
+use Rattle.std.proofs.Common.{◌≡◌, ◌≢◌, ℕ, zero, suc, ◌+◌, ◌<◌, ◌≤◌, ◌||◌, Bool, true, false, List, [], ◌∷◌, length, map, drop, inl, inr, Some, slice_get, get_or, refl, sym, ap, ◌∙◌, arith, subst}
+use Rattle.std.specs.List.{Contains}
 use Rattle.std.specs.FinSet as sets
 use Rattle.std.specs.Ordering.{nat_cmp}
-use Rattle.std.proofs.lemmas.Bool.Decides.{nat_tests}
 use Rattle.std.proofs.lemmas.List.{length-map}
 use Rattle.std.proofs.lemmas.List.Sums.{count_by-le-length}
 use Rattle.std.proofs.lemmas.Option.{get_or_from_slice_get}
@@ -20,11 +19,10 @@ use Rattle.fbl_base.proofs.Recorded.{Decides-same_determinant}
 use Rattle.fbl_table.specs.declared.entry.Entry.{Entry}
 use Rattle.fbl_table.specs.Tables.{is_held, learned}
 use Rattle.fbl_member.specs.Members.{Message, MemberRecord, blank, next_determinant, last_from}
-use Rattle.fbl_law.specs.Record.{table, send_mark, IsUp, Names, MatchesTrace}
-use Rattle.fbl_law.specs.Steps.{is_on}
+use Rattle.fbl_law.specs.Record.{table, send_mark, IsInFlight, IsUp, Names, MatchesTrace}
 use Rattle.fbl_law.specs.Groups.{GroupRecord, member, channel, marks, knowledge}
 use Rattle.fbl_law.specs.Sound.{IsSound}
-use Rattle.fbl_law.proofs.Lists.{Contains-here, Contains-there, Contains-cons_cases, Contains-filter, Contains-from_filter, Contains-none}
+use Rattle.fbl_law.proofs.Lists.{Contains-here, Contains-there, Contains-cons_cases, Contains-none}
 use Rattle.fbl_law.proofs.Safe.{down_or_up}
 use Rattle.fbl_law.proofs.Tables.{Names-from_learned}
 use Rattle.fbl_law.proofs.Channels.{matched-Has}
@@ -44,33 +42,21 @@ table_member r m = table_of r.members m
 pub Contains-at : {X : Type 0} (xs : List X) (i : ℕ) (x : X) → slice_get xs i ≡ Some x → Contains xs x
 Contains-at xs i x at = (i, At-below xs i x at, get_or_from_slice_get xs i x x at)
 
-both : (a b : Bool) → (a && b) ≡ true → (a ≡ true) × (b ≡ true)
-both true b h = (refl, h)
-both false b h = cc
+-- what matches the numbers of sends from q to p goes from q to p
+matched_ends : (numbers : List ℕ) (q p : ℕ) (xs : List Message) (v : Message) → map send_mark xs ≡ map (λ ssn. Send q ssn p) numbers → Contains xs v → (v.from ≡ q) × (v.to ≡ p)
+matched_ends numbers q p [] v same among = absurd (Contains-none v among)
+matched_ends [] q p (x ∷ xs) v same among = absurd cc
+matched_ends (k ∷ numbers) q p (x ∷ xs) v same among =
+    let here : send_mark x ≡ Send q k p = ap (λ l. get_or l 0 (send_mark x)) same in
+    let from : x.from ≡ q = cc in
+    let to : x.to ≡ p = cc in
+    elim (Contains-cons_cases x xs v among) [
+      | inl first ↦ (sym (ap (λ (y : Message). y.from) first) ∙ from, sym (ap (λ (y : Message). y.to) first) ∙ to)
+      | inr later ↦ matched_ends numbers q p xs v (ap (λ l. drop 1 l) same) later
+    ]
 
-equal : (a b : ℕ) → (a == b) ≡ true → a ≡ b
-equal a b h = grind (arith, nat_tests)
-
--- what passes a filter passes its test
-passes : {X : Type 0} (p : X → Bool) (xs : List X) (x : X) → Contains (filter p xs) x → p x ≡ true
-passes p [] x h = absurd (Contains-none x h)
-passes p (y ∷ xs) x h =
-    (elim (p y) as (λ b. p y ≡ b → Contains (cond b (y ∷ filter p xs) (filter p xs)) x → p x ≡ true) [
-      | true ↦ λ e g. elim (Contains-cons_cases y (filter p xs) x g) [ inl first ↦ ap p (sym first) ∙ e | inr later ↦ passes p xs x later ]
-      | false ↦ λ e g. passes p xs x g
-    ]) refl h
-
--- a message in a channel is in flight between its ends
-pub channel_flight : (r : GroupRecord) (q p : ℕ) (v : Message) → Contains (channel r q p) v → Contains r.flight v × (v.from ≡ q) × (v.to ≡ p)
-channel_flight r q p v among =
-    let on = both (v.from == q) (v.to == p) (passes (is_on q p) r.flight v among) in
-    (Contains-from_filter (is_on q p) r.flight v among, equal v.from q on.0, equal v.to p on.1)
-
--- and a message in flight is in its channel
-pub flight_channel : (r : GroupRecord) (v : Message) → Contains r.flight v → Contains (channel r v.from v.to) v
-flight_channel r v among = Contains-filter (is_on v.from v.to) r.flight v among both_same where
-  both_same : is_on v.from v.to v ≡ true
-  both_same = (let a : (v.from == v.from) ≡ true = eqb-self v.from in let b : (v.to == v.to) ≡ true = eqb-self v.to in rw (a, b))
+same_channel : (r : GroupRecord) (v : Message) (a b q p : ℕ) → a ≡ q → b ≡ p → Contains (channel r q p) v → Contains (channel r a b) v
+same_channel r v a b q p from to among = rw (from, to) among
 
 -- a table that has a determinant names it
 pub Names-held : (entries : List Entry) (d : Determinant) → is_held entries d ≡ true → Names entries d
@@ -137,6 +123,16 @@ module _ (next : Next) (r : GroupRecord) (sound : IsSound next r) where
   pub receipt_is_new : (m from ssn : ℕ) → m < r.config.members → IsUp (knowledge r) m → ¬ (Has (marks r) (receipt_of (next_determinant m (member r m) from ssn)))
   receipt_is_new m from ssn below up = next_is_new r.config.members (marks r) m _ from ssn sound.lawful.well_formed (omega (arith, received_counted m below up))
 
+  -- a message in a channel goes from the one to the other, both of which are up
+  pub channel_ends : (q p : ℕ) (v : Message) → Contains (channel r q p) v → ((v.from ≡ q) × (v.to ≡ p)) × (IsUp (knowledge r) q × IsUp (knowledge r) p)
+  channel_ends q p v among = elim (down_or_up r.down q) [
+    | inl down ↦ absurd (Contains-none v (rw (sound.causes.down.channels q p (inl down)) at among))
+    | inr up ↦ elim (down_or_up r.down p) [
+      | inl down ↦ absurd (Contains-none v (rw (sound.causes.down.channels q p (inr down)) at among))
+      | inr up_to ↦ (matched_ends (in_flight (marks r) q p) q p (channel r q p) v (sound.causes.channels q p up up_to) among, (up, up_to))
+    ]
+  ]
+
   -- tables and messages in flight name only receipts of the trace
   pub named_received : (m : ℕ) (d : Determinant) → Names (member r m).table d → Has (marks r) (receipt_of d)
   named_received m d named =
@@ -146,50 +142,45 @@ module _ (next : Next) (r : GroupRecord) (sound : IsSound next r) where
         | inr up ↦ subst (λ (x : Determinant). Has (marks r) (receipt_of x)) here.2 (sound.causes.truth.tables m here.0 up here.1).0.0
       ]
 
-  pub carried_received : (v : Message) (d : Determinant) → Contains r.flight v → Names v.carried d → Has (marks r) (receipt_of d)
+  pub carried_received : (v : Message) (d : Determinant) → IsInFlight (knowledge r) v → Names v.carried d → Has (marks r) (receipt_of d)
   carried_received v d flies named =
-      subst (λ (x : Determinant). Has (marks r) (receipt_of x)) named.2 (sound.causes.truth.messages v named.0 (flight_channel r v flies) named.1).0.0
+      subst (λ (x : Determinant). Has (marks r) (receipt_of x)) named.2 (sound.causes.truth.messages v named.0 flies named.1).0.0
 
   -- so no table has a determinant that is new, also after it has learned what a message in flight carries
   pub new_not_held : (m : ℕ) (d : Determinant) → ¬ (Has (marks r) (receipt_of d)) → is_held (member r m).table d ≡ false
   new_not_held m d new = not-held (member r m).table d (λ named. new (named_received m d named))
 
-  pub new_not_learned : (m me : ℕ) (v : Message) (d : Determinant) → Contains r.flight v → ¬ (Has (marks r) (receipt_of d)) → is_held (learned me (member r m).table v.carried) d ≡ false
+  pub new_not_learned : (m me : ℕ) (v : Message) (d : Determinant) → IsInFlight (knowledge r) v → ¬ (Has (marks r) (receipt_of d)) → is_held (learned me (member r m).table v.carried) d ≡ false
   new_not_learned m me v d flies new =
       not-held (learned me (member r m).table v.carried) d (λ named. elim (Names-from_learned me (member r m).table v.carried d named) [
         | inl here ↦ new (named_received m d here)
         | inr there ↦ new (carried_received v d flies there)
       ])
 
-  pub new_not_carried : (v : Message) (d : Determinant) → Contains r.flight v → ¬ (Has (marks r) (receipt_of d)) → is_held v.carried d ≡ false
+  pub new_not_carried : (v : Message) (d : Determinant) → IsInFlight (knowledge r) v → ¬ (Has (marks r) (receipt_of d)) → is_held v.carried d ≡ false
   new_not_carried v d flies new = not-held v.carried d (λ named. new (carried_received v d flies named))
 
   -- a message in flight goes from one up member of the group to another
-  pub ends_up : (v : Message) → Contains r.flight v → IsUp (knowledge r) v.from × IsUp (knowledge r) v.to
-  ends_up v flies =
-      let among = flight_channel r v flies in
-      elim (down_or_up r.down v.from) [
-        | inl down ↦ absurd (Contains-none v (rw (sound.causes.down.channels v.from v.to (inl down)) at among))
-        | inr up ↦ elim (down_or_up r.down v.to) [
-          | inl down ↦ absurd (Contains-none v (rw (sound.causes.down.channels v.from v.to (inr down)) at among))
-          | inr up_to ↦ (up, up_to)
-        ]
-      ]
+  pub ends_up : (v : Message) → IsInFlight (knowledge r) v → IsUp (knowledge r) v.from × IsUp (knowledge r) v.to
+  ends_up v flies = (channel_ends v.from v.to v flies).1
 
-  pub flight_sent : (v : Message) → Contains r.flight v → Has (marks r) (send_mark v)
+  pub flight_sent : (v : Message) → IsInFlight (knowledge r) v → Has (marks r) (send_mark v)
   flight_sent v flies =
       let ends = ends_up v flies in
-      matched-Has (knowledge r) v (sound.causes.channels v.from v.to ends.0 ends.1) (flight_channel r v flies)
+      matched-Has (knowledge r) v (sound.causes.channels v.from v.to ends.0 ends.1) flies
 
-  pub flight_ends : (v : Message) → Contains r.flight v → (v.from < r.config.members) × (v.to < r.config.members) × (v.from ≢ v.to)
+  pub flight_ends : (v : Message) → IsInFlight (knowledge r) v → (v.from < r.config.members) × (v.to < r.config.members) × (v.from ≢ v.to)
   flight_ends v flies =
       let sent = flight_sent v flies in
       let may = sound.lawful.well_formed sent.0 (send_mark v) sent.1 in
       (may.0, may.1, may.2)
 
   -- the front of a channel is in flight from the one to the other, and it is what the trace has first in flight
-  pub front_flight : (q p : ℕ) (v : Message) → slice_get (channel r q p) 0 ≡ Some v → Contains r.flight v × (v.from ≡ q) × (v.to ≡ p)
-  front_flight q p v front = channel_flight r q p v (Contains-at (channel r q p) 0 v front)
+  pub front_flight : (q p : ℕ) (v : Message) → slice_get (channel r q p) 0 ≡ Some v → IsInFlight (knowledge r) v × (v.from ≡ q) × (v.to ≡ p)
+  front_flight q p v front =
+      let among = Contains-at (channel r q p) 0 v front in
+      let ends = (channel_ends q p v among).0 in
+      (same_channel r v v.from v.to q p ends.0 ends.1 among, ends.0, ends.1)
 
   pub front_first : (q p : ℕ) (v : Message) → slice_get (channel r q p) 0 ≡ Some v → slice_get (in_flight (marks r) q p) 0 ≡ Some v.ssn
   front_first q p v front =
@@ -221,7 +212,7 @@ module _ (next : Next) (r : GroupRecord) (sound : IsSound next r) where
       omega (arith, last, later)
 
   -- when a message is received, the receiver's table doesn't yet have the receipt's determinant
-  pub own_not_learned : (v : Message) → Contains r.flight v → is_held (learned v.to (member r v.to).table v.carried) (next_determinant v.to (member r v.to) v.from v.ssn) ≡ false
+  pub own_not_learned : (v : Message) → IsInFlight (knowledge r) v → is_held (learned v.to (member r v.to).table v.carried) (next_determinant v.to (member r v.to) v.from v.ssn) ≡ false
   own_not_learned v flies =
       new_not_learned v.to v.to v (next_determinant v.to (member r v.to) v.from v.ssn) flies (receipt_is_new v.to v.from v.ssn (flight_ends v flies).1 (ends_up v flies).1)
 

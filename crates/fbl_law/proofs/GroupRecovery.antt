@@ -1,5 +1,5 @@
 -- A recovery keeps a group sound.
-use Rattle.std.proofs.Common.{◌≡◌, ℕ, ◌<◌, ◌≤◌, ◌==◌, inl, inr, Bool, true, false, cond, List, [], ◌∷◌, length, map, Some, refl, sym, ap, ◌∙◌, arith}
+use Rattle.std.proofs.Common.{◌≡◌, ℕ, ◌<◌, ◌≤◌, inl, inr, Bool, true, false, cond, List, [], ◌∷◌, length, map, Some, refl, sym, ap, ◌∙◌, arith}
 use Rattle.std.specs.List.{Contains, filter}
 use Rattle.std.specs.Ordering.{nat_cmp}
 use Rattle.std.specs.FinSet as set
@@ -9,16 +9,14 @@ use Rattle.fbl_base.specs.declared.trace.Mark.{Mark}
 use Rattle.fbl_base.specs.Events.{mark_of, member_of, receipt_of}
 use Rattle.fbl_base.specs.Precedence.{Has, itself, step}
 use Rattle.fbl_base.specs.Fold.{Next, Lawful, note_of}
-use Rattle.fbl_base.proofs.RulesLaws.{eqb-self}
 use Rattle.fbl_table.specs.Tables.{piggybacked}
 use Rattle.fbl_member.specs.Members.{Message, MemberRecord, blank}
-use Rattle.fbl_law.specs.Record.{table, IsUp, IsDown}
-use Rattle.fbl_law.specs.Steps.{Stays, IsCut, IsEventCut, IsRecovered, is_on}
+use Rattle.fbl_law.specs.Record.{table, IsInFlight, IsUp, IsDown}
+use Rattle.fbl_law.specs.Steps.{Stays, IsCut, IsEventCut, IsRecovered}
 use Rattle.fbl_law.specs.Groups.{GroupRecord, member, checkpoint, channel, marks, knowledge}
 use Rattle.fbl_law.specs.Sound.{IsFold, IsReplayed, IsSound}
 use Rattle.fbl_law.specs.GroupSteps.{IsRecovery}
 use Rattle.fbl_law.specs.GroupLaws.{GroupRecoveryKeeps}
-use Rattle.fbl_law.proofs.Lists.{Contains-filter, Contains-from_filter}
 use Rattle.fbl_law.proofs.Safe.{down_or_up, never_both, IsRecorded-reached}
 use Rattle.fbl_law.proofs.Cut.{KeepsCauses}
 use Rattle.fbl_law.proofs.CutLaw.{cut_is_lawful, stays_is_recorded}
@@ -29,13 +27,6 @@ use Rattle.fbl_law.proofs.CutFolds.{actions-stay, last_taken-stays, note-stays, 
 -- the tables of a group's record are those of its members
 pub table-member : (r : GroupRecord) (m : ℕ) → table (knowledge r) m ≡ (member r m).table
 table-member r m = get_or-map (λ (x : MemberRecord). x.table) r.members m blank
-
--- a message in flight is in its channel
-pub channel-flight : (r : GroupRecord) (v : Message) → Contains r.flight v → Contains (channel r v.from v.to) v
-channel-flight r v among = Contains-filter (is_on v.from v.to) r.flight v among (let e : (v.from == v.from) ≡ true = eqb-self v.from in let g : (v.to == v.to) ≡ true = eqb-self v.to in rw (e, g) refl)
-
-pub flight-channel : (r : GroupRecord) (q p : ℕ) (v : Message) → Contains (channel r q p) v → Contains r.flight v
-flight-channel r q p v among = Contains-from_filter (is_on q p) r.flight v among
 
 -- what is left is no longer
 pub length-left : {X : Type 0} (p : X → Bool) (xs : List X) → length (filter p xs) ≤ length xs
@@ -91,16 +82,16 @@ module _ (next : Next) (old new : GroupRecord) (step : IsRecovery next old new) 
   fold-stays : (m : ℕ) → IsUp (knowledge old) m → IsFold next old m → IsFold next new m
   fold-stays m up fold = fold-survives next old sound new.trace step.trace new m up refl step.config (step.survivors m up) fold
 
-  note-flies : (v : Message) → Contains new.flight v → note_of new.trace v.from v.ssn ≡ Some v.note
+  note-flies : (v : Message) → IsInFlight (knowledge new) v → note_of new.trace v.from v.ssn ≡ Some v.note
   note-flies v among =
-      let on = channel-flight new v among in
+      let on : Contains (channel new v.from v.to) v = among in
       elim (down_or_up old.down v.from) [
         | inl down ↦ (step.made_again v.from v.to (inl down)).notes v on
         | inr up ↦ elim (down_or_up old.down v.to) [
           | inl down ↦ (step.made_again v.from v.to (inr down)).notes v on
           | inr up_to ↦
               let stayed : Contains (channel old v.from v.to) v = rw (step.channels v.from v.to up up_to) at on in
-              let was = sound.notes v (flight-channel old v.from v.to v stayed) in
+              let was = sound.notes v stayed in
               let is : new.trace ≡ filter (λ e. step.trace.0 (mark_of e)) old.trace = step.trace.1 in
               rw is (note-stays old.config.members step.trace.0 old.trace sound.lawful.well_formed (cut-causes next old sound new.trace step.trace) v.from v.ssn v.note (cut-keeps_up next old sound new.trace step.trace v.from up) was)
         ]
@@ -141,6 +132,7 @@ module _ (next : Next) (old new : GroupRecord) (step : IsRecovery next old new) 
         causes = rw config (recovery_keeps old.config.members old.config.f (knowledge old) (knowledge new) recovery-knowledge sound.causes);
         folds = λ m below up. folds-after m (rw config at below);
         blanks = λ m below down. never_both new.down m down (nobody m);
+        shape = rw config step.shape;
         notes = note-flies;
         counted = omega (arith, step.undone_ever, sound.counted, step.receipts_ever);
       }

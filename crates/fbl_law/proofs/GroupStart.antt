@@ -25,15 +25,15 @@ use Rattle.fbl_member.specs.Members.{Message, MemberRecord, blank}
 use Rattle.fbl_law.specs.Record.{table, send_mark, IsUp, MatchesTrace}
 use Rattle.fbl_law.specs.Run.{IsStart, starts}
 use Rattle.fbl_law.specs.Steps.{is_on}
-use Rattle.fbl_law.specs.Groups.{GroupRecord, checkpoint, knowledge, receipts}
+use Rattle.fbl_law.specs.Groups.{GroupRecord, checkpoint, channel, knowledge, receipts}
 use Rattle.fbl_law.specs.Sound.{IsFold, IsReplayed, IsSound, received_notes}
 use Rattle.fbl_law.specs.GroupSteps.{IsGroupStart, start_events, message_of}
 use Rattle.fbl_law.specs.GroupLaws.{GroupStartIsSound}
-use Rattle.fbl_law.proofs.Lists.{Contains-cons_cases, Contains-none}
+use Rattle.fbl_law.proofs.Lists.{Contains-cons_cases, Contains-from_filter, Contains-none}
 use Rattle.fbl_law.proofs.Safe.{never_both}
 use Rattle.fbl_law.proofs.Run.{run_is_sound}
 use Rattle.fbl_law.proofs.Grown.{note_of-at}
-use Rattle.fbl_law.proofs.GroupFacts.{table_member, channel_flight}
+use Rattle.fbl_law.proofs.GroupFacts.{table_member}
 use Rattle.fbl_law.proofs.Counts.{length-numbered, after_notes-log}
 use Rattle.fbl_law.proofs.Replayed.{replayed-fresh}
 
@@ -75,6 +75,9 @@ starts_obey n done (s ∷ ss) obeys allowed room =
     let may : MayFollow n (map mark_of done) e = (here.0, here.1, here.2, refl, omega (arith, length-map done mark_of, room)) in
     let more : WellFormed n (map mark_of (done ++ send_of done s ∷ [])) = rw (map-append mark_of done (send_of done s ∷ [])) (WellFormed-push n (map mark_of done) e obeys may) in
     starts_obey n (done ++ send_of done s ∷ []) ss more (λ i x at. allowed (suc i) x at) (omega (arith, length-append done (send_of done s ∷ []), room))
+
+pub starts-obey : (config : Settings) → IsConfig config → WellFormed config.members (map mark_of (start_events [] config.starts))
+starts-obey config is = starts_obey config.members [] config.starts (WellFormed-none config.members) is.starts (omega (arith, is.few_starts))
 
 -- what nothing is taken of is all in flight
 none_dropped : (ks : List ℕ) → filter (λ ssn. not (list_any (λ taken. taken == ssn) [])) ks ≡ ks
@@ -149,7 +152,7 @@ module _ (next : Next) (config : Settings) (r : GroupRecord) (is : IsConfig conf
   up m = rw s.nobody_down (sets.contains-empty nat_cmp m)
 
   obeys : WellFormed n (map mark_of events)
-  obeys = starts_obey n [] config.starts (WellFormed-none n) is.starts (omega (arith, is.few_starts))
+  obeys = starts-obey config is
 
   acted : (m : ℕ) → actions_of events m ≡ map sent (starts_of m config.starts)
   acted m = starts_given (action_of events m) (λ s. if s.from == m then Some (sent (s.to, s.note)) else None) (λ s k. refl) [] config.starts ∙ sends_of_one m config.starts
@@ -204,7 +207,10 @@ module _ (next : Next) (config : Settings) (r : GroupRecord) (is : IsConfig conf
       let flying : in_flight (map mark_of events) q p ≡ filter_map (sent_on q p) (map mark_of events) =
       ap (λ (ks : List ℕ). filter (λ ssn. not (list_any (λ taken. taken == ssn) ks)) (filter_map (sent_on q p) (map mark_of events))) (none_taken q p (map mark_of events) unreceived)
       ∙ none_dropped (filter_map (sent_on q p) (map mark_of events)) in
-      rw (s.flight, s.trace, flying) (marks_between q p events)
+      rw (s.channels q p, s.trace, flying) (marks_between q p events)
+
+  among_starts : (v : Message) → Contains (channel r v.from v.to) v → Contains (filter_map message_of r.trace) v
+  among_starts v flies = Contains-from_filter (is_on v.from v.to) (filter_map message_of r.trace) v (rw (s.channels v.from v.to) at flies)
 
   is_start : IsStart n (knowledge r)
   is_start = record {
@@ -214,7 +220,7 @@ module _ (next : Next) (config : Settings) (r : GroupRecord) (is : IsConfig conf
     tables = no_table;
     checkpoints = no_checkpoint;
     channels = matches;
-    messages = λ v flies. (message_sent r.trace v (rw s.flight at (channel_flight r v.from v.to v flies).0)).0;
+    messages = λ v flies. (message_sent r.trace v (among_starts v flies)).0;
   }
 
   fold_now : (m : ℕ) → m < n → IsFold next r m
@@ -236,8 +242,9 @@ module _ (next : Next) (config : Settings) (r : GroupRecord) (is : IsConfig conf
     causes = rw s.parameters (run_is_sound n config.f (knowledge r) (knowledge r) is_start starts);
     folds = λ m below up_m. fold_now m (rw s.parameters at below);
     blanks = λ m below down. never_both r.down m down (up m);
+    shape = rw s.parameters s.shape;
     notes = λ v flying.
-        let sent_at = (message_sent r.trace v (rw s.flight at flying)).1 in
+        let sent_at = (message_sent r.trace v (among_starts v flying)).1 in
         note_of-at n r.trace sent_at.0 v.from v.ssn v.to v.note (rw s.trace obeys) sent_at.1;
     counted = rw (s.undone_ever, s.receipts_ever, s.trace, unreceived) refl;
   }

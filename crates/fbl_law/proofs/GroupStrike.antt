@@ -7,9 +7,9 @@ use Rattle.fbl_base.specs.Fold.{Next, note_of}
 use Rattle.fbl_base.proofs.Recorded.{at_any}
 use Rattle.fbl_table.specs.Tables.{is_held}
 use Rattle.fbl_member.specs.Members.{Message, MemberRecord, blank}
-use Rattle.fbl_law.specs.Record.{Members, table, IsUp, Names, IsRecorded}
+use Rattle.fbl_law.specs.Record.{Members, table, IsInFlight, IsUp, Names, IsRecorded}
 use Rattle.fbl_law.specs.Steps.{IsStruck}
-use Rattle.fbl_law.specs.Groups.{GroupRecord, member, checkpoint, knowledge, is_recorded}
+use Rattle.fbl_law.specs.Groups.{GroupRecord, member, checkpoint, channel, knowledge, is_recorded}
 use Rattle.fbl_law.specs.Sound.{IsFold, IsSound}
 use Rattle.fbl_law.specs.GroupSteps.{IsStrike}
 use Rattle.fbl_law.specs.GroupLaws.{GroupStrikeKeeps, RecordedTest}
@@ -17,7 +17,7 @@ use Rattle.fbl_law.proofs.Lists.{Contains-none}
 use Rattle.fbl_law.proofs.Safe.{down_or_up, never_both, IsRecorded-held, IsRecorded-saved}
 use Rattle.fbl_law.proofs.Tables.{Includes-union, Includes-left, named_record}
 use Rattle.fbl_law.proofs.Run.{strike_keeps}
-use Rattle.fbl_law.proofs.GroupFacts.{table_member, Names-held, held-Names, flight_channel, channel_flight}
+use Rattle.fbl_law.proofs.GroupFacts.{table_member, Names-held, held-Names}
 
 module _ (next : Next) (old new : GroupRecord) (struck : Members) (s : IsStrike old new struck) (sound : IsSound next old) where
   was_up : (m : ℕ) → IsUp (knowledge new) m → IsUp (knowledge old) m
@@ -34,14 +34,14 @@ module _ (next : Next) (old new : GroupRecord) (struck : Members) (s : IsStrike 
     checkpoints = s.checkpoints;
   }
 
-  notes_kept : (v : Message) → Contains new.flight v → note_of new.trace v.from v.ssn ≡ Some v.note
+  notes_kept : (v : Message) → IsInFlight (knowledge new) v → note_of new.trace v.from v.ssn ≡ Some v.note
   notes_kept v flying =
-      let among = flight_channel new v flying in
+      let among : Contains (channel new v.from v.to) v = flying in
       elim (down_or_up new.down v.from) [
         | inl down ↦ absurd (Contains-none v (rw (s.emptied v.from v.to (inl down)) at among))
         | inr up ↦ elim (down_or_up new.down v.to) [
           | inl down ↦ absurd (Contains-none v (rw (s.emptied v.from v.to (inr down)) at among))
-          | inr up_to ↦ rw s.trace (sound.notes v (channel_flight old v.from v.to v (rw (s.channels v.from v.to up up_to) at among)).0)
+          | inr up_to ↦ rw s.trace (sound.notes v (rw (s.channels v.from v.to up up_to) at among))
         ]
       ]
 
@@ -64,6 +64,7 @@ module _ (next : Next) (old new : GroupRecord) (struck : Members) (s : IsStrike 
     causes = rw s.config (strike_keeps old.config.members old.config.f (knowledge old) (knowledge new) struck is_struck few sound.causes);
     folds = λ m below up. fold_kept m up (sound.folds m (rw s.config at below) (was_up m up));
     blanks = λ m below down. s.blanks m down;
+    shape = rw s.config s.shape;
     notes = notes_kept;
     counted = rw (s.trace, s.undone_ever, s.receipts_ever) sound.counted;
   }

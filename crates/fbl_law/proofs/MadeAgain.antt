@@ -20,7 +20,6 @@ use Rattle.fbl_table.specs.declared.entry.Entry.{Entry}
 use Rattle.fbl_table.specs.Tables.{piggybacked}
 use Rattle.fbl_member.specs.Members.{Message, last_from, logged_beyond}
 use Rattle.fbl_law.specs.Record.{send_mark}
-use Rattle.fbl_law.specs.Steps.{is_on}
 use Rattle.fbl_law.specs.Groups.{GroupRecord, member, channel, marks}
 use Rattle.fbl_law.specs.Sound.{last_taken, IsFold}
 use Rattle.fbl_law.specs.GroupSteps.{IsMadeAgain}
@@ -205,16 +204,3 @@ made-again-outside r q p obeys out none = record {
   notes = λ v among. absurd (Contains-none v (rw none at among));
   carried = λ v among. absurd (Contains-none v (rw none at among));
 }
-
--- what one member sends again to another is on their channel alone
-pub between-resent : (a b q p : ℕ) (carried : List Entry) (sends : List (ℕ × Note)) → filter (is_on a b) (resent q p carried sends) ≡ cond (q == a && p == b) (resent q p carried sends) []
-between-resent a b q p carried sends = at (q == a && p == b) refl where
-  at : (c : Bool) → (q == a && p == b) ≡ c → filter (is_on a b) (resent q p carried sends) ≡ cond c (resent q p carried sends) []
-  at true is = all sends where
-    all : (xs : List (ℕ × Note)) → filter (is_on a b) (resent q p carried xs) ≡ resent q p carried xs
-    all [] = refl
-    all (x ∷ xs) = rw is (ap (λ (vs : List Message). record { from = q; to = p; ssn = x.0; note = x.1; carried = carried } ∷ vs) (all xs))
-  at false is = none sends where
-    none : (xs : List (ℕ × Note)) → filter (is_on a b) (resent q p carried xs) ≡ []
-    none [] = refl
-    none (x ∷ xs) = rw is (none xs)

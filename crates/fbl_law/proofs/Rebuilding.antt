@@ -1,5 +1,5 @@
 -- From the replay of the members that are down to a recovery.
-use Rattle.std.proofs.Common.{◌≡◌, ◌≢◌, ℕ, ◌+◌, ◌-◌, ◌<◌, ◌≤◌, ◌==◌, ◌||◌, not, nat_le, ◌⊎◌, inl, inr, Bool, true, false, List, length, map, Some, refl, sym, subst, ap, ◌∙◌, arith}
+use Rattle.std.proofs.Common.{◌≡◌, ◌≢◌, ℕ, ◌+◌, ◌-◌, ◌<◌, ◌≤◌, ◌==◌, ◌||◌, not, nat_le, ◌⊎◌, inl, inr, Bool, [], true, false, List, length, map, Some, refl, sym, subst, ap, ◌∙◌, arith}
 use Rattle.std.specs.Prelude.{slice_set, slice_index_or}
 use Rattle.std.specs.List.{filter}
 use Rattle.std.specs.FinSet as set
@@ -18,7 +18,7 @@ use Rattle.fbl_table.specs.Tables.{found}
 use Rattle.fbl_member.specs.Members.{MemberRecord, blank, logged_note, replayed_by}
 use Rattle.fbl_law.specs.Record.{Members, IsUp, IsDown}
 use Rattle.fbl_law.specs.Steps.{Stays, IsEventCut}
-use Rattle.fbl_law.specs.Groups.{GroupRecord, member, checkpoint, knowledge, receipts}
+use Rattle.fbl_law.specs.Groups.{GroupRecord, member, checkpoint, channel, knowledge, receipts}
 use Rattle.fbl_law.specs.Sound.{receipts_at, IsReplayed, IsFold, IsSound}
 use Rattle.fbl_law.specs.GroupSteps.{IsRecovery, IsMadeAgain}
 use Rattle.fbl_law.specs.Replaying.{IsNextReplay, is_replayed, gathered_table, recovered_trace, stays_by, resent_to, working, IsReplaying, IsWaiting, replayed_in, IsRebuilt}
@@ -33,6 +33,7 @@ use Rattle.fbl_law.proofs.Counting.{is_of, count_in-none, count_in-same, count_i
 use Rattle.fbl_law.proofs.CutTrace.{recovered_trace-cut}
 use Rattle.fbl_law.proofs.CutCounts.{filter-agree, stays_by-cut}
 use Rattle.fbl_law.proofs.MadeAgain.{made-again, made-again-outside}
+use Rattle.fbl_law.proofs.Resending.{channel-outside}
 
 -- a replay does not read the table
 pub replayed-table : (next : Next) (n : ℕ) (r : GroupRecord) (trace : List Event) (p : ℕ) (m : MemberRecord) (t : List Entry) → IsReplayed next n r.config.starts trace p m → IsReplayed next n r.config.starts trace p (record m { table = t })
@@ -234,11 +235,14 @@ module _ (next : Next) (old : GroupRecord) (sound : IsSound next old) where
         | inr up ↦ fold-survives next old sound (recovered_trace old) cut new m up step.trace step.config (step.survivors m up) (sound.folds m below up)
       ]
 
+      outside : (q p : ℕ) → (old.config.members ≤ q) ⊎ (old.config.members ≤ p) → channel new q p ≡ []
+      outside q p out = channel-outside old.config.members new.channels q p step.shape out
+
       made : (q p : ℕ) → IsDown (knowledge old) q ⊎ IsDown (knowledge old) p → IsMadeAgain new q p
       made q p down = elim (cases_lt q old.config.members) [
-        | inr past ↦ made-again-outside new q p is-lawful.well_formed (inl (let config : new.config ≡ old.config = step.config in rw config past)) (step.outside q p (inl past))
+        | inr past ↦ made-again-outside new q p is-lawful.well_formed (inl (let config : new.config ≡ old.config = step.config in rw config past)) (outside q p (inl past))
         | inl below_q ↦ elim (cases_lt p old.config.members) [
-          | inr past ↦ made-again-outside new q p is-lawful.well_formed (inr (let config : new.config ≡ old.config = step.config in rw config past)) (step.outside q p (inr past))
+          | inr past ↦ made-again-outside new q p is-lawful.well_formed (inr (let config : new.config ≡ old.config = step.config in rw config past)) (outside q p (inr past))
           | inl below_p ↦
               made-again next new is-lawful q p (fold-all q below_q) (fold-all p below_p) (omega (arith, below_q, sound.config.members.1))
               (step.resent q p down below_q below_p ∙ ap (λ f. resent_to f q p (member new q) (member new p)) (let config : new.config ≡ old.config = step.config in rw config refl))
@@ -253,6 +257,7 @@ module _ (next : Next) (old : GroupRecord) (sound : IsSound next old) where
         survivors = step.survivors;
         folds = rebuilt-fold;
         gathered = λ m below down. ap (λ (x : MemberRecord). x.table) (step.rebuilt m below down);
+        shape = step.shape;
         channels = step.channels;
         made_again = made;
         config = step.config;

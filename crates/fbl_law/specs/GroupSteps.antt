@@ -14,7 +14,7 @@ use Rattle.fbl_table.specs.Tables.{piggybacked}
 use Rattle.fbl_member.specs.Members.{Message, MemberRecord, fresh, blank, received_by, messages_from}
 use Rattle.fbl_law.specs.Record.{Members, IsUp, IsDown, MatchesTrace}
 use Rattle.fbl_law.specs.Steps.{Stays, IsEventCut, recovery_table, between, taken_off}
-use Rattle.fbl_law.specs.Groups.{GroupRecord, member, checkpoint, channel, marks, knowledge, receipts}
+use Rattle.fbl_law.specs.Groups.{GroupRecord, HasChannels, member, checkpoint, channel, marks, knowledge, receipts}
 use Rattle.fbl_law.specs.Sound.{IsFold}
 
 -- the events so far, and then the starts' sends in list order, each with its sender's next number
@@ -28,12 +28,13 @@ abbrev pub message_of : Event → Option Message
 message_of (Send from ssn to note) = Some (record { from = from; to = to; ssn = ssn; note = note; carried = [] })
 message_of (Receipt to rsn from ssn) = None
 
--- a group in which nothing is received yet: its trace has the starts' sends, their messages are in flight and carry
--- nothing, and each member and its checkpoint are fresh
+-- a group in which nothing is received yet: its trace has the starts' sends, their messages are in their channels and
+-- carry nothing, and each member and its checkpoint are fresh
 pub record IsGroupStart (config : Settings) (new : GroupRecord) : Type 0 where
   pub parameters : new.config ≡ config
   pub trace : new.trace ≡ start_events [] config.starts
-  pub flight : new.flight ≡ filter_map message_of new.trace
+  pub shape : HasChannels config.members new.channels
+  pub channels : (q p : ℕ) → channel new q p ≡ between q p (filter_map message_of new.trace)
   pub size : length new.members ≡ config.members
   pub members : (m : ℕ) → m < config.members → member new m ≡ fresh m config.starts
   pub checkpoints : length new.checkpoints ≡ config.members
@@ -71,6 +72,7 @@ pub record IsDelivery (next : Next) (old new : GroupRecord) (v : Message) : Type
   pub room : length new.trace ≤ old.config.limit
   pub trace : new.trace ≡ old.trace ++ delivery_events next old v
   pub members : new.members ≡ slice_set old.members v.to (receiver next old v)
+  pub shape : HasChannels old.config.members new.channels
   pub channels : (q p : ℕ) → channel new q p ≡ taken_off v q p (channel old q p) ++ between q p (made next old v)
   pub receipts_ever : new.receipts_ever ≡ old.receipts_ever + 1
   pub undone_ever : new.undone_ever ≡ old.undone_ever
@@ -85,6 +87,7 @@ pub record IsStrike (old new : GroupRecord) (struck : Members) : Type 0 where
   pub size : length new.members ≡ length old.members
   pub survivors : (m : ℕ) → IsUp (knowledge new) m → member new m ≡ member old m
   pub blanks : (m : ℕ) → IsDown (knowledge new) m → member new m ≡ blank
+  pub shape : HasChannels old.config.members new.channels
   pub channels : (q p : ℕ) → IsUp (knowledge new) q → IsUp (knowledge new) p → channel new q p ≡ channel old q p
   pub emptied : (q p : ℕ) → IsDown (knowledge new) q ⊎ IsDown (knowledge new) p → channel new q p ≡ []
   pub trace : new.trace ≡ old.trace
@@ -119,6 +122,7 @@ pub record IsRecovery (next : Next) (old new : GroupRecord) : Type 0 where
   pub survivors : (m : ℕ) → IsUp (knowledge old) m → member new m ≡ member old m
   pub folds : (m : ℕ) → m < old.config.members → IsDown (knowledge old) m → IsFold next new m
   pub gathered : (m : ℕ) → m < old.config.members → IsDown (knowledge old) m → (member new m).table ≡ recovery_table (knowledge old)
+  pub shape : HasChannels old.config.members new.channels
   pub channels : (q p : ℕ) → IsUp (knowledge old) q → IsUp (knowledge old) p → channel new q p ≡ channel old q p
   pub made_again : (q p : ℕ) → IsDown (knowledge old) q ⊎ IsDown (knowledge old) p → IsMadeAgain new q p
   pub config : new.config ≡ old.config

@@ -1,6 +1,6 @@
 -- A group's record as data.
-use Rattle.std.specs.Prelude.{ℕ, List, map, slice_index_or, Bool, ◌||◌}
-use Rattle.std.specs.List.{filter, filter_map, list_any}
+use Rattle.std.specs.Prelude.{◌≡◌, ℕ, zero, suc, ◌+◌, ◌<◌, List, [], length, map, slice_index_or, Bool, ◌||◌}
+use Rattle.std.specs.List.{filter_map, list_any}
 use Rattle.fbl_base.specs.declared.trace.Determinant.{Determinant}
 use Rattle.fbl_base.specs.declared.trace.Event.{Event}
 use Rattle.fbl_base.specs.declared.trace.Mark.{Mark}
@@ -10,15 +10,15 @@ use Rattle.fbl_table.specs.declared.entry.Entry.{Entry}
 use Rattle.fbl_table.specs.Tables.{is_held}
 use Rattle.fbl_member.specs.Members.{Message, MemberRecord, blank}
 use Rattle.fbl_law.specs.Record.{Members, Record}
-use Rattle.fbl_law.specs.Steps.{is_on}
 
--- a group: its parameters, its members' records and their checkpoints, the messages in flight in the order in which they
--- were sent, its trace, who is down, and how many receipts were ever made and ever undone
+-- a group: its parameters, its members' records and their checkpoints, its channels (for each sender those to each
+-- receiver, each with its messages in flight, first in, first out), its trace, who is down, and how many receipts were
+-- ever made and ever undone
 pub record GroupRecord : Type 0 where
   pub config : Settings
   pub members : List MemberRecord
   pub checkpoints : List MemberRecord
-  pub flight : List Message
+  pub channels : List (List (List Message))
   pub trace : List Event
   pub down : Members
   pub receipts_ever : ℕ
@@ -32,9 +32,31 @@ member r m = slice_index_or r.members m blank
 abbrev pub checkpoint : GroupRecord → ℕ → MemberRecord
 checkpoint r m = slice_index_or r.checkpoints m blank
 
+-- there are channels from each of n members to each
+pub record HasChannels (n : ℕ) (channels : List (List (List Message))) : Type 0 where
+  pub senders : length channels ≡ n
+  pub receivers : (q : ℕ) → q < n → length (slice_index_or channels q []) ≡ n
+
+-- the one from q to p among these channels
+abbrev pub channel_in : List (List (List Message)) → ℕ → ℕ → List Message
+channel_in channels q p = slice_index_or (slice_index_or channels q []) p []
+
 -- the channel from q to p: the messages in flight from q to p, first in, first out
 abbrev pub channel : GroupRecord → ℕ → ℕ → List Message
-channel r q p = filter (is_on q p) r.flight
+channel r q p = channel_in r.channels q p
+
+-- the sum of the members' counts, of the members below n
+abbrev pub sum_below : ℕ → (ℕ → ℕ) → ℕ
+sum_below zero count = 0
+sum_below (suc n) count = sum_below n count + count n
+
+-- how many messages are in these channels, of the members below n
+abbrev pub messages_in : ℕ → List (List (List Message)) → ℕ
+messages_in n channels = sum_below n (λ q. sum_below n (λ p. length (channel_in channels q p)))
+
+-- how many messages are in flight, on all channels
+abbrev pub messages_in_flight : GroupRecord → ℕ
+messages_in_flight r = messages_in r.config.members r.channels
 
 -- the tables of the members, in member order
 abbrev pub tables : GroupRecord → List (List Entry)

@@ -1,5 +1,5 @@
 -- Where a member that replays its receipts has come.
-use Rattle.std.specs.Prelude.{◌≡◌, ◌≢◌, ℕ, zero, suc, ◌+◌, ◌-◌, ◌<◌, ◌≤◌, ◌&&◌, ◌||◌, ◌⊎◌, not, nat_le, nat_lt, Bool, false, List, [], ◌∷◌, ◌++◌, length, map, slice_index_or, Some, None, if◌then◌else◌}
+use Rattle.std.specs.Prelude.{◌≡◌, ◌≢◌, ℕ, zero, suc, ◌+◌, ◌-◌, ◌<◌, ◌≤◌, ◌&&◌, ◌||◌, ◌⊎◌, not, nat_le, nat_lt, Bool, false, List, [], ◌∷◌, length, map, slice_index_or, Some, None, if◌then◌else◌}
 use Rattle.std.specs.FinSet as set
 use Rattle.fbl_base.specs.declared.trace.Determinant.{Determinant}
 use Rattle.fbl_base.specs.declared.trace.Note.{Note}
@@ -13,7 +13,7 @@ use Rattle.fbl_table.specs.Tables.{is_held, found, piggybacked}
 use Rattle.fbl_member.specs.Members.{Message, MemberRecord, last_from, blank, logged_note, logged_beyond}
 use Rattle.fbl_law.specs.Record.{Members, IsDown, IsUp}
 use Rattle.fbl_law.specs.Steps.{recovery_table}
-use Rattle.fbl_law.specs.Groups.{GroupRecord, member, checkpoint, channel, marks, knowledge, receipts}
+use Rattle.fbl_law.specs.Groups.{GroupRecord, HasChannels, member, checkpoint, channel, marks, knowledge, receipts}
 use Rattle.fbl_law.specs.Sound.{IsReplayed}
 
 -- the determinant is that of the next receipt of the member p, from another member, and there is room for it
@@ -67,6 +67,10 @@ resent q p carried sends = map (λ s. record { from = q; to = p; ssn = s.0; note
 abbrev pub resent_to : ℕ → ℕ → ℕ → MemberRecord → MemberRecord → List Message
 resent_to f q p from to = resent q p (piggybacked f from.table) (logged_beyond from.log p (last_from to q))
 
+-- what q sends to p again, if one of the two is in the set
+abbrev pub sent_again : ℕ → Members → (ℕ → MemberRecord) → ℕ → ℕ → List Message
+sent_again f s work q p = if set.contains s q || set.contains s p then resent_to f q p (work q) (work p) else []
+
 -- the records while the members that are down replay: theirs are rebuilt, the survivors' are as they were
 abbrev pub working : GroupRecord → List MemberRecord → ℕ → MemberRecord
 working r rebuilt q = if set.contains r.down q then slice_index_or rebuilt q blank else member r q
@@ -96,21 +100,10 @@ pub record IsRebuilt (old new : GroupRecord) (replayed : List MemberRecord) : Ty
   pub size : length new.members ≡ length old.members
   pub survivors : (m : ℕ) → IsUp (knowledge old) m → member new m ≡ member old m
   pub rebuilt : (m : ℕ) → m < old.config.members → IsDown (knowledge old) m → member new m ≡ record (slice_index_or replayed m blank) { table = gathered_table old }
+  pub shape : HasChannels old.config.members new.channels
   pub channels : (q p : ℕ) → IsUp (knowledge old) q → IsUp (knowledge old) p → channel new q p ≡ channel old q p
   pub resent : (q p : ℕ) → IsDown (knowledge old) q ⊎ IsDown (knowledge old) p → q < old.config.members → p < old.config.members → channel new q p ≡ resent_to old.config.f q p (member new q) (member new p)
-  pub outside : (q p : ℕ) → old.config.members ≤ q ⊎ old.config.members ≤ p → channel new q p ≡ []
   pub config : new.config ≡ old.config
   pub receipts_ever : new.receipts_ever ≡ old.receipts_ever
   pub undone_ever : new.undone_ever + length (receipts (marks new)) ≡ old.undone_ever + length (receipts (marks old))
   pub checkpoints : new.checkpoints ≡ old.checkpoints
-
--- what q sends again to each member below p, where one of the two was down
-abbrev pub resent_row : ℕ → Members → (ℕ → MemberRecord) → ℕ → ℕ → List Message
-resent_row f s work q zero = []
-resent_row f s work q (suc p) =
-    resent_row f s work q p ++ (if set.contains s q || set.contains s p then resent_to f q p (work q) (work p) else [])
-
--- what each member below q sends again to the members below n
-abbrev pub resent_rows : ℕ → Members → (ℕ → MemberRecord) → ℕ → ℕ → List Message
-resent_rows f s work n zero = []
-resent_rows f s work n (suc q) = resent_rows f s work n q ++ resent_row f s work q n

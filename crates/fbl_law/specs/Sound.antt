@@ -1,6 +1,6 @@
 -- What holds of a group's record between any two calls.
 use Rattle.std.specs.Prelude.{◌≡◌, ℕ, ◌+◌, ◌<◌, ◌≤◌, ◌==◌, List, length, map, take, Some, if◌then◌else◌}
-use Rattle.std.specs.List.{Contains, filter, filter_map, fold}
+use Rattle.std.specs.List.{filter, filter_map, fold}
 use Rattle.fbl_base.specs.declared.trace.Determinant.{Determinant}
 use Rattle.fbl_base.specs.declared.trace.Note.{Note}
 use Rattle.fbl_base.specs.declared.trace.Event.{Event}
@@ -12,8 +12,8 @@ use Rattle.fbl_base.specs.Fold.{Next, Lawful, actions_of, notes_of, note_of, aft
 use Rattle.fbl_base.specs.MemberSets.{AllBelow}
 use Rattle.fbl_base.specs.Rules.{taken_on}
 use Rattle.fbl_member.specs.Members.{Message, MemberRecord, progress_of, last_from, blank}
-use Rattle.fbl_law.specs.Record.{IsUp, IsDown, IsSoundKnowledge}
-use Rattle.fbl_law.specs.Groups.{GroupRecord, member, checkpoint, marks, knowledge, receipts}
+use Rattle.fbl_law.specs.Record.{IsInFlight, IsUp, IsDown, IsSoundKnowledge}
+use Rattle.fbl_law.specs.Groups.{GroupRecord, HasChannels, member, checkpoint, marks, knowledge, receipts}
 
 -- the notes that the member received in the trace, in order
 abbrev pub received_notes : List Event → ℕ → List Note
@@ -47,8 +47,8 @@ pub record IsReplayed (next : Next) (n : ℕ) (starts : List Start) (trace : Lis
 
 -- a group's record is sound: its trace is lawful and within its limit, each up member is at the fold of its receipts and
 -- each down member is blank, each checkpoint is at the fold of its member's first receipts, what the tables know is true
--- and closed, the channels have exactly the messages not yet received, each with the note with which it was sent, at most
--- f members are down, and the counters agree with the trace
+-- and closed, there are channels from each member to each, which have exactly the messages not yet received, each with
+-- the note with which it was sent, at most f members are down, and the counters agree with the trace
 pub record IsSound (next : Next) (r : GroupRecord) : Type 0 where
   pub config : IsConfig r.config
   pub members : length r.members ≡ r.config.members
@@ -60,5 +60,6 @@ pub record IsSound (next : Next) (r : GroupRecord) : Type 0 where
   pub folds : (m : ℕ) → m < r.config.members → IsUp (knowledge r) m → IsFold next r m
   pub blanks : (m : ℕ) → m < r.config.members → IsDown (knowledge r) m → member r m ≡ blank
   pub saved : (m : ℕ) → m < r.config.members → IsReplayed next r.config.members r.config.starts r.trace m (checkpoint r m)
-  pub notes : (v : Message) → Contains r.flight v → note_of r.trace v.from v.ssn ≡ Some v.note
+  pub shape : HasChannels r.config.members r.channels
+  pub notes : (v : Message) → IsInFlight (knowledge r) v → note_of r.trace v.from v.ssn ≡ Some v.note
   pub counted : length (receipts (marks r)) + r.undone_ever ≡ r.receipts_ever

@@ -4,7 +4,7 @@ use Rattle.std.specs.Ordering.{nat_cmp}
 use Rattle.std.specs.FinSet as set
 use Rattle.fbl_base.specs.Audit.{IsOrphan, lost_determinants}
 use Rattle.fbl_member.specs.Members.{MemberRecord}
-use Rattle.fbl_law.specs.Groups.{GroupRecord, member, channel}
+use Rattle.fbl_law.specs.Groups.{GroupRecord, member, channel, messages_in_flight}
 use Rattle.fbl_law.specs.Dumps.{dump_of}
 use Rattle.fbl_lines.specs.declared.lines.MemberStatus.{MemberStatus}
 use Rattle.fbl_lines.specs.declared.lines.Totals.{Totals}
@@ -60,7 +60,7 @@ shown_statuses r = per_member (shown_status r) r.config.members
 
 -- these totals are the group's: messages in flight, length of the trace, and the audit of its dump with those that are down
 pub record AreTotals (r : GroupRecord) (t : Totals) : Type 0 where
-  pub flight : t.flight ≡ length r.flight
+  pub flight : t.flight ≡ messages_in_flight r
   pub trace : t.trace ≡ length r.trace
   pub lost : t.lost ≡ length (lost_determinants (dump_of r r.down))
   pub orphans : (q : ℕ) → (set.contains t.orphans q ≡ true) ↔ IsOrphan (dump_of r r.down) q

@@ -1,22 +1,34 @@
-use Rattle.std.proofs.Common.{◌≡◌, subst, ◌∙◌, ap, refl}
-use Rattle.fbl_base.specs.Configs.{IsConfig}
-use Rattle.fbl_law.specs.GroupSteps.{start_events, message_of}
+use Rattle.std.proofs.Common.{◌++◌, subst, sym, ◌∙◌, ap, refl, List, []}
 use Rattle.std.specs.List.{filter_map}
-use Rattle.std.proofs.Common.{List, []}
+use Rattle.fbl_base.specs.Configs.{IsConfig}
 use Rattle.fbl_base.specs.declared.trace.Event.{Event}
 use Rattle.fbl_base.specs.declared.trace.Start.{Start}
-use Rattle.fbl_law.proofs.GroupStart.{group_start_is_sound}
+use Rattle.fbl_member.specs.Members.{Message}
+use Rattle.fbl_law.specs.Steps.{between}
+use Rattle.fbl_law.specs.Groups.{HasChannels}
+use Rattle.fbl_law.specs.GroupSteps.{start_events, message_of}
+use Rattle.fbl_law.proofs.GroupStart.{starts-obey, group_start_is_sound}
+use Rattle.fbl_group.specs.Channels.{queued_rows}
+use Rattle.fbl_group.proofs.Queues.{none-shape, none-in}
 use Rattle.fbl_group.proofs.group.Group.new.Goals as goal
+
+pub send_starts-requires-clause-shape : goal.send_starts-requires-clause-shape
+send_starts-requires-clause-shape g c =
+    subst (λ k. HasChannels k (queued_rows c.in_ok-channels.channels.items)) (c.members.ensures.value ∙ sym c.members-2.ensures.value) (none-shape c.members.result (queued_rows c.in_ok-channels.channels.items) c.in_ok-channels.ensures)
+
+pub send_starts-requires-clause-rules : goal.send_starts-requires-clause-rules
+send_starts-requires-clause-rules g c =
+    let rules : IsConfig c.args.config = subst IsConfig c.config.view_is c.config.invariant in
+    rw (c.deref.ensures.value, c.in_ok-trace.ensures, c.starts.ensures, c.members-2.ensures.value) (starts-obey c.args.config rules)
 
 pub invariant_of-result : goal.invariant_of-result
 invariant_of-result g c =
     let rules : IsConfig c.args.config = subst IsConfig c.config.view_is c.config.invariant in
-    let trace : c.in_ok-trace.trace.items ≡ start_events [] c.args.config.starts = c.in_ok-trace.ensures ∙ ap (λ (ss : List Start). start_events [] ss) c.starts.ensures in
-    let flight = c.in_ok-flight.ensures ∙ ap (λ (es : List Event). filter_map message_of es) c.deref.ensures.value in
     group_start_is_sound g.B.Behaviour.next c.args.config _ rules (record {
       parameters = refl;
-      trace = trace;
-      flight = flight;
+      trace = c.in_ok-trace.ensures ∙ ap (λ (ss : List Start). start_events [] ss) c.starts.ensures;
+      shape = subst (λ k. HasChannels k (queued_rows c.send_starts.new.channels.items)) c.members-2.ensures.value c.in_ok-send_starts.ensures.shape;
+      channels = λ q p. c.in_ok-send_starts.ensures.sent q p ∙ ap (λ (vs : List Message). vs ++ between q p (filter_map message_of c.deref.result.now)) (none-in c.members.result (queued_rows c.in_ok-channels.channels.items) q p c.in_ok-channels.ensures) ∙ ap (λ (es : List Event). between q p (filter_map message_of es)) c.deref.ensures.value;
       size = c.in_ok-members.ensures.size;
       members = c.in_ok-members.ensures.fresh;
       checkpoints = c.in_ok-checkpoints.ensures.size;
@@ -30,7 +42,8 @@ pub returns : goal.returns
 returns g c = record {
   parameters = refl;
   trace = c.in_ok-trace.ensures ∙ ap (λ (ss : List Start). start_events [] ss) c.starts.ensures;
-  flight = c.in_ok-flight.ensures ∙ ap (λ (es : List Event). filter_map message_of es) c.deref.ensures.value;
+  shape = subst (λ k. HasChannels k (queued_rows c.send_starts.new.channels.items)) c.members-2.ensures.value c.in_ok-send_starts.ensures.shape;
+  channels = λ q p. c.in_ok-send_starts.ensures.sent q p ∙ ap (λ (vs : List Message). vs ++ between q p (filter_map message_of c.deref.result.now)) (none-in c.members.result (queued_rows c.in_ok-channels.channels.items) q p c.in_ok-channels.ensures) ∙ ap (λ (es : List Event). between q p (filter_map message_of es)) c.deref.ensures.value;
   size = c.in_ok-members.ensures.size;
   members = c.in_ok-members.ensures.fresh;
   checkpoints = c.in_ok-checkpoints.ensures.size;

@@ -1,8 +1,9 @@
-use Rattle.std.proofs.Common.{◌≡◌, ◌++◌, ap, ◌∙◌, arith}
+use Rattle.std.proofs.Common.{◌≡◌, ℕ, ◌<◌, [], length, ap, ◌∙◌, arith}
+use Rattle.std.specs.Prelude.{slice_index_or}
 use Rattle.fbl_law.specs.Groups.{GroupRecord}
-use Rattle.fbl_law.specs.Replaying.{working, resent_row, resent_rows}
+use Rattle.fbl_law.specs.Replaying.{working, sent_again}
 use Rattle.fbl_group.proofs.Recovering.{numbered, is-made}
-use Rattle.fbl_group.proofs.Again.{rows-sent}
+use Rattle.fbl_group.proofs.Queues.{made-row}
 use Rattle.fbl_group.proofs.group.Group.resend.Goals as goal
 
 pub unwrap-from-requires : goal.unwrap-from-requires
@@ -11,11 +12,20 @@ unwrap-from-requires g c = is-made c.new.result c.loop-number.number c.new.ensur
 pub loop-number-preserved : goal.loop-number-preserved
 loop-number-preserved g c =
     let member : c.unwrap-from.result ≡ c.loop-number.number = numbered c.new.result c.unwrap-from.result c.loop-number.number c.new.ensures (let rules = c.members-number-end.ensures.rules in omega (arith, c.loop-number-test.true, c.members-number-end.ensures.value, rules.members.1)) c.unwrap-from.ensures in
-    rows-sent c.args.self.now.config.f c.args.self.now.down (working c.args.self.now c.args.rebuilt.now) c.args.self.now.config.members c.loop-number.number c.loop-number.wires.items c.resend_from.new.wires.items c.loop-number.invariant
-    (c.in_ok-resend_from.ensures ∙ ap (λ q. c.loop-number.wires.items ++ resent_row c.args.self.now.config.f c.args.self.now.down (working c.args.self.now c.args.rebuilt.now) q c.args.self.now.config.members) member)
+    rw c.in_ok-push.ensures.items (made-row (λ q row. (length row ≡ c.args.self.now.config.members) × ((p : ℕ) → p < c.args.self.now.config.members → slice_index_or row p [] ≡ sent_again c.args.self.now.config.f c.args.self.now.down (working c.args.self.now c.args.rebuilt.now) q p)) c.loop-number.number c.loop-number.again.items c.in_ok-resend_from.field-0 c.loop-number.invariant
+    (c.in_ok-resend_from.ensures.size, λ p below. c.in_ok-resend_from.ensures.each p below ∙ ap (λ k. sent_again c.args.self.now.config.f c.args.self.now.down (working c.args.self.now c.args.rebuilt.now) k p) member))
 
-pub returns : goal.returns
-returns g c =
+pub returns-clause-shape : goal.returns-clause-shape
+returns-clause-shape g c =
     let all : c.members-number-end.result ≡ c.args.self.now.config.members = c.members-number-end.ensures.value ∙ ap (λ (r : GroupRecord). r.config.members) c.self.view_is in
     let same : c.loop-number.number ≡ c.args.self.now.config.members = omega (arith, all, c.loop-number-test.false, c.loop-number.auto.number-end) in
-    c.loop-number.invariant ∙ ap (λ k. resent_rows c.args.self.now.config.f c.args.self.now.down (working c.args.self.now c.args.rebuilt.now) c.args.self.now.config.members k) same
+    record {
+      senders = c.loop-number.invariant.size ∙ same;
+      receivers = λ q below. (c.loop-number.invariant.each q (omega (arith, same, below))).0;
+    }
+
+pub returns-clause-each : goal.returns-clause-each
+returns-clause-each g c q p below_q below_p =
+    let all : c.members-number-end.result ≡ c.args.self.now.config.members = c.members-number-end.ensures.value ∙ ap (λ (r : GroupRecord). r.config.members) c.self.view_is in
+    let same : c.loop-number.number ≡ c.args.self.now.config.members = omega (arith, all, c.loop-number-test.false, c.loop-number.auto.number-end) in
+    (c.loop-number.invariant.each q (omega (arith, same, below_q))).1 p below_p
