@@ -4,16 +4,24 @@ use std::sync::{Mutex, MutexGuard, Wait};
 use std::thread;
 
 /// How often the lock is tried before the thread sleeps until it is woken.
-const TRIES: u32 = 100;
+const TRIES: u32 = 50;
 
-/// Takes the lock. While another thread has it, this one lets other threads run and tries again, and sleeps only after many
-/// tries: a hold takes some microseconds, and to sleep and be woken costs more, the one who wakes too.
+/// How often other threads are let run, at most, between two tries.
+const PAUSES: u32 = 256;
+
+/// Takes the lock. While another thread has it, this one lets other threads run and tries again, each time after a longer
+/// pause, and sleeps only after many tries. A hold takes a microsecond or two: to sleep and be woken costs more, the one who
+/// wakes too, and so do many tries, since each takes the lock's word away from the processor of the one that has it.
 pub(crate) fn hold<'a, T, R: Wait>(rt: &R, lock: &'a Mutex<T>) -> MutexGuard<'a, T> {
+    let mut pauses = 1u32;
     for _try in 0..TRIES {
         if let Some(guard) = lock.try_lock() {
             return guard;
         }
-        thread::yield_now();
+        for _pause in 0..pauses {
+            thread::yield_now();
+        }
+        pauses = PAUSES.min(pauses.saturating_mul(4));
     }
     lock.lock(rt)
 }
