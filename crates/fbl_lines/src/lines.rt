@@ -25,7 +25,7 @@ pub struct Totals {
     pub flight: usize,
     /// How many events the trace has.
     pub trace: usize,
-    /// How many receipts no member that is up has recorded.
+    /// How many receipts no table of a member that is up has.
     pub lost: usize,
     /// The members that are up and depend on a lost receipt.
     pub orphans: MemberSet,
@@ -168,7 +168,7 @@ pub fn report_text(
     Ok(text)
 }
 
-/// The line of an accepted strike, with the number of receipts that it lost.
+/// The line of an accepted strike, with the number of receipts that are lost then, also by strikes before it.
 pub fn strike_text(alloc: Global, struck: MemberSet, lost: u32) -> Result<String, AllocError>
     ensures { IfOk result (λ text. string_bytes text ≡ strike_line struck lost) }
 {

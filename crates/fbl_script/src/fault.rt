@@ -59,7 +59,7 @@ pub enum RunFault {
     /// The input has more than 1,048,576 bytes.
     #[error("too long")]
     TooLong,
-    /// The input is no JSON, or isn't UTF-8.
+    /// The input is no JSON or isn't UTF-8, or it is nested deeper than 127 or has a number too great to be read.
     #[error("not json")]
     NotJson,
     /// The JSON isn't an object.

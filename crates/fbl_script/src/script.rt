@@ -24,7 +24,7 @@ pub enum BehaviourName {
 /// A strike that a plan asks for.
 #[derive(Clone, Copy, Debug, PartialEq, Eq)]
 pub struct PlannedStrike {
-    /// The receipts that there must have been, all told.
+    /// After how many receipts ever made the members are struck. A count that is passed already strikes nobody.
     pub at: u64,
     /// The members to strike.
     pub set: MemberSet,
@@ -79,7 +79,7 @@ pub enum Command {
     Strike(MemberSet),
     /// Recover the members that are down.
     Recover,
-    /// Print the dump in which these members are struck.
+    /// Print the dump with this strike set. Nobody is struck by it.
     Dump(MemberSet),
     /// Let workers deliver until nothing is in flight.
     Run(Plan),
