@@ -359,6 +359,11 @@ summed-more f i before one k was few is most = (
   (let product : (i + 1) * k ≡ i * k + k = omega arith in omega (arith, few, most, product)),
 )
 
+-- a sum with a summand that is not 0 is not 0
+pub some-summed : (f : ℕ → ℕ) (i more : ℕ) → 0 < f i → 0 < sum_below (suc i + more) f
+some-summed f i zero some = (let same : suc i + 0 ≡ suc i = omega arith in rw same omega (arith, some))
+some-summed f i (suc more) some = (let same : suc i + suc more ≡ suc (suc i + more) = omega arith in rw same omega (arith, some-summed f i more some))
+
 -- what fits all fits the first
 pub first-fits : (P : Message → Type 0) (all rest : List Message) (w : Message) → all ≡ w ∷ rest → All P all → P w
 first-fits P all rest w is fits = (subst (All P) is fits) 0 w (omega arith)

@@ -1,6 +1,6 @@
 //! The channels: for each sender one to each receiver, with its messages in flight, first in, first out.
 
-ghost use Rattle.std.specs.Prelude.{◌≡◌, ℕ, ◌<◌, ◌≤◌, ◌+◌, ◌*◌, ◌++◌, ◌∷◌, ◌||◌, [], length, map, drop, replicate, slice_get, slice_index_or, slice_set, IfOk, OnOk, IfSome, IfNone, None, Some, vec_len, vec_capacity};
+ghost use Rattle.std.specs.Prelude.{◌≡◌, ℕ, ◌<◌, ◌≤◌, ◌+◌, ◌*◌, ◌++◌, ◌∷◌, ◌||◌, ◌==◌, not, [], length, map, drop, replicate, slice_get, slice_index_or, slice_set, IfOk, OnOk, IfSome, IfNone, None, Some, vec_len, vec_capacity};
 ghost use Rattle.std.specs.List.{All};
 ghost use Rattle.std.specs.FinSet as set;
 ghost use Rattle.fbl_law.specs.Groups.{HasChannels, channel_in, sum_below, messages_in};
@@ -158,22 +158,40 @@ pub(crate) fn count_messages<A: Allocator>(channels: &Channels<A>, n: u8) -> usi
 {
     let mut count = 0;
     for number in 0..n {
-        count += count_outgoing(&channels[usize::from(number)], n);
+        count += count_outgoing(channels, n, number);
     }
     count
 }
 
-/// How many messages are in these channels from one member.
-fn count_outgoing<A: Allocator>(outgoing: &Outgoing<A>, n: u8) -> usize
-    requires size { vec_len outgoing.now ≡ n }
-    requires few { (p : ℕ) → p < n → length (slice_index_or (queued outgoing.now.items) p []) ≤ 8192 }
+/// Whether some channel has a message. It looks no further than at the first sender of which a message is in flight.
+pub(crate) fn has_message<A: Allocator>(channels: &Channels<A>, n: u8) -> bool
+    requires shape { HasChannels n (queued_rows channels.now.items) }
+    requires few { (q p : ℕ) → q < n → p < n → length (channel_in (queued_rows channels.now.items) q p) ≤ 8192 }
     requires members { n ≤ 16 }
-    ensures value { result ≡ sum_below n (λ p. length (slice_index_or (queued outgoing.now.items) p [])) }
+    ensures { result ≡ not (messages_in n (queued_rows channels.now.items) == 0) }
+{
+    for number in 0..n {
+        if count_outgoing(channels, n, number) != 0 {
+            return true;
+        }
+    }
+    false
+}
+
+/// How many messages are in the channels from one member.
+fn count_outgoing<A: Allocator>(channels: &Channels<A>, n: u8, from: u8) -> usize
+    requires shape { HasChannels n (queued_rows channels.now.items) }
+    requires few { (q p : ℕ) → q < n → p < n → length (channel_in (queued_rows channels.now.items) q p) ≤ 8192 }
+    requires members { n ≤ 16 }
+    requires from { from < n }
+    ensures value { result ≡ sum_below n (λ p. length (channel_in (queued_rows channels.now.items) from p)) }
     ensures bound { result ≤ 131072 }
 {
+    let from = Member::new(from).unwrap();
     let mut count = 0;
     for number in 0..n {
-        count += outgoing[usize::from(number)].wires.len();
+        let to = Member::new(number).unwrap();
+        count += channel_between(channels, from, to).wires.len();
     }
     count
 }

@@ -7,7 +7,7 @@ ghost use Rattle.fbl_law.specs.Groups.{channel as channel_of, messages_in_flight
 ghost use Rattle.fbl_law.specs.Sound.{IsSound};
 ghost use Rattle.fbl_group.specs.Readers.{is_quiet as is_quiet_now, HoldsEachReceipt};
 
-use crate::channels::{channel_between, count_messages};
+use crate::channels::{channel_between, count_messages, has_message};
 use crate::group::Group;
 use fbl_base::{Behaviour, Config, Event, Member, MemberSet};
 use fbl_member::MemberRec;
@@ -96,7 +96,7 @@ impl<B: Behaviour, A: Allocator + Copy> Group<B, A> {
     pub fn is_quiet(&self) -> bool
         ensures { result ≡ is_quiet_now self.now }
     {
-        self.messages_in_flight() == 0 && self.down.count() == 0
+        !has_message(&self.channels, self.config.members()) && self.down.count() == 0
     }
 
     /// How many messages are in all channels.

@@ -14,9 +14,13 @@ use std::sync::ledger::Ledger;
 use std::sync::{Mutex, Wait};
 use std::thread;
 
-/// Why a worker ends before its last turn.
+/// What a turn leaves to the next one.
 #[derive(Clone, Copy, PartialEq, Eq, Debug)]
-enum End {
+enum Next {
+    /// The next turn begins with its question: whether nothing is in flight or somebody is down.
+    Ask,
+    /// That question was asked in the last hold of the lock, and nothing is over.
+    GoOn,
     /// Nothing is in flight, or somebody is down.
     Over,
     /// A commit was refused by `Full`.
@@ -74,15 +78,11 @@ pub(crate) fn take_turns<B: Behaviour, G: Gate, C: Ledger, U: Ledger, R: Wait>(
     }
     let mut pass = pass;
     let mut tally = tally;
-    let mut full = false;
-    let mut memory = false;
+    let mut next = Next::Ask;
     for number in 0..work.turns {
         let member = member_at(worker, number, work.members);
-        let (back, end) = take_turn(rt, work, pass, member, &mut tally);
-        pass = back;
-        if let Some(end) = end {
-            full = end == End::Full;
-            memory = end == End::Memory;
+        (pass, next) = take_turn(rt, work, pass, member, next, &mut tally);
+        if next != Next::Ask && next != Next::GoOn {
             break;
         }
     }
@@ -90,8 +90,8 @@ pub(crate) fn take_turns<B: Behaviour, G: Gate, C: Ledger, U: Ledger, R: Wait>(
         tally,
         pass,
         started: true,
-        full,
-        memory,
+        full: next == Next::Full,
+        memory: next == Next::Memory,
     }
 }
 
@@ -104,53 +104,57 @@ fn member_at(worker: u8, number: u32, members: u8) -> Member
     Member::new(place as u8).unwrap()
 }
 
-/// One turn of a worker.
+/// One turn of a worker, which begins with its question unless the turn before has asked it.
 fn take_turn<B: Behaviour, G: Gate, C: Ledger, U: Ledger, R: Wait>(
     rt: &R,
     work: &Work<B, G, C, U>,
     pass: Pass,
     member: Member,
+    asked: Next,
     mine: &mut Tally<C, U>,
-) -> (Pass, Option<End>)
+) -> (Pass, Next)
     requires pass { pass ≡ work.now.claims.now }
     requires member { member < work.now.members }
     ensures pass { result.0 ≡ work.now.claims.now }
     ensures undone { length work.now.plan.now ≡ 0 → mine.new.undone ≡ mine.old.undone }
 {
-    if hold(rt, work.shared).is_over() {
-        return (pass, Some(End::Over));
+    if asked == Next::Ask && hold(rt, work.shared).is_over() {
+        return (pass, Next::Over);
     }
     match work.claims.try_claim(pass, member) {
         Ok(claim) => {
-            let end = step(rt, work, member, mine);
-            (work.claims.release(claim), end)
+            let next = step(rt, work, member, mine);
+            (work.claims.release(claim), next)
         }
         Err(pass) => {
             thread::yield_now();
-            (pass, None)
+            (pass, Next::Ask)
         }
     }
 }
 
 /// Takes a message for a member that is claimed, if there is one, and makes and commits the step: the first and the last
-/// in a hold of the lock each, and the step with no lock held.
+/// in a hold of the lock each, and the step with no lock held. The next turn's question is asked in the hold of the commit.
 fn step<B: Behaviour, G: Gate, C: Ledger, U: Ledger, R: Wait>(
     rt: &R,
     work: &Work<B, G, C, U>,
     member: Member,
     mine: &mut Tally<C, U>,
-) -> Option<End>
+) -> Next
     ensures undone { length work.now.plan.now ≡ 0 → mine.new.undone ≡ mine.old.undone }
 {
-    let ticket = hold(rt, work.shared).take_first(member)?;
+    let Some(ticket) = hold(rt, work.shared).take_first(member) else {
+        return Next::Ask;
+    };
     work.gate.pass(member);
     let done = run_step::<B>(ticket);
-    let outcome = hold(rt, work.shared).commit_planned(&done, work.plan, mine);
-    match outcome {
-        Err(StepRefusal::Commit(CommitRefusal::Full)) => Some(End::Full),
+    let mut group = hold(rt, work.shared);
+    match group.commit_planned(&done, work.plan, mine) {
+        Err(StepRefusal::Commit(CommitRefusal::Full)) => Next::Full,
         Err(
             StepRefusal::Commit(CommitRefusal::Memory) | StepRefusal::Crash(CrashRefusal::Memory),
-        ) => { Some(End::Memory) }
-        _ => None,
+        ) => Next::Memory,
+        _ if group.is_over() => Next::Over,
+        _ => Next::GoOn,
     }
 }
