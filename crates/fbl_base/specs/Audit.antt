@@ -1,4 +1,5 @@
--- What an audit says of a dump.
+-- What an audit says of a dump. That a receipt is lost where no member that is left has its determinant, and that a member
+-- that depends on a lost receipt is an orphan, is Alvisi and Marzullo (1998).
 use Rattle.std.specs.Prelude.{◌≡◌, Some, slice_get, ℕ, ◌<◌, Bool, false, not, ◌==◌, ◌&&◌, List}
 use Rattle.std.specs.List.{Contains, list_any, filter, filter_map}
 use Rattle.std.specs.Ordering.{nat_cmp}
@@ -44,12 +45,13 @@ abbrev pub IsOrphan : Parts → ℕ → Type 0
 IsOrphan dump member =
     (set.contains dump.strike member ≡ false) × ((e : Mark) × IsLost dump e × Depends dump.events member e)
 
--- the pair at the place has a member of the group and the determinant of a receipt
+-- the pair at the place, if there is one, has a member of the group and the determinant of a receipt of the trace, and is
+-- among the first 131,072
 abbrev pub HeldAt : Parts → ℕ → Type 0
 HeldAt dump i =
     (h : ℕ × Determinant) → slice_get dump.held i ≡ Some h → (i < 131072) × (h.0 < dump.members) × Has dump.events (receipt_of h.1)
 
--- the rules of a dump
+-- the rules of a dump: its parameters are allowed, its trace is well formed, and each pair and the strike set fit them
 pub record IsDump (dump : Parts) : Type 0 where
   pub members : MembersAllowed dump.members
   pub f : FAllowed dump.members dump.f
@@ -61,7 +63,7 @@ pub record IsDump (dump : Parts) : Type 0 where
 abbrev pub IsFirstBreach : (ℕ → Type 0) → ℕ → Type 0
 IsFirstBreach P place = ((i : ℕ) → i < place → P i) × ¬ (P place)
 
--- the refusal is the first that fits
+-- the refusal is the first that fits; memory may be wanting whether or not another fits
 abbrev pub RefusesDump : Parts → DumpRefusal → Type 0
 RefusesDump dump BadMembers = ¬ (MembersAllowed dump.members)
 RefusesDump dump BadF = MembersAllowed dump.members × ¬ (FAllowed dump.members dump.f)

@@ -42,8 +42,8 @@ NoSurvivorIsOrphan =
     (next : Next) (old new : GroupRecord) (struck : Members) (m : ℕ)
     → IsSound next old → IsStrike old new struck → set.len new.down ≤ old.config.f → ¬ (IsOrphan (knowledge new) m)
 
--- whichever members are struck, at most f with those that are down: what another member depends on, another member has
--- in its table
+-- whichever members are struck, at most f with those that are down: what a member depends on that is not among these, the
+-- table of such a member has
 abbrev pub SurvivorsHold : Type 0
 SurvivorsHold =
     (next : Next) (r : GroupRecord) (struck : Members) (m : ℕ) (d : Determinant)

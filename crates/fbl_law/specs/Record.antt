@@ -77,7 +77,7 @@ IsHolder r d m = Holds r d m ⊎ (IsDown r m × IsRecorded r d)
 abbrev pub IsStable : ℕ → Record → Determinant → Type 0
 IsStable f r d = (s : Members) × (f < set.len s) × ((m : ℕ) → Includes s m → IsHolder r d m)
 
--- the entry is of a receipt of the trace, and each member known to it is a holder
+-- the entry is of a receipt of the trace, and each member that it knows to hold it is a holder
 abbrev pub IsTrueEntry : Record → Entry → Type 0
 IsTrueEntry r e = Has r.trace (receipt_of e.det) × ((m : ℕ) → Includes e.known m → IsHolder r e.det m)
 

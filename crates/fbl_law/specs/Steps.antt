@@ -1,4 +1,6 @@
--- The steps of a record: a delivery, a strike, a checkpoint, a recovery.
+-- The steps of what a group knows: a delivery, a strike, a checkpoint, a recovery. That determinants ride on messages until
+-- more than f members are known to hold them is family-based logging (Alvisi, Hoppe and Marzullo 1993); checkpoints, and
+-- recovery from them by replay, are those of Elnozahy and others (2002).
 use Rattle.std.specs.Prelude.{◌≡◌, ◌≢◌, ℕ, zero, suc, ◌⊎◌, ◌↔◌, ◌==◌, ◌&&◌, Bool, true, Some, List, [], ◌∷◌, ◌++◌, length, map, drop, slice_get, slice_index_or, if◌then◌else◌}
 use Rattle.std.specs.List.{Contains, filter}
 use Rattle.std.specs.FinSet as set
@@ -92,7 +94,7 @@ UpTo trace a b = (a ≡ b) ⊎ Earlier trace a b
 abbrev pub Stays : Record → Mark → Type 0
 Stays r e = IsDown r (member_of e) → (c : Determinant) → c.to ≡ member_of e → UpTo r.trace (receipt_of c) e → IsRecorded r c
 
--- the second trace is the first one without the events that don't stay
+-- the second trace is the first one without the events of it that aren't kept
 abbrev pub IsCut : (Mark → Type 0) → List Mark → List Mark → Type 0
 IsCut Kept old new = (keep : Mark → Bool) × (new ≡ filter keep old) × ((e : Mark) → Has old e → (keep e ≡ true) ↔ Kept e)
 
