@@ -1,5 +1,4 @@
--- What an audit says of a dump. That a receipt is lost where no member that is left has its determinant, and that a member
--- that depends on a lost receipt is an orphan, is Alvisi and Marzullo (1998).
+-- What an audit says of a dump.
 use Rattle.std.specs.Prelude.{◌≡◌, Some, slice_get, ℕ, ◌<◌, Bool, false, not, ◌==◌, ◌&&◌, List}
 use Rattle.std.specs.List.{Contains, list_any, filter, filter_map}
 use Rattle.std.specs.Ordering.{nat_cmp}
@@ -23,7 +22,8 @@ pub record Parts : Type 0 where
   pub held : List (ℕ × Determinant)
   pub strike : set.FinSet nat_cmp
 
--- a member outside the strike set holds the determinant
+-- a member outside the strike set holds the determinant: some member of Log is left (Alvisi and Marzullo 1998, as lost
+-- receipts and orphans are)
 abbrev pub Recorded : Parts → Determinant → Type 0
 Recorded dump d = (holder : ℕ) × Contains dump.held (holder, d) × (set.contains dump.strike holder ≡ false)
 
@@ -45,8 +45,7 @@ abbrev pub IsOrphan : Parts → ℕ → Type 0
 IsOrphan dump member =
     (set.contains dump.strike member ≡ false) × ((e : Mark) × IsLost dump e × Depends dump.events member e)
 
--- the pair at the place, if there is one, has a member of the group and the determinant of a receipt of the trace, and is
--- among the first 131,072
+-- the pair at the place has a member of the group and the determinant of a receipt
 abbrev pub HeldAt : Parts → ℕ → Type 0
 HeldAt dump i =
     (h : ℕ × Determinant) → slice_get dump.held i ≡ Some h → (i < 131072) × (h.0 < dump.members) × Has dump.events (receipt_of h.1)
