@@ -1,5 +1,3 @@
-//! Sets of members, sixteen bits each.
-
 ghost use Rattle.std.specs.Prelude.{◌≡◌, ◌<◌, ◌≤◌, ◌↔◌, ℕ, IsTrue, true, ◌&&◌, not};
 ghost use Rattle.std.specs.FinSet as set;
 ghost use Rattle.fbl_base.specs.MemberSets.{AllBelow};

@@ -1,5 +1,3 @@
-//! Why a dump is refused.
-
 use thiserror::Error;
 
 /// Why a dump is refused. The refusals are tested in this order, but for want of memory, which may come at any time.

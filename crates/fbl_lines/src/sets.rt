@@ -1,5 +1,3 @@
-//! Sets of members as they are printed.
-
 ghost use Rattle.std.specs.Prelude.{◌≡◌, ◌++◌, ◌≤◌, IfOk, OnOk, string_bytes};
 ghost use Rattle.fbl_lines.specs.Sets.{after_commas, listed, member_list, set_words};
 
