@@ -21,8 +21,7 @@ use std::alloc::{AllocError, Allocator};
 
 impl<B: Behaviour, A: Allocator + Copy> Group<B, A> {
     /// Delivers to one member the front of its channel from another. The member takes in what the message carries, notes
-    /// the receipt's determinant and makes the behaviour's step, whose messages go to the ends of their channels. After a
-    /// refusal the group is unchanged.
+    /// the receipt's determinant and makes the behaviour's step, whose messages go to the ends of their channels.
     pub fn deliver(&mut self, to: Member, from: Member) -> Result<Receipted, DeliverRefusal>
         ensures delivered { IfOk result (λ answer. (deliver_refusal B.next self.old to from ≡ None) × Delivers B.next self.old self.new to from answer) }
         ensures refused { IfErr result (IsDeliverRefusal (deliver_refusal B.next self.old to from)) }
