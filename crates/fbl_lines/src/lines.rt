@@ -1,4 +1,4 @@
-//! The lines of each command, and of an audit.
+//! The lines of each command, and of an audit. Each is a text of its own: `Err` comes only where there is no memory for it.
 
 ghost use Rattle.std.specs.Prelude.{◌≡◌, ◌++◌, IfOk, OnOk, string_bytes};
 ghost use Rattle.std.specs.List.{flat_map};
