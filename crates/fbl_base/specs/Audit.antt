@@ -22,7 +22,8 @@ pub record Parts : Type 0 where
   pub held : List (ℕ × Determinant)
   pub strike : set.FinSet nat_cmp
 
--- a member outside the strike set holds the determinant
+-- a member outside the strike set holds the determinant: some member of Log is left (Alvisi and Marzullo 1998, as lost
+-- receipts and orphans are)
 abbrev pub Recorded : Parts → Determinant → Type 0
 Recorded dump d = (holder : ℕ) × Contains dump.held (holder, d) × (set.contains dump.strike holder ≡ false)
 
@@ -49,7 +50,7 @@ abbrev pub HeldAt : Parts → ℕ → Type 0
 HeldAt dump i =
     (h : ℕ × Determinant) → slice_get dump.held i ≡ Some h → (i < 131072) × (h.0 < dump.members) × Has dump.events (receipt_of h.1)
 
--- the rules of a dump
+-- the rules of a dump: its parameters are allowed, its trace is well formed, and each pair and the strike set fit them
 pub record IsDump (dump : Parts) : Type 0 where
   pub members : MembersAllowed dump.members
   pub f : FAllowed dump.members dump.f
@@ -61,7 +62,7 @@ pub record IsDump (dump : Parts) : Type 0 where
 abbrev pub IsFirstBreach : (ℕ → Type 0) → ℕ → Type 0
 IsFirstBreach P place = ((i : ℕ) → i < place → P i) × ¬ (P place)
 
--- the refusal is the first that fits
+-- the refusal is the first that fits; memory may be wanting whether or not another fits
 abbrev pub RefusesDump : Parts → DumpRefusal → Type 0
 RefusesDump dump BadMembers = ¬ (MembersAllowed dump.members)
 RefusesDump dump BadF = MembersAllowed dump.members × ¬ (FAllowed dump.members dump.f)

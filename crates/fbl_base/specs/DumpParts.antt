@@ -8,9 +8,10 @@ use Rattle.fbl_base.specs.Events.{determinant_of}
 use Rattle.fbl_base.specs.Audit.{Parts}
 use Rattle.fbl_base.specs.Events.{same_determinant}
 
+-- the parts, as contracts see them
 abbrev pub parts_of : {A : Type 0} → RawDump A → Parts
 parts_of raw = record { members = raw.members; f = raw.f; events = raw.events.items; held = raw.held.items; strike = raw.strike }
 
--- whether some receipt has the determinant
+-- whether some receipt among the events has the determinant
 abbrev pub is_received : List Mark → Determinant → Bool
 is_received events d = list_any (λ x. same_determinant x d) (filter_map determinant_of events)

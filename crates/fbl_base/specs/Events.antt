@@ -17,7 +17,7 @@ abbrev pub member_of : Mark → ℕ
 member_of (Send from ssn to) = from
 member_of (Receipt to rsn from ssn) = to
 
--- what names a receipt
+-- what names the event, if it is a receipt
 abbrev pub determinant_of : Mark → Option Determinant
 determinant_of (Send from ssn to) = None
 determinant_of (Receipt to rsn from ssn) = Some (record { from = from; ssn = ssn; to = to; rsn = rsn })
@@ -30,7 +30,7 @@ receipt_of d = Receipt d.to d.rsn d.from d.ssn
 abbrev pub same_determinant : Determinant → Determinant → Bool
 same_determinant a b = (a.from == b.from) && ((a.ssn == b.ssn) && ((a.to == b.to) && (a.rsn == b.rsn)))
 
--- the send whose message a receipt takes
+-- the send whose message the event takes, if it is a receipt
 abbrev pub send_of : Mark → Option Mark
 send_of (Send from ssn to) = None
 send_of (Receipt to rsn from ssn) = Some (Send from ssn to)

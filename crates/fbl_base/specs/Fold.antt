@@ -10,7 +10,7 @@ use Rattle.fbl_base.specs.declared.outcome.Outcome.{Outcome}
 use Rattle.fbl_base.specs.Events.{mark_of}
 use Rattle.fbl_base.specs.Rules.{WellFormed}
 
--- a message in a member's log
+-- a message in a member's log: its number, where it went, its content
 pub record Logged : Type 0 where
   pub ssn : ℕ
   pub to : ℕ
@@ -31,7 +31,7 @@ numbered before (s ∷ sends) = record { ssn = before + 1; to = s.0; note = s.1 
 abbrev pub starts_of : ℕ → List Start → List (ℕ × Note)
 starts_of member starts = filter_map (λ s. if s.from == member then Some (s.to, s.note) else None) starts
 
--- a member that has received nothing
+-- a member that has received nothing, and has sent its starts
 abbrev pub begun : ℕ → List Start → Progress
 begun member starts = record { state = 0; received = 0; log = numbered 0 (starts_of member starts) }
 
@@ -52,7 +52,7 @@ advanced next member n p note = stepped p (next member n p.state note)
 abbrev pub after_notes : Next → ℕ → ℕ → List Start → List Note → Progress
 after_notes next member n starts notes = fold (advanced next member n) (begun member starts) notes
 
--- the note of a message, where it was sent
+-- the note of the message with this number of a sender: that of its first such send in the trace, if there is one
 abbrev pub note_of : List Event → ℕ → ℕ → Option Note
 note_of [] from ssn = None
 note_of (Send from' ssn' to note ∷ rest) from ssn = if from' == from && ssn' == ssn then Some note else note_of rest from ssn
@@ -63,7 +63,8 @@ pub data Action : Type 0 where
   took : Note → Action
   sent : ℕ × Note → Action
 
--- what an event is to the member, if it is the member's
+-- what an event is to the member, if it is the member's: a send of its note, or the taking of the note with which the
+-- trace has the message sent
 abbrev pub action_of : List Event → ℕ → Event → Option Action
 action_of trace member (Send from ssn to note) = if from == member then Some (sent (to, note)) else None
 action_of trace member (Receipt to rsn from ssn) = if to == member then took_option (note_of trace from ssn) else None where
@@ -97,7 +98,7 @@ abbrev pub step_events : ℕ → ℕ → List (ℕ × Note) → List Event
 step_events member before [] = []
 step_events member before (s ∷ sends) = Send member (before + 1) s.0 s.1 ∷ step_events member (before + 1) sends
 
--- the send as a start
+-- the send as a start, without its number
 abbrev pub start_of : Event → Option Start
 start_of (Send from ssn to note) = Some (record { from = from; to = to; note = note })
 start_of (Receipt to rsn from ssn) = None

@@ -13,35 +13,38 @@ use Rattle.fbl_base.specs.Precedence.{Has, Precedes, Depends}
 use Rattle.fbl_base.specs.Places as places
 use Rattle.fbl_base.specs.Fold.{Next, Lawful, actions_of, notes_of, note_of, state_after, step_events}
 
--- what precedes an appended receipt: itself, what its member depended on, and what precedes its send
+-- what precedes an appended receipt, which the trace did not have: itself, what its member depended on, and what precedes
+-- its send
 abbrev pub ReceiptLaw : Type 0
 ReceiptLaw =
     (t : List Mark) (to rsn from ssn : ℕ) (a : Mark)
     → ¬ (Has t (Receipt to rsn from ssn))
     → Precedes (t ++ Receipt to rsn from ssn ∷ []) a (Receipt to rsn from ssn) ↔ (a ≡ Receipt to rsn from ssn) ⊎ Depends t to a ⊎ Precedes t a (Send from ssn to)
 
--- who depends on an event after one more: who did before, and the member of the new one where it is preceded by it
+-- who depends on an event after one more, new one: who did before, and the member of the new one where the event
+-- precedes that
 abbrev pub DependsLaw : Type 0
 DependsLaw =
     (t : List Mark) (e : Mark) (member : ℕ) (a : Mark)
     → ¬ (Has t e)
     → Depends (t ++ e ∷ []) member a ↔ Depends t member a ⊎ ((member_of e ≡ member) × Precedes (t ++ e ∷ []) a e)
 
--- precedence between events is precedence between their places
+-- on a well-formed trace precedence between events is precedence between their places
 abbrev pub PlacesLaw : Type 0
 PlacesLaw =
     (n : ℕ) (t : List Mark) → WellFormed n t
     → (i j : ℕ) (a b : Mark) → At t i a → At t j b
     → Precedes t a b ↔ places.Precedes t i j
 
--- a member depends on an event exactly where it depends on the event's place
+-- on a well-formed trace a member depends on an event exactly where it depends on the event's place
 abbrev pub DependsOnPlacesLaw : Type 0
 DependsOnPlacesLaw =
     (n : ℕ) (t : List Mark) → WellFormed n t
     → (member i : ℕ) (a : Mark) → At t i a
     → Depends t member a ↔ places.Depends t member i
 
--- a delivery keeps a trace lawful
+-- a delivery keeps a trace lawful: the receipt may come next, what follows it are the sends that the behaviour answers to
+-- the message's note at the receiver's state, numbered on from the receiver's earlier sends, and there is room
 abbrev pub DeliveryLaw : Type 0
 DeliveryLaw =
     (next : Next) (n : ℕ) (starts : List Start) (t : List Event) (to rsn from ssn : ℕ) (note : Note) (sends : List (ℕ × Note))

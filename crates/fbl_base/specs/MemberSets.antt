@@ -62,6 +62,6 @@ len-flagged (flag ∷ flags) k =
       | false ↦ rw (len-flagged flags (suc k)) omega arith
     ]
 
--- two sets of flags
+-- two sets with the same members are equal
 pub same_from_contains : (s t : set.FinSet nat_cmp) → ((q : ℕ) → set.contains s q ≡ set.contains t q) → s ≡ t
 same_from_contains s t same = set.same_set nat_cmp_total set.nat_cmp-IsAntisymmetric s t same

@@ -1,3 +1,5 @@
+//! The parameters of a group.
+
 ghost use Rattle.std.specs.Prelude.{◌≡◌, ◌↔◌, IsTrue, IfOk, IfErr, MatchResult, length};
 ghost use Rattle.fbl_base.specs.Configs.{IsConfig, RefusesConfig};
 

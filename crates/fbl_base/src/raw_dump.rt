@@ -1,3 +1,5 @@
+//! Dumps that are not checked yet.
+
 use crate::member::Member;
 use crate::member_set::MemberSet;
 use crate::trace::{Determinant, Mark};

@@ -1,3 +1,6 @@
+//! The rules of events, checked in one pass: how many sends and receipts each member has had, and what is in flight on each
+//! channel.
+
 ghost use Rattle.std.specs.Prelude.{◌≡◌, ◌↔◌, ◌<◌, ◌≤◌, ◌+◌, ◌*◌, ◌++◌, ◌∷◌, [], ℕ, IsTrue, IfOk, OnOk, length, take, drop, slice_get, slice_index, vec_len};
 ghost use Rattle.fbl_base.specs.Counted.{Counted, SendFits, ReceiptFits};
 ghost use Rattle.fbl_base.specs.Rules.{ObeysAt, WellFormed};

@@ -17,7 +17,8 @@ messages_at s r =
     sum_below r.config.members (λ q. sum_below r.config.members (λ p. if set.contains s q || set.contains s p then length (channel r q p) else 0))
 
 -- a recovery leads from old to new, and answers how many receipts were replayed (those beyond the checkpoints of the
--- members that were down), how many messages are now in channels with a struck end, and how many receipts the trace lost
+-- members that were down), how many messages are now in channels with an end that was down, and how many receipts the trace
+-- has fewer
 pub record Recovers (next : Next) (old new : GroupRecord) (answer : Recovered) : Type 0 where
   pub recovery : IsRecovery next old new
   pub replayed : answer.replayed ≡ length (filter (is_replayed old) (receipts (marks new)))

@@ -5,7 +5,7 @@
 pub struct Receipted {
     /// The receipt's number, from 1 per receiver.
     pub rsn: u32,
-    /// How many entries the message carried.
+    /// How many entries the message carried, the ones that the receiver had already among them.
     pub carried: u32,
     /// The receiver's new state.
     pub state: u64,
@@ -14,7 +14,8 @@ pub struct Receipted {
 /// A strike.
 #[derive(Clone, Copy, PartialEq, Eq, Debug)]
 pub struct Struck {
-    /// How many receipts of the trace neither a survivor's table nor a checkpoint has.
+    /// How many receipts of the trace neither a survivor's table nor a checkpoint has: those lost by this strike, and by
+    /// strikes before it since the last recovery.
     pub lost: u32,
 }
 
@@ -23,8 +24,8 @@ pub struct Struck {
 pub struct Recovered {
     /// How many receipts the struck members replayed: those beyond their checkpoints.
     pub replayed: u32,
-    /// How many messages are now in channels with a struck end.
+    /// How many messages are now in channels with an end that was struck, all sent again.
     pub resent: u32,
-    /// How many receipts the trace lost.
+    /// How many receipts the trace has fewer: the lost ones.
     pub undone: u32,
 }

@@ -17,7 +17,8 @@ use std::alloc::{AllocError, Allocator};
 impl<B: Behaviour, A: Allocator + Copy> Group<B, A> {
     /// Keeps a copy of the member's record, in the place of its older checkpoint: its state, its counts, its log and its
     /// table. What the checkpoint has recorded is never lost, and a recovery of the member replays only the receipts after
-    /// it. Strikes and recoveries leave it as it is. A member that has received nothing may be checkpointed.
+    /// it. Strikes and recoveries leave it as it is. A member that has received nothing may be checkpointed. After a refusal
+    /// the older checkpoint stands, and nothing has changed.
     pub fn checkpoint(&mut self, member: Member) -> Result<(), CheckpointRefusal>
         ensures taken { OnOk result ((checkpoint_refusal self.old member ≡ None) × IsCheckpoint self.old self.new member) }
         ensures refused { IfErr result (IsCheckpointRefusal (checkpoint_refusal self.old member)) }

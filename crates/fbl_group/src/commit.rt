@@ -45,7 +45,7 @@ impl<B: Behaviour, A: Allocator + Copy> Group<B, A> {
     }
 
     /// Does what the delivery of the ticket's message does, with a step that was made apart from the record. After a
-    /// refusal the step may be committed again.
+    /// refusal the group is unchanged, and the step may be committed again.
     pub fn commit(&mut self, done: &Done<B>) -> Result<Receipted, CommitRefusal>
         ensures delivered { IfOk result (λ answer. (commit_refusal B.next self.old done.now.ticket ≡ None) × Delivers B.next self.old self.new done.now.ticket.to done.now.ticket.from answer) }
         ensures refused { IfErr result (IsCommitRefusal (commit_refusal B.next self.old done.now.ticket)) }

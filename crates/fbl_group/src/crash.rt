@@ -12,7 +12,8 @@ use fbl_base::{Behaviour, MemberSet};
 use std::alloc::Allocator;
 
 impl<B: Behaviour, A: Allocator + Copy> Group<B, A> {
-    /// Strikes the members named, and recovers all that are down then.
+    /// Strikes the members named, and recovers all that are down then. After a refusal of the strike the group is unchanged;
+    /// after `Memory` it is as the strike leaves it, and `recover` may be called.
     pub fn crash(&mut self, set: MemberSet) -> Result<(Struck, Recovered), CrashRefusal>
         ensures crashed { IfOk result (λ answer. (strike_refusal self.old set ≡ None) × Crashes B.next self.old self.new set answer.0 answer.1) }
         ensures holders { OnOk result (KeepsHolders self.old self.new) }

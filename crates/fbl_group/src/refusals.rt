@@ -2,7 +2,7 @@
 
 use thiserror::Error;
 
-/// Why a message is not delivered. The refusals are tested in this order.
+/// Why a message is not delivered. The refusals are tested in this order, and nothing has changed then.
 #[derive(Clone, Copy, PartialEq, Eq, Debug, Error)]
 pub enum DeliverRefusal {
     /// The receiver or the sender is not a member of the group.

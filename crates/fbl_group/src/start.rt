@@ -19,8 +19,7 @@ use std::marker::PhantomData;
 
 impl<B: Behaviour, A: Allocator + Copy> Group<B, A> {
     /// A group of these parameters in which the starts are sent and nothing is received yet. Each member's first checkpoint
-    /// is its fresh record. Where memory is wanting the
-    /// configuration is dropped.
+    /// is its fresh record. `Err` comes only where there is no memory for the group; the configuration is dropped then.
     pub fn new(alloc: A, config: Config<A>) -> Result<Group<B, A>, AllocError>
         ensures { IfOk result (λ g. IsGroupStart config g) }
     {

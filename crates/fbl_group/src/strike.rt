@@ -22,7 +22,7 @@ impl<B: Behaviour, A: Allocator + Copy> Group<B, A> {
     /// Strikes the members named: they lose what they kept in memory, and each message in flight from them or to them is
     /// lost. They are down, beside those that were down before, until the group is recovered. A member that is down may be
     /// named again. Checkpoints stay. The answer counts all receipts that are lost then: those that neither the table of a
-    /// survivor nor a checkpoint has. It takes no memory.
+    /// survivor nor a checkpoint has. It takes no memory. After a refusal the group is unchanged.
     pub fn strike(&mut self, set: MemberSet) -> Result<Struck, StrikeRefusal>
         ensures struck { IfOk result (λ answer. (strike_refusal self.old set ≡ None) × Strikes self.old self.new set answer) }
         ensures refused { IfErr result (λ refusal. strike_refusal self.old set ≡ Some refusal) }

@@ -29,7 +29,7 @@ message_of (Send from ssn to note) = Some (record { from = from; to = to; ssn = 
 message_of (Receipt to rsn from ssn) = None
 
 -- a group in which nothing is received yet: its trace has the starts' sends, their messages are in their channels and
--- carry nothing, and each member and its checkpoint are fresh
+-- carry nothing, each member and its checkpoint are fresh, nobody is down, and the counters are 0
 pub record IsGroupStart (config : Settings) (new : GroupRecord) : Type 0 where
   pub parameters : new.config ≡ config
   pub trace : new.trace ≡ start_events [] config.starts
@@ -61,9 +61,9 @@ abbrev pub delivery_events : Next → GroupRecord → Message → List Event
 delivery_events next r v =
     Receipt v.to ((member r v.to).received + 1) v.from v.ssn ∷ step_events v.to (length (member r v.to).log) (step_of next r v).sends.items
 
--- the delivery of the message v leads from old to new: v is the front of its channel and is taken off it, the trace gets
--- the receipt and exactly its step's sends, the messages made go to the ends of their channels, the receiver moves on,
--- the counter of receipts rises by one, and nothing else changes
+-- the delivery of the message v leads from old to new: nobody is down, v is the front of its channel and is taken off it,
+-- the trace gets the receipt and exactly its step's sends and stays within the limit, the messages made go to the ends of
+-- their channels, the receiver moves on, the counter of receipts rises by one, and nothing else changes
 pub record IsDelivery (next : Next) (old new : GroupRecord) (v : Message) : Type 0 where
   pub nobody_down : old.down ≡ set.empty
   pub front : slice_get (channel old v.from v.to) 0 ≡ Some v
@@ -114,7 +114,7 @@ pub record IsMadeAgain (r : GroupRecord) (q p : ℕ) : Type 0 where
 -- receipt and all its later events; survivors and the channels between them stay; each member that was down is at the
 -- fold of its receipts that are left, with a table that gathers the survivors' tables and those of the checkpoints of the
 -- members that were down and counts these as holders; each channel with such an end is made again; the counter of undone
--- receipts rises by the receipts that the trace lost; and the checkpoints stay
+-- receipts rises by as many as the trace has fewer; and the configuration, the counter of receipts and the checkpoints stay
 pub record IsRecovery (next : Next) (old new : GroupRecord) : Type 0 where
   pub nobody_down : new.down ≡ set.empty
   pub trace : IsEventCut (Stays (knowledge old)) old.trace new.trace

@@ -21,14 +21,15 @@ IsHeldBy r d m = is_held (member r m).table d ≡ true
 abbrev pub IsHeldByMore : GroupRecord → Determinant → Type 0
 IsHeldByMore r d = (holders : Members) × (r.config.f < set.len holders) × ((m : ℕ) → Includes holders m → IsHeldBy r d m)
 
--- where nobody is down, each receipt of the trace is held by more than f members or by each member that depends on it
+-- in a sound group where nobody is down, each receipt of the trace is held by more than f members or by each member that
+-- depends on it
 abbrev pub EachReceiptIsHeld : Type 0
 EachReceiptIsHeld =
     (next : Next) (r : GroupRecord) (d : Determinant)
     → IsSound next r → r.down ≡ set.empty → Has (marks r) (receipt_of d)
     → IsHeldByMore r d ⊎ ((m : ℕ) → Depends (marks r) m (receipt_of d) → IsHeldBy r d m)
 
--- whoever is down, each receipt has more than f holders or is held by each up member that depends on it
+-- in a sound group, whoever is down, each receipt has more than f holders or is held by each up member that depends on it
 abbrev pub SoundIsAlwaysHeld : Type 0
 SoundIsAlwaysHeld = (next : Next) (r : GroupRecord) → IsSound next r → IsAlwaysHeld r.config.f (knowledge r)
 
@@ -42,8 +43,8 @@ NoSurvivorIsOrphan =
     (next : Next) (old new : GroupRecord) (struck : Members) (m : ℕ)
     → IsSound next old → IsStrike old new struck → set.len new.down ≤ old.config.f → ¬ (IsOrphan (knowledge new) m)
 
--- whichever members are struck, at most f with those that are down: what another member depends on, another member has
--- in its table
+-- whichever members are struck, at most f with those that are down: what a member depends on that is not among these, the
+-- table of such a member has
 abbrev pub SurvivorsHold : Type 0
 SurvivorsHold =
     (next : Next) (r : GroupRecord) (struck : Members) (m : ℕ) (d : Determinant)

@@ -29,12 +29,13 @@ abbrev pub RecordedFromBelow : Type 0
 RecordedFromBelow =
     (f : ℕ) (r : Record) → IsClosed f r → (c d : Determinant) → IsRecorded r d → Precedes r.trace (receipt_of c) (receipt_of d) → IsRecorded r c
 
--- the recorded receipts of a member are its first ones
+-- the recorded receipts of a member are its first ones: one that comes earlier than a recorded one is recorded
 abbrev pub RecordedFirst : Type 0
 RecordedFirst =
     (f : ℕ) (r : Record) → IsClosed f r → (c d : Determinant) → c.to ≡ d.to → Earlier r.trace (receipt_of c) (receipt_of d) → IsRecorded r d → IsRecorded r c
 
--- whichever members were struck, at most f in all: what another member depends on, another member has in its table
+-- whichever members were struck, at most f with those that are down: what a member depends on that is not among these, the
+-- table of such a member has
 abbrev pub SurvivorsRecord : Type 0
 SurvivorsRecord =
     (n f : ℕ) (r : Record) (struck : Members) → IsSoundKnowledge n f r → set.len (set.union r.down struck) ≤ f
@@ -83,7 +84,7 @@ CutIsLawful =
     → IsSoundKnowledge n f r → r.trace ≡ map mark_of old → IsEventCut (Stays r) old new → Lawful next n starts old
     → Lawful next n starts new × IsCut (Stays r) r.trace (map mark_of new)
 
--- where replay can go on nowhere, each receipt is replayed
+-- where replay can go on nowhere in a well-formed trace, each receipt is replayed
 abbrev pub NeverStuck : Type 0
 NeverStuck = (n : ℕ) (t : List Mark) (done : ℕ → ℕ) → WellFormed n t → IsStuck t done → (d : Determinant) → Has t (receipt_of d) → d.rsn ≤ done d.to
 

@@ -77,7 +77,7 @@ IsHolder r d m = Holds r d m ⊎ (IsDown r m × IsRecorded r d)
 abbrev pub IsStable : ℕ → Record → Determinant → Type 0
 IsStable f r d = (s : Members) × (f < set.len s) × ((m : ℕ) → Includes s m → IsHolder r d m)
 
--- the entry is of a receipt of the trace, and each member known to it is a holder
+-- the entry is of a receipt of the trace, and each member that it knows to hold it is a holder
 abbrev pub IsTrueEntry : Record → Entry → Type 0
 IsTrueEntry r e = Has r.trace (receipt_of e.det) × ((m : ℕ) → Includes e.known m → IsHolder r e.det m)
 
@@ -134,7 +134,9 @@ pub record IsCheckpointKept (r : Record) (m : ℕ) : Type 0 where
   pub sends : length (checkpoint r m).log ≤ sends_of r.trace m
   pub table : (d : Determinant) → IsUp r m → Names (checkpoint r m).table d → Names (table r m) d
 
--- what holds of what the tables of a group of n members know, between two calls
+-- what holds of what a group of n members knows, between two calls: its trace is well formed, knowledge is true and closed,
+-- the channels between members that are up have what the trace has in flight, at most f members are down and have nothing,
+-- and checkpoints are kept
 pub record IsSoundKnowledge (n f : ℕ) (r : Record) : Type 0 where
   pub rules : WellFormed n r.trace
   pub truth : KnowsTruth r

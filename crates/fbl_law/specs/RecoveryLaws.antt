@@ -32,18 +32,19 @@ RecoveryLeavesRecorded =
     (next : Next) (old new : GroupRecord)
     → IsRecovery next old new → IsSound next old → receipts (marks new) ≡ filter (is_recorded old) (receipts (marks old))
 
--- and it undoes the others
+-- and it undoes the others: the receipts left and the lost ones are as many as there were
 abbrev pub RecoveryUndoesLost : Type 0
 RecoveryUndoesLost =
     (next : Next) (old new : GroupRecord)
     → IsRecovery next old new → IsSound next old
     → length (receipts (marks new)) + length (filter (λ d. not (is_recorded old d)) (receipts (marks old))) ≡ length (receipts (marks old))
 
--- one pass over the trace computes the cut, and there is no other
+-- one pass over the trace computes the cut
 abbrev pub OnePassCuts : Type 0
 OnePassCuts =
     (next : Next) (old : GroupRecord) → IsSound next old → IsEventCut (Stays (knowledge old)) old.trace (recovered_trace old)
 
+-- and a recovery leaves no other trace
 abbrev pub CutIsOne : Type 0
 CutIsOne =
     (next : Next) (old new : GroupRecord) → IsRecovery next old new → IsSound next old → new.trace ≡ recovered_trace old

@@ -92,8 +92,9 @@ IsWaiting r rebuilt p =
 abbrev pub replayed_in : GroupRecord → List MemberRecord → ℕ
 replayed_in r rebuilt = count_in r.down (λ p. (slice_index_or rebuilt p blank).received - (checkpoint r p).received) r.config.members
 
--- a group after the replay: the trace is cut, survivors and their channels stay, each member that was down has its
--- rebuilt record with the gathered table, and each channel with such an end has what its sender sends again
+-- a group after the replay: nobody is down, the trace is cut, survivors and their channels stay, each member that was down
+-- has its rebuilt record with the gathered table, each channel with such an end has what its sender sends again, the counter
+-- of undone receipts rises by as many as the trace has fewer, and all else stays
 pub record IsRebuilt (old new : GroupRecord) (replayed : List MemberRecord) : Type 0 where
   pub nobody_down : new.down ≡ set.empty
   pub trace : new.trace ≡ recovered_trace old

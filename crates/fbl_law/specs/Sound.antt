@@ -45,10 +45,11 @@ pub record IsReplayed (next : Next) (n : ℕ) (starts : List Start) (trace : Lis
   pub places : length m.last ≡ 16
   pub last : (q : ℕ) → q < 16 → last_from m q ≡ last_among (take m.received (receipts_at (map mark_of trace) p)) q
 
--- a group's record is sound: its trace is lawful and within its limit, each up member is at the fold of its receipts and
--- each down member is blank, each checkpoint is at the fold of its member's first receipts, what the tables know is true
--- and closed, there are channels from each member to each, which have exactly the messages not yet received, each with
--- the note with which it was sent, at most f members are down, and the counters agree with the trace
+-- a group's record is sound: its parameters are allowed, each member has a record and a checkpoint, only members are
+-- down, its trace is lawful and within its limit, each up member is at the fold of its receipts and each down member is
+-- blank, each checkpoint is at the fold of its member's first receipts, what the tables know is true and closed, there
+-- are channels from each member to each, which have exactly the messages not yet received, each with the note with
+-- which it was sent, at most f members are down, and the counters agree with the trace
 pub record IsSound (next : Next) (r : GroupRecord) : Type 0 where
   pub config : IsConfig r.config
   pub members : length r.members ≡ r.config.members

@@ -1,4 +1,6 @@
--- The steps of a record: a delivery, a strike, a checkpoint, a recovery.
+-- The steps of what a group knows: a delivery, a strike, a checkpoint, a recovery. That determinants ride on messages until
+-- more than f members are known to hold them is family-based logging (Alvisi, Hoppe and Marzullo 1993); checkpoints, and
+-- recovery from them by replay, are those of Elnozahy and others (2002).
 use Rattle.std.specs.Prelude.{◌≡◌, ◌≢◌, ℕ, zero, suc, ◌⊎◌, ◌↔◌, ◌==◌, ◌&&◌, Bool, true, Some, List, [], ◌∷◌, ◌++◌, length, map, drop, slice_get, slice_index_or, if◌then◌else◌}
 use Rattle.std.specs.List.{Contains, filter}
 use Rattle.std.specs.FinSet as set
@@ -46,8 +48,10 @@ between q p made = filter (is_on q p) made
 abbrev pub taken_off : Message → ℕ → ℕ → List Message → List Message
 taken_off v q p channel = if v.from == q && v.to == p then drop 1 channel else channel
 
--- what the delivery of the message v leaves, where the step makes these messages: v is off its channel, the receiver
--- has learned what v carried and noted its receipt, and the messages made carry what the receiver then passes on
+-- what the delivery of the message v leaves, where nobody is down and the step makes these messages: v, the front of its
+-- channel, is taken off, the trace has the receipt and the sends made and is well formed, the receiver has learned what v
+-- carried and noted its receipt, the messages made are its own, carry what it then passes on and go to the ends of their
+-- channels, and the other tables and the checkpoints stay
 pub record IsDelivered (n f : ℕ) (old new : Record) (v : Message) (rsn : ℕ) (made : List Message) : Type 0 where
   pub nobody_down : old.down ≡ set.empty
   pub down : new.down ≡ set.empty
@@ -60,8 +64,8 @@ pub record IsDelivered (n f : ℕ) (old new : Record) (v : Message) (rsn : ℕ) 
   pub channels : (q p : ℕ) → new.channel q p ≡ taken_off v q p (old.channel q p) ++ between q p made
   pub checkpoints : new.checkpoints ≡ old.checkpoints
 
--- what a strike leaves: the members named are down beside those that were, what they held and what was in flight from
--- them or to them is gone, and the checkpoints stay
+-- what a strike leaves: the members named are down beside those that were, what those that are down held and what was in
+-- flight from them or to them is gone, and the trace, the other tables and channels and the checkpoints stay
 pub record IsStruck (old new : Record) (struck : Members) : Type 0 where
   pub down : new.down ≡ set.union old.down struck
   pub trace : new.trace ≡ old.trace
@@ -71,8 +75,8 @@ pub record IsStruck (old new : Record) (struck : Members) : Type 0 where
   pub emptied : (q p : ℕ) → IsDown new q ⊎ IsDown new p → new.channel q p ≡ []
   pub checkpoints : new.checkpoints ≡ old.checkpoints
 
--- what a checkpoint of the member p leaves: its table and how far it has come are kept, in the place of its older
--- checkpoint, and nothing else changes
+-- what a checkpoint of the member p leaves, where nobody is down: its table and how far it has come are kept, in the place
+-- of its older checkpoint, and nothing else changes
 pub record IsCheckpointed (old new : Record) (p : ℕ) : Type 0 where
   pub nobody_down : old.down ≡ set.empty
   pub down : new.down ≡ old.down
@@ -92,7 +96,7 @@ UpTo trace a b = (a ≡ b) ⊎ Earlier trace a b
 abbrev pub Stays : Record → Mark → Type 0
 Stays r e = IsDown r (member_of e) → (c : Determinant) → c.to ≡ member_of e → UpTo r.trace (receipt_of c) e → IsRecorded r c
 
--- the second trace is the first one without the events that don't stay
+-- the second trace is the first one without the events of it that aren't kept
 abbrev pub IsCut : (Mark → Type 0) → List Mark → List Mark → Type 0
 IsCut Kept old new = (keep : Mark → Bool) × (new ≡ filter keep old) × ((e : Mark) → Has old e → (keep e ≡ true) ↔ Kept e)
 

@@ -1,3 +1,6 @@
+//! What keeps a group's record sound: a start, a delivery, a strike, a checkpoint; and what is recorded in a sound group. A
+//! recovery is in `recovery_laws`. Each is the contract of a function that does nothing, so that the check of the crate proves it.
+
 ghost use Rattle.fbl_law.specs.GroupLaws.{CheckpointIsRecorded, GroupCheckpointKeeps, GroupDeliveryKeeps, GroupStartIsSound, GroupStrikeKeeps, RecordedTest};
 
 /// A group in which nothing is received yet is sound: its trace has the starts alone, so there is no determinant to hold.

@@ -1,3 +1,7 @@
+//! The laws that the promise is made of, of every sound group: the condition of "always no orphans" (Alvisi and Marzullo
+//! 1998), what a strike leaves, and what the audit finds in a dump. Each is the contract of a function that does nothing, so that
+//! the check of the crate proves it.
+
 ghost use Rattle.fbl_law.specs.Dumps.{DumpHasNoOrphan, DumpObeysRules};
 ghost use Rattle.fbl_law.specs.Headline.{EachReceiptIsHeld, NoSurvivorIsOrphan, RecordedIsPrefix, SoundHasNoOrphan, SoundIsAlwaysHeld, SurvivorsHold};
 

@@ -1,3 +1,10 @@
+//! Laws of the whole record as knowledge: that tables name their causes, and what each step and each run keep. Each is the
+//! contract of a function that does nothing, so that the check of the crate proves it.
+//!
+//! Here a *record* is the part of a group's record that causes are about: the trace without notes, the members' tables and
+//! checkpoints, the channels, and who is down. It is *sound* where it is `IsSoundKnowledge`. `group_laws` and
+//! `recovery_laws` speak of the whole record of a group, and the contracts of `fbl_group` stand on those.
+
 ghost use Rattle.fbl_law.specs.Laws.{ClosedIsHeld, ClosedHasNoOrphan, RecordedFromBelow, RecordedFirst, SurvivorsRecord, DeliveryKeeps, StrikeKeeps, CheckpointKeeps, RecoveryKeeps, StaysIsRecorded, CutIsClosed, CutIsRecorded, HoldersStay, CutIsLawful, NeverStuck, RunIsSound, RunIsHeld};
 
 /// Tables that name their causes hold each receipt that isn't stable, so nobody is an orphan, and what is recorded of a

@@ -1,4 +1,5 @@
-//! What a recovery of a group keeps, and how its replay goes.
+//! What a recovery of a group keeps, and how its replay goes. Each law is the contract of a function that does nothing, so
+//! that the check of the crate proves it.
 
 ghost use Rattle.fbl_law.specs.GroupLaws.{GroupRecoveryKeeps};
 ghost use Rattle.fbl_law.specs.RecoveryLaws.{GroupHoldersStay, HoldersGainTheDown, RecoveryLeavesRecorded, RecoveryUndoesLost, OnePassCuts, CutIsOne, ReplayBegins, ReplayIsRight, ReplayEnds, RebuiltIsRecovered};

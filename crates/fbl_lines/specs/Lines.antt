@@ -60,7 +60,7 @@ total_lines t = line (codes "flight " ∷ decimal t.flight ∷ []) ++ line (code
 abbrev pub report_lines : List (Option MemberStatus) → Totals → List ℕ
 report_lines members totals = member_lines 0 members ++ total_lines totals
 
--- a strike: the members struck, and how many receipts were lost
+-- a strike: the members struck, and how many receipts are lost then
 abbrev pub strike_line : set.FinSet nat_cmp → ℕ → List ℕ
 strike_line struck lost = line (codes "strike " ∷ set_words struck ∷ codes " lost " ∷ decimal lost ∷ [])
 

@@ -1,3 +1,5 @@
+//! The lines of each command, and of an audit. Each is a text of its own: `Err` comes only where there is no memory for it.
+
 ghost use Rattle.std.specs.Prelude.{◌≡◌, ◌++◌, IfOk, OnOk, string_bytes};
 ghost use Rattle.std.specs.List.{flat_map};
 ghost use Rattle.fbl_lines.specs.Lines.{audit_lines, bad_plan_line, checkpoint_line, deliver_line, determinant_line, end_word, member_line, member_lines, recover_line, refused_line, report_lines, run_line, states_line, strike_line, total_lines};
@@ -9,6 +11,7 @@ use std::alloc::{AllocError, Global};
 /// What a report says of a member that is up.
 #[derive(Clone, Copy, PartialEq, Eq, Debug)]
 pub struct MemberStatus {
+    /// Its state, 0 at first.
     pub state: u64,
     /// How many messages it has received.
     pub received: u32,

@@ -75,10 +75,10 @@ messages_from me before carried [] = []
 messages_from me before carried (s ∷ sends) =
     record { from = me; to = s.0; ssn = before + 1; note = s.1; carried = carried } ∷ messages_from me (before + 1) carried sends
 
--- the content of the message sent under this number, if there is one
+-- the content of the message that the log has under this number, if there is one
 abbrev pub logged_note : List Logged → ℕ → Option Note
 logged_note log ssn = option_map (λ l. l.note) (find (λ l. l.ssn == ssn) log)
 
--- the messages to a member with numbers beyond this one, in order
+-- the messages of the log to a member with numbers beyond this one, in order, each with its number and content
 abbrev pub logged_beyond : List Logged → ℕ → ℕ → List (ℕ × Note)
 logged_beyond log to ssn = map (λ l. (l.ssn, l.note)) (filter (λ l. l.to == to && nat_lt ssn l.ssn) log)

@@ -1,3 +1,5 @@
+//! One member's volatile record: how it receives a message, and how it replays a receipt.
+
 ghost use Rattle.std.specs.Prelude.{◌≡◌, ℕ, ◌+◌, ◌<◌, ◌≤◌, ◌++◌, [], false, length, map, OnOk, OnErr, IfOk, IfSome, vec_len, vec_capacity};
 ghost use Rattle.std.specs.List.{All};
 ghost use Rattle.fbl_base.specs.Fold.{Logged};

@@ -1,3 +1,5 @@
+//! Messages in flight.
+
 ghost use Rattle.std.specs.Prelude.{◌≡◌};
 ghost use Rattle.fbl_member.specs.Carried.{IsOnce};
 
@@ -6,8 +8,8 @@ use fbl_table::Entry;
 use std::alloc::{Allocator, Global};
 use std::marker::Model;
 
-/// A message in flight, with the entries that it carries: what its sender knew to be held by few when it was made. It
-/// carries each determinant once.
+/// A message in flight, with the entries that it carries: those that its sender knew at most `f` members to hold when
+/// the message was made, or made again. It carries each determinant once.
 #[derive(Drop)]
 pub struct Wire<A: Allocator = Global> {
     from: Member,

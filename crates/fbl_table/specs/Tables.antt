@@ -19,7 +19,7 @@ added (e ∷ table) entry =
     then record { det = e.det; known = set.union e.known entry.known } ∷ table
     else e ∷ added table entry
 
--- the entry, its determinant now held by the member too
+-- the entry, with the member among those known to hold its determinant
 abbrev pub held_by : ℕ → Entry → Entry
 held_by me entry = record { det = entry.det; known = set.insert entry.known me }
 
@@ -31,7 +31,7 @@ gathered table other = fold added table other
 abbrev pub learned : ℕ → List Entry → List Entry → List Entry
 learned me table carried = gathered table (map (held_by me) carried)
 
--- the member's own new determinant, last
+-- the member's own new determinant, last, known to be held by the member alone
 abbrev pub noted : ℕ → List Entry → Determinant → List Entry
 noted me table determinant = table ++ record { det = determinant; known = set.insert set.empty me } ∷ []
 
@@ -39,7 +39,7 @@ noted me table determinant = table ++ record { det = determinant; known = set.in
 abbrev pub is_unstable : ℕ → Entry → Bool
 is_unstable f entry = nat_le (set.len entry.known) f
 
--- the entries that are passed on
+-- the entries that are passed on, in table order
 abbrev pub piggybacked : ℕ → List Entry → List Entry
 piggybacked f table = filter (is_unstable f) table
 
@@ -59,7 +59,7 @@ has_at table determinant place = option_map_or (λ e. same_determinant determina
 abbrev pub names : ℕ → ℕ → Entry → Bool
 names to rsn entry = (entry.det.to == to) && (entry.det.rsn == rsn)
 
--- the determinant of the member's receipt with this number
+-- the determinant of the member's receipt with this number, of several the first
 abbrev pub found : ℕ → ℕ → List Entry → Option Determinant
 found to rsn table = option_map (λ e. e.det) (find (names to rsn) table)
 
@@ -67,7 +67,7 @@ found to rsn table = option_map (λ e. e.det) (find (names to rsn) table)
 abbrev pub rsn_of : ℕ → Entry → ℕ
 rsn_of to entry = if entry.det.to == to then entry.det.rsn else 0
 
--- the greatest receipt number of the member
+-- the greatest receipt number of the member, 0 if there is none
 abbrev pub greatest_rsn : ℕ → List Entry → ℕ
 greatest_rsn to table = fold (λ last e. max last (rsn_of to e)) 0 table
 

@@ -1,3 +1,6 @@
+//! A table of determinants, and what is passed on of it: the entries that few members are known to hold (family-based
+//! logging: Alvisi, Hoppe and Marzullo 1993).
+
 ghost use Rattle.std.specs.Prelude.{◌≡◌, ℕ, ◌+◌, ◌^◌, ◌<◌, ◌≤◌, ◌++◌, [], ◌∷◌, length, OnOk, OnErr, IfOk, IfSome, IfNone, Some, None, true, false, slice_get, map, vec_len, vec_capacity};
 ghost use Rattle.std.specs.List.{IsDistinct, filter_map};
 ghost use Rattle.fbl_base.specs.Events.{same_determinant};

@@ -73,8 +73,8 @@ Answers workers plan old new (Err refusal) = IsRefused workers plan old refusal 
 abbrev pub Drains : Next → ℕ → List Strike → GroupRecord → GroupRecord → Result Drained DrainRefusal → Type 0
 Drains next workers plan old new answer = IsSound next new × Answers workers plan old new answer
 
--- what is answered of the group that the workers leave, by its config and trace and those of before, and by how many workers
--- were started
+-- what is answered of the group that the workers leave, by its config, its trace and the numbers of receipts of its
+-- checkpoints, by those of before, and by how many workers were started
 abbrev pub IsJudged : Past → List Strike → GroupRecord → Drained → Result Drained DrainRefusal → Type 0
 IsJudged past plan new drained (Ok answer) = (answer ≡ drained) × (1 ≤ drained.started) × GoesOn plan past new
 IsJudged past plan new drained (Err NoThread) = (drained.started ≡ 0) × IsPast past new

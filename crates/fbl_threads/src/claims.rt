@@ -130,7 +130,8 @@ impl Model for Claim {
 }
 
 impl<A: Allocator> Claims<A> {
-    /// A word for each of `n` members, none of whom is claimed, and the first pass.
+    /// A word for each of `n` members, none of whom is claimed, and the first pass. `Err` comes only where the words can't
+    /// be had.
     pub fn new(alloc: A, n: u8) -> Result<(Claims<A>, Pass), ClaimRefusal>
         requires { (2 ≤ n) × (n ≤ 16) }
         ensures { IfOk result (λ r. (r.0.words ≡ n) × (r.1 ≡ r.0)) }

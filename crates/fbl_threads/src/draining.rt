@@ -80,6 +80,9 @@ pub enum DrainRefusal {
 /// then made as many receipts as an entry of the plan says, its set is struck and recovered in the same hold of the lock.
 /// The claim is released on every way out. A step that is refused as stale costs the turn, and a worker ends at a refusal
 /// by want of room in the trace or of memory.
+///
+/// After `BadWorkers`, `BadPlan`, `Down`, `NoTable` and `Memory` the group that comes back is unchanged. Want of memory that
+/// a worker meets is no refusal: the answer's `memory` tells it.
 pub fn drain<B: Behaviour + Send + Sync, G: Gate + Sync, R: Threads + Wait + Sync>(
     rt: &R,
     alloc: Global,

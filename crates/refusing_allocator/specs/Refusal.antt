@@ -2,8 +2,10 @@
 use Rattle.std.specs.Prelude.{ℕ}
 use Rattle.refusing_allocator.specs.declared.Refusing.{Refusing}
 
+-- the allocator that is wrapped
 abbrev pub wrapped : {A : Type 0} → Refusing A → A
 wrapped heap = heap.inner
 
+-- the number of the request that is refused, 0 where none is
 abbrev pub refused_number : {A : Type 0} → Refusing A → ℕ
 refused_number heap = heap.gate.refused_at
