@@ -5,7 +5,6 @@ ghost use Rattle.fbl_play.specs.Runs.{Step, CheckpointStep, DeliverStep, IsRepor
 ghost use Rattle.fbl_play.specs.Texts.{shown_state as shown_state_of, shown_states, shown_status as shown_status_of, shown_statuses, AreTotals};
 ghost use Rattle.fbl_lines.specs.Lines.{states_line};
 
-use crate::names::{checkpoint_name, deliver_name, strike_name};
 use crate::runs::run_plan;
 use fbl_base::audit::{lost, orphans};
 use fbl_base::{Behaviour, Member, MemberSet};
@@ -32,7 +31,7 @@ fn run_deliver<B: Behaviour>(
     match group.deliver(to, from) {
         Ok(answer) => deliver_text(alloc, to, from, answer.rsn, answer.carried, answer.state),
         Err(DeliverRefusal::Memory) => Err(AllocError),
-        Err(refusal) => refused_text(alloc, "deliver", deliver_name(refusal)),
+        Err(refusal) => refused_text(alloc, "deliver", refusal.name()),
     }
 }
 
@@ -128,7 +127,7 @@ fn run_strike<B: Behaviour>(
 {
     match group.strike(set) {
         Ok(struck) => strike_text(alloc, set, struck.lost),
-        Err(refusal) => refused_text(alloc, "strike", strike_name(refusal)),
+        Err(refusal) => refused_text(alloc, "strike", refusal.name()),
     }
 }
 
@@ -138,8 +137,8 @@ fn run_recover<B: Behaviour>(alloc: Global, group: &mut Group<B>) -> Result<Stri
 {
     match group.recover() {
         Ok(answer) => recover_text(alloc, answer.replayed, answer.resent, answer.undone),
-        Err(RecoverRefusal::NotDown) => refused_text(alloc, "recover", "NotDown"),
         Err(RecoverRefusal::Memory) => Err(AllocError),
+        Err(refusal) => refused_text(alloc, "recover", refusal.name()),
     }
 }
 
@@ -154,7 +153,7 @@ fn run_checkpoint<B: Behaviour>(
     match group.checkpoint(member) {
         Ok(()) => checkpoint_text(alloc, member, group.checkpoint_received(member)),
         Err(CheckpointRefusal::Memory) => Err(AllocError),
-        Err(refusal) => refused_text(alloc, "checkpoint", checkpoint_name(refusal)),
+        Err(refusal) => refused_text(alloc, "checkpoint", refusal.name()),
     }
 }
 
@@ -168,8 +167,8 @@ fn run_dump<B: Behaviour>(
 {
     match group.dump(strike) {
         Ok(dump) => dump_text(alloc, &dump),
-        Err(DumpGroupRefusal::BadStrike) => refused_text(alloc, "dump", "BadStrike"),
         Err(DumpGroupRefusal::Memory) => Err(AllocError),
+        Err(refusal) => refused_text(alloc, "dump", refusal.name()),
     }
 }
 
@@ -185,35 +184,15 @@ pub(crate) fn run_command<B: Behaviour + Send + Sync, T: Threads + Wait + Sync>(
     requires few { workers ≤ 8 }
     ensures { IfOk result.1 (λ text. Step B.next workers group command.now result.0 (string_bytes text)) }
 {
-    match command {
-        Command::Deliver { to, from } => {
-            let text = run_deliver(alloc, &mut group, *to, *from);
-            (group, text)
-        }
-        Command::States => {
-            let text = run_states(alloc, &group);
-            (group, text)
-        }
-        Command::Report => {
-            let text = run_report(alloc, &group);
-            (group, text)
-        }
-        Command::Strike(set) => {
-            let text = run_strike(alloc, &mut group, *set);
-            (group, text)
-        }
-        Command::Recover => {
-            let text = run_recover(alloc, &mut group);
-            (group, text)
-        }
-        Command::Dump(strike) => {
-            let text = run_dump(alloc, &group, *strike);
-            (group, text)
-        }
-        Command::Checkpoint(member) => {
-            let text = run_checkpoint(alloc, &mut group, *member);
-            (group, text)
-        }
-        Command::Run(plan) => run_plan(rt, alloc, workers, group, plan),
-    }
+    let text = match command {
+        Command::Deliver { to, from } => run_deliver(alloc, &mut group, *to, *from),
+        Command::States => run_states(alloc, &group),
+        Command::Report => run_report(alloc, &group),
+        Command::Strike(set) => run_strike(alloc, &mut group, *set),
+        Command::Recover => run_recover(alloc, &mut group),
+        Command::Dump(strike) => run_dump(alloc, &group, *strike),
+        Command::Checkpoint(member) => run_checkpoint(alloc, &mut group, *member),
+        Command::Run(plan) => return run_plan(rt, alloc, workers, group, plan),
+    };
+    (group, text)
 }

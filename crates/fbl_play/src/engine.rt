@@ -7,7 +7,8 @@ ghost use Rattle.fbl_play.specs.Runs.{PlaysOn, Plays, ReadsAndPlays, next_of};
 use crate::commands::run_command;
 use fbl_base::{Behaviour, Config, Mix, Relay};
 use fbl_group::Group;
-use fbl_script::{BehaviourName, Command, RunFault, Script, put, read_input, script_of_bytes};
+use fbl_input::{RunFault, put, read_input};
+use fbl_script::{BehaviourName, Command, Script, script_of_bytes};
 use std::alloc::Global;
 use std::io::{Read, Write};
 use std::sync::Wait;
@@ -27,11 +28,12 @@ fn play_with<B: Behaviour + Send + Sync, T: Threads + Wait + Sync, W: Write>(
     ensures { PlaysOn B.next workers config commands.now (W.contents writer.old) (W.contents writer.new) result }
 {
     let mut group: Group<B> = Group::new(alloc, config)?;
-    // a group's trace tells that the group is sound
+    // the trace's contract says that the group is sound
     let _trace = group.trace();
     for command in commands {
         let (after, text) = run_command(rt, alloc, workers, group, command);
         group = after;
+        // and that it is so after each command
         let _trace = group.trace();
         let text = text?;
         put(writer, text.as_bytes())?;

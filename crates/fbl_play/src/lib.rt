@@ -3,7 +3,6 @@
 
 mod commands;
 mod engine;
-mod names;
 mod runs;
 
 pub use engine::{play, play_bytes};

@@ -1,0 +1,47 @@
+//! Reading an input whole.
+
+ghost use Rattle.std.specs.Prelude.{◌≡◌, ◌+◌, ◌-◌, ◌<◌, ◌≤◌, ◌⊎◌, ℕ, length, take, drop, OnOk, OnErr, IfOk, IfErr, IfSome, vec_len};
+ghost use Rattle.std.specs.Io.KnownBytes.{Consumes, Keeps, IsAtEnd};
+ghost use Rattle.fbl_input.specs.Shapes.{longest};
+ghost use Rattle.fbl_input.specs.declared.fault.RunFault.TheVariants.{Read, TooLong, Memory};
+
+use crate::fault::RunFault;
+use crate::shapes::LONGEST;
+use std::alloc::Global;
+use std::io::{self, ErrorKind};
+
+/// How many interruptions are borne while an input is read.
+const TRIES: u32 = 1000;
+
+const BUFFER: usize = 8192;
+
+/// Reads all there is, up to the longest input, 1,048,576 bytes. It stops after one byte more, so that a reader that
+/// never ends is `TooLong`. An interrupted read is tried again, at most 1000 times in all; the next interruption, and
+/// any other failure, is `Read`.
+pub fn read_input<R: io::Read>(alloc: Global, reader: &mut R) -> Result<Vec<u8>, RunFault>
+    ensures whole { IfOk result (λ v. (length v.items ≤ longest) × IfSome (R.remaining reader.old) (λ input. v.items ≡ input)) }
+    ensures long { IfErr result (λ e. e ≡ TooLong → IfSome (R.remaining reader.old) (λ input. longest < length input)) }
+    ensures faults { IfErr result (λ e. (e ≡ Read) ⊎ (e ≡ TooLong) ⊎ (e ≡ Memory)) }
+{
+    let mut input = Vec::new(alloc);
+    let mut buffer = [0u8; BUFFER];
+    let mut interrupted = 0u32;
+    let mut ended = false;
+    while !ended && input.len() <= LONGEST {
+        let want = BUFFER.min(LONGEST + 1 - input.len());
+        match reader.read(&mut buffer[..want]) {
+            Ok(0) => ended = true,
+            Ok(n) => input.extend_from_slice(&buffer[..n])?,
+            Err(e) => {
+                if e.kind() != ErrorKind::Interrupted || interrupted == TRIES {
+                    return Err(RunFault::Read);
+                }
+                interrupted += 1;
+            }
+        }
+    }
+    if input.len() > LONGEST {
+        return Err(RunFault::TooLong);
+    }
+    Ok(input)
+}
