@@ -6,7 +6,7 @@ ghost use Rattle.std.specs.Option.{is_some};
 ghost use Rattle.std.specs.FinSet as set;
 ghost use Rattle.fbl_base.specs.Events.{mark_of, determinant_of};
 ghost use Rattle.fbl_member.specs.Members.{blank};
-ghost use Rattle.fbl_law.specs.Groups.{HasChannels, receipts};
+ghost use Rattle.fbl_law.specs.Groups.{HasChannels, channel_in, receipts};
 ghost use Rattle.fbl_law.specs.Replaying.{stays_by, count_in};
 ghost use Rattle.fbl_group.specs.Channels.{queued, queued_rows, AreReplaced};
 ghost use Rattle.fbl_group.specs.Rebuilding.{IsPutBack};
@@ -210,7 +210,7 @@ fn replace_channels<A: Allocator>(
     requires shape { HasChannels n (queued_rows channels.old.items) }
     requires again { HasChannels n (queued_rows again.items) }
     requires few { n ≤ 16 }
-    ensures { AreReplaced n down (queued_rows again.items) (queued_rows channels.old.items) (queued_rows channels.new.items) }
+    ensures { AreReplaced n down (channel_in (queued_rows again.items)) (queued_rows channels.old.items) (queued_rows channels.new.items) }
 {
     let mut again = again;
     for number in 0..n {

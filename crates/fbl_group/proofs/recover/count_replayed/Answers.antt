@@ -2,7 +2,7 @@ use Rattle.std.proofs.Common.{◌≡◌, ◌-◌, ap, ◌∙◌, arith}
 use Rattle.std.specs.Prelude.{slice_index_or}
 use Rattle.fbl_member.specs.Members.{blank}
 use Rattle.fbl_law.specs.Replaying.{count_in}
-use Rattle.fbl_group.proofs.Recovering.{numbered}
+use Rattle.fbl_group.proofs.MemberNumbers.{numbered}
 use Rattle.fbl_group.proofs.PuttingBack.{counted-more}
 use Rattle.fbl_group.proofs.recover.count_replayed.Goals as goal
 

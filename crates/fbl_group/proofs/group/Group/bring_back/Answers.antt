@@ -74,7 +74,7 @@ invariant_of-self g c =
     let left : c.count_receipts.result ≡ length (receipts (map mark_of (filter (λ e. stays_by old.down (λ p. slice_index_or c.in_ok-rebuilt.rebuilt.items p blank) (mark_of e)) old.trace))) = c.count_receipts.ensures ∙ ap (λ (es : List Event). length (receipts (map mark_of es))) (c.as_slice-5.ensures.value ∙ c.cut.ensures) in
     let fewer = fewer-receipts g.B.Behaviour.next old c.self.invariant c.in_ok-rebuilt.rebuilt.items ready in
     let new : GroupRecord = record { config = c.self.inside.config; members = c.put_back.new.members.items; checkpoints = c.self.inside.checkpoints.items; channels = queued_rows c.replace_channels.new.channels.items; trace = c.cut.new.trace.items; down = c.empty-self-inside.result; receipts_ever = c.self.inside.receipts_ever; undone_ever = c.self.inside.undone_ever + c.from.result } in
-    let replaced : AreReplaced old.config.members old.down (queued_rows c.in_ok-again.again.items) old.channels (queued_rows c.replace_channels.new.channels.items) = subst (λ n. AreReplaced n old.down (queued_rows c.in_ok-again.again.items) old.channels (queued_rows c.replace_channels.new.channels.items)) c.members-n.ensures.value c.replace_channels.ensures in
+    let replaced : AreReplaced old.config.members old.down (channel_in (queued_rows c.in_ok-again.again.items)) old.channels (queued_rows c.replace_channels.new.channels.items) = subst (λ n. AreReplaced n old.down (channel_in (queued_rows c.in_ok-again.again.items)) old.channels (queued_rows c.replace_channels.new.channels.items)) c.members-n.ensures.value c.replace_channels.ensures in
     let undone : c.from.result + length (receipts (map mark_of (filter (λ e. stays_by old.down (λ p. slice_index_or c.in_ok-rebuilt.rebuilt.items p blank) (mark_of e)) old.trace))) ≡ length (receipts (map mark_of old.trace)) = omega (arith, c.from.ensures, before, left, fewer) in
     is_sound g.B.Behaviour.next old c.self.invariant c.in_ok-rebuilt.rebuilt.items ready new (queued_rows c.in_ok-again.again.items) refl c.put_back.ensures made replaced c.cut.ensures refl c.empty-self-inside.ensures refl c.from.result undone refl
 
@@ -89,7 +89,7 @@ returns-clause-recovered g c =
     let left : c.count_receipts.result ≡ length (receipts (map mark_of (filter (λ e. stays_by old.down (λ p. slice_index_or c.in_ok-rebuilt.rebuilt.items p blank) (mark_of e)) old.trace))) = c.count_receipts.ensures ∙ ap (λ (es : List Event). length (receipts (map mark_of es))) (c.as_slice-5.ensures.value ∙ c.cut.ensures) in
     let fewer = fewer-receipts g.B.Behaviour.next old c.self.invariant c.in_ok-rebuilt.rebuilt.items ready in
     let new : GroupRecord = record { config = c.self.inside.config; members = c.put_back.new.members.items; checkpoints = c.self.inside.checkpoints.items; channels = queued_rows c.replace_channels.new.channels.items; trace = c.cut.new.trace.items; down = c.empty-self-inside.result; receipts_ever = c.self.inside.receipts_ever; undone_ever = c.self.inside.undone_ever + c.from.result } in
-    let replaced : AreReplaced old.config.members old.down (queued_rows c.in_ok-again.again.items) old.channels (queued_rows c.replace_channels.new.channels.items) = subst (λ n. AreReplaced n old.down (queued_rows c.in_ok-again.again.items) old.channels (queued_rows c.replace_channels.new.channels.items)) c.members-n.ensures.value c.replace_channels.ensures in
+    let replaced : AreReplaced old.config.members old.down (channel_in (queued_rows c.in_ok-again.again.items)) old.channels (queued_rows c.replace_channels.new.channels.items) = subst (λ n. AreReplaced n old.down (channel_in (queued_rows c.in_ok-again.again.items)) old.channels (queued_rows c.replace_channels.new.channels.items)) c.members-n.ensures.value c.replace_channels.ensures in
     let undone : c.from.result + length (receipts (map mark_of (filter (λ e. stays_by old.down (λ p. slice_index_or c.in_ok-rebuilt.rebuilt.items p blank) (mark_of e)) old.trace))) ≡ length (receipts (map mark_of old.trace)) = omega (arith, c.from.ensures, before, left, fewer) in
     let all : c.members-n.result ≡ old.config.members = c.members-n.ensures.value in
     let replayed : c.count_replayed-replayed.result ≡ replayed_in old c.in_ok-rebuilt.rebuilt.items =
