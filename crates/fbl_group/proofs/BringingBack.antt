@@ -99,7 +99,7 @@ module _ (next : Next) (old : GroupRecord) (sound : IsSound next old) where
 
     module _ (new : GroupRecord) (again : List (List (List Message))) (config : new.config ≡ old.config) (members : IsPutBack old.down rebuilt old.members new.members)
         (made : (q p : ℕ) → q < old.config.members → p < old.config.members → channel_in again q p ≡ sent_again old.config.f old.down (working old rebuilt) q p)
-        (replaced : AreReplaced old.config.members old.down again old.channels new.channels)
+        (replaced : AreReplaced old.config.members old.down (channel_in again) old.channels new.channels)
         (trace : new.trace ≡ left) (checkpoints : new.checkpoints ≡ old.checkpoints) (down : new.down ≡ set.empty) (receipts_ever : new.receipts_ever ≡ old.receipts_ever)
         (undone : ℕ) (undone_is : undone + length (receipts (map mark_of left)) ≡ length (receipts (map mark_of old.trace))) (undone_ever : new.undone_ever ≡ old.undone_ever + undone) where
       works : (q : ℕ) → q < old.config.members → member new q ≡ working old rebuilt q

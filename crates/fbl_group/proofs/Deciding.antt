@@ -1,5 +1,5 @@
 -- Which refusal of a delivery, a ticket or a commit holds.
-use Rattle.std.proofs.Common.{◌≡◌, ℕ, ◌+◌, ◌<◌, ◌≤◌, Bool, true, false, ◌&&◌, ◌==◌, not, cond, length, arith, refl, sym, ap, ◌∙◌, Some, None}
+use Rattle.std.proofs.Common.{◌≡◌, ℕ, ◌+◌, ◌<◌, ◌≤◌, Bool, true, false, ◌&&◌, ◌==◌, not, cond, length, arith, refl, sym, subst, ap, ◌∙◌, Option, Some, None}
 use Rattle.std.specs.Prelude.{nat_lt}
 use Rattle.std.proofs.lemmas.Bool.Decides.{nat_tests}
 use Rattle.std.specs.FinSet as set
@@ -9,13 +9,17 @@ use Rattle.fbl_base.specs.declared.trace.Note.{Note}
 use Rattle.fbl_member.specs.Members.{Message, MemberRecord}
 use Rattle.fbl_law.specs.Groups.{GroupRecord, member, channel}
 use Rattle.fbl_law.specs.GroupSteps.{step_of}
-use Rattle.fbl_group.specs.declared.refusals.DeliverRefusal.TheVariants.{Empty, Full}
-use Rattle.fbl_group.specs.Channels.{front_message}
-use Rattle.fbl_group.specs.Deliveries.{deliver_refusal, message_refusal, is_full, front, IsPlanned}
+use Rattle.fbl_group.specs.declared.refusals.DeliverRefusal.{DeliverRefusal}
+use Rattle.fbl_group.specs.declared.refusals.DeliverRefusal.TheVariants as deliver
+use Rattle.fbl_group.specs.Channels.{front, front_message}
+use Rattle.fbl_group.specs.Deliveries.{deliver_refusal, of_take, of_commit, take_or_room, room_refusal, IsDeliverRefusal, IsPlanned, Delivers}
+use Rattle.fbl_group.specs.declared.answers.Receipted.{Receipted}
 use Rattle.fbl_group.specs.declared.ticket.Ticket.{Ticket}
+use Rattle.fbl_group.specs.declared.refusals.TakeRefusal.{TakeRefusal}
 use Rattle.fbl_group.specs.declared.refusals.TakeRefusal.TheVariants as take
+use Rattle.fbl_group.specs.declared.refusals.CommitRefusal.{CommitRefusal}
 use Rattle.fbl_group.specs.declared.refusals.CommitRefusal.TheVariants as commit
-use Rattle.fbl_group.specs.Tickets.{take_refusal, empty_refusal, IsTicket, commit_refusal, stale_or_full, is_current}
+use Rattle.fbl_group.specs.Tickets.{take_refusal, empty_refusal, IsTicket, commit_refusal, stale_or_full, is_current, is_full, IsCommitRefusal}
 use Rattle.fbl_law.specs.Sound.{IsSound}
 use Rattle.fbl_law.proofs.GroupFacts.{all_up, receipts_fit, front_flight}
 use Rattle.fbl_group.proofs.Queues.{first-is}
@@ -23,49 +27,32 @@ use Rattle.fbl_group.proofs.Queues.{first-is}
 pub below_test : (m n : ℕ) → m < n → nat_lt m n ≡ true
 below_test m n below = grind (arith, nat_tests)
 
+same_test : (m n : ℕ) → m ≡ n → (m == n) ≡ true
+same_test m n is = grind (arith, nat_tests)
+
 pub none_test : (k : ℕ) → k ≡ 0 → (k == 0) ≡ true
 none_test k is = grind (arith, nat_tests)
 
--- between members of a group of which nobody is down the front decides
-pub refusal_at_front : (next : Next) (r : GroupRecord) (p q : ℕ) → p < r.config.members → q < r.config.members → set.len r.down ≡ 0 → deliver_refusal next r p q ≡ message_refusal next r (front r q p)
-refusal_at_front next r p q below_p below_q nobody =
-    let a : nat_lt p r.config.members ≡ true = below_test p r.config.members below_p in
-    let b : nat_lt q r.config.members ≡ true = below_test q r.config.members below_q in
-    let d : (set.len r.down == 0) ≡ true = none_test (set.len r.down) nobody in
-    rw (a, b, d) refl
+-- a step that there is room for is planned
+module _ (next : Next) (r : GroupRecord) (p q : ℕ) (below_p : p < r.config.members) (below_q : q < r.config.members) (nobody : set.len r.down ≡ 0) (v : Message) (outcome : Outcome) (sound : IsSound next r) (at : front r q p ≡ Some v) (step : outcome ≡ next p r.config.members (member r p).state v.note) where
+  ends : (v.from ≡ q) × (v.to ≡ p)
+  ends = (let flies = front_flight next r sound q p v at in (flies.1, flies.2))
 
-module _ (next : Next) (r : GroupRecord) (p q : ℕ) (below_p : p < r.config.members) (below_q : q < r.config.members) (nobody : set.len r.down ≡ 0) where
-  pub is_empty : front r q p ≡ None → deliver_refusal next r p q ≡ Some Empty
-  is_empty none = refusal_at_front next r p q below_p below_q nobody ∙ ap (message_refusal next r) none
+  first : front_message r q p ≡ v
+  first = first-is (channel r q p) v at
 
-  module _ (v : Message) (outcome : Outcome) (sound : IsSound next r) (at : front r q p ≡ Some v) (step : outcome ≡ next p r.config.members (member r p).state v.note) where
-    ends : (v.from ≡ q) × (v.to ≡ p)
-    ends = (let flies = front_flight next r sound q p v at in (flies.1, flies.2))
+  steps : outcome ≡ step_of next r v
+  steps = step ∙ ap (λ (m : ℕ). next m r.config.members (member r m).state v.note) (sym ends.1)
 
-    first : front_message r q p ≡ v
-    first = first-is (channel r q p) v at
-
-    steps : outcome ≡ step_of next r v
-    steps = step ∙ ap (λ (m : ℕ). next m r.config.members (member r m).state v.note) (sym ends.1)
-
-    decided : deliver_refusal next r p q ≡ cond (is_full r (length outcome.sends.items)) (Some Full) None
-    decided = refusal_at_front next r p q below_p below_q nobody ∙ ap (message_refusal next r) at ∙ ap (λ (o : Outcome). cond (is_full r (length o.sends.items)) (Some Full) None) (sym steps)
-
-    pub is_refused_full : is_full r (length outcome.sends.items) ≡ true → deliver_refusal next r p q ≡ Some Full
-    is_refused_full full = decided ∙ ap (λ (b : Bool). cond b (Some Full) None) full
-
-    pub is_planned : is_full r (length outcome.sends.items) ≡ false → (deliver_refusal next r p q ≡ None) × IsPlanned next r q p outcome
-    is_planned room = (
-      decided ∙ ap (λ (b : Bool). cond b (Some Full) None) room,
-      record {
-        nobody_down = set.empty_of_len r.down nobody;
-        to_member = below_p;
-        from_member = below_q;
-        first = at ∙ ap (λ (w : Message). Some w) (sym first);
-        step = steps ∙ ap (step_of next r) (sym first);
-        room = room;
-      },
-    )
+  is_planned : is_full r (length outcome.sends.items) ≡ false → IsPlanned next r q p outcome
+  is_planned room = record {
+    nobody_down = set.empty_of_len r.down nobody;
+    to_member = below_p;
+    from_member = below_q;
+    first = at ∙ ap (λ (w : Message). Some w) (sym first);
+    step = steps ∙ ap (step_of next r) (sym first);
+    room = room;
+  }
 
 -- between members of a group of which nobody is down the front decides about a ticket
 take_at_front : (r : GroupRecord) (p q : ℕ) → p < r.config.members → q < r.config.members → set.len r.down ≡ 0 → take_refusal r p q ≡ empty_refusal (front r q p)
@@ -148,4 +135,77 @@ module _ (next : Next) (r : GroupRecord) (t : Ticket) (nobody : set.len r.down �
           let parts = current_parts (member r t.to) w t current in
           let steps : outcome ≡ next t.to r.config.members (member r t.to).state w.note = rw (size, parts.0, parts.1) step in
           let planned = is_planned next r t.to t.from (rw size below_to) (rw size below_from) nobody w outcome sound at steps room in
-          (room_decides ∙ ap (λ (b : Bool). cond b (Some commit.Full) None) room, planned.1)
+          (room_decides ∙ ap (λ (b : Bool). cond b (Some commit.Full) None) room, planned)
+
+-- a step whose ticket was just taken is refused only for want of room or of memory
+module _ (next : Next) (r : GroupRecord) (p q : ℕ) (v : Message) (t : Ticket) (may : take_refusal r p q ≡ None) (at : front r q p ≡ Some v) (is : IsTicket r v t) (to : t.to ≡ p) (from : t.from ≡ q) where
+  abbrev full : Bool
+  full = is_full r (length (step_of next r v).sends.items)
+
+  nobody : set.len r.down ≡ 0
+  nobody = decide (nat_lt p r.config.members && nat_lt q r.config.members) (set.len r.down == 0) refl may where
+    decide : (a b : Bool) → (set.len r.down == 0) ≡ b → cond (not a) (Some take.BadMember) (cond (not b) (Some take.Down) (empty_refusal (front r q p))) ≡ None → set.len r.down ≡ 0
+    decide false b eb none = cc
+    decide true false eb none = cc
+    decide true true eb none = grind (arith, nat_tests)
+
+  here : front r t.from t.to ≡ Some v
+  here = ap (λ k. front r k t.to) from ∙ ap (λ k. front r q k) to ∙ at
+
+  current : is_current (member r t.to) v t ≡ true
+  current =
+      let state : (member r t.to).state ≡ t.state = ap (λ k. (member r k).state) is.to ∙ sym is.state in
+      let rsn : (member r t.to).received + 1 ≡ t.rsn = ap (λ k. (member r k).received + 1) is.to ∙ sym is.rsn in
+      let a : ((member r t.to).state == t.state) ≡ true = same_test _ _ state in
+      let b : ((member r t.to).received + 1 == t.rsn) ≡ true = same_test _ _ rsn in
+      let c : (v.ssn == t.ssn) ≡ true = same_test _ _ (sym is.ssn) in
+      let d : (v.note.value == t.note.value) ≡ true = same_test _ _ (ap (λ (n : Note). n.value) (sym is.note)) in
+      let e : (v.note.hops == t.note.hops) ≡ true = same_test _ _ (ap (λ (n : Note). n.hops) (sym is.note)) in
+      rw (a, b, c, d, e) refl
+
+  same_step : next t.to t.n t.state t.note ≡ step_of next r v
+  same_step = ap (λ k. next k t.n t.state t.note) is.to ∙ ap (λ k. next v.to k t.state t.note) is.n ∙ ap (λ k. next v.to r.config.members k t.note) is.state ∙ ap (λ (n : Note). next v.to r.config.members (member r v.to).state n) is.note
+
+  commit_is : commit_refusal next r t ≡ cond full (Some commit.Full) None
+  commit_is = room_decides next r t nobody (sym is.n) v here (next t.to t.n t.state t.note) refl current ∙ ap (λ (o : Outcome). cond (is_full r (length o.sends.items)) (Some commit.Full) None) same_step
+
+  deliver_is : deliver_refusal next r p q ≡ cond full (Some deliver.Full) None
+  deliver_is = ap (take_or_room next r (front r q p)) may ∙ ap (room_refusal next r) at
+
+  refused_as : (refusal : CommitRefusal) → IsCommitRefusal (commit_refusal next r t) refusal → IsDeliverRefusal (deliver_refusal next r p q) (of_commit refusal)
+  refused_as refusal refused = subst (λ (o : Option DeliverRefusal). IsDeliverRefusal o (of_commit refusal)) (sym deliver_is) (decide full refusal (subst (λ (o : Option CommitRefusal). IsCommitRefusal o refusal) commit_is refused)) where
+    decide : (b : Bool) (x : CommitRefusal) → IsCommitRefusal (cond b (Some commit.Full) None) x → IsDeliverRefusal (cond b (Some deliver.Full) None) (of_commit x)
+    decide true commit.Memory is = cc
+    decide true commit.Full is = refl
+    decide true commit.Down is = cc
+    decide true commit.Stale is = cc
+    decide false commit.Memory is = refl
+    decide false commit.Full is = cc
+    decide false commit.Down is = cc
+    decide false commit.Stale is = cc
+
+  delivered_as : commit_refusal next r t ≡ None → deliver_refusal next r p q ≡ None
+  delivered_as none = deliver_is ∙ decide full (sym commit_is ∙ none) where
+    decide : (b : Bool) → cond b (Some commit.Full) None ≡ None → cond b (Some deliver.Full) None ≡ None
+    decide true is = cc
+    decide false is = refl
+
+-- so the commit of the step that was made of it answers for the delivery
+module _ (next : Next) (r : GroupRecord) (p q : ℕ) (t : Ticket) (taken : (take_refusal r p q ≡ None) × ((v : Message) × (front r q p ≡ Some v) × IsTicket r v t)) (ends : (t.to ≡ p) × (t.from ≡ q)) (made : Ticket) (same : made ≡ t) where
+  pub commit_refused : (refusal : CommitRefusal) → IsCommitRefusal (commit_refusal next r made) refusal → IsDeliverRefusal (deliver_refusal next r p q) (of_commit refusal)
+  commit_refused refusal refused =
+      refused_as next r p q taken.1.0 t taken.0 taken.1.1 taken.1.2 ends.0 ends.1 refusal (subst (λ (u : Ticket). IsCommitRefusal (commit_refusal next r u) refusal) same refused)
+
+  pub delivers : (new : GroupRecord) (answer : Receipted) → (commit_refusal next r made ≡ None) × Delivers next r new made.to made.from answer → (deliver_refusal next r p q ≡ None) × Delivers next r new p q answer
+  delivers new answer done = (
+    delivered_as next r p q taken.1.0 t taken.0 taken.1.1 taken.1.2 ends.0 ends.1 (subst (λ (u : Ticket). commit_refusal next r u ≡ None) same done.0),
+    subst (λ (k : ℕ). Delivers next r new k q answer) ends.0 (subst (λ (k : ℕ). Delivers next r new t.to k answer) ends.1 (subst (λ (u : Ticket). Delivers next r new u.to u.from answer) same done.1)),
+  )
+
+-- a delivery is refused as its ticket is
+pub take_refused : (next : Next) (r : GroupRecord) (p q : ℕ) (refusal : TakeRefusal) → take_refusal r p q ≡ Some refusal → IsDeliverRefusal (deliver_refusal next r p q) (of_take refusal)
+take_refused next r p q refusal is = subst (λ (o : Option DeliverRefusal). IsDeliverRefusal o (of_take refusal)) (sym (ap (take_or_room next r (front r q p)) is)) (decide refusal) where
+  decide : (x : TakeRefusal) → IsDeliverRefusal (Some (of_take x)) (of_take x)
+  decide take.BadMember = refl
+  decide take.Down = refl
+  decide take.Empty = refl

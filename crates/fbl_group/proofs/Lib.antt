@@ -7,7 +7,7 @@ pub mod Checkpointing
 pub mod Reading
 pub mod Starting
 pub mod Dumping
-pub mod Numbers
+pub mod MemberNumbers
 pub mod Again
 pub mod Recovering
 pub mod PuttingBack

@@ -14,7 +14,7 @@ use Rattle.fbl_member.specs.Members.{Message, messages_from}
 use Rattle.fbl_law.specs.Steps.{between, taken_off}
 use Rattle.fbl_law.specs.Groups.{HasChannels, channel_in, sum_below}
 use Rattle.fbl_group.specs.declared.channels.Channel.{Channel}
-use Rattle.fbl_group.specs.Channels.{queued, queued_rows, rooms, first_message, with_sent, send_of_message}
+use Rattle.fbl_group.specs.Channels.{queued, queued_rows, rooms, room_rows, first_message, with_sent, without_front, taken_and_sent, send_of_message}
 
 -- what is read at a place of a list is the same whatever stands past its end
 pub read_any : {X : Type 0} (xs : List X) (i : ℕ) (d e : X) → i < length xs → get_or xs i d ≡ get_or xs i e
@@ -303,10 +303,10 @@ none-of me q p (w ∷ made) other froms =
 -- the front is off its channel, and the messages made are at the ends of theirs
 module _ (n : ℕ) (cs : List (List (List Message))) (v : Message) (from to : ℕ) (made : List Message) (shape : HasChannels n cs) (below_from : from < n) (below_to : to < n) (apart : from ≢ to) (of_sender : v.from ≡ from) (to_receiver : v.to ≡ to) (froms : All (λ (w : Message). w.from ≡ to) made) (tos : All (λ (w : Message). w.to < n) made) where
   abbrev taken : List (List (List Message))
-  taken = set cs from (set (get_or cs from []) to (drop 1 (channel_in cs from to)))
+  taken = without_front cs from to
 
   abbrev pub settled : List (List (List Message))
-  settled = set taken to (with_sent (get_or taken to []) made)
+  settled = taken_and_sent cs from to made
 
   taken-shape : HasChannels n taken
   taken-shape = written-shape n cs from to (drop 1 (channel_in cs from to)) shape below_from below_to
@@ -443,18 +443,22 @@ module _ {A : Type 0} where
       rows-set rows i new ∙ ap (λ (r : List (List Message)). set (queued_rows rows) i r) (is ∙ ap (λ (r : List (List Message)). set r w.to (get_or r w.to [] ++ w ∷ [])) (row-at rows i row within read))
       ∙ ap (λ k. set (queued_rows rows) k (set (get_or (queued_rows rows) k []) w.to (channel_in (queued_rows rows) k w.to ++ w ∷ []))) same
 
-  -- the rows of a delivery: room is made in one, the front is taken off one, and messages are put at the ends of one
-  pub settled-rows : (rows kept taken sent : List (Vec (Channel A) A)) (from to i j k : ℕ) (first front last room off on : Vec (Channel A) A) (made : List Message)
-      → i ≡ to → j ≡ from → k ≡ to → i < length rows → j < length kept → k < length taken
-      → first ≡ get_or rows i first → queued room.items ≡ queued first.items → kept ≡ set rows i room
-      → front ≡ get_or kept j front → queued off.items ≡ set (queued front.items) to (drop 1 (get_or (queued front.items) to [])) → taken ≡ set kept j off
+  -- what there is room for in a row that is written
+  pub room-row : (rows : List (Vec (Channel A) A)) (i place : ℕ) (new : Vec (Channel A) A) → place ≡ i → place < length rows → get_or (room_rows (set rows place new)) i [] ≡ rooms new.items
+  room-row rows i place new same within =
+      ap (λ (rs : List (List ℕ)). get_or rs i []) (map-set (λ (x : Vec (Channel A) A). rooms x.items) rows place new) ∙ ap (λ k. get_or (set (room_rows rows) place (rooms new.items)) k []) (sym same)
+      ∙ get_or-set_same (room_rows rows) place (rooms new.items) [] (omega (arith, within, length-map rows (λ (x : Vec (Channel A) A). rooms x.items)))
+
+  -- the rows of a delivery: the front is taken off one, and messages are put at the ends of one
+  pub sent-rows : (rows taken sent : List (Vec (Channel A) A)) (from to j k : ℕ) (front last off on : Vec (Channel A) A) (made : List Message)
+      → j ≡ from → k ≡ to → j < length rows → k < length taken
+      → front ≡ get_or rows j front → queued off.items ≡ set (queued front.items) to (drop 1 (get_or (queued front.items) to [])) → taken ≡ set rows j off
       → last ≡ get_or taken k last → queued on.items ≡ with_sent (queued last.items) made → sent ≡ set taken k on
-      → queued_rows sent ≡ set (set (queued_rows rows) from (set (get_or (queued_rows rows) from []) to (drop 1 (channel_in (queued_rows rows) from to)))) to (with_sent (get_or (set (queued_rows rows) from (set (get_or (queued_rows rows) from []) to (drop 1 (channel_in (queued_rows rows) from to)))) to []) made)
-  settled-rows rows kept taken sent from to i j k first front last room off on made is_i is_j is_k within_i within_j within_k read_first same kept_is read_front taken_off_is taken_is read_last sent_is is =
-      let same_rows : queued_rows kept ≡ queued_rows rows = ap (λ (xs : List (Vec (Channel A) A)). queued_rows xs) kept_is ∙ rows-kept rows i first room within_i read_first same in
-      let at_front : queued front.items ≡ get_or (queued_rows rows) from [] = row-at kept j front within_j read_front ∙ ap (λ (cs : List (List (List Message))). get_or cs j []) same_rows ∙ ap (λ m. get_or (queued_rows rows) m []) is_j in
-      let taken_rows : queued_rows taken ≡ set (queued_rows rows) from (set (get_or (queued_rows rows) from []) to (drop 1 (channel_in (queued_rows rows) from to))) =
-      ap (λ (xs : List (Vec (Channel A) A)). queued_rows xs) taken_is ∙ rows-set kept j off ∙ ap (λ (cs : List (List (List Message))). set cs j (queued off.items)) same_rows ∙ ap (λ m. set (queued_rows rows) m (queued off.items)) is_j
+      → queued_rows sent ≡ taken_and_sent (queued_rows rows) from to made
+  sent-rows rows taken sent from to j k front last off on made is_j is_k within_j within_k read_front taken_off_is taken_is read_last sent_is is =
+      let at_front : queued front.items ≡ get_or (queued_rows rows) from [] = row-at rows j front within_j read_front ∙ ap (λ m. get_or (queued_rows rows) m []) is_j in
+      let taken_rows : queued_rows taken ≡ without_front (queued_rows rows) from to =
+      ap (λ (xs : List (Vec (Channel A) A)). queued_rows xs) taken_is ∙ rows-set rows j off ∙ ap (λ m. set (queued_rows rows) m (queued off.items)) is_j
       ∙ ap (λ (r : List (List Message)). set (queued_rows rows) from r) (taken_off_is ∙ ap (λ (r : List (List Message)). set r to (drop 1 (get_or r to []))) at_front) in
       let at_last : queued last.items ≡ get_or (queued_rows taken) to [] = row-at taken k last within_k read_last ∙ ap (λ m. get_or (queued_rows taken) m []) is_k in
       ap (λ (xs : List (Vec (Channel A) A)). queued_rows xs) is ∙ rows-set taken k on ∙ ap (λ m. set (queued_rows taken) m (queued on.items)) is_k

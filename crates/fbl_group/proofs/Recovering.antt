@@ -1,7 +1,6 @@
 -- The steps of a recovery before it changes the group: gathering, replay in rounds, tables given.
 use Rattle.std.proofs.Common.{◌≡◌, ℕ, zero, suc, ◌+◌, ◌<◌, ◌≤◌, ◌⊎◌, inl, inr, Bool, true, false, List, [], ◌∷◌, ◌++◌, length, map, take, Option, Some, None, get_or, refl, sym, subst, ap, ◌∙◌, arith}
 use Rattle.std.specs.Prelude.{slice_index_or, slice_set}
-use Rattle.std.specs.Option.{SomeIff, IsSome}
 use Rattle.std.specs.FinSet as set
 use Rattle.std.proofs.lemmas.Bool.{cases_lt}
 use Rattle.std.proofs.lemmas.List.{append-nil, take_all, get_or_append_left}
@@ -20,15 +19,6 @@ use Rattle.fbl_law.specs.Replaying.{IsNextReplay, gathered_table, working, IsRep
 use Rattle.fbl_law.proofs.Gathering.{gathered_all-more, gathered_all-push}
 use Rattle.fbl_law.proofs.Rebuilding.{replaying-start, replaying-next, replaying-room, replaying-step, replayed_in-step, replayed_in-short, replaying-tables}
 use Rattle.fbl_group.specs.Rebuilding.{Tries, Rounds, HasReplayed, IsReady}
-
--- the member with a number
-pub numbered : (o : Option ℕ) (x k : ℕ) → SomeIff o (k < 16) k → k < 16 → o ≡ Some x → x ≡ k
-numbered None x k made below is = absurd (made below)
-numbered (Some y) x k made below is = (let e : y ≡ x = cc in sym e ∙ made.1)
-
-pub is-made : (o : Option ℕ) (k : ℕ) → SomeIff o (k < 16) k → k < 16 → IsSome o
-is-made None k made below = absurd (made below)
-is-made (Some y) k made below = refl
 
 -- a record that is read at a place of the list, whatever stands past its end
 pub read_at : (ms : List MemberRecord) (i : ℕ) (d m : MemberRecord) → i < length ms → m ≡ get_or ms i d → m ≡ slice_index_or ms i blank

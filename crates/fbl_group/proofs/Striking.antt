@@ -1,5 +1,5 @@
 -- When a strike is refused, and what it leaves.
-use Rattle.std.proofs.Common.{subst, ◌≡◌, ◌≢◌, ℕ, suc, ◌+◌, ◌<◌, ◌≤◌, ◌==◌, ◌&&◌, ◌||◌, not, Bool, true, false, cond, List, [], ◌∷◌, length, map, inl, inr, ◌⊎◌, Some, None, refl, sym, ap, ◌∙◌, arith, slice_get}
+use Rattle.std.proofs.Common.{subst, ◌≡◌, ◌≢◌, ℕ, suc, ◌+◌, ◌<◌, ◌≤◌, ◌==◌, ◌&&◌, ◌||◌, not, Bool, true, false, cond, List, [], ◌∷◌, length, map, inl, inr, ◌⊎◌, Option, Some, None, refl, sym, ap, ◌∙◌, arith, slice_get}
 use Rattle.std.specs.Prelude.{nat_lt, count_by, slice_index_or}
 use Rattle.std.specs.List.{filter, list_any, list_all, cons_option}
 use Rattle.std.specs.Ordering.{nat_cmp, eq_by_cmp}
@@ -27,8 +27,8 @@ use Rattle.fbl_law.proofs.GroupStrike.{group_strike_keeps, recorded_test}
 use Rattle.fbl_law.proofs.Resending.{channel-outside}
 use Rattle.fbl_law.proofs.Promises.{sound_has_no_orphan}
 use Rattle.fbl_group.specs.declared.refusals.StrikeRefusal.TheVariants.{BadMember, Nobody, TooMany}
-use Rattle.fbl_group.specs.Channels.{AreEmptied}
-use Rattle.fbl_group.specs.Strikes.{is_within, strike_refusal, lost_receipts, is_lost, is_lost_of, IsBlanked}
+use Rattle.fbl_group.specs.Channels.{AreReplaced}
+use Rattle.fbl_group.specs.Strikes.{is_within, strike_refusal, lost_receipts, is_lost, IsBlanked}
 
 -- the test of who is below n
 all_below : (n : ℕ) (ks : List ℕ) → ((q : ℕ) → list_any (eq_by_cmp nat_cmp q) ks ≡ true → q < n) → list_all (λ m. nat_lt m n) ks ≡ true
@@ -110,10 +110,10 @@ may_strike r struck allowed = at (is_within struck r.config.members) (sets.len s
   }
 
 -- the channels are emptied, by a number that is that of the members
-pub emptied-by : {n k : ℕ} {s : Members} {old new : List (List (List Message))} → n ≡ k → AreEmptied n s old new → AreEmptied k s old new
-emptied-by {s = s} {old = old} {new = new} same emptied = subst (λ m. AreEmptied m s old new) same emptied
+pub emptied-by : {n k : ℕ} {s : Members} {old new : List (List (List Message))} → n ≡ k → AreReplaced n s (λ q p. []) old new → AreReplaced k s (λ q p. []) old new
+emptied-by {s = s} {old = old} {new = new} same emptied = subst (λ m. AreReplaced m s (λ q p. []) old new) same emptied
 
-module _ (next : Next) (old new : GroupRecord) (struck : Members) (sound : IsSound next old) (allowed : strike_refusal old struck ≡ None) (blanked : IsBlanked struck old.members new.members) (channels : AreEmptied old.config.members struck old.channels new.channels) (down : new.down ≡ sets.union old.down struck) (trace : new.trace ≡ old.trace) (checkpoints : new.checkpoints ≡ old.checkpoints) (config : new.config ≡ old.config) (receipts_ever : new.receipts_ever ≡ old.receipts_ever) (undone_ever : new.undone_ever ≡ old.undone_ever) where
+module _ (next : Next) (old new : GroupRecord) (struck : Members) (sound : IsSound next old) (allowed : strike_refusal old struck ≡ None) (blanked : IsBlanked struck old.members new.members) (channels : AreReplaced old.config.members struck (λ q p. []) old.channels new.channels) (down : new.down ≡ sets.union old.down struck) (trace : new.trace ≡ old.trace) (checkpoints : new.checkpoints ≡ old.checkpoints) (config : new.config ≡ old.config) (receipts_ever : new.receipts_ever ≡ old.receipts_ever) (undone_ever : new.undone_ever ≡ old.undone_ever) where
   may : MayStrike old struck
   may = may_strike old struck allowed
 
@@ -211,21 +211,29 @@ pub record IsBlankedBelow (k : ℕ) (struck : Members) (old new : List MemberRec
   pub later : (m : ℕ) → k ≤ m → slice_index_or new m blank ≡ slice_index_or old m blank
   pub others : (m : ℕ) → sets.contains struck m ≡ false → slice_index_or new m blank ≡ slice_index_or old m blank
 
--- how many receipts are lost, counted over the events
-pub count-lost : (r : GroupRecord) → count_by (is_lost r.members r.checkpoints) r.trace ≡ length (lost_receipts r)
-count-lost r = counted r.trace where
+-- whether the event is a receipt that is not recorded
+abbrev is_unrecorded_receipt : GroupRecord → Option Determinant → Bool
+is_unrecorded_receipt r None = false
+is_unrecorded_receipt r (Some d) = not (is_recorded r d)
+
+abbrev is_unrecorded : GroupRecord → Event → Bool
+is_unrecorded r e = is_unrecorded_receipt r (determinant_of (mark_of e))
+
+-- how many receipts are not recorded, counted over the events
+count-unrecorded : (r : GroupRecord) → count_by (is_unrecorded r) r.trace ≡ length (lost_receipts r)
+count-unrecorded r = counted r.trace where
   unrecorded : Determinant → Bool
   unrecorded d = not (is_recorded r d)
 
-  counted : (events : List Event) → count_by (is_lost r.members r.checkpoints) events ≡ length (filter unrecorded (receipts (map mark_of events)))
+  counted : (events : List Event) → count_by (is_unrecorded r) events ≡ length (filter unrecorded (receipts (map mark_of events)))
   counted [] = refl
-  counted (e ∷ events) = sum_by-cons (λ x. cond (is_lost r.members r.checkpoints x) 1 0) e events ∙ at e (counted events) where
-    at : (x : Event) → count_by (is_lost r.members r.checkpoints) events ≡ length (filter unrecorded (receipts (map mark_of events)))
-        → cond (is_lost r.members r.checkpoints x) 1 0 + count_by (is_lost r.members r.checkpoints) events ≡ length (filter unrecorded (cons_option (determinant_of (mark_of x)) (receipts (map mark_of events))))
+  counted (e ∷ events) = sum_by-cons (λ x. cond (is_unrecorded r x) 1 0) e events ∙ at e (counted events) where
+    at : (x : Event) → count_by (is_unrecorded r) events ≡ length (filter unrecorded (receipts (map mark_of events)))
+        → cond (is_unrecorded r x) 1 0 + count_by (is_unrecorded r) events ≡ length (filter unrecorded (cons_option (determinant_of (mark_of x)) (receipts (map mark_of events))))
     at (event.Send from ssn to note) ih = omega (arith, ih)
     at (event.Receipt to rsn from ssn) ih = here (unrecorded (record { from = from; ssn = ssn; to = to; rsn = rsn })) ih where
-      here : (b : Bool) → count_by (is_lost r.members r.checkpoints) events ≡ length (filter unrecorded (receipts (map mark_of events)))
-          → cond b 1 0 + count_by (is_lost r.members r.checkpoints) events ≡ length (cond b (record { from = from; ssn = ssn; to = to; rsn = rsn } ∷ filter unrecorded (receipts (map mark_of events))) (filter unrecorded (receipts (map mark_of events))))
+      here : (b : Bool) → count_by (is_unrecorded r) events ≡ length (filter unrecorded (receipts (map mark_of events)))
+          → cond b 1 0 + count_by (is_unrecorded r) events ≡ length (cond b (record { from = from; ssn = ssn; to = to; rsn = rsn } ∷ filter unrecorded (receipts (map mark_of events))) (filter unrecorded (receipts (map mark_of events))))
       here true ih = omega (arith, ih)
       here false ih = omega (arith, ih)
 
@@ -245,13 +253,13 @@ counted-agree p q (x ∷ xs) agree =
     ∙ ap (λ k. cond (q x) 1 0 + k) (counted-agree p q xs (λ i. agree (suc i))) ∙ sym (sum_by-cons (λ y. cond (q y) 1 0) x xs)
 
 -- so the lost receipts are all of members that are down
-pub count-lost_of : (next : Next) (r : GroupRecord) → IsSound next r → count_by (is_lost_of r.down r.members r.checkpoints) r.trace ≡ length (lost_receipts r)
-count-lost_of next r sound = counted-agree (is_lost_of r.down r.members r.checkpoints) (is_lost r.members r.checkpoints) r.trace agree ∙ count-lost r where
+pub count-lost : (next : Next) (r : GroupRecord) → IsSound next r → count_by (is_lost r.down r.members r.checkpoints) r.trace ≡ length (lost_receipts r)
+count-lost next r sound = counted-agree (is_lost r.down r.members r.checkpoints) (is_unrecorded r) r.trace agree ∙ count-unrecorded r where
   of_down : (d : Determinant) → Has (marks r) (receipt_of d) → (b : Bool) → sets.contains r.down d.to ≡ b → (b && not (is_recorded r d)) ≡ not (is_recorded r d)
   of_down d there true is = refl
   of_down d there false is = sym (ap not (up-recorded next r d sound there is))
 
-  agree : (i : ℕ) (e : Event) → slice_get r.trace i ≡ Some e → is_lost_of r.down r.members r.checkpoints e ≡ is_lost r.members r.checkpoints e
+  agree : (i : ℕ) (e : Event) → slice_get r.trace i ≡ Some e → is_lost r.down r.members r.checkpoints e ≡ is_unrecorded r e
   agree i (event.Send from ssn to note) here = refl
   agree i (event.Receipt to rsn from ssn) here =
       of_down (record { from = from; ssn = ssn; to = to; rsn = rsn }) (i, slice_get-map mark_of r.trace i ∙ ap (option_map mark_of) here) (sets.contains r.down to) refl

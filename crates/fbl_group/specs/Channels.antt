@@ -1,7 +1,6 @@
 -- The channels as queues of messages.
-use Rattle.std.specs.Prelude.{◌≡◌, ℕ, ◌-◌, ◌<◌, ◌||◌, List, [], ◌∷◌, ◌++◌, map, slice_index_or, slice_set, if◌then◌else◌}
+use Rattle.std.specs.Prelude.{◌≡◌, ℕ, ◌-◌, ◌<◌, ◌||◌, List, [], ◌∷◌, ◌++◌, Option, Vec, map, drop, slice_get, slice_index_or, slice_set, if◌then◌else◌}
 use Rattle.std.specs.FinSet as set
-use Rattle.std.proofs.Common.{Vec}
 use Rattle.std.specs.VecDeque.{deque_len, deque_capacity}
 use Rattle.fbl_base.specs.declared.trace.Event.{Event}
 use Rattle.fbl_base.specs.declared.trace.Event.TheVariants.{Send}
@@ -22,6 +21,18 @@ queued_rows rows = map (λ row. queued row.items) rows
 abbrev pub rooms : {A : Type 0} → List (Channel A) → List ℕ
 rooms channels = map (λ channel. deque_capacity channel.wires - deque_len channel.wires) channels
 
+-- the same of the channels from each member
+abbrev pub room_rows : {A : Type 0} → List (Vec (Channel A) A) → List (List ℕ)
+room_rows rows = map (λ row. rooms row.items) rows
+
+-- for how many messages more the channel from q to p has room
+abbrev pub room_in : {A : Type 0} → List (Vec (Channel A) A) → ℕ → ℕ → ℕ
+room_in rows q p = slice_index_or (slice_index_or (room_rows rows) q []) p 0
+
+-- the front of the channel from q to p
+abbrev pub front : GroupRecord → ℕ → ℕ → Option Message
+front r q p = slice_get (channel r q p) 0
+
 -- the front of a channel that has one
 abbrev pub first_message : List Message → Message
 first_message messages =
@@ -36,15 +47,19 @@ abbrev pub with_sent : List (List Message) → List Message → List (List Messa
 with_sent channels [] = channels
 with_sent channels (v ∷ vs) = with_sent (slice_set channels v.to (slice_index_or channels v.to [] ++ v ∷ [])) vs
 
--- the channels with an end in the set are emptied, and the others stay
-pub record AreEmptied (n : ℕ) (s : Members) (old new : List (List (List Message))) : Type 0 where
-  pub shape : HasChannels n new
-  pub each : (q p : ℕ) → q < n → p < n → channel_in new q p ≡ (if set.contains s q || set.contains s p then [] else channel_in old q p)
+-- the channels after the front of the channel from q to p was taken off it
+abbrev pub without_front : List (List (List Message)) → ℕ → ℕ → List (List (List Message))
+without_front channels q p = slice_set channels q (slice_set (slice_index_or channels q []) p (drop 1 (channel_in channels q p)))
 
--- the channels with an end in the set are those made again, and the others stay
-pub record AreReplaced (n : ℕ) (s : Members) (again old new : List (List (List Message))) : Type 0 where
+-- the same after these messages of p went to the ends of theirs then
+abbrev pub taken_and_sent : List (List (List Message)) → ℕ → ℕ → List Message → List (List (List Message))
+taken_and_sent channels q p messages =
+    slice_set (without_front channels q p) p (with_sent (slice_index_or (without_front channels q p) p []) messages)
+
+-- the channels with an end in the set are these, and the others stay
+pub record AreReplaced (n : ℕ) (s : Members) (by : ℕ → ℕ → List Message) (old new : List (List (List Message))) : Type 0 where
   pub shape : HasChannels n new
-  pub each : (q p : ℕ) → q < n → p < n → channel_in new q p ≡ (if set.contains s q || set.contains s p then channel_in again q p else channel_in old q p)
+  pub each : (q p : ℕ) → q < n → p < n → channel_in new q p ≡ (if set.contains s q || set.contains s p then by q p else channel_in old q p)
 
 -- the send of a message, with its note
 abbrev pub send_of_message : Message → Event

@@ -1,40 +1,45 @@
 -- When a delivery is refused, and what it leaves and answers.
-use Rattle.std.specs.Prelude.{◌≡◌, ℕ, ◌+◌, ◌==◌, ◌&&◌, ◌||◌, not, nat_lt, ◌<◌, false, Bool, length, Option, Some, None, slice_get, if◌then◌else◌}
+use Rattle.std.specs.Prelude.{◌≡◌, ℕ, ◌+◌, ◌<◌, false, length, Option, Some, None, if◌then◌else◌}
 use Rattle.std.specs.FinSet as set
 use Rattle.fbl_base.specs.declared.outcome.Outcome.{Outcome}
 use Rattle.fbl_base.specs.Fold.{Next}
 use Rattle.fbl_member.specs.Members.{Message}
-use Rattle.fbl_law.specs.Groups.{GroupRecord, member, channel}
+use Rattle.fbl_law.specs.Groups.{GroupRecord, member}
 use Rattle.fbl_law.specs.GroupSteps.{step_of, IsDelivery}
 use Rattle.fbl_group.specs.declared.refusals.DeliverRefusal.{DeliverRefusal}
 use Rattle.fbl_group.specs.declared.refusals.DeliverRefusal.TheVariants.{BadMember, Down, Empty, Full, Memory}
+use Rattle.fbl_group.specs.declared.refusals.TakeRefusal.{TakeRefusal}
+use Rattle.fbl_group.specs.declared.refusals.TakeRefusal.TheVariants as take
+use Rattle.fbl_group.specs.declared.refusals.CommitRefusal.{CommitRefusal}
+use Rattle.fbl_group.specs.declared.refusals.CommitRefusal.TheVariants as commit
 use Rattle.fbl_group.specs.declared.answers.Receipted.{Receipted}
-use Rattle.fbl_group.specs.Channels.{front_message}
+use Rattle.fbl_group.specs.Channels.{front, front_message}
+use Rattle.fbl_group.specs.Tickets.{take_refusal, is_full}
 
--- the front of the channel from q to p
-abbrev pub front : GroupRecord → ℕ → ℕ → Option Message
-front r q p = slice_get (channel r q p) 0
+-- a refusal of a ticket as one of a delivery
+abbrev pub of_take : TakeRefusal → DeliverRefusal
+of_take take.BadMember = BadMember
+of_take take.Down = Down
+of_take take.Empty = Empty
 
--- whether a trace of this limit and length has no room for a receipt and this many sends, or the counter of receipts,
--- which is kept in 64 bits, can't rise
-abbrev pub has_no_room : ℕ → ℕ → ℕ → ℕ → Bool
-has_no_room limit len ever sends = nat_lt limit (len + 1 + sends) || (ever == 18446744073709551615)
+-- a refusal of the commit of a step whose ticket was just taken, as one of a delivery: room is wanting, or memory
+abbrev pub of_commit : CommitRefusal → DeliverRefusal
+of_commit commit.Memory = Memory
+of_commit refusal = Full
 
--- the same of a group
-abbrev pub is_full : GroupRecord → ℕ → Bool
-is_full r sends = has_no_room r.config.limit (length r.trace) r.receipts_ever sends
+-- there is no room for the events of the message's step
+abbrev pub room_refusal : Next → GroupRecord → Option Message → Option DeliverRefusal
+room_refusal next r None = None
+room_refusal next r (Some v) = if is_full r (length (step_of next r v).sends.items) then Some Full else None
 
--- why the message can't be delivered: there is none, or there is no room for the events of its step
-abbrev pub message_refusal : Next → GroupRecord → Option Message → Option DeliverRefusal
-message_refusal next r None = Some Empty
-message_refusal next r (Some v) = if is_full r (length (step_of next r v).sends.items) then Some Full else None
+-- the refusal of the ticket, or else that of the step of this message
+abbrev pub take_or_room : Next → GroupRecord → Option Message → Option TakeRefusal → Option DeliverRefusal
+take_or_room next r message (Some refusal) = Some (of_take refusal)
+take_or_room next r message None = room_refusal next r message
 
--- the first refusal of a delivery to p from q that holds, but for want of memory
+-- the first refusal of a delivery to p from q that holds, but for want of memory: that of its ticket, or else want of room
 abbrev pub deliver_refusal : Next → GroupRecord → ℕ → ℕ → Option DeliverRefusal
-deliver_refusal next r p q =
-    if not (nat_lt p r.config.members && nat_lt q r.config.members) then Some BadMember
-    else (if not (set.len r.down == 0) then Some Down
-    else message_refusal next r (front r q p))
+deliver_refusal next r p q = take_or_room next r (front r q p) (take_refusal r p q)
 
 -- the refusal is the first that holds; want of memory is answered only where no other holds
 abbrev pub IsDeliverRefusal : Option DeliverRefusal → DeliverRefusal → Type 0

@@ -30,24 +30,16 @@ strike_refusal r struck =
 abbrev pub lost_receipts : GroupRecord → List Determinant
 lost_receipts r = filter (λ d. not (is_recorded r d)) (receipts (marks r))
 
--- whether there is a determinant, and none of these members' and checkpoints' tables has it
-abbrev pub is_unheld : List MemberRecord → List MemberRecord → Option Determinant → Bool
-is_unheld members checkpoints None = false
-is_unheld members checkpoints (Some d) =
-    not (list_any (λ (m : MemberRecord). is_held m.table d) members || list_any (λ (m : MemberRecord). is_held m.table d) checkpoints)
-
--- whether the event is a receipt whose determinant none of these members' and checkpoints' tables has
-abbrev pub is_lost : List MemberRecord → List MemberRecord → Event → Bool
-is_lost members checkpoints event = is_unheld members checkpoints (determinant_of (mark_of event))
-
--- the same of a receipt of a member of the set alone
-abbrev pub is_unheld_of : Members → List MemberRecord → List MemberRecord → Option Determinant → Bool
-is_unheld_of s members checkpoints None = false
-is_unheld_of s members checkpoints (Some d) = set.contains s d.to && is_unheld members checkpoints (Some d)
+-- whether there is a determinant of a member of the set, and none of these members' and checkpoints' tables has it
+abbrev pub is_unheld : Members → List MemberRecord → List MemberRecord → Option Determinant → Bool
+is_unheld s members checkpoints None = false
+is_unheld s members checkpoints (Some d) =
+    set.contains s d.to
+    && not (list_any (λ (m : MemberRecord). is_held m.table d) members || list_any (λ (m : MemberRecord). is_held m.table d) checkpoints)
 
 -- whether the event is a receipt of a member of the set whose determinant none of these members' and checkpoints' tables has
-abbrev pub is_lost_of : Members → List MemberRecord → List MemberRecord → Event → Bool
-is_lost_of s members checkpoints event = is_unheld_of s members checkpoints (determinant_of (mark_of event))
+abbrev pub is_lost : Members → List MemberRecord → List MemberRecord → Event → Bool
+is_lost s members checkpoints event = is_unheld s members checkpoints (determinant_of (mark_of event))
 
 -- exactly the records of the members named are made blank
 pub record IsBlanked (struck : Members) (old new : List MemberRecord) : Type 0 where

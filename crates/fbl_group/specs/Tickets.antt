@@ -1,5 +1,5 @@
 -- Steps that are taken apart from the record, and when they are refused.
-use Rattle.std.specs.Prelude.{◌≡◌, ℕ, ◌+◌, ◌==◌, ◌&&◌, not, nat_lt, Bool, length, Option, Some, None, if◌then◌else◌}
+use Rattle.std.specs.Prelude.{◌≡◌, ℕ, ◌+◌, ◌==◌, ◌&&◌, ◌||◌, not, nat_lt, Bool, length, Option, Some, None, if◌then◌else◌}
 use Rattle.std.specs.FinSet as set
 use Rattle.fbl_base.specs.Fold.{Next}
 use Rattle.fbl_base.specs.declared.trace.Note.{Note}
@@ -10,7 +10,7 @@ use Rattle.fbl_group.specs.declared.refusals.TakeRefusal.TheVariants as take
 use Rattle.fbl_group.specs.declared.refusals.CommitRefusal.{CommitRefusal}
 use Rattle.fbl_group.specs.declared.refusals.CommitRefusal.TheVariants as commit
 use Rattle.fbl_group.specs.declared.ticket.Ticket.{Ticket}
-use Rattle.fbl_group.specs.Deliveries.{front, is_full}
+use Rattle.fbl_group.specs.Channels.{front}
 
 -- no message is on the channel
 abbrev pub empty_refusal : Option Message → Option TakeRefusal
@@ -41,6 +41,15 @@ same_note a b = (a.value == b.value) && (a.hops == b.hops)
 -- whether the receiver's record and the message are still the ticket's
 abbrev pub is_current : MemberRecord → Message → Ticket → Bool
 is_current m v t = (m.state == t.state) && ((m.received + 1 == t.rsn) && ((v.ssn == t.ssn) && same_note v.note t.note))
+
+-- whether a trace of this limit and length has no room for a receipt and this many sends, or the counter of receipts,
+-- which is kept in 64 bits, can't rise
+abbrev pub has_no_room : ℕ → ℕ → ℕ → ℕ → Bool
+has_no_room limit len ever sends = nat_lt limit (len + 1 + sends) || (ever == 18446744073709551615)
+
+-- the same of a group
+abbrev pub is_full : GroupRecord → ℕ → Bool
+is_full r sends = has_no_room r.config.limit (length r.trace) r.receipts_ever sends
 
 -- why a step of this many sends can't be committed, by the front of its channel
 abbrev pub stale_or_full : GroupRecord → Ticket → ℕ → Option Message → Option CommitRefusal

@@ -1,10 +1,10 @@
 //! The channels: for each sender one to each receiver, with its messages in flight, first in, first out.
 
-ghost use Rattle.std.specs.Prelude.{◌≡◌, ℕ, ◌<◌, ◌≤◌, ◌+◌, ◌*◌, ◌++◌, ◌∷◌, ◌||◌, ◌==◌, not, [], length, map, drop, replicate, slice_get, slice_index_or, slice_set, IfOk, OnOk, IfSome, IfNone, None, Some, vec_len, vec_capacity};
+ghost use Rattle.std.specs.Prelude.{◌≡◌, ◌≢◌, ℕ, ◌<◌, ◌≤◌, ◌+◌, ◌*◌, ◌++◌, ◌∷◌, ◌||◌, ◌==◌, not, [], length, map, drop, replicate, slice_get, slice_index_or, slice_set, IfOk, OnOk, IfSome, IfNone, None, Some, vec_len, vec_capacity};
 ghost use Rattle.std.specs.List.{All};
 ghost use Rattle.std.specs.FinSet as set;
 ghost use Rattle.fbl_law.specs.Groups.{HasChannels, channel_in, sum_below, messages_in};
-ghost use Rattle.fbl_group.specs.Channels.{queued, queued_rows, rooms, with_sent, send_of_message};
+ghost use Rattle.fbl_group.specs.Channels.{queued, queued_rows, rooms, room_in, with_sent, taken_and_sent, send_of_message};
 
 use fbl_base::{Event, Member, MemberSet, Note};
 use fbl_member::Wire;
@@ -78,15 +78,30 @@ pub(crate) fn front<A: Allocator>(
 }
 
 /// Takes the front off the channel to the member.
-pub(crate) fn take_front<A: Allocator>(outgoing: &mut Outgoing<A>, to: Member)
+fn take_front<A: Allocator>(outgoing: &mut Outgoing<A>, to: Member)
     requires { to < vec_len outgoing.old }
     ensures { queued outgoing.new.items ≡ slice_set (queued outgoing.old.items) to (drop 1 (slice_index_or (queued outgoing.old.items) to [])) }
 {
     let _ = outgoing[usize::from(to.number())].wires.pop_front();
 }
 
+/// Makes room on the member's channels for a message of each of these sends, or for those before it, where memory is
+/// wanting.
+pub(crate) fn reserve_from<A: Allocator>(
+    channels: &mut Channels<A>,
+    from: Member,
+    sends: &[(Member, Note)],
+) -> Result<(), AllocError>
+    requires from { from < length (queued_rows channels.old.items) }
+    requires receivers { All (λ send. send.0 < length (slice_index_or (queued_rows channels.old.items) from [])) sends.now }
+    ensures same { queued_rows channels.new.items ≡ queued_rows channels.old.items }
+    ensures room { OnOk result (All (λ send. length sends.now ≤ room_in channels.new.items from send.0) sends.now) }
+{
+    reserve_for(&mut channels[usize::from(from.number())], sends)
+}
+
 /// Makes room for a message of each of these sends on its channel, or for those before it, where memory is wanting.
-pub(crate) fn reserve_for<A: Allocator>(
+fn reserve_for<A: Allocator>(
     outgoing: &mut Outgoing<A>,
     sends: &[(Member, Note)],
 ) -> Result<(), AllocError>
@@ -128,8 +143,31 @@ fn send_of<A: Allocator>(wire: &Wire<A>) -> Event
     }
 }
 
+/// Takes the front off the channel from one member to another, and puts these messages of the other at the ends of their
+/// channels, and their sends onto the trace. There is room for both.
+pub(crate) fn take_and_send<A: Allocator>(
+    channels: &mut Channels<A>,
+    from: Member,
+    to: Member,
+    wires: Vec<Wire<A>, A>,
+    trace: &mut Vec<Event, A>,
+)
+    requires from { from < length (queued_rows channels.old.items) }
+    requires to { to < length (queued_rows channels.old.items) }
+    requires channel { to < length (slice_index_or (queued_rows channels.old.items) from []) }
+    requires apart { from ≢ to }
+    requires receivers { All (λ wire. wire.to < length (slice_index_or (queued_rows channels.old.items) to [])) wires.items }
+    requires room { All (λ wire. length wires.items ≤ room_in channels.old.items to wire.to) wires.items }
+    requires trace { vec_len trace.old + vec_len wires ≤ vec_capacity trace.old }
+    ensures channels { queued_rows channels.new.items ≡ taken_and_sent (queued_rows channels.old.items) from to wires.items }
+    ensures trace { trace.new.items ≡ trace.old.items ++ map send_of_message wires.items }
+{
+    take_front(&mut channels[usize::from(from.number())], to);
+    send_all(wires, &mut channels[usize::from(to.number())], trace);
+}
+
 /// Puts the messages of a member at the ends of their channels, and their sends onto the trace. There is room for both.
-pub(crate) fn send_all<A: Allocator>(
+fn send_all<A: Allocator>(
     wires: Vec<Wire<A>, A>,
     outgoing: &mut Outgoing<A>,
     trace: &mut Vec<Event, A>,

@@ -1,13 +1,13 @@
 //! Steps that are made apart from the record: a ticket is taken, and the step is committed later.
 
-ghost use Rattle.std.specs.Prelude.{◌≡◌, ◌+◌, ◌<◌, IfOk, IfErr, OnOk, OnErr, None, Some};
+ghost use Rattle.std.specs.Prelude.{◌≡◌, ◌+◌, ◌<◌, ◌≤◌, IfOk, IfErr, OnOk, OnErr, None, Some};
 ghost use Rattle.fbl_member.specs.Members.{Message};
-ghost use Rattle.fbl_group.specs.Deliveries.{front as front_of, Delivers, IsPlanned};
-ghost use Rattle.fbl_group.specs.Tickets.{take_refusal, IsTicket, commit_refusal, IsCommitRefusal, is_current as is_current_of};
+ghost use Rattle.fbl_group.specs.Channels.{front as front_of};
+ghost use Rattle.fbl_group.specs.Deliveries.{Delivers, IsPlanned};
+ghost use Rattle.fbl_group.specs.Tickets.{has_no_room, take_refusal, IsTicket, commit_refusal, IsCommitRefusal, is_current as is_current_of};
 
 use crate::answers::Receipted;
 use crate::channels::front;
-use crate::deliver::is_full;
 use crate::group::Group;
 use crate::refusals::{CommitRefusal, TakeRefusal};
 use crate::ticket::{Done, Ticket};
@@ -20,6 +20,7 @@ impl<B: Behaviour, A: Allocator + Copy> Group<B, A> {
     /// its channel.
     pub fn take(&self, to: Member, from: Member) -> Result<Ticket, TakeRefusal>
         ensures taken { IfOk result (λ ticket. (take_refusal self.now to from ≡ None) × ((v : Message) × (front_of self.now from to ≡ Some v) × IsTicket self.now v ticket)) }
+        ensures ends { IfOk result (λ ticket. (ticket.to ≡ to) × (ticket.from ≡ from)) }
         ensures refused { IfErr result (λ refusal. take_refusal self.now to from ≡ Some refusal) }
     {
         let n = self.config.members();
@@ -52,7 +53,7 @@ impl<B: Behaviour, A: Allocator + Copy> Group<B, A> {
         ensures unchanged { OnErr result (self.new ≡ self.old) }
     {
         self.plan_commit(done)?;
-        match self.carry_out(done.ticket.to, done.ticket.from, &done.outcome) {
+        match self.settle(done) {
             Ok(answer) => Ok(answer),
             Err(_) => Err(CommitRefusal::Memory),
         }
@@ -98,4 +99,13 @@ fn is_current<A: Allocator + Copy>(member: &MemberRec<A>, wire: &Wire<A>, ticket
         && u64::from(member.received()) + 1 == u64::from(ticket.rsn)
         && wire.ssn() == ticket.ssn
         && wire.note() == ticket.note
+}
+
+/// Whether a trace of this limit and length has no room for a receipt and this many sends, or the counter can't rise.
+fn is_full(limit: u32, len: usize, ever: u64, sends: usize) -> bool
+    requires len { len ≤ 8192 }
+    requires sends { sends ≤ 4 }
+    ensures { result ≡ has_no_room limit len ever sends }
+{
+    (limit as usize) < len + 1 + sends || ever == u64::MAX
 }

@@ -10,6 +10,7 @@ mod deliver;
 mod dump;
 mod group;
 mod readers;
+mod rebuilt;
 mod recover;
 mod refusals;
 mod replay;

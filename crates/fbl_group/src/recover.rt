@@ -1,15 +1,11 @@
 //! Recovery of the members that are down.
 
-ghost use Rattle.std.specs.Prelude.{◌≡◌, ℕ, ◌+◌, ◌-◌, ◌<◌, ◌≤◌, ◌||◌, [], if◌then◌else◌, length, map, slice_index_or, IfOk, IfErr, OnErr, OnOk, vec_len};
-ghost use Rattle.std.specs.List.{filter};
+ghost use Rattle.std.specs.Prelude.{◌≡◌, ℕ, ◌<◌, ◌≤◌, ◌||◌, [], if◌then◌else◌, length, map, slice_index_or, IfOk, IfErr, OnErr, OnOk, vec_len};
 ghost use Rattle.std.specs.Option.{is_some};
 ghost use Rattle.std.specs.FinSet as set;
 ghost use Rattle.fbl_base.specs.Events.{mark_of, determinant_of};
-ghost use Rattle.fbl_member.specs.Members.{blank};
-ghost use Rattle.fbl_law.specs.Groups.{HasChannels, receipts};
-ghost use Rattle.fbl_law.specs.Replaying.{stays_by, count_in};
+ghost use Rattle.fbl_law.specs.Groups.{HasChannels, channel_in, receipts};
 ghost use Rattle.fbl_group.specs.Channels.{queued, queued_rows, AreReplaced};
-ghost use Rattle.fbl_group.specs.Rebuilding.{IsPutBack};
 ghost use Rattle.fbl_group.specs.Promises.{GainsHolders, LeavesRecorded, RecordsFirst};
 ghost use Rattle.fbl_group.specs.Recoveries.{Recovers, IsRecoverRefusal};
 ghost use Rattle.fbl_group.specs.Strikes.{lost_receipts};
@@ -19,7 +15,6 @@ use crate::channels::{Channels, Outgoing, count_messages, has_either};
 use crate::group::Group;
 use crate::refusals::RecoverRefusal;
 use fbl_base::{Behaviour, Event, Member, MemberSet};
-use fbl_member::MemberRec;
 use std::alloc::{AllocError, Allocator};
 use std::mem;
 
@@ -54,16 +49,15 @@ impl<B: Behaviour, A: Allocator + Copy> Group<B, A> {
         ensures unchanged { OnErr result (self.new ≡ self.old) }
     {
         let rebuilt = self.rebuild()?;
-        let again = self.resend(rebuilt.as_slice())?;
-        let down = self.down;
+        let again = self.resend(rebuilt.records.as_slice())?;
         let n = self.config.members();
-        let replayed = count_replayed(rebuilt.as_slice(), self.checkpoints.as_slice(), down, n);
+        let replayed = rebuilt.replayed(self.checkpoints.as_slice(), n);
         let resent = count_messages(&again, n) as u32;
         let before = count_receipts(self.trace.as_slice());
-        cut(&mut self.trace, down, &rebuilt);
+        rebuilt.cut(&mut self.trace);
         let undone = before - count_receipts(self.trace.as_slice());
-        put_back(&mut self.members, rebuilt, down, n);
-        replace_channels(&mut self.channels, again, down, n);
+        rebuilt.put_back(&mut self.members, n);
+        replace_channels(&mut self.channels, again, self.down, n);
         self.down = MemberSet::empty();
         self.undone_ever += u64::from(undone);
         Ok(Recovered {
@@ -71,61 +65,6 @@ impl<B: Behaviour, A: Allocator + Copy> Group<B, A> {
             resent,
             undone,
         })
-    }
-}
-
-/// How many receipts the members of the set have beyond their checkpoints, of `n`.
-fn count_replayed<A: Allocator + Copy>(
-    rebuilt: &[MemberRec<A>],
-    checkpoints: &[MemberRec<A>],
-    down: MemberSet,
-    n: u8,
-) -> u32
-    requires { n ≤ 16 }
-    ensures { result ≡ count_in down (λ p. (slice_index_or rebuilt.now p blank).received - (slice_index_or checkpoints.now p blank).received) n }
-{
-    let mut replayed = 0;
-    for number in 0..n {
-        replayed += replayed_by(rebuilt, checkpoints, down, Member::new(number).unwrap());
-    }
-    replayed
-}
-
-/// How many receipts the member has beyond its checkpoint, if it is one of the set.
-fn replayed_by<A: Allocator + Copy>(
-    rebuilt: &[MemberRec<A>],
-    checkpoints: &[MemberRec<A>],
-    down: MemberSet,
-    member: Member,
-) -> u32
-    ensures value { result ≡ (if set.contains down member then (slice_index_or rebuilt.now member blank).received - (slice_index_or checkpoints.now member blank).received else 0) }
-    ensures bound { result ≤ 8192 }
-{
-    if down.has(member) {
-        received_by(rebuilt, member).saturating_sub(received_by(checkpoints, member))
-    } else {
-        0
-    }
-}
-
-/// How many receipts the member has.
-fn received_by<A: Allocator + Copy>(rebuilt: &[MemberRec<A>], member: Member) -> u32
-    ensures value { result ≡ (slice_index_or rebuilt.now member blank).received }
-    ensures bound { result ≤ 8192 }
-{
-    match rebuilt.get(usize::from(member.number())) {
-        Some(record) => record.received(),
-        None => 0,
-    }
-}
-
-/// How many messages the member has sent.
-fn sent_by<A: Allocator + Copy>(rebuilt: &[MemberRec<A>], member: Member) -> u32
-    ensures { result ≡ length (slice_index_or rebuilt.now member blank).log }
-{
-    match rebuilt.get(usize::from(member.number())) {
-        Some(record) => record.sent(),
-        None => 0,
     }
 }
 
@@ -145,62 +84,6 @@ fn is_receipt(event: Event) -> bool
     event.mark().determinant().is_some()
 }
 
-/// Drops the events that come after the replay of the members that are down.
-fn cut<A: Allocator + Copy>(
-    trace: &mut Vec<Event, A>,
-    down: MemberSet,
-    rebuilt: &Vec<MemberRec<A>, A>,
-)
-    ensures { trace.new.items ≡ filter (λ e. stays_by down (λ p. slice_index_or rebuilt.now.items p blank) (mark_of e)) trace.old.items }
-{
-    trace.retain(|event| stays(down, rebuilt, event));
-}
-
-/// Whether the event's member is up, or has come as far again as the event.
-fn stays<A: Allocator + Copy>(
-    down: MemberSet,
-    rebuilt: &Vec<MemberRec<A>, A>,
-    event: &Event,
-) -> bool
-    ensures { result ≡ stays_by down (λ p. slice_index_or rebuilt.now.items p blank) (mark_of event.now) }
-{
-    match *event {
-        Event::Send {
-            from,
-            ssn,
-            to: _,
-            note: _,
-        } => !down.has(from) || ssn <= sent_by(rebuilt.as_slice(), from),
-        Event::Receipt {
-            to,
-            rsn,
-            from: _,
-            ssn: _,
-        } => !down.has(to) || rsn <= received_by(rebuilt.as_slice(), to),
-    }
-}
-
-/// Puts the records that were rebuilt in the places of the members that are down, of `n`.
-fn put_back<A: Allocator + Copy>(
-    members: &mut Vec<MemberRec<A>, A>,
-    rebuilt: Vec<MemberRec<A>, A>,
-    down: MemberSet,
-    n: u8,
-)
-    requires members { vec_len members.old ≡ n }
-    requires rebuilt { vec_len rebuilt ≡ n }
-    requires few { n ≤ 16 }
-    ensures { IsPutBack down rebuilt.items members.old.items members.new.items }
-{
-    let mut rebuilt = rebuilt;
-    for number in 0..n {
-        let place = usize::from(number);
-        if down.has(Member::new(number).unwrap()) {
-            mem::swap(&mut members[place], &mut rebuilt[place]);
-        }
-    }
-}
-
 /// Puts the channels that were made again in the places of those with an end that is down, of `n` members.
 fn replace_channels<A: Allocator>(
     channels: &mut Channels<A>,
@@ -211,7 +94,7 @@ fn replace_channels<A: Allocator>(
     requires shape { HasChannels n (queued_rows channels.old.items) }
     requires again { HasChannels n (queued_rows again.items) }
     requires few { n ≤ 16 }
-    ensures { AreReplaced n down (queued_rows again.items) (queued_rows channels.old.items) (queued_rows channels.new.items) }
+    ensures { AreReplaced n down (channel_in (queued_rows again.items)) (queued_rows channels.old.items) (queued_rows channels.new.items) }
 {
     let mut again = again;
     for number in 0..n {

@@ -11,6 +11,7 @@ ghost use Rattle.fbl_law.specs.Replaying.{gathered_table, working, IsReplaying};
 ghost use Rattle.fbl_group.specs.Rebuilding.{AreByNumber, IsGathered, Tries, Rounds, HasReplayed, IsReady};
 
 use crate::group::Group;
+use crate::rebuilt::Rebuilt;
 use fbl_base::{Behaviour, Determinant, Member, Note};
 use fbl_member::MemberRec;
 use fbl_table::{Receipts, Table};
@@ -36,14 +37,18 @@ impl<A: Allocator + Copy> Gathered<A> {
 
 impl<B: Behaviour, A: Allocator + Copy> Group<B, A> {
     /// The records with which the members that are down come back. The others' are blank.
-    pub(crate) fn rebuild(&self) -> Result<Vec<MemberRec<A>, A>, AllocError>
-        ensures { IfOk result (λ rebuilt. IsReady B.next self.now rebuilt.items) }
+    pub(crate) fn rebuild(&self) -> Result<Rebuilt<A>, AllocError>
+        ensures ready { IfOk result (λ rebuilt. IsReady B.next self.now rebuilt.records.items) }
+        ensures down { IfOk result (λ rebuilt. rebuilt.down ≡ self.now.down) }
     {
         let gathered = self.gather()?;
         let mut rebuilt = self.begin()?;
         while self.replay_round(&gathered, &mut rebuilt)? {}
         self.give_tables(&gathered.table, &mut rebuilt)?;
-        Ok(rebuilt)
+        Ok(Rebuilt {
+            down: self.down,
+            records: rebuilt,
+        })
     }
 
     /// The gathered table, and the receipts that it has of each member that is down.

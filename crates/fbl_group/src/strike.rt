@@ -6,9 +6,9 @@ ghost use Rattle.std.specs.FinSet as sets;
 ghost use Rattle.fbl_table.specs.Tables.{is_held};
 ghost use Rattle.fbl_law.specs.Record.{IsOrphan};
 ghost use Rattle.fbl_law.specs.Groups.{HasChannels, knowledge};
-ghost use Rattle.fbl_group.specs.Channels.{queued, queued_rows, AreEmptied};
+ghost use Rattle.fbl_group.specs.Channels.{queued, queued_rows, AreReplaced};
 ghost use Rattle.fbl_group.specs.Promises.{SurvivorsHold, RecordsFirst, RecordsCauses};
-ghost use Rattle.fbl_group.specs.Strikes.{strike_refusal, Strikes, IsBlanked, is_lost_of};
+ghost use Rattle.fbl_group.specs.Strikes.{strike_refusal, Strikes, IsBlanked, is_lost as is_lost_of};
 
 use crate::answers::Struck;
 use crate::channels::{Channels, Outgoing, has_either};
@@ -134,7 +134,7 @@ fn blank_members<A: Allocator + Copy>(
 fn drop_at<A: Allocator>(channels: &mut Channels<A>, set: MemberSet, n: u8)
     requires shape { HasChannels n (queued_rows channels.old.items) }
     requires few { n ≤ 16 }
-    ensures { AreEmptied n set (queued_rows channels.old.items) (queued_rows channels.new.items) }
+    ensures { AreReplaced n set (λ q p. []) (queued_rows channels.old.items) (queued_rows channels.new.items) }
 {
     for number in 0..n {
         let from = Member::new(number).unwrap();

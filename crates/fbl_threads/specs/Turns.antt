@@ -9,7 +9,8 @@ use Rattle.fbl_group.specs.declared.answers.Receipted.{Receipted}
 use Rattle.fbl_group.specs.declared.answers.Struck.{Struck}
 use Rattle.fbl_group.specs.declared.answers.Recovered.{Recovered}
 use Rattle.fbl_group.specs.declared.ticket.Ticket.{Ticket}
-use Rattle.fbl_group.specs.Deliveries.{front, Delivers}
+use Rattle.fbl_group.specs.Channels.{front}
+use Rattle.fbl_group.specs.Deliveries.{Delivers}
 use Rattle.fbl_group.specs.Tickets.{take_refusal, IsTicket, commit_refusal, IsCommitRefusal}
 use Rattle.fbl_group.specs.Readers.{is_quiet}
 use Rattle.fbl_group.specs.Strikes.{strike_refusal}

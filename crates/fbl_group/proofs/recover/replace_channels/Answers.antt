@@ -4,7 +4,7 @@ use Rattle.std.specs.FinSet as set
 use Rattle.fbl_member.specs.Members.{Message}
 use Rattle.fbl_law.specs.Groups.{channel_in}
 use Rattle.fbl_group.specs.Channels.{queued, queued_rows}
-use Rattle.fbl_group.proofs.Recovering.{numbered}
+use Rattle.fbl_group.proofs.MemberNumbers.{numbered}
 use Rattle.fbl_group.proofs.Queues.{row-at, rows-long, row-long, turned-row}
 use Rattle.fbl_group.proofs.recover.replace_channels.Goals as goal
 

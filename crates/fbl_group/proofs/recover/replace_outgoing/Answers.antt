@@ -2,7 +2,7 @@ use Rattle.std.proofs.Common.{◌≡◌, ◌<◌, ◌||◌, cond, [], length, sy
 use Rattle.std.specs.Prelude.{slice_index_or}
 use Rattle.std.specs.FinSet as set
 use Rattle.fbl_group.specs.Channels.{queued}
-use Rattle.fbl_group.proofs.Recovering.{numbered}
+use Rattle.fbl_group.proofs.MemberNumbers.{numbered}
 use Rattle.fbl_group.proofs.Queues.{same-items, queued-long, queued-at, turned-channel, turned-kept}
 use Rattle.fbl_group.proofs.recover.replace_outgoing.Goals as goal
 use Rattle.fbl_group.proofs.recover.replace_outgoing.Goals.{then-has_either, else-has_either}

@@ -1,7 +1,7 @@
 use Rattle.std.proofs.Common.{◌≡◌, ◌<◌, ap, ◌∙◌, arith}
 use Rattle.std.proofs.lemmas.List.{length-set}
 use Rattle.fbl_law.specs.Groups.{checkpoint}
-use Rattle.fbl_group.proofs.Recovering.{numbered}
+use Rattle.fbl_group.proofs.MemberNumbers.{numbered}
 use Rattle.fbl_threads.proofs.Saved.{saved-more}
 use Rattle.fbl_threads.proofs.past.saved_receipts.Goals as goal
 

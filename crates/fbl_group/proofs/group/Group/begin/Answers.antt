@@ -4,7 +4,8 @@ use Rattle.std.specs.FinSet as set
 use Rattle.fbl_member.specs.Members.{MemberRecord, blank}
 use Rattle.fbl_law.specs.Groups.{GroupRecord, checkpoint}
 use Rattle.fbl_law.specs.Sound.{IsSound}
-use Rattle.fbl_group.proofs.Recovering.{numbered, begun-at, begun}
+use Rattle.fbl_group.proofs.MemberNumbers.{numbered}
+use Rattle.fbl_group.proofs.Recovering.{begun-at, begun}
 use Rattle.fbl_group.proofs.group.Group.begin.Goals as goal
 
 pub loop-number-preserved : goal.loop-number-preserved

@@ -5,7 +5,8 @@ use Rattle.fbl_table.specs.Tables.{gathered}
 use Rattle.fbl_member.specs.Members.{MemberRecord}
 use Rattle.fbl_law.specs.Groups.{GroupRecord}
 use Rattle.fbl_law.specs.Steps.{gathered_all, saved_tables}
-use Rattle.fbl_group.proofs.Recovering.{numbered, saved-step, saved-skip}
+use Rattle.fbl_group.proofs.MemberNumbers.{numbered}
+use Rattle.fbl_group.proofs.Recovering.{saved-step, saved-skip}
 use Rattle.fbl_group.proofs.group.Group.gather_saved.Goals as goal
 use Rattle.fbl_group.proofs.group.Group.gather_saved.Goals.{then-has+in_ok-gather, else-has}
 

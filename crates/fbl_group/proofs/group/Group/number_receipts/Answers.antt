@@ -4,7 +4,8 @@ use Rattle.std.specs.FinSet as set
 use Rattle.fbl_base.specs.declared.trace.Determinant.{Determinant}
 use Rattle.fbl_table.specs.Receipts.{IsByNumber}
 use Rattle.fbl_law.specs.Groups.{GroupRecord}
-use Rattle.fbl_group.proofs.Recovering.{numbered, each-more}
+use Rattle.fbl_group.proofs.MemberNumbers.{numbered}
+use Rattle.fbl_group.proofs.Recovering.{each-more}
 use Rattle.fbl_group.proofs.group.Group.number_receipts.Goals as goal
 
 pub loop-number-preserved : goal.loop-number-preserved

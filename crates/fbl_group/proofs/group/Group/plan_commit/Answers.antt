@@ -1,8 +1,7 @@
 use Rattle.std.proofs.Common.{rules, ◌≡◌, length, get_or, arith, sym, ◌∙◌}
 use Rattle.fbl_member.specs.Members.{blank}
 use Rattle.fbl_group.specs.Channels.{queued_rows}
-use Rattle.fbl_group.specs.Deliveries.{has_no_room}
-use Rattle.fbl_group.specs.Tickets.{is_current}
+use Rattle.fbl_group.specs.Tickets.{has_no_room, is_current}
 use Rattle.fbl_group.proofs.Queues.{read_any}
 use Rattle.fbl_group.proofs.Deciding as deciding
 use Rattle.fbl_group.proofs.group.Group.plan_commit.Goals as goal

@@ -3,7 +3,8 @@ use Rattle.std.specs.FinSet as set
 use Rattle.fbl_law.specs.Groups.{GroupRecord}
 use Rattle.fbl_law.specs.Sound.{IsSound}
 use Rattle.fbl_group.specs.Rebuilding.{Tries}
-use Rattle.fbl_group.proofs.Recovering.{numbered, tried-replaying, round-moved, round-waits, round-up}
+use Rattle.fbl_group.proofs.MemberNumbers.{numbered}
+use Rattle.fbl_group.proofs.Recovering.{tried-replaying, round-moved, round-waits, round-up}
 use Rattle.fbl_group.proofs.group.Group.replay_round.Goals as goal
 use Rattle.fbl_group.proofs.group.Group.replay_round.Goals.{then-has+in_ok-replay_next+then-branch, then-has+in_ok-replay_next+else-branch, else-has}
 

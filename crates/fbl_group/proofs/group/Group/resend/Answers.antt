@@ -2,7 +2,7 @@ use Rattle.std.proofs.Common.{◌≡◌, ℕ, ◌<◌, [], length, ap, ◌∙◌
 use Rattle.std.specs.Prelude.{slice_index_or}
 use Rattle.fbl_law.specs.Groups.{GroupRecord}
 use Rattle.fbl_law.specs.Replaying.{working, sent_again}
-use Rattle.fbl_group.proofs.Recovering.{numbered, is-made}
+use Rattle.fbl_group.proofs.MemberNumbers.{numbered, is-made}
 use Rattle.fbl_group.proofs.Queues.{made-row}
 use Rattle.fbl_group.proofs.group.Group.resend.Goals as goal
 

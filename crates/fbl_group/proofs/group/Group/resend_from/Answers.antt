@@ -1,7 +1,7 @@
 use Rattle.std.proofs.Common.{◌≡◌, [], ap, ◌∙◌, arith}
 use Rattle.fbl_law.specs.Groups.{GroupRecord}
 use Rattle.fbl_law.specs.Replaying.{working, sent_again}
-use Rattle.fbl_group.proofs.Recovering.{numbered, is-made}
+use Rattle.fbl_group.proofs.MemberNumbers.{numbered, is-made}
 use Rattle.fbl_group.proofs.Queues.{made-none, made-channel}
 use Rattle.fbl_group.proofs.group.Group.resend_from.Goals as goal
 

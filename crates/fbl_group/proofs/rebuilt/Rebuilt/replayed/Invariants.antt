@@ -2,10 +2,10 @@ use Rattle.std.proofs.Common.{◌≡◌, ◌-◌, ◌≤◌, ◌*◌}
 use Rattle.std.specs.Prelude.{slice_index_or}
 use Rattle.fbl_member.specs.Members.{blank}
 use Rattle.fbl_law.specs.Replaying.{count_in}
-use Rattle.fbl_group.proofs.recover.count_replayed.Given as goal
+use Rattle.fbl_group.proofs.rebuilt.Rebuilt.replayed.Given as goal
 
 abbrev pub invariant-loop-number : goal.invariant-loop-number
 invariant-loop-number g l = record {
-  counted : l.replayed ≡ count_in l.down (λ p. (slice_index_or l.rebuilt p blank).received - (slice_index_or l.checkpoints p blank).received) l.number;
+  counted : l.replayed ≡ count_in l.self.down (λ p. (slice_index_or l.self.records.items p blank).received - (slice_index_or l.checkpoints p blank).received) l.number;
   bound : l.replayed ≤ l.number * 8192;
 }

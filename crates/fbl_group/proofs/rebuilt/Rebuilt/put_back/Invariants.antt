@@ -1,0 +1,5 @@
+use Rattle.fbl_group.proofs.PuttingBack.{Putting}
+use Rattle.fbl_group.proofs.rebuilt.Rebuilt.put_back.Given as goal
+
+abbrev pub invariant-loop-number : goal.invariant-loop-number
+invariant-loop-number g l = Putting l.down l.initial.records.items l.initial.members.items l.number l.members.items l.records.items

@@ -1,5 +1,0 @@
-use Rattle.fbl_group.proofs.PuttingBack.{Putting}
-use Rattle.fbl_group.proofs.recover.put_back.Given as goal
-
-abbrev pub invariant-loop-number : goal.invariant-loop-number
-invariant-loop-number g l = Putting l.down l.initial.rebuilt.items l.initial.members.items l.number l.members.items l.rebuilt.items
