@@ -15,6 +15,9 @@ use fbl_table::{Entry, Table};
 use std::alloc::{AllocError, Allocator, Global};
 use std::marker::Model;
 
+/// How many entries a list may leave room for that it has no use for.
+const SPARE: usize = 32;
+
 /// What a member keeps in memory: its state, how many receipts it has had, the number of the last message from each
 /// member, its sends in order, and its table.
 ///
@@ -301,7 +304,19 @@ fn put_wires<A: Allocator + Copy>(
         let number = before + place as u32 + 1;
         let mut carried = lists.take_last();
         fill_carried(&mut carried, wires.last(), table, f);
+        give_room_back(&mut carried);
         wires.push_reserved(Wire::new(me, send.0, number, send.1, carried));
+    }
+}
+
+/// Gives back the room that a list turned out not to need, if it is much: how many of the carried entries are new shows only
+/// once the table has taken them in, and by then a want of memory has no call to refuse. Where the smaller list can't be
+/// had, it stays as it is.
+fn give_room_back<A: Allocator>(carried: &mut Vec<Entry, A>)
+    ensures { carried.new.items ≡ carried.old.items }
+{
+    if carried.capacity().saturating_sub(carried.len()) > SPARE {
+        carried.shrink_to_fit();
     }
 }
 

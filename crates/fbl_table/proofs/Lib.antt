@@ -2,3 +2,4 @@ pub mod Adding
 pub mod Indexing
 pub mod Passing
 pub mod Numbering
+mod Distinct

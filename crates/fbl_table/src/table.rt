@@ -210,6 +210,9 @@ impl<A: Allocator + Copy> Table<A> {
         ensures gathered { OnOk result (self.new ≡ gathered self.old other.now) }
         ensures unchanged { OnErr result (self.new ≡ self.old) }
     {
+        if self.entries.is_empty() && self.limit == other.limit {
+            return self.gather_first(other);
+        }
         self.entries.reserve(other.len())?;
         self.open_places.reserve(other.len())?;
         let mut likely = 0;
@@ -219,6 +222,18 @@ impl<A: Allocator + Copy> Table<A> {
             likely = found.saturating_add(1);
         }
         prune(&self.entries, &mut self.open_places, self.limit);
+        Ok(())
+    }
+
+    /// Takes in the entries of another table where there are none yet: it becomes a copy, so that no entry is hashed.
+    fn gather_first(&mut self, other: &Table<A>) -> Result<(), AllocError>
+        requires { self.old ≡ [] }
+        ensures gathered { OnOk result (self.new ≡ gathered self.old other.now) }
+        ensures unchanged { OnErr result (self.new ≡ self.old) }
+    {
+        // `len` tells that no two of the other's determinants are the same.
+        let _len = other.len();
+        *self = other.copy()?;
         Ok(())
     }
 

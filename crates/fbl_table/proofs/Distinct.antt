@@ -1,0 +1,44 @@
+-- A table's entries added in turn to none give the table.
+use Rattle.std.proofs.Common.{◌≡◌, Bool, true, false, ◌||◌, ◌×◌, List, [], ◌∷◌, ◌++◌, map, refl, sym, ap, ◌∙◌}
+use Rattle.std.proofs.Math.Seq.{append-nil, append_assoc}
+use Rattle.std.proofs.lemmas.Bool.{false≢true}
+use Rattle.std.proofs.lemmas.List.Folds.{list_any-append}
+use Rattle.std.specs.List.{fold, AllByRecursion, IsDistinct}
+use Rattle.fbl_base.specs.declared.trace.Determinant.{Determinant}
+use Rattle.fbl_base.specs.Events.{same_determinant}
+use Rattle.fbl_base.proofs.Recorded.{Decides-same_determinant}
+use Rattle.fbl_table.specs.declared.entry.Entry.{Entry}
+use Rattle.fbl_table.specs.Tables.{is_held, added, gathered}
+use Rattle.fbl_table.proofs.Indexing.{added-new}
+
+apart-turned : (a b : Determinant) → same_determinant a b ≡ false → same_determinant b a ≡ false
+apart-turned a b apart = at (same_determinant b a) refl where
+  at : (c : Bool) → same_determinant b a ≡ c → same_determinant b a ≡ false
+  at true is = absurd (false≢true (sym apart ∙ (Decides-same_determinant a b).1 (sym ((Decides-same_determinant b a).0 is))))
+  at false is = is
+
+-- none of the rest is held by the first entries
+Apart : List Entry → List Entry → Type 0
+Apart first rest = AllByRecursion (λ (e : Entry). is_held first e.det ≡ false) rest
+
+apart-more : (first rest : List Entry) (e : Entry) → Apart first rest → AllByRecursion (λ d. same_determinant e.det d ≡ false) (map (λ (x : Entry). x.det) rest) → Apart (first ++ e ∷ []) rest
+apart-more first [] e apart once = tt
+apart-more first (x ∷ rest) e apart once =
+    let one : is_held (first ++ e ∷ []) x.det ≡ false =
+      list_any-append (λ (y : Entry). same_determinant x.det y.det) first (e ∷ []) ∙ ap (λ b. b || (same_determinant x.det e.det || false)) apart.0 ∙ ap (λ b. b || false) (apart-turned e.det x.det once.0) in
+    (one, apart-more first rest e apart.1 once.1)
+
+added-apart : (first rest : List Entry) → Apart first rest → IsDistinct same_determinant (map (λ (e : Entry). e.det) rest) → fold added first rest ≡ first ++ rest
+unfolding IsDistinct
+added-apart first [] apart once = sym (append-nil first)
+added-apart first (e ∷ rest) apart once =
+    ap (λ (t : List Entry). fold added t rest) (added-new first e apart.0)
+    ∙ added-apart (first ++ e ∷ []) rest (apart-more first rest e apart.1 once.0) once.1
+    ∙ append_assoc first (e ∷ []) rest
+
+none-held : (rest : List Entry) → Apart [] rest
+none-held [] = tt
+none-held (e ∷ rest) = (refl, none-held rest)
+
+pub gathered-first : (table : List Entry) → IsDistinct same_determinant (map (λ (e : Entry). e.det) table) → gathered [] table ≡ table
+gathered-first table once = added-apart [] table (none-held table) once
