@@ -17,6 +17,7 @@ impl Behaviour for Account {
         requires most { n ≤ 16 }
         requires member { me < n }
         ensures step { result ≡ account_step me n state note }
+        // No money is made or lost.
         ensures conserved { result.state + sent result ≡ state + note.value }
     {
         let next = Member::new((me.number() + 1) % n).unwrap();
