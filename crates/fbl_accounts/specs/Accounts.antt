@@ -1,0 +1,27 @@
+-- What an account does with a payment.
+use Rattle.std.specs.Prelude.{◌≢◌, ℕ, ◌+◌, ◌-◌, ◌/◌, ◌%◌, ◌^◌, ◌<◌, ◌≤◌, ◌==◌, nat_lt, max, min, sum_by, if◌then◌else◌}
+use Rattle.std.proofs.Common.{arith}
+use Rattle.std.proofs.lemmas.Bool.Decides.{nat_tests}
+use Rattle.fbl_base.specs.Steps.{SendsAllowed, onward}
+use Rattle.fbl_base.specs.declared.trace.Note.{Note}
+use Rattle.fbl_base.specs.declared.outcome.Outcome.{Outcome}
+
+-- the payment is taken in, and half of the balance is paid to the next account if hops are left. A payment for which there
+-- is no room is paid on, by one hop at least
+abbrev pub account_step : ℕ → ℕ → ℕ → Note → Outcome
+account_step me n state note =
+    let balance = state + note.value in
+    let amount = (if note.hops == 0 then 0 else min (balance / 2) (2 ^ 32 - 1)) in
+    if nat_lt balance (2 ^ 64) then onward (balance - amount) ((me + 1) % n) amount note.hops
+    else onward state ((me + 1) % n) note.value (max note.hops 1)
+
+-- what an outcome sends in all
+abbrev pub sent : Outcome → ℕ
+sent outcome = sum_by (λ s. s.1.value) outcome.sends.items
+
+-- the next account is another one
+elsewhere : (me n : ℕ) → 2 ≤ n → me < n → (me + 1) % n ≢ me
+elsewhere me n least member = grind (arith, nat_tests)
+
+pub account_sends_allowed : (me n state : ℕ) (note : Note) → 2 ≤ n → me < n → SendsAllowed me n (account_step me n state note)
+account_sends_allowed me n state note least member = (grind (arith, elsewhere me n), grind arith)

@@ -1,0 +1,31 @@
+use fbl_base::{Behaviour, Member, Note, Outcome};
+
+/// A member whose state is a balance. It takes a payment in and, if the message has hops left, pays half of the balance to
+/// the next account, with one hop fewer. A payment for which it has no room goes on to the next account.
+pub struct Account;
+
+impl Behaviour for Account {
+    ghost use Rattle.std.specs.Prelude.{◌≡◌, ◌+◌, ◌<◌, ◌≤◌};
+    ghost use Rattle.fbl_accounts.specs.Accounts.{account_step, account_sends_allowed, sent};
+
+    ghost next = { account_step };
+
+    ghost sends_allowed = { account_sends_allowed };
+
+    fn step(me: Member, n: u8, state: u64, note: Note) -> Outcome
+        requires least { 2 ≤ n }
+        requires most { n ≤ 16 }
+        requires member { me < n }
+        ensures step { result ≡ account_step me n state note }
+        // No money is made or lost.
+        ensures conserved { result.state + sent result ≡ state + note.value }
+    {
+        let next = Member::new((me.number() + 1) % n).unwrap();
+        let Some(balance) = state.checked_add(note.value.into()) else {
+            return Outcome::with_onward(state, next, note.value, note.hops.max(1));
+        };
+        let half = (balance / 2).min(u32::MAX.into());
+        let amount = if note.hops == 0 { 0 } else { half };
+        Outcome::with_onward(balance - amount, next, amount as u32, note.hops)
+    }
+}
