@@ -18,7 +18,7 @@ apart-turned a b apart = at (same_determinant b a) refl where
   at false is = is
 
 -- none of the rest is held by the first entries
-Apart : List Entry → List Entry → Type 0
+abbrev Apart : List Entry → List Entry → Type 0
 Apart first rest = AllByRecursion (λ (e : Entry). is_held first e.det ≡ false) rest
 
 apart-more : (first rest : List Entry) (e : Entry) → Apart first rest → AllByRecursion (λ d. same_determinant e.det d ≡ false) (map (λ (x : Entry). x.det) rest) → Apart (first ++ e ∷ []) rest

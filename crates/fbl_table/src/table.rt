@@ -233,8 +233,13 @@ impl<A: Allocator + Copy> Table<A> {
     {
         // `len` tells that no two of the other's determinants are the same.
         let _len = other.len();
-        *self = other.copy()?;
-        Ok(())
+        match other.copy() {
+            Ok(copy) => {
+                *self = copy;
+                Ok(())
+            }
+            Err(error) => Err(error),
+        }
     }
 
     /// Adds the members to those that are known to hold each determinant.
