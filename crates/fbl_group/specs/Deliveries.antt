@@ -22,7 +22,8 @@ of_take take.BadMember = BadMember
 of_take take.Down = Down
 of_take take.Empty = Empty
 
--- a refusal of the commit of a step whose ticket was just taken, as one of a delivery: room is wanting, or memory
+-- a refusal of the commit of a step whose ticket was just taken, as one of a delivery: room is wanting, or memory, since
+-- nobody is down and nothing is stale then
 abbrev pub of_commit : CommitRefusal → DeliverRefusal
 of_commit commit.Memory = Memory
 of_commit refusal = Full
@@ -37,7 +38,8 @@ abbrev pub take_or_room : Next → GroupRecord → Option Message → Option Tak
 take_or_room next r message (Some refusal) = Some (of_take refusal)
 take_or_room next r message None = room_refusal next r message
 
--- the first refusal of a delivery to p from q that holds, but for want of memory: that of its ticket, or else want of room
+-- the first refusal of a delivery to p from q that holds, but for want of memory: a delivery is a ticket, its step and its
+-- commit, so that it is the ticket's (BadMember, Down, Empty, in this order), or else want of room for the step (Full)
 abbrev pub deliver_refusal : Next → GroupRecord → ℕ → ℕ → Option DeliverRefusal
 deliver_refusal next r p q = take_or_room next r (front r q p) (take_refusal r p q)
 

@@ -49,6 +49,19 @@ Leaves Memory old new = new ≡ old
 Leaves NoThread old new = HasSamePast old new
 Leaves Uneven old new = ¬ (HasSamePast old new)
 
+-- what this many workers did under the plan, by what the ledgers had before and have after: these rise by the totals of
+-- the workers, of whom each has a place in both lists; where none was started nothing was done, and under an empty plan
+-- nothing was undone
+abbrev pub HaveDone : ℕ → List Strike → (receipts undone : ℕ) → (new_receipts new_undone : ℕ) → Drained → Type 0
+HaveDone workers plan receipts undone new_receipts new_undone drained =
+    (new_receipts ≡ receipts + sum drained.by_worker.items)
+    × (new_undone ≡ undone + sum drained.undone_by_worker.items)
+    × (array_vec_len drained.by_worker ≡ workers)
+    × (array_vec_len drained.undone_by_worker ≡ workers)
+    × (drained.started ≤ workers)
+    × (drained.started ≡ 0 → (sum drained.by_worker.items ≡ 0) × (sum drained.undone_by_worker.items ≡ 0))
+    × (length plan ≡ 0 → sum drained.undone_by_worker.items ≡ 0)
+
 -- an accepted drain leads from old to new, and answers this: the counters rise by the totals of the workers, of whom each
 -- has a place in both lists and at least one was started; nothing is undone under an empty plan; the config stays, and so
 -- do the old events of each member that no set of the plan has and the number of receipts of each checkpoint

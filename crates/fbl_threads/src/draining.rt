@@ -196,22 +196,10 @@ fn run<
         pass: _,
         receipts,
         undone,
-        by_worker,
-        undone_by_worker,
-        started,
-        full,
-        memory,
+        mut drained,
     } = gathered;
     let group = shared.into_inner().close(receipts, undone);
-    let quiet = group.is_quiet();
-    let drained = Drained {
-        by_worker,
-        undone_by_worker,
-        started,
-        quiet,
-        full,
-        memory,
-    };
+    drained.quiet = group.is_quiet();
     let outcome = judge(past, &group, task.plan, drained);
     (group, outcome)
 }

@@ -1,9 +1,11 @@
 //! Workers in threads of their own, and what they did.
 
-ghost use Rattle.std.specs.Prelude.{◌≡◌, ◌+◌, ◌<◌, ◌≤◌, ◌==◌, [], ◌∷◌, ◌++◌, true, false, if◌then◌else◌, length, sum, IfOk, IfErr};
+ghost use Rattle.std.specs.Prelude.{◌≡◌, ◌+◌, ◌<◌, ◌≤◌, ◌==◌, [], ◌∷◌, ◌++◌, true, false, if◌then◌else◌, length, IfOk, IfErr};
 ghost use Rattle.arrayvec.specs.ArrayVec.{array_vec_len};
+ghost use Rattle.fbl_threads.specs.Drains.{HaveDone};
 
 use crate::claims::{Claims, Pass};
+use crate::draining::Drained;
 use crate::gate::Gate;
 use crate::ledgered::Tally;
 use crate::worker::{Report, Work, take_turns};
@@ -16,17 +18,13 @@ use std::sync::ledger::{Ledger, Share};
 use std::thread;
 use std::thread::{Promise, PromisedHandle, Scope, Threads};
 
-/// What the workers did that have ended.
+/// What the workers did that have ended, with their pass and their shares. Whether the group is quiet is not known yet.
 #[derive(Drop)]
 pub(crate) struct Gathered<C: Ledger, U: Ledger> {
     pub(crate) pass: Pass,
     pub(crate) receipts: Share<C>,
     pub(crate) undone: Share<U>,
-    pub(crate) by_worker: ArrayVec<u64, 8>,
-    pub(crate) undone_by_worker: ArrayVec<u64, 8>,
-    pub(crate) started: u8,
-    pub(crate) full: bool,
-    pub(crate) memory: bool,
+    pub(crate) drained: Drained,
 }
 
 /// What a worker promises: its pass is still one of these claims, it undoes nothing under an empty plan, and it does nothing
@@ -60,12 +58,7 @@ pub(crate) fn run_all<
     requires pass { pass ≡ work.now.claims.now }
     requires parts { (workers < receipts.parts) × (workers < undone.parts) }
     ensures parts { (result.receipts.parts ≡ receipts.parts) × (result.undone.parts ≡ undone.parts) }
-    ensures receipts { result.receipts.amount ≡ receipts.amount + sum result.by_worker.items }
-    ensures undone { result.undone.amount ≡ undone.amount + sum result.undone_by_worker.items }
-    ensures places { (array_vec_len result.by_worker ≡ workers) × (array_vec_len result.undone_by_worker ≡ workers) }
-    ensures started { result.started ≤ workers }
-    ensures idle { result.started ≡ 0 → (sum result.by_worker.items ≡ 0) × (sum result.undone_by_worker.items ≡ 0) }
-    ensures empty { length work.now.plan.now ≡ 0 → sum result.undone_by_worker.items ≡ 0 }
+    ensures did { HaveDone workers work.now.plan.now receipts.amount undone.amount result.receipts.amount result.undone.amount result.drained }
 {
     thread::scope(
         thread::scope_env(),
@@ -73,12 +66,7 @@ pub(crate) fn run_all<
         move |scope| -> Gathered<C, U>
             requires { (workers ≤ 8) × (pass ≡ work.now.claims.now) × (workers < receipts.parts) × (workers < undone.parts) }
             ensures parts { (result.receipts.parts ≡ receipts.parts) × (result.undone.parts ≡ undone.parts) }
-            ensures receipts { result.receipts.amount ≡ receipts.amount + sum result.by_worker.items }
-            ensures undone { result.undone.amount ≡ undone.amount + sum result.undone_by_worker.items }
-            ensures places { (array_vec_len result.by_worker ≡ workers) × (array_vec_len result.undone_by_worker ≡ workers) }
-            ensures started { result.started ≤ workers }
-            ensures idle { result.started ≡ 0 → (sum result.by_worker.items ≡ 0) × (sum result.undone_by_worker.items ≡ 0) }
-            ensures empty { length work.entry.now.plan.now ≡ 0 → sum result.undone_by_worker.items ≡ 0 }
+            ensures did { HaveDone workers work.entry.now.plan.now receipts.amount undone.amount result.receipts.amount result.undone.amount result.drained }
         { run_workers(rt, scope, work, workers, pass, receipts, undone) },
     )
 }
@@ -106,12 +94,7 @@ fn run_workers<
     requires parts { (workers < receipts.parts) × (workers < undone.parts) }
     ensures pass { result.pass ≡ work.entry.now.claims.now }
     ensures parts { (result.receipts.parts ≡ receipts.parts) × (result.undone.parts ≡ undone.parts) }
-    ensures receipts { result.receipts.amount ≡ receipts.amount + sum result.by_worker.items }
-    ensures undone { result.undone.amount ≡ undone.amount + sum result.undone_by_worker.items }
-    ensures places { (array_vec_len result.by_worker ≡ workers) × (array_vec_len result.undone_by_worker ≡ workers) }
-    ensures started { result.started ≤ workers }
-    ensures idle { result.started ≡ 0 → (sum result.by_worker.items ≡ 0) × (sum result.undone_by_worker.items ≡ 0) }
-    ensures empty { length work.entry.now.plan.now ≡ 0 → sum result.undone_by_worker.items ≡ 0 }
+    ensures did { HaveDone workers work.entry.now.plan.now receipts.amount undone.amount result.receipts.amount result.undone.amount result.drained }
 {
     if workers == 0 {
         return Gathered::none(pass, receipts, undone);
@@ -178,43 +161,42 @@ impl<C: Ledger, U: Ledger> Gathered<C, U> {
     fn none(pass: Pass, receipts: Share<C>, undone: Share<U>) -> Gathered<C, U>
         ensures pass { result.pass ≡ pass }
         ensures shares { (result.receipts ≡ receipts) × (result.undone ≡ undone) }
-        ensures places { (result.by_worker.items ≡ []) × (result.undone_by_worker.items ≡ []) }
-        ensures started { result.started ≡ 0 }
+        ensures places { (result.drained.by_worker.items ≡ []) × (result.drained.undone_by_worker.items ≡ []) }
+        ensures started { result.drained.started ≡ 0 }
     {
         Gathered {
             pass,
             receipts,
             undone,
-            by_worker: ArrayVec::new(),
-            undone_by_worker: ArrayVec::new(),
-            started: 0,
-            full: false,
-            memory: false,
+            drained: Drained {
+                by_worker: ArrayVec::new(),
+                undone_by_worker: ArrayVec::new(),
+                started: 0,
+                quiet: false,
+                full: false,
+                memory: false,
+            },
         }
     }
 
     /// One more worker, whose numbers go last.
     fn with(self, claims: &Claims, report: Report<C, U>) -> Gathered<C, U>
         requires pass { (self.pass ≡ claims.now) × (report.pass ≡ claims.now) }
-        requires room { (array_vec_len self.by_worker < 8) × (array_vec_len self.undone_by_worker < 8) }
-        requires few { self.started ≤ 8 }
+        requires room { (array_vec_len self.drained.by_worker < 8) × (array_vec_len self.drained.undone_by_worker < 8) }
+        requires few { self.drained.started ≤ 8 }
         ensures pass { result.pass ≡ claims.now }
         ensures parts { (result.receipts.parts ≡ self.receipts.parts + 1) × (result.undone.parts ≡ self.undone.parts + 1) }
         ensures receipts { result.receipts.amount ≡ self.receipts.amount + report.tally.receipts }
         ensures undone { result.undone.amount ≡ self.undone.amount + report.tally.undone }
-        ensures by_worker { result.by_worker.items ≡ self.by_worker.items ++ report.tally.receipts ∷ [] }
-        ensures undone_by_worker { result.undone_by_worker.items ≡ self.undone_by_worker.items ++ report.tally.undone ∷ [] }
-        ensures started { result.started ≡ self.started + (if report.started then 1 else 0) }
+        ensures by_worker { result.drained.by_worker.items ≡ self.drained.by_worker.items ++ report.tally.receipts ∷ [] }
+        ensures undone_by_worker { result.drained.undone_by_worker.items ≡ self.drained.undone_by_worker.items ++ report.tally.undone ∷ [] }
+        ensures started { result.drained.started ≡ self.drained.started + (if report.started then 1 else 0) }
     {
         let Gathered {
             pass,
             mut receipts,
             mut undone,
-            mut by_worker,
-            mut undone_by_worker,
-            started,
-            full,
-            memory,
+            mut drained,
         } = self;
         let Tally {
             receipts: count,
@@ -224,17 +206,16 @@ impl<C: Ledger, U: Ledger> Gathered<C, U> {
         } = report.tally;
         receipts.merge(receipts_share);
         undone.merge(undone_share);
-        by_worker.push(count);
-        undone_by_worker.push(undone_count);
+        drained.by_worker.push(count);
+        drained.undone_by_worker.push(undone_count);
+        drained.started += u8::from(report.started);
+        drained.full = drained.full || report.full;
+        drained.memory = drained.memory || report.memory;
         Gathered {
             pass: claims.join(pass, report.pass),
             receipts,
             undone,
-            by_worker,
-            undone_by_worker,
-            started: started + u8::from(report.started),
-            full: full || report.full,
-            memory: memory || report.memory,
+            drained,
         }
     }
 }
