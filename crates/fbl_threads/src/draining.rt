@@ -12,6 +12,7 @@ use crate::plan::first_bad;
 use crate::scope::{Gathered, run_all};
 use crate::worker::Work;
 use arrayvec::ArrayVec;
+use crossbeam_utils::CachePadded;
 use fbl_base::{Behaviour, Strike};
 use fbl_group::Group;
 use std::alloc::Global;
@@ -180,7 +181,7 @@ fn run<
     let (claims, pass) = claims;
     let members = group.config().members();
     let (ledgered, receipts, undone) = Ledgered::<B, C, U>::open(group, receipts, undone);
-    let shared = Mutex::new(ledgered);
+    let shared = Mutex::new(CachePadded::new(ledgered));
     let work = Work {
         shared: &shared,
         claims: &claims,
@@ -198,7 +199,7 @@ fn run<
         undone,
         mut drained,
     } = gathered;
-    let group = shared.into_inner().close(receipts, undone);
+    let group = shared.into_inner().into_inner().close(receipts, undone);
     drained.quiet = group.is_quiet();
     let outcome = judge(past, &group, task.plan, drained);
     (group, outcome)

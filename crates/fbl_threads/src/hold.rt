@@ -1,34 +1,31 @@
 //! Short holds of a lock.
 
 use std::sync::{Mutex, MutexGuard, Wait};
-use std::thread::{Parker, yield_now};
-use std::time::Duration;
+use std::thread;
 
-/// How often the lock is tried while other threads are let run between two tries.
-const TRIES: u32 = 8;
+/// How often the lock is tried before the thread sleeps until it is woken.
+const TRIES: u32 = 50;
 
-/// How often it is then tried while the thread sleeps between two tries.
-const SLEEPS: u32 = 64;
+/// How often other threads are let run after the first try.
+const FIRST_PAUSES: u32 = 16;
 
-/// How many microseconds the thread sleeps then, at most.
-const SLEEP: u64 = 50;
+/// How often other threads are let run, at most, between two tries.
+const PAUSES: u32 = 256;
 
-/// Takes the lock. While another thread has it, this one lets other threads run and tries again, then sleeps for a moment
-/// between tries, and waits to be woken only after many. A hold takes a microsecond or two: to wake a thread that waits costs
-/// the one who has the lock more, and so do many tries, since each takes the lock's word away from its processor.
+/// Takes the lock. While another thread has it, this one lets other threads run and tries again, each time after a longer
+/// pause, and sleeps only after many tries. A hold takes a microsecond or two: to sleep and be woken costs more, the one who
+/// wakes too, and so do many tries, since each takes the lock's word away from the processor of the one that has it. Long
+/// pauses let one worker make several steps in a row, with what they read and write in its processor's cache.
 pub(crate) fn hold<'a, T, R: Wait>(rt: &R, lock: &'a Mutex<T>) -> MutexGuard<'a, T> {
+    let mut pauses = FIRST_PAUSES;
     for _try in 0..TRIES {
         if let Some(guard) = lock.try_lock() {
             return guard;
         }
-        yield_now();
-    }
-    let parker = Parker::new();
-    for _sleep in 0..SLEEPS {
-        if let Some(guard) = lock.try_lock() {
-            return guard;
+        for _pause in 0..pauses {
+            thread::yield_now();
         }
-        parker.park_timeout(rt, Duration::from_micros(SLEEP));
+        pauses = PAUSES.min(pauses.saturating_mul(4));
     }
     lock.lock(rt)
 }

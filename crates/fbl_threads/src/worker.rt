@@ -6,6 +6,7 @@ use crate::claims::{Claims, Pass};
 use crate::gate::Gate;
 use crate::hold::hold;
 use crate::ledgered::{Ledgered, StepRefusal, Tally};
+use crossbeam_utils::CachePadded;
 use fbl_base::{Behaviour, Member, Strike};
 use fbl_group::{CommitRefusal, CrashRefusal, run_step};
 use std::sync::atomic::{AtomicU64, Ordering};
@@ -31,7 +32,8 @@ enum Next {
 /// What the workers share.
 #[derive(Drop)]
 pub(crate) struct Work<'a, B: Behaviour, G: Gate, C: Ledger, U: Ledger> {
-    pub(crate) shared: &'a Mutex<Ledgered<B, C, U>>,
+    /// On cache lines of its own, so that a worker that tries the lock leaves those of the one that has it alone.
+    pub(crate) shared: &'a Mutex<CachePadded<Ledgered<B, C, U>>>,
     pub(crate) claims: &'a Claims,
     pub(crate) plan: &'a [Strike],
     pub(crate) gate: &'a G,

@@ -14,7 +14,7 @@ loop-place-preserved g c =
     let at = item_at c.args.sends.now i s (omega (arith, c.loop-place-test.true)) c.index-sends-place.is in
     let next = messages-next c.args.me c.args.before carried c.args.sends.now i s at c.loop-place-test.true in
     let popped = All-pop (HasRoom (length carried)) c.loop-place.lists.items c.take_last-carried.new.self.items (Some c.take_last-carried.result) c.take_last-carried.ensures.items c.loop-place.invariant.room in
-    let entries : c.fill_carried.new.carried.items ≡ carried = c.fill_carried.ensures ∙ ap (λ l. l ++ carried) popped.1.0 in
+    let entries : c.give_room_back.new.carried.items ≡ carried = c.give_room_back.ensures ∙ c.fill_carried.ensures ∙ ap (λ l. l ++ carried) popped.1.0 in
     record {
       so_far = rw (c.push_reserved.ensures.items, next, c.loop-place.invariant.so_far, c.new.ensures, entries) refl;
       wires = omega (arith, c.push_reserved.ensures.len, c.loop-place.invariant.wires);
@@ -27,7 +27,7 @@ pub new-requires : goal.new-requires
 new-requires g c =
     let carried = piggybacked c.args.f c.args.table.now in
     let popped = All-pop (HasRoom (length carried)) c.loop-place.lists.items c.take_last-carried.new.self.items (Some c.take_last-carried.result) c.take_last-carried.ensures.items c.loop-place.invariant.room in
-    let entries : c.fill_carried.new.carried.items ≡ carried = c.fill_carried.ensures ∙ ap (λ l. l ++ carried) popped.1.0 in
+    let entries : c.give_room_back.new.carried.items ≡ carried = c.give_room_back.ensures ∙ c.fill_carried.ensures ∙ ap (λ l. l ++ carried) popped.1.0 in
     rw entries c.requires.once
 
 pub fill_carried-requires-clause-made : goal.fill_carried-requires-clause-made
