@@ -1,5 +1,5 @@
 -- What the parser of command lines makes of the program's command lines.
-use Rattle.std.proofs.Common.{◌≡◌, ℕ, zero, suc, ◌+◌, ◌<◌, ◌&&◌, true, List, [], ◌∷◌, Option, Some, None, option_map, Result, Ok, Err, IfErr, refl, sym, ap, ◌∙◌, arith, codes, decimal, drop, inl, inr, subst, unwrap_or}
+use Rattle.std.proofs.Common.{◌≡◌, ℕ, zero, suc, ◌+◌, ◌<◌, ◌&&◌, true, List, [], ◌∷◌, Option, Some, None, option_map, Result, Ok, Err, IfErr, refl, sym, ap, ◌∙◌, arith, codes, decimal, drop, inl, inr, subst, unwrap_or, get_or}
 use Rattle.std.proofs.lemmas.Fmt.{decimal_digit, parse-decimal}
 use Rattle.std.specs.Prelude.{Box}
 use Rattle.std.specs.Box.{box_value}
@@ -15,8 +15,8 @@ use Rattle.clap.specs.declared.parser.matches.ArgMatches.{ArgMatches}
 use Rattle.clap.specs.declared.parser.matches.ArgMatches.TheViews.{out-ArgMatches, out-SubCommand}
 use Rattle.clap.specs.declared.parser.matches.SubCommand.{SubCommand}
 use Rattle.clap.proofs.OnLiterals.{clap_on_literals}
-use Rattle.fblrun.specs.declared.Order.TheVariants.{Play, Audit}
-use Rattle.fblrun.specs.CommandLines.{IsCommandLine, IsOrderOf, audit_line, play_line, program, workers_line}
+use Rattle.fblrun.specs.declared.Order.TheVariants.{Play, Audit, Draw}
+use Rattle.fblrun.specs.CommandLines.{IsCommandLine, IsOrderOf, audit_line, draw_line, play_line, program, workers_line}
 use Rattle.fblrun.specs.Orders.{IsWorkerCount}
 
 -- the subcommand that the words behind the program's name give, with what was found of it
@@ -44,6 +44,14 @@ audit_asked = refl
 audit_taken : IsTaken audit_line
 unfolding clap_on_literals
 audit_taken = refl
+
+draw_asked : asked (named draw_line) ≡ Some (codes "draw", None)
+unfolding clap_on_literals
+draw_asked = refl
+
+draw_taken : IsTaken draw_line
+unfolding clap_on_literals
+draw_taken = refl
 
 play_asked : asked (named play_line) ≡ Some (codes "play", Some (codes "2"))
 unfolding clap_on_literals
@@ -89,8 +97,9 @@ workers_taken n is = ap (λ word. built_takes (built program) nothing_held (with
 
 line_taken : (words : List Text) → IsCommandLine words → IsTaken (drop 1 words)
 line_taken words (inl e) = ap (built_takes (built program) nothing_held) e ∙ audit_taken
-line_taken words (inr (inl e)) = ap (built_takes (built program) nothing_held) e ∙ play_taken
-line_taken words (inr (inr (n, is, e))) = ap (built_takes (built program) nothing_held) e ∙ workers_taken n is
+line_taken words (inr (inl e)) = ap (built_takes (built program) nothing_held) e ∙ draw_taken
+line_taken words (inr (inr (inl e))) = ap (built_takes (built program) nothing_held) e ∙ play_taken
+line_taken words (inr (inr (inr (n, is, e)))) = ap (built_takes (built program) nothing_held) e ∙ workers_taken n is
 
 pub taken : (a : App) (words : List Text) → a ≡ program → IsCommandLine words → takes a words ≡ true
 taken a words is line = ap (λ p. takes p words) is ∙ (λ i. program_simple i && line_taken words line i)
@@ -112,7 +121,10 @@ name_is (Some b) = refl
 matches_name : (m : ArgMatches) → option_map (λ p. p.0) (subcommand_rows_of m) ≡ subcommand_name_of m
 matches_name m = name_is (out-ArgMatches m).subcommand
 
--- what was asked for, where a play was named, and where none was
+draw_not_play : codes "draw" ≡ codes "play" → ⊥
+draw_not_play e = let first : ◌≡◌ {A = ℕ} 100 112 = ap (λ (text : Text). get_or text 0 0) e in omega (arith, first)
+
+-- what was asked for, where a play was named, and where something was
 play_named : (o : Option (Text × List Row)) (rows : List Row) (name : Text) (workers : Option Text) → option_map (λ p. p.0) o ≡ Some (codes "play") → option_map (λ p. p.1) o ≡ Some rows → asked o ≡ Some (name, workers)
     → (name ≡ codes "play") × (one_of (codes "workers") rows ≡ workers)
 play_named None rows name workers is found e = absurd (cc)
@@ -120,9 +132,9 @@ play_named (Some p) rows name workers is found e =
     let same = of_some _ _ e in
     (sym (ap (λ q. q.0) same) ∙ of_some _ _ is, ap (one_of (codes "workers")) (sym (of_some _ _ found)) ∙ ap (λ q. q.1) same)
 
-none_named : (o : Option (Text × List Row)) (workers : Option Text) → asked o ≡ Some (codes "play", workers) → option_map (λ p. p.0) o ≡ Some (codes "play")
-none_named None workers e = absurd (cc)
-none_named (Some p) workers e = ap Some (ap (λ q. q.0) (of_some _ _ e))
+named_so : (o : Option (Text × List Row)) (name : Text) (workers : Option Text) → asked o ≡ Some (name, workers) → option_map (λ p. p.0) o ≡ Some name
+named_so None name workers e = absurd (cc)
+named_so (Some p) name workers e = ap Some (ap (λ q. q.0) (of_some _ _ e))
 
 -- the matches are those of the program on the words
 module _ (a : App) (words : List Text) (m : ArgMatches) (is : a ≡ program) (matches : HasMatchesOf a words m) where
@@ -140,16 +152,31 @@ module _ (a : App) (words : List Text) (m : ArgMatches) (is : a ≡ program) (ma
       let two : decimal 2 ≡ codes "2" = decimal_digit 2 (omega arith) in
       record {
         audit = λ e. let bad : codes "audit" ≡ codes "play" = (play_named _ rows _ _ named_play found (asked_on _ e ∙ audit_asked)).0 in absurd (cc);
+        draw = λ e. absurd (draw_not_play (play_named _ rows _ _ named_play found (asked_on _ e ∙ draw_asked)).0);
         play = λ e. ap Play (number 2 (omega arith) ((play_named _ rows _ _ named_play found (asked_on _ e ∙ play_asked)).1 ∙ ap Some (sym two)));
         workers = λ n count e. ap Play (number n (omega (arith, count.1)) (play_named _ rows _ _ named_play found (asked_on _ e ∙ workers_asked n count)).1);
       }
 
-  -- no play was named
-  pub audit_is : (subcommand_name_of m ≡ Some (codes "play") → ⊥) → IsOrderOf words Audit
-  audit_is other = record {
+  -- the name that the words give
+  name_on : (line : List Text) (name : Text) (workers : Option Text) → asked (named line) ≡ Some (name, workers) → drop 1 words ≡ line → subcommand_name_of m ≡ Some name
+  name_on line name workers is_asked e = sym (matches_name m) ∙ named_so _ name workers (asked_on line e ∙ is_asked)
+
+  -- a drawing was named
+  pub draw_is : subcommand_name_of m ≡ Some (codes "draw") → IsOrderOf words Draw
+  draw_is name = record {
+    audit = λ e. let bad : codes "audit" ≡ codes "draw" = of_some _ _ (sym (name_on _ _ _ audit_asked e) ∙ name) in absurd (cc);
+    draw = λ e. refl;
+    play = λ e. absurd (draw_not_play (of_some _ _ (sym name ∙ name_on _ _ _ play_asked e)));
+    workers = λ n count e. absurd (draw_not_play (of_some _ _ (sym name ∙ name_on _ _ _ (workers_asked n count) e)));
+  }
+
+  -- neither a play nor a drawing was named
+  pub audit_is : (subcommand_name_of m ≡ Some (codes "play") → ⊥) → (subcommand_name_of m ≡ Some (codes "draw") → ⊥) → IsOrderOf words Audit
+  audit_is no_play no_drawing = record {
     audit = λ e. refl;
-    play = λ e. absurd (other (sym (matches_name m) ∙ none_named _ _ (asked_on _ e ∙ play_asked)));
-    workers = λ n count e. absurd (other (sym (matches_name m) ∙ none_named _ _ (asked_on _ e ∙ workers_asked n count)));
+    draw = λ e. absurd (no_drawing (name_on _ _ _ draw_asked e));
+    play = λ e. absurd (no_play (name_on _ _ _ play_asked e));
+    workers = λ n count e. absurd (no_play (name_on _ _ _ (workers_asked n count) e));
   }
 
 -- ---- the number of workers

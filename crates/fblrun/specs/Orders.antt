@@ -2,10 +2,11 @@
 use Rattle.std.specs.Prelude.{◌≡◌, ℕ, ◌≤◌, ◌⊎◌, List, Option, Result}
 use Rattle.std.specs.Io.KnownBytes.{Keeps}
 use Rattle.fbl_input.specs.declared.fault.RunFault.{RunFault}
+use Rattle.fbl_draw.specs.Drawing.{ReadsAndDraws}
 use Rattle.fbl_dump.specs.Auditing.{ReadsAndAudits}
 use Rattle.fbl_play.specs.Runs.{ReadsAndPlays}
 use Rattle.fblrun.specs.declared.Order.{Order}
-use Rattle.fblrun.specs.declared.Order.TheVariants.{Play, Audit}
+use Rattle.fblrun.specs.declared.Order.TheVariants.{Play, Audit, Draw}
 use Rattle.fblrun.specs.Statuses.{status_after}
 
 -- so many workers can make a run
@@ -24,3 +25,5 @@ Obeys (Play workers) input before after status =
     ⊎ (¬ (IsWorkerCount workers) × (status ≡ 2) × Keeps before after)
 -- an audit
 Obeys Audit input before after status = EndsAfter (ReadsAndAudits input before after) status
+-- a drawing
+Obeys Draw input before after status = EndsAfter (ReadsAndDraws input before after) status

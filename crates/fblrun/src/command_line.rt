@@ -11,7 +11,7 @@ use std::alloc::{AllocError, Global};
 
 /// What the program is for.
 const PROGRAM: &str =
-    "Causal message logging with proved recovery: plays scripts of a group, and audits recorded traces.";
+    "Causal message logging with proved recovery: plays scripts of a group, and audits and draws recorded traces.";
 
 /// The exit statuses.
 const STATUSES: &str = "\
@@ -37,6 +37,18 @@ const AUDIT_EXAMPLE: &str =
     r#"A dump is a line that the command ["dump",[1]] of a script prints. It has the trace, who holds which
 determinant, and the members that are struck."#;
 
+/// What `draw` does.
+const DRAW: &str =
+    "Reads a dump, as JSON, on standard input, and writes its picture, as SVG, on standard output";
+
+/// A first picture.
+const DRAW_EXAMPLE: &str =
+    r#"A dump is what `audit` reads. The picture has a line for each member, a mark for each event and an arrow for
+each message; what a mark is stands in its tooltip. A first one, with a lost receipt and an orphan:
+
+  echo '{"members":3,"f":1,"strike":[1],"held":[[1,0,1,1,1],[2,1,1,2,1]],
+   "events":[["send",0,1,1],["receipt",1,1,0,1],["send",1,1,2],["receipt",2,1,1,1]]}' | fblrun draw > dump.svg"#;
+
 /// The option `--workers`.
 fn workers<'a>(alloc: Global) -> Arg<'a>
     ensures rule { rule_of result ≡ workers_rule }
@@ -50,7 +62,7 @@ fn workers<'a>(alloc: Global) -> Arg<'a>
         .help("How many workers make a run, 1 to 8")
 }
 
-/// What the program takes: `play`, with a number of workers, or `audit`.
+/// What the program takes: `play`, with a number of workers, `audit` or `draw`.
 fn command_line<'a>(alloc: Global) -> Result<Command<'a>, AllocError>
     ensures { IfOk result (λ c. app_of c ≡ program) }
 {
@@ -61,12 +73,16 @@ fn command_line<'a>(alloc: Global) -> Result<Command<'a>, AllocError>
     let audit = Command::new(alloc, "audit")
         .about(AUDIT)
         .after_help(AUDIT_EXAMPLE);
+    let draw = Command::new(alloc, "draw")
+        .about(DRAW)
+        .after_help(DRAW_EXAMPLE);
     let command = Command::new(alloc, "fblrun")
         .about(PROGRAM)
         .after_help(STATUSES)
         .subcommand_required(true)
         .subcommand(play)?;
-    command.subcommand(audit)
+    let command = command.subcommand(audit)?;
+    command.subcommand(draw)
 }
 
 /// How many workers a play is asked for with.
@@ -85,6 +101,9 @@ pub(crate) fn order_of(alloc: Global, words: &[String]) -> Result<Order, clap::E
     let matches = command.try_get_matches_from(words)?;
     match matches.subcommand_matches("play") {
         Some(found) => Ok(Order::Play(workers_in(found))),
-        None => Ok(Order::Audit),
+        None => match matches.subcommand_matches("draw") {
+            Some(_) => Ok(Order::Draw),
+            None => Ok(Order::Audit),
+        },
     }
 }

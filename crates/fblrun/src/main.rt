@@ -1,4 +1,4 @@
-//! Plays the script, or audits the dump, that standard input has.
+//! Plays the script, or audits or draws the dump, that standard input has.
 #![tactic(auto)]
 
 ghost use Rattle.std.specs.Prelude.{◌≡◌, ◌≤◌, IfSome};
@@ -9,6 +9,7 @@ mod command_line;
 
 use clap::error::ErrorKind;
 use command_line::order_of;
+use fbl_draw::draw;
 use fbl_dump::audit;
 use fbl_input::RunFault;
 use fbl_play::play;
@@ -38,6 +39,8 @@ enum Order {
     Play(u8),
     /// Audit a dump.
     Audit,
+    /// Draw a dump.
+    Draw,
 }
 
 /// The exit status of a fault.
@@ -118,6 +121,7 @@ fn obey<T: Eprint + Threads + Wait + Sync, R: Read, W: Write>(
             _ => INPUT_FAULT,
         },
         Order::Audit => status_after(rt, audit(alloc, reader, writer)),
+        Order::Draw => status_after(rt, draw(alloc, reader, writer)),
     }
 }
 
