@@ -215,11 +215,11 @@ impl<A: Allocator + Copy> Table<A> {
         }
         self.entries.reserve(other.len())?;
         self.open_places.reserve(other.len())?;
-        let mut likely = 0;
+        let mut likely = Likely::default();
         for place in 0..other.len() {
             let entry = other.entry_at(place);
             let found = add(&mut self.entries, &mut self.open_places, entry, likely);
-            likely = found.saturating_add(1);
+            likely = likely.after(found);
         }
         prune(&self.entries, &mut self.open_places, self.limit);
         Ok(())
@@ -293,14 +293,33 @@ impl<A: Allocator + Copy> Table<A> {
     }
 }
 
+/// Where the next determinant's entry may be: behind the last one found, or behind one found before in another part of the
+/// table. What one table has in turn, another mostly has in the same order, or in two parts that each are in this order.
+#[derive(Clone, Copy, Default)]
+struct Likely {
+    last: usize,
+    earlier: usize,
+}
+
+impl Likely {
+    /// Where it may be once an entry was found or put at this place.
+    fn after(self, found: usize) -> Likely {
+        let goes_on = found == self.last || found == self.last.saturating_add(1);
+        Likely {
+            last: found.saturating_add(1),
+            earlier: if goes_on { self.earlier } else { self.last },
+        }
+    }
+}
+
 /// Adds an entry where there is room for one, and answers its place. The place of a new one is open. It is looked for at
-/// the place `likely` first.
+/// the likely places first.
 #[inline(always)]
 fn add<A: Allocator>(
     entries: &mut Entries<A>,
     open_places: &mut Vec<usize, A>,
     entry: Entry,
-    likely: usize,
+    likely: Likely,
 ) -> usize
     requires entries { 0 < spare entries.old }
     requires places { vec_len open_places.old < vec_capacity open_places.old }
@@ -341,21 +360,38 @@ fn add_new<A: Allocator>(entries: &mut Entries<A>, open_places: &mut Vec<usize, 
     open_places.push_reserved(place);
 }
 
-/// The place of the determinant's entry, if there is one. The place `likely` and the next are looked at before the hash:
-/// what one table passes on, another mostly has in the same order.
+/// The place of the determinant's entry, if there is one. The likely places are looked at before the hash.
 #[inline(always)]
-fn place_of<A: Allocator>(entries: &Entries<A>, det: &Determinant, likely: usize) -> Option<usize>
+fn place_of<A: Allocator>(
+    entries: &Entries<A>,
+    det: &Determinant,
+    likely: Likely,
+) -> Option<usize>
     ensures has { IfSome result (λ place. has_at (map entry_of entries.now.entries) det.now place ≡ true) }
     ensures none { IfNone result (is_held (map entry_of entries.now.entries) det.now ≡ false) }
 {
-    if is_at(entries, det, likely) {
-        return Some(likely);
+    if let Some(place) = place_from(entries, det, likely.last) {
+        return Some(place);
     }
-    let next = likely.saturating_add(1);
+    if let Some(place) = place_from(entries, det, likely.earlier) {
+        return Some(place);
+    }
+    place_by_hash(entries, det)
+}
+
+/// The place of the determinant's entry, if it is this one or the next.
+#[inline(always)]
+fn place_from<A: Allocator>(entries: &Entries<A>, det: &Determinant, place: usize) -> Option<usize>
+    ensures { IfSome result (λ place. has_at (map entry_of entries.now.entries) det.now place ≡ true) }
+{
+    if is_at(entries, det, place) {
+        return Some(place);
+    }
+    let next = place.saturating_add(1);
     if is_at(entries, det, next) {
         return Some(next);
     }
-    place_by_hash(entries, det)
+    None
 }
 
 /// The place of the determinant's entry, if there is one.
@@ -392,13 +428,14 @@ fn add_carried<A: Allocator>(
     ensures open_len { vec_len open_places.new ≤ vec_len open_places.old + length carried.now }
     ensures open_room { vec_capacity open_places.old ≤ vec_capacity open_places.new }
 {
-    let mut likely = 0;
+    let mut likely = Likely::default();
     for entry in carried {
         let learned = Entry {
             det: entry.det,
             known: entry.known.with(me),
         };
-        likely = add(entries, open_places, learned, likely).saturating_add(1);
+        let found = add(entries, open_places, learned, likely);
+        likely = likely.after(found);
     }
 }
 
