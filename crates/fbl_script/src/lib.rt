@@ -14,4 +14,4 @@ pub use fault::{Key, RunFault};
 pub use input::read_input;
 pub use output::put;
 pub use script::{BehaviourName, Command, Plan, PlannedStrike, Script};
-pub use script_reading::script_of_bytes;
+pub use script_reading::{StartShape, script_of_bytes};
