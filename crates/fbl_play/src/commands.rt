@@ -185,35 +185,15 @@ pub(crate) fn run_command<B: Behaviour + Send + Sync, T: Threads + Wait + Sync>(
     requires few { workers ≤ 8 }
     ensures { IfOk result.1 (λ text. Step B.next workers group command.now result.0 (string_bytes text)) }
 {
-    match command {
-        Command::Deliver { to, from } => {
-            let text = run_deliver(alloc, &mut group, *to, *from);
-            (group, text)
-        }
-        Command::States => {
-            let text = run_states(alloc, &group);
-            (group, text)
-        }
-        Command::Report => {
-            let text = run_report(alloc, &group);
-            (group, text)
-        }
-        Command::Strike(set) => {
-            let text = run_strike(alloc, &mut group, *set);
-            (group, text)
-        }
-        Command::Recover => {
-            let text = run_recover(alloc, &mut group);
-            (group, text)
-        }
-        Command::Dump(strike) => {
-            let text = run_dump(alloc, &group, *strike);
-            (group, text)
-        }
-        Command::Checkpoint(member) => {
-            let text = run_checkpoint(alloc, &mut group, *member);
-            (group, text)
-        }
-        Command::Run(plan) => run_plan(rt, alloc, workers, group, plan),
-    }
+    let text = match command {
+        Command::Deliver { to, from } => run_deliver(alloc, &mut group, *to, *from),
+        Command::States => run_states(alloc, &group),
+        Command::Report => run_report(alloc, &group),
+        Command::Strike(set) => run_strike(alloc, &mut group, *set),
+        Command::Recover => run_recover(alloc, &mut group),
+        Command::Dump(strike) => run_dump(alloc, &group, *strike),
+        Command::Checkpoint(member) => run_checkpoint(alloc, &mut group, *member),
+        Command::Run(plan) => return run_plan(rt, alloc, workers, group, plan),
+    };
+    (group, text)
 }
