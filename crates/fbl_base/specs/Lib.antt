@@ -2,6 +2,7 @@ pub mod Laws
 pub mod DumpParts
 pub mod Counted
 pub mod Configs
+pub mod Names
 pub mod Fold
 pub mod Audit
 pub mod Reach

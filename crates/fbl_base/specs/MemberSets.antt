@@ -4,6 +4,7 @@ use Rattle.std.proofs.Common.{zero, suc, get_or, refl, ◌∙◌, arith, count_b
 use Rattle.std.proofs.lemmas.Bool.Decides.{nat_tests}
 use Rattle.std.proofs.lemmas.List.Sums.{sum_by-cons}
 use Rattle.std.specs.Ordering.{nat_cmp}
+use Rattle.std.specs.List.{filter, range_with_len}
 use Rattle.std.specs.Cmp.{unsigned_tied, nat_cmp_total}
 use Rattle.std.specs.FinSet as set
 
@@ -11,6 +12,10 @@ use Rattle.std.specs.FinSet as set
 unfoldable pub flagged : ℕ → List Bool → set.FinSet nat_cmp
 flagged k [] = set.empty
 flagged k (flag ∷ flags) = cond flag (set.insert (flagged (suc k) flags) k) (flagged (suc k) flags)
+
+-- the members of a set, rising
+unfoldable pub member_list : set.FinSet nat_cmp → List ℕ
+member_list s = filter (set.contains s) (range_with_len 0 16)
 
 -- each member of the set is below n
 abbrev pub AllBelow : set.FinSet nat_cmp → ℕ → Type 0

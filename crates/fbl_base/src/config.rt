@@ -8,29 +8,43 @@ use thiserror::Error;
 
 /// Why there is no configuration of these parameters. The refusals are tested in this order.
 #[derive(Clone, Copy, PartialEq, Eq, Debug, Error)]
+#[error("{}", self.name())]
 pub enum ConfigRefusal {
     /// There are not 2 to 16 members.
-    #[error("BadMembers")]
     BadMembers,
     /// The number of members that may be lost at once is not 1 to one less than that of members.
-    #[error("BadF")]
     BadF,
     /// The limit of the trace is not 1 to 8192 events.
-    #[error("BadLimit")]
     BadLimit,
     /// There are more than 64 starts.
-    #[error("TooManyStarts")]
     TooManyStarts,
     /// The start at this place, the first such, has an end outside the group, goes from a member to itself, or has
     /// more than 15 hops.
-    #[error("BadStart {0}")]
+    #[error("{} {}", self.name(), .0)]
     BadStart(usize),
     /// The trace may have fewer events than there are starts.
-    #[error("LimitBelowStarts")]
     LimitBelowStarts,
     /// There is no memory for a copy of the starts. It is answered only where no other refusal holds.
-    #[error("Memory")]
     Memory,
+}
+
+impl ConfigRefusal {
+    ghost use Rattle.fbl_base.specs.Names.{config_name};
+
+    /// The refusal's word, as it is printed before its place.
+    pub fn name(self) -> &'static str
+        ensures { result.now ≡ config_name self }
+    {
+        match self {
+            ConfigRefusal::BadMembers => "BadMembers",
+            ConfigRefusal::BadF => "BadF",
+            ConfigRefusal::BadLimit => "BadLimit",
+            ConfigRefusal::TooManyStarts => "TooManyStarts",
+            ConfigRefusal::BadStart(_) => "BadStart",
+            ConfigRefusal::LimitBelowStarts => "LimitBelowStarts",
+            ConfigRefusal::Memory => "Memory",
+        }
+    }
 }
 
 /// The parameters of a group: how many members it has and how many of them may be lost at once, how many events its

@@ -11,6 +11,7 @@ mod outcome;
 mod raw_dump;
 mod refusal;
 mod rules;
+mod strike;
 mod trace;
 
 pub use behaviour::{Behaviour, Mix, Relay};
@@ -20,4 +21,5 @@ pub use member_set::MemberSet;
 pub use outcome::Outcome;
 pub use raw_dump::RawDump;
 pub use refusal::DumpRefusal;
+pub use strike::Strike;
 pub use trace::{Determinant, Event, Mark, Note, Start};

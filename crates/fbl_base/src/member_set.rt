@@ -1,8 +1,9 @@
-ghost use Rattle.std.specs.Prelude.{◌≡◌, ◌<◌, ◌≤◌, ◌↔◌, ℕ, IsTrue, true, ◌&&◌, not};
+ghost use Rattle.std.specs.Prelude.{◌≡◌, ◌<◌, ◌≤◌, ◌↔◌, ℕ, IfOk, IsTrue, true, ◌&&◌, not};
 ghost use Rattle.std.specs.FinSet as set;
-ghost use Rattle.fbl_base.specs.MemberSets.{AllBelow};
+ghost use Rattle.fbl_base.specs.MemberSets.{AllBelow, member_list};
 
 use crate::member::Member;
+use std::alloc::{AllocError, Allocator};
 use std::marker::Model;
 
 /// A set of members.
@@ -60,6 +61,22 @@ impl MemberSet {
         ensures { result ≡ set.len self }
     {
         self.bits.count_ones()
+    }
+
+    /// The members, rising.
+    #[tactic(auto, unfolding(crate::specs::MemberSets::member_list))]
+    pub fn members<A: Allocator + Copy>(self, alloc: A) -> Result<Vec<Member, A>, AllocError>
+        ensures { IfOk result (λ v. v.items ≡ member_list self) }
+    {
+        let mut members = Vec::new(alloc);
+        for number in 0..16u8 {
+            if let Some(member) = Member::new(number) {
+                if self.has(member) {
+                    members.push(member)?;
+                }
+            }
+        }
+        Ok(members)
     }
 
     /// The members of either set.

@@ -13,7 +13,7 @@ use Rattle.serde_json.specs.View.{view}
 use Rattle.serde_json.specs.declared.value.Value.{Value}
 use Rattle.fbl_base.specs.MemberSets.{AllBelow}
 use Rattle.fbl_base.specs.Audit.{Parts, IsDump}
-use Rattle.fbl_lines.specs.Sets.{member_list}
+use Rattle.fbl_base.specs.MemberSets.{member_list}
 use Rattle.fbl_script.specs.Shapes.{all_shaped, number_within, list_of, member_shape, set_shape}
 use Rattle.fbl_dump.specs.DumpLines.{dump_data, dump_object, event_data, pair_data, list_data, number_data}
 use Rattle.fbl_dump.specs.Dumps.{event_shape, pair_shape, parts_of_data}

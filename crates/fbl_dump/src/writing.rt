@@ -6,12 +6,11 @@ ghost use Rattle.serde_json.specs.View.{view};
 ghost use Rattle.serde_json.specs.Written.{compact_text};
 ghost use Rattle.fbl_script.specs.Shapes.{longest, member_shape};
 ghost use Rattle.fbl_dump.specs.Dumps.{event_shape, pair_shape, parts_of_data, parts_of_input};
-ghost use Rattle.fbl_lines.specs.Sets.{member_list};
+ghost use Rattle.fbl_base.specs.MemberSets.{member_list};
 ghost use Rattle.fbl_dump.specs.DumpLines.{dump_data, dump_object, dump_line, ReadsBack, event_data, list_data, number_data, pair_data};
 
 use fbl_base::audit::Dump;
 use fbl_base::{Determinant, Mark, Member, MemberSet};
-use fbl_lines::members_in;
 use serde_json::{Value, json};
 use std::alloc::{AllocError, Global};
 
@@ -114,7 +113,7 @@ fn set_value(alloc: Global, set: MemberSet) -> Result<Value, AllocError>
     ensures value { IfOk result (λ v. view v ≡ list_data (map number_data (member_list set))) }
     ensures reads_back { IfOk result (λ v. All (λ m. member_shape (number_data m) ≡ Some m) (member_list set)) }
 {
-    let members = members_in(alloc, set)?;
+    let members = set.members(alloc)?;
     list_value::<Member, MemberForm>(alloc, members.as_slice())
 }
 

@@ -2,7 +2,8 @@
 
 use crate::reason::Reason;
 use crate::words::Words;
-use fbl_script::{Command, PlannedStrike};
+use fbl_base::Strike;
+use fbl_script::Command;
 use std::fmt;
 
 /// What a command did beside what its lines say.
@@ -32,7 +33,7 @@ pub struct RunCounts {
 /// Writes the entries of the plan whose counts are above the one and not above the other.
 fn write_entries<W: fmt::Write>(
     f: &mut fmt::Formatter<W>,
-    plan: &[PlannedStrike],
+    plan: &[Strike],
     head: &str,
     above: u64,
     up_to: u64,
@@ -53,7 +54,7 @@ impl RunCounts {
     fn write<W: fmt::Write>(
         &self,
         f: &mut fmt::Formatter<W>,
-        plan: &[PlannedStrike],
+        plan: &[Strike],
     ) -> fmt::Result {
         let made = self.ever_after.saturating_sub(self.ever_before);
         let undone = self.undone_after.saturating_sub(self.undone_before);

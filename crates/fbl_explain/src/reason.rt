@@ -4,8 +4,7 @@ ghost use Rattle.std.specs.Prelude.{◌≡◌, IfSome};
 ghost use Rattle.fbl_explain.specs.Reasons.{entry_place};
 
 use crate::words::MemberList;
-use fbl_base::{Member, MemberSet};
-use fbl_script::PlannedStrike;
+use fbl_base::{Member, MemberSet, Strike};
 use std::fmt;
 
 /// Why a command is refused, with the numbers of the group as it was then.
@@ -43,7 +42,7 @@ pub struct BadEntry {
     /// Its place.
     pub place: usize,
     /// What it has, if the plan has such a place.
-    pub entry: Option<PlannedStrike>,
+    pub entry: Option<Strike>,
     /// The count of the entry before, and 0 before the first.
     pub before: u64,
     /// How many members the group has, and how many may be struck.
@@ -55,7 +54,7 @@ pub struct BadEntry {
 const MOST_ENTRIES: usize = 64;
 
 /// The reason that the entry at this place of the plan breaks a rule, in a group of so many members.
-pub fn entry_reason(plan: &[PlannedStrike], place: usize, members: u8, f: u8) -> Reason
+pub fn entry_reason(plan: &[Strike], place: usize, members: u8, f: u8) -> Reason
     ensures { entry_place result ≡ Some place }
 {
     let before = match place.checked_sub(1) {
@@ -78,7 +77,7 @@ impl fmt::Display for BadEntry {
         let most = self.f;
         let last = self.members.saturating_sub(1);
         write!(f, "entry {place} of the plan")?;
-        let Some(PlannedStrike { at, set }) = self.entry else {
+        let Some(Strike { at, set }) = self.entry else {
             return f.write_str(" breaks a rule");
         };
         if place >= MOST_ENTRIES {

@@ -1,7 +1,7 @@
 //! Commands in words.
 
-use fbl_base::{Member, MemberSet};
-use fbl_script::{Command, PlannedStrike};
+use fbl_base::{Member, MemberSet, Strike};
+use fbl_script::Command;
 use std::fmt;
 
 /// A set as the list of its members, rising, as in `[0,2]`.
@@ -25,7 +25,7 @@ impl fmt::Display for MemberList {
 
 /// A plan as a script has it, as in `[[2,[1]],[5,[0,3]]]`.
 #[derive(Clone, Copy)]
-struct PlanWords<'a>(&'a [PlannedStrike]);
+struct PlanWords<'a>(&'a [Strike]);
 
 impl fmt::Display for PlanWords<'_> {
     fn fmt<W: fmt::Write>(&self, f: &mut fmt::Formatter<W>) -> fmt::Result {

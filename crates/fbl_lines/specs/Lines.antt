@@ -24,9 +24,9 @@ deliver_line to from rsn carried state =
 abbrev pub refused_line : List ℕ → List ℕ → List ℕ
 refused_line command refusal = line (command ∷ codes " refused " ∷ refusal ∷ [])
 
--- a run that was refused for the entry of its plan at this place
-abbrev pub bad_plan_line : ℕ → List ℕ
-bad_plan_line place = line (codes "run refused BadPlan " ∷ decimal place ∷ [])
+-- a command that was refused for the entry at this place
+abbrev pub refused_at_line : List ℕ → List ℕ → ℕ → List ℕ
+refused_at_line command refusal place = line (command ∷ codes " refused " ∷ refusal ∷ codes " " ∷ decimal place ∷ [])
 
 -- a member's state, or `-` for one that is down
 abbrev pub state_word : Option ℕ → List ℕ

@@ -1,12 +1,9 @@
 -- A set of members as it is printed.
 use Rattle.std.specs.Prelude.{ℕ, List, [], ◌∷◌, ◌++◌, codes, decimal}
-use Rattle.std.specs.List.{filter, flat_map, range_with_len}
+use Rattle.std.specs.List.{flat_map}
 use Rattle.std.specs.Ordering.{nat_cmp}
 use Rattle.std.specs.FinSet as set
-
--- the members of a set, rising
-unfoldable pub member_list : set.FinSet nat_cmp → List ℕ
-member_list s = filter (set.contains s) (range_with_len 0 16)
+use Rattle.fbl_base.specs.MemberSets.{member_list}
 
 -- each number after a comma
 abbrev pub after_commas : List ℕ → List ℕ

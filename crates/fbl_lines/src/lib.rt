@@ -5,7 +5,7 @@ mod lines;
 mod sets;
 
 pub use lines::{
-    MemberStatus, RunEnd, Totals, audit_text, bad_plan_text, checkpoint_text, deliver_text,
-    recover_text, refused_text, report_text, run_text, states_text, strike_text,
+    MemberStatus, RunEnd, Totals, audit_text, checkpoint_text, deliver_text, recover_text,
+    refused_at_text, refused_text, report_text, run_text, states_text, strike_text,
 };
-pub use sets::{members_in, set_text};
+pub use sets::set_text;

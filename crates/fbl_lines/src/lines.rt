@@ -1,6 +1,6 @@
 ghost use Rattle.std.specs.Prelude.{◌≡◌, ◌++◌, IfOk, OnOk, string_bytes};
 ghost use Rattle.std.specs.List.{flat_map};
-ghost use Rattle.fbl_lines.specs.Lines.{audit_lines, bad_plan_line, checkpoint_line, deliver_line, determinant_line, end_word, member_line, member_lines, recover_line, refused_line, report_lines, run_line, states_line, strike_line, total_lines};
+ghost use Rattle.fbl_lines.specs.Lines.{audit_lines, checkpoint_line, deliver_line, determinant_line, end_word, member_line, member_lines, recover_line, refused_at_line, refused_line, report_lines, run_line, states_line, strike_line, total_lines};
 
 use crate::sets::set_text;
 use fbl_base::{Determinant, Member, MemberSet};
@@ -79,11 +79,16 @@ pub fn refused_text(alloc: Global, command: &str, refusal: &str) -> Result<Strin
     format!(in alloc; "{command} refused {refusal}\n")
 }
 
-/// The line of a run that was refused for an entry of its plan.
-pub fn bad_plan_text(alloc: Global, place: usize) -> Result<String, AllocError>
-    ensures { IfOk result (λ text. string_bytes text ≡ bad_plan_line place) }
+/// The line of a command that was refused for an entry at this place, by the command's name and the refusal's.
+pub fn refused_at_text(
+    alloc: Global,
+    command: &str,
+    refusal: &str,
+    place: usize,
+) -> Result<String, AllocError>
+    ensures { IfOk result (λ text. string_bytes text ≡ refused_at_line command.now refusal.now place) }
 {
-    format!(in alloc; "run refused BadPlan {place}\n")
+    format!(in alloc; "{command} refused {refusal} {place}\n")
 }
 
 /// The line of the members' states, in order. `None` stands for a member that is down.

@@ -1,27 +1,8 @@
-ghost use Rattle.std.specs.Prelude.{◌≡◌, ◌++◌, ◌≤◌, IfOk, OnOk, string_bytes};
-ghost use Rattle.fbl_lines.specs.Sets.{after_commas, listed, member_list, set_words};
+ghost use Rattle.std.specs.Prelude.{◌≡◌, ◌++◌, IfOk, OnOk, string_bytes};
+ghost use Rattle.fbl_lines.specs.Sets.{after_commas, listed, set_words};
 
 use fbl_base::{Member, MemberSet};
-use std::alloc::{AllocError, Allocator, Global};
-
-/// The members of the set, rising.
-#[tactic(auto, unfolding(crate::specs::Sets::member_list))]
-pub fn members_in<A: Allocator + Copy>(
-    alloc: A,
-    set: MemberSet,
-) -> Result<Vec<Member, A>, AllocError>
-    ensures { IfOk result (λ v. v.items ≡ member_list set) }
-{
-    let mut members = Vec::new(alloc);
-    for number in 0..16u8 {
-        if let Some(member) = Member::new(number) {
-            if set.has(member) {
-                members.push(member)?;
-            }
-        }
-    }
-    Ok(members)
-}
+use std::alloc::{AllocError, Global};
 
 /// Writes each member after a comma.
 fn push_members(text: &mut String, members: &[Member]) -> Result<(), AllocError>
@@ -53,6 +34,6 @@ fn listed_text(alloc: Global, members: &[Member]) -> Result<String, AllocError>
 pub fn set_text(alloc: Global, set: MemberSet) -> Result<String, AllocError>
     ensures { IfOk result (λ text. string_bytes text ≡ set_words set) }
 {
-    let members = members_in(alloc, set)?;
+    let members = set.members(alloc)?;
     listed_text(alloc, members.as_slice())
 }

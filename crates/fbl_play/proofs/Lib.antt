@@ -1,3 +1,2 @@
 pub mod RunTexts
-pub mod RunPlans
 pub mod Playing

@@ -1,24 +1,16 @@
 -- What a run by workers does to a group, and what it prints.
-use Rattle.std.specs.Prelude.{◌≡◌, ℕ, Bool, true, false, List, map, codes, Result, Ok, Err}
+use Rattle.std.specs.Prelude.{◌≡◌, ℕ, Bool, true, false, List, codes, Result, Ok, Err}
+use Rattle.fbl_base.specs.declared.strike.Strike.{Strike}
 use Rattle.fbl_base.specs.Fold.{Next}
 use Rattle.fbl_law.specs.Groups.{GroupRecord}
 use Rattle.fbl_lines.specs.declared.lines.RunEnd.{RunEnd}
 use Rattle.fbl_lines.specs.declared.lines.RunEnd.TheVariants.{Quiet, Full, Stopped}
-use Rattle.fbl_lines.specs.Lines.{run_line, refused_line, bad_plan_line}
-use Rattle.fbl_script.specs.declared.script.PlannedStrike.{PlannedStrike}
+use Rattle.fbl_lines.specs.Lines.{run_line, refused_at_line, refused_line}
 use Rattle.fbl_threads.specs.declared.draining.Drained.{Drained}
 use Rattle.fbl_threads.specs.declared.draining.DrainRefusal.{DrainRefusal}
 use Rattle.fbl_threads.specs.declared.draining.DrainRefusal.TheVariants as drain
-use Rattle.fbl_threads.specs.declared.plan.Strike.{Strike}
+use Rattle.fbl_threads.specs.Names.{drain_name}
 use Rattle.fbl_threads.specs.Drains.{Drains}
-
--- a strike of a script's plan as one of a drain's
-abbrev pub strike_of : PlannedStrike → Strike
-strike_of s = record { at = s.at; set = s.set }
-
--- the plan of a script as one of a drain
-abbrev pub plan_of : List PlannedStrike → List Strike
-plan_of plan = map strike_of plan
 
 -- how a run ended that came back quiet or not, and in which a worker met the end of the trace's room or not
 abbrev pub end_of : Bool → Bool → RunEnd
@@ -32,13 +24,9 @@ IsDrainedText drained text = (drained.memory ≡ false) × (text ≡ run_line (e
 
 -- the line of a refused run; want of memory has none
 abbrev pub IsRefusedRunText : DrainRefusal → List ℕ → Type 0
-IsRefusedRunText drain.BadWorkers text = text ≡ refused_line (codes "run") (codes "BadWorkers")
-IsRefusedRunText (drain.BadPlan place) text = text ≡ bad_plan_line place
-IsRefusedRunText drain.Down text = text ≡ refused_line (codes "run") (codes "Down")
-IsRefusedRunText drain.NoTable text = text ≡ refused_line (codes "run") (codes "NoTable")
-IsRefusedRunText drain.NoThread text = text ≡ refused_line (codes "run") (codes "NoThread")
-IsRefusedRunText drain.Uneven text = text ≡ refused_line (codes "run") (codes "Uneven")
 IsRefusedRunText drain.Memory text = ⊥
+IsRefusedRunText (drain.BadPlan place) text = text ≡ refused_at_line (codes "run") (drain_name (drain.BadPlan place)) place
+IsRefusedRunText refusal text = text ≡ refused_line (codes "run") (drain_name refusal)
 
 -- the line of a run that answered this
 abbrev pub IsRunText : Result Drained DrainRefusal → List ℕ → Type 0
@@ -47,6 +35,6 @@ IsRunText (Err refusal) text = IsRefusedRunText refusal text
 
 -- a run with this plan by this many workers may lead from old to new and print the text: it follows by an answer of the
 -- workers' drain, and the text is the line of that answer; which answer it is and where it ends is left open
-abbrev pub RunStep : Next → ℕ → List PlannedStrike → GroupRecord → GroupRecord → List ℕ → Type 0
+abbrev pub RunStep : Next → ℕ → List Strike → GroupRecord → GroupRecord → List ℕ → Type 0
 RunStep next workers plan old new text =
-    (answer : Result Drained DrainRefusal) × Drains next workers (plan_of plan) old new answer × IsRunText answer text
+    (answer : Result Drained DrainRefusal) × Drains next workers plan old new answer × IsRunText answer text

@@ -17,8 +17,11 @@ use Rattle.fbl_group.specs.declared.answers.Struck.{Struck}
 use Rattle.fbl_group.specs.declared.refusals.DeliverRefusal.{DeliverRefusal}
 use Rattle.fbl_group.specs.declared.refusals.StrikeRefusal.{StrikeRefusal}
 use Rattle.fbl_group.specs.declared.refusals.CheckpointRefusal.{CheckpointRefusal}
+use Rattle.fbl_group.specs.declared.refusals.RecoverRefusal.TheVariants.{NotDown}
+use Rattle.fbl_group.specs.declared.refusals.DumpGroupRefusal.TheVariants.{BadStrike}
 use Rattle.fbl_group.specs.Checkpoints.{checkpoint_refusal}
 use Rattle.fbl_group.specs.Deliveries.{deliver_refusal, Delivers}
+use Rattle.fbl_group.specs.Names.{checkpoint_name, deliver_name, dump_name, recover_name, strike_name}
 use Rattle.fbl_group.specs.Recoveries.{Recovers}
 use Rattle.fbl_group.specs.Strikes.{strike_refusal, Strikes}
 use Rattle.fbl_lines.specs.declared.lines.Totals.{Totals}
@@ -32,7 +35,7 @@ use Rattle.fbl_script.specs.declared.script.Command.{Command}
 use Rattle.fbl_script.specs.declared.script.Command.TheVariants as commands
 use Rattle.fbl_script.specs.Faults.{FailsToRead}
 use Rattle.fbl_script.specs.Scripts.{Outline, IsScriptOf, IsScriptFault}
-use Rattle.fbl_play.specs.Texts.{checkpoint_name, deliver_name, strike_name, shown_states, shown_statuses, AreTotals}
+use Rattle.fbl_play.specs.Texts.{shown_states, shown_statuses, AreTotals}
 use Rattle.fbl_play.specs.RunSteps.{RunStep}
 
 -- ---- one command
@@ -66,7 +69,7 @@ StrikeStep old struck new text = StrikeBy (strike_refusal old struck) old struck
 
 -- a recovery where nobody is down
 abbrev pub RefusedRecovery : GroupRecord → GroupRecord → List ℕ → Type 0
-RefusedRecovery old new text = (old.down ≡ set.empty) × (new ≡ old) × (text ≡ refused_line (codes "recover") (codes "NotDown"))
+RefusedRecovery old new text = (old.down ≡ set.empty) × (new ≡ old) × (text ≡ refused_line (codes "recover") (recover_name NotDown))
 
 -- a recovery of those that are down
 abbrev pub AcceptedRecovery : Next → GroupRecord → GroupRecord → List ℕ → Type 0
@@ -80,7 +83,7 @@ RecoverStep next old new text = RefusedRecovery old new text ⊎ AcceptedRecover
 abbrev pub IsDumpText : GroupRecord → Members → List ℕ → Type 0
 IsDumpText r strike text =
     (AllBelow strike r.config.members × (text ≡ dump_line (dump_of r strike)))
-    ⊎ (¬ (AllBelow strike r.config.members) × (text ≡ refused_line (codes "dump") (codes "BadStrike")))
+    ⊎ (¬ (AllBelow strike r.config.members) × (text ≡ refused_line (codes "dump") (dump_name BadStrike)))
 
 abbrev pub DumpStep : GroupRecord → Members → GroupRecord → List ℕ → Type 0
 DumpStep old strike new text = (new ≡ old) × IsDumpText old strike text

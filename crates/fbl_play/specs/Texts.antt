@@ -1,40 +1,12 @@
 -- What is printed of a group.
-use Rattle.std.specs.Prelude.{◌≡◌, ℕ, zero, suc, ◌+◌, ◌↔◌, true, false, Bool, List, [], ◌∷◌, ◌++◌, length, map, Option, Some, None, codes, if◌then◌else◌}
-use Rattle.std.specs.Ordering.{nat_cmp}
+use Rattle.std.specs.Prelude.{◌≡◌, ℕ, zero, suc, ◌↔◌, true, List, [], ◌∷◌, ◌++◌, length, Option, Some, None, if◌then◌else◌}
 use Rattle.std.specs.FinSet as set
 use Rattle.fbl_base.specs.Audit.{IsOrphan, lost_determinants}
 use Rattle.fbl_member.specs.Members.{MemberRecord}
-use Rattle.fbl_law.specs.Groups.{GroupRecord, member, channel, messages_in_flight}
+use Rattle.fbl_law.specs.Groups.{GroupRecord, member, messages_in_flight}
 use Rattle.fbl_law.specs.Dumps.{dump_of}
 use Rattle.fbl_lines.specs.declared.lines.MemberStatus.{MemberStatus}
 use Rattle.fbl_lines.specs.declared.lines.Totals.{Totals}
-use Rattle.fbl_group.specs.declared.refusals.CheckpointRefusal.{CheckpointRefusal}
-use Rattle.fbl_group.specs.declared.refusals.CheckpointRefusal.TheVariants as checkpoint
-use Rattle.fbl_group.specs.declared.refusals.DeliverRefusal.{DeliverRefusal}
-use Rattle.fbl_group.specs.declared.refusals.DeliverRefusal.TheVariants as deliver
-use Rattle.fbl_group.specs.declared.refusals.StrikeRefusal.{StrikeRefusal}
-use Rattle.fbl_group.specs.declared.refusals.StrikeRefusal.TheVariants as strike
-
--- ---- names of refusals
-
-abbrev pub deliver_name : DeliverRefusal → List ℕ
-deliver_name deliver.BadMember = codes "BadMember"
-deliver_name deliver.Down = codes "Down"
-deliver_name deliver.Empty = codes "Empty"
-deliver_name deliver.Full = codes "Full"
-deliver_name deliver.Memory = codes "Memory"
-
-abbrev pub strike_name : StrikeRefusal → List ℕ
-strike_name strike.BadMember = codes "BadMember"
-strike_name strike.Nobody = codes "Nobody"
-strike_name strike.TooMany = codes "TooMany"
-
-abbrev pub checkpoint_name : CheckpointRefusal → List ℕ
-checkpoint_name checkpoint.BadMember = codes "BadMember"
-checkpoint_name checkpoint.Down = codes "Down"
-checkpoint_name checkpoint.Memory = codes "Memory"
-
--- ---- what a group shows
 
 -- what is asked of each member, from the first one on
 abbrev pub per_member : {X : Type 0} → (ℕ → X) → ℕ → List X

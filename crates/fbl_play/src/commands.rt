@@ -6,7 +6,6 @@ ghost use Rattle.fbl_play.specs.Texts.{shown_state as shown_state_of, shown_stat
 ghost use Rattle.fbl_lines.specs.Lines.{states_line};
 
 use crate::answer::{Answer, answer_with};
-use crate::names::{checkpoint_name, deliver_name, strike_name};
 use crate::reasons::{checkpoint_reason, deliver_reason, no_such_member, strike_reason};
 use crate::runs::run_plan;
 use fbl_base::audit::{lost, orphans};
@@ -39,7 +38,7 @@ fn run_deliver<B: Behaviour>(
         }
         Err(DeliverRefusal::Memory) => Err(AllocError),
         Err(refusal) => {
-            let text = refused_text(alloc, "deliver", deliver_name(refusal))?;
+            let text = refused_text(alloc, "deliver", refusal.name())?;
             Ok(Answer::refused(text, deliver_reason(group, to, from, refusal)))
         }
     }
@@ -138,7 +137,7 @@ fn run_strike<B: Behaviour>(
     match group.strike(set) {
         Ok(struck) => Ok(Answer::done(strike_text(alloc, set, struck.lost)?)),
         Err(refusal) => {
-            let text = refused_text(alloc, "strike", strike_name(refusal))?;
+            let text = refused_text(alloc, "strike", refusal.name())?;
             Ok(Answer::refused(text, strike_reason(group, set, refusal)))
         }
     }
@@ -153,11 +152,11 @@ fn run_recover<B: Behaviour>(alloc: Global, group: &mut Group<B>) -> Result<Answ
             let text = recover_text(alloc, answer.replayed, answer.resent, answer.undone)?;
             Ok(Answer::done(text))
         }
-        Err(RecoverRefusal::NotDown) => {
-            let text = refused_text(alloc, "recover", "NotDown")?;
+        Err(RecoverRefusal::Memory) => Err(AllocError),
+        Err(refusal) => {
+            let text = refused_text(alloc, "recover", refusal.name())?;
             Ok(Answer::refused(text, Reason::NotDown))
         }
-        Err(RecoverRefusal::Memory) => Err(AllocError),
     }
 }
 
@@ -176,7 +175,7 @@ fn run_checkpoint<B: Behaviour>(
         }
         Err(CheckpointRefusal::Memory) => Err(AllocError),
         Err(refusal) => {
-            let text = refused_text(alloc, "checkpoint", checkpoint_name(refusal))?;
+            let text = refused_text(alloc, "checkpoint", refusal.name())?;
             Ok(Answer::refused(text, checkpoint_reason(group, member, refusal)))
         }
     }
@@ -192,11 +191,11 @@ fn run_dump<B: Behaviour>(
 {
     match group.dump(strike) {
         Ok(dump) => Ok(Answer::done(dump_text(alloc, &dump)?)),
-        Err(DumpGroupRefusal::BadStrike) => {
-            let text = refused_text(alloc, "dump", "BadStrike")?;
+        Err(DumpGroupRefusal::Memory) => Err(AllocError),
+        Err(refusal) => {
+            let text = refused_text(alloc, "dump", refusal.name())?;
             Ok(Answer::refused(text, no_such_member(group, strike)))
         }
-        Err(DumpGroupRefusal::Memory) => Err(AllocError),
     }
 }
 

@@ -4,7 +4,6 @@
 mod answer;
 mod commands;
 mod engine;
-mod names;
 mod observer;
 mod reasons;
 mod runs;

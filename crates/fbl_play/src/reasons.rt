@@ -2,10 +2,9 @@
 
 ghost use Rattle.fbl_play.specs.Reasons.{IsOfGroup};
 
-use fbl_base::{Behaviour, Member, MemberSet};
+use fbl_base::{Behaviour, Member, MemberSet, Strike};
 use fbl_explain::{Reason, entry_reason};
 use fbl_group::{CheckpointRefusal, DeliverRefusal, Group, StrikeRefusal};
-use fbl_script::PlannedStrike;
 use fbl_threads::DrainRefusal;
 
 /// The command names these members, of which the group has not all.
@@ -73,7 +72,7 @@ pub(crate) fn checkpoint_reason<B: Behaviour>(
 /// The reason of a run's refusal.
 pub(crate) fn run_reason<B: Behaviour>(
     group: &Group<B>,
-    plan: &[PlannedStrike],
+    plan: &[Strike],
     refusal: &DrainRefusal,
 ) -> Reason {
     match refusal {

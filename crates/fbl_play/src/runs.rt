@@ -2,36 +2,22 @@
 
 ghost use Rattle.std.specs.Prelude.{◌≡◌, ◌≤◌, false, IfOk, string_bytes};
 ghost use Rattle.fbl_lines.specs.Lines.{run_line};
-ghost use Rattle.fbl_play.specs.RunSteps.{RunStep, IsRefusedRunText, IsRunText, end_of as end_of_run, plan_of as plan_of_script};
+ghost use Rattle.fbl_play.specs.RunSteps.{RunStep, IsRefusedRunText, IsRunText, end_of as end_of_run};
 
 use crate::answer::{Answer, answer_with};
 use crate::reasons::run_reason;
 use fbl_base::Behaviour;
 use fbl_explain::{Account, RunCounts};
 use fbl_group::Group;
-use fbl_lines::{RunEnd, bad_plan_text, refused_text, run_text};
+use fbl_lines::{RunEnd, refused_at_text, refused_text, run_text};
 use fbl_script::Plan;
-use fbl_threads::{DrainRefusal, Drained, NoGate, Strike, drain};
+use fbl_threads::{DrainRefusal, Drained, NoGate, drain};
 use std::alloc::{AllocError, Global};
 use std::sync::Wait;
 use std::thread::Threads;
 
 /// How many turns each worker may take.
 const TURNS: u32 = 1_000_000;
-
-/// The plan as one for the workers.
-fn plan_of(alloc: Global, plan: &Plan) -> Result<Vec<Strike>, AllocError>
-    ensures { IfOk result (λ v. v.items ≡ plan_of_script plan.now) }
-{
-    let mut strikes = Vec::new(alloc);
-    for planned in plan.strikes() {
-        strikes.push(Strike {
-            at: planned.at,
-            set: planned.set,
-        })?;
-    }
-    Ok(strikes)
-}
 
 /// How a run ended.
 fn end_of(quiet: bool, full: bool) -> RunEnd
@@ -62,13 +48,9 @@ fn refused_run_text(alloc: Global, refusal: DrainRefusal) -> Result<String, Allo
     ensures { IfOk result (λ text. IsRefusedRunText refusal (string_bytes text)) }
 {
     match refusal {
-        DrainRefusal::BadWorkers => refused_text(alloc, "run", "BadWorkers"),
-        DrainRefusal::BadPlan(place) => bad_plan_text(alloc, place),
-        DrainRefusal::Down => refused_text(alloc, "run", "Down"),
-        DrainRefusal::NoTable => refused_text(alloc, "run", "NoTable"),
-        DrainRefusal::NoThread => refused_text(alloc, "run", "NoThread"),
-        DrainRefusal::Uneven => refused_text(alloc, "run", "Uneven"),
         DrainRefusal::Memory => Err(AllocError),
+        DrainRefusal::BadPlan(place) => refused_at_text(alloc, "run", refusal.name(), place),
+        _ => refused_text(alloc, "run", refusal.name()),
     }
 }
 
@@ -111,20 +93,10 @@ pub(crate) fn run_plan<B: Behaviour + Send + Sync, T: Threads + Wait + Sync>(
 ) -> (Group<B>, Result<Answer, AllocError>)
     ensures { IfOk result.1 (λ answer. RunStep B.next workers plan.now group result.0 (string_bytes answer.text)) }
 {
-    let Ok(strikes) = plan_of(alloc, plan) else {
-        return (group, Err(AllocError));
-    };
     let ever = group.receipts_ever();
     let undone = group.undone_ever();
-    let (group, answer) = drain(
-        rt,
-        alloc,
-        group,
-        strikes.as_slice(),
-        workers,
-        TURNS,
-        &NoGate,
-    );
+    let strikes = plan.strikes();
+    let (group, answer) = drain(rt, alloc, group, strikes, workers, TURNS, &NoGate);
     let account = account_of(&group, plan, ever, undone, &answer);
     let text = answer_text(alloc, answer);
     (group, answer_with(text, account))

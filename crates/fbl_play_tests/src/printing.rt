@@ -1,8 +1,8 @@
 use crate::setting::{member, set};
 use fbl_base::{Determinant, MemberSet};
 use fbl_lines::{
-    MemberStatus, RunEnd, Totals, audit_text, bad_plan_text, deliver_text, members_in,
-    recover_text, refused_text, report_text, run_text, set_text, states_text, strike_text,
+    MemberStatus, RunEnd, Totals, audit_text, deliver_text, recover_text, refused_at_text,
+    refused_text, report_text, run_text, set_text, states_text, strike_text,
 };
 use std::alloc::{AllocError, Allocator};
 use std::process::Abort;
@@ -37,7 +37,7 @@ fn prints_a_delivery(rt: HostRuntime) -> Result<(), Fail> {
 fn prints_refusals(rt: HostRuntime) -> Result<(), Fail> {
     let text = refused_text(rt.alloc(), "strike", "TooMany")?;
     is_text(&rt, text.as_str(), "strike refused TooMany\n");
-    let text = bad_plan_text(rt.alloc(), 64)?;
+    let text = refused_at_text(rt.alloc(), "run", "BadPlan", 64)?;
     is_text(&rt, text.as_str(), "run refused BadPlan 64\n");
     Ok(())
 }
@@ -139,7 +139,7 @@ fn prints_an_audit(rt: HostRuntime) -> Result<(), Fail> {
 
 /// How many members there are, by their list.
 fn listed<A: Allocator + Copy>(alloc: A, set: MemberSet) -> Result<usize, AllocError> {
-    Ok(members_in(alloc, set)?.len())
+    Ok(set.members(alloc)?.len())
 }
 
 #[test]

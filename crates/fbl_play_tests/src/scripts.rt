@@ -1,8 +1,6 @@
 use crate::setting::{member, set};
-use fbl_base::{MemberSet, Note, Start};
-use fbl_script::{
-    BehaviourName, Command, Key, PlannedStrike, RunFault, Script, put, read_input, script_of_bytes,
-};
+use fbl_base::{MemberSet, Note, Start, Strike};
+use fbl_script::{BehaviourName, Command, Key, RunFault, Script, put, read_input, script_of_bytes};
 use std::alloc::{AllocError, Global};
 use std::process::Abort;
 use std::test::Fail;
@@ -339,7 +337,7 @@ fn is_each_command(
     commands: &[Command],
     struck: MemberSet,
     dumped: MemberSet,
-    planned: &[PlannedStrike],
+    planned: &[Strike],
 ) -> bool {
     match commands {
         [
@@ -362,11 +360,11 @@ fn is_each_command(
 #[test]
 fn reads_each_command(rt: HostRuntime) -> Result<(), Fail> {
     let planned = [
-        PlannedStrike {
+        Strike {
             at: 7,
             set: set(&[0, 3])?,
         },
-        PlannedStrike {
+        Strike {
             at: 9,
             set: set(&[1])?,
         },

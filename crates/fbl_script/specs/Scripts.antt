@@ -3,6 +3,7 @@ use Rattle.std.specs.Prelude.{◌≡◌, ℕ, ◌+◌, ◌==◌, List, [], ◌�
 use Rattle.std.specs.Option.{option_or}
 use Rattle.serde_json.specs.Data.{Data, Members}
 use Rattle.serde_json.specs.Find.{get, as_object}
+use Rattle.fbl_base.specs.declared.strike.Strike as planned
 use Rattle.fbl_base.specs.declared.trace.Start.{Start}
 use Rattle.fbl_base.specs.declared.config.ConfigRefusal.TheVariants as refusals
 use Rattle.fbl_base.specs.Configs.{Settings, IsConfig, RefusesConfig}
@@ -14,7 +15,6 @@ use Rattle.fbl_script.specs.declared.script.Version.{Version}
 use Rattle.fbl_script.specs.declared.script.Version.TheVariants.{First, Second}
 use Rattle.fbl_script.specs.declared.script.BehaviourName.{BehaviourName}
 use Rattle.fbl_script.specs.declared.script.BehaviourName.TheVariants.{Relay, Mix}
-use Rattle.fbl_script.specs.declared.script.PlannedStrike.{PlannedStrike}
 use Rattle.fbl_script.specs.declared.script.Command.{Command}
 use Rattle.fbl_script.specs.declared.script.Command.TheVariants.{Deliver, States, Report, Strike, Recover, Dump, Run, Checkpoint}
 use Rattle.fbl_script.specs.declared.script.Script.{Script}
@@ -54,11 +54,11 @@ abbrev pub start_shape : Data → Option Start
 start_shape d = option_and_then start_from (as_list d)
 
 -- `[at, set]`
-abbrev pub planned_from : List Data → Option PlannedStrike
+abbrev pub planned_from : List Data → Option planned.Strike
 planned_from (at ∷ members ∷ []) = option_and_then (λ n. option_map (λ s. record { at = n; set = s }) (set_shape members)) (count_shape at)
 planned_from _ = None
 
-abbrev pub planned_shape : Data → Option PlannedStrike
+abbrev pub planned_shape : Data → Option planned.Strike
 planned_shape d = option_and_then planned_from (as_list d)
 
 -- `["states"]`, `["report"]`, `["recover"]`

@@ -6,19 +6,20 @@ ghost use Rattle.fbl_script.specs.Shapes.{Gives, IsOfShape, list_of};
 ghost use Rattle.fbl_script.specs.Scripts.{checkpoint_from, command_from, command_on, commands_from, delivery, lone_command, planned_from, planned_shape, versioned_from, versioned_shape};
 
 use crate::fault::RunFault;
-use crate::script::{Command, Plan, PlannedStrike, Version};
+use crate::script::{Command, Plan, Version};
 use crate::shapes::{Shape, all_in, count_in, is_named, list_in, member_in, set_in};
+use fbl_base::Strike;
 use serde_json::Value;
 use std::alloc::{AllocError, Global};
 
-fn planned_of(list: &[Value]) -> Option<PlannedStrike>
+fn planned_of(list: &[Value]) -> Option<Strike>
     ensures { result ≡ planned_from (map view list.now) }
 {
     match list {
         [at, members] => {
             let at = u64::from(count_in(at)?);
             let set = set_in(members)?;
-            Some(PlannedStrike { at, set })
+            Some(Strike { at, set })
         }
         _ => None,
     }
@@ -27,12 +28,12 @@ fn planned_of(list: &[Value]) -> Option<PlannedStrike>
 /// A strike of a plan: a list of the count at which it comes and its members.
 struct PlannedShape;
 
-impl Shape<PlannedStrike> for PlannedShape {
+impl Shape<Strike> for PlannedShape {
     ghost use Rattle.fbl_script.specs.Scripts.{planned_shape};
 
     ghost shape = { planned_shape };
 
-    fn in_value(value: &Value) -> Option<PlannedStrike> {
+    fn in_value(value: &Value) -> Option<Strike> {
         planned_of(list_in(value)?)
     }
 }
@@ -41,7 +42,7 @@ fn plan_in(alloc: Global, value: &Value) -> Result<Option<Plan>, AllocError>
     ensures { IfOk result (λ plan. plan ≡ list_of planned_shape (view value.now)) }
 {
     match list_in(value) {
-        Some(list) => Ok(all_in::<PlannedStrike, PlannedShape>(alloc, list)?.map(Plan::new)),
+        Some(list) => Ok(all_in::<Strike, PlannedShape>(alloc, list)?.map(Plan::new)),
         None => Ok(None),
     }
 }

@@ -13,5 +13,5 @@ pub mod shapes;
 pub use fault::{Key, RunFault};
 pub use input::read_input;
 pub use output::put;
-pub use script::{BehaviourName, Command, Plan, PlannedStrike, Script};
+pub use script::{BehaviourName, Command, Plan, Script};
 pub use script_reading::{StartShape, script_of_bytes};

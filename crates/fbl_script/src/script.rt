@@ -1,6 +1,6 @@
 ghost use Rattle.std.specs.Prelude.{◌≡◌};
 
-use fbl_base::{Config, Member, MemberSet};
+use fbl_base::{Config, Member, MemberSet, Strike};
 use std::marker::Model;
 
 /// The version of a script, which says what commands it may have.
@@ -21,45 +21,36 @@ pub enum BehaviourName {
     Mix,
 }
 
-/// A strike that a plan asks for.
-#[derive(Clone, Copy, Debug, PartialEq, Eq)]
-pub struct PlannedStrike {
-    /// After how many receipts ever made the members are struck. A count that is passed already strikes nobody.
-    pub at: u64,
-    /// The members to strike.
-    pub set: MemberSet,
-}
-
 /// The strikes that a run makes on its way, in the order given. Contracts see the list.
 #[derive(Debug, Drop)]
 pub struct Plan {
-    strikes: Vec<PlannedStrike>,
+    strikes: Vec<Strike>,
 }
 
 impl Model for Plan {
     ghost use Rattle.std.specs.Prelude.{List};
-    ghost use Rattle.fbl_script.specs.declared.script.PlannedStrike.{PlannedStrike};
+    ghost use Rattle.fbl_base.specs.declared.strike.Strike.{Strike};
 
-    ghost Value = { List PlannedStrike };
+    ghost Value = { List Strike };
 
     ghost use Rattle.std.specs.Coded.{codes};
-    ghost use Rattle.fbl_script.specs.contracts.script.PlannedStrike as planned_strike;
+    ghost use Rattle.fbl_base.specs.contracts.strike.Strike as strike;
 
-    ghost coded = { Prim.hlevel (codes, planned_strike.the_row.coded) };
+    ghost coded = { Prim.hlevel (codes, strike.the_row.coded) };
 
     ghost view = { λ p. p.strikes.items };
 }
 
 impl Plan {
     /// A plan of these strikes.
-    pub fn new(strikes: Vec<PlannedStrike>) -> Plan
+    pub fn new(strikes: Vec<Strike>) -> Plan
         ensures { result ≡ strikes.items }
     {
         Plan { strikes }
     }
 
     /// The strikes, in order.
-    pub fn strikes(&self) -> &[PlannedStrike]
+    pub fn strikes(&self) -> &[Strike]
         ensures { result.now ≡ self.now }
     {
         self.strikes.as_slice()

@@ -8,7 +8,7 @@ use Rattle.fbl_law.specs.Groups.{GroupRecord}
 use Rattle.fbl_law.specs.Sound.{IsSound}
 use Rattle.fbl_threads.specs.Plans.{IsPlan, IsFirstBad}
 use Rattle.fbl_threads.specs.Pasts.{HasSamePast, KeepsPast, KeepsCheckpoints, IsPast, GoesOn}
-use Rattle.fbl_threads.specs.declared.plan.Strike.{Strike}
+use Rattle.fbl_base.specs.declared.strike.Strike.{Strike}
 use Rattle.fbl_threads.specs.declared.past.Past.{Past}
 use Rattle.fbl_threads.specs.declared.draining.Drained.{Drained}
 use Rattle.fbl_threads.specs.declared.draining.DrainRefusal.{DrainRefusal}

@@ -4,7 +4,7 @@ use Rattle.std.specs.List.{filter}
 use Rattle.fbl_base.specs.declared.trace.Event.{Event}
 use Rattle.fbl_base.specs.Events.{mark_of, member_of}
 use Rattle.fbl_law.specs.Groups.{GroupRecord, checkpoint}
-use Rattle.fbl_threads.specs.declared.plan.Strike.{Strike}
+use Rattle.fbl_base.specs.declared.strike.Strike.{Strike}
 use Rattle.fbl_threads.specs.declared.past.Past.{Past}
 use Rattle.fbl_threads.specs.Plans.{is_named}
 

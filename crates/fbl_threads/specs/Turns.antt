@@ -14,7 +14,7 @@ use Rattle.fbl_group.specs.Tickets.{take_refusal, IsTicket, commit_refusal, IsCo
 use Rattle.fbl_group.specs.Readers.{is_quiet}
 use Rattle.fbl_group.specs.Strikes.{strike_refusal}
 use Rattle.fbl_group.specs.Crashes.{Crashes, CrashLeaves}
-use Rattle.fbl_threads.specs.declared.plan.Strike.{Strike}
+use Rattle.fbl_base.specs.declared.strike.Strike.{Strike}
 use Rattle.fbl_threads.specs.declared.ledgered.StepRefusal.{StepRefusal}
 use Rattle.fbl_threads.specs.declared.ledgered.StepRefusal.TheVariants.{Commit, Crash}
 use Rattle.fbl_threads.specs.Plans.{struck_at}

@@ -8,11 +8,11 @@ use crate::claims::{ClaimRefusal, Claims, Pass};
 use crate::gate::Gate;
 use crate::ledgered::Ledgered;
 use crate::past::Past;
-use crate::plan::{Strike, first_bad};
+use crate::plan::first_bad;
 use crate::scope::{Gathered, run_all};
 use crate::worker::Work;
 use arrayvec::ArrayVec;
-use fbl_base::Behaviour;
+use fbl_base::{Behaviour, Strike};
 use fbl_group::Group;
 use std::alloc::Global;
 use std::marker::Brand;
@@ -42,33 +42,47 @@ pub struct Drained {
 /// Why a group is not drained. The first three are tested in this order, before any worker is started; then come `NoTable`
 /// and `Memory`, as the work meets them.
 #[derive(Clone, Copy, PartialEq, Eq, Debug, Error)]
+#[error("{}", self.name())]
 pub enum DrainRefusal {
     /// There are not 1 to 8 workers.
-    #[error("BadWorkers")]
     BadWorkers,
     /// The entry of the plan at this place, the first such, stands at place 64 or later, has a number that is not greater
     /// than the one before (than 0, for the first), or names nobody, more members than may be lost at once, or one that
     /// is not of the group.
-    #[error("BadPlan {0}")]
+    #[error("{} {}", self.name(), .0)]
     BadPlan(usize),
     /// Some member of the group is down.
-    #[error("Down")]
     Down,
     /// The table of claims is refused for another cause than want of memory. The present one never is.
-    #[error("NoTable")]
     NoTable,
     /// No worker could be started. The configuration, the trace, the counters and the numbers of receipts of the
     /// checkpoints are those of the group given.
-    #[error("NoThread")]
     NoThread,
     /// The group that comes back does not go on from the one given: the configuration or the number of receipts of some
     /// checkpoint differs, or the old events of a member that the plan does not name are not the first of its new ones, or
     /// no worker was started and the trace differs. It is a test of the workers' work, which no run is known to fail.
-    #[error("Uneven")]
     Uneven,
     /// There is no memory for the claims, or for a copy of the group's past. No worker was started.
-    #[error("Memory")]
     Memory,
+}
+
+impl DrainRefusal {
+    ghost use Rattle.fbl_threads.specs.Names.{drain_name};
+
+    /// The refusal's word, as it is printed before its place.
+    pub fn name(self) -> &'static str
+        ensures { result.now ≡ drain_name self }
+    {
+        match self {
+            DrainRefusal::BadWorkers => "BadWorkers",
+            DrainRefusal::BadPlan(_) => "BadPlan",
+            DrainRefusal::Down => "Down",
+            DrainRefusal::NoTable => "NoTable",
+            DrainRefusal::NoThread => "NoThread",
+            DrainRefusal::Uneven => "Uneven",
+            DrainRefusal::Memory => "Memory",
+        }
+    }
 }
 
 /// Runs the group by several workers at once, until nothing is in flight, somebody is down, or each worker has taken its

@@ -6,8 +6,8 @@ ghost use Rattle.fbl_group.specs.Tickets.{commit_refusal, IsCommitRefusal};
 ghost use Rattle.fbl_group.specs.Crashes.{CrashLeaves};
 ghost use Rattle.fbl_threads.specs.Turns.{is_over as is_over_now, IsFirstTicket, NoTicket, MayTake, Commits, IsCrash, CommitsByPlan, StepLeaves};
 
-use crate::plan::{Strike, planned};
-use fbl_base::{Behaviour, Member, MemberSet};
+use crate::plan::planned;
+use fbl_base::{Behaviour, Member, MemberSet, Strike};
 use fbl_group::{CommitRefusal, CrashRefusal, Done, Group, Ticket};
 use std::sync::ledger::{Blank, Book, Ledger, Share};
 

@@ -18,7 +18,6 @@ pub use claims::{
 pub use draining::{DrainRefusal, Drained, drain};
 use fbl_group::Group;
 pub use gate::{Gate, NoGate};
-pub use plan::Strike;
 use std::sync::Mutex;
 
 /// A group that threads share, each call of it in a hold of the lock.

@@ -5,8 +5,8 @@ ghost use Rattle.fbl_base.specs.Events.{mark_of, member_of as member_at_mark};
 ghost use Rattle.fbl_threads.specs.Pasts.{events_of, AreSaved, BeginsWith, IsPast, GoesOn};
 ghost use Rattle.fbl_threads.specs.Plans.{is_named as is_named_in};
 
-use crate::plan::{Strike, is_named};
-use fbl_base::{Behaviour, Config, Event, Member};
+use crate::plan::is_named;
+use fbl_base::{Behaviour, Config, Event, Member, Strike};
 use fbl_group::Group;
 use std::alloc::{AllocError, Global};
 

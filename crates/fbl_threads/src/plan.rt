@@ -3,16 +3,7 @@
 ghost use Rattle.std.specs.Prelude.{◌≡◌, ◌↔◌, IsTrue, MatchOption};
 ghost use Rattle.fbl_threads.specs.Plans.{IsFirstBad, IsPlan, MayBeStruck, struck_at, is_named as is_named_in};
 
-use fbl_base::{Config, Member, MemberSet};
-
-/// An entry of a plan: a set of members to strike when the receipts ever made by the group come to a number.
-#[derive(Clone, Copy, PartialEq, Eq, Debug)]
-pub struct Strike {
-    /// The number of receipts.
-    pub at: u64,
-    /// The members.
-    pub set: MemberSet,
-}
+use fbl_base::{Config, Member, MemberSet, Strike};
 
 /// The most entries that a plan may have.
 const MOST_STRIKES: usize = 64;

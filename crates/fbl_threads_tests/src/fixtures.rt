@@ -2,9 +2,9 @@
 
 ghost use Rattle.std.specs.Prelude.{◌≡◌, IfOk};
 
-use fbl_base::{Config, ConfigRefusal, Member, MemberSet, Note, Relay, Start};
+use fbl_base::{Config, ConfigRefusal, Member, MemberSet, Note, Relay, Start, Strike};
 use fbl_group::Group;
-use fbl_threads::{DrainRefusal, Drained, NoGate, Strike, drain};
+use fbl_threads::{DrainRefusal, Drained, NoGate, drain};
 use std::alloc::Global;
 use std::sync::Wait;
 use std::test::Fail;

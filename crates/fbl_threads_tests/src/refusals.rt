@@ -1,9 +1,9 @@
 //! Why a group is not drained.
 
 use crate::fixtures::{drain_by, plan, set, strike, twelve_receipts};
-use fbl_base::{Event, MemberSet, Relay};
+use fbl_base::{Event, MemberSet, Relay, Strike};
 use fbl_group::Group;
-use fbl_threads::{DrainRefusal, Strike};
+use fbl_threads::DrainRefusal;
 use std::alloc::Global;
 use std::process::Abort;
 use std::sync::Wait;

@@ -4,9 +4,9 @@ use crate::fixtures::{
     STATES_OF_TWELVE, drain_by, group, has_counts, has_states, set, start, strike, total,
     twelve_receipts,
 };
-use fbl_base::{Relay, Start};
+use fbl_base::{Relay, Start, Strike};
 use fbl_group::{Group, Recovered};
-use fbl_threads::{Drained, NoGate, Strike, drain};
+use fbl_threads::{Drained, NoGate, drain};
 use std::alloc::Global;
 use std::process::Abort;
 use std::sync::Wait;

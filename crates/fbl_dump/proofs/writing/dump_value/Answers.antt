@@ -3,7 +3,7 @@ use Rattle.std.specs.List.{All}
 use Rattle.std.proofs.lemmas.Result.{IfOk-weaker}
 use Rattle.fbl_base.specs.declared.trace.Determinant.{Determinant}
 use Rattle.fbl_base.specs.declared.trace.Mark.{Mark}
-use Rattle.fbl_lines.specs.Sets.{member_list}
+use Rattle.fbl_base.specs.MemberSets.{member_list}
 use Rattle.fbl_dump.specs.Dumps.{event_shape, pair_shape}
 use Rattle.fbl_dump.specs.DumpLines.{event_data, list_data, number_data, pair_data}
 use Rattle.fbl_dump.proofs.DumpValues.{dump_same, parts_read}

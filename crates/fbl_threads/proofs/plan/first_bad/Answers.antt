@@ -2,7 +2,7 @@ use Rattle.std.proofs.Common.{rules, ◌≡◌, ⊎_elim, ℕ, ◌<◌, ◌∷�
 use Rattle.std.proofs.lemmas.List.{get_or-map}
 use Rattle.std.specs.FinSet as set
 use Rattle.fbl_base.specs.Configs.{Settings}
-use Rattle.fbl_threads.specs.declared.plan.Strike.{Strike}
+use Rattle.fbl_base.specs.declared.strike.Strike.{Strike}
 use Rattle.fbl_threads.specs.Plans.{IsBad, numbers, set_at, MayBeStruck}
 use Rattle.fbl_threads.proofs.plan.first_bad.Goals as goal
 

@@ -3,8 +3,8 @@ use Rattle.std.specs.List.{filter, range_with_len}
 use Rattle.std.specs.FinSet as set
 use Rattle.std.proofs.lemmas.List.Elements.{filter_more}
 use Rattle.std.proofs.lemmas.List.FromFn.{get_or-range_with_len}
-use Rattle.fbl_lines.proofs.sets.members_in.Goals as goal
-use Rattle.fbl_lines.proofs.sets.members_in.Goals.{in-Some+then-has+in_ok-push, in-Some+else-has, in_default}
+use Rattle.fbl_base.proofs.member_set.MemberSet.members.Goals as goal
+use Rattle.fbl_base.proofs.member_set.MemberSet.members.Goals.{in-Some+then-has+in_ok-push, in-Some+else-has, in_default}
 
 next : (p : ℕ → Bool) (i : ℕ) → i < 16 → filter p (take (i + 1) (range_with_len 0 16)) ≡ filter p (take i (range_with_len 0 16)) ++ cond (p i) (i ∷ []) []
 next p i lt =
@@ -24,10 +24,10 @@ loop-number-preserved g c =
       | in-Some+then-has+in_ok-push w ↦
           let same : w.in-Some.member ≡ c.loop-number.number = w.in-Some.ensures.1 in
           ap (λ v. v.items) w.members-is ∙ w.in_ok-push.ensures.items ∙ ap (λ k. c.loop-number.members.items ++ k ∷ []) same
-          ∙ taken (set.contains c.args.set) c.loop-number.number within _ c.loop-number.invariant (ap (set.contains c.args.set) (sym same) ∙ sym w.has.ensures ∙ w.if-has.true)
+          ∙ taken (set.contains c.args.self) c.loop-number.number within _ c.loop-number.invariant (ap (set.contains c.args.self) (sym same) ∙ sym w.has.ensures ∙ w.if-has.true)
       | in-Some+else-has w ↦
           let same : w.in-Some.member ≡ c.loop-number.number = w.in-Some.ensures.1 in
           ap (λ v. v.items) w.members-is
-          ∙ passed (set.contains c.args.set) c.loop-number.number within _ c.loop-number.invariant (ap (set.contains c.args.set) (sym same) ∙ sym w.has.ensures ∙ w.if-has.false)
+          ∙ passed (set.contains c.args.self) c.loop-number.number within _ c.loop-number.invariant (ap (set.contains c.args.self) (sym same) ∙ sym w.has.ensures ∙ w.if-has.false)
       | in_default w ↦ absurd (w.in_default.ensures within)
     ]

@@ -2,7 +2,7 @@
 use Rattle.std.proofs.Common.{◌≡◌, take}
 use Rattle.std.specs.List.{filter, range_with_len}
 use Rattle.std.specs.FinSet as set
-use Rattle.fbl_lines.proofs.sets.members_in.Given as goal
+use Rattle.fbl_base.proofs.member_set.MemberSet.members.Given as goal
 
 abbrev pub invariant-loop-number : goal.invariant-loop-number
-invariant-loop-number g l = l.members.items ≡ filter (set.contains l.set) (take l.number (range_with_len 0 16))
+invariant-loop-number g l = l.members.items ≡ filter (set.contains l.self) (take l.number (range_with_len 0 16))
