@@ -2,11 +2,11 @@
 use Rattle.std.proofs.Common.{◌≡◌, ℕ, ◌<◌, ◌⊎◌, List, sym, ap, subst, inl, inr, Option, Some, None, Result, Ok, Err, IfSome, IfErr, OnOk, OnErr, refl, take, length}
 use Rattle.std.specs.Io.KnownBytes.{Appends}
 use Rattle.fbl_base.specs.Audit.{Parts}
-use Rattle.fbl_script.specs.declared.fault.RunFault.{RunFault}
-use Rattle.fbl_script.specs.declared.fault.RunFault.TheVariants as faults
-use Rattle.fbl_script.specs.Shapes.{longest, ◌>>=◌}
-use Rattle.fbl_script.proofs.Bytes.{keeps_itself}
-use Rattle.fbl_script.proofs.Inputs.{too_long}
+use Rattle.fbl_input.specs.declared.fault.RunFault.{RunFault}
+use Rattle.fbl_input.specs.declared.fault.RunFault.TheVariants as faults
+use Rattle.fbl_input.specs.Shapes.{longest, ◌>>=◌}
+use Rattle.fbl_input.proofs.Bytes.{keeps_itself}
+use Rattle.fbl_input.proofs.Inputs.{too_long}
 use Rattle.fbl_dump.specs.Dumps.{parts_of_data, parts_of_input, IsDumpOf, IsDumpFault}
 use Rattle.fbl_dump.specs.Auditing.{AuditsDump, Audits, IsAuditText, ReadsAndAudits}
 

@@ -11,8 +11,8 @@ use Rattle.fbl_base.specs.declared.trace.Mark.{Mark}
 use Rattle.fbl_base.specs.declared.trace.Mark.TheVariants.{Send, Receipt}
 use Rattle.fbl_base.specs.Audit.{Parts}
 use Rattle.fbl_base.specs.MemberSets.{member_list}
-use Rattle.fbl_script.specs.declared.fault.RunFault.TheVariants as faults
-use Rattle.fbl_script.specs.Shapes.{json_of, longest, or_fault, ◌>>=◌}
+use Rattle.fbl_input.specs.declared.fault.RunFault.TheVariants as faults
+use Rattle.fbl_input.specs.Shapes.{json_of, longest, or_fault, ◌>>=◌}
 use Rattle.fbl_dump.specs.Dumps.{parts_of_data, parts_of_input}
 use Rattle.fbl_dump.specs.DumpLines.{ReadsBack, dump_data, event_data, number_data, pair_data}
 use Rattle.fbl_dump.proofs.Newlines.{read_newline}

@@ -14,12 +14,12 @@ use Rattle.serde_json.specs.declared.value.Value.{Value}
 use Rattle.fbl_base.specs.MemberSets.{AllBelow}
 use Rattle.fbl_base.specs.Audit.{Parts, IsDump}
 use Rattle.fbl_base.specs.MemberSets.{member_list}
-use Rattle.fbl_script.specs.Shapes.{all_shaped, number_within, list_of, member_shape, set_shape}
+use Rattle.fbl_input.specs.Shapes.{all_shaped, number_within, list_of, member_shape, set_shape}
 use Rattle.fbl_dump.specs.DumpLines.{dump_data, dump_object, event_data, pair_data, list_data, number_data}
 use Rattle.fbl_dump.specs.Dumps.{event_shape, pair_shape, parts_of_data}
 use Rattle.fbl_base.specs.declared.trace.Mark.{Mark}
 use Rattle.fbl_base.specs.declared.trace.Determinant.{Determinant}
-use Rattle.fbl_script.proofs.Lists.{elements_of}
+use Rattle.fbl_input.proofs.Lists.{elements_of}
 
 -- one more value
 pub next_value : {X : Type 0} (f : X → Data) (vs : List Value) (v : Value) (xs : List X) (i : ℕ) (x : X) → i < length xs → map view vs ≡ map f (take i xs) → view v ≡ f (get_or xs i x) → map view (vs ++ v ∷ []) ≡ map f (take (i + 1) xs)

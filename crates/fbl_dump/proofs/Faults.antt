@@ -3,10 +3,10 @@ use Rattle.std.proofs.Common.{◌≡◌, ℕ, List, Ok}
 use Rattle.fbl_base.specs.Audit.{Parts, RefusesDump}
 use Rattle.fbl_base.specs.declared.refusal.DumpRefusal.{DumpRefusal}
 use Rattle.fbl_base.specs.declared.refusal.DumpRefusal.TheVariants as dump
-use Rattle.fbl_script.specs.declared.fault.RunFault.{RunFault}
-use Rattle.fbl_script.specs.declared.fault.RunFault.TheVariants as faults
-use Rattle.fbl_script.specs.Shapes.{Fails, IsOfShape}
-use Rattle.fbl_script.specs.Faults.{dump_fault}
+use Rattle.fbl_input.specs.declared.fault.RunFault.{RunFault}
+use Rattle.fbl_input.specs.declared.fault.RunFault.TheVariants as faults
+use Rattle.fbl_input.specs.Shapes.{Fails, IsOfShape}
+use Rattle.fbl_input.specs.Faults.{dump_fault}
 use Rattle.fbl_dump.specs.Dumps.{parts_of_input, IsDumpFault, IsDumpRefused}
 
 pub no_dump : (p : Parts) (e : DumpRefusal) → RefusesDump p e → IsDumpRefused p (dump_fault e)

@@ -13,8 +13,8 @@ use Rattle.json.specs.Token.{bad, boolean, null, number}
 use Rattle.json.specs.Word.{after_digits, after_exponent, after_fraction, after_minus, after_number, after_sign, after_whole, ends_word, head, literal, number_before, word}
 use Rattle.serde_json.specs.Data.{Data}
 use Rattle.serde_json.specs.Read.{max_depth, of_json, read}
-use Rattle.fbl_script.specs.Shapes.{json_of}
-use Rattle.fbl_script.proofs.Lists.{json_read}
+use Rattle.fbl_input.specs.Shapes.{json_of}
+use Rattle.fbl_input.proofs.Lists.{json_read}
 
 abbrev newline : List ℕ
 newline = 10 ∷ []

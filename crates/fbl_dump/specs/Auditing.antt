@@ -5,9 +5,9 @@ use Rattle.std.specs.Ordering.{nat_cmp}
 use Rattle.std.specs.FinSet as set
 use Rattle.fbl_base.specs.Audit.{Parts, IsOrphan, lost_determinants}
 use Rattle.fbl_lines.specs.Lines.{audit_lines}
-use Rattle.fbl_script.specs.declared.fault.RunFault.{RunFault}
-use Rattle.fbl_script.specs.declared.fault.RunFault.TheVariants as faults
-use Rattle.fbl_script.specs.Faults.{FailsToRead}
+use Rattle.fbl_input.specs.declared.fault.RunFault.{RunFault}
+use Rattle.fbl_input.specs.declared.fault.RunFault.TheVariants as faults
+use Rattle.fbl_input.specs.Faults.{FailsToRead}
 use Rattle.fbl_dump.specs.Dumps.{IsDumpOf, IsDumpFault}
 
 -- the lines of the audit of a dump: its lost determinants and its orphans

@@ -8,8 +8,8 @@ use Rattle.fbl_base.specs.declared.trace.Mark.{Mark}
 use Rattle.fbl_base.specs.declared.trace.Mark.TheVariants.{Send, Receipt}
 use Rattle.fbl_base.specs.Audit.{Parts}
 use Rattle.fbl_base.specs.MemberSets.{member_list}
-use Rattle.fbl_script.specs.declared.fault.Key.TheVariants as keys
-use Rattle.fbl_script.specs.Shapes.{longest, name_of}
+use Rattle.fbl_input.specs.declared.fault.Key.TheVariants as keys
+use Rattle.fbl_input.specs.Shapes.{longest, name_of}
 use Rattle.fbl_dump.specs.Dumps.{parts_of_input}
 
 abbrev pub number_data : ℕ → Data

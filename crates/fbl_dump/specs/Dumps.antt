@@ -7,11 +7,11 @@ use Rattle.fbl_base.specs.declared.trace.Mark.{Mark}
 use Rattle.fbl_base.specs.declared.trace.Mark.TheVariants.{Send, Receipt}
 use Rattle.fbl_base.specs.declared.refusal.DumpRefusal.TheVariants as refusals
 use Rattle.fbl_base.specs.Audit.{Parts, IsDump, RefusesDump}
-use Rattle.fbl_script.specs.declared.fault.Key.{Key}
-use Rattle.fbl_script.specs.declared.fault.Key.TheVariants as keys
-use Rattle.fbl_script.specs.declared.fault.RunFault.{RunFault}
-use Rattle.fbl_script.specs.declared.fault.RunFault.TheVariants as faults
-use Rattle.fbl_script.specs.Shapes.{◌>>=◌, or_fault, number_within, count_shape, member_shape, as_list, is_text, list_of, set_shape, field, has_other_key, value_of_input}
+use Rattle.fbl_input.specs.declared.fault.Key.{Key}
+use Rattle.fbl_input.specs.declared.fault.Key.TheVariants as keys
+use Rattle.fbl_input.specs.declared.fault.RunFault.{RunFault}
+use Rattle.fbl_input.specs.declared.fault.RunFault.TheVariants as faults
+use Rattle.fbl_input.specs.Shapes.{◌>>=◌, or_fault, number_within, count_shape, member_shape, as_list, is_text, list_of, set_shape, field, has_other_key, value_of_input}
 
 -- `["send", from, ssn, to]`
 abbrev pub send_from : Data → Data → Data → Data → Option Mark

@@ -5,8 +5,8 @@ ghost use Rattle.fbl_dump.specs.Auditing.{Audits, AuditsDump, IsAuditText, Reads
 
 use crate::reading::dump_of_bytes;
 use fbl_base::audit::{Dump, lost, orphans};
+use fbl_input::{RunFault, put, read_input};
 use fbl_lines::audit_text;
-use fbl_script::{RunFault, put, read_input};
 use std::alloc::{AllocError, Global};
 use std::io::{Read, Write};
 

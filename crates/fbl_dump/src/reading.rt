@@ -4,16 +4,16 @@ ghost use Rattle.std.specs.Prelude.{◌≡◌, ◌≤◌, map, IfOk, IfErr};
 ghost use Rattle.serde_json.specs.View.{view, members_view};
 ghost use Rattle.fbl_base.specs.Audit.{IsDump};
 ghost use Rattle.fbl_base.specs.DumpParts.{parts_of};
-ghost use Rattle.fbl_script.specs.Shapes.{Gives, IsOfShape, has_other_key as has_other_key_of};
+ghost use Rattle.fbl_input.specs.Shapes.{Gives, IsOfShape, has_other_key as has_other_key_of};
 ghost use Rattle.fbl_dump.specs.Dumps.{dump_keys, IsDumpOf, IsDumpFault, IsDumpRefused, event_from, pair_from, parts_of_data, parts_of_input, receipt_from, send_from};
 
 use fbl_base::audit::{Dump, check_dump};
 use fbl_base::{Determinant, Mark, Member, RawDump};
-use fbl_script::shapes::{
+use fbl_input::shapes::{
     Shape, count_in, has_other_key, is_named, list_in, member_in, number_field, set_field,
     value_in, values_field,
 };
-use fbl_script::{Key, RunFault};
+use fbl_input::{Key, RunFault};
 use serde_json::{Map, Value};
 use std::alloc::Global;
 

@@ -4,7 +4,7 @@ ghost use Rattle.std.specs.Prelude.{◌≡◌, ◌≤◌, ◌++◌, ◌∷◌, [
 ghost use Rattle.std.specs.List.{All};
 ghost use Rattle.serde_json.specs.View.{view};
 ghost use Rattle.serde_json.specs.Written.{compact_text};
-ghost use Rattle.fbl_script.specs.Shapes.{longest, member_shape};
+ghost use Rattle.fbl_input.specs.Shapes.{longest, member_shape};
 ghost use Rattle.fbl_dump.specs.Dumps.{event_shape, pair_shape, parts_of_data, parts_of_input};
 ghost use Rattle.fbl_base.specs.MemberSets.{member_list};
 ghost use Rattle.fbl_dump.specs.DumpLines.{dump_data, dump_object, dump_line, ReadsBack, event_data, list_data, number_data, pair_data};
@@ -83,7 +83,7 @@ impl Form<(Member, Determinant)> for PairForm {
 struct MemberForm;
 
 impl Form<Member> for MemberForm {
-    ghost use Rattle.fbl_script.specs.Shapes.{member_shape};
+    ghost use Rattle.fbl_input.specs.Shapes.{member_shape};
     ghost use Rattle.fbl_dump.specs.DumpLines.{number_data};
 
     ghost form = { number_data };

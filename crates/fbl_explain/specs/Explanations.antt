@@ -1,7 +1,7 @@
 -- What an explanation is of.
 use Rattle.std.specs.Prelude.{◌≡◌, ℕ}
-use Rattle.fbl_script.specs.declared.fault.RunFault.{RunFault}
-use Rattle.fbl_script.specs.declared.fault.RunFault.TheVariants as faults
+use Rattle.fbl_input.specs.declared.fault.RunFault.{RunFault}
+use Rattle.fbl_input.specs.declared.fault.RunFault.TheVariants as faults
 use Rattle.fbl_explain.specs.declared.explanation.Explanation.{Explanation}
 use Rattle.fbl_explain.specs.declared.explanation.Explanation.TheVariants as explanations
 

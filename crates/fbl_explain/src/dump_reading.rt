@@ -1,7 +1,7 @@
 //! Faults of dumps in words.
 
 ghost use Rattle.std.specs.Prelude.{◌≡◌, IfOk, IfSome};
-ghost use Rattle.fbl_script.specs.declared.fault.RunFault.TheVariants.{BadField, Dump, UnknownKey};
+ghost use Rattle.fbl_input.specs.declared.fault.RunFault.TheVariants.{BadField, Dump, UnknownKey};
 ghost use Rattle.fbl_explain.specs.Explanations.{Explains};
 
 use crate::dump_fault::{BadEvent, BadPair, DumpFault};
@@ -11,8 +11,8 @@ use crate::parts::{
 };
 use fbl_base::{Determinant, DumpRefusal, Mark, Member, MemberSet};
 use fbl_dump::{EventShape, PairShape};
-use fbl_script::shapes::{Shape, number_field, set_field, values_field};
-use fbl_script::{Key, RunFault};
+use fbl_input::shapes::{Shape, number_field, set_field, values_field};
+use fbl_input::{Key, RunFault};
 use serde_json::Value;
 use std::alloc::{AllocError, Global};
 

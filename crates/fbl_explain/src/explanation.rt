@@ -2,7 +2,7 @@
 
 use crate::config_fault::ConfigFault;
 use crate::dump_fault::DumpFault;
-use fbl_script::Key;
+use fbl_input::Key;
 use serde_json::Error;
 use std::fmt;
 

@@ -1,14 +1,14 @@
 //! What scripts and dumps have in common.
 
 ghost use Rattle.std.specs.Prelude.{◌≡◌, IfOk, IfSome};
-ghost use Rattle.fbl_script.specs.declared.fault.RunFault.TheVariants.{BadField, NotJson, NotObject, UnknownKey};
+ghost use Rattle.fbl_input.specs.declared.fault.RunFault.TheVariants.{BadField, NotJson, NotObject, UnknownKey};
 ghost use Rattle.fbl_explain.specs.Explanations.{Explains};
 
 use crate::explanation::{Explanation, InputKind};
 use crate::shown::{cut_text, kind_of, value_text};
 use fbl_base::Member;
-use fbl_script::shapes::{Shape, list_in, member_in, value_in};
-use fbl_script::{Key, RunFault};
+use fbl_input::shapes::{Shape, list_in, member_in, value_in};
+use fbl_input::{Key, RunFault};
 use serde_json::{Map, Value};
 use std::alloc::{AllocError, Global};
 
@@ -16,7 +16,7 @@ use std::alloc::{AllocError, Global};
 pub(crate) struct MemberShape;
 
 impl Shape<Member> for MemberShape {
-    ghost use Rattle.fbl_script.specs.Shapes.{member_shape};
+    ghost use Rattle.fbl_input.specs.Shapes.{member_shape};
 
     ghost shape = { member_shape };
 

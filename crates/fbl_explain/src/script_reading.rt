@@ -1,7 +1,7 @@
 //! Faults of scripts in words.
 
 ghost use Rattle.std.specs.Prelude.{◌≡◌, IfOk, IfSome};
-ghost use Rattle.fbl_script.specs.declared.fault.RunFault.TheVariants.{BadCommand, BadField, Config, UnknownKey};
+ghost use Rattle.fbl_input.specs.declared.fault.RunFault.TheVariants.{BadCommand, BadField, Config, UnknownKey};
 ghost use Rattle.fbl_explain.specs.Explanations.{Explains};
 
 use crate::config_fault::ConfigFault;
@@ -11,8 +11,9 @@ use crate::parts::{
 };
 use crate::shown::value_text;
 use fbl_base::{ConfigRefusal, Start};
-use fbl_script::shapes::{Shape, is_named, list_in, number_in};
-use fbl_script::{Key, RunFault, StartShape};
+use fbl_input::shapes::{Shape, is_named, list_in, number_in};
+use fbl_input::{Key, RunFault};
+use fbl_script::StartShape;
 use serde_json::Value;
 use std::alloc::{AllocError, Global};
 

@@ -1,11 +1,11 @@
 -- How the parts of a play fit together.
 use Rattle.std.proofs.Common.{◌≡◌, ℕ, ◌<◌, ◌⊎◌, List, refl, sym, ap, subst, inl, inr, Option, Some, None, Result, Ok, Err, IfSome, length}
-use Rattle.fbl_script.specs.declared.fault.RunFault.{RunFault}
-use Rattle.fbl_script.specs.declared.fault.RunFault.TheVariants as faults
-use Rattle.fbl_script.specs.Shapes.{longest, ◌>>=◌}
+use Rattle.fbl_input.specs.declared.fault.RunFault.{RunFault}
+use Rattle.fbl_input.specs.declared.fault.RunFault.TheVariants as faults
+use Rattle.fbl_input.specs.Shapes.{longest, ◌>>=◌}
 use Rattle.fbl_script.specs.Scripts.{Outline, outline_of, outline_of_input, IsScriptOf, IsScriptFault}
-use Rattle.fbl_script.proofs.Bytes.{keeps_itself}
-use Rattle.fbl_script.proofs.Inputs.{too_long}
+use Rattle.fbl_input.proofs.Bytes.{keeps_itself}
+use Rattle.fbl_input.proofs.Inputs.{too_long}
 use Rattle.fbl_play.specs.Runs.{PlaysOn, Plays, ReadsAndPlays, next_of}
 
 -- a play of the script is one of the input

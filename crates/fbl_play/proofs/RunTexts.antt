@@ -9,10 +9,10 @@ use Rattle.fbl_base.specs.Fold.{Next}
 use Rattle.fbl_law.specs.Groups.{GroupRecord}
 use Rattle.fbl_law.specs.GroupSteps.{IsGroupStart}
 use Rattle.fbl_law.specs.Sound.{IsSound}
-use Rattle.fbl_script.specs.declared.fault.RunFault.{RunFault}
-use Rattle.fbl_script.specs.declared.fault.RunFault.TheVariants as faults
+use Rattle.fbl_input.specs.declared.fault.RunFault.{RunFault}
+use Rattle.fbl_input.specs.declared.fault.RunFault.TheVariants as faults
 use Rattle.fbl_script.specs.declared.script.Command.{Command}
-use Rattle.fbl_script.proofs.Bytes.{appends_more}
+use Rattle.fbl_input.proofs.Bytes.{appends_more}
 use Rattle.fbl_play.specs.Runs.{Step, Run, IsTextUpTo, PlaysOn}
 
 pub run_more : (next : Next) (workers : ℕ) (start mid new : GroupRecord) (cs : List Command) (c : Command) (text line : List ℕ) → Run next workers start cs mid text → Step next workers mid c new line → IsSound next new → Run next workers start (cs ++ c ∷ []) new (text ++ line)

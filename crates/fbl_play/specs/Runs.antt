@@ -27,13 +27,13 @@ use Rattle.fbl_group.specs.Strikes.{strike_refusal, Strikes}
 use Rattle.fbl_lines.specs.declared.lines.Totals.{Totals}
 use Rattle.fbl_lines.specs.Lines.{checkpoint_line, deliver_line, refused_line, states_line, report_lines, strike_line, recover_line}
 use Rattle.fbl_dump.specs.DumpLines.{dump_line}
-use Rattle.fbl_script.specs.declared.fault.RunFault.{RunFault}
-use Rattle.fbl_script.specs.declared.fault.RunFault.TheVariants as faults
+use Rattle.fbl_input.specs.declared.fault.RunFault.{RunFault}
+use Rattle.fbl_input.specs.declared.fault.RunFault.TheVariants as faults
 use Rattle.fbl_script.specs.declared.script.BehaviourName.{BehaviourName}
 use Rattle.fbl_script.specs.declared.script.BehaviourName.TheVariants.{Relay, Mix}
 use Rattle.fbl_script.specs.declared.script.Command.{Command}
 use Rattle.fbl_script.specs.declared.script.Command.TheVariants as commands
-use Rattle.fbl_script.specs.Faults.{FailsToRead}
+use Rattle.fbl_input.specs.Faults.{FailsToRead}
 use Rattle.fbl_script.specs.Scripts.{Outline, IsScriptOf, IsScriptFault}
 use Rattle.fbl_play.specs.Texts.{shown_states, shown_statuses, AreTotals}
 use Rattle.fbl_play.specs.RunSteps.{RunStep}

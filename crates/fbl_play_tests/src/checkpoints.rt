@@ -1,7 +1,7 @@
 //! Scripts of version 2, in which members are checkpointed.
 
+use fbl_input::{Key, RunFault};
 use fbl_play::play;
-use fbl_script::{Key, RunFault};
 use std::test::Fail;
 
 /// What was received before the checkpoint is never lost; what came after it may be.

@@ -2,8 +2,8 @@
 
 use crate::scripts::INPUTS;
 use crate::unsteady::{FailedWrite, Page, UnsteadyReader, UnsteadyWriter};
+use fbl_input::{Key, RunFault};
 use fbl_play::{play, play_bytes};
-use fbl_script::{Key, RunFault};
 use std::test::Fail;
 
 const MESSAGE_AND_ANSWER: (&str, &str) = (

@@ -1,6 +1,7 @@
 use crate::setting::{member, set};
 use fbl_base::{MemberSet, Note, Start, Strike};
-use fbl_script::{BehaviourName, Command, Key, RunFault, Script, put, read_input, script_of_bytes};
+use fbl_input::{Key, RunFault, put, read_input};
+use fbl_script::{BehaviourName, Command, Script, script_of_bytes};
 use std::alloc::{AllocError, Global};
 use std::process::Abort;
 use std::test::Fail;

@@ -1,5 +1,2 @@
-pub mod Lists
 pub mod ScriptFaults
-pub mod Bytes
-pub mod Inputs
 pub mod Versions

@@ -4,10 +4,10 @@ use Rattle.std.specs.Result.{IsErrAnd}
 use Rattle.fbl_base.specs.Configs.{RefusesConfig}
 use Rattle.fbl_base.specs.declared.config.ConfigRefusal.{ConfigRefusal}
 use Rattle.fbl_base.specs.declared.config.ConfigRefusal.TheVariants as config
-use Rattle.fbl_script.specs.declared.fault.RunFault.{RunFault}
-use Rattle.fbl_script.specs.declared.fault.RunFault.TheVariants as faults
-use Rattle.fbl_script.specs.Shapes.{Fails, IsOfShape}
-use Rattle.fbl_script.specs.Faults.{config_fault}
+use Rattle.fbl_input.specs.declared.fault.RunFault.{RunFault}
+use Rattle.fbl_input.specs.declared.fault.RunFault.TheVariants as faults
+use Rattle.fbl_input.specs.Shapes.{Fails, IsOfShape}
+use Rattle.fbl_input.specs.Faults.{config_fault}
 use Rattle.fbl_script.specs.Scripts.{Outline, outline_of_input, IsScriptFault, IsRequestRefused}
 
 pub no_group : (s : Outline) (e : ConfigRefusal) → RefusesConfig s.config e → IsRequestRefused s (config_fault e)

@@ -4,12 +4,12 @@ use Rattle.std.proofs.lemmas.Bool.Decides.{nat_tests}
 use Rattle.std.specs.Prelude.{nat_le, ◌&&◌}
 use Rattle.serde_json.specs.Data.{Data, Members}
 use Rattle.serde_json.specs.Find.{get, as_number, as_object, as_u64}
-use Rattle.fbl_script.specs.declared.fault.Key.TheVariants as keys
-use Rattle.fbl_script.specs.declared.fault.RunFault.{RunFault}
-use Rattle.fbl_script.specs.declared.fault.RunFault.TheVariants as faults
+use Rattle.fbl_input.specs.declared.fault.Key.TheVariants as keys
+use Rattle.fbl_input.specs.declared.fault.RunFault.{RunFault}
+use Rattle.fbl_input.specs.declared.fault.RunFault.TheVariants as faults
 use Rattle.fbl_script.specs.declared.script.Version.{Version}
 use Rattle.fbl_script.specs.declared.script.Version.TheVariants.{First}
-use Rattle.fbl_script.specs.Shapes.{◌>>=◌, or_fault, count_shape, field, name_of, number_within, value_of_input}
+use Rattle.fbl_input.specs.Shapes.{◌>>=◌, or_fault, count_shape, field, name_of, number_within, value_of_input}
 use Rattle.fbl_script.specs.Scripts.{Outline, IsOfVersion, first_outline_of, first_outline_of_input, outline_of, outline_of_input, version_from, version_shape}
 
 -- a number that is no version, in reach or out of it

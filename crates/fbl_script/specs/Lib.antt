@@ -1,4 +1,2 @@
-pub mod Shapes
-pub mod Faults
 pub mod Scripts
 pub mod Laws

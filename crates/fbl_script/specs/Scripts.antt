@@ -7,10 +7,10 @@ use Rattle.fbl_base.specs.declared.strike.Strike as planned
 use Rattle.fbl_base.specs.declared.trace.Start.{Start}
 use Rattle.fbl_base.specs.declared.config.ConfigRefusal.TheVariants as refusals
 use Rattle.fbl_base.specs.Configs.{Settings, IsConfig, RefusesConfig}
-use Rattle.fbl_script.specs.declared.fault.Key.{Key}
-use Rattle.fbl_script.specs.declared.fault.Key.TheVariants as keys
-use Rattle.fbl_script.specs.declared.fault.RunFault.{RunFault}
-use Rattle.fbl_script.specs.declared.fault.RunFault.TheVariants as faults
+use Rattle.fbl_input.specs.declared.fault.Key.{Key}
+use Rattle.fbl_input.specs.declared.fault.Key.TheVariants as keys
+use Rattle.fbl_input.specs.declared.fault.RunFault.{RunFault}
+use Rattle.fbl_input.specs.declared.fault.RunFault.TheVariants as faults
 use Rattle.fbl_script.specs.declared.script.Version.{Version}
 use Rattle.fbl_script.specs.declared.script.Version.TheVariants.{First, Second}
 use Rattle.fbl_script.specs.declared.script.BehaviourName.{BehaviourName}
@@ -19,7 +19,7 @@ use Rattle.fbl_script.specs.declared.script.Command.{Command}
 use Rattle.fbl_script.specs.declared.script.Command.TheVariants.{Deliver, States, Report, Strike, Recover, Dump, Run, Checkpoint}
 use Rattle.fbl_script.specs.declared.script.Script.{Script}
 use Rattle.fbl_script.specs.declared.script_reading.Request.{Request}
-use Rattle.fbl_script.specs.Shapes.{◌>>=◌, or_fault, number_within, count_shape, member_shape, as_list, is_text, list_of, set_shape, name_of, field, field_or, has_other_key, value_of_input}
+use Rattle.fbl_input.specs.Shapes.{◌>>=◌, or_fault, number_within, count_shape, member_shape, as_list, is_text, list_of, set_shape, name_of, field, field_or, has_other_key, value_of_input}
 
 -- what a script asks for
 pub record Outline : Type 0 where

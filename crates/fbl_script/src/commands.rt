@@ -2,13 +2,13 @@
 
 ghost use Rattle.std.specs.Prelude.{◌≡◌, ◌≤◌, map, IfOk, IfErr};
 ghost use Rattle.serde_json.specs.View.{view};
-ghost use Rattle.fbl_script.specs.Shapes.{Gives, IsOfShape, list_of};
+ghost use Rattle.fbl_input.specs.Shapes.{Gives, IsOfShape, list_of};
 ghost use Rattle.fbl_script.specs.Scripts.{checkpoint_from, command_from, command_on, commands_from, delivery, lone_command, planned_from, planned_shape, versioned_from, versioned_shape};
 
-use crate::fault::RunFault;
 use crate::script::{Command, Plan, Version};
-use crate::shapes::{Shape, all_in, count_in, is_named, list_in, member_in, set_in};
 use fbl_base::Strike;
+use fbl_input::RunFault;
+use fbl_input::shapes::{Shape, all_in, count_in, is_named, list_in, member_in, set_in};
 use serde_json::Value;
 use std::alloc::{AllocError, Global};
 

@@ -3,19 +3,19 @@
 ghost use Rattle.std.specs.Prelude.{◌≡◌, ◌≤◌, map, IfOk, IfErr};
 ghost use Rattle.serde_json.specs.View.{view, members_view};
 ghost use Rattle.serde_json.specs.Find.{get};
-ghost use Rattle.fbl_script.specs.Shapes.{Gives, IsOfShape, count_shape, field, field_or, has_other_key as has_other_key_of, name_of};
+ghost use Rattle.fbl_input.specs.Shapes.{Gives, IsOfShape, count_shape, field, field_or, has_other_key as has_other_key_of, name_of};
 ghost use Rattle.fbl_script.specs.Scripts.{IsScriptOf, IsScriptFault, IsRequestRefused, behaviour_shape, outline, outline_of, outline_of_input, request_outline, script_keys, start_from, version_shape};
 ghost use Rattle.fbl_base.specs.Configs.{IsConfig};
-ghost use Rattle.fbl_script.specs.declared.fault.RunFault.TheVariants.{Memory};
+ghost use Rattle.fbl_input.specs.declared.fault.RunFault.TheVariants.{Memory};
 
 use crate::commands::commands_in;
-use crate::fault::{Key, RunFault};
 use crate::script::{BehaviourName, Command, Script, Version};
-use crate::shapes::{
+use fbl_base::{Config, Note, Start};
+use fbl_input::shapes::{
     Shape, count_in, has_other_key, is_named, list_field, list_in, member_in, number_field,
     number_in, value_in, values_field,
 };
-use fbl_base::{Config, Note, Start};
+use fbl_input::{Key, RunFault};
 use serde_json::{Map, Value};
 use std::alloc::Global;
 

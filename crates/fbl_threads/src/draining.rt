@@ -105,6 +105,7 @@ pub fn drain<B: Behaviour + Send + Sync, G: Gate + Sync, R: Threads + Wait + Syn
 ) -> (Group<B>, Result<Drained, DrainRefusal>)
     ensures { Drains B.next workers plan.now group result.0 result.1 }
 {
+    // the trace's contract says that the group is sound: so it is where it is refused
     let _trace = group.trace();
     if workers < 1 || workers > 8 {
         return (group, Err(DrainRefusal::BadWorkers));

@@ -97,6 +97,7 @@ impl<B: Behaviour, C: Ledger, U: Ledger> Ledgered<B, C, U> {
         let (mut receipts, mut undone) = (receipts, undone);
         receipts_book.audit(&mut receipts);
         undone_book.audit(&mut undone);
+        // the trace's contract says that the group is sound
         let _trace = group.trace();
         group
     }
@@ -154,6 +155,7 @@ impl<B: Behaviour, C: Ledger, U: Ledger> Ledgered<B, C, U> {
             undone,
         } = self;
         let (_struck, recovered) = group.crash(set)?;
+        // the group's counter is a u64, so that what the worker has undone, which is no more, stays one
         let _ever = group.undone_ever();
         let count = u64::from(recovered.undone);
         undone.add(&mut mine.undone_share, count);

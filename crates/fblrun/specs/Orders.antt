@@ -1,7 +1,7 @@
 -- What the program leaves in its writer, and its exit status, by the order that it is given.
 use Rattle.std.specs.Prelude.{◌≡◌, ℕ, ◌≤◌, ◌⊎◌, List, Option, Result}
 use Rattle.std.specs.Io.KnownBytes.{Keeps}
-use Rattle.fbl_script.specs.declared.fault.RunFault.{RunFault}
+use Rattle.fbl_input.specs.declared.fault.RunFault.{RunFault}
 use Rattle.fbl_dump.specs.Auditing.{ReadsAndAudits}
 use Rattle.fbl_play.specs.Runs.{ReadsAndPlays}
 use Rattle.fblrun.specs.declared.Order.{Order}

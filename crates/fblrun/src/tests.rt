@@ -3,7 +3,7 @@
 use crate::command_line::order_of;
 use crate::{Order, obey, refuse, refuse_words, status_after};
 use fbl_base::{ConfigRefusal, DumpRefusal};
-use fbl_script::{Key, RunFault};
+use fbl_input::{Key, RunFault};
 use std::alloc::{AllocError, Global};
 use std::cell::RefCell;
 use std::fmt::Display;

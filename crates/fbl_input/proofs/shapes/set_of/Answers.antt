@@ -3,8 +3,8 @@ use Rattle.std.specs.Cmp.{nat_cmp_total}
 use Rattle.std.specs.FinSet as set
 use Rattle.serde_json.specs.Data.{Data}
 use Rattle.serde_json.specs.View.{view}
-use Rattle.fbl_script.specs.Shapes.{all_shaped, member_shape}
-use Rattle.fbl_script.proofs.shapes.set_of.Goals as goal
+use Rattle.fbl_input.specs.Shapes.{all_shaped, member_shape}
+use Rattle.fbl_input.proofs.shapes.set_of.Goals as goal
 
 moved : (front : List ℕ) (m : ℕ) (rest : Option (List ℕ)) → option_map (λ r. (front ++ m ∷ []) ++ r) rest ≡ option_map (λ r. front ++ r) (option_and_then (λ a. option_map (λ r. a ∷ r) rest) (Some m))
 moved front m None = refl

@@ -5,8 +5,8 @@ ghost use Rattle.std.specs.FinSet as set;
 ghost use Rattle.std.specs.List.{list_any};
 ghost use Rattle.std.specs.BTreeMap.{keys};
 ghost use Rattle.serde_json.specs.View.{view, members_view};
-ghost use Rattle.fbl_script.specs.Shapes.{Gives, IsOfShape, all_shaped, as_list, count_shape, field, has_other_key as has_other_key_of, is_key_of, is_text, json_of, list_of, member_shape, number_within, or_fault, set_shape, value_of_input};
-ghost use Rattle.fbl_script.specs.declared.fault.RunFault.TheVariants.{NotJson};
+ghost use Rattle.fbl_input.specs.Shapes.{Gives, IsOfShape, all_shaped, as_list, count_shape, field, has_other_key as has_other_key_of, is_key_of, is_text, json_of, list_of, member_shape, number_within, or_fault, set_shape, value_of_input};
+ghost use Rattle.fbl_input.specs.declared.fault.RunFault.TheVariants.{NotJson};
 
 use crate::fault::{Key, RunFault};
 use fbl_base::{Member, MemberSet};
@@ -109,7 +109,7 @@ pub fn list_field(value: &Value, key: Key) -> Result<&[Value], RunFault>
 }
 
 /// What the values of a list give, if each has the shape.
-pub(crate) fn all_in<T: Copy, S: Shape<T>>(
+pub fn all_in<T: Copy, S: Shape<T>>(
     alloc: Global,
     list: &[Value],
 ) -> Result<Option<Vec<T>>, AllocError>

@@ -2,8 +2,8 @@
 
 ghost use Rattle.std.specs.Prelude.{◌≡◌, ◌+◌, ◌-◌, ◌<◌, ◌≤◌, ◌⊎◌, ℕ, length, take, drop, OnOk, OnErr, IfOk, IfErr, IfSome, vec_len};
 ghost use Rattle.std.specs.Io.KnownBytes.{Consumes, Keeps, IsAtEnd};
-ghost use Rattle.fbl_script.specs.Shapes.{longest};
-ghost use Rattle.fbl_script.specs.declared.fault.RunFault.TheVariants.{Read, TooLong, Memory};
+ghost use Rattle.fbl_input.specs.Shapes.{longest};
+ghost use Rattle.fbl_input.specs.declared.fault.RunFault.TheVariants.{Read, TooLong, Memory};
 
 use crate::fault::RunFault;
 use crate::shapes::LONGEST;

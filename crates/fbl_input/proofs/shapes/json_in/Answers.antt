@@ -1,8 +1,8 @@
 use Rattle.std.proofs.Common.{ap, ◌≡◌, false, true}
-use Rattle.fbl_script.specs.Shapes.{or_fault}
-use Rattle.fbl_script.specs.declared.fault.RunFault.TheVariants.{NotJson}
-use Rattle.fbl_script.proofs.Lists.{json_read, json_refused}
-use Rattle.fbl_script.proofs.shapes.json_in.Goals as goal
+use Rattle.fbl_input.specs.Shapes.{or_fault}
+use Rattle.fbl_input.specs.declared.fault.RunFault.TheVariants.{NotJson}
+use Rattle.fbl_input.proofs.Lists.{json_read, json_refused}
+use Rattle.fbl_input.proofs.shapes.json_in.Goals as goal
 
 pub returns-in-Ok-clause-exact : goal.returns-in-Ok-clause-exact
 returns-in-Ok-clause-exact c = ap (or_fault NotJson) (json_read c.args.input.now _ c.in-Ok.ensures.ok.0 c.in-Ok.ensures.ok.1)

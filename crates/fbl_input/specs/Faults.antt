@@ -5,8 +5,8 @@ use Rattle.fbl_base.specs.declared.config.ConfigRefusal.{ConfigRefusal}
 use Rattle.fbl_base.specs.declared.config.ConfigRefusal.TheVariants as config
 use Rattle.fbl_base.specs.declared.refusal.DumpRefusal.{DumpRefusal}
 use Rattle.fbl_base.specs.declared.refusal.DumpRefusal.TheVariants as dump
-use Rattle.fbl_script.specs.declared.fault.RunFault.{RunFault}
-use Rattle.fbl_script.specs.declared.fault.RunFault.TheVariants as faults
+use Rattle.fbl_input.specs.declared.fault.RunFault.{RunFault}
+use Rattle.fbl_input.specs.declared.fault.RunFault.TheVariants as faults
 
 -- a configuration's refusal as a fault
 abbrev pub config_fault : ConfigRefusal → RunFault

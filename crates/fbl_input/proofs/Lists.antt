@@ -10,8 +10,8 @@ use Rattle.std.specs.declared.alloc.Global.{Global}
 use Rattle.serde_json.specs.declared.value.Value.{Value}
 use Rattle.serde_json.specs.Data.{Data}
 use Rattle.serde_json.specs.View.{items_of, members_view}
-use Rattle.fbl_script.specs.declared.fault.Key.{Key}
-use Rattle.fbl_script.specs.Shapes.{elements, is_key_of, has_other_key, json_of}
+use Rattle.fbl_input.specs.declared.fault.Key.{Key}
+use Rattle.fbl_input.specs.Shapes.{elements, is_key_of, has_other_key, json_of}
 
 pub elements_of : (ds : List Data) → elements (items_of ds) ≡ ds
 elements_of [] = refl

@@ -1,5 +1,5 @@
 ghost use Rattle.std.specs.Prelude.{◌≡◌};
-ghost use Rattle.fbl_script.specs.declared.fault.RunFault.TheVariants.{Memory};
+ghost use Rattle.fbl_input.specs.declared.fault.RunFault.TheVariants.{Memory};
 
 use fbl_base::{ConfigRefusal, DumpRefusal};
 use std::alloc::{AllocError, AllocFailed};
@@ -22,7 +22,7 @@ pub enum Key {
 }
 
 impl Key {
-    ghost use Rattle.fbl_script.specs.Shapes.{name_of};
+    ghost use Rattle.fbl_input.specs.Shapes.{name_of};
 
     /// The key as it is spelled in JSON.
     pub fn name(self) -> &'static str
@@ -89,7 +89,7 @@ pub enum RunFault {
 }
 
 impl From<ConfigRefusal> for RunFault {
-    ghost use Rattle.fbl_script.specs.Faults.{config_fault};
+    ghost use Rattle.fbl_input.specs.Faults.{config_fault};
 
     ghost from_gives = { λ refusal e. e ≡ config_fault refusal };
 
@@ -102,7 +102,7 @@ impl From<ConfigRefusal> for RunFault {
 }
 
 impl From<DumpRefusal> for RunFault {
-    ghost use Rattle.fbl_script.specs.Faults.{dump_fault};
+    ghost use Rattle.fbl_input.specs.Faults.{dump_fault};
 
     ghost from_gives = { λ refusal e. e ≡ dump_fault refusal };
 

@@ -2,7 +2,7 @@
 
 ghost use Rattle.std.specs.Prelude.{◌≡◌, ℕ, ◌<◌, length, take, OnOk, OnErr, IfErr};
 ghost use Rattle.std.specs.Io.KnownBytes.{Appends};
-ghost use Rattle.fbl_script.specs.declared.fault.RunFault.TheVariants.{Write};
+ghost use Rattle.fbl_input.specs.declared.fault.RunFault.TheVariants.{Write};
 
 use crate::fault::RunFault;
 use std::io::Write;

@@ -7,10 +7,10 @@ use Rattle.std.specs.FinSet as set
 use Rattle.serde_json.specs.Data.{Data, Items, no_items, item, Members, no_members, member}
 use Rattle.serde_json.specs.Read.{read}
 use Rattle.serde_json.specs.Find.{get, as_number, as_u64, as_str, as_array}
-use Rattle.fbl_script.specs.declared.fault.Key.{Key}
-use Rattle.fbl_script.specs.declared.fault.Key.TheVariants as keys
-use Rattle.fbl_script.specs.declared.fault.RunFault.{RunFault}
-use Rattle.fbl_script.specs.declared.fault.RunFault.TheVariants as faults
+use Rattle.fbl_input.specs.declared.fault.Key.{Key}
+use Rattle.fbl_input.specs.declared.fault.Key.TheVariants as keys
+use Rattle.fbl_input.specs.declared.fault.RunFault.{RunFault}
+use Rattle.fbl_input.specs.declared.fault.RunFault.TheVariants as faults
 
 -- ---- faults
 

@@ -1,6 +1,6 @@
 use Rattle.std.proofs.Common.{ℕ, length-take, length-drop, arith}
-use Rattle.fbl_script.proofs.Bytes.{written_more}
-use Rattle.fbl_script.proofs.output.put.Goals as goal
+use Rattle.fbl_input.proofs.Bytes.{written_more}
+use Rattle.fbl_input.proofs.output.put.Goals as goal
 
 pub loop-done-preserved : goal.loop-done-preserved
 loop-done-preserved g c = record {
