@@ -51,11 +51,7 @@ fn write_entries<W: fmt::Write>(
 
 impl RunCounts {
     /// Writes how many receipts were made and undone, and which entries of the plan struck nobody.
-    fn write<W: fmt::Write>(
-        &self,
-        f: &mut fmt::Formatter<W>,
-        plan: &[Strike],
-    ) -> fmt::Result {
+    fn write<W: fmt::Write>(&self, f: &mut fmt::Formatter<W>, plan: &[Strike]) -> fmt::Result {
         let made = self.ever_after.saturating_sub(self.ever_before);
         let undone = self.undone_after.saturating_sub(self.undone_before);
         write!(f, "{made} receipts made, {undone} undone")?;

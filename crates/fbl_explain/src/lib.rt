@@ -17,7 +17,7 @@ pub use account::{Account, AccountOf, RunCounts};
 pub use config_fault::ConfigFault;
 pub use dump_fault::{BadEvent, BadPair, DumpFault};
 pub use dump_reading::explain_dump;
-pub use explanation::Explanation;
+pub use explanation::{Explanation, InputKind};
 pub use reason::{BadEntry, Reason, entry_reason};
 pub use script_reading::explain_script;
 pub use words::{MemberList, Words};

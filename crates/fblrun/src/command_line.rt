@@ -1,10 +1,10 @@
 //! The command line.
 
-ghost use Rattle.std.specs.Prelude.{◌≡◌, ℕ, ◌<◌, map, false, Some, IfOk, IfErr, codes, decimal, string_bytes};
-ghost use Rattle.clap.specs.Words.{app_of, found_of, kind_of, one_of, rows_of, rule_of};
-ghost use Rattle.fblrun.specs.CommandLines.{IsCommandLine, IsOrderOf, program, workers_rule};
+ghost use Rattle.std.specs.Prelude.{◌≡◌, ℕ, ◌<◌, Bool, map, false, Some, IfOk, IfErr, codes, decimal, string_bytes};
+ghost use Rattle.clap.specs.Words.{app_of, fields_of, found_of, kind_of, one_of, rows_of, rule_of};
+ghost use Rattle.fblrun.specs.CommandLines.{IsCommandLine, IsOrderAt, IsOrderOf, audit_app, explain_rule, flag_text, play_app, program, top_app, workers_rule};
 
-use crate::Order;
+use crate::{Order, Task};
 use clap::error::ErrorKind;
 use clap::{Arg, ArgAction, ArgMatches, Command};
 use std::alloc::{AllocError, Global};
@@ -37,6 +37,13 @@ const AUDIT_EXAMPLE: &str =
     r#"A dump is a line that the command ["dump",[1]] of a script prints. It has the trace, who holds which
 determinant, and the members that are struck."#;
 
+/// The program's version.
+const VERSION: &str = "1.0.0";
+
+/// What `--explain` does.
+const EXPLAIN: &str =
+    "Tells on standard error what is wanted where the input has a fault, and each command with why it was refused";
+
 /// The option `--workers`.
 fn workers<'a>(alloc: Global) -> Arg<'a>
     ensures rule { rule_of result ≡ workers_rule }
@@ -45,28 +52,63 @@ fn workers<'a>(alloc: Global) -> Arg<'a>
     Arg::new(alloc, "workers")
         .long("workers")
         .action(ArgAction::Set)
+        .value_name("N")
         .value_parser(clap::value_parser!(u8).range(1..=8))
         .default_value("2")
         .help("How many workers make a run, 1 to 8")
 }
 
-/// What the program takes: `play`, with a number of workers, or `audit`.
-fn command_line<'a>(alloc: Global) -> Result<Command<'a>, AllocError>
-    ensures { IfOk result (λ c. app_of c ≡ program) }
+/// The flag `--explain`.
+fn explain<'a>(alloc: Global) -> Arg<'a>
+    ensures rule { rule_of result ≡ explain_rule }
+    ensures local { result.global ≡ false }
+{
+    Arg::new(alloc, "explain")
+        .long("explain")
+        .action(ArgAction::SetTrue)
+        .help(EXPLAIN)
+}
+
+/// The subcommand `play`, with a number of workers.
+fn play_command<'a>(alloc: Global) -> Result<Command<'a>, AllocError>
+    ensures app { IfOk result (λ c. app_of c ≡ play_app) }
+    ensures local { IfOk result (λ c. (fields_of c).has_globals ≡ false) }
 {
     let play = Command::new(alloc, "play")
         .about(PLAY)
-        .after_help(PLAY_EXAMPLE)
-        .arg(workers(alloc))?;
+        .after_help(PLAY_EXAMPLE);
+    let play = play.arg(workers(alloc))?;
+    play.arg(explain(alloc))
+}
+
+/// The subcommand `audit`.
+fn audit_command<'a>(alloc: Global) -> Result<Command<'a>, AllocError>
+    ensures app { IfOk result (λ c. app_of c ≡ audit_app) }
+    ensures local { IfOk result (λ c. (fields_of c).has_globals ≡ false) }
+{
     let audit = Command::new(alloc, "audit")
         .about(AUDIT)
         .after_help(AUDIT_EXAMPLE);
-    let command = Command::new(alloc, "fblrun")
+    audit.arg(explain(alloc))
+}
+
+/// The program above its subcommands.
+fn top<'a>(alloc: Global) -> Command<'a>
+    ensures { app_of result ≡ top_app }
+{
+    Command::new(alloc, "fblrun")
+        .version(VERSION)
         .about(PROGRAM)
         .after_help(STATUSES)
         .subcommand_required(true)
-        .subcommand(play)?;
-    command.subcommand(audit)
+}
+
+/// What the program takes: `play`, with a number of workers, or `audit`, each with or without `--explain`.
+fn command_line<'a>(alloc: Global) -> Result<Command<'a>, AllocError>
+    ensures { IfOk result (λ c. app_of c ≡ program) }
+{
+    let command = top(alloc).subcommand(play_command(alloc)?)?;
+    command.subcommand(audit_command(alloc)?)
 }
 
 /// How many workers a play is asked for with.
@@ -76,6 +118,28 @@ fn workers_in(found: &ArgMatches) -> u8
     found.get_one::<u8>("workers").unwrap_or(2)
 }
 
+/// Whether explanations are asked for.
+fn explain_in(found: &ArgMatches) -> bool
+    ensures { (explain : Bool) → one_of (codes "explain") (rows_of (found_of found.now)) ≡ Some (flag_text explain) → result ≡ explain }
+{
+    found.get_flag("explain")
+}
+
+/// The order of a subcommand.
+fn order_at(name: &str, found: &ArgMatches) -> Order
+    ensures { IsOrderAt name.now (rows_of (found_of found.now)) result }
+{
+    let explain = explain_in(found);
+    if name == "play" {
+        let task = Task::Play(workers_in(found));
+        return Order { task, explain };
+    }
+    Order {
+        task: Task::Audit,
+        explain,
+    }
+}
+
 /// The order that the words of the command line give, the program's name first.
 pub(crate) fn order_of(alloc: Global, words: &[String]) -> Result<Order, clap::Error>
     ensures given { IfOk result (IsOrderOf (map string_bytes words.now)) }
@@ -83,8 +147,11 @@ pub(crate) fn order_of(alloc: Global, words: &[String]) -> Result<Order, clap::E
 {
     let command = command_line(alloc)?;
     let matches = command.try_get_matches_from(words)?;
-    match matches.subcommand_matches("play") {
-        Some(found) => Ok(Order::Play(workers_in(found))),
-        None => Ok(Order::Audit),
+    match matches.subcommand() {
+        Some((name, found)) => Ok(order_at(name, found)),
+        None => Ok(Order {
+            task: Task::Audit,
+            explain: false,
+        }),
     }
 }
