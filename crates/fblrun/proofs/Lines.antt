@@ -100,9 +100,9 @@ workers_taken e n is = ap (λ word. built_takes (built program) nothing_held (wi
 -- ---- refusals
 
 line_taken : (words : List Text) → IsCommandLine words → IsTaken (drop 1 words)
-line_taken words (inl (e, is)) = ap (built_takes (built program) nothing_held) is ∙ audit_taken e
-line_taken words (inr (inl (e, is))) = ap (built_takes (built program) nothing_held) is ∙ play_taken e
-line_taken words (inr (inr (n, count, e, is))) = ap (built_takes (built program) nothing_held) is ∙ workers_taken e n count
+line_taken words (inl line) = ap (built_takes (built program) nothing_held) line.1 ∙ audit_taken line.0
+line_taken words (inr (inl line)) = ap (built_takes (built program) nothing_held) line.1 ∙ play_taken line.0
+line_taken words (inr (inr (n, count, line))) = ap (built_takes (built program) nothing_held) line.1 ∙ workers_taken line.0 n count
 
 pub taken : (a : App) (words : List Text) → a ≡ program → IsCommandLine words → takes a words ≡ true
 taken a words is line = ap (λ p. takes p words) is ∙ (λ i. program_simple i && line_taken words line i)

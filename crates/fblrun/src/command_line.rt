@@ -1,7 +1,7 @@
 //! The command line.
 
 ghost use Rattle.std.specs.Prelude.{◌≡◌, ℕ, ◌<◌, Bool, map, false, Some, IfOk, IfErr, codes, decimal, string_bytes};
-ghost use Rattle.clap.specs.Words.{app_of, fields_of, found_of, kind_of, one_of, rows_of, rule_of};
+ghost use Rattle.clap.specs.Words.{app_of, found_of, kind_of, one_of, rows_of, rule_of, with_subcommand};
 ghost use Rattle.fblrun.specs.CommandLines.{IsCommandLine, IsOrderAt, IsOrderOf, audit_app, explain_rule, flag_text, play_app, program, top_app, workers_rule};
 
 use crate::{Order, Task};
@@ -69,27 +69,27 @@ fn explain<'a>(alloc: Global) -> Arg<'a>
         .help(EXPLAIN)
 }
 
-/// The subcommand `play`, with a number of workers.
-fn play_command<'a>(alloc: Global) -> Result<Command<'a>, AllocError>
-    ensures app { IfOk result (λ c. app_of c ≡ play_app) }
-    ensures local { IfOk result (λ c. (fields_of c).has_globals ≡ false) }
+/// The program with the subcommand `play`, which has a number of workers.
+fn with_play<'a>(alloc: Global, command: Command<'a>) -> Result<Command<'a>, AllocError>
+    ensures { IfOk result (λ c. app_of c ≡ with_subcommand (app_of command.entry) play_app.top) }
 {
     let play = Command::new(alloc, "play")
         .about(PLAY)
         .after_help(PLAY_EXAMPLE);
     let play = play.arg(workers(alloc))?;
-    play.arg(explain(alloc))
+    let play = play.arg(explain(alloc))?;
+    command.subcommand(play)
 }
 
-/// The subcommand `audit`.
-fn audit_command<'a>(alloc: Global) -> Result<Command<'a>, AllocError>
-    ensures app { IfOk result (λ c. app_of c ≡ audit_app) }
-    ensures local { IfOk result (λ c. (fields_of c).has_globals ≡ false) }
+/// The program with the subcommand `audit`.
+fn with_audit<'a>(alloc: Global, command: Command<'a>) -> Result<Command<'a>, AllocError>
+    ensures { IfOk result (λ c. app_of c ≡ with_subcommand (app_of command.entry) audit_app.top) }
 {
     let audit = Command::new(alloc, "audit")
         .about(AUDIT)
         .after_help(AUDIT_EXAMPLE);
-    audit.arg(explain(alloc))
+    let audit = audit.arg(explain(alloc))?;
+    command.subcommand(audit)
 }
 
 /// The program above its subcommands.
@@ -107,8 +107,8 @@ fn top<'a>(alloc: Global) -> Command<'a>
 fn command_line<'a>(alloc: Global) -> Result<Command<'a>, AllocError>
     ensures { IfOk result (λ c. app_of c ≡ program) }
 {
-    let command = top(alloc).subcommand(play_command(alloc)?)?;
-    command.subcommand(audit_command(alloc)?)
+    let command = with_play(alloc, top(alloc))?;
+    with_audit(alloc, command)
 }
 
 /// How many workers a play is asked for with.
