@@ -149,6 +149,7 @@ fn json_text(alloc: Global, dump: &Dump) -> Result<String, AllocError>
 {
     let value = dump_value(alloc, dump)?;
     let text = value.to_string(alloc)?;
+    // the text's contract says that it is UTF-8, as reading it back asks
     let _text = text.as_str();
     Ok(text)
 }

@@ -242,6 +242,20 @@ fn sets(rt: HostRuntime) -> Result<(), Fail> {
     Ok(())
 }
 
+/// Whether the set's list of its members is this one.
+fn is_listed(alloc: Global, set: MemberSet, members: &[Member]) -> Result<bool, AllocError> {
+    let listed = set.members(alloc)?;
+    Ok(listed.as_slice() == members)
+}
+
+#[test]
+fn lists_a_set_rising(rt: HostRuntime) -> Result<(), Fail> {
+    let all = [member(0)?, member(9)?, member(15)?];
+    assert!(rt; is_listed(rt.alloc(), set(&[9, 15, 0, 9])?, &all)?);
+    assert!(rt; is_listed(rt.alloc(), MemberSet::empty(), &[])?);
+    Ok(())
+}
+
 #[test]
 fn marks(rt: HostRuntime) -> Result<(), Fail> {
     let note = Note { value: 7, hops: 1 };

@@ -30,12 +30,13 @@ fn play_with<B: Behaviour + Send + Sync, T: Threads + Wait + Sync, W: Write, O: 
     ensures { PlaysOn B.next workers config commands.now (W.contents writer.old) (W.contents writer.new) result }
 {
     let mut group: Group<B> = Group::new(alloc, config)?;
-    // a group's trace tells that the group is sound
+    // the trace's contract says that the group is sound
     let _trace = group.trace();
     for command in commands {
         observer.before(command);
         let (after, answer) = run_command(rt, alloc, workers, group, command);
         group = after;
+        // and that it is so after each command
         let _trace = group.trace();
         let answer = answer?;
         put(writer, answer.text.as_bytes())?;

@@ -4,7 +4,6 @@ use fbl_lines::{
     MemberStatus, RunEnd, Totals, audit_text, deliver_text, recover_text, refused_at_text,
     refused_text, report_text, run_text, set_text, states_text, strike_text,
 };
-use std::alloc::{AllocError, Allocator};
 use std::process::Abort;
 use std::test::Fail;
 
@@ -137,15 +136,9 @@ fn prints_an_audit(rt: HostRuntime) -> Result<(), Fail> {
     Ok(())
 }
 
-/// How many members there are, by their list.
-fn listed<A: Allocator + Copy>(alloc: A, set: MemberSet) -> Result<usize, AllocError> {
-    Ok(set.members(alloc)?.len())
-}
-
 #[test]
-fn lists_a_set_rising(rt: HostRuntime) -> Result<(), Fail> {
+fn prints_a_set_rising(rt: HostRuntime) -> Result<(), Fail> {
     let text = set_text(rt.alloc(), set(&[9, 3, 15, 0, 3])?)?;
     is_text(&rt, text.as_str(), "0,3,9,15");
-    assert!(rt; listed(rt.alloc(), set(&[9, 3, 3])?)? == 2);
     Ok(())
 }
