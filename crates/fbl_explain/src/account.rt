@@ -54,7 +54,7 @@ impl RunCounts {
     fn write<W: fmt::Write>(&self, f: &mut fmt::Formatter<W>, plan: &[Strike]) -> fmt::Result {
         let made = self.ever_after.saturating_sub(self.ever_before);
         let undone = self.undone_after.saturating_sub(self.undone_before);
-        write!(f, "{made} receipts made, {undone} undone")?;
+        write!(f, "receipts made {made}, undone {undone}")?;
         write_entries(
             f,
             plan,

@@ -68,7 +68,7 @@ fn item_name(key: Key) -> &'static str {
         Key::Start => "start",
         Key::Events => "event",
         Key::Held => "held pair",
-        Key::Strike => "strike's place",
+        Key::Strike => "struck member",
         _ => key.name(),
     }
 }
@@ -91,7 +91,7 @@ fn wanted_item(key: Key) -> &'static str {
 fn keys_of(kind: InputKind) -> &'static str {
     match kind {
         InputKind::Script =>
-            "a script has version, members, f, behaviour, start, commands, and limit if it likes",
+            "a script has version, members, f, behaviour, start and commands, and may have limit",
         InputKind::Dump => "a dump has members, f, events, held and strike",
     }
 }

@@ -104,7 +104,7 @@ impl fmt::Display for Reason {
             }
             Reason::Down(down) => {
                 let down = MemberList(down);
-                write!(f, "{down} are down")
+                write!(f, "these members are down: {down}")
             }
             Reason::NothingInFlight { from, to } => {
                 let from = from.number();
@@ -115,11 +115,11 @@ impl fmt::Display for Reason {
                 f,
                 "the trace has {events} events of at most {limit}, and no room for the receipt and what its step sends"
             ),
-            Reason::Nobody => f.write_str("the set is empty"),
+            Reason::Nobody => f.write_str("it names nobody"),
             Reason::TooMany { down, f: most } => {
                 let count = down.count();
                 let down = MemberList(down);
-                write!(f, "{down} would be down, {count} members, and f is {most}")
+                write!(f, "{count} members would be down, {down}, and f is {most}")
             }
             Reason::NotDown => f.write_str("nobody is down"),
             Reason::BadPlan(entry) => write!(f, "{entry}"),
