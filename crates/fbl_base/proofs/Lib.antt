@@ -14,3 +14,4 @@ pub mod Sizes
 pub mod PlacesAndEvents
 pub mod LawfulLaws
 pub mod BitSets
+pub mod OrphanStarts

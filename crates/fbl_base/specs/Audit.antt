@@ -1,5 +1,5 @@
 -- What an audit says of a dump.
-use Rattle.std.specs.Prelude.{◌≡◌, Some, slice_get, ℕ, ◌<◌, Bool, false, not, ◌==◌, ◌&&◌, List}
+use Rattle.std.specs.Prelude.{◌≡◌, Option, Some, None, slice_get, slice_index_or, take, length, ℕ, ◌+◌, ◌<◌, Bool, false, not, ◌&&◌, List}
 use Rattle.std.specs.List.{Contains, list_any, filter, filter_map}
 use Rattle.std.specs.Ordering.{nat_cmp}
 use Rattle.std.specs.FinSet as set
@@ -43,6 +43,21 @@ IsLost dump (Receipt to rsn from ssn) = ¬ (Recorded dump (record { from = from;
 abbrev pub IsOrphan : Parts → ℕ → Type 0
 IsOrphan dump member =
     (set.contains dump.strike member ≡ false) × ((e : Mark) × IsLost dump e × Depends dump.events member e)
+
+-- the dump with so many of its events, the first ones
+abbrev pub front_of : ℕ → Parts → Parts
+front_of n dump = record dump { events = take n dump.events }
+
+-- the member is no orphan; or the place is that of its first event that depends on a lost receipt: by the events before
+-- it the member would be no orphan, and with it the member is one
+abbrev pub IsOrphanStart : Parts → ℕ → Option ℕ → Type 0
+IsOrphanStart dump member None = ¬ (IsOrphan dump member)
+IsOrphanStart dump member (Some place) =
+    (place < length dump.events) × ¬ (IsOrphan (front_of place dump) member) × IsOrphan (front_of (place + 1) dump) member
+
+-- what a list has for a member, if it has anything
+abbrev pub start_of : List (Option ℕ) → ℕ → Option ℕ
+start_of starts member = slice_index_or starts member None
 
 -- the pair at the place has a member of the group and the determinant of a receipt
 abbrev pub HeldAt : Parts → ℕ → Type 0

@@ -7,7 +7,7 @@
 
 ghost use Rattle.std.specs.Prelude.{◌≡◌, ◌<◌, ◌≤◌, ◌↔◌, ℕ, true, Decides, ◌&&◌, nat_lt, IfOk, IfErr, MatchOption, replicate, length, IsTrue};
 ghost use Rattle.std.specs.FinSet as set;
-ghost use Rattle.fbl_base.specs.Audit.{HeldAt, IsDump, IsFirstBreach, IsLost, IsOrphan, RefusesDump, is_recorded, lost_determinants};
+ghost use Rattle.fbl_base.specs.Audit.{HeldAt, IsDump, IsFirstBreach, IsLost, IsOrphan, IsOrphanStart, RefusesDump, is_recorded, lost_determinants, start_of};
 ghost use Rattle.fbl_base.specs.Events.{same_determinant};
 ghost use Rattle.std.specs.HashSet as hash_set;
 ghost use Rattle.fbl_base.specs.DumpParts.{parts_of, is_received};
@@ -90,7 +90,7 @@ impl<A: Allocator> Dump<A> {
 }
 
 /// Determinants by their hashes.
-type DeterminantSet<A> = HashSet<Determinant, BuildHasherDefault<FoldHasher>, A>;
+pub type DeterminantSet<A> = HashSet<Determinant, BuildHasherDefault<FoldHasher>, A>;
 
 /// What a pass over the events has found: the members that a lost receipt reaches, and the number
 /// of each member's last send before it was reached.
@@ -109,6 +109,13 @@ impl Reach {
             reached: MemberSet::empty(),
             unreached_sends: [0; 16],
         }
+    }
+
+    /// Whether the member is outside the strike set and reached.
+    fn has_orphan(&self, member: Member, strike: MemberSet) -> bool
+        ensures { result ≡ set.contains (set.difference self.now.reached strike) member }
+    {
+        self.reached.without(strike).has(member)
     }
 
     /// Takes in the next event.
@@ -136,8 +143,8 @@ impl Reach {
     }
 }
 
-/// The determinants that a member outside the strike set holds.
-fn recorded_determinants<A: Allocator + Copy>(
+/// The determinants that a member outside the strike set holds. `Err` comes only where there is no memory for them.
+pub fn recorded_determinants<A: Allocator + Copy>(
     alloc: A,
     dump: &Dump<A>,
 ) -> Result<DeterminantSet<A>, AllocError>
@@ -203,6 +210,30 @@ pub fn orphans<A: Allocator + Copy>(alloc: A, dump: &Dump<A>) -> Result<MemberSe
         reach.follow(*event, lost);
     }
     Ok(reach.reached.without(dump.strike()))
+}
+
+/// For each member's number, the place of its first event that depends on a lost receipt, if the member is an orphan.
+/// Places count from 0. The time taken is that of `orphans`, and `Err` comes where it does there.
+pub fn orphan_starts<A: Allocator + Copy>(
+    alloc: A,
+    dump: &Dump<A>,
+) -> Result<[Option<usize>; 16], AllocError>
+    ensures { IfOk result (λ starts. (q : ℕ) → q < 16 → IsOrphanStart dump.now q (start_of starts q)) }
+{
+    let recorded = recorded_determinants(alloc, dump)?;
+    let strike = dump.strike();
+    let mut reach = Reach::new();
+    let mut starts = [None; 16];
+    for (place, mark) in dump.events().iter().enumerate() {
+        let member = mark.member();
+        let was_orphan = reach.has_orphan(member, strike);
+        let lost = is_lost(&recorded, *mark);
+        reach.follow(*mark, lost);
+        if reach.has_orphan(member, strike) && !was_orphan {
+            starts[member.number() as usize] = Some(place);
+        }
+    }
+    Ok(starts)
 }
 
 /// The first event that breaks a rule.

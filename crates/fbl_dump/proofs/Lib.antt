@@ -2,4 +2,4 @@ pub mod Faults
 pub mod Newlines
 pub mod DumpValues
 pub mod DumpTexts
-pub mod Audits
+pub mod Answers

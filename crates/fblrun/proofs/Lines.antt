@@ -16,7 +16,7 @@ use Rattle.clap.specs.declared.parser.matches.ArgMatches.TheViews.{out-ArgMatche
 use Rattle.clap.specs.declared.parser.matches.SubCommand.{SubCommand}
 use Rattle.clap.proofs.OnLiterals.{clap_on_literals}
 use Rattle.fblrun.specs.declared.Order.{Order}
-use Rattle.fblrun.specs.CommandLines.{IsCommandLine, IsOrderAt, IsOrderOf, audit_line, flag_text, play_line, program, with_explain, workers_line}
+use Rattle.fblrun.specs.CommandLines.{IsCommandLine, IsOrderAt, IsOrderOf, audit_line, draw_line, flag_text, play_line, program, with_explain, workers_line}
 use Rattle.fblrun.specs.Orders.{IsWorkerCount}
 
 -- the subcommand that the words behind the program's name give, with what was found of it
@@ -46,6 +46,16 @@ audit_taken : (e : Bool) → IsTaken (with_explain e audit_line)
 unfolding clap_on_literals
 audit_taken true = refl
 audit_taken false = refl
+
+draw_asked : (e : Bool) → asked (named (with_explain e draw_line)) ≡ Some (codes "draw", None, Some (flag_text e))
+unfolding clap_on_literals
+draw_asked true = refl
+draw_asked false = refl
+
+draw_taken : (e : Bool) → IsTaken (with_explain e draw_line)
+unfolding clap_on_literals
+draw_taken true = refl
+draw_taken false = refl
 
 play_asked : (e : Bool) → asked (named (with_explain e play_line)) ≡ Some (codes "play", Some (codes "2"), Some (flag_text e))
 unfolding clap_on_literals
@@ -101,8 +111,9 @@ workers_taken e n is = ap (λ word. built_takes (built program) nothing_held (wi
 
 line_taken : (words : List Text) → IsCommandLine words → IsTaken (drop 1 words)
 line_taken words (inl line) = ap (built_takes (built program) nothing_held) line.1 ∙ audit_taken line.0
-line_taken words (inr (inl line)) = ap (built_takes (built program) nothing_held) line.1 ∙ play_taken line.0
-line_taken words (inr (inr (n, count, line))) = ap (built_takes (built program) nothing_held) line.1 ∙ workers_taken line.0 n count
+line_taken words (inr (inl line)) = ap (built_takes (built program) nothing_held) line.1 ∙ draw_taken line.0
+line_taken words (inr (inr (inl line))) = ap (built_takes (built program) nothing_held) line.1 ∙ play_taken line.0
+line_taken words (inr (inr (inr (n, count, line)))) = ap (built_takes (built program) nothing_held) line.1 ∙ workers_taken line.0 n count
 
 pub taken : (a : App) (words : List Text) → a ≡ program → IsCommandLine words → takes a words ≡ true
 taken a words is line = ap (λ p. takes p words) is ∙ (λ i. program_simple i && line_taken words line i)
@@ -154,6 +165,9 @@ module _ (a : App) (words : List Text) (m : ArgMatches) (is : a ≡ program) (ma
         audit = λ x e.
             let found = found_asked _ name rows _ _ _ named_so (sym rows_of) (asked_on _ e ∙ audit_asked x) in
             at.audit x found.0 found.2;
+        draw = λ x e.
+            let found = found_asked _ name rows _ _ _ named_so (sym rows_of) (asked_on _ e ∙ draw_asked x) in
+            at.draw x found.0 found.2;
         play = λ x e.
             let found = found_asked _ name rows _ _ _ named_so (sym rows_of) (asked_on _ e ∙ play_asked x) in
             let two : decimal 2 ≡ codes "2" = decimal_digit 2 (omega arith) in
@@ -169,6 +183,7 @@ module _ (a : App) (words : List Text) (m : ArgMatches) (is : a ≡ program) (ma
       let named_none = matches_name m ∙ sym none in
       record {
         audit = λ x e. none_asked _ _ named_none (asked_on _ e ∙ audit_asked x);
+        draw = λ x e. none_asked _ _ named_none (asked_on _ e ∙ draw_asked x);
         play = λ x e. none_asked _ _ named_none (asked_on _ e ∙ play_asked x);
         workers = λ x n count e. none_asked _ _ named_none (asked_on _ e ∙ workers_asked x n count);
       }

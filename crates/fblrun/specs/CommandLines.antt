@@ -5,7 +5,7 @@ use Rattle.clap.specs.Words.{App, Row, Rule, Text, new_app, new_rule, one_of, wi
 use Rattle.clap.specs.declared.builder.ArgAction.TheVariants.{Set, SetTrue}
 use Rattle.clap.specs.declared.builder.value_parser.ValueParser.TheVariants as parsers
 use Rattle.fblrun.specs.declared.Order.{Order}
-use Rattle.fblrun.specs.declared.Task.TheVariants.{Play, Audit}
+use Rattle.fblrun.specs.declared.Task.TheVariants.{Play, Audit, Draw}
 use Rattle.fblrun.specs.Orders.{IsWorkerCount}
 
 -- ---- what the parser of command lines is told
@@ -24,18 +24,24 @@ play_app = with_rule (with_rule (new_app (codes "play")) workers_rule) explain_r
 abbrev pub audit_app : App
 audit_app = with_rule (new_app (codes "audit")) explain_rule
 
+abbrev pub draw_app : App
+draw_app = with_rule (new_app (codes "draw")) explain_rule
+
 -- a program with a version, which asks for a subcommand
 abbrev pub top_app : App
 top_app = on_top (λ s. record s { subcommand_required = true; has_version = true }) (new_app (codes "fblrun"))
 
--- the same with the subcommands `play` and `audit`
+-- the same with the subcommands `play`, `audit` and `draw`
 abbrev pub program : App
-program = with_subcommand (with_subcommand top_app play_app.top) audit_app.top
+program = with_subcommand (with_subcommand (with_subcommand top_app play_app.top) audit_app.top) draw_app.top
 
 -- ---- what it makes of the words
 
 abbrev pub audit_line : List Text
 audit_line = codes "audit" ∷ []
+
+abbrev pub draw_line : List Text
+draw_line = codes "draw" ∷ []
 
 abbrev pub play_line : List Text
 play_line = codes "play" ∷ []
@@ -52,14 +58,15 @@ with_explain false line = line
 abbrev pub IsLine : List Text → List Text → Type 0
 IsLine words line = (explain : Bool) × (drop 1 words ≡ with_explain explain line)
 
--- the words, behind the program's name, are `audit`, `play`, or `play --workers N` with N from 1 to 8, and `--explain` may
+-- the words, behind the program's name, are `audit`, `draw`, `play`, or `play --workers N` with N from 1 to 8, and `--explain` may
 -- stand behind these
 abbrev pub IsCommandLine : List Text → Type 0
-IsCommandLine words = IsLine words audit_line ⊎ IsLine words play_line ⊎ ((n : ℕ) × IsWorkerCount n × IsLine words (workers_line n))
+IsCommandLine words = IsLine words audit_line ⊎ IsLine words draw_line ⊎ IsLine words play_line ⊎ ((n : ℕ) × IsWorkerCount n × IsLine words (workers_line n))
 
 -- the order is that of the words, if they are one of these: of a play without a number of workers there are 2
 pub record IsOrderOf (words : List Text) (order : Order) : Type 0 where
   pub audit : (explain : Bool) → drop 1 words ≡ with_explain explain audit_line → order ≡ record { task = Audit; explain = explain }
+  pub draw : (explain : Bool) → drop 1 words ≡ with_explain explain draw_line → order ≡ record { task = Draw; explain = explain }
   pub play : (explain : Bool) → drop 1 words ≡ with_explain explain play_line → order ≡ record { task = Play 2; explain = explain }
   pub workers : (explain : Bool) (n : ℕ) → IsWorkerCount n → drop 1 words ≡ with_explain explain (workers_line n) → order ≡ record { task = Play n; explain = explain }
 
@@ -73,4 +80,5 @@ flag_text false = codes "false"
 -- the order is that of a subcommand of this name with these arguments
 pub record IsOrderAt (name : Text) (rows : List Row) (order : Order) : Type 0 where
   pub audit : (explain : Bool) → name ≡ codes "audit" → one_of (codes "explain") rows ≡ Some (flag_text explain) → order ≡ record { task = Audit; explain = explain }
+  pub draw : (explain : Bool) → name ≡ codes "draw" → one_of (codes "explain") rows ≡ Some (flag_text explain) → order ≡ record { task = Draw; explain = explain }
   pub play : (explain : Bool) (n : ℕ) → n < 10 → name ≡ codes "play" → one_of (codes "workers") rows ≡ Some (decimal n) → one_of (codes "explain") rows ≡ Some (flag_text explain) → order ≡ record { task = Play n; explain = explain }

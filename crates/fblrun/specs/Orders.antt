@@ -2,11 +2,12 @@
 use Rattle.std.specs.Prelude.{◌≡◌, ℕ, ◌≤◌, ◌⊎◌, List, Option, Result}
 use Rattle.std.specs.Io.KnownBytes.{Keeps}
 use Rattle.fbl_input.specs.declared.fault.RunFault.{RunFault}
+use Rattle.fbl_draw.specs.Drawing.{ReadsAndDraws}
 use Rattle.fbl_dump.specs.Auditing.{ReadsAndAudits}
 use Rattle.fbl_play.specs.Runs.{ReadsAndPlays}
 use Rattle.fblrun.specs.declared.Order.{Order}
 use Rattle.fblrun.specs.declared.Task.{Task}
-use Rattle.fblrun.specs.declared.Task.TheVariants.{Play, Audit}
+use Rattle.fblrun.specs.declared.Task.TheVariants.{Play, Audit, Draw}
 use Rattle.fblrun.specs.Statuses.{status_after}
 
 -- so many workers can make a run
@@ -25,6 +26,8 @@ Does (Play workers) input before after status =
     ⊎ (¬ (IsWorkerCount workers) × (status ≡ 2) × Keeps before after)
 -- an audit
 Does Audit input before after status = EndsAfter (ReadsAndAudits input before after) status
+-- a drawing
+Does Draw input before after status = EndsAfter (ReadsAndDraws input before after) status
 
 -- what is left in the writer, and the exit status, where the order is obeyed over an input: whether it is to explain
 -- makes no difference to them

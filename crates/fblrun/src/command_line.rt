@@ -2,7 +2,7 @@
 
 ghost use Rattle.std.specs.Prelude.{◌≡◌, ℕ, ◌<◌, Bool, map, false, Some, IfOk, IfErr, codes, decimal, string_bytes};
 ghost use Rattle.clap.specs.Words.{app_of, found_of, kind_of, one_of, rows_of, rule_of, with_subcommand};
-ghost use Rattle.fblrun.specs.CommandLines.{IsCommandLine, IsOrderAt, IsOrderOf, audit_app, explain_rule, flag_text, play_app, program, top_app, workers_rule};
+ghost use Rattle.fblrun.specs.CommandLines.{IsCommandLine, IsOrderAt, IsOrderOf, audit_app, draw_app, explain_rule, flag_text, play_app, program, top_app, workers_rule};
 
 use crate::{Order, Task};
 use clap::error::ErrorKind;
@@ -11,7 +11,7 @@ use std::alloc::{AllocError, Global};
 
 /// What the program is for.
 const PROGRAM: &str =
-    "Causal message logging with proved recovery: plays scripts of a group, and audits recorded traces.";
+    "Causal message logging with proved recovery: plays scripts of a group, and audits and draws recorded traces.";
 
 /// The exit statuses.
 const STATUSES: &str = "\
@@ -36,6 +36,18 @@ const AUDIT: &str =
 const AUDIT_EXAMPLE: &str =
     r#"A dump is a line that the command ["dump",[1]] of a script prints. It has the trace, who holds which
 determinant, and the members that are struck."#;
+
+/// What `draw` does.
+const DRAW: &str =
+    "Reads a dump, as JSON, on standard input, and writes its picture, as SVG, on standard output";
+
+/// A first picture.
+const DRAW_EXAMPLE: &str =
+    r#"A dump is what `audit` reads. The picture has a line for each member, a mark for each event and an arrow for
+each message; what a mark is stands in its tooltip. A first one, with a lost receipt and an orphan:
+
+  echo '{"members":3,"f":1,"strike":[1],"held":[[1,0,1,1,1],[2,1,1,2,1]],
+   "events":[["send",0,1,1],["receipt",1,1,0,1],["send",1,1,2],["receipt",2,1,1,1]]}' | fblrun draw > dump.svg"#;
 
 /// The program's version.
 const VERSION: &str = "1.0.0";
@@ -92,6 +104,17 @@ fn with_audit<'a>(alloc: Global, command: Command<'a>) -> Result<Command<'a>, Al
     command.subcommand(audit)
 }
 
+/// The program with the subcommand `draw`.
+fn with_draw<'a>(alloc: Global, command: Command<'a>) -> Result<Command<'a>, AllocError>
+    ensures { IfOk result (λ c. app_of c ≡ with_subcommand (app_of command.entry) draw_app.top) }
+{
+    let draw = Command::new(alloc, "draw")
+        .about(DRAW)
+        .after_help(DRAW_EXAMPLE);
+    let draw = draw.arg(explain(alloc))?;
+    command.subcommand(draw)
+}
+
 /// The program above its subcommands.
 fn top<'a>(alloc: Global) -> Command<'a>
     ensures { app_of result ≡ top_app }
@@ -103,12 +126,13 @@ fn top<'a>(alloc: Global) -> Command<'a>
         .subcommand_required(true)
 }
 
-/// What the program takes: `play`, with a number of workers, or `audit`, each with or without `--explain`.
+/// What the program takes: `play`, with a number of workers, `audit` or `draw`, each with or without `--explain`.
 fn command_line<'a>(alloc: Global) -> Result<Command<'a>, AllocError>
     ensures { IfOk result (λ c. app_of c ≡ program) }
 {
     let command = with_play(alloc, top(alloc))?;
-    with_audit(alloc, command)
+    let command = with_audit(alloc, command)?;
+    with_draw(alloc, command)
 }
 
 /// How many workers a play is asked for with.
@@ -132,6 +156,10 @@ fn order_at(name: &str, found: &ArgMatches) -> Order
     let explain = explain_in(found);
     if name == "play" {
         let task = Task::Play(workers_in(found));
+        return Order { task, explain };
+    }
+    if name == "draw" {
+        let task = Task::Draw;
         return Order { task, explain };
     }
     Order {

@@ -1,8 +1,9 @@
-//! Plays the script, or audits the dump, that standard input has.
+//! Plays the script, or audits or draws the dump, that standard input has.
 #![tactic(auto)]
 
 ghost use Rattle.std.specs.Prelude.{◌≡◌, ◌≤◌, IfSome};
 ghost use Rattle.fblrun.specs.Orders.{EndsAfter, Obeys};
+ghost use Rattle.fbl_draw.specs.Drawing.{ReadsAndDraws};
 ghost use Rattle.fbl_dump.specs.Auditing.{ReadsAndAudits};
 ghost use Rattle.fbl_play.specs.Runs.{ReadsAndPlays};
 ghost use Rattle.fblrun.specs.Statuses.{status_after as status_after_result, status_of as status_of_fault};
@@ -12,6 +13,7 @@ mod telling;
 
 use clap::error::ErrorKind;
 use command_line::order_of;
+use fbl_draw::draw_bytes;
 use fbl_dump::audit_bytes;
 use fbl_explain::InputKind;
 use fbl_input::{RunFault, read_input};
@@ -43,6 +45,8 @@ enum Task {
     Play(u8),
     /// Audit a dump.
     Audit,
+    /// Draw a dump.
+    Draw,
 }
 
 /// What the command line asks for.
@@ -163,6 +167,26 @@ fn audit_input<T: Eprint, R: Read, W: Write>(
     }
 }
 
+/// Draws the dump that the reader has, and answers the exit status.
+fn draw_input<T: Eprint, R: Read, W: Write>(
+    rt: &T,
+    alloc: Global,
+    explain: bool,
+    reader: &mut R,
+    writer: &mut W,
+) -> u8
+    ensures { IfSome (R.remaining reader.old) (λ input. EndsAfter (ReadsAndDraws input (W.contents writer.old) (W.contents writer.new)) result) }
+{
+    match read_input(alloc, reader) {
+        Ok(input) => {
+            let input = input.as_slice();
+            let done = draw_bytes(alloc, input, writer);
+            end(rt, alloc, explain, InputKind::Dump, input, done)
+        }
+        Err(fault) => end(rt, alloc, explain, InputKind::Dump, &[], Err(fault)),
+    }
+}
+
 /// Obeys the order over what the reader has, and answers the exit status. It is 2, and nothing is read, where a play is
 /// asked for with another number of workers than 1 to 8, which the command line does not give.
 fn obey<T: Eprint + Threads + Wait + Sync, R: Read, W: Write>(
@@ -181,6 +205,7 @@ fn obey<T: Eprint + Threads + Wait + Sync, R: Read, W: Write>(
             _ => INPUT_FAULT,
         },
         Task::Audit => audit_input(rt, alloc, explain, reader, writer),
+        Task::Draw => draw_input(rt, alloc, explain, reader, writer),
     }
 }
 

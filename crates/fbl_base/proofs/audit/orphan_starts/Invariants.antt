@@ -1,0 +1,13 @@
+use Rattle.std.proofs.Common.{◌≡◌, ℕ, ◌<◌, take, length}
+use Rattle.fbl_base.specs.Audit.{IsLost, start_of}
+use Rattle.fbl_base.proofs.ReachLaws.{Tracks}
+use Rattle.fbl_base.proofs.OrphanStarts.{StartsBy}
+use Rattle.fbl_base.proofs.audit.orphan_starts.Given as goal
+
+abbrev pub invariant-loop-place : goal.invariant-loop-place
+invariant-loop-place g l = record {
+  tracks : Tracks (IsLost l.dump) (take l.place l.mark-items) l.reach.reached l.reach.unreached_sends;
+  room : length l.reach.unreached_sends ≡ 16;
+  slots : length l.starts ≡ 16;
+  starts : (q : ℕ) → q < 16 → StartsBy l.dump l.place q (start_of l.starts q);
+}

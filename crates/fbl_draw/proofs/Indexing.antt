@@ -1,0 +1,114 @@
+-- How the indexes of determinants and of messages are made.
+use Rattle.std.proofs.Common.{ℕ, ◌+◌, ◌<◌, ◌≡◌, ◌==◌, Bool, true, false, cond, List, [], ◌∷◌, ◌++◌, length, length-take, take, get_or, map, Option, Some, None, unwrap_or, Decides, refl, sym, ap, ◌∙◌, arith, append-nil}
+use Rattle.std.specs.Option.{option_or, is_some}
+use Rattle.std.specs.List.{filter, position_from}
+use Rattle.std.specs.Ordering.{nat_cmp}
+use Rattle.std.specs.Cmp.{nat_cmp_total}
+use Rattle.std.specs.FinSet as set
+use Rattle.std.proofs.lemmas.List.{map-append, take_more}
+use Rattle.std.proofs.lemmas.List.Elements.{filter_more}
+use Rattle.fbl_base.specs.declared.trace.Determinant.{Determinant}
+use Rattle.fbl_base.specs.declared.trace.Mark.{Mark}
+use Rattle.fbl_base.specs.Events.{same_determinant}
+use Rattle.fbl_base.proofs.Recorded.{Decides-same_determinant, both_true, eqb_same, same_eqb}
+use Rattle.fbl_draw.specs.declared.receipts.Message.{Message}
+use Rattle.fbl_draw.specs.Receipts.{is_message, receipt_place, same_message, taken_by, takes}
+
+-- ---- who holds what
+
+-- the members that hold the determinant by these pairs
+abbrev held_by : Determinant → List (ℕ × Determinant) → set.FinSet nat_cmp
+held_by d xs = set.from_list (map (λ h. h.0) (filter (λ h. same_determinant h.1 d) xs))
+
+-- one more pair
+pub held_more : (old : Determinant → Option (set.FinSet nat_cmp)) (xs : List (ℕ × Determinant)) (i : ℕ) (x : ℕ × Determinant) (d : Determinant) (members : set.FinSet nat_cmp) (after : Option (set.FinSet nat_cmp))
+    → i < length xs → x ≡ get_or xs i x → unwrap_or (old d) set.empty ≡ held_by d (take i xs) → members ≡ set.insert (unwrap_or (old x.1) set.empty) x.0
+    → after ≡ cond (same_determinant x.1 d) (Some members) (old d) → unwrap_or after set.empty ≡ held_by d (take (i + 1) xs)
+held_more old xs i x d members after within is was now new = at_key (same_determinant x.1 d) refl where
+  more : (b : Bool) → same_determinant x.1 d ≡ b → held_by d (take (i + 1) xs) ≡ set.from_list (map (λ h. h.0) (filter (λ h. same_determinant h.1 d) (take i xs)) ++ map (λ h. h.0) (cond b (x ∷ []) []))
+  more b e =
+      ap (λ l. set.from_list (map (λ h. h.0) l)) (filter_more (λ h. same_determinant h.1 d) xs i x within ∙ ap (λ y. filter (λ h. same_determinant h.1 d) (take i xs) ++ cond (same_determinant y.1 d) (y ∷ []) []) (sym is) ∙ ap (λ c. filter (λ h. same_determinant h.1 d) (take i xs) ++ cond c (x ∷ []) []) e)
+      ∙ ap set.from_list (map-append (λ h. h.0) (filter (λ h. same_determinant h.1 d) (take i xs)) (cond b (x ∷ []) []))
+
+  at_key : (b : Bool) → same_determinant x.1 d ≡ b → unwrap_or after set.empty ≡ held_by d (take (i + 1) xs)
+  at_key true e =
+      let key : x.1 ≡ d = (Decides-same_determinant x.1 d).0 e in
+      ap (λ o. unwrap_or o set.empty) (new ∙ ap (λ b. cond b (Some members) (old d)) e) ∙ now
+      ∙ ap (λ s. set.insert s x.0) (ap (λ k. unwrap_or (old k) set.empty) key ∙ was)
+      ∙ sym (set.from_list_push nat_cmp_total set.nat_cmp-IsAntisymmetric _ x.0)
+      ∙ sym (more true e)
+  at_key false e =
+      ap (λ o. unwrap_or o set.empty) (new ∙ ap (λ b. cond b (Some members) (old d)) e) ∙ was
+      ∙ ap set.from_list (sym (append-nil _))
+      ∙ sym (more false e)
+
+-- ---- where messages are received
+
+pub Decides-same_message : (a b : Message) → Decides (same_message a b) (a ≡ b)
+Decides-same_message a b = (same, is) where
+  same : same_message a b ≡ true → a ≡ b
+  same h =
+      let both = both_true (a.from == b.from) _ h in
+      let e1 : a.from ≡ b.from = eqb_same both.0 in
+      let e2 : a.ssn ≡ b.ssn = eqb_same both.1 in
+      (λ i. record { from = e1 i; ssn = e2 i })
+
+  is : a ≡ b → same_message a b ≡ true
+  is e = rw (← e) (rw (same_eqb a.from, same_eqb a.ssn))
+
+-- the first place at which a test passes, with one more element behind
+position_push : {X : Type 0} (p : X → Bool) (k : ℕ) (xs : List X) (x : X) → position_from p k (xs ++ x ∷ []) ≡ option_or (position_from p k xs) (cond (p x) (Some (k + length xs)) None)
+position_push p k [] x = ap (λ n. cond (p x) (Some n) None) (let e : k ≡ k + 0 = omega arith in e)
+position_push p k (y ∷ ys) x = at_first (p y) (position_push p (k + 1) ys x ∙ ap (λ n. option_or (position_from p (k + 1) ys) (cond (p x) (Some n) None)) (let e : k + 1 + length ys ≡ k + length (y ∷ ys) = omega arith in e)) where
+  at_first : (b : Bool) → position_from p (k + 1) (ys ++ x ∷ []) ≡ option_or (position_from p (k + 1) ys) (cond (p x) (Some (k + length (y ∷ ys))) None)
+      → cond b (Some k) (position_from p (k + 1) (ys ++ x ∷ [])) ≡ option_or (cond b (Some k) (position_from p (k + 1) ys)) (cond (p x) (Some (k + length (y ∷ ys))) None)
+  at_first true later = refl
+  at_first false later = later
+
+place_more : (events : List Mark) (i : ℕ) (e : Mark) (m : Message) → i < length events → e ≡ get_or events i e → receipt_place (take (i + 1) events) m ≡ option_or (receipt_place (take i events) m) (cond (takes m e) (Some i) None)
+place_more events i e m within is =
+    ap (λ l. receipt_place l m) (take_more events i e within ∙ ap (λ x. take i events ++ x ∷ []) (sym is))
+    ∙ position_push (takes m) 0 (take i events) e
+    ∙ ap (λ n. option_or (receipt_place (take i events) m) (cond (takes m e) (Some n) None)) (let n : 0 + length (take i events) ≡ i = omega (arith, length-take i events) in n)
+
+or_none : {X : Type 0} (o : Option X) → o ≡ option_or o None
+or_none None = refl
+or_none (Some x) = refl
+
+or_some : {X : Type 0} (o p : Option X) → is_some o ≡ true → o ≡ option_or o p
+or_some None p h = cc
+or_some (Some x) p h = refl
+
+is_none : {X : Type 0} (o : Option X) → is_some o ≡ false → o ≡ None
+is_none None h = refl
+is_none (Some x) h = cc
+
+module _ (old : Message → Option ℕ) (events : List Mark) (i : ℕ) (e : Mark) (within : i < length events) (is : e ≡ get_or events i e) (was : (m : Message) → old m ≡ receipt_place (take i events) m) where
+  -- where a message is received, by the event too
+  more : (m : Message) (taken : Option Message) → taken_by e ≡ taken → option_or (old m) (cond (is_message m taken) (Some i) None) ≡ receipt_place (take (i + 1) events) m
+  more m taken takes' =
+      ap (λ o. option_or o (cond (is_message m taken) (Some i) None)) (was m)
+      ∙ ap (λ t. option_or (receipt_place (take i events) m) (cond (is_message m t) (Some i) None)) (sym takes')
+      ∙ sym (place_more events i e m within is)
+
+  -- the event takes no message
+  pub no_message : taken_by e ≡ None → (m : Message) → old m ≡ receipt_place (take (i + 1) events) m
+  no_message none m = or_none (old m) ∙ more m None none
+
+  -- the event takes a message that has its place already
+  pub old_message : (taken : Message) → taken_by e ≡ Some taken → is_some (old taken) ≡ true → (m : Message) → old m ≡ receipt_place (take (i + 1) events) m
+  old_message taken some there m = at_key (same_message taken m) refl ∙ more m (Some taken) some where
+    at_key : (b : Bool) → same_message taken m ≡ b → old m ≡ option_or (old m) (cond (same_message taken m) (Some i) None)
+    at_key true key =
+        let here : is_some (old m) ≡ true = ap (λ k. is_some (old k)) (sym ((Decides-same_message taken m).0 key)) ∙ there in
+        or_some (old m) _ here
+    at_key false key = or_none (old m) ∙ ap (λ c. option_or (old m) (cond c (Some i) None)) (sym key)
+
+  -- the event takes a message that has no place yet
+  pub new_message : (taken : Message) → taken_by e ≡ Some taken → is_some (old taken) ≡ false → (after : Message → Option ℕ) → ((m : Message) → after m ≡ cond (same_message taken m) (Some i) (old m)) → (m : Message) → after m ≡ receipt_place (take (i + 1) events) m
+  new_message taken some absent after put m = put m ∙ at_key (same_message taken m) refl ∙ more m (Some taken) some where
+    at_key : (b : Bool) → same_message taken m ≡ b → cond (same_message taken m) (Some i) (old m) ≡ option_or (old m) (cond (same_message taken m) (Some i) None)
+    at_key true key =
+        let none : old m ≡ None = is_none (old m) (ap (λ k. is_some (old k)) (sym ((Decides-same_message taken m).0 key)) ∙ absent) in
+        ap (λ c. cond c (Some i) (old m)) key ∙ ap (λ o. option_or o (Some i)) (sym none) ∙ ap (λ c. option_or (old m) (cond c (Some i) None)) (sym key)
+    at_key false key = ap (λ c. cond c (Some i) (old m)) key ∙ or_none (old m) ∙ ap (λ c. option_or (old m) (cond c (Some i) None)) (sym key)

@@ -1,0 +1,5 @@
+pub mod Places
+pub mod Receipts
+pub mod Marks
+pub mod Pictures
+pub mod Drawing

@@ -1,0 +1,56 @@
+-- What is drawn of a receipt: who holds it, of which kind that makes it, and which message it takes.
+use Rattle.std.specs.Prelude.{ℕ, ◌≡◌, Bool, false, not, ◌==◌, ◌&&◌, nat_lt, List, map, Option, Some, None, unwrap_or, if◌then◌else◌}
+use Rattle.std.specs.HashMap as hash_map
+use Rattle.std.specs.HashSet as hash_set
+use Rattle.std.specs.List.{filter, position_from}
+use Rattle.std.specs.Ordering.{nat_cmp}
+use Rattle.std.specs.FinSet as set
+use Rattle.fbl_base.specs.declared.trace.Determinant.{Determinant}
+use Rattle.fbl_base.specs.declared.trace.Mark.{Mark}
+use Rattle.fbl_base.specs.declared.trace.Mark.TheVariants.{Send, Receipt}
+use Rattle.fbl_base.specs.Audit.{Parts, is_recorded}
+use Rattle.fbl_base.specs.Events.{same_determinant}
+use Rattle.fbl_draw.specs.declared.receipts.Kind.{Kind}
+use Rattle.fbl_draw.specs.declared.receipts.Message.{Message}
+use Rattle.fbl_draw.specs.declared.receipts.HeldIndex.{HeldIndex}
+use Rattle.fbl_draw.specs.declared.receipts.Kind.TheVariants.{Stable, Recorded, Lost}
+
+-- the members that hold the determinant, struck or not
+abbrev pub holders_of : Parts → Determinant → set.FinSet nat_cmp
+holders_of dump d = set.from_list (map (λ h. h.0) (filter (λ h. same_determinant h.1 d) dump.held))
+
+-- lost where no member outside the strike set holds the determinant; else stable where more than f members hold it
+abbrev pub kind_of : Parts → Determinant → Kind
+kind_of dump d = if not (is_recorded dump d) then Lost else (if nat_lt dump.f (set.len (holders_of dump d)) then Stable else Recorded)
+
+-- the index tells of each determinant whether it is recorded, and who holds it
+pub record IsIndexOf (dump : Parts) (index : HeldIndex) : Type 0 where
+  pub recorded : (d : Determinant) → hash_set.contains same_determinant index.recorded d ≡ is_recorded dump d
+  pub holders : (d : Determinant) → unwrap_or (hash_map.get same_determinant index.holders d) set.empty ≡ holders_of dump d
+
+-- ---- messages
+
+-- whether two messages are the same
+abbrev pub same_message : Message → Message → Bool
+same_message a b = a.from == b.from && a.ssn == b.ssn
+
+-- the message that the event takes, if it is a receipt
+abbrev pub taken_by : Mark → Option Message
+taken_by (Send from ssn to) = None
+taken_by (Receipt to rsn from ssn) = Some (record { from = from; ssn = ssn })
+
+abbrev pub is_message : Message → Option Message → Bool
+is_message message None = false
+is_message message (Some taken) = same_message taken message
+
+-- the event is a receipt of the message
+abbrev pub takes : Message → Mark → Bool
+takes message event = is_message message (taken_by event)
+
+-- the place of the receipt of a message, if it is received
+abbrev pub receipt_place : List Mark → Message → Option ℕ
+receipt_place events message = position_from (takes message) 0 events
+
+-- the map tells of each message the place of its receipt
+abbrev pub IsPlacesOf : {S : Type 0} → List Mark → hash_map.HashMap Message ℕ S → Type 0
+IsPlacesOf events places = (message : Message) → hash_map.get same_message places message ≡ receipt_place events message

@@ -1,0 +1,45 @@
+//! The drawing of a dump that a reader has.
+
+ghost use Rattle.std.specs.Prelude.{◌≡◌, ◌≤◌, ℕ, length, IfOk, IfErr, OnErr, IfSome, string_bytes};
+ghost use Rattle.fbl_draw.specs.Drawing.{Draws, DrawsDump, ReadsAndDraws};
+
+use crate::picture::picture_text;
+use fbl_base::audit::Dump;
+use fbl_dump::dump_of_bytes;
+use fbl_input::{RunFault, put, read_input};
+use std::alloc::Global;
+use std::io::{Read, Write};
+
+/// Draws a dump.
+fn draw_dump<W: Write>(alloc: Global, writer: &mut W, dump: &Dump) -> Result<(), RunFault>
+    ensures { DrawsDump dump.now (W.contents writer.old) (W.contents writer.new) result }
+{
+    let text = picture_text(alloc, dump)?;
+    put(writer, text.as_bytes())
+}
+
+/// Draws the dump that the bytes spell, and writes the picture as SVG: a line for each member, a mark for each event and
+/// an arrow for each message. The time taken is nearly linear in the events and the held pairs. Nothing is written where
+/// the fault is another than `Write`, and after `Write` a front of the text. `Read` is no answer.
+pub fn draw_bytes<W: Write>(alloc: Global, input: &[u8], writer: &mut W) -> Result<(), RunFault>
+    ensures { Draws input.now (W.contents writer.old) (W.contents writer.new) result }
+{
+    match dump_of_bytes(alloc, input) {
+        Ok(dump) => draw_dump(alloc, writer, &dump),
+        Err(fault) => Err(fault),
+    }
+}
+
+/// Draws the dump that the reader has, as `draw_bytes` does. Where a read fails nothing is written.
+pub fn draw<R: Read, W: Write>(
+    alloc: Global,
+    reader: &mut R,
+    writer: &mut W,
+) -> Result<(), RunFault>
+    ensures { IfSome (R.remaining reader.old) (λ input. ReadsAndDraws input (W.contents writer.old) (W.contents writer.new) result) }
+{
+    match read_input(alloc, reader) {
+        Ok(input) => draw_bytes(alloc, input.as_slice(), writer),
+        Err(fault) => Err(fault),
+    }
+}

@@ -1,0 +1,11 @@
+//! Dumps drawn as pictures, over any reader and writer.
+#![tactic(auto)]
+
+mod drawing;
+mod events;
+mod members;
+mod picture;
+mod places;
+mod receipts;
+
+pub use drawing::{draw, draw_bytes};
