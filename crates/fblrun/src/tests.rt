@@ -128,6 +128,16 @@ fn audits_where_that_is_asked_for(rt: HostRuntime) -> Result<(), Fail> {
     Ok(())
 }
 
+#[test]
+fn draws_where_that_is_asked_for(rt: HostRuntime) -> Result<(), Fail> {
+    for (line, explain) in [("draw", false), ("draw --explain", true)] {
+        let order = order_in_line(rt.alloc(), line)?;
+        let task = Task::Draw;
+        assert!(rt; order == Some(Order { task, explain }), "{line}");
+    }
+    Ok(())
+}
+
 /// A script whose lines are the same with each number of workers.
 const SCRIPT: &str =
     r#"{"version":1,"members":4,"f":2,"behaviour":"relay","start":[[0,1,5,6],[2,3,7,3],[3,0,11,0]],"commands":[["run",[[2,[1]],[5,[0,3]],[9,[2]]]],["states"]]}"#;
@@ -271,7 +281,7 @@ fn refuses_another_command_line(rt: HostRuntime) -> Result<(), Fail> {
 }
 
 /// Command lines that ask for help or the version, and a part of what is printed.
-const HELPS: [(&str, &str); 12] = [
+const HELPS: [(&str, &str); 13] = [
     ("--help", "Usage: fblrun"),
     (
         "--help",
@@ -285,6 +295,7 @@ const HELPS: [(&str, &str); 12] = [
     ),
     ("play --help", "--explain"),
     ("audit --help", "--explain"),
+    ("draw --help", "--explain"),
     ("--version", "fblrun 1.0.0\n"),
     ("-V", "fblrun 1.0.0\n"),
     ("play --help", r#""commands":[["deliver",1,0],["#),
