@@ -53,7 +53,7 @@ fn event_of(list: &[Value]) -> Option<Mark>
 }
 
 /// An event: a list that begins with its name.
-struct EventShape;
+pub struct EventShape;
 
 impl Shape<Mark> for EventShape {
     ghost use Rattle.fbl_dump.specs.Dumps.{event_shape};
@@ -82,7 +82,7 @@ fn pair_of(list: &[Value]) -> Option<(Member, Determinant)>
 }
 
 /// A held pair: a list of the holder and the parts of the determinant.
-struct PairShape;
+pub struct PairShape;
 
 impl Shape<(Member, Determinant)> for PairShape {
     ghost use Rattle.fbl_dump.specs.Dumps.{pair_shape};

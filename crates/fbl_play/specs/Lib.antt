@@ -1,3 +1,4 @@
 pub mod Texts
 pub mod RunSteps
 pub mod Runs
+pub mod Reasons

@@ -5,10 +5,13 @@ ghost use Rattle.fbl_play.specs.Runs.{Step, CheckpointStep, DeliverStep, IsRepor
 ghost use Rattle.fbl_play.specs.Texts.{shown_state as shown_state_of, shown_states, shown_status as shown_status_of, shown_statuses, AreTotals};
 ghost use Rattle.fbl_lines.specs.Lines.{states_line};
 
+use crate::answer::{Answer, answer_with};
+use crate::reasons::{checkpoint_reason, deliver_reason, no_such_member, strike_reason};
 use crate::runs::run_plan;
 use fbl_base::audit::{lost, orphans};
 use fbl_base::{Behaviour, Member, MemberSet};
 use fbl_dump::dump_text;
+use fbl_explain::{Account, Reason};
 use fbl_group::{CheckpointRefusal, DeliverRefusal, DumpGroupRefusal, Group, RecoverRefusal};
 use fbl_lines::{
     MemberStatus, Totals, checkpoint_text, deliver_text, recover_text, refused_text, report_text,
@@ -25,13 +28,19 @@ fn run_deliver<B: Behaviour>(
     group: &mut Group<B>,
     to: Member,
     from: Member,
-) -> Result<String, AllocError>
-    ensures { IfOk result (λ text. DeliverStep B.next group.old to from group.new (string_bytes text)) }
+) -> Result<Answer, AllocError>
+    ensures { IfOk result (λ answer. DeliverStep B.next group.old to from group.new (string_bytes answer.text)) }
 {
     match group.deliver(to, from) {
-        Ok(answer) => deliver_text(alloc, to, from, answer.rsn, answer.carried, answer.state),
+        Ok(answer) => {
+            let text = deliver_text(alloc, to, from, answer.rsn, answer.carried, answer.state)?;
+            Ok(Answer::done(text))
+        }
         Err(DeliverRefusal::Memory) => Err(AllocError),
-        Err(refusal) => refused_text(alloc, "deliver", refusal.name()),
+        Err(refusal) => {
+            let text = refused_text(alloc, "deliver", refusal.name())?;
+            Ok(Answer::refused(text, deliver_reason(group, to, from, refusal)))
+        }
     }
 }
 
@@ -122,23 +131,32 @@ fn run_strike<B: Behaviour>(
     alloc: Global,
     group: &mut Group<B>,
     set: MemberSet,
-) -> Result<String, AllocError>
-    ensures { IfOk result (λ text. StrikeStep group.old set group.new (string_bytes text)) }
+) -> Result<Answer, AllocError>
+    ensures { IfOk result (λ answer. StrikeStep group.old set group.new (string_bytes answer.text)) }
 {
     match group.strike(set) {
-        Ok(struck) => strike_text(alloc, set, struck.lost),
-        Err(refusal) => refused_text(alloc, "strike", refusal.name()),
+        Ok(struck) => Ok(Answer::done(strike_text(alloc, set, struck.lost)?)),
+        Err(refusal) => {
+            let text = refused_text(alloc, "strike", refusal.name())?;
+            Ok(Answer::refused(text, strike_reason(group, set, refusal)))
+        }
     }
 }
 
 /// Recovers, and answers the line.
-fn run_recover<B: Behaviour>(alloc: Global, group: &mut Group<B>) -> Result<String, AllocError>
-    ensures { IfOk result (λ text. RecoverStep B.next group.old group.new (string_bytes text)) }
+fn run_recover<B: Behaviour>(alloc: Global, group: &mut Group<B>) -> Result<Answer, AllocError>
+    ensures { IfOk result (λ answer. RecoverStep B.next group.old group.new (string_bytes answer.text)) }
 {
     match group.recover() {
-        Ok(answer) => recover_text(alloc, answer.replayed, answer.resent, answer.undone),
+        Ok(answer) => {
+            let text = recover_text(alloc, answer.replayed, answer.resent, answer.undone)?;
+            Ok(Answer::done(text))
+        }
         Err(RecoverRefusal::Memory) => Err(AllocError),
-        Err(refusal) => refused_text(alloc, "recover", refusal.name()),
+        Err(refusal) => {
+            let text = refused_text(alloc, "recover", refusal.name())?;
+            Ok(Answer::refused(text, Reason::NotDown))
+        }
     }
 }
 
@@ -147,13 +165,19 @@ fn run_checkpoint<B: Behaviour>(
     alloc: Global,
     group: &mut Group<B>,
     member: Member,
-) -> Result<String, AllocError>
-    ensures { IfOk result (λ text. CheckpointStep group.old member group.new (string_bytes text)) }
+) -> Result<Answer, AllocError>
+    ensures { IfOk result (λ answer. CheckpointStep group.old member group.new (string_bytes answer.text)) }
 {
     match group.checkpoint(member) {
-        Ok(()) => checkpoint_text(alloc, member, group.checkpoint_received(member)),
+        Ok(()) => {
+            let text = checkpoint_text(alloc, member, group.checkpoint_received(member))?;
+            Ok(Answer::done(text))
+        }
         Err(CheckpointRefusal::Memory) => Err(AllocError),
-        Err(refusal) => refused_text(alloc, "checkpoint", refusal.name()),
+        Err(refusal) => {
+            let text = refused_text(alloc, "checkpoint", refusal.name())?;
+            Ok(Answer::refused(text, checkpoint_reason(group, member, refusal)))
+        }
     }
 }
 
@@ -162,37 +186,40 @@ fn run_dump<B: Behaviour>(
     alloc: Global,
     group: &Group<B>,
     strike: MemberSet,
-) -> Result<String, AllocError>
-    ensures { IfOk result (λ text. IsDumpText group.now strike (string_bytes text)) }
+) -> Result<Answer, AllocError>
+    ensures { IfOk result (λ answer. IsDumpText group.now strike (string_bytes answer.text)) }
 {
     match group.dump(strike) {
-        Ok(dump) => dump_text(alloc, &dump),
+        Ok(dump) => Ok(Answer::done(dump_text(alloc, &dump)?)),
         Err(DumpGroupRefusal::Memory) => Err(AllocError),
-        Err(refusal) => refused_text(alloc, "dump", refusal.name()),
+        Err(refusal) => {
+            let text = refused_text(alloc, "dump", refusal.name())?;
+            Ok(Answer::refused(text, no_such_member(group, strike)))
+        }
     }
 }
 
-/// Runs one command, and answers the lines that it prints. The group comes back.
+/// Runs one command, and answers the lines that it prints, with its account. The group comes back.
 pub(crate) fn run_command<B: Behaviour + Send + Sync, T: Threads + Wait + Sync>(
     rt: &T,
     alloc: Global,
     workers: u8,
     mut group: Group<B>,
     command: &Command,
-) -> (Group<B>, Result<String, AllocError>)
+) -> (Group<B>, Result<Answer, AllocError>)
     requires some { 1 ≤ workers }
     requires few { workers ≤ 8 }
-    ensures { IfOk result.1 (λ text. Step B.next workers group command.now result.0 (string_bytes text)) }
+    ensures { IfOk result.1 (λ answer. Step B.next workers group command.now result.0 (string_bytes answer.text)) }
 {
-    let text = match command {
+    let answer = match command {
         Command::Deliver { to, from } => run_deliver(alloc, &mut group, *to, *from),
-        Command::States => run_states(alloc, &group),
-        Command::Report => run_report(alloc, &group),
+        Command::States => answer_with(run_states(alloc, &group), Account::Done),
+        Command::Report => answer_with(run_report(alloc, &group), Account::Done),
         Command::Strike(set) => run_strike(alloc, &mut group, *set),
         Command::Recover => run_recover(alloc, &mut group),
         Command::Dump(strike) => run_dump(alloc, &group, *strike),
         Command::Checkpoint(member) => run_checkpoint(alloc, &mut group, *member),
         Command::Run(plan) => return run_plan(rt, alloc, workers, group, plan),
     };
-    (group, text)
+    (group, answer)
 }

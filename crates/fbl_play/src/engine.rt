@@ -5,6 +5,7 @@ ghost use Rattle.fbl_script.specs.Scripts.{outline};
 ghost use Rattle.fbl_play.specs.Runs.{PlaysOn, Plays, ReadsAndPlays, next_of};
 
 use crate::commands::run_command;
+use crate::observer::{NoObserver, Observer};
 use fbl_base::{Behaviour, Config, Mix, Relay};
 use fbl_group::Group;
 use fbl_input::{RunFault, put, read_input};
@@ -14,14 +15,15 @@ use std::io::{Read, Write};
 use std::sync::Wait;
 use std::thread::Threads;
 
-/// Runs the commands on a new group, and writes each one's lines when it ends.
-fn play_with<B: Behaviour + Send + Sync, T: Threads + Wait + Sync, W: Write>(
+/// Runs the commands on a new group, and writes each one's lines when it ends. The observer is told of each.
+fn play_with<B: Behaviour + Send + Sync, T: Threads + Wait + Sync, W: Write, O: Observer>(
     rt: &T,
     alloc: Global,
     writer: &mut W,
     workers: u8,
     config: Config,
     commands: &[Command],
+    observer: &mut O,
 ) -> Result<(), RunFault>
     requires some { 1 ≤ workers }
     requires few { workers ≤ 8 }
@@ -31,23 +33,26 @@ fn play_with<B: Behaviour + Send + Sync, T: Threads + Wait + Sync, W: Write>(
     // the trace's contract says that the group is sound
     let _trace = group.trace();
     for command in commands {
-        let (after, text) = run_command(rt, alloc, workers, group, command);
+        observer.before(command);
+        let (after, answer) = run_command(rt, alloc, workers, group, command);
         group = after;
         // and that it is so after each command
         let _trace = group.trace();
-        let text = text?;
-        put(writer, text.as_bytes())?;
+        let answer = answer?;
+        put(writer, answer.text.as_bytes())?;
+        observer.after(command, &answer.account);
     }
     Ok(())
 }
 
 /// Plays a script under the behaviour that it names.
-fn play_script<T: Threads + Wait + Sync, W: Write>(
+fn play_script<T: Threads + Wait + Sync, W: Write, O: Observer>(
     rt: &T,
     alloc: Global,
     writer: &mut W,
     workers: u8,
     script: Script,
+    observer: &mut O,
 ) -> Result<(), RunFault>
     requires some { 1 ≤ workers }
     requires few { workers ≤ 8 }
@@ -61,9 +66,11 @@ fn play_script<T: Threads + Wait + Sync, W: Write>(
     let commands = commands.as_slice();
     match behaviour {
         BehaviourName::Relay => {
-            play_with::<Relay, T, W>(rt, alloc, writer, workers, config, commands)
+            play_with::<Relay, T, W, O>(rt, alloc, writer, workers, config, commands, observer)
         }
-        BehaviourName::Mix => play_with::<Mix, T, W>(rt, alloc, writer, workers, config, commands),
+        BehaviourName::Mix => {
+            play_with::<Mix, T, W, O>(rt, alloc, writer, workers, config, commands, observer)
+        }
     }
 }
 
@@ -73,6 +80,28 @@ fn play_script<T: Threads + Wait + Sync, W: Write>(
 /// A refused command prints its refusal, and the play goes on; want of memory ends it, and the command that met it prints
 /// nothing. After `Write` a front of the text is written. `Read` is no answer. A `run` is made by `workers` workers, 1 to
 /// 8.
+///
+/// The observer is told of each command in turn, before it is run and after its lines are written. What it does with that
+/// is no part of the play.
+pub fn play_observed<T: Threads + Wait + Sync, W: Write, O: Observer>(
+    rt: &T,
+    alloc: Global,
+    input: &[u8],
+    writer: &mut W,
+    workers: u8,
+    observer: &mut O,
+) -> Result<(), RunFault>
+    requires some { 1 ≤ workers }
+    requires few { workers ≤ 8 }
+    ensures { Plays workers input.now (W.contents writer.old) (W.contents writer.new) result }
+{
+    match script_of_bytes(alloc, input) {
+        Ok(script) => play_script(rt, alloc, writer, workers, script, observer),
+        Err(fault) => Err(fault),
+    }
+}
+
+/// Plays the script that the bytes spell, as `play_observed` does, with nobody told of it.
 pub fn play_bytes<T: Threads + Wait + Sync, W: Write>(
     rt: &T,
     alloc: Global,
@@ -84,10 +113,7 @@ pub fn play_bytes<T: Threads + Wait + Sync, W: Write>(
     requires few { workers ≤ 8 }
     ensures { Plays workers input.now (W.contents writer.old) (W.contents writer.new) result }
 {
-    match script_of_bytes(alloc, input) {
-        Ok(script) => play_script(rt, alloc, writer, workers, script),
-        Err(fault) => Err(fault),
-    }
+    play_observed(rt, alloc, input, writer, workers, &mut NoObserver)
 }
 
 /// Plays the script that the reader has, as `play_bytes` does. Where a read fails nothing is written.

@@ -4,7 +4,10 @@ ghost use Rattle.std.specs.Prelude.{◌≡◌, ◌≤◌, false, IfOk, string_by
 ghost use Rattle.fbl_lines.specs.Lines.{run_line};
 ghost use Rattle.fbl_play.specs.RunSteps.{RunStep, IsRefusedRunText, IsRunText, end_of as end_of_run};
 
+use crate::answer::{Answer, answer_with};
+use crate::reasons::run_reason;
 use fbl_base::Behaviour;
+use fbl_explain::{Account, RunCounts};
 use fbl_group::Group;
 use fbl_lines::{RunEnd, refused_at_text, refused_text, run_text};
 use fbl_script::Plan;
@@ -61,6 +64,25 @@ fn answer_text(alloc: Global, answer: Result<Drained, DrainRefusal>) -> Result<S
     }
 }
 
+/// What a run did beside what its line says: how many receipts the group made and undid, or why it was refused.
+fn account_of<B: Behaviour>(
+    group: &Group<B>,
+    plan: &Plan,
+    ever_before: u64,
+    undone_before: u64,
+    answer: &Result<Drained, DrainRefusal>,
+) -> Account {
+    match answer {
+        Ok(_) => Account::Ran(RunCounts {
+            ever_before,
+            ever_after: group.receipts_ever(),
+            undone_before,
+            undone_after: group.undone_ever(),
+        }),
+        Err(refusal) => Account::Refused(run_reason(group, plan.strikes(), refusal)),
+    }
+}
+
 /// Lets workers deliver, strike and recover, and answers the line.
 pub(crate) fn run_plan<B: Behaviour + Send + Sync, T: Threads + Wait + Sync>(
     rt: &T,
@@ -68,10 +90,14 @@ pub(crate) fn run_plan<B: Behaviour + Send + Sync, T: Threads + Wait + Sync>(
     workers: u8,
     group: Group<B>,
     plan: &Plan,
-) -> (Group<B>, Result<String, AllocError>)
-    ensures { IfOk result.1 (λ text. RunStep B.next workers plan.now group result.0 (string_bytes text)) }
+) -> (Group<B>, Result<Answer, AllocError>)
+    ensures { IfOk result.1 (λ answer. RunStep B.next workers plan.now group result.0 (string_bytes answer.text)) }
 {
+    let ever = group.receipts_ever();
+    let undone = group.undone_ever();
     let strikes = plan.strikes();
     let (group, answer) = drain(rt, alloc, group, strikes, workers, TURNS, &NoGate);
-    (group, answer_text(alloc, answer))
+    let account = account_of(&group, plan, ever, undone, &answer);
+    let text = answer_text(alloc, answer);
+    (group, answer_with(text, account))
 }

@@ -1,4 +1,4 @@
-//! Tests of the texts and the engines: the printed lines, the faults of scripts and dumps, audits and plays over readers
+//! Tests of the texts and the engines: the printed lines, the faults of scripts and dumps and their words, audits and plays over readers
 //! and writers that stumble. They stand apart from the crates that they test, so that these are proved once.
 #![tactic(auto)]
 
@@ -6,6 +6,8 @@
 mod checkpoints;
 #[cfg(test)]
 mod dumps;
+#[cfg(test)]
+mod explanations;
 #[cfg(test)]
 mod plays;
 #[cfg(test)]

@@ -72,7 +72,7 @@ fn start_of(list: &[Value]) -> Option<Start>
 }
 
 /// A start: a list of its sender, its receiver, its value and its hops.
-struct StartShape;
+pub struct StartShape;
 
 impl Shape<Start> for StartShape {
     ghost use Rattle.fbl_script.specs.Scripts.{start_shape};

@@ -1,5 +1,5 @@
 -- What the parser of command lines makes of the program's command lines.
-use Rattle.std.proofs.Common.{◌≡◌, ℕ, zero, suc, ◌+◌, ◌<◌, ◌&&◌, true, List, [], ◌∷◌, Option, Some, None, option_map, Result, Ok, Err, IfErr, refl, sym, ap, ◌∙◌, arith, codes, decimal, drop, inl, inr, subst, unwrap_or, get_or}
+use Rattle.std.proofs.Common.{◌≡◌, ℕ, zero, suc, ◌+◌, ◌<◌, ◌&&◌, Bool, true, false, List, [], ◌∷◌, Option, Some, None, option_map, Result, Ok, Err, IfErr, refl, sym, ap, ◌∙◌, arith, codes, decimal, drop, inl, inr, subst, unwrap_or}
 use Rattle.std.proofs.lemmas.Fmt.{decimal_digit, parse-decimal}
 use Rattle.std.specs.Prelude.{Box}
 use Rattle.std.specs.Box.{box_value}
@@ -15,17 +15,17 @@ use Rattle.clap.specs.declared.parser.matches.ArgMatches.{ArgMatches}
 use Rattle.clap.specs.declared.parser.matches.ArgMatches.TheViews.{out-ArgMatches, out-SubCommand}
 use Rattle.clap.specs.declared.parser.matches.SubCommand.{SubCommand}
 use Rattle.clap.proofs.OnLiterals.{clap_on_literals}
-use Rattle.fblrun.specs.declared.Order.TheVariants.{Play, Audit, Draw}
-use Rattle.fblrun.specs.CommandLines.{IsCommandLine, IsOrderOf, audit_line, draw_line, play_line, program, workers_line}
+use Rattle.fblrun.specs.declared.Order.{Order}
+use Rattle.fblrun.specs.CommandLines.{IsCommandLine, IsOrderAt, IsOrderOf, audit_line, draw_line, flag_text, play_line, program, with_explain, workers_line}
 use Rattle.fblrun.specs.Orders.{IsWorkerCount}
 
 -- the subcommand that the words behind the program's name give, with what was found of it
 abbrev named : List Text → Option (Text × List Row)
 named line = entered (built program) (stop_after (built program).top.rules (names_of (built program)) line)
 
--- its name, and the text of the number of workers
-abbrev asked : Option (Text × List Row) → Option (Text × Option Text)
-asked found = option_map (λ p. (p.0, one_of (codes "workers") p.1)) found
+-- its name, and the texts of the number of workers and of the flag
+abbrev asked : Option (Text × List Row) → Option (Text × Option Text × Option Text)
+asked found = option_map (λ p. (p.0, one_of (codes "workers") p.1, one_of (codes "explain") p.1)) found
 
 -- the words are taken
 abbrev IsTaken : List Text → Type 0
@@ -37,29 +37,35 @@ program_simple : is_simple program ≡ true
 unfolding clap_on_literals
 program_simple = refl
 
-audit_asked : asked (named audit_line) ≡ Some (codes "audit", None)
+audit_asked : (e : Bool) → asked (named (with_explain e audit_line)) ≡ Some (codes "audit", None, Some (flag_text e))
 unfolding clap_on_literals
-audit_asked = refl
+audit_asked true = refl
+audit_asked false = refl
 
-audit_taken : IsTaken audit_line
+audit_taken : (e : Bool) → IsTaken (with_explain e audit_line)
 unfolding clap_on_literals
-audit_taken = refl
+audit_taken true = refl
+audit_taken false = refl
 
-draw_asked : asked (named draw_line) ≡ Some (codes "draw", None)
+draw_asked : (e : Bool) → asked (named (with_explain e draw_line)) ≡ Some (codes "draw", None, Some (flag_text e))
 unfolding clap_on_literals
-draw_asked = refl
+draw_asked true = refl
+draw_asked false = refl
 
-draw_taken : IsTaken draw_line
+draw_taken : (e : Bool) → IsTaken (with_explain e draw_line)
 unfolding clap_on_literals
-draw_taken = refl
+draw_taken true = refl
+draw_taken false = refl
 
-play_asked : asked (named play_line) ≡ Some (codes "play", Some (codes "2"))
+play_asked : (e : Bool) → asked (named (with_explain e play_line)) ≡ Some (codes "play", Some (codes "2"), Some (flag_text e))
 unfolding clap_on_literals
-play_asked = refl
+play_asked true = refl
+play_asked false = refl
 
-play_taken : IsTaken play_line
+play_taken : (e : Bool) → IsTaken (with_explain e play_line)
 unfolding clap_on_literals
-play_taken = refl
+play_taken true = refl
+play_taken false = refl
 
 -- a fact of each number of workers
 by_count : (P : ℕ → Type 0) → P 1 → P 2 → P 3 → P 4 → P 5 → P 6 → P 7 → P 8 → (n : ℕ) → IsWorkerCount n → P n
@@ -77,29 +83,37 @@ by_count P a b c d e f g h (suc (suc (suc (suc (suc (suc (suc (suc (suc n)))))))
 abbrev with_word : Text → List Text
 with_word word = codes "play" ∷ codes "--workers" ∷ word ∷ []
 
-digit_asked : (n : ℕ) → IsWorkerCount n → asked (named (with_word ((48 + n) ∷ []))) ≡ Some (codes "play", Some ((48 + n) ∷ []))
-unfolding clap_on_literals
-digit_asked = by_count (λ n. asked (named (with_word ((48 + n) ∷ []))) ≡ Some (codes "play", Some ((48 + n) ∷ []))) refl refl refl refl refl refl refl refl
+abbrev DigitAsked : Bool → ℕ → Type 0
+DigitAsked e n = asked (named (with_explain e (with_word ((48 + n) ∷ [])))) ≡ Some (codes "play", Some ((48 + n) ∷ []), Some (flag_text e))
 
-digit_taken : (n : ℕ) → IsWorkerCount n → IsTaken (with_word ((48 + n) ∷ []))
+digit_asked : (e : Bool) (n : ℕ) → IsWorkerCount n → DigitAsked e n
 unfolding clap_on_literals
-digit_taken = by_count (λ n. IsTaken (with_word ((48 + n) ∷ []))) refl refl refl refl refl refl refl refl
+digit_asked true = by_count (DigitAsked true) refl refl refl refl refl refl refl refl
+digit_asked false = by_count (DigitAsked false) refl refl refl refl refl refl refl refl
 
-workers_asked : (n : ℕ) → IsWorkerCount n → asked (named (workers_line n)) ≡ Some (codes "play", Some (decimal n))
-workers_asked n is =
+abbrev DigitTaken : Bool → ℕ → Type 0
+DigitTaken e n = IsTaken (with_explain e (with_word ((48 + n) ∷ [])))
+
+digit_taken : (e : Bool) (n : ℕ) → IsWorkerCount n → DigitTaken e n
+unfolding clap_on_literals
+digit_taken true = by_count (DigitTaken true) refl refl refl refl refl refl refl refl
+digit_taken false = by_count (DigitTaken false) refl refl refl refl refl refl refl refl
+
+workers_asked : (e : Bool) (n : ℕ) → IsWorkerCount n → asked (named (with_explain e (workers_line n))) ≡ Some (codes "play", Some (decimal n), Some (flag_text e))
+workers_asked e n is =
     let digit : decimal n ≡ (48 + n) ∷ [] = decimal_digit n (omega (arith, is.1)) in
-    ap (λ word. asked (named (with_word word))) digit ∙ digit_asked n is ∙ ap (λ (word : Text). Some (codes "play", Some word)) (sym digit)
+    ap (λ word. asked (named (with_explain e (with_word word)))) digit ∙ digit_asked e n is ∙ ap (λ (word : Text). Some (codes "play", Some word, Some (flag_text e))) (sym digit)
 
-workers_taken : (n : ℕ) → IsWorkerCount n → IsTaken (workers_line n)
-workers_taken n is = ap (λ word. built_takes (built program) nothing_held (with_word word)) (decimal_digit n (omega (arith, is.1))) ∙ digit_taken n is
+workers_taken : (e : Bool) (n : ℕ) → IsWorkerCount n → IsTaken (with_explain e (workers_line n))
+workers_taken e n is = ap (λ word. built_takes (built program) nothing_held (with_explain e (with_word word))) (decimal_digit n (omega (arith, is.1))) ∙ digit_taken e n is
 
 -- ---- refusals
 
 line_taken : (words : List Text) → IsCommandLine words → IsTaken (drop 1 words)
-line_taken words (inl e) = ap (built_takes (built program) nothing_held) e ∙ audit_taken
-line_taken words (inr (inl e)) = ap (built_takes (built program) nothing_held) e ∙ draw_taken
-line_taken words (inr (inr (inl e))) = ap (built_takes (built program) nothing_held) e ∙ play_taken
-line_taken words (inr (inr (inr (n, is, e)))) = ap (built_takes (built program) nothing_held) e ∙ workers_taken n is
+line_taken words (inl line) = ap (built_takes (built program) nothing_held) line.1 ∙ audit_taken line.0
+line_taken words (inr (inl line)) = ap (built_takes (built program) nothing_held) line.1 ∙ draw_taken line.0
+line_taken words (inr (inr (inl line))) = ap (built_takes (built program) nothing_held) line.1 ∙ play_taken line.0
+line_taken words (inr (inr (inr (n, count, line)))) = ap (built_takes (built program) nothing_held) line.1 ∙ workers_taken line.0 n count
 
 pub taken : (a : App) (words : List Text) → a ≡ program → IsCommandLine words → takes a words ≡ true
 taken a words is line = ap (λ p. takes p words) is ∙ (λ i. program_simple i && line_taken words line i)
@@ -121,20 +135,19 @@ name_is (Some b) = refl
 matches_name : (m : ArgMatches) → option_map (λ p. p.0) (subcommand_rows_of m) ≡ subcommand_name_of m
 matches_name m = name_is (out-ArgMatches m).subcommand
 
-draw_not_play : codes "draw" ≡ codes "play" → ⊥
-draw_not_play e = let first : ◌≡◌ {A = ℕ} 100 112 = ap (λ (text : Text). get_or text 0 0) e in omega (arith, first)
-
--- what was asked for, where a play was named, and where something was
-play_named : (o : Option (Text × List Row)) (rows : List Row) (name : Text) (workers : Option Text) → option_map (λ p. p.0) o ≡ Some (codes "play") → option_map (λ p. p.1) o ≡ Some rows → asked o ≡ Some (name, workers)
-    → (name ≡ codes "play") × (one_of (codes "workers") rows ≡ workers)
-play_named None rows name workers is found e = absurd (cc)
-play_named (Some p) rows name workers is found e =
+-- what was asked for, where a subcommand was found
+found_asked : (o : Option (Text × List Row)) (name : Text) (rows : List Row) (line : Text) (workers explain : Option Text) → option_map (λ p. p.0) o ≡ Some name → option_map (λ p. p.1) o ≡ Some rows → asked o ≡ Some (line, workers, explain)
+    → (name ≡ line) × (one_of (codes "workers") rows ≡ workers) × (one_of (codes "explain") rows ≡ explain)
+found_asked None name rows line workers explain is found e = absurd (cc)
+found_asked (Some p) name rows line workers explain is found e =
     let same = of_some _ _ e in
-    (sym (ap (λ q. q.0) same) ∙ of_some _ _ is, ap (one_of (codes "workers")) (sym (of_some _ _ found)) ∙ ap (λ q. q.1) same)
+    let same_rows = of_some _ _ found in
+    (sym (of_some _ _ is) ∙ ap (λ q. q.0) same, ap (one_of (codes "workers")) (sym same_rows) ∙ ap (λ q. q.1) same, ap (one_of (codes "explain")) (sym same_rows) ∙ ap (λ q. q.2) same)
 
-named_so : (o : Option (Text × List Row)) (name : Text) (workers : Option Text) → asked o ≡ Some (name, workers) → option_map (λ p. p.0) o ≡ Some name
-named_so None name workers e = absurd (cc)
-named_so (Some p) name workers e = ap Some (ap (λ q. q.0) (of_some _ _ e))
+-- nothing was asked for, where none was found
+none_asked : {A : Type 0} (o : Option (Text × List Row)) (x : Text × Option Text × Option Text) → option_map (λ p. p.0) o ≡ None → asked o ≡ Some x → A
+none_asked None x is e = absurd (cc)
+none_asked (Some p) x is e = absurd (cc)
 
 -- the matches are those of the program on the words
 module _ (a : App) (words : List Text) (m : ArgMatches) (is : a ≡ program) (matches : HasMatchesOf a words m) where
@@ -144,40 +157,36 @@ module _ (a : App) (words : List Text) (m : ArgMatches) (is : a ≡ program) (ma
   asked_on : (line : List Text) → drop 1 words ≡ line → asked (subcommand_rows_of m) ≡ asked (named line)
   asked_on line e = ap asked (rows_are ∙ ap named e)
 
-  -- a play was named, and so many workers found in its rows
-  pub play_is : (rows : List Row) (workers : ℕ) → subcommand_name_of m ≡ Some (codes "play") → option_map (λ p. p.1) (subcommand_rows_of m) ≡ Some rows
-      → ((n : ℕ) → n < 10 → one_of (codes "workers") rows ≡ Some (decimal n) → workers ≡ n) → IsOrderOf words (Play workers)
-  play_is rows workers name found number =
-      let named_play = matches_name m ∙ name in
-      let two : decimal 2 ≡ codes "2" = decimal_digit 2 (omega arith) in
+  -- a subcommand was found, and the order is the one at its name and rows
+  pub order_is : (name : Text) (rows : List Row) (order : Order) → Some name ≡ subcommand_name_of m → Some rows ≡ option_map (λ p. p.1) (subcommand_rows_of m) → IsOrderAt name rows order → IsOrderOf words order
+  order_is name rows order name_of rows_of at =
+      let named_so = matches_name m ∙ sym name_of in
       record {
-        audit = λ e. let bad : codes "audit" ≡ codes "play" = (play_named _ rows _ _ named_play found (asked_on _ e ∙ audit_asked)).0 in absurd (cc);
-        draw = λ e. absurd (draw_not_play (play_named _ rows _ _ named_play found (asked_on _ e ∙ draw_asked)).0);
-        play = λ e. ap Play (number 2 (omega arith) ((play_named _ rows _ _ named_play found (asked_on _ e ∙ play_asked)).1 ∙ ap Some (sym two)));
-        workers = λ n count e. ap Play (number n (omega (arith, count.1)) (play_named _ rows _ _ named_play found (asked_on _ e ∙ workers_asked n count)).1);
+        audit = λ x e.
+            let found = found_asked _ name rows _ _ _ named_so (sym rows_of) (asked_on _ e ∙ audit_asked x) in
+            at.audit x found.0 found.2;
+        draw = λ x e.
+            let found = found_asked _ name rows _ _ _ named_so (sym rows_of) (asked_on _ e ∙ draw_asked x) in
+            at.draw x found.0 found.2;
+        play = λ x e.
+            let found = found_asked _ name rows _ _ _ named_so (sym rows_of) (asked_on _ e ∙ play_asked x) in
+            let two : decimal 2 ≡ codes "2" = decimal_digit 2 (omega arith) in
+            at.play x 2 (omega arith) found.0 (found.1 ∙ ap Some (sym two)) found.2;
+        workers = λ x n count e.
+            let found = found_asked _ name rows _ _ _ named_so (sym rows_of) (asked_on _ e ∙ workers_asked x n count) in
+            at.play x n (omega (arith, count.1)) found.0 found.1 found.2;
       }
 
-  -- the name that the words give
-  name_on : (line : List Text) (name : Text) (workers : Option Text) → asked (named line) ≡ Some (name, workers) → drop 1 words ≡ line → subcommand_name_of m ≡ Some name
-  name_on line name workers is_asked e = sym (matches_name m) ∙ named_so _ name workers (asked_on line e ∙ is_asked)
-
-  -- a drawing was named
-  pub draw_is : subcommand_name_of m ≡ Some (codes "draw") → IsOrderOf words Draw
-  draw_is name = record {
-    audit = λ e. let bad : codes "audit" ≡ codes "draw" = of_some _ _ (sym (name_on _ _ _ audit_asked e) ∙ name) in absurd (cc);
-    draw = λ e. refl;
-    play = λ e. absurd (draw_not_play (of_some _ _ (sym name ∙ name_on _ _ _ play_asked e)));
-    workers = λ n count e. absurd (draw_not_play (of_some _ _ (sym name ∙ name_on _ _ _ (workers_asked n count) e)));
-  }
-
-  -- neither a play nor a drawing was named
-  pub audit_is : (subcommand_name_of m ≡ Some (codes "play") → ⊥) → (subcommand_name_of m ≡ Some (codes "draw") → ⊥) → IsOrderOf words Audit
-  audit_is no_play no_drawing = record {
-    audit = λ e. refl;
-    draw = λ e. absurd (no_drawing (name_on _ _ _ draw_asked e));
-    play = λ e. absurd (no_play (name_on _ _ _ play_asked e));
-    workers = λ n count e. absurd (no_play (name_on _ _ _ (workers_asked n count) e));
-  }
+  -- no subcommand was found, and the words are none of the lines
+  pub none_is : (order : Order) → None ≡ subcommand_name_of m → IsOrderOf words order
+  none_is order none =
+      let named_none = matches_name m ∙ sym none in
+      record {
+        audit = λ x e. none_asked _ _ named_none (asked_on _ e ∙ audit_asked x);
+        draw = λ x e. none_asked _ _ named_none (asked_on _ e ∙ draw_asked x);
+        play = λ x e. none_asked _ _ named_none (asked_on _ e ∙ play_asked x);
+        workers = λ x n count e. none_asked _ _ named_none (asked_on _ e ∙ workers_asked x n count);
+      }
 
 -- ---- the number of workers
 
@@ -189,3 +198,10 @@ read_number {E} gives n other (Some v) small parses h =
 read_number {E} gives n other None small parses h =
     let r : Result ℕ E = Err h.0 in
     let same : r ≡ Ok n = parse-decimal 8 n (decimal n) r (omega arith) (omega arith) refl (parses r h.1) in absurd (cc)
+
+-- ---- whether explanations are asked for
+
+-- what a flag's text says
+pub flag_is : (explain result : Bool) (text : Option Text) → (text ≡ Some (codes "true") → result ≡ true) → (text ≡ Some (codes "false") → result ≡ false) → text ≡ Some (flag_text explain) → result ≡ explain
+flag_is true result text given other e = given e
+flag_is false result text given other e = other e

@@ -6,7 +6,8 @@ use Rattle.fbl_draw.specs.Drawing.{ReadsAndDraws}
 use Rattle.fbl_dump.specs.Auditing.{ReadsAndAudits}
 use Rattle.fbl_play.specs.Runs.{ReadsAndPlays}
 use Rattle.fblrun.specs.declared.Order.{Order}
-use Rattle.fblrun.specs.declared.Order.TheVariants.{Play, Audit, Draw}
+use Rattle.fblrun.specs.declared.Task.{Task}
+use Rattle.fblrun.specs.declared.Task.TheVariants.{Play, Audit, Draw}
 use Rattle.fblrun.specs.Statuses.{status_after}
 
 -- so many workers can make a run
@@ -17,13 +18,18 @@ IsWorkerCount workers = (1 ≤ workers) × (workers ≤ 8)
 abbrev pub EndsAfter : (Result (Unit {0}) RunFault → Type 0) → ℕ → Type 0
 EndsAfter Answers status = (answer : Result (Unit {0}) RunFault) × Answers answer × (status ≡ status_after answer)
 
--- what is left in the writer, and the exit status, where the order is obeyed over an input
-abbrev pub Obeys : Order → List ℕ → Option (List ℕ) → Option (List ℕ) → ℕ → Type 0
+-- what is left in the writer, and the exit status, where the task is done over an input
+abbrev pub Does : Task → List ℕ → Option (List ℕ) → Option (List ℕ) → ℕ → Type 0
 -- a play with so many workers; where there can't be so many, the command line has a fault, and nothing is written
-Obeys (Play workers) input before after status =
+Does (Play workers) input before after status =
     (IsWorkerCount workers × EndsAfter (ReadsAndPlays workers input before after) status)
     ⊎ (¬ (IsWorkerCount workers) × (status ≡ 2) × Keeps before after)
 -- an audit
-Obeys Audit input before after status = EndsAfter (ReadsAndAudits input before after) status
+Does Audit input before after status = EndsAfter (ReadsAndAudits input before after) status
 -- a drawing
-Obeys Draw input before after status = EndsAfter (ReadsAndDraws input before after) status
+Does Draw input before after status = EndsAfter (ReadsAndDraws input before after) status
+
+-- what is left in the writer, and the exit status, where the order is obeyed over an input: whether it is to explain
+-- makes no difference to them
+abbrev pub Obeys : Order → List ℕ → Option (List ℕ) → Option (List ℕ) → ℕ → Type 0
+Obeys order = Does order.task

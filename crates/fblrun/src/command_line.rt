@@ -1,10 +1,10 @@
 //! The command line.
 
-ghost use Rattle.std.specs.Prelude.{◌≡◌, ℕ, ◌<◌, map, false, Some, IfOk, IfErr, codes, decimal, string_bytes};
-ghost use Rattle.clap.specs.Words.{app_of, found_of, kind_of, one_of, rows_of, rule_of};
-ghost use Rattle.fblrun.specs.CommandLines.{IsCommandLine, IsOrderOf, program, workers_rule};
+ghost use Rattle.std.specs.Prelude.{◌≡◌, ℕ, ◌<◌, Bool, map, false, Some, IfOk, IfErr, codes, decimal, string_bytes};
+ghost use Rattle.clap.specs.Words.{app_of, found_of, kind_of, one_of, rows_of, rule_of, with_subcommand};
+ghost use Rattle.fblrun.specs.CommandLines.{IsCommandLine, IsOrderAt, IsOrderOf, audit_app, draw_app, explain_rule, flag_text, play_app, program, top_app, workers_rule};
 
-use crate::Order;
+use crate::{Order, Task};
 use clap::error::ErrorKind;
 use clap::{Arg, ArgAction, ArgMatches, Command};
 use std::alloc::{AllocError, Global};
@@ -49,6 +49,13 @@ each message; what a mark is stands in its tooltip. A first one, with a lost rec
   echo '{"members":3,"f":1,"strike":[1],"held":[[1,0,1,1,1],[2,1,1,2,1]],
    "events":[["send",0,1,1],["receipt",1,1,0,1],["send",1,1,2],["receipt",2,1,1,1]]}' | fblrun draw > dump.svg"#;
 
+/// The program's version.
+const VERSION: &str = "1.0.0";
+
+/// What `--explain` does.
+const EXPLAIN: &str =
+    "Tells on standard error what is wanted where the input has a fault, and each command with why it was refused";
+
 /// The option `--workers`.
 fn workers<'a>(alloc: Global) -> Arg<'a>
     ensures rule { rule_of result ≡ workers_rule }
@@ -57,32 +64,75 @@ fn workers<'a>(alloc: Global) -> Arg<'a>
     Arg::new(alloc, "workers")
         .long("workers")
         .action(ArgAction::Set)
+        .value_name("N")
         .value_parser(clap::value_parser!(u8).range(1..=8))
         .default_value("2")
         .help("How many workers make a run, 1 to 8")
 }
 
-/// What the program takes: `play`, with a number of workers, `audit` or `draw`.
-fn command_line<'a>(alloc: Global) -> Result<Command<'a>, AllocError>
-    ensures { IfOk result (λ c. app_of c ≡ program) }
+/// The flag `--explain`.
+fn explain<'a>(alloc: Global) -> Arg<'a>
+    ensures rule { rule_of result ≡ explain_rule }
+    ensures local { result.global ≡ false }
+{
+    Arg::new(alloc, "explain")
+        .long("explain")
+        .action(ArgAction::SetTrue)
+        .help(EXPLAIN)
+}
+
+/// The program with the subcommand `play`, which has a number of workers.
+fn with_play<'a>(alloc: Global, command: Command<'a>) -> Result<Command<'a>, AllocError>
+    ensures { IfOk result (λ c. app_of c ≡ with_subcommand (app_of command.entry) play_app.top) }
 {
     let play = Command::new(alloc, "play")
         .about(PLAY)
-        .after_help(PLAY_EXAMPLE)
-        .arg(workers(alloc))?;
+        .after_help(PLAY_EXAMPLE);
+    let play = play.arg(workers(alloc))?;
+    let play = play.arg(explain(alloc))?;
+    command.subcommand(play)
+}
+
+/// The program with the subcommand `audit`.
+fn with_audit<'a>(alloc: Global, command: Command<'a>) -> Result<Command<'a>, AllocError>
+    ensures { IfOk result (λ c. app_of c ≡ with_subcommand (app_of command.entry) audit_app.top) }
+{
     let audit = Command::new(alloc, "audit")
         .about(AUDIT)
         .after_help(AUDIT_EXAMPLE);
+    let audit = audit.arg(explain(alloc))?;
+    command.subcommand(audit)
+}
+
+/// The program with the subcommand `draw`.
+fn with_draw<'a>(alloc: Global, command: Command<'a>) -> Result<Command<'a>, AllocError>
+    ensures { IfOk result (λ c. app_of c ≡ with_subcommand (app_of command.entry) draw_app.top) }
+{
     let draw = Command::new(alloc, "draw")
         .about(DRAW)
         .after_help(DRAW_EXAMPLE);
-    let command = Command::new(alloc, "fblrun")
+    let draw = draw.arg(explain(alloc))?;
+    command.subcommand(draw)
+}
+
+/// The program above its subcommands.
+fn top<'a>(alloc: Global) -> Command<'a>
+    ensures { app_of result ≡ top_app }
+{
+    Command::new(alloc, "fblrun")
+        .version(VERSION)
         .about(PROGRAM)
         .after_help(STATUSES)
         .subcommand_required(true)
-        .subcommand(play)?;
-    let command = command.subcommand(audit)?;
-    command.subcommand(draw)
+}
+
+/// What the program takes: `play`, with a number of workers, `audit` or `draw`, each with or without `--explain`.
+fn command_line<'a>(alloc: Global) -> Result<Command<'a>, AllocError>
+    ensures { IfOk result (λ c. app_of c ≡ program) }
+{
+    let command = with_play(alloc, top(alloc))?;
+    let command = with_audit(alloc, command)?;
+    with_draw(alloc, command)
 }
 
 /// How many workers a play is asked for with.
@@ -92,6 +142,32 @@ fn workers_in(found: &ArgMatches) -> u8
     found.get_one::<u8>("workers").unwrap_or(2)
 }
 
+/// Whether explanations are asked for.
+fn explain_in(found: &ArgMatches) -> bool
+    ensures { (explain : Bool) → one_of (codes "explain") (rows_of (found_of found.now)) ≡ Some (flag_text explain) → result ≡ explain }
+{
+    found.get_flag("explain")
+}
+
+/// The order of a subcommand.
+fn order_at(name: &str, found: &ArgMatches) -> Order
+    ensures { IsOrderAt name.now (rows_of (found_of found.now)) result }
+{
+    let explain = explain_in(found);
+    if name == "play" {
+        let task = Task::Play(workers_in(found));
+        return Order { task, explain };
+    }
+    if name == "draw" {
+        let task = Task::Draw;
+        return Order { task, explain };
+    }
+    Order {
+        task: Task::Audit,
+        explain,
+    }
+}
+
 /// The order that the words of the command line give, the program's name first.
 pub(crate) fn order_of(alloc: Global, words: &[String]) -> Result<Order, clap::Error>
     ensures given { IfOk result (IsOrderOf (map string_bytes words.now)) }
@@ -99,11 +175,11 @@ pub(crate) fn order_of(alloc: Global, words: &[String]) -> Result<Order, clap::E
 {
     let command = command_line(alloc)?;
     let matches = command.try_get_matches_from(words)?;
-    match matches.subcommand_matches("play") {
-        Some(found) => Ok(Order::Play(workers_in(found))),
-        None => match matches.subcommand_matches("draw") {
-            Some(_) => Ok(Order::Draw),
-            None => Ok(Order::Audit),
-        },
+    match matches.subcommand() {
+        Some((name, found)) => Ok(order_at(name, found)),
+        None => Ok(Order {
+            task: Task::Audit,
+            explain: false,
+        }),
     }
 }

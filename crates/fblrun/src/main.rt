@@ -2,23 +2,29 @@
 #![tactic(auto)]
 
 ghost use Rattle.std.specs.Prelude.{◌≡◌, ◌≤◌, IfSome};
-ghost use Rattle.fblrun.specs.Orders.{Obeys};
+ghost use Rattle.fblrun.specs.Orders.{EndsAfter, Obeys};
+ghost use Rattle.fbl_draw.specs.Drawing.{ReadsAndDraws};
+ghost use Rattle.fbl_dump.specs.Auditing.{ReadsAndAudits};
+ghost use Rattle.fbl_play.specs.Runs.{ReadsAndPlays};
 ghost use Rattle.fblrun.specs.Statuses.{status_after as status_after_result, status_of as status_of_fault};
 
 mod command_line;
+mod telling;
 
 use clap::error::ErrorKind;
 use command_line::order_of;
-use fbl_draw::draw;
-use fbl_dump::audit;
-use fbl_input::RunFault;
-use fbl_play::play;
+use fbl_draw::draw_bytes;
+use fbl_dump::audit_bytes;
+use fbl_explain::InputKind;
+use fbl_input::{RunFault, read_input};
+use fbl_play::play_observed;
 use std::alloc::Global;
 use std::io::{Read, Write};
 use std::process::ExitCode;
 use std::sync::Wait;
 use std::thread::Threads;
 use std::{env, io};
+use telling::{Teller, end};
 
 /// Everything was done.
 const DONE: u8 = 0;
@@ -32,15 +38,23 @@ const CHANNEL_FAULT: u8 = 3;
 /// Memory is wanting.
 const MEMORY_FAULT: u8 = 4;
 
-/// What the command line asks for.
+/// What is to be done with the input.
 #[derive(Clone, Copy, PartialEq, Eq, Debug)]
-enum Order {
+enum Task {
     /// Play a script, with this many workers.
     Play(u8),
     /// Audit a dump.
     Audit,
     /// Draw a dump.
     Draw,
+}
+
+/// What the command line asks for.
+#[derive(Clone, Copy, PartialEq, Eq, Debug)]
+struct Order {
+    task: Task,
+    /// Whether explanations are told on standard error. What is written and the exit status are the same with them.
+    explain: bool,
 }
 
 /// The exit status of a fault.
@@ -54,24 +68,29 @@ fn status_of(fault: &RunFault) -> u8
     }
 }
 
-/// Prints why the command line gives no order, or the help that it asks for, and answers the exit status.
+/// Prints why the command line gives no order, or the help or version that it asks for, and answers the exit status.
 fn refuse<R: Print + Eprint>(rt: &R, error: clap::Error) -> u8 {
     if error.kind() == ErrorKind::OutOfMemory {
         return status_after(rt, Err(RunFault::Memory));
     }
     let printed = error.print(rt);
     match error.kind() {
-        ErrorKind::DisplayHelp => { if printed.is_ok() { DONE } else { CHANNEL_FAULT } }
+        ErrorKind::DisplayHelp | ErrorKind::DisplayVersion => {
+            if printed.is_ok() { DONE } else { CHANNEL_FAULT }
+        }
         _ => INPUT_FAULT,
     }
 }
 
-/// The exit status where the words of the process can't be had. Want of memory is printed; other words than UTF-8 are a
-/// fault of the command line.
+/// Prints why the words of the process can't be had, and answers the exit status: memory is wanting, or they are not
+/// UTF-8, which is a fault of the command line.
 fn refuse_words<R: Eprint>(rt: &R, kind: io::ErrorKind) -> u8 {
     match kind {
         io::ErrorKind::OutOfMemory => status_after(rt, Err(RunFault::Memory)),
-        _ => INPUT_FAULT,
+        _ => {
+            let _ = eprintln!(rt; "error: a word of the command line is not UTF-8");
+            INPUT_FAULT
+        }
     }
 }
 
@@ -104,6 +123,70 @@ fn status_after<R: Eprint>(rt: &R, done: Result<(), RunFault>) -> u8
     }
 }
 
+/// Plays the script that the reader has, and answers the exit status.
+fn play_input<T: Eprint + Threads + Wait + Sync, R: Read, W: Write>(
+    rt: &T,
+    alloc: Global,
+    workers: u8,
+    explain: bool,
+    reader: &mut R,
+    writer: &mut W,
+) -> u8
+    requires some { 1 ≤ workers }
+    requires few { workers ≤ 8 }
+    ensures { IfSome (R.remaining reader.old) (λ input. EndsAfter (ReadsAndPlays workers input (W.contents writer.old) (W.contents writer.new)) result) }
+{
+    match read_input(alloc, reader) {
+        Ok(input) => {
+            let input = input.as_slice();
+            let mut teller = Teller::new(rt, explain);
+            let done = play_observed(rt, alloc, input, writer, workers, &mut teller);
+            end(rt, alloc, explain, InputKind::Script, input, done)
+        }
+        Err(fault) => end(rt, alloc, explain, InputKind::Script, &[], Err(fault)),
+    }
+}
+
+/// Audits the dump that the reader has, and answers the exit status.
+fn audit_input<T: Eprint, R: Read, W: Write>(
+    rt: &T,
+    alloc: Global,
+    explain: bool,
+    reader: &mut R,
+    writer: &mut W,
+) -> u8
+    ensures { IfSome (R.remaining reader.old) (λ input. EndsAfter (ReadsAndAudits input (W.contents writer.old) (W.contents writer.new)) result) }
+{
+    match read_input(alloc, reader) {
+        Ok(input) => {
+            let input = input.as_slice();
+            let done = audit_bytes(alloc, input, writer);
+            end(rt, alloc, explain, InputKind::Dump, input, done)
+        }
+        Err(fault) => end(rt, alloc, explain, InputKind::Dump, &[], Err(fault)),
+    }
+}
+
+/// Draws the dump that the reader has, and answers the exit status.
+fn draw_input<T: Eprint, R: Read, W: Write>(
+    rt: &T,
+    alloc: Global,
+    explain: bool,
+    reader: &mut R,
+    writer: &mut W,
+) -> u8
+    ensures { IfSome (R.remaining reader.old) (λ input. EndsAfter (ReadsAndDraws input (W.contents writer.old) (W.contents writer.new)) result) }
+{
+    match read_input(alloc, reader) {
+        Ok(input) => {
+            let input = input.as_slice();
+            let done = draw_bytes(alloc, input, writer);
+            end(rt, alloc, explain, InputKind::Dump, input, done)
+        }
+        Err(fault) => end(rt, alloc, explain, InputKind::Dump, &[], Err(fault)),
+    }
+}
+
 /// Obeys the order over what the reader has, and answers the exit status. It is 2, and nothing is read, where a play is
 /// asked for with another number of workers than 1 to 8, which the command line does not give.
 fn obey<T: Eprint + Threads + Wait + Sync, R: Read, W: Write>(
@@ -115,13 +198,14 @@ fn obey<T: Eprint + Threads + Wait + Sync, R: Read, W: Write>(
 ) -> u8
     ensures { IfSome (R.remaining reader.old) (λ input. Obeys order input (W.contents writer.old) (W.contents writer.new) result) }
 {
-    match order {
-        Order::Play(workers) => match workers {
-            1..=8 => status_after(rt, play(rt, alloc, reader, writer, workers)),
+    let explain = order.explain;
+    match order.task {
+        Task::Play(workers) => match workers {
+            1..=8 => play_input(rt, alloc, workers, explain, reader, writer),
             _ => INPUT_FAULT,
         },
-        Order::Audit => status_after(rt, audit(alloc, reader, writer)),
-        Order::Draw => status_after(rt, draw(alloc, reader, writer)),
+        Task::Audit => audit_input(rt, alloc, explain, reader, writer),
+        Task::Draw => draw_input(rt, alloc, explain, reader, writer),
     }
 }
 

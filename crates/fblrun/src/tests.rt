@@ -1,9 +1,12 @@
 //! Command lines with the orders that they give, or with the exit statuses and what is printed.
 
 use crate::command_line::order_of;
-use crate::{Order, obey, refuse, refuse_words, status_after};
+use crate::telling::{Teller, end};
+use crate::{Order, Task, obey, refuse, refuse_words, status_after};
 use fbl_base::{ConfigRefusal, DumpRefusal};
+use fbl_explain::InputKind;
 use fbl_input::{Key, RunFault};
+use fbl_play::play_observed;
 use std::alloc::{AllocError, Global};
 use std::cell::RefCell;
 use std::fmt::Display;
@@ -87,13 +90,16 @@ fn words_of(alloc: Global, line: &str) -> Result<Vec<String>, AllocError> {
     Ok(words)
 }
 
-/// Command lines that ask for a play, and their workers.
-const PLAYS: [(&str, u8); 5] = [
-    ("play", 2),
-    ("play --workers 1", 1),
-    ("play --workers 8", 8),
-    ("play --workers=3", 3),
-    ("play --workers 007", 7),
+/// Command lines that ask for a play, their workers, and whether they ask for explanations.
+const PLAYS: [(&str, u8, bool); 8] = [
+    ("play", 2, false),
+    ("play --workers 1", 1, false),
+    ("play --workers 8", 8, false),
+    ("play --workers=3", 3, false),
+    ("play --workers 007", 7, false),
+    ("play --explain", 2, true),
+    ("play --workers 8 --explain", 8, true),
+    ("play --explain --workers 1", 1, true),
 ];
 
 /// The order of the command line, if it gives one.
@@ -104,16 +110,31 @@ fn order_in_line(alloc: Global, line: &str) -> Result<Option<Order>, Fail> {
 
 #[test]
 fn plays_with_the_workers_asked_for(rt: HostRuntime) -> Result<(), Fail> {
-    for (line, asked) in PLAYS {
+    for (line, workers, explain) in PLAYS {
         let order = order_in_line(rt.alloc(), line)?;
-        assert!(rt; order == Some(Order::Play(asked)), "{line}");
+        let task = Task::Play(workers);
+        assert!(rt; order == Some(Order { task, explain }), "{line}");
     }
     Ok(())
 }
 
 #[test]
 fn audits_where_that_is_asked_for(rt: HostRuntime) -> Result<(), Fail> {
-    assert!(rt; order_in_line(rt.alloc(), "audit")? == Some(Order::Audit));
+    for (line, explain) in [("audit", false), ("audit --explain", true)] {
+        let order = order_in_line(rt.alloc(), line)?;
+        let task = Task::Audit;
+        assert!(rt; order == Some(Order { task, explain }), "{line}");
+    }
+    Ok(())
+}
+
+#[test]
+fn draws_where_that_is_asked_for(rt: HostRuntime) -> Result<(), Fail> {
+    for (line, explain) in [("draw", false), ("draw --explain", true)] {
+        let order = order_in_line(rt.alloc(), line)?;
+        let task = Task::Draw;
+        assert!(rt; order == Some(Order { task, explain }), "{line}");
+    }
     Ok(())
 }
 
@@ -172,7 +193,10 @@ fn plays_with_no_other_number_of_workers(rt: HostRuntime) {
     for workers in [0, 9, 255] {
         let mut reader = SCRIPT.as_bytes();
         let mut writer = Vec::new(rt.alloc());
-        let order = Order::Play(workers);
+        let order = Order {
+            task: Task::Play(workers),
+            explain: true,
+        };
         let status = obey(&rt, rt.alloc(), order, &mut reader, &mut writer);
         assert!(rt; status == 2 && writer.is_empty(), "at {workers}");
     }
@@ -225,7 +249,7 @@ fn told_after(alloc: Global, done: Result<(), RunFault>) -> Told {
 }
 
 /// Command lines that give no order, and a part of what is said of each.
-const MISTAKES: [(&str, &str); 14] = [
+const MISTAKES: [(&str, &str); 16] = [
     ("", "requires a subcommand"),
     ("fly", "unrecognized subcommand 'fly'"),
     ("Play", "unrecognized subcommand 'Play'"),
@@ -243,6 +267,8 @@ const MISTAKES: [(&str, &str); 14] = [
     ),
     ("play twice", "unexpected argument 'twice'"),
     ("audit --workers 2", "unexpected argument '--workers'"),
+    ("play --explain=1", "unexpected value '1'"),
+    ("--explain audit", "unexpected argument '--explain'"),
 ];
 
 #[test]
@@ -254,8 +280,8 @@ fn refuses_another_command_line(rt: HostRuntime) -> Result<(), Fail> {
     Ok(())
 }
 
-/// Command lines that ask for help, and a part of what is printed.
-const HELPS: [(&str, &str); 8] = [
+/// Command lines that ask for help or the version, and a part of what is printed.
+const HELPS: [(&str, &str); 13] = [
     ("--help", "Usage: fblrun"),
     (
         "--help",
@@ -265,8 +291,13 @@ const HELPS: [(&str, &str); 8] = [
     ("help", "prints each command's lines on standard output"),
     (
         "play --help",
-        "How many workers make a run, 1 to 8 [default: 2]",
+        "--workers <N>  How many workers make a run, 1 to 8 [default: 2]",
     ),
+    ("play --help", "--explain"),
+    ("audit --help", "--explain"),
+    ("draw --help", "--explain"),
+    ("--version", "fblrun 1.0.0\n"),
+    ("-V", "fblrun 1.0.0\n"),
     ("play --help", r#""commands":[["deliver",1,0],["#),
     ("help audit", "prints which receipts are lost"),
     (
@@ -286,7 +317,14 @@ fn prints_help_on_the_standard_output(rt: HostRuntime) -> Result<(), Fail> {
 
 #[test]
 fn fails_where_help_cannot_be_printed(rt: HostRuntime) -> Result<(), Fail> {
-    for line in ["--help", "-h", "help", "play --help", "help audit"] {
+    for line in [
+        "--help",
+        "-h",
+        "help",
+        "play --help",
+        "help audit",
+        "--version",
+    ] {
         let told = told_of_line(rt.alloc(), line, true)?;
         assert!(rt; told.has(3, "", ""), "{line}");
     }
@@ -351,9 +389,96 @@ fn tells_want_of_memory_for_the_words(rt: HostRuntime) {
 }
 
 #[test]
-fn refuses_other_words_without_a_line(rt: HostRuntime) {
+fn refuses_other_words(rt: HostRuntime) {
     let console = Console::new(rt.alloc(), false);
     let status = refuse_words(&console, io::ErrorKind::InvalidData);
     let told = Told::of(console, status);
-    assert!(rt; told.has(2, "", ""));
+    assert!(rt; told.has(2, "", "error: a word of the command line is not UTF-8\n"));
+}
+
+/// A script whose commands are refused for each reason that a script can meet, but for a trace that is full.
+const REFUSED: &str =
+    r#"{"version":2,"members":3,"f":1,"behaviour":"mix","start":[[0,2,4,0],[1,2,7,0]],"commands":[["deliver",2,1],["deliver",1,2],["strike",[0,1]],["deliver",2,9],["recover"],["dump",[9]],["strike",[]],["strike",[1]],["checkpoint",0],["recover"],["run",[[2,[1]],[9,[0]],[1,[2]]]],["run",[[1,[1]],[3,[0]],[9,[2]]]],["states"]]}"#;
+
+const REFUSED_TOLD: &str = "\
+command 0: deliver 2 1
+command 1: deliver 1 2
+command 1, deliver 1 2: nothing is in flight from 2 to 1
+command 2: strike [0,1]
+command 2, strike [0,1]: 2 members would be down, [0,1], and f is 1
+command 3: deliver 2 9
+command 3, deliver 2 9: it names [2,9], and the members are 0 to 2
+command 4: recover
+command 4, recover: nobody is down
+command 5: dump [9]
+command 5, dump [9]: it names [9], and the members are 0 to 2
+command 6: strike []
+command 6, strike []: it names nobody
+command 7: strike [1]
+command 8: checkpoint 0
+command 8, checkpoint 0: these members are down: [1]
+command 9: recover
+command 10: run [[2,[1]],[9,[0]],[1,[2]]]
+command 10, run [[2,[1]],[9,[0]],[1,[2]]]: entry 2 of the plan comes at 1, and must come after 9
+command 11: run [[1,[1]],[3,[0]],[9,[2]]]
+command 11, run [[1,[1]],[3,[0]],[9,[2]]]: receipts made 1, undone 0; passed before the run: entry 0 at 1; never reached: entry 1 at 3, 2 at 9
+command 12: states
+";
+
+/// A script whose trace has no room.
+const FULL: &str =
+    r#"{"version":1,"members":2,"f":1,"behaviour":"relay","limit":1,"start":[[0,1,5,0]],"commands":[["deliver",1,0]]}"#;
+
+const FULL_TOLD: &str = "\
+command 0: deliver 1 0
+command 0, deliver 1 0: the trace has 1 events of at most 1, and no room for the receipt and what its step sends
+";
+
+/// What is told of a play, with its status, and what it prints.
+fn explained<T: Threads + Wait + Sync>(
+    rt: &T,
+    alloc: Global,
+    script: &str,
+    is_closed: bool,
+) -> Result<(Told, String), Fail> {
+    let console = Console::new(alloc, is_closed);
+    let mut teller = Teller::new(&console, true);
+    let mut writer = Vec::new(alloc);
+    let input = script.as_bytes();
+    let done = play_observed(rt, alloc, input, &mut writer, 2, &mut teller);
+    let status = end(&console, alloc, true, InputKind::Script, input, done);
+    Ok((Told::of(console, status), String::from_utf8(writer)?))
+}
+
+#[test]
+fn tells_of_each_command(rt: HostRuntime) -> Result<(), Fail> {
+    for (script, told) in [(REFUSED, REFUSED_TOLD), (FULL, FULL_TOLD)] {
+        let (found, _) = explained(&rt, rt.alloc(), script, false)?;
+        assert!(rt;
+            found.status == 0 && found.err.as_str() == told,
+            "{}",
+            found.err
+        );
+    }
+    Ok(())
+}
+
+#[test]
+fn tells_of_a_fault_behind_its_line(rt: HostRuntime) -> Result<(), Fail> {
+    let (found, text) = explained(&rt, rt.alloc(), "[1]", false)?;
+    let told = "fault: not an object\nthe input is a list, and must be an object\n";
+    assert!(rt; text.is_empty() && found.has(2, "", told), "{}", found.err);
+    Ok(())
+}
+
+#[test]
+fn prints_the_same_where_nothing_can_be_told(rt: HostRuntime) -> Result<(), Fail> {
+    for script in [REFUSED, FULL, SCRIPT, "[1]"] {
+        let (open, text) = explained(&rt, rt.alloc(), script, false)?;
+        let (closed, same) = explained(&rt, rt.alloc(), script, true)?;
+        assert!(rt; open.status == closed.status && text.as_str() == same.as_str());
+    }
+    let (_, text) = explained(&rt, rt.alloc(), SCRIPT, false)?;
+    assert!(rt; text.as_str() == SCRIPT_TEXT);
+    Ok(())
 }

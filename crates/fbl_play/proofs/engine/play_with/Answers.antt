@@ -8,8 +8,8 @@ use Rattle.fbl_play.proofs.engine.play_with.Goals as goal
 pub loop-command-init : goal.loop-command-init
 loop-command-init g c = play_none g.B.Behaviour.next c.args.workers c.args.config c.in_ok-group.group c.args.commands.now _ c.in_ok-group.ensures c.trace-trace.ensures.sound
 
-pub returns-in_err-text : goal.returns-in_err-text
-returns-in_err-text g c = play_short g.B.Behaviour.next c.args.workers c.args.config c.loop-command.group c.args.commands.now c.loop-command.command-index _ _ c.from_residual-in_err-text.result c.from_residual-in_err-text.ensures.1 c.loop-command-test.true c.loop-command.invariant
+pub returns-in_err-answer : goal.returns-in_err-answer
+returns-in_err-answer g c = play_short g.B.Behaviour.next c.args.workers c.args.config c.loop-command.group c.args.commands.now c.loop-command.command-index _ _ c.from_residual-in_err-answer.result c.from_residual-in_err-answer.ensures.1 c.loop-command-test.true c.loop-command.invariant
 
 pub returns-in_err-put : goal.returns-in_err-put
 returns-in_err-put g c =
@@ -18,7 +18,7 @@ returns-in_err-put g c =
     let d = c.command-item.result in
     let new = c.run_command-after.result.0 in
     let front = c.in_err-put.ensures.front in
-    let step = IfOk-at_ok (λ text. Step g.B.Behaviour.next c.args.workers c.loop-command.group d new (string_bytes text)) c.in_ok-text.was c.run_command-after.ensures in
+    let step = IfOk-at_ok (λ answer. Step g.B.Behaviour.next c.args.workers c.loop-command.group d new (string_bytes answer.text)) c.in_ok-answer.was c.run_command-after.ensures in
     let P : List ℕ → Type 0 = λ w. Appends (g.W.Write.contents c.loop-command.writer) (g.W.Write.contents c.put.new.writer) (take front.0 w) in
     play_cut g.B.Behaviour.next c.args.workers c.args.config cs _ _ c.in_err-put.field-0.0 c.from_residual-in_err-put.result c.from_residual-in_err-put.ensures.1 c.in_err-put.ensures.fault
     (play_front g.B.Behaviour.next c.args.workers c.args.config c.loop-command.group new cs i d _ _ _ _ front.0 c.loop-command-test.true c.loop-command.invariant c.command-item.is step c.trace-trace-in-loop-command.ensures.sound (rw (← c.as_bytes.ensures.value) front.1) (subst P c.as_bytes.ensures.value front.2))
@@ -29,7 +29,7 @@ loop-command-preserved g c =
     let i = c.loop-command.command-index in
     let d = c.command-item.result in
     let new = c.run_command-after.result.0 in
-    let step = IfOk-at_ok (λ text. Step g.B.Behaviour.next c.args.workers c.loop-command.group d new (string_bytes text)) c.in_ok-text.was c.run_command-after.ensures in
+    let step = IfOk-at_ok (λ answer. Step g.B.Behaviour.next c.args.workers c.loop-command.group d new (string_bytes answer.text)) c.in_ok-answer.was c.run_command-after.ensures in
     let P : List ℕ → Type 0 = λ w. Appends (g.W.Write.contents c.loop-command.writer) (g.W.Write.contents c.put.new.writer) w in
     play_more g.B.Behaviour.next c.args.workers c.args.config c.loop-command.group new cs i d _ _ _ _ c.loop-command-test.true c.loop-command.invariant c.command-item.is step c.trace-trace-in-loop-command.ensures.sound (subst P c.as_bytes.ensures.value c.in_ok-put.ensures.whole)
 

@@ -1,5 +1,5 @@
-use Rattle.std.proofs.Common.{◌≡◌, false, true, map, refl, string_bytes}
-use Rattle.fblrun.proofs.Lines.{audit_is, draw_is, play_is, refused, taken}
+use Rattle.std.proofs.Common.{map, string_bytes}
+use Rattle.fblrun.proofs.Lines.{none_is, order_is, refused, taken}
 use Rattle.fblrun.proofs.command_line.order_of.Goals as goal
 
 pub returns-in_err-matches-clause-refused : goal.returns-in_err-matches-clause-refused
@@ -8,12 +8,8 @@ returns-in_err-matches-clause-refused c =
 
 pub returns-in-Some-clause-given : goal.returns-in-Some-clause-given
 returns-in-Some-clause-given c =
-    play_is _ _ c.in_ok-matches.matches c.in_ok-command.ensures c.in_ok-matches.ensures.matches _ c.workers_in.result (c.in-Some.ensures.found.0 refl) c.in-Some.ensures.rows c.workers_in.ensures
-
-pub returns-in-Some-subcommand_matches-clause-given : goal.returns-in-Some-subcommand_matches-clause-given
-returns-in-Some-subcommand_matches-clause-given c = draw_is _ _ c.in_ok-matches.matches c.in_ok-command.ensures c.in_ok-matches.ensures.matches (c.in-Some-subcommand_matches.ensures.found.0 refl)
+    order_is _ _ c.in_ok-matches.matches c.in_ok-command.ensures c.in_ok-matches.ensures.matches _ _ _ c.in-Some.ensures.name c.in-Some.ensures.rows c.order_at.ensures
 
 pub returns-clause-given : goal.returns-clause-given
 returns-clause-given c =
-    audit_is _ _ c.in_ok-matches.matches c.in_ok-command.ensures c.in_ok-matches.ensures.matches (λ name. let bad : false ≡ true = c.in-None.ensures.found.1 name in absurd (cc))
-    (λ name. let bad : false ≡ true = c.in-None-subcommand_matches.ensures.found.1 name in absurd (cc))
+    none_is _ _ c.in_ok-matches.matches c.in_ok-command.ensures c.in_ok-matches.ensures.matches _ c.in-None.ensures.name

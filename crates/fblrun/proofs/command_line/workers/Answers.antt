@@ -7,7 +7,7 @@ use Rattle.fblrun.specs.CommandLines.{workers_rule}
 use Rattle.fblrun.proofs.command_line.workers.Goals as goal
 
 abbrev named_rule : Rule
-named_rule = record (new_rule (codes "workers")) { long = Some (codes "workers"); action = Some Set }
+named_rule = record (new_rule (codes "workers")) { long = Some (codes "workers"); action = Some Set; value_names = 1 }
 
 abbrev parsed_rule : Rule
 parsed_rule = record named_rule { parser = Some (parsers.Signed (pos 1) (pos 8)) }
@@ -18,6 +18,6 @@ returns-clause-rule c =
     let range : c.range.result ≡ parsers.Signed (pos 1) (pos 8) = search (rules, narrowed, c.new-2.ensures) in
     let given = c.value_parser-2.ensures.given in
     let parser : c.value_parser-2.result.value_parser ≡ Some (parsers.Signed (pos 1) (pos 8)) = given.1 ∙ ap Some (given.2 ∙ range) in
-    let named : rule_of c.action.result ≡ named_rule = search rules in
+    let named : rule_of c.value_name.result ≡ named_rule = search rules in
     let parsed : rule_of c.value_parser-2.result ≡ parsed_rule = ap rule_of c.value_parser-2.ensures.others ∙ (λ i. record (named i) { parser = parser i }) in
     ap rule_of c.help.ensures ∙ (ap rule_of c.default_value.ensures ∙ (λ i. record (parsed i) { defaults = codes "2" ∷ [] }))

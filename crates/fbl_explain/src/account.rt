@@ -1,0 +1,90 @@
+//! What a command did beside what its lines say.
+
+use crate::reason::Reason;
+use crate::words::Words;
+use fbl_base::Strike;
+use fbl_script::Command;
+use std::fmt;
+
+/// What a command did beside what its lines say.
+#[derive(Clone, Copy, PartialEq, Eq, Debug)]
+pub enum Account {
+    /// Nothing more.
+    Done,
+    /// It was refused.
+    Refused(Reason),
+    /// Workers ran.
+    Ran(RunCounts),
+}
+
+/// How many receipts a group had made before and after a run, and how many of them were undone.
+#[derive(Clone, Copy, PartialEq, Eq, Debug)]
+pub struct RunCounts {
+    /// How many were ever made before the run.
+    pub ever_before: u64,
+    /// How many were ever made after it.
+    pub ever_after: u64,
+    /// How many were ever undone before the run.
+    pub undone_before: u64,
+    /// How many were ever undone after it.
+    pub undone_after: u64,
+}
+
+/// Writes the entries of the plan whose counts are above the one and not above the other.
+fn write_entries<W: fmt::Write>(
+    f: &mut fmt::Formatter<W>,
+    plan: &[Strike],
+    head: &str,
+    above: u64,
+    up_to: u64,
+) -> fmt::Result {
+    let mut before = head;
+    for (place, strike) in plan.iter().enumerate() {
+        let at = strike.at;
+        if above < at && at <= up_to {
+            write!(f, "{before} {place} at {at}")?;
+            before = ",";
+        }
+    }
+    Ok(())
+}
+
+impl RunCounts {
+    /// Writes how many receipts were made and undone, and which entries of the plan struck nobody.
+    fn write<W: fmt::Write>(&self, f: &mut fmt::Formatter<W>, plan: &[Strike]) -> fmt::Result {
+        let made = self.ever_after.saturating_sub(self.ever_before);
+        let undone = self.undone_after.saturating_sub(self.undone_before);
+        write!(f, "receipts made {made}, undone {undone}")?;
+        write_entries(
+            f,
+            plan,
+            "; passed before the run: entry",
+            0,
+            self.ever_before,
+        )?;
+        write_entries(f, plan, "; never reached: entry", self.ever_after, u64::MAX)
+    }
+}
+
+/// A command's place and words with its account, as in `command 7, deliver 1 2: nothing is in flight from 2 to 1`.
+#[derive(Clone, Copy)]
+pub struct AccountOf<'a> {
+    /// The command's place in its script.
+    pub place: usize,
+    pub command: &'a Command,
+    pub account: &'a Account,
+}
+
+impl fmt::Display for AccountOf<'_> {
+    fn fmt<W: fmt::Write>(&self, f: &mut fmt::Formatter<W>) -> fmt::Result {
+        let place = self.place;
+        let words = Words(self.command);
+        write!(f, "command {place}, {words}: ")?;
+        match (self.account, self.command) {
+            (Account::Done, _) => f.write_str("done"),
+            (Account::Refused(reason), _) => write!(f, "{reason}"),
+            (Account::Ran(counts), Command::Run(plan)) => counts.write(f, plan.strikes()),
+            (Account::Ran(counts), _) => counts.write(f, &[]),
+        }
+    }
+}

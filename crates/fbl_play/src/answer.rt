@@ -1,0 +1,48 @@
+//! What running a command answers.
+
+ghost use Rattle.std.specs.Prelude.{◌≡◌, IfOk, Ok};
+
+use fbl_explain::{Account, Reason};
+use std::alloc::AllocError;
+
+/// The lines that a command prints, and what it did beside what they say.
+#[derive(Drop)]
+pub(crate) struct Answer {
+    pub(crate) text: String,
+    pub(crate) account: Account,
+}
+
+impl Answer {
+    /// The lines say all.
+    pub(crate) fn done(text: String) -> Answer
+        ensures { result.text ≡ text }
+    {
+        Answer {
+            text,
+            account: Account::Done,
+        }
+    }
+
+    /// The command is refused for a reason.
+    pub(crate) fn refused(text: String, reason: Reason) -> Answer
+        ensures { result.text ≡ text }
+    {
+        Answer {
+            text,
+            account: Account::Refused(reason),
+        }
+    }
+}
+
+/// The text, if there is one, with the account.
+pub(crate) fn answer_with(
+    text: Result<String, AllocError>,
+    account: Account,
+) -> Result<Answer, AllocError>
+    ensures { IfOk result (λ answer. text ≡ Ok answer.text) }
+{
+    match text {
+        Ok(text) => Ok(Answer { text, account }),
+        Err(e) => Err(e),
+    }
+}
