@@ -1,11 +1,13 @@
-//! Tests of the texts and the engines: the printed lines, the faults of scripts and dumps, audits and plays over readers
-//! and writers that stumble. They stand apart from the crates that they test, so that these are proved once.
+//! Tests of the texts and the engines: the printed lines, the faults of scripts and dumps, audits, pictures and plays
+//! over readers and writers that stumble. They stand apart from the crates that they test, so that these are proved once.
 #![tactic(auto)]
 
 #[cfg(test)]
 mod checkpoints;
 #[cfg(test)]
 mod dumps;
+#[cfg(test)]
+mod pictures;
 #[cfg(test)]
 mod plays;
 #[cfg(test)]

@@ -117,6 +117,12 @@ fn audits_where_that_is_asked_for(rt: HostRuntime) -> Result<(), Fail> {
     Ok(())
 }
 
+#[test]
+fn draws_where_that_is_asked_for(rt: HostRuntime) -> Result<(), Fail> {
+    assert!(rt; order_in_line(rt.alloc(), "draw")? == Some(Order::Draw));
+    Ok(())
+}
+
 /// A script whose lines are the same with each number of workers.
 const SCRIPT: &str =
     r#"{"version":1,"members":4,"f":2,"behaviour":"relay","start":[[0,1,5,6],[2,3,7,3],[3,0,11,0]],"commands":[["run",[[2,[1]],[5,[0,3]],[9,[2]]]],["states"]]}"#;
@@ -163,6 +169,16 @@ fn audits_where_an_audit_is_asked_for(rt: HostRuntime) -> Result<(), Fail> {
     let (status, text) = obeyed(&rt, rt.alloc(), "audit", DUMP)?;
     assert!(rt; status == 0 && text.as_str() == DUMP_TEXT, "{text}");
     let (status, text) = obeyed(&rt, rt.alloc(), "audit", SCRIPT)?;
+    assert!(rt; status == 2 && text.is_empty());
+    Ok(())
+}
+
+#[test]
+fn draws_where_a_drawing_is_asked_for(rt: HostRuntime) -> Result<(), Fail> {
+    let (status, text) = obeyed(&rt, rt.alloc(), "draw", DUMP)?;
+    assert!(rt; status == 0 && text.as_str().starts_with("<svg "), "{text}");
+    assert!(rt; text.as_str().contains("lost 1, orphans 0,2"), "{text}");
+    let (status, text) = obeyed(&rt, rt.alloc(), "draw", SCRIPT)?;
     assert!(rt; status == 2 && text.is_empty());
     Ok(())
 }
@@ -225,7 +241,7 @@ fn told_after(alloc: Global, done: Result<(), RunFault>) -> Told {
 }
 
 /// Command lines that give no order, and a part of what is said of each.
-const MISTAKES: [(&str, &str); 14] = [
+const MISTAKES: [(&str, &str); 15] = [
     ("", "requires a subcommand"),
     ("fly", "unrecognized subcommand 'fly'"),
     ("Play", "unrecognized subcommand 'Play'"),
@@ -243,6 +259,7 @@ const MISTAKES: [(&str, &str); 14] = [
     ),
     ("play twice", "unexpected argument 'twice'"),
     ("audit --workers 2", "unexpected argument '--workers'"),
+    ("draw dump.json", "unexpected argument 'dump.json'"),
 ];
 
 #[test]
@@ -255,11 +272,11 @@ fn refuses_another_command_line(rt: HostRuntime) -> Result<(), Fail> {
 }
 
 /// Command lines that ask for help, and a part of what is printed.
-const HELPS: [(&str, &str); 8] = [
+const HELPS: [(&str, &str); 10] = [
     ("--help", "Usage: fblrun"),
     (
         "--help",
-        "plays scripts of a group, and audits recorded traces",
+        "plays scripts of a group, and audits and draws recorded traces",
     ),
     ("-h", "Exit statuses: 0 done; 2 a fault of the command line"),
     ("help", "prints each command's lines on standard output"),
@@ -273,6 +290,8 @@ const HELPS: [(&str, &str); 8] = [
         "audit --help",
         r#"the command ["dump",[1]] of a script prints"#,
     ),
+    ("help draw", "writes its picture, as SVG, on standard output"),
+    ("draw --help", "| fblrun draw > dump.svg"),
 ];
 
 #[test]
