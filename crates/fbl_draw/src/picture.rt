@@ -22,8 +22,8 @@ text{fill:#222}
 .struck{stroke-dasharray:6 5}
 .orphan{stroke:#d55e00;stroke-width:4}
 .message{stroke:#999;stroke-width:1.2;marker-end:url(#tip)}
-.in-flight{stroke-dasharray:3 3}
-#tip{fill:#999}
+.in-flight{stroke-dasharray:3 3;marker-end:url(#air)}
+#tip,#air{fill:#999}
 #send{fill:#fff;stroke:#444;stroke-width:1.5}
 #stable{fill:#0072b2}
 #recorded{fill:#fff;stroke:#0072b2;stroke-width:3}
@@ -32,6 +32,7 @@ text{fill:#222}
 </style>
 <defs>
 <marker id='tip' viewBox='0 0 8 8' refX='15' refY='4' markerWidth='8' markerHeight='8' orient='auto'><path d='M0 0L8 4L0 8Z'/></marker>
+<marker id='air' viewBox='0 0 8 8' refX='7' refY='4' markerWidth='8' markerHeight='8' orient='auto'><path d='M0 0L8 4L0 8Z'/></marker>
 <circle id='send' r='5'/>
 <rect id='stable' x='-7' y='-7' width='14' height='14'/>
 <path id='recorded' d='M-8 0L0 -8L8 0L0 8Z'/>

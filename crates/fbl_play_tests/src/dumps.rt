@@ -25,14 +25,14 @@ const EVENTS: &str =
 const HELD: &str = "[0,1,1,2,1],[0,2,1,0,1],[1,0,1,1,1],[2,0,1,1,1],[2,1,1,2,1]";
 
 /// A message that went once round three members, with its determinants where a run leaves them.
-const LINE: &str =
+pub(crate) const LINE: &str =
     r#"{"events":[["send",0,1,1],["receipt",1,1,0,1],["send",1,1,2],["receipt",2,1,1,1],["send",2,1,0],["receipt",0,1,2,1]],"f":1,"held":[[0,1,1,2,1],[0,2,1,0,1],[1,0,1,1,1],[2,0,1,1,1],[2,1,1,2,1]],"members":3,"strike":[1]}"#;
 
 /// The line without one of its pairs, which leaves a receipt lost.
-const LOST: &str =
+pub(crate) const LOST: &str =
     r#"{"events":[["send",0,1,1],["receipt",1,1,0,1],["send",1,1,2],["receipt",2,1,1,1],["send",2,1,0],["receipt",0,1,2,1]],"f":1,"held":[[0,1,1,2,1],[0,2,1,0,1],[1,0,1,1,1],[2,1,1,2,1]],"members":3,"strike":[1]}"#;
 
-const LOST_TEXT: &str = "lost 1\ndeterminant 0 1 1 1\norphans 0,2\n";
+pub(crate) const LOST_TEXT: &str = "lost 1\ndeterminant 0 1 1 1\norphans 0,2\n";
 
 /// The dump with these parts.
 fn dump(
@@ -49,7 +49,7 @@ fn dump(
 }
 
 /// What the audit writes, or its fault's text.
-fn audited(alloc: Global, input: &[u8]) -> Result<String, Fail> {
+pub(crate) fn audited(alloc: Global, input: &[u8]) -> Result<String, Fail> {
     let mut reader = input;
     let mut held = Vec::new(alloc);
     match audit(alloc, &mut reader, &mut held) {
@@ -288,7 +288,7 @@ fn refuses_a_reader_that_never_ends(rt: HostRuntime) {
 fn writes_all_or_ends_with_memory(rt: HostRuntime) {
     let mut reader = LOST.as_bytes();
     let mut page = Page {
-        held: [0; 2048],
+        held: [0; 4096],
         len: 0,
     };
     let done = audit(rt.alloc(), &mut reader, &mut page);

@@ -1,5 +1,6 @@
-//! Tests of the texts and the engines: the printed lines, the faults of scripts and dumps and their words, audits and plays over readers
-//! and writers that stumble. They stand apart from the crates that they test, so that these are proved once.
+//! Tests of the texts and the engines: the printed lines, the faults of scripts and dumps and their words, audits, pictures
+//! and plays over readers and writers that stumble. They stand apart from the crates that they test, so that these are
+//! proved once.
 #![tactic(auto)]
 
 #[cfg(test)]
@@ -8,6 +9,8 @@ mod checkpoints;
 mod dumps;
 #[cfg(test)]
 mod explanations;
+#[cfg(test)]
+mod pictures;
 #[cfg(test)]
 mod plays;
 #[cfg(test)]

@@ -269,7 +269,7 @@ fn ends_with_memory_where_it_is_refused(rt: HostRuntime) {
     let (script, text) = TWO_STRIKES;
     let mut input = script.as_bytes();
     let mut page = Page {
-        held: [0; 2048],
+        held: [0; 4096],
         len: 0,
     };
     let done = play(&rt, rt.alloc(), &mut input, &mut page, 2);

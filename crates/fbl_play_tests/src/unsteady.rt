@@ -69,18 +69,18 @@ impl Write for UnsteadyWriter {
     }
 }
 
-/// A writer that takes no memory, and at most 2048 bytes.
+/// A writer that takes no memory, and at most 4096 bytes.
 #[derive(Drop)]
 pub(crate) struct Page {
-    pub held: [u8; 2048],
+    pub held: [u8; 4096],
     pub len: usize,
-    ghost within: { len ≤ 2048 },
+    ghost within: { len ≤ 4096 },
 }
 
 impl Write for Page {
     fn write(&mut self, buf: &[u8]) -> io::Result<usize> {
         let start = self.len;
-        let n = buf.len().min(2048 - start);
+        let n = buf.len().min(4096 - start);
         self.held[start..start + n].copy_from_slice(&buf[..n]);
         self.len = start + n;
         Ok(n)

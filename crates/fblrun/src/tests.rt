@@ -138,6 +138,12 @@ fn draws_where_that_is_asked_for(rt: HostRuntime) -> Result<(), Fail> {
     Ok(())
 }
 
+#[test]
+fn draws_where_that_is_asked_for(rt: HostRuntime) -> Result<(), Fail> {
+    assert!(rt; order_in_line(rt.alloc(), "draw")? == Some(Order::Draw));
+    Ok(())
+}
+
 /// A script whose lines are the same with each number of workers.
 const SCRIPT: &str =
     r#"{"version":1,"members":4,"f":2,"behaviour":"relay","start":[[0,1,5,6],[2,3,7,3],[3,0,11,0]],"commands":[["run",[[2,[1]],[5,[0,3]],[9,[2]]]],["states"]]}"#;
@@ -184,6 +190,16 @@ fn audits_where_an_audit_is_asked_for(rt: HostRuntime) -> Result<(), Fail> {
     let (status, text) = obeyed(&rt, rt.alloc(), "audit", DUMP)?;
     assert!(rt; status == 0 && text.as_str() == DUMP_TEXT, "{text}");
     let (status, text) = obeyed(&rt, rt.alloc(), "audit", SCRIPT)?;
+    assert!(rt; status == 2 && text.is_empty());
+    Ok(())
+}
+
+#[test]
+fn draws_where_a_drawing_is_asked_for(rt: HostRuntime) -> Result<(), Fail> {
+    let (status, text) = obeyed(&rt, rt.alloc(), "draw", DUMP)?;
+    assert!(rt; status == 0 && text.as_str().starts_with("<svg "), "{text}");
+    assert!(rt; text.as_str().contains("lost 1, orphans 0,2"), "{text}");
+    let (status, text) = obeyed(&rt, rt.alloc(), "draw", SCRIPT)?;
     assert!(rt; status == 2 && text.is_empty());
     Ok(())
 }
@@ -249,7 +265,7 @@ fn told_after(alloc: Global, done: Result<(), RunFault>) -> Told {
 }
 
 /// Command lines that give no order, and a part of what is said of each.
-const MISTAKES: [(&str, &str); 16] = [
+const MISTAKES: [(&str, &str); 17] = [
     ("", "requires a subcommand"),
     ("fly", "unrecognized subcommand 'fly'"),
     ("Play", "unrecognized subcommand 'Play'"),
@@ -269,6 +285,7 @@ const MISTAKES: [(&str, &str); 16] = [
     ("audit --workers 2", "unexpected argument '--workers'"),
     ("play --explain=1", "unexpected value '1'"),
     ("--explain audit", "unexpected argument '--explain'"),
+    ("draw dump.json", "unexpected argument 'dump.json'"),
 ];
 
 #[test]
@@ -281,11 +298,11 @@ fn refuses_another_command_line(rt: HostRuntime) -> Result<(), Fail> {
 }
 
 /// Command lines that ask for help or the version, and a part of what is printed.
-const HELPS: [(&str, &str); 13] = [
+const HELPS: [(&str, &str); 15] = [
     ("--help", "Usage: fblrun"),
     (
         "--help",
-        "plays scripts of a group, and audits recorded traces",
+        "plays scripts of a group, and audits and draws recorded traces",
     ),
     ("-h", "Exit statuses: 0 done; 2 a fault of the command line"),
     ("help", "prints each command's lines on standard output"),
@@ -304,6 +321,8 @@ const HELPS: [(&str, &str); 13] = [
         "audit --help",
         r#"the command ["dump",[1]] of a script prints"#,
     ),
+    ("help draw", "writes its picture, as SVG, on standard output"),
+    ("draw --help", "| fblrun draw > dump.svg"),
 ];
 
 #[test]
