@@ -6,7 +6,7 @@ use Rattle.std.specs.Ordering.{nat_cmp}
 use Rattle.std.specs.FinSet as set
 use Rattle.fbl_base.specs.declared.trace.Mark.{Mark}
 use Rattle.fbl_base.specs.declared.trace.Mark.TheVariants.{Send, Receipt}
-use Rattle.fbl_base.specs.Audit.{Parts, IsLost, IsOrphan, front_of}
+use Rattle.fbl_base.specs.Audit.{Parts, IsLost, IsOrphan, first_events}
 use Rattle.fbl_base.specs.Events.{member_of}
 use Rattle.fbl_base.specs.MemberSets.{contains-insert_other}
 use Rattle.fbl_base.specs.Reach.{reached_after}
@@ -18,9 +18,9 @@ no_place = None
 
 -- what `IsOrphanStart` says, as far as the first events tell
 abbrev pub StartsBy : Parts → ℕ → ℕ → Option ℕ → Type 0
-StartsBy dump n member None = ¬ (IsOrphan (front_of n dump) member)
+StartsBy dump n member None = ¬ (IsOrphan (first_events n dump) member)
 StartsBy dump n member (Some place) =
-    (place < length dump.events) × ¬ (IsOrphan (front_of place dump) member) × IsOrphan (front_of (place + 1) dump) member
+    (place < length dump.events) × ¬ (IsOrphan (first_events place dump) member) × IsOrphan (first_events (place + 1) dump) member
 
 -- an event reaches no member but its own
 reached_other : (e : Mark) (lost : Bool) (reached : set.FinSet nat_cmp) (clean : List ℕ) (q : ℕ) → q ≢ member_of e → set.contains (reached_after e lost reached clean) q ≡ set.contains reached q
@@ -38,21 +38,21 @@ orphan_other e lost strike reached clean q ne =
 module _ (dump : Parts) (i : ℕ) (reached reached' : set.FinSet nat_cmp) (clean clean' : List ℕ) (before : Tracks (IsLost dump) (take i dump.events) reached clean) (after : Tracks (IsLost dump) (take (i + 1) dump.events) reached' clean') where
   -- a member that the event makes no orphan keeps its start
   pub start_kept : (q : ℕ) (start : Option ℕ) → (set.contains (set.difference reached' dump.strike) q ≡ true → set.contains (set.difference reached dump.strike) q ≡ true) → StartsBy dump i q start → StartsBy dump (i + 1) q start
-  start_kept q None old no_orphan = λ o. no_orphan ((Tracks-orphans (front_of i dump) reached clean before q).0 (old ((Tracks-orphans (front_of (i + 1) dump) reached' clean' after q).1 o)))
+  start_kept q None old no_orphan = λ o. no_orphan ((Tracks-orphans (first_events i dump) reached clean before q).0 (old ((Tracks-orphans (first_events (i + 1) dump) reached' clean' after q).1 o)))
   start_kept q (Some place) old starts = starts
 
   -- one that it makes an orphan starts there
   pub start_new : (q : ℕ) → i < length dump.events → set.contains (set.difference reached dump.strike) q ≡ false → set.contains (set.difference reached' dump.strike) q ≡ true → StartsBy dump (i + 1) q (Some i)
   start_new q within was is = (
     within,
-    λ o. false≢true (sym was ∙ (Tracks-orphans (front_of i dump) reached clean before q).1 o),
-    (Tracks-orphans (front_of (i + 1) dump) reached' clean' after q).0 is,
+    λ o. false≢true (sym was ∙ (Tracks-orphans (first_events i dump) reached clean before q).1 o),
+    (Tracks-orphans (first_events (i + 1) dump) reached' clean' after q).0 is,
   )
 
 -- before the first event there is none
 pub no_start : (dump : Parts) (clean : List ℕ) → Tracks (IsLost dump) [] set.empty clean → (q : ℕ) (start : Option ℕ) → start ≡ None → StartsBy dump 0 q start
 no_start dump clean tracks q start is =
-    let none : ¬ (IsOrphan (front_of 0 dump) q) = λ o. false≢true (sym (set.contains-difference nat_cmp_total set.empty dump.strike q ∙ ap (λ b. b && not (set.contains dump.strike q)) (set.contains-empty nat_cmp q)) ∙ (Tracks-orphans (front_of 0 dump) set.empty clean tracks q).1 o) in
+    let none : ¬ (IsOrphan (first_events 0 dump) q) = λ o. false≢true (sym (set.contains-difference nat_cmp_total set.empty dump.strike q ∙ ap (λ b. b && not (set.contains dump.strike q)) (set.contains-empty nat_cmp q)) ∙ (Tracks-orphans (first_events 0 dump) set.empty clean tracks q).1 o) in
     subst (StartsBy dump 0 q) (sym is) none
 
 pub nones : (n q : ℕ) → get_or (replicate n (no_place)) q None ≡ None

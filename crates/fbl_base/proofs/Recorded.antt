@@ -10,7 +10,7 @@ use Rattle.std.proofs.lemmas.Bool.{false≢true}
 use Rattle.fbl_base.specs.declared.trace.Mark.{Mark}
 use Rattle.fbl_base.specs.declared.trace.Mark.TheVariants.{Send, Receipt}
 use Rattle.fbl_base.specs.Reach.{is_lost_test}
-use Rattle.fbl_base.specs.Audit.{Parts, is_recorded, Recorded, IsLost, IsOrphan}
+use Rattle.fbl_base.specs.Audit.{Parts, is_held_outside, IsHeldOutside, IsLost, IsOrphan}
 use Rattle.fbl_base.specs.Events.{same_determinant}
 use Rattle.fbl_base.proofs.ReachLaws.{Tracks}
 use Rattle.std.specs.Cmp.{nat_cmp_total}
@@ -82,8 +82,8 @@ at_any p (y ∷ ys) (suc k) x within is passes = (let ih = at_any p ys k x (omeg
   or_true true = refl
   or_true false = refl
 
-pub Decides-is_recorded : (dump : Parts) (d : Determinant) → Decides (is_recorded dump d) (Recorded dump d)
-Decides-is_recorded dump d = (
+pub Decides-is_held_outside : (dump : Parts) (d : Determinant) → Decides (is_held_outside dump d) (IsHeldOutside dump d)
+Decides-is_held_outside dump d = (
   λ h.
       let a = any_at (holds_it dump.strike d) dump.held h in
       let b = both_true (not (set.contains dump.strike a.1.0)) (same_determinant a.1.1 d) a.4 in
@@ -97,12 +97,12 @@ Decides-is_recorded dump d = (
     not_true false h = refl
 
 -- what the test of the code says
-pub Decides-is_lost : (dump : Parts) (recorded : List Determinant) → ((d : Determinant) → list_any (same_determinant d) recorded ≡ is_recorded dump d) → (e : Mark) → Decides (is_lost_test same_determinant recorded e) (IsLost dump e)
+pub Decides-is_lost : (dump : Parts) (recorded : List Determinant) → ((d : Determinant) → list_any (same_determinant d) recorded ≡ is_held_outside dump d) → (e : Mark) → Decides (is_lost_test same_determinant recorded e) (IsLost dump e)
 Decides-is_lost dump recorded is (Send from ssn to) = (λ h. cc, λ x. absurd x)
 Decides-is_lost dump recorded is (Receipt to rsn from ssn) =
     let d : Determinant = record { from = from; ssn = ssn; to = to; rsn = rsn } in
-    let decides = Decides-is_recorded dump d in
-    rw (is d) (λ h r. absurd (false≢true (sym (not_true (is_recorded dump d) h) ∙ decides.1 r)), λ lost. true_not (is_recorded dump d) (λ h. lost (decides.0 h)))
+    let decides = Decides-is_held_outside dump d in
+    rw (is d) (λ h r. absurd (false≢true (sym (not_true (is_held_outside dump d) h) ∙ decides.1 r)), λ lost. true_not (is_held_outside dump d) (λ h. lost (decides.0 h)))
   where
     not_true : (b : Bool) → not b ≡ true → b ≡ false
     not_true true h = sym h

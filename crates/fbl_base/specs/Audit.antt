@@ -24,21 +24,21 @@ pub record Parts : Type 0 where
 
 -- a member outside the strike set holds the determinant: some member of Log is left (Alvisi and Marzullo 1998, as lost
 -- receipts and orphans are)
-abbrev pub Recorded : Parts → Determinant → Type 0
-Recorded dump d = (holder : ℕ) × Contains dump.held (holder, d) × (set.contains dump.strike holder ≡ false)
+abbrev pub IsHeldOutside : Parts → Determinant → Type 0
+IsHeldOutside dump d = (holder : ℕ) × Contains dump.held (holder, d) × (set.contains dump.strike holder ≡ false)
 
--- the same as `Recorded`, as a test
-abbrev pub is_recorded : Parts → Determinant → Bool
-is_recorded dump d = list_any (λ h. not (set.contains dump.strike h.0) && same_determinant h.1 d) dump.held
+-- the same as `IsHeldOutside`, as a test
+abbrev pub is_held_outside : Parts → Determinant → Bool
+is_held_outside dump d = list_any (λ h. not (set.contains dump.strike h.0) && same_determinant h.1 d) dump.held
 
 -- the determinants of the lost receipts, in the order of the events
 abbrev pub lost_determinants : Parts → List Determinant
-lost_determinants dump = filter (λ d. not (is_recorded dump d)) (filter_map determinant_of dump.events)
+lost_determinants dump = filter (λ d. not (is_held_outside dump d)) (filter_map determinant_of dump.events)
 
 -- the event is a receipt whose determinant no member outside the strike set holds
 abbrev pub IsLost : Parts → Mark → Type 0
 IsLost dump (Send from ssn to) = ⊥
-IsLost dump (Receipt to rsn from ssn) = ¬ (Recorded dump (record { from = from; ssn = ssn; to = to; rsn = rsn }))
+IsLost dump (Receipt to rsn from ssn) = ¬ (IsHeldOutside dump (record { from = from; ssn = ssn; to = to; rsn = rsn }))
 
 -- the member is outside the strike set and depends on a lost receipt
 abbrev pub IsOrphan : Parts → ℕ → Type 0
@@ -46,21 +46,21 @@ IsOrphan dump member =
     (set.contains dump.strike member ≡ false) × ((e : Mark) × IsLost dump e × Depends dump.events member e)
 
 -- the dump with so many of its events, the first ones
-abbrev pub front_of : ℕ → Parts → Parts
-front_of n dump = record dump { events = take n dump.events }
+abbrev pub first_events : ℕ → Parts → Parts
+first_events n dump = record dump { events = take n dump.events }
 
 -- the member is no orphan; or the place is that of its first event that depends on a lost receipt: by the events before
 -- it the member would be no orphan, and with it the member is one
 abbrev pub IsOrphanStart : Parts → ℕ → Option ℕ → Type 0
 IsOrphanStart dump member None = ¬ (IsOrphan dump member)
 IsOrphanStart dump member (Some place) =
-    (place < length dump.events) × ¬ (IsOrphan (front_of place dump) member) × IsOrphan (front_of (place + 1) dump) member
+    (place < length dump.events) × ¬ (IsOrphan (first_events place dump) member) × IsOrphan (first_events (place + 1) dump) member
 
 -- what a list has for a member, if it has anything
-abbrev pub start_of : List (Option ℕ) → ℕ → Option ℕ
-start_of starts member = slice_index_or starts member None
+abbrev pub orphan_start_in : List (Option ℕ) → ℕ → Option ℕ
+orphan_start_in starts member = slice_index_or starts member None
 
--- the pair at the place has a member of the group and the determinant of a receipt
+-- the pair at the place, if there is one, is among the first 131,072, and has a member of the group and a receipt of the trace
 abbrev pub HeldAt : Parts → ℕ → Type 0
 HeldAt dump i =
     (h : ℕ × Determinant) → slice_get dump.held i ≡ Some h → (i < 131072) × (h.0 < dump.members) × Has dump.events (receipt_of h.1)

@@ -45,8 +45,8 @@ DependsOnPlacesLaw =
 
 -- a delivery keeps a trace lawful: the receipt may come next, what follows it are the sends that the behaviour answers to
 -- the message's note at the receiver's state, numbered on from the receiver's earlier sends, and there is room
-abbrev pub DeliveryLaw : Type 0
-DeliveryLaw =
+abbrev pub LawfulDeliveryLaw : Type 0
+LawfulDeliveryLaw =
     (next : Next) (n : ℕ) (starts : List Start) (t : List Event) (to rsn from ssn : ℕ) (note : Note) (sends : List (ℕ × Note))
     → Lawful next n starts t
     → MayFollow n (map mark_of t) (Receipt to rsn from ssn)

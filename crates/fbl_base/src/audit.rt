@@ -7,7 +7,7 @@
 
 ghost use Rattle.std.specs.Prelude.{◌≡◌, ◌<◌, ◌≤◌, ◌↔◌, ℕ, true, Decides, ◌&&◌, nat_lt, IfOk, IfErr, MatchOption, replicate, length, IsTrue};
 ghost use Rattle.std.specs.FinSet as set;
-ghost use Rattle.fbl_base.specs.Audit.{HeldAt, IsDump, IsFirstBreach, IsLost, IsOrphan, IsOrphanStart, RefusesDump, is_recorded, lost_determinants, start_of};
+ghost use Rattle.fbl_base.specs.Audit.{HeldAt, IsDump, IsFirstBreach, IsLost, IsOrphan, IsOrphanStart, RefusesDump, is_held_outside, lost_determinants, orphan_start_in};
 ghost use Rattle.fbl_base.specs.Events.{same_determinant};
 ghost use Rattle.std.specs.HashSet as hash_set;
 ghost use Rattle.fbl_base.specs.DumpParts.{parts_of, is_received};
@@ -149,7 +149,7 @@ pub fn recorded_determinants<A: Allocator + Copy>(
     dump: &Dump<A>,
 ) -> Result<DeterminantSet<A>, AllocError>
     ensures { IfOk result
-        (λ s. (d : _) → hash_set.contains same_determinant s d ≡ is_recorded dump.now d) }
+        (λ s. (d : _) → hash_set.contains same_determinant s d ≡ is_held_outside dump.now d) }
 {
     let strike = dump.strike();
     let mut recorded = HashSet::new(alloc);
@@ -218,7 +218,7 @@ pub fn orphan_starts<A: Allocator + Copy>(
     alloc: A,
     dump: &Dump<A>,
 ) -> Result<[Option<usize>; 16], AllocError>
-    ensures { IfOk result (λ starts. (q : ℕ) → q < 16 → IsOrphanStart dump.now q (start_of starts q)) }
+    ensures { IfOk result (λ starts. (q : ℕ) → q < 16 → IsOrphanStart dump.now q (orphan_start_in starts q)) }
 {
     let recorded = recorded_determinants(alloc, dump)?;
     let strike = dump.strike();

@@ -4,7 +4,7 @@
 //! They are of causal precedence (Lamport 1978), of what a member depends on (Alvisi and Marzullo 1998), and of the
 //! traces of runs in which nobody crashes.
 
-ghost use Rattle.fbl_base.specs.Laws.{ReceiptLaw, DependsLaw, PlacesLaw, DependsOnPlacesLaw, DeliveryLaw};
+ghost use Rattle.fbl_base.specs.Laws.{ReceiptLaw, DependsLaw, PlacesLaw, DependsOnPlacesLaw, LawfulDeliveryLaw};
 
 /// What precedes an added receipt: the receipt itself, what its member depended on, and what precedes its send.
 pub fn receipt_law()
@@ -26,6 +26,6 @@ pub fn places_law()
 
 /// A lawful trace with one more receipt, of the first message in flight on its channel, and with the sends that the
 /// behaviour answers, is lawful, and so well formed.
-pub fn delivery_law()
-    ensures { DeliveryLaw }
+pub fn lawful_delivery_law()
+    ensures { LawfulDeliveryLaw }
 {}

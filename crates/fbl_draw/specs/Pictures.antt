@@ -3,7 +3,7 @@ use Rattle.std.specs.Prelude.{ℕ, ◌+◌, ◌-◌, ◌≡◌, ◌<◌, ◌↔�
 use Rattle.std.specs.List.{flat_map, range_with_len}
 use Rattle.std.specs.Ordering.{nat_cmp}
 use Rattle.std.specs.FinSet as set
-use Rattle.fbl_base.specs.Audit.{Parts, IsOrphan, IsOrphanStart, lost_determinants, start_of}
+use Rattle.fbl_base.specs.Audit.{Parts, IsOrphan, IsOrphanStart, lost_determinants, orphan_start_in}
 use Rattle.fbl_lines.specs.Lines.{line}
 use Rattle.fbl_lines.specs.Sets.{set_words}
 use Rattle.fbl_draw.specs.Places.{column, row, width, height}
@@ -85,7 +85,7 @@ member_row member events struck start =
 -- the lines of the members, in their order, where each orphan starts at a place
 abbrev pub member_rows : Parts → List (Option ℕ) → List ℕ
 member_rows dump starts =
-    flat_map (λ m. member_row m (length dump.events) (set.contains dump.strike m) (start_of starts m)) (range_with_len 0 dump.members)
+    flat_map (λ m. member_row m (length dump.events) (set.contains dump.strike m) (orphan_start_in starts m)) (range_with_len 0 dump.members)
 
 -- ---- the legend
 
@@ -118,5 +118,5 @@ picture dump orphans starts = head dump orphans ++ events_drawn dump starts ++ l
 abbrev pub IsPicture : Parts → List ℕ → Type 0
 IsPicture dump text =
     (orphans : set.FinSet nat_cmp) × ((q : ℕ) → (set.contains orphans q ≡ true) ↔ IsOrphan dump q)
-    × (starts : List (Option ℕ)) × ((q : ℕ) → q < 16 → IsOrphanStart dump q (start_of starts q))
+    × (starts : List (Option ℕ)) × ((q : ℕ) → q < 16 → IsOrphanStart dump q (orphan_start_in starts q))
     × (text ≡ picture dump orphans starts)

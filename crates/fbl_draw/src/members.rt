@@ -2,7 +2,7 @@
 
 ghost use Rattle.std.specs.Prelude.{◌≡◌, ◌<◌, ℕ, IfOk, Option, length, string_bytes};
 ghost use Rattle.std.specs.FinSet as set;
-ghost use Rattle.fbl_base.specs.Audit.{IsOrphanStart, start_of};
+ghost use Rattle.fbl_base.specs.Audit.{IsOrphanStart, orphan_start_in};
 ghost use Rattle.fbl_draw.specs.Pictures.{member_class, member_row, member_rows, orphan_line, state_word};
 
 use crate::places::{column, event_count, row};
@@ -76,8 +76,8 @@ fn member_text(
 /// The place at which the member starts to be an orphan, if it is one.
 fn start_in(dump: &Dump, starts: &[Option<usize>], member: u8) -> Option<u16>
     requires within { member < length starts.now }
-    requires start { IsOrphanStart dump.now member (start_of starts.now member) }
-    ensures { result ≡ start_of starts.now member }
+    requires start { IsOrphanStart dump.now member (orphan_start_in starts.now member) }
+    ensures { result ≡ orphan_start_in starts.now member }
 {
     let _events = event_count(dump);
     match starts[member as usize] {
@@ -93,7 +93,7 @@ pub(crate) fn member_texts(
     starts: &[Option<usize>],
 ) -> Result<String, AllocError>
     requires slots { length starts.now ≡ 16 }
-    requires starts { (q : ℕ) → q < 16 → IsOrphanStart dump.now q (start_of starts.now q) }
+    requires starts { (q : ℕ) → q < 16 → IsOrphanStart dump.now q (orphan_start_in starts.now q) }
     ensures { IfOk result (λ text. string_bytes text ≡ member_rows dump.now starts.now) }
 {
     let strike = dump.strike();

@@ -1,7 +1,7 @@
 //! The whole picture.
 
 ghost use Rattle.std.specs.Prelude.{◌≡◌, ◌<◌, ℕ, IfOk, length, string_bytes};
-ghost use Rattle.fbl_base.specs.Audit.{IsOrphanStart, start_of};
+ghost use Rattle.fbl_base.specs.Audit.{IsOrphanStart, orphan_start_in};
 ghost use Rattle.fbl_draw.specs.Pictures.{IsPicture, head, heading, legend, legend_entries, look as look_of, opening, summary, events_drawn};
 
 use crate::events::{arrow_texts, mark_texts};
@@ -134,7 +134,7 @@ fn head_text(alloc: Global, dump: &Dump, orphans: MemberSet) -> Result<String, A
 #[tactic(auto, unfolding(crate::specs::Pictures::events_drawn))]
 fn drawn_text(alloc: Global, dump: &Dump, starts: &[Option<usize>]) -> Result<String, AllocError>
     requires slots { length starts.now ≡ 16 }
-    requires starts { (q : ℕ) → q < 16 → IsOrphanStart dump.now q (start_of starts.now q) }
+    requires starts { (q : ℕ) → q < 16 → IsOrphanStart dump.now q (orphan_start_in starts.now q) }
     ensures { IfOk result (λ text. string_bytes text ≡ events_drawn dump.now starts.now) }
 {
     let mut text = member_texts(alloc, dump, starts)?;

@@ -14,7 +14,7 @@ use Rattle.fbl_base.specs.declared.trace.Event.TheVariants as event
 use Rattle.fbl_base.specs.Events.{mark_of, determinant_of}
 use Rattle.fbl_base.specs.Fold.{Next}
 use Rattle.fbl_member.specs.Members.{Message, MemberRecord, blank}
-use Rattle.fbl_law.specs.Record.{Members, IsUp, IsDown}
+use Rattle.fbl_law.specs.Knowledge.{Members, IsUp, IsDown}
 use Rattle.fbl_law.specs.Groups.{GroupRecord, channel_in, channel, sum_below, messages_in, member, knowledge, marks, receipts}
 use Rattle.fbl_law.specs.Sound.{IsSound}
 use Rattle.fbl_law.specs.GroupSteps.{IsRecovery}

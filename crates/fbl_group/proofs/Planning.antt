@@ -12,7 +12,7 @@ use Rattle.fbl_base.specs.Steps.{SendsAllowed}
 use Rattle.fbl_table.specs.declared.entry.Entry.{Entry}
 use Rattle.fbl_table.specs.Tables.{is_held, piggybacked}
 use Rattle.fbl_member.specs.Members.{Message, MemberRecord, last_from, received_by, messages_from, table_after, next_determinant}
-use Rattle.fbl_law.specs.Record.{IsInFlight, IsUp}
+use Rattle.fbl_law.specs.Knowledge.{IsInFlight, IsUp}
 use Rattle.fbl_law.specs.Steps.{taken_off, between}
 use Rattle.fbl_law.specs.Groups.{GroupRecord, HasChannels, member, channel, channel_in, knowledge}
 use Rattle.fbl_law.specs.Sound.{IsSound}

@@ -5,7 +5,7 @@ use Rattle.std.specs.Ordering.{nat_cmp}
 use Rattle.std.specs.Cmp.{nat_cmp_total}
 use Rattle.fbl_base.specs.MemberSets.{same_from_contains}
 use Rattle.fbl_base.specs.Fold.{Next}
-use Rattle.fbl_law.specs.Record.{Includes, IsUp, Names, table, Members}
+use Rattle.fbl_law.specs.Knowledge.{Includes, IsUp, Names, table, Members}
 use Rattle.fbl_law.specs.Groups.{GroupRecord, knowledge}
 use Rattle.fbl_law.specs.Sound.{IsSound}
 use Rattle.fbl_law.specs.GroupSteps.{IsRecovery, IsStrike}

@@ -5,7 +5,7 @@ use Rattle.std.specs.FinSet as set
 use Rattle.std.proofs.lemmas.Bool.{cases_lt}
 use Rattle.std.proofs.lemmas.List.{length-set, get_or-set_other}
 use Rattle.fbl_member.specs.Members.{MemberRecord, blank}
-use Rattle.fbl_law.specs.Record.{Members}
+use Rattle.fbl_law.specs.Knowledge.{Members}
 use Rattle.fbl_law.specs.Replaying.{count_in}
 use Rattle.fbl_group.specs.Rebuilding.{IsPutBack}
 use Rattle.fbl_group.proofs.Recovering.{read_at}

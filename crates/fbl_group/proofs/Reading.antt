@@ -9,7 +9,7 @@ use Rattle.fbl_base.specs.Events.{determinant_of}
 use Rattle.fbl_base.specs.Rules.{in_flight, sent_on, taken_on}
 use Rattle.fbl_base.specs.Fold.{Next}
 use Rattle.fbl_member.specs.Carried.{IsOnce}
-use Rattle.fbl_law.specs.Record.{send_mark, MatchesTrace}
+use Rattle.fbl_law.specs.Knowledge.{send_mark, MatchesTrace}
 use Rattle.fbl_law.specs.Groups.{GroupRecord, member, channel, marks, knowledge}
 use Rattle.fbl_law.specs.Sound.{IsSound}
 use Rattle.fbl_law.proofs.Safe.{down_or_up}

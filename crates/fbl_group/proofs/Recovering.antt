@@ -11,7 +11,7 @@ use Rattle.fbl_base.specs.Fold.{Next, Logged}
 use Rattle.fbl_table.specs.declared.entry.Entry.{Entry}
 use Rattle.fbl_table.specs.Tables.{found, gathered, marked}
 use Rattle.fbl_member.specs.Members.{MemberRecord, blank, logged_note, replayed_by}
-use Rattle.fbl_law.specs.Record.{Members, IsDown}
+use Rattle.fbl_law.specs.Knowledge.{Members, IsDown}
 use Rattle.fbl_law.specs.Steps.{gathered_all, saved_tables}
 use Rattle.fbl_law.specs.Groups.{GroupRecord, checkpoint, knowledge}
 use Rattle.fbl_law.specs.Sound.{IsSound}

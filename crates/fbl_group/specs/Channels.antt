@@ -6,7 +6,7 @@ use Rattle.fbl_base.specs.declared.trace.Event.{Event}
 use Rattle.fbl_base.specs.declared.trace.Event.TheVariants.{Send}
 use Rattle.fbl_member.specs.Members.{Message}
 use Rattle.fbl_group.specs.declared.channels.Channel.{Channel}
-use Rattle.fbl_law.specs.Record.{Members}
+use Rattle.fbl_law.specs.Knowledge.{Members}
 use Rattle.fbl_law.specs.Groups.{GroupRecord, HasChannels, channel_in, channel}
 
 -- the messages of each of these channels, its front first

@@ -6,7 +6,7 @@ use Rattle.std.specs.List.{filter}
 use Rattle.fbl_base.specs.declared.trace.Determinant.{Determinant}
 use Rattle.fbl_base.specs.Events.{receipt_of}
 use Rattle.fbl_base.specs.Precedence.{Has, Precedes, Depends}
-use Rattle.fbl_law.specs.Record.{Holds, IsHolder, IsRecorded, IsUp}
+use Rattle.fbl_law.specs.Knowledge.{Holds, IsHolder, IsRecorded, IsUp}
 use Rattle.fbl_law.specs.Groups.{GroupRecord, marks, knowledge, receipts, is_recorded}
 
 -- each receipt that an up member depends on, the table of some up member has

@@ -5,7 +5,7 @@ use Rattle.fbl_base.specs.declared.trace.Determinant.{Determinant}
 use Rattle.fbl_base.specs.Events.{receipt_of}
 use Rattle.fbl_base.specs.MemberSets.{AllBelow}
 use Rattle.fbl_base.specs.Precedence.{Has, Depends}
-use Rattle.fbl_law.specs.Record.{Members}
+use Rattle.fbl_law.specs.Knowledge.{Members}
 use Rattle.fbl_law.specs.Groups.{GroupRecord, messages_in_flight, marks}
 use Rattle.fbl_law.specs.Headline.{IsHeldBy, IsHeldByMore}
 use Rattle.fbl_group.specs.declared.refusals.DumpGroupRefusal.{DumpGroupRefusal}

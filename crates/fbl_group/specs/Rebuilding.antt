@@ -6,7 +6,7 @@ use Rattle.fbl_base.specs.Fold.{Next}
 use Rattle.fbl_table.specs.declared.entry.Entry.{Entry}
 use Rattle.fbl_table.specs.Receipts.{IsByNumber}
 use Rattle.fbl_member.specs.Members.{MemberRecord, blank}
-use Rattle.fbl_law.specs.Record.{Members, IsDown}
+use Rattle.fbl_law.specs.Knowledge.{Members, IsDown}
 use Rattle.fbl_law.specs.Groups.{GroupRecord, knowledge}
 use Rattle.fbl_law.specs.Replaying.{gathered_table, IsReplaying, IsWaiting, replayed_in}
 

@@ -7,7 +7,7 @@ use Rattle.fbl_base.specs.declared.trace.Event.{Event}
 use Rattle.fbl_base.specs.Events.{determinant_of, mark_of}
 use Rattle.fbl_table.specs.Tables.{is_held}
 use Rattle.fbl_member.specs.Members.{MemberRecord, blank}
-use Rattle.fbl_law.specs.Record.{Members}
+use Rattle.fbl_law.specs.Knowledge.{Members}
 use Rattle.fbl_law.specs.Groups.{GroupRecord, marks, receipts, is_recorded}
 use Rattle.fbl_law.specs.GroupSteps.{IsStrike}
 use Rattle.fbl_group.specs.declared.refusals.StrikeRefusal.{StrikeRefusal}

@@ -132,7 +132,7 @@ pub(crate) fn send<A: Allocator>(
 }
 
 /// The send of the message, with its note.
-fn send_of<A: Allocator>(wire: &Wire<A>) -> Event
+fn sent_event<A: Allocator>(wire: &Wire<A>) -> Event
     ensures { result ≡ send_of_message wire.now }
 {
     Event::Send {
@@ -179,7 +179,7 @@ fn send_all<A: Allocator>(
     ensures trace { trace.new.items ≡ trace.old.items ++ map send_of_message wires.items }
 {
     for wire in wires {
-        trace.push_reserved(send_of(&wire));
+        trace.push_reserved(sent_event(&wire));
         outgoing[usize::from(wire.to().number())]
             .wires
             .push_back_reserved(wire);

@@ -4,7 +4,7 @@ ghost use Rattle.std.specs.Prelude.{◌≡◌, ℕ, ◌<◌, ◌≤◌, IfErr, O
 ghost use Rattle.fbl_base.specs.declared.trace.Determinant.{Determinant};
 ghost use Rattle.fbl_base.specs.Events.{receipt_of};
 ghost use Rattle.fbl_base.specs.Precedence.{Has};
-ghost use Rattle.fbl_law.specs.Record.{IsRecorded};
+ghost use Rattle.fbl_law.specs.Knowledge.{IsRecorded};
 ghost use Rattle.fbl_law.specs.Groups.{checkpoint as checkpoint_of, knowledge, marks};
 ghost use Rattle.fbl_law.specs.GroupSteps.{IsCheckpoint};
 ghost use Rattle.fbl_group.specs.Checkpoints.{checkpoint_refusal, IsCheckpointRefusal};

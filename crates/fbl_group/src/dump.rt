@@ -9,7 +9,7 @@ ghost use Rattle.fbl_base.specs.MemberSets.{AllBelow};
 ghost use Rattle.fbl_base.specs.declared.refusal.DumpRefusal.TheVariants as dump_refusal;
 ghost use Rattle.fbl_member.specs.Carried.{IsOnce};
 ghost use Rattle.fbl_member.specs.Members.{blank};
-ghost use Rattle.fbl_law.specs.Record.{Includes, IsDown};
+ghost use Rattle.fbl_law.specs.Knowledge.{Includes, IsDown};
 ghost use Rattle.fbl_law.specs.Groups.{knowledge};
 ghost use Rattle.fbl_law.specs.Sound.{IsSound};
 ghost use Rattle.fbl_law.specs.Dumps.{pairs_of, pairs_from, dump_of, HasDistinctTables};

@@ -2,7 +2,7 @@
 
 ghost use Rattle.std.specs.Prelude.{◌≡◌, ℕ, ◌<◌, length};
 ghost use Rattle.fbl_base.specs.MemberSets.{AllBelow};
-ghost use Rattle.fbl_law.specs.Record.{IsOrphan};
+ghost use Rattle.fbl_law.specs.Knowledge.{IsOrphan};
 ghost use Rattle.fbl_law.specs.Groups.{channel as channel_of, messages_in_flight as messages_in_flight_of, knowledge, member as record_of};
 ghost use Rattle.fbl_law.specs.Sound.{IsSound};
 ghost use Rattle.fbl_group.specs.Readers.{is_quiet as is_quiet_now, HoldsEachReceipt};

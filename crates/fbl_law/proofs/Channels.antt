@@ -12,14 +12,14 @@ use Rattle.fbl_base.proofs.Gets.{At-filter, At-filter_map}
 use Rattle.fbl_base.proofs.RulesLaws.{WellFormed-front, MayFollow-last}
 use Rattle.fbl_base.proofs.InFlightLaws.{in_flight-send, in_flight-receipt}
 use Rattle.fbl_member.specs.Members.{Message}
-use Rattle.fbl_law.specs.Record.{Record, send_mark, IsInFlight, IsUp, MatchesTrace, IsDownEmpty}
+use Rattle.fbl_law.specs.Knowledge.{Knowledge, send_mark, IsInFlight, IsUp, MatchesTrace, IsDownEmpty}
 use Rattle.fbl_law.specs.Steps.{between, taken_off}
 use Rattle.fbl_law.proofs.Lists.{Contains-here, Contains-there, Contains-cons_cases, Contains-none}
 use Rattle.fbl_law.proofs.Safe.{down_or_up}
 use Rattle.fbl_law.proofs.Cut.{is_sent}
 
 -- each message in flight was sent
-abbrev pub AreSent : Record → Type 0
+abbrev pub AreSent : Knowledge → Type 0
 AreSent r = (v : Message) → IsInFlight r v → Has r.trace (send_mark v)
 
 -- a message of a list is among its marks
@@ -51,10 +51,10 @@ in_flight-Has t q p e h =
     at (x ∷ xs) zero here = (0, x, refl, cc)
     at (x ∷ xs) (suc i) here = let r = at xs i here in (suc r.0, r.1, r.2, r.3)
 
-pub matched-Has : (r : Record) (v : Message) → MatchesTrace r v.from v.to → IsInFlight r v → Has r.trace (send_mark v)
+pub matched-Has : (r : Knowledge) (v : Message) → MatchesTrace r v.from v.to → IsInFlight r v → Has r.trace (send_mark v)
 matched-Has r v matches flies = in_flight-Has r.trace v.from v.to (send_mark v) (rw matches at (Has-made (r.channel v.from v.to) v flies))
 
-pub AreSent-matched : (f : ℕ) (r : Record) → ((q p : ℕ) → IsUp r q → IsUp r p → MatchesTrace r q p) → IsDownEmpty f r → AreSent r
+pub AreSent-matched : (f : ℕ) (r : Knowledge) → ((q p : ℕ) → IsUp r q → IsUp r p → MatchesTrace r q p) → IsDownEmpty f r → AreSent r
 AreSent-matched f r matches empty v flies =
     elim (down_or_up r.down v.from) [
       | inl down ↦ absurd (Contains-none v (rw (empty.channels v.from v.to (inl down)) at flies))

@@ -9,11 +9,11 @@ use Rattle.fbl_base.specs.declared.trace.Mark.{Mark}
 use Rattle.fbl_base.specs.Events.{member_of, receipt_of}
 use Rattle.fbl_table.specs.declared.entry.Entry.{Entry}
 use Rattle.fbl_member.specs.Members.{Message}
-use Rattle.fbl_law.specs.Record.{Record, table, checkpoint, send_mark, IsInFlight, IsUp, Names, Holds, IsHolder, IsStable, IsTrueEntry, KnowsTruth, NamesCauses, IsClosed, MatchesTrace, IsDownEmpty, IsCheckpointKept}
+use Rattle.fbl_law.specs.Knowledge.{Knowledge, table, checkpoint, send_mark, IsInFlight, IsUp, Names, Holds, IsHolder, IsStable, IsTrueEntry, KnowsTruth, NamesCauses, IsClosed, MatchesTrace, IsDownEmpty, IsCheckpointKept}
 use Rattle.fbl_law.specs.Steps.{IsCheckpointed}
 use Rattle.fbl_law.proofs.Safe.{never_both, nobody_down_empty, IsBeforeCheckpoint-same}
 
-module _ (f : ℕ) (old new : Record) (p : ℕ) (s : IsCheckpointed old new p) where
+module _ (f : ℕ) (old new : Knowledge) (p : ℕ) (s : IsCheckpointed old new p) where
   was_up : (m : ℕ) → IsUp old m
   was_up m = rw s.nobody_down (set.contains-empty nat_cmp m)
 

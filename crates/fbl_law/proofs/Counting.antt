@@ -14,7 +14,7 @@ use Rattle.fbl_base.specs.MemberSets.{AllBelow}
 use Rattle.fbl_base.specs.Rules.{WellFormed}
 use Rattle.fbl_base.specs.Fold.{Next}
 use Rattle.fbl_member.specs.Members.{MemberRecord}
-use Rattle.fbl_law.specs.Record.{Members}
+use Rattle.fbl_law.specs.Knowledge.{Members}
 use Rattle.fbl_law.specs.Steps.{Stays, IsEventCut}
 use Rattle.fbl_law.specs.Groups.{GroupRecord, knowledge, receipts}
 use Rattle.fbl_law.specs.Sound.{receipts_at, IsReplayed, IsSound}

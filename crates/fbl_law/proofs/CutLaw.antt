@@ -5,14 +5,14 @@ use Rattle.fbl_base.specs.declared.trace.Mark.{Mark}
 use Rattle.fbl_base.specs.Events.{mark_of}
 use Rattle.fbl_base.specs.Precedence.{Has, itself, step}
 use Rattle.fbl_base.specs.Events.{receipt_of}
-use Rattle.fbl_law.specs.Record.{Record, IsSoundKnowledge}
+use Rattle.fbl_law.specs.Knowledge.{Knowledge, IsSoundKnowledge}
 use Rattle.fbl_law.specs.Steps.{Stays}
 use Rattle.fbl_law.specs.Laws.{CutIsLawful, StaysIsRecorded}
 use Rattle.fbl_law.proofs.Cut.{KeepsCauses}
 use Rattle.fbl_law.proofs.Recover.{Stays-leads, recorded_before}
 use Rattle.fbl_law.proofs.LawfulCut.{KeepsResponses, Lawful-kept, marks-filter}
 
-module _ (n f : ℕ) (r : Record) (sound : IsSoundKnowledge n f r) (keep : Mark → Bool) (tells : (e : Mark) → Has r.trace e → (keep e ≡ true) ↔ Stays r e) where
+module _ (n f : ℕ) (r : Knowledge) (sound : IsSoundKnowledge n f r) (keep : Mark → Bool) (tells : (e : Mark) → Has r.trace e → (keep e ≡ true) ↔ Stays r e) where
   cut_causes : KeepsCauses keep r.trace
   cut_causes a b kept leads =
       (tells a (leads.0.0, leads.0.3)).1 (Stays-leads n f r sound.rules sound.closed a b ((tells b (leads.0.1, leads.0.4)).0 kept) leads)

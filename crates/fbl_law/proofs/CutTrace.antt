@@ -19,11 +19,11 @@ use Rattle.fbl_base.proofs.Gets.{At-front, At-below}
 use Rattle.fbl_base.proofs.RulesLaws.{eqb-self}
 use Rattle.fbl_table.specs.declared.entry.Entry.{Entry}
 use Rattle.fbl_table.specs.Tables.{is_held}
-use Rattle.fbl_law.specs.Record.{Members, IsRecorded}
+use Rattle.fbl_law.specs.Knowledge.{Members, IsRecorded}
 use Rattle.fbl_law.specs.Steps.{UpTo, Stays, IsEventCut}
 use Rattle.fbl_law.specs.Groups.{GroupRecord, marks, knowledge}
 use Rattle.fbl_law.specs.Sound.{IsSound}
-use Rattle.fbl_law.specs.Replaying.{is_lost, cut_from, gathered_table, recovered_trace}
+use Rattle.fbl_law.specs.Replaying.{stops_at, cut_from, gathered_table, recovered_trace}
 use Rattle.fbl_law.proofs.GroupFacts.{Names-held, held-Names}
 use Rattle.fbl_law.proofs.Appended.{once}
 use Rattle.fbl_law.proofs.Cut.{At-seam}
@@ -217,18 +217,18 @@ module _ (L : Mark → Bool) where
       at false false ea eb same stops = (let left : loses (map mark_of t) (mark_of e) ≡ false = told ∙ (rw (ea, eb) refl) in rw left (ap (λ (xs : List Event). e ∷ xs) (same (unlost eb))))
 
 -- the definition of the pass is that of these events
-cut_from-pass : (s : Members) (held : List Entry) (stopped : Members) (t : List Event) → cut_from s held stopped t ≡ pass (is_lost s held) stopped t
+cut_from-pass : (s : Members) (held : List Entry) (stopped : Members) (t : List Event) → cut_from s held stopped t ≡ pass (stops_at s held) stopped t
 cut_from-pass s held stopped [] = refl
-cut_from-pass s held stopped (e ∷ t) = at (set.contains stopped (member_of (mark_of e))) (is_lost s held (mark_of e)) (cut_from-pass s held stopped t) (cut_from-pass s held (set.insert stopped (member_of (mark_of e))) t) where
-  at : (a b : Bool) → cut_from s held stopped t ≡ pass (is_lost s held) stopped t → cut_from s held (set.insert stopped (member_of (mark_of e))) t ≡ pass (is_lost s held) (set.insert stopped (member_of (mark_of e))) t
-      → cond a (cut_from s held stopped t) (cond b (cut_from s held (set.insert stopped (member_of (mark_of e))) t) (e ∷ cut_from s held stopped t)) ≡ cond a (pass (is_lost s held) stopped t) (cond b (pass (is_lost s held) (set.insert stopped (member_of (mark_of e))) t) (e ∷ pass (is_lost s held) stopped t))
+cut_from-pass s held stopped (e ∷ t) = at (set.contains stopped (member_of (mark_of e))) (stops_at s held (mark_of e)) (cut_from-pass s held stopped t) (cut_from-pass s held (set.insert stopped (member_of (mark_of e))) t) where
+  at : (a b : Bool) → cut_from s held stopped t ≡ pass (stops_at s held) stopped t → cut_from s held (set.insert stopped (member_of (mark_of e))) t ≡ pass (stops_at s held) (set.insert stopped (member_of (mark_of e))) t
+      → cond a (cut_from s held stopped t) (cond b (cut_from s held (set.insert stopped (member_of (mark_of e))) t) (e ∷ cut_from s held stopped t)) ≡ cond a (pass (stops_at s held) stopped t) (cond b (pass (stops_at s held) (set.insert stopped (member_of (mark_of e))) t) (e ∷ pass (stops_at s held) stopped t))
   at true b same stops = same
   at false true same stops = stops
   at false false same stops = ap (λ (xs : List Event). e ∷ xs) same
 
 module _ (next : Next) (old : GroupRecord) (sound : IsSound next old) where
   abbrev lost : Mark → Bool
-  lost = is_lost old.down (gathered_table old)
+  lost = stops_at old.down (gathered_table old)
 
   abbrev keep : Mark → Bool
   keep e = not (loses lost (marks old) e)

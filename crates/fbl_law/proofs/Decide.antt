@@ -8,7 +8,7 @@ use Rattle.fbl_base.specs.Events.{same_determinant}
 use Rattle.fbl_base.proofs.Recorded.{Decides-same_determinant}
 use Rattle.fbl_base.proofs.Sizes.{some_member, len-within}
 use Rattle.fbl_table.specs.declared.entry.Entry.{Entry}
-use Rattle.fbl_law.specs.Record.{Members, Includes, Record, table, checkpoint, IsUp, Names, Holds, IsRecorded, IsHolder, IsStable, IsClosed, IsAlwaysHeld}
+use Rattle.fbl_law.specs.Knowledge.{Members, Includes, Knowledge, table, checkpoint, IsUp, Names, Holds, IsRecorded, IsHolder, IsStable, IsClosed, IsAlwaysHeld}
 use Rattle.fbl_law.proofs.Lists.{Contains-here, Contains-there, Contains-cons_cases, Contains-none}
 use Rattle.fbl_law.proofs.Safe.{down_or_up, never_both}
 use Rattle.fbl_law.proofs.Tables.{Includes-insert, Includes-insert_cases, Includes-union, Includes-left, Includes-right, named_record}
@@ -68,7 +68,7 @@ some_has s m has = at (set.len s) refl where
   at zero none = absurd (let e : s ≡ set.empty = set.empty_of_len s none in let f : set.contains set.empty m ≡ false = set.contains-empty nat_cmp m in let g : set.contains set.empty m ≡ true = rw e at has in cc)
   at (suc k) some = omega arith
 
-module _ (f : ℕ) (r : Record) (d : Determinant) where
+module _ (f : ℕ) (r : Knowledge) (d : Determinant) where
   Known-holds : (m : ℕ) → Known (Holds r d m)
   Known-holds m = Known-and _ _ (known_up (down_or_up r.down m)) (Known-names (table r m) d) where
     known_up : Includes r.down m ⊎ (set.contains r.down m ≡ false) → Known (IsUp r m)
@@ -111,7 +111,7 @@ module _ (f : ℕ) (r : Record) (d : Determinant) where
       ]
 
 -- each receipt of a closed record is stable, or held by each up member that depends on it
-pub IsAlwaysHeld-closed : (f : ℕ) (r : Record) → IsClosed f r → IsAlwaysHeld f r
+pub IsAlwaysHeld-closed : (f : ℕ) (r : Knowledge) → IsClosed f r → IsAlwaysHeld f r
 IsAlwaysHeld-closed f r closed d there =
     elim (Known-stable f r d) [
       | inl stable ↦ inl stable

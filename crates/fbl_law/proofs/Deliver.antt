@@ -16,7 +16,7 @@ use Rattle.fbl_base.proofs.Gets.{At-front, At-below}
 use Rattle.fbl_base.proofs.PrecedenceLaws.{Has-last, Precedes-front}
 use Rattle.fbl_table.specs.declared.entry.Entry.{Entry}
 use Rattle.fbl_member.specs.Members.{Message}
-use Rattle.fbl_law.specs.Record.{Includes, Record, table, send_mark, IsInFlight, IsUp, Names, Holds, IsHolder, IsStable, IsTrueEntry, KnowsTruth, NamesCauses, IsClosed, MatchesTrace, IsDownEmpty, checkpoint, IsBeforeCheckpoint, IsCheckpointKept}
+use Rattle.fbl_law.specs.Knowledge.{Includes, Knowledge, table, send_mark, IsInFlight, IsUp, Names, Holds, IsHolder, IsStable, IsTrueEntry, KnowsTruth, NamesCauses, IsClosed, MatchesTrace, IsDownEmpty, checkpoint, IsBeforeCheckpoint, IsCheckpointKept}
 use Rattle.fbl_table.specs.Tables.{learned, piggybacked}
 use Rattle.fbl_law.specs.Steps.{IsDelivered, is_on, taken_off, between, determinant}
 use Rattle.fbl_law.proofs.Appended.{Has-append, Has-behind, disjoint, Precedes-within, Precedes-entered}
@@ -30,7 +30,7 @@ pub Names-piggybacked : (f : ℕ) (entries : List Entry) (d : Determinant) → N
 Names-piggybacked f entries d named = (named.0, Contains-piggybacked f entries named.0 named.1, named.2)
 
 -- what a member passes on of a table that names the causes of an event names them too
-pub NamesCauses-piggybacked : (f : ℕ) (r : Record) (m : ℕ) (b : Mark) → KnowsTruth r → IsUp r m → NamesCauses f r (table r m) b → NamesCauses f r (piggybacked f (table r m)) b
+pub NamesCauses-piggybacked : (f : ℕ) (r : Knowledge) (m : ℕ) (b : Mark) → KnowsTruth r → IsUp r m → NamesCauses f r (table r m) b → NamesCauses f r (piggybacked f (table r m)) b
 NamesCauses-piggybacked f r m b known up causes d before =
     elim (causes d before) [
       | inl named ↦ elim (passed_or_known f (table r m) named.0 named.1) [
@@ -49,7 +49,7 @@ receipt_names c d same =
     let rsn : c.rsn ≡ d.rsn = cc in
     λ i. record { from = from i; ssn = ssn i; to = to i; rsn = rsn i }
 
-module _ (n f : ℕ) (old new : Record) (v : Message) (rsn : ℕ) (made : List Message) (s : IsDelivered n f old new v rsn made) (known : KnowsTruth old) (closed : IsClosed f old) (sent : AreSent old) (kept_all : (m : ℕ) → IsCheckpointKept old m) where
+module _ (n f : ℕ) (old new : Knowledge) (v : Message) (rsn : ℕ) (made : List Message) (s : IsDelivered n f old new v rsn made) (known : KnowsTruth old) (closed : IsClosed f old) (sent : AreSent old) (kept_all : (m : ℕ) → IsCheckpointKept old m) where
   abbrev own : Determinant
   own = determinant v rsn
 

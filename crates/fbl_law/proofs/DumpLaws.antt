@@ -18,7 +18,7 @@ use Rattle.fbl_base.proofs.Recorded.{Decides-same_determinant}
 use Rattle.fbl_base.proofs.Sizes.{len-within}
 use Rattle.fbl_table.specs.declared.entry.Entry.{Entry}
 use Rattle.fbl_member.specs.Members.{Message, MemberRecord, blank}
-use Rattle.fbl_law.specs.Record.{Members, Includes, IsDown, IsInFlight, Names}
+use Rattle.fbl_law.specs.Knowledge.{Members, Includes, IsDown, IsInFlight, Names}
 use Rattle.fbl_law.specs.Groups.{GroupRecord, member, marks, knowledge, receipts}
 use Rattle.fbl_law.specs.Sound.{IsSound}
 use Rattle.fbl_law.specs.Dumps.{pairs_of, pairs_from, held_pairs, dump_of, HasDistinctTables, DumpObeysRules, DumpHasNoOrphan}

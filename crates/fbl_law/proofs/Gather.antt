@@ -7,7 +7,7 @@ use Rattle.std.specs.FinSet as set
 use Rattle.fbl_base.specs.declared.trace.Determinant.{Determinant}
 use Rattle.fbl_table.specs.declared.entry.Entry.{Entry}
 use Rattle.fbl_member.specs.Members.{MemberRecord, blank}
-use Rattle.fbl_law.specs.Record.{Members, Includes, Names, Record, table, checkpoint, IsDown, IsUp, IsRecorded, IsDownEmpty, IsCheckpointKept}
+use Rattle.fbl_law.specs.Knowledge.{Members, Includes, Names, Knowledge, table, checkpoint, IsDown, IsUp, IsRecorded, IsDownEmpty, IsCheckpointKept}
 use Rattle.fbl_table.specs.Tables.{gathered}
 use Rattle.fbl_law.specs.Steps.{gathered_all, saved_tables, recovery_table}
 use Rattle.fbl_law.proofs.Lists.{Contains-here, Contains-there, Contains-cons_cases, Contains-none}
@@ -74,16 +74,16 @@ saved-Contains s checkpoints (suc n) t among =
     one false h = absurd (Contains-none t h)
 
 -- an up member, or a checkpoint, knows of the entry's determinant that the member m holds it
-abbrev pub IsTold : Record → Entry → ℕ → Type 0
+abbrev pub IsTold : Knowledge → Entry → ℕ → Type 0
 IsTold r e m =
     ((q : ℕ) × (x : Entry) × IsUp r q × Contains (table r q) x × (x.det ≡ e.det) × Includes x.known m)
     ⊎ ((q : ℕ) × (x : Entry) × Contains (checkpoint r q).table x × (x.det ≡ e.det) × Includes x.known m)
 
 -- the entry unites what up members and checkpoints know of a recorded determinant, and names those that are down
-abbrev pub IsGathered : Record → Entry → Type 0
+abbrev pub IsGathered : Knowledge → Entry → Type 0
 IsGathered r e = IsRecorded r e.det × ((m : ℕ) → IsDown r m → Includes e.known m) × ((m : ℕ) → Includes e.known m → IsDown r m ⊎ IsTold r e m)
 
-module _ (f : ℕ) (r : Record) (empty : IsDownEmpty f r) where
+module _ (f : ℕ) (r : Knowledge) (empty : IsDownEmpty f r) where
   -- the tables that are gathered
   abbrev sources : List (List Entry)
   sources = r.tables ++ saved_tables r.down r.checkpoints (length r.checkpoints)

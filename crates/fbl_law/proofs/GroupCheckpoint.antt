@@ -9,7 +9,7 @@ use Rattle.fbl_base.specs.Events.{receipt_of}
 use Rattle.fbl_base.specs.Fold.{Next}
 use Rattle.fbl_base.specs.Precedence.{itself}
 use Rattle.fbl_member.specs.Members.{MemberRecord, blank}
-use Rattle.fbl_law.specs.Record.{IsUp}
+use Rattle.fbl_law.specs.Knowledge.{IsUp}
 use Rattle.fbl_law.specs.Steps.{IsCheckpointed}
 use Rattle.fbl_law.specs.Groups.{GroupRecord, member, checkpoint, knowledge}
 use Rattle.fbl_law.specs.Sound.{IsFold, IsReplayed, IsSound}

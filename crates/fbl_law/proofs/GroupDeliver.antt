@@ -21,7 +21,7 @@ use Rattle.fbl_base.proofs.LawfulLaws.{Lawful-deliver, Lawful-begun, receipts-no
 use Rattle.fbl_table.specs.declared.entry.Entry.{Entry}
 use Rattle.fbl_table.specs.Tables.{piggybacked}
 use Rattle.fbl_member.specs.Members.{Message, MemberRecord, blank, progress_of, messages_from}
-use Rattle.fbl_law.specs.Record.{table, send_mark, IsInFlight, IsUp}
+use Rattle.fbl_law.specs.Knowledge.{table, send_mark, IsInFlight, IsUp}
 use Rattle.fbl_law.specs.Steps.{IsDelivered, is_on, between, taken_off}
 use Rattle.fbl_law.specs.Groups.{GroupRecord, member, checkpoint, channel, marks, knowledge, receipts}
 use Rattle.fbl_law.specs.Sound.{IsFold, IsReplayed, IsSound, received_notes, receipts_at, last_taken}

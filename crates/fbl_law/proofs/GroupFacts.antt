@@ -19,7 +19,7 @@ use Rattle.fbl_base.proofs.Recorded.{Decides-same_determinant}
 use Rattle.fbl_table.specs.declared.entry.Entry.{Entry}
 use Rattle.fbl_table.specs.Tables.{is_held, learned}
 use Rattle.fbl_member.specs.Members.{Message, MemberRecord, blank, next_determinant, last_from}
-use Rattle.fbl_law.specs.Record.{table, send_mark, IsInFlight, IsUp, Names, MatchesTrace}
+use Rattle.fbl_law.specs.Knowledge.{table, send_mark, IsInFlight, IsUp, Names, MatchesTrace}
 use Rattle.fbl_law.specs.Groups.{GroupRecord, member, channel, marks, knowledge}
 use Rattle.fbl_law.specs.Sound.{IsSound}
 use Rattle.fbl_law.proofs.Lists.{Contains-here, Contains-there, Contains-cons_cases, Contains-none}

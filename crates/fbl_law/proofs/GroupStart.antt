@@ -22,7 +22,7 @@ use Rattle.fbl_base.specs.Fold.{Next, Lawful, sent, action_of, actions_of, notes
 use Rattle.fbl_base.proofs.RulesLaws.{WellFormed-none, WellFormed-push}
 use Rattle.fbl_base.proofs.LawfulLaws.{notes_of-sent}
 use Rattle.fbl_member.specs.Members.{Message, MemberRecord, blank}
-use Rattle.fbl_law.specs.Record.{table, send_mark, IsUp, MatchesTrace}
+use Rattle.fbl_law.specs.Knowledge.{table, send_mark, IsUp, MatchesTrace}
 use Rattle.fbl_law.specs.Run.{IsStart, starts}
 use Rattle.fbl_law.specs.Steps.{is_on}
 use Rattle.fbl_law.specs.Groups.{GroupRecord, checkpoint, channel, knowledge, receipts}

@@ -7,7 +7,7 @@ use Rattle.fbl_base.specs.Fold.{Next, note_of}
 use Rattle.fbl_base.proofs.Recorded.{at_any}
 use Rattle.fbl_table.specs.Tables.{is_held}
 use Rattle.fbl_member.specs.Members.{Message, MemberRecord, blank}
-use Rattle.fbl_law.specs.Record.{Members, table, IsInFlight, IsUp, Names, IsRecorded}
+use Rattle.fbl_law.specs.Knowledge.{Members, table, IsInFlight, IsUp, Names, IsRecorded}
 use Rattle.fbl_law.specs.Steps.{IsStruck}
 use Rattle.fbl_law.specs.Groups.{GroupRecord, member, checkpoint, channel, knowledge, is_recorded}
 use Rattle.fbl_law.specs.Sound.{IsFold, IsSound}

@@ -19,7 +19,7 @@ use Rattle.fbl_base.proofs.InFlightLaws.{in_flight-send, in_flight-receipt, sent
 use Rattle.fbl_table.specs.declared.entry.Entry.{Entry}
 use Rattle.fbl_table.specs.Tables.{piggybacked}
 use Rattle.fbl_member.specs.Members.{Message, last_from, logged_beyond}
-use Rattle.fbl_law.specs.Record.{send_mark}
+use Rattle.fbl_law.specs.Knowledge.{send_mark}
 use Rattle.fbl_law.specs.Groups.{GroupRecord, member, channel, marks}
 use Rattle.fbl_law.specs.Sound.{last_taken, IsFold}
 use Rattle.fbl_law.specs.GroupSteps.{IsMadeAgain}

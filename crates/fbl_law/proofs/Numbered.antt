@@ -9,7 +9,7 @@ use Rattle.fbl_base.specs.Events.{At}
 use Rattle.fbl_base.specs.Precedence.{Has}
 use Rattle.fbl_base.specs.Rules.{is_send_of, is_receipt_of, sends_of, receipts_of, WellFormed}
 use Rattle.fbl_base.proofs.RulesLaws.{count_at, eqb-self}
-use Rattle.fbl_law.specs.Record.{Record, IsBeforeCheckpoint, IsCheckpointKept}
+use Rattle.fbl_law.specs.Knowledge.{Knowledge, IsBeforeCheckpoint, IsCheckpointKept}
 use Rattle.fbl_law.proofs.Lists.{At-behind}
 
 counted-later : (p : Mark → Bool) (x : Mark) (t : List Mark) (i k : ℕ) → count_by p (take i t) ≡ k → count_by p (take (suc i) (x ∷ t)) ≡ cond (p x) 1 0 + k
@@ -69,7 +69,7 @@ pub count-grown : (p : Mark → Bool) (t s : List Mark) → count_by p t ≤ cou
 count-grown p t s = omega (arith, sum_by-append (λ y. cond (p y) 1 0) t s)
 
 -- the events appended have numbers beyond those of the trace before
-module _ (n : ℕ) (r : Record) (added : List Mark) (obeys : WellFormed n (r.trace ++ added)) (kept : (m : ℕ) → IsCheckpointKept r m) where
+module _ (n : ℕ) (r : Knowledge) (added : List Mark) (obeys : WellFormed n (r.trace ++ added)) (kept : (m : ℕ) → IsCheckpointKept r m) where
   pub added-later : (e : Mark) → Has added e → ¬ (IsBeforeCheckpoint r e)
   added-later (Send q k p) new reached =
       let place = At-behind r.trace added new.0 (Send q k p) new.1 in

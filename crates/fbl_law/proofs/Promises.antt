@@ -11,9 +11,9 @@ use Rattle.fbl_base.specs.Precedence.{Has, itself}
 use Rattle.fbl_base.specs.Rules.{is_receipt_of, WellFormed}
 use Rattle.fbl_base.proofs.Gets.{slice_get-take}
 use Rattle.fbl_base.proofs.RulesLaws.{count_at, eqb-self, WellFormed-take}
-use Rattle.fbl_law.specs.Record.{IsUp, Names, table, IsHolder}
+use Rattle.fbl_law.specs.Knowledge.{IsUp, Names, table, IsHolder}
 use Rattle.fbl_law.specs.Groups.{GroupRecord, member, marks, knowledge}
-use Rattle.fbl_law.specs.Headline.{IsHeldBy, EachReceiptIsHeld, SoundIsAlwaysHeld, SoundHasNoOrphan, NoSurvivorIsOrphan, SurvivorsHold, RecordedIsPrefix}
+use Rattle.fbl_law.specs.Headline.{IsHeldBy, EachReceiptIsHeld, SoundIsAlwaysHeld, SoundHasNoOrphan, NoSurvivorIsOrphan, AnySurvivorsHold, RecordedIsPrefix}
 use Rattle.fbl_law.proofs.Safe.{never_both, no_orphan, IsRecorded-before, IsRecorded-prefix, Has-recorded}
 use Rattle.fbl_law.proofs.Decide.{IsAlwaysHeld-closed}
 use Rattle.fbl_law.proofs.Run.{strike_keeps}
@@ -50,7 +50,7 @@ no_survivor_is_orphan next old new struck m sound s few =
     let keeps = strike_keeps old.config.members old.config.f (knowledge old) (knowledge new) struck (is_struck next old new struck s sound) few sound.causes in
     no_orphan old.config.f (knowledge new) keeps.closed m
 
-pub survivors_hold : SurvivorsHold
+pub survivors_hold : AnySurvivorsHold
 survivors_hold next r struck m d sound few out depends =
     let one = survivors_record r.config.members r.config.f (knowledge r) struck sound.causes few m d out depends in
     (one.0, one.1, is_held_by r d one.0 one.2)

@@ -14,7 +14,7 @@ use Rattle.fbl_base.specs.Events.{receipt_of}
 use Rattle.fbl_base.proofs.PrecedenceLaws.{Has-filter, Precedes-filter, Has-first}
 use Rattle.fbl_table.specs.declared.entry.Entry.{Entry}
 use Rattle.fbl_member.specs.Members.{Message}
-use Rattle.fbl_law.specs.Record.{Includes, Record, table, send_mark, IsInFlight, IsDown, IsUp, Names, Holds, IsRecorded, IsHolder, IsStable, IsTrueEntry, KnowsTruth, NamesCauses, IsClosed, MatchesTrace, IsDownEmpty, checkpoint, IsBeforeCheckpoint, IsCheckpointKept}
+use Rattle.fbl_law.specs.Knowledge.{Includes, Knowledge, table, send_mark, IsInFlight, IsDown, IsUp, Names, Holds, IsRecorded, IsHolder, IsStable, IsTrueEntry, KnowsTruth, NamesCauses, IsClosed, MatchesTrace, IsDownEmpty, checkpoint, IsBeforeCheckpoint, IsCheckpointKept}
 use Rattle.fbl_table.specs.Tables.{piggybacked}
 use Rattle.fbl_law.specs.Steps.{Stays, UpTo, IsRecovered}
 use Rattle.fbl_law.proofs.Cut.{Has-kept, kept-Has, KeepsCauses, Has-before, WellFormed-kept, map-kept, is_sent, taken_at}
@@ -35,7 +35,7 @@ sends_nothing : (e b : Mark) → ((d : Determinant) → ¬ (e ≡ receipt_of d))
 sends_nothing (Send from ssn to) b is_none h = cc
 sends_nothing (Receipt to rsn from ssn) b is_none h = is_none (record { from = from; ssn = ssn; to = to; rsn = rsn }) refl
 
-module _ (n f : ℕ) (old : Record) (obeys : WellFormed n old.trace) (closed : IsClosed f old) where
+module _ (n f : ℕ) (old : Knowledge) (obeys : WellFormed n old.trace) (closed : IsClosed f old) where
   UpTo-later : (x a b : Mark) → UpTo old.trace x a → Earlier old.trace a b → UpTo old.trace x b
   UpTo-later x a b first second = elim first [
     | inl same ↦ inr (rw same second)
@@ -72,7 +72,7 @@ module _ (n f : ℕ) (old : Record) (obeys : WellFormed n old.trace) (closed : I
       path : Precedes old.trace (receipt_of c) a
       path = elim up_to [ inl same ↦ rw same (itself (leads.0.0, leads.0.3)) | inr earlier ↦ step (itself (earlier.0, earlier.3)) (earlier, inl at_a) ]
 
-module _ (n f : ℕ) (old new : Record) (s : IsRecovered f old new) (obeys : WellFormed n old.trace) (known : KnowsTruth old) (closed : IsClosed f old) (sent : AreSent old) (empty : IsDownEmpty f old) (kept_all : (m : ℕ) → IsCheckpointKept old m) where
+module _ (n f : ℕ) (old new : Knowledge) (s : IsRecovered f old new) (obeys : WellFormed n old.trace) (known : KnowsTruth old) (closed : IsClosed f old) (sent : AreSent old) (empty : IsDownEmpty f old) (kept_all : (m : ℕ) → IsCheckpointKept old m) where
   abbrev keep : Mark → Bool
   keep = s.trace.0
 

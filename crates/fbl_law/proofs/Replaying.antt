@@ -19,9 +19,9 @@ use Rattle.fbl_base.proofs.Gets.{At-front, At-below}
 use Rattle.fbl_base.proofs.PrecedenceLaws.{Has-filter}
 use Rattle.fbl_base.proofs.RulesLaws.{in_flight-sent, WellFormed-front}
 use Rattle.fbl_table.specs.declared.entry.Entry.{Entry}
-use Rattle.fbl_table.specs.Tables.{found, names}
+use Rattle.fbl_table.specs.Tables.{found, is_of_receipt}
 use Rattle.fbl_member.specs.Members.{MemberRecord, logged_note, replayed_by}
-use Rattle.fbl_law.specs.Record.{Names, IsUp, IsDown, IsRecorded}
+use Rattle.fbl_law.specs.Knowledge.{Names, IsUp, IsDown, IsRecorded}
 use Rattle.fbl_law.specs.Steps.{Stays, IsEventCut}
 use Rattle.fbl_law.specs.Groups.{GroupRecord, marks, knowledge}
 use Rattle.fbl_law.specs.Sound.{received_notes, receipts_at, IsReplayed, IsSound}
@@ -51,8 +51,8 @@ both false b is = absurd cc
 -- what a table finds is one of its entries' determinants, of that receipt
 pub found-named : (p k : ℕ) (table : List Entry) (d : Determinant) → found p k table ≡ Some d → Names table d × (d.to ≡ p) × (d.rsn ≡ k)
 found-named p k [] d is = absurd cc
-found-named p k (e ∷ table) d is = at (names p k e) refl is (found-named p k table d) where
-  at : (b : Bool) → names p k e ≡ b → option_map (λ (x : Entry). x.det) (cond b (Some e) (find (names p k) table)) ≡ Some d → (found p k table ≡ Some d → Names table d × (d.to ≡ p) × (d.rsn ≡ k)) → Names (e ∷ table) d × (d.to ≡ p) × (d.rsn ≡ k)
+found-named p k (e ∷ table) d is = at (is_of_receipt p k e) refl is (found-named p k table d) where
+  at : (b : Bool) → is_of_receipt p k e ≡ b → option_map (λ (x : Entry). x.det) (cond b (Some e) (find (is_of_receipt p k) table)) ≡ Some d → (found p k table ≡ Some d → Names table d × (d.to ≡ p) × (d.rsn ≡ k)) → Names (e ∷ table) d × (d.to ≡ p) × (d.rsn ≡ k)
   at true yes' g rest =
       let same : e.det ≡ d = cc in
       let parts = both (e.det.to == p) (e.det.rsn == k) yes' in
@@ -62,15 +62,15 @@ found-named p k (e ∷ table) d is = at (names p k e) refl is (found-named p k t
 -- where it finds none, no entry is of that receipt
 pub found-none : (p k : ℕ) (table : List Entry) (d : Determinant) → found p k table ≡ None → Names table d → d.to ≡ p → d.rsn ≡ k → ⊥
 found-none p k [] d is named to rsn = Contains-none named.0 named.1
-found-none p k (e ∷ table) d is named to rsn = at (names p k e) refl is (found-none p k table d) where
-  at : (b : Bool) → names p k e ≡ b → option_map (λ (x : Entry). x.det) (cond b (Some e) (find (names p k) table)) ≡ None → (found p k table ≡ None → Names table d → d.to ≡ p → d.rsn ≡ k → ⊥) → ⊥
+found-none p k (e ∷ table) d is named to rsn = at (is_of_receipt p k e) refl is (found-none p k table d) where
+  at : (b : Bool) → is_of_receipt p k e ≡ b → option_map (λ (x : Entry). x.det) (cond b (Some e) (find (is_of_receipt p k) table)) ≡ None → (found p k table ≡ None → Names table d → d.to ≡ p → d.rsn ≡ k → ⊥) → ⊥
   at true yes' g rest = cc
   at false no' g rest = elim (Contains-cons_cases e table named.0 named.1) [
     | inl first ↦
         let det : e.det ≡ d = ap (λ (x : Entry). x.det) first ∙ named.2 in
         let t : e.det.to ≡ p = ap (λ (x : Determinant). x.to) det ∙ to in
         let r : e.det.rsn ≡ k = ap (λ (x : Determinant). x.rsn) det ∙ rsn in
-        let yes' : names p k e ≡ true = (let a : (e.det.to == p) ≡ true = grind (arith, nat_tests) in let b : (e.det.rsn == k) ≡ true = grind (arith, nat_tests) in rw (a, b) refl) in
+        let yes' : is_of_receipt p k e ≡ true = (let a : (e.det.to == p) ≡ true = grind (arith, nat_tests) in let b : (e.det.rsn == k) ≡ true = grind (arith, nat_tests) in rw (a, b) refl) in
         cc
     | inr later ↦ rest g (named.0, later, named.2) to rsn
   ]

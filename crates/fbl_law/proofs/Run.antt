@@ -2,7 +2,7 @@
 use Rattle.std.proofs.Common.{ℕ, arith}
 use Rattle.fbl_base.specs.Events.{receipt_of}
 use Rattle.fbl_base.proofs.PrecedenceLaws.{Has-first}
-use Rattle.fbl_law.specs.Record.{Record, IsSoundKnowledge}
+use Rattle.fbl_law.specs.Knowledge.{Knowledge, IsSoundKnowledge}
 use Rattle.fbl_law.specs.Run.{starts, delivers, strikes, checkpoints, recovers}
 use Rattle.fbl_law.specs.Laws.{DeliveryKeeps, StrikeKeeps, CheckpointKeeps, RecoveryKeeps, CutIsClosed, CutIsRecorded, HoldersStay, RunIsSound, RunIsHeld}
 use Rattle.fbl_law.proofs.Lists.{Contains-none}
@@ -14,7 +14,7 @@ use Rattle.fbl_law.proofs.Strike.{KnowsTruth-struck, IsClosed-struck, MatchesTra
 use Rattle.fbl_law.proofs.Checkpoint.{KnowsTruth-checkpoint, IsClosed-checkpoint, MatchesTrace-checkpoint, IsDownEmpty-checkpoint, IsCheckpointKept-checkpoint}
 use Rattle.fbl_law.proofs.Recover.{KnowsTruth-recovered, IsClosed-recovered, MatchesTrace-recovered, IsDownEmpty-recovered, IsCheckpointKept-recovered, WellFormed-recovered, Has-recovered, recorded_left, left_if_recorded, holders_same, was}
 
-sent_of : (n f : ℕ) (r : Record) → IsSoundKnowledge n f r → AreSent r
+sent_of : (n f : ℕ) (r : Knowledge) → IsSoundKnowledge n f r → AreSent r
 sent_of n f r sound = AreSent-matched f r sound.channels sound.down
 
 pub delivery_keeps : DeliveryKeeps

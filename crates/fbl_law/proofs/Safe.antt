@@ -8,7 +8,7 @@ use Rattle.fbl_base.specs.declared.trace.Mark.TheVariants.{Send, Receipt}
 use Rattle.fbl_base.specs.Precedence.{Has, Earlier, Precedes, itself, step, Depends}
 use Rattle.fbl_base.specs.Events.{member_of, receipt_of}
 use Rattle.fbl_base.proofs.Sizes.{some_member}
-use Rattle.fbl_law.specs.Record.{Members, Includes, Record, table, checkpoint, IsUp, Names, Holds, IsRecorded, IsStable, KnowsTruth, IsBeforeCheckpoint, IsClosed, IsOrphan, IsDownEmpty}
+use Rattle.fbl_law.specs.Knowledge.{Members, Includes, Knowledge, table, checkpoint, IsUp, Names, Holds, IsRecorded, IsStable, KnowsTruth, IsBeforeCheckpoint, IsClosed, IsOrphan, IsDownEmpty}
 
 -- a set has a member or has not
 pub down_or_up : (s : Members) (m : ℕ) → Includes s m ⊎ (set.contains s m ≡ false)
@@ -22,58 +22,58 @@ pub never_both : {A : Type 0} (s : Members) (m : ℕ) → Includes s m → set.c
 never_both s m is is_not = absurd cc
 
 -- what a member holds is recorded
-pub IsRecorded-held : (r : Record) (d : Determinant) (m : ℕ) → Holds r d m → IsRecorded r d
+pub IsRecorded-held : (r : Knowledge) (d : Determinant) (m : ℕ) → Holds r d m → IsRecorded r d
 IsRecorded-held r d m holds = inl (m, holds)
 
 -- and so is what a checkpoint names
-pub IsRecorded-saved : (r : Record) (d : Determinant) (m : ℕ) → Names (checkpoint r m).table d → IsRecorded r d
+pub IsRecorded-saved : (r : Knowledge) (d : Determinant) (m : ℕ) → Names (checkpoint r m).table d → IsRecorded r d
 IsRecorded-saved r d m named = inr (m, named)
 
-pub IsRecorded-stable : (f : ℕ) (r : Record) (d : Determinant) → IsStable f r d → IsRecorded r d
+pub IsRecorded-stable : (f : ℕ) (r : Knowledge) (d : Determinant) → IsStable f r d → IsRecorded r d
 IsRecorded-stable f r d s =
     let one = some_member s.0 (omega (arith, s.1)) in
     elim (s.2 one.0 one.1) [ inl holds ↦ IsRecorded-held r d one.0 holds | inr down ↦ down.1 ]
 
-recorded_by : (f : ℕ) (r : Record) (d : Determinant) (m : ℕ) → IsUp r m → Names (table r m) d ⊎ IsStable f r d → IsRecorded r d
+recorded_by : (f : ℕ) (r : Knowledge) (d : Determinant) (m : ℕ) → IsUp r m → Names (table r m) d ⊎ IsStable f r d → IsRecorded r d
 recorded_by f r d m up cause = elim cause [ inl named ↦ IsRecorded-held r d m (up, named) | inr stable ↦ IsRecorded-stable f r d stable ]
 
-saved_by : (f : ℕ) (r : Record) (d : Determinant) (m : ℕ) → Names (checkpoint r m).table d ⊎ IsStable f r d → IsRecorded r d
+saved_by : (f : ℕ) (r : Knowledge) (d : Determinant) (m : ℕ) → Names (checkpoint r m).table d ⊎ IsStable f r d → IsRecorded r d
 saved_by f r d m cause = elim cause [ inl named ↦ IsRecorded-saved r d m named | inr stable ↦ IsRecorded-stable f r d stable ]
 
 -- a recorded determinant is that of a receipt
-pub Has-recorded : (r : Record) → KnowsTruth r → (d : Determinant) → IsRecorded r d → Has r.trace (receipt_of d)
+pub Has-recorded : (r : Knowledge) → KnowsTruth r → (d : Determinant) → IsRecorded r d → Has r.trace (receipt_of d)
 Has-recorded r known d (inl held) = subst (λ (c : Determinant). Has r.trace (receipt_of c)) held.1.1.2 (known.tables held.0 held.1.1.0 held.1.0 held.1.1.1).0.0
 Has-recorded r known d (inr saved) = subst (λ (c : Determinant). Has r.trace (receipt_of c)) saved.1.2 (known.checkpoints saved.0 saved.1.0 saved.1.1).0.0
 
 -- what an up member depends on is recorded
-pub IsRecorded-depended : (f : ℕ) (r : Record) → IsClosed f r → (d : Determinant) (m : ℕ) → IsUp r m → Depends r.trace m (receipt_of d) → IsRecorded r d
+pub IsRecorded-depended : (f : ℕ) (r : Knowledge) → IsClosed f r → (d : Determinant) (m : ℕ) → IsUp r m → Depends r.trace m (receipt_of d) → IsRecorded r d
 IsRecorded-depended f r closed d m up depends = recorded_by f r d m up (closed.events m depends.0 up depends.2 d depends.1)
 
 -- what precedes a recorded receipt is recorded
-pub IsRecorded-before : (f : ℕ) (r : Record) → IsClosed f r → (c d : Determinant) → IsRecorded r d → Precedes r.trace (receipt_of c) (receipt_of d) → IsRecorded r c
+pub IsRecorded-before : (f : ℕ) (r : Knowledge) → IsClosed f r → (c d : Determinant) → IsRecorded r d → Precedes r.trace (receipt_of c) (receipt_of d) → IsRecorded r c
 IsRecorded-before f r closed c d (inl held) before = recorded_by f r c held.0 held.1.0 (closed.tables held.0 d held.1.0 held.1.1 c before)
 IsRecorded-before f r closed c d (inr saved) before = saved_by f r c saved.0 (closed.checkpoints saved.0 d saved.1 c before)
 
 -- what precedes an event from before its member's checkpoint is recorded
-pub IsRecorded-reached : (f : ℕ) (r : Record) → IsClosed f r → (d : Determinant) (b : Mark) → IsBeforeCheckpoint r b → Precedes r.trace (receipt_of d) b → IsRecorded r d
+pub IsRecorded-reached : (f : ℕ) (r : Knowledge) → IsClosed f r → (d : Determinant) (b : Mark) → IsBeforeCheckpoint r b → Precedes r.trace (receipt_of d) b → IsRecorded r d
 IsRecorded-reached f r closed d b reached before = saved_by f r d _ (closed.reached b reached d before)
 
 -- where the checkpoint of its member is the same, an event is from before it or not
-pub IsBeforeCheckpoint-same : (old new : Record) (b : Mark) → checkpoint new (member_of b) ≡ checkpoint old (member_of b) → IsBeforeCheckpoint new b → IsBeforeCheckpoint old b
+pub IsBeforeCheckpoint-same : (old new : Knowledge) (b : Mark) → checkpoint new (member_of b) ≡ checkpoint old (member_of b) → IsBeforeCheckpoint new b → IsBeforeCheckpoint old b
 IsBeforeCheckpoint-same old new (Send from ssn to) same reached = rw same at reached
 IsBeforeCheckpoint-same old new (Receipt to rsn from ssn) same reached = rw same at reached
 
 -- so a member's recorded receipts are its first ones
-pub IsRecorded-prefix : (f : ℕ) (r : Record) → IsClosed f r → (c d : Determinant) → c.to ≡ d.to → Earlier r.trace (receipt_of c) (receipt_of d) → IsRecorded r d → IsRecorded r c
+pub IsRecorded-prefix : (f : ℕ) (r : Knowledge) → IsClosed f r → (c d : Determinant) → c.to ≡ d.to → Earlier r.trace (receipt_of c) (receipt_of d) → IsRecorded r d → IsRecorded r c
 IsRecorded-prefix f r closed c d same earlier recorded =
     IsRecorded-before f r closed c d recorded (step (itself (earlier.0, earlier.3)) (earlier, inl same))
 
 -- in a closed record no up member is an orphan
-pub no_orphan : (f : ℕ) (r : Record) → IsClosed f r → (m : ℕ) → ¬ (IsOrphan r m)
+pub no_orphan : (f : ℕ) (r : Knowledge) → IsClosed f r → (m : ℕ) → ¬ (IsOrphan r m)
 no_orphan f r closed m orphan = orphan.1.2 (IsRecorded-depended f r closed orphan.1.0 m orphan.0 orphan.1.1)
 
 -- where nobody is down, nothing is asked of those down
-pub nobody_down_empty : (f : ℕ) (r : Record) → r.down ≡ set.empty → IsDownEmpty f r
+pub nobody_down_empty : (f : ℕ) (r : Knowledge) → r.down ≡ set.empty → IsDownEmpty f r
 nobody_down_empty f r none = record {
   few = rw (none, set.len-empty nat_cmp) (omega arith);
   tables = λ m down. never_both r.down m down (up m);

@@ -8,13 +8,13 @@ use Rattle.fbl_base.specs.Events.{member_of, receipt_of}
 use Rattle.fbl_base.proofs.Sizes.{some_outside}
 use Rattle.fbl_table.specs.declared.entry.Entry.{Entry}
 use Rattle.fbl_member.specs.Members.{Message}
-use Rattle.fbl_law.specs.Record.{Members, Includes, Record, table, send_mark, IsInFlight, IsDown, IsUp, Names, Holds, checkpoint, IsRecorded, IsHolder, IsStable, IsTrueEntry, KnowsTruth, NamesCauses, IsClosed, MatchesTrace, IsDownEmpty, IsCheckpointKept}
+use Rattle.fbl_law.specs.Knowledge.{Members, Includes, Knowledge, table, send_mark, IsInFlight, IsDown, IsUp, Names, Holds, checkpoint, IsRecorded, IsHolder, IsStable, IsTrueEntry, KnowsTruth, NamesCauses, IsClosed, MatchesTrace, IsDownEmpty, IsCheckpointKept}
 use Rattle.fbl_law.specs.Steps.{IsStruck}
 use Rattle.fbl_law.proofs.Lists.{Contains-none}
 use Rattle.fbl_law.proofs.Tables.{Includes-left}
 use Rattle.fbl_law.proofs.Safe.{down_or_up, never_both, IsRecorded-held, IsRecorded-saved, IsBeforeCheckpoint-same}
 
-module _ (f : ℕ) (old new : Record) (struck : Members) (s : IsStruck old new struck) (few : set.len new.down ≤ f) where
+module _ (f : ℕ) (old new : Knowledge) (struck : Members) (s : IsStruck old new struck) (few : set.len new.down ≤ f) where
   stays_down : (m : ℕ) → IsDown old m → IsDown new m
   stays_down m down = subst (λ (d : Members). Includes d m) (sym s.down) (Includes-left old.down struck m down)
 

@@ -2,7 +2,7 @@
 use Rattle.std.proofs.Common.{inl, inr, arith}
 use Rattle.std.specs.FinSet as set
 use Rattle.fbl_base.proofs.Sizes.{some_outside}
-use Rattle.fbl_law.specs.Record.{IsUp}
+use Rattle.fbl_law.specs.Knowledge.{IsUp}
 use Rattle.fbl_law.specs.Laws.{SurvivorsRecord}
 use Rattle.fbl_law.proofs.Safe.{down_or_up, never_both}
 use Rattle.fbl_law.proofs.Tables.{Includes-left}

@@ -14,7 +14,7 @@ use Rattle.fbl_base.specs.MemberSets.{contains-insert_same, contains-insert_othe
 use Rattle.fbl_base.proofs.Recorded.{Decides-same_determinant}
 use Rattle.fbl_table.specs.declared.entry.Entry.{Entry}
 use Rattle.fbl_member.specs.Members.{MemberRecord, blank}
-use Rattle.fbl_law.specs.Record.{Members, Includes, Names}
+use Rattle.fbl_law.specs.Knowledge.{Members, Includes, Names}
 use Rattle.fbl_table.specs.Tables.{added, held_by, gathered, learned, noted, piggybacked}
 use Rattle.fbl_law.proofs.Lists.{Contains-here, Contains-there, Contains-cons_cases, Contains-none, Contains-filter, Contains-from_filter}
 

@@ -9,7 +9,7 @@ use Rattle.fbl_base.specs.Fold.{Next}
 use Rattle.fbl_base.specs.Audit.{Parts, IsDump, IsOrphan}
 use Rattle.fbl_table.specs.declared.entry.Entry.{Entry}
 use Rattle.fbl_member.specs.Members.{MemberRecord}
-use Rattle.fbl_law.specs.Record.{Members, Includes, IsDown}
+use Rattle.fbl_law.specs.Knowledge.{Members, Includes, IsDown}
 use Rattle.fbl_law.specs.Groups.{GroupRecord, member, marks, knowledge}
 use Rattle.fbl_law.specs.Sound.{IsSound}
 

@@ -10,7 +10,7 @@ use Rattle.fbl_base.specs.Precedence.{Has}
 use Rattle.fbl_base.specs.Fold.{Next}
 use Rattle.fbl_base.specs.Steps.{SendsAllowed}
 use Rattle.fbl_member.specs.Members.{Message}
-use Rattle.fbl_law.specs.Record.{Members, IsRecorded}
+use Rattle.fbl_law.specs.Knowledge.{Members, IsRecorded}
 use Rattle.fbl_law.specs.Groups.{GroupRecord, checkpoint, marks, knowledge, is_recorded}
 use Rattle.fbl_law.specs.Sound.{receipts_at, IsSound}
 use Rattle.fbl_law.specs.GroupSteps.{IsGroupStart, IsDelivery, IsStrike, IsCheckpoint, IsRecovery}

@@ -12,7 +12,7 @@ use Rattle.fbl_base.specs.Rules.{sends_of}
 use Rattle.fbl_base.specs.Fold.{Next, note_of, step_events}
 use Rattle.fbl_table.specs.Tables.{piggybacked}
 use Rattle.fbl_member.specs.Members.{Message, MemberRecord, fresh, blank, received_by, messages_from}
-use Rattle.fbl_law.specs.Record.{Members, IsUp, IsDown, MatchesTrace}
+use Rattle.fbl_law.specs.Knowledge.{Members, IsUp, IsDown, MatchesTrace}
 use Rattle.fbl_law.specs.Steps.{Stays, IsEventCut, recovery_table, between, taken_off}
 use Rattle.fbl_law.specs.Groups.{GroupRecord, HasChannels, member, checkpoint, channel, marks, knowledge, receipts}
 use Rattle.fbl_law.specs.Sound.{IsFold}

@@ -9,7 +9,7 @@ use Rattle.fbl_base.specs.Events.{determinant_of, mark_of}
 use Rattle.fbl_table.specs.declared.entry.Entry.{Entry}
 use Rattle.fbl_table.specs.Tables.{is_held}
 use Rattle.fbl_member.specs.Members.{Message, MemberRecord, blank}
-use Rattle.fbl_law.specs.Record.{Members, Record}
+use Rattle.fbl_law.specs.Knowledge.{Members, Knowledge}
 
 -- a group: its parameters, its members' records and their checkpoints, its channels (for each sender those to each
 -- receiver, each with its messages in flight, first in, first out), its trace, who is down, and how many receipts were
@@ -67,7 +67,7 @@ abbrev pub marks : GroupRecord → List Mark
 marks r = map mark_of r.trace
 
 -- the part of the record that the laws of causes speak of
-abbrev pub knowledge : GroupRecord → Record
+abbrev pub knowledge : GroupRecord → Knowledge
 knowledge r = record { trace = marks r; tables = tables r; checkpoints = r.checkpoints; channel = channel r; down = r.down }
 
 -- whether some member's table (that of a member that is down is empty) or some checkpoint's has the determinant

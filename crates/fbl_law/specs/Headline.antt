@@ -8,7 +8,7 @@ use Rattle.fbl_base.specs.Events.{receipt_of}
 use Rattle.fbl_base.specs.Precedence.{Has, Depends}
 use Rattle.fbl_base.specs.Fold.{Next}
 use Rattle.fbl_table.specs.Tables.{is_held}
-use Rattle.fbl_law.specs.Record.{Members, Includes, IsRecorded, IsAlwaysHeld, IsOrphan}
+use Rattle.fbl_law.specs.Knowledge.{Members, Includes, IsRecorded, IsAlwaysHeld, IsOrphan}
 use Rattle.fbl_law.specs.Groups.{GroupRecord, member, marks, knowledge}
 use Rattle.fbl_law.specs.GroupSteps.{IsStrike}
 use Rattle.fbl_law.specs.Sound.{IsSound}
@@ -45,8 +45,8 @@ NoSurvivorIsOrphan =
 
 -- whichever members are struck, at most f with those that are down: what a member depends on that is not among these, the
 -- table of such a member has
-abbrev pub SurvivorsHold : Type 0
-SurvivorsHold =
+abbrev pub AnySurvivorsHold : Type 0
+AnySurvivorsHold =
     (next : Next) (r : GroupRecord) (struck : Members) (m : ℕ) (d : Determinant)
     → IsSound next r → set.len (set.union r.down struck) ≤ r.config.f
     → ¬ (Includes (set.union r.down struck) m) → Depends (marks r) m (receipt_of d)

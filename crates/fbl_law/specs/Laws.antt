@@ -9,7 +9,7 @@ use Rattle.fbl_base.specs.Events.{mark_of}
 use Rattle.fbl_base.specs.Fold.{Next, Lawful}
 use Rattle.fbl_base.specs.Precedence.{Has, Earlier, Precedes, Depends}
 use Rattle.fbl_base.specs.Events.{receipt_of}
-use Rattle.fbl_law.specs.Record.{Members, Includes, Record, table, Names, Holds, IsHolder, IsRecorded, IsClosed, IsAlwaysHeld, IsOrphan, IsSoundKnowledge}
+use Rattle.fbl_law.specs.Knowledge.{Members, Includes, Knowledge, table, Names, Holds, IsHolder, IsRecorded, IsClosed, IsAlwaysHeld, IsOrphan, IsSoundKnowledge}
 use Rattle.fbl_member.specs.Members.{Message}
 use Rattle.fbl_law.specs.Steps.{IsDelivered, IsStruck, IsCheckpointed, IsRecovered, Stays, IsCut, IsEventCut}
 use Rattle.fbl_base.specs.Rules.{WellFormed}
@@ -18,69 +18,69 @@ use Rattle.fbl_law.specs.Run.{IsStart, Run}
 
 -- in a closed record each receipt is stable, or held by each up member that depends on it
 abbrev pub ClosedIsHeld : Type 0
-ClosedIsHeld = (f : ℕ) (r : Record) → IsClosed f r → IsAlwaysHeld f r
+ClosedIsHeld = (f : ℕ) (r : Knowledge) → IsClosed f r → IsAlwaysHeld f r
 
 -- in a closed record no up member is an orphan
 abbrev pub ClosedHasNoOrphan : Type 0
-ClosedHasNoOrphan = (f : ℕ) (r : Record) → IsClosed f r → (m : ℕ) → ¬ (IsOrphan r m)
+ClosedHasNoOrphan = (f : ℕ) (r : Knowledge) → IsClosed f r → (m : ℕ) → ¬ (IsOrphan r m)
 
 -- what precedes a recorded receipt is recorded
 abbrev pub RecordedFromBelow : Type 0
 RecordedFromBelow =
-    (f : ℕ) (r : Record) → IsClosed f r → (c d : Determinant) → IsRecorded r d → Precedes r.trace (receipt_of c) (receipt_of d) → IsRecorded r c
+    (f : ℕ) (r : Knowledge) → IsClosed f r → (c d : Determinant) → IsRecorded r d → Precedes r.trace (receipt_of c) (receipt_of d) → IsRecorded r c
 
 -- the recorded receipts of a member are its first ones: one that comes earlier than a recorded one is recorded
 abbrev pub RecordedFirst : Type 0
 RecordedFirst =
-    (f : ℕ) (r : Record) → IsClosed f r → (c d : Determinant) → c.to ≡ d.to → Earlier r.trace (receipt_of c) (receipt_of d) → IsRecorded r d → IsRecorded r c
+    (f : ℕ) (r : Knowledge) → IsClosed f r → (c d : Determinant) → c.to ≡ d.to → Earlier r.trace (receipt_of c) (receipt_of d) → IsRecorded r d → IsRecorded r c
 
 -- whichever members were struck, at most f with those that are down: what a member depends on that is not among these, the
 -- table of such a member has
 abbrev pub SurvivorsRecord : Type 0
 SurvivorsRecord =
-    (n f : ℕ) (r : Record) (struck : Members) → IsSoundKnowledge n f r → set.len (set.union r.down struck) ≤ f
+    (n f : ℕ) (r : Knowledge) (struck : Members) → IsSoundKnowledge n f r → set.len (set.union r.down struck) ≤ f
     → (m : ℕ) (d : Determinant) → ¬ (Includes (set.union r.down struck) m) → Depends r.trace m (receipt_of d)
     → (q : ℕ) × ¬ (Includes (set.union r.down struck) q) × Names (table r q) d
 
 -- a delivery keeps a record sound
 abbrev pub DeliveryKeeps : Type 0
-DeliveryKeeps = (n f : ℕ) (old new : Record) (v : Message) (rsn : ℕ) (made : List Message) → IsDelivered n f old new v rsn made → IsSoundKnowledge n f old → IsSoundKnowledge n f new
+DeliveryKeeps = (n f : ℕ) (old new : Knowledge) (v : Message) (rsn : ℕ) (made : List Message) → IsDelivered n f old new v rsn made → IsSoundKnowledge n f old → IsSoundKnowledge n f new
 
 -- so does a strike after which at most f members are down, whoever was down before
 abbrev pub StrikeKeeps : Type 0
-StrikeKeeps = (n f : ℕ) (old new : Record) (struck : Members) → IsStruck old new struck → set.len new.down ≤ f → IsSoundKnowledge n f old → IsSoundKnowledge n f new
+StrikeKeeps = (n f : ℕ) (old new : Knowledge) (struck : Members) → IsStruck old new struck → set.len new.down ≤ f → IsSoundKnowledge n f old → IsSoundKnowledge n f new
 
 -- so does a checkpoint of a member
 abbrev pub CheckpointKeeps : Type 0
-CheckpointKeeps = (n f : ℕ) (old new : Record) (p : ℕ) → IsCheckpointed old new p → IsSoundKnowledge n f old → IsSoundKnowledge n f new
+CheckpointKeeps = (n f : ℕ) (old new : Knowledge) (p : ℕ) → IsCheckpointed old new p → IsSoundKnowledge n f old → IsSoundKnowledge n f new
 
 -- so does a recovery
 abbrev pub RecoveryKeeps : Type 0
-RecoveryKeeps = (n f : ℕ) (old new : Record) → IsRecovered f old new → IsSoundKnowledge n f old → IsSoundKnowledge n f new
+RecoveryKeeps = (n f : ℕ) (old new : Knowledge) → IsRecovered f old new → IsSoundKnowledge n f old → IsSoundKnowledge n f new
 
 -- what precedes an event that a recovery leaves is left
 abbrev pub CutIsClosed : Type 0
-CutIsClosed = (n f : ℕ) (old new : Record) → IsRecovered f old new → IsSoundKnowledge n f old → (a b : Mark) → Precedes old.trace a b → Has new.trace b → Has new.trace a
+CutIsClosed = (n f : ℕ) (old new : Knowledge) → IsRecovered f old new → IsSoundKnowledge n f old → (a b : Mark) → Precedes old.trace a b → Has new.trace b → Has new.trace a
 
 -- an event of a sound record stays exactly where each receipt that precedes it is recorded
 abbrev pub StaysIsRecorded : Type 0
 StaysIsRecorded =
-    (n f : ℕ) (r : Record) → IsSoundKnowledge n f r → (e : Mark) → Has r.trace e → Stays r e ↔ ((c : Determinant) → Precedes r.trace (receipt_of c) e → IsRecorded r c)
+    (n f : ℕ) (r : Knowledge) → IsSoundKnowledge n f r → (e : Mark) → Has r.trace e → Stays r e ↔ ((c : Determinant) → Precedes r.trace (receipt_of c) e → IsRecorded r c)
 
 -- a recovery leaves exactly the recorded receipts
 abbrev pub CutIsRecorded : Type 0
 CutIsRecorded =
-    (n f : ℕ) (old new : Record) → IsRecovered f old new → IsSoundKnowledge n f old
+    (n f : ℕ) (old new : Knowledge) → IsRecovered f old new → IsSoundKnowledge n f old
     → (d : Determinant) → Has new.trace (receipt_of d) ↔ (Has old.trace (receipt_of d) × IsRecorded old d)
 
 -- the holders after a recovery are those before, with the members that were down
 abbrev pub HoldersStay : Type 0
-HoldersStay = (n f : ℕ) (old new : Record) → IsRecovered f old new → IsSoundKnowledge n f old → (d : Determinant) (m : ℕ) → Holds new d m ↔ IsHolder old d m
+HoldersStay = (n f : ℕ) (old new : Knowledge) → IsRecovered f old new → IsSoundKnowledge n f old → (d : Determinant) (m : ℕ) → Holds new d m ↔ IsHolder old d m
 
 -- the cut of a lawful trace is lawful, and its marks are the cut of the marks
 abbrev pub CutIsLawful : Type 0
 CutIsLawful =
-    (next : Next) (n f : ℕ) (starts : List Start) (r : Record) (old new : List Event)
+    (next : Next) (n f : ℕ) (starts : List Start) (r : Knowledge) (old new : List Event)
     → IsSoundKnowledge n f r → r.trace ≡ map mark_of old → IsEventCut (Stays r) old new → Lawful next n starts old
     → Lawful next n starts new × IsCut (Stays r) r.trace (map mark_of new)
 
@@ -90,9 +90,9 @@ NeverStuck = (n : ℕ) (t : List Mark) (done : ℕ → ℕ) → WellFormed n t �
 
 -- after every run the record is sound
 abbrev pub RunIsSound : Type 0
-RunIsSound = (n f : ℕ) (start r : Record) → IsStart n start → Run n f start r → IsSoundKnowledge n f r
+RunIsSound = (n f : ℕ) (start r : Knowledge) → IsStart n start → Run n f start r → IsSoundKnowledge n f r
 
 -- after every run each receipt has more than f holders or is held by each up member that depends on it, and no up
 -- member is an orphan
 abbrev pub RunIsHeld : Type 0
-RunIsHeld = (n f : ℕ) (start r : Record) → IsStart n start → Run n f start r → IsAlwaysHeld f r × ((m : ℕ) → ¬ (IsOrphan r m))
+RunIsHeld = (n f : ℕ) (start r : Knowledge) → IsStart n start → Run n f start r → IsAlwaysHeld f r × ((m : ℕ) → ¬ (IsOrphan r m))

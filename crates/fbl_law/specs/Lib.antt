@@ -1,4 +1,4 @@
-pub mod Record
+pub mod Knowledge
 pub mod Steps
 pub mod Run
 pub mod Laws

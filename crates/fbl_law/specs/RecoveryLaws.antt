@@ -7,7 +7,7 @@ use Rattle.fbl_base.specs.Events.{mark_of}
 use Rattle.fbl_base.specs.Fold.{Next}
 use Rattle.fbl_table.specs.Tables.{found}
 use Rattle.fbl_member.specs.Members.{MemberRecord, blank, logged_note, replayed_by}
-use Rattle.fbl_law.specs.Record.{Holds, IsHolder, IsDown, IsRecorded}
+use Rattle.fbl_law.specs.Knowledge.{Holds, IsHolder, IsDown, IsRecorded}
 use Rattle.fbl_law.specs.Steps.{Stays, IsEventCut}
 use Rattle.fbl_law.specs.Groups.{GroupRecord, checkpoint, marks, knowledge, receipts, is_recorded}
 use Rattle.fbl_law.specs.Sound.{receipts_at, IsSound}

@@ -11,7 +11,7 @@ use Rattle.fbl_base.specs.Fold.{Next}
 use Rattle.fbl_table.specs.declared.entry.Entry.{Entry}
 use Rattle.fbl_table.specs.Tables.{is_held, found, piggybacked}
 use Rattle.fbl_member.specs.Members.{Message, MemberRecord, last_from, blank, logged_note, logged_beyond}
-use Rattle.fbl_law.specs.Record.{Members, IsDown, IsUp}
+use Rattle.fbl_law.specs.Knowledge.{Members, IsDown, IsUp}
 use Rattle.fbl_law.specs.Steps.{recovery_table}
 use Rattle.fbl_law.specs.Groups.{GroupRecord, HasChannels, member, checkpoint, channel, marks, knowledge, receipts}
 use Rattle.fbl_law.specs.Sound.{IsReplayed}
@@ -34,16 +34,16 @@ abbrev pub is_replayed : GroupRecord → Determinant → Bool
 is_replayed r d = set.contains r.down d.to && nat_lt (checkpoint r d.to).received d.rsn
 
 -- whether the event is a receipt, of a member of the set, whose determinant isn't in the table
-abbrev pub is_lost : Members → List Entry → Mark → Bool
-is_lost s held (Send from ssn to) = false
-is_lost s held (Receipt to rsn from ssn) = set.contains s to && not (is_held held (record { from = from; ssn = ssn; to = to; rsn = rsn }))
+abbrev pub stops_at : Members → List Entry → Mark → Bool
+stops_at s held (Send from ssn to) = false
+stops_at s held (Receipt to rsn from ssn) = set.contains s to && not (is_held held (record { from = from; ssn = ssn; to = to; rsn = rsn }))
 
 -- the trace in one pass, where the members that have stopped are left out, and a member stops at its first lost receipt
 abbrev pub cut_from : Members → List Entry → Members → List Event → List Event
 cut_from s held stopped [] = []
 cut_from s held stopped (e ∷ trace) =
     if set.contains stopped (member_of (mark_of e)) then cut_from s held stopped trace
-    else (if is_lost s held (mark_of e) then cut_from s held (set.insert stopped (member_of (mark_of e))) trace
+    else (if stops_at s held (mark_of e) then cut_from s held (set.insert stopped (member_of (mark_of e))) trace
     else e ∷ cut_from s held stopped trace)
 
 -- what recovery gives the members that are down

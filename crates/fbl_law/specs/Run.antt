@@ -5,12 +5,12 @@ use Rattle.fbl_base.specs.declared.trace.Determinant.{Determinant}
 use Rattle.fbl_base.specs.Precedence.{Has}
 use Rattle.fbl_base.specs.Rules.{WellFormed, sends_of}
 use Rattle.fbl_base.specs.Events.{receipt_of}
-use Rattle.fbl_law.specs.Record.{Members, Record, table, checkpoint, IsInFlight, MatchesTrace}
+use Rattle.fbl_law.specs.Knowledge.{Members, Knowledge, table, checkpoint, IsInFlight, MatchesTrace}
 use Rattle.fbl_member.specs.Members.{Message}
 use Rattle.fbl_law.specs.Steps.{IsDelivered, IsStruck, IsCheckpointed, IsRecovered}
 
 -- nothing is received yet, so nobody knows anything, and the checkpoints have at most the sends of the trace
-pub record IsStart (n : ℕ) (r : Record) : Type 0 where
+pub record IsStart (n : ℕ) (r : Knowledge) : Type 0 where
   pub rules : WellFormed n r.trace
   pub nobody_down : r.down ≡ set.empty
   pub unreceived : (d : Determinant) → ¬ (Has r.trace (receipt_of d))
@@ -20,9 +20,9 @@ pub record IsStart (n : ℕ) (r : Record) : Type 0 where
   pub messages : (v : Message) → IsInFlight r v → v.carried ≡ []
 
 -- a run of deliveries, of strikes after which at most f members are down, of checkpoints, and of recoveries
-pub data Run (n f : ℕ) (start : Record) : Record → Type 0 where
+pub data Run (n f : ℕ) (start : Knowledge) : Knowledge → Type 0 where
   starts : Run n f start start
-  delivers : {old new : Record} {v : Message} {rsn : ℕ} {made : List Message} → Run n f start old → IsDelivered n f old new v rsn made → Run n f start new
-  strikes : {old new : Record} {struck : Members} → Run n f start old → IsStruck old new struck → set.len new.down ≤ f → Run n f start new
-  checkpoints : {old new : Record} {p : ℕ} → Run n f start old → IsCheckpointed old new p → Run n f start new
-  recovers : {old new : Record} → Run n f start old → IsRecovered f old new → Run n f start new
+  delivers : {old new : Knowledge} {v : Message} {rsn : ℕ} {made : List Message} → Run n f start old → IsDelivered n f old new v rsn made → Run n f start new
+  strikes : {old new : Knowledge} {struck : Members} → Run n f start old → IsStruck old new struck → set.len new.down ≤ f → Run n f start new
+  checkpoints : {old new : Knowledge} {p : ℕ} → Run n f start old → IsCheckpointed old new p → Run n f start new
+  recovers : {old new : Knowledge} → Run n f start old → IsRecovered f old new → Run n f start new

@@ -12,7 +12,7 @@ use Rattle.fbl_base.specs.Fold.{Next, Lawful, actions_of, notes_of, note_of, aft
 use Rattle.fbl_base.specs.MemberSets.{AllBelow}
 use Rattle.fbl_base.specs.Rules.{taken_on}
 use Rattle.fbl_member.specs.Members.{Message, MemberRecord, progress_of, last_from, blank}
-use Rattle.fbl_law.specs.Record.{IsInFlight, IsUp, IsDown, IsSoundKnowledge}
+use Rattle.fbl_law.specs.Knowledge.{IsInFlight, IsUp, IsDown, IsSoundKnowledge}
 use Rattle.fbl_law.specs.Groups.{GroupRecord, HasChannels, member, checkpoint, marks, knowledge, receipts}
 
 -- the notes that the member received in the trace, in order

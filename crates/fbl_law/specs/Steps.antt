@@ -11,7 +11,7 @@ use Rattle.fbl_base.specs.Events.{member_of, mark_of}
 use Rattle.fbl_base.specs.Precedence.{Has, Earlier}
 use Rattle.fbl_base.specs.Rules.{WellFormed, receipts_of, sends_of}
 use Rattle.fbl_base.specs.Events.{receipt_of}
-use Rattle.fbl_law.specs.Record.{Members, Record, table, send_mark, IsInFlight, IsDown, IsUp, IsRecorded, MatchesTrace, checkpoint}
+use Rattle.fbl_law.specs.Knowledge.{Members, Knowledge, table, send_mark, IsInFlight, IsDown, IsUp, IsRecorded, MatchesTrace, checkpoint}
 use Rattle.fbl_table.specs.declared.entry.Entry.{Entry}
 use Rattle.fbl_table.specs.Tables.{learned, noted, piggybacked, gathered, marked}
 use Rattle.fbl_member.specs.Members.{Message, MemberRecord, blank}
@@ -29,7 +29,7 @@ saved_tables s checkpoints (suc m) =
 
 -- what recovery gives the members that are down: the survivors' tables in member order (the others' are empty) and then
 -- those of the checkpoints of the members that are down, in member order, where those that are down count as holders
-abbrev pub recovery_table : Record → List Entry
+abbrev pub recovery_table : Knowledge → List Entry
 recovery_table r = marked r.down (gathered_all [] (r.tables ++ saved_tables r.down r.checkpoints (length r.checkpoints)))
 
 -- the determinant of the receipt of a message
@@ -52,7 +52,7 @@ taken_off v q p channel = if v.from == q && v.to == p then drop 1 channel else c
 -- channel, is taken off, the trace has the receipt and the sends made and is well formed, the receiver has learned what v
 -- carried and noted its receipt, the messages made are its own, carry what it then passes on and go to the ends of their
 -- channels, and the other tables and the checkpoints stay
-pub record IsDelivered (n f : ℕ) (old new : Record) (v : Message) (rsn : ℕ) (made : List Message) : Type 0 where
+pub record IsDelivered (n f : ℕ) (old new : Knowledge) (v : Message) (rsn : ℕ) (made : List Message) : Type 0 where
   pub nobody_down : old.down ≡ set.empty
   pub down : new.down ≡ set.empty
   pub front : slice_get (old.channel v.from v.to) 0 ≡ Some v
@@ -66,7 +66,7 @@ pub record IsDelivered (n f : ℕ) (old new : Record) (v : Message) (rsn : ℕ) 
 
 -- what a strike leaves: the members named are down beside those that were, what those that are down held and what was in
 -- flight from them or to them is gone, and the trace, the other tables and channels and the checkpoints stay
-pub record IsStruck (old new : Record) (struck : Members) : Type 0 where
+pub record IsStruck (old new : Knowledge) (struck : Members) : Type 0 where
   pub down : new.down ≡ set.union old.down struck
   pub trace : new.trace ≡ old.trace
   pub tables : (m : ℕ) → IsUp new m → table new m ≡ table old m
@@ -77,7 +77,7 @@ pub record IsStruck (old new : Record) (struck : Members) : Type 0 where
 
 -- what a checkpoint of the member p leaves, where nobody is down: its table and how far it has come are kept, in the place
 -- of its older checkpoint, and nothing else changes
-pub record IsCheckpointed (old new : Record) (p : ℕ) : Type 0 where
+pub record IsCheckpointed (old new : Knowledge) (p : ℕ) : Type 0 where
   pub nobody_down : old.down ≡ set.empty
   pub down : new.down ≡ old.down
   pub trace : new.trace ≡ old.trace
@@ -93,7 +93,7 @@ abbrev pub UpTo : List Mark → Mark → Mark → Type 0
 UpTo trace a b = (a ≡ b) ⊎ Earlier trace a b
 
 -- the event stays: its member is up, or each of the member's receipts up to it is recorded
-abbrev pub Stays : Record → Mark → Type 0
+abbrev pub Stays : Knowledge → Mark → Type 0
 Stays r e = IsDown r (member_of e) → (c : Determinant) → c.to ≡ member_of e → UpTo r.trace (receipt_of c) e → IsRecorded r c
 
 -- the second trace is the first one without the events of it that aren't kept
@@ -108,7 +108,7 @@ IsEventCut Kept old new =
 -- what recovery leaves: nobody is down, the trace is cut, the tables of up members, the channels between them and the
 -- checkpoints stay, the others have what is gathered from survivors and from checkpoints, and their channels are made
 -- again from the trace, carrying what the sender then passes on
-pub record IsRecovered (f : ℕ) (old new : Record) : Type 0 where
+pub record IsRecovered (f : ℕ) (old new : Knowledge) : Type 0 where
   pub nobody_down : new.down ≡ set.empty
   pub trace : IsCut (Stays old) old.trace new.trace
   pub tables : (m : ℕ) → IsUp old m → table new m ≡ table old m

@@ -3,7 +3,7 @@
 //! the check of the crate proves it.
 
 ghost use Rattle.fbl_law.specs.Dumps.{DumpHasNoOrphan, DumpObeysRules};
-ghost use Rattle.fbl_law.specs.Headline.{EachReceiptIsHeld, NoSurvivorIsOrphan, RecordedIsPrefix, SoundHasNoOrphan, SoundIsAlwaysHeld, SurvivorsHold};
+ghost use Rattle.fbl_law.specs.Headline.{EachReceiptIsHeld, NoSurvivorIsOrphan, RecordedIsPrefix, SoundHasNoOrphan, SoundIsAlwaysHeld, AnySurvivorsHold};
 
 /// In a sound group in which nobody is down each receipt is held by more than f members or by each member that depends on
 /// it. Whoever is down, each receipt has more than f holders or is held by each up member that depends on it. This is the
@@ -18,7 +18,7 @@ pub fn always_held_law()
 pub fn no_orphan_law()
     ensures sound { SoundHasNoOrphan }
     ensures struck { NoSurvivorIsOrphan }
-    ensures recorded { SurvivorsHold }
+    ensures recorded { AnySurvivorsHold }
 {}
 
 /// The recorded receipts of a member, up or down, are its first ones, so that it can be put at the fold of them.

@@ -14,7 +14,7 @@ use Rattle.fbl_base.specs.Fold.{Logged, numbered, starts_of}
 use Rattle.fbl_table.specs.declared.entry.Entry.{Entry}
 use Rattle.fbl_table.proofs.Adding.{take-next}
 use Rattle.fbl_member.specs.Members.{Message, MemberRecord, advanced_by, messages_from, logged_note, logged_beyond}
-use Rattle.fbl_member.specs.Kept.{send_of, IsKept}
+use Rattle.fbl_member.specs.Kept.{without_number, IsKept}
 
 pub length-numbered : (before : ℕ) (sends : List (ℕ × Note)) → length (numbered before sends) ≡ length sends
 length-numbered before [] = refl
@@ -25,12 +25,12 @@ numbered-append before [] ys = ap (λ k. numbered k ys) (let e : before ≡ befo
 numbered-append before (x ∷ xs) ys =
     ap (λ l. record { ssn = before + 1; to = x.0; note = x.1 } ∷ l) (numbered-append (before + 1) xs ys ∙ ap (λ k. numbered (before + 1) xs ++ numbered k ys) (let e : before + 1 + length xs ≡ before + suc (length xs) = omega arith in e))
 
-sends-numbered : (before : ℕ) (sends : List (ℕ × Note)) → map send_of (numbered before sends) ≡ sends
+sends-numbered : (before : ℕ) (sends : List (ℕ × Note)) → map without_number (numbered before sends) ≡ sends
 sends-numbered before [] = refl
 sends-numbered before (s ∷ sends) = ap (λ l. s ∷ l) (sends-numbered (before + 1) sends)
 
 -- the numbers of a log of sends
-pub numbered-again : (sends : List (ℕ × Note)) → numbered 0 sends ≡ numbered 0 (map send_of (numbered 0 sends))
+pub numbered-again : (sends : List (ℕ × Note)) → numbered 0 sends ≡ numbered 0 (map without_number (numbered 0 sends))
 numbered-again sends = ap (numbered 0) (sym (sends-numbered 0 sends))
 
 -- the log after more sends
@@ -128,7 +128,7 @@ kept m log lasts receipts sends is = record {
   lasts = lasts;
   few_receipts = receipts;
   few_sends = omega (arith, ap length is, length-numbered 0 log, sends);
-  numbers = is ∙ numbered-again log ∙ ap (λ l. numbered 0 (map send_of l)) (sym is);
+  numbers = is ∙ numbered-again log ∙ ap (λ l. numbered 0 (map without_number l)) (sym is);
 }
 
 -- one receipt of the fold, where the log has the step's sends at its end

@@ -4,14 +4,14 @@ use Rattle.std.specs.List.{AllByRecursion, IsDistinct}
 use Rattle.fbl_base.specs.declared.trace.Determinant.{Determinant}
 use Rattle.fbl_base.specs.Events.{same_determinant}
 use Rattle.fbl_table.specs.declared.entry.Entry.{Entry}
-use Rattle.fbl_table.specs.Tables.{is_unstable, piggybacked}
+use Rattle.fbl_table.specs.Tables.{is_open, piggybacked}
 use Rattle.fbl_member.specs.Carried.{IsOnce}
 
 module _ (f : _) where
   -- what holds of each determinant of a table holds of each that it passes on
   kept_all : (P : Determinant → Type 0) (table : List Entry) → AllByRecursion P (map (λ (e : Entry). e.det) table) → AllByRecursion P (map (λ (e : Entry). e.det) (piggybacked f table))
   kept_all P [] all = all
-  kept_all P (e ∷ table) all = at (is_unstable f e) (kept_all P table all.1) where
+  kept_all P (e ∷ table) all = at (is_open f e) (kept_all P table all.1) where
     at : (b : Bool) → AllByRecursion P (map (λ (x : Entry). x.det) (piggybacked f table)) → AllByRecursion P (map (λ (x : Entry). x.det) (cond b (e ∷ piggybacked f table) (piggybacked f table)))
     at true rest = (all.0, rest)
     at false rest = rest
@@ -19,7 +19,7 @@ module _ (f : _) where
   pub IsOnce-piggybacked : (table : List Entry) → IsOnce table → IsOnce (piggybacked f table)
   unfolding IsDistinct
   IsOnce-piggybacked [] once = once
-  IsOnce-piggybacked (e ∷ table) once = at (is_unstable f e) (kept_all (λ d. same_determinant e.det d ≡ false) table once.0) (IsOnce-piggybacked table once.1) where
+  IsOnce-piggybacked (e ∷ table) once = at (is_open f e) (kept_all (λ d. same_determinant e.det d ≡ false) table once.0) (IsOnce-piggybacked table once.1) where
     at : (b : Bool) → AllByRecursion (λ d. same_determinant e.det d ≡ false) (map (λ (x : Entry). x.det) (piggybacked f table)) → IsDistinct same_determinant (map (λ (x : Entry). x.det) (piggybacked f table)) → IsDistinct same_determinant (map (λ (x : Entry). x.det) (cond b (e ∷ piggybacked f table) (piggybacked f table)))
     at true others rest = (others, rest)
     at false others rest = rest

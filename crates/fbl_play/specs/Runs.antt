@@ -9,7 +9,7 @@ use Rattle.fbl_base.specs.Steps.{relay_step, mix_step}
 use Rattle.fbl_law.specs.Dumps.{dump_of}
 use Rattle.fbl_law.specs.Groups.{GroupRecord, checkpoint}
 use Rattle.fbl_law.specs.GroupSteps.{IsCheckpoint, IsGroupStart}
-use Rattle.fbl_law.specs.Record.{Members}
+use Rattle.fbl_law.specs.Knowledge.{Members}
 use Rattle.fbl_law.specs.Sound.{IsSound}
 use Rattle.fbl_group.specs.declared.answers.Receipted.{Receipted}
 use Rattle.fbl_group.specs.declared.answers.Recovered.{Recovered}

@@ -18,7 +18,7 @@ use Rattle.fbl_base.specs.declared.trace.Determinant.{Determinant}
 use Rattle.fbl_base.specs.Events.{same_determinant}
 use Rattle.indexmap.specs.IndexMap.{insert_entry}
 use Rattle.fbl_table.specs.declared.entry.Entry.{Entry}
-use Rattle.fbl_table.specs.Tables.{is_held, has_at, added, entry_of, is_unstable, piggybacked, gathered, learned, held_by, greatest_rsn, rsn_of, marked}
+use Rattle.fbl_table.specs.Tables.{is_held, has_at, added, entry_of, is_open, piggybacked, gathered, learned, held_by, greatest_rsn, rsn_of, marked}
 
 Pair : Type 0
 Pair = Determinant × set.FinSet nat_cmp
@@ -100,8 +100,8 @@ added-at (e ∷ es) entry (suc i) v once has is =
 pub take-next : {X : Type 0} (xs : List X) (i : ℕ) (x : X) → slice_get xs i ≡ Some x → take (i + 1) xs ≡ take i xs ++ x ∷ []
 take-next xs i x is = take_more xs i x (slice_get_within xs i x is) ∙ ap (λ y. take i xs ++ y ∷ []) (get_or_from_slice_get xs i x x is)
 
-pub piggyback-step : (f : ℕ) (table : List Entry) (i : ℕ) (e : Entry) → slice_get table i ≡ Some e → piggybacked f (take (i + 1) table) ≡ piggybacked f (take i table) ++ cond (is_unstable f e) (e ∷ []) []
-piggyback-step f table i e is = ap (piggybacked f) (take-next table i e is) ∙ filter-append (is_unstable f) (take i table) (e ∷ [])
+pub piggyback-step : (f : ℕ) (table : List Entry) (i : ℕ) (e : Entry) → slice_get table i ≡ Some e → piggybacked f (take (i + 1) table) ≡ piggybacked f (take i table) ++ cond (is_open f e) (e ∷ []) []
+piggyback-step f table i e is = ap (piggybacked f) (take-next table i e is) ∙ filter-append (is_open f) (take i table) (e ∷ [])
 
 pub greatest-step : (to : ℕ) (table : List Entry) (i : ℕ) (e : Entry) → slice_get table i ≡ Some e → greatest_rsn to (take (i + 1) table) ≡ max (greatest_rsn to (take i table)) (rsn_of to e)
 greatest-step to table i e is = ap (greatest_rsn to) (take-next table i e is) ∙ fold_push (λ last x. max last (rsn_of to x)) 0 (take i table) e

@@ -14,8 +14,8 @@ use Rattle.fbl_base.proofs.Sizes.{len-within}
 use Rattle.fbl_table.specs.declared.entry.Entry.{Entry}
 use Rattle.fbl_base.specs.declared.trace.Determinant.{Determinant}
 use Rattle.std.proofs.lemmas.List.{length-map, append-nil}
-use Rattle.fbl_table.specs.Tables.{is_unstable, piggybacked, marked, added, is_held, entry_of}
-use Rattle.fbl_table.specs.Index.{places, unstable_at, Within, IsIndex}
+use Rattle.fbl_table.specs.Tables.{is_open, piggybacked, marked, added, is_held, entry_of}
+use Rattle.fbl_table.specs.Index.{places, open_at, Within, IsIndex}
 use Rattle.fbl_table.proofs.Adding.{take-next}
 
 -- a filter that lets through less, after one that lets through more
@@ -65,20 +65,20 @@ length-push [] e = refl
 length-push (x ∷ table) e = ap suc (length-push table e)
 
 -- entries of which more is known now
-pub index-grown : (limit : ℕ) (old new : List Entry) (open_places : List ℕ) → length new ≡ length old → ((place : ℕ) → unstable_at limit new place ≡ true → unstable_at limit old place ≡ true) → IsIndex limit old open_places → IsIndex limit new open_places
+pub index-grown : (limit : ℕ) (old new : List Entry) (open_places : List ℕ) → length new ≡ length old → ((place : ℕ) → open_at limit new place ≡ true → open_at limit old place ≡ true) → IsIndex limit old open_places → IsIndex limit new open_places
 index-grown limit old new open_places same less index = record {
   within = Within-more (length old) (length new) open_places (omega (arith, same)) index.within;
-  covers = filter-weaker (unstable_at limit old) (unstable_at limit new) less open_places (places (length old)) index.covers ∙ ap (λ n. filter (unstable_at limit new) (places n)) (sym same);
+  covers = filter-weaker (open_at limit old) (open_at limit new) less open_places (places (length old)) index.covers ∙ ap (λ n. filter (open_at limit new) (places n)) (sym same);
 }
 
 -- a new last entry, whose place is open
 pub index-push : (limit : ℕ) (table : List Entry) (e : Entry) (open_places : List ℕ) → IsIndex limit table open_places → IsIndex limit (table ++ e ∷ []) (open_places ++ length table ∷ [])
 unfolding places
 index-push limit table e open_places index =
-    let p : ℕ → Bool = unstable_at limit table in
-    let q : ℕ → Bool = unstable_at limit (table ++ e ∷ []) in
+    let p : ℕ → Bool = open_at limit table in
+    let q : ℕ → Bool = open_at limit (table ++ e ∷ []) in
     let n = length table in
-    let agrees : (x : ℕ) → x < n → q x ≡ p x = λ x below. ap (λ o. option_map_or (is_unstable limit) o false) (front table e x below) in
+    let agrees : (x : ℕ) → x < n → q x ≡ p x = λ x below. ap (λ o. option_map_or (is_open limit) o false) (front table e x below) in
     let before : filter q open_places ≡ filter q (places n) = filter-agree p q n agrees open_places index.within ∙ index.covers ∙ sym (filter-agree p q n agrees (places n) (Within-places n)) in
     record {
       within = rw (length-push table e) (Within-push (suc n) open_places n (Within-more n (suc n) open_places (omega arith) index.within) (omega arith));
@@ -86,10 +86,10 @@ index-push limit table e open_places index =
     }
 
 -- places of entries that are stable now are let go
-pub index-pruned : (limit : ℕ) (table : List Entry) (open_places : List ℕ) → IsIndex limit table open_places → IsIndex limit table (filter (unstable_at limit table) open_places)
+pub index-pruned : (limit : ℕ) (table : List Entry) (open_places : List ℕ) → IsIndex limit table open_places → IsIndex limit table (filter (open_at limit table) open_places)
 index-pruned limit table open_places index = record {
-  within = Within-filter (unstable_at limit table) (length table) open_places index.within;
-  covers = filter-twice (unstable_at limit table) (unstable_at limit table) (λ x is. is) open_places ∙ index.covers;
+  within = Within-filter (open_at limit table) (length table) open_places index.within;
+  covers = filter-twice (open_at limit table) (open_at limit table) (λ x is. is) open_places ∙ index.covers;
 }
 
 pub index-none : (limit : ℕ) → IsIndex limit [] []
@@ -101,28 +101,28 @@ missing [] i below none = omega (arith, below)
 missing (x ∷ table) zero below none = cc
 missing (x ∷ table) (suc i) below none = missing table i (omega (arith, below)) none
 
--- the unstable entries at some places
-picked : (f : ℕ) (table : List Entry) (ps : List ℕ) → piggybacked f (filter_map (slice_get table) ps) ≡ filter_map (slice_get table) (filter (unstable_at f table) ps)
+-- the open entries at some places
+picked : (f : ℕ) (table : List Entry) (ps : List ℕ) → piggybacked f (filter_map (slice_get table) ps) ≡ filter_map (slice_get table) (filter (open_at f table) ps)
 picked f table [] = refl
 picked f table (p ∷ ps) = at (picked f table ps) (slice_get table p) refl where
-  kept : piggybacked f (filter_map (slice_get table) ps) ≡ filter_map (slice_get table) (filter (unstable_at f table) ps) → {e : Entry} → slice_get table p ≡ Some e → (b : Bool) → is_unstable f e ≡ b → piggybacked f (e ∷ filter_map (slice_get table) ps) ≡ filter_map (slice_get table) (filter (unstable_at f table) (p ∷ ps))
+  kept : piggybacked f (filter_map (slice_get table) ps) ≡ filter_map (slice_get table) (filter (open_at f table) ps) → {e : Entry} → slice_get table p ≡ Some e → (b : Bool) → is_open f e ≡ b → piggybacked f (e ∷ filter_map (slice_get table) ps) ≡ filter_map (slice_get table) (filter (open_at f table) (p ∷ ps))
   kept more {e} is true b =
       ap (λ c. cond c (e ∷ piggybacked f (filter_map (slice_get table) ps)) (piggybacked f (filter_map (slice_get table) ps))) b
       ∙ ap (λ t. e ∷ t) more
-      ∙ sym (ap (λ o. cons_option o (filter_map (slice_get table) (filter (unstable_at f table) ps))) is)
-      ∙ sym (ap (λ c. filter_map (slice_get table) (cond c (p ∷ filter (unstable_at f table) ps) (filter (unstable_at f table) ps))) (ap (λ o. option_map_or (is_unstable f) o false) is ∙ b))
+      ∙ sym (ap (λ o. cons_option o (filter_map (slice_get table) (filter (open_at f table) ps))) is)
+      ∙ sym (ap (λ c. filter_map (slice_get table) (cond c (p ∷ filter (open_at f table) ps) (filter (open_at f table) ps))) (ap (λ o. option_map_or (is_open f) o false) is ∙ b))
   kept more {e} is false b =
       ap (λ c. cond c (e ∷ piggybacked f (filter_map (slice_get table) ps)) (piggybacked f (filter_map (slice_get table) ps))) b
       ∙ more
-      ∙ sym (ap (λ c. filter_map (slice_get table) (cond c (p ∷ filter (unstable_at f table) ps) (filter (unstable_at f table) ps))) (ap (λ o. option_map_or (is_unstable f) o false) is ∙ b))
+      ∙ sym (ap (λ c. filter_map (slice_get table) (cond c (p ∷ filter (open_at f table) ps) (filter (open_at f table) ps))) (ap (λ o. option_map_or (is_open f) o false) is ∙ b))
 
-  at : piggybacked f (filter_map (slice_get table) ps) ≡ filter_map (slice_get table) (filter (unstable_at f table) ps) → (o : Option Entry) → slice_get table p ≡ o → piggybacked f (filter_map (slice_get table) (p ∷ ps)) ≡ filter_map (slice_get table) (filter (unstable_at f table) (p ∷ ps))
+  at : piggybacked f (filter_map (slice_get table) ps) ≡ filter_map (slice_get table) (filter (open_at f table) ps) → (o : Option Entry) → slice_get table p ≡ o → piggybacked f (filter_map (slice_get table) (p ∷ ps)) ≡ filter_map (slice_get table) (filter (open_at f table) (p ∷ ps))
   at more None is =
       ap (λ o. piggybacked f (cons_option o (filter_map (slice_get table) ps))) is ∙ more
-      ∙ sym (ap (λ o. filter_map (slice_get table) (cond (option_map_or (is_unstable f) o false) (p ∷ filter (unstable_at f table) ps) (filter (unstable_at f table) ps))) is)
+      ∙ sym (ap (λ o. filter_map (slice_get table) (cond (option_map_or (is_open f) o false) (p ∷ filter (open_at f table) ps) (filter (open_at f table) ps))) is)
   at more (Some e) is =
       ap (λ o. piggybacked f (cons_option o (filter_map (slice_get table) ps))) is
-      ∙ kept more is (is_unstable f e) refl
+      ∙ kept more is (is_open f e) refl
 
 picked_places : (table : List Entry) (i : ℕ) → i ≤ length table → filter_map (slice_get table) (places i) ≡ take i table
 unfolding places
@@ -134,9 +134,9 @@ picked_places table (suc i) below =
     last None is = absurd (missing table i (omega (arith, below)) is)
     last (Some e) is = ap (λ o. take i table ++ cons_option o []) is ∙ sym (take-next table i e is) ∙ ap (λ k. take k table) (let e : i + 1 ≡ suc i = omega arith in e)
 
-smaller : (f limit : ℕ) (table : List Entry) → f ≤ limit → (place : ℕ) → unstable_at f table place ≡ true → unstable_at limit table place ≡ true
+smaller : (f limit : ℕ) (table : List Entry) → f ≤ limit → (place : ℕ) → open_at f table place ≡ true → open_at limit table place ≡ true
 smaller f limit table le place is = at (slice_get table place) is where
-  at : (o : Option Entry) → option_map_or (is_unstable f) o false ≡ true → option_map_or (is_unstable limit) o false ≡ true
+  at : (o : Option Entry) → option_map_or (is_open f) o false ≡ true → option_map_or (is_open limit) o false ≡ true
   at None h = h
   at (Some e) h = (let k : nat_le (set.len e.known) limit ≡ true = grind (arith, nat_tests) in k)
 
@@ -145,7 +145,7 @@ pub index-piggybacked : (f limit : ℕ) (table : List Entry) (open_places : List
 index-piggybacked f limit table open_places le index =
     let n = length table in
     picked f table open_places
-    ∙ ap (filter_map (slice_get table)) (filter-weaker (unstable_at limit table) (unstable_at f table) (smaller f limit table le) open_places (places n) index.covers)
+    ∙ ap (filter_map (slice_get table)) (filter-weaker (open_at limit table) (open_at f table) (smaller f limit table le) open_places (places n) index.covers)
     ∙ sym (picked f table (places n))
     ∙ ap (piggybacked f) (picked_places table n (omega arith) ∙ take_all n table (omega arith))
 
@@ -154,7 +154,7 @@ pub picked-step : (f : ℕ) (table : List Entry) (ps : List ℕ) (i p : ℕ) →
 picked-step f table ps i p is =
     ap (λ xs. piggybacked f (filter_map (slice_get table) xs)) (take-next ps i p is)
     ∙ ap (piggybacked f) (filter_map-append (slice_get table) (take i ps) (p ∷ []))
-    ∙ filter-append (is_unstable f) (filter_map (slice_get table) (take i ps)) (cons_option (slice_get table p) [])
+    ∙ filter-append (is_open f) (filter_map (slice_get table) (take i ps)) (cons_option (slice_get table p) [])
 
 length-added : (table : List Entry) (entry : Entry) → is_held table entry.det ≡ true → length (added table entry) ≡ length table
 unfolding added
@@ -167,18 +167,18 @@ length-added (e ∷ table) entry held = at (length-added table entry) (same_dete
 len-union : (a b : set.FinSet nat_cmp) → set.len a ≤ set.len (set.union a b)
 len-union a b = len-within (set.len a) a (set.union a b) refl (λ q has. set.contains-union nat_cmp_total a b q ∙ ap (λ c. c || set.contains b q) has)
 
-added-weaker : (limit : ℕ) (table : List Entry) (entry : Entry) → is_held table entry.det ≡ true → (place : ℕ) → unstable_at limit (added table entry) place ≡ true → unstable_at limit table place ≡ true
+added-weaker : (limit : ℕ) (table : List Entry) (entry : Entry) → is_held table entry.det ≡ true → (place : ℕ) → open_at limit (added table entry) place ≡ true → open_at limit table place ≡ true
 unfolding added
 added-weaker limit [] entry held place is = absurd (false≢true held)
 added-weaker limit (e ∷ table) entry held place is = at (added-weaker limit table entry) (same_determinant entry.det e.det) refl place is where
   grown : nat_le (set.len (set.union e.known entry.known)) limit ≡ true → nat_le (set.len e.known) limit ≡ true
   grown h = (let le = len-union e.known entry.known in grind (arith, nat_tests))
 
-  at : (is_held table entry.det ≡ true → (place : ℕ) → unstable_at limit (added table entry) place ≡ true → unstable_at limit table place ≡ true) → (b : Bool) → same_determinant entry.det e.det ≡ b → (place : ℕ) → unstable_at limit (if same_determinant entry.det e.det then record { det = e.det; known = set.union e.known entry.known } ∷ table else e ∷ added table entry) place ≡ true → unstable_at limit (e ∷ table) place ≡ true
-  at more true same zero h = grown (sym (ap (λ b. unstable_at limit (if b then record { det = e.det; known = set.union e.known entry.known } ∷ table else e ∷ added table entry) 0) same) ∙ h)
-  at more true same (suc place) h = sym (ap (λ b. unstable_at limit (if b then record { det = e.det; known = set.union e.known entry.known } ∷ table else e ∷ added table entry) (suc place)) same) ∙ h
-  at more false same zero h = sym (ap (λ b. unstable_at limit (if b then record { det = e.det; known = set.union e.known entry.known } ∷ table else e ∷ added table entry) 0) same) ∙ h
-  at more false same (suc place) h = more (sym (ap (λ b. b || is_held table entry.det) same) ∙ held) place (sym (ap (λ b. unstable_at limit (if b then record { det = e.det; known = set.union e.known entry.known } ∷ table else e ∷ added table entry) (suc place)) same) ∙ h)
+  at : (is_held table entry.det ≡ true → (place : ℕ) → open_at limit (added table entry) place ≡ true → open_at limit table place ≡ true) → (b : Bool) → same_determinant entry.det e.det ≡ b → (place : ℕ) → open_at limit (if same_determinant entry.det e.det then record { det = e.det; known = set.union e.known entry.known } ∷ table else e ∷ added table entry) place ≡ true → open_at limit (e ∷ table) place ≡ true
+  at more true same zero h = grown (sym (ap (λ b. open_at limit (if b then record { det = e.det; known = set.union e.known entry.known } ∷ table else e ∷ added table entry) 0) same) ∙ h)
+  at more true same (suc place) h = sym (ap (λ b. open_at limit (if b then record { det = e.det; known = set.union e.known entry.known } ∷ table else e ∷ added table entry) (suc place)) same) ∙ h
+  at more false same zero h = sym (ap (λ b. open_at limit (if b then record { det = e.det; known = set.union e.known entry.known } ∷ table else e ∷ added table entry) 0) same) ∙ h
+  at more false same (suc place) h = more (sym (ap (λ b. b || is_held table entry.det) same) ∙ held) place (sym (ap (λ b. open_at limit (if b then record { det = e.det; known = set.union e.known entry.known } ∷ table else e ∷ added table entry) (suc place)) same) ∙ h)
 
 pub added-new : (table : List Entry) (entry : Entry) → is_held table entry.det ≡ false → added table entry ≡ table ++ entry ∷ []
 unfolding added
@@ -196,7 +196,7 @@ pub held-index : (limit : ℕ) (es new : List (Determinant × set.FinSet nat_cmp
 held-index limit es new entry open_places held index is = rw is (index-added_held limit (map entry_of es) entry open_places held index)
 
 -- one more entry looked at, by its place
-pub picked-entry : (f : ℕ) (table : List Entry) (ps : List ℕ) (i p : ℕ) (e : Entry) (b : Bool) → slice_get ps i ≡ Some p → Some e ≡ slice_get table p → is_unstable f e ≡ b → piggybacked f (filter_map (slice_get table) (take (i + 1) ps)) ≡ piggybacked f (filter_map (slice_get table) (take i ps)) ++ cond b (e ∷ []) []
+pub picked-entry : (f : ℕ) (table : List Entry) (ps : List ℕ) (i p : ℕ) (e : Entry) (b : Bool) → slice_get ps i ≡ Some p → Some e ≡ slice_get table p → is_open f e ≡ b → piggybacked f (filter_map (slice_get table) (take (i + 1) ps)) ≡ piggybacked f (filter_map (slice_get table) (take i ps)) ++ cond b (e ∷ []) []
 picked-entry f table ps i p e b at is fits =
     picked-step f table ps i p at ∙ ap (λ o. piggybacked f (filter_map (slice_get table) (take i ps)) ++ piggybacked f (cons_option o [])) (sym is) ∙ ap (λ b. piggybacked f (filter_map (slice_get table) (take i ps)) ++ cond b (e ∷ []) []) fits
 
@@ -204,7 +204,7 @@ pub picked-nothing : (f : ℕ) (table : List Entry) (ps : List ℕ) (i p : ℕ) 
 picked-nothing f table ps i p at is =
     picked-step f table ps i p at ∙ ap (λ o. piggybacked f (filter_map (slice_get table) (take i ps)) ++ piggybacked f (cons_option o [])) (sym is) ∙ append-nil _
 
-marked-weaker : (limit : ℕ) (members : set.FinSet nat_cmp) (table : List Entry) (place : ℕ) → unstable_at limit (marked members table) place ≡ true → unstable_at limit table place ≡ true
+marked-weaker : (limit : ℕ) (members : set.FinSet nat_cmp) (table : List Entry) (place : ℕ) → open_at limit (marked members table) place ≡ true → open_at limit table place ≡ true
 marked-weaker limit members [] place h = h
 marked-weaker limit members (e ∷ table) zero h = (let le = len-union e.known members in let k : nat_le (set.len e.known) limit ≡ true = grind (arith, nat_tests) in k)
 marked-weaker limit members (e ∷ table) (suc place) h = marked-weaker limit members table place h

@@ -5,7 +5,7 @@ use Rattle.std.specs.Option.{option_map, option_or}
 use Rattle.std.proofs.lemmas.List.Folds.{find-append}
 use Rattle.fbl_base.specs.declared.trace.Determinant.{Determinant}
 use Rattle.fbl_table.specs.declared.entry.Entry.{Entry}
-use Rattle.fbl_table.specs.Tables.{names, found}
+use Rattle.fbl_table.specs.Tables.{is_of_receipt, found}
 use Rattle.fbl_table.specs.Receipts.{receipt_at, IsByNumber}
 use Rattle.fbl_table.proofs.Adding.{take-next}
 
@@ -22,12 +22,12 @@ or-none None = refl
 or-none (Some x) = refl
 
 -- what is found among one entry more
-found-more : (to rsn : ℕ) (table : List Entry) (i : ℕ) (e : Entry) → slice_get table i ≡ Some e → found to rsn (take (i + 1) table) ≡ option_or (found to rsn (take i table)) (cond (names to rsn e) (Some e.det) None)
+found-more : (to rsn : ℕ) (table : List Entry) (i : ℕ) (e : Entry) → slice_get table i ≡ Some e → found to rsn (take (i + 1) table) ≡ option_or (found to rsn (take i table)) (cond (is_of_receipt to rsn e) (Some e.det) None)
 found-more to rsn table i e is =
     ap (found to rsn) (take-next table i e is)
-    ∙ ap (option_map (λ (x : Entry). x.det)) (find-append (names to rsn) (take i table) (e ∷ []))
-    ∙ map-or (λ (x : Entry). x.det) (find (names to rsn) (take i table)) (cond (names to rsn e) (Some e) None)
-    ∙ ap (option_or (found to rsn (take i table))) (map-test (λ (x : Entry). x.det) (names to rsn e) e)
+    ∙ ap (option_map (λ (x : Entry). x.det)) (find-append (is_of_receipt to rsn) (take i table) (e ∷ []))
+    ∙ map-or (λ (x : Entry). x.det) (find (is_of_receipt to rsn) (take i table)) (cond (is_of_receipt to rsn e) (Some e) None)
+    ∙ ap (option_or (found to rsn (take i table))) (map-test (λ (x : Entry). x.det) (is_of_receipt to rsn e) e)
 
 -- an entry of another member's receipt
 pub by_number-other : (to : ℕ) (table : List Entry) (i : ℕ) (e : Entry) (places : List (Option Determinant)) → slice_get table i ≡ Some e → (e.det.to == to) ≡ false → IsByNumber to (take i table) places → IsByNumber to (take (i + 1) table) places

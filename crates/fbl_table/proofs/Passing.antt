@@ -8,7 +8,7 @@ use Rattle.std.specs.FinSet as set
 use Rattle.fbl_base.specs.declared.trace.Determinant.{Determinant}
 use Rattle.fbl_base.specs.Events.{same_determinant}
 use Rattle.fbl_table.specs.declared.entry.Entry.{Entry}
-use Rattle.fbl_table.specs.Tables.{is_unstable, piggybacked, added, gathered, learned, noted, held_by}
+use Rattle.fbl_table.specs.Tables.{is_open, piggybacked, added, gathered, learned, noted, held_by}
 use Rattle.fbl_table.specs.Index.{IsIndex}
 use Rattle.fbl_table.proofs.Indexing.{index-piggybacked}
 
@@ -36,37 +36,37 @@ length-filter_map g (x ∷ xs) = at (g x) (length-filter_map g xs) where
   at (Some y) le = omega (arith, le)
 
 -- an entry more makes at most one more to pass on
-unstable-added : (f : ℕ) (table : List Entry) (entry : Entry) → length (piggybacked f (added table entry)) ≤ length (piggybacked f table) + 1
+open-added : (f : ℕ) (table : List Entry) (entry : Entry) → length (piggybacked f (added table entry)) ≤ length (piggybacked f table) + 1
 unfolding added
-unstable-added f [] entry = length-cond_most (is_unstable f entry) entry []
-unstable-added f (e ∷ table) entry = elim (same_determinant entry.det e.det) as (λ b. length (piggybacked f (cond b (record { det = e.det; known = set.union e.known entry.known } ∷ table) (e ∷ added table entry))) ≤ length (piggybacked f (e ∷ table)) + 1) [
-  | true ↦ omega (arith, length-cond_most (is_unstable f (record { det = e.det; known = set.union e.known entry.known })) (record { det = e.det; known = set.union e.known entry.known }) (piggybacked f table), length-cond_least (is_unstable f e) e (piggybacked f table))
-  | false ↦ length-cond_more (is_unstable f e) e (piggybacked f (added table entry)) (piggybacked f table) 1 (unstable-added f table entry)
+open-added f [] entry = length-cond_most (is_open f entry) entry []
+open-added f (e ∷ table) entry = elim (same_determinant entry.det e.det) as (λ b. length (piggybacked f (cond b (record { det = e.det; known = set.union e.known entry.known } ∷ table) (e ∷ added table entry))) ≤ length (piggybacked f (e ∷ table)) + 1) [
+  | true ↦ omega (arith, length-cond_most (is_open f (record { det = e.det; known = set.union e.known entry.known })) (record { det = e.det; known = set.union e.known entry.known }) (piggybacked f table), length-cond_least (is_open f e) e (piggybacked f table))
+  | false ↦ length-cond_more (is_open f e) e (piggybacked f (added table entry)) (piggybacked f table) 1 (open-added f table entry)
 ]
 
-unstable-gathered : (f : ℕ) (table other : List Entry) → length (piggybacked f (gathered table other)) ≤ length (piggybacked f table) + length other
-unstable-gathered f table [] = omega arith
-unstable-gathered f table (e ∷ other) = omega (arith, unstable-added f table e, unstable-gathered f (added table e) other)
+open-gathered : (f : ℕ) (table other : List Entry) → length (piggybacked f (gathered table other)) ≤ length (piggybacked f table) + length other
+open-gathered f table [] = omega arith
+open-gathered f table (e ∷ other) = omega (arith, open-added f table e, open-gathered f (added table e) other)
 
 -- what is learned and the member's own make no more than as many more to pass on
-pub unstable-receipt : (f me : ℕ) (table carried : List Entry) (d : Determinant) → length (piggybacked f (noted me (learned me table carried) d)) ≤ length (piggybacked f table) + length carried + 1
-unstable-receipt f me table carried d =
+pub open-receipt : (f me : ℕ) (table carried : List Entry) (d : Determinant) → length (piggybacked f (noted me (learned me table carried) d)) ≤ length (piggybacked f table) + length carried + 1
+open-receipt f me table carried d =
     let own : Entry = record { det = d; known = set.insert set.empty me } in
-    let split : length (piggybacked f (noted me (learned me table carried) d)) ≡ length (piggybacked f (learned me table carried)) + length (piggybacked f (own ∷ [])) = ap length (filter-append (is_unstable f) (learned me table carried) (own ∷ [])) ∙ length-append (piggybacked f (learned me table carried)) (piggybacked f (own ∷ [])) in
-    let one : length (piggybacked f (own ∷ [])) ≤ 1 = length-filter (is_unstable f) (own ∷ []) in
-    let some : length (piggybacked f (learned me table carried)) ≤ length (piggybacked f table) + length (map (held_by me) carried) = unstable-gathered f table (map (held_by me) carried) in
+    let split : length (piggybacked f (noted me (learned me table carried) d)) ≡ length (piggybacked f (learned me table carried)) + length (piggybacked f (own ∷ [])) = ap length (filter-append (is_open f) (learned me table carried) (own ∷ [])) ∙ length-append (piggybacked f (learned me table carried)) (piggybacked f (own ∷ [])) in
+    let one : length (piggybacked f (own ∷ [])) ≤ 1 = length-filter (is_open f) (own ∷ []) in
+    let some : length (piggybacked f (learned me table carried)) ≤ length (piggybacked f table) + length (map (held_by me) carried) = open-gathered f table (map (held_by me) carried) in
     omega (arith, split, one, some, length-map carried (held_by me))
 
 -- no more are passed on than there are open places
-pub unstable-open : (f limit : ℕ) (table : List Entry) (open_places : List ℕ) → f ≤ limit → IsIndex limit table open_places → length (piggybacked f table) ≤ length open_places
-unstable-open f limit table open_places le index =
+pub open-within : (f limit : ℕ) (table : List Entry) (open_places : List ℕ) → f ≤ limit → IsIndex limit table open_places → length (piggybacked f table) ≤ length open_places
+open-within f limit table open_places le index =
     let same : length (piggybacked f (filter_map (slice_get table) open_places)) ≡ length (piggybacked f table) = ap length (index-piggybacked f limit table open_places le index) in
-    omega (arith, same, length-filter (is_unstable f) (filter_map (slice_get table) open_places), length-filter_map (slice_get table) open_places)
+    omega (arith, same, length-filter (is_open f) (filter_map (slice_get table) open_places), length-filter_map (slice_get table) open_places)
 
 -- those passed on of the first entries are no more than those of all
-pub first-unstable : (f : ℕ) (table : List Entry) (i : ℕ) → length (piggybacked f (take i table)) ≤ length (piggybacked f table)
-first-unstable f table i =
-    let whole : length (piggybacked f (take i table ++ drop i table)) ≡ length (piggybacked f (take i table)) + length (piggybacked f (drop i table)) = ap length (filter-append (is_unstable f) (take i table) (drop i table)) ∙ length-append (piggybacked f (take i table)) (piggybacked f (drop i table)) in
+pub first-open : (f : ℕ) (table : List Entry) (i : ℕ) → length (piggybacked f (take i table)) ≤ length (piggybacked f table)
+first-open f table i =
+    let whole : length (piggybacked f (take i table ++ drop i table)) ≡ length (piggybacked f (take i table)) + length (piggybacked f (drop i table)) = ap length (filter-append (is_open f) (take i table) (drop i table)) ∙ length-append (piggybacked f (take i table)) (piggybacked f (drop i table)) in
     let same : length (piggybacked f (take i table ++ drop i table)) ≡ length (piggybacked f table) = ap (λ t. length (piggybacked f t)) (take-append-drop i table) in
     omega (arith, whole, same)
 
@@ -75,7 +75,7 @@ pub first-picked : (f : ℕ) (table : List Entry) (ps : List ℕ) (i : ℕ) → 
 first-picked f table ps i =
     let front = filter_map (slice_get table) (take i ps) in
     let back = filter_map (slice_get table) (drop i ps) in
-    let whole : length (piggybacked f (front ++ back)) ≡ length (piggybacked f front) + length (piggybacked f back) = ap length (filter-append (is_unstable f) front back) ∙ length-append (piggybacked f front) (piggybacked f back) in
+    let whole : length (piggybacked f (front ++ back)) ≡ length (piggybacked f front) + length (piggybacked f back) = ap length (filter-append (is_open f) front back) ∙ length-append (piggybacked f front) (piggybacked f back) in
     let same : length (piggybacked f (front ++ back)) ≡ length (piggybacked f (filter_map (slice_get table) ps)) = ap (λ t. length (piggybacked f t)) (sym (filter_map-append (slice_get table) (take i ps) (drop i ps)) ∙ ap (filter_map (slice_get table)) (take-append-drop i ps)) in
     omega (arith, whole, same)
 

@@ -36,12 +36,12 @@ abbrev pub noted : ℕ → List Entry → Determinant → List Entry
 noted me table determinant = table ++ record { det = determinant; known = set.insert set.empty me } ∷ []
 
 -- at most f members are known to hold it
-abbrev pub is_unstable : ℕ → Entry → Bool
-is_unstable f entry = nat_le (set.len entry.known) f
+abbrev pub is_open : ℕ → Entry → Bool
+is_open f entry = nat_le (set.len entry.known) f
 
 -- the entries that are passed on, in table order
 abbrev pub piggybacked : ℕ → List Entry → List Entry
-piggybacked f table = filter (is_unstable f) table
+piggybacked f table = filter (is_open f) table
 
 -- the members of the set added to what is known of each determinant
 abbrev pub marked : set.FinSet nat_cmp → List Entry → List Entry
@@ -56,12 +56,12 @@ abbrev pub has_at : List Entry → Determinant → ℕ → Bool
 has_at table determinant place = option_map_or (λ e. same_determinant determinant e.det) (slice_get table place) false
 
 -- whether it is the determinant of the member's receipt with this number
-abbrev pub names : ℕ → ℕ → Entry → Bool
-names to rsn entry = (entry.det.to == to) && (entry.det.rsn == rsn)
+abbrev pub is_of_receipt : ℕ → ℕ → Entry → Bool
+is_of_receipt to rsn entry = (entry.det.to == to) && (entry.det.rsn == rsn)
 
 -- the determinant of the member's receipt with this number, of several the first
 abbrev pub found : ℕ → ℕ → List Entry → Option Determinant
-found to rsn table = option_map (λ e. e.det) (find (names to rsn) table)
+found to rsn table = option_map (λ e. e.det) (find (is_of_receipt to rsn) table)
 
 -- the receipt number, 0 for a receipt of another member
 abbrev pub rsn_of : ℕ → Entry → ℕ

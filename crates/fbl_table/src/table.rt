@@ -5,7 +5,7 @@ ghost use Rattle.std.specs.Prelude.{◌≡◌, ℕ, ◌+◌, ◌^◌, ◌<◌, �
 ghost use Rattle.std.specs.List.{IsDistinct, filter_map};
 ghost use Rattle.fbl_base.specs.Events.{same_determinant};
 ghost use Rattle.indexmap.specs.IndexMap.{insert_entry, spare, get};
-ghost use Rattle.fbl_table.specs.Index.{IsIndex, unstable_at};
+ghost use Rattle.fbl_table.specs.Index.{IsIndex, open_at};
 ghost use Rattle.fbl_table.specs.Tables.{is_held, has_at, found, greatest_rsn, learned, noted, piggybacked, gathered, marked, added, entry_of};
 
 use crate::entry::Entry;
@@ -120,7 +120,7 @@ impl<A: Allocator + Copy> Table<A> {
     {
         for place in 0..self.len() {
             let entry = self.entry_at(place);
-            if entry.names(to, rsn) {
+            if entry.is_of_receipt(to, rsn) {
                 return Some(entry.det);
             }
         }
@@ -179,7 +179,7 @@ impl<A: Allocator + Copy> Table<A> {
     pub fn piggyback(&self, f: u8) -> Result<Vec<Entry, A>, AllocError>
         ensures { IfOk result (λ v. v.items ≡ piggybacked f self.now) }
     {
-        let mut carried = Vec::with_capacity(*self.entries.allocator(), self.at_most_unstable(f))?;
+        let mut carried = Vec::with_capacity(*self.entries.allocator(), self.at_most_open(f))?;
         self.piggyback_into(f, &mut carried);
         Ok(carried)
     }
@@ -192,7 +192,7 @@ impl<A: Allocator + Copy> Table<A> {
         if f > self.limit {
             self.piggyback_all(f, carried);
         } else {
-            push_unstable(&self.entries, &self.open_places, f, carried);
+            push_open(&self.entries, &self.open_places, f, carried);
         }
     }
 
@@ -201,7 +201,7 @@ impl<A: Allocator + Copy> Table<A> {
         ensures enough { (me : ℕ) (det : Determinant) → length (piggybacked f (noted me (learned me self.now carried.now) det)) ≤ result }
         ensures few { result ≤ length self.now + length carried.now + 1 }
     {
-        self.at_most_unstable(f) + carried.len() + 1
+        self.at_most_open(f) + carried.len() + 1
     }
 
     /// Takes in another table's entries: of each what is known is united, and new determinants go last, in the other's
@@ -267,7 +267,7 @@ impl<A: Allocator + Copy> Table<A> {
     }
 
     /// A number of entries that those that at most `f` members are known to hold don't exceed.
-    fn at_most_unstable(&self, f: u8) -> usize
+    fn at_most_open(&self, f: u8) -> usize
         ensures enough { length (piggybacked f self.now) ≤ result }
         ensures few { result ≤ length self.now }
         ensures small { result < 2 ^ 63 }
@@ -286,7 +286,7 @@ impl<A: Allocator + Copy> Table<A> {
     {
         for place in 0..self.len() {
             let held = self.entry_at(place);
-            if held.is_unstable(f) {
+            if held.is_open(f) {
                 carried.push_reserved(held);
             }
         }
@@ -362,11 +362,7 @@ fn add_new<A: Allocator>(entries: &mut Entries<A>, open_places: &mut Vec<usize, 
 
 /// The place of the determinant's entry, if there is one. The likely places are looked at before the hash.
 #[inline(always)]
-fn place_of<A: Allocator>(
-    entries: &Entries<A>,
-    det: &Determinant,
-    likely: Likely,
-) -> Option<usize>
+fn place_of<A: Allocator>(entries: &Entries<A>, det: &Determinant, likely: Likely) -> Option<usize>
     ensures has { IfSome result (λ place. has_at (map entry_of entries.now.entries) det.now place ≡ true) }
     ensures none { IfNone result (is_held (map entry_of entries.now.entries) det.now ≡ false) }
 {
@@ -460,7 +456,7 @@ fn add_own<A: Allocator>(
 }
 
 /// Puts the entries at these places that at most `f` members are known to hold at the end of the list.
-fn push_unstable<A: Allocator>(
+fn push_open<A: Allocator>(
     entries: &Entries<A>,
     places: &[usize],
     f: u8,
@@ -472,7 +468,7 @@ fn push_unstable<A: Allocator>(
     for index in 0..places.len() {
         let place = places[index];
         if let Some(entry) = get_entry(entries, place) {
-            if entry.is_unstable(f) {
+            if entry.is_open(f) {
                 carried.push_reserved(entry);
             }
         }
@@ -491,10 +487,10 @@ fn prune<A: Allocator>(entries: &Entries<A>, open_places: &mut Vec<usize, A>, li
 
 /// Whether at most `limit` members are known to hold the determinant at the place.
 fn is_open<A: Allocator>(entries: &Entries<A>, place: usize, limit: u8) -> bool
-    ensures { result ≡ unstable_at limit (map entry_of entries.now.entries) place }
+    ensures { result ≡ open_at limit (map entry_of entries.now.entries) place }
 {
     match get_entry(entries, place) {
-        Some(entry) => entry.is_unstable(limit),
+        Some(entry) => entry.is_open(limit),
         None => false,
     }
 }

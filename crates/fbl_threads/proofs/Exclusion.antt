@@ -8,7 +8,7 @@ use lib.ListN.{get_elem?}
 use prog.Atomic.{either}
 use Rattle.atomic_table.specs.Table.{State, keeps, Allows, Splits, Joins}
 use Rattle.atomic_table.proofs.Lists.{at_set, set_else, set_again, at_longer, at_snoc}
-use Rattle.fbl_threads.specs.Claims.{Holds, IsFree, IsClaimed, IsExclusive, HasOneHolder, IsSaidBy, WordsFollowViews}
+use Rattle.fbl_threads.specs.Claims.{ViewHolds, IsFree, IsClaimed, IsExclusive, HasOneHolder, IsSaidBy, WordsFollowViews}
 
 abbrev St : Type 0
 St = State (Unit {0}) (Option ℕ)
@@ -28,8 +28,8 @@ set_hit (x ∷ xs) zero a b e = refl
 set_hit (x ∷ xs) (suc i) a b e = set_hit xs i a b e
 
 -- what holds of a member rests on who holds it alone
-same_holders : (word : ℕ) (views views' : List (Option ℕ)) (member : ℕ) → ((pass : ℕ) → Holds views pass member → Holds views' pass member)
-    → ((pass : ℕ) → Holds views' pass member → Holds views pass member) → Fits word views member → Fits word views' member
+same_holders : (word : ℕ) (views views' : List (Option ℕ)) (member : ℕ) → ((pass : ℕ) → ViewHolds views pass member → ViewHolds views' pass member)
+    → ((pass : ℕ) → ViewHolds views' pass member → ViewHolds views pass member) → Fits word views member → Fits word views' member
 same_holders word views views' member into back h =
     ⊎_elim
     (λ free. inl (free.0, λ pass held. free.1 pass (back pass held)))
@@ -37,11 +37,11 @@ same_holders word views views' member into back h =
     h
 
 -- where a view changes between two values that aren't this member, the same passes hold it
-stays_held : (views : List (Option ℕ)) (id : ℕ) (v w : Option ℕ) (member : ℕ) → get_elem? views id ≡ some v → v ≢ Some member → (pass : ℕ) → Holds views pass member → Holds (set views id w) pass member
+stays_held : (views : List (Option ℕ)) (id : ℕ) (v w : Option ℕ) (member : ℕ) → get_elem? views id ≡ some v → v ≢ Some member → (pass : ℕ) → ViewHolds views pass member → ViewHolds (set views id w) pass member
 stays_held views id v w member at not_v pass held =
     dite (ℕ_discrete pass id) (λ e. absurd (not_v (some-injective v (Some member) (sym at ∙ (ap (λ k. get_elem? views k) (sym e) ∙ held))))) (λ ne. set_else views id pass w ne ∙ held)
 
-was_held : (views : List (Option ℕ)) (id : ℕ) (w : Option ℕ) (member : ℕ) → w ≢ Some member → (pass : ℕ) → Holds (set views id w) pass member → Holds views pass member
+was_held : (views : List (Option ℕ)) (id : ℕ) (w : Option ℕ) (member : ℕ) → w ≢ Some member → (pass : ℕ) → ViewHolds (set views id w) pass member → ViewHolds views pass member
 was_held views id w member not_w pass held = ⊎_elim (λ t. absurd (not_w t.1)) (λ t. t.1) (at_set views id pass w (Some member) held)
 
 moves_else : (word : ℕ) (views : List (Option ℕ)) (id : ℕ) (v w : Option ℕ) (member : ℕ) → get_elem? views id ≡ some v → v ≢ Some member → w ≢ Some member
@@ -53,7 +53,7 @@ pub splits : (n id : ℕ) (v : Option ℕ) → Splits (IsExclusive n) id v v Non
 splits n id v s rule at =
     let same : set s.views id v ≡ s.views = set_again s.views id v at in
     let P : List (Option ℕ) → Type 0 = λ views. IsExclusive n (record { words = s.words; homes = s.homes; views = views ++ None ∷ [] }) in
-    let old : (pass member : ℕ) → Holds (s.views ++ None ∷ []) pass member → Holds s.views pass member = λ pass member held. ⊎_elim (λ h. h) (λ e. absurd (no_member member e)) (at_snoc s.views None (Some member) pass held) in
+    let old : (pass member : ℕ) → ViewHolds (s.views ++ None ∷ []) pass member → ViewHolds s.views pass member = λ pass member held. ⊎_elim (λ h. h) (λ e. absurd (no_member member e)) (at_snoc s.views None (Some member) pass held) in
     subst P (sym same) (record {
       a_word_each = rule.a_word_each;
       of_the_group = λ pass member held. rule.of_the_group pass member (old pass member held);
@@ -159,16 +159,16 @@ gives_back n slots id i below s rule _ at _ = (
 
 -- ---- the words are what the views say
 
-held_word : (n : ℕ) (s : St) (member pass : ℕ) → IsExclusive n s → Holds s.views pass member → get_or s.words member 0 ≡ 1
+held_word : (n : ℕ) (s : St) (member pass : ℕ) → IsExclusive n s → ViewHolds s.views pass member → get_or s.words member 0 ≡ 1
 held_word n s member pass rule held =
     ⊎_elim (λ free. absurd (free.1 pass held)) (λ claimed. claimed.0) (rule.free_or_claimed member (rule.of_the_group pass member held))
 
-free_word : (n : ℕ) (s : St) (member : ℕ) → IsExclusive n s → member < n → ((pass : ℕ) → ¬ (Holds s.views pass member)) → get_or s.words member 0 ≡ 0
+free_word : (n : ℕ) (s : St) (member : ℕ) → IsExclusive n s → member < n → ((pass : ℕ) → ¬ (ViewHolds s.views pass member)) → get_or s.words member 0 ≡ 0
 free_word n s member rule below none =
     ⊎_elim (λ free. free.0) (λ claimed. absurd (none claimed.1.0 claimed.1.1)) (rule.free_or_claimed member below)
 
 same_word : (n : ℕ) (old new : St) (member : ℕ) → IsExclusive n old → IsExclusive n new → member < n
-    → ((pass : ℕ) → Holds old.views pass member → Holds new.views pass member) → ((pass : ℕ) → Holds new.views pass member → Holds old.views pass member)
+    → ((pass : ℕ) → ViewHolds old.views pass member → ViewHolds new.views pass member) → ((pass : ℕ) → ViewHolds new.views pass member → ViewHolds old.views pass member)
     → get_or new.words member 0 ≡ get_or old.words member 0
 same_word n old new member rule rule' below into back =
     ⊎_elim
@@ -177,7 +177,7 @@ same_word n old new member rule rule' below into back =
     (rule'.free_or_claimed member below)
 
 same_words : (n : ℕ) (old new : St) → IsExclusive n old → IsExclusive n new
-    → ((member pass : ℕ) → Holds old.views pass member → Holds new.views pass member) → ((member pass : ℕ) → Holds new.views pass member → Holds old.views pass member)
+    → ((member pass : ℕ) → ViewHolds old.views pass member → ViewHolds new.views pass member) → ((member pass : ℕ) → ViewHolds new.views pass member → ViewHolds old.views pass member)
     → new.words ≡ old.words
 same_words n old new rule rule' into back =
     ext_get_or 0 new.words old.words (rule'.a_word_each ∙ sym rule.a_word_each)
@@ -186,8 +186,8 @@ same_words n old new rule rule' into back =
 same_views : (n : ℕ) (old new : St) → IsExclusive n old → IsExclusive n new → new.views ≡ old.views → new.words ≡ old.words
 same_views n old new rule rule' is =
     same_words n old new rule rule'
-    (λ member pass held. let P : List (Option ℕ) → Type 0 = λ views. Holds views pass member in subst P (sym is) held)
-    (λ member pass held. let P : List (Option ℕ) → Type 0 = λ views. Holds views pass member in subst P is held)
+    (λ member pass held. let P : List (Option ℕ) → Type 0 = λ views. ViewHolds views pass member in subst P (sym is) held)
+    (λ member pass held. let P : List (Option ℕ) → Type 0 = λ views. ViewHolds views pass member in subst P is held)
 
 -- where one view changes and has to do with one member alone, the words of the others stay
 one_word : (n i id word : ℕ) (v w : Option ℕ) (old new : St) → IsExclusive n old → IsExclusive n new → i < n → get_elem? old.views id ≡ some v → new.views ≡ set old.views id w
@@ -197,27 +197,27 @@ one_word n i id word v w old new rule rule' below at is not_v not_w here =
     (λ member low. dite (ℕ_discrete member i)
     (λ e. ap (λ m. get_or new.words m 0) e ∙ (here ∙ (sym (get_or-set_same old.words i word 0 (let l = rule.a_word_each in omega arith)) ∙ ap (λ m. get_or (set old.words i word) m 0) (sym e))))
     (λ ne.
-    let P : List (Option ℕ) → Type 0 = λ views. (pass : ℕ) → Holds old.views pass member → Holds views pass member in
-    let Q : List (Option ℕ) → Type 0 = λ views. (pass : ℕ) → Holds views pass member → Holds old.views pass member in
+    let P : List (Option ℕ) → Type 0 = λ views. (pass : ℕ) → ViewHolds old.views pass member → ViewHolds views pass member in
+    let Q : List (Option ℕ) → Type 0 = λ views. (pass : ℕ) → ViewHolds views pass member → ViewHolds old.views pass member in
     same_word n old new member rule rule' (let l = rule'.a_word_each in omega arith) (subst P (sym is) (stays_held old.views id v w member at (not_v member ne))) (subst Q (sym is) (was_held old.views id w member (not_w member ne)))
     ∙ sym (get_or-set_other old.words i member word 0 ne)))
 
 says : (n : ℕ) (old new : St) (pass : ℕ) (before after : Option ℕ) → IsExclusive n old → IsExclusive n new → get_elem? old.views pass ≡ some before → new.views ≡ set old.views pass after → IsSaidBy before after old.words new.words
 says n old new pass None None rule rule' at is = same_views n old new rule rule' (is ∙ set_again old.views pass None at)
 says n old new pass None (Some p) rule rule' at is =
-    let P : List (Option ℕ) → Type 0 = λ views. Holds views pass p in
-    let held : Holds new.views pass p = subst P (sym is) (set_hit old.views pass (Some p) None at) in
+    let P : List (Option ℕ) → Type 0 = λ views. ViewHolds views pass p in
+    let held : ViewHolds new.views pass p = subst P (sym is) (set_hit old.views pass (Some p) None at) in
     let low : p < n = rule'.of_the_group pass p held in
-    let none : (other : ℕ) → ¬ (Holds old.views other p) = λ other was. dite (ℕ_discrete other pass)
+    let none : (other : ℕ) → ¬ (ViewHolds old.views other p) = λ other was. dite (ℕ_discrete other pass)
     (λ e. no_member p (some-injective None (Some p) (sym at ∙ (ap (λ k. get_elem? old.views k) (sym e) ∙ was))))
-    (λ ne. let Q : List (Option ℕ) → Type 0 = λ views. Holds views other p in ne (one_holder n new p other pass rule' (subst Q (sym is) (set_else old.views pass other (Some p) ne ∙ was)) held)) in (
+    (λ ne. let Q : List (Option ℕ) → Type 0 = λ views. ViewHolds views other p in ne (one_holder n new p other pass rule' (subst Q (sym is) (set_else old.views pass other (Some p) ne ∙ was)) held)) in (
       free_word n old p rule low none,
       one_word n p pass 1 None (Some p) old new rule rule' low at is (λ member ne. no_member member) (λ member ne e. ne (sym (one_member p member e))) (held_word n new p pass rule' held),
     )
 says n old new pass (Some p) None rule rule' at is =
     let low : p < n = rule.of_the_group pass p at in
-    let none : (other : ℕ) → ¬ (Holds new.views other p) = λ other held.
-    let Q : List (Option ℕ) → Type 0 = λ views. Holds views other p in
+    let none : (other : ℕ) → ¬ (ViewHolds new.views other p) = λ other held.
+    let Q : List (Option ℕ) → Type 0 = λ views. ViewHolds views other p in
     ⊎_elim (λ t. no_member p t.1) (λ t. t.0 (one_holder n old p other pass rule t.1 at)) (at_set old.views pass other None (Some p) (subst Q is held)) in (
       held_word n old p pass rule at,
       one_word n p pass 0 (Some p) None old new rule rule' low at is (λ member ne e. ne (sym (one_member p member e))) (λ member ne. no_member member) (free_word n new p rule' low none),
@@ -228,8 +228,8 @@ says n old new pass (Some p) (Some q) rule rule' at is =
 grows : (n : ℕ) (old new : St) → IsExclusive n old → IsExclusive n new → new.views ≡ old.views ++ None ∷ [] → new.words ≡ old.words
 grows n old new rule rule' is =
     same_words n old new rule rule'
-    (λ member pass held. let P : List (Option ℕ) → Type 0 = λ views. Holds views pass member in subst P (sym is) (at_longer old.views (None ∷ []) pass (Some member) held))
-    (λ member pass held. let P : List (Option ℕ) → Type 0 = λ views. Holds views pass member in ⊎_elim (λ h. h) (λ e. absurd (no_member member e)) (at_snoc old.views None (Some member) pass (subst P is held)))
+    (λ member pass held. let P : List (Option ℕ) → Type 0 = λ views. ViewHolds views pass member in subst P (sym is) (at_longer old.views (None ∷ []) pass (Some member) held))
+    (λ member pass held. let P : List (Option ℕ) → Type 0 = λ views. ViewHolds views pass member in ⊎_elim (λ h. h) (λ e. absurd (no_member member e)) (at_snoc old.views None (Some member) pass (subst P is held)))
 
 pub words_follow_views : WordsFollowViews
 words_follow_views n old new rule rule' = ((λ pass before after. says n old new pass before after rule rule'), grows n old new rule rule')

@@ -4,7 +4,7 @@ use Rattle.std.specs.List.{list_any, find}
 use Rattle.std.specs.FinSet as set
 use Rattle.fbl_base.specs.Configs.{Settings}
 use Rattle.fbl_base.specs.MemberSets.{AllBelow}
-use Rattle.fbl_law.specs.Record.{Members}
+use Rattle.fbl_law.specs.Knowledge.{Members}
 use Rattle.fbl_base.specs.declared.strike.Strike.{Strike}
 
 -- the numbers of receipts at which the plan strikes

@@ -1,5 +1,5 @@
 use Rattle.std.proofs.Common.{◌≡◌, ℕ, ◌<◌, take, length}
-use Rattle.fbl_base.specs.Audit.{IsLost, start_of}
+use Rattle.fbl_base.specs.Audit.{IsLost, orphan_start_in}
 use Rattle.fbl_base.proofs.ReachLaws.{Tracks}
 use Rattle.fbl_base.proofs.OrphanStarts.{StartsBy}
 use Rattle.fbl_base.proofs.audit.orphan_starts.Given as goal
@@ -9,5 +9,5 @@ invariant-loop-place g l = record {
   tracks : Tracks (IsLost l.dump) (take l.place l.mark-items) l.reach.reached l.reach.unreached_sends;
   room : length l.reach.unreached_sends ≡ 16;
   slots : length l.starts ≡ 16;
-  starts : (q : ℕ) → q < 16 → StartsBy l.dump l.place q (start_of l.starts q);
+  starts : (q : ℕ) → q < 16 → StartsBy l.dump l.place q (orphan_start_in l.starts q);
 }

@@ -3,7 +3,7 @@ use Rattle.std.specs.List.{flat_map, range_with_len}
 use Rattle.std.specs.FinSet as set
 use Rattle.std.proofs.lemmas.List.{take_all}
 use Rattle.std.proofs.lemmas.List.FromFn.{length-range_with_len}
-use Rattle.fbl_base.specs.Audit.{start_of}
+use Rattle.fbl_base.specs.Audit.{orphan_start_in}
 use Rattle.fbl_draw.specs.Pictures.{member_row}
 use Rattle.fbl_draw.proofs.Rows.{row_same, rows_more}
 use Rattle.fbl_draw.proofs.members.member_texts.Goals as goal
@@ -13,7 +13,7 @@ pub loop-number-preserved : goal.loop-number-preserved
 loop-number-preserved c =
     let dump = c.args.dump.now in
     let number = c.loop-number.number in
-    let row : ℕ → List ℕ = λ m. member_row m (length dump.events) (set.contains dump.strike m) (start_of c.args.starts.now m) in
+    let row : ℕ → List ℕ = λ m. member_row m (length dump.events) (set.contains dump.strike m) (orphan_start_in c.args.starts.now m) in
     let within : number < dump.members = omega (arith, c.members-number-end.ensures) in
     elim c.match-new.branch [
       | in-Some+in_ok-row+in_ok-push_str w ↦
@@ -28,4 +28,4 @@ loop-number-preserved c =
 pub returns : goal.returns
 returns c =
     let dump = c.args.dump.now in
-    c.loop-number.invariant ∙ ap (flat_map (λ m. member_row m (length dump.events) (set.contains dump.strike m) (start_of c.args.starts.now m))) (take_all c.loop-number.number (range_with_len 0 dump.members) (omega (arith, length-range_with_len 0 dump.members, c.members-number-end.ensures)))
+    c.loop-number.invariant ∙ ap (flat_map (λ m. member_row m (length dump.events) (set.contains dump.strike m) (orphan_start_in c.args.starts.now m))) (take_all c.loop-number.number (range_with_len 0 dump.members) (omega (arith, length-range_with_len 0 dump.members, c.members-number-end.ensures)))

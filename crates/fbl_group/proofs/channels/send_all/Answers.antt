@@ -31,7 +31,7 @@ loop-wire-preserved g c =
       finite = c.loop-wire.invariant.finite;
       channels = sent-step c.loop-wire.outgoing.items c.from.result c.index_mut.result.now (record { wires = c.push_back_reserved.new.self }) (into_iter_items c.loop-wire.wire-iterator) (into_iter_items c.next.new.self) c.in-Some.wire rest place within c.index_mut.ensures.value c.push_back_reserved.ensures.items ∙ c.loop-wire.invariant.channels;
       trace =
-          ap (λ (es : List Event). es ++ map send_of_message (into_iter_items c.next.new.self)) (c.push_reserved.ensures.items ∙ ap (λ (e : Event). c.loop-wire.trace.items ++ e ∷ []) c.send_of.ensures)
+          ap (λ (es : List Event). es ++ map send_of_message (into_iter_items c.next.new.self)) (c.push_reserved.ensures.items ∙ ap (λ (e : Event). c.loop-wire.trace.items ++ e ∷ []) c.sent_event.ensures)
           ∙ append_assoc c.loop-wire.trace.items (send_of_message c.in-Some.wire ∷ []) (map send_of_message (into_iter_items c.next.new.self)) ∙ ap (λ (vs : List Message). c.loop-wire.trace.items ++ map send_of_message vs) (sym rest) ∙ c.loop-wire.invariant.trace;
       receivers = rest-fits (λ (w : Message). w.to < vec_len c.loop-wire.outgoing) (into_iter_items c.loop-wire.wire-iterator) (into_iter_items c.next.new.self) c.in-Some.wire rest c.loop-wire.invariant.receivers;
       room = room-left c.loop-wire.outgoing.items c.from.result c.index_mut.result.now (record { wires = c.push_back_reserved.new.self }) (into_iter_items c.loop-wire.wire-iterator) (into_iter_items c.next.new.self) c.in-Some.wire rest within c.index_mut.ensures.value c.push_back_reserved.ensures.len c.push_back_reserved.ensures.capacity c.loop-wire.invariant.room;

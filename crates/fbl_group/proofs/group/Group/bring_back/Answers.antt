@@ -4,7 +4,7 @@ use Rattle.std.specs.List.{filter}
 use Rattle.fbl_base.specs.declared.trace.Event.{Event}
 use Rattle.fbl_base.specs.Events.{mark_of}
 use Rattle.fbl_member.specs.Members.{MemberRecord, blank}
-use Rattle.fbl_law.specs.Record.{Members}
+use Rattle.fbl_law.specs.Knowledge.{Members}
 use Rattle.fbl_law.specs.Groups.{GroupRecord, HasChannels, channel_in, messages_in, receipts}
 use Rattle.fbl_law.specs.Replaying.{stays_by, working, count_in, replayed_in, sent_again}
 use Rattle.fbl_group.specs.Channels.{queued_rows, AreReplaced}

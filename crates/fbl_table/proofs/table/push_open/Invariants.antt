@@ -2,7 +2,7 @@ use Rattle.std.proofs.Common.{◌≡◌, ◌+◌, ◌++◌, map, take, slice_get
 use Rattle.std.specs.List.{filter_map}
 use Rattle.std.specs.Vec.{vec_len, vec_capacity}
 use Rattle.fbl_table.specs.Tables.{piggybacked, entry_of}
-use Rattle.fbl_table.proofs.table.push_unstable.Given as goal
+use Rattle.fbl_table.proofs.table.push_open.Given as goal
 
 abbrev pub invariant-loop-index : goal.invariant-loop-index
 invariant-loop-index g l = record {

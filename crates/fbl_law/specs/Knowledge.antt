@@ -27,7 +27,7 @@ Includes s m = set.contains s m ≡ true
 
 -- what the laws of causes speak of: the group's trace, each member's table and its checkpoint, the channel of each pair
 -- of members, and who is down
-pub record Record : Type 0 where
+pub record Knowledge : Type 0 where
   pub trace : List Mark
   pub tables : List (List Entry)
   pub checkpoints : List MemberRecord
@@ -35,12 +35,12 @@ pub record Record : Type 0 where
   pub down : Members
 
 -- the table of a member
-abbrev pub table : Record → ℕ → List Entry
+abbrev pub table : Knowledge → ℕ → List Entry
 table r m = get_or r.tables m []
 
 -- the checkpoint of a member (Elnozahy and others 2002): its record as it was at an earlier time, at first its fresh one,
 -- which no crash empties and from which it recovers
-abbrev pub checkpoint : Record → ℕ → MemberRecord
+abbrev pub checkpoint : Knowledge → ℕ → MemberRecord
 checkpoint r m = slice_index_or r.checkpoints m blank
 
 -- the send of a message
@@ -48,13 +48,13 @@ abbrev pub send_mark : Message → Mark
 send_mark v = Send v.from v.ssn v.to
 
 -- the message is in the channel from its sender to its receiver
-abbrev pub IsInFlight : Record → Message → Type 0
+abbrev pub IsInFlight : Knowledge → Message → Type 0
 IsInFlight r v = Contains (r.channel v.from v.to) v
 
-abbrev pub IsDown : Record → ℕ → Type 0
+abbrev pub IsDown : Knowledge → ℕ → Type 0
 IsDown r m = set.contains r.down m ≡ true
 
-abbrev pub IsUp : Record → ℕ → Type 0
+abbrev pub IsUp : Knowledge → ℕ → Type 0
 IsUp r m = set.contains r.down m ≡ false
 
 -- some entry has the determinant
@@ -62,45 +62,45 @@ abbrev pub Names : List Entry → Determinant → Type 0
 Names entries d = (e : Entry) × Contains entries e × (e.det ≡ d)
 
 -- the member is up, and its table has the determinant
-abbrev pub Holds : Record → Determinant → ℕ → Type 0
+abbrev pub Holds : Knowledge → Determinant → ℕ → Type 0
 Holds r d m = IsUp r m × Names (table r m) d
 
 -- the determinant is recorded: some member holds it, or the table of some member's checkpoint names it
-abbrev pub IsRecorded : Record → Determinant → Type 0
+abbrev pub IsRecorded : Knowledge → Determinant → Type 0
 IsRecorded r d = ((m : ℕ) × Holds r d m) ⊎ ((m : ℕ) × Names (checkpoint r m).table d)
 
 -- the member counts as a holder: it holds the determinant, or it is down and recovery will give it to it
-abbrev pub IsHolder : Record → Determinant → ℕ → Type 0
+abbrev pub IsHolder : Knowledge → Determinant → ℕ → Type 0
 IsHolder r d m = Holds r d m ⊎ (IsDown r m × IsRecorded r d)
 
 -- more than f members are holders
-abbrev pub IsStable : ℕ → Record → Determinant → Type 0
+abbrev pub IsStable : ℕ → Knowledge → Determinant → Type 0
 IsStable f r d = (s : Members) × (f < set.len s) × ((m : ℕ) → Includes s m → IsHolder r d m)
 
 -- the entry is of a receipt of the trace, and each member that it knows to hold it is a holder
-abbrev pub IsTrueEntry : Record → Entry → Type 0
+abbrev pub IsTrueEntry : Knowledge → Entry → Type 0
 IsTrueEntry r e = Has r.trace (receipt_of e.det) × ((m : ℕ) → Includes e.known m → IsHolder r e.det m)
 
 -- true knowledge: entries are true, an entry of a table or of a checkpoint's table is known to be held by the member, and
 -- a message's sender holds what the message carries
-pub record KnowsTruth (r : Record) : Type 0 where
+pub record KnowsTruth (r : Knowledge) : Type 0 where
   pub tables : (m : ℕ) (e : Entry) → IsUp r m → Contains (table r m) e → IsTrueEntry r e × Includes e.known m
   pub messages : (v : Message) (e : Entry) → IsInFlight r v → Contains v.carried e → IsTrueEntry r e × Holds r e.det v.from
   pub checkpoints : (m : ℕ) (e : Entry) → Contains (checkpoint r m).table e → IsTrueEntry r e × Includes e.known m
 
 -- the entries name each receipt that precedes the event, but for stable ones
-abbrev pub NamesCauses : ℕ → Record → List Entry → Mark → Type 0
+abbrev pub NamesCauses : ℕ → Knowledge → List Entry → Mark → Type 0
 NamesCauses f r entries b = (d : Determinant) → Precedes r.trace (receipt_of d) b → Names entries d ⊎ IsStable f r d
 
 -- the event comes from before its member's checkpoint: its number is within the counts that the member then had
-abbrev pub IsBeforeCheckpoint : Record → Mark → Type 0
+abbrev pub IsBeforeCheckpoint : Knowledge → Mark → Type 0
 IsBeforeCheckpoint r (Send from ssn to) = ssn ≤ length (checkpoint r from).log
 IsBeforeCheckpoint r (Receipt to rsn from ssn) = rsn ≤ (checkpoint r to).received
 
 -- the tables of up members, the carried lists and the tables of checkpoints are closed: a table names the causes of its
 -- member's events and of the receipts that it names, a carried list those of its message's send and of the receipts that
 -- it names, a checkpoint's table those of its member's events before it and of the receipts that it names
-pub record IsClosed (f : ℕ) (r : Record) : Type 0 where
+pub record IsClosed (f : ℕ) (r : Knowledge) : Type 0 where
   pub events : (m : ℕ) (b : Mark) → IsUp r m → member_of b ≡ m → NamesCauses f r (table r m) b
   pub tables : (m : ℕ) (c : Determinant) → IsUp r m → Names (table r m) c → NamesCauses f r (table r m) (receipt_of c)
   pub sends : (v : Message) → IsInFlight r v → NamesCauses f r v.carried (send_mark v)
@@ -109,27 +109,27 @@ pub record IsClosed (f : ℕ) (r : Record) : Type 0 where
   pub checkpoints : (m : ℕ) (c : Determinant) → Names (checkpoint r m).table c → NamesCauses f r (checkpoint r m).table (receipt_of c)
 
 -- each receipt of the trace has more than f holders, or is held by each up member that depends on it
-abbrev pub IsAlwaysHeld : ℕ → Record → Type 0
+abbrev pub IsAlwaysHeld : ℕ → Knowledge → Type 0
 IsAlwaysHeld f r =
     (d : Determinant) → Has r.trace (receipt_of d) → IsStable f r d ⊎ ((m : ℕ) → IsUp r m → Depends r.trace m (receipt_of d) → Holds r d m)
 
 -- an up member is an orphan where it depends on a receipt that isn't recorded
-abbrev pub IsOrphan : Record → ℕ → Type 0
+abbrev pub IsOrphan : Knowledge → ℕ → Type 0
 IsOrphan r m = IsUp r m × ((d : Determinant) × Depends r.trace m (receipt_of d) × ¬ (IsRecorded r d))
 
 -- the channel from q to p has the messages that the trace has in flight from q to p, in order
-abbrev pub MatchesTrace : Record → ℕ → ℕ → Type 0
+abbrev pub MatchesTrace : Knowledge → ℕ → ℕ → Type 0
 MatchesTrace r q p = map send_mark (r.channel q p) ≡ map (λ ssn. Send q ssn p) (in_flight r.trace q p)
 
 -- at most f members are down, and they have nothing, nor is anything in flight from them or to them
-pub record IsDownEmpty (f : ℕ) (r : Record) : Type 0 where
+pub record IsDownEmpty (f : ℕ) (r : Knowledge) : Type 0 where
   pub few : set.len r.down ≤ f
   pub tables : (m : ℕ) → IsDown r m → table r m ≡ []
   pub channels : (q p : ℕ) → IsDown r q ⊎ IsDown r p → r.channel q p ≡ []
 
 -- the trace has the receipts and sends that a member had when its checkpoint was taken, and an up member's table names
 -- what the checkpoint's table names
-pub record IsCheckpointKept (r : Record) (m : ℕ) : Type 0 where
+pub record IsCheckpointKept (r : Knowledge) (m : ℕ) : Type 0 where
   pub receipts : (checkpoint r m).received ≤ receipts_of r.trace m
   pub sends : length (checkpoint r m).log ≤ sends_of r.trace m
   pub table : (d : Determinant) → IsUp r m → Names (checkpoint r m).table d → Names (table r m) d
@@ -137,7 +137,7 @@ pub record IsCheckpointKept (r : Record) (m : ℕ) : Type 0 where
 -- what holds of what a group of n members knows, between two calls: its trace is well formed, knowledge is true and closed,
 -- the channels between members that are up have what the trace has in flight, at most f members are down and have nothing,
 -- and checkpoints are kept
-pub record IsSoundKnowledge (n f : ℕ) (r : Record) : Type 0 where
+pub record IsSoundKnowledge (n f : ℕ) (r : Knowledge) : Type 0 where
   pub rules : WellFormed n r.trace
   pub truth : KnowsTruth r
   pub closed : IsClosed f r
