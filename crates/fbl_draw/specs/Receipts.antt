@@ -13,7 +13,7 @@ use Rattle.fbl_base.specs.Events.{same_determinant}
 use Rattle.fbl_draw.specs.declared.receipts.Kind.{Kind}
 use Rattle.fbl_draw.specs.declared.receipts.Message.{Message}
 use Rattle.fbl_draw.specs.declared.receipts.HeldIndex.{HeldIndex}
-use Rattle.fbl_draw.specs.declared.receipts.Kind.TheVariants.{Stable, IsHeldOutside, Lost}
+use Rattle.fbl_draw.specs.declared.receipts.Kind.TheVariants.{Stable, Recorded, Lost}
 
 -- the members that hold the determinant, struck or not
 abbrev pub holders_of : Parts → Determinant → set.FinSet nat_cmp
@@ -21,7 +21,7 @@ holders_of dump d = set.from_list (map (λ h. h.0) (filter (λ h. same_determina
 
 -- lost where no member outside the strike set holds the determinant; else stable where more than f members hold it
 abbrev pub kind_of : Parts → Determinant → Kind
-kind_of dump d = if not (is_held_outside dump d) then Lost else (if nat_lt dump.f (set.len (holders_of dump d)) then Stable else IsHeldOutside)
+kind_of dump d = if not (is_held_outside dump d) then Lost else (if nat_lt dump.f (set.len (holders_of dump d)) then Stable else Recorded)
 
 -- the index tells of each determinant whether it is recorded, and who holds it
 pub record IsIndexOf (dump : Parts) (index : HeldIndex) : Type 0 where
