@@ -19,7 +19,7 @@ use std::hash::{BuildHasherDefault, FoldHasher};
 pub(crate) enum Kind {
     /// More than f members hold it, and one of them is not struck.
     Stable,
-    /// A member that is not struck holds it.
+    /// f members or fewer hold it, and one of them is not struck.
     Recorded,
     /// No member that is not struck holds it.
     Lost,
@@ -95,7 +95,7 @@ impl HeldIndex {
         requires { IsIndexOf dump.now self.now }
         ensures { result ≡ holders_of dump.now determinant.now }
     {
-        let _of = dump;
+        let _index_of = dump;
         holders_in(&self.holders, determinant)
     }
 

@@ -257,7 +257,7 @@ fn told_of_line(alloc: Global, line: &str, is_closed: bool) -> Result<Told, Fail
     Ok(Told::of(console, status))
 }
 
-/// What is told after a play or an audit.
+/// What is told after a play, an audit or a drawing.
 fn told_after(alloc: Global, done: Result<(), RunFault>) -> Told {
     let console = Console::new(alloc, false);
     let status = status_after(&console, done);
@@ -321,7 +321,10 @@ const HELPS: [(&str, &str); 15] = [
         "audit --help",
         r#"the command ["dump",[1]] of a script prints"#,
     ),
-    ("help draw", "writes its picture, as SVG, on standard output"),
+    (
+        "help draw",
+        "writes its picture, as SVG, on standard output",
+    ),
     ("draw --help", "| fblrun draw > dump.svg"),
 ];
 
