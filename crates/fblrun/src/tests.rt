@@ -138,12 +138,6 @@ fn draws_where_that_is_asked_for(rt: HostRuntime) -> Result<(), Fail> {
     Ok(())
 }
 
-#[test]
-fn draws_where_that_is_asked_for(rt: HostRuntime) -> Result<(), Fail> {
-    assert!(rt; order_in_line(rt.alloc(), "draw")? == Some(Order::Draw));
-    Ok(())
-}
-
 /// A script whose lines are the same with each number of workers.
 const SCRIPT: &str =
     r#"{"version":1,"members":4,"f":2,"behaviour":"relay","start":[[0,1,5,6],[2,3,7,3],[3,0,11,0]],"commands":[["run",[[2,[1]],[5,[0,3]],[9,[2]]]],["states"]]}"#;
