@@ -310,13 +310,15 @@ fn put_wires<A: Allocator + Copy>(
 }
 
 /// Gives back the room that a list turned out not to need, if it is much: how many of the carried entries are new shows only
-/// once the table has taken them in, and by then a want of memory has no call to refuse. Where the smaller list can't be
-/// had, it stays as it is.
-fn give_room_back<A: Allocator>(carried: &mut Vec<Entry, A>)
+/// once the table has taken them in, and by then a want of memory has no call to refuse. Where a copy that fits can't be had,
+/// the list stays as it is. A copy, and not the list cut short, since what is cut off is too little for the next list.
+fn give_room_back<A: Allocator + Copy>(carried: &mut Vec<Entry, A>)
     ensures { carried.new.items ≡ carried.old.items }
 {
     if carried.capacity().saturating_sub(carried.len()) > SPARE {
-        carried.shrink_to_fit();
+        if let Ok(copy) = carried.clone() {
+            *carried = copy;
+        }
     }
 }
 

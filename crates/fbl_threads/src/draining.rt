@@ -17,7 +17,7 @@ use fbl_base::{Behaviour, Strike};
 use fbl_group::Group;
 use std::alloc::Global;
 use std::marker::Brand;
-use std::sync::atomic::AtomicU64;
+use std::sync::atomic::{AtomicBool, AtomicU64};
 use std::sync::ledger::{Blank, Ledger};
 use std::sync::{Mutex, Wait};
 use std::thread::Threads;
@@ -190,6 +190,7 @@ fn run<
         members,
         turns: task.turns,
         held_back: AtomicU64::new(0),
+        has_ended: AtomicBool::new(false),
     };
     let gathered = run_all(rt, &work, task.workers, pass, receipts, undone);
     drop(work);

@@ -9,7 +9,7 @@ use crate::ledgered::{Ledgered, StepRefusal, Tally};
 use crossbeam_utils::CachePadded;
 use fbl_base::{Behaviour, Member, Strike};
 use fbl_group::{CommitRefusal, CrashRefusal, run_step};
-use std::sync::atomic::{AtomicU64, Ordering};
+use std::sync::atomic::{AtomicBool, AtomicU64, Ordering};
 use std::sync::ledger::Ledger;
 use std::sync::{Mutex, Wait};
 use std::thread;
@@ -41,6 +41,8 @@ pub(crate) struct Work<'a, B: Behaviour, G: Gate, C: Ledger, U: Ledger> {
     pub(crate) turns: u32,
     /// One more than the number of a worker that has no thread, and takes no turn. Else 0.
     pub(crate) held_back: AtomicU64,
+    /// Whether some worker has ended.
+    pub(crate) has_ended: AtomicBool,
     ghost a_word_each: { (claims.now.words ≡ members) × (2 ≤ members) × (members ≤ 16) },
 }
 
@@ -87,6 +89,7 @@ pub(crate) fn take_turns<B: Behaviour, G: Gate, C: Ledger, U: Ledger, R: Wait>(
             break;
         }
     }
+    work.has_ended.store(true, Ordering::SeqCst);
     Report {
         tally,
         pass,
@@ -119,7 +122,7 @@ fn take_turn<B: Behaviour, G: Gate, C: Ledger, U: Ledger, R: Wait>(
     ensures pass { result.0 ≡ work.now.claims.now }
     ensures undone { length work.now.plan.now ≡ 0 → mine.new.undone ≡ mine.old.undone }
 {
-    if asked == Next::Ask && hold(rt, work.shared).is_over() {
+    if asked == Next::Ask && hold(rt, work.shared, &work.has_ended).is_over() {
         return (pass, Next::Over);
     }
     match work.claims.try_claim(pass, member) {
@@ -144,12 +147,12 @@ fn step<B: Behaviour, G: Gate, C: Ledger, U: Ledger, R: Wait>(
 ) -> Next
     ensures undone { length work.now.plan.now ≡ 0 → mine.new.undone ≡ mine.old.undone }
 {
-    let Some(ticket) = hold(rt, work.shared).take_first(member) else {
+    let Some(ticket) = hold(rt, work.shared, &work.has_ended).take_first(member) else {
         return Next::Ask;
     };
     work.gate.pass(member);
     let done = run_step::<B>(ticket);
-    let mut group = hold(rt, work.shared);
+    let mut group = hold(rt, work.shared, &work.has_ended);
     match group.commit_planned(&done, work.plan, mine) {
         Err(StepRefusal::Commit(CommitRefusal::Full)) => Next::Full,
         Err(
