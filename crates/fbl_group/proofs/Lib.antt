@@ -12,3 +12,4 @@ pub mod Again
 pub mod Recovering
 pub mod PuttingBack
 pub mod BringingBack
+pub mod GivingTables

@@ -1,6 +1,6 @@
 //! Replay: the records of the members that are down are made again from what the survivors' tables and the logs have.
 
-ghost use Rattle.std.specs.Prelude.{◌≡◌, ℕ, ◌<◌, [], true, length, slice_index_or, IfOk, OnOk};
+ghost use Rattle.std.specs.Prelude.{◌≡◌, ℕ, ◌<◌, [], true, false, length, slice_index_or, IfOk, OnOk};
 ghost use Rattle.std.specs.FinSet as set;
 ghost use Rattle.fbl_table.specs.Receipts.{receipt_at, IsByNumber};
 ghost use Rattle.fbl_member.specs.Members.{logged_note};
@@ -16,6 +16,7 @@ use fbl_base::{Behaviour, Determinant, Member, Note};
 use fbl_member::MemberRec;
 use fbl_table::{Receipts, Table};
 use std::alloc::{AllocError, Allocator};
+use std::mem;
 
 /// What recovery goes by: the table that the members that are down get, and the receipts that it has of each of them, by
 /// their numbers.
@@ -44,7 +45,7 @@ impl<B: Behaviour, A: Allocator + Copy> Group<B, A> {
         let gathered = self.gather()?;
         let mut rebuilt = self.begin()?;
         while self.replay_round(&gathered, &mut rebuilt)? {}
-        self.give_tables(&gathered.table, &mut rebuilt)?;
+        self.give_tables(gathered.table, &mut rebuilt)?;
         Ok(Rebuilt {
             down: self.down,
             records: rebuilt,
@@ -218,22 +219,50 @@ impl<B: Behaviour, A: Allocator + Copy> Group<B, A> {
         }
     }
 
-    /// Gives each member that is down a copy of the gathered table.
+    /// Gives each member that is down the gathered table: the last one the table itself, the others copies.
     fn give_tables(
         &self,
-        gathered: &Table<A>,
+        gathered: Table<A>,
         rebuilt: &mut Vec<MemberRec<A>, A>,
     ) -> Result<(), AllocError>
-        requires gathered { gathered.now ≡ gathered_table self.now }
+        requires gathered { gathered ≡ gathered_table self.now }
         requires replayed { HasReplayed B.next self.now rebuilt.old.items }
         ensures { OnOk result (IsReady B.next self.now rebuilt.new.items) }
     {
+        let mut gathered = gathered;
         for number in 0..self.config.members() {
             let member = Member::new(number).unwrap();
             if self.down.has(member) {
-                rebuilt[usize::from(number)].set_table(gathered.copy()?);
+                let table = self.table_for(member, &mut gathered)?;
+                rebuilt[usize::from(number)].set_table(table);
             }
         }
         Ok(())
+    }
+
+    /// A table equal to the one lent: a copy while a later member is down, which needs it too, and else the table itself.
+    fn table_for(&self, member: Member, gathered: &mut Table<A>) -> Result<Table<A>, AllocError>
+        ensures table { IfOk result (λ table. table ≡ gathered.old) }
+        ensures left { (p : ℕ) → member < p → set.contains self.now.down p ≡ true → gathered.new ≡ gathered.old }
+    {
+        if self.is_last_down(member) {
+            let none = Table::for_limit(*self.members.allocator(), self.config.f());
+            Ok(mem::replace(gathered, none))
+        } else {
+            gathered.copy()
+        }
+    }
+
+    /// Whether no later member is down.
+    fn is_last_down(&self, member: Member) -> bool
+        ensures { result ≡ true → (p : ℕ) → member < p → set.contains self.now.down p ≡ false }
+    {
+        let down = self.down();
+        for number in member.number() + 1..self.config.members() {
+            if down.has(Member::new(number).unwrap()) {
+                return false;
+            }
+        }
+        true
     }
 }

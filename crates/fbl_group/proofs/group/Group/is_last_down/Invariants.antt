@@ -1,0 +1,6 @@
+use Rattle.std.proofs.Common.{◌≡◌, ℕ, ◌<◌, false}
+use Rattle.std.specs.FinSet as set
+use Rattle.fbl_group.proofs.group.Group.is_last_down.Given as goal
+
+abbrev pub invariant-loop-number : goal.invariant-loop-number
+invariant-loop-number g l = (p : ℕ) → l.fn.member < p → p < l.number → set.contains l.down p ≡ false
