@@ -6,9 +6,9 @@ mod account;
 
 use account::Account;
 use anyhow::{Result, ensure};
-use fbl_base::{Config, Event, Member, MemberSet, Note, Start};
+use fbl_base::{Config, Event, Member, MemberSet, Note, Start, Strike};
 use fbl_group::Group;
-use fbl_threads::{NoGate, Strike, drain};
+use fbl_threads::{NoGate, drain};
 use std::alloc::Global;
 use std::sync::Wait;
 use std::thread::Threads;
