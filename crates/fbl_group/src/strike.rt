@@ -65,6 +65,36 @@ impl<B: Behaviour, A: Allocator + Copy> Group<B, A> {
     }
 }
 
+/// Where the next determinant may stand in one of several tables: as far behind the last one found as that was behind the one
+/// before it, since members mostly take turns. It changes no answer.
+#[derive(Clone, Copy, Default)]
+struct Likely {
+    record: usize,
+    last: usize,
+    next: usize,
+}
+
+impl Likely {
+    /// Where the next may stand once a determinant was found at this place.
+    fn after(self, place: usize) -> Likely {
+        Likely {
+            record: self.record,
+            last: place,
+            next: place.saturating_add(place.saturating_sub(self.last)),
+        }
+    }
+
+    /// Where the next may stand once none was found in this record's table, of so many.
+    fn elsewhere(self, records: usize) -> Likely {
+        let next = self.record.saturating_add(1);
+        Likely {
+            record: if next < records { next } else { 0 },
+            last: 0,
+            next: 0,
+        }
+    }
+}
+
 /// How many of the events are receipts of members of the set whose determinant no member's table and no checkpoint's
 /// table holds.
 fn count_lost<A: Allocator + Copy>(
@@ -76,10 +106,14 @@ fn count_lost<A: Allocator + Copy>(
     requires { length trace.now ≤ 8192 }
     ensures { result ≡ count_by (is_lost_of down members.now checkpoints.now) trace.now }
 {
-    trace
-        .iter()
-        .filter(|event| is_lost(down, members, checkpoints, **event))
-        .count() as u32
+    let mut lost = 0;
+    let mut likely = Likely::default();
+    for event in trace {
+        if is_lost(down, members, checkpoints, *event, &mut likely) {
+            lost += 1;
+        }
+    }
+    lost
 }
 
 /// Whether the event is a receipt of a member of the set whose determinant no member's table and no checkpoint's table
@@ -89,16 +123,36 @@ fn is_lost<A: Allocator + Copy>(
     members: &[MemberRec<A>],
     checkpoints: &[MemberRec<A>],
     event: Event,
+    likely: &mut Likely,
 ) -> bool
     ensures { result ≡ is_lost_of down members.now checkpoints.now event }
 {
     match event.mark().determinant() {
         Some(determinant) => {
             down.has(determinant.to)
-                && !(is_held_in(members, &determinant) || is_held_in(checkpoints, &determinant))
+                && !(is_likely_held(members, &determinant, likely)
+                    || is_held_in(checkpoints, &determinant))
         }
         None => false,
     }
+}
+
+/// Whether the table of some of these records holds the determinant. The likely record's is looked at first.
+fn is_likely_held<A: Allocator + Copy>(
+    records: &[MemberRec<A>],
+    determinant: &Determinant,
+    likely: &mut Likely,
+) -> bool
+    ensures { result ≡ list_any (λ m. is_held m.table determinant.now) records.now }
+{
+    if let Some(record) = records.get(likely.record) {
+        if let Some(place) = record.table().place_of(determinant, likely.next) {
+            *likely = likely.after(place);
+            return true;
+        }
+    }
+    *likely = likely.elsewhere(records.len());
+    is_held_in(records, determinant)
 }
 
 /// Whether the table of some of these records holds the determinant.

@@ -304,9 +304,46 @@ fn put_wires<A: Allocator + Copy>(
         let number = before + place as u32 + 1;
         let mut carried = lists.take_last();
         fill_carried(&mut carried, wires.last(), table, f);
-        give_room_back(&mut carried);
         wires.push_reserved(Wire::new(me, send.0, number, send.1, carried));
     }
+}
+
+/// Puts what the table passes on into the list, which is empty and has room for it. A message made before has a copy of it.
+fn fill_carried<A: Allocator + Copy>(
+    carried: &mut Vec<Entry, A>,
+    made: Option<&Wire<A>>,
+    table: &Table<A>,
+    f: u8,
+)
+    requires made { IfSome made (λ wire. wire.now.carried ≡ piggybacked f table.now) }
+    requires none { carried.old.items ≡ [] }
+    requires room { vec_len carried.old + length (piggybacked f table.now) ≤ vec_capacity carried.old }
+    ensures { carried.new.items ≡ piggybacked f table.now }
+{
+    match made {
+        Some(wire) => put_copy(carried, wire.carried()),
+        None => {
+            table.piggyback_into(f, carried);
+            give_room_back(carried);
+        }
+    }
+}
+
+/// Puts the entries into the list, which is empty and has room for them. Where that would leave much of its room, the list
+/// becomes a copy of the entries that fits, if there is memory for one.
+fn put_copy<A: Allocator + Copy>(carried: &mut Vec<Entry, A>, entries: &[Entry])
+    requires none { carried.old.items ≡ [] }
+    requires room { vec_len carried.old + length entries.now ≤ vec_capacity carried.old }
+    ensures { carried.new.items ≡ entries.now }
+{
+    if leaves_much(carried.capacity(), entries.len()) {
+        let mut copy = Vec::new(*carried.allocator());
+        if copy.extend_from_slice(entries).is_ok() {
+            *carried = copy;
+            return;
+        }
+    }
+    carried.extend_from_slice(entries).unwrap();
 }
 
 /// Gives back the room that a list turned out not to need, if it is much: how many of the carried entries are new shows only
@@ -315,26 +352,15 @@ fn put_wires<A: Allocator + Copy>(
 fn give_room_back<A: Allocator + Copy>(carried: &mut Vec<Entry, A>)
     ensures { carried.new.items ≡ carried.old.items }
 {
-    if carried.capacity().saturating_sub(carried.len()) > SPARE {
+    if leaves_much(carried.capacity(), carried.len()) {
         if let Ok(copy) = carried.clone() {
             *carried = copy;
         }
     }
 }
 
-/// Puts what the table passes on into the list, which has room for it. A message made before has a copy of it.
-fn fill_carried<A: Allocator + Copy>(
-    carried: &mut Vec<Entry, A>,
-    made: Option<&Wire<A>>,
-    table: &Table<A>,
-    f: u8,
-)
-    requires made { IfSome made (λ wire. wire.now.carried ≡ piggybacked f table.now) }
-    requires room { vec_len carried.old + length (piggybacked f table.now) ≤ vec_capacity carried.old }
-    ensures { carried.new.items ≡ carried.old.items ++ piggybacked f table.now }
-{
-    match made {
-        Some(wire) => carried.extend_from_slice(wire.carried()).unwrap(),
-        None => table.piggyback_into(f, carried),
-    }
+/// Whether a list with room for so many entries has much that so many don't need. It changes the memory that is kept, and
+/// nothing else.
+fn leaves_much(capacity: usize, len: usize) -> bool {
+    capacity.saturating_sub(len) > SPARE
 }

@@ -50,6 +50,11 @@ held-at (e ∷ table) d (suc i) has = at (same_determinant d e.det) (held-at tab
   at true held = refl
   at false held = held
 
+-- an answer of the determinant's place tells whether it is held
+pub some-held : (table : List Entry) (d : Determinant) (r : Option ℕ) → IfSome r (λ i. has_at table d i ≡ true) → IfNone r (is_held table d ≡ false) → is_some r ≡ is_held table d
+some-held table d None at none = sym none
+some-held table d (Some i) at none = sym (held-at table d i at)
+
 pub within-at : (table : List Entry) (d : Determinant) (i : ℕ) → has_at table d i ≡ true → i < length table
 within-at [] d zero has = absurd (false≢true has)
 within-at [] d (suc i) has = absurd (false≢true has)

@@ -3,6 +3,7 @@
 
 ghost use Rattle.std.specs.Prelude.{◌≡◌, ℕ, ◌+◌, ◌^◌, ◌<◌, ◌≤◌, ◌++◌, [], ◌∷◌, length, OnOk, OnErr, IfOk, IfSome, IfNone, Some, None, true, false, slice_get, map, vec_len, vec_capacity};
 ghost use Rattle.std.specs.List.{IsDistinct, filter_map};
+ghost use Rattle.std.specs.Option.{is_some};
 ghost use Rattle.fbl_base.specs.Events.{same_determinant};
 ghost use Rattle.indexmap.specs.IndexMap.{insert_entry, spare, get};
 ghost use Rattle.fbl_table.specs.Index.{IsIndex, open_at};
@@ -85,6 +86,18 @@ impl<A: Allocator + Copy> Table<A> {
         ensures { result ≡ is_held self.now det.now }
     {
         self.entries.contains_key(det)
+    }
+
+    /// The place of the determinant's entry, if there is one. The entry at the likely place is looked at first, and where it
+    /// is the determinant's nothing is hashed: which place is given changes no answer.
+    pub fn place_of(&self, det: &Determinant, likely: usize) -> Option<usize>
+        ensures held { is_some result ≡ is_held self.now det.now }
+        ensures at { IfSome result (λ place. has_at self.now det.now place ≡ true) }
+    {
+        if is_at(&self.entries, det, likely) {
+            return Some(likely);
+        }
+        place_by_hash(&self.entries, det)
     }
 
     /// The entry at this place. Places count from 0.

@@ -1,4 +1,4 @@
-use Rattle.std.proofs.Common.{◌≡◌, ◌-◌, ◌++◌, Some, ap, ◌∙◌, arith, length, refl, take}
+use Rattle.std.proofs.Common.{◌-◌, Some, ◌∙◌, arith, length, refl, take}
 use Rattle.std.proofs.lemmas.List.Elements.{All-pop}
 use Rattle.fbl_table.specs.Tables.{piggybacked}
 use Rattle.fbl_table.proofs.Adding.{item_at}
@@ -14,9 +14,8 @@ loop-place-preserved g c =
     let at = item_at c.args.sends.now i s (omega (arith, c.loop-place-test.true)) c.index-sends-place.is in
     let next = messages-next c.args.me c.args.before carried c.args.sends.now i s at c.loop-place-test.true in
     let popped = All-pop (HasRoom (length carried)) c.loop-place.lists.items c.take_last-carried.new.self.items (Some c.take_last-carried.result) c.take_last-carried.ensures.items c.loop-place.invariant.room in
-    let entries : c.give_room_back.new.carried.items ≡ carried = c.give_room_back.ensures ∙ c.fill_carried.ensures ∙ ap (λ l. l ++ carried) popped.1.0 in
     record {
-      so_far = rw (c.push_reserved.ensures.items, next, c.loop-place.invariant.so_far, c.new.ensures, entries) refl;
+      so_far = rw (c.push_reserved.ensures.items, next, c.loop-place.invariant.so_far, c.new.ensures, c.fill_carried.ensures) refl;
       wires = omega (arith, c.push_reserved.ensures.len, c.loop-place.invariant.wires);
       wires_room = c.push_reserved.ensures.capacity ∙ c.loop-place.invariant.wires_room;
       left = omega (arith, c.take_last-carried.ensures.len, c.loop-place.invariant.left);
@@ -24,11 +23,7 @@ loop-place-preserved g c =
     }
 
 pub new-requires : goal.new-requires
-new-requires g c =
-    let carried = piggybacked c.args.f c.args.table.now in
-    let popped = All-pop (HasRoom (length carried)) c.loop-place.lists.items c.take_last-carried.new.self.items (Some c.take_last-carried.result) c.take_last-carried.ensures.items c.loop-place.invariant.room in
-    let entries : c.give_room_back.new.carried.items ≡ carried = c.give_room_back.ensures ∙ c.fill_carried.ensures ∙ ap (λ l. l ++ carried) popped.1.0 in
-    rw entries c.requires.once
+new-requires g c = rw c.fill_carried.ensures c.requires.once
 
 pub fill_carried-requires-clause-made : goal.fill_carried-requires-clause-made
 fill_carried-requires-clause-made g c =
@@ -42,3 +37,8 @@ fill_carried-requires-clause-room g c =
     let carried = piggybacked c.args.f c.args.table.now in
     let popped = All-pop (HasRoom (length carried)) c.loop-place.lists.items c.take_last-carried.new.self.items (Some c.take_last-carried.result) c.take_last-carried.ensures.items c.loop-place.invariant.room in
     omega (arith, popped.1.1, popped.1.2)
+
+pub fill_carried-requires-clause-none : goal.fill_carried-requires-clause-none
+fill_carried-requires-clause-none g c =
+    let popped = All-pop (HasRoom (length (piggybacked c.args.f c.args.table.now))) c.loop-place.lists.items c.take_last-carried.new.self.items (Some c.take_last-carried.result) c.take_last-carried.ensures.items c.loop-place.invariant.room in
+    popped.1.0
