@@ -1,9 +1,9 @@
 -- Tables as a map has them.
-use Rattle.std.proofs.Common.{◌≡◌, ℕ, zero, suc, ◌+◌, ◌<◌, ◌≤◌, Bool, true, false, cond, ◌||◌, if◌then◌else◌, List, [], ◌∷◌, ◌++◌, map, Option, Some, None, is_some, unwrap_or, max, refl, sym, ap, ◌∙◌, arith, take, drop, length, slice_get, get_or, position, IfSome, IfNone}
+use Rattle.std.proofs.Common.{inl, inr, subst, ◌≡◌, ℕ, zero, suc, ◌+◌, ◌<◌, ◌≤◌, Bool, true, false, cond, ◌||◌, if◌then◌else◌, List, [], ◌∷◌, ◌++◌, map, Option, Some, None, is_some, unwrap_or, max, refl, sym, ap, ◌∙◌, arith, take, drop, length, slice_get, get_or, position, IfSome, IfNone}
 use Rattle.std.specs.Map.{lookup, values_of, keys_of}
 use Rattle.std.specs.Ordering.{nat_cmp}
 use Rattle.std.specs.Option.{option_or}
-use Rattle.std.proofs.lemmas.Bool.{false≢true}
+use Rattle.std.proofs.lemmas.Bool.{cases_lt, false≢true}
 use Rattle.std.specs.List.{find, AllByRecursion, IsDistinct}
 use Rattle.std.proofs.lemmas.List.Quantifiers.{position-Some}
 use Rattle.fbl_base.proofs.Recorded.{Decides-same_determinant}
@@ -18,7 +18,7 @@ use Rattle.fbl_base.specs.declared.trace.Determinant.{Determinant}
 use Rattle.fbl_base.specs.Events.{same_determinant}
 use Rattle.indexmap.specs.IndexMap.{insert_entry}
 use Rattle.fbl_table.specs.declared.entry.Entry.{Entry}
-use Rattle.fbl_table.specs.Tables.{is_held, has_at, added, entry_of, is_open, piggybacked, gathered, learned, held_by, greatest_rsn, rsn_of, marked}
+use Rattle.fbl_table.specs.Tables.{HasInPlace, is_held, has_at, added, entry_of, is_open, piggybacked, gathered, learned, held_by, greatest_rsn, rsn_of, marked}
 
 Pair : Type 0
 Pair = Determinant × set.FinSet nat_cmp
@@ -88,6 +88,25 @@ apart-at (e ∷ es) k d zero all has = at (same_determinant d k) refl where
       absurd (false≢true (sym all.0 ∙ (Decides-same_determinant k e.0).1 other))
   at false is = is
 apart-at (e ∷ es) k d (suc i) all has = apart-at es k d i all.1 has
+
+-- which determinant stands at a place goes by no value
+pub has-set : (es : List (Determinant × set.FinSet nat_cmp)) (i : ℕ) (v : set.FinSet nat_cmp) (d : Determinant) (j : ℕ) → has_at (map entry_of (set_value_at es i v)) d j ≡ has_at (map entry_of es) d j
+has-set [] i v d j = refl
+has-set (e ∷ es) zero v d zero = refl
+has-set (e ∷ es) zero v d (suc j) = refl
+has-set (e ∷ es) (suc i) v d zero = refl
+has-set (e ∷ es) (suc i) v d (suc j) = has-set es i v d j
+
+-- what has the first entries of another table in place has the next one too
+pub in-place-next : (k : ℕ) (table other : List Entry) (e : Entry) → HasInPlace k table other → slice_get other k ≡ Some e → has_at table e.det k ≡ true → HasInPlace (k + 1) table other
+in-place-next k table other e before at has place x below is =
+    elim (cases_lt place k) [
+      | inl less ↦ before place x less is
+      | inr more ↦
+          let here : place ≡ k = omega (arith, below, more) in
+          let same : e ≡ x = ap (λ o. unwrap_or o e) (sym at ∙ ap (slice_get other) (sym here) ∙ is) in
+          subst (λ p. has_at table x.det p ≡ true) (sym here) (subst (λ (y : Entry). has_at table y.det k ≡ true) same has)
+    ]
 
 -- what is known at the determinant's place, united with more
 pub added-at : (es : List (Determinant × set.FinSet nat_cmp)) (entry : Entry) (i : ℕ) (v : set.FinSet nat_cmp) → IsDistinct same_determinant (keys_of es) → has_at (map entry_of es) entry.det i ≡ true → slice_get (values_of es) i ≡ Some v → map entry_of (set_value_at es i (set.union v entry.known)) ≡ added (map entry_of es) entry

@@ -2,7 +2,7 @@
 -- determinant are an estimate from below of those that do, its Log (Alvisi and Marzullo 1998). That determinants are passed
 -- on with messages until more than f members are known to hold them is called family-based logging (Alvisi, Hoppe and
 -- Marzullo 1993).
-use Rattle.std.specs.Prelude.{ℕ, Bool, false, ◌&&◌, ◌==◌, nat_le, if◌then◌else◌, List, [], ◌∷◌, ◌++◌, map, max, Option, slice_get}
+use Rattle.std.specs.Prelude.{◌≡◌, ◌<◌, ℕ, Bool, true, false, ◌&&◌, ◌==◌, nat_le, if◌then◌else◌, List, [], ◌∷◌, ◌++◌, map, max, Option, Some, slice_get}
 use Rattle.std.specs.List.{filter, fold, find, list_any}
 use Rattle.std.specs.Option.{option_map, option_map_or}
 use Rattle.std.specs.Ordering.{nat_cmp}
@@ -54,6 +54,10 @@ is_held table determinant = list_any (λ e. same_determinant determinant e.det) 
 -- whether the entry at the place is the determinant's
 abbrev pub has_at : List Entry → Determinant → ℕ → Bool
 has_at table determinant place = option_map_or (λ e. same_determinant determinant e.det) (slice_get table place) false
+
+-- the first table has the determinants of the first k entries of the second, each at its place
+abbrev pub HasInPlace : ℕ → List Entry → List Entry → Type 0
+HasInPlace k table other = (place : ℕ) (e : Entry) → place < k → slice_get other place ≡ Some e → has_at table e.det place ≡ true
 
 -- whether it is the determinant of the member's receipt with this number
 abbrev pub is_of_receipt : ℕ → ℕ → Entry → Bool

@@ -1,13 +1,13 @@
 //! A table of determinants, and what is passed on of it: the entries that few members are known to hold (family-based
 //! logging: Alvisi, Hoppe and Marzullo 1993).
 
-ghost use Rattle.std.specs.Prelude.{◌≡◌, ℕ, ◌+◌, ◌^◌, ◌<◌, ◌≤◌, ◌++◌, [], ◌∷◌, length, OnOk, OnErr, IfOk, IfSome, IfNone, Some, None, true, false, slice_get, map, vec_len, vec_capacity};
+ghost use Rattle.std.specs.Prelude.{◌≡◌, ℕ, ◌+◌, ◌^◌, ◌<◌, ◌≤◌, ◌++◌, [], ◌∷◌, List, take, length, OnOk, OnErr, IfOk, IfSome, IfNone, Some, None, true, false, slice_get, map, vec_len, vec_capacity};
 ghost use Rattle.std.specs.List.{IsDistinct, filter_map};
 ghost use Rattle.std.specs.Option.{is_some};
 ghost use Rattle.fbl_base.specs.Events.{same_determinant};
 ghost use Rattle.indexmap.specs.IndexMap.{insert_entry, spare, get};
 ghost use Rattle.fbl_table.specs.Index.{IsIndex, open_at};
-ghost use Rattle.fbl_table.specs.Tables.{is_held, has_at, found, greatest_rsn, learned, noted, piggybacked, gathered, marked, added, entry_of};
+ghost use Rattle.fbl_table.specs.Tables.{HasInPlace, is_held, has_at, found, greatest_rsn, learned, noted, piggybacked, gathered, marked, added, entry_of};
 
 use crate::entry::Entry;
 use fbl_base::{Determinant, Member, MemberSet};
@@ -226,10 +226,12 @@ impl<A: Allocator + Copy> Table<A> {
         if self.entries.is_empty() && self.limit == other.limit {
             return self.gather_first(other);
         }
-        self.entries.reserve(other.len())?;
-        self.open_places.reserve(other.len())?;
-        let mut likely = Likely::default();
-        for place in 0..other.len() {
+        let shared = shared_places(&self.entries, other);
+        self.entries.reserve(other.len() - shared)?;
+        self.open_places.reserve(other.len() - shared)?;
+        unite_shared(&mut self.entries, other, shared);
+        let mut likely = Likely::default().after(shared);
+        for place in shared..other.len() {
             let entry = other.entry_at(place);
             let found = add(&mut self.entries, &mut self.open_places, entry, likely);
             likely = likely.after(found);
@@ -303,6 +305,37 @@ impl<A: Allocator + Copy> Table<A> {
                 carried.push_reserved(held);
             }
         }
+    }
+}
+
+/// At how many places, from the first on, both have an entry of the same determinant.
+fn shared_places<A: Allocator + Copy>(entries: &Entries<A>, other: &Table<A>) -> usize
+    ensures len { result ≤ length other.now }
+    ensures same { HasInPlace result (map entry_of entries.now.entries) other.now }
+{
+    for place in 0..other.len() {
+        let entry = other.entry_at(place);
+        if !is_at(entries, &entry.det, place) {
+            return place;
+        }
+    }
+    other.len()
+}
+
+/// Unites what the table knows of the determinants at its first places with what another knows, which has the same ones
+/// there: these need no room.
+fn unite_shared<A: Allocator + Copy>(entries: &mut Entries<A>, other: &Table<A>, shared: usize)
+    requires len { shared ≤ length other.now }
+    requires same { HasInPlace shared (map entry_of entries.old.entries) other.now }
+    ensures entries { map entry_of entries.new.entries ≡ gathered (map entry_of entries.old.entries) (take shared other.now) }
+    ensures places { (limit : ℕ) (open_places : List ℕ) → IsIndex limit (map entry_of entries.old.entries) open_places → IsIndex limit (map entry_of entries.new.entries) open_places }
+    ensures room { spare entries.new ≡ spare entries.old }
+{
+    for place in 0..shared {
+        let entry = other.entry_at(place);
+        let _distinct = entries.len();
+        let known = entries[place].union(entry.known);
+        entries[place] = known;
     }
 }
 

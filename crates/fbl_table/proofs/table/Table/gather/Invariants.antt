@@ -7,7 +7,7 @@ use Rattle.fbl_table.proofs.table.Table.gather.Given as goal
 
 abbrev pub invariant-loop-place : goal.invariant-loop-place
 invariant-loop-place g l = record {
-  so_far : map entry_of l.self-inside.entries.entries ≡ gathered (map entry_of l.initial.self-inside.entries.entries) (take l.place l.other);
+  so_far : map entry_of l.self-inside.entries.entries ≡ gathered l.fn.self (take l.place l.other);
   room : l.place-end ≤ l.place + spare l.self-inside.entries;
   open_room : l.place-end + vec_len l.self-inside.open_places ≤ l.place + vec_capacity l.self-inside.open_places;
   index : IsIndex l.self-inside.limit (map entry_of l.self-inside.entries.entries) l.self-inside.open_places.items;
