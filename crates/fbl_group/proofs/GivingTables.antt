@@ -17,14 +17,6 @@ pub record Giving (down : Members) (table : List Entry) (first : List MemberReco
   pub others : (p : ℕ) → i ≤ p → slice_index_or rebuilt p blank ≡ slice_index_or first p blank
 
 module _ (down : Members) (table : List Entry) (first : List MemberRecord) where
-  pub give-start : (gathered : List Entry) → gathered ≡ table → Giving down table first 0 first gathered
-  give-start gathered is = record {
-    size = refl;
-    given = λ p less there. absurd (omega (arith, less));
-    left = λ p past there. is;
-    others = λ p past. refl;
-  }
-
   pub give-one : (i place : ℕ) (rebuilt : List MemberRecord) (before after : List Entry) (x y : MemberRecord) → Giving down table first i rebuilt before → place ≡ i → i < length first → set.contains down i ≡ true → x ≡ slice_index_or rebuilt place x
       → y ≡ record x { table = before } → ((p : ℕ) → i < p → set.contains down p ≡ true → after ≡ before) → Giving down table first (i + 1) (slice_set rebuilt place y) after
   give-one i place rebuilt before after x y so_far is_place below here read made stays = record {

@@ -20,16 +20,6 @@ pub record Putting (down : Members) (given old : List MemberRecord) (i : ℕ) (m
   pub rebuilt_rest : (m : ℕ) → i ≤ m → slice_index_or rebuilt m blank ≡ slice_index_or given m blank
 
 module _ (down : Members) (given old : List MemberRecord) where
-  pub put-start : Putting down given old 0 old given
-  put-start = record {
-    size = refl;
-    rebuilt_size = refl;
-    put = λ m below is. absurd (omega arith);
-    kept = λ m is. refl;
-    rest = λ m past. refl;
-    rebuilt_rest = λ m past. refl;
-  }
-
   pub put-down : (i place other : ℕ) (members rebuilt : List MemberRecord) (x y : MemberRecord) → Putting down given old i members rebuilt → place ≡ i → other ≡ i → i < length old → i < length given → set.contains down i ≡ true → x ≡ get_or rebuilt other x
       → Putting down given old (i + 1) (slice_set members place x) (slice_set rebuilt other y)
   put-down i place other members rebuilt x y so_far is_place is_other below within is read = record {

@@ -40,16 +40,6 @@ none-some o x none some = cc
 
 -- ---- lists that loops make
 
--- one more element that a map takes to the same
-pub mapped-more : {X Y : Type 0} (f : X → Y) (xs ys : List X) (x : X) (y : Y) (i : ℕ) → map f xs ≡ replicate i y → f x ≡ y → ys ≡ xs ++ x ∷ [] → map f ys ≡ replicate (i + 1) y
-mapped-more f xs ys x y i was one is =
-    let next : i + 1 ≡ suc i = omega arith in
-    ap (map f) is ∙ map-append f xs (x ∷ []) ∙ ap (λ zs. zs ++ f x ∷ []) was ∙ ap (λ z. replicate i y ++ z ∷ []) one ∙ last i ∙ ap (λ k. replicate k y) (sym next)
-  where
-    last : (k : ℕ) → replicate k y ++ y ∷ [] ≡ replicate (suc k) y
-    last zero = refl
-    last (suc k) = ap (λ zs. y ∷ zs) (last k)
-
 -- the elements of a list of i are those wanted at their places
 pub record Made {X : Type 0} (d : X) (Wanted : ℕ → X → Type 0) (i : ℕ) (xs : List X) : Type 0 where
   pub size : length xs ≡ i
@@ -77,9 +67,6 @@ pub record Turned {X : Type 0} (d : X) (Wanted : ℕ → X → Type 0) (i : ℕ)
   pub size : length xs ≡ length old
   pub done : (m : ℕ) → m < i → Wanted m (get_or xs m d)
   pub rest : (m : ℕ) → i ≤ m → get_or xs m d ≡ get_or old m d
-
-pub turned-start : {X : Type 0} (d : X) (Wanted : ℕ → X → Type 0) (xs : List X) → Turned d Wanted 0 xs xs
-turned-start d Wanted xs = record { size = refl; done = λ m below. absurd (omega arith); rest = λ m past. refl }
 
 pub turned-set : {X : Type 0} (d : X) (Wanted : ℕ → X → Type 0) (i place : ℕ) (old xs : List X) (x : X) → Turned d Wanted i old xs → place ≡ i → i < length old → Wanted i x → Turned d Wanted (i + 1) old (set xs place x)
 turned-set d Wanted i place old xs x turned same within wanted = record {
@@ -351,13 +338,6 @@ settled_trace t0 t1 t2 made me before rsn from ssn carried sends first then made
     then ∙ ap (λ (xs : List Event). xs ++ map send_of_message made) first ∙ append_assoc t0 (Receipt me rsn from ssn ∷ []) (map send_of_message made) ∙ ap (λ (xs : List Event). t0 ++ Receipt me rsn from ssn ∷ xs) (ap (λ (xs : List Message). map send_of_message xs) made_is ∙ sends-messages me before carried sends)
 
 -- ---- steps of the loops
-
--- one count more
-pub summed-more : (f : ℕ → ℕ) (i before one k : ℕ) → before ≡ sum_below i f → before ≤ i * k → one ≡ f i → one ≤ k → (before + one ≡ sum_below (i + 1) f) × (before + one ≤ (i + 1) * k)
-summed-more f i before one k was few is most = (
-  (let next : i + 1 ≡ suc i = omega arith in rw next omega (arith, was, is)),
-  (let product : (i + 1) * k ≡ i * k + k = omega arith in omega (arith, few, most, product)),
-)
 
 -- a sum with a summand that is not 0 is not 0
 pub some-summed : (f : ℕ → ℕ) (i more : ℕ) → 0 < f i → 0 < sum_below (suc i + more) f
