@@ -20,9 +20,6 @@ use Rattle.indexmap.specs.IndexMap.{insert_entry}
 use Rattle.fbl_table.specs.declared.entry.Entry.{Entry}
 use Rattle.fbl_table.specs.Tables.{is_held, has_at, added, entry_of, is_open, piggybacked, gathered, learned, held_by, greatest_rsn, rsn_of, marked}
 
-Pair : Type 0
-Pair = Determinant × set.FinSet nat_cmp
-
 pub held-lookup : (es : List (Determinant × set.FinSet nat_cmp)) (d : Determinant) → is_some (lookup (same_determinant d) es) ≡ is_held (map entry_of es) d
 held-lookup [] d = refl
 held-lookup (e ∷ es) d =
@@ -49,12 +46,6 @@ held-at (e ∷ table) d (suc i) has = at (same_determinant d e.det) (held-at tab
   at : (b : Bool) → is_held table d ≡ true → (b || is_held table d) ≡ true
   at true held = refl
   at false held = held
-
-pub within-at : (table : List Entry) (d : Determinant) (i : ℕ) → has_at table d i ≡ true → i < length table
-within-at [] d zero has = absurd (false≢true has)
-within-at [] d (suc i) has = absurd (false≢true has)
-within-at (e ∷ table) d zero has = omega arith
-within-at (e ∷ table) d (suc i) has = omega (arith, within-at table d i has)
 
 has-key : (es : List (Determinant × set.FinSet nat_cmp)) (d x : Determinant) (i : ℕ) → i < length (keys_of es) → same_determinant d (get_or (keys_of es) i x) ≡ true → has_at (map entry_of es) d i ≡ true
 has-key [] d x i below is = absurd (omega (arith, below))
