@@ -20,12 +20,11 @@ use Rattle.fbl_law.specs.Replaying.{IsNextReplay, gathered_table, working, IsRep
 use Rattle.fbl_law.proofs.Gathering.{gathered_all-more, gathered_all-push}
 use Rattle.fbl_law.proofs.Rebuilding.{replaying-start, replaying-next, replaying-room, replaying-step, replayed_in-step, replayed_in-short, replaying-tables}
 use Rattle.fbl_group.specs.Rebuilding.{AreByNumber, Tries, Rounds, HasReplayed, IsReady}
+use Rattle.fbl_group.proofs.Queues.{read_any}
 
 -- a record that is read at a place of the list, whatever stands past its end
 pub read_at : (ms : List MemberRecord) (i : ℕ) (d m : MemberRecord) → i < length ms → m ≡ get_or ms i d → m ≡ slice_index_or ms i blank
-read_at [] i d m below read = absurd (omega (arith, below))
-read_at (x ∷ ms) zero d m below read = read
-read_at (x ∷ ms) (suc i) d m below read = read_at ms i d m (omega (arith, below)) read
+read_at ms i d m below read = read ∙ read_any ms i d blank below
 
 -- the table of one member more
 pub gathered-step : (ms : List MemberRecord) (i : ℕ) (before after : List Entry) (m : MemberRecord) → i < length ms → m ≡ slice_index_or ms i blank
@@ -58,22 +57,6 @@ saved-skip s ms i x first before same up was =
     let here : set.contains s i ≡ false = ap (λ k. set.contains s k) (sym same) ∙ up in
     let e : i + 1 ≡ suc i = omega arith in
     rw (e, here) (was ∙ ap (gathered_all first) (sym (append-nil (saved_tables s ms i))))
-
--- what is so of each element of a list, and of one more
-pub each-more : {X : Type 0} (P : ℕ → X → Type 0) (d : X) (xs : List X) (i : ℕ) (x : X) → length xs ≡ i → ((p : ℕ) → p < i → P p (slice_index_or xs p d)) → P i x → (p : ℕ) → p < i + 1 → P p (slice_index_or (xs ++ x ∷ []) p d)
-each-more P d xs i x size before here p below = elim (cases_lt p i) [
-  | inl less ↦ subst (P p) (sym (get_or_append_left xs (x ∷ []) d p (omega (arith, size, less)))) (before p less)
-  | inr past ↦
-      (let same : length xs ≡ p = omega (arith, size, past, below) in
-      let there : P p x = subst (λ k. P k x) (sym size ∙ same) here in
-      subst (P p) (sym (ap (λ k. slice_index_or (xs ++ x ∷ []) k d) (sym same) ∙ get_or-append_seam xs x [] d)) there)
-]
-
--- one record more
-pub begun-at : (s : Members) (begins : ℕ → MemberRecord) (ms : List MemberRecord) (i : ℕ) (m : MemberRecord) → length ms ≡ i
-    → ((p : ℕ) → p < i → set.contains s p ≡ true → slice_index_or ms p blank ≡ begins p) → (set.contains s i ≡ true → m ≡ begins i)
-    → (p : ℕ) → p < i + 1 → set.contains s p ≡ true → slice_index_or (ms ++ m ∷ []) p blank ≡ begins p
-begun-at s begins ms i m size before here = each-more (λ (p : ℕ) (x : MemberRecord). set.contains s p ≡ true → x ≡ begins p) blank ms i m size before here
 
 -- what the replay of a receipt asks
 pub record MayReplay (next : Next) (n p : ℕ) (d : Determinant) (note : Note) (x : MemberRecord) : Type 0 where

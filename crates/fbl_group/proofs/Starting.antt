@@ -34,27 +34,6 @@ filter_map-more {Y = Y} h (y ∷ xs) (suc i) x below at = here (h y) (filter_map
   here None ih = ih
   here (Some z) ih = ap (λ zs. z ∷ zs) ih
 
--- one more member
-pub members-more : (ms : List MemberRecord) (starts : List Start) (n : ℕ) (x : MemberRecord) → length ms ≡ n → x ≡ fresh n starts → ((m : ℕ) → m < n → slice_index_or ms m blank ≡ fresh m starts) → (m : ℕ) → m < n + 1 → slice_index_or (ms ++ x ∷ []) m blank ≡ fresh m starts
-members-more ms starts n x size is so_far m below = at (m == n) refl where
-  old : (ys : List MemberRecord) (k : ℕ) → k < length ys → slice_index_or (ys ++ x ∷ []) k blank ≡ slice_index_or ys k blank
-  old [] k lt = absurd (omega arith)
-  old (y ∷ ys) zero lt = refl
-  old (y ∷ ys) (suc k) lt = old ys k (omega arith)
-
-  last : (ys : List MemberRecord) → slice_index_or (ys ++ x ∷ []) (length ys) blank ≡ x
-  last [] = refl
-  last (y ∷ ys) = last ys
-
-  at : (b : Bool) → (m == n) ≡ b → slice_index_or (ms ++ x ∷ []) m blank ≡ fresh m starts
-  at true e =
-      let same : m ≡ n = grind (arith, nat_tests) in
-      rw (same, ← size) (last ms ∙ is ∙ ap (λ (k : ℕ). fresh k starts) (sym size))
-  at false e =
-      let apart : m ≢ n = (λ same. (let t : (m == n) ≡ true = grind (arith, nat_tests) in cc)) in
-      let less : m < n = omega (arith, apart, below) in
-      old ms m (omega (arith, size, less)) ∙ so_far m less
-
 -- one more send of a start
 pub starts-more : (done : List Event) (ss : List Start) (i : ℕ) (s : Start) → i < length ss → s ≡ get_or ss i s → start_events (done ++ Send s.from (sends_of (map mark_of done) s.from + 1) s.to s.note ∷ []) (drop (suc i) ss) ≡ start_events done (drop i ss)
 starts-more done [] i s below at = absurd (omega arith)

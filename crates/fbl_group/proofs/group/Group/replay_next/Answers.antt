@@ -1,4 +1,4 @@
-use Rattle.std.proofs.Common.{subst, ap, ◌∙◌, arith}
+use Rattle.std.proofs.Common.{subst, ap, ◌∙◌, arith, rules}
 use Rattle.fbl_law.specs.Groups.{GroupRecord}
 use Rattle.fbl_law.specs.Sound.{IsSound}
 use Rattle.fbl_group.proofs.Recovering.{at-place, from-member, may-replay, waits-unsent, replays-one}
@@ -24,15 +24,7 @@ index_mut-requires g c =
 pub replay_one-requires : goal.replay_one-requires
 replay_one-requires g c =
     let may = may-replay g.B.Behaviour.next c.args.self.now (subst (IsSound g.B.Behaviour.next) c.self.view_is c.self.invariant) c.requires.replaying c.requires.down (c.from-place.ensures ∙ c.number.ensures.value) c.index.ensures c.requires.gathered.receipts c.receipt.ensures c.received-rsn.ensures.value c.in-Some.is c.as_slice.ensures.value c.note_sent.ensures (c.members-n.ensures.value ∙ ap (λ (r : GroupRecord). r.config.members) c.self.view_is) c.in-Some-note_sent.is c.index_mut.ensures.value in
-    record {
-      least = may.least;
-      most = may.most;
-      member = may.member;
-      to_me = may.to_me;
-      next = may.number;
-      receipts = may.receipts;
-      sends = may.sends;
-    }
+    search (rules, may)
 
 pub returns : goal.returns
 returns g c =

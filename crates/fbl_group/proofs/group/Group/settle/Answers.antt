@@ -1,4 +1,4 @@
-use Rattle.std.proofs.Common.{◌≡◌, ◌≢◌, ℕ, ◌+◌, ◌<◌, ◌^◌, length, arith, refl, sym, ap, ◌∙◌, subst, Fits, w64}
+use Rattle.std.proofs.Common.{◌≡◌, ◌≢◌, ℕ, ◌+◌, ◌<◌, ◌^◌, length, arith, rules, refl, sym, ap, ◌∙◌, subst, Fits, w64}
 use Rattle.fbl_law.specs.Sound.{IsSound}
 use Rattle.fbl_group.specs.Channels.{room_in}
 use Rattle.fbl_group.proofs.BringingBack.{on_err}
@@ -28,18 +28,7 @@ receive-requires g c =
     let wire = planning.front_is g.B.Behaviour.next g.met.B.Behaviour.sends_allowed c.self.invariant c.self.view_is c.requires c.reserve_from.ensures.same (front-read _ c.front.result c.unwrap-wire.result c.unwrap-wire.ensures c.front.ensures.some) in
     let member = planning.member_is g.B.Behaviour.next g.met.B.Behaviour.sends_allowed c.self.invariant c.self.view_is c.requires (c.from.ensures ∙ c.number.ensures.value) c.index_mut-member.ensures.value in
     let reads = planning.reads g.B.Behaviour.next g.met.B.Behaviour.sends_allowed c.self.invariant c.self.view_is c.requires wire member c.members-n.ensures.value in
-    record {
-      least = reads.least;
-      most = reads.most;
-      member = reads.member;
-      to_me = reads.to_me;
-      newer = reads.newer;
-      not_held = reads.not_held;
-      not_carried = reads.not_carried;
-      step = reads.step;
-      receipts = reads.receipts;
-      sends = reads.sends;
-    }
+    search (rules, reads)
 
 pub invariant_of-self-in_err-made : goal.invariant_of-self-in_err-made
 invariant_of-self-in_err-made g c =
