@@ -1,5 +1,5 @@
 -- Channels as queues: the loops over them, and what is left of them by a send, a delivery, a strike and a recovery.
-use Rattle.std.proofs.Common.{IfSome, IfNone, IsSome, subst, ◌≡◌, ◌≢◌, ℕ, zero, suc, ◌+◌, ◌-◌, ◌*◌, ◌<◌, ◌≤◌, ◌⊎◌, inl, inr, Bool, true, false, cond, ◌&&◌, ◌==◌, List, [], ◌∷◌, ◌++◌, length, map, drop, replicate, refl, sym, ap, ◌∙◌, arith, Vec, Option, Some, None, slice_get, get_or, set, append_assoc, append-nil}
+use Rattle.std.proofs.Common.{IfSome, IfNone, IsSome, subst, ◌≡◌, ◌≢◌, ℕ, zero, suc, ◌+◌, ◌-◌, ◌*◌, ◌<◌, ◌≤◌, ◌⊎◌, inl, inr, Bool, true, false, cond, ◌&&◌, ◌==◌, List, [], ◌∷◌, ◌++◌, length, map, drop, replicate, refl, sym, ap, ◌∙◌, arith, Vec, Option, Some, None, slice_get, get_or, set, append_assoc, append-nil, below_more}
 use Rattle.std.specs.List.{All}
 use Rattle.std.specs.VecDeque.{deque_len, deque_capacity}
 use Rattle.std.proofs.lemmas.Bool.{cases_lt, cases_eq}
@@ -51,16 +51,12 @@ made-none d Wanted = record { size = refl; each = λ m below. absurd (omega arit
 pub made-more : {X : Type 0} (d : X) (Wanted : ℕ → X → Type 0) (i : ℕ) (xs : List X) (x : X) → Made d Wanted i xs → Wanted i x → Made d Wanted (i + 1) (xs ++ x ∷ [])
 made-more d Wanted i xs x made wanted = record {
   size = longer xs ∙ ap (λ k. k + 1) made.size;
-  each = λ m below. at m (cases_lt m i) below;
+  each = below_more (λ m. Wanted m (get_or (xs ++ x ∷ []) m d)) i (λ m less. rw (get_or_append_left xs (x ∷ []) d m (omega (arith, less, made.size))) (made.each m less)) (rw (get_or_push xs x d i made.size) wanted);
 }
   where
     longer : (ys : List _) → length (ys ++ x ∷ []) ≡ length ys + 1
     longer [] = refl
     longer (y ∷ ys) = (let rest = longer ys in omega (arith, rest))
-
-    at : (m : ℕ) → (m < i) ⊎ (i ≤ m) → m < i + 1 → Wanted m (get_or (xs ++ x ∷ []) m d)
-    at m (inl less) below = rw (get_or_append_left xs (x ∷ []) d m (omega (arith, less, made.size))) (made.each m less)
-    at m (inr past) below = (let same : m ≡ i = omega arith in rw (same, get_or_push xs x d i made.size) wanted)
 
 -- the elements below the place i are those wanted, and the others are as they were
 pub record Turned {X : Type 0} (d : X) (Wanted : ℕ → X → Type 0) (i : ℕ) (old xs : List X) : Type 0 where
@@ -71,26 +67,16 @@ pub record Turned {X : Type 0} (d : X) (Wanted : ℕ → X → Type 0) (i : ℕ)
 pub turned-set : {X : Type 0} (d : X) (Wanted : ℕ → X → Type 0) (i place : ℕ) (old xs : List X) (x : X) → Turned d Wanted i old xs → place ≡ i → i < length old → Wanted i x → Turned d Wanted (i + 1) old (set xs place x)
 turned-set d Wanted i place old xs x turned same within wanted = record {
   size = length-set xs place x ∙ turned.size;
-  done = λ m below. at m (cases_lt m i) below;
+  done = below_more (λ m. Wanted m (get_or (set xs place x) m d)) i (λ m less. rw (get_or-set_other xs place m x d (λ e. absurd (omega (arith, e, same, less)))) (turned.done m less)) (rw (same, get_or-set_same xs i x d (omega (arith, within, turned.size))) wanted);
   rest = λ m past. get_or-set_other xs place m x d (λ e. absurd (omega (arith, e, same, past))) ∙ turned.rest m (omega (arith, past));
 }
-  where
-    at : (m : ℕ) → (m < i) ⊎ (i ≤ m) → m < i + 1 → Wanted m (get_or (set xs place x) m d)
-    at m (inl less) below = rw (get_or-set_other xs place m x d (λ e. absurd (omega (arith, e, same, less)))) (turned.done m less)
-    at m (inr past) below =
-        let is : m ≡ i = omega arith in
-        rw (is, same, get_or-set_same xs i x d (omega (arith, within, turned.size))) wanted
 
 pub turned-kept : {X : Type 0} (d : X) (Wanted : ℕ → X → Type 0) (i : ℕ) (old xs : List X) → Turned d Wanted i old xs → Wanted i (get_or old i d) → Turned d Wanted (i + 1) old xs
 turned-kept d Wanted i old xs turned wanted = record {
   size = turned.size;
-  done = λ m below. at m (cases_lt m i) below;
+  done = below_more (λ m. Wanted m (get_or xs m d)) i turned.done (rw (turned.rest i (omega arith)) wanted);
   rest = λ m past. turned.rest m (omega (arith, past));
 }
-  where
-    at : (m : ℕ) → (m < i) ⊎ (i ≤ m) → m < i + 1 → Wanted m (get_or xs m d)
-    at m (inl less) below = turned.done m less
-    at m (inr past) below = (let is : m ≡ i = omega arith in rw (is, turned.rest i (omega arith)) wanted)
 
 -- a list in which a place is written with what stands there
 pub set-same : {X : Type 0} (xs : List X) (i : ℕ) (x d : X) → i < length xs → x ≡ get_or xs i d → set xs i x ≡ xs

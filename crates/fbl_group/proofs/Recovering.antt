@@ -1,5 +1,5 @@
 -- The steps of a recovery before it changes the group: gathering, replay in rounds, tables given.
-use Rattle.std.proofs.Common.{◌≡◌, ℕ, zero, suc, ◌+◌, ◌<◌, ◌≤◌, ◌⊎◌, inl, inr, Bool, true, false, List, [], ◌∷◌, ◌++◌, length, map, take, Option, Some, None, get_or, refl, sym, subst, ap, ◌∙◌, arith}
+use Rattle.std.proofs.Common.{◌≡◌, ℕ, zero, suc, ◌+◌, ◌<◌, ◌≤◌, ◌⊎◌, inl, inr, Bool, true, false, List, [], ◌∷◌, ◌++◌, length, map, take, Option, Some, None, get_or, refl, sym, subst, ap, ◌∙◌, arith, below_more}
 use Rattle.std.specs.Prelude.{slice_index_or, slice_set}
 use Rattle.std.specs.FinSet as set
 use Rattle.std.proofs.lemmas.Bool.{cases_lt}
@@ -139,17 +139,12 @@ module _ (next : Next) (r : GroupRecord) (sound : IsSound next r) where
   pub round-waits : (i k : ℕ) (first before after : List MemberRecord) (moved b : Bool) → k ≡ i → b ≡ false → Rounds next r i first before moved → Tries next r k before after b → Rounds next r (i + 1) first after moved
   round-waits i k first before after moved true is_k fails so_far tried = cc
   round-waits i k first before after true false is_k fails so_far tried = (subst (IsReplaying next r) (sym tried.0) so_far.0, (let e : replayed_in r after ≡ replayed_in r before = ap (replayed_in r) tried.0 in omega (arith, e, so_far.1)))
-  round-waits i k first before after false false is_k fails so_far tried = (tried.0 ∙ so_far.0, λ p below down. at p below down (cases_lt p i)) where
-    at : (p : ℕ) → p < i + 1 → IsDown (knowledge r) p → (p < i) ⊎ (i ≤ p) → IsWaiting r first p
-    at p below down (inl less) = so_far.1 p less down
-    at p below down (inr past) = (let same : k ≡ p = omega arith in subst (IsWaiting r first) same (subst (λ (ms : List MemberRecord). IsWaiting r ms k) so_far.0 tried.1))
+  round-waits i k first before after false false is_k fails so_far tried =
+      (tried.0 ∙ so_far.0, below_more (λ p. IsDown (knowledge r) p → IsWaiting r first p) i so_far.1 (λ down. subst (IsWaiting r first) is_k (subst (λ (ms : List MemberRecord). IsWaiting r ms k) so_far.0 tried.1)))
 
   pub round-up : (i : ℕ) (first now : List MemberRecord) (moved : Bool) → Rounds next r i first now moved → set.contains r.down i ≡ false → Rounds next r (i + 1) first now moved
   round-up i first now true so_far up = so_far
-  round-up i first now false so_far up = (so_far.0, λ p below down. at p below down (cases_lt p i)) where
-    at : (p : ℕ) → p < i + 1 → IsDown (knowledge r) p → (p < i) ⊎ (i ≤ p) → IsWaiting r first p
-    at p below down (inl less) = so_far.1 p less down
-    at p below down (inr past) = (let same : p ≡ i = omega arith in let is : set.contains r.down p ≡ false = ap (λ x. set.contains r.down x) same ∙ up in cc)
+  round-up i first now false so_far up = (so_far.0, below_more (λ p. IsDown (knowledge r) p → IsWaiting r first p) i so_far.1 (λ (down : set.contains r.down i ≡ true). cc))
 
   -- rounds end
   pub round-more : (before after : List MemberRecord) → Rounds next r r.config.members before after true → replayed_in r before < replayed_in r after
