@@ -53,6 +53,10 @@ somebody down count is some none = some (is ∙ ap (λ (s : Members). set.len s)
 within : (most k : ℕ) → most < 2 ^ 64 → k ≤ most → Fits w64 k
 within most k fits few = omega (arith, fits, few)
 
+-- the channels are made of what is sent again while these records stand for the members that are down
+abbrev AreSentAgain : GroupRecord → List MemberRecord → List (List (List Message)) → Type 0
+AreSentAgain r rebuilt again = (q p : ℕ) → q < r.config.members → p < r.config.members → channel_in again q p ≡ sent_again r.config.f r.down (working r rebuilt) q p
+
 module _ (next : Next) (old : GroupRecord) (sound : IsSound next old) where
   few-events : length old.trace ≤ 8192
   few-events = omega (arith, sound.room, sound.config.limit.1)
@@ -75,12 +79,12 @@ module _ (next : Next) (old : GroupRecord) (sound : IsSound next old) where
         omega (arith, undone, same)
 
     -- what is sent again on a channel is at most what the trace may have
-    few-again : (again : List (List (List Message))) → ((q p : ℕ) → q < old.config.members → p < old.config.members → channel_in again q p ≡ sent_again old.config.f old.down (working old rebuilt) q p) → (q p : ℕ) → q < old.config.members → p < old.config.members → length (channel_in again q p) ≤ 8192
+    few-again : (again : List (List (List Message))) → AreSentAgain old rebuilt again → (q p : ℕ) → q < old.config.members → p < old.config.members → length (channel_in again q p) ≤ 8192
     few-again again made q p below_q below_p =
         rw (made q p below_q below_p) (sent_again-short old.config.f old.down (working old rebuilt) q p 8192 (working-log next old sound rebuilt ready.replayed.replaying q below_q))
 
     module _ (new : GroupRecord) (again : List (List (List Message))) (config : new.config ≡ old.config) (members : IsPutBack old.down rebuilt old.members new.members)
-        (made : (q p : ℕ) → q < old.config.members → p < old.config.members → channel_in again q p ≡ sent_again old.config.f old.down (working old rebuilt) q p)
+        (made : AreSentAgain old rebuilt again)
         (replaced : AreReplaced old.config.members old.down (channel_in again) old.channels new.channels)
         (trace : new.trace ≡ left) (checkpoints : new.checkpoints ≡ old.checkpoints) (down : new.down ≡ set.empty) (receipts_ever : new.receipts_ever ≡ old.receipts_ever)
         (undone : ℕ) (undone_is : undone + length (receipts (map mark_of left)) ≡ length (receipts (map mark_of old.trace))) (undone_ever : new.undone_ever ≡ old.undone_ever + undone) where
@@ -171,12 +175,9 @@ module _ (next : Next) {old now : GroupRecord} {rebuilt : List MemberRecord} (so
   size = ready.replayed.replaying.size
 
   -- the channels of n members that are made again
-  module _ {n : ℕ} {records : List MemberRecord} (again : List (List (List Message))) (all : n ≡ old.config.members) (same : records ≡ rebuilt)
-      (each : (q p : ℕ) → q < now.config.members → p < now.config.members → channel_in again q p ≡ sent_again now.config.f now.down (working now records) q p) where
-    made : (q p : ℕ) → q < old.config.members → p < old.config.members → channel_in again q p ≡ sent_again old.config.f old.down (working old rebuilt) q p
-    made =
-        subst (λ (r : GroupRecord). (q p : ℕ) → q < r.config.members → p < r.config.members → channel_in again q p ≡ sent_again r.config.f r.down (working r rebuilt) q p) (sym view)
-        (subst (λ (ms : List MemberRecord). (q p : ℕ) → q < now.config.members → p < now.config.members → channel_in again q p ≡ sent_again now.config.f now.down (working now ms) q p) same each)
+  module _ {n : ℕ} {records : List MemberRecord} (again : List (List (List Message))) (all : n ≡ old.config.members) (same : records ≡ rebuilt) (each : AreSentAgain now records again) where
+    made : AreSentAgain old rebuilt again
+    made = subst (λ (r : GroupRecord). AreSentAgain r rebuilt again) (sym view) (subst (λ (ms : List MemberRecord). AreSentAgain now ms again) same each)
 
     pub short-again : (q p : ℕ) → q < n → p < n → length (channel_in again q p) ≤ 8192
     short-again q p below_q below_p = few-again next old sound rebuilt ready again made q p (omega (arith, all, below_q)) (omega (arith, all, below_p))
@@ -212,8 +213,7 @@ module _ (next : Next) {old now : GroupRecord} {rebuilt : List MemberRecord} (so
         undone-fits fits = within old.receipts_ever (old.undone_ever + undone) fits (omega (arith, undone-left, sound.counted))
 
         -- the group that is left
-        module _ {new : GroupRecord} {n : ℕ} {records : List MemberRecord} (again : List (List (List Message))) (all : n ≡ old.config.members) (same : records ≡ rebuilt)
-            (each : (q p : ℕ) → q < now.config.members → p < now.config.members → channel_in again q p ≡ sent_again now.config.f now.down (working now records) q p)
+        module _ {new : GroupRecord} {n : ℕ} {records : List MemberRecord} (again : List (List (List Message))) (all : n ≡ old.config.members) (same : records ≡ rebuilt) (each : AreSentAgain now records again)
             (put : IsPutBack s rebuilt old.members new.members) (replaced : AreReplaced n old.down (channel_in again) old.channels new.channels) (config : new.config ≡ old.config)
             (trace : new.trace ≡ rest) (checkpoints : new.checkpoints ≡ old.checkpoints) (down : new.down ≡ set.empty) (receipts_ever : new.receipts_ever ≡ old.receipts_ever) (undone_ever : new.undone_ever ≡ old.undone_ever + undone) where
           members : IsPutBack old.down rebuilt old.members new.members

@@ -22,16 +22,10 @@ use Rattle.fbl_group.specs.declared.refusals.CommitRefusal.TheVariants as commit
 use Rattle.fbl_group.specs.Tickets.{take_refusal, empty_refusal, IsTicket, commit_refusal, stale_or_full, is_current, has_no_room, is_full, IsCommitRefusal}
 use Rattle.fbl_law.specs.Sound.{IsSound}
 use Rattle.fbl_law.proofs.GroupFacts.{all_up, receipts_fit, front_flight}
-use Rattle.fbl_group.proofs.Queues.{first-is, read_any}
+use Rattle.fbl_group.proofs.Queues.{first-is, read_any, eqb-same}
 
-pub below_test : (m n : ℕ) → m < n → nat_lt m n ≡ true
+below_test : (m n : ℕ) → m < n → nat_lt m n ≡ true
 below_test m n below = grind (arith, nat_tests)
-
-same_test : (m n : ℕ) → m ≡ n → (m == n) ≡ true
-same_test m n is = grind (arith, nat_tests)
-
-pub none_test : (k : ℕ) → k ≡ 0 → (k == 0) ≡ true
-none_test k is = grind (arith, nat_tests)
 
 -- a step that there is room for is planned
 module _ (next : Next) (r : GroupRecord) (p q : ℕ) (below_p : p < r.config.members) (below_q : q < r.config.members) (nobody : set.len r.down ≡ 0) (v : Message) (outcome : Outcome) (sound : IsSound next r) (at : front r q p ≡ Some v) (step : outcome ≡ next p r.config.members (member r p).state v.note) where
@@ -59,7 +53,7 @@ take_at_front : (r : GroupRecord) (p q : ℕ) → p < r.config.members → q < r
 take_at_front r p q below_p below_q nobody =
     let a : nat_lt p r.config.members ≡ true = below_test p r.config.members below_p in
     let b : nat_lt q r.config.members ≡ true = below_test q r.config.members below_q in
-    let d : (set.len r.down == 0) ≡ true = none_test (set.len r.down) nobody in
+    let d : (set.len r.down == 0) ≡ true = eqb-same (set.len r.down) 0 nobody in
     rw (a, b, d) refl
 
 module _ {r now : GroupRecord} (view : r ≡ now) {p q n a b : ℕ} (all : n ≡ r.config.members) (is_p : a ≡ p) (less_p : a < n) (is_q : b ≡ q) (less_q : b < n) (nobody : set.len r.down ≡ 0) where
@@ -114,7 +108,7 @@ module _ (next : Next) {r now : GroupRecord} (view : r ≡ now) (t : Ticket) (no
 
   commit_at_front : commit_refusal next now t ≡ stale_or_full r t sends (front r t.from t.to)
   commit_at_front =
-      let d : (set.len r.down == 0) ≡ true = none_test (set.len r.down) nobody in
+      let d : (set.len r.down == 0) ≡ true = eqb-same (set.len r.down) 0 nobody in
       let s : (r.config.members == t.n) ≡ true = grind (arith, nat_tests) in
       ap (λ (x : GroupRecord). commit_refusal next x t) (sym view) ∙ rw (d, s) refl
 
@@ -173,12 +167,7 @@ module _ (next : Next) (r : GroupRecord) (p q : ℕ) (v : Message) (t : Ticket) 
   current =
       let state : (member r t.to).state ≡ t.state = ap (λ k. (member r k).state) is.to ∙ sym is.state in
       let rsn : (member r t.to).received + 1 ≡ t.rsn = ap (λ k. (member r k).received + 1) is.to ∙ sym is.rsn in
-      let a : ((member r t.to).state == t.state) ≡ true = same_test _ _ state in
-      let b : ((member r t.to).received + 1 == t.rsn) ≡ true = same_test _ _ rsn in
-      let c : (v.ssn == t.ssn) ≡ true = same_test _ _ (sym is.ssn) in
-      let d : (v.note.value == t.note.value) ≡ true = same_test _ _ (ap (λ (n : Note). n.value) (sym is.note)) in
-      let e : (v.note.hops == t.note.hops) ≡ true = same_test _ _ (ap (λ (n : Note). n.hops) (sym is.note)) in
-      rw (a, b, c, d, e) refl
+      rw (eqb-same (member r t.to).state t.state state, eqb-same ((member r t.to).received + 1) t.rsn rsn, eqb-same v.ssn t.ssn (sym is.ssn), eqb-same v.note.value t.note.value (ap (λ (n : Note). n.value) (sym is.note)), eqb-same v.note.hops t.note.hops (ap (λ (n : Note). n.hops) (sym is.note))) refl
 
   same_step : next t.to t.n t.state t.note ≡ step_of next r v
   same_step = ap (λ k. next k t.n t.state t.note) is.to ∙ ap (λ k. next v.to k t.state t.note) is.n ∙ ap (λ k. next v.to r.config.members k t.note) is.state ∙ ap (λ (n : Note). next v.to r.config.members (member r v.to).state n) is.note

@@ -169,7 +169,7 @@ none-in n cs q p is = rw is (at n q) where
   at (suc k) zero = none n p
   at (suc k) (suc i) = at k i
 
-eqb-same : (a b : ℕ) → a ≡ b → (a == b) ≡ true
+pub eqb-same : (a b : ℕ) → a ≡ b → (a == b) ≡ true
 eqb-same a b e = grind (arith, nat_tests)
 
 eqb-other : (a b : ℕ) → a ≢ b → (a == b) ≡ false
