@@ -1,4 +1,4 @@
-use Rattle.std.proofs.Common.{◌≡◌, ℕ, ◌+◌, refl, sym, ap, ◌∙◌}
+use Rattle.std.proofs.Common.{ℕ, ◌+◌, refl, sym, ap, ◌∙◌}
 use Rattle.fbl_group.proofs.Deciding as deciding
 use Rattle.fbl_group.proofs.group.Group.take.Goals as goal
 
