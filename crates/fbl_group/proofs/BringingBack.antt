@@ -1,5 +1,5 @@
 -- What a recovery leaves, once the records that were rebuilt are in place.
-use Rattle.std.proofs.Common.{◌||◌, ◌⊎◌, inl, inr, ◌≡◌, ◌≢◌, ℕ, ◌+◌, ◌<◌, ◌≤◌, Bool, true, false, cond, List, [], ◌∷◌, length, map, refl, sym, ap, ◌∙◌, arith, Result, Ok, Err, Fits, w64, ◌^◌}
+use Rattle.std.proofs.Common.{◌||◌, ◌⊎◌, inl, inr, ◌≡◌, ◌≢◌, ℕ, ◌+◌, ◌-◌, ◌<◌, ◌≤◌, Bool, true, false, cond, List, [], ◌∷◌, length, map, refl, sym, ap, subst, ◌∙◌, arith, Result, Ok, Err, Fits, w64, ◌^◌}
 use Rattle.std.specs.Prelude.{slice_index_or, count_by}
 use Rattle.std.specs.List.{filter, cons_option}
 use Rattle.std.specs.Option.{is_some}
@@ -18,7 +18,7 @@ use Rattle.fbl_law.specs.Knowledge.{Members, IsUp, IsDown}
 use Rattle.fbl_law.specs.Groups.{GroupRecord, channel_in, channel, sum_below, messages_in, member, knowledge, marks, receipts}
 use Rattle.fbl_law.specs.Sound.{IsSound}
 use Rattle.fbl_law.specs.GroupSteps.{IsRecovery}
-use Rattle.fbl_law.specs.Replaying.{is_replayed, stays_by, recovered_trace, resent_to, sent_again, working, replayed_in, IsRebuilt}
+use Rattle.fbl_law.specs.Replaying.{is_replayed, stays_by, recovered_trace, count_in, resent_to, sent_again, working, replayed_in, IsRebuilt}
 use Rattle.fbl_law.proofs.GroupRecovery.{length-left, recovery-keeps}
 use Rattle.fbl_law.proofs.Undone.{cut-undone}
 use Rattle.fbl_law.proofs.CutTrace.{recovered_trace-cut}
@@ -50,55 +50,41 @@ pub somebody : (down : Members) (count : ℕ) → count ≡ set.len down → cou
 somebody down count is some none = some (is ∙ ap (λ (s : Members). set.len s) none ∙ set.len-empty nat_cmp)
 
 -- what is no greater than a number that fits
-pub within : (most k : ℕ) → most < 2 ^ 64 → k ≤ most → Fits w64 k
+within : (most k : ℕ) → most < 2 ^ 64 → k ≤ most → Fits w64 k
 within most k fits few = omega (arith, fits, few)
 
-receipts-short : (trace : List Event) → length (receipts (map mark_of trace)) ≤ length trace
-receipts-short [] = omega arith
-receipts-short (event.Send from ssn to note ∷ trace) = omega (arith, receipts-short trace)
-receipts-short (event.Receipt to rsn from ssn ∷ trace) = omega (arith, receipts-short trace)
+-- the channels are made of what is sent again while these records stand for the members that are down
+abbrev AreSentAgain : GroupRecord → List MemberRecord → List (List (List Message)) → Type 0
+AreSentAgain r rebuilt again = (q p : ℕ) → q < r.config.members → p < r.config.members → channel_in again q p ≡ sent_again r.config.f r.down (working r rebuilt) q p
 
 module _ (next : Next) (old : GroupRecord) (sound : IsSound next old) where
-  pub few-events : length old.trace ≤ 8192
+  few-events : length old.trace ≤ 8192
   few-events = omega (arith, sound.room, sound.config.limit.1)
 
-  pub few-members : old.config.members ≤ 16
-  few-members = sound.config.members.1
-
   module _ (rebuilt : List MemberRecord) (ready : IsReady next old rebuilt) where
-    pub size : length rebuilt ≡ old.config.members
-    size = ready.replayed.replaying.size
-
-    pub down-within : (q : ℕ) → set.contains old.down q ≡ true → q < length rebuilt
-    down-within q down = omega (arith, sound.down q down, size)
-
     abbrev left : List Event
     left = filter (λ e. stays_by old.down (λ p. slice_index_or rebuilt p blank) (mark_of e)) old.trace
 
     left-is : left ≡ recovered_trace old
     left-is = recovered_trace-rebuilt next old sound rebuilt ready.replayed.replaying ready.replayed.waiting
 
-    pub few-left : length left ≤ 8192
+    few-left : length left ≤ 8192
     few-left = omega (arith, few-events, length-left (λ e. stays_by old.down (λ p. slice_index_or rebuilt p blank) (mark_of e)) old.trace)
 
     -- no more receipts are left than there were
-    pub fewer-receipts : length (receipts (map mark_of left)) ≤ length (receipts (map mark_of old.trace))
+    fewer-receipts : length (receipts (map mark_of left)) ≤ length (receipts (map mark_of old.trace))
     fewer-receipts =
         let undone = cut-undone next old sound (recovered_trace old) (recovered_trace-cut next old sound) in
         let same : length (receipts (map mark_of left)) ≡ length (receipts (map mark_of (recovered_trace old))) = ap (λ (es : List Event). length (receipts (map mark_of es))) left-is in
         omega (arith, undone, same)
 
-    -- the counter of undone receipts stays within that of all receipts
-    pub few-undone : (undone : ℕ) → undone ≤ length (receipts (map mark_of old.trace)) → old.undone_ever + undone ≤ old.receipts_ever
-    few-undone undone most = omega (arith, most, sound.counted)
-
     -- what is sent again on a channel is at most what the trace may have
-    pub few-again : (again : List (List (List Message))) → ((q p : ℕ) → q < old.config.members → p < old.config.members → channel_in again q p ≡ sent_again old.config.f old.down (working old rebuilt) q p) → (q p : ℕ) → q < old.config.members → p < old.config.members → length (channel_in again q p) ≤ 8192
+    few-again : (again : List (List (List Message))) → AreSentAgain old rebuilt again → (q p : ℕ) → q < old.config.members → p < old.config.members → length (channel_in again q p) ≤ 8192
     few-again again made q p below_q below_p =
         rw (made q p below_q below_p) (sent_again-short old.config.f old.down (working old rebuilt) q p 8192 (working-log next old sound rebuilt ready.replayed.replaying q below_q))
 
     module _ (new : GroupRecord) (again : List (List (List Message))) (config : new.config ≡ old.config) (members : IsPutBack old.down rebuilt old.members new.members)
-        (made : (q p : ℕ) → q < old.config.members → p < old.config.members → channel_in again q p ≡ sent_again old.config.f old.down (working old rebuilt) q p)
+        (made : AreSentAgain old rebuilt again)
         (replaced : AreReplaced old.config.members old.down (channel_in again) old.channels new.channels)
         (trace : new.trace ≡ left) (checkpoints : new.checkpoints ≡ old.checkpoints) (down : new.down ≡ set.empty) (receipts_ever : new.receipts_ever ≡ old.receipts_ever)
         (undone : ℕ) (undone_is : undone + length (receipts (map mark_of left)) ≡ length (receipts (map mark_of old.trace))) (undone_ever : new.undone_ever ≡ old.undone_ever + undone) where
@@ -168,14 +154,85 @@ module _ (next : Next) (old : GroupRecord) (sound : IsSound next old) where
       is_recovery : IsRecovery next old new
       is_recovery = recovery-made next old sound rebuilt ready.replayed.replaying ready.replayed.waiting new is_rebuilt
 
-      pub is_sound : IsSound next new
-      is_sound = recovery-keeps next old new is_recovery sound
+      sound-again : IsSound next new
+      sound-again = recovery-keeps next old new is_recovery sound
 
       -- what the recovery answers
-      pub recovers : (answer : Recovered) → answer.replayed ≡ replayed_in old rebuilt → answer.resent ≡ messages_in old.config.members again → answer.undone ≡ undone → Recovers next old new answer
-      recovers answer replayed resent lost = record {
+      answers : (answer : Recovered) → answer.replayed ≡ replayed_in old rebuilt → answer.resent ≡ messages_in old.config.members again → answer.undone ≡ undone → Recovers next old new answer
+      answers answer replayed resent lost = record {
         recovery = is_recovery;
         replayed = replayed ∙ replayed_in-all next old sound rebuilt ready.replayed.replaying ready.replayed.waiting ∙ ap (λ (es : List Event). length (filter (is_replayed old) (receipts (map mark_of es)))) (sym (trace ∙ left-is));
         resent = resent ∙ counted;
         undone = omega (arith, lost, undone_is, marks_left);
       }
+
+-- the same from what each step of the function made, of the group as its contract has it
+module _ (next : Next) {old now : GroupRecord} {rebuilt : List MemberRecord} (sound : IsSound next old) (view : old ≡ now) (is_ready : IsReady next now rebuilt) where
+  ready : IsReady next old rebuilt
+  ready = subst (λ (r : GroupRecord). IsReady next r rebuilt) (sym view) is_ready
+
+  pub size : length rebuilt ≡ old.config.members
+  size = ready.replayed.replaying.size
+
+  -- the channels of n members that are made again
+  module _ {n : ℕ} {records : List MemberRecord} (again : List (List (List Message))) (all : n ≡ old.config.members) (same : records ≡ rebuilt) (each : AreSentAgain now records again) where
+    made : AreSentAgain old rebuilt again
+    made = subst (λ (r : GroupRecord). AreSentAgain r rebuilt again) (sym view) (subst (λ (ms : List MemberRecord). AreSentAgain now ms again) same each)
+
+    pub short-again : (q p : ℕ) → q < n → p < n → length (channel_in again q p) ≤ 8192
+    short-again q p below_q below_p = few-again next old sound rebuilt ready again made q p (omega (arith, all, below_q)) (omega (arith, all, below_p))
+
+  -- the trace that is cut
+  module _ {s : Members} {rest : List Event} (is_down : s ≡ now.down) (is_cut : rest ≡ filter (λ e. stays_by s (λ p. slice_index_or rebuilt p blank) (mark_of e)) old.trace) where
+    same-down : s ≡ old.down
+    same-down = is_down ∙ sym (ap (λ (r : GroupRecord). r.down) view)
+
+    cut-left : rest ≡ left next old sound rebuilt ready
+    cut-left = is_cut ∙ ap (λ (d : Members). filter (λ e. stays_by d (λ p. slice_index_or rebuilt p blank) (mark_of e)) old.trace) same-down
+
+    pub short-rest : {events : List Event} → events ≡ rest → length events ≤ 8192
+    short-rest is = omega (arith, ap length (is ∙ cut-left), few-left next old sound rebuilt ready)
+
+    -- its receipts, counted before and after
+    module _ {before after : ℕ} {first last : List Event} (counts_first : before ≡ length (receipts (map mark_of first))) (is_first : first ≡ old.trace) (counts_last : after ≡ length (receipts (map mark_of last))) (is_last : last ≡ rest) where
+      first-counted : before ≡ length (receipts (map mark_of old.trace))
+      first-counted = counts_first ∙ ap (λ (es : List Event). length (receipts (map mark_of es))) is_first
+
+      last-counted : after ≡ length (receipts (map mark_of (left next old sound rebuilt ready)))
+      last-counted = counts_last ∙ ap (λ (es : List Event). length (receipts (map mark_of es))) (is_last ∙ cut-left)
+
+      pub fewer : after ≤ before
+      fewer = omega (arith, first-counted, last-counted, fewer-receipts next old sound rebuilt ready)
+
+      module _ {undone : ℕ} (is_undone : undone ≡ before - after) where
+        undone-left : undone + length (receipts (map mark_of (left next old sound rebuilt ready))) ≡ length (receipts (map mark_of old.trace))
+        undone-left = omega (arith, is_undone, fewer, first-counted, last-counted)
+
+        -- the counter of undone receipts stays within that of all receipts
+        pub undone-fits : old.receipts_ever < 2 ^ 64 → Fits w64 (old.undone_ever + undone)
+        undone-fits fits = within old.receipts_ever (old.undone_ever + undone) fits (omega (arith, undone-left, sound.counted))
+
+        -- the group that is left
+        module _ {new : GroupRecord} {n : ℕ} {records : List MemberRecord} (again : List (List (List Message))) (all : n ≡ old.config.members) (same : records ≡ rebuilt) (each : AreSentAgain now records again)
+            (put : IsPutBack s rebuilt old.members new.members) (replaced : AreReplaced n old.down (channel_in again) old.channels new.channels) (config : new.config ≡ old.config)
+            (trace : new.trace ≡ rest) (checkpoints : new.checkpoints ≡ old.checkpoints) (down : new.down ≡ set.empty) (receipts_ever : new.receipts_ever ≡ old.receipts_ever) (undone_ever : new.undone_ever ≡ old.undone_ever + undone) where
+          members : IsPutBack old.down rebuilt old.members new.members
+          members = subst (λ (d : Members). IsPutBack d rebuilt old.members new.members) same-down put
+
+          channels : AreReplaced old.config.members old.down (channel_in again) old.channels new.channels
+          channels = subst (λ (k : ℕ). AreReplaced k old.down (channel_in again) old.channels new.channels) all replaced
+
+          pub is_sound : IsSound next new
+          is_sound = sound-again next old sound rebuilt ready new again config members (made again all same each) channels (trace ∙ cut-left) checkpoints down receipts_ever undone undone-left undone_ever
+
+          -- what is answered, from the number of receipts that were replayed and of messages that are sent again
+          pub recovers : {replays messages : ℕ} {saved : List MemberRecord} → replays ≡ count_in s (λ p. (slice_index_or rebuilt p blank).received - (slice_index_or saved p blank).received) n → saved ≡ old.checkpoints → messages ≡ messages_in n again
+              → Recovers next now new (record { replayed = replays; resent = messages; undone = before - after })
+          recovers {replays = replays} {messages = messages} {saved = saved} replayed is_saved resent =
+              subst (λ (r : GroupRecord). Recovers next r new (record { replayed = replays; resent = messages; undone = before - after })) view
+              (answers next old sound rebuilt ready new again config members (made again all same each) channels (trace ∙ cut-left) checkpoints down receipts_ever undone undone-left undone_ever
+              (record { replayed = replays; resent = messages; undone = before - after })
+              (replayed ∙ ap (λ (d : Members). count_in d (λ p. (slice_index_or rebuilt p blank).received - (slice_index_or saved p blank).received) n) same-down
+              ∙ ap (λ (k : ℕ). count_in old.down (λ p. (slice_index_or rebuilt p blank).received - (slice_index_or saved p blank).received) k) all
+              ∙ ap (λ (ms : List MemberRecord). count_in old.down (λ p. (slice_index_or rebuilt p blank).received - (slice_index_or ms p blank).received) old.config.members) is_saved)
+              (resent ∙ ap (λ (k : ℕ). messages_in k again) all) (sym is_undone))

@@ -1,5 +1,5 @@
 -- Which refusal of a delivery, a ticket or a commit holds.
-use Rattle.std.proofs.Common.{◌≡◌, ℕ, ◌+◌, ◌<◌, ◌≤◌, Bool, true, false, ◌&&◌, ◌==◌, not, cond, length, arith, refl, sym, subst, ap, ◌∙◌, Option, Some, None}
+use Rattle.std.proofs.Common.{◌≡◌, ℕ, ◌+◌, ◌<◌, Bool, true, false, ◌&&◌, ◌==◌, not, cond, length, arith, refl, sym, subst, ap, ◌∙◌, Option, Some, None, Fits, w32, get_or}
 use Rattle.std.specs.Prelude.{nat_lt}
 use Rattle.std.proofs.lemmas.Bool.Decides.{nat_tests}
 use Rattle.std.specs.FinSet as set
@@ -19,19 +19,13 @@ use Rattle.fbl_group.specs.declared.refusals.TakeRefusal.{TakeRefusal}
 use Rattle.fbl_group.specs.declared.refusals.TakeRefusal.TheVariants as take
 use Rattle.fbl_group.specs.declared.refusals.CommitRefusal.{CommitRefusal}
 use Rattle.fbl_group.specs.declared.refusals.CommitRefusal.TheVariants as commit
-use Rattle.fbl_group.specs.Tickets.{take_refusal, empty_refusal, IsTicket, commit_refusal, stale_or_full, is_current, is_full, IsCommitRefusal}
+use Rattle.fbl_group.specs.Tickets.{take_refusal, empty_refusal, IsTicket, commit_refusal, stale_or_full, is_current, has_no_room, is_full, IsCommitRefusal}
 use Rattle.fbl_law.specs.Sound.{IsSound}
 use Rattle.fbl_law.proofs.GroupFacts.{all_up, receipts_fit, front_flight}
-use Rattle.fbl_group.proofs.Queues.{first-is}
+use Rattle.fbl_group.proofs.Queues.{first-is, read_any, eqb-same}
 
-pub below_test : (m n : ℕ) → m < n → nat_lt m n ≡ true
+below_test : (m n : ℕ) → m < n → nat_lt m n ≡ true
 below_test m n below = grind (arith, nat_tests)
-
-same_test : (m n : ℕ) → m ≡ n → (m == n) ≡ true
-same_test m n is = grind (arith, nat_tests)
-
-pub none_test : (k : ℕ) → k ≡ 0 → (k == 0) ≡ true
-none_test k is = grind (arith, nat_tests)
 
 -- a step that there is room for is planned
 module _ (next : Next) (r : GroupRecord) (p q : ℕ) (below_p : p < r.config.members) (below_q : q < r.config.members) (nobody : set.len r.down ≡ 0) (v : Message) (outcome : Outcome) (sound : IsSound next r) (at : front r q p ≡ Some v) (step : outcome ≡ next p r.config.members (member r p).state v.note) where
@@ -59,35 +53,40 @@ take_at_front : (r : GroupRecord) (p q : ℕ) → p < r.config.members → q < r
 take_at_front r p q below_p below_q nobody =
     let a : nat_lt p r.config.members ≡ true = below_test p r.config.members below_p in
     let b : nat_lt q r.config.members ≡ true = below_test q r.config.members below_q in
-    let d : (set.len r.down == 0) ≡ true = none_test (set.len r.down) nobody in
+    let d : (set.len r.down == 0) ≡ true = eqb-same (set.len r.down) 0 nobody in
     rw (a, b, d) refl
 
-module _ (r : GroupRecord) (p q : ℕ) (below_p : p < r.config.members) (below_q : q < r.config.members) (nobody : set.len r.down ≡ 0) where
-  pub nothing_to_take : front r q p ≡ None → take_refusal r p q ≡ Some take.Empty
-  nothing_to_take none = take_at_front r p q below_p below_q nobody ∙ ap empty_refusal none
+module _ {r now : GroupRecord} (view : r ≡ now) {p q n a b : ℕ} (all : n ≡ r.config.members) (is_p : a ≡ p) (less_p : a < n) (is_q : b ≡ q) (less_q : b < n) (nobody : set.len r.down ≡ 0) where
+  below_p : p < r.config.members
+  below_p = omega (arith, all, is_p, less_p)
 
-  pub few_received : (next : Next) → IsSound next r → (member r p).received ≤ 8192
-  few_received next sound = omega (arith, receipts_fit next r sound p below_p (all_up next r sound (set.empty_of_len r.down nobody) p), sound.room, sound.config.limit.1)
+  decided : take_refusal now p q ≡ empty_refusal (front r q p)
+  decided = ap (λ (x : GroupRecord). take_refusal x p q) (sym view) ∙ take_at_front r p q below_p (omega (arith, all, is_q, less_q)) nobody
 
-  pub is_taken : (next : Next) → IsSound next r → (v : Message) (t : Ticket) → front r q p ≡ Some v → t.n ≡ r.config.members → t.to ≡ p → t.from ≡ q → t.state ≡ (member r p).state → t.rsn ≡ (member r p).received + 1 → t.ssn ≡ v.ssn → t.note ≡ v.note → (take_refusal r p q ≡ None) × ((w : Message) × (front r q p ≡ Some w) × IsTicket r w t)
-  is_taken next sound v t at size to from state rsn ssn note =
-      let flies = front_flight next r sound q p v at in
-      let ends : (v.from ≡ q) × (v.to ≡ p) = (flies.1, flies.2) in (
-        take_at_front r p q below_p below_q nobody ∙ ap empty_refusal at,
-        (
-          v,
-          at,
-          record {
-            n = size;
-            to = to ∙ sym ends.1;
-            from = from ∙ sym ends.0;
-            state = state ∙ ap (λ (m : ℕ). (member r m).state) (sym ends.1);
-            rsn = rsn ∙ ap (λ (m : ℕ). (member r m).received + 1) (sym ends.1);
-            ssn = ssn;
-            note = note;
-          },
-        ),
-      )
+  pub nothing_to_take : front r q p ≡ None → take_refusal now p q ≡ Some take.Empty
+  nothing_to_take none = decided ∙ ap empty_refusal none
+
+  -- what is read at the receiver's place is its record
+  module _ (next : Next) (sound : IsSound next r) {place : ℕ} {x : MemberRecord} (is_place : place ≡ p) (read : x ≡ get_or r.members place x) where
+    of_receiver : x ≡ member r p
+    of_receiver = read ∙ ap (λ k. get_or r.members k x) is_place ∙ read_any r.members p x _ (omega (arith, below_p, sound.members))
+
+    pub few_received : {received : ℕ} → received ≡ x.received → Fits w32 (received + 1)
+    few_received is = omega (arith, is, ap (λ (m : MemberRecord). m.received) of_receiver, receipts_fit next r sound p below_p (all_up next r sound (set.empty_of_len r.down nobody) p), sound.room, sound.config.limit.1)
+
+    pub is_taken : (v : Message) (t : Ticket) → front r q p ≡ Some v → t.n ≡ n → t.to ≡ p → t.from ≡ q → t.state ≡ x.state → t.rsn ≡ x.received + 1 → t.ssn ≡ v.ssn → t.note ≡ v.note → (take_refusal now p q ≡ None) × ((w : Message) × (front now q p ≡ Some w) × IsTicket now w t)
+    is_taken v t at size to from state rsn ssn note =
+        let flies = front_flight next r sound q p v at in
+        let ticket : IsTicket r v t = record {
+          n = size ∙ all;
+          to = to ∙ sym flies.2;
+          from = from ∙ sym flies.1;
+          state = state ∙ ap (λ (m : MemberRecord). m.state) of_receiver ∙ ap (λ (m : ℕ). (member r m).state) (sym flies.2);
+          rsn = rsn ∙ ap (λ (m : MemberRecord). m.received + 1) of_receiver ∙ ap (λ (m : ℕ). (member r m).received + 1) (sym flies.2);
+          ssn = ssn;
+          note = note;
+        } in
+        (decided ∙ ap empty_refusal at, subst (λ (y : GroupRecord). (w : Message) × (front y q p ≡ Some w) × IsTicket y w t) view (v, at, ticket))
 
 -- what holds where a ticket is current
 current_parts : (m : MemberRecord) (v : Message) (t : Ticket) → is_current m v t ≡ true → (m.state ≡ t.state) × (v.note ≡ t.note)
@@ -103,39 +102,51 @@ current_parts m v t all = parts (m.state == t.state) (m.received + 1 == t.rsn) (
   parts true false c d e ea ed ee h = cc
   parts false b c d e ea ed ee h = cc
 
-module _ (next : Next) (r : GroupRecord) (t : Ticket) (nobody : set.len r.down ≡ 0) (size : r.config.members ≡ t.n) where
+module _ (next : Next) {r now : GroupRecord} (view : r ≡ now) (t : Ticket) (nobody : set.len r.down ≡ 0) (size : r.config.members ≡ t.n) where
   abbrev sends : ℕ
   sends = length (next t.to t.n t.state t.note).sends.items
 
-  commit_at_front : commit_refusal next r t ≡ stale_or_full r t sends (front r t.from t.to)
+  commit_at_front : commit_refusal next now t ≡ stale_or_full r t sends (front r t.from t.to)
   commit_at_front =
-      let d : (set.len r.down == 0) ≡ true = none_test (set.len r.down) nobody in
+      let d : (set.len r.down == 0) ≡ true = eqb-same (set.len r.down) 0 nobody in
       let s : (r.config.members == t.n) ≡ true = grind (arith, nat_tests) in
-      rw (d, s) refl
+      ap (λ (x : GroupRecord). commit_refusal next x t) (sym view) ∙ rw (d, s) refl
 
-  pub nothing_to_commit : front r t.from t.to ≡ None → commit_refusal next r t ≡ Some commit.Stale
+  pub nothing_to_commit : front r t.from t.to ≡ None → commit_refusal next now t ≡ Some commit.Stale
   nothing_to_commit none = commit_at_front ∙ ap (stale_or_full r t sends) none
 
-  module _ (w : Message) (at : front r t.from t.to ≡ Some w) where
-    commit_decided : commit_refusal next r t ≡ cond (not (is_current (member r t.to) w t)) (Some commit.Stale) (cond (is_full r sends) (Some commit.Full) None)
-    commit_decided = commit_at_front ∙ ap (stale_or_full r t sends) at
+  module _ {w : Message} (at : front r t.from t.to ≡ Some w) where
+    commit_decided : {told : Bool} → told ≡ is_current (member r t.to) w t → commit_refusal next now t ≡ cond (not told) (Some commit.Stale) (cond (is_full r sends) (Some commit.Full) None)
+    commit_decided tells = commit_at_front ∙ ap (stale_or_full r t sends) at ∙ ap (λ (b : Bool). cond (not b) (Some commit.Stale) (cond (is_full r sends) (Some commit.Full) None)) (sym tells)
 
-    pub is_stale : is_current (member r t.to) w t ≡ false → commit_refusal next r t ≡ Some commit.Stale
-    is_stale off = commit_decided ∙ ap (λ (b : Bool). cond (not b) (Some commit.Stale) (cond (is_full r sends) (Some commit.Full) None)) off
+    room_decides : {told : Bool} → told ≡ is_current (member r t.to) w t → told ≡ true → commit_refusal next now t ≡ cond (is_full r sends) (Some commit.Full) None
+    room_decides tells current = commit_decided tells ∙ ap (λ (b : Bool). cond (not b) (Some commit.Stale) (cond (is_full r sends) (Some commit.Full) None)) current
 
-    module _ (outcome : Outcome) (step : outcome ≡ next t.to t.n t.state t.note) (current : is_current (member r t.to) w t ≡ true) where
-      room_decides : commit_refusal next r t ≡ cond (is_full r (length outcome.sends.items)) (Some commit.Full) None
-      room_decides = commit_decided ∙ ap (λ (b : Bool). cond (not b) (Some commit.Stale) (cond (is_full r sends) (Some commit.Full) None)) current ∙ ap (λ (o : Outcome). cond (is_full r (length o.sends.items)) (Some commit.Full) None) (sym step)
+    -- what is read at the receiver's place tells whether the ticket is current
+    module _ (sound : IsSound next r) {place : ℕ} {x : MemberRecord} {told : Bool} (is_place : place ≡ t.to) (read : x ≡ get_or r.members place x) (told_is : told ≡ is_current x w t) where
+      tells : told ≡ is_current (member r t.to) w t
+      tells = told_is ∙ ap (λ (y : MemberRecord). is_current y w t) (read ∙ ap (λ k. get_or r.members k x) is_place ∙ read_any r.members t.to x _ (omega (arith, t.ends.0, size, sound.members)))
 
-      pub is_commit_full : is_full r (length outcome.sends.items) ≡ true → commit_refusal next r t ≡ Some commit.Full
-      is_commit_full full = room_decides ∙ ap (λ (b : Bool). cond b (Some commit.Full) None) full
+      pub is_stale : told ≡ false → commit_refusal next now t ≡ Some commit.Stale
+      is_stale off = commit_decided tells ∙ ap (λ (b : Bool). cond (not b) (Some commit.Stale) (cond (is_full r sends) (Some commit.Full) None)) off
 
-      pub is_commit_planned : IsSound next r → t.to < t.n → t.from < t.n → is_full r (length outcome.sends.items) ≡ false → (commit_refusal next r t ≡ None) × IsPlanned next r t.from t.to outcome
-      is_commit_planned sound below_to below_from room =
-          let parts = current_parts (member r t.to) w t current in
-          let steps : outcome ≡ next t.to r.config.members (member r t.to).state w.note = rw (size, parts.0, parts.1) step in
-          let planned = is_planned next r t.to t.from (rw size below_to) (rw size below_from) nobody w outcome sound at steps room in
-          (room_decides ∙ ap (λ (b : Bool). cond b (Some commit.Full) None) room, planned)
+      -- and whether there is room for its step
+      module _ {outcome : Outcome} {limit len given : ℕ} {full : Bool} (step : outcome ≡ next t.to t.n t.state t.note) (current : told ≡ true) (limit_is : limit ≡ r.config.limit) (len_is : len ≡ length r.trace) (given_is : given ≡ length outcome.sends.items) (full_is : full ≡ has_no_room limit len r.receipts_ever given) where
+        asked : is_full r (length outcome.sends.items) ≡ full
+        asked = rw (← limit_is, ← len_is, ← given_is) (sym full_is)
+
+        full_decides : commit_refusal next now t ≡ cond full (Some commit.Full) None
+        full_decides = room_decides tells current ∙ ap (λ (o : Outcome). cond (is_full r (length o.sends.items)) (Some commit.Full) None) (sym step) ∙ ap (λ (b : Bool). cond b (Some commit.Full) None) asked
+
+        pub is_commit_full : full ≡ true → commit_refusal next now t ≡ Some commit.Full
+        is_commit_full is = full_decides ∙ ap (λ (b : Bool). cond b (Some commit.Full) None) is
+
+        pub is_commit_planned : full ≡ false → (commit_refusal next now t ≡ None) × IsPlanned next now t.from t.to outcome
+        is_commit_planned room =
+            let parts = current_parts (member r t.to) w t (sym tells ∙ current) in
+            let steps : outcome ≡ next t.to r.config.members (member r t.to).state w.note = rw (size, parts.0, parts.1) step in
+            let planned = is_planned next r t.to t.from (rw size t.ends.0) (rw size t.ends.1) nobody w outcome sound at steps (asked ∙ room) in
+            (full_decides ∙ ap (λ (b : Bool). cond b (Some commit.Full) None) room, subst (λ (y : GroupRecord). IsPlanned next y t.from t.to outcome) view planned)
 
 -- a step whose ticket was just taken is refused only for want of room or of memory
 module _ (next : Next) (r : GroupRecord) (p q : ℕ) (v : Message) (t : Ticket) (may : take_refusal r p q ≡ None) (at : front r q p ≡ Some v) (is : IsTicket r v t) (to : t.to ≡ p) (from : t.from ≡ q) where
@@ -156,18 +167,13 @@ module _ (next : Next) (r : GroupRecord) (p q : ℕ) (v : Message) (t : Ticket) 
   current =
       let state : (member r t.to).state ≡ t.state = ap (λ k. (member r k).state) is.to ∙ sym is.state in
       let rsn : (member r t.to).received + 1 ≡ t.rsn = ap (λ k. (member r k).received + 1) is.to ∙ sym is.rsn in
-      let a : ((member r t.to).state == t.state) ≡ true = same_test _ _ state in
-      let b : ((member r t.to).received + 1 == t.rsn) ≡ true = same_test _ _ rsn in
-      let c : (v.ssn == t.ssn) ≡ true = same_test _ _ (sym is.ssn) in
-      let d : (v.note.value == t.note.value) ≡ true = same_test _ _ (ap (λ (n : Note). n.value) (sym is.note)) in
-      let e : (v.note.hops == t.note.hops) ≡ true = same_test _ _ (ap (λ (n : Note). n.hops) (sym is.note)) in
-      rw (a, b, c, d, e) refl
+      rw (eqb-same (member r t.to).state t.state state, eqb-same ((member r t.to).received + 1) t.rsn rsn, eqb-same v.ssn t.ssn (sym is.ssn), eqb-same v.note.value t.note.value (ap (λ (n : Note). n.value) (sym is.note)), eqb-same v.note.hops t.note.hops (ap (λ (n : Note). n.hops) (sym is.note))) refl
 
   same_step : next t.to t.n t.state t.note ≡ step_of next r v
   same_step = ap (λ k. next k t.n t.state t.note) is.to ∙ ap (λ k. next v.to k t.state t.note) is.n ∙ ap (λ k. next v.to r.config.members k t.note) is.state ∙ ap (λ (n : Note). next v.to r.config.members (member r v.to).state n) is.note
 
   commit_is : commit_refusal next r t ≡ cond full (Some commit.Full) None
-  commit_is = room_decides next r t nobody (sym is.n) v here (next t.to t.n t.state t.note) refl current ∙ ap (λ (o : Outcome). cond (is_full r (length o.sends.items)) (Some commit.Full) None) same_step
+  commit_is = room_decides next {r = r} refl t nobody (sym is.n) here (sym current) refl ∙ ap (λ (o : Outcome). cond (is_full r (length o.sends.items)) (Some commit.Full) None) same_step
 
   deliver_is : deliver_refusal next r p q ≡ cond full (Some deliver.Full) None
   deliver_is = ap (take_or_room next r (front r q p)) may ∙ ap (room_refusal next r) at

@@ -1,7 +1,6 @@
 -- The parts of a dump.
-use Rattle.std.proofs.Common.{◌≡◌, ◌≢◌, ℕ, zero, suc, ◌+◌, ◌<◌, ◌==◌, Bool, true, false, List, [], ◌∷◌, ◌++◌, length, take, get_or, Some, slice_get, refl, sym, ap, ◌∙◌, arith}
+use Rattle.std.proofs.Common.{◌≡◌, ℕ, zero, suc, ◌+◌, ◌<◌, List, [], ◌∷◌, ◌++◌, length, take, get_or, Some, slice_get, refl, sym, ap, ◌∙◌, arith, below_more}
 use Rattle.std.specs.Prelude.{slice_index_or}
-use Rattle.std.proofs.lemmas.Bool.Decides.{nat_tests}
 use Rattle.std.proofs.lemmas.List.{map-append, length-take-le}
 use Rattle.fbl_base.specs.Audit.{Parts, IsDump, RefusesDump}
 use Rattle.fbl_base.specs.declared.refusal.DumpRefusal.{DumpRefusal}
@@ -33,10 +32,7 @@ pairs_from-more ms i x below at =
     ap (λ xs. pairs_from 0 xs) (take-more ms i x (get-at ms i x blank below at).0) ∙ (rw place at (pairs_from-push 0 (take i ms) x))
 
 pub distinct-more : (ms : List MemberRecord) (i : ℕ) (x : MemberRecord) → i < length ms → x ≡ get_or ms i x → ((m : ℕ) → m < i → IsOnce (slice_index_or ms m blank).table) → IsOnce x.table → (m : ℕ) → m < i + 1 → IsOnce (slice_index_or ms m blank).table
-distinct-more ms i x below at so_far once m within = here (m == i) refl where
-  here : (b : Bool) → (m == i) ≡ b → IsOnce (slice_index_or ms m blank).table
-  here true e = (let same : m ≡ i = grind (arith, nat_tests) in rw (same, (get-at ms i x blank below at).1) once)
-  here false e = so_far m (let apart : m ≢ i = (λ same. (let t : (m == i) ≡ true = grind (arith, nat_tests) in cc)) in omega (arith, apart, within))
+distinct-more ms i x below at so_far once = below_more (λ m. IsOnce (slice_index_or ms m blank).table) i so_far (rw (get-at ms i x blank below at).1 once)
 
 -- a dump that obeys the rules is refused only for want of memory
 pub only_memory : (dump : Parts) (refusal : DumpRefusal) → IsDump dump → RefusesDump dump refusal → refusal ≡ Memory

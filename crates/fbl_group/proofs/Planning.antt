@@ -25,7 +25,7 @@ use Rattle.fbl_law.proofs.GroupDeliver.{length-step_events, group_delivery_keeps
 use Rattle.fbl_group.specs.Channels.{first_message, front_message, send_of_message, taken_and_sent}
 use Rattle.fbl_group.specs.Deliveries.{IsPlanned, Delivered}
 use Rattle.fbl_group.specs.Tickets.{has_no_room}
-use Rattle.fbl_group.proofs.Queues.{first-is, messages-from, messages-to, none-some, read_any, settled-in, settled-shape, settled_trace}
+use Rattle.fbl_group.proofs.Queues.{first-is, messages-from, messages-to, none-some, read_any, set-same, settled-in, settled-shape, settled_trace}
 
 -- where there is room, the limit holds and the counter can rise
 pub has_room : (limit len ever sends : ℕ) → has_no_room limit len ever sends ≡ false → (len + 1 + sends ≤ limit) × (ever ≢ 18446744073709551615)
@@ -36,10 +36,23 @@ has_room limit len ever sends room = both (nat_lt limit (len + 1 + sends)) (ever
   both true b ea eb h = cc
 
 -- parts of a record that are written with what they were
-pub same_parts : (r : GroupRecord) (members : List MemberRecord) (channels : List (List (List Message))) (trace : List Event) → members ≡ r.members → channels ≡ r.channels → trace ≡ r.trace → record r { members = members; channels = channels; trace = trace } ≡ r
+same_parts : (r : GroupRecord) (members : List MemberRecord) (channels : List (List (List Message))) (trace : List Event) → members ≡ r.members → channels ≡ r.channels → trace ≡ r.trace → record r { members = members; channels = channels; trace = trace } ≡ r
 same_parts r members channels trace e1 e2 e3 i = record r { members = e1 i; channels = e2 i; trace = e3 i }
 
-module _ (next : Next) (r now : GroupRecord) (q p : ℕ) (outcome : Outcome) (well : SendsWell next) (sound : IsSound next r) (view : r ≡ now) (planned : IsPlanned next now q p outcome) where
+-- what the receiver's step asks of the message that is read at the front, and of the record at the receiver's place
+pub record Reads (next : Next) (n p : ℕ) (outcome : Outcome) (w : Message) (x : MemberRecord) : Type 0 where
+  pub least : 2 ≤ n
+  pub most : n ≤ 16
+  pub member : p < n
+  pub to_me : w.to ≡ p
+  pub newer : last_from x w.from < w.ssn
+  pub not_held : is_held x.table (next_determinant p x w.from w.ssn) ≡ false
+  pub not_carried : is_held w.carried (next_determinant p x w.from w.ssn) ≡ false
+  pub step : outcome ≡ next p n x.state w.note
+  pub receipts : x.received < 8192
+  pub sends : length x.log + length outcome.sends.items ≤ 8192
+
+module _ (next : Next) {r now : GroupRecord} {q p : ℕ} {outcome : Outcome} (well : SendsWell next) (sound : IsSound next r) (view : r ≡ now) (planned : IsPlanned next now q p outcome) where
   plan : IsPlanned next r q p outcome
   plan = subst (λ (x : GroupRecord). IsPlanned next x q p outcome) (sym view) planned
 
@@ -78,16 +91,17 @@ module _ (next : Next) (r now : GroupRecord) (q p : ℕ) (outcome : Outcome) (we
   receivers : All (λ (send : ℕ × Note). send.0 < r.config.members) outcome.sends.items
   receivers k d below = (allowed.0 k d below).0
 
-  -- the member's place
-  pub within : (place : ℕ) → place ≡ p → place < length r.members
-  within place is = omega (arith, is, plan.to_member, sound.members)
-
-  -- what is read there is its record
-  pub member_is : (place : ℕ) (x : MemberRecord) → place ≡ p → x ≡ get_or r.members place x → x ≡ m
-  member_is place x is read = read ∙ ap (λ k. get_or r.members k x) is ∙ read_any r.members p x _ (within p refl)
+  -- what is read at the member's place is its record
+  pub member_is : {place : ℕ} {x : MemberRecord} → place ≡ p → x ≡ get_or r.members place x → x ≡ m
+  member_is {x = x} is read = read ∙ ap (λ k. get_or r.members k x) is ∙ read_any r.members p x _ (omega (arith, plan.to_member, sound.members))
 
   -- of channels that are still the group's: there is a front, what is read there is the message, and receivers are members
-  module _ (cs : List (List (List Message))) (same : cs ≡ r.channels) where
+  module _ {cs : List (List (List Message))} (same : cs ≡ r.channels) where
+    -- where memory was wanting, all is as it was
+    pub stays : {place : ℕ} {x before : MemberRecord} {trace : List Event} → place ≡ p → x ≡ before → before ≡ get_or r.members place before → trace ≡ r.trace → record r { members = slice_set r.members place x; channels = cs; trace = trace } ≡ r
+    stays {place = place} {x = x} {before = before} {trace = trace} is unchanged read kept =
+        same_parts r _ cs trace (set-same r.members place x before (omega (arith, is, plan.to_member, sound.members)) (unchanged ∙ read)) same kept
+
     rows : (a : ℕ) → a < r.config.members → length (get_or cs a []) ≡ r.config.members
     rows a below = ap (λ (x : List (List (List Message))). length (get_or x a [])) same ∙ sound.shape.receivers a below
 
@@ -97,25 +111,22 @@ module _ (next : Next) (r now : GroupRecord) (q p : ℕ) (outcome : Outcome) (we
     pub not_empty : slice_get (channel_in cs q p) 0 ≡ None → ⊥
     not_empty none = none-some _ _ (sym (ap (λ (x : List (List (List Message))). slice_get (channel_in x q p) 0) same) ∙ none) plan.first
 
-    pub front_is : (w : Message) → slice_get (channel_in cs q p) 0 ≡ Some w → w ≡ v
-    front_is w read = sym (first-is (channel_in cs q p) w read) ∙ ap (λ (x : List (List (List Message))). first_message (channel_in x q p)) same
+    pub front_is : {w : Message} → slice_get (channel_in cs q p) 0 ≡ Some w → w ≡ v
+    front_is {w = w} read = sym (first-is (channel_in cs q p) w read) ∙ ap (λ (x : List (List (List Message))). first_message (channel_in x q p)) same
 
-    pub receivers_in : (given : List (ℕ × Note)) → given ≡ outcome.sends.items → All (λ (s : ℕ × Note). s.0 < length (get_or cs p [])) given
-    receivers_in given is = subst (λ (xs : List (ℕ × Note)). All (λ (s : ℕ × Note). s.0 < length (get_or cs p [])) xs) (sym is) (λ k d below. (let one = receivers k d below in omega (arith, one, rows p plan.to_member)))
+    pub receivers_in : {given : List (ℕ × Note)} → given ≡ outcome.sends.items → All (λ (s : ℕ × Note). s.0 < length (get_or cs p [])) given
+    receivers_in is = subst (λ (xs : List (ℕ × Note)). All (λ (s : ℕ × Note). s.0 < length (get_or cs p [])) xs) (sym is) (λ k d below. (let one = receivers k d below in omega (arith, one, rows p plan.to_member)))
 
-    pub sent_in : (made : List Message) (before : ℕ) (carried : List Entry) → made ≡ messages_from p before carried outcome.sends.items → All (λ (w : Message). w.to < length (get_or cs p [])) made
-    sent_in made before carried is = subst (λ (ws : List Message). All (λ (w : Message). w.to < length (get_or cs p [])) ws) (sym is) (messages-to (λ k. k < length (get_or cs p [])) p before carried outcome.sends.items (receivers_in outcome.sends.items refl))
+    pub sent_in : {made : List Message} (before : ℕ) (carried : List Entry) → made ≡ messages_from p before carried outcome.sends.items → All (λ (w : Message). w.to < length (get_or cs p [])) made
+    sent_in before carried is = subst (λ (ws : List Message). All (λ (w : Message). w.to < length (get_or cs p [])) ws) (sym is) (messages-to (λ k. k < length (get_or cs p [])) p before carried outcome.sends.items (receivers_in {given = outcome.sends.items} refl))
 
   -- what is read at the front is the message
-  module _ (w : Message) (is_v : w ≡ v) where
-    pub to_me : w.to ≡ p
-    to_me = ap (λ (u : Message). u.to) is_v ∙ to_receiver
-
+  module _ {w : Message} (is_v : w ≡ v) where
     from_it : w.from ≡ q
     from_it = ap (λ (u : Message). u.from) is_v ∙ of_sender
 
-    pub few_carried : (carried : List Entry) → carried ≡ w.carried → IsOnce carried → Fits w32 (length carried)
-    few_carried carried is once =
+    pub few_carried : {carried : List Entry} → carried ≡ w.carried → IsOnce carried → Fits w32 (length carried)
+    few_carried {carried = carried} is once =
         let same : carried ≡ v.carried = is ∙ ap (λ (u : Message). u.carried) is_v in
         fits (length carried) (omega (arith, ap length same, carried_fits next r sound v flies (subst IsOnce same once), sound.room, sound.config.limit.1))
       where
@@ -123,33 +134,29 @@ module _ (next : Next) (r now : GroupRecord) (q p : ℕ) (outcome : Outcome) (we
         fits n few = omega (arith, few)
 
     -- and what is read at the member's place is its record
-    module _ (x : MemberRecord) (is_m : x ≡ m) where
-      pub newer : last_from x w.from < w.ssn
-      newer =
-          let last : last_from x w.from ≡ last_from m q = ap (λ (y : MemberRecord). last_from y w.from) is_m ∙ ap (λ k. last_from m k) from_it in
-          omega (arith, last, ap (λ (u : Message). u.ssn) is_v, front_is_later next r sound q p v plan.first)
-
-      pub not_held : is_held x.table (next_determinant p x w.from w.ssn) ≡ false
-      not_held =
-          ap (λ (y : MemberRecord). is_held y.table (next_determinant p y w.from w.ssn)) is_m ∙ ap (λ k. is_held m.table (next_determinant p m k w.ssn)) from_it ∙ ap (λ (u : Message). is_held m.table (next_determinant p m q u.ssn)) is_v
-          ∙ new_not_held next r sound p _ (receipt_is_new next r sound p q v.ssn plan.to_member up)
-
-      pub not_carried : is_held w.carried (next_determinant p x w.from w.ssn) ≡ false
-      not_carried =
-          ap (λ k. is_held w.carried (next_determinant p x k w.ssn)) from_it ∙ ap (λ (u : Message). is_held u.carried (next_determinant p x q u.ssn)) is_v ∙ ap (λ (y : MemberRecord). is_held v.carried (next_determinant p y q v.ssn)) is_m
-          ∙ new_not_carried next r sound v _ flies (receipt_is_new next r sound p q v.ssn plan.to_member up)
-
-      pub step_is : (n : ℕ) → n ≡ r.config.members → outcome ≡ next p n x.state w.note
-      step_is n is = step ∙ sym (ap (λ k. next p k x.state w.note) is ∙ ap (λ (y : MemberRecord). next p r.config.members y.state w.note) is_m ∙ ap (λ (u : Message). next p r.config.members m.state u.note) is_v)
-
-      pub few_received : x.received < 8192
-      few_received = omega (arith, ap (λ (y : MemberRecord). y.received) is_m, receipts_fit next r sound p plan.to_member up, room.0, sound.config.limit.1)
-
-      pub few_sent : length x.log + length outcome.sends.items ≤ 8192
-      few_sent = omega (arith, ap (λ (y : MemberRecord). length y.log) is_m, sends_fit next r sound p plan.to_member up, room.0, sound.config.limit.1)
+    module _ {x : MemberRecord} (is_m : x ≡ m) where
+      pub reads : {n : ℕ} → n ≡ r.config.members → Reads next n p outcome w x
+      reads is = record {
+        least = omega (arith, is, sound.config.members.0);
+        most = omega (arith, is, sound.config.members.1);
+        member = omega (arith, is, plan.to_member);
+        to_me = ap (λ (u : Message). u.to) is_v ∙ to_receiver;
+        newer =
+            let last : last_from x w.from ≡ last_from m q = ap (λ (y : MemberRecord). last_from y w.from) is_m ∙ ap (λ k. last_from m k) from_it in
+            omega (arith, last, ap (λ (u : Message). u.ssn) is_v, front_is_later next r sound q p v plan.first);
+        not_held =
+            ap (λ (y : MemberRecord). is_held y.table (next_determinant p y w.from w.ssn)) is_m ∙ ap (λ k. is_held m.table (next_determinant p m k w.ssn)) from_it ∙ ap (λ (u : Message). is_held m.table (next_determinant p m q u.ssn)) is_v
+            ∙ new_not_held next r sound p _ (receipt_is_new next r sound p q v.ssn plan.to_member up);
+        not_carried =
+            ap (λ k. is_held w.carried (next_determinant p x k w.ssn)) from_it ∙ ap (λ (u : Message). is_held u.carried (next_determinant p x q u.ssn)) is_v ∙ ap (λ (y : MemberRecord). is_held v.carried (next_determinant p y q v.ssn)) is_m
+            ∙ new_not_carried next r sound v _ flies (receipt_is_new next r sound p q v.ssn plan.to_member up);
+        step = step ∙ sym (ap (λ k. next p k x.state w.note) is ∙ ap (λ (y : MemberRecord). next p r.config.members y.state w.note) is_m ∙ ap (λ (u : Message). next p r.config.members m.state u.note) is_v);
+        receipts = omega (arith, ap (λ (y : MemberRecord). y.received) is_m, receipts_fit next r sound p plan.to_member up, room.0, sound.config.limit.1);
+        sends = omega (arith, ap (λ (y : MemberRecord). length y.log) is_m, sends_fit next r sound p plan.to_member up, room.0, sound.config.limit.1);
+      }
 
       -- the record after the delivery, from what each step of it made
-      module _ (cs after_rows : List (List (List Message))) (same : cs ≡ r.channels) (place f ssn rsn : ℕ) (after : MemberRecord) (made : List Message) (reserved pushed trace : List Event) (at_place : place ≡ p) (received : after ≡ received_by p x w outcome) (sent : made ≡ messages_from p (length x.log) (piggybacked f after.table) outcome.sends.items) (f_is : f ≡ r.config.f) (ssn_is : ssn ≡ w.ssn) (rsn_is : rsn ≡ after.received)
+      module _ {cs after_rows : List (List (List Message))} {place f ssn rsn : ℕ} {after : MemberRecord} {made : List Message} {reserved pushed trace : List Event} (same : cs ≡ r.channels) (at_place : place ≡ p) (received : after ≡ received_by p x w outcome) (sent : made ≡ messages_from p (length x.log) (piggybacked f after.table) outcome.sends.items) (f_is : f ≡ r.config.f) (ssn_is : ssn ≡ w.ssn) (rsn_is : rsn ≡ after.received)
           (kept : reserved ≡ r.trace) (receipt : pushed ≡ reserved ++ Receipt p rsn q ssn ∷ []) (sends : trace ≡ pushed ++ map send_of_message made) (moved : after_rows ≡ taken_and_sent cs q p made) where
         abbrev new : GroupRecord
         new = record r { members = slice_set r.members place after; channels = after_rows; trace = trace; receipts_ever = r.receipts_ever + 1 }
@@ -225,8 +232,8 @@ module _ (next : Next) (r now : GroupRecord) (q p : ℕ) (outcome : Outcome) (we
         is_sound = group_delivery_keeps next r new v well is_delivery sound
 
         -- what the delivery answers
-        pub is_delivered : (carried : List Entry) → carried ≡ w.carried → Delivered next now new (front_message now q p) (record { rsn = rsn; carried = length carried; state = outcome.state })
-        is_delivered carried is = subst (λ (old : GroupRecord). Delivered next old new (front_message old q p) (record { rsn = rsn; carried = length carried; state = outcome.state })) view (record {
+        pub is_delivered : {carried : List Entry} → carried ≡ w.carried → Delivered next now new (front_message now q p) (record { rsn = rsn; carried = length carried; state = outcome.state })
+        is_delivered {carried = carried} is = subst (λ (old : GroupRecord). Delivered next old new (front_message old q p) (record { rsn = rsn; carried = length carried; state = outcome.state })) view (record {
           delivery = is_delivery;
           rsn = rsn_next ∙ ap (λ k. (member r k).received + 1) (sym to_receiver);
           carried = ap length (is ∙ ap (λ (u : Message). u.carried) is_v);

@@ -1,74 +1,50 @@
 -- The loops that put what was rebuilt in place, and that count.
-use Rattle.std.proofs.Common.{◌≡◌, ℕ, suc, ◌+◌, ◌*◌, ◌<◌, ◌≤◌, ◌⊎◌, inl, inr, true, false, cond, List, length, refl, sym, ap, ◌∙◌, arith, get_or, get_or-set_same}
+use Rattle.std.proofs.Common.{◌≡◌, ℕ, suc, ◌+◌, ◌*◌, ◌<◌, ◌≤◌, ◌⊎◌, inl, inr, true, false, cond, List, length, sym, ap, ◌∙◌, arith, get_or}
 use Rattle.std.specs.Prelude.{slice_index_or, slice_set}
 use Rattle.std.specs.FinSet as set
 use Rattle.std.proofs.lemmas.Bool.{cases_lt}
-use Rattle.std.proofs.lemmas.List.{length-set, get_or-set_other}
 use Rattle.fbl_member.specs.Members.{MemberRecord, blank}
 use Rattle.fbl_law.specs.Knowledge.{Members}
 use Rattle.fbl_law.specs.Replaying.{count_in}
 use Rattle.fbl_group.specs.Rebuilding.{IsPutBack}
+use Rattle.fbl_group.proofs.Queues.{Turned, turned-set, turned-kept}
 use Rattle.fbl_group.proofs.Recovering.{read_at}
+
+-- a member of the set has what was rebuilt, another what it had
+abbrev IsPut : Members → List MemberRecord → List MemberRecord → ℕ → MemberRecord → Type 0
+IsPut down given old m x = x ≡ cond (set.contains down m) (slice_index_or given m blank) (slice_index_or old m blank)
 
 -- the members of the set below i are put back, and what was rebuilt from i on is not taken yet
 pub record Putting (down : Members) (given old : List MemberRecord) (i : ℕ) (members rebuilt : List MemberRecord) : Type 0 where
-  pub size : length members ≡ length old
-  pub rebuilt_size : length rebuilt ≡ length given
-  pub put : (m : ℕ) → m < i → set.contains down m ≡ true → slice_index_or members m blank ≡ slice_index_or given m blank
-  pub kept : (m : ℕ) → set.contains down m ≡ false → slice_index_or members m blank ≡ slice_index_or old m blank
-  pub rest : (m : ℕ) → i ≤ m → slice_index_or members m blank ≡ slice_index_or old m blank
-  pub rebuilt_rest : (m : ℕ) → i ≤ m → slice_index_or rebuilt m blank ≡ slice_index_or given m blank
+  pub turned : Turned blank (IsPut down given old) i old members
+  pub left : Turned blank (λ m x. Unit {0}) i given rebuilt
 
 module _ (down : Members) (given old : List MemberRecord) where
-  pub put-start : Putting down given old 0 old given
-  put-start = record {
-    size = refl;
-    rebuilt_size = refl;
-    put = λ m below is. absurd (omega arith);
-    kept = λ m is. refl;
-    rest = λ m past. refl;
-    rebuilt_rest = λ m past. refl;
-  }
-
-  pub put-down : (i place other : ℕ) (members rebuilt : List MemberRecord) (x y : MemberRecord) → Putting down given old i members rebuilt → place ≡ i → other ≡ i → i < length old → i < length given → set.contains down i ≡ true → x ≡ get_or rebuilt other x
-      → Putting down given old (i + 1) (slice_set members place x) (slice_set rebuilt other y)
-  put-down i place other members rebuilt x y so_far is_place is_other below within is read = record {
-    size = length-set members place x ∙ so_far.size;
-    rebuilt_size = length-set rebuilt other y ∙ so_far.rebuilt_size;
-    put = λ m less here. at m less here (cases_lt m i);
-    kept = λ m up. get_or-set_other members place m x blank (λ same. (let e : set.contains down m ≡ set.contains down i = ap (λ k. set.contains down k) (same ∙ is_place) in cc)) ∙ so_far.kept m up;
-    rest = λ m past. get_or-set_other members place m x blank (λ same. absurd (omega arith)) ∙ so_far.rest m (omega (arith, past));
-    rebuilt_rest = λ m past. get_or-set_other rebuilt other m y blank (λ same. absurd (omega arith)) ∙ so_far.rebuilt_rest m (omega (arith, past));
-  }
-    where
-      at : (m : ℕ) → m < i + 1 → set.contains down m ≡ true → (m < i) ⊎ (i ≤ m) → slice_index_or (slice_set members place x) m blank ≡ slice_index_or given m blank
-      at m less here (inl before) = get_or-set_other members place m x blank (λ same. absurd (omega arith)) ∙ so_far.put m before here
-      at m less here (inr past) =
-          let same : m ≡ place = omega arith in
-          let there : m ≡ other = omega arith in
-          ap (λ k. slice_index_or (slice_set members place x) k blank) same ∙ get_or-set_same members place x blank (omega (arith, so_far.size, below, is_place))
-          ∙ read_at rebuilt other x x (omega (arith, so_far.rebuilt_size, within, is_other)) read ∙ ap (λ k. slice_index_or rebuilt k blank) (sym there) ∙ so_far.rebuilt_rest m past
+  pub put-down : (i place : ℕ) (members rebuilt : List MemberRecord) (x y : MemberRecord) → Putting down given old i members rebuilt → place ≡ i → i < length old → i < length given → set.contains down i ≡ true → x ≡ get_or rebuilt place x
+      → Putting down given old (i + 1) (slice_set members place x) (slice_set rebuilt place y)
+  put-down i place members rebuilt x y so_far is_place below within is read =
+      let was : x ≡ slice_index_or given i blank = read_at rebuilt place x x (omega (arith, so_far.left.size, within, is_place)) read ∙ ap (λ k. slice_index_or rebuilt k blank) is_place ∙ so_far.left.rest i (omega arith) in
+      record {
+        turned = turned-set blank (IsPut down given old) i place old members x so_far.turned is_place below (was ∙ sym (ap (λ b. cond b (slice_index_or given i blank) (slice_index_or old i blank)) is));
+        left = turned-set blank (λ m z. Unit {0}) i place given rebuilt y so_far.left is_place within tt;
+      }
 
   pub put-up : (i : ℕ) (members rebuilt : List MemberRecord) → Putting down given old i members rebuilt → set.contains down i ≡ false → Putting down given old (i + 1) members rebuilt
   put-up i members rebuilt so_far up = record {
-    size = so_far.size;
-    rebuilt_size = so_far.rebuilt_size;
-    put = λ m less here. at m less here (cases_lt m i);
-    kept = so_far.kept;
-    rest = λ m past. so_far.rest m (omega (arith, past));
-    rebuilt_rest = λ m past. so_far.rebuilt_rest m (omega (arith, past));
+    turned = turned-kept blank (IsPut down given old) i old members so_far.turned (sym (ap (λ b. cond b (slice_index_or given i blank) (slice_index_or old i blank)) up));
+    left = turned-kept blank (λ m x. Unit {0}) i given rebuilt so_far.left tt;
   }
-    where
-      at : (m : ℕ) → m < i + 1 → set.contains down m ≡ true → (m < i) ⊎ (i ≤ m) → slice_index_or members m blank ≡ slice_index_or given m blank
-      at m less here (inl before) = so_far.put m before here
-      at m less here (inr past) = (let same : m ≡ i = omega arith in let is : set.contains down m ≡ false = ap (λ k. set.contains down k) same ∙ up in cc)
 
   pub put-end : (i : ℕ) (members rebuilt : List MemberRecord) → Putting down given old i members rebuilt → length old ≤ i → IsPutBack down given old members
   put-end i members rebuilt so_far all = record {
-    size = so_far.size;
-    put = λ m below is. so_far.put m (omega (arith, below, all)) is;
-    kept = so_far.kept;
+    size = so_far.turned.size;
+    put = λ m below is. so_far.turned.done m (omega (arith, below, all)) ∙ ap (λ b. cond b (slice_index_or given m blank) (slice_index_or old m blank)) is;
+    kept = λ m up. at m up (cases_lt m i);
   }
+    where
+      at : (m : ℕ) → set.contains down m ≡ false → (m < i) ⊎ (i ≤ m) → slice_index_or members m blank ≡ slice_index_or old m blank
+      at m up (inl before) = so_far.turned.done m before ∙ ap (λ b. cond b (slice_index_or given m blank) (slice_index_or old m blank)) up
+      at m up (inr past) = so_far.turned.rest m past
 
 -- the count of one member more
 pub counted-more : (s : Members) (count : ℕ → ℕ) (i x before one : ℕ) → x ≡ i → before ≡ count_in s count i → before ≤ i * 8192 → one ≡ cond (set.contains s x) (count x) 0 → one ≤ 8192

@@ -1,5 +1,5 @@
 -- Channels as queues: the loops over them, and what is left of them by a send, a delivery, a strike and a recovery.
-use Rattle.std.proofs.Common.{IfSome, IfNone, IsSome, subst, ◌≡◌, ◌≢◌, ℕ, zero, suc, ◌+◌, ◌-◌, ◌*◌, ◌<◌, ◌≤◌, ◌⊎◌, inl, inr, Bool, true, false, cond, ◌&&◌, ◌==◌, List, [], ◌∷◌, ◌++◌, length, map, drop, replicate, refl, sym, ap, ◌∙◌, arith, Vec, Option, Some, None, slice_get, get_or, set, append_assoc, append-nil}
+use Rattle.std.proofs.Common.{IfSome, IfNone, IsSome, subst, ◌≡◌, ◌≢◌, ℕ, zero, suc, ◌+◌, ◌-◌, ◌<◌, ◌≤◌, ◌⊎◌, inl, inr, Bool, true, false, cond, ◌&&◌, ◌==◌, List, [], ◌∷◌, ◌++◌, length, map, drop, replicate, refl, sym, ap, ◌∙◌, arith, Vec, Option, Some, None, slice_get, get_or, set, append_assoc, append-nil, below_more}
 use Rattle.std.specs.List.{All}
 use Rattle.std.specs.VecDeque.{deque_len, deque_capacity}
 use Rattle.std.proofs.lemmas.Bool.{cases_lt, cases_eq}
@@ -40,16 +40,6 @@ none-some o x none some = cc
 
 -- ---- lists that loops make
 
--- one more element that a map takes to the same
-pub mapped-more : {X Y : Type 0} (f : X → Y) (xs ys : List X) (x : X) (y : Y) (i : ℕ) → map f xs ≡ replicate i y → f x ≡ y → ys ≡ xs ++ x ∷ [] → map f ys ≡ replicate (i + 1) y
-mapped-more f xs ys x y i was one is =
-    let next : i + 1 ≡ suc i = omega arith in
-    ap (map f) is ∙ map-append f xs (x ∷ []) ∙ ap (λ zs. zs ++ f x ∷ []) was ∙ ap (λ z. replicate i y ++ z ∷ []) one ∙ last i ∙ ap (λ k. replicate k y) (sym next)
-  where
-    last : (k : ℕ) → replicate k y ++ y ∷ [] ≡ replicate (suc k) y
-    last zero = refl
-    last (suc k) = ap (λ zs. y ∷ zs) (last k)
-
 -- the elements of a list of i are those wanted at their places
 pub record Made {X : Type 0} (d : X) (Wanted : ℕ → X → Type 0) (i : ℕ) (xs : List X) : Type 0 where
   pub size : length xs ≡ i
@@ -61,16 +51,12 @@ made-none d Wanted = record { size = refl; each = λ m below. absurd (omega arit
 pub made-more : {X : Type 0} (d : X) (Wanted : ℕ → X → Type 0) (i : ℕ) (xs : List X) (x : X) → Made d Wanted i xs → Wanted i x → Made d Wanted (i + 1) (xs ++ x ∷ [])
 made-more d Wanted i xs x made wanted = record {
   size = longer xs ∙ ap (λ k. k + 1) made.size;
-  each = λ m below. at m (cases_lt m i) below;
+  each = below_more (λ m. Wanted m (get_or (xs ++ x ∷ []) m d)) i (λ m less. rw (get_or_append_left xs (x ∷ []) d m (omega (arith, less, made.size))) (made.each m less)) (rw (get_or_push xs x d i made.size) wanted);
 }
   where
     longer : (ys : List _) → length (ys ++ x ∷ []) ≡ length ys + 1
     longer [] = refl
     longer (y ∷ ys) = (let rest = longer ys in omega (arith, rest))
-
-    at : (m : ℕ) → (m < i) ⊎ (i ≤ m) → m < i + 1 → Wanted m (get_or (xs ++ x ∷ []) m d)
-    at m (inl less) below = rw (get_or_append_left xs (x ∷ []) d m (omega (arith, less, made.size))) (made.each m less)
-    at m (inr past) below = (let same : m ≡ i = omega arith in rw (same, get_or_push xs x d i made.size) wanted)
 
 -- the elements below the place i are those wanted, and the others are as they were
 pub record Turned {X : Type 0} (d : X) (Wanted : ℕ → X → Type 0) (i : ℕ) (old xs : List X) : Type 0 where
@@ -78,32 +64,19 @@ pub record Turned {X : Type 0} (d : X) (Wanted : ℕ → X → Type 0) (i : ℕ)
   pub done : (m : ℕ) → m < i → Wanted m (get_or xs m d)
   pub rest : (m : ℕ) → i ≤ m → get_or xs m d ≡ get_or old m d
 
-pub turned-start : {X : Type 0} (d : X) (Wanted : ℕ → X → Type 0) (xs : List X) → Turned d Wanted 0 xs xs
-turned-start d Wanted xs = record { size = refl; done = λ m below. absurd (omega arith); rest = λ m past. refl }
-
 pub turned-set : {X : Type 0} (d : X) (Wanted : ℕ → X → Type 0) (i place : ℕ) (old xs : List X) (x : X) → Turned d Wanted i old xs → place ≡ i → i < length old → Wanted i x → Turned d Wanted (i + 1) old (set xs place x)
 turned-set d Wanted i place old xs x turned same within wanted = record {
   size = length-set xs place x ∙ turned.size;
-  done = λ m below. at m (cases_lt m i) below;
+  done = below_more (λ m. Wanted m (get_or (set xs place x) m d)) i (λ m less. rw (get_or-set_other xs place m x d (λ e. absurd (omega (arith, e, same, less)))) (turned.done m less)) (rw (same, get_or-set_same xs i x d (omega (arith, within, turned.size))) wanted);
   rest = λ m past. get_or-set_other xs place m x d (λ e. absurd (omega (arith, e, same, past))) ∙ turned.rest m (omega (arith, past));
 }
-  where
-    at : (m : ℕ) → (m < i) ⊎ (i ≤ m) → m < i + 1 → Wanted m (get_or (set xs place x) m d)
-    at m (inl less) below = rw (get_or-set_other xs place m x d (λ e. absurd (omega (arith, e, same, less)))) (turned.done m less)
-    at m (inr past) below =
-        let is : m ≡ i = omega arith in
-        rw (is, same, get_or-set_same xs i x d (omega (arith, within, turned.size))) wanted
 
 pub turned-kept : {X : Type 0} (d : X) (Wanted : ℕ → X → Type 0) (i : ℕ) (old xs : List X) → Turned d Wanted i old xs → Wanted i (get_or old i d) → Turned d Wanted (i + 1) old xs
 turned-kept d Wanted i old xs turned wanted = record {
   size = turned.size;
-  done = λ m below. at m (cases_lt m i) below;
+  done = below_more (λ m. Wanted m (get_or xs m d)) i turned.done (rw (turned.rest i (omega arith)) wanted);
   rest = λ m past. turned.rest m (omega (arith, past));
 }
-  where
-    at : (m : ℕ) → (m < i) ⊎ (i ≤ m) → m < i + 1 → Wanted m (get_or xs m d)
-    at m (inl less) below = turned.done m less
-    at m (inr past) below = (let is : m ≡ i = omega arith in rw (is, turned.rest i (omega arith)) wanted)
 
 -- a list in which a place is written with what stands there
 pub set-same : {X : Type 0} (xs : List X) (i : ℕ) (x d : X) → i < length xs → x ≡ get_or xs i d → set xs i x ≡ xs
@@ -196,7 +169,7 @@ none-in n cs q p is = rw is (at n q) where
   at (suc k) zero = none n p
   at (suc k) (suc i) = at k i
 
-eqb-same : (a b : ℕ) → a ≡ b → (a == b) ≡ true
+pub eqb-same : (a b : ℕ) → a ≡ b → (a == b) ≡ true
 eqb-same a b e = grind (arith, nat_tests)
 
 eqb-other : (a b : ℕ) → a ≢ b → (a == b) ≡ false
@@ -351,13 +324,6 @@ settled_trace t0 t1 t2 made me before rsn from ssn carried sends first then made
     then ∙ ap (λ (xs : List Event). xs ++ map send_of_message made) first ∙ append_assoc t0 (Receipt me rsn from ssn ∷ []) (map send_of_message made) ∙ ap (λ (xs : List Event). t0 ++ Receipt me rsn from ssn ∷ xs) (ap (λ (xs : List Message). map send_of_message xs) made_is ∙ sends-messages me before carried sends)
 
 -- ---- steps of the loops
-
--- one count more
-pub summed-more : (f : ℕ → ℕ) (i before one k : ℕ) → before ≡ sum_below i f → before ≤ i * k → one ≡ f i → one ≤ k → (before + one ≡ sum_below (i + 1) f) × (before + one ≤ (i + 1) * k)
-summed-more f i before one k was few is most = (
-  (let next : i + 1 ≡ suc i = omega arith in rw next omega (arith, was, is)),
-  (let product : (i + 1) * k ≡ i * k + k = omega arith in omega (arith, few, most, product)),
-)
 
 -- a sum with a summand that is not 0 is not 0
 pub some-summed : (f : ℕ → ℕ) (i more : ℕ) → 0 < f i → 0 < sum_below (suc i + more) f

@@ -1,15 +1,14 @@
 -- The steps of a recovery before it changes the group: gathering, replay in rounds, tables given.
-use Rattle.std.proofs.Common.{◌≡◌, ℕ, zero, suc, ◌+◌, ◌<◌, ◌≤◌, ◌⊎◌, inl, inr, Bool, true, false, List, [], ◌∷◌, ◌++◌, length, map, take, Option, Some, None, get_or, refl, sym, subst, ap, ◌∙◌, arith}
+use Rattle.std.proofs.Common.{◌≡◌, ℕ, suc, ◌+◌, ◌<◌, ◌≤◌, Bool, true, false, List, [], ◌∷◌, ◌++◌, length, map, take, Option, Some, None, get_or, refl, sym, subst, ap, ◌∙◌, arith, below_more}
 use Rattle.std.specs.Prelude.{slice_index_or, slice_set}
 use Rattle.std.specs.FinSet as set
-use Rattle.std.proofs.lemmas.Bool.{cases_lt}
-use Rattle.std.proofs.lemmas.List.{append-nil, take_all, get_or_append_left}
-use Rattle.std.proofs.Math.Seq.{get_or-append_seam}
+use Rattle.std.proofs.lemmas.List.{append-nil, take_all}
 use Rattle.fbl_base.specs.declared.trace.Determinant.{Determinant}
 use Rattle.fbl_base.specs.declared.trace.Note.{Note}
 use Rattle.fbl_base.specs.Fold.{Next, Logged}
 use Rattle.fbl_table.specs.declared.entry.Entry.{Entry}
 use Rattle.fbl_table.specs.Tables.{found, gathered, marked}
+use Rattle.fbl_table.specs.Receipts.{receipt_at}
 use Rattle.fbl_member.specs.Members.{MemberRecord, blank, logged_note, replayed_by}
 use Rattle.fbl_law.specs.Knowledge.{Members, IsDown}
 use Rattle.fbl_law.specs.Steps.{gathered_all, saved_tables}
@@ -18,13 +17,12 @@ use Rattle.fbl_law.specs.Sound.{IsSound}
 use Rattle.fbl_law.specs.Replaying.{IsNextReplay, gathered_table, working, IsReplaying, IsWaiting, replayed_in}
 use Rattle.fbl_law.proofs.Gathering.{gathered_all-more, gathered_all-push}
 use Rattle.fbl_law.proofs.Rebuilding.{replaying-start, replaying-next, replaying-room, replaying-step, replayed_in-step, replayed_in-short, replaying-tables}
-use Rattle.fbl_group.specs.Rebuilding.{Tries, Rounds, HasReplayed, IsReady}
+use Rattle.fbl_group.specs.Rebuilding.{AreByNumber, Tries, Rounds, HasReplayed, IsReady}
+use Rattle.fbl_group.proofs.Queues.{read_any}
 
 -- a record that is read at a place of the list, whatever stands past its end
 pub read_at : (ms : List MemberRecord) (i : ℕ) (d m : MemberRecord) → i < length ms → m ≡ get_or ms i d → m ≡ slice_index_or ms i blank
-read_at [] i d m below read = absurd (omega (arith, below))
-read_at (x ∷ ms) zero d m below read = read
-read_at (x ∷ ms) (suc i) d m below read = read_at ms i d m (omega (arith, below)) read
+read_at ms i d m below read = read ∙ read_any ms i d blank below
 
 -- the table of one member more
 pub gathered-step : (ms : List MemberRecord) (i : ℕ) (before after : List Entry) (m : MemberRecord) → i < length ms → m ≡ slice_index_or ms i blank
@@ -58,112 +56,93 @@ saved-skip s ms i x first before same up was =
     let e : i + 1 ≡ suc i = omega arith in
     rw (e, here) (was ∙ ap (gathered_all first) (sym (append-nil (saved_tables s ms i))))
 
--- what is so of each element of a list, and of one more
-pub each-more : {X : Type 0} (P : ℕ → X → Type 0) (d : X) (xs : List X) (i : ℕ) (x : X) → length xs ≡ i → ((p : ℕ) → p < i → P p (slice_index_or xs p d)) → P i x → (p : ℕ) → p < i + 1 → P p (slice_index_or (xs ++ x ∷ []) p d)
-each-more P d xs i x size before here p below = elim (cases_lt p i) [
-  | inl less ↦ subst (P p) (sym (get_or_append_left xs (x ∷ []) d p (omega (arith, size, less)))) (before p less)
-  | inr past ↦
-      (let same : length xs ≡ p = omega (arith, size, past, below) in
-      let there : P p x = subst (λ k. P k x) (sym size ∙ same) here in
-      subst (P p) (sym (ap (λ k. slice_index_or (xs ++ x ∷ []) k d) (sym same) ∙ get_or-append_seam xs x [] d)) there)
-]
-
--- one record more
-pub begun-at : (s : Members) (begins : ℕ → MemberRecord) (ms : List MemberRecord) (i : ℕ) (m : MemberRecord) → length ms ≡ i
-    → ((p : ℕ) → p < i → set.contains s p ≡ true → slice_index_or ms p blank ≡ begins p) → (set.contains s i ≡ true → m ≡ begins i)
-    → (p : ℕ) → p < i + 1 → set.contains s p ≡ true → slice_index_or (ms ++ m ∷ []) p blank ≡ begins p
-begun-at s begins ms i m size before here = each-more (λ (p : ℕ) (x : MemberRecord). set.contains s p ≡ true → x ≡ begins p) blank ms i m size before here
+-- what the replay of a receipt asks
+pub record MayReplay (next : Next) (n p : ℕ) (d : Determinant) (note : Note) (x : MemberRecord) : Type 0 where
+  pub least : 2 ≤ n
+  pub most : n ≤ 16
+  pub member : p < n
+  pub to_me : d.to ≡ p
+  pub number : d.rsn ≡ x.received + 1
+  pub receipts : x.received < 8192
+  pub sends : length x.log + length (next p n x.state note).sends.items ≤ 8192
 
 module _ (next : Next) (r : GroupRecord) (sound : IsSound next r) where
-  pub member-below : (p : ℕ) → set.contains r.down p ≡ true → p < r.config.members
-  member-below p down = sound.down p down
-
   pub begun : (rebuilt : List MemberRecord) (i : ℕ) → i ≡ r.config.members → length rebuilt ≡ i → ((p : ℕ) → p < i → set.contains r.down p ≡ true → slice_index_or rebuilt p blank ≡ record (checkpoint r p) { table = [] }) → IsReplaying next r rebuilt
   begun rebuilt i all size each =
       replaying-tables next r sound r.checkpoints rebuilt [] (replaying-start next r sound r.checkpoints sound.checkpoints (λ p below down. refl)) (size ∙ all ∙ sym sound.checkpoints)
       (λ p below down. each p (omega (arith, all, below)) down)
 
   -- what one try needs, and what it leaves
-  module _ (rebuilt : List MemberRecord) (p place : ℕ) (replaying : IsReplaying next r rebuilt) (down : set.contains r.down p ≡ true) (is_place : place ≡ p) where
+  module _ {rebuilt : List MemberRecord} {p place : ℕ} (replaying : IsReplaying next r rebuilt) (down : set.contains r.down p ≡ true) (is_place : place ≡ p) where
     pub at-place : place < length rebuilt
     at-place = omega (arith, sound.down p down, replaying.size, is_place)
 
-    is-record : (m : MemberRecord) → m ≡ get_or rebuilt place m → m ≡ slice_index_or rebuilt p blank
-    is-record m read = read_at rebuilt place m m at-place read ∙ ap (λ x. slice_index_or rebuilt x blank) is_place
+    is-record : {m : MemberRecord} → m ≡ get_or rebuilt place m → m ≡ slice_index_or rebuilt p blank
+    is-record {m = m} read = read_at rebuilt place m m at-place read ∙ ap (λ x. slice_index_or rebuilt x blank) is_place
 
-    module _ (m : MemberRecord) (read : m ≡ get_or rebuilt place m) (answer : Option Determinant) (sought : answer ≡ found p (m.received + 1) (gathered_table r)) where
-      is-found : (d : Determinant) → answer ≡ Some d → found p ((slice_index_or rebuilt p blank).received + 1) (gathered_table r) ≡ Some d
-      is-found d is = ap (λ (x : MemberRecord). found p (x.received + 1) (gathered_table r)) (sym (is-record m read)) ∙ sym sought ∙ is
+    -- the receipt that is sought by its number
+    module _ {m : MemberRecord} {numbered : List (List (Option Determinant))} {rsn : ℕ} {answer : Option Determinant} {d : Determinant} (read : m ≡ get_or rebuilt place m) (by_number : AreByNumber r numbered)
+        (sought : answer ≡ receipt_at (slice_index_or numbered p []) (rsn + 1)) (is_rsn : rsn ≡ m.received) (is : answer ≡ Some d) where
+      is-found : found p ((slice_index_or rebuilt p blank).received + 1) (gathered_table r) ≡ Some d
+      is-found = ap (λ k. found p (k + 1) (gathered_table r)) (sym (is_rsn ∙ ap (λ (x : MemberRecord). x.received) (is-record read))) ∙ sym (sought ∙ by_number.each p (sound.down p down) down (rsn + 1)) ∙ is
 
-      its-next : (d : Determinant) → answer ≡ Some d → IsNextReplay r.config.members p (slice_index_or rebuilt p blank) d
-      its-next d is = replaying-next next r sound rebuilt p d replaying (sound.down p down) down (is-found d is)
+      its-next : IsNextReplay r.config.members p (slice_index_or rebuilt p blank) d
+      its-next = replaying-next next r sound rebuilt p d replaying (sound.down p down) down is-found
 
-      -- the table has no such receipt
-      pub waits-unfound : answer ≡ None → Tries next r p rebuilt rebuilt false
-      waits-unfound none = (refl, λ d is. absurd (let some : answer ≡ Some d = back d is in cc)) where
-        back : (d : Determinant) → found p ((slice_index_or rebuilt p blank).received + 1) (gathered_table r) ≡ Some d → answer ≡ Some d
-        back d is = sought ∙ ap (λ (x : MemberRecord). found p (x.received + 1) (gathered_table r)) (is-record m read) ∙ is
+      pub from-member : d.from < r.config.members
+      from-member = its-next.from
 
-      module _ (d : Determinant) (is : answer ≡ Some d) where
-        pub from-member : d.from < r.config.members
-        from-member = (its-next d is).from
-
-        pub to-member : d.to ≡ p
-        to-member = (its-next d is).to
-
-        pub next-number : (x : MemberRecord) → x ≡ get_or rebuilt place x → d.rsn ≡ x.received + 1
-        next-number x here = (its-next d is).rsn ∙ ap (λ (y : MemberRecord). y.received + 1) (sym (is-record x here))
-
-        pub few-received : (x : MemberRecord) → x ≡ get_or rebuilt place x → x.received < 8192
-        few-received x here = (let room = (its-next d is).room in let same : x.received ≡ (slice_index_or rebuilt p blank).received = ap (λ (y : MemberRecord). y.received) (is-record x here) in omega (arith, room, same))
+      -- the log of its sender
+      module _ {records : List MemberRecord} {sent : Option Note} (same : records ≡ rebuilt) (looked : sent ≡ logged_note (working r records d.from).log d.ssn) where
+        logged : sent ≡ logged_note (working r rebuilt d.from).log d.ssn
+        logged = looked ∙ ap (λ (ms : List MemberRecord). logged_note (working r ms d.from).log d.ssn) same
 
         -- its message is not sent again yet
-        pub waits-unsent : logged_note (working r rebuilt d.from).log d.ssn ≡ None → Tries next r p rebuilt rebuilt false
-        waits-unsent none = (refl, λ c found_c. ap (λ (x : Determinant). logged_note (working r rebuilt x.from).log x.ssn) (same c found_c) ∙ none) where
-          same : (c : Determinant) → found p ((slice_index_or rebuilt p blank).received + 1) (gathered_table r) ≡ Some c → c ≡ d
-          same c found_c = (let e : Some c ≡ Some d = sym found_c ∙ is-found d is in cc)
+        pub waits-unsent : sent ≡ None → Tries next r p rebuilt rebuilt false
+        waits-unsent none = (refl, λ c found_c. ap (λ (x : Determinant). logged_note (working r rebuilt x.from).log x.ssn) (alike c found_c) ∙ sym logged ∙ none) where
+          alike : (c : Determinant) → found p ((slice_index_or rebuilt p blank).received + 1) (gathered_table r) ≡ Some c → c ≡ d
+          alike c found_c = (let e : Some c ≡ Some d = sym found_c ∙ is-found in cc)
 
-        module _ (n : ℕ) (all : n ≡ r.config.members) (note : Note) (named : logged_note (working r rebuilt d.from).log d.ssn ≡ Some note) (x : MemberRecord) (here : x ≡ get_or rebuilt place x) where
-          pub few-sent : length x.log + length (next p n x.state note).sends.items ≤ 8192
-          few-sent =
-              subst (λ (k : ℕ). length x.log + length (next p k x.state note).sends.items ≤ 8192) (sym all)
-              (subst (λ (y : MemberRecord). length y.log + length (next p r.config.members y.state note).sends.items ≤ 8192) (sym (is-record x here)) (replaying-room next r sound rebuilt p d note replaying (sound.down p down) down (is-found d is) named))
+        module _ {n : ℕ} {note : Note} {x : MemberRecord} (all : n ≡ r.config.members) (named : sent ≡ Some note) (here : x ≡ get_or rebuilt place x) where
+          pub may-replay : MayReplay next n p d note x
+          may-replay = record {
+            least = omega (arith, all, sound.config.members.0);
+            most = omega (arith, all, sound.config.members.1);
+            member = omega (arith, all, sound.down p down);
+            to_me = its-next.to;
+            number = its-next.rsn ∙ ap (λ (y : MemberRecord). y.received + 1) (sym (is-record here));
+            receipts = (let room = its-next.room in let received : x.received ≡ (slice_index_or rebuilt p blank).received = ap (λ (y : MemberRecord). y.received) (is-record here) in omega (arith, room, received));
+            sends =
+                subst (λ (k : ℕ). length x.log + length (next p k x.state note).sends.items ≤ 8192) (sym all)
+                (subst (λ (y : MemberRecord). length y.log + length (next p r.config.members y.state note).sends.items ≤ 8192) (sym (is-record here)) (replaying-room next r sound rebuilt p d note replaying (sound.down p down) down is-found (sym logged ∙ named)));
+          }
 
-          after-is : (after : MemberRecord) → after ≡ replayed_by next p n x d note → after ≡ replayed_by next p r.config.members (slice_index_or rebuilt p blank) d note
-          after-is after is_after = is_after ∙ ap (λ (k : ℕ). replayed_by next p k x d note) all ∙ ap (λ (y : MemberRecord). replayed_by next p r.config.members y d note) (is-record x here)
-
-          pub replays-one : (after : MemberRecord) → after ≡ replayed_by next p n x d note → Tries next r p rebuilt (slice_set rebuilt place after) true
-          replays-one after is_after =
+          pub replays-one : {after : MemberRecord} → after ≡ replayed_by next p n x d note → Tries next r p rebuilt (slice_set rebuilt place after) true
+          replays-one {after = after} is_after =
               subst (λ (k : ℕ). Tries next r p rebuilt (slice_set rebuilt k after) true) (sym is_place)
-              (subst (λ (y : MemberRecord). Tries next r p rebuilt (slice_set rebuilt p y) true) (sym (after-is after is_after))
-              (replaying-step next r sound rebuilt p d note replaying (sound.down p down) down (is-found d is) named, replayed_in-step next r sound rebuilt p d note replaying (sound.down p down) down))
+              (subst (λ (y : MemberRecord). Tries next r p rebuilt (slice_set rebuilt p y) true) (sym (is_after ∙ ap (λ (k : ℕ). replayed_by next p k x d note) all ∙ ap (λ (y : MemberRecord). replayed_by next p r.config.members y d note) (is-record here)))
+              (replaying-step next r sound rebuilt p d note replaying (sound.down p down) down is-found (sym logged ∙ named), replayed_in-step next r sound rebuilt p d note replaying (sound.down p down) down))
 
   -- a try keeps what is so of the replay
-  pub tried-replaying : (p : ℕ) (before after : List MemberRecord) (moved : Bool) → IsReplaying next r before → Tries next r p before after moved → IsReplaying next r after
+  pub tried-replaying : (p : ℕ) (before after : List MemberRecord) (b : Bool) → IsReplaying next r before → Tries next r p before after b → IsReplaying next r after
   tried-replaying p before after true replaying tried = tried.0
   tried-replaying p before after false replaying tried = subst (IsReplaying next r) (sym tried.0) replaying
 
-  -- a round so far, and one more member
-  pub round-start : (rebuilt : List MemberRecord) → Rounds next r 0 rebuilt rebuilt false
-  round-start rebuilt = (refl, λ p below. absurd (omega arith))
+  -- a round so far, and one more member that replays, waits or is up
+  pub round-moved : (i k : ℕ) (first before after : List MemberRecord) (moved b : Bool) → b ≡ true → Rounds next r i first before moved → Tries next r k before after b → Rounds next r (i + 1) first after true
+  round-moved i k first before after true true holds so_far tried = (tried.0, omega (arith, so_far.1, tried.1))
+  round-moved i k first before after false true holds so_far tried = (tried.0, (let e : replayed_in r before ≡ replayed_in r first = ap (replayed_in r) so_far.0 in omega (arith, e, tried.1)))
+  round-moved i k first before after moved false holds so_far tried = cc
 
-  pub round-moved : (i p : ℕ) (first before after : List MemberRecord) (moved : Bool) → Rounds next r i first before moved → Tries next r p before after true → Rounds next r (i + 1) first after true
-  round-moved i p first before after true so_far tried = (tried.0, omega (arith, so_far.1, tried.1))
-  round-moved i p first before after false so_far tried = (tried.0, (let e : replayed_in r before ≡ replayed_in r first = ap (replayed_in r) so_far.0 in omega (arith, e, tried.1)))
-
-  pub round-waits : (i : ℕ) (first before after : List MemberRecord) (moved : Bool) → Rounds next r i first before moved → Tries next r i before after false → Rounds next r (i + 1) first after moved
-  round-waits i first before after true so_far tried = (subst (IsReplaying next r) (sym tried.0) so_far.0, (let e : replayed_in r after ≡ replayed_in r before = ap (replayed_in r) tried.0 in omega (arith, e, so_far.1)))
-  round-waits i first before after false so_far tried = (tried.0 ∙ so_far.0, λ p below down. at p below down (cases_lt p i)) where
-    at : (p : ℕ) → p < i + 1 → IsDown (knowledge r) p → (p < i) ⊎ (i ≤ p) → IsWaiting r first p
-    at p below down (inl less) = so_far.1 p less down
-    at p below down (inr past) = (let same : p ≡ i = omega arith in subst (IsWaiting r first) (sym same) (subst (λ (ms : List MemberRecord). IsWaiting r ms i) so_far.0 tried.1))
+  pub round-waits : (i k : ℕ) (first before after : List MemberRecord) (moved b : Bool) → k ≡ i → b ≡ false → Rounds next r i first before moved → Tries next r k before after b → Rounds next r (i + 1) first after moved
+  round-waits i k first before after moved true is_k fails so_far tried = cc
+  round-waits i k first before after true false is_k fails so_far tried = (subst (IsReplaying next r) (sym tried.0) so_far.0, (let e : replayed_in r after ≡ replayed_in r before = ap (replayed_in r) tried.0 in omega (arith, e, so_far.1)))
+  round-waits i k first before after false false is_k fails so_far tried =
+      (tried.0 ∙ so_far.0, below_more (λ p. IsDown (knowledge r) p → IsWaiting r first p) i so_far.1 (λ down. subst (IsWaiting r first) is_k (subst (λ (ms : List MemberRecord). IsWaiting r ms k) so_far.0 tried.1)))
 
   pub round-up : (i : ℕ) (first now : List MemberRecord) (moved : Bool) → Rounds next r i first now moved → set.contains r.down i ≡ false → Rounds next r (i + 1) first now moved
   round-up i first now true so_far up = so_far
-  round-up i first now false so_far up = (so_far.0, λ p below down. at p below down (cases_lt p i)) where
-    at : (p : ℕ) → p < i + 1 → IsDown (knowledge r) p → (p < i) ⊎ (i ≤ p) → IsWaiting r first p
-    at p below down (inl less) = so_far.1 p less down
-    at p below down (inr past) = (let same : p ≡ i = omega arith in let is : set.contains r.down p ≡ false = ap (λ x. set.contains r.down x) same ∙ up in cc)
+  round-up i first now false so_far up = (so_far.0, below_more (λ p. IsDown (knowledge r) p → IsWaiting r first p) i so_far.1 (λ (down : set.contains r.down i ≡ true). cc))
 
   -- rounds end
   pub round-more : (before after : List MemberRecord) → Rounds next r r.config.members before after true → replayed_in r before < replayed_in r after

@@ -1,5 +1,5 @@
 -- What a group is made of at its start.
-use Rattle.std.proofs.Common.{◌≡◌, ◌≢◌, ℕ, zero, suc, ◌+◌, ◌<◌, ◌==◌, Bool, true, false, cond, List, [], ◌∷◌, ◌++◌, length, map, take, drop, get_or, Option, Some, None, refl, sym, ap, ◌∙◌, arith, append_assoc, append-nil}
+use Rattle.std.proofs.Common.{◌≡◌, ℕ, zero, suc, ◌+◌, ◌<◌, ◌==◌, Bool, true, false, cond, List, [], ◌∷◌, ◌++◌, length, map, take, drop, get_or, Option, Some, None, refl, sym, ap, ◌∙◌, arith, append_assoc, append-nil}
 use Rattle.std.specs.Prelude.{slice_index, slice_index_or, slice_set, count_by}
 use Rattle.std.specs.List.{filter_map, cons_option, IsDistinct}
 use Rattle.std.proofs.lemmas.Bool.Decides.{nat_tests}
@@ -14,7 +14,7 @@ use Rattle.fbl_base.specs.declared.trace.Event.TheVariants.{Send, Receipt}
 use Rattle.fbl_base.specs.declared.trace.Mark.TheVariants as mark
 use Rattle.fbl_base.specs.Events.{mark_of, same_determinant}
 use Rattle.fbl_base.specs.Rules.{is_send_of, sends_of, MayFollow, WellFormed}
-use Rattle.fbl_member.specs.Members.{Message, MemberRecord, fresh, blank}
+use Rattle.fbl_member.specs.Members.{Message}
 use Rattle.fbl_law.specs.Steps.{is_on, between}
 use Rattle.fbl_law.specs.Groups.{HasChannels, channel_in}
 use Rattle.fbl_law.specs.GroupSteps.{start_events, message_of}
@@ -33,27 +33,6 @@ filter_map-more {Y = Y} h (y ∷ xs) (suc i) x below at = here (h y) (filter_map
   here : (o : Option Y) → filter_map h (take (suc i) xs) ≡ filter_map h (take i xs) ++ cons_option (h x) [] → cons_option o (filter_map h (take (suc i) xs)) ≡ cons_option o (filter_map h (take i xs)) ++ cons_option (h x) []
   here None ih = ih
   here (Some z) ih = ap (λ zs. z ∷ zs) ih
-
--- one more member
-pub members-more : (ms : List MemberRecord) (starts : List Start) (n : ℕ) (x : MemberRecord) → length ms ≡ n → x ≡ fresh n starts → ((m : ℕ) → m < n → slice_index_or ms m blank ≡ fresh m starts) → (m : ℕ) → m < n + 1 → slice_index_or (ms ++ x ∷ []) m blank ≡ fresh m starts
-members-more ms starts n x size is so_far m below = at (m == n) refl where
-  old : (ys : List MemberRecord) (k : ℕ) → k < length ys → slice_index_or (ys ++ x ∷ []) k blank ≡ slice_index_or ys k blank
-  old [] k lt = absurd (omega arith)
-  old (y ∷ ys) zero lt = refl
-  old (y ∷ ys) (suc k) lt = old ys k (omega arith)
-
-  last : (ys : List MemberRecord) → slice_index_or (ys ++ x ∷ []) (length ys) blank ≡ x
-  last [] = refl
-  last (y ∷ ys) = last ys
-
-  at : (b : Bool) → (m == n) ≡ b → slice_index_or (ms ++ x ∷ []) m blank ≡ fresh m starts
-  at true e =
-      let same : m ≡ n = grind (arith, nat_tests) in
-      rw (same, ← size) (last ms ∙ is ∙ ap (λ (k : ℕ). fresh k starts) (sym size))
-  at false e =
-      let apart : m ≢ n = (λ same. (let t : (m == n) ≡ true = grind (arith, nat_tests) in cc)) in
-      let less : m < n = omega (arith, apart, below) in
-      old ms m (omega (arith, size, less)) ∙ so_far m less
 
 -- one more send of a start
 pub starts-more : (done : List Event) (ss : List Start) (i : ℕ) (s : Start) → i < length ss → s ≡ get_or ss i s → start_events (done ++ Send s.from (sends_of (map mark_of done) s.from + 1) s.to s.note ∷ []) (drop (suc i) ss) ≡ start_events done (drop i ss)

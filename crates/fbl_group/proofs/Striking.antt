@@ -26,6 +26,7 @@ use Rattle.fbl_law.specs.GroupSteps.{IsStrike}
 use Rattle.fbl_law.proofs.GroupStrike.{group_strike_keeps, recorded_test}
 use Rattle.fbl_law.proofs.Resending.{channel-outside}
 use Rattle.fbl_law.proofs.Promises.{sound_has_no_orphan}
+use Rattle.fbl_group.specs.declared.refusals.StrikeRefusal.{StrikeRefusal}
 use Rattle.fbl_group.specs.declared.refusals.StrikeRefusal.TheVariants.{BadMember, Nobody, TooMany}
 use Rattle.fbl_group.specs.Channels.{AreReplaced}
 use Rattle.fbl_group.specs.Strikes.{is_within, strike_refusal, lost_receipts, is_lost, IsBlanked}
@@ -68,29 +69,32 @@ not-below s n not_all = at (is_within s n) refl where
   at false is = refl
 
 -- each refusal comes where its rule is broken and those before it are kept
-module _ (r : GroupRecord) (struck : Members) where
-  pub is_bad_member : ¬ (AllBelow struck r.config.members) → strike_refusal r struck ≡ Some BadMember
-  is_bad_member outside = (let e = not-below struck r.config.members outside in rw e refl)
+module _ (struck : Members) {r now : GroupRecord} (view : r ≡ now) {n : ℕ} (all : n ≡ r.config.members) where
+  as_now : {o : Option StrikeRefusal} → strike_refusal r struck ≡ o → strike_refusal now struck ≡ o
+  as_now is = ap (λ (x : GroupRecord). strike_refusal x struck) (sym view) ∙ is
 
-  module _ (below : AllBelow struck r.config.members) where
-    pub is_nobody : sets.len struck ≡ 0 → strike_refusal r struck ≡ Some Nobody
-    is_nobody none = (let e = below-within struck r.config.members below in rw (e, none) refl)
+  pub is_bad_member : ¬ (AllBelow struck n) → strike_refusal now struck ≡ Some BadMember
+  is_bad_member outside = (let e : is_within struck r.config.members ≡ false = ap (is_within struck) (sym all) ∙ not-below struck n outside in as_now (rw e refl))
 
-    module _ (some : sets.len struck ≢ 0) where
-      named : (sets.len struck == 0) ≡ false
-      named = grind (arith, nat_tests)
+  module _ (below : AllBelow struck n) where
+    inside : is_within struck r.config.members ≡ true
+    inside = ap (is_within struck) (sym all) ∙ below-within struck n below
 
-      pub is_too_many : r.config.f < sets.len (sets.union r.down struck) → strike_refusal r struck ≡ Some TooMany
-      is_too_many more =
-          let e = below-within struck r.config.members below in
-          let over : nat_lt r.config.f (sets.len (sets.union r.down struck)) ≡ true = grind (arith, nat_tests) in
-          rw (e, named, over) refl
+    pub is_nobody : sets.len struck ≡ 0 → strike_refusal now struck ≡ Some Nobody
+    is_nobody none = as_now (rw (inside, none) refl)
 
-      pub is_allowed : sets.len (sets.union r.down struck) ≤ r.config.f → strike_refusal r struck ≡ None
-      is_allowed few =
-          let e = below-within struck r.config.members below in
-          let within_f : nat_lt r.config.f (sets.len (sets.union r.down struck)) ≡ false = grind (arith, nat_tests) in
-          rw (e, named, within_f) refl
+    module _ (some : sets.len struck ≢ 0) {both : Members} (joined : both ≡ sets.union r.down struck) where
+      decided : (b : Bool) → nat_lt r.config.f (sets.len both) ≡ b → strike_refusal now struck ≡ cond b (Some TooMany) None
+      decided b over =
+          let named : (sets.len struck == 0) ≡ false = grind (arith, nat_tests) in
+          let e : nat_lt r.config.f (sets.len (sets.union r.down struck)) ≡ b = ap (λ (s : Members). nat_lt r.config.f (sets.len s)) (sym joined) ∙ over in
+          as_now (rw (inside, named, e) refl)
+
+      pub is_too_many : r.config.f < sets.len both → strike_refusal now struck ≡ Some TooMany
+      is_too_many more = decided true (grind (arith, nat_tests))
+
+      pub is_allowed : sets.len both ≤ r.config.f → strike_refusal now struck ≡ None
+      is_allowed few = decided false (grind (arith, nat_tests))
 
 -- what holds where no refusal does
 pub record MayStrike (r : GroupRecord) (struck : Members) : Type 0 where

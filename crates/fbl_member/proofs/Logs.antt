@@ -60,10 +60,6 @@ pub made-carried : (me before : ℕ) (carried : List Entry) (sends : List (ℕ �
 made-carried me before carried sends messages i None are at = tt
 made-carried me before carried sends messages i (Some wire) are at = messages-carried me before carried sends i wire.now (sym (ap (λ l. slice_get l i) are) ∙ sym at)
 
-length-cons_option : {X : Type 0} (o : Option X) (xs : List X) → length xs ≤ length (cons_option o xs)
-length-cons_option None xs = omega arith
-length-cons_option (Some x) xs = omega arith
-
 length-filter_map : {X Y : Type 0} (g : X → Option Y) (xs : List X) → length (filter_map g xs) ≤ length xs
 length-filter_map g [] = omega arith
 length-filter_map g (x ∷ xs) = at (g x) (length-filter_map g xs) where

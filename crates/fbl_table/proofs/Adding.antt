@@ -20,9 +20,6 @@ use Rattle.indexmap.specs.IndexMap.{insert_entry}
 use Rattle.fbl_table.specs.declared.entry.Entry.{Entry}
 use Rattle.fbl_table.specs.Tables.{HasInPlace, is_held, has_at, added, entry_of, is_open, piggybacked, gathered, learned, held_by, greatest_rsn, rsn_of, marked}
 
-Pair : Type 0
-Pair = Determinant × set.FinSet nat_cmp
-
 pub held-lookup : (es : List (Determinant × set.FinSet nat_cmp)) (d : Determinant) → is_some (lookup (same_determinant d) es) ≡ is_held (map entry_of es) d
 held-lookup [] d = refl
 held-lookup (e ∷ es) d =

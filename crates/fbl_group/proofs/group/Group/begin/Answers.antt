@@ -1,23 +1,20 @@
-use Rattle.std.proofs.Common.{◌≡◌, ◌+◌, ◌++◌, ◌∷◌, [], true, List, length, subst, ap, ◌∙◌, arith, length-append}
-use Rattle.std.specs.Prelude.{slice_index_or}
+use Rattle.std.proofs.Common.{◌≡◌, ℕ, [], true, subst, ap, ◌∙◌, arith}
 use Rattle.std.specs.FinSet as set
 use Rattle.fbl_member.specs.Members.{MemberRecord, blank}
 use Rattle.fbl_law.specs.Groups.{GroupRecord, checkpoint}
 use Rattle.fbl_law.specs.Sound.{IsSound}
 use Rattle.fbl_group.proofs.MemberNumbers.{numbered}
-use Rattle.fbl_group.proofs.Recovering.{begun-at, begun}
+use Rattle.fbl_group.proofs.Queues.{made-more}
+use Rattle.fbl_group.proofs.Recovering.{begun}
 use Rattle.fbl_group.proofs.group.Group.begin.Goals as goal
 
 pub loop-number-preserved : goal.loop-number-preserved
 loop-number-preserved g c =
     let member : c.unwrap-member.result ≡ c.loop-number.number = numbered c.new.result c.unwrap-member.result c.loop-number.number c.new.ensures (let rules = c.members-number-end.ensures.rules in omega (arith, c.loop-number-test.true, c.members-number-end.ensures.value, rules.members.1)) c.unwrap-member.ensures in
-    let pushed : c.push.new.self.items ≡ c.loop-number.rebuilt.items ++ c.in_ok-begin_one.field-0 ∷ [] = c.in_ok-push.ensures.items in
     let here : set.contains c.args.self.now.down c.loop-number.number ≡ true → c.in_ok-begin_one.field-0 ≡ record (checkpoint c.args.self.now c.loop-number.number) { table = [] } =
     λ down. c.in_ok-begin_one.ensures (ap (λ x. set.contains c.args.self.now.down x) member ∙ down) ∙ ap (λ p. record (checkpoint c.args.self.now p) { table = [] }) member in
-    record {
-      size = ap length pushed ∙ length-append c.loop-number.rebuilt.items (c.in_ok-begin_one.field-0 ∷ []) ∙ ap (λ k. k + 1) c.loop-number.invariant.size;
-      begun = λ p below down. ap (λ (ms : List MemberRecord). slice_index_or ms p blank) pushed ∙ begun-at c.args.self.now.down (λ p. record (checkpoint c.args.self.now p) { table = [] }) c.loop-number.rebuilt.items c.loop-number.number c.in_ok-begin_one.field-0 c.loop-number.invariant.size c.loop-number.invariant.begun here p below down;
-    }
+    let more = made-more blank (λ (p : ℕ) (x : MemberRecord). set.contains c.args.self.now.down p ≡ true → x ≡ record (checkpoint c.args.self.now p) { table = [] }) c.loop-number.number c.loop-number.rebuilt.items c.in_ok-begin_one.field-0 (record { size = c.loop-number.invariant.size; each = c.loop-number.invariant.begun }) here in
+    rw c.in_ok-push.ensures.items (record { size = more.size; begun = more.each })
 
 pub returns : goal.returns
 returns g c =

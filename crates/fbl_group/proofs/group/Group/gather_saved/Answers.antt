@@ -27,6 +27,5 @@ loop-number-preserved g c =
 
 pub returns : goal.returns
 returns g c =
-    let all : c.members-number-end.result ≡ c.args.self.now.config.members = c.members-number-end.ensures.value ∙ ap (λ (r : GroupRecord). r.config.members) c.self.view_is in
-    let same : c.loop-number.number ≡ c.args.self.now.config.members = omega (arith, all, c.loop-number-test.false, c.loop-number.auto.number-end) in
+    let same : c.loop-number.number ≡ c.args.self.now.config.members = omega (arith, c.members-number-end.ensures.value, ap (λ (r : GroupRecord). r.config.members) c.self.view_is, c.loop-number-test.false, c.loop-number.auto.number-end) in
     c.loop-number.invariant ∙ ap (λ k. gathered_all c.args.gathered.now (saved_tables c.args.self.now.down c.args.self.now.checkpoints k)) same

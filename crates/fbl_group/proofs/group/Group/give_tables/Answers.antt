@@ -32,4 +32,4 @@ pub returns : goal.returns
 returns g c =
     let sound = subst (IsSound g.B.Behaviour.next) c.self.view_is c.self.invariant in
     let all : c.members-number-end.result ≡ c.args.self.now.config.members = c.members-number-end.ensures.value ∙ ap (λ (r : GroupRecord). r.config.members) c.self.view_is in
-    tables-given g.B.Behaviour.next c.args.self.now sound c.args.rebuilt.now.items c.loop-number.rebuilt.items c.requires.replayed c.loop-number.invariant.size (λ p below down. c.loop-number.invariant.given p (omega (arith, below, all, c.loop-number-test.false)) down)
+    tables-given g.B.Behaviour.next c.args.self.now sound c.args.rebuilt.now.items c.loop-number.rebuilt.items c.requires.replayed c.loop-number.invariant.turned.size (λ p below down. c.loop-number.invariant.turned.done p (omega (arith, below, all, c.loop-number-test.false)) down)

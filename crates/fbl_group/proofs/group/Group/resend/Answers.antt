@@ -15,17 +15,13 @@ loop-number-preserved g c =
     rw c.in_ok-push.ensures.items (made-row (λ q row. (length row ≡ c.args.self.now.config.members) × ((p : ℕ) → p < c.args.self.now.config.members → slice_index_or row p [] ≡ sent_again c.args.self.now.config.f c.args.self.now.down (working c.args.self.now c.args.rebuilt.now) q p)) c.loop-number.number c.loop-number.again.items c.in_ok-resend_from.field-0 c.loop-number.invariant
     (c.in_ok-resend_from.ensures.size, λ p below. c.in_ok-resend_from.ensures.each p below ∙ ap (λ k. sent_again c.args.self.now.config.f c.args.self.now.down (working c.args.self.now c.args.rebuilt.now) k p) member))
 
-pub returns-clause-shape : goal.returns-clause-shape
-returns-clause-shape g c =
-    let all : c.members-number-end.result ≡ c.args.self.now.config.members = c.members-number-end.ensures.value ∙ ap (λ (r : GroupRecord). r.config.members) c.self.view_is in
-    let same : c.loop-number.number ≡ c.args.self.now.config.members = omega (arith, all, c.loop-number-test.false, c.loop-number.auto.number-end) in
+pub returns : goal.returns
+returns g c =
+    let same : c.loop-number.number ≡ c.args.self.now.config.members = omega (arith, c.members-number-end.ensures.value, ap (λ (r : GroupRecord). r.config.members) c.self.view_is, c.loop-number-test.false, c.loop-number.auto.number-end) in
     record {
-      senders = c.loop-number.invariant.size ∙ same;
-      receivers = λ q below. (c.loop-number.invariant.each q (omega (arith, same, below))).0;
+      shape = record {
+        senders = c.loop-number.invariant.size ∙ same;
+        receivers = λ q below. (c.loop-number.invariant.each q (omega (arith, same, below))).0;
+      };
+      each = λ q p below_q below_p. (c.loop-number.invariant.each q (omega (arith, same, below_q))).1 p below_p;
     }
-
-pub returns-clause-each : goal.returns-clause-each
-returns-clause-each g c q p below_q below_p =
-    let all : c.members-number-end.result ≡ c.args.self.now.config.members = c.members-number-end.ensures.value ∙ ap (λ (r : GroupRecord). r.config.members) c.self.view_is in
-    let same : c.loop-number.number ≡ c.args.self.now.config.members = omega (arith, all, c.loop-number-test.false, c.loop-number.auto.number-end) in
-    (c.loop-number.invariant.each q (omega (arith, same, below_q))).1 p below_p

@@ -17,14 +17,7 @@ loop-number-preserved g c =
     rw c.in_ok-push.ensures.items (made-channel (λ p m. m ≡ sent_again c.args.self.now.config.f c.args.self.now.down (working c.args.self.now c.args.rebuilt.now) c.args.from p) c.loop-number.number c.loop-number.outgoing.items c.in_ok-resend_on.field-0 c.loop-number.invariant
     (c.in_ok-resend_on.ensures ∙ ap (λ k. sent_again c.args.self.now.config.f c.args.self.now.down (working c.args.self.now c.args.rebuilt.now) c.args.from k) member))
 
-pub returns-clause-size : goal.returns-clause-size
-returns-clause-size g c =
-    let all : c.members-number-end.result ≡ c.args.self.now.config.members = c.members-number-end.ensures.value ∙ ap (λ (r : GroupRecord). r.config.members) c.self.view_is in
-    let same : c.loop-number.number ≡ c.args.self.now.config.members = omega (arith, all, c.loop-number-test.false, c.loop-number.auto.number-end) in
-    c.loop-number.invariant.size ∙ same
-
-pub returns-clause-each : goal.returns-clause-each
-returns-clause-each g c p below =
-    let all : c.members-number-end.result ≡ c.args.self.now.config.members = c.members-number-end.ensures.value ∙ ap (λ (r : GroupRecord). r.config.members) c.self.view_is in
-    let same : c.loop-number.number ≡ c.args.self.now.config.members = omega (arith, all, c.loop-number-test.false, c.loop-number.auto.number-end) in
-    c.loop-number.invariant.each p (omega (arith, same, below))
+pub returns : goal.returns
+returns g c =
+    let same : c.loop-number.number ≡ c.args.self.now.config.members = omega (arith, c.members-number-end.ensures.value, ap (λ (r : GroupRecord). r.config.members) c.self.view_is, c.loop-number-test.false, c.loop-number.auto.number-end) in
+    record { size = c.loop-number.invariant.size ∙ same; each = λ p below. c.loop-number.invariant.each p (omega (arith, same, below)) }

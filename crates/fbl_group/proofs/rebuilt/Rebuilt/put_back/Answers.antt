@@ -12,8 +12,8 @@ loop-number-preserved g c =
     let same : set.contains c.args.self.down c.unwrap.result ≡ set.contains c.args.self.down c.loop-number.number = ap (λ x. set.contains c.args.self.down x) member in
     elim c.if-has.branch [
       | then-has w ↦
-          rw (w.members-is, w.records-is) (put-down c.args.self.down c.args.self.records.items c.args.members.now.items c.loop-number.number c.from-place.result c.from-place.result c.loop-number.members.items c.loop-number.records.items w.swap.new.x w.swap.new.y
-          c.loop-number.invariant c.from-place.ensures c.from-place.ensures (omega (arith, c.loop-number-test.true, c.requires.members, c.args.members.now.ok.0)) (omega (arith, c.loop-number-test.true, c.requires.records, c.args.self.records.ok.0))
+          rw (w.members-is, w.records-is) (put-down c.args.self.down c.args.self.records.items c.args.members.now.items c.loop-number.number c.from-place.result c.loop-number.members.items c.loop-number.records.items w.swap.new.x w.swap.new.y
+          c.loop-number.invariant c.from-place.ensures (omega (arith, c.loop-number-test.true, c.requires.members, c.args.members.now.ok.0)) (omega (arith, c.loop-number-test.true, c.requires.records, c.args.self.records.ok.0))
           (sym same ∙ sym c.has.ensures ∙ w.if-has.true)
           (subst (λ (m : MemberRecord). m ≡ get_or c.loop-number.records.items c.from-place.result m) (sym w.swap.ensures.x_after) w.index_mut-then-has.ensures.value))
       | else-has w ↦
