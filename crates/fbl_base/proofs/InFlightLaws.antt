@@ -34,7 +34,7 @@ is_taken q p s (Receipt p' r' q' s') h = same (q' == q) (p' == p) refl refl h wh
   same true false ea eb h' = cc
   same false b ea eb h' = cc
 
-is_sent : (q p s : ℕ) (e : Mark) → sent_on q p e ≡ Some s → e ≡ Send q s p
+pub is_sent : (q p s : ℕ) (e : Mark) → sent_on q p e ≡ Some s → e ≡ Send q s p
 is_sent q p s (Send q' s' p') h = same (q' == q) (p' == p) refl refl h where
   same : (a b : Bool) → (q' == q) ≡ a → (p' == p) ≡ b → cond (a && b) (Some s') None ≡ Some s → Send q' s' p' ≡ Send q s p
   same true true ea eb h' =
@@ -68,7 +68,7 @@ sent-rises n t obeys q p x y apart =
     omega (arith, number_y.3, below)
 
 -- a test that each element passes keeps the list
-filter_all : {X : Type 0} (p : X → Bool) (xs : List X) → ((i : ℕ) (x : X) → slice_get xs i ≡ Some x → p x ≡ true) → filter p xs ≡ xs
+pub filter_all : {X : Type 0} (p : X → Bool) (xs : List X) → ((i : ℕ) (x : X) → slice_get xs i ≡ Some x → p x ≡ true) → filter p xs ≡ xs
 filter_all p [] all = refl
 filter_all p (x ∷ xs) all = (let h : p x ≡ true = all 0 x refl in rw h (ap (λ ys. x ∷ ys) (filter_all p xs (λ i y at. all (suc i) y at))))
 

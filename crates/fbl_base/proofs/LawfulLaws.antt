@@ -19,7 +19,8 @@ use Rattle.fbl_base.proofs.Gets.{At-front}
 use Rattle.fbl_base.proofs.RulesLaws.{WellFormed-push, in_flight-sent, eqb-self}
 use Rattle.fbl_base.proofs.FoldLaws.{responses-push}
 
-note_of-front : (t s : List Event) (from ssn : ℕ) (note : Note) → note_of t from ssn ≡ Some note → note_of (t ++ s) from ssn ≡ Some note
+-- a note that was sent stays so
+pub note_of-front : (t s : List Event) (from ssn : ℕ) (note : Note) → note_of t from ssn ≡ Some note → note_of (t ++ s) from ssn ≡ Some note
 note_of-front [] s from ssn note h = cc
 note_of-front (Send q k to x ∷ t) s from ssn note h = at (q == from && k == ssn) h (note_of-front t s from ssn note) where
   at : (b : Bool) → cond b (Some x) (note_of t from ssn) ≡ Some note → (note_of t from ssn ≡ Some note → note_of (t ++ s) from ssn ≡ Some note) → cond b (Some x) (note_of (t ++ s) from ssn) ≡ Some note
@@ -64,7 +65,7 @@ actions-front t s (Receipt to rsn from ssn ∷ u) m noted =
     let e : note_of (t ++ s) from ssn ≡ note_of t from ssn = note_of-front t s from ssn n.0 n.1 ∙ sym n.1 in
     rw e (ap (λ xs. cons_option (action_of t m (Receipt to rsn from ssn)) xs) (actions-front t s u m (λ i. noted (suc i))))
 
-sent-note : (t : List Event) (i q k to : ℕ) (x : Note) → slice_get t i ≡ Some (Send q k to x) → (note : Note) × (note_of t q k ≡ Some note)
+pub sent-note : (t : List Event) (i q k to : ℕ) (x : Note) → slice_get t i ≡ Some (Send q k to x) → (note : Note) × (note_of t q k ≡ Some note)
 sent-note [] i q k to x h = cc
 sent-note (Send q' k' to' x' ∷ t) zero q k to x h =
     let e1 : q' ≡ q = cc in
@@ -107,7 +108,7 @@ added T p rsn q s before note sends m noted = at (p == m) refl where
       inl (same, (rw (is, noted) (ap (λ xs. took note ∷ xs) (subst (λ (x : ℕ). filter_map (action_of T x) (step_events p before sends) ≡ map sent sends) same (own_sends T p before sends)))))
   at false is = inr (rw is (other_sends T p m before sends is))
 
-actions-append : (t new : List Event) (m : ℕ) → ((i to rsn from ssn : ℕ) → slice_get t i ≡ Some (Receipt to rsn from ssn) → (note : Note) × (note_of t from ssn ≡ Some note)) → actions_of (t ++ new) m ≡ actions_of t m ++ filter_map (action_of (t ++ new) m) new
+pub actions-append : (t new : List Event) (m : ℕ) → ((i to rsn from ssn : ℕ) → slice_get t i ≡ Some (Receipt to rsn from ssn) → (note : Note) × (note_of t from ssn ≡ Some note)) → actions_of (t ++ new) m ≡ actions_of t m ++ filter_map (action_of (t ++ new) m) new
 actions-append t new m noted = filter_map-append (action_of (t ++ new) m) t new ∙ ap (λ xs. xs ++ filter_map (action_of (t ++ new) m) new) (actions-front t new t m noted)
 
 responds_more : (next : Next) (n : ℕ) (starts : List Start) (t new : List Event) (p : ℕ) (note : Note) (sends : List (ℕ × Note)) → sends ≡ (next p n (fold (λ state x. (next p n state x).state) 0 (notes_of (actions_of t p))) note).sends.items → (m : ℕ) (more : List Action) → actions_of t m ≡ map sent (starts_of m starts) ++ responses next m n 0 (notes_of (actions_of t m)) → actions_of (t ++ new) m ≡ actions_of t m ++ more → (((p ≡ m) × (more ≡ took note ∷ map sent sends)) ⊎ (more ≡ [])) → actions_of (t ++ new) m ≡ map sent (starts_of m starts) ++ responses next m n 0 (notes_of (actions_of (t ++ new) m))
@@ -136,7 +137,7 @@ Lawful-deliver next n starts t p rsn q s note sends lawful may noted answer allo
       responds = λ m. responds_more next n starts t new p note sends answer m (filter_map (action_of (t ++ new) m) new) (lawful.responds m) (actions-append t new m (receipts-noted n t lawful.well_formed)) (added (t ++ new) p rsn q s before note sends m (note_of-front t new q s note noted));
     }
 
-filter_map-shorter : {X Y : Type 0} (f : X → Option Y) (xs : List X) → length (filter_map f xs) ≤ length xs
+pub filter_map-shorter : {X Y : Type 0} (f : X → Option Y) (xs : List X) → length (filter_map f xs) ≤ length xs
 filter_map-shorter f [] = omega arith
 filter_map-shorter f (x ∷ xs) = at (f x) (filter_map-shorter f xs) where
   at : (o : Option _) → length (filter_map f xs) ≤ length xs → length (cons_option o (filter_map f xs)) ≤ length (x ∷ xs)

@@ -10,13 +10,12 @@ use Rattle.fbl_base.specs.Precedence.{Has}
 use Rattle.fbl_base.specs.Rules.{sent_on, taken_on, in_flight, WellFormed}
 use Rattle.fbl_base.proofs.Gets.{At-filter, At-filter_map}
 use Rattle.fbl_base.proofs.RulesLaws.{WellFormed-front, MayFollow-last}
-use Rattle.fbl_base.proofs.InFlightLaws.{in_flight-send, in_flight-receipt}
+use Rattle.fbl_base.proofs.InFlightLaws.{is_sent, in_flight-send, in_flight-receipt}
 use Rattle.fbl_member.specs.Members.{Message}
 use Rattle.fbl_law.specs.Knowledge.{Knowledge, send_mark, IsInFlight, IsUp, MatchesTrace, IsDownEmpty}
 use Rattle.fbl_law.specs.Steps.{between, taken_off}
 use Rattle.fbl_law.proofs.Lists.{Contains-here, Contains-there, Contains-cons_cases, Contains-none}
 use Rattle.fbl_law.proofs.Safe.{down_or_up}
-use Rattle.fbl_law.proofs.Cut.{is_sent}
 
 -- each message in flight was sent
 abbrev pub AreSent : Knowledge → Type 0

@@ -3,9 +3,10 @@ use Rattle.std.proofs.Common.{◌≡◌, ◌≢◌, ℕ, zero, suc, ◌+◌, ◌
 use Rattle.std.specs.List.{Contains}
 use Rattle.std.specs.FinSet as sets
 use Rattle.std.specs.Ordering.{nat_cmp}
+use Rattle.std.proofs.lemmas.Bool.{false_from_ne_true}
 use Rattle.std.proofs.lemmas.List.{length-map}
+use Rattle.std.proofs.lemmas.List.Folds.{Any-from_list_any, list_any-from_Any}
 use Rattle.std.proofs.lemmas.List.Sums.{count_by-le-length}
-use Rattle.std.proofs.lemmas.Option.{get_or_from_slice_get}
 use Rattle.fbl_base.specs.declared.trace.Determinant.{Determinant}
 use Rattle.fbl_base.specs.declared.trace.Mark.{Mark}
 use Rattle.fbl_base.specs.declared.trace.Mark.TheVariants.{Send, Receipt}
@@ -13,7 +14,6 @@ use Rattle.fbl_base.specs.Events.{mark_of, receipt_of, same_determinant}
 use Rattle.fbl_base.specs.Precedence.{Has}
 use Rattle.fbl_base.specs.Rules.{is_send_of, is_receipt_of, sends_of, receipts_of, in_flight, MayFollow, WellFormed}
 use Rattle.fbl_base.specs.Fold.{Next, Progress, note_of}
-use Rattle.fbl_base.proofs.Gets.{At-below}
 use Rattle.fbl_base.proofs.RulesLaws.{count_at, eqb-self}
 use Rattle.fbl_base.proofs.Recorded.{Decides-same_determinant}
 use Rattle.fbl_table.specs.declared.entry.Entry.{Entry}
@@ -22,7 +22,7 @@ use Rattle.fbl_member.specs.Members.{Message, MemberRecord, blank, next_determin
 use Rattle.fbl_law.specs.Knowledge.{table, send_mark, IsInFlight, IsUp, Names, MatchesTrace}
 use Rattle.fbl_law.specs.Groups.{GroupRecord, member, channel, marks, knowledge}
 use Rattle.fbl_law.specs.Sound.{IsSound}
-use Rattle.fbl_law.proofs.Lists.{Contains-here, Contains-there, Contains-cons_cases, Contains-none}
+use Rattle.fbl_law.proofs.Lists.{Contains-at, Contains-cons_cases, Contains-none}
 use Rattle.fbl_law.proofs.Safe.{down_or_up}
 use Rattle.fbl_law.proofs.Tables.{Names-from_learned}
 use Rattle.fbl_law.proofs.Channels.{matched-Has}
@@ -37,10 +37,6 @@ table_of (x ∷ members) (suc m) = table_of members m
 
 pub table_member : (r : GroupRecord) (m : ℕ) → table (knowledge r) m ≡ (member r m).table
 table_member r m = table_of r.members m
-
--- a list with an element at a place contains it
-pub Contains-at : {X : Type 0} (xs : List X) (i : ℕ) (x : X) → slice_get xs i ≡ Some x → Contains xs x
-Contains-at xs i x at = (i, At-below xs i x at, get_or_from_slice_get xs i x x at)
 
 -- what matches the numbers of sends from q to p goes from q to p
 matched_ends : (numbers : List ℕ) (q p : ℕ) (xs : List Message) (v : Message) → map send_mark xs ≡ map (λ ssn. Send q ssn p) numbers → Contains xs v → (v.from ≡ q) × (v.to ≡ p)
@@ -60,28 +56,17 @@ same_channel r v a b q p from to among = rw (from, to) among
 
 -- a table that has a determinant names it
 pub Names-held : (entries : List Entry) (d : Determinant) → is_held entries d ≡ true → Names entries d
-Names-held [] d h = cc
-Names-held (e ∷ entries) d h = at (same_determinant d e.det) refl h (Names-held entries d) where
-  at : (b : Bool) → same_determinant d e.det ≡ b → (b || is_held entries d) ≡ true → (is_held entries d ≡ true → Names entries d) → Names (e ∷ entries) d
-  at true is g ih = (e, Contains-here e entries, sym ((Decides-same_determinant d e.det).0 is))
-  at false is g ih = let r = ih g in (r.0, Contains-there e entries r.0 r.1, r.2)
+Names-held entries d h =
+    let some = Any-from_list_any (λ (e : Entry). same_determinant d e.det) entries h in
+    (some.1, (some.0, some.2, some.3), sym ((Decides-same_determinant d some.1.det).0 some.4))
 
 pub held-Names : (entries : List Entry) (d : Determinant) → Names entries d → is_held entries d ≡ true
-held-Names [] d named = absurd (Contains-none named.0 named.1)
-held-Names (e ∷ entries) d named = elim (Contains-cons_cases e entries named.0 named.1) [
-  | inl first ↦ (let same : same_determinant d e.det ≡ true = (Decides-same_determinant d e.det).1 (sym (ap (λ (x : Entry). x.det) first ∙ named.2)) in rw same)
-  | inr later ↦ (let rest : is_held entries d ≡ true = held-Names entries d (named.0, later, named.2) in rw rest (or_true (same_determinant d e.det)))
-]
-  where
-    or_true : (b : Bool) → (b || true) ≡ true
-    or_true true = refl
-    or_true false = refl
+held-Names entries d named =
+    list_any-from_Any (λ (e : Entry). same_determinant d e.det) entries
+    (named.1.0, named.0, named.1.1, named.1.2, (Decides-same_determinant d named.0.det).1 (sym named.2))
 
 pub not-held : (entries : List Entry) (d : Determinant) → ¬ (Names entries d) → is_held entries d ≡ false
-not-held entries d none = at (is_held entries d) refl where
-  at : (b : Bool) → is_held entries d ≡ b → b ≡ false
-  at true is = absurd (none (Names-held entries d is))
-  at false is = refl
+not-held entries d none = false_from_ne_true (is_held entries d) (λ is. none (Names-held entries d is))
 
 -- the numbers that the trace has in flight, where the channel matches it
 pub front_number : (numbers : List ℕ) (q p : ℕ) (xs : List Message) (v : Message) → map send_mark xs ≡ map (λ ssn. Send q ssn p) numbers → slice_get xs 0 ≡ Some v → slice_get numbers 0 ≡ Some v.ssn

@@ -18,6 +18,7 @@ use Rattle.fbl_law.specs.Sound.{IsFold, IsReplayed, IsSound}
 use Rattle.fbl_law.specs.GroupSteps.{IsRecovery}
 use Rattle.fbl_law.specs.GroupLaws.{GroupRecoveryKeeps}
 use Rattle.fbl_law.proofs.Safe.{down_or_up, never_both, IsRecorded-reached}
+pub use Rattle.fbl_law.proofs.Lists.{length-left}
 use Rattle.fbl_law.proofs.Cut.{KeepsCauses}
 use Rattle.fbl_law.proofs.CutLaw.{cut_is_lawful, stays_is_recorded}
 use Rattle.fbl_law.proofs.Run.{recovery_keeps, cut_is_recorded}
@@ -27,14 +28,6 @@ use Rattle.fbl_law.proofs.CutFolds.{actions-stay, last_taken-stays, note-stays, 
 -- the tables of a group's record are those of its members
 pub table-member : (r : GroupRecord) (m : ℕ) → table (knowledge r) m ≡ (member r m).table
 table-member r m = get_or-map (λ (x : MemberRecord). x.table) r.members m blank
-
--- what is left is no longer
-pub length-left : {X : Type 0} (p : X → Bool) (xs : List X) → length (filter p xs) ≤ length xs
-length-left p [] = omega arith
-length-left {X} p (x ∷ xs) = at (p x) (length-left p xs) where
-  at : (b : Bool) → length (filter p xs) ≤ length xs → length (cond b (x ∷ filter p xs) (filter p xs)) ≤ length (x ∷ xs)
-  at true h = omega (arith, h)
-  at false h = omega (arith, h)
 
 -- a cut of a sound group's trace keeps what leads to an event that stays, and the events of up members
 module _ (next : Next) (old : GroupRecord) (sound : IsSound next old) (new : List Event) (cut : IsEventCut (Stays (knowledge old)) old.trace new) where

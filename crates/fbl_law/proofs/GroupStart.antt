@@ -5,7 +5,7 @@ use Rattle.std.specs.Ordering.{nat_cmp}
 use Rattle.std.specs.FinSet as sets
 use Rattle.std.proofs.lemmas.Bool.{cases_lt}
 use Rattle.std.proofs.lemmas.Bool.Decides.{nat_tests}
-use Rattle.std.proofs.lemmas.List.{length-map, map-append, take_all}
+use Rattle.std.proofs.lemmas.List.{length-map, map-append, take_all, get_or_past, get_or-replicate}
 use Rattle.std.proofs.lemmas.List.Elements.{filter_map-append}
 use Rattle.fbl_base.specs.declared.trace.Note.{Note}
 use Rattle.fbl_base.specs.declared.trace.Start.{Start}
@@ -32,7 +32,7 @@ use Rattle.fbl_law.specs.GroupLaws.{GroupStartIsSound}
 use Rattle.fbl_law.proofs.Lists.{Contains-cons_cases, Contains-from_filter, Contains-none}
 use Rattle.fbl_law.proofs.Safe.{never_both}
 use Rattle.fbl_law.proofs.Run.{run_is_sound}
-use Rattle.fbl_law.proofs.Grown.{note_of-at}
+use Rattle.fbl_law.proofs.Notes.{sent-noted}
 use Rattle.fbl_law.proofs.GroupFacts.{table_member}
 use Rattle.fbl_law.proofs.Counts.{length-numbered, after_notes-log}
 use Rattle.fbl_law.proofs.Replayed.{replayed-fresh}
@@ -131,16 +131,6 @@ sends_of_one m (s ∷ ss) = at (s.from == m) (sends_of_one m ss) where
   at true ih = ap (λ ys. sent (s.to, s.note) ∷ ys) ih
   at false ih = ih
 
-no_member : (ms : List MemberRecord) (m : ℕ) → length ms ≤ m → get_or ms m blank ≡ blank
-no_member [] m beyond = refl
-no_member (x ∷ ms) zero beyond = absurd (omega arith)
-no_member (x ∷ ms) (suc m) beyond = no_member ms m (omega arith)
-
-zeros : (k q : ℕ) → ◌≡◌ {A = ℕ} (get_or {A = ℕ} (replicate k 0) q 0) 0
-zeros zero q = refl
-zeros (suc k) zero = refl
-zeros (suc k) (suc q) = zeros k q
-
 module _ (next : Next) (config : Settings) (r : GroupRecord) (is : IsConfig config) (s : IsGroupStart config r) where
   abbrev n : ℕ
   n = config.members
@@ -178,7 +168,7 @@ module _ (next : Next) (config : Settings) (r : GroupRecord) (is : IsConfig conf
   no_table : (m : ℕ) → table (knowledge r) m ≡ []
   no_table m = table_member r m ∙ elim (cases_lt m n) [
     | inl below ↦ ap (λ (x : MemberRecord). x.table) (s.members m below)
-    | inr above ↦ ap (λ (x : MemberRecord). x.table) (no_member r.members m (omega (arith, above, s.size)))
+    | inr above ↦ ap (λ (x : MemberRecord). x.table) (get_or_past r.members m blank (omega (arith, above, s.size)))
   ]
 
   -- the starts of a member are its sends in the trace
@@ -194,7 +184,7 @@ module _ (next : Next) (config : Settings) (r : GroupRecord) (is : IsConfig conf
       (let log = ap (λ (x : MemberRecord). length x.log) (s.saved m below) in rw s.trace (omega (arith, log, length-numbered 0 (starts_of m config.starts), starts_sent m))),
     )
     | inr above ↦ (
-        let none = no_member r.checkpoints m (omega (arith, above, s.checkpoints)) in
+        let none = get_or_past r.checkpoints m blank (omega (arith, above, s.checkpoints)) in
         (ap (λ (x : MemberRecord). x.table) none, ap (λ (x : MemberRecord). x.received) none, (let log = ap (λ (x : MemberRecord). length x.log) none in omega (arith, log)))
         )
   ]
@@ -227,7 +217,7 @@ module _ (next : Next) (config : Settings) (r : GroupRecord) (is : IsConfig conf
   fold_now m below = record {
     progress = rw (s.members m below, s.parameters, s.trace, no_notes m) refl;
     places = rw (s.members m below) refl;
-    last = λ q below_q. rw (s.members m below, s.trace, none_taken q m (map mark_of events) unreceived) (zeros 16 q);
+    last = λ q below_q. rw (s.members m below, s.trace, none_taken q m (map mark_of events) unreceived) (get_or-replicate {A = ℕ} 16 q 0 0 below_q);
   }
 
   IsSound-started : IsSound next r
@@ -245,7 +235,7 @@ module _ (next : Next) (config : Settings) (r : GroupRecord) (is : IsConfig conf
     shape = rw s.parameters s.shape;
     notes = λ v flying.
         let sent_at = (message_sent r.trace v (among_starts v flying)).1 in
-        note_of-at n r.trace sent_at.0 v.from v.ssn v.to v.note (rw s.trace obeys) sent_at.1;
+        sent-noted n r.trace (rw s.trace obeys) sent_at.0 v.from v.ssn v.to v.note sent_at.1;
     counted = rw (s.undone_ever, s.receipts_ever, s.trace, unreceived) refl;
   }
 

@@ -1,9 +1,9 @@
 -- What is left of a lawful trace is lawful.
 use Rattle.std.proofs.Common.{◌≡◌, ℕ, zero, suc, ◌<◌, ◌≤◌, ◌==◌, ◌&&◌, inl, inr, Bool, true, false, cond, List, [], ◌∷◌, ◌++◌, length, take, drop, map, Option, Some, None, option_map, slice_get, refl, sym, ap, ◌∙◌, arith, append_assoc, length-take}
 use Rattle.std.specs.List.{filter, filter_map, cons_option}
-use Rattle.std.proofs.lemmas.Bool.{cases_lt}
+use Rattle.std.proofs.lemmas.Bool.{cases_lt, false_from_ne_true}
 use Rattle.std.proofs.lemmas.Bool.Decides.{nat_tests}
-use Rattle.std.proofs.lemmas.List.{take-append-le, take-append-drop, map-append}
+use Rattle.std.proofs.lemmas.List.{take-append-le, take-append-drop, take-take, map-append}
 use Rattle.std.proofs.lemmas.List.Elements.{filter-append}
 use Rattle.std.proofs.lemmas.Option.{slice_get-map}
 use Rattle.fbl_base.specs.declared.trace.Note.{Note}
@@ -15,15 +15,17 @@ use Rattle.fbl_base.specs.declared.trace.Mark.{Mark}
 use Rattle.fbl_base.specs.declared.trace.Mark.TheVariants as mark
 use Rattle.fbl_base.specs.Events.{At, mark_of, member_of}
 use Rattle.fbl_base.specs.Precedence.{Has, Earlier}
-use Rattle.fbl_base.specs.Rules.{is_send_of, sends_of, WellFormed}
+use Rattle.fbl_base.specs.Rules.{WellFormed}
 use Rattle.fbl_base.specs.Events.{receipt_of}
 use Rattle.fbl_base.specs.Fold.{Next, Action, took, sent, action_of, actions_of, notes_of, note_of, responses, start_of, starts_of, Lawful}
 use Rattle.fbl_base.proofs.Gets.{At-front, At-below, slice_get-take}
-use Rattle.fbl_base.proofs.RulesLaws.{count_at, eqb-self, in_flight-sent}
-use Rattle.fbl_base.proofs.LawfulLaws.{receipts-noted, notes_of-sent, notes_of-append, Lawful-begun}
-use Rattle.fbl_law.proofs.Lists.{At-append}
+use Rattle.fbl_base.proofs.RulesLaws.{in_flight-sent}
+use Rattle.fbl_base.proofs.InFlightLaws.{filter_all}
+use Rattle.fbl_base.proofs.LawfulLaws.{filter_map-shorter, receipts-noted, notes_of-sent, notes_of-append, Lawful-begun}
+use Rattle.fbl_law.proofs.Lists.{At-append, At-seam}
 use Rattle.fbl_law.proofs.Appended.{once, Has-append}
-use Rattle.fbl_law.proofs.Cut.{KeepsCauses, WellFormed-kept, At-seam}
+use Rattle.fbl_law.proofs.Cut.{KeepsCauses, WellFormed-kept}
+use Rattle.fbl_law.proofs.Notes.{one-send}
 
 -- an action, and whether it is kept
 abbrev Flagged : Type 0
@@ -119,35 +121,6 @@ note_of-kept keep (Send q k to x ∷ t) from ssn sends = at (keep (mark.Send q k
   at false true false eb ec ed ih = ih
   at false false d eb ec ed ih = ih
 
-take_shorter : {X : Type 0} (xs : List X) (i j : ℕ) → i ≤ j → take i (take j xs) ≡ take i xs
-take_shorter xs zero j below = refl
-take_shorter xs (suc i) zero below = absurd (omega arith)
-take_shorter [] (suc i) (suc j) below = refl
-take_shorter (x ∷ xs) (suc i) (suc j) below = ap (λ ys. x ∷ ys) (take_shorter xs i j (omega arith))
-
--- a sender's number names one message
-send_once : (n : ℕ) (t : List Mark) (q s p p' : ℕ) → WellFormed n t → Has t (mark.Send q s p) → Has t (mark.Send q s p') → p ≡ p'
-send_once n t q s p p' obeys a b =
-    elim (cases_lt a.0 b.0) [
-      | inl below ↦ absurd (apart a.0 b.0 p p' a.1 b.1 below)
-      | inr above ↦ elim (cases_lt b.0 a.0) [
-        | inl below ↦ absurd (apart b.0 a.0 p' p b.1 a.1 below)
-        | inr same ↦ (let e : a.0 ≡ b.0 = omega (arith, above, same) in let h : At t b.0 (mark.Send q s p) = (rw e at a.1) in let g = b.1 in cc)
-      ]
-    ]
-  where
-    apart : (i j x y : ℕ) → At t i (mark.Send q s x) → At t j (mark.Send q s y) → i < j → ⊥
-    apart i j x y here there below =
-        let first = obeys i (mark.Send q s x) here in
-        let second = obeys j (mark.Send q s y) there in
-        let more = count_at (is_send_of q) (take j t) i (mark.Send q s x) (slice_get-take t j i (mark.Send q s x) below here) (eqb-self q) in
-        let fewer : take i (take j t) ≡ take i t = take_shorter t i j (omega arith) in
-        omega (arith, first.3, second.3, more, ap (λ (u : List Mark). sends_of u q) fewer)
-
-seam : {X : Type 0} (xs : List X) (y : X) (ys : List X) → slice_get (xs ++ y ∷ ys) (length xs) ≡ Some y
-seam [] y ys = refl
-seam (x ∷ xs) y ys = seam xs y ys
-
 only : (x y : Mark) → Has (x ∷ []) y → x ≡ y
 only x y h = at h.0 h.1 where
   at : (i : ℕ) → At (x ∷ []) i y → x ≡ y
@@ -222,11 +195,7 @@ module _ (n : ℕ) (keep : Mark → Bool) (t : List Event) (obeys : WellFormed n
   dead : (u : List Event) (e : Event) (rest : List Event) → t ≡ u ++ e ∷ rest → member_of (mark_of e) ≡ p → Alive false u → keeps e ≡ false
   dead u e rest is at_p state =
       let gone = state.1 refl in
-      tells (keeps e) refl (λ yes'. let before = causes gone.0 (mark_of e) yes' (earlier_of u e rest is gone.0 gone.1, inl (gone.2 ∙ sym at_p)) in let not_kept = gone.3 in cc)
-    where
-      tells : (b : Bool) → keeps e ≡ b → (keeps e ≡ true → ⊥) → keeps e ≡ false
-      tells true is never = absurd (never is)
-      tells false is never = is
+      false_from_ne_true (keeps e) (λ yes'. let before = causes gone.0 (mark_of e) yes' (earlier_of u e rest is gone.0 gone.1, inl (gone.2 ∙ sym at_p)) in let not_kept = gone.3 in cc)
 
   -- one more event that isn't a receipt of the member
   same_state : (b : Bool) (u : List Event) (e : Event) → ((d : Determinant) → d.to ≡ p → ¬ (mark_of e ≡ receipt_of d)) → Alive b u → Alive b (u ++ e ∷ [])
@@ -271,7 +240,7 @@ module _ (n : ℕ) (keep : Mark → Bool) (t : List Event) (obeys : WellFormed n
       at : (c : Bool) → (to == p) ≡ c → ((v : Bool) → Alive v (u ++ Receipt to r q k ∷ []) → Orderly v (flagged rest)) → Orderly b (cons_option (option_map (λ (a : Action). (keep (mark.Receipt to r q k), a)) (action_of t p (Receipt to r q k))) (flagged rest))
       at true ec more =
           let at_p : to ≡ p = grind (arith, nat_tests) in
-          let here : slice_get t (length u) ≡ Some (Receipt to r q k) = rw is (seam u (Receipt to r q k) rest) in
+          let here : slice_get t (length u) ≡ Some (Receipt to r q k) = rw is (At-seam u (Receipt to r q k) rest) in
           let noted = receipts-noted n t obeys (length u) to r q k here in
           let alive = receipt_flag b u (Receipt to r q k) rest is at_p state in
           rw (ec, noted.1) (alive, more (keep (mark.Receipt to r q k)) (next_state b u (Receipt to r q k) at_p alive state))
@@ -310,7 +279,7 @@ module _ (n : ℕ) (keep : Mark → Bool) (t : List Event) (obeys : WellFormed n
       let whole : At M sent'.0 (mark.Send from ssn to) = (rw take-append-drop at (At-front (take i M) (drop i M) sent'.0 (mark.Send from ssn to) sent'.1)) in
       let below : sent'.0 < i = (let b = At-below (take i M) sent'.0 (mark.Send from ssn to) sent'.1 in omega (arith, b, length-take i M)) in
       let send_kept : keep (mark.Send from ssn to) ≡ true = causes (mark.Send from ssn to) (mark.Receipt to rsn from ssn) kept' ((sent'.0, i, below, whole, at_mark), inr refl) in
-      note_of-kept keep t from ssn (λ to' has. let same : to ≡ to' = send_once n M from ssn to to' obeys (sent'.0, whole) has in rw (← same) send_kept)
+      note_of-kept keep t from ssn (λ to' has. let same : to ≡ to' = one-send n M obeys from ssn to to' (sent'.0, whole) has in rw (← same) send_kept)
 
   pub responds_left : (next : Next) (starts : List Start) → actions_of t p ≡ map sent (starts_of p starts) ++ responses next p n 0 (notes_of (actions_of t p))
       → actions_of (filter keeps t) p ≡ map sent (starts_of p starts) ++ responses next p n 0 (notes_of (actions_of (filter keeps t) p))
@@ -318,22 +287,12 @@ module _ (n : ℕ) (keep : Mark → Bool) (t : List Event) (obeys : WellFormed n
       let all : actions_of (filter keeps t) p ≡ kept (flagged t) = same_notes t note_stays ∙ sym (kept-flagged t) in
       rw all (responds_kept next p n (starts_of p starts) (notes_of (actions_of t p)) (flagged t) orderly (flags-flagged t ∙ was))
 
--- the events of a list that are all kept
-filter_all : {X : Type 0} (K : X → Bool) (xs : List X) → ((i : ℕ) (x : X) → slice_get xs i ≡ Some x → K x ≡ true) → filter K xs ≡ xs
-filter_all K [] all = refl
-filter_all K (x ∷ xs) all = (let h : K x ≡ true = all 0 x refl in rw h (ap (λ ys. x ∷ ys) (filter_all K xs (λ i y at. all (suc i) y at))))
-
-shorter : (xs : List Event) → length (filter_map start_of xs) ≤ length xs
-shorter [] = omega arith
-shorter (Send q k to x ∷ xs) = omega (arith, shorter xs)
-shorter (Receipt to r q k ∷ xs) = omega (arith, shorter xs)
-
 -- where each event is a start, none is a receipt
 all_sends : (xs : List Event) → length xs ≤ length (filter_map start_of xs) → (i to r q k : ℕ) → ¬ (slice_get xs i ≡ Some (Receipt to r q k))
 all_sends [] whole i to r q k here = cc
 all_sends (Send q' k' to' x ∷ xs) whole zero to r q k here = cc
 all_sends (Send q' k' to' x ∷ xs) whole (suc i) to r q k here = all_sends xs (omega (arith, whole)) i to r q k here
-all_sends (Receipt to' r' q' k' ∷ xs) whole i to r q k here = omega (arith, whole, shorter xs)
+all_sends (Receipt to' r' q' k' ∷ xs) whole i to r q k here = omega (arith, whole, filter_map-shorter start_of xs)
 
 module _ (next : Next) (n : ℕ) (starts : List Start) (keep : Mark → Bool) (t : List Event) (lawful : Lawful next n starts t) (causes : KeepsCauses keep (map mark_of t)) (follow : KeepsResponses keep (map mark_of t)) where
   abbrev first : List Event
@@ -378,7 +337,7 @@ module _ (next : Next) (n : ℕ) (starts : List Start) (keep : Mark → Bool) (t
   same_first : take (length starts) (filter keeps_event t) ≡ first
   same_first =
       let long : length starts ≤ length first = (let begun = Lawful-begun next n starts t lawful in omega (arith, begun, length-take (length starts) t)) in
-      ap (take (length starts)) begins ∙ take-append-le (length starts) first (filter keeps_event (drop (length starts) t)) long ∙ take_shorter t (length starts) (length starts) (omega arith)
+      ap (take (length starts)) begins ∙ take-append-le (length starts) first (filter keeps_event (drop (length starts) t)) long ∙ take-take (length starts) (length starts) t (omega arith)
 
   pub Lawful-kept : Lawful next n starts (filter (λ e. keep (mark_of e)) t)
   Lawful-kept = record {

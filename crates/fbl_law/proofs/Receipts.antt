@@ -19,25 +19,7 @@ use Rattle.fbl_base.proofs.Gets.{At-filter, At-filter_map}
 use Rattle.fbl_base.proofs.RulesLaws.{WellFormed-front, MayFollow-last}
 use Rattle.fbl_base.proofs.LawfulLaws.{receipts-noted}
 use Rattle.fbl_law.specs.Sound.{received_notes, last_taken, receipts_at, last_among}
-use Rattle.fbl_law.proofs.CutFolds.{filter-At}
-
--- what is left passes the test
-pub filter-passes : {X : Type 0} (p : X → Bool) (xs : List X) (i : ℕ) (x : X) → slice_get (filter p xs) i ≡ Some x → p x ≡ true
-filter-passes p [] i x here = absurd cc
-filter-passes {X} p (y ∷ xs) i x here = at (p y) refl i here (filter-passes p xs) where
-  at : (b : Bool) → p y ≡ b → (i : ℕ) → slice_get (cond b (y ∷ filter p xs) (filter p xs)) i ≡ Some x → ((i : ℕ) (x : X) → slice_get (filter p xs) i ≡ Some x → p x ≡ true) → p x ≡ true
-  at true is zero g rest = (let same : y ≡ x = cc in ap p (sym same) ∙ is)
-  at true is (suc i) g rest = rest i x g
-  at false is i g rest = rest i x g
-
--- an element that is mapped to something is in what the map gives
-pub filter_map-At : {X Y : Type 0} (g : X → Option Y) (xs : List X) (i : ℕ) (x : X) (y : Y) → slice_get xs i ≡ Some x → g x ≡ Some y → (j : ℕ) × (slice_get (filter_map g xs) j ≡ Some y)
-filter_map-At g [] i x y here is = absurd cc
-filter_map-At g (z ∷ xs) zero x y here is = (let e : g z ≡ Some y = (let same : z ≡ x = cc in ap g same ∙ is) in (0, rw e refl))
-filter_map-At {X} {Y} g (z ∷ xs) (suc i) x y here is = skip (g z) (filter_map-At g xs i x y here is) where
-  skip : (o : Option Y) → (j : ℕ) × (slice_get (filter_map g xs) j ≡ Some y) → (j : ℕ) × (slice_get (cons_option o (filter_map g xs)) j ≡ Some y)
-  skip None r = r
-  skip (Some w) r = (suc r.0, r.1)
+use Rattle.fbl_law.proofs.Lists.{filter-At, filter-passes, filter_map-At}
 
 pub is-receipt : (e : Mark) (d : Determinant) → determinant_of e ≡ Some d → e ≡ receipt_of d
 is-receipt (Send q s p) d h = absurd cc
