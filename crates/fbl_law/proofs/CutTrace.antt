@@ -17,6 +17,7 @@ use Rattle.fbl_base.specs.Precedence.{Has}
 use Rattle.fbl_base.specs.Rules.{WellFormed}
 use Rattle.fbl_base.specs.Fold.{Next}
 use Rattle.fbl_base.proofs.Gets.{At-front, At-below}
+use Rattle.fbl_base.proofs.Recorded.{or_false}
 use Rattle.fbl_base.proofs.RulesLaws.{eqb-self}
 use Rattle.fbl_table.specs.declared.entry.Entry.{Entry}
 use Rattle.fbl_table.specs.Tables.{is_held}
@@ -151,18 +152,10 @@ module _ (L : Mark → Bool) where
       told = rw whole (loses-there M (map mark_of rest) (mark_of e) new ∙ ap (λ b. b || L (mark_of e)) (sym (state (member_of (mark_of e)))))
 
       more : (m : ℕ) → list_any (of_member m) (map mark_of (u ++ e ∷ [])) ≡ (list_any (of_member m) M || (L (mark_of e) && (member_of (mark_of e) == m)))
-      more m = ap (list_any (of_member m)) (map-append mark_of u (e ∷ [])) ∙ list_any-append (of_member m) M (mark_of e ∷ []) ∙ one (list_any (of_member m) M) (of_member m (mark_of e)) where
-        one : (a b : Bool) → (a || (b || false)) ≡ (a || b)
-        one true b = refl
-        one false true = refl
-        one false false = refl
-
-      or-false : (a : Bool) → a ≡ (a || false)
-      or-false true = refl
-      or-false false = refl
+      more m = ap (list_any (of_member m)) (map-append mark_of u (e ∷ [])) ∙ list_any-append (of_member m) M (mark_of e ∷ []) ∙ ap (λ b. list_any (of_member m) M || b) (sym (or_false (of_member m (mark_of e))))
 
       other-member : (m : ℕ) → (member_of (mark_of e) == m) ≡ false → list_any (of_member m) M ≡ list_any (of_member m) (map mark_of (u ++ e ∷ []))
-      other-member m ne = or-false (list_any (of_member m) M) ∙ sym (more m ∙ ap (λ b. list_any (of_member m) M || (L (mark_of e) && b)) ne ∙ ap (λ b. list_any (of_member m) M || b) (and_right (L (mark_of e)) false refl))
+      other-member m ne = or_false (list_any (of_member m) M) ∙ sym (more m ∙ ap (λ b. list_any (of_member m) M || (L (mark_of e) && b)) ne ∙ ap (λ b. list_any (of_member m) M || b) (and_right (L (mark_of e)) false refl))
 
       still : set.contains stopped (member_of (mark_of e)) ≡ true → (m : ℕ) → set.contains stopped m ≡ list_any (of_member m) (map mark_of (u ++ e ∷ []))
       still stays m = by (member_of (mark_of e) == m) refl where
@@ -185,7 +178,7 @@ module _ (L : Mark → Bool) where
             contains-insert_other stopped (member_of (mark_of e)) m other ∙ state m ∙ other-member m eq
 
       unlost : L (mark_of e) ≡ false → (m : ℕ) → set.contains stopped m ≡ list_any (of_member m) (map mark_of (u ++ e ∷ []))
-      unlost kept m = state m ∙ or-false (list_any (of_member m) M) ∙ sym (more m ∙ (rw kept refl))
+      unlost kept m = state m ∙ or_false (list_any (of_member m) M) ∙ sym (more m ∙ (rw kept refl))
 
       at : (a b : Bool) → set.contains stopped (member_of (mark_of e)) ≡ a → L (mark_of e) ≡ b
           → (((m : ℕ) → set.contains stopped m ≡ list_any (of_member m) (map mark_of (u ++ e ∷ []))) → pass stopped rest ≡ filter (λ x. not (loses (map mark_of t) (mark_of x))) rest)

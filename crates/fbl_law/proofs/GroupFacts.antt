@@ -4,6 +4,7 @@ use Rattle.std.specs.List.{Contains}
 use Rattle.std.specs.FinSet as sets
 use Rattle.std.specs.Ordering.{nat_cmp}
 use Rattle.std.proofs.lemmas.Bool.{false_from_ne_true}
+use Rattle.std.proofs.Math.ListN.{get_or-map}
 use Rattle.std.proofs.lemmas.List.{length-map}
 use Rattle.std.proofs.lemmas.List.Folds.{Any-from_list_any, list_any-from_Any}
 use Rattle.std.proofs.lemmas.List.Sums.{count_by-le-length}
@@ -27,16 +28,13 @@ use Rattle.fbl_law.proofs.Safe.{down_or_up}
 use Rattle.fbl_law.proofs.Tables.{Names-from_learned}
 use Rattle.fbl_law.proofs.Channels.{matched-Has}
 use Rattle.fbl_law.proofs.InOrder.{in_flight-beyond}
-use Rattle.fbl_law.proofs.Counts.{after_notes-received, after_notes-log}
+use Rattle.fbl_law.proofs.Logs.{log-length}
+use Rattle.fbl_law.proofs.Receipts.{length-receipts_at}
+use Rattle.fbl_law.proofs.Replayed.{fold-received}
 
 -- the table of a member is that of its record
-table_of : (members : List MemberRecord) (m : ℕ) → get_or (map (λ (x : MemberRecord). x.table) members) m [] ≡ (get_or members m blank).table
-table_of [] m = refl
-table_of (x ∷ members) zero = refl
-table_of (x ∷ members) (suc m) = table_of members m
-
 pub table_member : (r : GroupRecord) (m : ℕ) → table (knowledge r) m ≡ (member r m).table
-table_member r m = table_of r.members m
+table_member r m = get_or-map (λ (x : MemberRecord). x.table) r.members m blank
 
 -- what matches the numbers of sends from q to p goes from q to p
 matched_ends : (numbers : List ℕ) (q p : ℕ) (xs : List Message) (v : Message) → map send_mark xs ≡ map (λ ssn. Send q ssn p) numbers → Contains xs v → (v.from ≡ q) × (v.to ≡ p)
@@ -88,12 +86,11 @@ next_is_new n t to rsn from ssn obeys beyond has =
 module _ (next : Next) (r : GroupRecord) (sound : IsSound next r) where
   -- an up member has as many receipts and sends as the trace says
   pub received_counted : (m : ℕ) → m < r.config.members → IsUp (knowledge r) m → (member r m).received ≡ receipts_of (marks r) m
-  received_counted m below up =
-      ap (λ (p : Progress). p.received) (sound.folds m below up).progress ∙ after_notes-received next r.config.members r.config.starts r.trace m sound.lawful
+  received_counted m below up = fold-received next r m sound.lawful.well_formed (sound.folds m below up) ∙ length-receipts_at (marks r) m
 
   pub log_counted : (m : ℕ) → m < r.config.members → IsUp (knowledge r) m → length (member r m).log ≡ sends_of (marks r) m
   log_counted m below up =
-      ap (λ (p : Progress). length p.log) (sound.folds m below up).progress ∙ after_notes-log next r.config.members r.config.starts r.trace m sound.lawful
+      ap (λ (p : Progress). length p.log) (sound.folds m below up).progress ∙ log-length next r.config.members r.config.starts r.trace m sound.lawful
 
   pub trace_fits : length (marks r) ≤ 8192
   trace_fits = omega (arith, length-map r.trace mark_of, sound.room, sound.config.limit.1)

@@ -34,7 +34,7 @@ use Rattle.fbl_law.proofs.Safe.{never_both}
 use Rattle.fbl_law.proofs.Run.{run_is_sound}
 use Rattle.fbl_law.proofs.Notes.{sent-noted}
 use Rattle.fbl_law.proofs.GroupFacts.{table_member}
-use Rattle.fbl_law.proofs.Counts.{length-numbered, after_notes-log}
+use Rattle.fbl_law.proofs.Logs.{length-numbered, log-length}
 use Rattle.fbl_law.proofs.Replayed.{replayed-fresh}
 
 -- the send of a start after the events so far
@@ -174,7 +174,7 @@ module _ (next : Next) (config : Settings) (r : GroupRecord) (is : IsConfig conf
   -- the starts of a member are its sends in the trace
   starts_sent : (m : ℕ) → length (starts_of m config.starts) ≡ sends_of (map mark_of events) m
   starts_sent m =
-      sym (length-numbered 0 (starts_of m config.starts)) ∙ ap (λ (notes : List Note). length (after_notes next m n config.starts notes).log) (sym (no_notes m)) ∙ after_notes-log next n config.starts events m is_lawful
+      sym (length-numbered 0 (starts_of m config.starts)) ∙ ap (λ (notes : List Note). length (after_notes next m n config.starts notes).log) (sym (no_notes m)) ∙ log-length next n config.starts events m is_lawful
 
   no_checkpoint : (m : ℕ) → ((checkpoint r m).table ≡ []) × ((checkpoint r m).received ≡ 0) × (length (checkpoint r m).log ≤ sends_of (map mark_of r.trace) m)
   no_checkpoint m = elim (cases_lt m n) [

@@ -19,11 +19,12 @@ use Rattle.fbl_base.specs.Rules.{WellFormed}
 use Rattle.fbl_base.specs.Events.{receipt_of}
 use Rattle.fbl_base.specs.Fold.{Next, Action, took, sent, action_of, actions_of, notes_of, note_of, responses, start_of, starts_of, Lawful}
 use Rattle.fbl_base.proofs.Gets.{At-front, At-below, slice_get-take}
+use Rattle.fbl_base.proofs.PlacesAndEvents.{one_place}
 use Rattle.fbl_base.proofs.RulesLaws.{in_flight-sent}
 use Rattle.fbl_base.proofs.InFlightLaws.{filter_all}
 use Rattle.fbl_base.proofs.LawfulLaws.{filter_map-shorter, receipts-noted, notes_of-sent, notes_of-append, Lawful-begun}
 use Rattle.fbl_law.proofs.Lists.{At-append, At-seam}
-use Rattle.fbl_law.proofs.Appended.{once, Has-append}
+use Rattle.fbl_law.proofs.Appended.{Has-append}
 use Rattle.fbl_law.proofs.Cut.{KeepsCauses, WellFormed-kept}
 use Rattle.fbl_law.proofs.Notes.{one-send}
 
@@ -183,13 +184,8 @@ module _ (n : ℕ) (keep : Mark → Bool) (t : List Event) (obeys : WellFormed n
   earlier_back u e rest is x h =
       let here : At M (length (map mark_of u)) (mark_of e) = rw (split u e rest is) (At-seam (map mark_of u) (mark_of e) (map mark_of rest)) in
       let there : At (map mark_of u ++ mark_of e ∷ map mark_of rest) h.0 x = rw (split u e rest is) at h.3 in
-      elim (cases_lt (length (map mark_of u)) h.1) [
-        | inl late ↦ absurd (once n M (mark_of e) (length (map mark_of u)) h.1 obeys here h.4 late)
-        | inr not_late ↦ elim (At-append (map mark_of u) (mark_of e ∷ map mark_of rest) h.0 x there) [
-          | inl old ↦ (h.0, old)
-          | inr new ↦ absurd (omega (arith, h.2, not_late, new.1))
-        ]
-      ]
+      let same = one_place n M obeys (mark_of e) (length (map mark_of u)) h.1 here h.4 in
+      elim (At-append (map mark_of u) (mark_of e ∷ map mark_of rest) h.0 x there) [ inl old ↦ (h.0, old) | inr new ↦ absurd (omega (arith, h.2, same, new.1)) ]
 
   -- where an earlier event of the member isn't kept, none is
   dead : (u : List Event) (e : Event) (rest : List Event) → t ≡ u ++ e ∷ rest → member_of (mark_of e) ≡ p → Alive false u → keeps e ≡ false
@@ -321,10 +317,8 @@ module _ (next : Next) (n : ℕ) (starts : List Start) (keep : Mark → Bool) (t
 
       before : (d : Determinant) → Earlier (map mark_of t) (receipt_of d) (mark.Send q k to) → ⊥
       before d earlier =
-          elim (cases_lt i earlier.1) [
-            | inl late ↦ once n (map mark_of t) (mark.Send q k to) i earlier.1 lawful.well_formed at_mark earlier.4 late
-            | inr not_late ↦ receipt_at d earlier.0 (slice_get t earlier.0) (omega (arith, earlier.2, not_late, within)) refl (sym (slice_get-map mark_of t earlier.0) ∙ earlier.3)
-          ]
+          let same = one_place n (map mark_of t) lawful.well_formed (mark.Send q k to) i earlier.1 at_mark earlier.4 in
+          receipt_at d earlier.0 (slice_get t earlier.0) (omega (arith, earlier.2, same, within)) refl (sym (slice_get-map mark_of t earlier.0) ∙ earlier.3)
 
   abbrev keeps_event : Event → Bool
   keeps_event e = keep (mark_of e)

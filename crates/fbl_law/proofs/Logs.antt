@@ -17,7 +17,6 @@ use Rattle.fbl_base.specs.Fold.{Next, Logged, Progress, Action, took, sent, numb
 use Rattle.fbl_base.proofs.RulesLaws.{WellFormed-front, MayFollow-last, eqb-self}
 use Rattle.fbl_member.specs.Members.{logged_note}
 use Rattle.fbl_law.specs.Sound.{received_notes}
-use Rattle.fbl_law.proofs.Counts.{length-numbered}
 
 -- the sends among a member's actions
 abbrev pub sends_in : List Action → List (ℕ × Note)
@@ -33,6 +32,10 @@ sends_in-append (sent s ∷ xs) ys = ap (λ (zs : List (ℕ × Note)). s ∷ zs)
 pub sends_in-sent : (sends : List (ℕ × Note)) → sends_in (map sent sends) ≡ sends
 sends_in-sent [] = refl
 sends_in-sent (s ∷ sends) = ap (λ (zs : List (ℕ × Note)). s ∷ zs) (sends_in-sent sends)
+
+pub length-numbered : (before : ℕ) (sends : List (ℕ × Note)) → length (numbered before sends) ≡ length sends
+length-numbered before [] = refl
+length-numbered before (s ∷ sends) = ap suc (length-numbered (before + 1) sends)
 
 pub numbered-append : (before : ℕ) (xs ys : List (ℕ × Note)) → numbered before (xs ++ ys) ≡ numbered before xs ++ numbered (before + length xs) ys
 numbered-append before [] ys = (let e : before + 0 ≡ before = omega arith in rw e refl)
@@ -171,18 +174,20 @@ logged-noted next n starts t p k ssn note lawful named =
     let whole : logged_note (after_notes next p n starts (received_notes t p)).log ssn ≡ Some note = rw front.1 (logged_note-front (after_notes next p n starts (take k (received_notes t p))).log front.0 ssn note named) in
     sym (logged_note-trace t p ssn) ∙ ap (λ (xs : List Logged). logged_note xs ssn) (sym (log-sends next n starts t p lawful)) ∙ whole
 
--- the log's sends, counted
-pub logged-count : (u : List Event) (p : ℕ) → length (filter_map (logged_of p) u) ≡ sends_of (map mark_of u) p
-logged-count [] p = refl
-logged-count (Send q k to x ∷ u) p = rw (sum_by-cons (λ y. cond (is_send_of p y) 1 0) (mark.Send q k to) (map mark_of u)) (at (q == p) (logged-count u p)) where
-  at : (b : Bool) → length (filter_map (logged_of p) u) ≡ sends_of (map mark_of u) p → length (cons_option (cond b (Some (record { ssn = k; to = to; note = x })) None) (filter_map (logged_of p) u)) ≡ cond b 1 0 + sends_of (map mark_of u) p
+-- how many sends a member's actions have
+sends-count : (all u : List Event) (p : ℕ) → length (sends_in (filter_map (action_of all p) u)) ≡ sends_of (map mark_of u) p
+sends-count all [] p = refl
+sends-count all (Send q k to x ∷ u) p = rw (sum_by-cons (λ y. cond (is_send_of p y) 1 0) (mark.Send q k to) (map mark_of u)) (at (q == p) (sends-count all u p)) where
+  at : (b : Bool) → length (sends_in (filter_map (action_of all p) u)) ≡ sends_of (map mark_of u) p → length (sends_in (cons_option (cond b (Some (sent (to, x))) None) (filter_map (action_of all p) u))) ≡ cond b 1 0 + sends_of (map mark_of u) p
   at true ih = omega (arith, ih)
   at false ih = omega (arith, ih)
-logged-count (Receipt to r q k ∷ u) p = rw (sum_by-cons (λ y. cond (is_send_of p y) 1 0) (mark.Receipt to r q k) (map mark_of u)) (omega (arith, logged-count u p))
+sends-count all (Receipt to r q k ∷ u) p =
+    rw (sum_by-cons (λ y. cond (is_send_of p y) 1 0) (mark.Receipt to r q k) (map mark_of u)) (ap length (takes (to == p) (note_of all q k) (filter_map (action_of all p) u)) ∙ sends-count all u p ∙ omega arith)
 
 -- the log after all notes is as long as the member's sends are many
 pub log-length : (next : Next) (n : ℕ) (starts : List Start) (t : List Event) (p : ℕ) → Lawful next n starts t → length (after_notes next p n starts (received_notes t p)).log ≡ sends_of (map mark_of t) p
-log-length next n starts t p lawful = ap length (log-sends next n starts t p lawful) ∙ logged-count t p
+log-length next n starts t p lawful =
+    ap length (log-after next p n starts (received_notes t p)) ∙ length-numbered 0 _ ∙ ap (λ (xs : List Action). length (sends_in xs)) (sym (lawful.responds p)) ∙ sends-count t t p
 
 -- that after the first notes is no longer
 pub log-short : (next : Next) (n : ℕ) (starts : List Start) (t : List Event) (p k : ℕ) → Lawful next n starts t → length (after_notes next p n starts (take k (received_notes t p))).log ≤ sends_of (map mark_of t) p
@@ -202,16 +207,7 @@ sends-by next p n state k (s ∷ sends) notes (took x ∷ xs) ys is few = absurd
 sends-by next p n state k (s ∷ sends) notes (sent s' ∷ xs) ys is few =
     let ih = sends-by next p n state k sends notes xs ys (cc) few in omega (arith, ih)
 
--- how many sends a member's actions have, and at most how many notes
-sends-count : (all u : List Event) (p : ℕ) → length (sends_in (filter_map (action_of all p) u)) ≡ sends_of (map mark_of u) p
-sends-count all [] p = refl
-sends-count all (Send q k to x ∷ u) p = rw (sum_by-cons (λ y. cond (is_send_of p y) 1 0) (mark.Send q k to) (map mark_of u)) (at (q == p) (sends-count all u p)) where
-  at : (b : Bool) → length (sends_in (filter_map (action_of all p) u)) ≡ sends_of (map mark_of u) p → length (sends_in (cons_option (cond b (Some (sent (to, x))) None) (filter_map (action_of all p) u))) ≡ cond b 1 0 + sends_of (map mark_of u) p
-  at true ih = omega (arith, ih)
-  at false ih = omega (arith, ih)
-sends-count all (Receipt to r q k ∷ u) p =
-    rw (sum_by-cons (λ y. cond (is_send_of p y) 1 0) (mark.Receipt to r q k) (map mark_of u)) (ap length (takes (to == p) (note_of all q k) (filter_map (action_of all p) u)) ∙ sends-count all u p ∙ omega arith)
-
+-- at most how many notes a member's actions have
 notes-count : (all u : List Event) (p : ℕ) → length (notes_of (filter_map (action_of all p) u)) ≤ receipts_of (map mark_of u) p
 notes-count all [] p = omega arith
 notes-count all (Send q k to x ∷ u) p = rw (sum_by-cons (λ y. cond (is_receipt_of p y) 1 0) (mark.Send q k to) (map mark_of u)) (at (q == p) (notes-count all u p)) where

@@ -3,7 +3,7 @@ use Rattle.std.proofs.Common.{◌≡◌, ℕ, zero, suc, ◌+◌, ◌==◌, ◌&
 use Rattle.std.specs.List.{filter, filter_map, cons_option, fold}
 use Rattle.std.proofs.lemmas.Bool.Decides.{nat_tests}
 use Rattle.std.proofs.lemmas.List.{length-map}
-use Rattle.std.proofs.lemmas.List.Sums.{sum_by-append, sum_by-cons}
+use Rattle.std.proofs.lemmas.List.Sums.{sum_by_push, sum_by-cons}
 use Rattle.std.proofs.lemmas.Option.{slice_get-map}
 use Rattle.fbl_base.specs.declared.trace.Determinant.{Determinant}
 use Rattle.fbl_base.specs.declared.trace.Note.{Note}
@@ -26,7 +26,7 @@ is-receipt (Send q s p) d h = absurd cc
 is-receipt (Receipt p r q s) d h = (let e : ◌≡◌ {A = Determinant} (record { from = q; ssn = s; to = p; rsn = r }) d = cc in rw (← e) refl)
 
 receipts_more : (t : List Mark) (e : Mark) (p : ℕ) → receipts_of (t ++ e ∷ []) p ≡ receipts_of t p + cond (is_receipt_of p e) 1 0
-receipts_more t e p = sum_by-append (λ y. cond (is_receipt_of p y) 1 0) t (e ∷ []) ∙ omega arith
+receipts_more t e p = sum_by_push (λ y. cond (is_receipt_of p y) 1 0) t e
 
 receipts-from : (n p : ℕ) (u rest : List Mark) → WellFormed n (u ++ rest) → (j : ℕ) (d : Determinant) → slice_get (receipts_at rest p) j ≡ Some d → d.rsn ≡ receipts_of u p + j + 1
 receipts-from n p u [] obeys j d here = absurd cc

@@ -14,7 +14,7 @@ use Rattle.fbl_base.proofs.Gets.{At-front, At-below}
 use Rattle.fbl_base.proofs.RulesLaws.{in_flight-sent}
 use Rattle.fbl_law.specs.Laws.{NeverStuck}
 use Rattle.fbl_law.specs.Replay.{IsSentAgain, IsStuck}
-use Rattle.fbl_law.proofs.Appended.{once}
+use Rattle.fbl_base.proofs.PlacesAndEvents.{one_place}
 
 take_end : (xs : List Mark) (i : ℕ) → slice_get xs i ≡ None → take (suc i) xs ≡ take i xs
 take_end [] zero is = refl
@@ -68,10 +68,8 @@ module _ (n : ℕ) (t : List Mark) (done : ℕ → ℕ) (obeys : WellFormed n t)
           let sent = in_flight-sent (take i t) d.from d.ssn d.to first in
           let whole : At t sent.0 (Send d.from d.ssn d.to) = (rw take-append-drop at (At-front (take i t) (drop i t) sent.0 (Send d.from d.ssn d.to) sent.1)) in
           let below : sent.0 < i = (let b = At-below (take i t) sent.0 (Send d.from d.ssn d.to) sent.1 in omega (arith, b, length-take i t)) in
-          elim (cases_lt sent.0 earlier.1) [
-            | inl late ↦ absurd (once n t (Send d.from d.ssn d.to) sent.0 earlier.1 obeys whole earlier.4 late)
-            | inr not_late ↦ subst (λ (x : ℕ). c.rsn ≤ done x) to (before earlier.0 c (omega (arith, earlier.2, not_late, below)) earlier.3)
-          ]
+          let same = one_place n t obeys (Send d.from d.ssn d.to) sent.0 earlier.1 whole earlier.4 in
+          subst (λ (x : ℕ). c.rsn ≤ done x) to (before earlier.0 c (omega (arith, earlier.2, same, below)) earlier.3)
 
   all_done : (k : ℕ) → DoneBefore k
   all_done zero j c below = absurd (omega arith)

@@ -36,8 +36,7 @@ use Rattle.fbl_law.proofs.LawfulCut.{marks-filter}
 use Rattle.fbl_law.proofs.Gather.{entries_gathered, recorded_gathered}
 use Rattle.fbl_law.proofs.Replay.{never_stuck}
 use Rattle.fbl_law.proofs.GroupRecovery.{cut-lawful}
-use Rattle.fbl_law.proofs.Counts.{length-numbered}
-use Rattle.fbl_law.proofs.Logs.{logged-noted, logged-by, log-short}
+use Rattle.fbl_law.proofs.Logs.{length-numbered, logged-noted, logged-by, log-short}
 use Rattle.fbl_law.proofs.Receipts.{receipts_at-number, receipts_at-Has, Has-receipts_at, length-receipts_at}
 use Rattle.fbl_law.proofs.Replayed.{replayed-step}
 
