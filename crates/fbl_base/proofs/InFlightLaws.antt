@@ -11,7 +11,7 @@ use Rattle.fbl_base.specs.Events.{At}
 use Rattle.fbl_base.specs.Precedence.{Has}
 use Rattle.fbl_base.specs.Rules.{is_send_of, sends_of, sent_on, taken_on, in_flight, MayFollow, WellFormed}
 use Rattle.fbl_base.proofs.Gets.{At-front, At-filter_map, Apart, Apart-filter, Apart-filter_map, slice_get-take}
-use Rattle.fbl_base.proofs.RulesLaws.{in_flight-sent, count_at, eqb-self, WellFormed-take}
+use Rattle.fbl_base.proofs.RulesLaws.{on_channel, is_sent, in_flight-sent, count_at, eqb-self, WellFormed-take}
 
 -- a send's number is at most how many sends there are
 pub sent-number : (n : ℕ) (t : List Mark) → WellFormed n t → (q s p : ℕ) → Has t (Send q s p) → s ≤ sends_of t q
@@ -22,28 +22,9 @@ sent-number n t obeys q s p has =
 Has-take : (i : ℕ) (t : List Mark) (e : Mark) → Has (take i t) e → Has t e
 Has-take i t e has = (has.0, (rw take-append-drop at (At-front (take i t) (drop i t) has.0 e has.1)))
 
--- which event tells of a message
 is_taken : (q p s : ℕ) (e : Mark) → taken_on q p e ≡ Some s → (r : ℕ) × (e ≡ Receipt p r q s)
 is_taken q p s (Send q' s' p') h = cc
-is_taken q p s (Receipt p' r' q' s') h = same (q' == q) (p' == p) refl refl h where
-  same : (a b : Bool) → (q' == q) ≡ a → (p' == p) ≡ b → cond (a && b) (Some s') None ≡ Some s → (r : ℕ) × (Receipt p' r' q' s' ≡ Receipt p r q s)
-  same true true ea eb h' =
-      let e1 : q' ≡ q = grind (arith, nat_tests) in
-      let e2 : p' ≡ p = grind (arith, nat_tests) in
-      (r', cc)
-  same true false ea eb h' = cc
-  same false b ea eb h' = cc
-
-pub is_sent : (q p s : ℕ) (e : Mark) → sent_on q p e ≡ Some s → e ≡ Send q s p
-is_sent q p s (Send q' s' p') h = same (q' == q) (p' == p) refl refl h where
-  same : (a b : Bool) → (q' == q) ≡ a → (p' == p) ≡ b → cond (a && b) (Some s') None ≡ Some s → Send q' s' p' ≡ Send q s p
-  same true true ea eb h' =
-      let e1 : q' ≡ q = grind (arith, nat_tests) in
-      let e2 : p' ≡ p = grind (arith, nat_tests) in
-      cc
-  same true false ea eb h' = cc
-  same false b ea eb h' = cc
-is_sent q p s (Receipt p' r' q' s') h = cc
+is_taken q p s (Receipt p' r' q' s') h = (let on = on_channel q' p' q p s' s h in (r', rw (on.0, on.1, on.2) refl))
 
 -- a message that was taken was sent
 pub taken-sent : (n : ℕ) (t : List Mark) → WellFormed n t → (q p s j : ℕ) → slice_get (filter_map (taken_on q p) t) j ≡ Some s → s ≤ sends_of t q

@@ -9,13 +9,13 @@ use Rattle.fbl_base.specs.Events.{At}
 use Rattle.fbl_base.specs.Precedence.{Has}
 use Rattle.fbl_base.specs.Rules.{sent_on, taken_on, in_flight, WellFormed}
 use Rattle.fbl_base.proofs.Gets.{At-filter, At-filter_map}
-use Rattle.fbl_base.proofs.RulesLaws.{WellFormed-front, MayFollow-last}
-use Rattle.fbl_base.proofs.InFlightLaws.{is_sent, in_flight-send, in_flight-receipt}
+use Rattle.fbl_base.proofs.RulesLaws.{is_sent, WellFormed-front, MayFollow-last}
+use Rattle.fbl_base.proofs.InFlightLaws.{in_flight-send, in_flight-receipt}
 use Rattle.fbl_member.specs.Members.{Message}
 use Rattle.fbl_law.specs.Knowledge.{Knowledge, send_mark, IsInFlight, IsUp, MatchesTrace, IsDownEmpty}
 use Rattle.fbl_law.specs.Steps.{between, taken_off}
-use Rattle.fbl_law.proofs.Lists.{Contains-here, Contains-there, Contains-cons_cases, Contains-none}
-use Rattle.fbl_law.proofs.Safe.{down_or_up}
+use Rattle.fbl_law.proofs.Lists.{map-At, Contains-at, Contains-here, Contains-there, Contains-cons_cases, Contains-none}
+use Rattle.fbl_law.proofs.Safe.{up_at_ends}
 
 -- each message in flight was sent
 abbrev pub AreSent : Knowledge → Type 0
@@ -30,38 +30,23 @@ Has-made (x ∷ made) v among = elim (Contains-cons_cases x made v among) [
 ]
 
 pub made-Has : (made : List Message) (e : Mark) → Has (map send_mark made) e → (v : Message) × Contains made v × (send_mark v ≡ e)
-made-Has made e h = at made h.0 h.1
-  where
-    at : (xs : List Message) (i : ℕ) → At (map send_mark xs) i e → (v : Message) × Contains xs v × (send_mark v ≡ e)
-    at [] i here = absurd cc
-    at (x ∷ xs) zero here = (x, Contains-here x xs, cc)
-    at (x ∷ xs) (suc i) here = let r = at xs i here in (r.0, Contains-there x xs r.0 r.1, r.2)
+made-Has made e h = (let r = map-At send_mark made h.0 e h.1 in (r.0, Contains-at made h.0 r.0 r.1, r.2))
 
 -- what the trace has in flight was sent
 in_flight-Has : (t : List Mark) (q p : ℕ) (e : Mark) → Has (map (λ ssn. Send q ssn p) (in_flight t q p)) e → Has t e
 in_flight-Has t q p e h =
-    let number = at (in_flight t q p) h.0 h.1 in
-    let a = At-filter (λ ssn. not (list_any (λ taken. taken == ssn) (filter_map (taken_on q p) t))) (filter_map (sent_on q p) t) number.0 number.1 number.2 in
-    let b = At-filter_map (sent_on q p) t a.0 number.1 a.1 in
-    (b.0, b.2 ∙ ap Some (is_sent q p number.1 b.1 b.3 ∙ number.3))
-  where
-    at : (xs : List ℕ) (i : ℕ) → At (map (λ ssn. Send q ssn p) xs) i e → (j : ℕ) × (x : ℕ) × (slice_get xs j ≡ Some x) × (Send q x p ≡ e)
-    at [] i here = absurd cc
-    at (x ∷ xs) zero here = (0, x, refl, cc)
-    at (x ∷ xs) (suc i) here = let r = at xs i here in (suc r.0, r.1, r.2, r.3)
+    let number = map-At (λ ssn. Send q ssn p) (in_flight t q p) h.0 e h.1 in
+    let a = At-filter (λ ssn. not (list_any (λ taken. taken == ssn) (filter_map (taken_on q p) t))) (filter_map (sent_on q p) t) h.0 number.0 number.1 in
+    let b = At-filter_map (sent_on q p) t a.0 number.0 a.1 in
+    (b.0, b.2 ∙ ap Some (is_sent q p number.0 b.1 b.3 ∙ number.2))
 
 pub matched-Has : (r : Knowledge) (v : Message) → MatchesTrace r v.from v.to → IsInFlight r v → Has r.trace (send_mark v)
 matched-Has r v matches flies = in_flight-Has r.trace v.from v.to (send_mark v) (rw matches at (Has-made (r.channel v.from v.to) v flies))
 
 pub AreSent-matched : (f : ℕ) (r : Knowledge) → ((q p : ℕ) → IsUp r q → IsUp r p → MatchesTrace r q p) → IsDownEmpty f r → AreSent r
 AreSent-matched f r matches empty v flies =
-    elim (down_or_up r.down v.from) [
-      | inl down ↦ absurd (Contains-none v (rw (empty.channels v.from v.to (inl down)) at flies))
-      | inr up ↦ elim (down_or_up r.down v.to) [
-        | inl down ↦ absurd (Contains-none v (rw (empty.channels v.from v.to (inr down)) at flies))
-        | inr up_to ↦ matched-Has r v (matches v.from v.to up up_to) flies
-      ]
-    ]
+    let ends = up_at_ends r empty.channels v.from v.to v flies in
+    matched-Has r v (matches v.from v.to ends.0 ends.1) flies
 
 -- sends come last in flight
 in_flight-made : (n : ℕ) (u : List Mark) (made : List Message) (q p : ℕ) → WellFormed n (u ++ map send_mark made) → in_flight (u ++ map send_mark made) q p ≡ in_flight u q p ++ filter_map (sent_on q p) (map send_mark made)

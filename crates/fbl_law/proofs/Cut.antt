@@ -12,10 +12,10 @@ use Rattle.fbl_base.specs.declared.trace.Mark.TheVariants.{Send, Receipt}
 use Rattle.fbl_base.specs.Events.{At, member_of, send_of}
 use Rattle.fbl_base.specs.Precedence.{Has, Earlier, Leads, Precedes, itself, step}
 use Rattle.fbl_base.specs.Rules.{is_send_of, is_receipt_of, sends_of, receipts_of, sent_on, taken_on, in_flight, MayFollow, WellFormed}
-use Rattle.fbl_base.proofs.Gets.{At-front, At-below, Apart, Apart-filter, Apart-filter_map, slice_get-take}
-use Rattle.fbl_base.proofs.RulesLaws.{WellFormed-none, WellFormed-push, WellFormed-take, WellFormed-front, MayFollow-last, in_flight-sent, eqb-self}
-use Rattle.fbl_base.proofs.InFlightLaws.{is_sent, sent-number, sent-rises}
-use Rattle.fbl_law.proofs.Lists.{At-seam, length-left, filter-At, filter-passes, filter_map-At, filter_map-kept}
+use Rattle.fbl_base.proofs.Gets.{filter_map-At, At-front, At-below, Apart, Apart-filter, Apart-filter_map, slice_get-take}
+use Rattle.fbl_base.proofs.RulesLaws.{on_channel, is_sent, WellFormed-none, WellFormed-push, WellFormed-take, WellFormed-front, MayFollow-last, in_flight-sent, eqb-self}
+use Rattle.fbl_base.proofs.InFlightLaws.{sent-number, sent-rises}
+use Rattle.fbl_law.proofs.Lists.{At-seam, length-left, filter-At, filter-passes, filter_map-kept}
 
 -- a kept event is in what is left
 pub Has-kept : (keep : Mark → Bool) (t : List Mark) (e : Mark) → Has t e → keep e ≡ true → Has (filter keep t) e
@@ -24,21 +24,6 @@ Has-kept keep t e h yes' = filter-At keep t h.0 e h.1 yes'
 -- and what is left is kept
 pub kept-Has : (keep : Mark → Bool) (t : List Mark) (e : Mark) → Has (filter keep t) e → keep e ≡ true
 kept-Has keep t e h = filter-passes keep t h.0 e h.1
-
--- an event leads to another that is left only as it did
-pub Earlier-kept : (keep : Mark → Bool) (t : List Mark) (a b : Mark) → Earlier t a b → keep a ≡ true → keep b ≡ true → Earlier (filter keep t) a b
-Earlier-kept keep t a b h ka kb = at t h.0 h.1 h.2 h.3 h.4
-  where
-    at : (u : List Mark) (i j : ℕ) → i < j → At u i a → At u j b → Earlier (filter keep u) a b
-    at u i zero below x y = absurd (omega arith)
-    at [] i (suc j) below x y = absurd cc
-    at (z ∷ u) zero (suc j) below x y =
-        (let k : keep z ≡ true = (let same : z ≡ a = cc in rw same ka) in
-        let r = Has-kept keep u b (j, y) kb in rw k (0, suc r.0, omega arith, x, r.1))
-    at (z ∷ u) (suc i) (suc j) below x y = later (at u i j (omega arith) x y)
-      where
-        later : Earlier (filter keep u) a b → Earlier (filter keep (z ∷ u)) a b
-        later r = elim (keep z) as (λ c. Earlier (cond c (z ∷ filter keep u) (filter keep u)) a b) [ true ↦ (suc r.0, suc r.1, omega (arith, r.2), r.3, r.4) | false ↦ r ]
 
 -- counts of a kind of event of which each is kept
 count-kept : (keep p : Mark → Bool) (u : List Mark) → ((e : Mark) → Has u e → p e ≡ true → keep e ≡ true) → count_by p (filter keep u) ≡ count_by p u
@@ -68,12 +53,6 @@ pub Has-before : (keep : Mark → Bool) (t : List Mark) {a b : Mark} → KeepsCa
 Has-before keep t {a} causes (itself h) kept = Has-kept keep t a h kept
 Has-before keep t causes (step {b} {c} p l) kept = Has-before keep t causes p (causes b c kept l)
 
-pub Precedes-kept : (keep : Mark → Bool) (t : List Mark) {a b : Mark} → KeepsCauses keep t → Precedes t a b → keep b ≡ true → Precedes (filter keep t) a b
-Precedes-kept keep t {a} causes (itself h) kept = itself (Has-kept keep t a h kept)
-Precedes-kept keep t causes (step {b} {c} p l) kept =
-    let before = causes b c kept l in
-    step (Precedes-kept keep t causes p before) (Earlier-kept keep t b c l.0 before kept, l.1)
-
 -- the first element that passes
 first_of : (N : ℕ → Bool) (xs : List ℕ) (i x : ℕ) → N x ≡ true → slice_get xs i ≡ Some x → ((y : ℕ) → Apart xs y x → N y ≡ false) → slice_get (filter N xs) 0 ≡ Some x
 first_of N [] i x t here none = cc
@@ -84,7 +63,7 @@ first_of N (z ∷ xs) (suc i) x t here none =
 
 pub taken_at : (q p y : ℕ) (e : Mark) → taken_on q p e ≡ Some y → member_of e ≡ p
 taken_at q p y (Send from ssn to) h = absurd cc
-taken_at q p y (Receipt to rsn from ssn) h = eqb-true to p (and_parts (from == q) (to == p) (cond_some (from == q && to == p) ssn y h).0).1
+taken_at q p y (Receipt to rsn from ssn) h = (on_channel from to q p ssn y h).1
 
 -- an event that may follow a trace may follow what is left of it, where what leads to it is left
 module _ (n : ℕ) (keep : Mark → Bool) (u : List Mark) (obeys : WellFormed n u) where

@@ -24,7 +24,7 @@ use Rattle.fbl_law.specs.Knowledge.{table, send_mark, IsInFlight, IsUp, Names, M
 use Rattle.fbl_law.specs.Groups.{GroupRecord, member, channel, marks, knowledge}
 use Rattle.fbl_law.specs.Sound.{IsSound}
 use Rattle.fbl_law.proofs.Lists.{Contains-at, Contains-cons_cases, Contains-none}
-use Rattle.fbl_law.proofs.Safe.{down_or_up}
+use Rattle.fbl_law.proofs.Safe.{up_at_ends, up_if_named}
 use Rattle.fbl_law.proofs.Tables.{Names-from_learned}
 use Rattle.fbl_law.proofs.Channels.{matched-Has}
 use Rattle.fbl_law.proofs.InOrder.{in_flight-beyond}
@@ -107,22 +107,16 @@ module _ (next : Next) (r : GroupRecord) (sound : IsSound next r) where
 
   -- a message in a channel goes from the one to the other, both of which are up
   pub channel_ends : (q p : ℕ) (v : Message) → Contains (channel r q p) v → ((v.from ≡ q) × (v.to ≡ p)) × (IsUp (knowledge r) q × IsUp (knowledge r) p)
-  channel_ends q p v among = elim (down_or_up r.down q) [
-    | inl down ↦ absurd (Contains-none v (rw (sound.causes.down.channels q p (inl down)) at among))
-    | inr up ↦ elim (down_or_up r.down p) [
-      | inl down ↦ absurd (Contains-none v (rw (sound.causes.down.channels q p (inr down)) at among))
-      | inr up_to ↦ (matched_ends (in_flight (marks r) q p) q p (channel r q p) v (sound.causes.channels q p up up_to) among, (up, up_to))
-    ]
-  ]
+  channel_ends q p v among =
+      let ends = up_at_ends (knowledge r) sound.causes.down.channels q p v among in
+      (matched_ends (in_flight (marks r) q p) q p (channel r q p) v (sound.causes.channels q p ends.0 ends.1) among, ends)
 
   -- tables and messages in flight name only receipts of the trace
   pub named_received : (m : ℕ) (d : Determinant) → Names (member r m).table d → Has (marks r) (receipt_of d)
   named_received m d named =
       let here : Names (table (knowledge r) m) d = rw (table_member r m) named in
-      elim (down_or_up r.down m) [
-        | inl down ↦ absurd (Contains-none here.0 (rw (sound.causes.down.tables m down) at here.1))
-        | inr up ↦ subst (λ (x : Determinant). Has (marks r) (receipt_of x)) here.2 (sound.causes.truth.tables m here.0 up here.1).0.0
-      ]
+      let up = up_if_named r.config.f (knowledge r) sound.causes.down m d here in
+      subst (λ (x : Determinant). Has (marks r) (receipt_of x)) here.2 (sound.causes.truth.tables m here.0 up here.1).0.0
 
   pub carried_received : (v : Message) (d : Determinant) → IsInFlight (knowledge r) v → Names v.carried d → Has (marks r) (receipt_of d)
   carried_received v d flies named =

@@ -15,8 +15,7 @@ use Rattle.fbl_law.specs.Groups.{GroupRecord, member, checkpoint, channel, knowl
 use Rattle.fbl_law.specs.Sound.{IsFold, IsSound}
 use Rattle.fbl_law.specs.GroupSteps.{IsStrike}
 use Rattle.fbl_law.specs.GroupLaws.{GroupStrikeKeeps, RecordedTest}
-use Rattle.fbl_law.proofs.Lists.{Contains-none}
-use Rattle.fbl_law.proofs.Safe.{down_or_up, never_both, IsRecorded-held, IsRecorded-saved}
+use Rattle.fbl_law.proofs.Safe.{down_or_up, never_both, up_at_ends, up_if_named, IsRecorded-held, IsRecorded-saved}
 use Rattle.fbl_law.proofs.Tables.{Includes-union, Includes-left, named_record}
 use Rattle.fbl_law.proofs.Run.{strike_keeps}
 use Rattle.fbl_law.proofs.GroupFacts.{table_member, Names-held, held-Names}
@@ -38,14 +37,9 @@ module _ (next : Next) (old new : GroupRecord) (struck : Members) (s : IsStrike 
 
   notes_kept : (v : Message) → IsInFlight (knowledge new) v → note_of new.trace v.from v.ssn ≡ Some v.note
   notes_kept v flying =
+      let ends = up_at_ends (knowledge new) s.emptied v.from v.to v flying in
       let among : Contains (channel new v.from v.to) v = flying in
-      elim (down_or_up new.down v.from) [
-        | inl down ↦ absurd (Contains-none v (rw (s.emptied v.from v.to (inl down)) at among))
-        | inr up ↦ elim (down_or_up new.down v.to) [
-          | inl down ↦ absurd (Contains-none v (rw (s.emptied v.from v.to (inr down)) at among))
-          | inr up_to ↦ rw s.trace (sound.notes v (rw (s.channels v.from v.to up up_to) at among))
-        ]
-      ]
+      rw s.trace (sound.notes v (rw (s.channels v.from v.to ends.0 ends.1) at among))
 
   fold_kept : (m : ℕ) → IsUp (knowledge new) m → IsFold next old m → IsFold next new m
   fold_kept m up f = record {
@@ -87,10 +81,7 @@ recorded_test next r d sound = (λ h. elim (or_cases _ _ h) [ inl member ↦ hel
     held h =
         let some = some_record (λ (m : MemberRecord). is_held m.table d) r.members h in
         let named : Names (table (knowledge r) some.0) d = rw (table_member r some.0) (Names-held (member r some.0).table d some.2) in
-        elim (down_or_up r.down some.0) [
-          | inl down ↦ absurd (Contains-none named.0 (rw (sound.causes.down.tables some.0 down) at named.1))
-          | inr up ↦ IsRecorded-held (knowledge r) d some.0 (up, named)
-        ]
+        IsRecorded-held (knowledge r) d some.0 (up_if_named r.config.f (knowledge r) sound.causes.down some.0 d named, named)
 
     kept : list_any (λ (m : MemberRecord). is_held m.table d) r.checkpoints ≡ true → IsRecorded (knowledge r) d
     kept h =

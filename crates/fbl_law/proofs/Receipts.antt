@@ -15,11 +15,11 @@ use Rattle.fbl_base.specs.Events.{mark_of, determinant_of, receipt_of}
 use Rattle.fbl_base.specs.Precedence.{Has}
 use Rattle.fbl_base.specs.Rules.{is_receipt_of, receipts_of, taken_on, WellFormed}
 use Rattle.fbl_base.specs.Fold.{sent, action_of, notes_of, note_of}
-use Rattle.fbl_base.proofs.Gets.{At-filter, At-filter_map}
+use Rattle.fbl_base.proofs.Gets.{filter_map-At, At-filter, At-filter_map}
 use Rattle.fbl_base.proofs.RulesLaws.{WellFormed-front, MayFollow-last}
 use Rattle.fbl_base.proofs.LawfulLaws.{receipts-noted}
 use Rattle.fbl_law.specs.Sound.{received_notes, last_taken, receipts_at, last_among}
-use Rattle.fbl_law.proofs.Lists.{filter-At, filter-passes, filter_map-At}
+use Rattle.fbl_law.proofs.Lists.{filter-At, filter-passes}
 
 pub is-receipt : (e : Mark) (d : Determinant) → determinant_of e ≡ Some d → e ≡ receipt_of d
 is-receipt (Send q s p) d h = absurd cc
