@@ -1,16 +1,16 @@
 -- Operations on bits as operations on sets.
-use Rattle.std.proofs.Common.{◌≡◌, ◌≢◌, ℕ, zero, suc, ◌+◌, ◌-◌, ◌*◌, ◌/◌, ◌%◌, ◌^◌, ◌<◌, ◌≤◌, Bool, true, false, ◌||◌, ◌&&◌, not, cond, List, [], ◌∷◌, max, min, refl, sym, ap, ◌∙◌, arith, eqb, inl, inr, ◌⊎◌, ◌↔◌, count_by, bit_and, bit_or, w16}
+use Rattle.std.proofs.Common.{◌≡◌, ◌≢◌, ℕ, zero, suc, ◌+◌, ◌-◌, ◌*◌, ◌/◌, ◌%◌, ◌^◌, ◌<◌, ◌≤◌, true, false, ◌||◌, ◌&&◌, not, cond, max, min, refl, sym, ap, ◌∙◌, arith, eqb, inl, inr, ◌⊎◌, ◌↔◌, count_by, bit_and, bit_or, w16}
 use Rattle.std.proofs.lemmas.Bool.{cases_lt, cases_eq}
 use Rattle.std.proofs.lemmas.Bool.Decides.{nat_tests}
 use Rattle.std.proofs.lemmas.List.Sums.{sum_by-cons}
-use Rattle.std.proofs.lemmas.Nat.Bits.{bit_at-lt, bit_at_or, bit_at_and, bit_at_not, bit_at_above, bit_at-pow_same, bit_at-pow_other, bit_at_set_same, bit_at_set_other, shr_and_one, same_from_bits, bit_at-zero}
+use Rattle.std.proofs.lemmas.Nat.Bits.{bit_at-lt, bit_at_or, bit_at_and, bit_at_not, bit_at_above, bit_at_set_same, bit_at_set_other, shr_and_one, same_from_bits, bit_at-zero}
 use Rattle.std.proofs.Math.Nat.{div-add-mod, mod-lt, div-div-eq-div-mul}
 use Rattle.std.proofs.lemmas.Nat.{pow-add, pow_pos, or_lt, and_le_l}
 use Rattle.std.specs.Int.{bit_at}
 use Rattle.std.specs.Int.Count.{ones, ones_in, ones_step}
 use Rattle.std.specs.Cmp.{nat_cmp_total}
 use Rattle.std.specs.FinSet as set
-use Rattle.fbl_base.specs.MemberSets.{flagged, len-flagged, same_from_contains, contains-insert_same, contains-insert_other, AllBelow}
+use Rattle.fbl_base.specs.MemberSets.{len-flagged, same_from_contains, contains-insert_same, contains-insert_other, AllBelow}
 use Rattle.fbl_base.specs.Bits.{digits, set_of, contains-set_of, parity}
 
 at_most : (x y : ℕ) → x < 2 → y < 2 → eqb (max x y) 1 ≡ (eqb x 1 || eqb y 1)

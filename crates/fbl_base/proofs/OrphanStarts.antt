@@ -1,5 +1,5 @@
 -- The first events of orphans that depend on a lost receipt.
-use Rattle.std.proofs.Common.{ℕ, zero, suc, replicate, [], ◌+◌, ◌<◌, ◌≡◌, ◌≢◌, ◌⊎◌, inl, inr, Bool, true, false, cond, not, ◌||◌, ◌&&◌, List, length, take, Option, Some, None, refl, sym, ap, ◌∙◌, subst, arith, get_or, set as set_at, get_or-set_same, get_or-set_other, ltb}
+use Rattle.std.proofs.Common.{ℕ, [], ◌+◌, ◌<◌, ◌≡◌, ◌≢◌, ◌⊎◌, inl, inr, Bool, true, false, cond, not, ◌||◌, ◌&&◌, List, length, take, Option, Some, None, refl, sym, ap, ◌∙◌, subst, get_or, set as set_at, get_or-set_same, get_or-set_other, ltb}
 use Rattle.std.proofs.lemmas.Bool.{false≢true, cases_eq}
 use Rattle.std.specs.Cmp.{nat_cmp_total}
 use Rattle.std.specs.Ordering.{nat_cmp}

@@ -1,5 +1,5 @@
 -- Precedence between places and between events say the same of a trace that obeys the rules.
-use Rattle.std.proofs.Common.{ℕ, ◌≡◌, ◌<◌, ◌⊎◌, inl, inr, List, take, arith}
+use Rattle.std.proofs.Common.{ℕ, ◌≡◌, ◌<◌, inl, inr, List, take}
 use Rattle.std.proofs.lemmas.Bool.{cases_order}
 use Rattle.fbl_base.specs.declared.trace.Mark.{Mark}
 use Rattle.fbl_base.specs.Events.{At}

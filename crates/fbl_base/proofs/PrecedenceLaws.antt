@@ -1,9 +1,9 @@
 -- Laws of precedence between events.
-use Rattle.std.proofs.Common.{ℕ, zero, suc, Bool, true, false, cond, ◌≡◌, ◌<◌, ◌⊎◌, ◌↔◌, inl, inr, List, [], ◌∷◌, ◌++◌, length, Some, refl, sym, ap, ◌∙◌, arith}
+use Rattle.std.proofs.Common.{ℕ, Bool, ◌≡◌, ◌⊎◌, ◌↔◌, inl, inr, List, [], ◌∷◌, ◌++◌, length, Some, refl, sym, ap, ◌∙◌, arith}
 use Rattle.std.specs.List.{filter}
 use Rattle.fbl_base.specs.declared.trace.Mark.{Mark}
 use Rattle.fbl_base.specs.declared.trace.Mark.TheVariants.{Send, Receipt}
-use Rattle.fbl_base.specs.Events.{At, member_of, send_of}
+use Rattle.fbl_base.specs.Events.{member_of, send_of}
 use Rattle.fbl_base.specs.Precedence.{Has, Earlier, Precedes, itself, step, Depends}
 use Rattle.fbl_base.proofs.Gets.{At-front, At-new, At-below, At-push, At-filter, Apart-filter}
 

@@ -1,5 +1,5 @@
 -- Which determinants receipts have.
-use Rattle.std.proofs.Common.{nat_lt, drop, ◌&&◌, ℕ, zero, suc, ◌+◌, ◌<◌, ◌≤◌, ◌≡◌, Bool, true, cond, ◌||◌, List, [], ◌∷◌, length, take, get_or, slice_get, Option, Some, None, refl, sym, ap, ◌∙◌, arith, Decides, length-take}
+use Rattle.std.proofs.Common.{nat_lt, drop, ◌&&◌, ℕ, ◌+◌, ◌<◌, ◌≤◌, ◌≡◌, Bool, true, cond, ◌||◌, List, [], ◌∷◌, length, take, get_or, slice_get, Some, None, refl, sym, ap, ◌∙◌, arith, Decides, length-take}
 use Rattle.std.proofs.lemmas.Bool.{ltb-true, lt-ltb}
 use Rattle.std.specs.List.{list_any, filter_map, cons_option}
 use Rattle.std.proofs.lemmas.List.{take_more, take-append-drop, take-append-le}

@@ -4,7 +4,7 @@ use Rattle.fbl_base.specs.declared.trace.Mark.{Mark}
 use Rattle.fbl_base.specs.Events.{At, member_of, send_of}
 use Rattle.fbl_base.specs.Precedence.{Has, Earlier, Precedes, itself, step}
 use Rattle.fbl_base.specs.Rules.{WellFormed}
-use Rattle.fbl_base.proofs.Gets.{At-front, At-below, slice_get-take}
+use Rattle.fbl_base.proofs.Gets.{At-front, At-below}
 use Rattle.fbl_base.proofs.PlacesAndEvents.{one_place}
 use Rattle.fbl_law.proofs.Lists.{At-append, At-behind}
 

@@ -1,11 +1,10 @@
 -- Channels and the trace.
-use Rattle.std.proofs.Common.{◌≡◌, ℕ, zero, suc, ◌==◌, ◌&&◌, not, Bool, true, false, cond, List, [], ◌∷◌, ◌++◌, map, drop, inl, inr, arith, refl, sym, ap, ◌∙◌, Some, None, slice_get, append_assoc}
+use Rattle.std.proofs.Common.{◌≡◌, ℕ, suc, ◌==◌, ◌&&◌, not, Bool, true, false, cond, List, [], ◌∷◌, ◌++◌, map, drop, inl, inr, arith, refl, sym, ap, ◌∙◌, Some, None, append_assoc}
 use Rattle.std.specs.List.{Contains, filter_map, list_any, cons_option}
 use Rattle.std.proofs.lemmas.Bool.Decides.{nat_tests}
 use Rattle.std.proofs.lemmas.List.{append-nil, map-append}
 use Rattle.fbl_base.specs.declared.trace.Mark.{Mark}
 use Rattle.fbl_base.specs.declared.trace.Mark.TheVariants.{Send, Receipt}
-use Rattle.fbl_base.specs.Events.{At}
 use Rattle.fbl_base.specs.Precedence.{Has}
 use Rattle.fbl_base.specs.Rules.{sent_on, taken_on, in_flight, WellFormed}
 use Rattle.fbl_base.proofs.Gets.{At-filter, At-filter_map}
@@ -14,7 +13,7 @@ use Rattle.fbl_base.proofs.InFlightLaws.{in_flight-send, in_flight-receipt}
 use Rattle.fbl_member.specs.Members.{Message}
 use Rattle.fbl_law.specs.Knowledge.{Knowledge, send_mark, IsInFlight, IsUp, MatchesTrace, IsDownEmpty}
 use Rattle.fbl_law.specs.Steps.{between, taken_off}
-use Rattle.fbl_law.proofs.Lists.{map-At, Contains-at, Contains-here, Contains-there, Contains-cons_cases, Contains-none}
+use Rattle.fbl_law.proofs.Lists.{map-At, Contains-at, Contains-cons_cases, Contains-none}
 use Rattle.fbl_law.proofs.Safe.{up_at_ends}
 
 -- each message in flight was sent

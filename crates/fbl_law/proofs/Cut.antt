@@ -1,16 +1,14 @@
 -- What a cut keeps.
-use Rattle.std.proofs.Common.{◌≡◌, ℕ, zero, suc, ◌<◌, ◌≤◌, ◌==◌, ◌&&◌, not, Bool, true, false, cond, List, [], ◌∷◌, ◌++◌, length, take, inl, inr, ◌⊎◌, arith, refl, ap, ◌∙◌, Option, Some, None, slice_get, count_by, append_assoc}
-use Rattle.std.specs.List.{filter, filter_map, list_any, cons_option}
-use Rattle.std.proofs.lemmas.Bool.{and_parts, eqb-true}
+use Rattle.std.proofs.Common.{◌≡◌, ℕ, zero, suc, ◌<◌, ◌==◌, not, Bool, true, false, cond, List, [], ◌∷◌, ◌++◌, length, take, inl, inr, ◌⊎◌, arith, refl, ap, ◌∙◌, Option, Some, None, slice_get, count_by, append_assoc}
+use Rattle.std.specs.List.{filter, filter_map, list_any}
 use Rattle.std.proofs.lemmas.Bool.Decides.{nat_tests}
 use Rattle.std.proofs.lemmas.List.{append-nil}
 use Rattle.std.proofs.lemmas.List.Elements.{filter-append}
 use Rattle.std.proofs.lemmas.List.Sums.{sum_by-cons}
-use Rattle.std.proofs.lemmas.Option.{cond_some}
 use Rattle.fbl_base.specs.declared.trace.Mark.{Mark}
 use Rattle.fbl_base.specs.declared.trace.Mark.TheVariants.{Send, Receipt}
 use Rattle.fbl_base.specs.Events.{At, member_of, send_of}
-use Rattle.fbl_base.specs.Precedence.{Has, Earlier, Leads, Precedes, itself, step}
+use Rattle.fbl_base.specs.Precedence.{Has, Leads, Precedes, itself, step}
 use Rattle.fbl_base.specs.Rules.{is_send_of, is_receipt_of, sends_of, receipts_of, sent_on, taken_on, in_flight, MayFollow, WellFormed}
 use Rattle.fbl_base.proofs.Gets.{filter_map-At, At-front, At-below, Apart, Apart-filter, Apart-filter_map, slice_get-take}
 use Rattle.fbl_base.proofs.RulesLaws.{on_channel, is_sent, WellFormed-none, WellFormed-push, WellFormed-take, WellFormed-front, MayFollow-last, in_flight-sent, eqb-self}

@@ -1,5 +1,5 @@
 -- What holds in a sound group.
-use Rattle.std.proofs.Common.{◌≡◌, ◌≢◌, ℕ, zero, suc, ◌+◌, ◌<◌, ◌≤◌, ◌||◌, Bool, true, false, List, [], ◌∷◌, length, map, drop, inl, inr, Some, slice_get, get_or, refl, sym, ap, ◌∙◌, arith, subst}
+use Rattle.std.proofs.Common.{◌≡◌, ◌≢◌, ℕ, ◌+◌, ◌<◌, ◌≤◌, true, false, List, [], ◌∷◌, length, map, drop, inl, inr, Some, slice_get, get_or, sym, ap, ◌∙◌, arith, subst}
 use Rattle.std.specs.List.{Contains}
 use Rattle.std.specs.FinSet as sets
 use Rattle.std.specs.Ordering.{nat_cmp}

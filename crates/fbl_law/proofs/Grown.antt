@@ -1,20 +1,10 @@
 -- The notes and receipts of a trace that grows.
-use Rattle.std.proofs.Common.{◌≡◌, ℕ, zero, suc, ◌+◌, ◌<◌, ◌==◌, ◌&&◌, Bool, true, false, cond, List, [], ◌∷◌, ◌++◌, take, drop, map, Option, Some, None, slice_get, refl, sym, ap, ◌∙◌, arith}
+use Rattle.std.proofs.Common.{◌≡◌, ℕ, ◌+◌, ◌==◌, Bool, true, false, cond, List, [], ◌∷◌, ◌++◌, Some, None, slice_get, refl, ap, ◌∙◌}
 use Rattle.std.specs.List.{filter_map, cons_option}
-use Rattle.std.proofs.lemmas.Bool.Decides.{nat_tests}
-use Rattle.std.proofs.lemmas.List.{take-append-drop}
-use Rattle.std.proofs.lemmas.List.Elements.{filter_map-append}
-use Rattle.std.proofs.lemmas.Option.{slice_get-map}
 use Rattle.fbl_base.specs.declared.trace.Note.{Note}
 use Rattle.fbl_base.specs.declared.trace.Event.{Event}
-use Rattle.fbl_base.specs.declared.trace.Event.TheVariants.{Send, Receipt}
-use Rattle.fbl_base.specs.declared.trace.Mark.TheVariants as mark
-use Rattle.fbl_base.specs.Events.{At, mark_of}
-use Rattle.fbl_base.specs.Precedence.{Has}
-use Rattle.fbl_base.specs.Rules.{sends_of, WellFormed}
+use Rattle.fbl_base.specs.declared.trace.Event.TheVariants.{Receipt}
 use Rattle.fbl_base.specs.Fold.{sent, action_of, actions_of, notes_of, note_of, step_events, took}
-use Rattle.fbl_base.proofs.RulesLaws.{WellFormed-take, eqb-self}
-use Rattle.fbl_base.proofs.InFlightLaws.{sent-number}
 use Rattle.fbl_base.proofs.LawfulLaws.{notes_of-append, note_of-front, actions-append}
 use Rattle.fbl_law.specs.Sound.{received_notes}
 

@@ -1,5 +1,5 @@
 -- What a closed record promises.
-use Rattle.std.proofs.Common.{◌≡◌, ℕ, Bool, true, false, [], inl, inr, ◌⊎◌, arith, refl, subst}
+use Rattle.std.proofs.Common.{◌≡◌, ℕ, false, [], inl, inr, ◌⊎◌, arith, subst}
 use Rattle.std.specs.Ordering.{nat_cmp}
 use Rattle.std.specs.FinSet as set
 use Rattle.std.specs.List.{Contains}

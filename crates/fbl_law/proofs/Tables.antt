@@ -1,5 +1,5 @@
 -- What tables name after they have learned.
-use Rattle.std.proofs.Common.{◌≡◌, ℕ, zero, suc, ◌<◌, length, get_or, arith, Bool, true, false, cond, ◌||◌, List, [], ◌∷◌, inl, inr, ◌⊎◌, map, refl, sym, subst, ap, ◌∙◌}
+use Rattle.std.proofs.Common.{◌≡◌, ℕ, ◌<◌, length, get_or, true, false, cond, List, [], ◌∷◌, inl, inr, ◌⊎◌, map, refl, sym, subst, ap, ◌∙◌}
 use Rattle.std.specs.List.{Contains}
 use Rattle.std.specs.Prelude.{nat_le}
 use Rattle.std.specs.Ordering.{nat_cmp}
