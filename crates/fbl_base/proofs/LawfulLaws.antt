@@ -37,11 +37,11 @@ pub notes_of-sent : (sends : List (ℕ × Note)) → notes_of (map sent sends) �
 notes_of-sent [] = refl
 notes_of-sent (s ∷ sends) = notes_of-sent sends
 
-own_sends : (t : List Event) (p before : ℕ) (sends : List (ℕ × Note)) → filter_map (action_of t p) (step_events p before sends) ≡ map sent sends
+pub own_sends : (t : List Event) (p before : ℕ) (sends : List (ℕ × Note)) → filter_map (action_of t p) (step_events p before sends) ≡ map sent sends
 own_sends t p before [] = refl
 own_sends t p before (s ∷ sends) = (let e : (p == p) ≡ true = eqb-self p in rw e (ap (λ xs. sent s ∷ xs) (own_sends t p (before + 1) sends)))
 
-other_sends : (t : List Event) (p m before : ℕ) (sends : List (ℕ × Note)) → (p == m) ≡ false → filter_map (action_of t m) (step_events p before sends) ≡ []
+pub other_sends : (t : List Event) (p m before : ℕ) (sends : List (ℕ × Note)) → (p == m) ≡ false → filter_map (action_of t m) (step_events p before sends) ≡ []
 other_sends t p m before [] ne = refl
 other_sends t p m before (s ∷ sends) ne = rw ne (other_sends t p m (before + 1) sends ne)
 

@@ -13,9 +13,6 @@ use Rattle.fbl_base.specs.Reach.{reached_after}
 use Rattle.fbl_base.proofs.ReachLaws.{Tracks}
 use Rattle.fbl_base.proofs.Recorded.{Tracks-orphans}
 
-abbrev no_place : Option ℕ
-no_place = None
-
 -- what `IsOrphanStart` says, as far as the first events tell
 abbrev pub StartsBy : Parts → ℕ → ℕ → Option ℕ → Type 0
 StartsBy dump n member None = ¬ (IsOrphan (first_events n dump) member)

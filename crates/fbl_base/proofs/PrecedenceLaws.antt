@@ -11,7 +11,7 @@ pub Precedes-joined : {t : List Mark} {a b c : Mark} → Precedes t a b → Prec
 Precedes-joined p (itself h) = p
 Precedes-joined p (step q s) = step (Precedes-joined p q) s
 
-Earlier-front : (t s : List Mark) (a b : Mark) → Earlier t a b → Earlier (t ++ s) a b
+pub Earlier-front : (t s : List Mark) (a b : Mark) → Earlier t a b → Earlier (t ++ s) a b
 Earlier-front t s a b h = (h.0, h.1, h.2, At-front t s h.0 a h.3, At-front t s h.1 b h.4)
 
 pub Precedes-front : (t s : List Mark) {a b : Mark} → Precedes t a b → Precedes (t ++ s) a b

@@ -30,7 +30,7 @@ received_more events i e key d before after below is some was now =
 pub received_same : (events : List Mark) (i : ℕ) (e : Mark) (d : Determinant) (before : Bool) → i < length events → e ≡ get_or events i e → determinant_of e ≡ None → before ≡ is_received (take i events) d → before ≡ is_received (take (i + 1) events) d
 received_same events i e d before below is none was = was ∙ or_false _ ∙ (rw (more events i e d below is, none))
 
-is_receipt : (e : Mark) (d : Determinant) → determinant_of e ≡ Some d → e ≡ receipt_of d
+pub is_receipt : (e : Mark) (d : Determinant) → determinant_of e ≡ Some d → e ≡ receipt_of d
 is_receipt (Send q s p) d h = cc
 is_receipt (Receipt p r q s) d h = (let e : ◌≡◌ {A = Determinant} (record { from = q; ssn = s; to = p; rsn = r }) d = cc in rw (← e))
 

@@ -4,7 +4,7 @@ use Rattle.std.proofs.lemmas.Bool.{and_parts, eqb-true}
 use Rattle.std.proofs.lemmas.Bool.Decides.{nat_tests}
 use Rattle.std.proofs.lemmas.Option.{cond_some}
 use Rattle.std.specs.List.{filter_map, list_any}
-use Rattle.std.proofs.lemmas.List.{take-append-le, take-append-drop, take_all}
+use Rattle.std.proofs.lemmas.List.{append-nil, append_assoc, take-append-le, take-append-drop, take_all}
 use Rattle.std.proofs.lemmas.List.Sums.{sum_by-cons}
 use Rattle.fbl_base.specs.declared.trace.Mark.{Mark}
 use Rattle.fbl_base.specs.declared.trace.Mark.TheVariants.{Send, Receipt}
@@ -35,6 +35,16 @@ WellFormed-take n i t obeys = WellFormed-front n (take i t) (drop i t) (rw take-
 pub MayFollow-last : (n : ℕ) (t : List Mark) (e : Mark) → WellFormed n (t ++ e ∷ []) → MayFollow n t e
 MayFollow-last n t e obeys =
     (let here : take (length t) (t ++ e ∷ []) ≡ t = take-append-le (length t) t (e ∷ []) (omega arith) ∙ take_all (length t) t (omega arith) in rw here at (obeys (length t) e (At-new t e)))
+
+-- what holds of no event, and of one more that may come next, holds of each trace that obeys the rules
+pub WellFormed-keeps : (n : ℕ) (P : List Mark → Type 0) → P [] → ((t : List Mark) (e : Mark) → WellFormed n t → MayFollow n t e → P t → P (t ++ e ∷ [])) → (t : List Mark) → WellFormed n t → P t
+WellFormed-keeps n P none more t obeys = from [] t obeys none where
+  from : (u rest : List Mark) → WellFormed n (u ++ rest) → P u → P (u ++ rest)
+  from u [] obeys done = rw append-nil done
+  from u (e ∷ rest) obeys done =
+      let next : WellFormed n ((u ++ e ∷ []) ++ rest) = rw append_assoc obeys in
+      let front = WellFormed-front n (u ++ e ∷ []) rest next in
+      rw append_assoc at (from (u ++ e ∷ []) rest next (more u e (WellFormed-front n u (e ∷ []) front) (MayFollow-last n u e front) done))
 
 pub eqb-self : (x : ℕ) → (x == x) ≡ true
 eqb-self x = grind (arith, nat_tests)

@@ -1,8 +1,8 @@
 -- Channels and the trace.
-use Rattle.std.proofs.Common.{◌≡◌, ℕ, suc, ◌==◌, ◌&&◌, not, Bool, true, false, cond, List, [], ◌∷◌, ◌++◌, map, drop, inl, inr, arith, refl, sym, ap, ◌∙◌, Some, None, append_assoc}
+use Rattle.std.proofs.Common.{option_map, ◌≡◌, ℕ, suc, ◌==◌, ◌&&◌, not, Bool, true, false, cond, List, [], ◌∷◌, ◌++◌, map, drop, inl, inr, arith, refl, sym, ap, ◌∙◌, Some, None, append_assoc}
 use Rattle.std.specs.List.{Contains, filter_map, list_any, cons_option}
 use Rattle.std.proofs.lemmas.Bool.Decides.{nat_tests}
-use Rattle.std.proofs.lemmas.List.{append-nil, map-append}
+use Rattle.std.proofs.lemmas.List.{drop-map, append-nil, map-append}
 use Rattle.fbl_base.specs.declared.trace.Mark.{Mark}
 use Rattle.fbl_base.specs.declared.trace.Mark.TheVariants.{Send, Receipt}
 use Rattle.fbl_base.specs.Precedence.{Has}
@@ -15,6 +15,7 @@ use Rattle.fbl_law.specs.Knowledge.{Knowledge, send_mark, IsInFlight, IsUp, Matc
 use Rattle.fbl_law.specs.Steps.{between, taken_off}
 use Rattle.fbl_law.proofs.Lists.{map-At, Contains-at, Contains-cons_cases, Contains-none}
 use Rattle.fbl_law.proofs.Safe.{up_at_ends}
+use Rattle.std.proofs.lemmas.Option.{slice_get-map, slice_get-get_or}
 
 -- each message in flight was sent
 abbrev pub AreSent : Knowledge → Type 0
@@ -22,11 +23,7 @@ AreSent r = (v : Message) → IsInFlight r v → Has r.trace (send_mark v)
 
 -- a message of a list is among its marks
 pub Has-made : (made : List Message) (v : Message) → Contains made v → Has (map send_mark made) (send_mark v)
-Has-made [] v among = absurd (Contains-none v among)
-Has-made (x ∷ made) v among = elim (Contains-cons_cases x made v among) [
-  | inl first ↦ (0, ap (λ (y : Message). Some (send_mark y)) first)
-  | inr later ↦ let r = Has-made made v later in (suc r.0, r.1)
-]
+Has-made made v among = (among.0, slice_get-map send_mark made among.0 ∙ ap (option_map send_mark) (slice_get-get_or made among.0 v among.1 ∙ ap Some among.2))
 
 pub made-Has : (made : List Message) (e : Mark) → Has (map send_mark made) e → (v : Message) × Contains made v × (send_mark v ≡ e)
 made-Has made e h = (let r = map-At send_mark made h.0 e h.1 in (r.0, Contains-at made h.0 r.0 r.1, r.2))
@@ -63,9 +60,9 @@ in_flight-made n u (x ∷ made) q p obeys =
     joined false = refl
 
 -- the messages made between two members, by their marks
-marks_between : (made : List Message) (q p : ℕ) → map send_mark (between q p made) ≡ map (λ ssn. Send q ssn p) (filter_map (sent_on q p) (map send_mark made))
-marks_between [] q p = refl
-marks_between (x ∷ made) q p = at (x.from == q) (x.to == p) refl refl (marks_between made q p)
+pub messages_between : (made : List Message) (q p : ℕ) → map send_mark (between q p made) ≡ map (λ ssn. Send q ssn p) (filter_map (sent_on q p) (map send_mark made))
+messages_between [] q p = refl
+messages_between (x ∷ made) q p = at (x.from == q) (x.to == p) refl refl (messages_between made q p)
   where
     at : (a b : Bool) → (x.from == q) ≡ a → (x.to == p) ≡ b → map send_mark (between q p made) ≡ map (λ ssn. Send q ssn p) (filter_map (sent_on q p) (map send_mark made)) → map send_mark (cond (a && b) (x ∷ between q p made) (between q p made)) ≡ map (λ ssn. Send q ssn p) (cons_option (cond (a && b) (Some x.ssn) None) (filter_map (sent_on q p) (map send_mark made)))
     at true true ea eb ih =
@@ -76,10 +73,6 @@ marks_between (x ∷ made) q p = at (x.from == q) (x.to == p) refl refl (marks_b
     at true false ea eb ih = ih
     at false b ea eb ih = ih
 
-map-drop_one : {X Y : Type 0} (g : X → Y) (xs : List X) → map g (drop 1 xs) ≡ drop 1 (map g xs)
-map-drop_one g [] = refl
-map-drop_one g (x ∷ xs) = refl
-
 -- a delivery keeps a channel that matches the trace so
 pub channel-delivered : (n : ℕ) (t : List Mark) (v : Message) (rsn : ℕ) (made channel : List Message) (q p : ℕ) → WellFormed n (t ++ Receipt v.to rsn v.from v.ssn ∷ map send_mark made) → map send_mark channel ≡ map (λ ssn. Send q ssn p) (in_flight t q p) → map send_mark (taken_off v q p channel ++ between q p made) ≡ map (λ ssn. Send q ssn p) (in_flight (t ++ Receipt v.to rsn v.from v.ssn ∷ map send_mark made) q p)
 channel-delivered n t v rsn made channel q p obeys was =
@@ -88,8 +81,8 @@ channel-delivered n t v rsn made channel q p obeys was =
     let front : WellFormed n (t ++ R ∷ []) = WellFormed-front n (t ++ R ∷ []) (map send_mark made) next in
     let one = in_flight-receipt n t (WellFormed-front n t (R ∷ []) front) v.to rsn v.from v.ssn q p (MayFollow-last n t R front) in
     let all : in_flight (t ++ R ∷ map send_mark made) q p ≡ cond (v.from == q && v.to == p) (drop 1 (in_flight t q p)) (in_flight t q p) ++ filter_map (sent_on q p) (map send_mark made) = ap (λ (u : List Mark). in_flight u q p) (sym (append_assoc t (R ∷ []) (map send_mark made))) ∙ in_flight-made n (t ++ R ∷ []) made q p next ∙ ap (λ (ys : List ℕ). ys ++ filter_map (sent_on q p) (map send_mark made)) one in
-    rw (all, map-append send_mark, map-append (λ ssn. Send q ssn p), marks_between made q p) (ap (λ (ys : List Mark). ys ++ map (λ ssn. Send q ssn p) (filter_map (sent_on q p) (map send_mark made))) (old_part (v.from == q && v.to == p)))
+    rw (all, map-append send_mark, map-append (λ ssn. Send q ssn p), messages_between made q p) (ap (λ (ys : List Mark). ys ++ map (λ ssn. Send q ssn p) (filter_map (sent_on q p) (map send_mark made))) (old_part (v.from == q && v.to == p)))
   where
     old_part : (b : Bool) → map send_mark (cond b (drop 1 channel) channel) ≡ map (λ ssn. Send q ssn p) (cond b (drop 1 (in_flight t q p)) (in_flight t q p))
-    old_part true = map-drop_one send_mark channel ∙ ap (λ (ys : List Mark). drop 1 ys) was ∙ sym (map-drop_one (λ ssn. Send q ssn p) (in_flight t q p))
+    old_part true = sym (drop-map send_mark 1 channel) ∙ ap (λ (ys : List Mark). drop 1 ys) was ∙ drop-map (λ ssn. Send q ssn p) 1 (in_flight t q p)
     old_part false = was

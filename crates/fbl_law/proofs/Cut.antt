@@ -11,9 +11,10 @@ use Rattle.fbl_base.specs.Events.{At, member_of, send_of}
 use Rattle.fbl_base.specs.Precedence.{Has, Leads, Precedes, itself, step}
 use Rattle.fbl_base.specs.Rules.{is_send_of, is_receipt_of, sends_of, receipts_of, sent_on, taken_on, in_flight, MayFollow, WellFormed}
 use Rattle.fbl_base.proofs.Gets.{filter_map-At, At-front, At-below, Apart, Apart-filter, Apart-filter_map, slice_get-take}
-use Rattle.fbl_base.proofs.RulesLaws.{on_channel, is_sent, WellFormed-none, WellFormed-push, WellFormed-take, WellFormed-front, MayFollow-last, in_flight-sent, eqb-self}
+use Rattle.fbl_base.proofs.RulesLaws.{WellFormed-keeps, on_channel, is_sent, WellFormed-none, WellFormed-push, WellFormed-take, WellFormed-front, MayFollow-last, in_flight-sent, eqb-self}
 use Rattle.fbl_base.proofs.InFlightLaws.{sent-number, sent-rises}
 use Rattle.fbl_law.proofs.Lists.{At-seam, length-left, filter-At, filter-passes, filter_map-kept}
+use Rattle.fbl_base.proofs.PrecedenceLaws.{Earlier-front}
 
 -- a kept event is in what is left
 pub Has-kept : (keep : Mark → Bool) (t : List Mark) (e : Mark) → Has t e → keep e ≡ true → Has (filter keep t) e
@@ -137,22 +138,13 @@ module _ (n : ℕ) (keep : Mark → Bool) (u : List Mark) (obeys : WellFormed n 
       )
 
 -- what is left of a trace that obeys the rules obeys them, where what leads to a kept event is kept
-kept_from : (n : ℕ) (keep : Mark → Bool) (u rest : List Mark) → WellFormed n (u ++ rest) → KeepsCauses keep (u ++ rest) → WellFormed n (filter keep u) → WellFormed n (filter keep (u ++ rest))
-kept_from n keep u [] obeys causes done = rw append-nil done
-kept_from n keep u (e ∷ rest) obeys causes done =
-    let front : WellFormed n ((u ++ e ∷ []) ++ rest) = rw append_assoc obeys in
-    let next : KeepsCauses keep ((u ++ e ∷ []) ++ rest) = rw append_assoc causes in
-    rw append_assoc at (kept_from n keep (u ++ e ∷ []) rest front next (one_more (WellFormed-front n (u ++ e ∷ []) rest front)))
-  where
-    leads : (a : Mark) → Has u a → (member_of a ≡ member_of e) ⊎ (send_of e ≡ Some a) → Leads (u ++ e ∷ rest) a e
-    leads a h why = ((h.0, length u, At-below u h.0 a h.1, At-front u (e ∷ rest) h.0 a h.1, At-seam u e rest), why)
-
-    one_more : WellFormed n (u ++ e ∷ []) → WellFormed n (filter keep (u ++ e ∷ []))
-    one_more obeys_more = rw (filter-append keep u (e ∷ [])) (at (keep e) refl)
-      where
-        at : (b : Bool) → keep e ≡ b → WellFormed n (filter keep u ++ cond b (e ∷ []) [])
-        at false is = rw append-nil done
-        at true is = WellFormed-push n (filter keep u) e done (MayFollow-kept n keep u (WellFormed-front n u (e ∷ []) obeys_more) e (MayFollow-last n u e obeys_more) (λ a h why. causes a e is (leads a h why)))
-
 pub WellFormed-kept : (n : ℕ) (keep : Mark → Bool) (t : List Mark) → WellFormed n t → KeepsCauses keep t → WellFormed n (filter keep t)
-WellFormed-kept n keep t obeys causes = kept_from n keep [] t obeys causes (WellFormed-none n)
+WellFormed-kept n keep t obeys = WellFormed-keeps n (λ u. KeepsCauses keep u → WellFormed n (filter keep u)) (λ causes. WellFormed-none n) more t obeys where
+  more : (u : List Mark) (e : Mark) → WellFormed n u → MayFollow n u e → (KeepsCauses keep u → WellFormed n (filter keep u)) → KeepsCauses keep (u ++ e ∷ []) → WellFormed n (filter keep (u ++ e ∷ []))
+  more u e obeys_u may before causes = rw (filter-append keep u (e ∷ [])) (at (keep e) refl) where
+    done : WellFormed n (filter keep u)
+    done = before (λ a b kept leads. causes a b kept (Earlier-front u (e ∷ []) a b leads.0, leads.1))
+
+    at : (b : Bool) → keep e ≡ b → WellFormed n (filter keep u ++ cond b (e ∷ []) [])
+    at false is = rw append-nil done
+    at true is = WellFormed-push n (filter keep u) e done (MayFollow-kept n keep u obeys_u e may (λ a h why. causes a e is ((h.0, length u, At-below u h.0 a h.1, At-front u (e ∷ []) h.0 a h.1, At-seam u e []), why)))

@@ -7,7 +7,7 @@ use Rattle.std.proofs.lemmas.List.{get_or_past}
 use Rattle.fbl_base.specs.declared.trace.Determinant.{Determinant}
 use Rattle.fbl_base.specs.Events.{same_determinant}
 use Rattle.fbl_base.proofs.Recorded.{Decides-same_determinant}
-use Rattle.fbl_base.proofs.Sizes.{some_member, len-within}
+use Rattle.fbl_base.proofs.Sizes.{len-remove_one, some_member, len-within}
 use Rattle.fbl_table.specs.declared.entry.Entry.{Entry}
 use Rattle.fbl_law.specs.Knowledge.{Members, Includes, Knowledge, table, checkpoint, IsUp, Names, Holds, IsRecorded, IsHolder, IsStable, IsClosed, IsAlwaysHeld}
 use Rattle.fbl_law.proofs.Lists.{Contains-here, Contains-there, Contains-cons_cases, Contains-none}
@@ -65,10 +65,7 @@ named_within tables d m named = elim (cases_lt m (length tables)) [
 ]
 
 some_has : (s : Members) (m : ℕ) → Includes s m → 0 < set.len s
-some_has s m has = at (set.len s) refl where
-  at : (k : ℕ) → set.len s ≡ k → 0 < k
-  at zero none = absurd (let e : s ≡ set.empty = set.empty_of_len s none in let f : set.contains set.empty m ≡ false = set.contains-empty nat_cmp m in let g : set.contains set.empty m ≡ true = rw e at has in cc)
-  at (suc k) some = omega arith
+some_has s m has = omega (arith, len-remove_one s m has)
 
 module _ (f : ℕ) (r : Knowledge) (d : Determinant) where
   Known-holds : (m : ℕ) → Known (Holds r d m)

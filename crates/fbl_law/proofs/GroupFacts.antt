@@ -1,5 +1,5 @@
 -- What holds in a sound group.
-use Rattle.std.proofs.Common.{◌≡◌, ◌≢◌, ℕ, ◌+◌, ◌<◌, ◌≤◌, true, false, List, [], ◌∷◌, length, map, drop, inl, inr, Some, slice_get, get_or, sym, ap, ◌∙◌, arith, subst}
+use Rattle.std.proofs.Common.{option_map, ◌≡◌, ◌≢◌, ℕ, ◌+◌, ◌<◌, ◌≤◌, true, false, List, [], ◌∷◌, length, map, drop, inl, inr, Some, slice_get, get_or, sym, ap, ◌∙◌, arith, subst}
 use Rattle.std.specs.List.{Contains}
 use Rattle.std.specs.FinSet as sets
 use Rattle.std.specs.Ordering.{nat_cmp}
@@ -23,14 +23,15 @@ use Rattle.fbl_member.specs.Members.{Message, MemberRecord, blank, next_determin
 use Rattle.fbl_law.specs.Knowledge.{table, send_mark, IsInFlight, IsUp, Names, MatchesTrace}
 use Rattle.fbl_law.specs.Groups.{GroupRecord, member, channel, marks, knowledge}
 use Rattle.fbl_law.specs.Sound.{IsSound}
-use Rattle.fbl_law.proofs.Lists.{Contains-at, Contains-cons_cases, Contains-none}
+use Rattle.fbl_law.proofs.Lists.{map-At, Contains-at, Contains-cons_cases, Contains-none}
 use Rattle.fbl_law.proofs.Safe.{up_at_ends, up_if_named}
 use Rattle.fbl_law.proofs.Tables.{Names-from_learned}
-use Rattle.fbl_law.proofs.Channels.{matched-Has}
+use Rattle.fbl_law.proofs.Channels.{Has-made, matched-Has}
 use Rattle.fbl_law.proofs.InOrder.{in_flight-beyond}
 use Rattle.fbl_law.proofs.Logs.{log-length}
 use Rattle.fbl_law.proofs.Receipts.{length-receipts_at}
 use Rattle.fbl_law.proofs.Replayed.{fold-received}
+use Rattle.std.proofs.lemmas.Option.{slice_get-map}
 
 -- the table of a member is that of its record
 pub table_member : (r : GroupRecord) (m : ℕ) → table (knowledge r) m ≡ (member r m).table
@@ -38,16 +39,11 @@ table_member r m = get_or-map (λ (x : MemberRecord). x.table) r.members m blank
 
 -- what matches the numbers of sends from q to p goes from q to p
 matched_ends : (numbers : List ℕ) (q p : ℕ) (xs : List Message) (v : Message) → map send_mark xs ≡ map (λ ssn. Send q ssn p) numbers → Contains xs v → (v.from ≡ q) × (v.to ≡ p)
-matched_ends numbers q p [] v same among = absurd (Contains-none v among)
-matched_ends [] q p (x ∷ xs) v same among = absurd cc
-matched_ends (k ∷ numbers) q p (x ∷ xs) v same among =
-    let here : send_mark x ≡ Send q k p = ap (λ l. get_or l 0 (send_mark x)) same in
-    let from : x.from ≡ q = cc in
-    let to : x.to ≡ p = cc in
-    elim (Contains-cons_cases x xs v among) [
-      | inl first ↦ (sym (ap (λ (y : Message). y.from) first) ∙ from, sym (ap (λ (y : Message). y.to) first) ∙ to)
-      | inr later ↦ matched_ends numbers q p xs v (ap (λ l. drop 1 l) same) later
-    ]
+matched_ends numbers q p xs v same among =
+    let there = Has-made xs v among in
+    let number = map-At (λ ssn. Send q ssn p) numbers there.0 (send_mark v) (ap (λ l. slice_get l there.0) (sym same) ∙ there.1) in
+    let is : Send q number.0 p ≡ send_mark v = number.2 in
+    (cc, cc)
 
 same_channel : (r : GroupRecord) (v : Message) (a b q p : ℕ) → a ≡ q → b ≡ p → Contains (channel r q p) v → Contains (channel r a b) v
 same_channel r v a b q p from to among = rw (from, to) among
@@ -68,13 +64,11 @@ not-held entries d none = false_from_ne_true (is_held entries d) (λ is. none (N
 
 -- the numbers that the trace has in flight, where the channel matches it
 pub front_number : (numbers : List ℕ) (q p : ℕ) (xs : List Message) (v : Message) → map send_mark xs ≡ map (λ ssn. Send q ssn p) numbers → slice_get xs 0 ≡ Some v → slice_get numbers 0 ≡ Some v.ssn
-front_number numbers q p [] v same first = cc
-front_number [] q p (x ∷ xs) v same first = cc
-front_number (k ∷ numbers) q p (x ∷ xs) v same first =
-    let is : x ≡ v = cc in
-    let here : send_mark x ≡ Send q k p = ap (λ l. get_or l 0 (send_mark x)) same in
-    let number : x.ssn ≡ k = cc in
-    cc
+front_number numbers q p xs v same first =
+    let there = map-At (λ ssn. Send q ssn p) numbers 0 (send_mark v) (ap (λ l. slice_get l 0) (sym same) ∙ slice_get-map send_mark xs 0 ∙ ap (option_map send_mark) first) in
+    let is : Send q there.0 p ≡ send_mark v = there.2 in
+    let number : there.0 ≡ v.ssn = cc in
+    there.1 ∙ ap Some number
 
 -- an event of a member's next number is new
 pub next_is_new : (n : ℕ) (t : List Mark) (to rsn from ssn : ℕ) → WellFormed n t → receipts_of t to < rsn → ¬ (Has t (Receipt to rsn from ssn))

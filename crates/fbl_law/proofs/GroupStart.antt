@@ -36,6 +36,7 @@ use Rattle.fbl_law.proofs.Notes.{sent-noted}
 use Rattle.fbl_law.proofs.GroupFacts.{table_member}
 use Rattle.fbl_law.proofs.Logs.{length-numbered, log-length}
 use Rattle.fbl_law.proofs.Replayed.{replayed-fresh}
+use Rattle.fbl_law.proofs.Channels.{messages_between}
 
 -- the send of a start after the events so far
 abbrev send_of : List Event → Start → Event
@@ -99,21 +100,11 @@ none_taken q p (Receipt to rsn from ssn ∷ t) e = cc
 
 -- the messages of the sends on a channel, by their marks
 marks_between : (q p : ℕ) (t : List Event) → map send_mark (filter (is_on q p) (filter_map message_of t)) ≡ map (λ ssn. Send q ssn p) (filter_map (sent_on q p) (map mark_of t))
-marks_between q p [] = refl
-marks_between q p (event.Receipt to rsn from ssn ∷ t) = marks_between q p t
-marks_between q p (event.Send from ssn to note ∷ t) = at (from == q) (to == p) refl refl (marks_between q p t) where
-  message : Message
-  message = record { from = from; to = to; ssn = ssn; note = note; carried = [] }
-
-  at : (a b : Bool) → (from == q) ≡ a → (to == p) ≡ b → map send_mark (filter (is_on q p) (filter_map message_of t)) ≡ map (λ ssn. Send q ssn p) (filter_map (sent_on q p) (map mark_of t))
-      → map send_mark (cond (a && b) (message ∷ filter (is_on q p) (filter_map message_of t)) (filter (is_on q p) (filter_map message_of t))) ≡ map (λ ssn. Send q ssn p) (cons_option (cond (a && b) (Some ssn) None) (filter_map (sent_on q p) (map mark_of t)))
-  at true true ea eb ih =
-      let e1 : from ≡ q = grind (arith, nat_tests) in
-      let e2 : to ≡ p = grind (arith, nat_tests) in
-      let here : Send from ssn to ≡ Send q ssn p = cc in
-      cc
-  at true false ea eb ih = ih
-  at false b ea eb ih = ih
+marks_between q p t = messages_between (filter_map message_of t) q p ∙ ap (map (λ ssn. Send q ssn p)) (sent t) where
+  sent : (u : List Event) → filter_map (sent_on q p) (map send_mark (filter_map message_of u)) ≡ filter_map (sent_on q p) (map mark_of u)
+  sent [] = refl
+  sent (event.Receipt to rsn from ssn ∷ u) = sent u
+  sent (event.Send from ssn to note ∷ u) = ap (λ ys. cons_option (sent_on q p (Send from ssn to)) ys) (sent u)
 
 -- each message of the sends is sent, and carries nothing
 message_sent : (t : List Event) (v : Message) → Contains (filter_map message_of t) v → (v.carried ≡ []) × ((i : ℕ) × (slice_get t i ≡ Some (event.Send v.from v.ssn v.to v.note)))

@@ -1,19 +1,19 @@
 -- The notes and receipts of a trace that grows.
-use Rattle.std.proofs.Common.{◌≡◌, ℕ, ◌+◌, ◌==◌, Bool, true, false, cond, List, [], ◌∷◌, ◌++◌, Some, None, slice_get, refl, ap, ◌∙◌}
+use Rattle.std.proofs.Common.{inl, inr, ◌≡◌, ℕ, ◌+◌, ◌==◌, Bool, true, false, cond, List, [], ◌∷◌, ◌++◌, Some, None, slice_get, refl, ap, ◌∙◌}
 use Rattle.std.specs.List.{filter_map, cons_option}
 use Rattle.fbl_base.specs.declared.trace.Note.{Note}
 use Rattle.fbl_base.specs.declared.trace.Event.{Event}
 use Rattle.fbl_base.specs.declared.trace.Event.TheVariants.{Receipt}
 use Rattle.fbl_base.specs.Fold.{sent, action_of, actions_of, notes_of, note_of, step_events, took}
-use Rattle.fbl_base.proofs.LawfulLaws.{notes_of-append, note_of-front, actions-append}
+use Rattle.fbl_base.proofs.LawfulLaws.{own_sends, other_sends, notes_of-sent, notes_of-append, note_of-front, actions-append}
 use Rattle.fbl_law.specs.Sound.{received_notes}
+use Rattle.std.proofs.lemmas.Bool.{cases_eq, ne_eqb}
 
 no_notes : (t : List Event) (p m before : ℕ) (sends : List (ℕ × Note)) → notes_of (filter_map (action_of t m) (step_events p before sends)) ≡ []
-no_notes t p m before [] = refl
-no_notes t p m before (s ∷ sends) = at (p == m) (no_notes t p m (before + 1) sends) where
-  at : (b : Bool) → notes_of (filter_map (action_of t m) (step_events p (before + 1) sends)) ≡ [] → notes_of (cons_option (cond b (Some (sent s)) None) (filter_map (action_of t m) (step_events p (before + 1) sends))) ≡ []
-  at true h = h
-  at false h = h
+no_notes t p m before sends = elim (cases_eq p m) [
+  | inl same ↦ rw same (ap notes_of (own_sends t m before sends) ∙ notes_of-sent sends)
+  | inr other ↦ ap notes_of (other_sends t p m before sends (ne_eqb p m other))
+]
 
 -- after a delivery the receiver has one note more, and no other member
 pub received_notes-delivered : (t : List Event) (p rsn q s before : ℕ) (note : Note) (sends : List (ℕ × Note)) (m : ℕ)

@@ -14,7 +14,7 @@ use Rattle.fbl_base.specs.Events.{mark_of}
 use Rattle.fbl_base.specs.Rules.{sent_on, taken_on, in_flight, MayFollow, WellFormed}
 use Rattle.fbl_base.specs.Fold.{Next, Progress, Logged, Lawful, note_of}
 use Rattle.fbl_base.proofs.Gets.{At-front, At-filter, At-filter_map, Apart, Apart-later}
-use Rattle.fbl_base.proofs.RulesLaws.{is_sent, WellFormed-front, MayFollow-last, in_flight-sent}
+use Rattle.fbl_base.proofs.RulesLaws.{WellFormed-keeps, is_sent, WellFormed-front, MayFollow-last, in_flight-sent}
 use Rattle.fbl_base.proofs.InFlightLaws.{filter_all, in_flight-send, in_flight-receipt, sent-rises}
 use Rattle.fbl_table.specs.declared.entry.Entry.{Entry}
 use Rattle.fbl_table.specs.Tables.{piggybacked}
@@ -54,15 +54,8 @@ fifo-one n t (Receipt p' r q' s) q p obeys may was =
     at true false ea eb = append-nil (filter_map (sent_on q p) t) ∙ was ∙ ap (λ (xs : List ℕ). xs ++ in_flight t q p) (sym (append-nil (filter_map (taken_on q p) t)))
     at false b ea eb = append-nil (filter_map (sent_on q p) t) ∙ was ∙ ap (λ (xs : List ℕ). xs ++ in_flight t q p) (sym (append-nil (filter_map (taken_on q p) t)))
 
-fifo-from : (n : ℕ) (u rest : List Mark) (q p : ℕ) → WellFormed n (u ++ rest) → filter_map (sent_on q p) u ≡ filter_map (taken_on q p) u ++ in_flight u q p → filter_map (sent_on q p) (u ++ rest) ≡ filter_map (taken_on q p) (u ++ rest) ++ in_flight (u ++ rest) q p
-fifo-from n u [] q p obeys was = rw (append-nil u) was
-fifo-from n u (e ∷ rest) q p obeys was =
-    let front : WellFormed n ((u ++ e ∷ []) ++ rest) = rw append_assoc obeys in
-    let one = WellFormed-front n (u ++ e ∷ []) rest front in
-    (rw append_assoc at (fifo-from n (u ++ e ∷ []) rest q p front (fifo-one n u e q p (WellFormed-front n u (e ∷ []) one) (MayFollow-last n u e one) was)))
-
 pub fifo : (n : ℕ) (t : List Mark) (q p : ℕ) → WellFormed n t → filter_map (sent_on q p) t ≡ filter_map (taken_on q p) t ++ in_flight t q p
-fifo n t q p obeys = fifo-from n [] t q p obeys refl
+fifo n t q p obeys = WellFormed-keeps n (λ u. filter_map (sent_on q p) u ≡ filter_map (taken_on q p) u ++ in_flight u q p) refl (λ u e. fifo-one n u e q p) t obeys
 
 -- in a rising list whose front has been taken, the numbers beyond the last one taken are the rest
 abbrev last_of : ℕ → List ℕ → ℕ

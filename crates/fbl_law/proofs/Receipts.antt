@@ -20,10 +20,7 @@ use Rattle.fbl_base.proofs.RulesLaws.{WellFormed-front, MayFollow-last}
 use Rattle.fbl_base.proofs.LawfulLaws.{receipts-noted}
 use Rattle.fbl_law.specs.Sound.{received_notes, last_taken, receipts_at, last_among}
 use Rattle.fbl_law.proofs.Lists.{filter-At, filter-passes}
-
-pub is-receipt : (e : Mark) (d : Determinant) → determinant_of e ≡ Some d → e ≡ receipt_of d
-is-receipt (Send q s p) d h = absurd cc
-is-receipt (Receipt p r q s) d h = (let e : ◌≡◌ {A = Determinant} (record { from = q; ssn = s; to = p; rsn = r }) d = cc in rw (← e) refl)
+use Rattle.fbl_base.proofs.Received.{is_receipt}
 
 receipts_more : (t : List Mark) (e : Mark) (p : ℕ) → receipts_of (t ++ e ∷ []) p ≡ receipts_of t p + cond (is_receipt_of p e) 1 0
 receipts_more t e p = sum_by_push (λ y. cond (is_receipt_of p y) 1 0) t e
@@ -60,7 +57,7 @@ receipts_at-Has t p j d here =
     let a = At-filter (λ (x : Determinant). x.to == p) (filter_map determinant_of t) j d here in
     let b = At-filter_map determinant_of t a.0 d a.1 in
     let passes : (d.to == p) ≡ true = filter-passes (λ (x : Determinant). x.to == p) (filter_map determinant_of t) j d here in
-    ((b.0, b.2 ∙ ap Some (is-receipt b.1 d b.3)), grind (arith, nat_tests))
+    ((b.0, b.2 ∙ ap Some (is_receipt b.1 d b.3)), grind (arith, nat_tests))
 
 -- and each receipt of the member is among them, at its number
 pub Has-receipts_at : (n : ℕ) (t : List Mark) (p j : ℕ) (d : Determinant) → WellFormed n t → Has t (receipt_of d) → d.to ≡ p → d.rsn ≡ j + 1 → slice_get (receipts_at t p) j ≡ Some d
