@@ -11,6 +11,7 @@ use Rattle.fbl_base.specs.Events.{At}
 use Rattle.fbl_base.specs.Rules.{is_send_of, is_receipt_of, sends_of, receipts_of, in_flight, MayFollow, ObeysAt, WellFormed}
 use Rattle.fbl_base.specs.Counted.{Counted, SendFits, ReceiptFits}
 use Rattle.fbl_base.proofs.InFlightLaws.{in_flight-send, in_flight-receipt}
+use Rattle.fbl_base.proofs.RulesLaws.{sends-step, receipts-step}
 
 module _ {A : Type 0} (n : ℕ) (t : List Mark) (c : Counts A) (most : n ≤ 16) (few : length t < 8192) (counted : Counted t c) where
   pub send_fits : (q s p : ℕ) → SendFits n c q s p ↔ MayFollow n t (Send q s p)
@@ -28,12 +29,6 @@ module _ {A : Type 0} (n : ℕ) (t : List Mark) (c : Counts A) (most : n ≤ 16)
 -- the rule at a place is the rule for its event
 pub obeys_at : (n : ℕ) (t : List Mark) (i : ℕ) (e : Mark) → At t i e → ObeysAt n t i ↔ MayFollow n (take i t) e
 obeys_at n t i e at = (λ h. h e at, λ h b at_b. (let same : e ≡ b = cc in rw (← same) h))
-
-sends-step : (t : List Mark) (e : Mark) (x : ℕ) → sends_of (t ++ e ∷ []) x ≡ sends_of t x + cond (is_send_of x e) 1 0
-sends-step t e x = rw (sum_by-append (λ y. cond (is_send_of x y) 1 0) t (e ∷ [])) (omega arith)
-
-receipts-step : (t : List Mark) (e : Mark) (x : ℕ) → receipts_of (t ++ e ∷ []) x ≡ receipts_of t x + cond (is_receipt_of x e) 1 0
-receipts-step t e x = rw (sum_by-append (λ y. cond (is_receipt_of x y) 1 0) t (e ∷ [])) (omega arith)
 
 -- a counter that is set to the next number
 counter_set : (xs : List ℕ) (q s x : ℕ) (count after : ℕ) → q < length xs → s ≡ get_or xs q 0 + 1 → get_or xs x 0 ≡ count → after ≡ count + cond (q == x) 1 0 → get_or (set_at xs q s) x 0 ≡ after

@@ -11,16 +11,13 @@ use Rattle.fbl_base.specs.Events.{At}
 use Rattle.fbl_base.specs.Precedence.{Has}
 use Rattle.fbl_base.specs.Rules.{is_send_of, sends_of, sent_on, taken_on, in_flight, MayFollow, WellFormed}
 use Rattle.fbl_base.proofs.Gets.{At-front, At-filter_map, Apart, Apart-filter, Apart-filter_map, slice_get-take}
-use Rattle.fbl_base.proofs.RulesLaws.{on_channel, is_sent, in_flight-sent, count_at, eqb-self, WellFormed-take}
+use Rattle.fbl_base.proofs.RulesLaws.{on_channel, is_sent, sent-before, count_at, eqb-self, WellFormed-take}
 
 -- a send's number is at most how many sends there are
 pub sent-number : (n : ℕ) (t : List Mark) → WellFormed n t → (q s p : ℕ) → Has t (Send q s p) → s ≤ sends_of t q
 sent-number n t obeys q s p has =
     let number = obeys has.0 (Send q s p) has.1 in
     omega (arith, number.3, count_at (is_send_of q) t has.0 (Send q s p) has.1 (eqb-self q))
-
-Has-take : (i : ℕ) (t : List Mark) (e : Mark) → Has (take i t) e → Has t e
-Has-take i t e has = (has.0, (rw take-append-drop at (At-front (take i t) (drop i t) has.0 e has.1)))
 
 is_taken : (q p s : ℕ) (e : Mark) → taken_on q p e ≡ Some s → (r : ℕ) × (e ≡ Receipt p r q s)
 is_taken q p s (Send q' s' p') h = cc
@@ -32,8 +29,8 @@ taken-sent n t obeys q p s j at =
     let r = At-filter_map (taken_on q p) t j s at in
     let e = is_taken q p s r.1 r.3 in
     let here : At t r.0 (Receipt p e.0 q s) = r.2 ∙ ap Some e.1 in
-    let may = obeys r.0 (Receipt p e.0 q s) here in
-    sent-number n t obeys q s p (Has-take r.0 t (Send q s p) (in_flight-sent (take r.0 t) q s p may.5))
+    let sent = sent-before n t obeys r.0 p e.0 q s here in
+    sent-number n t obeys q s p (sent.0, sent.2)
 
 -- the numbers on a channel rise
 pub sent-rises : (n : ℕ) (t : List Mark) → WellFormed n t → (q p x y : ℕ) → Apart (filter_map (sent_on q p) t) x y → x < y

@@ -15,8 +15,8 @@ use Rattle.fbl_base.specs.declared.trace.Mark.TheVariants as mark
 use Rattle.fbl_base.specs.Events.{At, mark_of}
 use Rattle.fbl_base.specs.Rules.{sends_of, is_send_of, MayFollow, WellFormed}
 use Rattle.fbl_base.specs.Fold.{Next, Action, took, sent, action_of, actions_of, notes_of, note_of, responses, start_of, starts_of, step_events, Lawful}
-use Rattle.fbl_base.proofs.Gets.{At-front}
-use Rattle.fbl_base.proofs.RulesLaws.{WellFormed-push, in_flight-sent, eqb-self}
+use Rattle.fbl_base.proofs.Gets.{map-At}
+use Rattle.fbl_base.proofs.RulesLaws.{WellFormed-push, sent-before, eqb-self}
 use Rattle.fbl_base.proofs.FoldLaws.{responses-push}
 
 -- a note that was sent stays so
@@ -84,20 +84,15 @@ sent-note (Receipt p r q' s ∷ t) (suc i) q k to x h = sent-note t i q k to x h
 pub receipts-noted : (n : ℕ) (t : List Event) → WellFormed n (map mark_of t) → (i to rsn from ssn : ℕ) → slice_get t i ≡ Some (Receipt to rsn from ssn) → (note : Note) × (note_of t from ssn ≡ Some note)
 receipts-noted n t obeys i to rsn from ssn at =
     let at_mark : At (map mark_of t) i (mark.Receipt to rsn from ssn) = slice_get-map mark_of t i ∙ (rw at) in
-    let may = obeys i (mark.Receipt to rsn from ssn) at_mark in
-    let sent' = in_flight-sent (take i (map mark_of t)) from ssn to may.5 in
-    let whole : At (map mark_of t) sent'.0 (mark.Send from ssn to) = (rw take-append-drop at (At-front (take i (map mark_of t)) (drop i (map mark_of t)) sent'.0 (mark.Send from ssn to) sent'.1)) in
-    is_send sent'.0 (slice_get t sent'.0) refl (sym (slice_get-map mark_of t sent'.0) ∙ whole) where
+    let sent' = sent-before n (map mark_of t) obeys i to rsn from ssn at_mark in
+    let event = map-At mark_of t sent'.0 (mark.Send from ssn to) sent'.2 in
+    by_event sent'.0 event.0 event.1 event.2 where
       by_event : (j : ℕ) (e : Event) → slice_get t j ≡ Some e → mark_of e ≡ mark.Send from ssn to → (note : Note) × (note_of t from ssn ≡ Some note)
       by_event j (Send q k p x) h is =
           let e1 : q ≡ from = cc in
           let e2 : k ≡ ssn = cc in
           (let r = sent-note t j q k p x h in (r.0, (rw (← e1, ← e2) r.1)))
       by_event j (Receipt p r q k) h is = cc
-
-      is_send : (j : ℕ) (o : Option Event) → slice_get t j ≡ o → option_map mark_of o ≡ Some (mark.Send from ssn to) → (note : Note) × (note_of t from ssn ≡ Some note)
-      is_send j None h is = cc
-      is_send j (Some e) h is = by_event j e h (cc)
 
 -- what the delivery adds to a member's actions
 added : (T : List Event) (p rsn q s before : ℕ) (note : Note) (sends : List (ℕ × Note)) (m : ℕ) → note_of T q s ≡ Some note → (((p ≡ m) × (filter_map (action_of T m) (Receipt p rsn q s ∷ step_events p before sends) ≡ took note ∷ map sent sends)) ⊎ (filter_map (action_of T m) (Receipt p rsn q s ∷ step_events p before sends) ≡ []))

@@ -1,16 +1,16 @@
 -- Laws of the rules of events.
-use Rattle.std.proofs.Common.{◌==◌, ◌&&◌, not, None, ℕ, zero, suc, Bool, true, cond, ◌≡◌, ◌<◌, inl, inr, List, [], ◌∷◌, ◌++◌, length, take, drop, Some, refl, ap, ◌∙◌, arith, count_by, slice_get}
+use Rattle.std.proofs.Common.{◌+◌, ◌==◌, ◌&&◌, not, None, ℕ, zero, suc, Bool, true, cond, ◌≡◌, ◌<◌, inl, inr, List, [], ◌∷◌, ◌++◌, length, take, drop, Some, refl, ap, ◌∙◌, arith, count_by, slice_get}
 use Rattle.std.proofs.lemmas.Bool.{and_parts, eqb-true}
 use Rattle.std.proofs.lemmas.Bool.Decides.{nat_tests}
 use Rattle.std.proofs.lemmas.Option.{cond_some}
 use Rattle.std.specs.List.{filter_map, list_any}
-use Rattle.std.proofs.lemmas.List.{append-nil, append_assoc, take-append-le, take-append-drop, take_all}
-use Rattle.std.proofs.lemmas.List.Sums.{sum_by-cons}
+use Rattle.std.proofs.lemmas.List.{length-take, append-nil, append_assoc, take-append-le, take-append-drop, take_all}
+use Rattle.std.proofs.lemmas.List.Sums.{sum_by-cons, sum_by_push}
 use Rattle.fbl_base.specs.declared.trace.Mark.{Mark}
 use Rattle.fbl_base.specs.declared.trace.Mark.TheVariants.{Send, Receipt}
 use Rattle.fbl_base.specs.Events.{At}
 use Rattle.fbl_base.specs.Precedence.{Has}
-use Rattle.fbl_base.specs.Rules.{is_send_of, is_receipt_of, sent_on, taken_on, in_flight, MayFollow, WellFormed}
+use Rattle.fbl_base.specs.Rules.{is_send_of, is_receipt_of, sends_of, receipts_of, sent_on, taken_on, in_flight, MayFollow, WellFormed}
 use Rattle.fbl_base.proofs.Gets.{At-front, At-new, At-below, At-push, At-filter, At-filter_map}
 
 -- the empty trace obeys the rules
@@ -48,6 +48,12 @@ WellFormed-keeps n P none more t obeys = from [] t obeys none where
 
 pub eqb-self : (x : ℕ) → (x == x) ≡ true
 eqb-self x = grind (arith, nat_tests)
+
+pub sends-step : (t : List Mark) (e : Mark) (x : ℕ) → sends_of (t ++ e ∷ []) x ≡ sends_of t x + cond (is_send_of x e) 1 0
+sends-step t e x = sum_by_push (λ y. cond (is_send_of x y) 1 0) t e
+
+pub receipts-step : (t : List Mark) (e : Mark) (x : ℕ) → receipts_of (t ++ e ∷ []) x ≡ receipts_of t x + cond (is_receipt_of x e) 1 0
+receipts-step t e x = sum_by_push (λ y. cond (is_receipt_of x y) 1 0) t e
 
 -- a place that passes the test is counted
 pub count_at : (p : Mark → Bool) (t : List Mark) (i : ℕ) (e : Mark) → At t i e → p e ≡ true → count_by p (take i t) < count_by p t
@@ -87,3 +93,11 @@ in_flight-sent t q s p first =
     let a = At-filter (λ ssn. not (list_any (λ taken. taken == ssn) (filter_map (taken_on q p) t))) (filter_map (sent_on q p) t) 0 s first in
     let b = At-filter_map (sent_on q p) t a.0 s a.1 in
     (b.0, b.2 ∙ ap Some (is_sent q p s b.1 b.3))
+
+-- the message of a receipt was sent at an earlier place
+pub sent-before : (n : ℕ) (t : List Mark) → WellFormed n t → (i to rsn from ssn : ℕ) → At t i (Receipt to rsn from ssn) → (j : ℕ) × (j < i) × At t j (Send from ssn to)
+sent-before n t obeys i to rsn from ssn here =
+    let may = obeys i (Receipt to rsn from ssn) here in
+    let sent = in_flight-sent (take i t) from ssn to may.5 in
+    let below = At-below (take i t) sent.0 (Send from ssn to) sent.1 in
+    (sent.0, omega (arith, below, length-take i t), (rw take-append-drop at (At-front (take i t) (drop i t) sent.0 (Send from ssn to) sent.1)))

@@ -7,13 +7,13 @@ use Rattle.fbl_base.specs.declared.trace.Mark.{Mark}
 use Rattle.fbl_base.specs.declared.trace.Mark.TheVariants.{Send, Receipt}
 use Rattle.fbl_base.specs.Precedence.{Has}
 use Rattle.fbl_base.specs.Rules.{sent_on, taken_on, in_flight, WellFormed}
-use Rattle.fbl_base.proofs.Gets.{At-filter, At-filter_map}
+use Rattle.fbl_base.proofs.Gets.{map-At, At-filter, At-filter_map}
 use Rattle.fbl_base.proofs.RulesLaws.{is_sent, WellFormed-front, MayFollow-last}
 use Rattle.fbl_base.proofs.InFlightLaws.{in_flight-send, in_flight-receipt}
 use Rattle.fbl_member.specs.Members.{Message}
 use Rattle.fbl_law.specs.Knowledge.{Knowledge, send_mark, IsInFlight, IsUp, MatchesTrace, IsDownEmpty}
 use Rattle.fbl_law.specs.Steps.{between, taken_off}
-use Rattle.fbl_law.proofs.Lists.{map-At, Contains-at, Contains-cons_cases, Contains-none}
+use Rattle.fbl_law.proofs.Lists.{Contains-at, Contains-cons_cases, Contains-none}
 use Rattle.fbl_law.proofs.Safe.{up_at_ends}
 use Rattle.std.proofs.lemmas.Option.{slice_get-map, slice_get-get_or}
 

@@ -23,20 +23,20 @@ use Rattle.fbl_law.proofs.GroupRecovery.{cut-lawful}
 use Rattle.fbl_law.proofs.Lists.{length-left}
 use Rattle.fbl_law.proofs.Receipts.{receipts_at-number}
 
--- counts that agree on the set
-pub count_in-same : (s : Members) (a b : ℕ → ℕ) (n : ℕ) → ((q : ℕ) → q < n → set.contains s q ≡ true → a q ≡ b q) → count_in s a n ≡ count_in s b n
-count_in-same s a b zero agree = refl
-count_in-same s a b (suc n) agree = at (set.contains s n) refl (count_in-same s a b n (λ q below. agree q (omega arith))) where
-  at : (c : Bool) → set.contains s n ≡ c → count_in s a n ≡ count_in s b n → count_in s a n + cond c (a n) 0 ≡ count_in s b n + cond c (b n) 0
-  at true is ih = (let here = agree n (omega arith) is in omega (arith, ih, here))
-  at false is ih = omega (arith, ih)
-
+-- counts that are no more on the set
 pub count_in-most : (s : Members) (a b : ℕ → ℕ) (n : ℕ) → ((q : ℕ) → q < n → set.contains s q ≡ true → a q ≤ b q) → count_in s a n ≤ count_in s b n
 count_in-most s a b zero most = omega arith
 count_in-most s a b (suc n) most = at (set.contains s n) refl (count_in-most s a b n (λ q below. most q (omega arith))) where
   at : (c : Bool) → set.contains s n ≡ c → count_in s a n ≤ count_in s b n → count_in s a n + cond c (a n) 0 ≤ count_in s b n + cond c (b n) 0
   at true is ih = (let here = most n (omega arith) is in omega (arith, ih, here))
   at false is ih = omega (arith, ih)
+
+-- counts that agree on the set
+pub count_in-same : (s : Members) (a b : ℕ → ℕ) (n : ℕ) → ((q : ℕ) → q < n → set.contains s q ≡ true → a q ≡ b q) → count_in s a n ≡ count_in s b n
+count_in-same s a b n agree =
+    let more = count_in-most s a b n (λ q below is. (let e = agree q below is in omega (arith, e))) in
+    let fewer = count_in-most s b a n (λ q below is. (let e = agree q below is in omega (arith, e))) in
+    omega (arith, more, fewer)
 
 -- one more of a member of the set
 pub count_in-step : (s : Members) (a b : ℕ → ℕ) (n p : ℕ) → p < n → set.contains s p ≡ true → b p ≡ a p + 1 → ((q : ℕ) → q ≢ p → b q ≡ a q) → count_in s b n ≡ count_in s a n + 1

@@ -2,7 +2,7 @@
 use Rattle.std.proofs.Common.{◌≡◌, ℕ, suc, ◌+◌, ◌-◌, ◌<◌, ◌≤◌, ◌||◌, not, nat_le, Bool, true, false, List, [], ◌∷◌, length, take, map, Some, slice_get, refl, sym, ap, ◌∙◌, arith}
 use Rattle.std.specs.List.{filter}
 use Rattle.std.specs.FinSet as set
-use Rattle.std.proofs.lemmas.Bool.Decides.{nat_tests}
+use Rattle.std.proofs.lemmas.Bool.Decides.{same_from_decides, nat_tests}
 use Rattle.std.proofs.lemmas.List.{take_all}
 use Rattle.std.proofs.lemmas.Option.{slice_get_within, slice_get-map}
 use Rattle.fbl_base.specs.declared.trace.Determinant.{Determinant}
@@ -36,9 +36,7 @@ filter-agree p q [] agree = refl
 filter-agree {X} p q (x ∷ xs) agree = (let e : p x ≡ q x = agree 0 x refl in let ih : filter p xs ≡ filter q xs = filter-agree p q xs (λ i. agree (suc i)) in rw (e, ih) refl)
 
 pub same-test : (a b : Bool) → (a ≡ true → b ≡ true) → (b ≡ true → a ≡ true) → a ≡ b
-same-test true b f g = sym (f refl)
-same-test false true f g = g refl
-same-test false false f g = refl
+same-test a b f g = same_from_decides {P = b ≡ true} a b (f, g) (λ h. h, λ h. h)
 
 module _ (next : Next) (old : GroupRecord) (sound : IsSound next old) (new : List Event) (cut : IsEventCut (Stays (knowledge old)) old.trace new) (work : ℕ → MemberRecord)
     (replays : (p : ℕ) → p < old.config.members → IsReplayed next old.config.members old.config.starts new p (work p))

@@ -15,7 +15,7 @@ use Rattle.fbl_base.specs.Events.{mark_of, determinant_of, same_determinant, rec
 use Rattle.fbl_base.specs.Precedence.{Has, Depends}
 use Rattle.fbl_base.specs.Fold.{Next}
 use Rattle.fbl_base.specs.Audit.{IsLost, HeldAt}
-use Rattle.fbl_base.proofs.Gets.{filter_map-At, At-below}
+use Rattle.fbl_base.proofs.Gets.{map-At, filter_map-At, At-below}
 use Rattle.fbl_base.proofs.LawfulLaws.{filter_map-shorter}
 use Rattle.fbl_base.proofs.Recorded.{Decides-same_determinant}
 use Rattle.fbl_base.proofs.Sizes.{len-within}
@@ -25,7 +25,7 @@ use Rattle.fbl_law.specs.Knowledge.{Members, Includes, IsDown, IsInFlight, Names
 use Rattle.fbl_law.specs.Groups.{GroupRecord, member, marks, knowledge, receipts}
 use Rattle.fbl_law.specs.Sound.{IsSound}
 use Rattle.fbl_law.specs.Dumps.{pairs_of, pairs_from, held_pairs, dump_of, HasDistinctTables, DumpObeysRules, DumpHasNoOrphan}
-use Rattle.fbl_law.proofs.Lists.{At-append, map-At, Contains-at, Contains-map, Contains-changed, Contains-none}
+use Rattle.fbl_law.proofs.Lists.{At-append, Contains-at, Contains-map, Contains-changed, Contains-none}
 use Rattle.fbl_law.proofs.Safe.{down_or_up}
 use Rattle.fbl_law.proofs.Tables.{Includes-union, Includes-right}
 use Rattle.fbl_law.proofs.Survivors.{survivors_record}

@@ -23,7 +23,7 @@ use Rattle.fbl_member.specs.Members.{Message, MemberRecord, blank, next_determin
 use Rattle.fbl_law.specs.Knowledge.{table, send_mark, IsInFlight, IsUp, Names, MatchesTrace}
 use Rattle.fbl_law.specs.Groups.{GroupRecord, member, channel, marks, knowledge}
 use Rattle.fbl_law.specs.Sound.{IsSound}
-use Rattle.fbl_law.proofs.Lists.{map-At, Contains-at, Contains-cons_cases, Contains-none}
+use Rattle.fbl_law.proofs.Lists.{Contains-at, Contains-cons_cases, Contains-none}
 use Rattle.fbl_law.proofs.Safe.{up_at_ends, up_if_named}
 use Rattle.fbl_law.proofs.Tables.{Names-from_learned}
 use Rattle.fbl_law.proofs.Channels.{Has-made, matched-Has}
@@ -32,6 +32,7 @@ use Rattle.fbl_law.proofs.Logs.{log-length}
 use Rattle.fbl_law.proofs.Receipts.{length-receipts_at}
 use Rattle.fbl_law.proofs.Replayed.{fold-received}
 use Rattle.std.proofs.lemmas.Option.{slice_get-map}
+use Rattle.fbl_base.proofs.Gets.{map-At}
 
 -- the table of a member is that of its record
 pub table_member : (r : GroupRecord) (m : ℕ) → table (knowledge r) m ≡ (member r m).table

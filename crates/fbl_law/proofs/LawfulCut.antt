@@ -20,7 +20,7 @@ use Rattle.fbl_base.specs.Events.{receipt_of}
 use Rattle.fbl_base.specs.Fold.{Next, Action, took, sent, action_of, actions_of, notes_of, note_of, responses, start_of, starts_of, Lawful}
 use Rattle.fbl_base.proofs.Gets.{At-front, At-below, slice_get-take}
 use Rattle.fbl_base.proofs.PlacesAndEvents.{one_place}
-use Rattle.fbl_base.proofs.RulesLaws.{in_flight-sent}
+use Rattle.fbl_base.proofs.RulesLaws.{sent-before}
 use Rattle.fbl_base.proofs.InFlightLaws.{filter_all}
 use Rattle.fbl_base.proofs.LawfulLaws.{filter_map-shorter, receipts-noted, notes_of-sent, notes_of-append, Lawful-begun}
 use Rattle.fbl_law.proofs.Lists.{At-append, At-seam}
@@ -270,12 +270,9 @@ module _ (n : ℕ) (keep : Mark → Bool) (t : List Event) (obeys : WellFormed n
   note_stays : (i to rsn from ssn : ℕ) → slice_get t i ≡ Some (Receipt to rsn from ssn) → keep (mark.Receipt to rsn from ssn) ≡ true → note_of (filter keeps t) from ssn ≡ note_of t from ssn
   note_stays i to rsn from ssn here kept' =
       let at_mark : At M i (mark.Receipt to rsn from ssn) = slice_get-map mark_of t i ∙ (rw here) in
-      let may = obeys i (mark.Receipt to rsn from ssn) at_mark in
-      let sent' = in_flight-sent (take i M) from ssn to may.5 in
-      let whole : At M sent'.0 (mark.Send from ssn to) = (rw take-append-drop at (At-front (take i M) (drop i M) sent'.0 (mark.Send from ssn to) sent'.1)) in
-      let below : sent'.0 < i = (let b = At-below (take i M) sent'.0 (mark.Send from ssn to) sent'.1 in omega (arith, b, length-take i M)) in
-      let send_kept : keep (mark.Send from ssn to) ≡ true = causes (mark.Send from ssn to) (mark.Receipt to rsn from ssn) kept' ((sent'.0, i, below, whole, at_mark), inr refl) in
-      note_of-kept keep t from ssn (λ to' has. let same : to ≡ to' = one-send n M obeys from ssn to to' (sent'.0, whole) has in rw (← same) send_kept)
+      let sent' = sent-before n M obeys i to rsn from ssn at_mark in
+      let send_kept : keep (mark.Send from ssn to) ≡ true = causes (mark.Send from ssn to) (mark.Receipt to rsn from ssn) kept' ((sent'.0, i, sent'.1, sent'.2, at_mark), inr refl) in
+      note_of-kept keep t from ssn (λ to' has. let same : to ≡ to' = one-send n M obeys from ssn to to' (sent'.0, sent'.2) has in rw (← same) send_kept)
 
   pub responds_left : (next : Next) (starts : List Start) → actions_of t p ≡ map sent (starts_of p starts) ++ responses next p n 0 (notes_of (actions_of t p))
       → actions_of (filter keeps t) p ≡ map sent (starts_of p starts) ++ responses next p n 0 (notes_of (actions_of (filter keeps t) p))

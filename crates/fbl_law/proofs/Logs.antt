@@ -14,7 +14,7 @@ use Rattle.fbl_base.specs.declared.trace.Mark.TheVariants as mark
 use Rattle.fbl_base.specs.Events.{mark_of}
 use Rattle.fbl_base.specs.Rules.{is_send_of, is_receipt_of, sends_of, receipts_of, WellFormed}
 use Rattle.fbl_base.specs.Fold.{Next, Logged, Progress, Action, took, sent, numbered, starts_of, begun, advanced, after_notes, action_of, actions_of, notes_of, note_of, responses, Lawful}
-use Rattle.fbl_base.proofs.RulesLaws.{WellFormed-front, MayFollow-last, eqb-self}
+use Rattle.fbl_base.proofs.RulesLaws.{sends-step, WellFormed-front, MayFollow-last, eqb-self}
 use Rattle.fbl_member.specs.Members.{logged_note}
 use Rattle.fbl_law.specs.Sound.{received_notes}
 
@@ -104,9 +104,6 @@ takes true None actions = refl
 takes true (Some note) actions = refl
 takes false o actions = refl
 
-sends_more : (t : List Mark) (e : Mark) (p : ℕ) → sends_of (t ++ e ∷ []) p ≡ sends_of t p + cond (is_send_of p e) 1 0
-sends_more t e p = sum_by-append (λ y. cond (is_send_of p y) 1 0) t (e ∷ []) ∙ omega arith
-
 -- the sends of the rest of a trace that obeys the rules, numbered on
 log_from : (n p : ℕ) (all u rest : List Event) → WellFormed n (map mark_of u ++ map mark_of rest) → numbered (sends_of (map mark_of u) p) (sends_in (filter_map (action_of all p) rest)) ≡ filter_map (logged_of p) rest
 log_from n p all u [] obeys = refl
@@ -117,7 +114,7 @@ log_from n p all u (Send q k to x ∷ rest) obeys =
     let may = MayFollow-last n M e (WellFormed-front n (M ++ e ∷ []) (map mark_of rest) front) in
     let marks : map mark_of (u ++ Send q k to x ∷ []) ≡ M ++ e ∷ [] = map-append mark_of u (Send q k to x ∷ []) in
     let ih = log_from n p all (u ++ Send q k to x ∷ []) rest (rw marks front) in
-    at (q == p) refl may.3 (ap (λ (t : List Mark). sends_of t p) marks ∙ sends_more M e p) ih
+    at (q == p) refl may.3 (ap (λ (t : List Mark). sends_of t p) marks ∙ sends-step M e p) ih
   where
     S : List (ℕ × Note)
     S = sends_in (filter_map (action_of all p) rest)
@@ -139,7 +136,7 @@ log_from n p all u (Receipt to r q k ∷ rest) obeys =
     let front : WellFormed n ((M ++ e ∷ []) ++ map mark_of rest) = rw append_assoc obeys in
     let marks : map mark_of (u ++ Receipt to r q k ∷ []) ≡ M ++ e ∷ [] = map-append mark_of u (Receipt to r q k ∷ []) in
     let ih = log_from n p all (u ++ Receipt to r q k ∷ []) rest (rw marks front) in
-    let more : sends_of (map mark_of (u ++ Receipt to r q k ∷ [])) p ≡ sends_of M p = ap (λ (t : List Mark). sends_of t p) marks ∙ sends_more M e p ∙ omega arith in
+    let more : sends_of (map mark_of (u ++ Receipt to r q k ∷ [])) p ≡ sends_of M p = ap (λ (t : List Mark). sends_of t p) marks ∙ sends-step M e p ∙ omega arith in
     ap (λ (xs : List (ℕ × Note)). numbered (sends_of M p) xs) (takes (to == p) (note_of all q k) (filter_map (action_of all p) rest)) ∙ ap (λ y. numbered y (sends_in (filter_map (action_of all p) rest))) (sym more) ∙ ih
 
 -- in a lawful trace the log after all the member's notes has the member's sends
@@ -235,7 +232,7 @@ logged-by next n starts t u rest p ssn to k x lawful is few =
     let cut : actions_of t p ≡ front ++ back = ap (filter_map (action_of t p)) (is ∙ sym (append_assoc u (Send p ssn to x ∷ []) rest)) ∙ filter_map-append (action_of t p) (u ++ Send p ssn to x ∷ []) rest in
     let more : map mark_of (u ++ Send p ssn to x ∷ []) ≡ M ++ e ∷ [] = map-append mark_of u (Send p ssn to x ∷ []) in
     let self : (p == p) ≡ true = eqb-self p in
-    let count : length (sends_in front) ≡ sends_of M p + 1 = sends-count t (u ++ Send p ssn to x ∷ []) p ∙ ap (λ (v : List Mark). sends_of v p) more ∙ sends_more M e p ∙ (rw self refl) in
+    let count : length (sends_in front) ≡ sends_of M p + 1 = sends-count t (u ++ Send p ssn to x ∷ []) p ∙ ap (λ (v : List Mark). sends_of v p) more ∙ sends-step M e p ∙ (rw self refl) in
     let taken : length (notes_of front) ≤ k =
     (let a = notes-count t (u ++ Send p ssn to x ∷ []) p in
     let b = ap (λ (v : List Mark). receipts_of v p) more ∙ sum_by-append (λ y. cond (is_receipt_of p y) 1 0) M (e ∷ []) in

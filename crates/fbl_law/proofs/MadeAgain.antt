@@ -13,7 +13,7 @@ use Rattle.fbl_base.specs.declared.trace.Mark.TheVariants.{Send, Receipt}
 use Rattle.fbl_base.specs.Events.{mark_of}
 use Rattle.fbl_base.specs.Rules.{sent_on, taken_on, in_flight, MayFollow, WellFormed}
 use Rattle.fbl_base.specs.Fold.{Next, Progress, Logged, Lawful, note_of}
-use Rattle.fbl_base.proofs.Gets.{At-front, At-filter, At-filter_map, Apart, Apart-later}
+use Rattle.fbl_base.proofs.Gets.{map-At, At-front, At-filter, At-filter_map, Apart, Apart-later}
 use Rattle.fbl_base.proofs.RulesLaws.{WellFormed-keeps, is_sent, WellFormed-front, MayFollow-last, in_flight-sent}
 use Rattle.fbl_base.proofs.InFlightLaws.{filter_all, in_flight-send, in_flight-receipt, sent-rises}
 use Rattle.fbl_table.specs.declared.entry.Entry.{Entry}
@@ -24,7 +24,7 @@ use Rattle.fbl_law.specs.Groups.{GroupRecord, member, channel, marks}
 use Rattle.fbl_law.specs.Sound.{last_taken, IsFold}
 use Rattle.fbl_law.specs.GroupSteps.{IsMadeAgain}
 use Rattle.fbl_law.specs.Replaying.{resent, resent_to}
-use Rattle.fbl_law.proofs.Lists.{map-At, Contains-none}
+use Rattle.fbl_law.proofs.Lists.{Contains-none}
 use Rattle.fbl_law.proofs.Logs.{logged_of, log-sends}
 use Rattle.fbl_law.proofs.Notes.{sent-noted}
 

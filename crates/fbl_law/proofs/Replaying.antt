@@ -18,7 +18,7 @@ use Rattle.fbl_base.specs.Rules.{is_receipt_of, is_send_of, WellFormed}
 use Rattle.fbl_base.specs.Fold.{Next, Progress, numbered, after_notes, note_of}
 use Rattle.fbl_base.proofs.Gets.{At-front, At-below}
 use Rattle.fbl_base.proofs.PrecedenceLaws.{Has-filter}
-use Rattle.fbl_base.proofs.RulesLaws.{in_flight-sent, WellFormed-front}
+use Rattle.fbl_base.proofs.RulesLaws.{sent-before, WellFormed-front}
 use Rattle.fbl_table.specs.declared.entry.Entry.{Entry}
 use Rattle.fbl_table.specs.Tables.{found, is_of_receipt}
 use Rattle.fbl_member.specs.Members.{MemberRecord, logged_note, replayed_by}
@@ -221,9 +221,8 @@ module _ (next : Next) (old : GroupRecord) (sound : IsSound next old) (new : Lis
           | inr up ↦ (let within = slice_get_within (receipts_at (map mark_of new) d.to) (work d.to).received d here in omega (arith, within, survivors d.to may.1 up))
           | inl down ↦
               let none = waiting d.to may.1 down d (found-all d.to (work d.to).received d here) in
-              let front = in_flight-sent (take has.0 (map mark_of new)) d.from d.ssn d.to may.5 in
-              let whole : At (map mark_of new) front.0 (Send d.from d.ssn d.to) = (rw take-append-drop at (At-front (take has.0 (map mark_of new)) (drop has.0 (map mark_of new)) front.0 (Send d.from d.ssn d.to) front.1)) in
-              let some = sent-again d.from d.ssn d.to may.0 (front.0, whole) sent in
+              let front = sent-before old.config.members (map mark_of new) cut-obeys has.0 d.to d.rsn d.from d.ssn has.1 in
+              let some = sent-again d.from d.ssn d.to may.0 (front.0, front.2) sent in
               let some-is = some.1 in
               cc
         ]
