@@ -15,7 +15,7 @@ use Rattle.fbl_base.specs.declared.trace.Mark.TheVariants as mark
 use Rattle.fbl_base.specs.Events.{At, mark_of}
 use Rattle.fbl_base.specs.Rules.{sends_of, is_send_of, MayFollow, WellFormed}
 use Rattle.fbl_base.specs.Fold.{Next, Action, took, sent, action_of, actions_of, notes_of, note_of, responses, start_of, starts_of, step_events, Lawful}
-use Rattle.fbl_base.proofs.Gets.{map-At}
+use Rattle.fbl_base.proofs.Gets.{filter_map-agree, map-At}
 use Rattle.fbl_base.proofs.RulesLaws.{WellFormed-push, sent-before, eqb-self}
 use Rattle.fbl_base.proofs.FoldLaws.{responses-push}
 
@@ -58,12 +58,13 @@ sends_obey n p before u (s ∷ sends) obeys member count allowed room =
 
 -- what a member does stays the same as the trace grows, where each receipt's note is known
 actions-front : (t s u : List Event) (m : ℕ) → ((i to rsn from ssn : ℕ) → slice_get u i ≡ Some (Receipt to rsn from ssn) → (note : Note) × (note_of t from ssn ≡ Some note)) → filter_map (action_of (t ++ s) m) u ≡ filter_map (action_of t m) u
-actions-front t s [] m noted = refl
-actions-front t s (Send q k to x ∷ u) m noted = ap (λ xs. cons_option (action_of t m (Send q k to x)) xs) (actions-front t s u m (λ i. noted (suc i)))
-actions-front t s (Receipt to rsn from ssn ∷ u) m noted =
-    let n = noted 0 to rsn from ssn refl in
-    let e : note_of (t ++ s) from ssn ≡ note_of t from ssn = note_of-front t s from ssn n.0 n.1 ∙ sym n.1 in
-    rw e (ap (λ xs. cons_option (action_of t m (Receipt to rsn from ssn)) xs) (actions-front t s u m (λ i. noted (suc i))))
+actions-front t s u m noted = filter_map-agree (action_of (t ++ s) m) (action_of t m) u agree where
+  agree : (i : ℕ) (e : Event) → slice_get u i ≡ Some e → action_of (t ++ s) m e ≡ action_of t m e
+  agree i (Send q k to x) here = refl
+  agree i (Receipt to rsn from ssn) here =
+      let n = noted i to rsn from ssn here in
+      let e : note_of (t ++ s) from ssn ≡ note_of t from ssn = note_of-front t s from ssn n.0 n.1 ∙ sym n.1 in
+      rw e refl
 
 pub sent-note : (t : List Event) (i q k to : ℕ) (x : Note) → slice_get t i ≡ Some (Send q k to x) → (note : Note) × (note_of t q k ≡ Some note)
 sent-note [] i q k to x h = cc

@@ -1,13 +1,14 @@
 -- What a cut keeps.
-use Rattle.std.proofs.Common.{◌≡◌, ℕ, zero, suc, ◌<◌, ◌==◌, not, Bool, true, false, cond, List, [], ◌∷◌, ◌++◌, length, take, inl, inr, ◌⊎◌, arith, refl, ap, ◌∙◌, Option, Some, None, slice_get, count_by, append_assoc}
+use Rattle.std.proofs.Common.{map, ◌≡◌, ℕ, zero, suc, ◌<◌, ◌==◌, not, Bool, true, false, cond, List, [], ◌∷◌, ◌++◌, length, take, inl, inr, ◌⊎◌, arith, refl, ap, ◌∙◌, Option, Some, None, slice_get, count_by, append_assoc}
 use Rattle.std.specs.List.{filter, filter_map, list_any}
 use Rattle.std.proofs.lemmas.Bool.Decides.{nat_tests}
 use Rattle.std.proofs.lemmas.List.{append-nil}
 use Rattle.std.proofs.lemmas.List.Elements.{filter-append}
 use Rattle.std.proofs.lemmas.List.Sums.{sum_by-cons}
+use Rattle.fbl_base.specs.declared.trace.Event.{Event}
 use Rattle.fbl_base.specs.declared.trace.Mark.{Mark}
 use Rattle.fbl_base.specs.declared.trace.Mark.TheVariants.{Send, Receipt}
-use Rattle.fbl_base.specs.Events.{At, member_of, send_of}
+use Rattle.fbl_base.specs.Events.{mark_of, At, member_of, send_of}
 use Rattle.fbl_base.specs.Precedence.{Has, Leads, Precedes, itself, step}
 use Rattle.fbl_base.specs.Rules.{is_send_of, is_receipt_of, sends_of, receipts_of, sent_on, taken_on, in_flight, MayFollow, WellFormed}
 use Rattle.fbl_base.proofs.Gets.{filter_map-At, At-front, At-below, Apart, Apart-filter, Apart-filter_map, slice_get-take}
@@ -42,6 +43,14 @@ map-kept {Y} keep g u all = filter_map-kept keep g g u (λ i e here. at e (g e) 
   at : (e : Mark) (o : Option Y) → g e ≡ o → ((y : Y) → g e ≡ Some y → keep e ≡ true) → ((keep e ≡ true) × (g e ≡ g e)) ⊎ ((g e ≡ None) × (g e ≡ None))
   at e None is kept = inr (is, is)
   at e (Some y) is kept = inl (kept y is, refl)
+
+-- the two ways to leave events out
+pub marks-filter : (keep : Mark → Bool) (t : List Event) → map mark_of (filter (λ e. keep (mark_of e)) t) ≡ filter keep (map mark_of t)
+marks-filter keep [] = refl
+marks-filter keep (x ∷ t) = at (keep (mark_of x)) (marks-filter keep t) where
+  at : (b : Bool) → map mark_of (filter (λ e. keep (mark_of e)) t) ≡ filter keep (map mark_of t) → map mark_of (cond b (x ∷ filter (λ e. keep (mark_of e)) t) (filter (λ e. keep (mark_of e)) t)) ≡ cond b (mark_of x ∷ filter keep (map mark_of t)) (filter keep (map mark_of t))
+  at true ih = ap (λ (ys : List Mark). mark_of x ∷ ys) ih
+  at false ih = ih
 
 -- what leads to a kept event is kept
 abbrev pub KeepsCauses : (Mark → Bool) → List Mark → Type 0

@@ -18,15 +18,16 @@ use Rattle.fbl_base.specs.Precedence.{Has, Earlier}
 use Rattle.fbl_base.specs.Rules.{WellFormed}
 use Rattle.fbl_base.specs.Events.{receipt_of}
 use Rattle.fbl_base.specs.Fold.{Next, Action, took, sent, action_of, actions_of, notes_of, note_of, responses, start_of, starts_of, Lawful}
-use Rattle.fbl_base.proofs.Gets.{At-front, At-below, slice_get-take}
+use Rattle.fbl_base.proofs.Gets.{At-filter, filter_map-agree, At-front, At-below, slice_get-take}
 use Rattle.fbl_base.proofs.PlacesAndEvents.{one_place}
 use Rattle.fbl_base.proofs.RulesLaws.{sent-before}
 use Rattle.fbl_base.proofs.InFlightLaws.{filter_all}
 use Rattle.fbl_base.proofs.LawfulLaws.{filter_map-shorter, receipts-noted, notes_of-sent, notes_of-append, Lawful-begun}
-use Rattle.fbl_law.proofs.Lists.{At-append, At-seam}
+use Rattle.fbl_law.proofs.Lists.{At-append, At-seam, filter-passes}
 use Rattle.fbl_law.proofs.Appended.{Has-append}
-use Rattle.fbl_law.proofs.Cut.{KeepsCauses, WellFormed-kept}
-use Rattle.fbl_law.proofs.Notes.{one-send}
+use Rattle.fbl_law.proofs.Cut.{KeepsCauses, WellFormed-kept, marks-filter}
+use Rattle.fbl_law.proofs.CutFolds.{note-left}
+use Rattle.fbl_law.proofs.Notes.{noted-sent, send-mark, one-send}
 
 -- an action, and whether it is kept
 abbrev Flagged : Type 0
@@ -94,33 +95,6 @@ responds_kept next p n sends notes fs o is =
 abbrev pub KeepsResponses : (Mark → Bool) → List Mark → Type 0
 KeepsResponses keep t =
     (e : Mark) → Has t e → ((d : Determinant) → ¬ (e ≡ receipt_of d)) → ((d : Determinant) → d.to ≡ member_of e → Earlier t (receipt_of d) e → keep (receipt_of d) ≡ true) → keep e ≡ true
-
--- the two ways to leave events out
-pub marks-filter : (keep : Mark → Bool) (t : List Event) → map mark_of (filter (λ e. keep (mark_of e)) t) ≡ filter keep (map mark_of t)
-marks-filter keep [] = refl
-marks-filter keep (x ∷ t) = at (keep (mark_of x)) (marks-filter keep t) where
-  at : (b : Bool) → map mark_of (filter (λ e. keep (mark_of e)) t) ≡ filter keep (map mark_of t) → map mark_of (cond b (x ∷ filter (λ e. keep (mark_of e)) t) (filter (λ e. keep (mark_of e)) t)) ≡ cond b (mark_of x ∷ filter keep (map mark_of t)) (filter keep (map mark_of t))
-  at true ih = ap (λ (ys : List Mark). mark_of x ∷ ys) ih
-  at false ih = ih
-
--- a message's note stays where its send is kept
-note_of-kept : (keep : Mark → Bool) (t : List Event) (from ssn : ℕ) → ((to : ℕ) → Has (map mark_of t) (mark.Send from ssn to) → keep (mark.Send from ssn to) ≡ true) → note_of (filter (λ e. keep (mark_of e)) t) from ssn ≡ note_of t from ssn
-note_of-kept keep [] from ssn sends = refl
-note_of-kept keep (Receipt to rsn q k ∷ t) from ssn sends = at (keep (mark.Receipt to rsn q k)) (note_of-kept keep t from ssn (λ to' h. sends to' (suc h.0, h.1))) where
-  at : (b : Bool) → note_of (filter (λ e. keep (mark_of e)) t) from ssn ≡ note_of t from ssn → note_of (cond b (Receipt to rsn q k ∷ filter (λ e. keep (mark_of e)) t) (filter (λ e. keep (mark_of e)) t)) from ssn ≡ note_of t from ssn
-  at true ih = ih
-  at false ih = ih
-note_of-kept keep (Send q k to x ∷ t) from ssn sends = at (keep (mark.Send q k to)) (q == from) (k == ssn) refl refl refl (note_of-kept keep t from ssn (λ to' h. sends to' (suc h.0, h.1))) where
-  at : (b c d : Bool) → keep (mark.Send q k to) ≡ b → (q == from) ≡ c → (k == ssn) ≡ d → note_of (filter (λ e. keep (mark_of e)) t) from ssn ≡ note_of t from ssn → note_of (cond b (Send q k to x ∷ filter (λ e. keep (mark_of e)) t) (filter (λ e. keep (mark_of e)) t)) from ssn ≡ cond (c && d) (Some x) (note_of t from ssn)
-  at true true true eb ec ed ih = rw (ec, ed) refl
-  at true true false eb ec ed ih = rw (ec, ed) ih
-  at true false d eb ec ed ih = rw ec ih
-  at false true true eb ec ed ih =
-      let e1 : q ≡ from = grind (arith, nat_tests) in
-      let e2 : k ≡ ssn = grind (arith, nat_tests) in
-      absurd (let yes' : keep (mark.Send from ssn to) ≡ true = sends to (0, (rw (e1, e2) refl)) in cc)
-  at false true false eb ec ed ih = ih
-  at false false d eb ec ed ih = ih
 
 only : (x y : Mark) → Has (x ∷ []) y → x ≡ y
 only x y h = at h.0 h.1 where
@@ -253,31 +227,29 @@ module _ (n : ℕ) (keep : Mark → Bool) (t : List Event) (obeys : WellFormed n
   orderly = orderly_from true [] t refl (λ yes' d to has. absurd (let here : At [] has.0 (receipt_of d) = has.1 in cc), λ no'. absurd cc)
 
   -- the notes of kept receipts stay
-  same_notes : (u : List Event) → ((i to rsn from ssn : ℕ) → slice_get u i ≡ Some (Receipt to rsn from ssn) → keep (mark.Receipt to rsn from ssn) ≡ true → note_of (filter keeps t) from ssn ≡ note_of t from ssn)
-      → filter_map (action_of (filter keeps t) p) (filter keeps u) ≡ filter_map (action_of t p) (filter keeps u)
-  same_notes [] notes = refl
-  same_notes (Send q k to x ∷ u) notes = at (keep (mark.Send q k to)) (same_notes u (λ i. notes (suc i))) where
-    at : (b : Bool) → filter_map (action_of (filter keeps t) p) (filter keeps u) ≡ filter_map (action_of t p) (filter keeps u)
-        → filter_map (action_of (filter keeps t) p) (cond b (Send q k to x ∷ filter keeps u) (filter keeps u)) ≡ filter_map (action_of t p) (cond b (Send q k to x ∷ filter keeps u) (filter keeps u))
-    at true ih = ap (λ ys. cons_option (action_of t p (Send q k to x)) ys) ih
-    at false ih = ih
-  same_notes (Receipt to r q k ∷ u) notes = at (keep (mark.Receipt to r q k)) refl (same_notes u (λ i. notes (suc i))) where
-    at : (b : Bool) → keep (mark.Receipt to r q k) ≡ b → filter_map (action_of (filter keeps t) p) (filter keeps u) ≡ filter_map (action_of t p) (filter keeps u)
-        → filter_map (action_of (filter keeps t) p) (cond b (Receipt to r q k ∷ filter keeps u) (filter keeps u)) ≡ filter_map (action_of t p) (cond b (Receipt to r q k ∷ filter keeps u) (filter keeps u))
-    at true eb ih = let e = notes 0 to r q k refl eb in rw e (ap (λ ys. cons_option (action_of t p (Receipt to r q k)) ys) ih)
-    at false eb ih = ih
-
   note_stays : (i to rsn from ssn : ℕ) → slice_get t i ≡ Some (Receipt to rsn from ssn) → keep (mark.Receipt to rsn from ssn) ≡ true → note_of (filter keeps t) from ssn ≡ note_of t from ssn
   note_stays i to rsn from ssn here kept' =
       let at_mark : At M i (mark.Receipt to rsn from ssn) = slice_get-map mark_of t i ∙ (rw here) in
       let sent' = sent-before n M obeys i to rsn from ssn at_mark in
       let send_kept : keep (mark.Send from ssn to) ≡ true = causes (mark.Send from ssn to) (mark.Receipt to rsn from ssn) kept' ((sent'.0, i, sent'.1, sent'.2, at_mark), inr refl) in
-      note_of-kept keep t from ssn (λ to' has. let same : to ≡ to' = one-send n M obeys from ssn to to' (sent'.0, sent'.2) has in rw (← same) send_kept)
+      let noted = receipts-noted n t obeys i to rsn from ssn here in
+      let sent = noted-sent t from ssn noted.0 noted.1 in
+      let same : to ≡ sent.1 = one-send n M obeys from ssn to sent.1 (sent'.0, sent'.2) (sent.0, send-mark t sent.0 from ssn sent.1 noted.0 sent.2) in
+      note-left n keep t obeys causes sent.0 from ssn sent.1 noted.0 sent.2 (ap (λ x. keep (mark.Send from ssn x)) (sym same) ∙ send_kept) ∙ sym noted.1
+
+  same_actions : filter_map (action_of (filter keeps t) p) (filter keeps t) ≡ filter_map (action_of t p) (filter keeps t)
+  same_actions = filter_map-agree (action_of (filter keeps t) p) (action_of t p) (filter keeps t) agree where
+    agree : (i : ℕ) (e : Event) → slice_get (filter keeps t) i ≡ Some e → action_of (filter keeps t) p e ≡ action_of t p e
+    agree i (Send q k to x) here = refl
+    agree i (Receipt to r q k) here =
+        let was = At-filter keeps t i (Receipt to r q k) here in
+        let e : note_of (filter keeps t) q k ≡ note_of t q k = note_stays was.0 to r q k was.1 (filter-passes keeps t i (Receipt to r q k) here) in
+        rw e refl
 
   pub responds_left : (next : Next) (starts : List Start) → actions_of t p ≡ map sent (starts_of p starts) ++ responses next p n 0 (notes_of (actions_of t p))
       → actions_of (filter keeps t) p ≡ map sent (starts_of p starts) ++ responses next p n 0 (notes_of (actions_of (filter keeps t) p))
   responds_left next starts was =
-      let all : actions_of (filter keeps t) p ≡ kept (flagged t) = same_notes t note_stays ∙ sym (kept-flagged t) in
+      let all : actions_of (filter keeps t) p ≡ kept (flagged t) = same_actions ∙ sym (kept-flagged t) in
       rw all (responds_kept next p n (starts_of p starts) (notes_of (actions_of t p)) (flagged t) orderly (flags-flagged t ∙ was))
 
 -- where each event is a start, none is a receipt

@@ -61,18 +61,15 @@ fifo n t q p obeys = WellFormed-keeps n (λ u. filter_map (sent_on q p) u ≡ fi
 abbrev last_of : ℕ → List ℕ → ℕ
 last_of z xs = fold (λ last x. x) z xs
 
-last-above : (z : ℕ) (xs : List ℕ) → ((i x : ℕ) → slice_get xs i ≡ Some x → z < x) → z ≤ last_of z xs
-last-above z [] above = omega arith
-last-above z (x ∷ xs) above = at xs x (above 0 x refl) (λ i. above (suc i)) where
-  at : (ys : List ℕ) (y : ℕ) → z < y → ((i x : ℕ) → slice_get ys i ≡ Some x → z < x) → z ≤ last_of y ys
-  at [] y below above' = omega arith
-  at (y' ∷ ys) y below above' = at ys y' (above' 0 y' refl) (λ i. above' (suc i))
+last-above : (z y : ℕ) (xs : List ℕ) → z ≤ y → ((i x : ℕ) → slice_get xs i ≡ Some x → z < x) → z ≤ last_of y xs
+last-above z y [] below above = below
+last-above z y (x ∷ xs) below above = last-above z x xs (omega (arith, above 0 x refl)) (λ i. above (suc i))
 
 beyond-last : (z : ℕ) (xs ys : List ℕ) → ((i x : ℕ) → slice_get (xs ++ ys) i ≡ Some x → z < x) → ((x y : ℕ) → Apart (xs ++ ys) x y → x < y) → filter (λ x. nat_lt (last_of z xs) x) (xs ++ ys) ≡ ys
 beyond-last z [] ys above rises = filter_all (λ x. nat_lt z x) ys (λ i x here. (let below = above i x here in grind (arith, nat_tests)))
 beyond-last z (x ∷ xs) ys above rises =
     let later : (i y : ℕ) → slice_get (xs ++ ys) i ≡ Some y → x < y = λ i y here. rises x y (0, suc i, omega arith, refl, here) in
-    let most : x ≤ last_of x xs = last-above x xs (λ i y here. later i y (At-front xs ys i y here)) in
+    let most : x ≤ last_of x xs = last-above x x xs (omega arith) (λ i y here. later i y (At-front xs ys i y here)) in
     let not-beyond : nat_lt (last_of x xs) x ≡ false = grind (arith, nat_tests) in
     rw not-beyond (beyond-last x xs ys later (λ a b apart. rises a b (Apart-later x (xs ++ ys) a b apart)))
 

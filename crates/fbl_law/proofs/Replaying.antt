@@ -30,9 +30,8 @@ use Rattle.fbl_law.specs.Replay.{IsSentAgain, IsStuck}
 use Rattle.fbl_law.specs.Replaying.{IsNextReplay, gathered_table}
 use Rattle.fbl_law.proofs.Lists.{some-at, length-left, Contains-here, Contains-there, Contains-cons_cases, Contains-none}
 use Rattle.fbl_law.proofs.Safe.{down_or_up, IsRecorded-before, Has-recorded}
-use Rattle.fbl_law.proofs.Cut.{Has-kept, kept-Has}
+use Rattle.fbl_law.proofs.Cut.{marks-filter, Has-kept, kept-Has}
 use Rattle.fbl_law.proofs.CutLaw.{stays_is_recorded}
-use Rattle.fbl_law.proofs.LawfulCut.{marks-filter}
 use Rattle.fbl_law.proofs.Gather.{entries_gathered, recorded_gathered}
 use Rattle.fbl_law.proofs.Replay.{never_stuck}
 use Rattle.fbl_law.proofs.GroupRecovery.{cut-lawful}

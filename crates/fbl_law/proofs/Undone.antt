@@ -11,8 +11,7 @@ use Rattle.fbl_base.specs.Fold.{Next}
 use Rattle.fbl_law.specs.Steps.{Stays, IsEventCut}
 use Rattle.fbl_law.specs.Groups.{GroupRecord, marks, knowledge, receipts, is_recorded}
 use Rattle.fbl_law.specs.Sound.{IsSound}
-use Rattle.fbl_law.proofs.Cut.{Has-kept, kept-Has}
-use Rattle.fbl_law.proofs.LawfulCut.{marks-filter}
+use Rattle.fbl_law.proofs.Cut.{marks-filter, Has-kept, kept-Has}
 use Rattle.fbl_law.proofs.GroupStrike.{recorded_test}
 use Rattle.fbl_base.proofs.Received.{is_receipt}
 use Rattle.fbl_law.proofs.CutCounts.{same-test}
