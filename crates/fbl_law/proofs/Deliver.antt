@@ -23,7 +23,7 @@ use Rattle.fbl_law.proofs.Appended.{Has-append, Has-behind, disjoint, Precedes-w
 use Rattle.fbl_law.proofs.Lists.{Contains-at, Contains-there, Contains-from_filter}
 use Rattle.fbl_law.proofs.Channels.{AreSent, Has-made, made-Has, channel-delivered}
 use Rattle.fbl_law.proofs.Numbered.{count-grown, added-later}
-use Rattle.fbl_law.proofs.Safe.{never_both, nobody_down_empty, IsBeforeCheckpoint-same}
+use Rattle.fbl_law.proofs.Safe.{Has-named, never_both, nobody_down_empty, IsBeforeCheckpoint-same}
 use Rattle.fbl_law.proofs.Tables.{Includes-insert, Includes-insert_cases, Includes-only, Includes-union, Includes-left, Names-learned_kept, Names-learned_gained, Names-noted_kept, Names-noted, Contains-noted, Contains-piggybacked, passed_or_known, Names-from_table, learned-keeps}
 
 pub Names-piggybacked : (f : ℕ) (entries : List Entry) (d : Determinant) → Names (piggybacked f entries) d → Names entries d
@@ -231,16 +231,6 @@ module _ (n f : ℕ) (old new : Knowledge) (v : Message) (rsn : ℕ) (made : Lis
         ]
       ]
 
-  -- what a table or a message names is in the trace
-  Has-named : (m : ℕ) (c : Determinant) → Names (table old m) c → Has old.trace (receipt_of c)
-  Has-named m c named = subst (λ (x : Determinant). Has old.trace (receipt_of x)) named.2 (known.tables m named.0 (was_up m) named.1).0.0
-
-  Has-carried : (x : Message) (c : Determinant) → IsInFlight old x → Names x.carried c → Has old.trace (receipt_of c)
-  Has-carried x c flies named = subst (λ (y : Determinant). Has old.trace (receipt_of y)) named.2 (known.messages x named.0 flies named.1).0.0
-
-  Has-saved : (m : ℕ) (c : Determinant) → Names (checkpoint old m).table c → Has old.trace (receipt_of c)
-  Has-saved m c named = subst (λ (x : Determinant). Has old.trace (receipt_of x)) named.2 (known.checkpoints m named.0 named.1).0.0
-
   -- the events added are no earlier than a checkpoint
   reached_event : (b : Mark) → IsBeforeCheckpoint old b → NamesCauses f new (checkpoint old (member_of b)).table b
   reached_event b reached d before =
@@ -269,20 +259,20 @@ module _ (n f : ℕ) (old new : Knowledge) (v : Message) (rsn : ℕ) (made : Lis
       | inl same ↦ rw same (receiver_named c (rw same at named))
       | inr other ↦
           let was : Names (table old m) c = rw (s.others m other) at named in
-          rw (s.others m other) (kept (table old m) (receipt_of c) (Has-named m c was) (closed.tables m c (was_up m) was))
+          rw (s.others m other) (kept (table old m) (receipt_of c) (Has-named old (table old m) (λ e h. (known.tables m e (was_up m) h).0) c was) (closed.tables m c (was_up m) was))
     ];
     sends = λ x in_new. elim (messages x in_new) [
       | inl old_one ↦ kept x.carried (send_mark x) (sent x old_one) (closed.sends x old_one)
       | inr made ↦ rw made.2 (new_table v.to (send_mark x) refl (mine (send_mark x) (made_is_added x made.1)))
     ];
     carried = λ x c in_new named. elim (messages x in_new) [
-      | inl old_one ↦ kept x.carried (receipt_of c) (Has-carried x c old_one named) (closed.carried x c old_one named)
+      | inl old_one ↦ kept x.carried (receipt_of c) (Has-named old x.carried (λ e h. (known.messages x e old_one h).0) c named) (closed.carried x c old_one named)
       | inr made ↦ rw made.2 (new_table v.to (receipt_of c) refl (receiver_named c (Names-piggybacked f (table new v.to) c (rw made.2 at named))))
     ];
     reached = λ b reached. rw (same_checkpoint (member_of b)) (reached_event b (IsBeforeCheckpoint-same old new b (same_checkpoint (member_of b)) reached));
     checkpoints = λ m c named.
         let was : Names (checkpoint old m).table c = rw (same_checkpoint m) at named in
-        rw (same_checkpoint m) (kept (checkpoint old m).table (receipt_of c) (Has-saved m c was) (closed.checkpoints m c was));
+        rw (same_checkpoint m) (kept (checkpoint old m).table (receipt_of c) (Has-named old (checkpoint old m).table (λ e h. (known.checkpoints m e h).0) c was) (closed.checkpoints m c was));
   }
 
   pub MatchesTrace-delivered : ((q p : ℕ) → IsUp old q → IsUp old p → MatchesTrace old q p) → (q p : ℕ) → MatchesTrace new q p

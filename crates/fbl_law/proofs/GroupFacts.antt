@@ -24,7 +24,7 @@ use Rattle.fbl_law.specs.Knowledge.{table, send_mark, IsInFlight, IsUp, Names, M
 use Rattle.fbl_law.specs.Groups.{GroupRecord, member, channel, marks, knowledge}
 use Rattle.fbl_law.specs.Sound.{IsSound}
 use Rattle.fbl_law.proofs.Lists.{Contains-at, Contains-cons_cases, Contains-none}
-use Rattle.fbl_law.proofs.Safe.{up_at_ends, up_if_named}
+use Rattle.fbl_law.proofs.Safe.{Has-named, up_at_ends, up_if_named}
 use Rattle.fbl_law.proofs.Tables.{Names-from_learned}
 use Rattle.fbl_law.proofs.Channels.{Has-made, matched-Has}
 use Rattle.fbl_law.proofs.InOrder.{in_flight-beyond}
@@ -111,11 +111,10 @@ module _ (next : Next) (r : GroupRecord) (sound : IsSound next r) where
   named_received m d named =
       let here : Names (table (knowledge r) m) d = rw (table_member r m) named in
       let up = up_if_named r.config.f (knowledge r) sound.causes.down m d here in
-      subst (λ (x : Determinant). Has (marks r) (receipt_of x)) here.2 (sound.causes.truth.tables m here.0 up here.1).0.0
+      Has-named (knowledge r) (table (knowledge r) m) (λ e h. (sound.causes.truth.tables m e up h).0) d here
 
   pub carried_received : (v : Message) (d : Determinant) → IsInFlight (knowledge r) v → Names v.carried d → Has (marks r) (receipt_of d)
-  carried_received v d flies named =
-      subst (λ (x : Determinant). Has (marks r) (receipt_of x)) named.2 (sound.causes.truth.messages v named.0 flies named.1).0.0
+  carried_received v d flies named = Has-named (knowledge r) v.carried (λ e h. (sound.causes.truth.messages v e flies h).0) d named
 
   -- so no table has a determinant that is new, also after it has learned what a message in flight carries
   pub new_not_held : (m : ℕ) (d : Determinant) → ¬ (Has (marks r) (receipt_of d)) → is_held (member r m).table d ≡ false
