@@ -3,12 +3,11 @@ use Rattle.std.proofs.Common.{IsTrue, ℕ, Bool, true, false, cond, ◌≡◌, �
 use Rattle.std.proofs.lemmas.Bool.{cases_eq, eq-eqb, ne_eqb}
 use Rattle.std.proofs.lemmas.List.{take_more, append-nil, get_or_read}
 use Rattle.std.proofs.lemmas.Option.{slice_get-get_or}
-use Rattle.std.proofs.lemmas.List.Sums.{sum_by-append}
 use Rattle.fbl_base.specs.declared.trace.Mark.{Mark}
 use Rattle.fbl_base.specs.declared.trace.Mark.TheVariants.{Send, Receipt}
 use Rattle.fbl_base.specs.declared.rules.Counts.{Counts}
 use Rattle.fbl_base.specs.Events.{At}
-use Rattle.fbl_base.specs.Rules.{is_send_of, is_receipt_of, sends_of, receipts_of, in_flight, MayFollow, ObeysAt, WellFormed}
+use Rattle.fbl_base.specs.Rules.{sends_of, receipts_of, in_flight, MayFollow, ObeysAt, WellFormed}
 use Rattle.fbl_base.specs.Counted.{Counted, SendFits, ReceiptFits}
 use Rattle.fbl_base.proofs.InFlightLaws.{in_flight-send, in_flight-receipt}
 use Rattle.fbl_base.proofs.RulesLaws.{sends-step, receipts-step}

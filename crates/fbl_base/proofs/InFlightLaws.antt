@@ -2,7 +2,7 @@
 use Rattle.std.proofs.Common.{◌==◌, ◌&&◌, not, ◌||◌, ℕ, suc, Bool, true, false, cond, ◌≡◌, ◌≢◌, ◌<◌, ◌≤◌, List, [], ◌∷◌, ◌++◌, take, drop, Some, None, refl, ap, ◌∙◌, arith, slice_get}
 use Rattle.std.specs.List.{filter, filter_map, list_any, cons_option}
 use Rattle.std.proofs.lemmas.Bool.Decides.{nat_tests}
-use Rattle.std.proofs.lemmas.List.{append-nil, take-append-drop}
+use Rattle.std.proofs.lemmas.List.{append-nil}
 use Rattle.std.proofs.lemmas.List.Folds.{list_any-append}
 use Rattle.std.proofs.lemmas.List.Elements.{filter-append, filter_map-append}
 use Rattle.fbl_base.specs.declared.trace.Mark.{Mark}
@@ -10,7 +10,7 @@ use Rattle.fbl_base.specs.declared.trace.Mark.TheVariants.{Send, Receipt}
 use Rattle.fbl_base.specs.Events.{At}
 use Rattle.fbl_base.specs.Precedence.{Has}
 use Rattle.fbl_base.specs.Rules.{is_send_of, sends_of, sent_on, taken_on, in_flight, MayFollow, WellFormed}
-use Rattle.fbl_base.proofs.Gets.{At-front, At-filter_map, Apart, Apart-filter, Apart-filter_map, slice_get-take}
+use Rattle.fbl_base.proofs.Gets.{At-filter_map, Apart, Apart-filter, Apart-filter_map, slice_get-take}
 use Rattle.fbl_base.proofs.RulesLaws.{on_channel, is_sent, sent-before, count_at, eqb-self, WellFormed-take}
 
 -- a send's number is at most how many sends there are

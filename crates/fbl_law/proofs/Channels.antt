@@ -1,5 +1,5 @@
 -- Channels and the trace.
-use Rattle.std.proofs.Common.{option_map, ◌≡◌, ℕ, suc, ◌==◌, ◌&&◌, not, Bool, true, false, cond, List, [], ◌∷◌, ◌++◌, map, drop, inl, inr, arith, refl, sym, ap, ◌∙◌, Some, None, append_assoc}
+use Rattle.std.proofs.Common.{option_map, ◌≡◌, ℕ, ◌==◌, ◌&&◌, not, Bool, true, false, cond, List, [], ◌∷◌, ◌++◌, map, drop, arith, refl, sym, ap, ◌∙◌, Some, None, append_assoc}
 use Rattle.std.specs.List.{Contains, filter_map, list_any, cons_option}
 use Rattle.std.proofs.lemmas.Bool.Decides.{nat_tests}
 use Rattle.std.proofs.lemmas.List.{drop-map, append-nil, map-append}
@@ -13,7 +13,7 @@ use Rattle.fbl_base.proofs.InFlightLaws.{in_flight-send, in_flight-receipt}
 use Rattle.fbl_member.specs.Members.{Message}
 use Rattle.fbl_law.specs.Knowledge.{Knowledge, send_mark, IsInFlight, IsUp, MatchesTrace, IsDownEmpty}
 use Rattle.fbl_law.specs.Steps.{between, taken_off}
-use Rattle.fbl_law.proofs.Lists.{Contains-at, Contains-cons_cases, Contains-none}
+use Rattle.fbl_law.proofs.Lists.{Contains-at}
 use Rattle.fbl_law.proofs.Safe.{up_at_ends}
 use Rattle.std.proofs.lemmas.Option.{slice_get-map, slice_get-get_or}
 

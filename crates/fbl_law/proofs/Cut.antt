@@ -1,5 +1,5 @@
 -- What a cut keeps.
-use Rattle.std.proofs.Common.{map, ◌≡◌, ℕ, zero, suc, ◌<◌, ◌==◌, not, Bool, true, false, cond, List, [], ◌∷◌, ◌++◌, length, take, inl, inr, ◌⊎◌, arith, refl, ap, ◌∙◌, Option, Some, None, slice_get, count_by, append_assoc}
+use Rattle.std.proofs.Common.{map, ◌≡◌, ℕ, zero, suc, ◌<◌, ◌==◌, not, Bool, true, false, cond, List, [], ◌∷◌, ◌++◌, length, take, inl, inr, ◌⊎◌, arith, refl, ap, ◌∙◌, Option, Some, None, slice_get, count_by}
 use Rattle.std.specs.List.{filter, filter_map, list_any}
 use Rattle.std.proofs.lemmas.Bool.Decides.{nat_tests}
 use Rattle.std.proofs.lemmas.List.{append-nil}
@@ -12,7 +12,7 @@ use Rattle.fbl_base.specs.Events.{mark_of, At, member_of, send_of}
 use Rattle.fbl_base.specs.Precedence.{Has, Leads, Precedes, itself, step}
 use Rattle.fbl_base.specs.Rules.{is_send_of, is_receipt_of, sends_of, receipts_of, sent_on, taken_on, in_flight, MayFollow, WellFormed}
 use Rattle.fbl_base.proofs.Gets.{filter_map-At, At-front, At-below, Apart, Apart-filter, Apart-filter_map, slice_get-take}
-use Rattle.fbl_base.proofs.RulesLaws.{WellFormed-keeps, on_channel, is_sent, WellFormed-none, WellFormed-push, WellFormed-take, WellFormed-front, MayFollow-last, in_flight-sent, eqb-self}
+use Rattle.fbl_base.proofs.RulesLaws.{WellFormed-keeps, on_channel, is_sent, WellFormed-none, WellFormed-push, WellFormed-take, in_flight-sent, eqb-self}
 use Rattle.fbl_base.proofs.InFlightLaws.{sent-number, sent-rises}
 use Rattle.fbl_law.proofs.Lists.{At-seam, length-left, filter-At, filter-passes, filter_map-kept}
 use Rattle.fbl_base.proofs.PrecedenceLaws.{Earlier-front}

@@ -1,5 +1,5 @@
 -- What holds in a sound group.
-use Rattle.std.proofs.Common.{option_map, ◌≡◌, ◌≢◌, ℕ, ◌+◌, ◌<◌, ◌≤◌, true, false, List, [], ◌∷◌, length, map, drop, inl, inr, Some, slice_get, get_or, sym, ap, ◌∙◌, arith, subst}
+use Rattle.std.proofs.Common.{option_map, ◌≡◌, ◌≢◌, ℕ, ◌+◌, ◌<◌, ◌≤◌, true, false, List, length, map, inl, inr, Some, slice_get, sym, ap, ◌∙◌, arith}
 use Rattle.std.specs.List.{Contains}
 use Rattle.std.specs.FinSet as sets
 use Rattle.std.specs.Ordering.{nat_cmp}
@@ -23,7 +23,7 @@ use Rattle.fbl_member.specs.Members.{Message, MemberRecord, blank, next_determin
 use Rattle.fbl_law.specs.Knowledge.{table, send_mark, IsInFlight, IsUp, Names, MatchesTrace}
 use Rattle.fbl_law.specs.Groups.{GroupRecord, member, channel, marks, knowledge}
 use Rattle.fbl_law.specs.Sound.{IsSound}
-use Rattle.fbl_law.proofs.Lists.{Contains-at, Contains-cons_cases, Contains-none}
+use Rattle.fbl_law.proofs.Lists.{Contains-at}
 use Rattle.fbl_law.proofs.Safe.{Has-named, up_at_ends, up_if_named}
 use Rattle.fbl_law.proofs.Tables.{Names-from_learned}
 use Rattle.fbl_law.proofs.Channels.{Has-made, matched-Has}

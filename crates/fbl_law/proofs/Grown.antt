@@ -1,10 +1,10 @@
 -- The notes and receipts of a trace that grows.
-use Rattle.std.proofs.Common.{inl, inr, ◌≡◌, ℕ, ◌+◌, ◌==◌, Bool, true, false, cond, List, [], ◌∷◌, ◌++◌, Some, None, slice_get, refl, ap, ◌∙◌}
+use Rattle.std.proofs.Common.{inl, inr, ◌≡◌, ℕ, ◌==◌, Bool, true, false, cond, List, [], ◌∷◌, ◌++◌, Some, None, slice_get, ap, ◌∙◌}
 use Rattle.std.specs.List.{filter_map, cons_option}
 use Rattle.fbl_base.specs.declared.trace.Note.{Note}
 use Rattle.fbl_base.specs.declared.trace.Event.{Event}
 use Rattle.fbl_base.specs.declared.trace.Event.TheVariants.{Receipt}
-use Rattle.fbl_base.specs.Fold.{sent, action_of, actions_of, notes_of, note_of, step_events, took}
+use Rattle.fbl_base.specs.Fold.{action_of, actions_of, notes_of, note_of, step_events, took}
 use Rattle.fbl_base.proofs.LawfulLaws.{own_sends, other_sends, notes_of-sent, notes_of-append, note_of-front, actions-append}
 use Rattle.fbl_law.specs.Sound.{received_notes}
 use Rattle.std.proofs.lemmas.Bool.{cases_eq, ne_eqb}

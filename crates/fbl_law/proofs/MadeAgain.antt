@@ -14,7 +14,7 @@ use Rattle.fbl_base.specs.Events.{mark_of}
 use Rattle.fbl_base.specs.Rules.{sent_on, taken_on, in_flight, MayFollow, WellFormed}
 use Rattle.fbl_base.specs.Fold.{Next, Progress, Logged, Lawful, note_of}
 use Rattle.fbl_base.proofs.Gets.{map-At, At-front, At-filter, At-filter_map, Apart, Apart-later}
-use Rattle.fbl_base.proofs.RulesLaws.{WellFormed-keeps, is_sent, WellFormed-front, MayFollow-last, in_flight-sent}
+use Rattle.fbl_base.proofs.RulesLaws.{WellFormed-keeps, is_sent, in_flight-sent}
 use Rattle.fbl_base.proofs.InFlightLaws.{filter_all, in_flight-send, in_flight-receipt, sent-rises}
 use Rattle.fbl_table.specs.declared.entry.Entry.{Entry}
 use Rattle.fbl_table.specs.Tables.{piggybacked}

@@ -12,7 +12,7 @@ use Rattle.fbl_base.specs.declared.trace.Event.{Event}
 use Rattle.fbl_base.specs.declared.trace.Event.TheVariants as event
 use Rattle.fbl_base.specs.declared.trace.Mark.{Mark}
 use Rattle.fbl_base.specs.declared.trace.Mark.TheVariants.{Send}
-use Rattle.fbl_base.specs.Events.{At, mark_of, receipt_of}
+use Rattle.fbl_base.specs.Events.{mark_of, receipt_of}
 use Rattle.fbl_base.specs.Precedence.{Has, itself}
 use Rattle.fbl_base.specs.Rules.{is_receipt_of, is_send_of, WellFormed}
 use Rattle.fbl_base.specs.Fold.{Next, Progress, numbered, after_notes, note_of}
