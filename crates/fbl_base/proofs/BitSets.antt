@@ -1,37 +1,23 @@
 -- Operations on bits as operations on sets.
-use Rattle.std.proofs.Common.{◌≡◌, ◌≢◌, ℕ, zero, suc, ◌+◌, ◌-◌, ◌*◌, ◌/◌, ◌%◌, ◌^◌, ◌<◌, ◌≤◌, Bool, true, false, ◌||◌, ◌&&◌, not, cond, List, [], ◌∷◌, max, min, refl, sym, ap, ◌∙◌, arith, eqb, inl, inr, ◌⊎◌, ◌↔◌, count_by, bit_and, bit_or, w16}
+use Rattle.std.proofs.Common.{◌≡◌, ◌≢◌, ℕ, zero, suc, ◌+◌, ◌-◌, ◌*◌, ◌/◌, ◌%◌, ◌^◌, ◌<◌, ◌≤◌, true, false, ◌||◌, ◌&&◌, not, cond, max, min, refl, sym, ap, ◌∙◌, arith, eqb, inl, inr, ◌⊎◌, ◌↔◌, count_by, bit_and, bit_or, w16}
+use Rattle.std.proofs.lemmas.Bool.{cases_lt, cases_eq}
 use Rattle.std.proofs.lemmas.Bool.Decides.{nat_tests}
 use Rattle.std.proofs.lemmas.List.Sums.{sum_by-cons}
-use Rattle.std.proofs.lemmas.Nat.Bits.{bit_at-lt, bit_at_or, bit_at_and, bit_at_not, bit_at_above, bit_at-pow_same, bit_at-pow_other, bit_at_set_same, bit_at_set_other, shr_and_one, same_from_bits, bit_at-zero}
+use Rattle.std.proofs.lemmas.Nat.Bits.{bit_at-lt, bit_at_or, bit_at_and, bit_at_not, bit_at_above, bit_at_set_same, bit_at_set_other, shr_and_one, same_from_bits, bit_at-zero}
 use Rattle.std.proofs.Math.Nat.{div-add-mod, mod-lt, div-div-eq-div-mul}
 use Rattle.std.proofs.lemmas.Nat.{pow-add, pow_pos, or_lt, and_le_l}
 use Rattle.std.specs.Int.{bit_at}
 use Rattle.std.specs.Int.Count.{ones, ones_in, ones_step}
 use Rattle.std.specs.Cmp.{nat_cmp_total}
 use Rattle.std.specs.FinSet as set
-use Rattle.fbl_base.specs.MemberSets.{flagged, len-flagged, same_from_contains, contains-insert_same, contains-insert_other, AllBelow}
+use Rattle.fbl_base.specs.MemberSets.{len-flagged, same_from_contains, contains-insert_same, contains-insert_other, AllBelow}
 use Rattle.fbl_base.specs.Bits.{digits, set_of, contains-set_of, parity}
 
-split : (q : ℕ) → (q < 16) ⊎ (16 ≤ q)
-split q = grind arith
-
 at_most : (x y : ℕ) → x < 2 → y < 2 → eqb (max x y) 1 ≡ (eqb x 1 || eqb y 1)
-at_most zero zero a b = refl
-at_most zero (suc zero) a b = refl
-at_most (suc zero) zero a b = refl
-at_most (suc zero) (suc zero) a b = refl
-at_most (suc (suc x)) y a b = absurd (omega (arith, a))
-at_most zero (suc (suc y)) a b = absurd (omega (arith, b))
-at_most (suc zero) (suc (suc y)) a b = absurd (omega (arith, b))
+at_most x y below_x below_y = grind (arith, nat_tests)
 
 and_not : (x y : ℕ) → x < 2 → y < 2 → eqb (min x (1 - y)) 1 ≡ (eqb x 1 && not (eqb y 1))
-and_not zero zero a b = refl
-and_not zero (suc zero) a b = refl
-and_not (suc zero) zero a b = refl
-and_not (suc zero) (suc zero) a b = refl
-and_not (suc (suc x)) y a b = absurd (omega (arith, a))
-and_not zero (suc (suc y)) a b = absurd (omega (arith, b))
-and_not (suc zero) (suc (suc y)) a b = absurd (omega (arith, b))
+and_not x y below_x below_y = grind (arith, nat_tests)
 
 zero_min : (y : ℕ) → eqb (min 0 y) 1 ≡ false
 zero_min y = rw (let e : min 0 y ≡ 0 = omega arith in e) refl
@@ -46,16 +32,13 @@ pub union-bits : (a b : ℕ) → a < 65536 → b < 65536 → set_of (bit_or a b)
 union-bits a b wa wb = same_from_contains _ _ (λ q. rw (set.contains-union nat_cmp_total, contains-set_of (bit_or a b) q (or_lt 16 a b wa wb), contains-set_of a q wa, contains-set_of b q wb, bit_at_or a b q) (at_most (bit_at a q) (bit_at b q) (bit_at-lt a q) (bit_at-lt b q)))
 
 pub difference-bits : (a b : ℕ) → a < 65536 → b < 65536 → set_of (bit_and a (65535 - b)) ≡ set.difference (set_of a) (set_of b)
-difference-bits a b wa wb = same_from_contains _ _ (λ q. rw (set.contains-difference nat_cmp_total, contains-set_of (bit_and a (65535 - b)) q (omega (arith, wa, and_le_l a (65535 - b))), contains-set_of a q wa, contains-set_of b q wb, bit_at_and a (65535 - b) q) (at q (split q))) where
+difference-bits a b wa wb = same_from_contains _ _ (λ q. rw (set.contains-difference nat_cmp_total, contains-set_of (bit_and a (65535 - b)) q (omega (arith, wa, and_le_l a (65535 - b))), contains-set_of a q wa, contains-set_of b q wb, bit_at_and a (65535 - b) q) (at q (cases_lt q 16))) where
   at : (q : ℕ) → (q < 16) ⊎ (16 ≤ q) → eqb (min (bit_at a q) (bit_at (65535 - b) q)) 1 ≡ (eqb (bit_at a q) 1 && not (eqb (bit_at b q) 1))
   at q (inl below) = rw (bit_at_not w16 b q wb below) (and_not (bit_at a q) (bit_at b q) (bit_at-lt a q) (bit_at-lt b q))
   at q (inr past) = rw (bit_at_above a 16 q wa past) (zero_min (bit_at (65535 - b) q))
 
 pub insert-bits : (b m : ℕ) → b < 65536 → m < 16 → set_of (bit_or b (1 * 2 ^ m % 65536)) ≡ set.insert (set_of b) m
-insert-bits b m wb wm = same_from_contains _ _ (λ q. contains-set_of (bit_or b (1 * 2 ^ m % 65536)) q (or_lt 16 b (1 * 2 ^ m % 65536) wb (mod-lt (1 * 2 ^ m) (let z : 0 < 65536 = omega arith in z))) ∙ at q (same q)) where
-  same : (q : ℕ) → (q ≡ m) ⊎ (q ≢ m)
-  same q = grind arith
-
+insert-bits b m wb wm = same_from_contains _ _ (λ q. contains-set_of (bit_or b (1 * 2 ^ m % 65536)) q (or_lt 16 b (1 * 2 ^ m % 65536) wb (mod-lt (1 * 2 ^ m) (let z : 0 < 65536 = omega arith in z))) ∙ at q (cases_eq q m)) where
   at : (q : ℕ) → (q ≡ m) ⊎ (q ≢ m) → eqb (bit_at (bit_or b (1 * 2 ^ m % 65536)) q) 1 ≡ set.contains (set.insert (set_of b) m) q
   at q (inl is) = rw is (ap (λ x. eqb x 1) (bit_at_set_same w16 b m wm) ∙ sym (contains-insert_same _ m))
   at q (inr ne) = ap (λ x. eqb x 1) (bit_at_set_other w16 b m wm q ne) ∙ sym (contains-set_of b q wb) ∙ sym (contains-insert_other _ m q ne)
@@ -76,7 +59,7 @@ unfolding set_of
 count-bits b within = sym (count-digits 16 b within) ∙ sym (len-flagged (digits 16 b) 0)
 
 pub below_sixteen : (b q : ℕ) → b < 65536 → set.contains (set_of b) q ≡ true → q < 16
-below_sixteen b q within has = at (split q) where
+below_sixteen b q within has = at (cases_lt q 16) where
   at : (q < 16) ⊎ (16 ≤ q) → q < 16
   at (inl below) = below
   at (inr past) = absurd (zero_one (sym (bit_at_above b 16 q within past)) (sym (contains-set_of b q within) ∙ has))
@@ -96,14 +79,11 @@ high_bits b n within all i = at (bit_at b (n + i)) refl (bit_at-lt b (n + i)) wh
 
 pub within-bits : (b n : ℕ) → b < 65536 → (b / 2 ^ n ≡ 0) ↔ AllBelow (set_of b) n
 within-bits b n within = (only, λ all. same_from_bits (b / 2 ^ n) 0 (λ i. high_bits b n within all i ∙ sym (bit_at-zero i))) where
-  split_at : (q : ℕ) → (q < n) ⊎ (n ≤ q)
-  split_at q = grind arith
-
   zero_one : (q : ℕ) → bit_at b q ≡ 0 → eqb (bit_at b q) 1 ≡ true → ⊥
   zero_one q none one = grind (arith, nat_tests)
 
   only : b / 2 ^ n ≡ 0 → (q : ℕ) → set.contains (set_of b) q ≡ true → q < n
-  only none q has = at (split_at q) where
+  only none q has = at (cases_lt q n) where
     small : b < 2 ^ n
     small = omega (arith, div-add-mod b (2 ^ n), mod-lt b (pow_pos n), ap (λ x. 2 ^ n * x) none)
 

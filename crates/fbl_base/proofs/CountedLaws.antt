@@ -1,16 +1,16 @@
 -- What is counted, after one more event.
 use Rattle.std.proofs.Common.{IsTrue, ℕ, Bool, true, false, cond, ◌≡◌, ◌≢◌, ◌<◌, ◌≤◌, ◌+◌, ◌*◌, ◌==◌, ◌&&◌, ◌⊎◌, ◌↔◌, inl, inr, List, [], ◌∷◌, ◌++◌, length, take, drop, Some, refl, sym, ap, ◌∙◌, arith, get_or, set as set_at, get_or-set_same, get_or-set_other, length-set, length-take}
-use Rattle.std.proofs.lemmas.Bool.Decides.{nat_tests}
+use Rattle.std.proofs.lemmas.Bool.{cases_eq, eq-eqb, ne_eqb}
 use Rattle.std.proofs.lemmas.List.{take_more, append-nil, get_or_read}
 use Rattle.std.proofs.lemmas.Option.{slice_get-get_or}
-use Rattle.std.proofs.lemmas.List.Sums.{sum_by-append}
 use Rattle.fbl_base.specs.declared.trace.Mark.{Mark}
 use Rattle.fbl_base.specs.declared.trace.Mark.TheVariants.{Send, Receipt}
 use Rattle.fbl_base.specs.declared.rules.Counts.{Counts}
 use Rattle.fbl_base.specs.Events.{At}
-use Rattle.fbl_base.specs.Rules.{is_send_of, is_receipt_of, sends_of, receipts_of, in_flight, MayFollow, ObeysAt, WellFormed}
+use Rattle.fbl_base.specs.Rules.{sends_of, receipts_of, in_flight, MayFollow, ObeysAt, WellFormed}
 use Rattle.fbl_base.specs.Counted.{Counted, SendFits, ReceiptFits}
 use Rattle.fbl_base.proofs.InFlightLaws.{in_flight-send, in_flight-receipt}
+use Rattle.fbl_base.proofs.RulesLaws.{sends-step, receipts-step}
 
 module _ {A : Type 0} (n : ℕ) (t : List Mark) (c : Counts A) (most : n ≤ 16) (few : length t < 8192) (counted : Counted t c) where
   pub send_fits : (q s p : ℕ) → SendFits n c q s p ↔ MayFollow n t (Send q s p)
@@ -29,46 +29,31 @@ module _ {A : Type 0} (n : ℕ) (t : List Mark) (c : Counts A) (most : n ≤ 16)
 pub obeys_at : (n : ℕ) (t : List Mark) (i : ℕ) (e : Mark) → At t i e → ObeysAt n t i ↔ MayFollow n (take i t) e
 obeys_at n t i e at = (λ h. h e at, λ h b at_b. (let same : e ≡ b = cc in rw (← same) h))
 
-split_places : (x y : ℕ) → (x ≡ y) ⊎ (x ≢ y)
-split_places x y = grind arith
-
-eqb-same : (x y : ℕ) → x ≡ y → (x == y) ≡ true
-eqb-same x y e = grind (arith, nat_tests)
-
-eqb-other : (x y : ℕ) → x ≢ y → (x == y) ≡ false
-eqb-other x y e = grind (arith, nat_tests)
-
-sends-step : (t : List Mark) (e : Mark) (x : ℕ) → sends_of (t ++ e ∷ []) x ≡ sends_of t x + cond (is_send_of x e) 1 0
-sends-step t e x = rw (sum_by-append (λ y. cond (is_send_of x y) 1 0) t (e ∷ [])) (omega arith)
-
-receipts-step : (t : List Mark) (e : Mark) (x : ℕ) → receipts_of (t ++ e ∷ []) x ≡ receipts_of t x + cond (is_receipt_of x e) 1 0
-receipts-step t e x = rw (sum_by-append (λ y. cond (is_receipt_of x y) 1 0) t (e ∷ [])) (omega arith)
-
 -- a counter that is set to the next number
 counter_set : (xs : List ℕ) (q s x : ℕ) (count after : ℕ) → q < length xs → s ≡ get_or xs q 0 + 1 → get_or xs x 0 ≡ count → after ≡ count + cond (q == x) 1 0 → get_or (set_at xs q s) x 0 ≡ after
-counter_set xs q s x count after within next was step = at (split_places x q) where
+counter_set xs q s x count after within next was step = at (cases_eq x q) where
   at : (x ≡ q) ⊎ (x ≢ q) → get_or (set_at xs q s) x 0 ≡ after
-  at (inl here) = (let e : (q == x) ≡ true = eqb-same q x (sym here) in let f : after ≡ count + 1 = step ∙ (rw e) in let w : get_or xs q 0 ≡ count = (rw here at was) in rw (here, get_or-set_same) (omega (arith, next, f, w)))
-  at (inr other) = (let e : (q == x) ≡ false = eqb-other q x (λ h. other (sym h)) in let f : after ≡ count + 0 = step ∙ (rw e) in rw get_or-set_other (omega (arith, was, f)))
+  at (inl here) = (let e : (q == x) ≡ true = eq-eqb q x (sym here) in let f : after ≡ count + 1 = step ∙ (rw e) in let w : get_or xs q 0 ≡ count = (rw here at was) in rw (here, get_or-set_same) (omega (arith, next, f, w)))
+  at (inr other) = (let e : (q == x) ≡ false = ne_eqb q x (λ h. other (sym h)) in let f : after ≡ count + 0 = step ∙ (rw e) in rw get_or-set_other (omega (arith, was, f)))
 
 -- the channel of one pair of members is set
 channel_set : (xs : List (List ℕ)) (q p x y : ℕ) (new was after : List ℕ) → 16 * q + p < length xs → p < 16 → y < 16 → get_or xs (16 * x + y) [] ≡ was → after ≡ cond (q == x && p == y) new was → get_or (set_at xs (16 * q + p) new) (16 * x + y) [] ≡ after
-channel_set xs q p x y new was after within below_p below_y is step = at (split_places x q) (split_places y p) where
+channel_set xs q p x y new was after within below_p below_y is step = at (cases_eq x q) (cases_eq y p) where
   at : (x ≡ q) ⊎ (x ≢ q) → (y ≡ p) ⊎ (y ≢ p) → get_or (set_at xs (16 * q + p) new) (16 * x + y) [] ≡ after
-  at (inl a) (inl b) = (let e : (q == x) ≡ true = eqb-same q x (sym a) in let f : (p == y) ≡ true = eqb-same p y (sym b) in rw (step, e, f, a, b, get_or-set_same))
-  at (inl a) (inr b) = (let f : (p == y) ≡ false = eqb-other p y (λ h. b (sym h)) in let e : (q == x) ≡ true = eqb-same q x (sym a) in let ne : 16 * x + y ≢ 16 * q + p = omega (arith, a, b) in rw (step, e, f, get_or-set_other) is)
-  at (inr a) b = (let e : (q == x) ≡ false = eqb-other q x (λ h. a (sym h)) in let ne : 16 * x + y ≢ 16 * q + p = (λ h. a (omega (arith, h))) in rw (step, e, get_or-set_other) is)
+  at (inl a) (inl b) = (let e : (q == x) ≡ true = eq-eqb q x (sym a) in let f : (p == y) ≡ true = eq-eqb p y (sym b) in rw (step, e, f, a, b, get_or-set_same))
+  at (inl a) (inr b) = (let f : (p == y) ≡ false = ne_eqb p y (λ h. b (sym h)) in let e : (q == x) ≡ true = eq-eqb q x (sym a) in let ne : 16 * x + y ≢ 16 * q + p = omega (arith, a, b) in rw (step, e, f, get_or-set_other) is)
+  at (inr a) b = (let e : (q == x) ≡ false = ne_eqb q x (λ h. a (sym h)) in let ne : 16 * x + y ≢ 16 * q + p = (λ h. a (omega (arith, h))) in rw (step, e, get_or-set_other) is)
 
 cond_append : (b : Bool) (xs ys : List ℕ) → xs ++ cond b ys [] ≡ cond b (xs ++ ys) xs
 cond_append true xs ys = refl
 cond_append false xs ys = append-nil xs
 
 cond_at : (q p x y : ℕ) (f : ℕ → ℕ → List ℕ) (g : List ℕ → List ℕ) → cond (q == x && p == y) (g (f x y)) (f x y) ≡ cond (q == x && p == y) (g (f q p)) (f x y)
-cond_at q p x y f g = at (split_places x q) (split_places y p) where
+cond_at q p x y f g = at (cases_eq x q) (cases_eq y p) where
   at : (x ≡ q) ⊎ (x ≢ q) → (y ≡ p) ⊎ (y ≢ p) → cond (q == x && p == y) (g (f x y)) (f x y) ≡ cond (q == x && p == y) (g (f q p)) (f x y)
   at (inl a) (inl b) = rw (a, b)
-  at (inl a) (inr b) = (let e : (p == y) ≡ false = eqb-other p y (λ h. b (sym h)) in let e' : (q == x) ≡ true = eqb-same q x (sym a) in rw (e', e))
-  at (inr a) b = (let e : (q == x) ≡ false = eqb-other q x (λ h. a (sym h)) in rw e)
+  at (inl a) (inr b) = (let e : (p == y) ≡ false = ne_eqb p y (λ h. b (sym h)) in let e' : (q == x) ≡ true = eq-eqb q x (sym a) in rw (e', e))
+  at (inr a) b = (let e : (q == x) ≡ false = ne_eqb q x (λ h. a (sym h)) in rw e)
 
 -- the counts after a send
 pub counted_send : {A : Type 0} (n : ℕ) (t : List Mark) (c d : Counts A) (q s p : ℕ) → n ≤ 16 → WellFormed n t → Counted t c → MayFollow n t (Send q s p) → d.sends ≡ set_at c.sends q s → d.receipts ≡ c.receipts → d.channels.items ≡ set_at c.channels.items (16 * q + p) (get_or c.channels.items (16 * q + p) [] ++ s ∷ []) → Counted (t ++ Send q s p ∷ []) d

@@ -2,7 +2,7 @@
 use Rattle.std.proofs.Common.{◌==◌, ◌&&◌, not, ◌||◌, ℕ, suc, Bool, true, false, cond, ◌≡◌, ◌≢◌, ◌<◌, ◌≤◌, List, [], ◌∷◌, ◌++◌, take, drop, Some, None, refl, ap, ◌∙◌, arith, slice_get}
 use Rattle.std.specs.List.{filter, filter_map, list_any, cons_option}
 use Rattle.std.proofs.lemmas.Bool.Decides.{nat_tests}
-use Rattle.std.proofs.lemmas.List.{append-nil, take-append-drop}
+use Rattle.std.proofs.lemmas.List.{append-nil}
 use Rattle.std.proofs.lemmas.List.Folds.{list_any-append}
 use Rattle.std.proofs.lemmas.List.Elements.{filter-append, filter_map-append}
 use Rattle.fbl_base.specs.declared.trace.Mark.{Mark}
@@ -10,8 +10,8 @@ use Rattle.fbl_base.specs.declared.trace.Mark.TheVariants.{Send, Receipt}
 use Rattle.fbl_base.specs.Events.{At}
 use Rattle.fbl_base.specs.Precedence.{Has}
 use Rattle.fbl_base.specs.Rules.{is_send_of, sends_of, sent_on, taken_on, in_flight, MayFollow, WellFormed}
-use Rattle.fbl_base.proofs.Gets.{At-front, At-filter_map, Apart, Apart-filter, Apart-filter_map, slice_get-take}
-use Rattle.fbl_base.proofs.RulesLaws.{in_flight-sent, count_at, eqb-self, WellFormed-take}
+use Rattle.fbl_base.proofs.Gets.{At-filter_map, Apart, Apart-filter, Apart-filter_map, slice_get-take}
+use Rattle.fbl_base.proofs.RulesLaws.{on_channel, is_sent, sent-before, count_at, eqb-self, WellFormed-take}
 
 -- a send's number is at most how many sends there are
 pub sent-number : (n : ℕ) (t : List Mark) → WellFormed n t → (q s p : ℕ) → Has t (Send q s p) → s ≤ sends_of t q
@@ -19,31 +19,9 @@ sent-number n t obeys q s p has =
     let number = obeys has.0 (Send q s p) has.1 in
     omega (arith, number.3, count_at (is_send_of q) t has.0 (Send q s p) has.1 (eqb-self q))
 
-Has-take : (i : ℕ) (t : List Mark) (e : Mark) → Has (take i t) e → Has t e
-Has-take i t e has = (has.0, (rw take-append-drop at (At-front (take i t) (drop i t) has.0 e has.1)))
-
--- which event tells of a message
 is_taken : (q p s : ℕ) (e : Mark) → taken_on q p e ≡ Some s → (r : ℕ) × (e ≡ Receipt p r q s)
 is_taken q p s (Send q' s' p') h = cc
-is_taken q p s (Receipt p' r' q' s') h = same (q' == q) (p' == p) refl refl h where
-  same : (a b : Bool) → (q' == q) ≡ a → (p' == p) ≡ b → cond (a && b) (Some s') None ≡ Some s → (r : ℕ) × (Receipt p' r' q' s' ≡ Receipt p r q s)
-  same true true ea eb h' =
-      let e1 : q' ≡ q = grind (arith, nat_tests) in
-      let e2 : p' ≡ p = grind (arith, nat_tests) in
-      (r', cc)
-  same true false ea eb h' = cc
-  same false b ea eb h' = cc
-
-is_sent : (q p s : ℕ) (e : Mark) → sent_on q p e ≡ Some s → e ≡ Send q s p
-is_sent q p s (Send q' s' p') h = same (q' == q) (p' == p) refl refl h where
-  same : (a b : Bool) → (q' == q) ≡ a → (p' == p) ≡ b → cond (a && b) (Some s') None ≡ Some s → Send q' s' p' ≡ Send q s p
-  same true true ea eb h' =
-      let e1 : q' ≡ q = grind (arith, nat_tests) in
-      let e2 : p' ≡ p = grind (arith, nat_tests) in
-      cc
-  same true false ea eb h' = cc
-  same false b ea eb h' = cc
-is_sent q p s (Receipt p' r' q' s') h = cc
+is_taken q p s (Receipt p' r' q' s') h = (let on = on_channel q' p' q p s' s h in (r', rw (on.0, on.1, on.2) refl))
 
 -- a message that was taken was sent
 pub taken-sent : (n : ℕ) (t : List Mark) → WellFormed n t → (q p s j : ℕ) → slice_get (filter_map (taken_on q p) t) j ≡ Some s → s ≤ sends_of t q
@@ -51,8 +29,8 @@ taken-sent n t obeys q p s j at =
     let r = At-filter_map (taken_on q p) t j s at in
     let e = is_taken q p s r.1 r.3 in
     let here : At t r.0 (Receipt p e.0 q s) = r.2 ∙ ap Some e.1 in
-    let may = obeys r.0 (Receipt p e.0 q s) here in
-    sent-number n t obeys q s p (Has-take r.0 t (Send q s p) (in_flight-sent (take r.0 t) q s p may.5))
+    let sent = sent-before n t obeys r.0 p e.0 q s here in
+    sent-number n t obeys q s p (sent.0, sent.2)
 
 -- the numbers on a channel rise
 pub sent-rises : (n : ℕ) (t : List Mark) → WellFormed n t → (q p x y : ℕ) → Apart (filter_map (sent_on q p) t) x y → x < y
@@ -68,7 +46,7 @@ sent-rises n t obeys q p x y apart =
     omega (arith, number_y.3, below)
 
 -- a test that each element passes keeps the list
-filter_all : {X : Type 0} (p : X → Bool) (xs : List X) → ((i : ℕ) (x : X) → slice_get xs i ≡ Some x → p x ≡ true) → filter p xs ≡ xs
+pub filter_all : {X : Type 0} (p : X → Bool) (xs : List X) → ((i : ℕ) (x : X) → slice_get xs i ≡ Some x → p x ≡ true) → filter p xs ≡ xs
 filter_all p [] all = refl
 filter_all p (x ∷ xs) all = (let h : p x ≡ true = all 0 x refl in rw h (ap (λ ys. x ∷ ys) (filter_all p xs (λ i y at. all (suc i) y at))))
 

@@ -1,8 +1,8 @@
 -- A delivery keeps a trace lawful.
-use Rattle.std.proofs.Common.{◌≡◌, ◌≢◌, ℕ, zero, suc, ◌+◌, ◌<◌, ◌≤◌, ◌==◌, ◌&&◌, ◌⊎◌, inl, inr, Bool, true, false, cond, List, [], ◌∷◌, ◌++◌, length, take, map, Option, Some, None, option_map, subst, drop, slice_get, refl, sym, ap, ◌∙◌, arith, append_assoc, length-append, length-take}
+use Rattle.std.proofs.Common.{◌≡◌, ◌≢◌, ℕ, zero, suc, ◌+◌, ◌<◌, ◌≤◌, ◌==◌, ◌&&◌, ◌⊎◌, inl, inr, Bool, true, false, cond, List, [], ◌∷◌, ◌++◌, length, take, map, Option, Some, None, subst, slice_get, refl, sym, ap, ◌∙◌, arith, append_assoc, length-append, length-take}
 use Rattle.std.specs.List.{filter_map, cons_option, fold, All}
 use Rattle.std.proofs.lemmas.Bool.Decides.{nat_tests}
-use Rattle.std.proofs.lemmas.List.{append-nil, take-append-le, take-append-drop, map-append, length-map}
+use Rattle.std.proofs.lemmas.List.{append-nil, take-append-le, map-append, length-map}
 use Rattle.std.proofs.lemmas.List.Sums.{sum_by-append}
 use Rattle.std.proofs.lemmas.List.Elements.{filter_map-append, All-head, All-tail}
 use Rattle.std.proofs.lemmas.Option.{slice_get-map}
@@ -15,11 +15,12 @@ use Rattle.fbl_base.specs.declared.trace.Mark.TheVariants as mark
 use Rattle.fbl_base.specs.Events.{At, mark_of}
 use Rattle.fbl_base.specs.Rules.{sends_of, is_send_of, MayFollow, WellFormed}
 use Rattle.fbl_base.specs.Fold.{Next, Action, took, sent, action_of, actions_of, notes_of, note_of, responses, start_of, starts_of, step_events, Lawful}
-use Rattle.fbl_base.proofs.Gets.{At-front}
-use Rattle.fbl_base.proofs.RulesLaws.{WellFormed-push, in_flight-sent, eqb-self}
+use Rattle.fbl_base.proofs.Gets.{filter_map-agree, map-At}
+use Rattle.fbl_base.proofs.RulesLaws.{WellFormed-push, sent-before, eqb-self}
 use Rattle.fbl_base.proofs.FoldLaws.{responses-push}
 
-note_of-front : (t s : List Event) (from ssn : ℕ) (note : Note) → note_of t from ssn ≡ Some note → note_of (t ++ s) from ssn ≡ Some note
+-- a note that was sent stays so
+pub note_of-front : (t s : List Event) (from ssn : ℕ) (note : Note) → note_of t from ssn ≡ Some note → note_of (t ++ s) from ssn ≡ Some note
 note_of-front [] s from ssn note h = cc
 note_of-front (Send q k to x ∷ t) s from ssn note h = at (q == from && k == ssn) h (note_of-front t s from ssn note) where
   at : (b : Bool) → cond b (Some x) (note_of t from ssn) ≡ Some note → (note_of t from ssn ≡ Some note → note_of (t ++ s) from ssn ≡ Some note) → cond b (Some x) (note_of (t ++ s) from ssn) ≡ Some note
@@ -36,11 +37,11 @@ pub notes_of-sent : (sends : List (ℕ × Note)) → notes_of (map sent sends) �
 notes_of-sent [] = refl
 notes_of-sent (s ∷ sends) = notes_of-sent sends
 
-own_sends : (t : List Event) (p before : ℕ) (sends : List (ℕ × Note)) → filter_map (action_of t p) (step_events p before sends) ≡ map sent sends
+pub own_sends : (t : List Event) (p before : ℕ) (sends : List (ℕ × Note)) → filter_map (action_of t p) (step_events p before sends) ≡ map sent sends
 own_sends t p before [] = refl
 own_sends t p before (s ∷ sends) = (let e : (p == p) ≡ true = eqb-self p in rw e (ap (λ xs. sent s ∷ xs) (own_sends t p (before + 1) sends)))
 
-other_sends : (t : List Event) (p m before : ℕ) (sends : List (ℕ × Note)) → (p == m) ≡ false → filter_map (action_of t m) (step_events p before sends) ≡ []
+pub other_sends : (t : List Event) (p m before : ℕ) (sends : List (ℕ × Note)) → (p == m) ≡ false → filter_map (action_of t m) (step_events p before sends) ≡ []
 other_sends t p m before [] ne = refl
 other_sends t p m before (s ∷ sends) ne = rw ne (other_sends t p m (before + 1) sends ne)
 
@@ -57,14 +58,15 @@ sends_obey n p before u (s ∷ sends) obeys member count allowed room =
 
 -- what a member does stays the same as the trace grows, where each receipt's note is known
 actions-front : (t s u : List Event) (m : ℕ) → ((i to rsn from ssn : ℕ) → slice_get u i ≡ Some (Receipt to rsn from ssn) → (note : Note) × (note_of t from ssn ≡ Some note)) → filter_map (action_of (t ++ s) m) u ≡ filter_map (action_of t m) u
-actions-front t s [] m noted = refl
-actions-front t s (Send q k to x ∷ u) m noted = ap (λ xs. cons_option (action_of t m (Send q k to x)) xs) (actions-front t s u m (λ i. noted (suc i)))
-actions-front t s (Receipt to rsn from ssn ∷ u) m noted =
-    let n = noted 0 to rsn from ssn refl in
-    let e : note_of (t ++ s) from ssn ≡ note_of t from ssn = note_of-front t s from ssn n.0 n.1 ∙ sym n.1 in
-    rw e (ap (λ xs. cons_option (action_of t m (Receipt to rsn from ssn)) xs) (actions-front t s u m (λ i. noted (suc i))))
+actions-front t s u m noted = filter_map-agree (action_of (t ++ s) m) (action_of t m) u agree where
+  agree : (i : ℕ) (e : Event) → slice_get u i ≡ Some e → action_of (t ++ s) m e ≡ action_of t m e
+  agree i (Send q k to x) here = refl
+  agree i (Receipt to rsn from ssn) here =
+      let n = noted i to rsn from ssn here in
+      let e : note_of (t ++ s) from ssn ≡ note_of t from ssn = note_of-front t s from ssn n.0 n.1 ∙ sym n.1 in
+      rw e refl
 
-sent-note : (t : List Event) (i q k to : ℕ) (x : Note) → slice_get t i ≡ Some (Send q k to x) → (note : Note) × (note_of t q k ≡ Some note)
+pub sent-note : (t : List Event) (i q k to : ℕ) (x : Note) → slice_get t i ≡ Some (Send q k to x) → (note : Note) × (note_of t q k ≡ Some note)
 sent-note [] i q k to x h = cc
 sent-note (Send q' k' to' x' ∷ t) zero q k to x h =
     let e1 : q' ≡ q = cc in
@@ -83,20 +85,15 @@ sent-note (Receipt p r q' s ∷ t) (suc i) q k to x h = sent-note t i q k to x h
 pub receipts-noted : (n : ℕ) (t : List Event) → WellFormed n (map mark_of t) → (i to rsn from ssn : ℕ) → slice_get t i ≡ Some (Receipt to rsn from ssn) → (note : Note) × (note_of t from ssn ≡ Some note)
 receipts-noted n t obeys i to rsn from ssn at =
     let at_mark : At (map mark_of t) i (mark.Receipt to rsn from ssn) = slice_get-map mark_of t i ∙ (rw at) in
-    let may = obeys i (mark.Receipt to rsn from ssn) at_mark in
-    let sent' = in_flight-sent (take i (map mark_of t)) from ssn to may.5 in
-    let whole : At (map mark_of t) sent'.0 (mark.Send from ssn to) = (rw take-append-drop at (At-front (take i (map mark_of t)) (drop i (map mark_of t)) sent'.0 (mark.Send from ssn to) sent'.1)) in
-    is_send sent'.0 (slice_get t sent'.0) refl (sym (slice_get-map mark_of t sent'.0) ∙ whole) where
+    let sent' = sent-before n (map mark_of t) obeys i to rsn from ssn at_mark in
+    let event = map-At mark_of t sent'.0 (mark.Send from ssn to) sent'.2 in
+    by_event sent'.0 event.0 event.1 event.2 where
       by_event : (j : ℕ) (e : Event) → slice_get t j ≡ Some e → mark_of e ≡ mark.Send from ssn to → (note : Note) × (note_of t from ssn ≡ Some note)
       by_event j (Send q k p x) h is =
           let e1 : q ≡ from = cc in
           let e2 : k ≡ ssn = cc in
           (let r = sent-note t j q k p x h in (r.0, (rw (← e1, ← e2) r.1)))
       by_event j (Receipt p r q k) h is = cc
-
-      is_send : (j : ℕ) (o : Option Event) → slice_get t j ≡ o → option_map mark_of o ≡ Some (mark.Send from ssn to) → (note : Note) × (note_of t from ssn ≡ Some note)
-      is_send j None h is = cc
-      is_send j (Some e) h is = by_event j e h (cc)
 
 -- what the delivery adds to a member's actions
 added : (T : List Event) (p rsn q s before : ℕ) (note : Note) (sends : List (ℕ × Note)) (m : ℕ) → note_of T q s ≡ Some note → (((p ≡ m) × (filter_map (action_of T m) (Receipt p rsn q s ∷ step_events p before sends) ≡ took note ∷ map sent sends)) ⊎ (filter_map (action_of T m) (Receipt p rsn q s ∷ step_events p before sends) ≡ []))
@@ -107,7 +104,7 @@ added T p rsn q s before note sends m noted = at (p == m) refl where
       inl (same, (rw (is, noted) (ap (λ xs. took note ∷ xs) (subst (λ (x : ℕ). filter_map (action_of T x) (step_events p before sends) ≡ map sent sends) same (own_sends T p before sends)))))
   at false is = inr (rw is (other_sends T p m before sends is))
 
-actions-append : (t new : List Event) (m : ℕ) → ((i to rsn from ssn : ℕ) → slice_get t i ≡ Some (Receipt to rsn from ssn) → (note : Note) × (note_of t from ssn ≡ Some note)) → actions_of (t ++ new) m ≡ actions_of t m ++ filter_map (action_of (t ++ new) m) new
+pub actions-append : (t new : List Event) (m : ℕ) → ((i to rsn from ssn : ℕ) → slice_get t i ≡ Some (Receipt to rsn from ssn) → (note : Note) × (note_of t from ssn ≡ Some note)) → actions_of (t ++ new) m ≡ actions_of t m ++ filter_map (action_of (t ++ new) m) new
 actions-append t new m noted = filter_map-append (action_of (t ++ new) m) t new ∙ ap (λ xs. xs ++ filter_map (action_of (t ++ new) m) new) (actions-front t new t m noted)
 
 responds_more : (next : Next) (n : ℕ) (starts : List Start) (t new : List Event) (p : ℕ) (note : Note) (sends : List (ℕ × Note)) → sends ≡ (next p n (fold (λ state x. (next p n state x).state) 0 (notes_of (actions_of t p))) note).sends.items → (m : ℕ) (more : List Action) → actions_of t m ≡ map sent (starts_of m starts) ++ responses next m n 0 (notes_of (actions_of t m)) → actions_of (t ++ new) m ≡ actions_of t m ++ more → (((p ≡ m) × (more ≡ took note ∷ map sent sends)) ⊎ (more ≡ [])) → actions_of (t ++ new) m ≡ map sent (starts_of m starts) ++ responses next m n 0 (notes_of (actions_of (t ++ new) m))
@@ -136,7 +133,7 @@ Lawful-deliver next n starts t p rsn q s note sends lawful may noted answer allo
       responds = λ m. responds_more next n starts t new p note sends answer m (filter_map (action_of (t ++ new) m) new) (lawful.responds m) (actions-append t new m (receipts-noted n t lawful.well_formed)) (added (t ++ new) p rsn q s before note sends m (note_of-front t new q s note noted));
     }
 
-filter_map-shorter : {X Y : Type 0} (f : X → Option Y) (xs : List X) → length (filter_map f xs) ≤ length xs
+pub filter_map-shorter : {X Y : Type 0} (f : X → Option Y) (xs : List X) → length (filter_map f xs) ≤ length xs
 filter_map-shorter f [] = omega arith
 filter_map-shorter f (x ∷ xs) = at (f x) (filter_map-shorter f xs) where
   at : (o : Option _) → length (filter_map f xs) ≤ length xs → length (cons_option o (filter_map f xs)) ≤ length (x ∷ xs)

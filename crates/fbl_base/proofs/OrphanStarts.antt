@@ -1,6 +1,6 @@
 -- The first events of orphans that depend on a lost receipt.
-use Rattle.std.proofs.Common.{ℕ, zero, suc, replicate, [], ◌+◌, ◌<◌, ◌≡◌, ◌≢◌, ◌⊎◌, inl, inr, Bool, true, false, cond, not, ◌||◌, ◌&&◌, List, length, take, Option, Some, None, refl, sym, ap, ◌∙◌, subst, arith, get_or, set as set_at, get_or-set_same, get_or-set_other, ltb}
-use Rattle.std.proofs.lemmas.Bool.{false≢true}
+use Rattle.std.proofs.Common.{ℕ, [], ◌+◌, ◌<◌, ◌≡◌, ◌≢◌, ◌⊎◌, inl, inr, Bool, true, false, cond, not, ◌||◌, ◌&&◌, List, length, take, Option, Some, None, refl, sym, ap, ◌∙◌, subst, get_or, set as set_at, get_or-set_same, get_or-set_other, ltb}
+use Rattle.std.proofs.lemmas.Bool.{false≢true, cases_eq}
 use Rattle.std.specs.Cmp.{nat_cmp_total}
 use Rattle.std.specs.Ordering.{nat_cmp}
 use Rattle.std.specs.FinSet as set
@@ -12,9 +12,6 @@ use Rattle.fbl_base.specs.MemberSets.{contains-insert_other}
 use Rattle.fbl_base.specs.Reach.{reached_after}
 use Rattle.fbl_base.proofs.ReachLaws.{Tracks}
 use Rattle.fbl_base.proofs.Recorded.{Tracks-orphans}
-
-abbrev no_place : Option ℕ
-no_place = None
 
 -- what `IsOrphanStart` says, as far as the first events tell
 abbrev pub StartsBy : Parts → ℕ → ℕ → Option ℕ → Type 0
@@ -55,28 +52,20 @@ no_start dump clean tracks q start is =
     let none : ¬ (IsOrphan (first_events 0 dump) q) = λ o. false≢true (sym (set.contains-difference nat_cmp_total set.empty dump.strike q ∙ ap (λ b. b && not (set.contains dump.strike q)) (set.contains-empty nat_cmp q)) ∙ (Tracks-orphans (first_events 0 dump) set.empty clean tracks q).1 o) in
     subst (StartsBy dump 0 q) (sym is) none
 
-pub nones : (n q : ℕ) → get_or (replicate n (no_place)) q None ≡ None
-nones zero q = refl
-nones (suc n) zero = refl
-nones (suc n) (suc q) = nones n q
-
 module _ (dump : Parts) (i : ℕ) (reached reached' : set.FinSet nat_cmp) (clean clean' : List ℕ) (before : Tracks (IsLost dump) (take i dump.events) reached clean) (after : Tracks (IsLost dump) (take (i + 1) dump.events) reached' clean') (starts : List (Option ℕ)) (old : (q : ℕ) → q < 16 → StartsBy dump i q (get_or starts q None)) (member : ℕ) (other : (q : ℕ) → q ≢ member → set.contains (set.difference reached' dump.strike) q ≡ set.contains (set.difference reached dump.strike) q) where
-  split : (x : ℕ) → (x ≡ member) ⊎ (x ≢ member)
-  split x = grind arith
-
   kept : (q : ℕ) → q < 16 → q ≢ member → StartsBy dump (i + 1) q (get_or starts q None)
   kept q below ne = start_kept dump i reached reached' clean clean' before after q (get_or starts q None) (λ h. sym (other q ne) ∙ h) (old q below)
 
   -- the event makes its member no orphan
   pub starts_kept : (set.contains (set.difference reached' dump.strike) member ≡ true → set.contains (set.difference reached dump.strike) member ≡ true) → (q : ℕ) → q < 16 → StartsBy dump (i + 1) q (get_or starts q None)
-  starts_kept was q below = at_place (split q) where
+  starts_kept was q below = at_place (cases_eq q member) where
     at_place : (q ≡ member) ⊎ (q ≢ member) → StartsBy dump (i + 1) q (get_or starts q None)
     at_place (inl is) = start_kept dump i reached reached' clean clean' before after q (get_or starts q None) (rw is was) (old q below)
     at_place (inr ne) = kept q below ne
 
   -- the event makes its member an orphan
   pub starts_set : i < length dump.events → member < length starts → set.contains (set.difference reached dump.strike) member ≡ false → set.contains (set.difference reached' dump.strike) member ≡ true → (q : ℕ) → q < 16 → StartsBy dump (i + 1) q (get_or (set_at starts member (Some i)) q None)
-  starts_set within room was now q below = at_place (split q) where
+  starts_set within room was now q below = at_place (cases_eq q member) where
     at_place : (q ≡ member) ⊎ (q ≢ member) → StartsBy dump (i + 1) q (get_or (set_at starts member (Some i)) q None)
     at_place (inl is) = rw (is, get_or-set_same) (start_new dump i reached reached' clean clean' before after member within was now)
     at_place (inr ne) = rw get_or-set_other (kept q below ne)

@@ -1,5 +1,6 @@
 -- Precedence between places and between events say the same of a trace that obeys the rules.
-use Rattle.std.proofs.Common.{ℕ, ◌≡◌, ◌<◌, ◌⊎◌, inl, inr, List, take, arith}
+use Rattle.std.proofs.Common.{ℕ, ◌≡◌, ◌<◌, inl, inr, List, take}
+use Rattle.std.proofs.lemmas.Bool.{cases_order}
 use Rattle.fbl_base.specs.declared.trace.Mark.{Mark}
 use Rattle.fbl_base.specs.Events.{At}
 use Rattle.fbl_base.specs.Precedence.{Precedes, Depends, itself, step}
@@ -11,17 +12,13 @@ use Rattle.fbl_base.proofs.RulesLaws.{MayFollow-new, WellFormed-take}
 
 -- no event stands twice
 pub one_place : (n : ℕ) (t : List Mark) → WellFormed n t → (e : Mark) (i j : ℕ) → At t i e → At t j e → i ≡ j
-one_place n t obeys e i j at_i at_j = at (order i j) where
-  order : (x y : ℕ) → (x < y) ⊎ (y < x) ⊎ (x ≡ y)
-  order x y = grind arith
-
+one_place n t obeys e i j at_i at_j = elim (cases_order i j) [
+  | inl same ↦ same
+  | inr (inl below) ↦ absurd (not_before i j at_i at_j below)
+  | inr (inr above) ↦ absurd (not_before j i at_j at_i above)
+] where
   not_before : (x y : ℕ) → At t x e → At t y e → x < y → ⊥
   not_before x y at_x at_y below = MayFollow-new n (take y t) e (WellFormed-take n y t obeys) (obeys y e at_y) (x, slice_get-take t y x e below at_x)
-
-  at : (i < j) ⊎ (j < i) ⊎ (i ≡ j) → i ≡ j
-  at (inl below) = absurd (not_before i j at_i at_j below)
-  at (inr (inl above)) = absurd (not_before j i at_j at_i above)
-  at (inr (inr same)) = same
 
 pub events-from_places : (t : List Mark) (i j : ℕ) (a b : Mark) → At t i a → At t j b → places.Precedes t i j → Precedes t a b
 events-from_places t i j a b at_a at_b (places.itself h) = (let e : a ≡ b = cc in rw (← e) (itself (i, at_a)))

@@ -1,17 +1,17 @@
 -- Laws of precedence between events.
-use Rattle.std.proofs.Common.{ℕ, zero, suc, Bool, true, false, cond, ◌≡◌, ◌<◌, ◌⊎◌, ◌↔◌, inl, inr, List, [], ◌∷◌, ◌++◌, length, Some, refl, sym, ap, ◌∙◌, arith}
+use Rattle.std.proofs.Common.{ℕ, Bool, ◌≡◌, ◌⊎◌, ◌↔◌, inl, inr, List, [], ◌∷◌, ◌++◌, length, Some, refl, sym, ap, ◌∙◌, arith}
 use Rattle.std.specs.List.{filter}
 use Rattle.fbl_base.specs.declared.trace.Mark.{Mark}
 use Rattle.fbl_base.specs.declared.trace.Mark.TheVariants.{Send, Receipt}
-use Rattle.fbl_base.specs.Events.{At, member_of, send_of}
+use Rattle.fbl_base.specs.Events.{member_of, send_of}
 use Rattle.fbl_base.specs.Precedence.{Has, Earlier, Precedes, itself, step, Depends}
-use Rattle.fbl_base.proofs.Gets.{At-front, At-new, At-below, At-push}
+use Rattle.fbl_base.proofs.Gets.{At-front, At-new, At-below, At-push, At-filter, Apart-filter}
 
 pub Precedes-joined : {t : List Mark} {a b c : Mark} → Precedes t a b → Precedes t b c → Precedes t a c
 Precedes-joined p (itself h) = p
 Precedes-joined p (step q s) = step (Precedes-joined p q) s
 
-Earlier-front : (t s : List Mark) (a b : Mark) → Earlier t a b → Earlier (t ++ s) a b
+pub Earlier-front : (t s : List Mark) (a b : Mark) → Earlier t a b → Earlier (t ++ s) a b
 Earlier-front t s a b h = (h.0, h.1, h.2, At-front t s h.0 a h.3, At-front t s h.1 b h.4)
 
 pub Precedes-front : (t s : List Mark) {a b : Mark} → Precedes t a b → Precedes (t ++ s) a b
@@ -81,58 +81,16 @@ Depends-push t e q a new = (
   elim [ inl d ↦ (d.0, Precedes-front t (e ∷ []) d.1, d.2) | inr d ↦ (e, d.1, d.0) ],
 )
 
--- where a member's last event is known, it depends on what precedes that event
-pub Depends-last : (t : List Mark) (q : ℕ) (a m : Mark) → Has t m → member_of m ≡ q → ((b : Mark) → Has t b → member_of b ≡ q → (b ≡ m) ⊎ Earlier t b m) → Depends t q a ↔ Precedes t a m
-Depends-last t q a m has at_q last = (
-  λ d. elim (last d.0 (Has-last d.1) d.2) [
-    | inl is ↦ (rw is at d.1)
-    | inr h ↦ step d.1 (h, inl (d.2 ∙ sym at_q))
-  ],
-  λ p. (m, p, at_q),
-)
-
 -- events that are left in their order precede each other only as before
 pub Precedes-among : {s t : List Mark} {a b : Mark} → ((x : Mark) → Has s x → Has t x) → ((x y : Mark) → Earlier s x y → Earlier t x y) → Precedes s a b → Precedes t a b
 Precedes-among {s} {t} {a} has earlier (itself h) = itself (has a h)
 Precedes-among has earlier (step {b} {c} p l) = step (Precedes-among has earlier p) (earlier b c l.0, l.1)
 
-Has-later : (x : Mark) (t : List Mark) (a : Mark) → Has t a → Has (x ∷ t) a
-Has-later x t a h = (suc h.0, h.1)
-
-Has-cases : (x : Mark) (t : List Mark) (a : Mark) → Has (x ∷ t) a → (x ≡ a) ⊎ Has t a
-Has-cases x t a h = at_case h.0 h.1 where
-  at_case : (i : ℕ) → At (x ∷ t) i a → (x ≡ a) ⊎ Has t a
-  at_case zero e = inl cc
-  at_case (suc i) e = inr (i, e)
-
-Earlier-cases : (x : Mark) (t : List Mark) (a b : Mark) → Earlier (x ∷ t) a b → ((x ≡ a) × Has t b) ⊎ Earlier t a b
-Earlier-cases x t a b h = at_case h.0 h.1 h.2 h.3 h.4 where
-  at_case : (i j : ℕ) → i < j → At (x ∷ t) i a → At (x ∷ t) j b → ((x ≡ a) × Has t b) ⊎ Earlier t a b
-  at_case i zero below e f = absurd (omega arith)
-  at_case zero (suc j) below e f = inl (cc, (j, f))
-  at_case (suc i) (suc j) below e f = inr (i, j, omega arith, e, f)
-
-Earlier-later : (x : Mark) (t : List Mark) (a b : Mark) → Earlier t a b → Earlier (x ∷ t) a b
-Earlier-later x t a b h = (suc h.0, suc h.1, omega (arith, h.2), h.3, h.4)
-
 pub Has-filter : (p : Mark → Bool) (t : List Mark) (a : Mark) → Has (filter p t) a → Has t a
-Has-filter p [] a h = h
-Has-filter p (x ∷ t) a h =
-    (elim (p x) as (λ b. Has (cond b (x ∷ filter p t) (filter p t)) a → Has (x ∷ t) a) [
-      | true ↦ λ g. elim (Has-cases x (filter p t) a g) [ inl is ↦ (0, ap Some is) | inr g' ↦ Has-later x t a (Has-filter p t a g') ]
-      | false ↦ λ g. Has-later x t a (Has-filter p t a g)
-    ]) h
+Has-filter p t a h = At-filter p t h.0 a h.1
 
 pub Earlier-filter : (p : Mark → Bool) (t : List Mark) (a b : Mark) → Earlier (filter p t) a b → Earlier t a b
-Earlier-filter p [] a b h = h
-Earlier-filter p (x ∷ t) a b h =
-    (elim (p x) as (λ v. Earlier (cond v (x ∷ filter p t) (filter p t)) a b → Earlier (x ∷ t) a b) [
-      | true ↦ λ g. elim (Earlier-cases x (filter p t) a b g) [
-        | inl here ↦ (let y = Has-filter p t b here.1 in (0, suc y.0, omega arith, ap Some here.0, y.1))
-        | inr g' ↦ Earlier-later x t a b (Earlier-filter p t a b g')
-      ]
-      | false ↦ λ g. Earlier-later x t a b (Earlier-filter p t a b g)
-    ]) h
+Earlier-filter p t a b h = Apart-filter p t a b h
 
 -- what is left after some events are dropped precedes only what it preceded
 pub Precedes-filter : (p : Mark → Bool) (t : List Mark) {a b : Mark} → Precedes (filter p t) a b → Precedes t a b

@@ -1,7 +1,6 @@
 -- A pass over the events finds what a lost receipt reaches.
 use Rattle.std.proofs.Common.{subst, take, length-set, ◌==◌, ℕ, Bool, true, false, cond, ◌||◌, ◌≡◌, ◌≢◌, ◌<◌, ◌≤◌, ◌+◌, ◌⊎◌, ◌↔◌, inl, inr, List, [], ◌∷◌, ◌++◌, length, Decides, refl, sym, ap, ◌∙◌, arith, get_or, set as set_at, get_or-set_same, get_or-set_other, ltb}
-use Rattle.std.proofs.lemmas.Bool.Decides.{nat_tests}
-use Rattle.std.proofs.lemmas.Bool.{false≢true}
+use Rattle.std.proofs.lemmas.Bool.{false≢true, cases_eq, or_cases, or_left, or_right, ltb-true, lt-ltb}
 use Rattle.std.proofs.lemmas.List.Sums.{sum_by-append}
 use Rattle.std.proofs.lemmas.List.{take_more}
 use Rattle.std.proofs.lemmas.Option.{slice_get_read}
@@ -70,19 +69,12 @@ preceded_send Lost no_send t q s p new = (
 
 contains-if : (b : Bool) (reached : set.FinSet nat_cmp) (p x : ℕ) → (set.contains (cond b (set.insert reached p) reached) x ≡ true) ↔ (set.contains reached x ≡ true) ⊎ ((p ≡ x) × (b ≡ true))
 contains-if false reached p x = (inl, elim [ inl h ↦ h | inr h ↦ absurd (false≢true h.1) ])
-contains-if true reached p x = at_place (split x) where
-  split : (y : ℕ) → (y ≡ p) ⊎ (y ≢ p)
-  split y = grind arith
-
+contains-if true reached p x = at_place (cases_eq x p) where
   at_place : (x ≡ p) ⊎ (x ≢ p) → (set.contains (set.insert reached p) x ≡ true) ↔ (set.contains reached x ≡ true) ⊎ ((p ≡ x) × (true ≡ true))
   at_place (inl is) = (λ _. inr (sym is, refl), λ _. rw is (contains-insert_same reached p))
   at_place (inr ne) =
       let same = contains-insert_other reached p x ne in
       (λ h. inl (sym same ∙ h), elim [ inl h ↦ same ∙ h | inr h ↦ absurd (ne (sym h.0)) ])
-
-either_true : (a b : Bool) → ((a || b) ≡ true) ↔ (a ≡ true) ⊎ (b ≡ true)
-either_true true b = (λ _. inl refl, λ _. refl)
-either_true false b = (inr, elim [ inl h ↦ absurd (false≢true h) | inr h ↦ h ])
 
 sends-push : (t : List Mark) (e : Mark) (x : ℕ) → sends_of t x ≤ sends_of (t ++ e ∷ []) x
 sends-push t e x = rw (sum_by-append (λ y. cond (is_send_of x y) 1 0) t (e ∷ [])) (omega arith)
@@ -91,12 +83,6 @@ sends-send : (t : List Mark) (q s p : ℕ) → sends_of (t ++ Send q s p ∷ [])
 sends-send t q s p =
     let e : (q == q) ≡ true = eqb-self q in
     rw (sum_by-append (λ y. cond (is_send_of q y) 1 0) t (Send q s p ∷ []), e) (omega arith)
-
-ltb-true : {a b : ℕ} → ltb a b ≡ true → a < b
-ltb-true {a} {b} h = grind (arith, nat_tests)
-
-true-ltb : {a b : ℕ} → a < b → ltb a b ≡ true
-true-ltb {a} {b} h = grind (arith, nat_tests)
 
 module _ (n : ℕ) (Lost : Mark → Type 0) (no_send : (q s p : ℕ) → Lost (Send q s p) → ⊥) (t : List Mark) (obeys : WellFormed n t) (reached : set.FinSet nat_cmp) (unreached_sends : List ℕ) (tracks : Tracks Lost t reached unreached_sends) where
   tracks_send : (q s p : ℕ) → q < length unreached_sends → MayFollow n t (Send q s p) → Tracks Lost (t ++ Send q s p ∷ []) reached (unreached_sends_after (Send q s p) reached unreached_sends)
@@ -114,15 +100,12 @@ module _ (n : ℕ) (Lost : Mark → Type 0) (no_send : (q s p : ℕ) → Lost (S
               ],
             );
         sends = λ q' s' p' has. elim (At-push t (Send q s p) has.0 (Send q' s' p') has.1) [
-          | inl a ↦ old_send q' s' p' (has.0, a) (preceded_old Lost t (Send q s p) (Send q' s' p') new (has.0, a)) (set.contains reached q) refl (split q')
+          | inl a ↦ old_send q' s' p' (has.0, a) (preceded_old Lost t (Send q s p) (Send q' s' p') new (has.0, a)) (set.contains reached q) refl (cases_eq q' q)
           | inr a ↦ (let e1 : q' ≡ q = cc in let e2 : s' ≡ s = cc in let e3 : p' ≡ p = cc in rw (e1, e2, e3) (new_send preceded (set.contains reached q) refl))
         ];
-        counted = λ x. counts more (set.contains reached q) refl x (split x);
+        counted = λ x. counts more (set.contains reached q) refl x (cases_eq x q);
       }
     where
-      split : (y : ℕ) → (y ≡ q) ⊎ (y ≢ q)
-      split y = grind arith
-
       new_send : (IsPreceded Lost (t ++ Send q s p ∷ []) (Send q s p) ↔ IsReached Lost t q) → (b : Bool) → set.contains reached q ≡ b → (get_or (cond b unreached_sends (set_at unreached_sends q s)) q 0 < s) ↔ IsPreceded Lost (t ++ Send q s p ∷ []) (Send q s p)
       new_send preceded true is = (λ _. preceded.1 ((tracks.members q).0 is), λ _. omega (arith, may.3, tracks.counted q))
       new_send preceded false is = (rw get_or-set_same (λ h. absurd (omega (arith, h)), λ h. absurd (false≢true (sym is ∙ (tracks.members q).1 (preceded.0 h)))))
@@ -158,19 +141,19 @@ module _ (n : ℕ) (Lost : Mark → Type 0) (no_send : (q s p : ℕ) → Lost (S
                 | inl old ↦ inl ((tracks.members x).0 old)
                 | inr now ↦ inr (
                   now.0,
-                  preceded.1 (elim ((either_true lost (ltb (get_or unreached_sends q 0) s)).0 now.1) [
+                  preceded.1 (elim (or_cases lost (ltb (get_or unreached_sends q 0) s) now.1) [
                     | inl yes' ↦ inl (decides.0 yes')
-                    | inr less ↦ inr (inr (message.0 (ltb-true less)))
+                    | inr less ↦ inr (inr (message.0 (ltb-true (get_or unreached_sends q 0) s less)))
                   ]),
                 )
               ]),
               λ h. cases.1 (elim (push.0 h) [
                 | inl old ↦ inl ((tracks.members x).1 old)
                 | inr now ↦ elim (preceded.0 now.1) [
-                  | inl is_lost ↦ inr (now.0, (either_true lost (ltb (get_or unreached_sends q 0) s)).1 (inl (decides.1 is_lost)))
+                  | inl is_lost ↦ inr (now.0, or_left lost (ltb (get_or unreached_sends q 0) s) (decides.1 is_lost))
                   | inr other ↦ elim other [
                     | inl at_p ↦ inl ((tracks.members x).1 (rw now.0 at at_p))
-                    | inr sent' ↦ inr (now.0, (either_true lost (ltb (get_or unreached_sends q 0) s)).1 (inr (true-ltb (message.1 sent'))))
+                    | inr sent' ↦ inr (now.0, or_right lost (ltb (get_or unreached_sends q 0) s) (lt-ltb (get_or unreached_sends q 0) s (message.1 sent')))
                   ]
                 ]
               ]),

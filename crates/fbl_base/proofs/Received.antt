@@ -1,9 +1,9 @@
 -- Which determinants receipts have.
-use Rattle.std.proofs.Common.{nat_lt, drop, ◌&&◌, ℕ, zero, suc, ◌+◌, ◌<◌, ◌≤◌, ◌≡◌, Bool, true, cond, ◌||◌, List, [], ◌∷◌, length, take, get_or, slice_get, Option, Some, None, refl, sym, ap, ◌∙◌, arith, Decides, length-take}
-use Rattle.std.proofs.lemmas.Bool.Decides.{nat_tests}
+use Rattle.std.proofs.Common.{nat_lt, drop, ◌&&◌, ℕ, ◌+◌, ◌<◌, ◌≤◌, ◌≡◌, Bool, true, cond, ◌||◌, List, [], ◌∷◌, length, take, get_or, slice_get, Some, None, refl, sym, ap, ◌∙◌, arith, Decides, length-take}
+use Rattle.std.proofs.lemmas.Bool.{ltb-true, lt-ltb}
 use Rattle.std.specs.List.{list_any, filter_map, cons_option}
 use Rattle.std.proofs.lemmas.List.{take_more, take-append-drop, take-append-le}
-use Rattle.std.proofs.lemmas.List.Folds.{list_any-append}
+use Rattle.std.proofs.lemmas.List.Folds.{list_any-append, Any-from_list_any, list_any-from_Any}
 use Rattle.std.proofs.lemmas.List.Elements.{filter_map-append}
 use Rattle.std.proofs.lemmas.Option.{slice_get_read, slice_get-get_or, get_or_from_slice_get}
 use Rattle.fbl_base.specs.declared.trace.Determinant.{Determinant}
@@ -15,8 +15,8 @@ use Rattle.fbl_base.specs.Rules.{MayFollow, ObeysAt, WellFormed}
 use Rattle.fbl_base.specs.Audit.{Parts, HeldAt}
 use Rattle.fbl_base.specs.Events.{same_determinant, receipt_of}
 use Rattle.fbl_base.specs.DumpParts.{is_received}
-use Rattle.fbl_base.proofs.Gets.{At-front, At-below, At-filter_map}
-use Rattle.fbl_base.proofs.Recorded.{Decides-same_determinant, any_at, at_any, or_cond, or_false, both_true}
+use Rattle.fbl_base.proofs.Gets.{At-front, At-below, At-filter_map, filter_map-At}
+use Rattle.fbl_base.proofs.Recorded.{Decides-same_determinant, or_cond, or_false, both_true}
 
 more : (events : List Mark) (i : ℕ) (e : Mark) (d : Determinant) → i < length events → e ≡ get_or events i e → is_received (take (i + 1) events) d ≡ (is_received (take i events) d || list_any (λ x. same_determinant x d) (cons_option (determinant_of e) []))
 more events i e d below is = rw (take_more events i e below, ← is, filter_map-append determinant_of (take i events) (e ∷ []), list_any-append (λ x. same_determinant x d))
@@ -30,24 +30,16 @@ received_more events i e key d before after below is some was now =
 pub received_same : (events : List Mark) (i : ℕ) (e : Mark) (d : Determinant) (before : Bool) → i < length events → e ≡ get_or events i e → determinant_of e ≡ None → before ≡ is_received (take i events) d → before ≡ is_received (take (i + 1) events) d
 received_same events i e d before below is none was = was ∙ or_false _ ∙ (rw (more events i e d below is, none))
 
-is_receipt : (e : Mark) (d : Determinant) → determinant_of e ≡ Some d → e ≡ receipt_of d
+pub is_receipt : (e : Mark) (d : Determinant) → determinant_of e ≡ Some d → e ≡ receipt_of d
 is_receipt (Send q s p) d h = cc
 is_receipt (Receipt p r q s) d h = (let e : ◌≡◌ {A = Determinant} (record { from = q; ssn = s; to = p; rsn = r }) d = cc in rw (← e))
-
-filter_map-At : {X Y : Type 0} (f : X → Option Y) (xs : List X) (i : ℕ) (x : X) (y : Y) → slice_get xs i ≡ Some x → f x ≡ Some y → (j : ℕ) × (slice_get (filter_map f xs) j ≡ Some y)
-filter_map-At f [] i x y at is = cc
-filter_map-At f (z ∷ xs) zero x y at is = (let e : f z ≡ Some y = (let same : z ≡ x = cc in ap f same ∙ is) in (0, rw e))
-filter_map-At {X} {Y} f (z ∷ xs) (suc i) x y at is = skip (f z) (filter_map-At f xs i x y at is) where
-  skip : (o : Option Y) → (j : ℕ) × (slice_get (filter_map f xs) j ≡ Some y) → (j : ℕ) × (slice_get (cons_option o (filter_map f xs)) j ≡ Some y)
-  skip None r = r
-  skip (Some w) r = (suc r.0, r.1)
 
 -- the test means that the events have the receipt
 pub Decides-is_received : (events : List Mark) (d : Determinant) → Decides (is_received events d) (Has events (receipt_of d))
 Decides-is_received events d = (has, received) where
   has : is_received events d ≡ true → Has events (receipt_of d)
   has h =
-      let a = any_at (λ x. same_determinant x d) (filter_map determinant_of events) h in
+      let a = Any-from_list_any (λ x. same_determinant x d) (filter_map determinant_of events) h in
       let same : a.1 ≡ d = (Decides-same_determinant a.1 d).0 a.4 in
       let b = At-filter_map determinant_of events a.0 a.1 (slice_get-get_or (filter_map determinant_of events) a.0 a.1 a.2 ∙ ap Some a.3) in
       (b.0, b.2 ∙ ap Some (is_receipt b.1 a.1 b.3 ∙ ap receipt_of same))
@@ -55,7 +47,7 @@ Decides-is_received events d = (has, received) where
   received : Has events (receipt_of d) → is_received events d ≡ true
   received has' =
       let a = filter_map-At determinant_of events has'.0 (receipt_of d) d has'.1 refl in
-      at_any (λ x. same_determinant x d) (filter_map determinant_of events) a.0 d (At-below _ a.0 d a.1) (get_or_from_slice_get (filter_map determinant_of events) a.0 d d a.1) ((Decides-same_determinant d d).1 refl)
+      list_any-from_Any (λ x. same_determinant x d) (filter_map determinant_of events) (a.0, d, At-below _ a.0 d a.1, get_or_from_slice_get (filter_map determinant_of events) a.0 d d a.1, (Decides-same_determinant d d).1 refl)
 
 -- the front of a trace whose places obey the rules
 pub WellFormed-below : (n : ℕ) (t : List Mark) (i : ℕ) → ((j : ℕ) → j < i → ObeysAt n t j) → WellFormed n (take i t)
@@ -85,12 +77,6 @@ pair_verdict dump i h received below is was =
       λ t.
           let t1 = both_true (nat_lt i 131072) _ t in
           let t2 = both_true (nat_lt h.0 dump.members) _ t1.1 in
-          λ g at_g. (let same : h ≡ g = cc in rw (← same) (lt-of t1.0, lt-of t2.0, decides.0 (sym was ∙ t2.1))),
-      λ held. (let g = held h at in rw (of-lt g.0, of-lt g.1, was) (decides.1 g.2)),
+          λ g at_g. (let same : h ≡ g = cc in rw (← same) (ltb-true i 131072 t1.0, ltb-true h.0 dump.members t2.0, decides.0 (sym was ∙ t2.1))),
+      λ held. (let g = held h at in rw (lt-ltb i 131072 g.0, lt-ltb h.0 dump.members g.1, was) (decides.1 g.2)),
     )
-  where
-    lt-of : {a b : ℕ} → nat_lt a b ≡ true → a < b
-    lt-of {a} {b} t = grind (arith, nat_tests)
-
-    of-lt : {a b : ℕ} → a < b → nat_lt a b ≡ true
-    of-lt {a} {b} t = grind (arith, nat_tests)

@@ -1,12 +1,12 @@
 -- Which determinants are recorded.
-use Rattle.std.proofs.Common.{replicate, [], ◌∷◌, zero, suc, ℕ, ◌+◌, ◌<◌, ◌≡◌, ◌==◌, Bool, true, false, not, cond, ◌&&◌, ◌||◌, List, length, take, get_or, refl, sym, ap, ◌∙◌, arith, Decides, ◌↔◌}
+use Rattle.std.proofs.Common.{ℕ, ◌+◌, ◌<◌, ◌≡◌, ◌==◌, Bool, true, false, not, cond, ◌&&◌, ◌||◌, List, length, take, get_or, refl, sym, ap, ◌∙◌, arith, Decides, ◌↔◌}
 use Rattle.std.specs.List.{list_any}
 use Rattle.std.specs.Ordering.{nat_cmp}
 use Rattle.std.specs.FinSet as set
-use Rattle.std.proofs.lemmas.Bool.Decides.{nat_tests}
-use Rattle.std.proofs.lemmas.List.Folds.{list_any_more}
+use Rattle.std.proofs.lemmas.Bool.Decides.{nat_tests, Decides-and, Decides-eqb}
+use Rattle.std.proofs.lemmas.List.Folds.{list_any_more, Any-from_list_any, list_any-from_Any}
 use Rattle.fbl_base.specs.declared.trace.Determinant.{Determinant}
-use Rattle.std.proofs.lemmas.Bool.{false≢true}
+use Rattle.std.proofs.lemmas.Bool.{false≢true, not-true, not_from_false, false_from_ne_true}
 use Rattle.fbl_base.specs.declared.trace.Mark.{Mark}
 use Rattle.fbl_base.specs.declared.trace.Mark.TheVariants.{Send, Receipt}
 use Rattle.fbl_base.specs.Reach.{is_lost_test}
@@ -51,50 +51,21 @@ both_true true b h = (refl, h)
 both_true false b h = cc
 
 pub Decides-same_determinant : (a b : Determinant) → Decides (same_determinant a b) (a ≡ b)
-Decides-same_determinant a b = (same, is) where
-  same : same_determinant a b ≡ true → a ≡ b
-  same h =
-      let h1 = both_true (a.from == b.from) _ h in
-      let h2 = both_true (a.ssn == b.ssn) _ h1.1 in
-      let h3 = both_true (a.to == b.to) _ h2.1 in
-      let e1 : a.from ≡ b.from = eqb_same h1.0 in
-      let e2 : a.ssn ≡ b.ssn = eqb_same h2.0 in
-      let e3 : a.to ≡ b.to = eqb_same h3.0 in
-      let e4 : a.rsn ≡ b.rsn = eqb_same h3.1 in
-      (λ i. record { from = e1 i; ssn = e2 i; to = e3 i; rsn = e4 i })
-
-  is : a ≡ b → same_determinant a b ≡ true
-  is e = rw (← e) (rw (same_eqb a.from, same_eqb a.ssn, same_eqb a.to, same_eqb a.rsn))
-
--- a list has an element that passes the test exactly where the test over the list says so
-pub any_at : {X : Type 0} (p : X → Bool) (xs : List X) → list_any p xs ≡ true → (k : ℕ) × (x : X) × (k < length xs) × (get_or xs k x ≡ x) × (p x ≡ true)
-any_at p [] h = cc
-any_at {X} p (x ∷ xs) h = at_head (p x) refl h (λ g. any_at p xs g) where
-  at_head : (b : Bool) → p x ≡ b → (b || list_any p xs) ≡ true → (list_any p xs ≡ true → (k : ℕ) × (y : X) × (k < length xs) × (get_or xs k y ≡ y) × (p y ≡ true)) → (k : ℕ) × (y : X) × (k < length (x ∷ xs)) × (get_or (x ∷ xs) k y ≡ y) × (p y ≡ true)
-  at_head true is g rest = (0, x, omega arith, refl, is)
-  at_head false is g rest = (let r = rest g in (suc r.0, r.1, omega (arith, r.2), r.3, r.4))
-
-pub at_any : {X : Type 0} (p : X → Bool) (xs : List X) (k : ℕ) (x : X) → k < length xs → get_or xs k x ≡ x → p x ≡ true → list_any p xs ≡ true
-at_any p [] k x within is passes = absurd (omega arith)
-at_any p (y ∷ ys) zero x within is passes = (let e : p y ≡ true = ap p is ∙ passes in rw e)
-at_any p (y ∷ ys) (suc k) x within is passes = (let ih = at_any p ys k x (omega (arith, within)) is passes in rw (ih, or_true)) where
-  or_true : (b : Bool) → (b || true) ≡ true
-  or_true true = refl
-  or_true false = refl
+Decides-same_determinant a b =
+    let sent = Decides-and (a.from == b.from) _ (Decides-eqb a.from b.from) (Decides-and (a.ssn == b.ssn) _ (Decides-eqb a.ssn b.ssn) (Decides-and (a.to == b.to) _ (Decides-eqb a.to b.to) (Decides-eqb a.rsn b.rsn))) in (
+      λ h. (let e = sent.0 h in λ i. record { from = e.0 i; ssn = e.1.0 i; to = e.1.1.0 i; rsn = e.1.1.1 i }),
+      λ e. sent.1 (ap (λ (d : Determinant). d.from) e, (ap (λ (d : Determinant). d.ssn) e, (ap (λ (d : Determinant). d.to) e, ap (λ (d : Determinant). d.rsn) e))),
+    )
 
 pub Decides-is_held_outside : (dump : Parts) (d : Determinant) → Decides (is_held_outside dump d) (IsHeldOutside dump d)
 Decides-is_held_outside dump d = (
   λ h.
-      let a = any_at (holds_it dump.strike d) dump.held h in
+      let a = Any-from_list_any (holds_it dump.strike d) dump.held h in
       let b = both_true (not (set.contains dump.strike a.1.0)) (same_determinant a.1.1 d) a.4 in
       let is : a.1.1 ≡ d = (Decides-same_determinant a.1.1 d).0 b.1 in
-      (a.1.0, (a.0, a.2, (let pair : (a.1.0, d) ≡ a.1 = (λ i. (a.1.0, sym is i)) in rw pair a.3)), not_true (set.contains dump.strike a.1.0) b.0),
-  λ r. at_any (holds_it dump.strike d) dump.held r.1.0 (r.0, d) r.1.1 r.1.2 (rw (r.2, (Decides-same_determinant d d).1 refl)),
+      (a.1.0, (a.0, a.2, (let pair : (a.1.0, d) ≡ a.1 = (λ i. (a.1.0, sym is i)) in rw pair a.3)), not-true (set.contains dump.strike a.1.0) b.0),
+  λ r. list_any-from_Any (holds_it dump.strike d) dump.held (r.1.0, (r.0, d), r.1.1, r.1.2, rw (r.2, (Decides-same_determinant d d).1 refl)),
 )
-  where
-    not_true : (b : Bool) → not b ≡ true → b ≡ false
-    not_true true h = sym h
-    not_true false h = refl
 
 -- what the test of the code says
 pub Decides-is_lost : (dump : Parts) (recorded : List Determinant) → ((d : Determinant) → list_any (same_determinant d) recorded ≡ is_held_outside dump d) → (e : Mark) → Decides (is_lost_test same_determinant recorded e) (IsLost dump e)
@@ -102,15 +73,7 @@ Decides-is_lost dump recorded is (Send from ssn to) = (λ h. cc, λ x. absurd x)
 Decides-is_lost dump recorded is (Receipt to rsn from ssn) =
     let d : Determinant = record { from = from; ssn = ssn; to = to; rsn = rsn } in
     let decides = Decides-is_held_outside dump d in
-    rw (is d) (λ h r. absurd (false≢true (sym (not_true (is_held_outside dump d) h) ∙ decides.1 r)), λ lost. true_not (is_held_outside dump d) (λ h. lost (decides.0 h)))
-  where
-    not_true : (b : Bool) → not b ≡ true → b ≡ false
-    not_true true h = sym h
-    not_true false h = refl
-
-    true_not : (b : Bool) → (b ≡ true → ⊥) → not b ≡ true
-    true_not true h = absurd (h refl)
-    true_not false h = refl
+    rw (is d) (λ h r. absurd (false≢true (sym (not-true (is_held_outside dump d) h) ∙ decides.1 r)), λ lost. not_from_false (is_held_outside dump d) (false_from_ne_true (is_held_outside dump d) (λ h. lost (decides.0 h))))
 
 both_not : (a b : Bool) → ((a && not b) ≡ true) ↔ ((a ≡ true) × (b ≡ false))
 both_not true true = (λ h. cc, λ h. sym h.1)
@@ -122,8 +85,3 @@ pub Tracks-orphans : (dump : Parts) (reached : set.FinSet nat_cmp) (clean : List
 Tracks-orphans dump reached clean tracks q =
     let is = both_not (set.contains reached q) (set.contains dump.strike q) in
     rw (set.contains-difference nat_cmp_total) (λ h. (let b = is.0 h in (b.1, (tracks.members q).0 b.0)), λ o. is.1 ((tracks.members q).1 o.1, o.0))
-
-pub zeros : (n q : ℕ) → ◌≡◌ {A = ℕ} (get_or {A = ℕ} (replicate n 0) q 0) 0
-zeros zero q = refl
-zeros (suc n) zero = refl
-zeros (suc n) (suc q) = zeros n q

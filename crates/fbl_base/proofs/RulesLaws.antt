@@ -1,28 +1,27 @@
 -- Laws of the rules of events.
-use Rattle.std.proofs.Common.{◌==◌, ◌&&◌, not, None, ℕ, zero, suc, Bool, true, false, cond, ◌≡◌, ◌<◌, ◌≤◌, inl, inr, List, [], ◌∷◌, ◌++◌, length, take, drop, Some, refl, ap, ◌∙◌, arith, count_by, slice_get}
+use Rattle.std.proofs.Common.{◌+◌, ◌==◌, ◌&&◌, not, None, ℕ, zero, suc, Bool, true, cond, ◌≡◌, ◌<◌, inl, inr, List, [], ◌∷◌, ◌++◌, length, take, drop, Some, refl, ap, ◌∙◌, arith, count_by, slice_get}
+use Rattle.std.proofs.lemmas.Bool.{and_parts, eqb-true}
 use Rattle.std.proofs.lemmas.Bool.Decides.{nat_tests}
+use Rattle.std.proofs.lemmas.Option.{cond_some}
 use Rattle.std.specs.List.{filter_map, list_any}
-use Rattle.std.proofs.lemmas.List.{take-append-le, take-append-drop, take_all}
-use Rattle.std.proofs.lemmas.List.Sums.{sum_by-cons}
+use Rattle.std.proofs.lemmas.List.{length-take, append-nil, append_assoc, take-append-le, take-append-drop, take_all}
+use Rattle.std.proofs.lemmas.List.Sums.{sum_by-cons, sum_by_push}
 use Rattle.fbl_base.specs.declared.trace.Mark.{Mark}
 use Rattle.fbl_base.specs.declared.trace.Mark.TheVariants.{Send, Receipt}
 use Rattle.fbl_base.specs.Events.{At}
 use Rattle.fbl_base.specs.Precedence.{Has}
-use Rattle.fbl_base.specs.Rules.{is_send_of, is_receipt_of, sent_on, taken_on, in_flight, MayFollow, WellFormed}
+use Rattle.fbl_base.specs.Rules.{is_send_of, is_receipt_of, sends_of, receipts_of, sent_on, taken_on, in_flight, MayFollow, WellFormed}
 use Rattle.fbl_base.proofs.Gets.{At-front, At-new, At-below, At-push, At-filter, At-filter_map}
 
 -- the empty trace obeys the rules
 pub WellFormed-none : (n : ℕ) → WellFormed n []
 WellFormed-none n i e at = absurd (omega (arith, At-below [] i e at))
 
-take_push_below : (t : List Mark) (e : Mark) (i : ℕ) → i ≤ length t → take i (t ++ e ∷ []) ≡ take i t
-take_push_below t e i below = take-append-le i t (e ∷ []) below
-
 -- so does one with one more event that may come next
 pub WellFormed-push : (n : ℕ) (t : List Mark) (e : Mark) → WellFormed n t → MayFollow n t e → WellFormed n (t ++ e ∷ [])
 WellFormed-push n t e obeys may i b at = elim (At-push t e i b at) [
-  | inl old ↦ (let below = At-below t i b old in rw (take_push_below t e i (omega (arith, below))) (obeys i b old))
-  | inr new ↦ (let here : take i (t ++ e ∷ []) ≡ t = take_push_below t e i (omega (arith, new.0)) ∙ take_all i t (omega (arith, new.0)) in rw (here, ← new.1) may)
+  | inl old ↦ (let below = At-below t i b old in rw (take-append-le i t (e ∷ []) (omega (arith, below))) (obeys i b old))
+  | inr new ↦ (let here : take i (t ++ e ∷ []) ≡ t = take-append-le i t (e ∷ []) (omega (arith, new.0)) ∙ take_all i t (omega (arith, new.0)) in rw (here, ← new.1) may)
 ]
 
 -- the front of a trace that obeys the rules obeys them
@@ -35,10 +34,26 @@ WellFormed-take n i t obeys = WellFormed-front n (take i t) (drop i t) (rw take-
 
 pub MayFollow-last : (n : ℕ) (t : List Mark) (e : Mark) → WellFormed n (t ++ e ∷ []) → MayFollow n t e
 MayFollow-last n t e obeys =
-    (let here : take (length t) (t ++ e ∷ []) ≡ t = take_push_below t e (length t) (omega arith) ∙ take_all (length t) t (omega arith) in rw here at (obeys (length t) e (At-new t e)))
+    (let here : take (length t) (t ++ e ∷ []) ≡ t = take-append-le (length t) t (e ∷ []) (omega arith) ∙ take_all (length t) t (omega arith) in rw here at (obeys (length t) e (At-new t e)))
+
+-- what holds of no event, and of one more that may come next, holds of each trace that obeys the rules
+pub WellFormed-keeps : (n : ℕ) (P : List Mark → Type 0) → P [] → ((t : List Mark) (e : Mark) → WellFormed n t → MayFollow n t e → P t → P (t ++ e ∷ [])) → (t : List Mark) → WellFormed n t → P t
+WellFormed-keeps n P none more t obeys = from [] t obeys none where
+  from : (u rest : List Mark) → WellFormed n (u ++ rest) → P u → P (u ++ rest)
+  from u [] obeys done = rw append-nil done
+  from u (e ∷ rest) obeys done =
+      let next : WellFormed n ((u ++ e ∷ []) ++ rest) = rw append_assoc obeys in
+      let front = WellFormed-front n (u ++ e ∷ []) rest next in
+      rw append_assoc at (from (u ++ e ∷ []) rest next (more u e (WellFormed-front n u (e ∷ []) front) (MayFollow-last n u e front) done))
 
 pub eqb-self : (x : ℕ) → (x == x) ≡ true
 eqb-self x = grind (arith, nat_tests)
+
+pub sends-step : (t : List Mark) (e : Mark) (x : ℕ) → sends_of (t ++ e ∷ []) x ≡ sends_of t x + cond (is_send_of x e) 1 0
+sends-step t e x = sum_by_push (λ y. cond (is_send_of x y) 1 0) t e
+
+pub receipts-step : (t : List Mark) (e : Mark) (x : ℕ) → receipts_of (t ++ e ∷ []) x ≡ receipts_of t x + cond (is_receipt_of x e) 1 0
+receipts-step t e x = sum_by_push (λ y. cond (is_receipt_of x y) 1 0) t e
 
 -- a place that passes the test is counted
 pub count_at : (p : Mark → Bool) (t : List Mark) (i : ℕ) (e : Mark) → At t i e → p e ≡ true → count_by p (take i t) < count_by p t
@@ -61,19 +76,28 @@ MayFollow-new n t (Receipt to rsn from ssn) obeys may has =
     let fewer = count_at (is_receipt_of to) t has.0 (Receipt to rsn from ssn) has.1 (eqb-self to) in
     omega (arith, may.3, before.3, fewer)
 
+-- which event tells of a message
+pub on_channel : (a b q p k s : ℕ) → cond (a == q && b == p) (Some k) None ≡ Some s → (a ≡ q) × (b ≡ p) × (k ≡ s)
+on_channel a b q p k s h =
+    let parts = cond_some (a == q && b == p) k s h in
+    let ends = and_parts (a == q) (b == p) parts.0 in
+    (eqb-true a q ends.0, eqb-true b p ends.1, parts.1)
+
+pub is_sent : (q p s : ℕ) (e : Mark) → sent_on q p e ≡ Some s → e ≡ Send q s p
+is_sent q p s (Send q' s' p') h = (let on = on_channel q' p' q p s' s h in rw (on.0, on.1, on.2) refl)
+is_sent q p s (Receipt p' r' q' s') h = cc
+
 -- a message in flight was sent
 pub in_flight-sent : (t : List Mark) (q s p : ℕ) → slice_get (in_flight t q p) 0 ≡ Some s → Has t (Send q s p)
 in_flight-sent t q s p first =
     let a = At-filter (λ ssn. not (list_any (λ taken. taken == ssn) (filter_map (taken_on q p) t))) (filter_map (sent_on q p) t) 0 s first in
     let b = At-filter_map (sent_on q p) t a.0 s a.1 in
-    (b.0, b.2 ∙ ap Some (is_send b.1 b.3)) where
-      is_send : (e : Mark) → sent_on q p e ≡ Some s → e ≡ Send q s p
-      is_send (Send q' s' p') h = same (q' == q) (p' == p) refl refl h where
-        same : (a b : Bool) → (q' == q) ≡ a → (p' == p) ≡ b → cond (a && b) (Some s') None ≡ Some s → Send q' s' p' ≡ Send q s p
-        same true true ea eb h' =
-            let e1 : q' ≡ q = grind (arith, nat_tests) in
-            let e2 : p' ≡ p = grind (arith, nat_tests) in
-            cc
-        same true false ea eb h' = cc
-        same false b ea eb h' = cc
-      is_send (Receipt p' r' q' s') h = cc
+    (b.0, b.2 ∙ ap Some (is_sent q p s b.1 b.3))
+
+-- the message of a receipt was sent at an earlier place
+pub sent-before : (n : ℕ) (t : List Mark) → WellFormed n t → (i to rsn from ssn : ℕ) → At t i (Receipt to rsn from ssn) → (j : ℕ) × (j < i) × At t j (Send from ssn to)
+sent-before n t obeys i to rsn from ssn here =
+    let may = obeys i (Receipt to rsn from ssn) here in
+    let sent = in_flight-sent (take i t) from ssn to may.5 in
+    let below = At-below (take i t) sent.0 (Send from ssn to) sent.1 in
+    (sent.0, omega (arith, below, length-take i t), (rw take-append-drop at (At-front (take i t) (drop i t) sent.0 (Send from ssn to) sent.1)))

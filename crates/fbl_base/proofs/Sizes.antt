@@ -1,7 +1,7 @@
 -- How many members sets have.
 use Rattle.std.proofs.Common.{ℕ, zero, suc, ◌+◌, ◌-◌, ◌<◌, ◌≤◌, ◌≡◌, ◌≢◌, Bool, true, false, cond, not, ◌&&◌, ◌||◌, List, [], ◌∷◌, refl, sym, ap, ◌∙◌, arith, eqb}
 use Rattle.std.proofs.lemmas.Bool.Decides.{nat_tests}
-use Rattle.std.proofs.lemmas.Bool.{false≢true}
+use Rattle.std.proofs.lemmas.Bool.{false≢true, eq-eqb, and_parts, not-true}
 use Rattle.std.specs.List.{list_any}
 use Rattle.std.specs.Ordering.{nat_cmp, eq_by_cmp}
 use Rattle.std.specs.Cmp.{unsigned_tied, nat_cmp_total}
@@ -11,9 +11,6 @@ use Rattle.fbl_base.specs.MemberSets.{same_from_contains}
 MemberSet : Type 0
 MemberSet = set.FinSet nat_cmp
 
-eqb-self : (x : ℕ) → eqb x x ≡ true
-eqb-self x = grind (arith, nat_tests)
-
 -- a set that is not empty has a member
 pub some_member : (s : set.FinSet nat_cmp) → 0 < set.len s → (k : ℕ) × (set.contains s k ≡ true)
 some_member s more = at (set.items s) refl where
@@ -22,7 +19,7 @@ some_member s more = at (set.items s) refl where
       let e : s ≡ set.empty = same_from_contains s set.empty (λ q. set.contains-items s q ∙ ap (λ ks. list_any (eq_by_cmp nat_cmp q) ks) none ∙ sym (set.contains-empty nat_cmp q)) in
       absurd (omega (arith, ap set.len e, set.len-empty nat_cmp, more))
   at (k ∷ ks) some =
-      let tie : eq_by_cmp nat_cmp k k ≡ true = unsigned_tied k k ∙ eqb-self k in
+      let tie : eq_by_cmp nat_cmp k k ≡ true = unsigned_tied k k ∙ eq-eqb k k refl in
       (k, set.contains-items s k ∙ ap (λ xs. list_any (eq_by_cmp nat_cmp k) xs) some ∙ ap (λ b. b || list_any (eq_by_cmp nat_cmp k) ks) tie)
 
 contains-remove_cases : (s : set.FinSet nat_cmp) (k q : ℕ) → set.contains (set.remove s k) q ≡ true → (q ≢ k) × (set.contains s q ≡ true)
@@ -39,7 +36,7 @@ contains-remove_other s k q ne h =
     let f : eqb q k ≡ false = grind (arith, nat_tests) in
     set.contains-remove nat_cmp_total s k q ∙ ap (λ b. not b && set.contains s q) (unsigned_tied q k ∙ f) ∙ h
 
-len-remove_one : (s : set.FinSet nat_cmp) (k : ℕ) → set.contains s k ≡ true → set.len (set.remove s k) + 1 ≡ set.len s
+pub len-remove_one : (s : set.FinSet nat_cmp) (k : ℕ) → set.contains s k ≡ true → set.len (set.remove s k) + 1 ≡ set.len s
 len-remove_one s k has =
     let e : set.len (set.remove s k) ≡ set.len s - 1 = set.len-remove nat_cmp_total s k ∙ ap (λ b. cond b (set.len s - 1) (set.len s)) has in
     at (set.len s) refl e where
@@ -60,11 +57,6 @@ len-within (suc n) s t some within =
 -- a set with more members than another has one that the other lacks
 pub some_outside : (s t : set.FinSet nat_cmp) → set.len t < set.len s → (k : ℕ) × (set.contains s k ≡ true) × (set.contains t k ≡ false)
 some_outside s t more = at (set.len (set.difference s t)) refl where
-  both : (a b : Bool) → (a && not b) ≡ true → (a ≡ true) × (b ≡ false)
-  both true true h = cc
-  both true false h = (refl, refl)
-  both false b h = cc
-
   lacks : (a b : Bool) → (a && not b) ≡ false → a ≡ true → b ≡ true
   lacks true true h e = refl
   lacks true false h e = cc
@@ -76,5 +68,5 @@ some_outside s t more = at (set.len (set.difference s t)) refl where
       absurd (omega (arith, more, len-within (set.len s) s t refl (λ q h. lacks (set.contains s q) (set.contains t q) (empty q) h)))
   at (suc n) some =
       let k = some_member (set.difference s t) (omega (arith, some)) in
-      let b = both (set.contains s k.0) (set.contains t k.0) (sym (set.contains-difference nat_cmp_total s t k.0) ∙ k.1) in
-      (k.0, b.0, b.1)
+      let b = and_parts (set.contains s k.0) (not (set.contains t k.0)) (sym (set.contains-difference nat_cmp_total s t k.0) ∙ k.1) in
+      (k.0, b.0, not-true (set.contains t k.0) b.1)

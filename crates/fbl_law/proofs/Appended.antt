@@ -4,25 +4,19 @@ use Rattle.fbl_base.specs.declared.trace.Mark.{Mark}
 use Rattle.fbl_base.specs.Events.{At, member_of, send_of}
 use Rattle.fbl_base.specs.Precedence.{Has, Earlier, Precedes, itself, step}
 use Rattle.fbl_base.specs.Rules.{WellFormed}
-use Rattle.fbl_base.proofs.Gets.{At-front, At-below, slice_get-take}
-use Rattle.fbl_base.proofs.RulesLaws.{MayFollow-new, WellFormed-take}
-use Rattle.std.proofs.lemmas.Bool.{cases_lt}
+use Rattle.fbl_base.proofs.Gets.{At-front, At-below}
+use Rattle.fbl_base.proofs.PlacesAndEvents.{one_place}
 use Rattle.fbl_law.proofs.Lists.{At-append, At-behind}
 
 -- in a trace that obeys the rules no event stands at two places
 pub once : (n : ℕ) (t : List Mark) (e : Mark) (i j : ℕ) → WellFormed n t → At t i e → At t j e → ¬ (i < j)
 once n t e i j obeys here there below =
-    MayFollow-new n _ e (WellFormed-take n j t obeys) (obeys j e there) (i, slice_get-take t j i e below here)
+    omega (arith, below, one_place n t obeys e i j here there)
 
 pub Earlier-joined : (n : ℕ) (t : List Mark) (a b c : Mark) → WellFormed n t → Earlier t a b → Earlier t b c → Earlier t a c
 Earlier-joined n t a b c obeys first second =
-    elim (cases_lt second.0 first.1) [
-      | inl below ↦ absurd (once n t b second.0 first.1 obeys second.3 first.4 below)
-      | inr above ↦ elim (cases_lt first.1 second.0) [
-        | inl below ↦ absurd (once n t b first.1 second.0 obeys first.4 second.3 below)
-        | inr same ↦ (first.0, second.1, omega (arith, first.2, second.2, above, same), first.3, second.4)
-      ]
-    ]
+    let same = one_place n t obeys b second.0 first.1 second.3 first.4 in
+    (first.0, second.1, omega (arith, first.2, second.2, same), first.3, second.4)
 
 pub Has-append : (t added : List Mark) (e : Mark) → Has (t ++ added) e → Has t e ⊎ Has added e
 Has-append t added e h = elim (At-append t added h.0 e h.1) [ inl here ↦ inl (h.0, here) | inr there ↦ inr (there.0, there.2) ]

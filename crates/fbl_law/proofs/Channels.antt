@@ -1,22 +1,21 @@
 -- Channels and the trace.
-use Rattle.std.proofs.Common.{◌≡◌, ℕ, zero, suc, ◌==◌, ◌&&◌, not, Bool, true, false, cond, List, [], ◌∷◌, ◌++◌, map, drop, inl, inr, arith, refl, sym, ap, ◌∙◌, Some, None, slice_get, append_assoc}
+use Rattle.std.proofs.Common.{option_map, ◌≡◌, ℕ, ◌==◌, ◌&&◌, not, Bool, true, false, cond, List, [], ◌∷◌, ◌++◌, map, drop, arith, refl, sym, ap, ◌∙◌, Some, None, append_assoc}
 use Rattle.std.specs.List.{Contains, filter_map, list_any, cons_option}
 use Rattle.std.proofs.lemmas.Bool.Decides.{nat_tests}
-use Rattle.std.proofs.lemmas.List.{append-nil, map-append}
+use Rattle.std.proofs.lemmas.List.{drop-map, append-nil, map-append}
 use Rattle.fbl_base.specs.declared.trace.Mark.{Mark}
 use Rattle.fbl_base.specs.declared.trace.Mark.TheVariants.{Send, Receipt}
-use Rattle.fbl_base.specs.Events.{At}
 use Rattle.fbl_base.specs.Precedence.{Has}
 use Rattle.fbl_base.specs.Rules.{sent_on, taken_on, in_flight, WellFormed}
-use Rattle.fbl_base.proofs.Gets.{At-filter, At-filter_map}
-use Rattle.fbl_base.proofs.RulesLaws.{WellFormed-front, MayFollow-last}
+use Rattle.fbl_base.proofs.Gets.{map-At, At-filter, At-filter_map}
+use Rattle.fbl_base.proofs.RulesLaws.{is_sent, WellFormed-front, MayFollow-last}
 use Rattle.fbl_base.proofs.InFlightLaws.{in_flight-send, in_flight-receipt}
 use Rattle.fbl_member.specs.Members.{Message}
 use Rattle.fbl_law.specs.Knowledge.{Knowledge, send_mark, IsInFlight, IsUp, MatchesTrace, IsDownEmpty}
 use Rattle.fbl_law.specs.Steps.{between, taken_off}
-use Rattle.fbl_law.proofs.Lists.{Contains-here, Contains-there, Contains-cons_cases, Contains-none}
-use Rattle.fbl_law.proofs.Safe.{down_or_up}
-use Rattle.fbl_law.proofs.Cut.{is_sent}
+use Rattle.fbl_law.proofs.Lists.{Contains-at}
+use Rattle.fbl_law.proofs.Safe.{up_at_ends}
+use Rattle.std.proofs.lemmas.Option.{slice_get-map, slice_get-get_or}
 
 -- each message in flight was sent
 abbrev pub AreSent : Knowledge → Type 0
@@ -24,45 +23,26 @@ AreSent r = (v : Message) → IsInFlight r v → Has r.trace (send_mark v)
 
 -- a message of a list is among its marks
 pub Has-made : (made : List Message) (v : Message) → Contains made v → Has (map send_mark made) (send_mark v)
-Has-made [] v among = absurd (Contains-none v among)
-Has-made (x ∷ made) v among = elim (Contains-cons_cases x made v among) [
-  | inl first ↦ (0, ap (λ (y : Message). Some (send_mark y)) first)
-  | inr later ↦ let r = Has-made made v later in (suc r.0, r.1)
-]
+Has-made made v among = (among.0, slice_get-map send_mark made among.0 ∙ ap (option_map send_mark) (slice_get-get_or made among.0 v among.1 ∙ ap Some among.2))
 
 pub made-Has : (made : List Message) (e : Mark) → Has (map send_mark made) e → (v : Message) × Contains made v × (send_mark v ≡ e)
-made-Has made e h = at made h.0 h.1
-  where
-    at : (xs : List Message) (i : ℕ) → At (map send_mark xs) i e → (v : Message) × Contains xs v × (send_mark v ≡ e)
-    at [] i here = absurd cc
-    at (x ∷ xs) zero here = (x, Contains-here x xs, cc)
-    at (x ∷ xs) (suc i) here = let r = at xs i here in (r.0, Contains-there x xs r.0 r.1, r.2)
+made-Has made e h = (let r = map-At send_mark made h.0 e h.1 in (r.0, Contains-at made h.0 r.0 r.1, r.2))
 
 -- what the trace has in flight was sent
 in_flight-Has : (t : List Mark) (q p : ℕ) (e : Mark) → Has (map (λ ssn. Send q ssn p) (in_flight t q p)) e → Has t e
 in_flight-Has t q p e h =
-    let number = at (in_flight t q p) h.0 h.1 in
-    let a = At-filter (λ ssn. not (list_any (λ taken. taken == ssn) (filter_map (taken_on q p) t))) (filter_map (sent_on q p) t) number.0 number.1 number.2 in
-    let b = At-filter_map (sent_on q p) t a.0 number.1 a.1 in
-    (b.0, b.2 ∙ ap Some (is_sent q p number.1 b.1 b.3 ∙ number.3))
-  where
-    at : (xs : List ℕ) (i : ℕ) → At (map (λ ssn. Send q ssn p) xs) i e → (j : ℕ) × (x : ℕ) × (slice_get xs j ≡ Some x) × (Send q x p ≡ e)
-    at [] i here = absurd cc
-    at (x ∷ xs) zero here = (0, x, refl, cc)
-    at (x ∷ xs) (suc i) here = let r = at xs i here in (suc r.0, r.1, r.2, r.3)
+    let number = map-At (λ ssn. Send q ssn p) (in_flight t q p) h.0 e h.1 in
+    let a = At-filter (λ ssn. not (list_any (λ taken. taken == ssn) (filter_map (taken_on q p) t))) (filter_map (sent_on q p) t) h.0 number.0 number.1 in
+    let b = At-filter_map (sent_on q p) t a.0 number.0 a.1 in
+    (b.0, b.2 ∙ ap Some (is_sent q p number.0 b.1 b.3 ∙ number.2))
 
 pub matched-Has : (r : Knowledge) (v : Message) → MatchesTrace r v.from v.to → IsInFlight r v → Has r.trace (send_mark v)
 matched-Has r v matches flies = in_flight-Has r.trace v.from v.to (send_mark v) (rw matches at (Has-made (r.channel v.from v.to) v flies))
 
 pub AreSent-matched : (f : ℕ) (r : Knowledge) → ((q p : ℕ) → IsUp r q → IsUp r p → MatchesTrace r q p) → IsDownEmpty f r → AreSent r
 AreSent-matched f r matches empty v flies =
-    elim (down_or_up r.down v.from) [
-      | inl down ↦ absurd (Contains-none v (rw (empty.channels v.from v.to (inl down)) at flies))
-      | inr up ↦ elim (down_or_up r.down v.to) [
-        | inl down ↦ absurd (Contains-none v (rw (empty.channels v.from v.to (inr down)) at flies))
-        | inr up_to ↦ matched-Has r v (matches v.from v.to up up_to) flies
-      ]
-    ]
+    let ends = up_at_ends r empty.channels v.from v.to v flies in
+    matched-Has r v (matches v.from v.to ends.0 ends.1) flies
 
 -- sends come last in flight
 in_flight-made : (n : ℕ) (u : List Mark) (made : List Message) (q p : ℕ) → WellFormed n (u ++ map send_mark made) → in_flight (u ++ map send_mark made) q p ≡ in_flight u q p ++ filter_map (sent_on q p) (map send_mark made)
@@ -80,9 +60,9 @@ in_flight-made n u (x ∷ made) q p obeys =
     joined false = refl
 
 -- the messages made between two members, by their marks
-marks_between : (made : List Message) (q p : ℕ) → map send_mark (between q p made) ≡ map (λ ssn. Send q ssn p) (filter_map (sent_on q p) (map send_mark made))
-marks_between [] q p = refl
-marks_between (x ∷ made) q p = at (x.from == q) (x.to == p) refl refl (marks_between made q p)
+pub messages_between : (made : List Message) (q p : ℕ) → map send_mark (between q p made) ≡ map (λ ssn. Send q ssn p) (filter_map (sent_on q p) (map send_mark made))
+messages_between [] q p = refl
+messages_between (x ∷ made) q p = at (x.from == q) (x.to == p) refl refl (messages_between made q p)
   where
     at : (a b : Bool) → (x.from == q) ≡ a → (x.to == p) ≡ b → map send_mark (between q p made) ≡ map (λ ssn. Send q ssn p) (filter_map (sent_on q p) (map send_mark made)) → map send_mark (cond (a && b) (x ∷ between q p made) (between q p made)) ≡ map (λ ssn. Send q ssn p) (cons_option (cond (a && b) (Some x.ssn) None) (filter_map (sent_on q p) (map send_mark made)))
     at true true ea eb ih =
@@ -93,10 +73,6 @@ marks_between (x ∷ made) q p = at (x.from == q) (x.to == p) refl refl (marks_b
     at true false ea eb ih = ih
     at false b ea eb ih = ih
 
-map-drop_one : {X Y : Type 0} (g : X → Y) (xs : List X) → map g (drop 1 xs) ≡ drop 1 (map g xs)
-map-drop_one g [] = refl
-map-drop_one g (x ∷ xs) = refl
-
 -- a delivery keeps a channel that matches the trace so
 pub channel-delivered : (n : ℕ) (t : List Mark) (v : Message) (rsn : ℕ) (made channel : List Message) (q p : ℕ) → WellFormed n (t ++ Receipt v.to rsn v.from v.ssn ∷ map send_mark made) → map send_mark channel ≡ map (λ ssn. Send q ssn p) (in_flight t q p) → map send_mark (taken_off v q p channel ++ between q p made) ≡ map (λ ssn. Send q ssn p) (in_flight (t ++ Receipt v.to rsn v.from v.ssn ∷ map send_mark made) q p)
 channel-delivered n t v rsn made channel q p obeys was =
@@ -105,8 +81,8 @@ channel-delivered n t v rsn made channel q p obeys was =
     let front : WellFormed n (t ++ R ∷ []) = WellFormed-front n (t ++ R ∷ []) (map send_mark made) next in
     let one = in_flight-receipt n t (WellFormed-front n t (R ∷ []) front) v.to rsn v.from v.ssn q p (MayFollow-last n t R front) in
     let all : in_flight (t ++ R ∷ map send_mark made) q p ≡ cond (v.from == q && v.to == p) (drop 1 (in_flight t q p)) (in_flight t q p) ++ filter_map (sent_on q p) (map send_mark made) = ap (λ (u : List Mark). in_flight u q p) (sym (append_assoc t (R ∷ []) (map send_mark made))) ∙ in_flight-made n (t ++ R ∷ []) made q p next ∙ ap (λ (ys : List ℕ). ys ++ filter_map (sent_on q p) (map send_mark made)) one in
-    rw (all, map-append send_mark, map-append (λ ssn. Send q ssn p), marks_between made q p) (ap (λ (ys : List Mark). ys ++ map (λ ssn. Send q ssn p) (filter_map (sent_on q p) (map send_mark made))) (old_part (v.from == q && v.to == p)))
+    rw (all, map-append send_mark, map-append (λ ssn. Send q ssn p), messages_between made q p) (ap (λ (ys : List Mark). ys ++ map (λ ssn. Send q ssn p) (filter_map (sent_on q p) (map send_mark made))) (old_part (v.from == q && v.to == p)))
   where
     old_part : (b : Bool) → map send_mark (cond b (drop 1 channel) channel) ≡ map (λ ssn. Send q ssn p) (cond b (drop 1 (in_flight t q p)) (in_flight t q p))
-    old_part true = map-drop_one send_mark channel ∙ ap (λ (ys : List Mark). drop 1 ys) was ∙ sym (map-drop_one (λ ssn. Send q ssn p) (in_flight t q p))
+    old_part true = sym (drop-map send_mark 1 channel) ∙ ap (λ (ys : List Mark). drop 1 ys) was ∙ drop-map (λ ssn. Send q ssn p) 1 (in_flight t q p)
     old_part false = was

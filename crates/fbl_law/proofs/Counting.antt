@@ -8,34 +8,35 @@ use Rattle.std.proofs.lemmas.List.{length-map}
 use Rattle.fbl_base.specs.declared.trace.Determinant.{Determinant}
 use Rattle.fbl_base.specs.declared.trace.Event.{Event}
 use Rattle.fbl_base.specs.declared.trace.Mark.{Mark}
-use Rattle.fbl_base.specs.declared.trace.Mark.TheVariants.{Send, Receipt}
-use Rattle.fbl_base.specs.Events.{mark_of}
+use Rattle.fbl_base.specs.Events.{mark_of, determinant_of}
 use Rattle.fbl_base.specs.MemberSets.{AllBelow}
 use Rattle.fbl_base.specs.Rules.{WellFormed}
 use Rattle.fbl_base.specs.Fold.{Next}
+use Rattle.fbl_base.proofs.LawfulLaws.{filter_map-shorter}
 use Rattle.fbl_member.specs.Members.{MemberRecord}
 use Rattle.fbl_law.specs.Knowledge.{Members}
 use Rattle.fbl_law.specs.Steps.{Stays, IsEventCut}
 use Rattle.fbl_law.specs.Groups.{GroupRecord, knowledge, receipts}
 use Rattle.fbl_law.specs.Sound.{receipts_at, IsReplayed, IsSound}
 use Rattle.fbl_law.specs.Replaying.{count_in}
-use Rattle.fbl_law.proofs.GroupRecovery.{cut-lawful, length-left}
+use Rattle.fbl_law.proofs.GroupRecovery.{cut-lawful}
+use Rattle.fbl_law.proofs.Lists.{length-left}
 use Rattle.fbl_law.proofs.Receipts.{receipts_at-number}
 
--- counts that agree on the set
-pub count_in-same : (s : Members) (a b : ℕ → ℕ) (n : ℕ) → ((q : ℕ) → q < n → set.contains s q ≡ true → a q ≡ b q) → count_in s a n ≡ count_in s b n
-count_in-same s a b zero agree = refl
-count_in-same s a b (suc n) agree = at (set.contains s n) refl (count_in-same s a b n (λ q below. agree q (omega arith))) where
-  at : (c : Bool) → set.contains s n ≡ c → count_in s a n ≡ count_in s b n → count_in s a n + cond c (a n) 0 ≡ count_in s b n + cond c (b n) 0
-  at true is ih = (let here = agree n (omega arith) is in omega (arith, ih, here))
-  at false is ih = omega (arith, ih)
-
+-- counts that are no more on the set
 pub count_in-most : (s : Members) (a b : ℕ → ℕ) (n : ℕ) → ((q : ℕ) → q < n → set.contains s q ≡ true → a q ≤ b q) → count_in s a n ≤ count_in s b n
 count_in-most s a b zero most = omega arith
 count_in-most s a b (suc n) most = at (set.contains s n) refl (count_in-most s a b n (λ q below. most q (omega arith))) where
   at : (c : Bool) → set.contains s n ≡ c → count_in s a n ≤ count_in s b n → count_in s a n + cond c (a n) 0 ≤ count_in s b n + cond c (b n) 0
   at true is ih = (let here = most n (omega arith) is in omega (arith, ih, here))
   at false is ih = omega (arith, ih)
+
+-- counts that agree on the set
+pub count_in-same : (s : Members) (a b : ℕ → ℕ) (n : ℕ) → ((q : ℕ) → q < n → set.contains s q ≡ true → a q ≡ b q) → count_in s a n ≡ count_in s b n
+count_in-same s a b n agree =
+    let more = count_in-most s a b n (λ q below is. (let e = agree q below is in omega (arith, e))) in
+    let fewer = count_in-most s b a n (λ q below is. (let e = agree q below is in omega (arith, e))) in
+    omega (arith, more, fewer)
 
 -- one more of a member of the set
 pub count_in-step : (s : Members) (a b : ℕ → ℕ) (n p : ℕ) → p < n → set.contains s p ≡ true → b p ≡ a p + 1 → ((q : ℕ) → q ≢ p → b q ≡ a q) → count_in s b n ≡ count_in s a n + 1
@@ -130,12 +131,6 @@ count_in-beyond s past n m t within obeys =
     (λ p below among. sym (ap length (beyond-of past p (receipts t)) ∙ beyond-numbered (past p) 0 (receipts_at t p) (λ j d here. omega (arith, receipts_at-number m t p j d obeys here)) ∙ omega arith))
     ∙ count_in-determinants s n (filter (beyond past) (receipts t)) within ∙ ap length (filter-both (is_of s) (beyond past) (receipts t))
 
--- receipts are no more than events
-receipts-short : (t : List Mark) → length (receipts t) ≤ length t
-receipts-short [] = omega arith
-receipts-short (Send q k to ∷ t) = omega (arith, receipts-short t)
-receipts-short (Receipt to r q k ∷ t) = omega (arith, receipts-short t)
-
 module _ (next : Next) (old : GroupRecord) (sound : IsSound next old) (new : List Event) (cut : IsEventCut (Stays (knowledge old)) old.trace new) where
   -- what the members that are down replay, in all
   pub to-replay : count_in old.down (λ p. length (receipts_at (map mark_of new) p)) old.config.members ≡ length (filter (is_of old.down) (receipts (map mark_of new)))
@@ -145,7 +140,7 @@ module _ (next : Next) (old : GroupRecord) (sound : IsSound next old) (new : Lis
   to-replay-short =
       let left : length new ≤ length old.trace = (let e = cut.1 in rw e (length-left (λ x. cut.0 (mark_of x)) old.trace)) in
       let some = length-left (is_of old.down) (receipts (map mark_of new)) in
-      omega (arith, left, some, receipts-short (map mark_of new), length-map new mark_of)
+      omega (arith, left, some, filter_map-shorter determinant_of (map mark_of new), length-map new mark_of)
 
   -- so far they have replayed no more than that
   pub replayed-most : (work : ℕ → MemberRecord) → ((p : ℕ) → p < old.config.members → set.contains old.down p ≡ true → IsReplayed next old.config.members old.config.starts new p (work p))

@@ -1,58 +1,29 @@
 -- What a cut keeps.
-use Rattle.std.proofs.Common.{◌≡◌, ℕ, zero, suc, ◌<◌, ◌≤◌, ◌==◌, ◌&&◌, not, Bool, true, false, cond, List, [], ◌∷◌, ◌++◌, length, take, inl, inr, ◌⊎◌, arith, refl, ap, ◌∙◌, Option, Some, None, slice_get, count_by, append_assoc}
-use Rattle.std.specs.List.{filter, filter_map, list_any, cons_option}
+use Rattle.std.proofs.Common.{map, ◌≡◌, ℕ, zero, suc, ◌<◌, ◌==◌, not, Bool, true, false, cond, List, [], ◌∷◌, ◌++◌, length, take, inl, inr, ◌⊎◌, arith, refl, ap, ◌∙◌, Option, Some, None, slice_get, count_by}
+use Rattle.std.specs.List.{filter, filter_map, list_any}
 use Rattle.std.proofs.lemmas.Bool.Decides.{nat_tests}
 use Rattle.std.proofs.lemmas.List.{append-nil}
 use Rattle.std.proofs.lemmas.List.Elements.{filter-append}
 use Rattle.std.proofs.lemmas.List.Sums.{sum_by-cons}
+use Rattle.fbl_base.specs.declared.trace.Event.{Event}
 use Rattle.fbl_base.specs.declared.trace.Mark.{Mark}
 use Rattle.fbl_base.specs.declared.trace.Mark.TheVariants.{Send, Receipt}
-use Rattle.fbl_base.specs.Events.{At, member_of, send_of}
-use Rattle.fbl_base.specs.Precedence.{Has, Earlier, Leads, Precedes, itself, step}
+use Rattle.fbl_base.specs.Events.{mark_of, At, member_of, send_of}
+use Rattle.fbl_base.specs.Precedence.{Has, Leads, Precedes, itself, step}
 use Rattle.fbl_base.specs.Rules.{is_send_of, is_receipt_of, sends_of, receipts_of, sent_on, taken_on, in_flight, MayFollow, WellFormed}
-use Rattle.fbl_base.proofs.Gets.{At-front, At-below, Apart, Apart-filter, Apart-filter_map, slice_get-take}
-use Rattle.fbl_base.proofs.RulesLaws.{WellFormed-none, WellFormed-push, WellFormed-take, WellFormed-front, MayFollow-last, in_flight-sent, eqb-self}
+use Rattle.fbl_base.proofs.Gets.{filter_map-At, At-front, At-below, Apart, Apart-filter, Apart-filter_map, slice_get-take}
+use Rattle.fbl_base.proofs.RulesLaws.{WellFormed-keeps, on_channel, is_sent, WellFormed-none, WellFormed-push, WellFormed-take, in_flight-sent, eqb-self}
 use Rattle.fbl_base.proofs.InFlightLaws.{sent-number, sent-rises}
+use Rattle.fbl_law.proofs.Lists.{At-seam, length-left, filter-At, filter-passes, filter_map-kept}
+use Rattle.fbl_base.proofs.PrecedenceLaws.{Earlier-front}
 
 -- a kept event is in what is left
 pub Has-kept : (keep : Mark → Bool) (t : List Mark) (e : Mark) → Has t e → keep e ≡ true → Has (filter keep t) e
-Has-kept keep t e h yes' = at t h.0 h.1
-  where
-    at : (u : List Mark) (i : ℕ) → At u i e → Has (filter keep u) e
-    at [] i here = absurd cc
-    at (x ∷ u) zero here = (let k : keep x ≡ true = (let same : x ≡ e = cc in rw same yes') in rw k (0, here))
-    at (x ∷ u) (suc i) here = later (at u i here)
-      where
-        later : Has (filter keep u) e → Has (filter keep (x ∷ u)) e
-        later r = elim (keep x) as (λ b. Has (cond b (x ∷ filter keep u) (filter keep u)) e) [ true ↦ (suc r.0, r.1) | false ↦ r ]
+Has-kept keep t e h yes' = filter-At keep t h.0 e h.1 yes'
 
 -- and what is left is kept
 pub kept-Has : (keep : Mark → Bool) (t : List Mark) (e : Mark) → Has (filter keep t) e → keep e ≡ true
-kept-Has keep [] e h = absurd (let here : slice_get {X = Mark} [] h.0 ≡ Some e = h.1 in cc)
-kept-Has keep (x ∷ t) e h =
-    (elim (keep x) as (λ b. keep x ≡ b → Has (cond b (x ∷ filter keep t) (filter keep t)) e → keep e ≡ true) [
-      | true ↦ λ k g. at (λ r. kept-Has keep t e r) k g.0 g.1
-      | false ↦ λ k g. kept-Has keep t e g
-    ]) refl h
-  where
-    at : (Has (filter keep t) e → keep e ≡ true) → keep x ≡ true → (i : ℕ) → At (x ∷ filter keep t) i e → keep e ≡ true
-    at rest k zero here = (let same : x ≡ e = cc in rw (← same) k)
-    at rest k (suc i) here = rest (i, here)
-
--- an event leads to another that is left only as it did
-pub Earlier-kept : (keep : Mark → Bool) (t : List Mark) (a b : Mark) → Earlier t a b → keep a ≡ true → keep b ≡ true → Earlier (filter keep t) a b
-Earlier-kept keep t a b h ka kb = at t h.0 h.1 h.2 h.3 h.4
-  where
-    at : (u : List Mark) (i j : ℕ) → i < j → At u i a → At u j b → Earlier (filter keep u) a b
-    at u i zero below x y = absurd (omega arith)
-    at [] i (suc j) below x y = absurd cc
-    at (z ∷ u) zero (suc j) below x y =
-        (let k : keep z ≡ true = (let same : z ≡ a = cc in rw same ka) in
-        let r = Has-kept keep u b (j, y) kb in rw k (0, suc r.0, omega arith, x, r.1))
-    at (z ∷ u) (suc i) (suc j) below x y = later (at u i j (omega arith) x y)
-      where
-        later : Earlier (filter keep u) a b → Earlier (filter keep (z ∷ u)) a b
-        later r = elim (keep z) as (λ c. Earlier (cond c (z ∷ filter keep u) (filter keep u)) a b) [ true ↦ (suc r.0, suc r.1, omega (arith, r.2), r.3, r.4) | false ↦ r ]
+kept-Has keep t e h = filter-passes keep t h.0 e h.1
 
 -- counts of a kind of event of which each is kept
 count-kept : (keep p : Mark → Bool) (u : List Mark) → ((e : Mark) → Has u e → p e ≡ true → keep e ≡ true) → count_by p (filter keep u) ≡ count_by p u
@@ -68,21 +39,18 @@ count-kept keep p (x ∷ u) all =
 
 -- a part of the events of which each one is kept
 pub map-kept : {Y : Type 0} (keep : Mark → Bool) (g : Mark → Option Y) (u : List Mark) → ((e : Mark) (y : Y) → Has u e → g e ≡ Some y → keep e ≡ true) → filter_map g (filter keep u) ≡ filter_map g u
-map-kept keep g [] all = refl
-map-kept {Y} keep g (x ∷ u) all =
-    at (keep x) (g x) refl refl (λ y. all x y (0, refl)) (map-kept keep g u (λ e y h. all e y (suc h.0, h.1)))
-  where
-    at : (k : Bool) (o : Option Y) → keep x ≡ k → g x ≡ o → ((y : Y) → g x ≡ Some y → keep x ≡ true) → filter_map g (filter keep u) ≡ filter_map g u → filter_map g (filter keep (x ∷ u)) ≡ filter_map g (x ∷ u)
-    at true o ek eo h rest = rw ek (ap (λ ys. cons_option (g x) ys) rest)
-    at false None ek eo h rest = rw (ek, eo) rest
-    at false (Some y) ek eo h rest = absurd (let k = h y eo in cc)
+map-kept {Y} keep g u all = filter_map-kept keep g g u (λ i e here. at e (g e) refl (λ y is. all e y (i, here) is)) where
+  at : (e : Mark) (o : Option Y) → g e ≡ o → ((y : Y) → g e ≡ Some y → keep e ≡ true) → ((keep e ≡ true) × (g e ≡ g e)) ⊎ ((g e ≡ None) × (g e ≡ None))
+  at e None is kept = inr (is, is)
+  at e (Some y) is kept = inl (kept y is, refl)
 
-length-filter : (keep : Mark → Bool) (u : List Mark) → length (filter keep u) ≤ length u
-length-filter keep [] = omega arith
-length-filter keep (x ∷ u) = at (keep x) (length-filter keep u) where
-  at : (b : Bool) → length (filter keep u) ≤ length u → length (cond b (x ∷ filter keep u) (filter keep u)) ≤ length (x ∷ u)
-  at true h = omega (arith, h)
-  at false h = omega (arith, h)
+-- the two ways to leave events out
+pub marks-filter : (keep : Mark → Bool) (t : List Event) → map mark_of (filter (λ e. keep (mark_of e)) t) ≡ filter keep (map mark_of t)
+marks-filter keep [] = refl
+marks-filter keep (x ∷ t) = at (keep (mark_of x)) (marks-filter keep t) where
+  at : (b : Bool) → map mark_of (filter (λ e. keep (mark_of e)) t) ≡ filter keep (map mark_of t) → map mark_of (cond b (x ∷ filter (λ e. keep (mark_of e)) t) (filter (λ e. keep (mark_of e)) t)) ≡ cond b (mark_of x ∷ filter keep (map mark_of t)) (filter keep (map mark_of t))
+  at true ih = ap (λ (ys : List Mark). mark_of x ∷ ys) ih
+  at false ih = ih
 
 -- what leads to a kept event is kept
 abbrev pub KeepsCauses : (Mark → Bool) → List Mark → Type 0
@@ -92,39 +60,6 @@ KeepsCauses keep t = (a b : Mark) → keep b ≡ true → Leads t a b → keep a
 pub Has-before : (keep : Mark → Bool) (t : List Mark) {a b : Mark} → KeepsCauses keep t → Precedes t a b → keep b ≡ true → Has (filter keep t) a
 Has-before keep t {a} causes (itself h) kept = Has-kept keep t a h kept
 Has-before keep t causes (step {b} {c} p l) kept = Has-before keep t causes p (causes b c kept l)
-
-pub Precedes-kept : (keep : Mark → Bool) (t : List Mark) {a b : Mark} → KeepsCauses keep t → Precedes t a b → keep b ≡ true → Precedes (filter keep t) a b
-Precedes-kept keep t {a} causes (itself h) kept = itself (Has-kept keep t a h kept)
-Precedes-kept keep t causes (step {b} {c} p l) kept =
-    let before = causes b c kept l in
-    step (Precedes-kept keep t causes p before) (Earlier-kept keep t b c l.0 before kept, l.1)
-
-pub At-seam : (u : List Mark) (e : Mark) (rest : List Mark) → At (u ++ e ∷ rest) (length u) e
-At-seam [] e rest = refl
-At-seam (x ∷ u) e rest = At-seam u e rest
-
-filter_map-At : {X Y : Type 0} (g : X → Option Y) (xs : List X) (i : ℕ) (x : X) (y : Y) → slice_get xs i ≡ Some x → g x ≡ Some y → (j : ℕ) × (slice_get (filter_map g xs) j ≡ Some y)
-filter_map-At g [] i x y here is = cc
-filter_map-At g (z ∷ xs) zero x y here is = (let e : g z ≡ Some y = (let same : z ≡ x = cc in ap g same ∙ is) in (0, rw e))
-filter_map-At {X} {Y} g (z ∷ xs) (suc i) x y here is = skip (g z) (filter_map-At g xs i x y here is) where
-  skip : (o : Option Y) → (j : ℕ) × (slice_get (filter_map g xs) j ≡ Some y) → (j : ℕ) × (slice_get (cons_option o (filter_map g xs)) j ≡ Some y)
-  skip None r = r
-  skip (Some w) r = (suc r.0, r.1)
-
-filter-At : (N : ℕ → Bool) (xs : List ℕ) (i x : ℕ) → slice_get xs i ≡ Some x → N x ≡ true → (j : ℕ) × (slice_get (filter N xs) j ≡ Some x)
-filter-At N [] i x here t = cc
-filter-At N (z ∷ xs) zero x here t = (let k : N z ≡ true = (let same : z ≡ x = cc in rw same t) in rw k (0, here))
-filter-At N (z ∷ xs) (suc i) x here t = later (filter-At N xs i x here t) where
-  later : (j : ℕ) × (slice_get (filter N xs) j ≡ Some x) → (j : ℕ) × (slice_get (filter N (z ∷ xs)) j ≡ Some x)
-  later r = elim (N z) as (λ b. (j : ℕ) × (slice_get (cond b (z ∷ filter N xs) (filter N xs)) j ≡ Some x)) [ true ↦ (suc r.0, r.1) | false ↦ r ]
-
-first_passes : (N : ℕ → Bool) (xs : List ℕ) (x : ℕ) → slice_get (filter N xs) 0 ≡ Some x → N x ≡ true
-first_passes N [] x h = cc
-first_passes N (z ∷ xs) x h =
-    (elim (N z) as (λ b. N z ≡ b → slice_get (cond b (z ∷ filter N xs) (filter N xs)) 0 ≡ Some x → N x ≡ true) [
-      | true ↦ λ k g. (let same : z ≡ x = cc in rw (← same) k)
-      | false ↦ λ k g. first_passes N xs x g
-    ]) refl h
 
 -- the first element that passes
 first_of : (N : ℕ → Bool) (xs : List ℕ) (i x : ℕ) → N x ≡ true → slice_get xs i ≡ Some x → ((y : ℕ) → Apart xs y x → N y ≡ false) → slice_get (filter N xs) 0 ≡ Some x
@@ -136,22 +71,7 @@ first_of N (z ∷ xs) (suc i) x t here none =
 
 pub taken_at : (q p y : ℕ) (e : Mark) → taken_on q p e ≡ Some y → member_of e ≡ p
 taken_at q p y (Send from ssn to) h = absurd cc
-taken_at q p y (Receipt to rsn from ssn) h = at (from == q) (to == p) refl refl h where
-  at : (a b : Bool) → (from == q) ≡ a → (to == p) ≡ b → cond (a && b) (Some ssn) None ≡ Some y → to ≡ p
-  at a true ea eb g = grind (arith, nat_tests)
-  at true false ea eb g = absurd cc
-  at false false ea eb g = absurd cc
-
-pub is_sent : (q p y : ℕ) (e : Mark) → sent_on q p e ≡ Some y → e ≡ Send q y p
-is_sent q p y (Receipt to rsn from ssn) h = absurd cc
-is_sent q p y (Send from ssn to) h = at (from == q) (to == p) refl refl h where
-  at : (a b : Bool) → (from == q) ≡ a → (to == p) ≡ b → cond (a && b) (Some ssn) None ≡ Some y → Send from ssn to ≡ Send q y p
-  at true true ea eb g =
-      let e1 : from ≡ q = grind (arith, nat_tests) in
-      let e2 : to ≡ p = grind (arith, nat_tests) in
-      cc
-  at true false ea eb g = absurd cc
-  at false b ea eb g = absurd cc
+taken_at q p y (Receipt to rsn from ssn) h = (on_channel from to q p ssn y h).1
 
 -- an event that may follow a trace may follow what is left of it, where what leads to it is left
 module _ (n : ℕ) (keep : Mark → Bool) (u : List Mark) (obeys : WellFormed n u) where
@@ -188,7 +108,7 @@ module _ (n : ℕ) (keep : Mark → Bool) (u : List Mark) (obeys : WellFormed n 
       let there = in_flight-sent u q s p first in
       let left = Has-kept keep u (Send q s p) there kept in
       let place = filter_map-At (sent_on q p) (filter keep u) left.0 (Send q s p) s left.1 (sent_on-send q s p) in
-      rw same (first_of (untaken q p) (filter_map (sent_on q p) (filter keep u)) place.0 s (first_passes (untaken q p) (all_sent q p) s first) place.1 (λ y h. none y h (untaken q p y) refl))
+      rw same (first_of (untaken q p) (filter_map (sent_on q p) (filter keep u)) place.0 s (filter-passes (untaken q p) (all_sent q p) 0 s first) place.1 (λ y h. none y h (untaken q p y) refl))
     where
       later : (y k : ℕ) → slice_get (filter (untaken q p) (all_sent q p)) k ≡ Some y → y < s → ⊥
       later y zero g below = (let same' : y ≡ s = cc in omega arith)
@@ -214,35 +134,26 @@ module _ (n : ℕ) (keep : Mark → Bool) (u : List Mark) (obeys : WellFormed n 
   MayFollow-kept : (e : Mark) → MayFollow n u e → ((a : Mark) → Has u a → (member_of a ≡ member_of e) ⊎ (send_of e ≡ Some a) → keep a ≡ true) → MayFollow n (filter keep u) e
   MayFollow-kept (Send from ssn to) may causes =
       let count : sends_of (filter keep u) from ≡ sends_of u from = count-kept keep (is_send_of from) u (of_member (is_send_of from) from (sends_at from) (λ a h same. causes a h (inl same))) in
-      (may.0, may.1, may.2, omega (arith, may.3, count), omega (arith, may.4, length-filter keep u))
+      (may.0, may.1, may.2, omega (arith, may.3, count), omega (arith, may.4, length-left keep u))
   MayFollow-kept (Receipt to rsn from ssn) may causes =
       let count : receipts_of (filter keep u) to ≡ receipts_of u to = count-kept keep (is_receipt_of to) u (of_member (is_receipt_of to) to (receipts_at to) (λ a h same. causes a h (inl same))) in (
         may.0,
         may.1,
         may.2,
         omega (arith, may.3, count),
-        omega (arith, may.4, length-filter keep u),
+        omega (arith, may.4, length-left keep u),
         first-kept from ssn to may.5 (causes (Send from ssn to) (in_flight-sent u from ssn to may.5) (inr refl))
             (map-kept keep (taken_on from to) u (λ a y h is. causes a h (inl (taken_at from to y a is)))),
       )
 
 -- what is left of a trace that obeys the rules obeys them, where what leads to a kept event is kept
-kept_from : (n : ℕ) (keep : Mark → Bool) (u rest : List Mark) → WellFormed n (u ++ rest) → KeepsCauses keep (u ++ rest) → WellFormed n (filter keep u) → WellFormed n (filter keep (u ++ rest))
-kept_from n keep u [] obeys causes done = rw append-nil done
-kept_from n keep u (e ∷ rest) obeys causes done =
-    let front : WellFormed n ((u ++ e ∷ []) ++ rest) = rw append_assoc obeys in
-    let next : KeepsCauses keep ((u ++ e ∷ []) ++ rest) = rw append_assoc causes in
-    rw append_assoc at (kept_from n keep (u ++ e ∷ []) rest front next (one_more (WellFormed-front n (u ++ e ∷ []) rest front)))
-  where
-    leads : (a : Mark) → Has u a → (member_of a ≡ member_of e) ⊎ (send_of e ≡ Some a) → Leads (u ++ e ∷ rest) a e
-    leads a h why = ((h.0, length u, At-below u h.0 a h.1, At-front u (e ∷ rest) h.0 a h.1, At-seam u e rest), why)
-
-    one_more : WellFormed n (u ++ e ∷ []) → WellFormed n (filter keep (u ++ e ∷ []))
-    one_more obeys_more = rw (filter-append keep u (e ∷ [])) (at (keep e) refl)
-      where
-        at : (b : Bool) → keep e ≡ b → WellFormed n (filter keep u ++ cond b (e ∷ []) [])
-        at false is = rw append-nil done
-        at true is = WellFormed-push n (filter keep u) e done (MayFollow-kept n keep u (WellFormed-front n u (e ∷ []) obeys_more) e (MayFollow-last n u e obeys_more) (λ a h why. causes a e is (leads a h why)))
-
 pub WellFormed-kept : (n : ℕ) (keep : Mark → Bool) (t : List Mark) → WellFormed n t → KeepsCauses keep t → WellFormed n (filter keep t)
-WellFormed-kept n keep t obeys causes = kept_from n keep [] t obeys causes (WellFormed-none n)
+WellFormed-kept n keep t obeys = WellFormed-keeps n (λ u. KeepsCauses keep u → WellFormed n (filter keep u)) (λ causes. WellFormed-none n) more t obeys where
+  more : (u : List Mark) (e : Mark) → WellFormed n u → MayFollow n u e → (KeepsCauses keep u → WellFormed n (filter keep u)) → KeepsCauses keep (u ++ e ∷ []) → WellFormed n (filter keep (u ++ e ∷ []))
+  more u e obeys_u may before causes = rw (filter-append keep u (e ∷ [])) (at (keep e) refl) where
+    done : WellFormed n (filter keep u)
+    done = before (λ a b kept leads. causes a b kept (Earlier-front u (e ∷ []) a b leads.0, leads.1))
+
+    at : (b : Bool) → keep e ≡ b → WellFormed n (filter keep u ++ cond b (e ∷ []) [])
+    at false is = rw append-nil done
+    at true is = WellFormed-push n (filter keep u) e done (MayFollow-kept n keep u obeys_u e may (λ a h why. causes a e is ((h.0, length u, At-below u h.0 a h.1, At-front u (e ∷ []) h.0 a h.1, At-seam u e []), why)))

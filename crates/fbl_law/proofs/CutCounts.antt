@@ -1,9 +1,8 @@
 -- The cut, by how far each member has come once all is replayed.
-use Rattle.std.proofs.Common.{◌≡◌, ℕ, zero, suc, ◌+◌, ◌-◌, ◌<◌, ◌≤◌, ◌||◌, not, nat_le, inl, inr, Bool, true, false, List, [], ◌∷◌, length, take, map, Some, slice_get, refl, sym, ap, ◌∙◌, arith}
+use Rattle.std.proofs.Common.{◌≡◌, ℕ, suc, ◌+◌, ◌-◌, ◌<◌, ◌≤◌, ◌||◌, not, nat_le, Bool, true, false, List, [], ◌∷◌, length, take, map, Some, slice_get, refl, sym, ap, ◌∙◌, arith}
 use Rattle.std.specs.List.{filter}
 use Rattle.std.specs.FinSet as set
-use Rattle.std.proofs.lemmas.Bool.{cases_lt}
-use Rattle.std.proofs.lemmas.Bool.Decides.{nat_tests}
+use Rattle.std.proofs.lemmas.Bool.Decides.{same_from_decides, nat_tests}
 use Rattle.std.proofs.lemmas.List.{take_all}
 use Rattle.std.proofs.lemmas.Option.{slice_get_within, slice_get-map}
 use Rattle.fbl_base.specs.declared.trace.Determinant.{Determinant}
@@ -12,7 +11,7 @@ use Rattle.fbl_base.specs.declared.trace.Event.{Event}
 use Rattle.fbl_base.specs.declared.trace.Event.TheVariants as event
 use Rattle.fbl_base.specs.declared.trace.Mark.{Mark}
 use Rattle.fbl_base.specs.declared.trace.Mark.TheVariants.{Send, Receipt}
-use Rattle.fbl_base.specs.Events.{At, mark_of, receipt_of}
+use Rattle.fbl_base.specs.Events.{mark_of, receipt_of}
 use Rattle.fbl_base.specs.Precedence.{Has}
 use Rattle.fbl_base.specs.Rules.{sends_of, MayFollow, WellFormed}
 use Rattle.fbl_base.specs.Fold.{Next, Progress, after_notes}
@@ -23,11 +22,11 @@ use Rattle.fbl_law.specs.Steps.{Stays, IsEventCut}
 use Rattle.fbl_law.specs.Groups.{GroupRecord, marks, knowledge}
 use Rattle.fbl_law.specs.Sound.{received_notes, receipts_at, IsReplayed, IsSound}
 use Rattle.fbl_law.specs.Replaying.{stays_by}
-use Rattle.fbl_law.proofs.Cut.{Has-kept, kept-Has}
-use Rattle.fbl_law.proofs.LawfulCut.{marks-filter}
+use Rattle.fbl_law.proofs.Lists.{some-at}
+use Rattle.fbl_law.proofs.Cut.{marks-filter, Has-kept, kept-Has}
 use Rattle.fbl_law.proofs.GroupRecovery.{cut-lawful, cut-keeps_up}
 use Rattle.fbl_law.proofs.Logs.{log-has, log-length, logged-noted}
-use Rattle.fbl_law.proofs.Notes.{noted-sent, number-once, send-mark}
+use Rattle.fbl_law.proofs.Notes.{noted-sent, one-send, send-mark}
 use Rattle.fbl_law.proofs.Receipts.{receipts_at-number, receipts_at-Has, Has-receipts_at, length-received_notes}
 
 -- tests that agree at each place keep the same
@@ -36,9 +35,7 @@ filter-agree p q [] agree = refl
 filter-agree {X} p q (x ∷ xs) agree = (let e : p x ≡ q x = agree 0 x refl in let ih : filter p xs ≡ filter q xs = filter-agree p q xs (λ i. agree (suc i)) in rw (e, ih) refl)
 
 pub same-test : (a b : Bool) → (a ≡ true → b ≡ true) → (b ≡ true → a ≡ true) → a ≡ b
-same-test true b f g = sym (f refl)
-same-test false true f g = g refl
-same-test false false f g = refl
+same-test a b f g = same_from_decides {P = b ≡ true} a b (f, g) (λ h. h, λ h. h)
 
 module _ (next : Next) (old : GroupRecord) (sound : IsSound next old) (new : List Event) (cut : IsEventCut (Stays (knowledge old)) old.trace new) (work : ℕ → MemberRecord)
     (replays : (p : ℕ) → p < old.config.members → IsReplayed next old.config.members old.config.starts new p (work p))
@@ -79,17 +76,8 @@ module _ (next : Next) (old : GroupRecord) (sound : IsSound next old) (new : Lis
       let left : Has (map mark_of new) (Send q k sent.1) = (sent.0, send-mark new sent.0 q k sent.1 some.0 sent.2) in
       let was = was-in (Send q k sent.1) left in
       let kept = left-kept (Send q k sent.1) left in
-      elim (cases_lt there.0 was.0) [
-        | inl before ↦ absurd (number-once old.config.members (marks old) sound.lawful.well_formed q k to sent.1 there.0 was.0 there.1 was.1 before)
-        | inr above' ↦ elim (cases_lt was.0 there.0) [
-          | inl before ↦ absurd (number-once old.config.members (marks old) sound.lawful.well_formed q k sent.1 to was.0 there.0 was.1 there.1 before)
-          | inr same ↦ (let e : was.0 ≡ there.0 = omega (arith, above', same) in
-              let h : At (marks old) there.0 (Send q k sent.1) = rw e at was.1 in
-              let g : Some (Send q k sent.1) ≡ Some (Send q k to) = sym h ∙ there.1 in
-              let f : ◌≡◌ {A = Mark} (Send q k sent.1) (Send q k to) = cc in
-              ap cut.0 (sym f) ∙ kept)
-        ]
-      ]
+      let same = one-send old.config.members (marks old) sound.lawful.well_formed q k sent.1 to was there in
+      ap (λ x. cut.0 (Send q k x)) (sym same) ∙ kept
 
   receipt-left : (p r q k : ℕ) → p < old.config.members → Has (marks old) (Receipt p r q k) → 0 < r → r ≤ (work p).received → cut.0 (Receipt p r q k) ≡ true
   receipt-left p r q k below there above within =
@@ -102,11 +90,6 @@ module _ (next : Next) (old : GroupRecord) (sound : IsSound next old) (new : Lis
       let second = Has-receipts_at old.config.members (marks old) p (r - 1) place.0 sound.lawful.well_formed was has.1 number in
       let same : ◌≡◌ {A = Determinant} place.0 (record { from = q; ssn = k; to = p; rsn = r }) = (let g = sym second ∙ first in cc) in
       ap (λ (d : Determinant). cut.0 (receipt_of d)) (sym same) ∙ left-kept (receipt_of place.0) has.0
-    where
-      some-at : {X : Type 0} (xs : List X) (i : ℕ) → i < length xs → (x : X) × (slice_get xs i ≡ Some x)
-      some-at [] i below = absurd (omega arith)
-      some-at (x ∷ xs) zero below = (x, refl)
-      some-at (x ∷ xs) (suc i) below = some-at xs i (omega arith)
 
   agrees : (i : ℕ) (e : Event) → slice_get old.trace i ≡ Some e → stays_by old.down work (mark_of e) ≡ cut.0 (mark_of e)
   agrees i (event.Send q k to x) here = at (set.contains old.down q) refl

@@ -1,6 +1,6 @@
 -- What a cut keeps of notes and actions.
-use Rattle.std.proofs.Common.{◌≡◌, ℕ, zero, suc, ◌==◌, ◌⊎◌, inl, inr, Bool, true, false, cond, List, [], ◌∷◌, map, Option, Some, None, slice_get, refl, ap, ◌∙◌, arith}
-use Rattle.std.specs.List.{filter, filter_map, cons_option}
+use Rattle.std.proofs.Common.{◌≡◌, ℕ, ◌==◌, ◌⊎◌, inl, inr, Bool, true, false, List, map, Some, None, slice_get, refl, ◌∙◌, arith}
+use Rattle.std.specs.List.{filter, filter_map}
 use Rattle.std.proofs.lemmas.Bool.Decides.{nat_tests}
 use Rattle.std.proofs.lemmas.Option.{slice_get-map}
 use Rattle.fbl_base.specs.declared.trace.Note.{Note}
@@ -15,30 +15,9 @@ use Rattle.fbl_base.specs.Fold.{action_of, actions_of, note_of}
 use Rattle.fbl_base.proofs.Gets.{At-filter}
 use Rattle.fbl_base.proofs.LawfulLaws.{receipts-noted}
 use Rattle.fbl_law.specs.Sound.{last_taken}
-use Rattle.fbl_law.proofs.Cut.{KeepsCauses, WellFormed-kept, map-kept, taken_at}
-use Rattle.fbl_law.proofs.LawfulCut.{marks-filter}
+use Rattle.fbl_law.proofs.Lists.{filter-At, filter_map-kept}
+use Rattle.fbl_law.proofs.Cut.{marks-filter, KeepsCauses, WellFormed-kept, map-kept, taken_at}
 use Rattle.fbl_law.proofs.Notes.{noted-sent, sent-noted}
-
--- a place that passes the test is a place of what is left
-pub filter-At : {X : Type 0} (p : X → Bool) (xs : List X) (i : ℕ) (x : X) → slice_get xs i ≡ Some x → p x ≡ true → (j : ℕ) × (slice_get (filter p xs) j ≡ Some x)
-filter-At p [] i x here passes = absurd cc
-filter-At p (y ∷ xs) zero x here passes = (let k : p y ≡ true = (let same : y ≡ x = cc in ap p same ∙ passes) in rw k (0, here))
-filter-At {X} p (y ∷ xs) (suc i) x here passes = later (p y) (filter-At p xs i x here passes) where
-  later : (b : Bool) → (j : ℕ) × (slice_get (filter p xs) j ≡ Some x) → (j : ℕ) × (slice_get (cond b (y ∷ filter p xs) (filter p xs)) j ≡ Some x)
-  later true r = (suc r.0, r.1)
-  later false r = r
-
--- two maps agree where each element is kept and mapped alike, or mapped to nothing
-pub filter_map-kept : {X Y : Type 0} (K : X → Bool) (g h : X → Option Y) (xs : List X)
-    → ((i : ℕ) (x : X) → slice_get xs i ≡ Some x → ((K x ≡ true) × (g x ≡ h x)) ⊎ ((g x ≡ None) × (h x ≡ None))) → filter_map g (filter K xs) ≡ filter_map h xs
-filter_map-kept K g h [] each = refl
-filter_map-kept {X} {Y} K g h (x ∷ xs) each = at (each 0 x refl) (filter_map-kept K g h xs (λ i. each (suc i))) where
-  at : ((K x ≡ true) × (g x ≡ h x)) ⊎ ((g x ≡ None) × (h x ≡ None)) → filter_map g (filter K xs) ≡ filter_map h xs → filter_map g (filter K (x ∷ xs)) ≡ filter_map h (x ∷ xs)
-  at (inl here) ih = rw here.0 (ap (λ o. cons_option o (filter_map g (filter K xs))) here.1 ∙ ap (λ ys. cons_option (h x) ys) ih)
-  at (inr here) ih = rw here.1 (dropped (K x) ih) where
-    dropped : (b : Bool) → filter_map g (filter K xs) ≡ filter_map h xs → filter_map g (cond b (x ∷ filter K xs) (filter K xs)) ≡ filter_map h xs
-    dropped true e = rw here.0 e
-    dropped false e = e
 
 module _ (n : ℕ) (keep : Mark → Bool) (t : List Event) (obeys : WellFormed n (map mark_of t)) (causes : KeepsCauses keep (map mark_of t)) where
   abbrev left : List Event

@@ -8,9 +8,9 @@ use Rattle.fbl_base.specs.Events.{receipt_of}
 use Rattle.fbl_law.specs.Knowledge.{Knowledge, IsSoundKnowledge}
 use Rattle.fbl_law.specs.Steps.{Stays}
 use Rattle.fbl_law.specs.Laws.{CutIsLawful, StaysIsRecorded}
-use Rattle.fbl_law.proofs.Cut.{KeepsCauses}
+use Rattle.fbl_law.proofs.Cut.{marks-filter, KeepsCauses}
 use Rattle.fbl_law.proofs.Recover.{Stays-leads, recorded_before}
-use Rattle.fbl_law.proofs.LawfulCut.{KeepsResponses, Lawful-kept, marks-filter}
+use Rattle.fbl_law.proofs.LawfulCut.{KeepsResponses, Lawful-kept}
 
 module _ (n f : ℕ) (r : Knowledge) (sound : IsSoundKnowledge n f r) (keep : Mark → Bool) (tells : (e : Mark) → Has r.trace e → (keep e ≡ true) ↔ Stays r e) where
   cut_causes : KeepsCauses keep r.trace

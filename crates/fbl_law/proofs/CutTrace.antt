@@ -3,7 +3,7 @@ use Rattle.std.proofs.Common.{◌≡◌, ◌≢◌, ℕ, zero, suc, ◌<◌, ◌
 use Rattle.std.specs.List.{filter, list_any}
 use Rattle.std.specs.FinSet as set
 use Rattle.std.specs.Ordering.{nat_cmp}
-use Rattle.std.proofs.lemmas.Bool.Decides.{nat_tests}
+use Rattle.std.proofs.lemmas.Bool.{and_parts, eqb-true, and_right, or_right, not-true, not_from_false, false_from_ne_true}
 use Rattle.std.proofs.lemmas.List.{map-append}
 use Rattle.std.proofs.lemmas.List.Folds.{list_any-append}
 use Rattle.fbl_base.specs.declared.trace.Determinant.{Determinant}
@@ -16,6 +16,7 @@ use Rattle.fbl_base.specs.Precedence.{Has}
 use Rattle.fbl_base.specs.Rules.{WellFormed}
 use Rattle.fbl_base.specs.Fold.{Next}
 use Rattle.fbl_base.proofs.Gets.{At-front, At-below}
+use Rattle.fbl_base.proofs.Recorded.{or_false}
 use Rattle.fbl_base.proofs.RulesLaws.{eqb-self}
 use Rattle.fbl_table.specs.declared.entry.Entry.{Entry}
 use Rattle.fbl_table.specs.Tables.{is_held}
@@ -26,7 +27,7 @@ use Rattle.fbl_law.specs.Sound.{IsSound}
 use Rattle.fbl_law.specs.Replaying.{stops_at, cut_from, gathered_table, recovered_trace}
 use Rattle.fbl_law.proofs.GroupFacts.{Names-held, held-Names}
 use Rattle.fbl_law.proofs.Appended.{once}
-use Rattle.fbl_law.proofs.Cut.{At-seam}
+use Rattle.fbl_law.proofs.Lists.{At-seam}
 use Rattle.fbl_law.proofs.Gather.{entries_gathered, recorded_gathered}
 
 same_mark : Mark → Mark → Bool
@@ -40,39 +41,29 @@ unfolding same_mark
 same_mark-self (Send q k to) = (let a : (q == q) ≡ true = eqb-self q in let b : (k == k) ≡ true = eqb-self k in let c : (to == to) ≡ true = eqb-self to in rw (a, b, c) refl)
 same_mark-self (Receipt to r q k) = (let a : (q == q) ≡ true = eqb-self q in let b : (k == k) ≡ true = eqb-self k in let c : (to == to) ≡ true = eqb-self to in let d : (r == r) ≡ true = eqb-self r in rw (c, d, a, b) refl)
 
-and-true : (a b : Bool) → (a && b) ≡ true → (a ≡ true) × (b ≡ true)
-and-true true b h = (refl, h)
-and-true false b h = absurd cc
-
-same-number : (a b : ℕ) → (a == b) ≡ true → a ≡ b
-same-number a b is = grind (arith, nat_tests)
-
 same_mark-is : (a b : Mark) → same_mark a b ≡ true → a ≡ b
 unfolding same_mark
 same_mark-is (Send q k to) (Send q' k' to') h =
-    let x = and-true (q == q') _ h in
-    let y = and-true (k == k') _ x.1 in
-    let e1 = same-number q q' x.0 in
-    let e2 = same-number k k' y.0 in
-    let e3 = same-number to to' y.1 in
+    let x = and_parts (q == q') _ h in
+    let y = and_parts (k == k') _ x.1 in
+    let e1 = eqb-true q q' x.0 in
+    let e2 = eqb-true k k' y.0 in
+    let e3 = eqb-true to to' y.1 in
     (rw (e1, e2, e3) refl)
 same_mark-is (Send q k to) (Receipt to' r' q' k') h = absurd cc
 same_mark-is (Receipt to r q k) (Send q' k' to') h = absurd cc
 same_mark-is (Receipt to r q k) (Receipt to' r' q' k') h =
-    let x = and-true (to == to') _ h in
-    let y = and-true (r == r') _ x.1 in
-    let z = and-true (q == q') _ y.1 in
-    let e1 = same-number to to' x.0 in
-    let e2 = same-number r r' y.0 in
-    let e3 = same-number q q' z.0 in
-    let e4 = same-number k k' z.1 in
+    let x = and_parts (to == to') _ h in
+    let y = and_parts (r == r') _ x.1 in
+    let z = and_parts (q == q') _ y.1 in
+    let e1 = eqb-true to to' x.0 in
+    let e2 = eqb-true r r' y.0 in
+    let e3 = eqb-true q q' z.0 in
+    let e4 = eqb-true k k' z.1 in
     (rw (e1, e2, e3, e4) refl)
 
 differ : (a b : Mark) → a ≢ b → same_mark a b ≡ false
-differ a b ne = at (same_mark a b) refl where
-  at : (c : Bool) → same_mark a b ≡ c → same_mark a b ≡ false
-  at true is = absurd (ne (same_mark-is a b is))
-  at false is = is
+differ a b ne = false_from_ne_true (same_mark a b) (λ is. ne (same_mark-is a b is))
 
 module _ (L : Mark → Bool) where
   -- whether the member of the event has a lost receipt no later than it
@@ -96,7 +87,7 @@ module _ (L : Mark → Bool) where
 
     at : (a b : Bool) → (L x && (member_of x == member_of e)) ≡ a → same_mark x e ≡ b → (a || (not b && loses t e)) ≡ true → (Has t e → loses t e ≡ true → (c : Mark) × (L c ≡ true) × (member_of c ≡ member_of e) × UpTo t c e)
         → (c : Mark) × (L c ≡ true) × (member_of c ≡ member_of e) × UpTo (x ∷ t) c e
-    at true b ea eb g rest = (let parts = and-true (L x) (member_of x == member_of e) ea in (x, parts.0, same-number (member_of x) (member_of e) parts.1, here has.0 has.1))
+    at true b ea eb g rest = (let parts = and_parts (L x) (member_of x == member_of e) ea in (x, parts.0, eqb-true (member_of x) (member_of e) parts.1, here has.0 has.1))
     at false true ea eb g rest = absurd cc
     at false false ea eb g rest =
         let r = rest (later has.0 has.1 eb) g in
@@ -114,11 +105,7 @@ module _ (L : Mark → Bool) where
   found-loses (x ∷ t) e c (suc i) (suc j) below here there none lost same =
       let ne : same_mark x e ≡ false = differ x e (λ is. none 0 (omega arith) (ap Some is)) in
       let ih : loses t e ≡ true = found-loses t e c i j (omega arith) here there (λ k less at'. none (suc k) (omega (arith, less)) at') lost same in
-      rw (ne, ih) (or-true (L x && (member_of x == member_of e)))
-    where
-      or-true : (b : Bool) → (b || true) ≡ true
-      or-true true = refl
-      or-true false = refl
+      rw ne (or_right (L x && (member_of x == member_of e)) (loses t e) ih)
 
   -- at an event's own place
   loses-there : (u rest : List Mark) (e : Mark) → ¬ (Has u e) → loses (u ++ e ∷ rest) e ≡ (list_any (of_member (member_of e)) u || L e)
@@ -164,32 +151,16 @@ module _ (L : Mark → Bool) where
       told = rw whole (loses-there M (map mark_of rest) (mark_of e) new ∙ ap (λ b. b || L (mark_of e)) (sym (state (member_of (mark_of e)))))
 
       more : (m : ℕ) → list_any (of_member m) (map mark_of (u ++ e ∷ [])) ≡ (list_any (of_member m) M || (L (mark_of e) && (member_of (mark_of e) == m)))
-      more m = ap (list_any (of_member m)) (map-append mark_of u (e ∷ [])) ∙ list_any-append (of_member m) M (mark_of e ∷ []) ∙ one (list_any (of_member m) M) (of_member m (mark_of e)) where
-        one : (a b : Bool) → (a || (b || false)) ≡ (a || b)
-        one true b = refl
-        one false true = refl
-        one false false = refl
-
-      or-false : (a : Bool) → a ≡ (a || false)
-      or-false true = refl
-      or-false false = refl
-
-      or-true : (a : Bool) → true ≡ (a || true)
-      or-true true = refl
-      or-true false = refl
-
-      and-false : (a : Bool) → (a && false) ≡ false
-      and-false true = refl
-      and-false false = refl
+      more m = ap (list_any (of_member m)) (map-append mark_of u (e ∷ [])) ∙ list_any-append (of_member m) M (mark_of e ∷ []) ∙ ap (λ b. list_any (of_member m) M || b) (sym (or_false (of_member m (mark_of e))))
 
       other-member : (m : ℕ) → (member_of (mark_of e) == m) ≡ false → list_any (of_member m) M ≡ list_any (of_member m) (map mark_of (u ++ e ∷ []))
-      other-member m ne = or-false (list_any (of_member m) M) ∙ sym (more m ∙ ap (λ b. list_any (of_member m) M || (L (mark_of e) && b)) ne ∙ ap (λ b. list_any (of_member m) M || b) (and-false (L (mark_of e))))
+      other-member m ne = or_false (list_any (of_member m) M) ∙ sym (more m ∙ ap (λ b. list_any (of_member m) M || (L (mark_of e) && b)) ne ∙ ap (λ b. list_any (of_member m) M || b) (and_right (L (mark_of e)) false refl))
 
       still : set.contains stopped (member_of (mark_of e)) ≡ true → (m : ℕ) → set.contains stopped m ≡ list_any (of_member m) (map mark_of (u ++ e ∷ []))
       still stays m = by (member_of (mark_of e) == m) refl where
         by : (b : Bool) → (member_of (mark_of e) == m) ≡ b → set.contains stopped m ≡ list_any (of_member m) (map mark_of (u ++ e ∷ []))
         by true eq =
-            let here : set.contains stopped m ≡ true = (let same : member_of (mark_of e) ≡ m = same-number (member_of (mark_of e)) m eq in ap (λ x. set.contains stopped x) (sym same) ∙ stays) in
+            let here : set.contains stopped m ≡ true = (let same : member_of (mark_of e) ≡ m = eqb-true (member_of (mark_of e)) m eq in ap (λ x. set.contains stopped x) (sym same) ∙ stays) in
             let was : list_any (of_member m) M ≡ true = sym (state m) ∙ here in
             here ∙ sym (more m ∙ (rw was refl))
         by false eq = state m ∙ other-member m eq
@@ -198,15 +169,15 @@ module _ (L : Mark → Bool) where
       stops-here lost m = by (member_of (mark_of e) == m) refl where
         by : (b : Bool) → (member_of (mark_of e) == m) ≡ b → set.contains (set.insert stopped (member_of (mark_of e))) m ≡ list_any (of_member m) (map mark_of (u ++ e ∷ []))
         by true eq =
-            let same : member_of (mark_of e) ≡ m = same-number (member_of (mark_of e)) m eq in
+            let same : member_of (mark_of e) ≡ m = eqb-true (member_of (mark_of e)) m eq in
             let here : set.contains (set.insert stopped (member_of (mark_of e))) m ≡ true = ap (λ x. set.contains (set.insert stopped (member_of (mark_of e))) x) (sym same) ∙ contains-insert_same stopped (member_of (mark_of e)) in
-            here ∙ or-true (list_any (of_member m) M) ∙ sym (more m ∙ (rw (lost, eq) refl))
+            here ∙ sym (or_right (list_any (of_member m) M) true refl) ∙ sym (more m ∙ (rw (lost, eq) refl))
         by false eq =
             let other : m ≢ member_of (mark_of e) = (λ same. (let yes' : (member_of (mark_of e) == m) ≡ true = rw same (eqb-self (member_of (mark_of e))) in cc)) in
             contains-insert_other stopped (member_of (mark_of e)) m other ∙ state m ∙ other-member m eq
 
       unlost : L (mark_of e) ≡ false → (m : ℕ) → set.contains stopped m ≡ list_any (of_member m) (map mark_of (u ++ e ∷ []))
-      unlost kept m = state m ∙ or-false (list_any (of_member m) M) ∙ sym (more m ∙ (rw kept refl))
+      unlost kept m = state m ∙ or_false (list_any (of_member m) M) ∙ sym (more m ∙ (rw kept refl))
 
       at : (a b : Bool) → set.contains stopped (member_of (mark_of e)) ≡ a → L (mark_of e) ≡ b
           → (((m : ℕ) → set.contains stopped m ≡ list_any (of_member m) (map mark_of (u ++ e ∷ []))) → pass stopped rest ≡ filter (λ x. not (loses (map mark_of t) (mark_of x))) rest)
@@ -246,14 +217,6 @@ module _ (next : Next) (old : GroupRecord) (sound : IsSound next old) where
   is-held d true is otherwise = held-recorded d is
   is-held d false is otherwise = otherwise refl
 
-  not-true : (b : Bool) → not b ≡ true → b ≡ false
-  not-true true h = absurd cc
-  not-true false h = refl
-
-  true-not : (b : Bool) → (b ≡ true → ⊥) → not b ≡ true
-  true-not true h = absurd (h refl)
-  true-not false h = refl
-
   keep-stays : (e : Mark) → Has (marks old) e → keep e ≡ true → Stays (knowledge old) e
   keep-stays e has kept down c at_e up_to = is-held c (is_held (gathered_table old) c) refl (λ none. absurd (lose none))
     where
@@ -271,11 +234,11 @@ module _ (next : Next) (old : GroupRecord) (sound : IsSound next old) where
           cc
 
   stays-keep : (e : Mark) → Has (marks old) e → Stays (knowledge old) e → keep e ≡ true
-  stays-keep e has stays = true-not (loses lost (marks old) e) (λ gone. (let r = loses-found lost (marks old) e has gone in at r.0 r.1 r.2 r.3)) where
+  stays-keep e has stays = not_from_false (loses lost (marks old) e) (false_from_ne_true (loses lost (marks old) e) (λ gone. (let r = loses-found lost (marks old) e has gone in at r.0 r.1 r.2 r.3))) where
     at : (c : Mark) → lost c ≡ true → member_of c ≡ member_of e → UpTo (marks old) c e → ⊥
     at (Send q k to) is same up_to = cc
     at (Receipt to r q k) is same up_to =
-        let parts = and-true (set.contains old.down to) _ is in
+        let parts = and_parts (set.contains old.down to) _ is in
         let d : Determinant = record { from = q; ssn = k; to = to; rsn = r } in
         let recorded = stays (ap (λ x. set.contains old.down x) (sym same) ∙ parts.0) d same up_to in
         let held = recorded-held d recorded in

@@ -3,10 +3,11 @@ use Rattle.std.proofs.Common.{◌≡◌, ℕ, zero, suc, ◌<◌, Bool, true, fa
 use Rattle.std.specs.Ordering.{nat_cmp}
 use Rattle.std.specs.FinSet as set
 use Rattle.std.proofs.lemmas.Bool.{cases_lt, cases_eq}
+use Rattle.std.proofs.lemmas.List.{get_or_past}
 use Rattle.fbl_base.specs.declared.trace.Determinant.{Determinant}
 use Rattle.fbl_base.specs.Events.{same_determinant}
 use Rattle.fbl_base.proofs.Recorded.{Decides-same_determinant}
-use Rattle.fbl_base.proofs.Sizes.{some_member, len-within}
+use Rattle.fbl_base.proofs.Sizes.{len-remove_one, some_member, len-within}
 use Rattle.fbl_table.specs.declared.entry.Entry.{Entry}
 use Rattle.fbl_law.specs.Knowledge.{Members, Includes, Knowledge, table, checkpoint, IsUp, Names, Holds, IsRecorded, IsHolder, IsStable, IsClosed, IsAlwaysHeld}
 use Rattle.fbl_law.proofs.Lists.{Contains-here, Contains-there, Contains-cons_cases, Contains-none}
@@ -58,15 +59,13 @@ set_of (suc n) P decide =
     ]
 
 named_within : (tables : List (List Entry)) (d : Determinant) (m : ℕ) → Names (get_or tables m []) d → m < length tables
-named_within [] d m named = absurd (Contains-none named.0 named.1)
-named_within (t ∷ tables) d zero named = omega arith
-named_within (t ∷ tables) d (suc m) named = omega (arith, named_within tables d m named)
+named_within tables d m named = elim (cases_lt m (length tables)) [
+  | inl below ↦ below
+  | inr past ↦ absurd (Contains-none named.0 (rw (get_or_past tables m [] past) at named.1))
+]
 
 some_has : (s : Members) (m : ℕ) → Includes s m → 0 < set.len s
-some_has s m has = at (set.len s) refl where
-  at : (k : ℕ) → set.len s ≡ k → 0 < k
-  at zero none = absurd (let e : s ≡ set.empty = set.empty_of_len s none in let f : set.contains set.empty m ≡ false = set.contains-empty nat_cmp m in let g : set.contains set.empty m ≡ true = rw e at has in cc)
-  at (suc k) some = omega arith
+some_has s m has = omega (arith, len-remove_one s m has)
 
 module _ (f : ℕ) (r : Knowledge) (d : Determinant) where
   Known-holds : (m : ℕ) → Known (Holds r d m)

@@ -5,14 +5,14 @@ use Rattle.std.specs.FinSet as set
 use Rattle.std.proofs.lemmas.Bool.{cases_eq}
 use Rattle.fbl_base.specs.declared.trace.Determinant.{Determinant}
 use Rattle.fbl_base.specs.declared.trace.Mark.{Mark}
-use Rattle.fbl_base.specs.Events.{At, member_of, send_of}
+use Rattle.fbl_base.specs.Events.{At, member_of, send_of, determinant_of}
 use Rattle.fbl_base.specs.Precedence.{Has, Precedes}
 use Rattle.fbl_base.specs.Events.{receipt_of}
 use Rattle.std.specs.Ordering.{nat_cmp}
-use Rattle.std.proofs.lemmas.Option.{get_or_from_slice_get}
+use Rattle.std.proofs.lemmas.Option.{same_Some}
 use Rattle.std.proofs.lemmas.List.Elements.{Contains-append_cases}
 use Rattle.fbl_base.specs.Rules.{is_send_of, is_receipt_of}
-use Rattle.fbl_base.proofs.Gets.{At-front, At-below}
+use Rattle.fbl_base.proofs.Gets.{At-front}
 use Rattle.fbl_base.proofs.PrecedenceLaws.{Has-last, Precedes-front}
 use Rattle.fbl_table.specs.declared.entry.Entry.{Entry}
 use Rattle.fbl_member.specs.Members.{Message}
@@ -20,10 +20,10 @@ use Rattle.fbl_law.specs.Knowledge.{Includes, Knowledge, table, send_mark, IsInF
 use Rattle.fbl_table.specs.Tables.{learned, piggybacked}
 use Rattle.fbl_law.specs.Steps.{IsDelivered, is_on, taken_off, between, determinant}
 use Rattle.fbl_law.proofs.Appended.{Has-append, Has-behind, disjoint, Precedes-within, Precedes-entered}
-use Rattle.fbl_law.proofs.Lists.{Contains-there, Contains-from_filter}
+use Rattle.fbl_law.proofs.Lists.{Contains-at, Contains-there, Contains-from_filter}
 use Rattle.fbl_law.proofs.Channels.{AreSent, Has-made, made-Has, channel-delivered}
 use Rattle.fbl_law.proofs.Numbered.{count-grown, added-later}
-use Rattle.fbl_law.proofs.Safe.{never_both, nobody_down_empty, IsBeforeCheckpoint-same}
+use Rattle.fbl_law.proofs.Safe.{Has-named, never_both, nobody_down_empty, IsBeforeCheckpoint-same}
 use Rattle.fbl_law.proofs.Tables.{Includes-insert, Includes-insert_cases, Includes-only, Includes-union, Includes-left, Names-learned_kept, Names-learned_gained, Names-noted_kept, Names-noted, Contains-noted, Contains-piggybacked, passed_or_known, Names-from_table, learned-keeps}
 
 pub Names-piggybacked : (f : ℕ) (entries : List Entry) (d : Determinant) → Names (piggybacked f entries) d → Names entries d
@@ -40,14 +40,17 @@ NamesCauses-piggybacked f r m b known up causes d before =
       | inr stable ↦ inr stable
     ]
 
+-- what is left of a channel was in it
+pub taken_off-was : (v : Message) (q p : ℕ) (xs : List Message) (x : Message) → Contains (taken_off v q p xs) x → Contains xs x
+taken_off-was v q p xs x h = at (v.from == q && v.to == p) xs h where
+  at : (b : Bool) (ys : List Message) → Contains (cond b (drop 1 ys) ys) x → Contains ys x
+  at false ys g = g
+  at true [] g = g
+  at true (y ∷ ys) g = Contains-there y ys x g
+
 -- a receipt names its determinant
 receipt_names : (c d : Determinant) → receipt_of c ≡ receipt_of d → c ≡ d
-receipt_names c d same =
-    let from : c.from ≡ d.from = cc in
-    let ssn : c.ssn ≡ d.ssn = cc in
-    let to : c.to ≡ d.to = cc in
-    let rsn : c.rsn ≡ d.rsn = cc in
-    λ i. record { from = from i; ssn = ssn i; to = to i; rsn = rsn i }
+receipt_names c d same = same_Some c d (ap determinant_of same)
 
 module _ (n f : ℕ) (old new : Knowledge) (v : Message) (rsn : ℕ) (made : List Message) (s : IsDelivered n f old new v rsn made) (known : KnowsTruth old) (closed : IsClosed f old) (sent : AreSent old) (kept_all : (m : ℕ) → IsCheckpointKept old m) where
   abbrev own : Determinant
@@ -63,7 +66,7 @@ module _ (n f : ℕ) (old new : Knowledge) (v : Message) (rsn : ℕ) (made : Lis
   was_up m = rw s.nobody_down (set.contains-empty nat_cmp m)
 
   flies : IsInFlight old v
-  flies = (0, At-below (old.channel v.from v.to) 0 v s.front, get_or_from_slice_get (old.channel v.from v.to) 0 v v s.front)
+  flies = Contains-at (old.channel v.from v.to) 0 v s.front
 
   same_checkpoint : (m : ℕ) → checkpoint new m ≡ checkpoint old m
   same_checkpoint m = rw s.checkpoints refl
@@ -72,14 +75,9 @@ module _ (n f : ℕ) (old new : Knowledge) (v : Message) (rsn : ℕ) (made : Lis
   messages : (x : Message) → IsInFlight new x → IsInFlight old x ⊎ ((x.from ≡ v.to) × Contains made x × (x.carried ≡ piggybacked f (table new v.to)))
   messages x in_new =
       elim (Contains-append_cases (taken_off v x.from x.to (old.channel x.from x.to)) (between x.from x.to made) x (rw (s.channels x.from x.to) at in_new)) [
-        | inl before ↦ inl (put_back (v.from == x.from && v.to == x.to) (old.channel x.from x.to) before)
+        | inl before ↦ inl (taken_off-was v x.from x.to (old.channel x.from x.to) x before)
         | inr after ↦ let among = Contains-from_filter (is_on x.from x.to) made x after in inr ((s.messages x among).0, among, (s.messages x among).1)
       ]
-    where
-      put_back : (b : Bool) (xs : List Message) → Contains (cond b (drop 1 xs) xs) x → Contains xs x
-      put_back false xs h = h
-      put_back true [] h = h
-      put_back true (y ∷ xs) h = Contains-there y xs x h
 
   Names-delivered : (d : Determinant) (m : ℕ) → Names (table old m) d → Names (table new m) d
   Names-delivered d m named =
@@ -233,16 +231,6 @@ module _ (n f : ℕ) (old new : Knowledge) (v : Message) (rsn : ℕ) (made : Lis
         ]
       ]
 
-  -- what a table or a message names is in the trace
-  Has-named : (m : ℕ) (c : Determinant) → Names (table old m) c → Has old.trace (receipt_of c)
-  Has-named m c named = subst (λ (x : Determinant). Has old.trace (receipt_of x)) named.2 (known.tables m named.0 (was_up m) named.1).0.0
-
-  Has-carried : (x : Message) (c : Determinant) → IsInFlight old x → Names x.carried c → Has old.trace (receipt_of c)
-  Has-carried x c flies named = subst (λ (y : Determinant). Has old.trace (receipt_of y)) named.2 (known.messages x named.0 flies named.1).0.0
-
-  Has-saved : (m : ℕ) (c : Determinant) → Names (checkpoint old m).table c → Has old.trace (receipt_of c)
-  Has-saved m c named = subst (λ (x : Determinant). Has old.trace (receipt_of x)) named.2 (known.checkpoints m named.0 named.1).0.0
-
   -- the events added are no earlier than a checkpoint
   reached_event : (b : Mark) → IsBeforeCheckpoint old b → NamesCauses f new (checkpoint old (member_of b)).table b
   reached_event b reached d before =
@@ -271,20 +259,20 @@ module _ (n f : ℕ) (old new : Knowledge) (v : Message) (rsn : ℕ) (made : Lis
       | inl same ↦ rw same (receiver_named c (rw same at named))
       | inr other ↦
           let was : Names (table old m) c = rw (s.others m other) at named in
-          rw (s.others m other) (kept (table old m) (receipt_of c) (Has-named m c was) (closed.tables m c (was_up m) was))
+          rw (s.others m other) (kept (table old m) (receipt_of c) (Has-named old (table old m) (λ e h. (known.tables m e (was_up m) h).0) c was) (closed.tables m c (was_up m) was))
     ];
     sends = λ x in_new. elim (messages x in_new) [
       | inl old_one ↦ kept x.carried (send_mark x) (sent x old_one) (closed.sends x old_one)
       | inr made ↦ rw made.2 (new_table v.to (send_mark x) refl (mine (send_mark x) (made_is_added x made.1)))
     ];
     carried = λ x c in_new named. elim (messages x in_new) [
-      | inl old_one ↦ kept x.carried (receipt_of c) (Has-carried x c old_one named) (closed.carried x c old_one named)
+      | inl old_one ↦ kept x.carried (receipt_of c) (Has-named old x.carried (λ e h. (known.messages x e old_one h).0) c named) (closed.carried x c old_one named)
       | inr made ↦ rw made.2 (new_table v.to (receipt_of c) refl (receiver_named c (Names-piggybacked f (table new v.to) c (rw made.2 at named))))
     ];
     reached = λ b reached. rw (same_checkpoint (member_of b)) (reached_event b (IsBeforeCheckpoint-same old new b (same_checkpoint (member_of b)) reached));
     checkpoints = λ m c named.
         let was : Names (checkpoint old m).table c = rw (same_checkpoint m) at named in
-        rw (same_checkpoint m) (kept (checkpoint old m).table (receipt_of c) (Has-saved m c was) (closed.checkpoints m c was));
+        rw (same_checkpoint m) (kept (checkpoint old m).table (receipt_of c) (Has-named old (checkpoint old m).table (λ e h. (known.checkpoints m e h).0) c was) (closed.checkpoints m c was));
   }
 
   pub MatchesTrace-delivered : ((q p : ℕ) → IsUp old q → IsUp old p → MatchesTrace old q p) → (q p : ℕ) → MatchesTrace new q p

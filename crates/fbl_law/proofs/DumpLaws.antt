@@ -1,19 +1,22 @@
 -- Dumps of a sound group.
-use Rattle.std.proofs.Common.{◌≡◌, ℕ, zero, suc, ◌+◌, ◌*◌, ◌<◌, ◌≤◌, Bool, true, false, List, [], ◌∷◌, ◌++◌, length, map, inl, inr, Some, slice_get, get_or, refl, sym, ap, ◌∙◌, arith, append_assoc, append-nil, length-append}
+use Rattle.std.proofs.Common.{◌≡◌, ℕ, zero, suc, ◌+◌, ◌*◌, ◌<◌, ◌≤◌, false, List, [], ◌∷◌, ◌++◌, length, map, inl, inr, Some, slice_get, get_or, refl, sym, subst, ap, ◌∙◌, arith, append_assoc, append-nil, length-append}
 use Rattle.std.specs.List.{Contains, IsDistinct}
+use Rattle.std.specs.Bool.{Decides}
 use Rattle.std.specs.Cmp.{IsEquivalence}
 use Rattle.std.specs.FinSet as sets
+use Rattle.std.proofs.lemmas.Bool.Decides.{same_from_decides}
 use Rattle.std.proofs.lemmas.List.{length-map}
 use Rattle.std.proofs.lemmas.List.Elements.{Contains-append_left, Contains-append_right}
 use Rattle.std.proofs.lemmas.Map.Made.{length-le_from_is_member, is_member-Decides}
 use Rattle.fbl_base.specs.declared.trace.Determinant.{Determinant}
 use Rattle.fbl_base.specs.declared.trace.Mark.{Mark}
 use Rattle.fbl_base.specs.declared.trace.Mark.TheVariants.{Send, Receipt}
-use Rattle.fbl_base.specs.Events.{At, mark_of, same_determinant, receipt_of}
+use Rattle.fbl_base.specs.Events.{mark_of, determinant_of, same_determinant, receipt_of}
 use Rattle.fbl_base.specs.Precedence.{Has, Depends}
 use Rattle.fbl_base.specs.Fold.{Next}
 use Rattle.fbl_base.specs.Audit.{IsLost, HeldAt}
-use Rattle.fbl_base.proofs.Gets.{At-below}
+use Rattle.fbl_base.proofs.Gets.{map-At, filter_map-At, At-below}
+use Rattle.fbl_base.proofs.LawfulLaws.{filter_map-shorter}
 use Rattle.fbl_base.proofs.Recorded.{Decides-same_determinant}
 use Rattle.fbl_base.proofs.Sizes.{len-within}
 use Rattle.fbl_table.specs.declared.entry.Entry.{Entry}
@@ -22,7 +25,7 @@ use Rattle.fbl_law.specs.Knowledge.{Members, Includes, IsDown, IsInFlight, Names
 use Rattle.fbl_law.specs.Groups.{GroupRecord, member, marks, knowledge, receipts}
 use Rattle.fbl_law.specs.Sound.{IsSound}
 use Rattle.fbl_law.specs.Dumps.{pairs_of, pairs_from, held_pairs, dump_of, HasDistinctTables, DumpObeysRules, DumpHasNoOrphan}
-use Rattle.fbl_law.proofs.Lists.{At-append, Contains-here, Contains-there, Contains-cons_cases, Contains-none}
+use Rattle.fbl_law.proofs.Lists.{At-append, Contains-at, Contains-map, Contains-changed, Contains-none}
 use Rattle.fbl_law.proofs.Safe.{down_or_up}
 use Rattle.fbl_law.proofs.Tables.{Includes-union, Includes-right}
 use Rattle.fbl_law.proofs.Survivors.{survivors_record}
@@ -37,9 +40,9 @@ pairs_from-push m (y ∷ members) x =
 
 -- a held pair has a member and a determinant of its table
 pairs_of-At : (m : ℕ) (entries : List Entry) (i : ℕ) (h : ℕ × Determinant) → slice_get (pairs_of m entries) i ≡ Some h → (h.0 ≡ m) × Names entries h.1
-pairs_of-At m [] i h at = cc
-pairs_of-At m (e ∷ entries) zero h at = (let pair : ◌≡◌ {A = ℕ × Determinant} (m, e.det) h = cc in (sym (ap (λ (x : ℕ × Determinant). x.0) pair), (e, Contains-here e entries, ap (λ (x : ℕ × Determinant). x.1) pair)))
-pairs_of-At m (e ∷ entries) (suc i) h at = let r = pairs_of-At m entries i h at in (r.0, (r.1.0, Contains-there e entries r.1.0 r.1.1, r.1.2))
+pairs_of-At m entries i h at =
+    let held = map-At (λ (e : Entry). (m, e.det)) entries i h at in
+    (sym (ap (λ (x : ℕ × Determinant). x.0) held.2), (held.0, Contains-at entries i held.0 held.1, ap (λ (x : ℕ × Determinant). x.1) held.2))
 
 pairs_from-At : (m : ℕ) (members : List MemberRecord) (i : ℕ) (h : ℕ × Determinant) → slice_get (pairs_from m members) i ≡ Some h → (j : ℕ) × (h.0 ≡ m + j) × (j < length members) × Names (get_or members j blank).table h.1
 pairs_from-At m [] i h at = cc
@@ -51,11 +54,7 @@ pairs_from-At m (x ∷ members) i h at =
 
 -- and each determinant of a table is held by its member
 pairs_of-Names : (m : ℕ) (entries : List Entry) (d : Determinant) → Names entries d → Contains (pairs_of m entries) (m, d)
-pairs_of-Names m [] d named = absurd (Contains-none named.0 named.1)
-pairs_of-Names m (e ∷ entries) d named = elim (Contains-cons_cases e entries named.0 named.1) [
-  | inl first ↦ (let same : e.det ≡ d = ap (λ (x : Entry). x.det) first ∙ named.2 in rw (← same) (Contains-here (m, e.det) (pairs_of m entries)))
-  | inr later ↦ Contains-there (m, e.det) (pairs_of m entries) (m, d) (pairs_of-Names m entries d (named.0, later, named.2))
-]
+pairs_of-Names m entries d named = subst (λ x. Contains (pairs_of m entries) (m, x)) named.2 (Contains-map (λ (e : Entry). (m, e.det)) entries named.0 named.1)
 
 pairs_from-Names : (m : ℕ) (members : List MemberRecord) (j : ℕ) (d : Determinant) → Names (get_or members j blank).table d → Contains (pairs_from m members) (m + j, d)
 pairs_from-Names m [] j d named = absurd (Contains-none named.0 named.1)
@@ -70,42 +69,17 @@ held_pairs-Names r q d named = (let e : 0 + q ≡ q = omega arith in (rw e at (p
 equivalence : IsEquivalence same_determinant
 equivalence = record {
   refl = λ x. (Decides-same_determinant x x).1 refl;
-  symm = λ x y. both_ways x y (same_determinant x y) (same_determinant y x) refl refl;
+  symm = λ x y. same_from_decides (same_determinant x y) (same_determinant y x) (Decides-same_determinant x y) (turned x y);
   congr = λ x y z same. (let e : x ≡ y = (Decides-same_determinant x y).0 same in rw e refl);
 } where
-  both_ways : (x y : Determinant) (a b : Bool) → same_determinant x y ≡ a → same_determinant y x ≡ b → a ≡ b
-  both_ways x y true true ea eb = refl
-  both_ways x y false false ea eb = refl
-  both_ways x y true false ea eb = sym ((Decides-same_determinant y x).1 (sym ((Decides-same_determinant x y).0 ea))) ∙ eb
-  both_ways x y false true ea eb = sym ea ∙ (Decides-same_determinant x y).1 (sym ((Decides-same_determinant y x).0 eb))
+  turned : (x y : Determinant) → Decides (same_determinant y x) (x ≡ y)
+  turned x y = (λ is. sym ((Decides-same_determinant y x).0 is), λ same. (Decides-same_determinant y x).1 (sym same))
 
 -- a receipt of the trace is among its receipts
 Contains-receipts : (t : List Mark) (d : Determinant) → Has t (receipt_of d) → Contains (receipts t) d
-Contains-receipts t d has = at t has.0 has.1 where
-  at : (u : List Mark) (i : ℕ) → At u i (receipt_of d) → Contains (receipts u) d
-  at [] i here = cc
-  at (Send from ssn to ∷ u) zero here = cc
-  at (Send from ssn to ∷ u) (suc i) here = at u i here
-  at (Receipt to rsn from ssn ∷ u) zero here =
-      let e1 : from ≡ d.from = cc in
-      let e2 : ssn ≡ d.ssn = cc in
-      let e3 : to ≡ d.to = cc in
-      let e4 : rsn ≡ d.rsn = cc in
-      let same : ◌≡◌ {A = Determinant} (record { from = from; ssn = ssn; to = to; rsn = rsn }) d = (λ i. record { from = e1 i; ssn = e2 i; to = e3 i; rsn = e4 i }) in
-      (0, omega arith, same)
-  at (Receipt to rsn from ssn ∷ u) (suc i) here = Contains-there _ (receipts u) d (at u i here)
-
-length-receipts : (t : List Mark) → length (receipts t) ≤ length t
-length-receipts [] = omega arith
-length-receipts (Send from ssn to ∷ t) = omega (arith, length-receipts t)
-length-receipts (Receipt to rsn from ssn ∷ t) = omega (arith, length-receipts t)
-
-Names-mapped : (entries : List Entry) (d : Determinant) → Contains (map (λ (e : Entry). e.det) entries) d → Names entries d
-Names-mapped [] d among = absurd (Contains-none d among)
-Names-mapped (e ∷ entries) d among = elim (Contains-cons_cases e.det (map (λ (x : Entry). x.det) entries) d among) [
-  | inl first ↦ (e, Contains-here e entries, first)
-  | inr later ↦ let r = Names-mapped entries d later in (r.0, Contains-there e entries r.0 r.1, r.2)
-]
+Contains-receipts t d has =
+    let place = filter_map-At determinant_of t has.0 (receipt_of d) d has.1 refl in
+    Contains-at (receipts t) place.0 d place.1
 
 pairs_fit : (m : ℕ) (members : List MemberRecord) → ((j : ℕ) → j < length members → length (get_or members j blank).table ≤ 8192) → length (pairs_from m members) ≤ 8192 * length members
 pairs_fit m [] fit = omega arith
@@ -125,7 +99,7 @@ module _ (next : Next) (r : GroupRecord) (sound : IsSound next r) where
       let dets : List Determinant = map (λ (e : Entry). e.det) entries in
       let fits : length dets ≤ length (receipts (marks r)) = length-le_from_is_member equivalence dets (receipts (marks r)) distinct
       (λ q among. (is_member-Decides Decides-same_determinant (receipts (marks r)) q).1
-      (Contains-receipts (marks r) q (received q (Names-mapped entries q ((is_member-Decides Decides-same_determinant dets q).0 among))))) in
+      (Contains-receipts (marks r) q (received q (Contains-changed (λ (e : Entry). e.det) entries q ((is_member-Decides Decides-same_determinant dets q).0 among))))) in
       omega (arith, fits, length-map entries (λ (e : Entry). e.det))
 
   -- so are those of a table, and those that a message in flight carries
@@ -134,13 +108,13 @@ module _ (next : Next) (r : GroupRecord) (sound : IsSound next r) where
 
   pub carried_fits : (v : Message) → IsInFlight (knowledge r) v → IsDistinct same_determinant (map (λ (e : Entry). e.det) v.carried) → length v.carried ≤ length r.trace
   carried_fits v flies distinct =
-      omega (arith, entries_fit v.carried distinct (λ d. carried_received next r sound v d flies), length-receipts (marks r), length-map r.trace mark_of)
+      omega (arith, entries_fit v.carried distinct (λ d. carried_received next r sound v d flies), filter_map-shorter determinant_of (marks r), length-map r.trace mark_of)
 
   held_at : HasDistinctTables r → (strike : Members) (i : ℕ) → HeldAt (dump_of r strike) i
   held_at distinct strike i h at =
       let where_held = pairs_from-At 0 r.members i h at in
       let fits : length (held_pairs r) ≤ 8192 * length r.members =
-      pairs_fit 0 r.members (λ j below. (let t = table_fits j (distinct j (omega (arith, below, sound.members))) in omega (arith, t, length-receipts (marks r), trace_fits next r sound))) in
+      pairs_fit 0 r.members (λ j below. (let t = table_fits j (distinct j (omega (arith, below, sound.members))) in omega (arith, t, filter_map-shorter determinant_of (marks r), trace_fits next r sound))) in
       let below : i < length (held_pairs r) = At-below (held_pairs r) i h at in
       let few : length r.members ≤ 16 = omega (arith, sound.members, sound.config.members.1) in
       let holder : h.0 < r.config.members = omega (arith, where_held.1, where_held.2, sound.members) in

@@ -1,7 +1,8 @@
 -- What gathered tables have.
 use Rattle.std.proofs.Common.{◌≡◌, ℕ, zero, suc, ◌<◌, Bool, true, false, cond, List, [], ◌∷◌, ◌++◌, length, inl, inr, ◌⊎◌, arith, refl, sym, get_or, subst, ap, ◌∙◌}
-use Rattle.std.proofs.lemmas.Bool.{cases_eq}
-use Rattle.std.proofs.lemmas.List.Elements.{Contains-append_cases, Contains-append_left, Contains-append_right}
+use Rattle.std.proofs.lemmas.Bool.{cases_eq, cases_lt}
+use Rattle.std.proofs.lemmas.List.{get_or_default, get_or_past}
+use Rattle.std.proofs.lemmas.List.Elements.{Contains-get_or, Contains-append_cases, Contains-append_left, Contains-append_right}
 use Rattle.std.specs.List.{Contains}
 use Rattle.std.specs.FinSet as set
 use Rattle.fbl_base.specs.declared.trace.Determinant.{Determinant}
@@ -10,9 +11,9 @@ use Rattle.fbl_member.specs.Members.{MemberRecord, blank}
 use Rattle.fbl_law.specs.Knowledge.{Members, Includes, Names, Knowledge, table, checkpoint, IsDown, IsUp, IsRecorded, IsDownEmpty, IsCheckpointKept}
 use Rattle.fbl_table.specs.Tables.{gathered}
 use Rattle.fbl_law.specs.Steps.{gathered_all, saved_tables, recovery_table}
-use Rattle.fbl_law.proofs.Lists.{Contains-here, Contains-there, Contains-cons_cases, Contains-none}
+use Rattle.fbl_law.proofs.Lists.{Contains-changed, Contains-here, Contains-there, Contains-cons_cases, Contains-none}
 use Rattle.fbl_law.proofs.Safe.{down_or_up, IsRecorded-held, IsRecorded-saved}
-use Rattle.fbl_law.proofs.Tables.{joined, Includes-union, Includes-right, Names-gathered, Names-gathered_kept, gathered-keeps, Contains-changed, Names-changed, named_record}
+use Rattle.fbl_law.proofs.Tables.{joined, Includes-union, Includes-right, Names-gathered, Names-gathered_kept, gathered-keeps, Names-changed, named_record}
 
 abbrev mark : Members → Entry → Entry
 mark s e = record { det = e.det; known = set.union e.known s }
@@ -25,13 +26,10 @@ all_kept xs (t ∷ ts) d named = all_kept (gathered xs t) ts d (Names-gathered_k
 pub gathered_all-named : (xs : List Entry) (ts : List (List Entry)) (t : List Entry) (d : Determinant) → Contains ts t → Names t d → Names (gathered_all xs ts) d
 gathered_all-named xs [] t d among named = absurd (omega (arith, among.1))
 gathered_all-named xs (u ∷ ts) t d among named =
-    elim (cons_cases u ts t among) [
+    elim (Contains-cons_cases u ts t among) [
       | inl first ↦ all_kept (gathered xs u) ts d (Names-gathered xs u d (subst (λ (v : List Entry). Names v d) (sym first) named))
       | inr later ↦ gathered_all-named (gathered xs u) ts t d later named
     ]
-  where
-    cons_cases : (u : List Entry) (ts : List (List Entry)) (t : List Entry) → Contains (u ∷ ts) t → (u ≡ t) ⊎ Contains ts t
-    cons_cases u ts t h = Contains-cons_cases u ts t h
 
 -- what holds of each entry of the tables, and of two that are joined, holds of each that is gathered
 module _ (Q : Entry → Type 0) (join : (x e : Entry) → Q x → Q e → x.det ≡ e.det → Q (joined x e)) where
@@ -40,15 +38,11 @@ module _ (Q : Entry → Type 0) (join : (x e : Entry) → Q x → Q e → x.det 
   gathered_all-keeps xs (t ∷ ts) all each y among =
       gathered_all-keeps (gathered xs t) ts (gathered-keeps Q join xs t all (λ e h. each t e (Contains-here t ts) h)) (λ u e h k. each u e (Contains-there t ts u h) k) y among
 
-any_default : {X : Type 0} (xs : List X) (i : ℕ) (a b : X) → i < length xs → get_or xs i a ≡ get_or xs i b
-any_default [] i a b below = absurd (omega arith)
-any_default (x ∷ xs) zero a b below = refl
-any_default (x ∷ xs) (suc i) a b below = any_default xs i a b (omega arith)
-
 Contains-table : (tables : List (List Entry)) (m : ℕ) (e : Entry) → Contains (get_or tables m []) e → Contains tables (get_or tables m [])
-Contains-table [] m e among = absurd (Contains-none e among)
-Contains-table (t ∷ tables) zero e among = Contains-here t tables
-Contains-table (t ∷ tables) (suc m) e among = Contains-there t tables _ (Contains-table tables m e among)
+Contains-table tables m e among = elim (cases_lt m (length tables)) [
+  | inl below ↦ Contains-get_or tables m [] below
+  | inr past ↦ absurd (Contains-none e (rw (get_or_past tables m [] past) at among))
+]
 
 -- the tables of checkpoints are those of the members of the set
 Contains-saved : (s : Members) (checkpoints : List MemberRecord) (n m : ℕ) → m < n → Includes s m → Contains (saved_tables s checkpoints n) (get_or checkpoints m blank).table
@@ -103,7 +97,7 @@ module _ (f : ℕ) (r : Knowledge) (empty : IsDownEmpty f r) where
 
   table_known : (t : List Entry) (e : Entry) → Contains r.tables t → Contains t e → IsKnown e
   table_known t e among of_t =
-      let is : table r among.0 ≡ t = any_default r.tables among.0 [] t among.1 ∙ among.2 in
+      let is : table r among.0 ≡ t = get_or_default r.tables among.0 [] t among.1 ∙ among.2 in
       let here : Contains (table r among.0) e = rw is of_t in
       let up : IsUp r among.0 = elim (down_or_up r.down among.0) [ inl down ↦ absurd (Contains-none e (rw (empty.tables among.0 down) at here)) | inr h ↦ h ] in
       (IsRecorded-held r e.det among.0 (up, (e, here, refl)), λ m h. inl (among.0, e, up, here, refl, h))
@@ -116,7 +110,7 @@ module _ (f : ℕ) (r : Knowledge) (empty : IsDownEmpty f r) where
 
   pub entries_gathered : (e : Entry) → Contains (recovery_table r) e → IsGathered r e
   entries_gathered e among =
-      let was = Contains-changed (mark r.down) (λ e. refl) (gathered_all [] sources) e among in
+      let was = Contains-changed (mark r.down) (gathered_all [] sources) e among in
       let known = gathered_all-keeps IsKnown join_known [] sources (λ x h. absurd (Contains-none x h)) (λ t x h k. elim (Contains-append_cases r.tables _ t h) [ inl one ↦ table_known t x one k | inr other ↦ saved_known t x other k ]) was.0 was.1 in
       subst (IsGathered r) was.2 (known.0, (λ m down. Includes-right was.0.known r.down m down), λ m h. elim (Includes-union was.0.known r.down m h) [ inl told ↦ inr (known.1 m told) | inr down ↦ inl down ])
 

@@ -1,9 +1,9 @@
 -- A delivery keeps a group sound.
-use Rattle.std.proofs.Common.{◌≡◌, ◌≢◌, ℕ, suc, ◌+◌, ◌<◌, ◌≤◌, ◌==◌, ◌&&◌, Bool, true, false, cond, List, [], ◌∷◌, ◌++◌, length, map, drop, inl, inr, Some, None, slice_get, get_or, refl, sym, ap, ◌∙◌, arith, append-nil, length-append}
+use Rattle.std.proofs.Common.{◌≡◌, ◌≢◌, ℕ, suc, ◌+◌, ◌<◌, ◌≤◌, ◌==◌, ◌&&◌, Bool, true, false, cond, List, [], ◌∷◌, ◌++◌, length, map, inl, inr, Some, None, slice_get, get_or, refl, sym, ap, ◌∙◌, arith, append-nil, length-append}
 use Rattle.std.specs.List.{Contains, filter, filter_map, cons_option, fold}
 use Rattle.std.specs.Ordering.{nat_cmp}
 use Rattle.std.specs.FinSet as sets
-use Rattle.std.proofs.lemmas.Bool.{cases_eq}
+use Rattle.std.proofs.lemmas.Bool.{cases_eq, and_right}
 use Rattle.std.proofs.lemmas.Bool.Decides.{nat_tests}
 use Rattle.std.proofs.lemmas.List.{map-append, length-set, get_or-set_same, get_or-set_other}
 use Rattle.std.proofs.lemmas.List.Elements.{filter-append, filter_map-append, Contains-append_cases}
@@ -17,7 +17,7 @@ use Rattle.fbl_base.specs.Events.{mark_of, determinant_of}
 use Rattle.fbl_base.specs.Rules.{taken_on, sends_of, MayFollow}
 use Rattle.fbl_base.specs.Fold.{Next, Progress, Lawful, after_notes, advanced, note_of, step_events}
 use Rattle.fbl_base.proofs.FoldLaws.{after_notes-push, after_notes-state}
-use Rattle.fbl_base.proofs.LawfulLaws.{Lawful-deliver, Lawful-begun, receipts-noted}
+use Rattle.fbl_base.proofs.LawfulLaws.{Lawful-deliver, Lawful-begun, note_of-front, receipts-noted}
 use Rattle.fbl_table.specs.declared.entry.Entry.{Entry}
 use Rattle.fbl_table.specs.Tables.{piggybacked}
 use Rattle.fbl_member.specs.Members.{Message, MemberRecord, blank, progress_of, messages_from}
@@ -27,10 +27,12 @@ use Rattle.fbl_law.specs.Groups.{GroupRecord, member, checkpoint, channel, marks
 use Rattle.fbl_law.specs.Sound.{IsFold, IsReplayed, IsSound, received_notes, receipts_at, last_taken}
 use Rattle.fbl_law.specs.GroupSteps.{IsDelivery, step_of, receiver, made, delivery_events}
 use Rattle.fbl_law.specs.GroupLaws.{SendsWell, GroupDeliveryKeeps}
-use Rattle.fbl_law.proofs.Lists.{Contains-there, Contains-cons_cases, Contains-none, Contains-from_filter, At-behind}
+use Rattle.fbl_law.proofs.Lists.{Contains-cons_cases, Contains-none, Contains-from_filter, At-behind}
 use Rattle.fbl_law.proofs.Safe.{never_both}
+use Rattle.fbl_law.proofs.Deliver.{taken_off-was}
 use Rattle.fbl_law.proofs.Run.{delivery_keeps}
-use Rattle.fbl_law.proofs.Grown.{note_of-grown, note_of-at, received_notes-delivered}
+use Rattle.fbl_law.proofs.Grown.{received_notes-delivered}
+use Rattle.fbl_law.proofs.Notes.{sent-noted}
 use Rattle.fbl_law.proofs.InOrder.{last_taken-push, last_taken-same}
 use Rattle.fbl_law.proofs.Replayed.{replayed-grown}
 use Rattle.fbl_law.proofs.GroupFacts.{table_member, log_counted, front_flight, front_may_follow}
@@ -51,14 +53,6 @@ made_event p before carried (s ∷ sends) x among = elim (Contains-cons_cases _ 
   | inl first ↦ (sym (ap (λ (y : Message). y.from) first), sym (ap (λ (y : Message). y.carried) first), (0, ap (λ (y : Message). Some (event.Send y.from y.ssn y.to y.note)) first))
   | inr later ↦ let r = made_event p (before + 1) carried sends x later in (r.0, r.1, (suc r.2.0, r.2.1))
 ]
-
--- what is left of a channel was in it
-taken_off-was : (v : Message) (q p : ℕ) (xs : List Message) (x : Message) → Contains (taken_off v q p xs) x → Contains xs x
-taken_off-was v q p xs x h = at (v.from == q && v.to == p) xs h where
-  at : (b : Bool) (ys : List Message) → Contains (cond b (drop 1 ys) ys) x → Contains ys x
-  at false ys g = g
-  at true [] g = g
-  at true (y ∷ ys) g = Contains-there y ys x g
 
 -- a step's sends are no receipts
 no_receipts : (p before : ℕ) (sends : List (ℕ × Note)) → filter_map determinant_of (map mark_of (step_events p before sends)) ≡ []
@@ -174,10 +168,6 @@ module _ (next : Next) (old new : GroupRecord) (v : Message) (well : SendsWell n
       let b : (v.to == v.to) ≡ true = grind (arith, nat_tests) in
       ap (λ t. last_taken t v.from v.to) marks_split ∙ last_taken-push (marks old) added_marks v.from v.to v.ssn (taken_now v.from v.to ∙ ap (λ c. cond (c && v.to == v.to) (v.ssn ∷ []) []) a ∙ ap (λ c. cond c (v.ssn ∷ []) []) b)
 
-  never : (a b : Bool) → b ≡ false → (a && b) ≡ false
-  never true b h = h
-  never false b h = refl
-
   other_fold : (m : ℕ) → m < n → m ≢ v.to → IsFold next old m → IsFold next new m
   other_fold m below other f =
       let apart : (v.to == m) ≡ false = (let ne : v.to ≢ m = (λ e. other (sym e)) in grind (arith, nat_tests)) in
@@ -185,7 +175,7 @@ module _ (next : Next) (old new : GroupRecord) (v : Message) (well : SendsWell n
       record {
         progress = rw (other_now m other, s.config, notes) f.progress;
         places = rw (other_now m other) f.places;
-        last = λ q below_q. rw (other_now m other) (f.last q below_q ∙ sym (last_same q m (never (v.from == q) (v.to == m) apart)));
+        last = λ q below_q. rw (other_now m other) (f.last q below_q ∙ sym (last_same q m (and_right (v.from == q) (v.to == m) apart)));
       }
 
   own_fold : IsFold next new v.to
@@ -214,12 +204,12 @@ module _ (next : Next) (old new : GroupRecord) (v : Message) (well : SendsWell n
       elim (Contains-append_cases (taken_off v x.from x.to (channel old x.from x.to)) (between x.from x.to (made next old v)) x (rw (s.channels x.from x.to) at now)) [
         | inl left ↦
             let of_old = taken_off-was v x.from x.to (channel old x.from x.to) x left in
-            rw s.trace (note_of-grown old.trace added x.from x.ssn x.note (sound.notes x of_old))
+            rw s.trace (note_of-front old.trace added x.from x.ssn x.note (sound.notes x of_old))
         | inr fresh ↦
             let among = Contains-from_filter (is_on x.from x.to) (made next old v) x fresh in
             let sent = made_event v.to (length was.log) (piggybacked old.config.f (receiver next old v).table) sends x among in
             let place = At-behind old.trace added (suc sent.2.0) (event.Send x.from x.ssn x.to x.note) sent.2.1 in
-            note_of-at n new.trace place.0 x.from x.ssn x.to x.note is_lawful.well_formed (rw s.trace place.2)
+            sent-noted n new.trace is_lawful.well_formed place.0 x.from x.ssn x.to x.note (rw s.trace place.2)
       ]
 
   receipts_now : length (receipts (marks new)) ≡ length (receipts (marks old)) + 1

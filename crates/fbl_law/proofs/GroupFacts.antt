@@ -1,11 +1,13 @@
 -- What holds in a sound group.
-use Rattle.std.proofs.Common.{◌≡◌, ◌≢◌, ℕ, zero, suc, ◌+◌, ◌<◌, ◌≤◌, ◌||◌, Bool, true, false, List, [], ◌∷◌, length, map, drop, inl, inr, Some, slice_get, get_or, refl, sym, ap, ◌∙◌, arith, subst}
+use Rattle.std.proofs.Common.{option_map, ◌≡◌, ◌≢◌, ℕ, ◌+◌, ◌<◌, ◌≤◌, true, false, List, length, map, inl, inr, Some, slice_get, sym, ap, ◌∙◌, arith}
 use Rattle.std.specs.List.{Contains}
 use Rattle.std.specs.FinSet as sets
 use Rattle.std.specs.Ordering.{nat_cmp}
+use Rattle.std.proofs.lemmas.Bool.{false_from_ne_true}
+use Rattle.std.proofs.Math.ListN.{get_or-map}
 use Rattle.std.proofs.lemmas.List.{length-map}
+use Rattle.std.proofs.lemmas.List.Folds.{Any-from_list_any, list_any-from_Any}
 use Rattle.std.proofs.lemmas.List.Sums.{count_by-le-length}
-use Rattle.std.proofs.lemmas.Option.{get_or_from_slice_get}
 use Rattle.fbl_base.specs.declared.trace.Determinant.{Determinant}
 use Rattle.fbl_base.specs.declared.trace.Mark.{Mark}
 use Rattle.fbl_base.specs.declared.trace.Mark.TheVariants.{Send, Receipt}
@@ -13,7 +15,6 @@ use Rattle.fbl_base.specs.Events.{mark_of, receipt_of, same_determinant}
 use Rattle.fbl_base.specs.Precedence.{Has}
 use Rattle.fbl_base.specs.Rules.{is_send_of, is_receipt_of, sends_of, receipts_of, in_flight, MayFollow, WellFormed}
 use Rattle.fbl_base.specs.Fold.{Next, Progress, note_of}
-use Rattle.fbl_base.proofs.Gets.{At-below}
 use Rattle.fbl_base.proofs.RulesLaws.{count_at, eqb-self}
 use Rattle.fbl_base.proofs.Recorded.{Decides-same_determinant}
 use Rattle.fbl_table.specs.declared.entry.Entry.{Entry}
@@ -22,76 +23,53 @@ use Rattle.fbl_member.specs.Members.{Message, MemberRecord, blank, next_determin
 use Rattle.fbl_law.specs.Knowledge.{table, send_mark, IsInFlight, IsUp, Names, MatchesTrace}
 use Rattle.fbl_law.specs.Groups.{GroupRecord, member, channel, marks, knowledge}
 use Rattle.fbl_law.specs.Sound.{IsSound}
-use Rattle.fbl_law.proofs.Lists.{Contains-here, Contains-there, Contains-cons_cases, Contains-none}
-use Rattle.fbl_law.proofs.Safe.{down_or_up}
+use Rattle.fbl_law.proofs.Lists.{Contains-at}
+use Rattle.fbl_law.proofs.Safe.{Has-named, up_at_ends, up_if_named}
 use Rattle.fbl_law.proofs.Tables.{Names-from_learned}
-use Rattle.fbl_law.proofs.Channels.{matched-Has}
+use Rattle.fbl_law.proofs.Channels.{Has-made, matched-Has}
 use Rattle.fbl_law.proofs.InOrder.{in_flight-beyond}
-use Rattle.fbl_law.proofs.Counts.{after_notes-received, after_notes-log}
+use Rattle.fbl_law.proofs.Logs.{log-length}
+use Rattle.fbl_law.proofs.Receipts.{length-receipts_at}
+use Rattle.fbl_law.proofs.Replayed.{fold-received}
+use Rattle.std.proofs.lemmas.Option.{slice_get-map}
+use Rattle.fbl_base.proofs.Gets.{map-At}
 
 -- the table of a member is that of its record
-table_of : (members : List MemberRecord) (m : ℕ) → get_or (map (λ (x : MemberRecord). x.table) members) m [] ≡ (get_or members m blank).table
-table_of [] m = refl
-table_of (x ∷ members) zero = refl
-table_of (x ∷ members) (suc m) = table_of members m
-
 pub table_member : (r : GroupRecord) (m : ℕ) → table (knowledge r) m ≡ (member r m).table
-table_member r m = table_of r.members m
-
--- a list with an element at a place contains it
-pub Contains-at : {X : Type 0} (xs : List X) (i : ℕ) (x : X) → slice_get xs i ≡ Some x → Contains xs x
-Contains-at xs i x at = (i, At-below xs i x at, get_or_from_slice_get xs i x x at)
+table_member r m = get_or-map (λ (x : MemberRecord). x.table) r.members m blank
 
 -- what matches the numbers of sends from q to p goes from q to p
 matched_ends : (numbers : List ℕ) (q p : ℕ) (xs : List Message) (v : Message) → map send_mark xs ≡ map (λ ssn. Send q ssn p) numbers → Contains xs v → (v.from ≡ q) × (v.to ≡ p)
-matched_ends numbers q p [] v same among = absurd (Contains-none v among)
-matched_ends [] q p (x ∷ xs) v same among = absurd cc
-matched_ends (k ∷ numbers) q p (x ∷ xs) v same among =
-    let here : send_mark x ≡ Send q k p = ap (λ l. get_or l 0 (send_mark x)) same in
-    let from : x.from ≡ q = cc in
-    let to : x.to ≡ p = cc in
-    elim (Contains-cons_cases x xs v among) [
-      | inl first ↦ (sym (ap (λ (y : Message). y.from) first) ∙ from, sym (ap (λ (y : Message). y.to) first) ∙ to)
-      | inr later ↦ matched_ends numbers q p xs v (ap (λ l. drop 1 l) same) later
-    ]
+matched_ends numbers q p xs v same among =
+    let there = Has-made xs v among in
+    let number = map-At (λ ssn. Send q ssn p) numbers there.0 (send_mark v) (ap (λ l. slice_get l there.0) (sym same) ∙ there.1) in
+    let is : Send q number.0 p ≡ send_mark v = number.2 in
+    (cc, cc)
 
 same_channel : (r : GroupRecord) (v : Message) (a b q p : ℕ) → a ≡ q → b ≡ p → Contains (channel r q p) v → Contains (channel r a b) v
 same_channel r v a b q p from to among = rw (from, to) among
 
 -- a table that has a determinant names it
 pub Names-held : (entries : List Entry) (d : Determinant) → is_held entries d ≡ true → Names entries d
-Names-held [] d h = cc
-Names-held (e ∷ entries) d h = at (same_determinant d e.det) refl h (Names-held entries d) where
-  at : (b : Bool) → same_determinant d e.det ≡ b → (b || is_held entries d) ≡ true → (is_held entries d ≡ true → Names entries d) → Names (e ∷ entries) d
-  at true is g ih = (e, Contains-here e entries, sym ((Decides-same_determinant d e.det).0 is))
-  at false is g ih = let r = ih g in (r.0, Contains-there e entries r.0 r.1, r.2)
+Names-held entries d h =
+    let some = Any-from_list_any (λ (e : Entry). same_determinant d e.det) entries h in
+    (some.1, (some.0, some.2, some.3), sym ((Decides-same_determinant d some.1.det).0 some.4))
 
 pub held-Names : (entries : List Entry) (d : Determinant) → Names entries d → is_held entries d ≡ true
-held-Names [] d named = absurd (Contains-none named.0 named.1)
-held-Names (e ∷ entries) d named = elim (Contains-cons_cases e entries named.0 named.1) [
-  | inl first ↦ (let same : same_determinant d e.det ≡ true = (Decides-same_determinant d e.det).1 (sym (ap (λ (x : Entry). x.det) first ∙ named.2)) in rw same)
-  | inr later ↦ (let rest : is_held entries d ≡ true = held-Names entries d (named.0, later, named.2) in rw rest (or_true (same_determinant d e.det)))
-]
-  where
-    or_true : (b : Bool) → (b || true) ≡ true
-    or_true true = refl
-    or_true false = refl
+held-Names entries d named =
+    list_any-from_Any (λ (e : Entry). same_determinant d e.det) entries
+    (named.1.0, named.0, named.1.1, named.1.2, (Decides-same_determinant d named.0.det).1 (sym named.2))
 
 pub not-held : (entries : List Entry) (d : Determinant) → ¬ (Names entries d) → is_held entries d ≡ false
-not-held entries d none = at (is_held entries d) refl where
-  at : (b : Bool) → is_held entries d ≡ b → b ≡ false
-  at true is = absurd (none (Names-held entries d is))
-  at false is = refl
+not-held entries d none = false_from_ne_true (is_held entries d) (λ is. none (Names-held entries d is))
 
 -- the numbers that the trace has in flight, where the channel matches it
 pub front_number : (numbers : List ℕ) (q p : ℕ) (xs : List Message) (v : Message) → map send_mark xs ≡ map (λ ssn. Send q ssn p) numbers → slice_get xs 0 ≡ Some v → slice_get numbers 0 ≡ Some v.ssn
-front_number numbers q p [] v same first = cc
-front_number [] q p (x ∷ xs) v same first = cc
-front_number (k ∷ numbers) q p (x ∷ xs) v same first =
-    let is : x ≡ v = cc in
-    let here : send_mark x ≡ Send q k p = ap (λ l. get_or l 0 (send_mark x)) same in
-    let number : x.ssn ≡ k = cc in
-    cc
+front_number numbers q p xs v same first =
+    let there = map-At (λ ssn. Send q ssn p) numbers 0 (send_mark v) (ap (λ l. slice_get l 0) (sym same) ∙ slice_get-map send_mark xs 0 ∙ ap (option_map send_mark) first) in
+    let is : Send q there.0 p ≡ send_mark v = there.2 in
+    let number : there.0 ≡ v.ssn = cc in
+    there.1 ∙ ap Some number
 
 -- an event of a member's next number is new
 pub next_is_new : (n : ℕ) (t : List Mark) (to rsn from ssn : ℕ) → WellFormed n t → receipts_of t to < rsn → ¬ (Has t (Receipt to rsn from ssn))
@@ -103,12 +81,11 @@ next_is_new n t to rsn from ssn obeys beyond has =
 module _ (next : Next) (r : GroupRecord) (sound : IsSound next r) where
   -- an up member has as many receipts and sends as the trace says
   pub received_counted : (m : ℕ) → m < r.config.members → IsUp (knowledge r) m → (member r m).received ≡ receipts_of (marks r) m
-  received_counted m below up =
-      ap (λ (p : Progress). p.received) (sound.folds m below up).progress ∙ after_notes-received next r.config.members r.config.starts r.trace m sound.lawful
+  received_counted m below up = fold-received next r m sound.lawful.well_formed (sound.folds m below up) ∙ length-receipts_at (marks r) m
 
   pub log_counted : (m : ℕ) → m < r.config.members → IsUp (knowledge r) m → length (member r m).log ≡ sends_of (marks r) m
   log_counted m below up =
-      ap (λ (p : Progress). length p.log) (sound.folds m below up).progress ∙ after_notes-log next r.config.members r.config.starts r.trace m sound.lawful
+      ap (λ (p : Progress). length p.log) (sound.folds m below up).progress ∙ log-length next r.config.members r.config.starts r.trace m sound.lawful
 
   pub trace_fits : length (marks r) ≤ 8192
   trace_fits = omega (arith, length-map r.trace mark_of, sound.room, sound.config.limit.1)
@@ -125,26 +102,19 @@ module _ (next : Next) (r : GroupRecord) (sound : IsSound next r) where
 
   -- a message in a channel goes from the one to the other, both of which are up
   pub channel_ends : (q p : ℕ) (v : Message) → Contains (channel r q p) v → ((v.from ≡ q) × (v.to ≡ p)) × (IsUp (knowledge r) q × IsUp (knowledge r) p)
-  channel_ends q p v among = elim (down_or_up r.down q) [
-    | inl down ↦ absurd (Contains-none v (rw (sound.causes.down.channels q p (inl down)) at among))
-    | inr up ↦ elim (down_or_up r.down p) [
-      | inl down ↦ absurd (Contains-none v (rw (sound.causes.down.channels q p (inr down)) at among))
-      | inr up_to ↦ (matched_ends (in_flight (marks r) q p) q p (channel r q p) v (sound.causes.channels q p up up_to) among, (up, up_to))
-    ]
-  ]
+  channel_ends q p v among =
+      let ends = up_at_ends (knowledge r) sound.causes.down.channels q p v among in
+      (matched_ends (in_flight (marks r) q p) q p (channel r q p) v (sound.causes.channels q p ends.0 ends.1) among, ends)
 
   -- tables and messages in flight name only receipts of the trace
   pub named_received : (m : ℕ) (d : Determinant) → Names (member r m).table d → Has (marks r) (receipt_of d)
   named_received m d named =
       let here : Names (table (knowledge r) m) d = rw (table_member r m) named in
-      elim (down_or_up r.down m) [
-        | inl down ↦ absurd (Contains-none here.0 (rw (sound.causes.down.tables m down) at here.1))
-        | inr up ↦ subst (λ (x : Determinant). Has (marks r) (receipt_of x)) here.2 (sound.causes.truth.tables m here.0 up here.1).0.0
-      ]
+      let up = up_if_named r.config.f (knowledge r) sound.causes.down m d here in
+      Has-named (knowledge r) (table (knowledge r) m) (λ e h. (sound.causes.truth.tables m e up h).0) d here
 
   pub carried_received : (v : Message) (d : Determinant) → IsInFlight (knowledge r) v → Names v.carried d → Has (marks r) (receipt_of d)
-  carried_received v d flies named =
-      subst (λ (x : Determinant). Has (marks r) (receipt_of x)) named.2 (sound.causes.truth.messages v named.0 flies named.1).0.0
+  carried_received v d flies named = Has-named (knowledge r) v.carried (λ e h. (sound.causes.truth.messages v e flies h).0) d named
 
   -- so no table has a determinant that is new, also after it has learned what a message in flight carries
   pub new_not_held : (m : ℕ) (d : Determinant) → ¬ (Has (marks r) (receipt_of d)) → is_held (member r m).table d ≡ false

@@ -1,40 +1,29 @@
 -- A recovery keeps a group sound.
-use Rattle.std.proofs.Common.{◌≡◌, ℕ, ◌<◌, ◌≤◌, inl, inr, Bool, true, false, cond, List, [], ◌∷◌, length, map, Some, refl, sym, ap, ◌∙◌, arith}
+use Rattle.std.proofs.Common.{◌≡◌, ℕ, ◌<◌, ◌≤◌, inl, inr, true, List, length, map, Some, refl, sym, ap, ◌∙◌, arith}
 use Rattle.std.specs.List.{Contains, filter}
 use Rattle.std.specs.Ordering.{nat_cmp}
 use Rattle.std.specs.FinSet as set
-use Rattle.std.proofs.Math.ListN.{get_or-map}
 use Rattle.fbl_base.specs.declared.trace.Event.{Event}
 use Rattle.fbl_base.specs.declared.trace.Mark.{Mark}
 use Rattle.fbl_base.specs.Events.{mark_of, member_of, receipt_of}
 use Rattle.fbl_base.specs.Precedence.{Has, itself, step}
 use Rattle.fbl_base.specs.Fold.{Next, Lawful, note_of}
 use Rattle.fbl_table.specs.Tables.{piggybacked}
-use Rattle.fbl_member.specs.Members.{Message, MemberRecord, blank}
-use Rattle.fbl_law.specs.Knowledge.{table, IsInFlight, IsUp, IsDown}
+use Rattle.fbl_member.specs.Members.{Message, MemberRecord}
+use Rattle.fbl_law.specs.Knowledge.{IsInFlight, IsUp, IsDown}
 use Rattle.fbl_law.specs.Steps.{Stays, IsCut, IsEventCut, IsRecovered}
 use Rattle.fbl_law.specs.Groups.{GroupRecord, member, checkpoint, channel, marks, knowledge}
 use Rattle.fbl_law.specs.Sound.{IsFold, IsReplayed, IsSound}
 use Rattle.fbl_law.specs.GroupSteps.{IsRecovery}
 use Rattle.fbl_law.specs.GroupLaws.{GroupRecoveryKeeps}
 use Rattle.fbl_law.proofs.Safe.{down_or_up, never_both, IsRecorded-reached}
+pub use Rattle.fbl_law.proofs.Lists.{length-left}
 use Rattle.fbl_law.proofs.Cut.{KeepsCauses}
 use Rattle.fbl_law.proofs.CutLaw.{cut_is_lawful, stays_is_recorded}
+use Rattle.fbl_law.proofs.GroupFacts.{table_member}
 use Rattle.fbl_law.proofs.Run.{recovery_keeps, cut_is_recorded}
 use Rattle.fbl_law.proofs.Replayed.{replayed-cut}
 use Rattle.fbl_law.proofs.CutFolds.{actions-stay, last_taken-stays, note-stays, note-was}
-
--- the tables of a group's record are those of its members
-pub table-member : (r : GroupRecord) (m : ℕ) → table (knowledge r) m ≡ (member r m).table
-table-member r m = get_or-map (λ (x : MemberRecord). x.table) r.members m blank
-
--- what is left is no longer
-pub length-left : {X : Type 0} (p : X → Bool) (xs : List X) → length (filter p xs) ≤ length xs
-length-left p [] = omega arith
-length-left {X} p (x ∷ xs) = at (p x) (length-left p xs) where
-  at : (b : Bool) → length (filter p xs) ≤ length xs → length (cond b (x ∷ filter p xs) (filter p xs)) ≤ length (x ∷ xs)
-  at true h = omega (arith, h)
-  at false h = omega (arith, h)
 
 -- a cut of a sound group's trace keeps what leads to an event that stays, and the events of up members
 module _ (next : Next) (old : GroupRecord) (sound : IsSound next old) (new : List Event) (cut : IsEventCut (Stays (knowledge old)) old.trace new) where
@@ -71,12 +60,12 @@ module _ (next : Next) (old new : GroupRecord) (step : IsRecovery next old new) 
   recovery-knowledge = record {
     nobody_down = step.nobody_down;
     trace = (cut-lawful next old sound new.trace step.trace).1;
-    tables = λ m up. table-member new m ∙ ap (λ (x : MemberRecord). x.table) (step.survivors m up) ∙ sym (table-member old m);
-    gathered = λ m down. table-member new m ∙ step.gathered m (down-member m down) down;
+    tables = λ m up. table_member new m ∙ ap (λ (x : MemberRecord). x.table) (step.survivors m up) ∙ sym (table_member old m);
+    gathered = λ m down. table_member new m ∙ step.gathered m (down-member m down) down;
     channels = step.channels;
     rebuilt = λ q p down. (step.made_again q p down).sends;
     checkpoints = step.checkpoints;
-    messages = λ v flies down. (step.made_again v.from v.to down).carried v flies ∙ ap (λ c. piggybacked c (member new v.from).table) (let e = step.config in rw e refl) ∙ ap (λ t. piggybacked old.config.f t) (sym (table-member new v.from));
+    messages = λ v flies down. (step.made_again v.from v.to down).carried v flies ∙ ap (λ c. piggybacked c (member new v.from).table) (let e = step.config in rw e refl) ∙ ap (λ t. piggybacked old.config.f t) (sym (table_member new v.from));
   }
 
   fold-stays : (m : ℕ) → IsUp (knowledge old) m → IsFold next old m → IsFold next new m

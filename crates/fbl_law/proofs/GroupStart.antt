@@ -1,11 +1,10 @@
 -- A group in which nothing is received yet is sound.
-use Rattle.std.proofs.Common.{◌≡◌, ℕ, zero, suc, ◌+◌, ◌<◌, ◌≤◌, ◌==◌, ◌&&◌, not, Bool, true, false, cond, List, [], ◌∷◌, ◌++◌, length, map, inl, inr, Option, Some, None, slice_get, get_or, replicate, refl, sym, ap, ◌∙◌, arith, append_assoc, append-nil, length-append, if◌then◌else◌}
+use Rattle.std.proofs.Common.{◌≡◌, ℕ, zero, suc, ◌+◌, ◌<◌, ◌≤◌, ◌==◌, not, Bool, true, false, cond, List, [], ◌∷◌, ◌++◌, length, map, inl, inr, Option, Some, None, slice_get, refl, sym, ap, ◌∙◌, arith, append_assoc, append-nil, length-append, if◌then◌else◌}
 use Rattle.std.specs.List.{Contains, filter, filter_map, cons_option, list_any}
 use Rattle.std.specs.Ordering.{nat_cmp}
 use Rattle.std.specs.FinSet as sets
 use Rattle.std.proofs.lemmas.Bool.{cases_lt}
-use Rattle.std.proofs.lemmas.Bool.Decides.{nat_tests}
-use Rattle.std.proofs.lemmas.List.{length-map, map-append, take_all}
+use Rattle.std.proofs.lemmas.List.{length-map, map-append, take_all, get_or_past, get_or-replicate}
 use Rattle.std.proofs.lemmas.List.Elements.{filter_map-append}
 use Rattle.fbl_base.specs.declared.trace.Note.{Note}
 use Rattle.fbl_base.specs.declared.trace.Start.{Start}
@@ -32,10 +31,11 @@ use Rattle.fbl_law.specs.GroupLaws.{GroupStartIsSound}
 use Rattle.fbl_law.proofs.Lists.{Contains-cons_cases, Contains-from_filter, Contains-none}
 use Rattle.fbl_law.proofs.Safe.{never_both}
 use Rattle.fbl_law.proofs.Run.{run_is_sound}
-use Rattle.fbl_law.proofs.Grown.{note_of-at}
+use Rattle.fbl_law.proofs.Notes.{sent-noted}
 use Rattle.fbl_law.proofs.GroupFacts.{table_member}
-use Rattle.fbl_law.proofs.Counts.{length-numbered, after_notes-log}
+use Rattle.fbl_law.proofs.Logs.{length-numbered, log-length}
 use Rattle.fbl_law.proofs.Replayed.{replayed-fresh}
+use Rattle.fbl_law.proofs.Channels.{messages_between}
 
 -- the send of a start after the events so far
 abbrev send_of : List Event → Start → Event
@@ -99,21 +99,11 @@ none_taken q p (Receipt to rsn from ssn ∷ t) e = cc
 
 -- the messages of the sends on a channel, by their marks
 marks_between : (q p : ℕ) (t : List Event) → map send_mark (filter (is_on q p) (filter_map message_of t)) ≡ map (λ ssn. Send q ssn p) (filter_map (sent_on q p) (map mark_of t))
-marks_between q p [] = refl
-marks_between q p (event.Receipt to rsn from ssn ∷ t) = marks_between q p t
-marks_between q p (event.Send from ssn to note ∷ t) = at (from == q) (to == p) refl refl (marks_between q p t) where
-  message : Message
-  message = record { from = from; to = to; ssn = ssn; note = note; carried = [] }
-
-  at : (a b : Bool) → (from == q) ≡ a → (to == p) ≡ b → map send_mark (filter (is_on q p) (filter_map message_of t)) ≡ map (λ ssn. Send q ssn p) (filter_map (sent_on q p) (map mark_of t))
-      → map send_mark (cond (a && b) (message ∷ filter (is_on q p) (filter_map message_of t)) (filter (is_on q p) (filter_map message_of t))) ≡ map (λ ssn. Send q ssn p) (cons_option (cond (a && b) (Some ssn) None) (filter_map (sent_on q p) (map mark_of t)))
-  at true true ea eb ih =
-      let e1 : from ≡ q = grind (arith, nat_tests) in
-      let e2 : to ≡ p = grind (arith, nat_tests) in
-      let here : Send from ssn to ≡ Send q ssn p = cc in
-      cc
-  at true false ea eb ih = ih
-  at false b ea eb ih = ih
+marks_between q p t = messages_between (filter_map message_of t) q p ∙ ap (map (λ ssn. Send q ssn p)) (sent t) where
+  sent : (u : List Event) → filter_map (sent_on q p) (map send_mark (filter_map message_of u)) ≡ filter_map (sent_on q p) (map mark_of u)
+  sent [] = refl
+  sent (event.Receipt to rsn from ssn ∷ u) = sent u
+  sent (event.Send from ssn to note ∷ u) = ap (λ ys. cons_option (sent_on q p (Send from ssn to)) ys) (sent u)
 
 -- each message of the sends is sent, and carries nothing
 message_sent : (t : List Event) (v : Message) → Contains (filter_map message_of t) v → (v.carried ≡ []) × ((i : ℕ) × (slice_get t i ≡ Some (event.Send v.from v.ssn v.to v.note)))
@@ -130,16 +120,6 @@ sends_of_one m (s ∷ ss) = at (s.from == m) (sends_of_one m ss) where
   at : (b : Bool) → filter_map (λ s. if s.from == m then Some (sent (s.to, s.note)) else None) ss ≡ map sent (starts_of m ss) → cons_option (cond b (Some (sent (s.to, s.note))) None) (filter_map (λ s. if s.from == m then Some (sent (s.to, s.note)) else None) ss) ≡ map sent (cons_option (cond b (Some (s.to, s.note)) None) (starts_of m ss))
   at true ih = ap (λ ys. sent (s.to, s.note) ∷ ys) ih
   at false ih = ih
-
-no_member : (ms : List MemberRecord) (m : ℕ) → length ms ≤ m → get_or ms m blank ≡ blank
-no_member [] m beyond = refl
-no_member (x ∷ ms) zero beyond = absurd (omega arith)
-no_member (x ∷ ms) (suc m) beyond = no_member ms m (omega arith)
-
-zeros : (k q : ℕ) → ◌≡◌ {A = ℕ} (get_or {A = ℕ} (replicate k 0) q 0) 0
-zeros zero q = refl
-zeros (suc k) zero = refl
-zeros (suc k) (suc q) = zeros k q
 
 module _ (next : Next) (config : Settings) (r : GroupRecord) (is : IsConfig config) (s : IsGroupStart config r) where
   abbrev n : ℕ
@@ -178,13 +158,13 @@ module _ (next : Next) (config : Settings) (r : GroupRecord) (is : IsConfig conf
   no_table : (m : ℕ) → table (knowledge r) m ≡ []
   no_table m = table_member r m ∙ elim (cases_lt m n) [
     | inl below ↦ ap (λ (x : MemberRecord). x.table) (s.members m below)
-    | inr above ↦ ap (λ (x : MemberRecord). x.table) (no_member r.members m (omega (arith, above, s.size)))
+    | inr above ↦ ap (λ (x : MemberRecord). x.table) (get_or_past r.members m blank (omega (arith, above, s.size)))
   ]
 
   -- the starts of a member are its sends in the trace
   starts_sent : (m : ℕ) → length (starts_of m config.starts) ≡ sends_of (map mark_of events) m
   starts_sent m =
-      sym (length-numbered 0 (starts_of m config.starts)) ∙ ap (λ (notes : List Note). length (after_notes next m n config.starts notes).log) (sym (no_notes m)) ∙ after_notes-log next n config.starts events m is_lawful
+      sym (length-numbered 0 (starts_of m config.starts)) ∙ ap (λ (notes : List Note). length (after_notes next m n config.starts notes).log) (sym (no_notes m)) ∙ log-length next n config.starts events m is_lawful
 
   no_checkpoint : (m : ℕ) → ((checkpoint r m).table ≡ []) × ((checkpoint r m).received ≡ 0) × (length (checkpoint r m).log ≤ sends_of (map mark_of r.trace) m)
   no_checkpoint m = elim (cases_lt m n) [
@@ -194,7 +174,7 @@ module _ (next : Next) (config : Settings) (r : GroupRecord) (is : IsConfig conf
       (let log = ap (λ (x : MemberRecord). length x.log) (s.saved m below) in rw s.trace (omega (arith, log, length-numbered 0 (starts_of m config.starts), starts_sent m))),
     )
     | inr above ↦ (
-        let none = no_member r.checkpoints m (omega (arith, above, s.checkpoints)) in
+        let none = get_or_past r.checkpoints m blank (omega (arith, above, s.checkpoints)) in
         (ap (λ (x : MemberRecord). x.table) none, ap (λ (x : MemberRecord). x.received) none, (let log = ap (λ (x : MemberRecord). length x.log) none in omega (arith, log)))
         )
   ]
@@ -227,7 +207,7 @@ module _ (next : Next) (config : Settings) (r : GroupRecord) (is : IsConfig conf
   fold_now m below = record {
     progress = rw (s.members m below, s.parameters, s.trace, no_notes m) refl;
     places = rw (s.members m below) refl;
-    last = λ q below_q. rw (s.members m below, s.trace, none_taken q m (map mark_of events) unreceived) (zeros 16 q);
+    last = λ q below_q. rw (s.members m below, s.trace, none_taken q m (map mark_of events) unreceived) (get_or-replicate {A = ℕ} 16 q 0 0 below_q);
   }
 
   IsSound-started : IsSound next r
@@ -245,7 +225,7 @@ module _ (next : Next) (config : Settings) (r : GroupRecord) (is : IsConfig conf
     shape = rw s.parameters s.shape;
     notes = λ v flying.
         let sent_at = (message_sent r.trace v (among_starts v flying)).1 in
-        note_of-at n r.trace sent_at.0 v.from v.ssn v.to v.note (rw s.trace obeys) sent_at.1;
+        sent-noted n r.trace (rw s.trace obeys) sent_at.0 v.from v.ssn v.to v.note sent_at.1;
     counted = rw (s.undone_ever, s.receipts_ever, s.trace, unreceived) refl;
   }
 

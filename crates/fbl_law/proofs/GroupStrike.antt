@@ -1,10 +1,12 @@
 -- A strike keeps a group sound, and what the tables of a sound group say of recorded receipts.
-use Rattle.std.proofs.Common.{◌≡◌, ℕ, zero, suc, ◌<◌, ◌≤◌, ◌||◌, ◌⊎◌, Bool, true, false, List, [], ◌∷◌, length, inl, inr, Some, get_or, refl, sym, ap, ◌∙◌, arith}
+use Rattle.std.proofs.Common.{◌≡◌, ℕ, ◌<◌, ◌≤◌, Bool, true, List, length, inl, inr, Some, get_or, refl, sym, ap, ◌∙◌}
 use Rattle.std.specs.List.{Contains, list_any}
 use Rattle.std.specs.FinSet as sets
+use Rattle.std.proofs.lemmas.Bool.{or_cases, or_left, or_right}
+use Rattle.std.proofs.lemmas.List.{get_or_default}
+use Rattle.std.proofs.lemmas.List.Folds.{Any-from_list_any, list_any_at}
 use Rattle.fbl_base.specs.MemberSets.{AllBelow}
 use Rattle.fbl_base.specs.Fold.{Next, note_of}
-use Rattle.fbl_base.proofs.Recorded.{at_any}
 use Rattle.fbl_table.specs.Tables.{is_held}
 use Rattle.fbl_member.specs.Members.{Message, MemberRecord, blank}
 use Rattle.fbl_law.specs.Knowledge.{Members, table, IsInFlight, IsUp, Names, IsRecorded}
@@ -13,8 +15,7 @@ use Rattle.fbl_law.specs.Groups.{GroupRecord, member, checkpoint, channel, knowl
 use Rattle.fbl_law.specs.Sound.{IsFold, IsSound}
 use Rattle.fbl_law.specs.GroupSteps.{IsStrike}
 use Rattle.fbl_law.specs.GroupLaws.{GroupStrikeKeeps, RecordedTest}
-use Rattle.fbl_law.proofs.Lists.{Contains-none}
-use Rattle.fbl_law.proofs.Safe.{down_or_up, never_both, IsRecorded-held, IsRecorded-saved}
+use Rattle.fbl_law.proofs.Safe.{down_or_up, never_both, up_at_ends, up_if_named, IsRecorded-held, IsRecorded-saved}
 use Rattle.fbl_law.proofs.Tables.{Includes-union, Includes-left, named_record}
 use Rattle.fbl_law.proofs.Run.{strike_keeps}
 use Rattle.fbl_law.proofs.GroupFacts.{table_member, Names-held, held-Names}
@@ -36,14 +37,9 @@ module _ (next : Next) (old new : GroupRecord) (struck : Members) (s : IsStrike 
 
   notes_kept : (v : Message) → IsInFlight (knowledge new) v → note_of new.trace v.from v.ssn ≡ Some v.note
   notes_kept v flying =
+      let ends = up_at_ends (knowledge new) s.emptied v.from v.to v flying in
       let among : Contains (channel new v.from v.to) v = flying in
-      elim (down_or_up new.down v.from) [
-        | inl down ↦ absurd (Contains-none v (rw (s.emptied v.from v.to (inl down)) at among))
-        | inr up ↦ elim (down_or_up new.down v.to) [
-          | inl down ↦ absurd (Contains-none v (rw (s.emptied v.from v.to (inr down)) at among))
-          | inr up_to ↦ rw s.trace (sound.notes v (rw (s.channels v.from v.to up up_to) at among))
-        ]
-      ]
+      rw s.trace (sound.notes v (rw (s.channels v.from v.to ends.0 ends.1) at among))
 
   fold_kept : (m : ℕ) → IsUp (knowledge new) m → IsFold next old m → IsFold next new m
   fold_kept m up f = record {
@@ -74,42 +70,18 @@ group_strike_keeps next old new struck s within few sound = IsSound-struck next 
 
 -- a test holds of some member's record or of none
 some_record : (p : MemberRecord → Bool) (xs : List MemberRecord) → list_any p xs ≡ true → (k : ℕ) × (k < length xs) × (p (get_or xs k blank) ≡ true)
-some_record p [] h = absurd cc
-some_record p (x ∷ xs) h = at (p x) refl h (some_record p xs) where
-  at : (b : Bool) → p x ≡ b → (b || list_any p xs) ≡ true → (list_any p xs ≡ true → (k : ℕ) × (k < length xs) × (p (get_or xs k blank) ≡ true)) → (k : ℕ) × (k < length (x ∷ xs)) × (p (get_or (x ∷ xs) k blank) ≡ true)
-  at true is g rest = (0, omega arith, is)
-  at false is g rest = let r = rest g in (suc r.0, omega (arith, r.1), r.2)
-
-record_some : (p : MemberRecord → Bool) (xs : List MemberRecord) (k : ℕ) → k < length xs → p (get_or xs k blank) ≡ true → list_any p xs ≡ true
-record_some p xs k below is = at_any p xs k (get_or xs k blank) below (at_self xs k below) is where
-  at_self : (xs : List MemberRecord) (k : ℕ) → k < length xs → get_or xs k (get_or xs k blank) ≡ get_or xs k blank
-  at_self [] k lt = absurd (omega arith)
-  at_self (y ∷ xs) zero lt = refl
-  at_self (y ∷ xs) (suc k) lt = at_self xs k (omega arith)
-
-either_true : (a b : Bool) → (a || b) ≡ true → (a ≡ true) ⊎ (b ≡ true)
-either_true true b h = inl refl
-either_true false b h = inr h
-
-or_left : (a b : Bool) → a ≡ true → (a || b) ≡ true
-or_left true b h = refl
-or_left false b h = absurd cc
-
-or_right : (a b : Bool) → b ≡ true → (a || b) ≡ true
-or_right true b h = refl
-or_right false b h = h
+some_record p xs h =
+    let some = Any-from_list_any p xs h in
+    (some.0, some.2, ap p (sym (get_or_default xs some.0 some.1 blank some.2) ∙ some.3) ∙ some.4)
 
 pub recorded_test : RecordedTest
-recorded_test next r d sound = (λ h. elim (either_true _ _ h) [ inl member ↦ held member | inr saved ↦ kept saved ], back)
+recorded_test next r d sound = (λ h. elim (or_cases _ _ h) [ inl member ↦ held member | inr saved ↦ kept saved ], back)
   where
     held : list_any (λ (m : MemberRecord). is_held m.table d) r.members ≡ true → IsRecorded (knowledge r) d
     held h =
         let some = some_record (λ (m : MemberRecord). is_held m.table d) r.members h in
         let named : Names (table (knowledge r) some.0) d = rw (table_member r some.0) (Names-held (member r some.0).table d some.2) in
-        elim (down_or_up r.down some.0) [
-          | inl down ↦ absurd (Contains-none named.0 (rw (sound.causes.down.tables some.0 down) at named.1))
-          | inr up ↦ IsRecorded-held (knowledge r) d some.0 (up, named)
-        ]
+        IsRecorded-held (knowledge r) d some.0 (up_if_named r.config.f (knowledge r) sound.causes.down some.0 d named, named)
 
     kept : list_any (λ (m : MemberRecord). is_held m.table d) r.checkpoints ≡ true → IsRecorded (knowledge r) d
     kept h =
@@ -119,7 +91,7 @@ recorded_test next r d sound = (λ h. elim (either_true _ _ h) [ inl member ↦ 
     back : IsRecorded (knowledge r) d → is_recorded r d ≡ true
     back (inl held') =
         let named : Names (member r held'.0).table d = (rw (table_member r held'.0) at held'.1.1) in
-        or_left _ _ (record_some (λ (m : MemberRecord). is_held m.table d) r.members held'.0 (named_record r.members held'.0 d named) (held-Names (member r held'.0).table d named))
+        or_left _ _ (list_any_at (λ (m : MemberRecord). is_held m.table d) r.members held'.0 blank (named_record r.members held'.0 d named) (held-Names (member r held'.0).table d named))
     back (inr saved) =
         or_right (list_any (λ (m : MemberRecord). is_held m.table d) r.members) _
-        (record_some (λ (m : MemberRecord). is_held m.table d) r.checkpoints saved.0 (named_record r.checkpoints saved.0 d saved.1) (held-Names (checkpoint r saved.0).table d saved.1))
+        (list_any_at (λ (m : MemberRecord). is_held m.table d) r.checkpoints saved.0 blank (named_record r.checkpoints saved.0 d saved.1) (held-Names (checkpoint r saved.0).table d saved.1))

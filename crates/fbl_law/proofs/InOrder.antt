@@ -1,5 +1,5 @@
 -- Each channel is first in, first out: what is in flight was sent after all that was received on it.
-use Rattle.std.proofs.Common.{◌≡◌, ℕ, suc, ◌<◌, ◌≤◌, ◌==◌, ◌&&◌, Bool, true, false, cond, List, [], ◌∷◌, ◌++◌, drop, inl, inr, ◌⊎◌, Some, slice_get, refl, sym, ap, ◌∙◌, arith, append_assoc}
+use Rattle.std.proofs.Common.{◌≡◌, ℕ, suc, ◌<◌, ◌≤◌, ◌==◌, ◌&&◌, Bool, true, false, cond, List, [], ◌∷◌, ◌++◌, drop, inl, inr, ◌⊎◌, Some, slice_get, refl, sym, ap, ◌∙◌, arith}
 use Rattle.std.specs.List.{filter_map, fold}
 use Rattle.std.proofs.lemmas.Bool.Decides.{nat_tests}
 use Rattle.std.proofs.lemmas.List.{append-nil}
@@ -9,7 +9,7 @@ use Rattle.fbl_base.specs.declared.trace.Mark.{Mark}
 use Rattle.fbl_base.specs.declared.trace.Mark.TheVariants.{Send, Receipt}
 use Rattle.fbl_base.specs.Rules.{taken_on, sent_on, sends_of, in_flight, MayFollow, WellFormed}
 use Rattle.fbl_base.proofs.Gets.{At-push, Apart-filter}
-use Rattle.fbl_base.proofs.RulesLaws.{WellFormed-front, MayFollow-last}
+use Rattle.fbl_base.proofs.RulesLaws.{WellFormed-keeps}
 use Rattle.fbl_base.proofs.InFlightLaws.{taken-sent, sent-rises, in_flight-send, in_flight-receipt}
 use Rattle.fbl_law.specs.Sound.{last_taken}
 
@@ -73,12 +73,5 @@ IsBeyond-push n t (Receipt b r a s) q p obeys may beyond j x at =
     on true false ea eb at' = let taken : filter_map (taken_on q p) (Receipt b r a s ∷ []) ≡ [] = rw (ea, eb) in let last = last_taken-same t (Receipt b r a s ∷ []) q p taken in let below = beyond j x at' in omega (arith, last, below)
     on false d ea eb at' = let taken : filter_map (taken_on q p) (Receipt b r a s ∷ []) ≡ [] = rw ea in let last = last_taken-same t (Receipt b r a s ∷ []) q p taken in let below = beyond j x at' in omega (arith, last, below)
 
-grows : (n : ℕ) (done rest : List Mark) (q p : ℕ) → WellFormed n (done ++ rest) → IsBeyond q p done → IsBeyond q p (done ++ rest)
-grows n done [] q p obeys beyond = rw append-nil beyond
-grows n done (e ∷ rest) q p obeys beyond =
-    let next : WellFormed n ((done ++ e ∷ []) ++ rest) = rw append_assoc obeys in
-    let front : WellFormed n (done ++ e ∷ []) = WellFormed-front n (done ++ e ∷ []) rest next in
-    (rw append_assoc at (grows n (done ++ e ∷ []) rest q p next (IsBeyond-push n done e q p (WellFormed-front n done (e ∷ []) front) (MayFollow-last n done e front) beyond)))
-
 pub in_flight-beyond : (n : ℕ) (t : List Mark) (q p j x : ℕ) → WellFormed n t → slice_get (in_flight t q p) j ≡ Some x → last_taken t q p < x
-in_flight-beyond n t q p j x obeys at = grows n [] t q p obeys (λ i y none. cc) j x at
+in_flight-beyond n t q p j x obeys at = WellFormed-keeps n (IsBeyond q p) (λ i y none. cc) (λ u e. IsBeyond-push n u e q p) t obeys j x at

@@ -1,9 +1,9 @@
 -- What is left of a lawful trace is lawful.
-use Rattle.std.proofs.Common.{◌≡◌, ℕ, zero, suc, ◌<◌, ◌≤◌, ◌==◌, ◌&&◌, inl, inr, Bool, true, false, cond, List, [], ◌∷◌, ◌++◌, length, take, drop, map, Option, Some, None, option_map, slice_get, refl, sym, ap, ◌∙◌, arith, append_assoc, length-take}
+use Rattle.std.proofs.Common.{◌≡◌, ℕ, zero, suc, ◌<◌, ◌≤◌, ◌==◌, inl, inr, Bool, true, false, cond, List, [], ◌∷◌, ◌++◌, length, take, drop, map, Option, Some, None, option_map, slice_get, refl, sym, ap, ◌∙◌, arith, append_assoc, length-take}
 use Rattle.std.specs.List.{filter, filter_map, cons_option}
-use Rattle.std.proofs.lemmas.Bool.{cases_lt}
+use Rattle.std.proofs.lemmas.Bool.{false_from_ne_true}
 use Rattle.std.proofs.lemmas.Bool.Decides.{nat_tests}
-use Rattle.std.proofs.lemmas.List.{take-append-le, take-append-drop, map-append}
+use Rattle.std.proofs.lemmas.List.{take-append-le, take-append-drop, take-take, map-append}
 use Rattle.std.proofs.lemmas.List.Elements.{filter-append}
 use Rattle.std.proofs.lemmas.Option.{slice_get-map}
 use Rattle.fbl_base.specs.declared.trace.Note.{Note}
@@ -15,15 +15,19 @@ use Rattle.fbl_base.specs.declared.trace.Mark.{Mark}
 use Rattle.fbl_base.specs.declared.trace.Mark.TheVariants as mark
 use Rattle.fbl_base.specs.Events.{At, mark_of, member_of}
 use Rattle.fbl_base.specs.Precedence.{Has, Earlier}
-use Rattle.fbl_base.specs.Rules.{is_send_of, sends_of, WellFormed}
+use Rattle.fbl_base.specs.Rules.{WellFormed}
 use Rattle.fbl_base.specs.Events.{receipt_of}
 use Rattle.fbl_base.specs.Fold.{Next, Action, took, sent, action_of, actions_of, notes_of, note_of, responses, start_of, starts_of, Lawful}
-use Rattle.fbl_base.proofs.Gets.{At-front, At-below, slice_get-take}
-use Rattle.fbl_base.proofs.RulesLaws.{count_at, eqb-self, in_flight-sent}
-use Rattle.fbl_base.proofs.LawfulLaws.{receipts-noted, notes_of-sent, notes_of-append, Lawful-begun}
-use Rattle.fbl_law.proofs.Lists.{At-append}
-use Rattle.fbl_law.proofs.Appended.{once, Has-append}
-use Rattle.fbl_law.proofs.Cut.{KeepsCauses, WellFormed-kept, At-seam}
+use Rattle.fbl_base.proofs.Gets.{At-filter, filter_map-agree, At-front, At-below, slice_get-take}
+use Rattle.fbl_base.proofs.PlacesAndEvents.{one_place}
+use Rattle.fbl_base.proofs.RulesLaws.{sent-before}
+use Rattle.fbl_base.proofs.InFlightLaws.{filter_all}
+use Rattle.fbl_base.proofs.LawfulLaws.{filter_map-shorter, receipts-noted, notes_of-sent, notes_of-append, Lawful-begun}
+use Rattle.fbl_law.proofs.Lists.{At-append, At-seam, filter-passes}
+use Rattle.fbl_law.proofs.Appended.{Has-append}
+use Rattle.fbl_law.proofs.Cut.{KeepsCauses, WellFormed-kept, marks-filter}
+use Rattle.fbl_law.proofs.CutFolds.{note-left}
+use Rattle.fbl_law.proofs.Notes.{noted-sent, send-mark, one-send}
 
 -- an action, and whether it is kept
 abbrev Flagged : Type 0
@@ -92,62 +96,6 @@ abbrev pub KeepsResponses : (Mark → Bool) → List Mark → Type 0
 KeepsResponses keep t =
     (e : Mark) → Has t e → ((d : Determinant) → ¬ (e ≡ receipt_of d)) → ((d : Determinant) → d.to ≡ member_of e → Earlier t (receipt_of d) e → keep (receipt_of d) ≡ true) → keep e ≡ true
 
--- the two ways to leave events out
-pub marks-filter : (keep : Mark → Bool) (t : List Event) → map mark_of (filter (λ e. keep (mark_of e)) t) ≡ filter keep (map mark_of t)
-marks-filter keep [] = refl
-marks-filter keep (x ∷ t) = at (keep (mark_of x)) (marks-filter keep t) where
-  at : (b : Bool) → map mark_of (filter (λ e. keep (mark_of e)) t) ≡ filter keep (map mark_of t) → map mark_of (cond b (x ∷ filter (λ e. keep (mark_of e)) t) (filter (λ e. keep (mark_of e)) t)) ≡ cond b (mark_of x ∷ filter keep (map mark_of t)) (filter keep (map mark_of t))
-  at true ih = ap (λ (ys : List Mark). mark_of x ∷ ys) ih
-  at false ih = ih
-
--- a message's note stays where its send is kept
-note_of-kept : (keep : Mark → Bool) (t : List Event) (from ssn : ℕ) → ((to : ℕ) → Has (map mark_of t) (mark.Send from ssn to) → keep (mark.Send from ssn to) ≡ true) → note_of (filter (λ e. keep (mark_of e)) t) from ssn ≡ note_of t from ssn
-note_of-kept keep [] from ssn sends = refl
-note_of-kept keep (Receipt to rsn q k ∷ t) from ssn sends = at (keep (mark.Receipt to rsn q k)) (note_of-kept keep t from ssn (λ to' h. sends to' (suc h.0, h.1))) where
-  at : (b : Bool) → note_of (filter (λ e. keep (mark_of e)) t) from ssn ≡ note_of t from ssn → note_of (cond b (Receipt to rsn q k ∷ filter (λ e. keep (mark_of e)) t) (filter (λ e. keep (mark_of e)) t)) from ssn ≡ note_of t from ssn
-  at true ih = ih
-  at false ih = ih
-note_of-kept keep (Send q k to x ∷ t) from ssn sends = at (keep (mark.Send q k to)) (q == from) (k == ssn) refl refl refl (note_of-kept keep t from ssn (λ to' h. sends to' (suc h.0, h.1))) where
-  at : (b c d : Bool) → keep (mark.Send q k to) ≡ b → (q == from) ≡ c → (k == ssn) ≡ d → note_of (filter (λ e. keep (mark_of e)) t) from ssn ≡ note_of t from ssn → note_of (cond b (Send q k to x ∷ filter (λ e. keep (mark_of e)) t) (filter (λ e. keep (mark_of e)) t)) from ssn ≡ cond (c && d) (Some x) (note_of t from ssn)
-  at true true true eb ec ed ih = rw (ec, ed) refl
-  at true true false eb ec ed ih = rw (ec, ed) ih
-  at true false d eb ec ed ih = rw ec ih
-  at false true true eb ec ed ih =
-      let e1 : q ≡ from = grind (arith, nat_tests) in
-      let e2 : k ≡ ssn = grind (arith, nat_tests) in
-      absurd (let yes' : keep (mark.Send from ssn to) ≡ true = sends to (0, (rw (e1, e2) refl)) in cc)
-  at false true false eb ec ed ih = ih
-  at false false d eb ec ed ih = ih
-
-take_shorter : {X : Type 0} (xs : List X) (i j : ℕ) → i ≤ j → take i (take j xs) ≡ take i xs
-take_shorter xs zero j below = refl
-take_shorter xs (suc i) zero below = absurd (omega arith)
-take_shorter [] (suc i) (suc j) below = refl
-take_shorter (x ∷ xs) (suc i) (suc j) below = ap (λ ys. x ∷ ys) (take_shorter xs i j (omega arith))
-
--- a sender's number names one message
-send_once : (n : ℕ) (t : List Mark) (q s p p' : ℕ) → WellFormed n t → Has t (mark.Send q s p) → Has t (mark.Send q s p') → p ≡ p'
-send_once n t q s p p' obeys a b =
-    elim (cases_lt a.0 b.0) [
-      | inl below ↦ absurd (apart a.0 b.0 p p' a.1 b.1 below)
-      | inr above ↦ elim (cases_lt b.0 a.0) [
-        | inl below ↦ absurd (apart b.0 a.0 p' p b.1 a.1 below)
-        | inr same ↦ (let e : a.0 ≡ b.0 = omega (arith, above, same) in let h : At t b.0 (mark.Send q s p) = (rw e at a.1) in let g = b.1 in cc)
-      ]
-    ]
-  where
-    apart : (i j x y : ℕ) → At t i (mark.Send q s x) → At t j (mark.Send q s y) → i < j → ⊥
-    apart i j x y here there below =
-        let first = obeys i (mark.Send q s x) here in
-        let second = obeys j (mark.Send q s y) there in
-        let more = count_at (is_send_of q) (take j t) i (mark.Send q s x) (slice_get-take t j i (mark.Send q s x) below here) (eqb-self q) in
-        let fewer : take i (take j t) ≡ take i t = take_shorter t i j (omega arith) in
-        omega (arith, first.3, second.3, more, ap (λ (u : List Mark). sends_of u q) fewer)
-
-seam : {X : Type 0} (xs : List X) (y : X) (ys : List X) → slice_get (xs ++ y ∷ ys) (length xs) ≡ Some y
-seam [] y ys = refl
-seam (x ∷ xs) y ys = seam xs y ys
-
 only : (x y : Mark) → Has (x ∷ []) y → x ≡ y
 only x y h = at h.0 h.1 where
   at : (i : ℕ) → At (x ∷ []) i y → x ≡ y
@@ -210,23 +158,14 @@ module _ (n : ℕ) (keep : Mark → Bool) (t : List Event) (obeys : WellFormed n
   earlier_back u e rest is x h =
       let here : At M (length (map mark_of u)) (mark_of e) = rw (split u e rest is) (At-seam (map mark_of u) (mark_of e) (map mark_of rest)) in
       let there : At (map mark_of u ++ mark_of e ∷ map mark_of rest) h.0 x = rw (split u e rest is) at h.3 in
-      elim (cases_lt (length (map mark_of u)) h.1) [
-        | inl late ↦ absurd (once n M (mark_of e) (length (map mark_of u)) h.1 obeys here h.4 late)
-        | inr not_late ↦ elim (At-append (map mark_of u) (mark_of e ∷ map mark_of rest) h.0 x there) [
-          | inl old ↦ (h.0, old)
-          | inr new ↦ absurd (omega (arith, h.2, not_late, new.1))
-        ]
-      ]
+      let same = one_place n M obeys (mark_of e) (length (map mark_of u)) h.1 here h.4 in
+      elim (At-append (map mark_of u) (mark_of e ∷ map mark_of rest) h.0 x there) [ inl old ↦ (h.0, old) | inr new ↦ absurd (omega (arith, h.2, same, new.1)) ]
 
   -- where an earlier event of the member isn't kept, none is
   dead : (u : List Event) (e : Event) (rest : List Event) → t ≡ u ++ e ∷ rest → member_of (mark_of e) ≡ p → Alive false u → keeps e ≡ false
   dead u e rest is at_p state =
       let gone = state.1 refl in
-      tells (keeps e) refl (λ yes'. let before = causes gone.0 (mark_of e) yes' (earlier_of u e rest is gone.0 gone.1, inl (gone.2 ∙ sym at_p)) in let not_kept = gone.3 in cc)
-    where
-      tells : (b : Bool) → keeps e ≡ b → (keeps e ≡ true → ⊥) → keeps e ≡ false
-      tells true is never = absurd (never is)
-      tells false is never = is
+      false_from_ne_true (keeps e) (λ yes'. let before = causes gone.0 (mark_of e) yes' (earlier_of u e rest is gone.0 gone.1, inl (gone.2 ∙ sym at_p)) in let not_kept = gone.3 in cc)
 
   -- one more event that isn't a receipt of the member
   same_state : (b : Bool) (u : List Event) (e : Event) → ((d : Determinant) → d.to ≡ p → ¬ (mark_of e ≡ receipt_of d)) → Alive b u → Alive b (u ++ e ∷ [])
@@ -271,7 +210,7 @@ module _ (n : ℕ) (keep : Mark → Bool) (t : List Event) (obeys : WellFormed n
       at : (c : Bool) → (to == p) ≡ c → ((v : Bool) → Alive v (u ++ Receipt to r q k ∷ []) → Orderly v (flagged rest)) → Orderly b (cons_option (option_map (λ (a : Action). (keep (mark.Receipt to r q k), a)) (action_of t p (Receipt to r q k))) (flagged rest))
       at true ec more =
           let at_p : to ≡ p = grind (arith, nat_tests) in
-          let here : slice_get t (length u) ≡ Some (Receipt to r q k) = rw is (seam u (Receipt to r q k) rest) in
+          let here : slice_get t (length u) ≡ Some (Receipt to r q k) = rw is (At-seam u (Receipt to r q k) rest) in
           let noted = receipts-noted n t obeys (length u) to r q k here in
           let alive = receipt_flag b u (Receipt to r q k) rest is at_p state in
           rw (ec, noted.1) (alive, more (keep (mark.Receipt to r q k)) (next_state b u (Receipt to r q k) at_p alive state))
@@ -288,52 +227,37 @@ module _ (n : ℕ) (keep : Mark → Bool) (t : List Event) (obeys : WellFormed n
   orderly = orderly_from true [] t refl (λ yes' d to has. absurd (let here : At [] has.0 (receipt_of d) = has.1 in cc), λ no'. absurd cc)
 
   -- the notes of kept receipts stay
-  same_notes : (u : List Event) → ((i to rsn from ssn : ℕ) → slice_get u i ≡ Some (Receipt to rsn from ssn) → keep (mark.Receipt to rsn from ssn) ≡ true → note_of (filter keeps t) from ssn ≡ note_of t from ssn)
-      → filter_map (action_of (filter keeps t) p) (filter keeps u) ≡ filter_map (action_of t p) (filter keeps u)
-  same_notes [] notes = refl
-  same_notes (Send q k to x ∷ u) notes = at (keep (mark.Send q k to)) (same_notes u (λ i. notes (suc i))) where
-    at : (b : Bool) → filter_map (action_of (filter keeps t) p) (filter keeps u) ≡ filter_map (action_of t p) (filter keeps u)
-        → filter_map (action_of (filter keeps t) p) (cond b (Send q k to x ∷ filter keeps u) (filter keeps u)) ≡ filter_map (action_of t p) (cond b (Send q k to x ∷ filter keeps u) (filter keeps u))
-    at true ih = ap (λ ys. cons_option (action_of t p (Send q k to x)) ys) ih
-    at false ih = ih
-  same_notes (Receipt to r q k ∷ u) notes = at (keep (mark.Receipt to r q k)) refl (same_notes u (λ i. notes (suc i))) where
-    at : (b : Bool) → keep (mark.Receipt to r q k) ≡ b → filter_map (action_of (filter keeps t) p) (filter keeps u) ≡ filter_map (action_of t p) (filter keeps u)
-        → filter_map (action_of (filter keeps t) p) (cond b (Receipt to r q k ∷ filter keeps u) (filter keeps u)) ≡ filter_map (action_of t p) (cond b (Receipt to r q k ∷ filter keeps u) (filter keeps u))
-    at true eb ih = let e = notes 0 to r q k refl eb in rw e (ap (λ ys. cons_option (action_of t p (Receipt to r q k)) ys) ih)
-    at false eb ih = ih
-
   note_stays : (i to rsn from ssn : ℕ) → slice_get t i ≡ Some (Receipt to rsn from ssn) → keep (mark.Receipt to rsn from ssn) ≡ true → note_of (filter keeps t) from ssn ≡ note_of t from ssn
   note_stays i to rsn from ssn here kept' =
       let at_mark : At M i (mark.Receipt to rsn from ssn) = slice_get-map mark_of t i ∙ (rw here) in
-      let may = obeys i (mark.Receipt to rsn from ssn) at_mark in
-      let sent' = in_flight-sent (take i M) from ssn to may.5 in
-      let whole : At M sent'.0 (mark.Send from ssn to) = (rw take-append-drop at (At-front (take i M) (drop i M) sent'.0 (mark.Send from ssn to) sent'.1)) in
-      let below : sent'.0 < i = (let b = At-below (take i M) sent'.0 (mark.Send from ssn to) sent'.1 in omega (arith, b, length-take i M)) in
-      let send_kept : keep (mark.Send from ssn to) ≡ true = causes (mark.Send from ssn to) (mark.Receipt to rsn from ssn) kept' ((sent'.0, i, below, whole, at_mark), inr refl) in
-      note_of-kept keep t from ssn (λ to' has. let same : to ≡ to' = send_once n M from ssn to to' obeys (sent'.0, whole) has in rw (← same) send_kept)
+      let sent' = sent-before n M obeys i to rsn from ssn at_mark in
+      let send_kept : keep (mark.Send from ssn to) ≡ true = causes (mark.Send from ssn to) (mark.Receipt to rsn from ssn) kept' ((sent'.0, i, sent'.1, sent'.2, at_mark), inr refl) in
+      let noted = receipts-noted n t obeys i to rsn from ssn here in
+      let sent = noted-sent t from ssn noted.0 noted.1 in
+      let same : to ≡ sent.1 = one-send n M obeys from ssn to sent.1 (sent'.0, sent'.2) (sent.0, send-mark t sent.0 from ssn sent.1 noted.0 sent.2) in
+      note-left n keep t obeys causes sent.0 from ssn sent.1 noted.0 sent.2 (ap (λ x. keep (mark.Send from ssn x)) (sym same) ∙ send_kept) ∙ sym noted.1
+
+  same_actions : filter_map (action_of (filter keeps t) p) (filter keeps t) ≡ filter_map (action_of t p) (filter keeps t)
+  same_actions = filter_map-agree (action_of (filter keeps t) p) (action_of t p) (filter keeps t) agree where
+    agree : (i : ℕ) (e : Event) → slice_get (filter keeps t) i ≡ Some e → action_of (filter keeps t) p e ≡ action_of t p e
+    agree i (Send q k to x) here = refl
+    agree i (Receipt to r q k) here =
+        let was = At-filter keeps t i (Receipt to r q k) here in
+        let e : note_of (filter keeps t) q k ≡ note_of t q k = note_stays was.0 to r q k was.1 (filter-passes keeps t i (Receipt to r q k) here) in
+        rw e refl
 
   pub responds_left : (next : Next) (starts : List Start) → actions_of t p ≡ map sent (starts_of p starts) ++ responses next p n 0 (notes_of (actions_of t p))
       → actions_of (filter keeps t) p ≡ map sent (starts_of p starts) ++ responses next p n 0 (notes_of (actions_of (filter keeps t) p))
   responds_left next starts was =
-      let all : actions_of (filter keeps t) p ≡ kept (flagged t) = same_notes t note_stays ∙ sym (kept-flagged t) in
+      let all : actions_of (filter keeps t) p ≡ kept (flagged t) = same_actions ∙ sym (kept-flagged t) in
       rw all (responds_kept next p n (starts_of p starts) (notes_of (actions_of t p)) (flagged t) orderly (flags-flagged t ∙ was))
-
--- the events of a list that are all kept
-filter_all : {X : Type 0} (K : X → Bool) (xs : List X) → ((i : ℕ) (x : X) → slice_get xs i ≡ Some x → K x ≡ true) → filter K xs ≡ xs
-filter_all K [] all = refl
-filter_all K (x ∷ xs) all = (let h : K x ≡ true = all 0 x refl in rw h (ap (λ ys. x ∷ ys) (filter_all K xs (λ i y at. all (suc i) y at))))
-
-shorter : (xs : List Event) → length (filter_map start_of xs) ≤ length xs
-shorter [] = omega arith
-shorter (Send q k to x ∷ xs) = omega (arith, shorter xs)
-shorter (Receipt to r q k ∷ xs) = omega (arith, shorter xs)
 
 -- where each event is a start, none is a receipt
 all_sends : (xs : List Event) → length xs ≤ length (filter_map start_of xs) → (i to r q k : ℕ) → ¬ (slice_get xs i ≡ Some (Receipt to r q k))
 all_sends [] whole i to r q k here = cc
 all_sends (Send q' k' to' x ∷ xs) whole zero to r q k here = cc
 all_sends (Send q' k' to' x ∷ xs) whole (suc i) to r q k here = all_sends xs (omega (arith, whole)) i to r q k here
-all_sends (Receipt to' r' q' k' ∷ xs) whole i to r q k here = omega (arith, whole, shorter xs)
+all_sends (Receipt to' r' q' k' ∷ xs) whole i to r q k here = omega (arith, whole, filter_map-shorter start_of xs)
 
 module _ (next : Next) (n : ℕ) (starts : List Start) (keep : Mark → Bool) (t : List Event) (lawful : Lawful next n starts t) (causes : KeepsCauses keep (map mark_of t)) (follow : KeepsResponses keep (map mark_of t)) where
   abbrev first : List Event
@@ -362,10 +286,8 @@ module _ (next : Next) (n : ℕ) (starts : List Start) (keep : Mark → Bool) (t
 
       before : (d : Determinant) → Earlier (map mark_of t) (receipt_of d) (mark.Send q k to) → ⊥
       before d earlier =
-          elim (cases_lt i earlier.1) [
-            | inl late ↦ once n (map mark_of t) (mark.Send q k to) i earlier.1 lawful.well_formed at_mark earlier.4 late
-            | inr not_late ↦ receipt_at d earlier.0 (slice_get t earlier.0) (omega (arith, earlier.2, not_late, within)) refl (sym (slice_get-map mark_of t earlier.0) ∙ earlier.3)
-          ]
+          let same = one_place n (map mark_of t) lawful.well_formed (mark.Send q k to) i earlier.1 at_mark earlier.4 in
+          receipt_at d earlier.0 (slice_get t earlier.0) (omega (arith, earlier.2, same, within)) refl (sym (slice_get-map mark_of t earlier.0) ∙ earlier.3)
 
   abbrev keeps_event : Event → Bool
   keeps_event e = keep (mark_of e)
@@ -378,7 +300,7 @@ module _ (next : Next) (n : ℕ) (starts : List Start) (keep : Mark → Bool) (t
   same_first : take (length starts) (filter keeps_event t) ≡ first
   same_first =
       let long : length starts ≤ length first = (let begun = Lawful-begun next n starts t lawful in omega (arith, begun, length-take (length starts) t)) in
-      ap (take (length starts)) begins ∙ take-append-le (length starts) first (filter keeps_event (drop (length starts) t)) long ∙ take_shorter t (length starts) (length starts) (omega arith)
+      ap (take (length starts)) begins ∙ take-append-le (length starts) first (filter keeps_event (drop (length starts) t)) long ∙ take-take (length starts) (length starts) t (omega arith)
 
   pub Lawful-kept : Lawful next n starts (filter (λ e. keep (mark_of e)) t)
   Lawful-kept = record {

@@ -17,7 +17,6 @@ pub mod Survivors
 pub mod Gather
 pub mod Replay
 pub mod Grown
-pub mod Counts
 pub mod GroupFacts
 pub mod InOrder
 pub mod GroupDeliver

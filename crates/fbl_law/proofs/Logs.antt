@@ -14,10 +14,9 @@ use Rattle.fbl_base.specs.declared.trace.Mark.TheVariants as mark
 use Rattle.fbl_base.specs.Events.{mark_of}
 use Rattle.fbl_base.specs.Rules.{is_send_of, is_receipt_of, sends_of, receipts_of, WellFormed}
 use Rattle.fbl_base.specs.Fold.{Next, Logged, Progress, Action, took, sent, numbered, starts_of, begun, advanced, after_notes, action_of, actions_of, notes_of, note_of, responses, Lawful}
-use Rattle.fbl_base.proofs.RulesLaws.{WellFormed-front, MayFollow-last, eqb-self}
+use Rattle.fbl_base.proofs.RulesLaws.{sends-step, WellFormed-front, MayFollow-last, eqb-self}
 use Rattle.fbl_member.specs.Members.{logged_note}
 use Rattle.fbl_law.specs.Sound.{received_notes}
-use Rattle.fbl_law.proofs.Counts.{length-numbered}
 
 -- the sends among a member's actions
 abbrev pub sends_in : List Action → List (ℕ × Note)
@@ -33,6 +32,10 @@ sends_in-append (sent s ∷ xs) ys = ap (λ (zs : List (ℕ × Note)). s ∷ zs)
 pub sends_in-sent : (sends : List (ℕ × Note)) → sends_in (map sent sends) ≡ sends
 sends_in-sent [] = refl
 sends_in-sent (s ∷ sends) = ap (λ (zs : List (ℕ × Note)). s ∷ zs) (sends_in-sent sends)
+
+pub length-numbered : (before : ℕ) (sends : List (ℕ × Note)) → length (numbered before sends) ≡ length sends
+length-numbered before [] = refl
+length-numbered before (s ∷ sends) = ap suc (length-numbered (before + 1) sends)
 
 pub numbered-append : (before : ℕ) (xs ys : List (ℕ × Note)) → numbered before (xs ++ ys) ≡ numbered before xs ++ numbered (before + length xs) ys
 numbered-append before [] ys = (let e : before + 0 ≡ before = omega arith in rw e refl)
@@ -101,9 +104,6 @@ takes true None actions = refl
 takes true (Some note) actions = refl
 takes false o actions = refl
 
-sends_more : (t : List Mark) (e : Mark) (p : ℕ) → sends_of (t ++ e ∷ []) p ≡ sends_of t p + cond (is_send_of p e) 1 0
-sends_more t e p = sum_by-append (λ y. cond (is_send_of p y) 1 0) t (e ∷ []) ∙ omega arith
-
 -- the sends of the rest of a trace that obeys the rules, numbered on
 log_from : (n p : ℕ) (all u rest : List Event) → WellFormed n (map mark_of u ++ map mark_of rest) → numbered (sends_of (map mark_of u) p) (sends_in (filter_map (action_of all p) rest)) ≡ filter_map (logged_of p) rest
 log_from n p all u [] obeys = refl
@@ -114,7 +114,7 @@ log_from n p all u (Send q k to x ∷ rest) obeys =
     let may = MayFollow-last n M e (WellFormed-front n (M ++ e ∷ []) (map mark_of rest) front) in
     let marks : map mark_of (u ++ Send q k to x ∷ []) ≡ M ++ e ∷ [] = map-append mark_of u (Send q k to x ∷ []) in
     let ih = log_from n p all (u ++ Send q k to x ∷ []) rest (rw marks front) in
-    at (q == p) refl may.3 (ap (λ (t : List Mark). sends_of t p) marks ∙ sends_more M e p) ih
+    at (q == p) refl may.3 (ap (λ (t : List Mark). sends_of t p) marks ∙ sends-step M e p) ih
   where
     S : List (ℕ × Note)
     S = sends_in (filter_map (action_of all p) rest)
@@ -136,7 +136,7 @@ log_from n p all u (Receipt to r q k ∷ rest) obeys =
     let front : WellFormed n ((M ++ e ∷ []) ++ map mark_of rest) = rw append_assoc obeys in
     let marks : map mark_of (u ++ Receipt to r q k ∷ []) ≡ M ++ e ∷ [] = map-append mark_of u (Receipt to r q k ∷ []) in
     let ih = log_from n p all (u ++ Receipt to r q k ∷ []) rest (rw marks front) in
-    let more : sends_of (map mark_of (u ++ Receipt to r q k ∷ [])) p ≡ sends_of M p = ap (λ (t : List Mark). sends_of t p) marks ∙ sends_more M e p ∙ omega arith in
+    let more : sends_of (map mark_of (u ++ Receipt to r q k ∷ [])) p ≡ sends_of M p = ap (λ (t : List Mark). sends_of t p) marks ∙ sends-step M e p ∙ omega arith in
     ap (λ (xs : List (ℕ × Note)). numbered (sends_of M p) xs) (takes (to == p) (note_of all q k) (filter_map (action_of all p) rest)) ∙ ap (λ y. numbered y (sends_in (filter_map (action_of all p) rest))) (sym more) ∙ ih
 
 -- in a lawful trace the log after all the member's notes has the member's sends
@@ -171,18 +171,20 @@ logged-noted next n starts t p k ssn note lawful named =
     let whole : logged_note (after_notes next p n starts (received_notes t p)).log ssn ≡ Some note = rw front.1 (logged_note-front (after_notes next p n starts (take k (received_notes t p))).log front.0 ssn note named) in
     sym (logged_note-trace t p ssn) ∙ ap (λ (xs : List Logged). logged_note xs ssn) (sym (log-sends next n starts t p lawful)) ∙ whole
 
--- the log's sends, counted
-pub logged-count : (u : List Event) (p : ℕ) → length (filter_map (logged_of p) u) ≡ sends_of (map mark_of u) p
-logged-count [] p = refl
-logged-count (Send q k to x ∷ u) p = rw (sum_by-cons (λ y. cond (is_send_of p y) 1 0) (mark.Send q k to) (map mark_of u)) (at (q == p) (logged-count u p)) where
-  at : (b : Bool) → length (filter_map (logged_of p) u) ≡ sends_of (map mark_of u) p → length (cons_option (cond b (Some (record { ssn = k; to = to; note = x })) None) (filter_map (logged_of p) u)) ≡ cond b 1 0 + sends_of (map mark_of u) p
+-- how many sends a member's actions have
+sends-count : (all u : List Event) (p : ℕ) → length (sends_in (filter_map (action_of all p) u)) ≡ sends_of (map mark_of u) p
+sends-count all [] p = refl
+sends-count all (Send q k to x ∷ u) p = rw (sum_by-cons (λ y. cond (is_send_of p y) 1 0) (mark.Send q k to) (map mark_of u)) (at (q == p) (sends-count all u p)) where
+  at : (b : Bool) → length (sends_in (filter_map (action_of all p) u)) ≡ sends_of (map mark_of u) p → length (sends_in (cons_option (cond b (Some (sent (to, x))) None) (filter_map (action_of all p) u))) ≡ cond b 1 0 + sends_of (map mark_of u) p
   at true ih = omega (arith, ih)
   at false ih = omega (arith, ih)
-logged-count (Receipt to r q k ∷ u) p = rw (sum_by-cons (λ y. cond (is_send_of p y) 1 0) (mark.Receipt to r q k) (map mark_of u)) (omega (arith, logged-count u p))
+sends-count all (Receipt to r q k ∷ u) p =
+    rw (sum_by-cons (λ y. cond (is_send_of p y) 1 0) (mark.Receipt to r q k) (map mark_of u)) (ap length (takes (to == p) (note_of all q k) (filter_map (action_of all p) u)) ∙ sends-count all u p ∙ omega arith)
 
 -- the log after all notes is as long as the member's sends are many
 pub log-length : (next : Next) (n : ℕ) (starts : List Start) (t : List Event) (p : ℕ) → Lawful next n starts t → length (after_notes next p n starts (received_notes t p)).log ≡ sends_of (map mark_of t) p
-log-length next n starts t p lawful = ap length (log-sends next n starts t p lawful) ∙ logged-count t p
+log-length next n starts t p lawful =
+    ap length (log-after next p n starts (received_notes t p)) ∙ length-numbered 0 _ ∙ ap (λ (xs : List Action). length (sends_in xs)) (sym (lawful.responds p)) ∙ sends-count t t p
 
 -- that after the first notes is no longer
 pub log-short : (next : Next) (n : ℕ) (starts : List Start) (t : List Event) (p k : ℕ) → Lawful next n starts t → length (after_notes next p n starts (take k (received_notes t p))).log ≤ sends_of (map mark_of t) p
@@ -202,16 +204,7 @@ sends-by next p n state k (s ∷ sends) notes (took x ∷ xs) ys is few = absurd
 sends-by next p n state k (s ∷ sends) notes (sent s' ∷ xs) ys is few =
     let ih = sends-by next p n state k sends notes xs ys (cc) few in omega (arith, ih)
 
--- how many sends a member's actions have, and at most how many notes
-sends-count : (all u : List Event) (p : ℕ) → length (sends_in (filter_map (action_of all p) u)) ≡ sends_of (map mark_of u) p
-sends-count all [] p = refl
-sends-count all (Send q k to x ∷ u) p = rw (sum_by-cons (λ y. cond (is_send_of p y) 1 0) (mark.Send q k to) (map mark_of u)) (at (q == p) (sends-count all u p)) where
-  at : (b : Bool) → length (sends_in (filter_map (action_of all p) u)) ≡ sends_of (map mark_of u) p → length (sends_in (cons_option (cond b (Some (sent (to, x))) None) (filter_map (action_of all p) u))) ≡ cond b 1 0 + sends_of (map mark_of u) p
-  at true ih = omega (arith, ih)
-  at false ih = omega (arith, ih)
-sends-count all (Receipt to r q k ∷ u) p =
-    rw (sum_by-cons (λ y. cond (is_send_of p y) 1 0) (mark.Receipt to r q k) (map mark_of u)) (ap length (takes (to == p) (note_of all q k) (filter_map (action_of all p) u)) ∙ sends-count all u p ∙ omega arith)
-
+-- at most how many notes a member's actions have
 notes-count : (all u : List Event) (p : ℕ) → length (notes_of (filter_map (action_of all p) u)) ≤ receipts_of (map mark_of u) p
 notes-count all [] p = omega arith
 notes-count all (Send q k to x ∷ u) p = rw (sum_by-cons (λ y. cond (is_receipt_of p y) 1 0) (mark.Send q k to) (map mark_of u)) (at (q == p) (notes-count all u p)) where
@@ -239,7 +232,7 @@ logged-by next n starts t u rest p ssn to k x lawful is few =
     let cut : actions_of t p ≡ front ++ back = ap (filter_map (action_of t p)) (is ∙ sym (append_assoc u (Send p ssn to x ∷ []) rest)) ∙ filter_map-append (action_of t p) (u ++ Send p ssn to x ∷ []) rest in
     let more : map mark_of (u ++ Send p ssn to x ∷ []) ≡ M ++ e ∷ [] = map-append mark_of u (Send p ssn to x ∷ []) in
     let self : (p == p) ≡ true = eqb-self p in
-    let count : length (sends_in front) ≡ sends_of M p + 1 = sends-count t (u ++ Send p ssn to x ∷ []) p ∙ ap (λ (v : List Mark). sends_of v p) more ∙ sends_more M e p ∙ (rw self refl) in
+    let count : length (sends_in front) ≡ sends_of M p + 1 = sends-count t (u ++ Send p ssn to x ∷ []) p ∙ ap (λ (v : List Mark). sends_of v p) more ∙ sends-step M e p ∙ (rw self refl) in
     let taken : length (notes_of front) ≤ k =
     (let a = notes-count t (u ++ Send p ssn to x ∷ []) p in
     let b = ap (λ (v : List Mark). receipts_of v p) more ∙ sum_by-append (λ y. cond (is_receipt_of p y) 1 0) M (e ∷ []) in

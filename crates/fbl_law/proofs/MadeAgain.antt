@@ -1,5 +1,5 @@
 -- Channels that are made again from their sender's log.
-use Rattle.std.proofs.Common.{◌≡◌, ℕ, zero, suc, ◌<◌, ◌≤◌, ◌==◌, ◌&&◌, nat_lt, ◌⊎◌, inl, inr, Bool, true, false, cond, List, [], ◌∷◌, ◌++◌, drop, map, Some, None, slice_get, refl, sym, ap, ◌∙◌, arith, append_assoc}
+use Rattle.std.proofs.Common.{◌≡◌, ℕ, suc, ◌<◌, ◌≤◌, ◌==◌, ◌&&◌, nat_lt, ◌⊎◌, inl, inr, Bool, true, false, cond, List, [], ◌∷◌, ◌++◌, drop, map, Some, None, slice_get, refl, sym, ap, ◌∙◌, arith, append_assoc}
 use Rattle.std.specs.List.{Contains, filter, filter_map, cons_option, fold}
 use Rattle.std.proofs.lemmas.Bool.Decides.{nat_tests}
 use Rattle.std.proofs.lemmas.List.{append-nil}
@@ -13,9 +13,9 @@ use Rattle.fbl_base.specs.declared.trace.Mark.TheVariants.{Send, Receipt}
 use Rattle.fbl_base.specs.Events.{mark_of}
 use Rattle.fbl_base.specs.Rules.{sent_on, taken_on, in_flight, MayFollow, WellFormed}
 use Rattle.fbl_base.specs.Fold.{Next, Progress, Logged, Lawful, note_of}
-use Rattle.fbl_base.proofs.Gets.{At-filter, At-filter_map, Apart, Apart-later}
-use Rattle.fbl_base.proofs.RulesLaws.{WellFormed-front, MayFollow-last, in_flight-sent}
-use Rattle.fbl_base.proofs.InFlightLaws.{in_flight-send, in_flight-receipt, sent-rises}
+use Rattle.fbl_base.proofs.Gets.{map-At, At-front, At-filter, At-filter_map, Apart, Apart-later}
+use Rattle.fbl_base.proofs.RulesLaws.{WellFormed-keeps, is_sent, in_flight-sent}
+use Rattle.fbl_base.proofs.InFlightLaws.{filter_all, in_flight-send, in_flight-receipt, sent-rises}
 use Rattle.fbl_table.specs.declared.entry.Entry.{Entry}
 use Rattle.fbl_table.specs.Tables.{piggybacked}
 use Rattle.fbl_member.specs.Members.{Message, last_from, logged_beyond}
@@ -25,7 +25,6 @@ use Rattle.fbl_law.specs.Sound.{last_taken, IsFold}
 use Rattle.fbl_law.specs.GroupSteps.{IsMadeAgain}
 use Rattle.fbl_law.specs.Replaying.{resent, resent_to}
 use Rattle.fbl_law.proofs.Lists.{Contains-none}
-use Rattle.fbl_law.proofs.Cut.{is_sent}
 use Rattle.fbl_law.proofs.Logs.{logged_of, log-sends}
 use Rattle.fbl_law.proofs.Notes.{sent-noted}
 
@@ -55,45 +54,24 @@ fifo-one n t (Receipt p' r q' s) q p obeys may was =
     at true false ea eb = append-nil (filter_map (sent_on q p) t) ∙ was ∙ ap (λ (xs : List ℕ). xs ++ in_flight t q p) (sym (append-nil (filter_map (taken_on q p) t)))
     at false b ea eb = append-nil (filter_map (sent_on q p) t) ∙ was ∙ ap (λ (xs : List ℕ). xs ++ in_flight t q p) (sym (append-nil (filter_map (taken_on q p) t)))
 
-fifo-from : (n : ℕ) (u rest : List Mark) (q p : ℕ) → WellFormed n (u ++ rest) → filter_map (sent_on q p) u ≡ filter_map (taken_on q p) u ++ in_flight u q p → filter_map (sent_on q p) (u ++ rest) ≡ filter_map (taken_on q p) (u ++ rest) ++ in_flight (u ++ rest) q p
-fifo-from n u [] q p obeys was = rw (append-nil u) was
-fifo-from n u (e ∷ rest) q p obeys was =
-    let front : WellFormed n ((u ++ e ∷ []) ++ rest) = rw append_assoc obeys in
-    let one = WellFormed-front n (u ++ e ∷ []) rest front in
-    (rw append_assoc at (fifo-from n (u ++ e ∷ []) rest q p front (fifo-one n u e q p (WellFormed-front n u (e ∷ []) one) (MayFollow-last n u e one) was)))
-
 pub fifo : (n : ℕ) (t : List Mark) (q p : ℕ) → WellFormed n t → filter_map (sent_on q p) t ≡ filter_map (taken_on q p) t ++ in_flight t q p
-fifo n t q p obeys = fifo-from n [] t q p obeys refl
+fifo n t q p obeys = WellFormed-keeps n (λ u. filter_map (sent_on q p) u ≡ filter_map (taken_on q p) u ++ in_flight u q p) refl (λ u e. fifo-one n u e q p) t obeys
 
 -- in a rising list whose front has been taken, the numbers beyond the last one taken are the rest
 abbrev last_of : ℕ → List ℕ → ℕ
 last_of z xs = fold (λ last x. x) z xs
 
-last-above : (z : ℕ) (xs : List ℕ) → ((i x : ℕ) → slice_get xs i ≡ Some x → z < x) → z ≤ last_of z xs
-last-above z [] above = omega arith
-last-above z (x ∷ xs) above = at xs x (above 0 x refl) (λ i. above (suc i)) where
-  at : (ys : List ℕ) (y : ℕ) → z < y → ((i x : ℕ) → slice_get ys i ≡ Some x → z < x) → z ≤ last_of y ys
-  at [] y below above' = omega arith
-  at (y' ∷ ys) y below above' = at ys y' (above' 0 y' refl) (λ i. above' (suc i))
-
-all-pass : (f : ℕ → Bool) (xs : List ℕ) → ((i x : ℕ) → slice_get xs i ≡ Some x → f x ≡ true) → filter f xs ≡ xs
-all-pass f [] all = refl
-all-pass f (x ∷ xs) all = (let h : f x ≡ true = all 0 x refl in rw h (ap (λ (ys : List ℕ). x ∷ ys) (all-pass f xs (λ i. all (suc i)))))
+last-above : (z y : ℕ) (xs : List ℕ) → z ≤ y → ((i x : ℕ) → slice_get xs i ≡ Some x → z < x) → z ≤ last_of y xs
+last-above z y [] below above = below
+last-above z y (x ∷ xs) below above = last-above z x xs (omega (arith, above 0 x refl)) (λ i. above (suc i))
 
 beyond-last : (z : ℕ) (xs ys : List ℕ) → ((i x : ℕ) → slice_get (xs ++ ys) i ≡ Some x → z < x) → ((x y : ℕ) → Apart (xs ++ ys) x y → x < y) → filter (λ x. nat_lt (last_of z xs) x) (xs ++ ys) ≡ ys
-beyond-last z [] ys above rises = all-pass (λ x. nat_lt z x) ys (λ i x here. (let below = above i x here in grind (arith, nat_tests)))
+beyond-last z [] ys above rises = filter_all (λ x. nat_lt z x) ys (λ i x here. (let below = above i x here in grind (arith, nat_tests)))
 beyond-last z (x ∷ xs) ys above rises =
     let later : (i y : ℕ) → slice_get (xs ++ ys) i ≡ Some y → x < y = λ i y here. rises x y (0, suc i, omega arith, refl, here) in
-    let most : x ≤ last_of x xs = last-above x xs (λ i y here. later i y (front i y here)) in
+    let most : x ≤ last_of x xs = last-above x x xs (omega arith) (λ i y here. later i y (At-front xs ys i y here)) in
     let not-beyond : nat_lt (last_of x xs) x ≡ false = grind (arith, nat_tests) in
     rw not-beyond (beyond-last x xs ys later (λ a b apart. rises a b (Apart-later x (xs ++ ys) a b apart)))
-  where
-    front : (i y : ℕ) → slice_get xs i ≡ Some y → slice_get (xs ++ ys) i ≡ Some y
-    front i y here = go xs i here where
-      go : (zs : List ℕ) (j : ℕ) → slice_get zs j ≡ Some y → slice_get (zs ++ ys) j ≡ Some y
-      go [] j h = absurd cc
-      go (z' ∷ zs) zero h = h
-      go (z' ∷ zs) (suc j) h = go zs j h
 
 sent-positive : (n : ℕ) (t : List Mark) (q p i x : ℕ) → WellFormed n t → slice_get (filter_map (sent_on q p) t) i ≡ Some x → 0 < x
 sent-positive n t q p i x obeys here =
@@ -119,11 +97,6 @@ beyond-sent (event.Send q' s to x ∷ t) q p k = at (q' == q) (to == p) (nat_lt 
   at true false c eb ec ih = rw eb ih
   at false b c eb ec ih = ih
 beyond-sent (event.Receipt to r q' s ∷ t) q p k = beyond-sent t q p k
-
-map-At : {X Y : Type 0} (f : X → Y) (xs : List X) (i : ℕ) (y : Y) → slice_get (map f xs) i ≡ Some y → (x : X) × (slice_get xs i ≡ Some x) × (f x ≡ y)
-map-At f [] i y here = absurd cc
-map-At f (x ∷ xs) zero y here = (x, refl, cc)
-map-At f (x ∷ xs) (suc i) y here = map-At f xs i y here
 
 logged-event : (q : ℕ) (e : Event) (l : Logged) → logged_of q e ≡ Some l → (to : ℕ) × (e ≡ event.Send q l.ssn to l.note)
 logged-event q (event.Send q' k to x) l is = at (q' == q) refl is where

@@ -1,6 +1,6 @@
 -- The notes of a trace's messages.
-use Rattle.std.proofs.Common.{◌≡◌, ℕ, zero, suc, ◌<◌, ◌==◌, ◌&&◌, inl, inr, Bool, true, false, cond, List, [], ◌∷◌, take, map, Some, slice_get, refl, sym, ap, ◌∙◌, arith}
-use Rattle.std.proofs.lemmas.Bool.{cases_lt}
+use Rattle.std.proofs.Common.{◌≡◌, ℕ, suc, ◌<◌, ◌==◌, ◌&&◌, inl, inr, Bool, true, false, cond, List, [], ◌∷◌, take, map, Some, slice_get, refl, sym, ap, ◌∙◌, arith}
+use Rattle.std.proofs.lemmas.Bool.{cases_order}
 use Rattle.std.proofs.lemmas.Bool.Decides.{nat_tests}
 use Rattle.std.proofs.lemmas.List.{take-take}
 use Rattle.std.proofs.lemmas.Option.{slice_get-map}
@@ -10,10 +10,12 @@ use Rattle.fbl_base.specs.declared.trace.Event.TheVariants.{Send, Receipt}
 use Rattle.fbl_base.specs.declared.trace.Mark.{Mark}
 use Rattle.fbl_base.specs.declared.trace.Mark.TheVariants as mark
 use Rattle.fbl_base.specs.Events.{At, mark_of}
+use Rattle.fbl_base.specs.Precedence.{Has}
 use Rattle.fbl_base.specs.Rules.{is_send_of, sends_of, WellFormed}
 use Rattle.fbl_base.specs.Fold.{note_of}
 use Rattle.fbl_base.proofs.Gets.{slice_get-take}
 use Rattle.fbl_base.proofs.RulesLaws.{count_at, eqb-self}
+use Rattle.fbl_base.proofs.LawfulLaws.{sent-note}
 
 -- a note that the trace names was sent
 pub noted-sent : (t : List Event) (q k : ℕ) (x : Note) → note_of t q k ≡ Some x → (i : ℕ) × (to : ℕ) × (slice_get t i ≡ Some (Send q k to x))
@@ -30,7 +32,7 @@ noted-sent (Send q' k' to' x' ∷ t) q k x is = at (q' == q) (k' == k) refl refl
 noted-sent (Receipt to' r q' k' ∷ t) q k x is = (let h = noted-sent t q k x is in (suc h.0, h.1, h.2))
 
 -- the sends of a member have different numbers
-pub number-once : (n : ℕ) (t : List Mark) → WellFormed n t → (q k to to' i j : ℕ) → At t i (mark.Send q k to) → At t j (mark.Send q k to') → ¬ (i < j)
+number-once : (n : ℕ) (t : List Mark) → WellFormed n t → (q k to to' i j : ℕ) → At t i (mark.Send q k to) → At t j (mark.Send q k to') → ¬ (i < j)
 number-once n t obeys q k to to' i j here there below =
     let first = obeys i (mark.Send q k to) here in
     let second = obeys j (mark.Send q k to') there in
@@ -38,39 +40,31 @@ number-once n t obeys q k to to' i j here there below =
     let fewer : take i (take j t) ≡ take i t = take-take i j t (omega arith) in
     omega (arith, first.3, second.3, more, ap (λ (u : List Mark). sends_of u q) fewer)
 
+one-place : (n : ℕ) (t : List Mark) → WellFormed n t → (q k to to' i j : ℕ) → At t i (mark.Send q k to) → At t j (mark.Send q k to') → i ≡ j
+one-place n t obeys q k to to' i j here there = elim (cases_order i j) [
+  | inl same ↦ same
+  | inr (inl below) ↦ absurd (number-once n t obeys q k to to' i j here there below)
+  | inr (inr above) ↦ absurd (number-once n t obeys q k to' to j i there here above)
+]
+
+-- so a sender's number names one message
+pub one-send : (n : ℕ) (t : List Mark) → WellFormed n t → (q k to to' : ℕ) → Has t (mark.Send q k to) → Has t (mark.Send q k to') → to ≡ to'
+one-send n t obeys q k to to' a b =
+    let same = one-place n t obeys q k to to' a.0 b.0 a.1 b.1 in
+    let first : At t b.0 (mark.Send q k to) = rw same at a.1 in
+    let second = b.1 in
+    cc
+
 pub send-mark : (t : List Event) (i q k to : ℕ) (x : Note) → slice_get t i ≡ Some (Send q k to x) → At (map mark_of t) i (mark.Send q k to)
 send-mark t i q k to x here = slice_get-map mark_of t i ∙ (rw here refl)
-
-first-noted : (t : List Event) (i q k to : ℕ) (x : Note) → slice_get t i ≡ Some (Send q k to x) → (y : Note) × (note_of t q k ≡ Some y)
-first-noted [] i q k to x here = absurd cc
-first-noted (Send q' k' to' x' ∷ t) zero q k to x here =
-    let e1 : q' ≡ q = cc in
-    let e2 : k' ≡ k = cc in
-    let f1 : (q' == q) ≡ true = grind (arith, nat_tests) in
-    let f2 : (k' == k) ≡ true = grind (arith, nat_tests) in
-    (x', rw (f1, f2) refl)
-first-noted (Send q' k' to' x' ∷ t) (suc i) q k to x here = at (q' == q && k' == k) (first-noted t i q k to x here) where
-  at : (b : Bool) → (y : Note) × (note_of t q k ≡ Some y) → (y : Note) × (cond b (Some x') (note_of t q k) ≡ Some y)
-  at true r = (x', refl)
-  at false r = r
-first-noted (Receipt p r q' s ∷ t) zero q k to x here = absurd cc
-first-noted (Receipt p r q' s ∷ t) (suc i) q k to x here = first-noted t i q k to x here
 
 -- in a trace that obeys the rules a send's note is the one that its number names
 pub sent-noted : (n : ℕ) (t : List Event) → WellFormed n (map mark_of t) → (i q k to : ℕ) (x : Note) → slice_get t i ≡ Some (Send q k to x) → note_of t q k ≡ Some x
 sent-noted n t obeys i q k to x here =
-    let some = first-noted t i q k to x here in
+    let some = sent-note t i q k to x here in
     let first = noted-sent t q k some.0 some.1 in
-    let a = send-mark t i q k to x here in
-    let b = send-mark t first.0 q k first.1 some.0 first.2 in
-    elim (cases_lt i first.0) [
-      | inl below ↦ absurd (number-once n (map mark_of t) obeys q k to first.1 i first.0 a b below)
-      | inr above ↦ elim (cases_lt first.0 i) [
-        | inl below ↦ absurd (number-once n (map mark_of t) obeys q k first.1 to first.0 i b a below)
-        | inr same ↦ (let e : first.0 ≡ i = omega (arith, above, same) in
-            let h : slice_get t i ≡ Some (Send q k first.1 some.0) = rw e at first.2 in
-            let f : ◌≡◌ {A = Event} (Send q k first.1 some.0) (Send q k to x) = (let g : Some (Send q k first.1 some.0) ≡ Some (Send q k to x) = sym h ∙ here in cc) in
-            let y : some.0 ≡ x = cc in
-            some.1 ∙ ap Some y)
-      ]
-    ]
+    let e = one-place n (map mark_of t) obeys q k first.1 to first.0 i (send-mark t first.0 q k first.1 some.0 first.2) (send-mark t i q k to x here) in
+    let h : slice_get t i ≡ Some (Send q k first.1 some.0) = rw e at first.2 in
+    let f : ◌≡◌ {A = Event} (Send q k first.1 some.0) (Send q k to x) = (let g : Some (Send q k first.1 some.0) ≡ Some (Send q k to x) = sym h ∙ here in cc) in
+    let y : some.0 ≡ x = cc in
+    some.1 ∙ ap Some y

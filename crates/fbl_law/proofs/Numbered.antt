@@ -1,5 +1,5 @@
 -- The numbers of a member's events in a trace.
-use Rattle.std.proofs.Common.{◌≡◌, ℕ, zero, suc, ◌+◌, ◌<◌, ◌≤◌, Bool, true, false, cond, List, [], ◌∷◌, ◌++◌, take, count_by, refl, ap, ◌∙◌, arith}
+use Rattle.std.proofs.Common.{◌-◌, ◌≡◌, ℕ, zero, suc, ◌+◌, ◌<◌, ◌≤◌, Bool, true, false, cond, List, [], ◌∷◌, ◌++◌, take, count_by, refl, ap, ◌∙◌, arith}
 use Rattle.std.proofs.lemmas.Bool.Decides.{nat_tests}
 use Rattle.std.proofs.Math.Seq.{take-append-add}
 use Rattle.std.proofs.lemmas.List.Sums.{sum_by-append, sum_by-cons}
@@ -10,7 +10,9 @@ use Rattle.fbl_base.specs.Precedence.{Has}
 use Rattle.fbl_base.specs.Rules.{is_send_of, is_receipt_of, sends_of, receipts_of, WellFormed}
 use Rattle.fbl_base.proofs.RulesLaws.{count_at, eqb-self}
 use Rattle.fbl_law.specs.Knowledge.{Knowledge, IsBeforeCheckpoint, IsCheckpointKept}
-use Rattle.fbl_law.proofs.Lists.{At-behind}
+use Rattle.fbl_law.specs.Sound.{receipts_at}
+use Rattle.fbl_law.proofs.Lists.{At-behind, some-at}
+use Rattle.fbl_law.proofs.Receipts.{receipts_at-number, receipts_at-Has, length-receipts_at}
 
 counted-later : (p : Mark → Bool) (x : Mark) (t : List Mark) (i k : ℕ) → count_by p (take i t) ≡ k → count_by p (take (suc i) (x ∷ t)) ≡ cond (p x) 1 0 + k
 counted-later p x t i k is = sum_by-cons (λ y. cond (p y) 1 0) x (take i t) ∙ ap (λ z. cond (p x) 1 0 + z) is
@@ -33,16 +35,11 @@ counted-at p (x ∷ t) k below = at (p x) refl k (rw (sum_by-cons (λ y. cond (p
 
 -- a trace that obeys the rules has a receipt of each number up to its count of them
 pub receipt-there : (n : ℕ) (t : List Mark) (p k : ℕ) → WellFormed n t → 0 < k → k ≤ receipts_of t p → (q : ℕ) × (s : ℕ) × Has t (Receipt p k q s)
-receipt-there n t p zero obeys above within = absurd (omega arith)
-receipt-there n t p (suc k) obeys above within = (let r = counted-at (is_receipt_of p) t k (omega arith) in at r.0 r.1 r.2 r.3 r.4) where
-  at : (i : ℕ) (e : Mark) → At t i e → is_receipt_of p e ≡ true → receipts_of (take i t) p ≡ k → (q : ℕ) × (s : ℕ) × Has t (Receipt p (suc k) q s)
-  at i (Send q s to) here is count = absurd cc
-  at i (Receipt to r q s) here is count =
-      let same : to ≡ p = grind (arith, nat_tests) in
-      let may = obeys i (Receipt to r q s) here in
-      let as_many : receipts_of (take i t) to ≡ receipts_of (take i t) p = ap (receipts_of (take i t)) same in
-      let number : r ≡ suc k = omega (arith, may.3, as_many, count) in
-      (q, s, (i, (rw (same, number) at here)))
+receipt-there n t p k obeys above within =
+    let d = some-at (receipts_at t p) (k - 1) (omega (arith, length-receipts_at t p, above, within)) in
+    let has = receipts_at-Has t p (k - 1) d.0 d.1 in
+    let number : d.0.rsn ≡ k = omega (arith, receipts_at-number n t p (k - 1) d.0 obeys d.1, above) in
+    (d.0.from, d.0.ssn, (has.0.0, rw (has.1, number) at has.0.1))
 
 -- and a send
 pub send-there : (n : ℕ) (t : List Mark) (q k : ℕ) → WellFormed n t → 0 < k → k ≤ sends_of t q → (p : ℕ) × Has t (Send q k p)

@@ -2,7 +2,7 @@
 use Rattle.std.proofs.Common.{◌≡◌, ℕ, ◌<◌, inl, inr, arith, List}
 use Rattle.std.specs.FinSet as sets
 use Rattle.std.specs.Ordering.{nat_cmp}
-use Rattle.std.proofs.lemmas.Bool.{cases_lt}
+use Rattle.std.proofs.lemmas.Bool.{cases_order}
 use Rattle.fbl_base.specs.declared.trace.Determinant.{Determinant}
 use Rattle.fbl_base.specs.declared.trace.Mark.{Mark}
 use Rattle.fbl_base.specs.declared.trace.Mark.TheVariants.{Receipt}
@@ -66,17 +66,14 @@ receipts_rise n t i j p a b q s q' s' obeys first second below =
 pub recorded_is_prefix : RecordedIsPrefix
 recorded_is_prefix next r c d sound there same before recorded =
     let found : Has (marks r) (receipt_of d) = Has-recorded (knowledge r) sound.causes.truth d recorded in
-    elim (cases_lt there.0 found.0) [
-      | inl earlier ↦ IsRecorded-prefix r.config.f (knowledge r) sound.causes.closed c d same (there.0, found.0, earlier, there.1, found.1) recorded
-      | inr past ↦ elim (cases_lt found.0 there.0) [
-        | inl later ↦
-            let at_same : At (marks r) there.0 (Receipt d.to c.rsn c.from c.ssn) = rw (← same) there.1 in
-            let rises = receipts_rise r.config.members (marks r) found.0 there.0 d.to d.rsn c.rsn d.from d.ssn c.from c.ssn sound.lawful.well_formed found.1 at_same later in
-            absurd (omega (arith, rises, before))
-        | inr equal ↦
-            let place : there.0 ≡ found.0 = omega (arith, past, equal) in
-            let here : At (marks r) found.0 (receipt_of c) = rw (← place) there.1 in
-            let one : receipt_of c ≡ receipt_of d = (let e1 = here in let e2 = found.1 in cc) in
-            IsRecorded-before r.config.f (knowledge r) sound.causes.closed c d recorded (rw one (itself found))
-      ]
+    elim (cases_order there.0 found.0) [
+      | inl place ↦
+          let here : At (marks r) found.0 (receipt_of c) = rw (← place) there.1 in
+          let one : receipt_of c ≡ receipt_of d = (let e1 = here in let e2 = found.1 in cc) in
+          IsRecorded-before r.config.f (knowledge r) sound.causes.closed c d recorded (rw one (itself found))
+      | inr (inl earlier) ↦ IsRecorded-prefix r.config.f (knowledge r) sound.causes.closed c d same (there.0, found.0, earlier, there.1, found.1) recorded
+      | inr (inr later) ↦
+          let at_same : At (marks r) there.0 (Receipt d.to c.rsn c.from c.ssn) = rw (← same) there.1 in
+          let rises = receipts_rise r.config.members (marks r) found.0 there.0 d.to d.rsn c.rsn d.from d.ssn c.from c.ssn sound.lawful.well_formed found.1 at_same later in
+          absurd (omega (arith, rises, before))
     ]

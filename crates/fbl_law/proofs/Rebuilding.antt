@@ -1,10 +1,9 @@
 -- From the replay of the members that are down to a recovery.
-use Rattle.std.proofs.Common.{◌≡◌, ◌≢◌, ℕ, ◌+◌, ◌-◌, ◌<◌, ◌≤◌, ◌==◌, ◌||◌, not, nat_le, ◌⊎◌, inl, inr, Bool, [], true, false, List, length, map, Some, refl, sym, subst, ap, ◌∙◌, arith}
+use Rattle.std.proofs.Common.{◌≡◌, ℕ, ◌+◌, ◌-◌, ◌<◌, ◌≤◌, ◌||◌, not, nat_le, ◌⊎◌, inl, inr, Bool, [], true, false, List, length, map, Some, refl, sym, subst, ap, ◌∙◌, arith}
 use Rattle.std.specs.Prelude.{slice_set, slice_index_or}
 use Rattle.std.specs.List.{filter}
 use Rattle.std.specs.FinSet as set
-use Rattle.std.proofs.lemmas.Bool.{cases_lt}
-use Rattle.std.proofs.lemmas.Bool.Decides.{nat_tests}
+use Rattle.std.proofs.lemmas.Bool.{cases_lt, cases_eq}
 use Rattle.std.proofs.lemmas.List.{length-set, get_or-set_same, get_or-set_other}
 use Rattle.fbl_base.specs.declared.trace.Determinant.{Determinant}
 use Rattle.fbl_base.specs.declared.trace.Note.{Note}
@@ -127,8 +126,14 @@ module _ (next : Next) (old : GroupRecord) (sound : IsSound next old) where
       → IsReplaying next old (slice_set rebuilt p (replayed_by next p old.config.members (slice_index_or rebuilt p blank) d note))
   replaying-step rebuilt p d note replaying below down is named = record {
     size = length-set rebuilt p after ∙ replaying.size;
-    replayed = λ q below_q down_q. at q below_q down_q (q == p) refl;
-    begun = λ q below_q down_q. more q below_q down_q (q == p) refl;
+    replayed = λ q below_q down_q. elim (cases_eq q p) [
+      | inl same ↦ rw same (subst (Replays p) (sym own) there)
+      | inr other ↦ subst (Replays q) (sym (get_or-set_other rebuilt p q after blank other)) (replaying.replayed q below_q down_q)
+    ];
+    begun = λ q below_q down_q. elim (cases_eq q p) [
+      | inl same ↦ rw same (let e = ap (λ (m : MemberRecord). m.received) own in omega (arith, e, replaying.begun p below down))
+      | inr other ↦ (let e = ap (λ (m : MemberRecord). m.received) (get_or-set_other rebuilt p q after blank other) in omega (arith, e, replaying.begun q below_q down_q))
+    ];
   }
     where
       after : MemberRecord
@@ -138,23 +143,8 @@ module _ (next : Next) (old : GroupRecord) (sound : IsSound next old) where
       there = replayed-next next old sound (recovered_trace old) cut p (slice_index_or rebuilt p blank) d (working old rebuilt d.from) note (replaying.replayed p below down) is
           (working-replays rebuilt replaying d.from (replaying-next rebuilt p d replaying below down is).from) named
 
-      at : (q : ℕ) → q < old.config.members → IsDown (knowledge old) q → (b : Bool) → (q == p) ≡ b → Replays q (slice_index_or (slice_set rebuilt p after) q blank)
-      at q below_q down_q true eq =
-          let same : q ≡ p = grind (arith, nat_tests) in
-          rw same (subst (Replays p) (sym (get_or-set_same rebuilt p after blank (omega (arith, replaying.size, below)))) there)
-      at q below_q down_q false eq =
-          let other : q ≢ p = grind (arith, nat_tests) in
-          subst (Replays q) (sym (get_or-set_other rebuilt p q after blank other)) (replaying.replayed q below_q down_q)
-
-      more : (q : ℕ) → q < old.config.members → IsDown (knowledge old) q → (b : Bool) → (q == p) ≡ b → (checkpoint old q).received ≤ (slice_index_or (slice_set rebuilt p after) q blank).received
-      more q below_q down_q true eq =
-          let same : q ≡ p = grind (arith, nat_tests) in
-          let e : (slice_index_or (slice_set rebuilt p after) p blank).received ≡ after.received = ap (λ (m : MemberRecord). m.received) (get_or-set_same rebuilt p after blank (omega (arith, replaying.size, below))) in
-          rw same (omega (arith, e, replaying.begun p below down))
-      more q below_q down_q false eq =
-          let other : q ≢ p = grind (arith, nat_tests) in
-          let e = ap (λ (m : MemberRecord). m.received) (get_or-set_other rebuilt p q after blank other) in
-          omega (arith, e, replaying.begun q below_q down_q)
+      own : slice_index_or (slice_set rebuilt p after) p blank ≡ after
+      own = get_or-set_same rebuilt p after blank (omega (arith, replaying.size, below))
 
   -- one more is replayed
   pub replayed_in-step : (rebuilt : List MemberRecord) (p : ℕ) (d : Determinant) (note : Note) → IsReplaying next old rebuilt → p < old.config.members → IsDown (knowledge old) p

@@ -1,9 +1,9 @@
 -- A member's receipts in a trace, in order.
 use Rattle.std.proofs.Common.{◌≡◌, ℕ, zero, suc, ◌+◌, ◌==◌, ◌&&◌, Bool, true, false, cond, List, [], ◌∷◌, ◌++◌, length, map, Option, Some, None, option_map, slice_get, refl, sym, ap, ◌∙◌, arith, append_assoc}
-use Rattle.std.specs.List.{filter, filter_map, cons_option, fold}
+use Rattle.std.specs.List.{filter_map, cons_option, fold}
 use Rattle.std.proofs.lemmas.Bool.Decides.{nat_tests}
 use Rattle.std.proofs.lemmas.List.{length-map}
-use Rattle.std.proofs.lemmas.List.Sums.{sum_by-append, sum_by-cons}
+use Rattle.std.proofs.lemmas.List.Sums.{sum_by-cons}
 use Rattle.std.proofs.lemmas.Option.{slice_get-map}
 use Rattle.fbl_base.specs.declared.trace.Determinant.{Determinant}
 use Rattle.fbl_base.specs.declared.trace.Note.{Note}
@@ -15,46 +15,22 @@ use Rattle.fbl_base.specs.Events.{mark_of, determinant_of, receipt_of}
 use Rattle.fbl_base.specs.Precedence.{Has}
 use Rattle.fbl_base.specs.Rules.{is_receipt_of, receipts_of, taken_on, WellFormed}
 use Rattle.fbl_base.specs.Fold.{sent, action_of, notes_of, note_of}
-use Rattle.fbl_base.proofs.Gets.{At-filter, At-filter_map}
-use Rattle.fbl_base.proofs.RulesLaws.{WellFormed-front, MayFollow-last}
+use Rattle.fbl_base.proofs.Gets.{filter_map-At, At-filter, At-filter_map}
+use Rattle.fbl_base.proofs.RulesLaws.{receipts-step, WellFormed-front, MayFollow-last}
 use Rattle.fbl_base.proofs.LawfulLaws.{receipts-noted}
 use Rattle.fbl_law.specs.Sound.{received_notes, last_taken, receipts_at, last_among}
-use Rattle.fbl_law.proofs.CutFolds.{filter-At}
-
--- what is left passes the test
-pub filter-passes : {X : Type 0} (p : X → Bool) (xs : List X) (i : ℕ) (x : X) → slice_get (filter p xs) i ≡ Some x → p x ≡ true
-filter-passes p [] i x here = absurd cc
-filter-passes {X} p (y ∷ xs) i x here = at (p y) refl i here (filter-passes p xs) where
-  at : (b : Bool) → p y ≡ b → (i : ℕ) → slice_get (cond b (y ∷ filter p xs) (filter p xs)) i ≡ Some x → ((i : ℕ) (x : X) → slice_get (filter p xs) i ≡ Some x → p x ≡ true) → p x ≡ true
-  at true is zero g rest = (let same : y ≡ x = cc in ap p (sym same) ∙ is)
-  at true is (suc i) g rest = rest i x g
-  at false is i g rest = rest i x g
-
--- an element that is mapped to something is in what the map gives
-pub filter_map-At : {X Y : Type 0} (g : X → Option Y) (xs : List X) (i : ℕ) (x : X) (y : Y) → slice_get xs i ≡ Some x → g x ≡ Some y → (j : ℕ) × (slice_get (filter_map g xs) j ≡ Some y)
-filter_map-At g [] i x y here is = absurd cc
-filter_map-At g (z ∷ xs) zero x y here is = (let e : g z ≡ Some y = (let same : z ≡ x = cc in ap g same ∙ is) in (0, rw e refl))
-filter_map-At {X} {Y} g (z ∷ xs) (suc i) x y here is = skip (g z) (filter_map-At g xs i x y here is) where
-  skip : (o : Option Y) → (j : ℕ) × (slice_get (filter_map g xs) j ≡ Some y) → (j : ℕ) × (slice_get (cons_option o (filter_map g xs)) j ≡ Some y)
-  skip None r = r
-  skip (Some w) r = (suc r.0, r.1)
-
-pub is-receipt : (e : Mark) (d : Determinant) → determinant_of e ≡ Some d → e ≡ receipt_of d
-is-receipt (Send q s p) d h = absurd cc
-is-receipt (Receipt p r q s) d h = (let e : ◌≡◌ {A = Determinant} (record { from = q; ssn = s; to = p; rsn = r }) d = cc in rw (← e) refl)
-
-receipts_more : (t : List Mark) (e : Mark) (p : ℕ) → receipts_of (t ++ e ∷ []) p ≡ receipts_of t p + cond (is_receipt_of p e) 1 0
-receipts_more t e p = sum_by-append (λ y. cond (is_receipt_of p y) 1 0) t (e ∷ []) ∙ omega arith
+use Rattle.fbl_law.proofs.Lists.{filter-At, filter-passes}
+use Rattle.fbl_base.proofs.Received.{is_receipt}
 
 receipts-from : (n p : ℕ) (u rest : List Mark) → WellFormed n (u ++ rest) → (j : ℕ) (d : Determinant) → slice_get (receipts_at rest p) j ≡ Some d → d.rsn ≡ receipts_of u p + j + 1
 receipts-from n p u [] obeys j d here = absurd cc
 receipts-from n p u (Send q k to ∷ rest) obeys j d here =
     let ih = receipts-from n p (u ++ Send q k to ∷ []) rest (rw append_assoc obeys) j d here in
-    omega (arith, ih, receipts_more u (Send q k to) p)
+    omega (arith, ih, receipts-step u (Send q k to) p)
 receipts-from n p u (Receipt to r q k ∷ rest) obeys j d here =
     let front : WellFormed n ((u ++ Receipt to r q k ∷ []) ++ rest) = rw append_assoc obeys in
     let may = MayFollow-last n u (Receipt to r q k) (WellFormed-front n (u ++ Receipt to r q k ∷ []) rest front) in
-    at (to == p) refl may.3 (receipts_more u (Receipt to r q k) p) j here (receipts-from n p (u ++ Receipt to r q k ∷ []) rest front)
+    at (to == p) refl may.3 (receipts-step u (Receipt to r q k) p) j here (receipts-from n p (u ++ Receipt to r q k ∷ []) rest front)
   where
     at : (b : Bool) → (to == p) ≡ b → r ≡ receipts_of u to + 1 → receipts_of (u ++ Receipt to r q k ∷ []) p ≡ receipts_of u p + cond (to == p) 1 0
         → (j : ℕ) → slice_get (cond b (record { from = q; ssn = k; to = to; rsn = r } ∷ receipts_at rest p) (receipts_at rest p)) j ≡ Some d
@@ -78,7 +54,7 @@ receipts_at-Has t p j d here =
     let a = At-filter (λ (x : Determinant). x.to == p) (filter_map determinant_of t) j d here in
     let b = At-filter_map determinant_of t a.0 d a.1 in
     let passes : (d.to == p) ≡ true = filter-passes (λ (x : Determinant). x.to == p) (filter_map determinant_of t) j d here in
-    ((b.0, b.2 ∙ ap Some (is-receipt b.1 d b.3)), grind (arith, nat_tests))
+    ((b.0, b.2 ∙ ap Some (is_receipt b.1 d b.3)), grind (arith, nat_tests))
 
 -- and each receipt of the member is among them, at its number
 pub Has-receipts_at : (n : ℕ) (t : List Mark) (p j : ℕ) (d : Determinant) → WellFormed n t → Has t (receipt_of d) → d.to ≡ p → d.rsn ≡ j + 1 → slice_get (receipts_at t p) j ≡ Some d

@@ -9,6 +9,7 @@ use Rattle.fbl_base.specs.declared.trace.Mark.TheVariants.{Send, Receipt}
 use Rattle.fbl_base.specs.Events.{member_of, send_of}
 use Rattle.fbl_base.specs.Precedence.{Has, Earlier, Leads, Precedes, itself, step}
 use Rattle.fbl_base.specs.Rules.{WellFormed, sent_on, taken_on, receipts_of, sends_of}
+use Rattle.fbl_base.proofs.RulesLaws.{is_sent}
 use Rattle.fbl_base.proofs.InFlightLaws.{sent-number}
 use Rattle.fbl_base.specs.Events.{receipt_of}
 use Rattle.fbl_base.proofs.PrecedenceLaws.{Has-filter, Precedes-filter, Has-first}
@@ -17,7 +18,7 @@ use Rattle.fbl_member.specs.Members.{Message}
 use Rattle.fbl_law.specs.Knowledge.{Includes, Knowledge, table, send_mark, IsInFlight, IsDown, IsUp, Names, Holds, IsRecorded, IsHolder, IsStable, IsTrueEntry, KnowsTruth, NamesCauses, IsClosed, MatchesTrace, IsDownEmpty, checkpoint, IsBeforeCheckpoint, IsCheckpointKept}
 use Rattle.fbl_table.specs.Tables.{piggybacked}
 use Rattle.fbl_law.specs.Steps.{Stays, UpTo, IsRecovered}
-use Rattle.fbl_law.proofs.Cut.{Has-kept, kept-Has, KeepsCauses, Has-before, WellFormed-kept, map-kept, is_sent, taken_at}
+use Rattle.fbl_law.proofs.Cut.{Has-kept, kept-Has, KeepsCauses, Has-before, WellFormed-kept, map-kept, taken_at}
 use Rattle.fbl_law.proofs.Appended.{Earlier-joined}
 use Rattle.fbl_law.proofs.Channels.{AreSent, matched-Has}
 use Rattle.fbl_law.proofs.Gather.{IsGathered, entries_gathered, recorded_gathered}

@@ -1,20 +1,18 @@
 -- Replay never gets stuck.
-use Rattle.std.proofs.Common.{◌≡◌, ℕ, zero, suc, ◌<◌, ◌≤◌, ◌+◌, ◌==◌, Bool, true, false, cond, List, [], ◌∷◌, ◌++◌, take, drop, inl, inr, arith, refl, subst, ap, Option, Some, None, slice_get, count_by, length-take}
+use Rattle.std.proofs.Common.{◌≡◌, ℕ, zero, suc, ◌<◌, ◌≤◌, ◌+◌, ◌==◌, Bool, true, false, cond, List, [], ◌∷◌, ◌++◌, take, inl, inr, arith, refl, subst, ap, Option, Some, None, slice_get, count_by}
 use Rattle.std.proofs.lemmas.Bool.{cases_lt}
 use Rattle.std.proofs.lemmas.Bool.Decides.{nat_tests}
-use Rattle.std.proofs.lemmas.List.{take-append-drop}
 use Rattle.std.proofs.lemmas.List.Sums.{sum_by-append}
 use Rattle.fbl_base.specs.declared.trace.Determinant.{Determinant}
 use Rattle.fbl_base.specs.declared.trace.Mark.{Mark}
 use Rattle.fbl_base.specs.declared.trace.Mark.TheVariants.{Send, Receipt}
 use Rattle.fbl_base.specs.Events.{At}
-use Rattle.fbl_base.specs.Rules.{is_receipt_of, receipts_of, MayFollow, WellFormed}
+use Rattle.fbl_base.specs.Rules.{is_receipt_of, receipts_of, WellFormed}
 use Rattle.fbl_base.specs.Events.{receipt_of}
-use Rattle.fbl_base.proofs.Gets.{At-front, At-below}
-use Rattle.fbl_base.proofs.RulesLaws.{in_flight-sent}
+use Rattle.fbl_base.proofs.RulesLaws.{sent-before}
 use Rattle.fbl_law.specs.Laws.{NeverStuck}
 use Rattle.fbl_law.specs.Replay.{IsSentAgain, IsStuck}
-use Rattle.fbl_law.proofs.Appended.{once}
+use Rattle.fbl_base.proofs.PlacesAndEvents.{one_place}
 
 take_end : (xs : List Mark) (i : ℕ) → slice_get xs i ≡ None → take (suc i) xs ≡ take i xs
 take_end [] zero is = refl
@@ -60,18 +58,14 @@ module _ (n : ℕ) (t : List Mark) (done : ℕ → ℕ) (obeys : WellFormed n t)
       let count = count_before d.to i before in
       elim (cases_lt (done d.to) d.rsn) [
         | inr le ↦ le
-        | inl gt ↦ absurd (stuck d (i, here) (omega (arith, may.3, count, gt)) (λ c to earlier. sent_again may.5 c to earlier))
+        | inl gt ↦ absurd (stuck d (i, here) (omega (arith, may.3, count, gt)) sent_again)
       ]
     where
-      sent_again : slice_get (Rattle.fbl_base.specs.Rules.in_flight (take i t) d.from d.to) 0 ≡ Some d.ssn → IsSentAgain t done d.from d.ssn d.to
-      sent_again first c to earlier =
-          let sent = in_flight-sent (take i t) d.from d.ssn d.to first in
-          let whole : At t sent.0 (Send d.from d.ssn d.to) = (rw take-append-drop at (At-front (take i t) (drop i t) sent.0 (Send d.from d.ssn d.to) sent.1)) in
-          let below : sent.0 < i = (let b = At-below (take i t) sent.0 (Send d.from d.ssn d.to) sent.1 in omega (arith, b, length-take i t)) in
-          elim (cases_lt sent.0 earlier.1) [
-            | inl late ↦ absurd (once n t (Send d.from d.ssn d.to) sent.0 earlier.1 obeys whole earlier.4 late)
-            | inr not_late ↦ subst (λ (x : ℕ). c.rsn ≤ done x) to (before earlier.0 c (omega (arith, earlier.2, not_late, below)) earlier.3)
-          ]
+      sent_again : IsSentAgain t done d.from d.ssn d.to
+      sent_again c to earlier =
+          let sent = sent-before n t obeys i d.to d.rsn d.from d.ssn here in
+          let same = one_place n t obeys (Send d.from d.ssn d.to) sent.0 earlier.1 sent.2 earlier.4 in
+          subst (λ (x : ℕ). c.rsn ≤ done x) to (before earlier.0 c (omega (arith, earlier.2, same, sent.1)) earlier.3)
 
   all_done : (k : ℕ) → DoneBefore k
   all_done zero j c below = absurd (omega arith)

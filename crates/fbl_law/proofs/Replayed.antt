@@ -20,6 +20,7 @@ use Rattle.fbl_base.proofs.LawfulLaws.{receipts-noted}
 use Rattle.fbl_member.specs.Members.{MemberRecord, fresh, replayed_by}
 use Rattle.fbl_law.specs.Groups.{GroupRecord, member, marks}
 use Rattle.fbl_law.specs.Sound.{received_notes, IsFold, receipts_at, last_among, IsReplayed}
+use Rattle.fbl_law.proofs.Lists.{some-at}
 use Rattle.fbl_law.proofs.Logs.{received-fold}
 use Rattle.fbl_law.proofs.Receipts.{receipts_at-number, receipts_at-Has, Has-receipts_at, length-received_notes, note-at, last_taken-among}
 
@@ -90,11 +91,6 @@ replayed-fold next r m obeys replayed count =
       places = replayed.places;
       last = λ q below. replayed.last q below ∙ ap (λ (ds : List Determinant). last_among ds q) all_receipts ∙ sym (last_taken-among (marks r) q m);
     }
-
-some-at : {X : Type 0} (xs : List X) (i : ℕ) → i < length xs → (x : X) × (slice_get xs i ≡ Some x)
-some-at [] i below = absurd (omega arith)
-some-at (x ∷ xs) zero below = (x, refl)
-some-at (x ∷ xs) (suc i) below = some-at xs i (omega arith)
 
 -- the receipt at a place of the marks is one of the events
 receipt-event : (t : List Event) (i to rsn from ssn : ℕ) → slice_get (map mark_of t) i ≡ Some (Receipt to rsn from ssn) → slice_get t i ≡ Some (event.Receipt to rsn from ssn)

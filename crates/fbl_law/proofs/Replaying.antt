@@ -1,6 +1,7 @@
 -- How the members that are down replay what the survivors have recorded.
-use Rattle.std.proofs.Common.{◌≡◌, ℕ, zero, suc, ◌+◌, ◌<◌, ◌≤◌, ◌==◌, ◌&&◌, inl, inr, Bool, true, false, cond, List, [], ◌∷◌, ◌++◌, length, take, drop, map, Option, Some, None, option_map, slice_get, refl, sym, subst, ap, ◌∙◌, arith, length-take, length-append}
+use Rattle.std.proofs.Common.{◌≡◌, ℕ, zero, suc, ◌+◌, ◌<◌, ◌≤◌, ◌==◌, inl, inr, Bool, true, false, cond, List, [], ◌∷◌, ◌++◌, length, take, drop, map, Option, Some, None, option_map, slice_get, refl, sym, subst, ap, ◌∙◌, arith, length-take, length-append}
 use Rattle.std.specs.List.{filter, find}
+use Rattle.std.proofs.lemmas.Bool.{cases_lt, and_parts, eqb-true}
 use Rattle.std.proofs.lemmas.Bool.Decides.{nat_tests}
 use Rattle.std.proofs.lemmas.List.{take-append-drop, map-append, length-map}
 use Rattle.std.proofs.lemmas.List.Sums.{count_by-le-length}
@@ -11,13 +12,13 @@ use Rattle.fbl_base.specs.declared.trace.Event.{Event}
 use Rattle.fbl_base.specs.declared.trace.Event.TheVariants as event
 use Rattle.fbl_base.specs.declared.trace.Mark.{Mark}
 use Rattle.fbl_base.specs.declared.trace.Mark.TheVariants.{Send}
-use Rattle.fbl_base.specs.Events.{At, mark_of, receipt_of}
+use Rattle.fbl_base.specs.Events.{mark_of, receipt_of}
 use Rattle.fbl_base.specs.Precedence.{Has, itself}
 use Rattle.fbl_base.specs.Rules.{is_receipt_of, is_send_of, WellFormed}
 use Rattle.fbl_base.specs.Fold.{Next, Progress, numbered, after_notes, note_of}
 use Rattle.fbl_base.proofs.Gets.{At-front, At-below}
 use Rattle.fbl_base.proofs.PrecedenceLaws.{Has-filter}
-use Rattle.fbl_base.proofs.RulesLaws.{in_flight-sent, WellFormed-front}
+use Rattle.fbl_base.proofs.RulesLaws.{sent-before, WellFormed-front}
 use Rattle.fbl_table.specs.declared.entry.Entry.{Entry}
 use Rattle.fbl_table.specs.Tables.{found, is_of_receipt}
 use Rattle.fbl_member.specs.Members.{MemberRecord, logged_note, replayed_by}
@@ -27,26 +28,16 @@ use Rattle.fbl_law.specs.Groups.{GroupRecord, marks, knowledge}
 use Rattle.fbl_law.specs.Sound.{received_notes, receipts_at, IsReplayed, IsSound}
 use Rattle.fbl_law.specs.Replay.{IsSentAgain, IsStuck}
 use Rattle.fbl_law.specs.Replaying.{IsNextReplay, gathered_table}
-use Rattle.fbl_law.proofs.Lists.{Contains-here, Contains-there, Contains-cons_cases, Contains-none}
+use Rattle.fbl_law.proofs.Lists.{some-at, length-left, Contains-here, Contains-there, Contains-cons_cases, Contains-none}
 use Rattle.fbl_law.proofs.Safe.{down_or_up, IsRecorded-before, Has-recorded}
-use Rattle.fbl_law.proofs.Cut.{Has-kept, kept-Has}
+use Rattle.fbl_law.proofs.Cut.{marks-filter, Has-kept, kept-Has}
 use Rattle.fbl_law.proofs.CutLaw.{stays_is_recorded}
-use Rattle.fbl_law.proofs.LawfulCut.{marks-filter}
 use Rattle.fbl_law.proofs.Gather.{entries_gathered, recorded_gathered}
 use Rattle.fbl_law.proofs.Replay.{never_stuck}
-use Rattle.fbl_law.proofs.GroupRecovery.{cut-lawful, length-left}
-use Rattle.fbl_law.proofs.Counts.{length-numbered}
-use Rattle.fbl_law.proofs.Logs.{logged-noted, logged-by, log-short}
+use Rattle.fbl_law.proofs.GroupRecovery.{cut-lawful}
+use Rattle.fbl_law.proofs.Logs.{length-numbered, logged-noted, logged-by, log-short}
 use Rattle.fbl_law.proofs.Receipts.{receipts_at-number, receipts_at-Has, Has-receipts_at, length-receipts_at}
 use Rattle.fbl_law.proofs.Replayed.{replayed-step}
-
-same-number : (a b : ℕ) → (a == b) ≡ true → a ≡ b
-same-number a b is = grind (arith, nat_tests)
-
-both : (a b : Bool) → (a && b) ≡ true → (a ≡ true) × (b ≡ true)
-both true true is = (refl, refl)
-both true false is = absurd cc
-both false b is = absurd cc
 
 -- what a table finds is one of its entries' determinants, of that receipt
 pub found-named : (p k : ℕ) (table : List Entry) (d : Determinant) → found p k table ≡ Some d → Names table d × (d.to ≡ p) × (d.rsn ≡ k)
@@ -55,8 +46,8 @@ found-named p k (e ∷ table) d is = at (is_of_receipt p k e) refl is (found-nam
   at : (b : Bool) → is_of_receipt p k e ≡ b → option_map (λ (x : Entry). x.det) (cond b (Some e) (find (is_of_receipt p k) table)) ≡ Some d → (found p k table ≡ Some d → Names table d × (d.to ≡ p) × (d.rsn ≡ k)) → Names (e ∷ table) d × (d.to ≡ p) × (d.rsn ≡ k)
   at true yes' g rest =
       let same : e.det ≡ d = cc in
-      let parts = both (e.det.to == p) (e.det.rsn == k) yes' in
-      ((e, Contains-here e table, same), ap (λ (x : Determinant). x.to) (sym same) ∙ same-number e.det.to p parts.0, ap (λ (x : Determinant). x.rsn) (sym same) ∙ same-number e.det.rsn k parts.1)
+      let parts = and_parts (e.det.to == p) (e.det.rsn == k) yes' in
+      ((e, Contains-here e table, same), ap (λ (x : Determinant). x.to) (sym same) ∙ eqb-true e.det.to p parts.0, ap (λ (x : Determinant). x.rsn) (sym same) ∙ eqb-true e.det.rsn k parts.1)
   at false no' g rest = (let r = rest g in ((r.0.0, Contains-there e table r.0.0 r.0.1, r.0.2), r.1, r.2))
 
 -- where it finds none, no entry is of that receipt
@@ -83,22 +74,13 @@ split-at (y ∷ xs) (suc i) x here = ap (λ zs. y ∷ zs) (split-at xs i x here)
 
 -- where each receipt of a member is numbered at most k, it has at most k
 at-most : (n : ℕ) (t : List Mark) (p k : ℕ) → WellFormed n t → ((d : Determinant) → Has t (receipt_of d) → d.to ≡ p → d.rsn ≤ k) → length (receipts_at t p) ≤ k
-at-most n t p k obeys all = at (length (receipts_at t p)) refl where
-  last : (j : ℕ) → suc j ≡ length (receipts_at t p) → (o : Option Determinant) → slice_get (receipts_at t p) j ≡ o → suc j ≤ k
-  last j long None is = absurd (let some = within (receipts_at t p) j (omega arith) in let bad = some.1 in cc) where
-    within : {X : Type 0} (xs : List X) (i : ℕ) → i < length xs → (x : X) × (slice_get xs i ≡ Some x)
-    within [] i below = absurd (omega arith)
-    within (x ∷ xs) zero below = (x, refl)
-    within (x ∷ xs) (suc i) below = within xs i (omega arith)
-  last j long (Some d) is =
-      let has = receipts_at-Has t p j d is in
-      let number = receipts_at-number n t p j d obeys is in
-      let few = all d has.0 has.1 in
-      omega arith
-
-  at : (len : ℕ) → len ≡ length (receipts_at t p) → length (receipts_at t p) ≤ k
-  at zero is = omega (arith, is)
-  at (suc j) is = (let few = last j is (slice_get (receipts_at t p) j) refl in omega (arith, is))
+at-most n t p k obeys all = elim (cases_lt k (length (receipts_at t p))) [
+  | inr few ↦ few
+  | inl more ↦
+      let d = some-at (receipts_at t p) k more in
+      let has = receipts_at-Has t p k d.0 d.1 in
+      absurd (omega (arith, all d.0 has.0 has.1, receipts_at-number n t p k d.0 obeys d.1))
+]
 
 module _ (next : Next) (old : GroupRecord) (sound : IsSound next old) (new : List Event) (cut : IsEventCut (Stays (knowledge old)) old.trace new) where
   -- the member has come so far in its replay of the cut
@@ -238,9 +220,8 @@ module _ (next : Next) (old : GroupRecord) (sound : IsSound next old) (new : Lis
           | inr up ↦ (let within = slice_get_within (receipts_at (map mark_of new) d.to) (work d.to).received d here in omega (arith, within, survivors d.to may.1 up))
           | inl down ↦
               let none = waiting d.to may.1 down d (found-all d.to (work d.to).received d here) in
-              let front = in_flight-sent (take has.0 (map mark_of new)) d.from d.ssn d.to may.5 in
-              let whole : At (map mark_of new) front.0 (Send d.from d.ssn d.to) = (rw take-append-drop at (At-front (take has.0 (map mark_of new)) (drop has.0 (map mark_of new)) front.0 (Send d.from d.ssn d.to) front.1)) in
-              let some = sent-again d.from d.ssn d.to may.0 (front.0, whole) sent in
+              let front = sent-before old.config.members (map mark_of new) cut-obeys has.0 d.to d.rsn d.from d.ssn has.1 in
+              let some = sent-again d.from d.ssn d.to may.0 (front.0, front.2) sent in
               let some-is = some.1 in
               cc
         ]

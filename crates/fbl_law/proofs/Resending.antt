@@ -1,5 +1,5 @@
 -- Channels by their places, how many messages they have, and what is sent again.
-use Rattle.std.proofs.Common.{◌≡◌, ℕ, zero, suc, ◌+◌, ◌*◌, ◌<◌, ◌≤◌, ◌==◌, ◌&&◌, ◌||◌, nat_lt, ◌⊎◌, inl, inr, Bool, true, false, cond, List, [], length, get_or, refl, ap, ◌∙◌, arith}
+use Rattle.std.proofs.Common.{◌≡◌, ℕ, zero, suc, ◌<◌, ◌≤◌, ◌==◌, ◌&&◌, ◌||◌, nat_lt, ◌⊎◌, inl, inr, Bool, true, false, cond, List, [], length, get_or, refl, ap, ◌∙◌, arith}
 use Rattle.std.specs.List.{filter}
 use Rattle.std.specs.FinSet as set
 use Rattle.std.proofs.lemmas.Bool.{cases_lt}
@@ -11,7 +11,7 @@ use Rattle.fbl_member.specs.Members.{Message, MemberRecord, last_from, logged_be
 use Rattle.fbl_law.specs.Knowledge.{Members}
 use Rattle.fbl_law.specs.Groups.{HasChannels, channel_in, sum_below}
 use Rattle.fbl_law.specs.Replaying.{resent_to, sent_again}
-use Rattle.fbl_law.proofs.GroupRecovery.{length-left}
+use Rattle.fbl_law.proofs.Lists.{length-left}
 
 -- there is no channel but between members
 pub channel-outside : (n : ℕ) (channels : List (List (List Message))) (q p : ℕ) → HasChannels n channels → (n ≤ q) ⊎ (n ≤ p) → channel_in channels q p ≡ []
@@ -24,14 +24,10 @@ channel-outside n channels q p shape out = at out (cases_lt q n) where
   at (inr past) (inr beyond) = no_row beyond
   at (inr past) (inl below) = get_or_past (get_or channels q []) p [] (omega (arith, past, shape.receivers q below))
 
--- sums of counts that agree, and of counts that are few
+-- sums of counts that agree
 pub sum_below-agree : (n : ℕ) (a b : ℕ → ℕ) → ((x : ℕ) → x < n → a x ≡ b x) → sum_below n a ≡ sum_below n b
 sum_below-agree zero a b agree = refl
 sum_below-agree (suc n) a b agree = omega (arith, sum_below-agree n a b (λ x below. agree x (omega arith)), agree n (omega arith))
-
-pub sum_below-fits : (n k : ℕ) (a : ℕ → ℕ) → ((x : ℕ) → x < n → a x ≤ k) → sum_below n a ≤ n * k
-sum_below-fits zero k a few = omega arith
-sum_below-fits (suc n) k a few = (let rest = sum_below-fits n k a (λ x below. few x (omega arith)) in let one = few n (omega arith) in let product : suc n * k ≡ n * k + k = omega arith in omega (arith, rest, one, product))
 
 -- what is sent again goes by the records of the two alone
 pub sent_again-agree : (f : ℕ) (s : Members) (a b : ℕ → MemberRecord) (q p : ℕ) → a q ≡ b q → a p ≡ b p → sent_again f s a q p ≡ sent_again f s b q p

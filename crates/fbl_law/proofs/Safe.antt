@@ -1,25 +1,37 @@
 -- What a closed record promises.
-use Rattle.std.proofs.Common.{◌≡◌, ℕ, Bool, true, false, inl, inr, ◌⊎◌, arith, refl, subst}
+use Rattle.std.proofs.Common.{List, ◌≡◌, ℕ, false, [], inl, inr, ◌⊎◌, arith, subst}
 use Rattle.std.specs.Ordering.{nat_cmp}
 use Rattle.std.specs.FinSet as set
+use Rattle.std.specs.List.{Contains}
+use Rattle.std.proofs.lemmas.Bool.{cases_Bool}
 use Rattle.fbl_base.specs.declared.trace.Determinant.{Determinant}
 use Rattle.fbl_base.specs.declared.trace.Mark.{Mark}
 use Rattle.fbl_base.specs.declared.trace.Mark.TheVariants.{Send, Receipt}
 use Rattle.fbl_base.specs.Precedence.{Has, Earlier, Precedes, itself, step, Depends}
 use Rattle.fbl_base.specs.Events.{member_of, receipt_of}
 use Rattle.fbl_base.proofs.Sizes.{some_member}
-use Rattle.fbl_law.specs.Knowledge.{Members, Includes, Knowledge, table, checkpoint, IsUp, Names, Holds, IsRecorded, IsStable, KnowsTruth, IsBeforeCheckpoint, IsClosed, IsOrphan, IsDownEmpty}
+use Rattle.fbl_law.specs.Knowledge.{IsTrueEntry, Members, Includes, Knowledge, table, checkpoint, IsUp, IsDown, Names, Holds, IsRecorded, IsStable, KnowsTruth, IsBeforeCheckpoint, IsClosed, IsOrphan, IsDownEmpty}
+use Rattle.fbl_member.specs.Members.{Message}
+use Rattle.fbl_law.proofs.Lists.{Contains-none}
+use Rattle.fbl_table.specs.declared.entry.Entry.{Entry}
 
 -- a set has a member or has not
 pub down_or_up : (s : Members) (m : ℕ) → Includes s m ⊎ (set.contains s m ≡ false)
-down_or_up s m = tells (set.contains s m)
-  where
-    tells : (b : Bool) → (b ≡ true) ⊎ (b ≡ false)
-    tells true = inl refl
-    tells false = inr refl
+down_or_up s m = cases_Bool (set.contains s m)
 
 pub never_both : {A : Type 0} (s : Members) (m : ℕ) → Includes s m → set.contains s m ≡ false → A
 never_both s m is is_not = absurd cc
+
+-- where members that are down have nothing, what is in a channel has its ends up
+pub up_at_ends : (r : Knowledge) → ((q p : ℕ) → IsDown r q ⊎ IsDown r p → r.channel q p ≡ []) → (q p : ℕ) (v : Message) → Contains (r.channel q p) v → IsUp r q × IsUp r p
+up_at_ends r empty q p v among = elim (down_or_up r.down q) [
+  | inl down ↦ absurd (Contains-none v (rw (empty q p (inl down)) at among))
+  | inr up ↦ elim (down_or_up r.down p) [ inl down ↦ absurd (Contains-none v (rw (empty q p (inr down)) at among)) | inr up_to ↦ (up, up_to) ]
+]
+
+-- and a member whose table names something is up
+pub up_if_named : (f : ℕ) (r : Knowledge) → IsDownEmpty f r → (m : ℕ) (d : Determinant) → Names (table r m) d → IsUp r m
+up_if_named f r empty m d named = elim (down_or_up r.down m) [ inl down ↦ absurd (Contains-none named.0 (rw (empty.tables m down) at named.1)) | inr up ↦ up ]
 
 -- what a member holds is recorded
 pub IsRecorded-held : (r : Knowledge) (d : Determinant) (m : ℕ) → Holds r d m → IsRecorded r d
@@ -40,10 +52,14 @@ recorded_by f r d m up cause = elim cause [ inl named ↦ IsRecorded-held r d m 
 saved_by : (f : ℕ) (r : Knowledge) (d : Determinant) (m : ℕ) → Names (checkpoint r m).table d ⊎ IsStable f r d → IsRecorded r d
 saved_by f r d m cause = elim cause [ inl named ↦ IsRecorded-saved r d m named | inr stable ↦ IsRecorded-stable f r d stable ]
 
+-- what true entries name is in the trace
+pub Has-named : (r : Knowledge) (entries : List Entry) → ((e : Entry) → Contains entries e → IsTrueEntry r e) → (d : Determinant) → Names entries d → Has r.trace (receipt_of d)
+Has-named r entries known d named = subst (λ (c : Determinant). Has r.trace (receipt_of c)) named.2 (known named.0 named.1).0
+
 -- a recorded determinant is that of a receipt
 pub Has-recorded : (r : Knowledge) → KnowsTruth r → (d : Determinant) → IsRecorded r d → Has r.trace (receipt_of d)
-Has-recorded r known d (inl held) = subst (λ (c : Determinant). Has r.trace (receipt_of c)) held.1.1.2 (known.tables held.0 held.1.1.0 held.1.0 held.1.1.1).0.0
-Has-recorded r known d (inr saved) = subst (λ (c : Determinant). Has r.trace (receipt_of c)) saved.1.2 (known.checkpoints saved.0 saved.1.0 saved.1.1).0.0
+Has-recorded r known d (inl held) = Has-named r (table r held.0) (λ e h. (known.tables held.0 e held.1.0 h).0) d held.1.1
+Has-recorded r known d (inr saved) = Has-named r (checkpoint r saved.0).table (λ e h. (known.checkpoints saved.0 e h).0) d saved.1
 
 -- what an up member depends on is recorded
 pub IsRecorded-depended : (f : ℕ) (r : Knowledge) → IsClosed f r → (d : Determinant) (m : ℕ) → IsUp r m → Depends r.trace m (receipt_of d) → IsRecorded r d

@@ -10,9 +10,8 @@ use Rattle.fbl_table.specs.declared.entry.Entry.{Entry}
 use Rattle.fbl_member.specs.Members.{Message}
 use Rattle.fbl_law.specs.Knowledge.{Members, Includes, Knowledge, table, send_mark, IsInFlight, IsDown, IsUp, Names, Holds, checkpoint, IsRecorded, IsHolder, IsStable, IsTrueEntry, KnowsTruth, NamesCauses, IsClosed, MatchesTrace, IsDownEmpty, IsCheckpointKept}
 use Rattle.fbl_law.specs.Steps.{IsStruck}
-use Rattle.fbl_law.proofs.Lists.{Contains-none}
 use Rattle.fbl_law.proofs.Tables.{Includes-left}
-use Rattle.fbl_law.proofs.Safe.{down_or_up, never_both, IsRecorded-held, IsRecorded-saved, IsBeforeCheckpoint-same}
+use Rattle.fbl_law.proofs.Safe.{down_or_up, never_both, up_at_ends, IsRecorded-held, IsRecorded-saved, IsBeforeCheckpoint-same}
 
 module _ (f : ℕ) (old new : Knowledge) (struck : Members) (s : IsStruck old new struck) (few : set.len new.down ≤ f) where
   stays_down : (m : ℕ) → IsDown old m → IsDown new m
@@ -48,13 +47,8 @@ module _ (f : ℕ) (old new : Knowledge) (struck : Members) (s : IsStruck old ne
   -- a message in flight was so before, and its ends are up
   pub flew : (v : Message) → IsInFlight new v → IsInFlight old v × IsUp new v.from × IsUp new v.to
   flew v flies =
-      elim (down_or_up new.down v.from) [
-        | inl down ↦ absurd (Contains-none v (rw (s.emptied v.from v.to (inl down)) at flies))
-        | inr up ↦ elim (down_or_up new.down v.to) [
-          | inl down ↦ absurd (Contains-none v (rw (s.emptied v.from v.to (inr down)) at flies))
-          | inr up_to ↦ (rw (s.channels v.from v.to up up_to) at flies, up, up_to)
-        ]
-      ]
+      let ends = up_at_ends new s.emptied v.from v.to v flies in
+      (rw (s.channels v.from v.to ends.0 ends.1) at flies, ends.0, ends.1)
 
   pub KnowsTruth-struck : KnowsTruth old → KnowsTruth new
   KnowsTruth-struck known = record {

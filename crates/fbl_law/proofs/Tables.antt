@@ -1,12 +1,13 @@
 -- What tables name after they have learned.
-use Rattle.std.proofs.Common.{◌≡◌, ℕ, zero, suc, ◌<◌, length, get_or, arith, Bool, true, false, cond, ◌||◌, List, [], ◌∷◌, inl, inr, ◌⊎◌, map, refl, sym, subst, ap, ◌∙◌}
+use Rattle.std.proofs.Common.{◌≡◌, ℕ, ◌<◌, length, get_or, true, false, cond, List, [], ◌∷◌, inl, inr, ◌⊎◌, map, refl, sym, subst, ap, ◌∙◌}
 use Rattle.std.specs.List.{Contains}
 use Rattle.std.specs.Prelude.{nat_le}
 use Rattle.std.specs.Ordering.{nat_cmp}
 use Rattle.std.specs.Cmp.{nat_cmp_total}
 use Rattle.std.specs.FinSet as set
-use Rattle.std.proofs.lemmas.Bool.{cases_eq}
+use Rattle.std.proofs.lemmas.Bool.{cases_eq, cases_lt, or_cases, or_left, or_right}
 use Rattle.std.proofs.lemmas.Bool.Decides.{leb_tells}
+use Rattle.std.proofs.lemmas.List.{get_or_past}
 use Rattle.std.proofs.lemmas.List.Elements.{Contains-push, Contains-append_left, Contains-push_cases}
 use Rattle.fbl_base.specs.declared.trace.Determinant.{Determinant}
 use Rattle.fbl_base.specs.Events.{same_determinant}
@@ -16,7 +17,7 @@ use Rattle.fbl_table.specs.declared.entry.Entry.{Entry}
 use Rattle.fbl_member.specs.Members.{MemberRecord, blank}
 use Rattle.fbl_law.specs.Knowledge.{Members, Includes, Names}
 use Rattle.fbl_table.specs.Tables.{added, held_by, gathered, learned, noted, piggybacked}
-use Rattle.fbl_law.proofs.Lists.{Contains-here, Contains-there, Contains-cons_cases, Contains-none, Contains-filter, Contains-from_filter}
+use Rattle.fbl_law.proofs.Lists.{Contains-map, Contains-changed, Contains-here, Contains-there, Contains-cons_cases, Contains-none, Contains-filter, Contains-from_filter}
 
 pub Includes-insert : (s : Members) (m : ℕ) → Includes (set.insert s m) m
 Includes-insert s m = contains-insert_same s m
@@ -28,20 +29,13 @@ pub Includes-only : (p m : ℕ) → Includes (set.insert set.empty p) m → m �
 Includes-only p m h = elim (Includes-insert_cases set.empty p m h) [ inl same ↦ same | inr in_none ↦ absurd (let none : set.contains set.empty m ≡ false = set.contains-empty nat_cmp m in cc) ]
 
 pub Includes-union : (s t : Members) (m : ℕ) → Includes (set.union s t) m → Includes s m ⊎ Includes t m
-Includes-union s t m h = either (set.contains s m) (set.contains t m) refl refl (sym (set.contains-union nat_cmp_total s t m) ∙ h) where
-  either : (a b : Bool) → set.contains s m ≡ a → set.contains t m ≡ b → (a || b) ≡ true → Includes s m ⊎ Includes t m
-  either true b ea eb h = inl ea
-  either false true ea eb h = inr eb
-  either false false ea eb h = absurd cc
+Includes-union s t m h = or_cases (set.contains s m) (set.contains t m) (sym (set.contains-union nat_cmp_total s t m) ∙ h)
 
 pub Includes-left : (s t : Members) (m : ℕ) → Includes s m → Includes (set.union s t) m
-Includes-left s t m h = set.contains-union nat_cmp_total s t m ∙ (rw h refl)
+Includes-left s t m h = set.contains-union nat_cmp_total s t m ∙ or_left (set.contains s m) (set.contains t m) h
 
 pub Includes-right : (s t : Members) (m : ℕ) → Includes t m → Includes (set.union s t) m
-Includes-right s t m h = set.contains-union nat_cmp_total s t m ∙ (rw h (always (set.contains s m))) where
-  always : (b : Bool) → (b || true) ≡ true
-  always true = refl
-  always false = refl
+Includes-right s t m h = set.contains-union nat_cmp_total s t m ∙ or_right (set.contains s m) (set.contains t m) h
 
 pub same-is : (a b : Determinant) → same_determinant a b ≡ true → a ≡ b
 same-is a b h = (Decides-same_determinant a b).0 h
@@ -55,9 +49,10 @@ Names-none d named = Contains-none named.0 named.1
 
 -- a record whose table names something is one of the list
 pub named_record : (xs : List MemberRecord) (m : ℕ) (d : Determinant) → Names (get_or xs m blank).table d → m < length xs
-named_record [] m d named = absurd (Names-none d named)
-named_record (x ∷ xs) zero d named = omega arith
-named_record (x ∷ xs) (suc m) d named = omega (arith, named_record xs m d named)
+named_record xs m d named = elim (cases_lt m (length xs)) [
+  | inl below ↦ below
+  | inr past ↦ absurd (Names-none d (rw (get_or_past xs m blank past) at named))
+]
 
 pub Names-added_kept : (xs : List Entry) (e : Entry) (d : Determinant) → Names xs d → Names (added xs e) d
 unfolding added
@@ -97,19 +92,8 @@ Names-gathered xs (e ∷ es) d named =
 
 -- entries under a map that keeps their determinants
 module _ (g : Entry → Entry) (keeps : (e : Entry) → (g e).det ≡ e.det) where
-  pub Contains-changed : (es : List Entry) (y : Entry) → Contains (map g es) y → (e : Entry) × Contains es e × (g e ≡ y)
-  Contains-changed [] y among = absurd (Contains-none y among)
-  Contains-changed (e ∷ es) y among = elim (Contains-cons_cases (g e) (map g es) y among) [
-    | inl first ↦ (e, Contains-here e es, first)
-    | inr later ↦ let r = Contains-changed es y later in (r.0, Contains-there e es r.0 r.1, r.2)
-  ]
-
   pub Names-changed : (es : List Entry) (d : Determinant) → Names es d → Names (map g es) d
-  Names-changed [] d named = absurd (Names-none d named)
-  Names-changed (e ∷ es) d named = elim (Contains-cons_cases e es named.0 named.1) [
-    | inl first ↦ (g e, Contains-here (g e) (map g es), keeps e ∙ (ap (λ (y : Entry). y.det) first ∙ named.2))
-    | inr later ↦ let r = Names-changed es d (named.0, later, named.2) in (r.0, Contains-there (g e) (map g es) r.0 r.1, r.2)
-  ]
+  Names-changed es d named = (g named.0, Contains-map g es named.0 named.1, keeps named.0 ∙ named.2)
 
 pub Names-learned_kept : (p : ℕ) (xs es : List Entry) (d : Determinant) → Names xs d → Names (learned p xs es) d
 Names-learned_kept p xs es d named = Names-gathered_kept xs (map (held_by p) es) d named
@@ -141,7 +125,7 @@ module _ (Q : Entry → Type 0) (join : (x e : Entry) → Q x → Q e → x.det 
 
   pub learned-keeps : (p : ℕ) (xs es : List Entry) → ((x : Entry) → Contains xs x → Q x) → ((e : Entry) → Contains es e → Q (held_by p e)) → (y : Entry) → Contains (learned p xs es) y → Q y
   learned-keeps p xs es all each y among =
-      gathered-keeps xs (map (held_by p) es) all (λ x h. let r = Contains-changed (held_by p) (λ e. refl) es x h in subst Q r.2 (each r.0 r.1)) y among
+      gathered-keeps xs (map (held_by p) es) all (λ x h. let r = Contains-changed (held_by p) es x h in subst Q r.2 (each r.0 r.1)) y among
 
 -- what the member's own determinant adds
 pub Names-noted_kept : (p : ℕ) (xs : List Entry) (own : Determinant) (d : Determinant) → Names xs d → Names (noted p xs own) d

@@ -11,10 +11,9 @@ use Rattle.fbl_base.specs.Fold.{Next}
 use Rattle.fbl_law.specs.Steps.{Stays, IsEventCut}
 use Rattle.fbl_law.specs.Groups.{GroupRecord, marks, knowledge, receipts, is_recorded}
 use Rattle.fbl_law.specs.Sound.{IsSound}
-use Rattle.fbl_law.proofs.Cut.{Has-kept, kept-Has}
-use Rattle.fbl_law.proofs.LawfulCut.{marks-filter}
+use Rattle.fbl_law.proofs.Cut.{marks-filter, Has-kept, kept-Has}
 use Rattle.fbl_law.proofs.GroupStrike.{recorded_test}
-use Rattle.fbl_law.proofs.Receipts.{is-receipt}
+use Rattle.fbl_base.proofs.Received.{is_receipt}
 use Rattle.fbl_law.proofs.CutCounts.{same-test}
 use Rattle.fbl_law.proofs.Replaying.{cut-recorded, recorded-cut}
 
@@ -35,7 +34,7 @@ module _ (next : Next) (old : GroupRecord) (sound : IsSound next old) (new : Lis
 
   kept-recorded : (i : ℕ) (e : Mark) (d : Determinant) → slice_get (marks old) i ≡ Some e → determinant_of e ≡ Some d → cut.0 e ≡ is_recorded old d
   kept-recorded i e d here is =
-      let receipt = is-receipt e d is in
+      let receipt = is_receipt e d is in
       let there : Has (marks old) (receipt_of d) = (i, here ∙ ap Some receipt) in
       ap cut.0 receipt ∙ same-test (cut.0 (receipt_of d)) (is_recorded old d)
       (λ kept. (recorded_test next old d sound).1 (cut-recorded next old sound new cut d (rw is-cut (Has-kept cut.0 (marks old) (receipt_of d) there kept))))

@@ -1,9 +1,10 @@
-use Rattle.std.proofs.Common.{◌≡◌, arith, ◌∙◌, take, length, [], ◌+◌, sym, ap, refl, ℕ, ◌≢◌, length-set}
+use Rattle.std.proofs.Common.{None, ◌≡◌, arith, ◌∙◌, take, length, [], ◌+◌, sym, ap, refl, ℕ, ◌≢◌, length-set}
 use Rattle.std.specs.FinSet as set
 use Rattle.fbl_base.specs.Audit.{IsLost}
 use Rattle.fbl_base.specs.Rules.{WellFormed}
-use Rattle.fbl_base.proofs.OrphanStarts.{no_start, nones, orphan_other, starts_kept, starts_set}
-use Rattle.fbl_base.proofs.Recorded.{Decides-is_lost, zeros}
+use Rattle.fbl_base.proofs.OrphanStarts.{no_start, orphan_other, starts_kept, starts_set}
+use Rattle.fbl_base.proofs.Recorded.{Decides-is_lost}
+use Rattle.fbl_base.proofs.Gets.{get_or-same}
 use Rattle.fbl_base.proofs.ReachLaws.{Tracks, Tracks-none, Tracks-more, unreached_sends_after-length}
 use Rattle.fbl_base.proofs.audit.orphan_starts.Goals as goal
 use Rattle.fbl_base.proofs.audit.orphan_starts.Goals.{then-has_orphan+then-not-was_orphan, else-has_orphan, else-has_orphan-via-then-has_orphan+else-not-was_orphan, else-has_orphan-via-else-has_orphan}
@@ -11,12 +12,12 @@ use Rattle.std.proofs.lemmas.Bool.{false≢true}
 
 pub loop-place-init : goal.loop-place-init
 loop-place-init g c =
-    let tracks : Tracks (IsLost c.args.dump.now) [] c.new-reach.result.reached c.new-reach.result.unreached_sends = rw c.new-reach.ensures.reached (Tracks-none (IsLost c.args.dump.now) c.new-reach.result.unreached_sends (λ q. rw c.new-reach.ensures.unreached_sends (zeros 16 q))) in
+    let tracks : Tracks (IsLost c.args.dump.now) [] c.new-reach.result.reached c.new-reach.result.unreached_sends = rw c.new-reach.ensures.reached (Tracks-none (IsLost c.args.dump.now) c.new-reach.result.unreached_sends (λ q. rw c.new-reach.ensures.unreached_sends (get_or-same {X = ℕ} 16 q 0))) in
     record {
       tracks = tracks;
       room = rw c.new-reach.ensures.unreached_sends;
       slots = refl;
-      starts = λ q below. no_start c.args.dump.now c.new-reach.result.unreached_sends (rw c.new-reach.ensures.reached at tracks) q _ (nones 16 q);
+      starts = λ q below. no_start c.args.dump.now c.new-reach.result.unreached_sends (rw c.new-reach.ensures.reached at tracks) q _ (get_or-same 16 q None);
     }
 
 pub loop-place-preserved : goal.loop-place-preserved

@@ -3,23 +3,13 @@ use Rattle.fbl_law.proofs.CutLaw.{cut_is_lawful, stays_is_recorded}
 use Rattle.fbl_law.proofs.Replay.{never_stuck}
 use Rattle.fbl_law.proofs.laws.recovery_law.Goals as goal
 
-pub returns-clause-sound : goal.returns-clause-sound
-returns-clause-sound c = recovery_keeps
-
-pub returns-clause-closed : goal.returns-clause-closed
-returns-clause-closed c = cut_is_closed
-
-pub returns-clause-recorded : goal.returns-clause-recorded
-returns-clause-recorded c = cut_is_recorded
-
-pub returns-clause-holders : goal.returns-clause-holders
-returns-clause-holders c = holders_stay
-
-pub returns-clause-lawful : goal.returns-clause-lawful
-returns-clause-lawful c = cut_is_lawful
-
-pub returns-clause-replay : goal.returns-clause-replay
-returns-clause-replay c = never_stuck
-
-pub returns-clause-stays : goal.returns-clause-stays
-returns-clause-stays c = stays_is_recorded
+pub returns : goal.returns
+returns c = record {
+  sound = recovery_keeps;
+  closed = cut_is_closed;
+  recorded = cut_is_recorded;
+  holders = holders_stay;
+  lawful = cut_is_lawful;
+  replay = never_stuck;
+  stays = stays_is_recorded;
+}
