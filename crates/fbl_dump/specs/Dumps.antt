@@ -66,6 +66,10 @@ parts_of_input input = value_of_input input >>= parts_of_data
 abbrev pub IsDumpOf : List ℕ → Parts → Type 0
 IsDumpOf input dump = (parts_of_input input ≡ Ok dump) × IsDump dump
 
+-- the input is a dump that obeys the rules
+abbrev pub IsSomeDump : List ℕ → Type 0
+IsSomeDump input = (dump : Parts) × IsDumpOf input dump
+
 -- the fault is the input's first as a dump; memory may be wanting for any input
 abbrev pub IsDumpFault : List ℕ → RunFault → Type 0
 IsDumpFault input = IsFirstFault (parts_of_input input) (λ _ _. ⊥) RefusesDump

@@ -158,6 +158,10 @@ IsOfVersion n input = (value_of_input input >>= field keys.Version count_shape) 
 abbrev pub IsScriptOf : List ℕ → Outline → Type 0
 IsScriptOf input s = (outline_of_input input ≡ Ok s) × IsConfig s.config
 
+-- the input is a script
+abbrev pub IsScript : List ℕ → Type 0
+IsScript input = (s : Outline) × IsScriptOf input s
+
 -- the fault is the input's first as a script; memory may be wanting for any input
 abbrev pub IsScriptFault : List ℕ → RunFault → Type 0
 IsScriptFault input = IsFirstFault (outline_of_input input) (λ s. RefusesConfig s.config) (λ _ _. ⊥)
