@@ -5,12 +5,12 @@ use Rattle.serde_json.specs.Find.{as_object}
 use Rattle.fbl_base.specs.declared.trace.Determinant.{Determinant}
 use Rattle.fbl_base.specs.declared.trace.Mark.{Mark}
 use Rattle.fbl_base.specs.declared.trace.Mark.TheVariants.{Send, Receipt}
-use Rattle.fbl_base.specs.declared.refusal.DumpRefusal.TheVariants as refusals
 use Rattle.fbl_base.specs.Audit.{Parts, IsDump, RefusesDump}
 use Rattle.fbl_input.specs.declared.fault.Key.{Key}
 use Rattle.fbl_input.specs.declared.fault.Key.TheVariants as keys
 use Rattle.fbl_input.specs.declared.fault.RunFault.{RunFault}
 use Rattle.fbl_input.specs.declared.fault.RunFault.TheVariants as faults
+use Rattle.fbl_input.specs.Faults.{IsFirstFault, IsRefused}
 use Rattle.fbl_input.specs.Shapes.{◌>>=◌, or_fault, number_within, count_shape, member_shape, as_list, is_text, list_of, set_shape, field, has_other_key, value_of_input}
 
 -- `["send", from, ssn, to]`
@@ -66,19 +66,14 @@ parts_of_input input = value_of_input input >>= parts_of_data
 abbrev pub IsDumpOf : List ℕ → Parts → Type 0
 IsDumpOf input dump = (parts_of_input input ≡ Ok dump) × IsDump dump
 
+-- the input is a dump that obeys the rules
+abbrev pub IsSomeDump : List ℕ → Type 0
+IsSomeDump input = (dump : Parts) × IsDumpOf input dump
+
 -- the fault is the input's first as a dump; memory may be wanting for any input
 abbrev pub IsDumpFault : List ℕ → RunFault → Type 0
-IsDumpFault input faults.Memory = Unit {0}
-IsDumpFault input faults.Read = ⊥
-IsDumpFault input faults.Write = ⊥
-IsDumpFault input (faults.Config e) = ⊥
-IsDumpFault input (faults.Dump refusals.Memory) = ⊥
-IsDumpFault input (faults.Dump e) = (dump : Parts) × (parts_of_input input ≡ Ok dump) × RefusesDump dump e
-IsDumpFault input e = parts_of_input input ≡ Err e
+IsDumpFault input = IsFirstFault (parts_of_input input) (λ _ _. ⊥) RefusesDump
 
 -- the dump breaks a rule, or memory was wanting
 abbrev pub IsDumpRefused : Parts → RunFault → Type 0
-IsDumpRefused dump faults.Memory = Unit {0}
-IsDumpRefused dump (faults.Dump refusals.Memory) = ⊥
-IsDumpRefused dump (faults.Dump e) = RefusesDump dump e
-IsDumpRefused dump e = ⊥
+IsDumpRefused dump = IsRefused (λ _. ⊥) (RefusesDump dump)

@@ -6,5 +6,5 @@ mod reading;
 mod writing;
 
 pub use auditing::{audit, audit_bytes};
-pub use reading::{EventShape, PairShape, dump_of_bytes};
+pub use reading::{DUMP_KEYS, EventShape, PairShape, dump_of_bytes};
 pub use writing::dump_text;

@@ -17,6 +17,9 @@ use fbl_input::{Key, RunFault};
 use serde_json::{Map, Value};
 use std::alloc::Global;
 
+/// The keys that a dump has.
+pub const DUMP_KEYS: [Key; 5] = [Key::Members, Key::F, Key::Events, Key::Held, Key::Strike];
+
 fn send_of(name: &Value, from: &Value, ssn: &Value, to: &Value) -> Option<Mark>
     ensures { result ≡ send_from (view name.now) (view from.now) (view ssn.now) (view to.now) }
 {
@@ -98,8 +101,7 @@ impl Shape<(Member, Determinant)> for PairShape {
 fn has_unknown_key(object: &Map<String, Value>) -> bool
     ensures { result ≡ has_other_key_of dump_keys (members_view object.now.entries) }
 {
-    let known = [Key::Members, Key::F, Key::Events, Key::Held, Key::Strike];
-    has_other_key(object, &known)
+    has_other_key(object, &DUMP_KEYS)
 }
 
 /// The dump that a value gives, not yet checked.

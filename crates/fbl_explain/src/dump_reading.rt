@@ -1,8 +1,12 @@
 //! Faults of dumps in words.
 
-ghost use Rattle.std.specs.Prelude.{◌≡◌, IfOk, IfSome};
-ghost use Rattle.fbl_input.specs.declared.fault.RunFault.TheVariants.{BadField, Dump, UnknownKey};
-ghost use Rattle.fbl_explain.specs.Explanations.{Explains};
+ghost use Rattle.std.specs.Prelude.{◌≡◌, ◌≢◌, IfOk, IfSome, IfNone, Ok, true, false};
+ghost use Rattle.serde_json.specs.View.{view};
+ghost use Rattle.fbl_input.specs.Shapes.{value_of_input};
+ghost use Rattle.fbl_input.specs.declared.fault.RunFault.TheVariants.{BadField, Dump, Memory};
+ghost use Rattle.fbl_dump.specs.Dumps.{IsDumpFault, IsSomeDump};
+ghost use Rattle.fbl_explain.specs.Explanations.{Explains, HasAnother, IsFaultIn, IsFaultOf, IsTold, IsUntold, NamesKey};
+ghost use Rattle.fbl_explain.specs.declared.explanation.InputKind.TheVariants as kinds;
 
 use crate::dump_fault::{BadEvent, BadPair, DumpFault};
 use crate::explanation::{Explanation, InputKind};
@@ -10,7 +14,7 @@ use crate::parts::{
     MemberShape, explain_json, explain_key, explain_kind, explain_list, explain_value, value_again,
 };
 use fbl_base::{Determinant, DumpRefusal, Mark, Member, MemberSet};
-use fbl_dump::{EventShape, PairShape};
+use fbl_dump::{DUMP_KEYS, EventShape, PairShape, dump_of_bytes};
 use fbl_input::shapes::{Shape, number_field, set_field, values_field};
 use fbl_input::{Key, RunFault};
 use serde_json::Value;
@@ -172,8 +176,8 @@ fn explain_refusal(
     alloc: Global,
     value: &Value,
     refusal: DumpRefusal,
-) -> Result<Option<Explanation>, AllocError>
-    ensures { IfOk result (λ found. IfSome found (Explains (Dump refusal))) }
+) -> Result<Explanation, AllocError>
+    ensures { IfOk result (Explains (Dump refusal)) }
 {
     let members = number_at(value, Key::Members);
     let mut event = None;
@@ -191,19 +195,19 @@ fn explain_refusal(
         DumpRefusal::BadStrike => struck = outside(struck_in(value), members),
         _ => (),
     }
-    Ok(Some(Explanation::Dump(DumpFault {
+    Ok(Explanation::Dump(DumpFault {
         refusal,
         members,
         f: number_at(value, Key::F),
         event,
         pair,
         struck,
-    })))
+    }))
 }
 
 /// What is wanted at the key.
-fn explain_field(alloc: Global, value: &Value, key: Key) -> Result<Option<Explanation>, AllocError>
-    ensures { IfOk result (λ found. IfSome found (Explains (BadField key))) }
+fn explain_field(alloc: Global, value: &Value, key: Key) -> Result<Explanation, AllocError>
+    ensures { IfOk result (Explains (BadField key)) }
 {
     match key {
         Key::Events => explain_list::<Mark, EventShape>(alloc, value, key),
@@ -213,31 +217,54 @@ fn explain_field(alloc: Global, value: &Value, key: Key) -> Result<Option<Explan
     }
 }
 
-/// The first key that a dump has not.
-fn explain_dump_key(alloc: Global, value: &Value) -> Result<Option<Explanation>, AllocError>
-    ensures { IfOk result (λ found. IfSome found (Explains UnknownKey)) }
-{
-    let known = [Key::Members, Key::F, Key::Events, Key::Held, Key::Strike];
-    match value.as_object() {
-        Some(object) => explain_key(alloc, InputKind::Dump, object, &known),
-        None => Ok(None),
-    }
-}
-
 /// The fault of the JSON that a dump is, in words.
 fn explain_dump_value(
     alloc: Global,
     value: &Value,
     fault: &RunFault,
-) -> Result<Option<Explanation>, AllocError>
-    ensures { IfOk result (λ found. IfSome found (Explains fault.now)) }
+) -> Result<Explanation, AllocError>
+    requires { IsFaultOf kinds.Dump (view value.now) fault.now }
+    ensures of { IfOk result (Explains fault.now) }
+    ensures named { IfOk result (NamesKey kinds.Dump (Ok (view value.now))) }
 {
     match fault {
         RunFault::NotObject => Ok(explain_kind(value)),
         RunFault::BadField(key) => explain_field(alloc, value, *key),
-        RunFault::UnknownKey => explain_dump_key(alloc, value),
+        RunFault::UnknownKey => explain_key(alloc, InputKind::Dump, value, &DUMP_KEYS),
         RunFault::Dump(refusal) => explain_refusal(alloc, value, *refusal),
-        _ => Ok(None),
+        _ => unreachable!(),
+    }
+}
+
+/// The fault of the input as a dump, in words.
+fn explain_dump_fault(
+    alloc: Global,
+    input: &[u8],
+    fault: &RunFault,
+) -> Result<Explanation, AllocError>
+    requires { IsFaultIn kinds.Dump input.now fault.now }
+    ensures of { IfOk result (Explains fault.now) }
+    ensures named { IfOk result (NamesKey kinds.Dump (value_of_input input.now)) }
+{
+    match fault {
+        RunFault::TooLong => Ok(Explanation::TooLong),
+        RunFault::NotJson => explain_json(alloc, input),
+        _ => {
+            let value = value_again(alloc, input)?;
+            explain_dump_value(alloc, &value, fault)
+        }
+    }
+}
+
+/// Whether the fault is the first of the input as a dump.
+fn has_dump_fault(alloc: Global, input: &[u8], fault: &RunFault) -> Result<bool, AllocError>
+    ensures own { IfOk result (λ has. has ≡ true → IsDumpFault input.now fault.now × (fault.now ≢ Memory)) }
+    ensures other { IfOk result (λ has. has ≡ false → HasAnother (IsDumpFault input.now) (IsSomeDump input.now) fault.now) }
+{
+    match dump_of_bytes(alloc, input) {
+        Ok(_) => Ok(false),
+        Err(RunFault::Memory) => Err(AllocError),
+        Err(first) => Ok(first == *fault),
     }
 }
 
@@ -247,15 +274,20 @@ pub fn explain_dump(
     input: &[u8],
     fault: &RunFault,
 ) -> Result<Option<Explanation>, AllocError>
-    ensures { IfOk result (λ found. IfSome found (Explains fault.now)) }
+    ensures of { IfOk result (λ found. IfSome found (Explains fault.now)) }
+    ensures named { IfOk result (λ found. IfSome found (NamesKey kinds.Dump (value_of_input input.now))) }
+    ensures told { IfOk result (λ found. IfSome found (λ _. IsTold (IsDumpFault input.now) fault.now)) }
+    ensures untold { IfOk result (λ found. IfNone found (IsUntold (IsDumpFault input.now) (IsSomeDump input.now) fault.now)) }
 {
     match fault {
         RunFault::TooLong => Ok(Some(Explanation::TooLong)),
-        RunFault::NotJson => explain_json(alloc, input),
         RunFault::Read | RunFault::Write | RunFault::Memory => Ok(None),
-        _ => match value_again(alloc, input)? {
-            Some(value) => explain_dump_value(alloc, &value, fault),
-            None => Ok(None),
-        },
+        _ => {
+            if !has_dump_fault(alloc, input, fault)? {
+                return Ok(None);
+            }
+            let explanation = explain_dump_fault(alloc, input, fault)?;
+            Ok(Some(explanation))
+        }
     }
 }

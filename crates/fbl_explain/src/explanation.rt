@@ -36,8 +36,12 @@ pub enum Explanation {
         found: String,
         wanted: &'static str,
     },
-    /// The input has a key that it may not have.
-    UnknownKey(InputKind, String),
+    /// The input has a key that it may not have, here with what is shown of it.
+    UnknownKey {
+        kind: InputKind,
+        name: String,
+        shown: String,
+    },
     /// There is no configuration of the parameters.
     Config(ConfigFault),
     /// The dump breaks a rule.
@@ -121,9 +125,9 @@ impl fmt::Display for Explanation {
                 found,
                 wanted,
             } => write!(f, "command {place} is {found}, and must be {wanted}"),
-            Explanation::UnknownKey(kind, name) => {
+            Explanation::UnknownKey { kind, shown, .. } => {
                 let keys = keys_of(*kind);
-                write!(f, "the key {name} is unknown: {keys}")
+                write!(f, "the key {shown} is unknown: {keys}")
             }
             Explanation::Config(fault) => write!(f, "{fault}"),
             Explanation::Dump(fault) => write!(f, "{fault}"),

@@ -1,8 +1,12 @@
 //! Faults of scripts in words.
 
-ghost use Rattle.std.specs.Prelude.{◌≡◌, IfOk, IfSome};
-ghost use Rattle.fbl_input.specs.declared.fault.RunFault.TheVariants.{BadCommand, BadField, Config, UnknownKey};
-ghost use Rattle.fbl_explain.specs.Explanations.{Explains};
+ghost use Rattle.std.specs.Prelude.{◌≡◌, ◌≢◌, IfOk, IfSome, IfNone, Ok, true, false};
+ghost use Rattle.serde_json.specs.View.{view};
+ghost use Rattle.fbl_input.specs.Shapes.{value_of_input};
+ghost use Rattle.fbl_input.specs.declared.fault.RunFault.TheVariants.{BadCommand, BadField, Config, Memory};
+ghost use Rattle.fbl_script.specs.Scripts.{IsScript, IsScriptFault};
+ghost use Rattle.fbl_explain.specs.Explanations.{Explains, HasAnother, IsFaultIn, IsFaultOf, IsTold, IsUntold, NamesKey};
+ghost use Rattle.fbl_explain.specs.declared.explanation.InputKind.TheVariants as kinds;
 
 use crate::config_fault::ConfigFault;
 use crate::explanation::{Explanation, InputKind};
@@ -13,7 +17,7 @@ use crate::shown::value_text;
 use fbl_base::{ConfigRefusal, Start};
 use fbl_input::shapes::{Shape, is_named, list_in, number_in};
 use fbl_input::{Key, RunFault};
-use fbl_script::StartShape;
+use fbl_script::{SCRIPT_KEYS, StartShape, script_of_bytes};
 use serde_json::Value;
 use std::alloc::{AllocError, Global};
 
@@ -46,6 +50,9 @@ fn number_at(value: &Value, key: Key) -> Option<u64> {
     number_in(value.get(key.name())?, 0, 4_294_967_295)
 }
 
+/// What is said to stand where nothing stands.
+const NOTHING: &str = "missing";
+
 /// What is wanted where this stands among the commands.
 fn wanted_command(value: &Value, is_second: bool) -> &'static str {
     let Some(name) = list_in(value).and_then(|list| list.first()) else {
@@ -63,73 +70,57 @@ fn wanted_command(value: &Value, is_second: bool) -> &'static str {
 }
 
 /// The command at the place, and the shape that is wanted there.
-fn explain_command(
-    alloc: Global,
-    value: &Value,
-    place: usize,
-) -> Result<Option<Explanation>, AllocError>
-    ensures { IfOk result (λ found. IfSome found (Explains (BadCommand place))) }
+fn explain_command(alloc: Global, value: &Value, place: usize) -> Result<Explanation, AllocError>
+    ensures { IfOk result (Explains (BadCommand place)) }
 {
     if place == 1024 {
-        return Ok(Some(Explanation::TooManyCommands));
+        return Ok(Explanation::TooManyCommands);
     }
-    let list = value.get(Key::Commands.name()).and_then(list_in);
-    let Some(command) = list.and_then(|list| list.get(place)) else {
-        return Ok(None);
-    };
+    let commands = value.get(Key::Commands.name()).and_then(list_in);
     let is_second = number_at(value, Key::Version) == Some(2);
-    Ok(Some(Explanation::BadCommand {
+    let (found, wanted) = match commands.and_then(|list| list.get(place)) {
+        Some(command) => (
+            value_text(alloc, command)?,
+            wanted_command(command, is_second),
+        ),
+        None => (String::from_str(alloc, NOTHING)?, ANY_COMMAND),
+    };
+    Ok(Explanation::BadCommand {
         place,
-        found: value_text(alloc, command)?,
-        wanted: wanted_command(command, is_second),
-    }))
+        found,
+        wanted,
+    })
 }
 
 /// The parameters that the refusal is about.
-fn explain_config(value: &Value, refusal: ConfigRefusal) -> Option<Explanation>
-    ensures { IfSome result (Explains (Config refusal)) }
+fn explain_config(value: &Value, refusal: ConfigRefusal) -> Explanation
+    ensures { Explains (Config refusal) result }
 {
-    let starts = list_in(value.get(Key::Start.name())?)?;
+    let starts = value
+        .get(Key::Start.name())
+        .and_then(list_in)
+        .unwrap_or(&[]);
     let start = match refusal {
         ConfigRefusal::BadStart(place) => starts.get(place).and_then(StartShape::in_value),
         _ => None,
     };
-    Some(Explanation::Config(ConfigFault {
+    Explanation::Config(ConfigFault {
         refusal,
-        members: number_at(value, Key::Members)?,
-        f: number_at(value, Key::F)?,
+        members: number_at(value, Key::Members).unwrap_or(0),
+        f: number_at(value, Key::F).unwrap_or(0),
         limit: number_at(value, Key::Limit).unwrap_or(8192),
         starts: starts.len(),
         start,
-    }))
+    })
 }
 
 /// What is wanted at the key.
-fn explain_field(alloc: Global, value: &Value, key: Key) -> Result<Option<Explanation>, AllocError>
-    ensures { IfOk result (λ found. IfSome found (Explains (BadField key))) }
+fn explain_field(alloc: Global, value: &Value, key: Key) -> Result<Explanation, AllocError>
+    ensures { IfOk result (Explains (BadField key)) }
 {
     match key {
         Key::Start => explain_list::<Start, StartShape>(alloc, value, key),
         _ => explain_value(alloc, value, key),
-    }
-}
-
-/// The first key that a script has not.
-fn explain_script_key(alloc: Global, value: &Value) -> Result<Option<Explanation>, AllocError>
-    ensures { IfOk result (λ found. IfSome found (Explains UnknownKey)) }
-{
-    let known = [
-        Key::Version,
-        Key::Members,
-        Key::F,
-        Key::Behaviour,
-        Key::Limit,
-        Key::Start,
-        Key::Commands,
-    ];
-    match value.as_object() {
-        Some(object) => explain_key(alloc, InputKind::Script, object, &known),
-        None => Ok(None),
     }
 }
 
@@ -138,35 +129,75 @@ fn explain_script_value(
     alloc: Global,
     value: &Value,
     fault: &RunFault,
-) -> Result<Option<Explanation>, AllocError>
-    ensures { IfOk result (λ found. IfSome found (Explains fault.now)) }
+) -> Result<Explanation, AllocError>
+    requires { IsFaultOf kinds.Script (view value.now) fault.now }
+    ensures of { IfOk result (Explains fault.now) }
+    ensures named { IfOk result (NamesKey kinds.Script (Ok (view value.now))) }
 {
     match fault {
         RunFault::NotObject => Ok(explain_kind(value)),
         RunFault::BadField(key) => explain_field(alloc, value, *key),
         RunFault::BadCommand(place) => explain_command(alloc, value, *place),
-        RunFault::UnknownKey => explain_script_key(alloc, value),
+        RunFault::UnknownKey => explain_key(alloc, InputKind::Script, value, &SCRIPT_KEYS),
         RunFault::Config(refusal) => Ok(explain_config(value, *refusal)),
-        _ => Ok(None),
+        _ => unreachable!(),
+    }
+}
+
+/// The fault of the input as a script, in words.
+fn explain_script_fault(
+    alloc: Global,
+    input: &[u8],
+    fault: &RunFault,
+) -> Result<Explanation, AllocError>
+    requires { IsFaultIn kinds.Script input.now fault.now }
+    ensures of { IfOk result (Explains fault.now) }
+    ensures named { IfOk result (NamesKey kinds.Script (value_of_input input.now)) }
+{
+    match fault {
+        RunFault::TooLong => Ok(Explanation::TooLong),
+        RunFault::NotJson => explain_json(alloc, input),
+        _ => {
+            let value = value_again(alloc, input)?;
+            explain_script_value(alloc, &value, fault)
+        }
+    }
+}
+
+/// Whether the fault is the first of the input as a script.
+fn has_script_fault(alloc: Global, input: &[u8], fault: &RunFault) -> Result<bool, AllocError>
+    ensures own { IfOk result (λ has. has ≡ true → IsScriptFault input.now fault.now × (fault.now ≢ Memory)) }
+    ensures other { IfOk result (λ has. has ≡ false → HasAnother (IsScriptFault input.now) (IsScript input.now) fault.now) }
+{
+    match script_of_bytes(alloc, input) {
+        Ok(_) => Ok(false),
+        Err(RunFault::Memory) => Err(AllocError),
+        Err(first) => Ok(first == *fault),
     }
 }
 
 /// The fault of a script in words: its place, what stands there and what is wanted there. The input is read again. There
-/// are no words where a read or a write failed or memory was wanting, and none where the input has not this fault.
+/// are no words where a read or a write failed or memory was wanting, and none where the input has not this fault; only
+/// `TooLong` is explained of any input.
 pub fn explain_script(
     alloc: Global,
     input: &[u8],
     fault: &RunFault,
 ) -> Result<Option<Explanation>, AllocError>
-    ensures { IfOk result (λ found. IfSome found (Explains fault.now)) }
+    ensures of { IfOk result (λ found. IfSome found (Explains fault.now)) }
+    ensures named { IfOk result (λ found. IfSome found (NamesKey kinds.Script (value_of_input input.now))) }
+    ensures told { IfOk result (λ found. IfSome found (λ _. IsTold (IsScriptFault input.now) fault.now)) }
+    ensures untold { IfOk result (λ found. IfNone found (IsUntold (IsScriptFault input.now) (IsScript input.now) fault.now)) }
 {
     match fault {
         RunFault::TooLong => Ok(Some(Explanation::TooLong)),
-        RunFault::NotJson => explain_json(alloc, input),
         RunFault::Read | RunFault::Write | RunFault::Memory => Ok(None),
-        _ => match value_again(alloc, input)? {
-            Some(value) => explain_script_value(alloc, &value, fault),
-            None => Ok(None),
-        },
+        _ => {
+            if !has_script_fault(alloc, input, fault)? {
+                return Ok(None);
+            }
+            let explanation = explain_script_fault(alloc, input, fault)?;
+            Ok(Some(explanation))
+        }
     }
 }

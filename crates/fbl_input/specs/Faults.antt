@@ -1,5 +1,5 @@
--- Refusals as faults, and what a failed read leaves.
-use Rattle.std.specs.Prelude.{◌≡◌, ℕ, List, Option, Result, Err}
+-- Refusals as faults, the first fault of an input, and what a failed read leaves.
+use Rattle.std.specs.Prelude.{◌≡◌, ℕ, List, Option, Result, Ok, Err}
 use Rattle.std.specs.Io.KnownBytes.{Keeps}
 use Rattle.fbl_base.specs.declared.config.ConfigRefusal.{ConfigRefusal}
 use Rattle.fbl_base.specs.declared.config.ConfigRefusal.TheVariants as config
@@ -17,6 +17,24 @@ config_fault e = faults.Config e
 abbrev pub dump_fault : DumpRefusal → RunFault
 dump_fault dump.Memory = faults.Memory
 dump_fault e = faults.Dump e
+
+-- what was read is refused by its configuration or as a dump, or memory was wanting
+abbrev pub IsRefused : (ConfigRefusal → Type 0) → (DumpRefusal → Type 0) → RunFault → Type 0
+IsRefused RefusesConfig RefusesDump faults.Memory = Unit {0}
+IsRefused RefusesConfig RefusesDump (faults.Config config.Memory) = ⊥
+IsRefused RefusesConfig RefusesDump (faults.Config e) = RefusesConfig e
+IsRefused RefusesConfig RefusesDump (faults.Dump dump.Memory) = ⊥
+IsRefused RefusesConfig RefusesDump (faults.Dump e) = RefusesDump e
+IsRefused RefusesConfig RefusesDump e = ⊥
+
+-- the fault is the first of an input that is asked for this, and is refused by these; memory may be wanting for any input
+abbrev pub IsFirstFault : {A : Type 0} → Result A RunFault → (A → ConfigRefusal → Type 0) → (A → DumpRefusal → Type 0) → RunFault → Type 0
+IsFirstFault asked RefusesConfig RefusesDump faults.Memory = Unit {0}
+IsFirstFault asked RefusesConfig RefusesDump faults.Read = ⊥
+IsFirstFault asked RefusesConfig RefusesDump faults.Write = ⊥
+IsFirstFault {A} asked RefusesConfig RefusesDump (faults.Config e) = (a : A) × (asked ≡ Ok a) × IsRefused (RefusesConfig a) (RefusesDump a) (faults.Config e)
+IsFirstFault {A} asked RefusesConfig RefusesDump (faults.Dump e) = (a : A) × (asked ≡ Ok a) × IsRefused (RefusesConfig a) (RefusesDump a) (faults.Dump e)
+IsFirstFault asked RefusesConfig RefusesDump e = asked ≡ Err e
 
 -- a read failed, and nothing was written
 abbrev pub FailsToRead : Option (List ℕ) → Option (List ℕ) → Result (Unit {0}) RunFault → Type 0

@@ -1,11 +1,10 @@
 //! Shapes of JSON values, as scripts and dumps ask for them.
 
-ghost use Rattle.std.specs.Prelude.{◌≡◌, ◌≤◌, ℕ, map, IfOk, IfErr, not, option_map, string_bytes};
+ghost use Rattle.std.specs.Prelude.{◌≡◌, ◌≤◌, ℕ, find, map, IfOk, IfErr, not, option_map, string_bytes};
 ghost use Rattle.std.specs.FinSet as set;
-ghost use Rattle.std.specs.List.{list_any};
 ghost use Rattle.std.specs.BTreeMap.{keys};
 ghost use Rattle.serde_json.specs.View.{view, members_view};
-ghost use Rattle.fbl_input.specs.Shapes.{Gives, IsOfShape, all_shaped, as_list, count_shape, field, has_other_key as has_other_key_of, is_key_of, is_text, json_of, list_of, member_shape, number_within, or_fault, set_shape, value_of_input};
+ghost use Rattle.fbl_input.specs.Shapes.{Gives, IsOfShape, all_shaped, as_list, count_shape, field, has_other_key as has_other_key_of, other_key as other_key_of, is_key_of, is_text, json_of, list_of, member_shape, number_within, or_fault, set_shape, value_of_input};
 ghost use Rattle.fbl_input.specs.declared.fault.RunFault.TheVariants.{NotJson};
 
 use crate::fault::{Key, RunFault};
@@ -153,17 +152,30 @@ fn is_key_in(known: &[Key], text: &str) -> bool
     known.iter().any(|key| text == key.name())
 }
 
-fn has_key_but_in(object: &Map<String, Value>, known: &[Key]) -> bool
-    ensures { result ≡ list_any (λ k. not (is_key_of known.now (string_bytes k))) (keys object.now) }
+fn key_but_in<'a>(object: &'a Map<String, Value>, known: &[Key]) -> Option<&'a String>
+    ensures { option_map (λ k. k.now) result ≡ find (λ k. not (is_key_of known.now (string_bytes k))) (keys object.now) }
 {
-    object.keys().any(|key| !is_key_in(known, key.as_str()))
+    object.keys().find(|key| !is_key_in(known, key.as_str()))
+}
+
+/// The first key of the object that is none of these.
+pub fn other_key<'a>(object: &'a Map<String, Value>, known: &[Key]) -> Option<&'a str>
+    ensures { option_map (λ k. k.now) result ≡ other_key_of known.now (members_view object.now.entries) }
+{
+    match key_but_in(object, known) {
+        Some(key) => Some(key.as_str()),
+        None => None,
+    }
 }
 
 /// Whether the object has a key that is none of these.
 pub fn has_other_key(object: &Map<String, Value>, known: &[Key]) -> bool
     ensures { result ≡ has_other_key_of known.now (members_view object.now.entries) }
 {
-    has_key_but_in(object, known)
+    match other_key(object, known) {
+        Some(_) => true,
+        None => false,
+    }
 }
 
 /// The JSON that the bytes spell.

@@ -5,7 +5,6 @@ use Rattle.serde_json.specs.Data.{Data, Members}
 use Rattle.serde_json.specs.Find.{get, as_object}
 use Rattle.fbl_base.specs.declared.strike.Strike as planned
 use Rattle.fbl_base.specs.declared.trace.Start.{Start}
-use Rattle.fbl_base.specs.declared.config.ConfigRefusal.TheVariants as refusals
 use Rattle.fbl_base.specs.Configs.{Settings, IsConfig, RefusesConfig}
 use Rattle.fbl_input.specs.declared.fault.Key.{Key}
 use Rattle.fbl_input.specs.declared.fault.Key.TheVariants as keys
@@ -19,6 +18,7 @@ use Rattle.fbl_script.specs.declared.script.Command.{Command}
 use Rattle.fbl_script.specs.declared.script.Command.TheVariants.{Deliver, States, Report, Strike, Recover, Dump, Run, Checkpoint}
 use Rattle.fbl_script.specs.declared.script.Script.{Script}
 use Rattle.fbl_script.specs.declared.script_reading.Request.{Request}
+use Rattle.fbl_input.specs.Faults.{IsFirstFault, IsRefused}
 use Rattle.fbl_input.specs.Shapes.{◌>>=◌, or_fault, number_within, count_shape, member_shape, as_list, is_text, list_of, set_shape, name_of, field, field_or, has_other_key, value_of_input}
 
 -- what a script asks for
@@ -158,15 +158,13 @@ IsOfVersion n input = (value_of_input input >>= field keys.Version count_shape) 
 abbrev pub IsScriptOf : List ℕ → Outline → Type 0
 IsScriptOf input s = (outline_of_input input ≡ Ok s) × IsConfig s.config
 
+-- the input is a script
+abbrev pub IsScript : List ℕ → Type 0
+IsScript input = (s : Outline) × IsScriptOf input s
+
 -- the fault is the input's first as a script; memory may be wanting for any input
 abbrev pub IsScriptFault : List ℕ → RunFault → Type 0
-IsScriptFault input faults.Memory = Unit {0}
-IsScriptFault input faults.Read = ⊥
-IsScriptFault input faults.Write = ⊥
-IsScriptFault input (faults.Dump e) = ⊥
-IsScriptFault input (faults.Config refusals.Memory) = ⊥
-IsScriptFault input (faults.Config e) = (s : Outline) × (outline_of_input input ≡ Ok s) × RefusesConfig s.config e
-IsScriptFault input e = outline_of_input input ≡ Err e
+IsScriptFault input = IsFirstFault (outline_of_input input) (λ s. RefusesConfig s.config) (λ _ _. ⊥)
 
 -- what is asked for as a script, before it is known whether there is such a group
 abbrev pub request_outline : Request → Outline
@@ -174,10 +172,7 @@ request_outline r = record { behaviour = r.behaviour; config = record { members 
 
 -- there is no such group, or memory was wanting
 abbrev pub IsRequestRefused : Outline → RunFault → Type 0
-IsRequestRefused s faults.Memory = Unit {0}
-IsRequestRefused s (faults.Config refusals.Memory) = ⊥
-IsRequestRefused s (faults.Config e) = RefusesConfig s.config e
-IsRequestRefused s e = ⊥
+IsRequestRefused s = IsRefused (RefusesConfig s.config) (λ _. ⊥)
 
 -- a list that was read after a front that was read before
 abbrev pub with_front : {A : Type 0} → List A → Result (List A) RunFault → Result (List A) RunFault

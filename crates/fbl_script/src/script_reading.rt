@@ -19,6 +19,17 @@ use fbl_input::{Key, RunFault};
 use serde_json::{Map, Value};
 use std::alloc::Global;
 
+/// The keys that a script may have.
+pub const SCRIPT_KEYS: [Key; 7] = [
+    Key::Version,
+    Key::Members,
+    Key::F,
+    Key::Behaviour,
+    Key::Limit,
+    Key::Start,
+    Key::Commands,
+];
+
 /// What a script asks for, before it is known whether there is such a group.
 #[derive(Drop)]
 pub(crate) struct Request {
@@ -111,16 +122,7 @@ fn limit_field(value: &Value, key: Key) -> Result<u32, RunFault>
 fn has_unknown_key(object: &Map<String, Value>) -> bool
     ensures { result ≡ has_other_key_of script_keys (members_view object.now.entries) }
 {
-    let known = [
-        Key::Version,
-        Key::Members,
-        Key::F,
-        Key::Behaviour,
-        Key::Limit,
-        Key::Start,
-        Key::Commands,
-    ];
-    has_other_key(object, &known)
+    has_other_key(object, &SCRIPT_KEYS)
 }
 
 /// What a value asks for as a script.
