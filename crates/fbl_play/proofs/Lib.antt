@@ -1,2 +1,3 @@
 pub mod RunTexts
 pub mod Playing
+pub mod Told

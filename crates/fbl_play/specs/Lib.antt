@@ -2,3 +2,4 @@ pub mod Texts
 pub mod RunSteps
 pub mod Runs
 pub mod Reasons
+pub mod Telling

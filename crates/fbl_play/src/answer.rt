@@ -12,28 +12,6 @@ pub(crate) struct Answer {
     pub(crate) account: Account,
 }
 
-impl Answer {
-    /// The lines say all.
-    pub(crate) fn done(text: String) -> Answer
-        ensures { result.text ≡ text }
-    {
-        Answer {
-            text,
-            account: Account::Done,
-        }
-    }
-
-    /// The command is refused for a reason.
-    pub(crate) fn refused(text: String, reason: Reason) -> Answer
-        ensures { result.text ≡ text }
-    {
-        Answer {
-            text,
-            account: Account::Refused(reason),
-        }
-    }
-}
-
 /// The text, if there is one, with the account.
 pub(crate) fn answer_with(
     text: Result<String, AllocError>,

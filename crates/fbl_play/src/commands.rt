@@ -32,15 +32,15 @@ fn run_deliver<B: Behaviour>(
     ensures { IfOk result (λ answer. DeliverStep B.next group.old to from group.new (string_bytes answer.text)) }
 {
     match group.deliver(to, from) {
-        Ok(answer) => {
-            let text = deliver_text(alloc, to, from, answer.rsn, answer.carried, answer.state)?;
-            Ok(Answer::done(text))
-        }
+        Ok(answer) => answer_with(
+            deliver_text(alloc, to, from, answer.rsn, answer.carried, answer.state),
+            Account::Done,
+        ),
         Err(DeliverRefusal::Memory) => Err(AllocError),
-        Err(refusal) => {
-            let text = refused_text(alloc, "deliver", refusal.name())?;
-            Ok(Answer::refused(text, deliver_reason(group, to, from, refusal)))
-        }
+        Err(refusal) => answer_with(
+            refused_text(alloc, "deliver", refusal.name()),
+            Account::Refused(deliver_reason(group, to, from, refusal)),
+        ),
     }
 }
 
@@ -135,11 +135,11 @@ fn run_strike<B: Behaviour>(
     ensures { IfOk result (λ answer. StrikeStep group.old set group.new (string_bytes answer.text)) }
 {
     match group.strike(set) {
-        Ok(struck) => Ok(Answer::done(strike_text(alloc, set, struck.lost)?)),
-        Err(refusal) => {
-            let text = refused_text(alloc, "strike", refusal.name())?;
-            Ok(Answer::refused(text, strike_reason(group, set, refusal)))
-        }
+        Ok(struck) => answer_with(strike_text(alloc, set, struck.lost), Account::Done),
+        Err(refusal) => answer_with(
+            refused_text(alloc, "strike", refusal.name()),
+            Account::Refused(strike_reason(group, set, refusal)),
+        ),
     }
 }
 
@@ -148,15 +148,15 @@ fn run_recover<B: Behaviour>(alloc: Global, group: &mut Group<B>) -> Result<Answ
     ensures { IfOk result (λ answer. RecoverStep B.next group.old group.new (string_bytes answer.text)) }
 {
     match group.recover() {
-        Ok(answer) => {
-            let text = recover_text(alloc, answer.replayed, answer.resent, answer.undone)?;
-            Ok(Answer::done(text))
-        }
+        Ok(answer) => answer_with(
+            recover_text(alloc, answer.replayed, answer.resent, answer.undone),
+            Account::Done,
+        ),
         Err(RecoverRefusal::Memory) => Err(AllocError),
-        Err(refusal) => {
-            let text = refused_text(alloc, "recover", refusal.name())?;
-            Ok(Answer::refused(text, Reason::NotDown))
-        }
+        Err(refusal) => answer_with(
+            refused_text(alloc, "recover", refusal.name()),
+            Account::Refused(Reason::NotDown),
+        ),
     }
 }
 
@@ -169,15 +169,15 @@ fn run_checkpoint<B: Behaviour>(
     ensures { IfOk result (λ answer. CheckpointStep group.old member group.new (string_bytes answer.text)) }
 {
     match group.checkpoint(member) {
-        Ok(()) => {
-            let text = checkpoint_text(alloc, member, group.checkpoint_received(member))?;
-            Ok(Answer::done(text))
-        }
+        Ok(()) => answer_with(
+            checkpoint_text(alloc, member, group.checkpoint_received(member)),
+            Account::Done,
+        ),
         Err(CheckpointRefusal::Memory) => Err(AllocError),
-        Err(refusal) => {
-            let text = refused_text(alloc, "checkpoint", refusal.name())?;
-            Ok(Answer::refused(text, checkpoint_reason(group, member, refusal)))
-        }
+        Err(refusal) => answer_with(
+            refused_text(alloc, "checkpoint", refusal.name()),
+            Account::Refused(checkpoint_reason(group, member, refusal)),
+        ),
     }
 }
 
@@ -190,12 +190,12 @@ fn run_dump<B: Behaviour>(
     ensures { IfOk result (λ answer. IsDumpText group.now strike (string_bytes answer.text)) }
 {
     match group.dump(strike) {
-        Ok(dump) => Ok(Answer::done(dump_text(alloc, &dump)?)),
+        Ok(dump) => answer_with(dump_text(alloc, &dump), Account::Done),
         Err(DumpGroupRefusal::Memory) => Err(AllocError),
-        Err(refusal) => {
-            let text = refused_text(alloc, "dump", refusal.name())?;
-            Ok(Answer::refused(text, no_such_member(group, strike)))
-        }
+        Err(refusal) => answer_with(
+            refused_text(alloc, "dump", refusal.name()),
+            Account::Refused(no_such_member(group, strike)),
+        ),
     }
 }
 

@@ -1,7 +1,7 @@
 //! Scripts of version 2, in which members are checkpointed.
 
-use fbl_input::{Key, RunFault};
-use fbl_play::play;
+use crate::setting::prints;
+use fbl_play::play_bytes;
 use std::test::Fail;
 
 /// What was received before the checkpoint is never lost; what came after it may be.
@@ -37,32 +37,24 @@ fn prints_the_text_of_scripts_with_checkpoints(rt: HostRuntime) -> Result<(), Fa
         REFUSED_IN_ORDER,
     ];
     for (script, text) in rows {
-        let mut input = script.as_bytes();
-        let mut out = Vec::new(rt.alloc());
-        play(&rt, rt.alloc(), &mut input, &mut out, 2)?;
-        assert!(rt; out.as_slice() == text.as_bytes(), "{script}");
+        prints(&rt, rt.alloc(), script, text, 2)?;
     }
     Ok(())
 }
 
 #[test]
-fn plays_no_checkpoint_of_version_1(rt: HostRuntime) {
-    let script =
-        r#"{"version":1,"members":3,"f":1,"behaviour":"relay","start":[[0,1,5,2]],"commands":[["checkpoint",0],["deliver",1,0],["checkpoint",1],["strike",[1]],["recover"],["deliver",2,1]]}"#;
-    let mut input = script.as_bytes();
-    let mut out = Vec::new(rt.alloc());
-    let done = play(&rt, rt.alloc(), &mut input, &mut out, 2);
-    assert!(rt; matches!(done, Err(RunFault::BadCommand(0))));
-    assert!(rt; out.is_empty());
-}
-
-#[test]
-fn plays_no_script_of_version_3(rt: HostRuntime) {
-    let script =
-        r#"{"version":3,"members":3,"f":1,"behaviour":"relay","start":[[0,1,5,2]],"commands":[["checkpoint",0],["deliver",1,0],["checkpoint",1],["strike",[1]],["recover"],["deliver",2,1]]}"#;
-    let mut input = script.as_bytes();
-    let mut out = Vec::new(rt.alloc());
-    let done = play(&rt, rt.alloc(), &mut input, &mut out, 2);
-    assert!(rt; matches!(done, Err(RunFault::BadField(Key::Version))));
-    assert!(rt; out.is_empty());
+fn plays_no_checkpoint_of_another_version(rt: HostRuntime) -> Result<(), Fail> {
+    let (script, _) = SENT_AGAIN_FROM_A_CHECKPOINT;
+    let rest = script
+        .strip_prefix(r#"{"version":2"#)
+        .ok_or("another head")?;
+    for (version, told) in [(1, "bad command 0"), (3, "bad field version")] {
+        let script = format!(in rt.alloc(); r#"{{"version":{version}{rest}"#)?;
+        let mut out = Vec::new(rt.alloc());
+        let done = play_bytes(&rt, rt.alloc(), script.as_bytes(), &mut out, 2);
+        let fault = done.err().ok_or("no fault")?;
+        assert_eq!(rt; fault.to_string(rt.alloc())?.as_str(), told);
+        assert!(rt; out.is_empty());
+    }
+    Ok(())
 }

@@ -125,6 +125,12 @@ fn audits_other_events_and_pairs(rt: HostRuntime) -> Result<(), Fail> {
 fn audits_other_members(rt: HostRuntime) -> Result<(), Fail> {
     let text = dump(rt.alloc(), 3, EVENTS, HELD, "[1]", "")?;
     says(&rt, rt.alloc(), text.as_bytes(), "BadF")?;
+    for members in [0, 1, 17, 255] {
+        let text = format!(in rt.alloc();
+            r#"{{"members":{members},"f":1,"events":[],"held":[],"strike":[]}}"#
+        )?;
+        says(&rt, rt.alloc(), text.as_bytes(), "BadMembers")?;
+    }
     says(&rt, rt.alloc(), b"{}", "bad field members")?;
     says(&rt, rt.alloc(), b"[]", "not an object")?;
     says(&rt, rt.alloc(), br#"{"members":3,"f":256}"#, "bad field f")
@@ -199,13 +205,8 @@ fn tells_the_fault_of_bytes_that_are_no_dump(rt: HostRuntime) {
 #[test]
 fn reads_through_interruptions(rt: HostRuntime) -> Result<(), Fail> {
     for (interruptions, fine) in [(0, true), (1000, true), (1001, false)] {
-        let mut reader = UnsteadyReader {
-            rest: LOST.as_bytes(),
-            most: 1,
-            interruptions,
-            reads: 0,
-            fails_at: 0,
-        };
+        let mut reader = UnsteadyReader::new(LOST.as_bytes(), 1, 0);
+        reader.interruptions = interruptions;
         let mut held = Vec::new(rt.alloc());
         let done = audit(rt.alloc(), &mut reader, &mut held);
         assert_eq!(rt; done.is_ok(), fine, "at {interruptions}");
@@ -223,13 +224,7 @@ fn reads_through_interruptions(rt: HostRuntime) -> Result<(), Fail> {
 fn stops_at_a_failed_read(rt: HostRuntime) {
     let mut finished = false;
     for fails_at in 1..=20u32 {
-        let mut reader = UnsteadyReader {
-            rest: LOST.as_bytes(),
-            most: 20,
-            interruptions: 0,
-            reads: 0,
-            fails_at,
-        };
+        let mut reader = UnsteadyReader::new(LOST.as_bytes(), 20, fails_at);
         let mut held = Vec::new(rt.alloc());
         match audit(rt.alloc(), &mut reader, &mut held) {
             Ok(()) => {
@@ -254,13 +249,7 @@ fn stops_at_a_failed_write(rt: HostRuntime) {
     ] {
         for fails_at in 1..=8u32 {
             let mut reader = LOST.as_bytes();
-            let mut writer = UnsteadyWriter {
-                held: Vec::new(rt.alloc()),
-                most: 7,
-                writes: 0,
-                fails_at,
-                failure,
-            };
+            let mut writer = UnsteadyWriter::new(rt.alloc(), 7, fails_at, failure);
             let done = audit(rt.alloc(), &mut reader, &mut writer);
             let text = LOST_TEXT.as_bytes();
             assert!(rt; text.starts_with(writer.held.as_slice()));
@@ -287,10 +276,7 @@ fn refuses_a_reader_that_never_ends(rt: HostRuntime) {
 #[test]
 fn writes_all_or_ends_with_memory(rt: HostRuntime) {
     let mut reader = LOST.as_bytes();
-    let mut page = Page {
-        held: [0; 4096],
-        len: 0,
-    };
+    let mut page = Page::new();
     let done = audit(rt.alloc(), &mut reader, &mut page);
     let held = &page.held[..page.len];
     match done {

@@ -73,7 +73,11 @@ const SCRIPTS: [(&str, &str); 16] = [
 ];
 
 /// Dumps with a fault, and what is said of each.
-const DUMPS: [(&str, &str); 10] = [
+const DUMPS: [(&str, &str); 11] = [
+    (
+        r#"{"members":17,"f":1,"events":[],"held":[],"strike":[]}"#,
+        "members is 17, and must be 2 to 16",
+    ),
     (
         r#"{"members":3,"f":0,"events":[],"held":[],"strike":[]}"#,
         "f is 0, and must be 1 to 2",

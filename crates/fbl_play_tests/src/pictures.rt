@@ -145,13 +145,7 @@ fn draws_the_bytes_of_a_dump(rt: HostRuntime) -> Result<(), Fail> {
 #[test]
 fn stops_at_a_failed_read(rt: HostRuntime) {
     for fails_at in 1..=5u32 {
-        let mut reader = UnsteadyReader {
-            rest: LOST.as_bytes(),
-            most: 20,
-            interruptions: 0,
-            reads: 0,
-            fails_at,
-        };
+        let mut reader = UnsteadyReader::new(LOST.as_bytes(), 20, fails_at);
         let mut held = Vec::new(rt.alloc());
         let done = draw(rt.alloc(), &mut reader, &mut held);
         assert!(rt; matches!(done, Err(RunFault::Read)), "at {fails_at}");
@@ -164,13 +158,7 @@ fn stops_at_a_failed_write(rt: HostRuntime) -> Result<(), Fail> {
     let text = drawn(rt.alloc(), LOST.as_bytes())?;
     for fails_at in 1..=6u32 {
         let mut reader = LOST.as_bytes();
-        let mut writer = UnsteadyWriter {
-            held: Vec::new(rt.alloc()),
-            most: 1000,
-            writes: 0,
-            fails_at,
-            failure: FailedWrite::Interruption,
-        };
+        let mut writer = UnsteadyWriter::new(rt.alloc(), 1000, fails_at, FailedWrite::Interruption);
         let done = draw(rt.alloc(), &mut reader, &mut writer);
         assert!(rt; text.as_bytes().starts_with(writer.held.as_slice()));
         if fails_at <= 4 {
@@ -188,10 +176,7 @@ fn stops_at_a_failed_write(rt: HostRuntime) -> Result<(), Fail> {
 #[test]
 fn draws_all_or_ends_with_memory(rt: HostRuntime) {
     let mut reader = LOST.as_bytes();
-    let mut page = Page {
-        held: [0; 4096],
-        len: 0,
-    };
+    let mut page = Page::new();
     let done = draw(rt.alloc(), &mut reader, &mut page);
     let held = &page.held[..page.len];
     match done {

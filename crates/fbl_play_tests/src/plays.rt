@@ -1,6 +1,7 @@
 //! Scripts with the texts that they print, and readers and writers that stumble.
 
 use crate::scripts::INPUTS;
+use crate::setting::prints;
 use crate::unsteady::{FailedWrite, Page, UnsteadyReader, UnsteadyWriter};
 use fbl_input::{Key, RunFault};
 use fbl_play::{play, play_bytes};
@@ -119,10 +120,7 @@ fn prints_the_text_of_each_script(rt: HostRuntime) -> Result<(), Fail> {
         LARGEST_VALUE,
     ];
     for (script, text) in rows {
-        let mut input = script.as_bytes();
-        let mut out = Vec::new(rt.alloc());
-        play(&rt, rt.alloc(), &mut input, &mut out, 2)?;
-        assert!(rt; out.as_slice() == text.as_bytes(), "{script}");
+        prints(&rt, rt.alloc(), script, text, 2)?;
     }
     Ok(())
 }
@@ -183,13 +181,8 @@ fn plays_1048576_bytes(rt: HostRuntime) -> Result<(), Fail> {
 fn reads_one_byte_a_read(rt: HostRuntime) -> Result<(), Fail> {
     let (script, text) = TWO_STRIKES;
     for (interruptions, fine) in [(0, true), (1000, true), (1001, false)] {
-        let mut reader = UnsteadyReader {
-            rest: script.as_bytes(),
-            most: 1,
-            interruptions,
-            reads: 0,
-            fails_at: 0,
-        };
+        let mut reader = UnsteadyReader::new(script.as_bytes(), 1, 0);
+        reader.interruptions = interruptions;
         let mut out = Vec::new(rt.alloc());
         let done = play(&rt, rt.alloc(), &mut reader, &mut out, 2);
         assert_eq!(rt; done.is_ok(), fine, "at {interruptions}");
@@ -207,13 +200,7 @@ fn reads_one_byte_a_read(rt: HostRuntime) -> Result<(), Fail> {
 fn stops_at_a_failed_read(rt: HostRuntime) -> Result<(), Fail> {
     let (script, _) = TWO_STRIKES;
     for fails_at in 1..=4 {
-        let mut reader = UnsteadyReader {
-            rest: script.as_bytes(),
-            most: 100,
-            interruptions: 0,
-            reads: 0,
-            fails_at,
-        };
+        let mut reader = UnsteadyReader::new(script.as_bytes(), 100, fails_at);
         let mut out = Vec::new(rt.alloc());
         let done = play(&rt, rt.alloc(), &mut reader, &mut out, 2);
         assert!(rt; matches!(done, Err(RunFault::Read)), "at {fails_at}");
@@ -233,13 +220,7 @@ fn stops_at_a_failed_write(rt: HostRuntime) -> Result<(), Fail> {
     for failure in failures {
         for fails_at in 1..u32::MAX {
             let mut input = script.as_bytes();
-            let mut writer = UnsteadyWriter {
-                held: Vec::new(rt.alloc()),
-                most: 40,
-                writes: 0,
-                fails_at,
-                failure,
-            };
+            let mut writer = UnsteadyWriter::new(rt.alloc(), 40, fails_at, failure);
             let done = play(&rt, rt.alloc(), &mut input, &mut writer, 2);
             if done.is_ok() {
                 assert!(rt; fails_at > 9 && writer.held.as_slice() == text.as_bytes());
@@ -268,10 +249,7 @@ fn ends_a_command(held: &[u8]) -> bool {
 fn ends_with_memory_where_it_is_refused(rt: HostRuntime) {
     let (script, text) = TWO_STRIKES;
     let mut input = script.as_bytes();
-    let mut page = Page {
-        held: [0; 4096],
-        len: 0,
-    };
+    let mut page = Page::new();
     let done = play(&rt, rt.alloc(), &mut input, &mut page, 2);
     let held = &page.held[..page.len];
     match done {

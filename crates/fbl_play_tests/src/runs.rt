@@ -1,8 +1,6 @@
 //! Scripts in which workers deliver. What they print is the same with each number of workers.
 
-ghost use Rattle.std.specs.Prelude.{◌≤◌};
-
-use fbl_play::play;
+use crate::setting::prints;
 use std::test::Fail;
 
 const CRASHES_IN_THREE_PLACES: (&str, &str) = (
@@ -59,13 +57,7 @@ fn prints_the_same_with_each_number_of_workers(rt: HostRuntime) -> Result<(), Fa
     ];
     for (script, text) in rows {
         for workers in 1..=8 {
-            let mut input = script.as_bytes();
-            let mut out = Vec::new(rt.alloc());
-            play(&rt, rt.alloc(), &mut input, &mut out, workers)?;
-            assert!(rt;
-                out.as_slice() == text.as_bytes(),
-                "{workers} workers: {script}"
-            );
+            prints(&rt, rt.alloc(), script, text, workers)?;
         }
     }
     Ok(())

@@ -2,6 +2,7 @@
 
 ghost use Rattle.std.specs.Prelude.{◌≤◌};
 
+use std::alloc::Global;
 use std::io::{self, ErrorKind, Read, Write};
 
 /// Gives at most `most` bytes a read, is interrupted first, and fails at one read.
@@ -12,6 +13,19 @@ pub(crate) struct UnsteadyReader<'a> {
     pub interruptions: u32,
     pub reads: u32,
     pub fails_at: u32,
+}
+
+impl<'a> UnsteadyReader<'a> {
+    /// No read is interrupted.
+    pub(crate) fn new(rest: &'a [u8], most: usize, fails_at: u32) -> UnsteadyReader<'a> {
+        UnsteadyReader {
+            rest,
+            most,
+            interruptions: 0,
+            reads: 0,
+            fails_at,
+        }
+    }
 }
 
 impl Read for UnsteadyReader<'_> {
@@ -49,6 +63,23 @@ pub(crate) struct UnsteadyWriter {
     pub failure: FailedWrite,
 }
 
+impl UnsteadyWriter {
+    pub(crate) fn new(
+        alloc: Global,
+        most: usize,
+        fails_at: u32,
+        failure: FailedWrite,
+    ) -> UnsteadyWriter {
+        UnsteadyWriter {
+            held: Vec::new(alloc),
+            most,
+            writes: 0,
+            fails_at,
+            failure,
+        }
+    }
+}
+
 impl Write for UnsteadyWriter {
     fn write(&mut self, buf: &[u8]) -> io::Result<usize> {
         self.writes = self.writes.wrapping_add(1);
@@ -75,6 +106,15 @@ pub(crate) struct Page {
     pub held: [u8; 4096],
     pub len: usize,
     ghost within: { len ≤ 4096 },
+}
+
+impl Page {
+    pub(crate) fn new() -> Page {
+        Page {
+            held: [0; 4096],
+            len: 0,
+        }
+    }
 }
 
 impl Write for Page {

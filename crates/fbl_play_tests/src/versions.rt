@@ -19,42 +19,17 @@ const START: &str = "[0,1,5,2]";
 const CHECKPOINTS: &str =
     r#"["checkpoint",0],["deliver",1,0],["checkpoint",1],["strike",[1]],["recover"],["deliver",2,1]"#;
 
-/// Heads of a script with these commands, and the faults.
-const HEADS: [(&str, &str); 10] = [
-    (VERSION_1, "bad command 0"),
-    (VERSION_2, "none"),
-    (
-        r#""version":3,"members":3,"f":1,"behaviour":"relay""#,
-        "bad field version",
-    ),
-    (
-        r#""version":0,"members":3,"f":1,"behaviour":"relay""#,
-        "bad field version",
-    ),
-    (
-        r#""version":2.0,"members":3,"f":1,"behaviour":"relay""#,
-        "bad field version",
-    ),
-    (
-        r#""version":"2","members":3,"f":1,"behaviour":"relay""#,
-        "bad field version",
-    ),
-    (
-        r#""version":4294967296,"members":3,"f":1,"behaviour":"relay""#,
-        "bad field version",
-    ),
-    (
-        r#""members":3,"f":1,"behaviour":"relay""#,
-        "bad field version",
-    ),
-    (
-        r#""version":3,"members":256,"f":1,"behaviour":"relay""#,
-        "bad field version",
-    ),
-    (
-        r#""version":2,"members":256,"f":1,"behaviour":"relay""#,
-        "bad field members",
-    ),
+/// Versions of a script with these commands, what stands behind them, and the faults.
+const HEADS: [(&str, &str, &str); 9] = [
+    ("1", r#""members":3,"f":1"#, "bad command 0"),
+    ("2", r#""members":3,"f":1"#, "none"),
+    ("3", r#""members":3,"f":1"#, "bad field version"),
+    ("0", r#""members":3,"f":1"#, "bad field version"),
+    ("2.0", r#""members":3,"f":1"#, "bad field version"),
+    (r#""2""#, r#""members":3,"f":1"#, "bad field version"),
+    ("4294967296", r#""members":3,"f":1"#, "bad field version"),
+    ("3", r#""members":256,"f":1"#, "bad field version"),
+    ("2", r#""members":256,"f":1"#, "bad field members"),
 ];
 
 /// Commands of a script of version 2, what stands behind them, and the faults.
@@ -77,9 +52,18 @@ const COMMAND_LISTS: [(&str, &str, &str); 10] = [
 
 #[test]
 fn goes_by_the_version(rt: HostRuntime) -> Result<(), Fail> {
-    for (head, fault) in HEADS {
-        has_script_fault(&rt, rt.alloc(), [head, START, CHECKPOINTS, ""], fault)?;
+    for (version, group, fault) in HEADS {
+        let head = format!(in rt.alloc(); r#""version":{version},{group},"behaviour":"relay""#)?;
+        let parts = [head.as_str(), START, CHECKPOINTS, ""];
+        has_script_fault(&rt, rt.alloc(), parts, fault)?;
     }
+    let none = [
+        r#""members":3,"f":1,"behaviour":"relay""#,
+        START,
+        CHECKPOINTS,
+        "",
+    ];
+    has_script_fault(&rt, rt.alloc(), none, "bad field version")?;
     for (commands, tail, fault) in COMMAND_LISTS {
         has_script_fault(&rt, rt.alloc(), [VERSION_2, START, commands, tail], fault)?;
     }

@@ -1,10 +1,24 @@
--- The exit status of an answer.
-use Rattle.std.proofs.Common.{◌≡◌, ℕ, List, Option, Some, None, Result, IfSome}
+-- The exit status of an answer, and the answer where nothing could be read.
+use Rattle.std.proofs.Common.{◌≡◌, ℕ, ◌<◌, ◌⊎◌, List, Option, Some, None, Result, Err, IfSome, length}
 use Rattle.fbl_input.specs.declared.fault.RunFault.{RunFault}
-use Rattle.fblrun.specs.Orders.{EndsAfter}
+use Rattle.fbl_input.specs.declared.fault.RunFault.TheVariants as faults
+use Rattle.fbl_input.specs.Shapes.{longest}
+use Rattle.fbl_draw.specs.Pictures.{IsPicture}
+use Rattle.fbl_dump.specs.Auditing.{IsAuditText}
+use Rattle.fbl_dump.proofs.Answers.{answers_unread}
+use Rattle.fbl_play.proofs.Playing.{plays_unread}
+use Rattle.fblrun.specs.declared.Task.{Task}
+use Rattle.fblrun.specs.declared.Task.TheVariants.{Play, Audit, Draw}
+use Rattle.fblrun.specs.Orders.{Answers, EndsAfter}
 use Rattle.fblrun.specs.Statuses.{status_after}
 
 -- what is known of an answer over an input is known of the status that it ends with
 pub ended : (known : Option (List ℕ)) (Answers : List ℕ → Result (Unit {0}) RunFault → Type 0) (r : Result (Unit {0}) RunFault) (status : ℕ) → status ≡ status_after r → IfSome known (λ input. Answers input r) → IfSome known (λ input. EndsAfter (Answers input) status)
 ended None Answers r status is h = tt
 ended (Some input) Answers r status is h = (r, h, is)
+
+-- a reading that failed, with nothing written
+pub unread : (task : Task) (known before : Option (List ℕ)) (f : RunFault) → (f ≡ faults.Read) ⊎ (f ≡ faults.TooLong) ⊎ (f ≡ faults.Memory) → (f ≡ faults.TooLong → IfSome known (λ input. longest < length input)) → IfSome known (λ input. Answers task input before before (Err f))
+unread (Play workers) = plays_unread workers
+unread Audit = answers_unread IsAuditText
+unread Draw = answers_unread IsPicture

@@ -37,35 +37,21 @@ program_simple : is_simple program ≡ true
 unfolding clap_on_literals
 program_simple = refl
 
-audit_asked : (e : Bool) → asked (named (with_explain e audit_line)) ≡ Some (codes "audit", None, Some (flag_text e))
-unfolding clap_on_literals
-audit_asked true = refl
-audit_asked false = refl
+-- the words of a line are taken, with or without the flag, and ask for this
+abbrev Gives : List Text → Text → Option Text → Bool → Type 0
+Gives line name workers e = (asked (named (with_explain e line)) ≡ Some (name, workers, Some (flag_text e))) × IsTaken (with_explain e line)
 
-audit_taken : (e : Bool) → IsTaken (with_explain e audit_line)
+audit_gives : (e : Bool) → Gives audit_line (codes "audit") None e
 unfolding clap_on_literals
-audit_taken true = refl
-audit_taken false = refl
+audit_gives = elim [ true ↦ (refl, refl) | false ↦ (refl, refl) ]
 
-draw_asked : (e : Bool) → asked (named (with_explain e draw_line)) ≡ Some (codes "draw", None, Some (flag_text e))
+draw_gives : (e : Bool) → Gives draw_line (codes "draw") None e
 unfolding clap_on_literals
-draw_asked true = refl
-draw_asked false = refl
+draw_gives = elim [ true ↦ (refl, refl) | false ↦ (refl, refl) ]
 
-draw_taken : (e : Bool) → IsTaken (with_explain e draw_line)
+play_gives : (e : Bool) → Gives play_line (codes "play") (Some (codes "2")) e
 unfolding clap_on_literals
-draw_taken true = refl
-draw_taken false = refl
-
-play_asked : (e : Bool) → asked (named (with_explain e play_line)) ≡ Some (codes "play", Some (codes "2"), Some (flag_text e))
-unfolding clap_on_literals
-play_asked true = refl
-play_asked false = refl
-
-play_taken : (e : Bool) → IsTaken (with_explain e play_line)
-unfolding clap_on_literals
-play_taken true = refl
-play_taken false = refl
+play_gives = elim [ true ↦ (refl, refl) | false ↦ (refl, refl) ]
 
 -- a fact of each number of workers
 by_count : (P : ℕ → Type 0) → P 1 → P 2 → P 3 → P 4 → P 5 → P 6 → P 7 → P 8 → (n : ℕ) → IsWorkerCount n → P n
@@ -83,37 +69,24 @@ by_count P a b c d e f g h (suc (suc (suc (suc (suc (suc (suc (suc (suc n)))))))
 abbrev with_word : Text → List Text
 with_word word = codes "play" ∷ codes "--workers" ∷ word ∷ []
 
-abbrev DigitAsked : Bool → ℕ → Type 0
-DigitAsked e n = asked (named (with_explain e (with_word ((48 + n) ∷ [])))) ≡ Some (codes "play", Some ((48 + n) ∷ []), Some (flag_text e))
+abbrev WordGives : Bool → Text → Type 0
+WordGives e word = Gives (with_word word) (codes "play") (Some word) e
 
-digit_asked : (e : Bool) (n : ℕ) → IsWorkerCount n → DigitAsked e n
+digit_gives : (e : Bool) (n : ℕ) → IsWorkerCount n → WordGives e ((48 + n) ∷ [])
 unfolding clap_on_literals
-digit_asked true = by_count (DigitAsked true) refl refl refl refl refl refl refl refl
-digit_asked false = by_count (DigitAsked false) refl refl refl refl refl refl refl refl
+digit_gives true = by_count (λ n. WordGives true ((48 + n) ∷ [])) (refl, refl) (refl, refl) (refl, refl) (refl, refl) (refl, refl) (refl, refl) (refl, refl) (refl, refl)
+digit_gives false = by_count (λ n. WordGives false ((48 + n) ∷ [])) (refl, refl) (refl, refl) (refl, refl) (refl, refl) (refl, refl) (refl, refl) (refl, refl) (refl, refl)
 
-abbrev DigitTaken : Bool → ℕ → Type 0
-DigitTaken e n = IsTaken (with_explain e (with_word ((48 + n) ∷ [])))
-
-digit_taken : (e : Bool) (n : ℕ) → IsWorkerCount n → DigitTaken e n
-unfolding clap_on_literals
-digit_taken true = by_count (DigitTaken true) refl refl refl refl refl refl refl refl
-digit_taken false = by_count (DigitTaken false) refl refl refl refl refl refl refl refl
-
-workers_asked : (e : Bool) (n : ℕ) → IsWorkerCount n → asked (named (with_explain e (workers_line n))) ≡ Some (codes "play", Some (decimal n), Some (flag_text e))
-workers_asked e n is =
-    let digit : decimal n ≡ (48 + n) ∷ [] = decimal_digit n (omega (arith, is.1)) in
-    ap (λ word. asked (named (with_explain e (with_word word)))) digit ∙ digit_asked e n is ∙ ap (λ (word : Text). Some (codes "play", Some word, Some (flag_text e))) (sym digit)
-
-workers_taken : (e : Bool) (n : ℕ) → IsWorkerCount n → IsTaken (with_explain e (workers_line n))
-workers_taken e n is = ap (λ word. built_takes (built program) nothing_held (with_explain e (with_word word))) (decimal_digit n (omega (arith, is.1))) ∙ digit_taken e n is
+workers_gives : (e : Bool) (n : ℕ) → IsWorkerCount n → WordGives e (decimal n)
+workers_gives e n is = subst (WordGives e) (sym (decimal_digit n (omega (arith, is.1)))) (digit_gives e n is)
 
 -- ---- refusals
 
 line_taken : (words : List Text) → IsCommandLine words → IsTaken (drop 1 words)
-line_taken words (inl line) = ap (built_takes (built program) nothing_held) line.1 ∙ audit_taken line.0
-line_taken words (inr (inl line)) = ap (built_takes (built program) nothing_held) line.1 ∙ draw_taken line.0
-line_taken words (inr (inr (inl line))) = ap (built_takes (built program) nothing_held) line.1 ∙ play_taken line.0
-line_taken words (inr (inr (inr (n, count, line)))) = ap (built_takes (built program) nothing_held) line.1 ∙ workers_taken line.0 n count
+line_taken words (inl line) = ap (built_takes (built program) nothing_held) line.1 ∙ (audit_gives line.0).1
+line_taken words (inr (inl line)) = ap (built_takes (built program) nothing_held) line.1 ∙ (draw_gives line.0).1
+line_taken words (inr (inr (inl line))) = ap (built_takes (built program) nothing_held) line.1 ∙ (play_gives line.0).1
+line_taken words (inr (inr (inr (n, count, line)))) = ap (built_takes (built program) nothing_held) line.1 ∙ (workers_gives line.0 n count).1
 
 pub taken : (a : App) (words : List Text) → a ≡ program → IsCommandLine words → takes a words ≡ true
 taken a words is line = ap (λ p. takes p words) is ∙ (λ i. program_simple i && line_taken words line i)
@@ -163,17 +136,17 @@ module _ (a : App) (words : List Text) (m : ArgMatches) (is : a ≡ program) (ma
       let named_so = matches_name m ∙ sym name_of in
       record {
         audit = λ x e.
-            let found = found_asked _ name rows _ _ _ named_so (sym rows_of) (asked_on _ e ∙ audit_asked x) in
+            let found = found_asked _ name rows _ _ _ named_so (sym rows_of) (asked_on _ e ∙ (audit_gives x).0) in
             at.audit x found.0 found.2;
         draw = λ x e.
-            let found = found_asked _ name rows _ _ _ named_so (sym rows_of) (asked_on _ e ∙ draw_asked x) in
+            let found = found_asked _ name rows _ _ _ named_so (sym rows_of) (asked_on _ e ∙ (draw_gives x).0) in
             at.draw x found.0 found.2;
         play = λ x e.
-            let found = found_asked _ name rows _ _ _ named_so (sym rows_of) (asked_on _ e ∙ play_asked x) in
+            let found = found_asked _ name rows _ _ _ named_so (sym rows_of) (asked_on _ e ∙ (play_gives x).0) in
             let two : decimal 2 ≡ codes "2" = decimal_digit 2 (omega arith) in
             at.play x 2 (omega arith) found.0 (found.1 ∙ ap Some (sym two)) found.2;
         workers = λ x n count e.
-            let found = found_asked _ name rows _ _ _ named_so (sym rows_of) (asked_on _ e ∙ workers_asked x n count) in
+            let found = found_asked _ name rows _ _ _ named_so (sym rows_of) (asked_on _ e ∙ (workers_gives x n count).0) in
             at.play x n (omega (arith, count.1)) found.0 found.1 found.2;
       }
 
@@ -182,10 +155,10 @@ module _ (a : App) (words : List Text) (m : ArgMatches) (is : a ≡ program) (ma
   none_is order none =
       let named_none = matches_name m ∙ sym none in
       record {
-        audit = λ x e. none_asked _ _ named_none (asked_on _ e ∙ audit_asked x);
-        draw = λ x e. none_asked _ _ named_none (asked_on _ e ∙ draw_asked x);
-        play = λ x e. none_asked _ _ named_none (asked_on _ e ∙ play_asked x);
-        workers = λ x n count e. none_asked _ _ named_none (asked_on _ e ∙ workers_asked x n count);
+        audit = λ x e. none_asked _ _ named_none (asked_on _ e ∙ (audit_gives x).0);
+        draw = λ x e. none_asked _ _ named_none (asked_on _ e ∙ (draw_gives x).0);
+        play = λ x e. none_asked _ _ named_none (asked_on _ e ∙ (play_gives x).0);
+        workers = λ x n count e. none_asked _ _ named_none (asked_on _ e ∙ (workers_gives x n count).0);
       }
 
 -- ---- the number of workers

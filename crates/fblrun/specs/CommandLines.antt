@@ -21,11 +21,9 @@ explain_rule = record (new_rule (codes "explain")) { long = Some (codes "explain
 abbrev pub play_app : App
 play_app = with_rule (with_rule (new_app (codes "play")) workers_rule) explain_rule
 
-abbrev pub audit_app : App
-audit_app = with_rule (new_app (codes "audit")) explain_rule
-
-abbrev pub draw_app : App
-draw_app = with_rule (new_app (codes "draw")) explain_rule
+-- a subcommand of this name with `--explain` alone
+abbrev pub explained_app : Text → App
+explained_app name = with_rule (new_app name) explain_rule
 
 -- a program with a version, which asks for a subcommand
 abbrev pub top_app : App
@@ -33,7 +31,7 @@ top_app = on_top (λ s. record s { subcommand_required = true; has_version = tru
 
 -- the same with the subcommands `play`, `audit` and `draw`
 abbrev pub program : App
-program = with_subcommand (with_subcommand (with_subcommand top_app play_app.top) audit_app.top) draw_app.top
+program = with_subcommand (with_subcommand (with_subcommand top_app play_app.top) (explained_app (codes "audit")).top) (explained_app (codes "draw")).top
 
 -- ---- what it makes of the words
 

@@ -18,6 +18,17 @@ IsWorkerCount workers = (1 ≤ workers) × (workers ≤ 8)
 abbrev pub EndsAfter : (Result (Unit {0}) RunFault → Type 0) → ℕ → Type 0
 EndsAfter Answers status = (answer : Result (Unit {0}) RunFault) × Answers answer × (status ≡ status_after answer)
 
+-- the task can be done
+abbrev pub CanBeDone : Task → Type 0
+CanBeDone (Play workers) = IsWorkerCount workers
+CanBeDone _ = Unit {0}
+
+-- what is left in the writer where the task is answered so over an input
+abbrev pub Answers : Task → List ℕ → Option (List ℕ) → Option (List ℕ) → Result (Unit {0}) RunFault → Type 0
+Answers (Play workers) = ReadsAndPlays workers
+Answers Audit = ReadsAndAudits
+Answers Draw = ReadsAndDraws
+
 -- what is left in the writer, and the exit status, where the task is done over an input
 abbrev pub Does : Task → List ℕ → Option (List ℕ) → Option (List ℕ) → ℕ → Type 0
 -- a play with so many workers; where there can't be so many, the command line has a fault, and nothing is written

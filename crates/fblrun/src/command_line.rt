@@ -2,7 +2,7 @@
 
 ghost use Rattle.std.specs.Prelude.{◌≡◌, ℕ, ◌<◌, Bool, map, false, Some, IfOk, IfErr, codes, decimal, string_bytes};
 ghost use Rattle.clap.specs.Words.{app_of, found_of, kind_of, one_of, rows_of, rule_of, with_subcommand};
-ghost use Rattle.fblrun.specs.CommandLines.{IsCommandLine, IsOrderAt, IsOrderOf, audit_app, draw_app, explain_rule, flag_text, play_app, program, top_app, workers_rule};
+ghost use Rattle.fblrun.specs.CommandLines.{IsCommandLine, IsOrderAt, IsOrderOf, explain_rule, explained_app, flag_text, play_app, program, top_app, workers_rule};
 
 use crate::{Order, Task};
 use clap::error::ErrorKind;
@@ -93,26 +93,19 @@ fn with_play<'a>(alloc: Global, command: Command<'a>) -> Result<Command<'a>, All
     command.subcommand(play)
 }
 
-/// The program with the subcommand `audit`.
-fn with_audit<'a>(alloc: Global, command: Command<'a>) -> Result<Command<'a>, AllocError>
-    ensures { IfOk result (λ c. app_of c ≡ with_subcommand (app_of command.entry) audit_app.top) }
+/// The program with a subcommand of this name, which has the flag alone.
+fn with_reader<'a>(
+    alloc: Global,
+    command: Command<'a>,
+    name: &'a str,
+    about: &'a str,
+    example: &'a str,
+) -> Result<Command<'a>, AllocError>
+    ensures { IfOk result (λ c. app_of c ≡ with_subcommand (app_of command.entry) (explained_app name.now).top) }
 {
-    let audit = Command::new(alloc, "audit")
-        .about(AUDIT)
-        .after_help(AUDIT_EXAMPLE);
-    let audit = audit.arg(explain(alloc))?;
-    command.subcommand(audit)
-}
-
-/// The program with the subcommand `draw`.
-fn with_draw<'a>(alloc: Global, command: Command<'a>) -> Result<Command<'a>, AllocError>
-    ensures { IfOk result (λ c. app_of c ≡ with_subcommand (app_of command.entry) draw_app.top) }
-{
-    let draw = Command::new(alloc, "draw")
-        .about(DRAW)
-        .after_help(DRAW_EXAMPLE);
-    let draw = draw.arg(explain(alloc))?;
-    command.subcommand(draw)
+    let reader = Command::new(alloc, name).about(about).after_help(example);
+    let reader = reader.arg(explain(alloc))?;
+    command.subcommand(reader)
 }
 
 /// The program above its subcommands.
@@ -131,8 +124,8 @@ fn command_line<'a>(alloc: Global) -> Result<Command<'a>, AllocError>
     ensures { IfOk result (λ c. app_of c ≡ program) }
 {
     let command = with_play(alloc, top(alloc))?;
-    let command = with_audit(alloc, command)?;
-    with_draw(alloc, command)
+    let command = with_reader(alloc, command, "audit", AUDIT, AUDIT_EXAMPLE)?;
+    with_reader(alloc, command, "draw", DRAW, DRAW_EXAMPLE)
 }
 
 /// How many workers a play is asked for with.

@@ -1,11 +1,8 @@
 //! Plays the script, or audits or draws the dump, that standard input has.
 #![tactic(auto)]
 
-ghost use Rattle.std.specs.Prelude.{◌≡◌, ◌≤◌, IfSome};
-ghost use Rattle.fblrun.specs.Orders.{EndsAfter, Obeys};
-ghost use Rattle.fbl_draw.specs.Drawing.{ReadsAndDraws};
-ghost use Rattle.fbl_dump.specs.Auditing.{ReadsAndAudits};
-ghost use Rattle.fbl_play.specs.Runs.{ReadsAndPlays};
+ghost use Rattle.std.specs.Prelude.{◌≡◌, IfSome};
+ghost use Rattle.fblrun.specs.Orders.{Answers, CanBeDone, EndsAfter, Obeys};
 ghost use Rattle.fblrun.specs.Statuses.{status_after as status_after_result, status_of as status_of_fault};
 
 mod command_line;
@@ -123,67 +120,49 @@ fn status_after<R: Eprint>(rt: &R, done: Result<(), RunFault>) -> u8
     }
 }
 
-/// Plays the script that the reader has, and answers the exit status.
-fn play_input<T: Eprint + Threads + Wait + Sync, R: Read, W: Write>(
+/// Does the task over the bytes.
+fn do_task<T: Eprint + Threads + Wait + Sync, W: Write>(
     rt: &T,
     alloc: Global,
-    workers: u8,
-    explain: bool,
-    reader: &mut R,
+    order: Order,
+    input: &[u8],
     writer: &mut W,
-) -> u8
-    requires some { 1 ≤ workers }
-    requires few { workers ≤ 8 }
-    ensures { IfSome (R.remaining reader.old) (λ input. EndsAfter (ReadsAndPlays workers input (W.contents writer.old) (W.contents writer.new)) result) }
+) -> Result<(), RunFault>
+    requires { CanBeDone order.task }
+    ensures { Answers order.task input.now (W.contents writer.old) (W.contents writer.new) result }
 {
-    match read_input(alloc, reader) {
-        Ok(input) => {
-            let input = input.as_slice();
-            let mut teller = Teller::new(rt, explain);
-            let done = play_observed(rt, alloc, input, writer, workers, &mut teller);
-            end(rt, alloc, explain, InputKind::Script, input, done)
+    match order.task {
+        Task::Play(workers) => {
+            let mut teller = Teller::new(rt, order.explain);
+            play_observed(rt, alloc, input, writer, workers, &mut teller)
         }
-        Err(fault) => end(rt, alloc, explain, InputKind::Script, &[], Err(fault)),
+        Task::Audit => audit_bytes(alloc, input, writer),
+        Task::Draw => draw_bytes(alloc, input, writer),
     }
 }
 
-/// Audits the dump that the reader has, and answers the exit status.
-fn audit_input<T: Eprint, R: Read, W: Write>(
+/// Does the task over what the reader has, and answers the exit status.
+fn read_and_do<T: Eprint + Threads + Wait + Sync, R: Read, W: Write>(
     rt: &T,
     alloc: Global,
-    explain: bool,
+    order: Order,
     reader: &mut R,
     writer: &mut W,
 ) -> u8
-    ensures { IfSome (R.remaining reader.old) (λ input. EndsAfter (ReadsAndAudits input (W.contents writer.old) (W.contents writer.new)) result) }
+    requires { CanBeDone order.task }
+    ensures { IfSome (R.remaining reader.old) (λ input. EndsAfter (Answers order.task input (W.contents writer.old) (W.contents writer.new)) result) }
 {
+    let kind = match order.task {
+        Task::Play(_) => InputKind::Script,
+        Task::Audit | Task::Draw => InputKind::Dump,
+    };
     match read_input(alloc, reader) {
         Ok(input) => {
             let input = input.as_slice();
-            let done = audit_bytes(alloc, input, writer);
-            end(rt, alloc, explain, InputKind::Dump, input, done)
+            let done = do_task(rt, alloc, order, input, writer);
+            end(rt, alloc, order.explain, kind, input, done)
         }
-        Err(fault) => end(rt, alloc, explain, InputKind::Dump, &[], Err(fault)),
-    }
-}
-
-/// Draws the dump that the reader has, and answers the exit status.
-fn draw_input<T: Eprint, R: Read, W: Write>(
-    rt: &T,
-    alloc: Global,
-    explain: bool,
-    reader: &mut R,
-    writer: &mut W,
-) -> u8
-    ensures { IfSome (R.remaining reader.old) (λ input. EndsAfter (ReadsAndDraws input (W.contents writer.old) (W.contents writer.new)) result) }
-{
-    match read_input(alloc, reader) {
-        Ok(input) => {
-            let input = input.as_slice();
-            let done = draw_bytes(alloc, input, writer);
-            end(rt, alloc, explain, InputKind::Dump, input, done)
-        }
-        Err(fault) => end(rt, alloc, explain, InputKind::Dump, &[], Err(fault)),
+        Err(fault) => end(rt, alloc, order.explain, kind, &[], Err(fault)),
     }
 }
 
@@ -198,14 +177,12 @@ fn obey<T: Eprint + Threads + Wait + Sync, R: Read, W: Write>(
 ) -> u8
     ensures { IfSome (R.remaining reader.old) (λ input. Obeys order input (W.contents writer.old) (W.contents writer.new) result) }
 {
-    let explain = order.explain;
     match order.task {
         Task::Play(workers) => match workers {
-            1..=8 => play_input(rt, alloc, workers, explain, reader, writer),
+            1..=8 => read_and_do(rt, alloc, order, reader, writer),
             _ => INPUT_FAULT,
         },
-        Task::Audit => audit_input(rt, alloc, explain, reader, writer),
-        Task::Draw => draw_input(rt, alloc, explain, reader, writer),
+        Task::Audit | Task::Draw => read_and_do(rt, alloc, order, reader, writer),
     }
 }
 

@@ -34,6 +34,13 @@ impl<'a, R> Teller<'a, R> {
 }
 
 impl<R: Eprint> Observer for Teller<'_, R> {
+    ghost use Rattle.std.specs.Prelude.{⊤};
+
+    // what is told on standard error no contract sees
+    ghost hears_before = { λ _ _ _. ⊤ };
+
+    ghost hears_after = { λ _ _ _ _. ⊤ };
+
     fn before(&mut self, command: &Command) {
         if self.is_asked {
             let place = self.place;
