@@ -1,44 +1,26 @@
 //! Checkpoints, and the recoveries that begin at them.
 
-use crate::facts::Fact::{Checkpointed, Down, Ever, Flight, Has, Holds, InFlight, Length};
+use crate::facts::Fact::{AllHave, Checkpointed, Down, Ever, Flight, Has, Holds, InFlight, Length};
 use crate::facts::is_audited;
-use crate::setting::{Setting, set};
+use crate::memory::{play, played};
+use crate::setting::{CHECKPOINTED, GONE_ROUND, HALF_ROUND_OF_TWO, MEETING, ROUND, TWICE};
 use crate::steps::Step::{Checkpoint, Crash, Deliver, Recover, Show, Strike};
-use crate::steps::{make_all, play};
 use fbl_base::{Mix, Relay};
 use fbl_group::{CheckpointRefusal, Group};
 use std::test::Fail;
 
-const ROUND: Setting = Setting {
-    n: 3,
-    f: 1,
-    limit: 8192,
-    starts: &[(0, 1, 5, 2)],
-};
-
 // The audit knows no checkpoints, so it finds both receipts lost.
 #[test]
 fn a_checkpointed_receipt_is_not_lost(rt: HostRuntime) -> Result<(), Fail> {
-    let setting = Setting {
-        starts: &[(0, 2, 4, 0), (1, 2, 7, 0)],
-        ..ROUND
-    };
-    let mut group: Group<Mix> = setting.group(rt.alloc())?;
     let steps = [
         Deliver((2, 1), Ok((1, 0, 8))),
         Checkpoint(2, Ok(1)),
         Deliver((2, 0), Ok((2, 0, 253))),
         Strike(&[2], Ok(1)),
-        Show(Has(0, (0, 0, 1, 0))),
-        Show(Has(1, (0, 0, 1, 0))),
+        Show(AllHave(&[(0, 0, 1, 0), (0, 0, 1, 0), (0, 0, 0, 0)])),
         Show(Down(&[2])),
         Show(Flight(0, false)),
         Show(Length(4)),
-    ];
-    make_all(&mut group, &mut None, &steps)?;
-    let lost = [(1, 1, 2, 1), (0, 1, 2, 2)];
-    assert!(rt; is_audited(rt.alloc(), &group.dump(set(&[2])?)?, &lost, &[])?);
-    let steps = [
         Checkpoint(0, Err(CheckpointRefusal::Down)),
         Recover(Ok((0, 1, 1))),
         Show(Ever(2, 1)),
@@ -46,7 +28,11 @@ fn a_checkpointed_receipt_is_not_lost(rt: HostRuntime) -> Result<(), Fail> {
         Deliver((2, 0), Ok((2, 0, 253))),
         Checkpoint(3, Err(CheckpointRefusal::BadMember)),
     ];
-    make_all(&mut group, &mut None, &steps)
+    play::<Mix>(&rt, &MEETING, &steps)?;
+    let group: Group<Mix> = played(rt.alloc(), &MEETING, &mut None, &steps[..4])?;
+    let lost = [(1, 1, 2, 1), (0, 1, 2, 2)];
+    assert!(rt; is_audited(rt.alloc(), &group, &[2], &lost, &[])?);
+    Ok(())
 }
 
 #[test]
@@ -61,7 +47,7 @@ fn messages_that_a_checkpoint_has_are_sent_again(rt: HostRuntime) -> Result<(), 
         Show(InFlight((1, 2), 1)),
         Deliver((2, 1), Ok((1, 1, 5))),
     ];
-    play::<Relay>(rt.alloc(), &ROUND, &steps)
+    play::<Relay>(&rt, &ROUND, &steps)
 }
 
 #[test]
@@ -71,31 +57,26 @@ fn a_crash_recovers_from_a_checkpoint(rt: HostRuntime) -> Result<(), Fail> {
         Deliver((1, 0), Ok((1, 0, 5))),
         Checkpoint(1, Ok(1)),
         Crash(&[1], Ok((0, (0, 1, 0)))),
-        Show(Checkpointed(1, 1)),
+        Show(Checkpointed(&[0, 1, 0])),
         Deliver((2, 1), Ok((1, 1, 5))),
     ];
-    play::<Relay>(rt.alloc(), &ROUND, &steps)
+    play::<Relay>(&rt, &ROUND, &steps)
 }
 
 #[test]
 fn a_checkpoint_records_what_two_strikes_would_lose(rt: HostRuntime) -> Result<(), Fail> {
-    let setting = Setting { f: 2, ..ROUND };
     let steps = [
-        Deliver((1, 0), Ok((1, 0, 5))),
-        Deliver((2, 1), Ok((1, 1, 5))),
         Checkpoint(2, Ok(1)),
         Strike(&[2], Ok(0)),
         Strike(&[1], Ok(0)),
         Show(Down(&[1, 2])),
         Recover(Ok((1, 1, 0))),
-        Show(Has(0, (0, 0, 1, 0))),
-        Show(Has(1, (5, 1, 1, 2))),
-        Show(Has(2, (5, 1, 1, 2))),
+        Show(AllHave(&[(0, 0, 1, 0), (5, 1, 1, 2), (5, 1, 1, 2)])),
         Show(Holds(1, &[((0, 1, 1, 1), &[1, 2]), ((1, 1, 2, 1), &[1, 2])])),
         Show(InFlight((2, 0), 1)),
         Deliver((0, 2), Ok((1, 2, 5))),
     ];
-    play::<Relay>(rt.alloc(), &setting, &steps)
+    play::<Relay>(&rt, &HALF_ROUND_OF_TWO, &steps)
 }
 
 #[test]
@@ -110,69 +91,53 @@ fn checkpoints_are_refused_in_order(rt: HostRuntime) -> Result<(), Fail> {
         Checkpoint(0, Err(CheckpointRefusal::Down)),
         Checkpoint(1, Err(CheckpointRefusal::Down)),
         Checkpoint(2, Err(CheckpointRefusal::Down)),
-        Show(Checkpointed(0, 0)),
-        Show(Checkpointed(1, 0)),
-        Show(Checkpointed(2, 0)),
+        Show(Checkpointed(&[0, 0, 0])),
         Recover(Ok((0, 1, 0))),
         Checkpoint(1, Ok(1)),
         Checkpoint(2, Ok(0)),
     ];
-    play::<Relay>(rt.alloc(), &ROUND, &steps)
+    play::<Relay>(&rt, &ROUND, &steps)
 }
 
 // After the first checkpoint the second receipt is lost, and after the second one nothing is.
 #[test]
 fn a_checkpoint_takes_the_place_of_the_older_one(rt: HostRuntime) -> Result<(), Fail> {
-    let setting = Setting {
-        starts: &[(0, 1, 5, 0), (0, 1, 6, 0)],
-        ..ROUND
-    };
     let steps = [
-        Show(Checkpointed(1, 0)),
+        Show(Checkpointed(&[0, 0, 0])),
         Deliver((1, 0), Ok((1, 0, 5))),
         Checkpoint(1, Ok(1)),
         Deliver((1, 0), Ok((2, 0, 11))),
         Crash(&[1], Ok((1, (0, 1, 1)))),
         Show(Has(1, (5, 1, 0, 1))),
         Deliver((1, 0), Ok((2, 0, 11))),
-        Show(Checkpointed(1, 1)),
+        Show(Checkpointed(&[0, 1, 0])),
         Checkpoint(1, Ok(2)),
         Crash(&[1], Ok((0, (0, 0, 0)))),
         Show(Has(1, (11, 2, 0, 2))),
-        Show(Checkpointed(0, 0)),
-        Show(Checkpointed(1, 2)),
-        Show(Checkpointed(2, 0)),
+        Show(Checkpointed(&[0, 2, 0])),
     ];
-    play::<Relay>(rt.alloc(), &setting, &steps)
+    play::<Relay>(&rt, &TWICE, &steps)
 }
 
 // The second receipt is known to its member's successor, which took the message that followed from it.
 #[test]
 fn the_receipts_after_a_checkpoint_are_replayed(rt: HostRuntime) -> Result<(), Fail> {
-    let setting = Setting {
-        starts: &[(0, 1, 5, 0), (0, 1, 6, 1)],
-        ..ROUND
-    };
     let steps = [
-        Deliver((1, 0), Ok((1, 0, 5))),
-        Checkpoint(1, Ok(1)),
-        Deliver((1, 0), Ok((2, 0, 11))),
-        Deliver((2, 1), Ok((1, 2, 6))),
         Strike(&[1], Ok(0)),
         Show(Has(1, (0, 0, 0, 0))),
-        Show(Checkpointed(1, 1)),
+        Show(Checkpointed(&[0, 1, 0])),
         Recover(Ok((1, 0, 0))),
         Show(Has(1, (11, 2, 1, 3))),
-        Show(Checkpointed(1, 1)),
+        Show(Checkpointed(&[0, 1, 0])),
         Crash(&[1], Ok((0, (1, 0, 0)))),
         Show(Has(1, (11, 2, 1, 3))),
         Checkpoint(1, Ok(2)),
         Crash(&[2], Ok((0, (1, 0, 0)))),
         Crash(&[1], Ok((0, (0, 0, 0)))),
         Show(Has(1, (11, 2, 1, 3))),
-        Show(Checkpointed(1, 2)),
+        Show(Checkpointed(&[0, 2, 0])),
     ];
-    play::<Relay>(rt.alloc(), &setting, &steps)
+    play::<Relay>(&rt, &CHECKPOINTED, &steps)
 }
 
 #[test]
@@ -187,11 +152,8 @@ fn a_member_that_received_nothing_is_checkpointed(rt: HostRuntime) -> Result<(),
         Recover(Ok((1, 0, 0))),
         Strike(&[1], Ok(0)),
         Recover(Ok((1, 0, 0))),
-        Show(Has(0, (5, 1, 1, 2))),
-        Show(Has(1, (5, 1, 1, 3))),
-        Show(Has(2, (5, 1, 1, 3))),
-        Show(Checkpointed(1, 0)),
-        Show(Checkpointed(2, 0)),
+        Show(AllHave(&[(5, 1, 1, 2), (5, 1, 1, 3), (5, 1, 1, 3)])),
+        Show(Checkpointed(&[0, 0, 0])),
     ];
-    play::<Relay>(rt.alloc(), &ROUND, &steps)
+    play::<Relay>(&rt, &ROUND, &steps)
 }

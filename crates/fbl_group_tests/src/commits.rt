@@ -2,9 +2,9 @@
 
 use crate::facts::Fact::{Ever, Has, InFlight, Length, Trace};
 use crate::facts::Happening::{Received, Sent};
-use crate::setting::{Setting, member};
+use crate::memory::play;
+use crate::setting::{ROUND, Setting, TWICE, member};
 use crate::steps::Step::{Commit, Crash, Deliver, Recover, Show, Strike, Take};
-use crate::steps::play;
 use fbl_base::Relay;
 use fbl_group::{CommitRefusal, Done, Group, TakeRefusal, run_step};
 use std::alloc::Global;
@@ -12,19 +12,13 @@ use std::test::Fail;
 
 const SMALL: Setting = Setting {
     n: 2,
-    f: 1,
     limit: 3,
     starts: &[(0, 1, 5, 1)],
+    ..ROUND
 };
 
 #[test]
 fn a_step_is_committed_after_a_crash(rt: HostRuntime) -> Result<(), Fail> {
-    let setting = Setting {
-        n: 3,
-        f: 1,
-        limit: 8192,
-        starts: &[(0, 1, 5, 0), (0, 1, 6, 0)],
-    };
     let steps = [
         Deliver((1, 0), Ok((1, 0, 5))),
         Take((1, 0), Ok((5, 2, 2, 6, 0))),
@@ -46,7 +40,7 @@ fn a_step_is_committed_after_a_crash(rt: HostRuntime) -> Result<(), Fail> {
         ])),
         Show(Ever(3, 1)),
     ];
-    play::<Relay>(rt.alloc(), &setting, &steps)
+    play::<Relay>(&rt, &TWICE, &steps)
 }
 
 #[test]
@@ -61,7 +55,7 @@ fn a_step_is_committed_once_nobody_is_down(rt: HostRuntime) -> Result<(), Fail> 
         Show(Has(1, (5, 1, 1, 1))),
         Show(InFlight((1, 0), 1)),
     ];
-    play::<Relay>(rt.alloc(), &SMALL, &steps)
+    play::<Relay>(&rt, &SMALL, &steps)
 }
 
 #[test]
@@ -76,7 +70,7 @@ fn a_full_trace_refuses_a_commit(rt: HostRuntime) -> Result<(), Fail> {
         Show(Length(1)),
         Show(Ever(0, 0)),
     ];
-    play::<Relay>(rt.alloc(), &setting, &steps)
+    play::<Relay>(&rt, &setting, &steps)
 }
 
 /// A step of member 1 in a group of three, which sends to the third.
@@ -107,5 +101,5 @@ fn tickets_are_refused_in_order(rt: HostRuntime) -> Result<(), Fail> {
         Take((2, 0), Err(TakeRefusal::BadMember)),
         Take((1, 0), Err(TakeRefusal::Down)),
     ];
-    play::<Relay>(rt.alloc(), &SMALL, &steps)
+    play::<Relay>(&rt, &SMALL, &steps)
 }

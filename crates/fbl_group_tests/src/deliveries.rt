@@ -1,20 +1,13 @@
 //! Groups in which nobody is struck.
 
-use crate::facts::Fact::{Down, Ever, Flight, Has, Holds, InFlight, Length, Trace};
+use crate::facts::Fact::{AllHave, Down, Ever, Flight, Holds, InFlight, Length, Trace};
 use crate::facts::Happening::{Received, Sent};
-use crate::setting::{Setting, start};
+use crate::memory::play;
+use crate::setting::{MEETING, ROUND, Setting, start};
 use crate::steps::Step::{Deliver, Show};
-use crate::steps::play;
 use fbl_base::{Mix, Relay};
 use fbl_group::{DeliverRefusal, Group};
 use std::test::Fail;
-
-const ROUND: Setting = Setting {
-    n: 3,
-    f: 1,
-    limit: 8192,
-    starts: &[(0, 1, 5, 2)],
-};
 
 #[test]
 fn a_new_group_has_sent_its_starts(rt: HostRuntime) -> Result<(), Fail> {
@@ -23,9 +16,7 @@ fn a_new_group_has_sent_its_starts(rt: HostRuntime) -> Result<(), Fail> {
         ..ROUND
     };
     let steps = [
-        Show(Has(0, (0, 0, 2, 0))),
-        Show(Has(1, (0, 0, 0, 0))),
-        Show(Has(2, (0, 0, 1, 0))),
+        Show(AllHave(&[(0, 0, 2, 0), (0, 0, 0, 0), (0, 0, 1, 0)])),
         Show(Holds(0, &[])),
         Show(InFlight((0, 1), 1)),
         Show(InFlight((2, 1), 1)),
@@ -40,7 +31,7 @@ fn a_new_group_has_sent_its_starts(rt: HostRuntime) -> Result<(), Fail> {
         Show(Down(&[])),
         Show(Ever(0, 0)),
     ];
-    play::<Relay>(rt.alloc(), &setting, &steps)
+    play::<Relay>(&rt, &setting, &steps)
 }
 
 #[test]
@@ -66,10 +57,9 @@ fn a_group_without_starts_is_quiet(rt: HostRuntime) -> Result<(), Fail> {
     let steps = [
         Show(Flight(0, true)),
         Show(Trace(&[])),
-        Show(Has(0, (0, 0, 0, 0))),
-        Show(Has(1, (0, 0, 0, 0))),
+        Show(AllHave(&[(0, 0, 0, 0), (0, 0, 0, 0)])),
     ];
-    play::<Relay>(rt.alloc(), &setting, &steps)
+    play::<Relay>(&rt, &setting, &steps)
 }
 
 // The states are 4 + 1 and 5 + 1.
@@ -85,8 +75,7 @@ fn a_message_is_answered(rt: HostRuntime) -> Result<(), Fail> {
         Show(Holds(1, &[((0, 1, 1, 1), &[1])])),
         Show(Flight(1, false)),
         Deliver((0, 1), Ok((1, 1, 6))),
-        Show(Has(0, (6, 1, 1, 2))),
-        Show(Has(1, (5, 1, 1, 1))),
+        Show(AllHave(&[(6, 1, 1, 2), (5, 1, 1, 1)])),
         Show(Holds(0, &[((0, 1, 1, 1), &[0, 1]), ((1, 1, 0, 1), &[0])])),
         Show(Trace(&[
             Sent(0, 1, 1, 4, 1),
@@ -97,26 +86,22 @@ fn a_message_is_answered(rt: HostRuntime) -> Result<(), Fail> {
         Show(Flight(0, true)),
         Show(Ever(2, 0)),
     ];
-    play::<Mix>(rt.alloc(), &setting, &steps)
+    play::<Mix>(&rt, &setting, &steps)
 }
 
 // 7 + 1 and then 31 * 8 + 4 + 1; in the other order 4 + 1 and then 31 * 5 + 7 + 1.
 #[test]
 fn the_order_of_deliveries_decides_the_state(rt: HostRuntime) -> Result<(), Fail> {
-    let setting = Setting {
-        starts: &[(0, 2, 4, 0), (1, 2, 7, 0)],
-        ..ROUND
-    };
     let steps = [
         Deliver((2, 1), Ok((1, 0, 8))),
         Deliver((2, 0), Ok((2, 0, 253))),
     ];
-    play::<Mix>(rt.alloc(), &setting, &steps)?;
+    play::<Mix>(&rt, &MEETING, &steps)?;
     let steps = [
         Deliver((2, 0), Ok((1, 0, 5))),
         Deliver((2, 1), Ok((2, 0, 163))),
     ];
-    play::<Mix>(rt.alloc(), &setting, &steps)
+    play::<Mix>(&rt, &MEETING, &steps)
 }
 
 #[test]
@@ -132,7 +117,7 @@ fn a_channel_gives_its_messages_in_order(rt: HostRuntime) -> Result<(), Fail> {
         Deliver((1, 0), Ok((2, 0, 163))),
         Deliver((1, 0), Err(DeliverRefusal::Empty)),
     ];
-    play::<Mix>(rt.alloc(), &setting, &steps)
+    play::<Mix>(&rt, &setting, &steps)
 }
 
 #[test]
@@ -141,16 +126,14 @@ fn a_message_goes_round(rt: HostRuntime) -> Result<(), Fail> {
         Deliver((1, 0), Ok((1, 0, 5))),
         Deliver((2, 1), Ok((1, 1, 5))),
         Deliver((0, 2), Ok((1, 1, 5))),
-        Show(Has(0, (5, 1, 1, 2))),
-        Show(Has(1, (5, 1, 1, 1))),
-        Show(Has(2, (5, 1, 1, 2))),
+        Show(AllHave(&[(5, 1, 1, 2), (5, 1, 1, 1), (5, 1, 1, 2)])),
         Show(Holds(0, &[((1, 1, 2, 1), &[0, 2]), ((2, 1, 0, 1), &[0])])),
         Show(Holds(1, &[((0, 1, 1, 1), &[1])])),
         Show(Holds(2, &[((0, 1, 1, 1), &[1, 2]), ((1, 1, 2, 1), &[2])])),
         Show(Flight(0, true)),
         Show(Length(6)),
     ];
-    play::<Relay>(rt.alloc(), &ROUND, &steps)
+    play::<Relay>(&rt, &ROUND, &steps)
 }
 
 #[test]
@@ -167,13 +150,13 @@ fn a_full_trace_refuses(rt: HostRuntime) -> Result<(), Fail> {
         Show(Trace(&[Sent(0, 1, 1, 5, 0)])),
         Show(Ever(0, 0)),
     ];
-    play::<Relay>(rt.alloc(), &setting, &steps)?;
+    play::<Relay>(&rt, &setting, &steps)?;
     let setting = Setting {
         limit: 2,
         ..setting
     };
     let steps = [Deliver((1, 0), Ok((1, 0, 5)))];
-    play::<Relay>(rt.alloc(), &setting, &steps)
+    play::<Relay>(&rt, &setting, &steps)
 }
 
 // 4294967295 is 4 * 1000000007 and 294967267.
@@ -185,5 +168,5 @@ fn a_state_wraps(rt: HostRuntime) -> Result<(), Fail> {
         ..ROUND
     };
     let steps = [Deliver((1, 0), Ok((1, 0, 294_967_267)))];
-    play::<Relay>(rt.alloc(), &setting, &steps)
+    play::<Relay>(&rt, &setting, &steps)
 }

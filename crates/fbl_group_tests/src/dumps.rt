@@ -1,64 +1,16 @@
 //! Dumps of a group, and their audit.
 
+use crate::facts::Fact::Down;
 use crate::facts::Happening::{self, Received, Sent};
 use crate::facts::is_audited;
-use crate::setting::{Setting, determinant, member, set};
-use crate::steps::Step::{self, Deliver, Dump, Recover, Strike};
-use crate::steps::{make_all, play};
-use fbl_base::{Determinant, Mark, Member, Relay};
+use crate::memory::{play, played};
+use crate::setting::{GONE_ROUND, ROUND, determinant, member, set};
+use crate::steps::Step::{Dump, Recover, Show, Strike};
+use fbl_base::Relay;
+use fbl_base::audit::Dump as GroupDump;
 use fbl_group::{DumpGroupRefusal, Group};
 use std::alloc::Global;
 use std::test::Fail;
-
-const ROUND: Setting = Setting {
-    n: 3,
-    f: 1,
-    limit: 8192,
-    starts: &[(0, 1, 5, 2)],
-};
-
-/// The group on which these calls were made after a message went once round.
-fn round(alloc: Global, steps: &[Step]) -> Result<Group<Relay>, Fail> {
-    let mut group = ROUND.group(alloc)?;
-    let deliveries = [
-        Deliver((1, 0), Ok((1, 0, 5))),
-        Deliver((2, 1), Ok((1, 1, 5))),
-        Deliver((0, 2), Ok((1, 1, 5))),
-    ];
-    make_all(&mut group, &mut None, &deliveries)?;
-    make_all(&mut group, &mut None, steps)?;
-    Ok(group)
-}
-
-/// Whether these are the events.
-fn has_marks(events: &[Mark], expected: &[Happening]) -> Result<bool, Fail> {
-    if events.len() != expected.len() {
-        return Ok(false);
-    }
-    for place in 0..expected.len() {
-        if place >= events.len() || events[place] != expected[place].mark()? {
-            return Ok(false);
-        }
-    }
-    Ok(true)
-}
-
-/// Whether these are the pairs of a holder and a receipt.
-fn has_pairs(
-    held: &[(Member, Determinant)],
-    expected: &[(u8, (u8, u32, u8, u32))],
-) -> Result<bool, Fail> {
-    if held.len() != expected.len() {
-        return Ok(false);
-    }
-    for place in 0..expected.len() {
-        let (holder, parts) = expected[place];
-        if place >= held.len() || held[place] != (member(holder)?, determinant(parts)?) {
-            return Ok(false);
-        }
-    }
-    Ok(true)
-}
 
 /// What happens where a message goes once round.
 const ONCE_ROUND: [Happening; 6] = [
@@ -79,40 +31,67 @@ const HELD: [(u8, (u8, u32, u8, u32)); 5] = [
     (2, (1, 1, 2, 1)),
 ];
 
+/// Whether the dump has those events.
+fn goes_round(alloc: Global, dump: &GroupDump) -> Result<bool, Fail> {
+    let mut events = Vec::new(alloc);
+    for happening in ONCE_ROUND {
+        events.push(happening.event()?.mark())?;
+    }
+    Ok(dump.events() == events.as_slice())
+}
+
+/// Whether the dump has those pairs.
+fn is_held(alloc: Global, dump: &GroupDump) -> Result<bool, Fail> {
+    let mut held = Vec::new(alloc);
+    for (holder, receipt) in HELD {
+        held.push((member(holder)?, determinant(receipt)?))?;
+    }
+    Ok(dump.held() == held.as_slice())
+}
+
 #[test]
 fn a_dump_has_the_trace_and_the_tables(rt: HostRuntime) -> Result<(), Fail> {
     let struck = set(&[1])?;
-    let dump = round(rt.alloc(), &[])?.dump(struck)?;
+    let group: Group<Relay> = GONE_ROUND.group(rt.alloc())?;
+    let dump = group.dump(struck)?;
     assert!(rt; dump.members() == 3 && dump.f() == 1 && dump.strike() == struck);
-    assert!(rt; has_marks(dump.events(), &ONCE_ROUND)?);
-    assert!(rt; has_pairs(dump.held(), &HELD)?);
+    assert!(rt; goes_round(rt.alloc(), &dump)? && is_held(rt.alloc(), &dump)?);
     Ok(())
 }
 
-// The first member alone holds the last receipt. Where both others are struck, nobody left holds the first receipt, and
-// the first member depends on it; at most one of the group may be lost.
+/// Who is struck, which receipts are lost then, and who is an orphan. The first member alone holds the last receipt. Where
+/// both others are struck, nobody left holds the first receipt, and the first member depends on it; at most one of the
+/// group may be lost.
+const AUDITS: [(&[u8], &[(u8, u32, u8, u32)], &[u8]); 5] = [
+    (&[], &[], &[]),
+    (&[0], &[(2, 1, 0, 1)], &[]),
+    (&[1], &[], &[]),
+    (&[2], &[], &[]),
+    (&[1, 2], &[(0, 1, 1, 1)], &[0]),
+];
+
 #[test]
 fn the_audit_of_a_dump(rt: HostRuntime) -> Result<(), Fail> {
-    let alloc = rt.alloc();
-    let group = round(alloc, &[])?;
-    assert!(rt; is_audited(alloc, &group.dump(set(&[])?)?, &[], &[])?);
-    assert!(rt; is_audited(alloc, &group.dump(set(&[0])?)?, &[(2, 1, 0, 1)], &[])?);
-    assert!(rt; is_audited(alloc, &group.dump(set(&[1])?)?, &[], &[])?);
-    assert!(rt; is_audited(alloc, &group.dump(set(&[2])?)?, &[], &[])?);
-    assert!(rt; is_audited(alloc, &group.dump(set(&[1, 2])?)?, &[(0, 1, 1, 1)], &[0])?);
+    let group: Group<Relay> = GONE_ROUND.group(rt.alloc())?;
+    for (struck, lost, orphans) in AUDITS {
+        assert!(rt;
+            is_audited(rt.alloc(), &group, struck, lost, orphans)?,
+            "{struck:?}"
+        );
+    }
     Ok(())
 }
 
 #[test]
 fn the_audit_of_a_group_with_a_member_down(rt: HostRuntime) -> Result<(), Fail> {
-    let alloc = rt.alloc();
     let steps = [
         Strike(&[2], Ok(0)),
         Recover(Ok((1, 0, 0))),
         Strike(&[1], Ok(0)),
+        Show(Down(&[1])),
     ];
-    let group = round(alloc, &steps)?;
-    assert!(rt; is_audited(alloc, &group.dump(group.down())?, &[], &[])?);
+    let group: Group<Relay> = played(rt.alloc(), &GONE_ROUND, &mut None, &steps)?;
+    assert!(rt; is_audited(rt.alloc(), &group, &[1], &[], &[])?);
     Ok(())
 }
 
@@ -123,5 +102,6 @@ fn a_dump_wants_members_of_the_group(rt: HostRuntime) -> Result<(), Fail> {
         Dump(&[0, 15], Err(DumpGroupRefusal::BadStrike)),
         Dump(&[0, 1, 2], Ok((1, 0))),
     ];
-    play::<Relay>(rt.alloc(), &ROUND, &steps)
+    play::<Relay>(&rt, &ROUND, &steps)?;
+    play::<Relay>(&rt, &GONE_ROUND, &[Dump(&[1], Ok((6, 5)))])
 }

@@ -1,8 +1,10 @@
 //! What the readers of a group answer.
 
+ghost use Rattle.std.specs.Prelude.{◌<◌, IfSome};
+
 use crate::setting::{determinant, member, set};
-use fbl_base::audit::{Dump, lost, orphans};
-use fbl_base::{Behaviour, Determinant, Event, Mark, Member, Note};
+use fbl_base::audit::{lost, orphans};
+use fbl_base::{Behaviour, Determinant, Event, Member, Note};
 use fbl_group::Group;
 use fbl_table::{Entry, Table};
 use std::alloc::{Allocator, Global};
@@ -14,6 +16,8 @@ use std::test::Fail;
 pub(crate) enum Fact<'a> {
     /// A member's state, its numbers of receipts and of sends, and how many determinants it holds.
     Has(u8, (u64, u32, u32, u32)),
+    /// The same of each member in turn.
+    AllHave(&'a [(u64, u32, u32, u32)]),
     /// The entries of a member's table, in order: receipts, and the members that are known to hold them.
     Holds(u8, &'a [((u8, u32, u8, u32), &'a [u8])]),
     /// How many messages are in flight from one member to another.
@@ -26,8 +30,8 @@ pub(crate) enum Fact<'a> {
     Length(usize),
     /// Who is down.
     Down(&'a [u8]),
-    /// How many receipts a member's checkpoint has.
-    Checkpointed(u8, u32),
+    /// How many receipts each member's checkpoint has.
+    Checkpointed(&'a [u32]),
     /// How many receipts were ever made, and ever undone.
     Ever(u64, u64),
 }
@@ -42,7 +46,7 @@ pub(crate) enum Happening {
 }
 
 impl Happening {
-    fn event(self) -> Result<Event, Fail> {
+    pub(crate) fn event(self) -> Result<Event, Fail> {
         match self {
             Happening::Sent(from, ssn, to, value, hops) => {
                 let note = Note { value, hops };
@@ -60,10 +64,6 @@ impl Happening {
             }
         }
     }
-
-    pub(crate) fn mark(self) -> Result<Mark, Fail> {
-        Ok(self.event()?.mark())
-    }
 }
 
 impl Fact<'_> {
@@ -72,28 +72,36 @@ impl Fact<'_> {
         self,
         group: &Group<B, A>,
     ) -> Result<bool, Fail> {
-        match self {
-            Fact::Has(number, expected) => Ok(reading(group, number) == Some(expected)),
+        Ok(match self {
+            Fact::Has(number, expected) => reading(group, number) == Some(expected),
+            Fact::AllHave(expected) => all_have(group, expected),
             Fact::Holds(number, expected) => match table(group, number) {
-                Some(table) => has_entries(table, expected),
-                None => Ok(false),
+                Some(table) => has_entries(table, expected)?,
+                None => false,
             },
-            Fact::InFlight((from, to), expected) => Ok(
-                in_flight(group, from, to) == Some(expected),
-            ),
+            Fact::InFlight((from, to), expected) => in_flight(group, from, to) == Some(expected),
             Fact::Flight(count, quiet) => {
-                Ok(group.messages_in_flight() == count && group.is_quiet() == quiet)
+                group.messages_in_flight() == count && group.is_quiet() == quiet
             }
-            Fact::Trace(expected) => has_events(group.trace(), expected),
-            Fact::Length(expected) => Ok(group.trace().len() == expected),
-            Fact::Down(expected) => Ok(group.down() == set(expected)?),
-            Fact::Checkpointed(number, expected) => {
-                Ok(checkpoint_received(group, number) == Some(expected))
-            }
+            Fact::Trace(expected) => has_events(group.trace(), expected)?,
+            Fact::Length(expected) => group.trace().len() == expected,
+            Fact::Down(expected) => group.down() == set(expected)?,
+            Fact::Checkpointed(expected) => are_checkpointed(group, expected),
             Fact::Ever(made, undone) => {
-                Ok(group.receipts_ever() == made && group.undone_ever() == undone)
+                group.receipts_ever() == made && group.undone_ever() == undone
             }
-        }
+        })
+    }
+}
+
+/// The group's member with this number.
+fn member_of<B: Behaviour, A: Allocator + Copy>(group: &Group<B, A>, number: u8) -> Option<Member>
+    ensures { IfSome result (λ m. m < group.now.config.members) }
+{
+    if number < group.config().members() {
+        Member::new(number)
+    } else {
+        None
     }
 }
 
@@ -102,10 +110,7 @@ pub(crate) fn reading<B: Behaviour, A: Allocator + Copy>(
     group: &Group<B, A>,
     number: u8,
 ) -> Option<(u64, u32, u32, u32)> {
-    if number >= group.config().members() {
-        return None;
-    }
-    let member = Member::new(number)?;
+    let member = member_of(group, number)?;
     Some((
         group.state(member),
         group.received(member),
@@ -119,10 +124,7 @@ pub(crate) fn checkpoint_received<B: Behaviour, A: Allocator + Copy>(
     group: &Group<B, A>,
     number: u8,
 ) -> Option<u32> {
-    if number >= group.config().members() {
-        return None;
-    }
-    Some(group.checkpoint_received(Member::new(number)?))
+    Some(group.checkpoint_received(member_of(group, number)?))
 }
 
 /// The member's table.
@@ -130,10 +132,7 @@ pub(crate) fn table<B: Behaviour, A: Allocator + Copy>(
     group: &Group<B, A>,
     number: u8,
 ) -> Option<&Table<A>> {
-    if number >= group.config().members() {
-        return None;
-    }
-    Some(group.table(Member::new(number)?))
+    Some(group.table(member_of(group, number)?))
 }
 
 /// How many messages are in flight from one member to the other.
@@ -142,11 +141,34 @@ pub(crate) fn in_flight<B: Behaviour, A: Allocator + Copy>(
     from: u8,
     to: u8,
 ) -> Option<u32> {
-    let n = group.config().members();
-    if from >= n || to >= n {
-        return None;
+    Some(group.in_flight(member_of(group, from)?, member_of(group, to)?))
+}
+
+/// Whether these are the members' readings in turn.
+fn all_have<B: Behaviour, A: Allocator + Copy>(
+    group: &Group<B, A>,
+    expected: &[(u64, u32, u32, u32)],
+) -> bool {
+    for number in 0..group.config().members() {
+        if expected.get(usize::from(number)).copied() != reading(group, number) {
+            return false;
+        }
     }
-    Some(group.in_flight(Member::new(from)?, Member::new(to)?))
+    expected.len() == usize::from(group.config().members())
+}
+
+/// Whether these are the numbers of receipts of the members' checkpoints in turn.
+fn are_checkpointed<B: Behaviour, A: Allocator + Copy>(
+    group: &Group<B, A>,
+    expected: &[u32],
+) -> bool {
+    for number in 0..group.config().members() {
+        let received = checkpoint_received(group, number);
+        if expected.get(usize::from(number)).copied() != received {
+            return false;
+        }
+    }
+    expected.len() == usize::from(group.config().members())
 }
 
 /// Whether these are the table's entries, in order.
@@ -154,9 +176,6 @@ fn has_entries<A: Allocator + Copy>(
     table: &Table<A>,
     expected: &[((u8, u32, u8, u32), &[u8])],
 ) -> Result<bool, Fail> {
-    if table.len() != expected.len() {
-        return Ok(false);
-    }
     for place in 0..expected.len() {
         let det = determinant(expected[place].0)?;
         let known = set(expected[place].1)?;
@@ -164,43 +183,31 @@ fn has_entries<A: Allocator + Copy>(
             return Ok(false);
         }
     }
-    Ok(true)
+    Ok(table.len() == expected.len())
 }
 
 /// Whether these are the events, in order.
 fn has_events(trace: &[Event], expected: &[Happening]) -> Result<bool, Fail> {
-    if trace.len() != expected.len() {
-        return Ok(false);
-    }
     for place in 0..expected.len() {
         if place >= trace.len() || trace[place] != expected[place].event()? {
             return Ok(false);
         }
     }
-    Ok(true)
+    Ok(trace.len() == expected.len())
 }
 
-/// Whether the audit of the dump finds these lost receipts, in order, and these orphans.
-pub(crate) fn is_audited(
+/// Whether the audit of the group's dump, with these members struck, finds these lost receipts, in order, and these orphans.
+pub(crate) fn is_audited<B: Behaviour>(
     alloc: Global,
-    dump: &Dump,
+    group: &Group<B>,
+    struck: &[u8],
     expected: &[(u8, u32, u8, u32)],
     expected_orphans: &[u8],
 ) -> Result<bool, Fail> {
-    let found = lost(alloc, dump)?;
-    let orphaned = orphans(alloc, dump)?;
-    Ok(has_determinants(&found, expected)? && orphaned == set(expected_orphans)?)
-}
-
-/// Whether these are the determinants, in order.
-fn has_determinants(found: &[Determinant], expected: &[(u8, u32, u8, u32)]) -> Result<bool, Fail> {
-    if found.len() != expected.len() {
-        return Ok(false);
+    let mut expected_lost = Vec::new(alloc);
+    for parts in expected {
+        expected_lost.push(determinant(*parts)?)?;
     }
-    for place in 0..expected.len() {
-        if place >= found.len() || found[place] != determinant(expected[place])? {
-            return Ok(false);
-        }
-    }
-    Ok(true)
+    let dump = group.dump(set(struck)?)?;
+    Ok(lost(alloc, &dump)? == expected_lost && orphans(alloc, &dump)? == set(expected_orphans)?)
 }

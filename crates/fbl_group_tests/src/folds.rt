@@ -2,7 +2,7 @@
 //! one: what comes back is the fold of the receipts that the trace still has.
 
 use crate::facts::{checkpoint_received, reading};
-use crate::setting::{Setting, member};
+use crate::setting::{ROUND, Setting, member};
 use fbl_base::audit::{lost, orphans};
 use fbl_base::{Behaviour, Determinant, Event, Member, MemberSet, Mix, Note, Relay};
 use fbl_group::Group;
@@ -10,28 +10,34 @@ use std::alloc::Global;
 use std::process::Abort;
 use std::test::Fail;
 
-/// The state after a message, as a formula: the sum of what was received, or its mixture.
-#[derive(Clone, Copy)]
-enum Formula {
-    Sum,
-    Mixture,
+/// A behaviour with a formula of its own for the state after a message.
+trait Formula: Behaviour {
+    /// The state after a message, before it is taken modulo 1000000007.
+    fn whole(state: u128, value: u32) -> u128;
+
+    /// Whether these may be the members' states in the end.
+    fn may_end(states: [u64; 4]) -> bool;
 }
 
-impl Formula {
-    fn next(self, state: u64, value: u32) -> u64 {
-        let sum = match self {
-            Formula::Sum => u128::from(state) + u128::from(value),
-            Formula::Mixture => 31 * u128::from(state) + u128::from(value) + 1,
-        };
-        (sum % 1_000_000_007) as u64
+/// The sum of what was received.
+impl Formula for Relay {
+    fn whole(state: u128, value: u32) -> u128 {
+        state.wrapping_add(u128::from(value))
     }
 
-    /// Whether these may be the members' states in the end. What is mixed depends on the order of deliveries.
-    fn may_end(self, states: [u64; 4]) -> bool {
-        match self {
-            Formula::Sum => states == [23, 17, 17, 17],
-            Formula::Mixture => true,
-        }
+    fn may_end(states: [u64; 4]) -> bool {
+        states == [23, 17, 17, 17]
+    }
+}
+
+/// A mixture of what was received, which depends on the order of deliveries.
+impl Formula for Mix {
+    fn whole(state: u128, value: u32) -> u128 {
+        state.wrapping_mul(31).wrapping_add(u128::from(value) + 1)
+    }
+
+    fn may_end(_states: [u64; 4]) -> bool {
+        true
     }
 }
 
@@ -54,7 +60,7 @@ fn note_sent(trace: &[Event], sender: Member, number: u32) -> Option<Note> {
 }
 
 /// The fold of the contents that the member received, in the order of its receipts in the trace.
-fn folded(formula: Formula, trace: &[Event], me: Member) -> Result<u64, Fail> {
+fn folded<B: Formula>(trace: &[Event], me: Member) -> Result<u64, Fail> {
     let mut state = 0;
     for event in trace {
         if let Event::Receipt {
@@ -66,7 +72,7 @@ fn folded(formula: Formula, trace: &[Event], me: Member) -> Result<u64, Fail> {
         {
             if to == me {
                 let note = note_sent(trace, from, ssn).ok_or("a receipt of nothing")?;
-                state = formula.next(state, note.value);
+                state = (B::whole(u128::from(state), note.value) % 1_000_000_007) as u64;
             }
         }
     }
@@ -74,10 +80,10 @@ fn folded(formula: Formula, trace: &[Event], me: Member) -> Result<u64, Fail> {
 }
 
 /// Whether each member is at the fold of its receipts.
-fn is_folded<B: Behaviour>(formula: Formula, group: &Group<B>) -> Result<bool, Fail> {
+fn is_folded<B: Formula>(group: &Group<B>) -> Result<bool, Fail> {
     for number in 0..group.config().members() {
         let me = Member::new(number).ok_or("no such member")?;
-        if group.state(me) != folded(formula, group.trace(), me)? {
+        if group.state(me) != folded::<B>(group.trace(), me)? {
             return Ok(false);
         }
     }
@@ -121,8 +127,8 @@ fn deliver_some<B: Behaviour>(group: &mut Group<B>, count: u32) -> Result<u32, F
 const FOUR: Setting = Setting {
     n: 4,
     f: 2,
-    limit: 8192,
     starts: &[(0, 1, 5, 6), (2, 3, 7, 3), (3, 0, 11, 0)],
+    ..ROUND
 };
 
 fn state<B: Behaviour>(group: &Group<B>, number: u8) -> Result<u64, Fail> {
@@ -208,19 +214,17 @@ fn is_recovered<B: Behaviour>(group: &mut Group<B>, number: u8) -> Result<bool, 
 
 /// Strikes the member and recovers it. Afterwards each member is at the fold of its receipts, and the others are where
 /// they were.
-fn strike<B: Behaviour>(
-    rt: &impl Abort,
-    alloc: Global,
-    formula: Formula,
+fn strike<B: Formula>(
+    rt: &(impl Abort + AllocGlobal),
     group: &mut Group<B>,
     number: u8,
 ) -> Result<(), Fail> {
     let struck = MemberSet::empty().with(member(number)?);
-    assert!(rt; is_safe_without(alloc, group, struck)?);
+    assert!(rt; is_safe_without(rt.alloc(), group, struck)?);
     let mut expected = states(group)?;
-    assert!(rt; is_struck(alloc, group, struck)?);
+    assert!(rt; is_struck(rt.alloc(), group, struck)?);
     assert!(rt; is_recovered(group, number)?);
-    assert!(rt; is_folded(formula, group)?);
+    assert!(rt; is_folded(group)?);
     let after = states(group)?;
     let place = usize::from(number).min(3);
     expected[place] = after[place];
@@ -229,43 +233,26 @@ fn strike<B: Behaviour>(
 }
 
 /// Makes so many deliveries, and answers whether there were so many, and whether each member is at the fold of its receipts.
-fn is_delivered<B: Behaviour>(
-    formula: Formula,
-    group: &mut Group<B>,
-    count: u32,
-) -> Result<bool, Fail> {
+fn is_delivered<B: Formula>(group: &mut Group<B>, count: u32) -> Result<bool, Fail> {
     let made = deliver_some(group, count)?;
     let has_all = count_receipts(group.trace()) == 12;
-    Ok(made == count && group.is_quiet() == has_all && is_folded(formula, group)?)
+    Ok(made == count && group.is_quiet() == has_all && is_folded(group)?)
 }
 
-/// Delivers what is left, and answers whether all twelve messages are received and each member is at the fold of them.
-fn is_finished<B: Behaviour>(formula: Formula, group: &mut Group<B>) -> Result<bool, Fail> {
+/// Delivers what is left, and answers whether all twelve messages are received, each member is at the fold of them, and the
+/// states may be those in the end.
+fn is_finished<B: Formula>(group: &mut Group<B>) -> Result<bool, Fail> {
     deliver_some(group, 100)?;
-    Ok(group.is_quiet() && count_receipts(group.trace()) == 12 && is_folded(formula, group)?)
+    let is_whole = group.is_quiet() && count_receipts(group.trace()) == 12;
+    Ok(is_whole && is_folded(group)? && B::may_end(states(group)?))
 }
 
-/// Makes so many deliveries, strikes the member, recovers it, and delivers what is left. The answer is the members'
-/// states in the end.
-fn strike_after<B: Behaviour>(
-    rt: &impl Abort,
-    alloc: Global,
-    formula: Formula,
-    count: u32,
-    number: u8,
-) -> Result<[u64; 4], Fail> {
-    let mut group: Group<B> = FOUR.group(alloc)?;
-    assert!(rt; is_delivered(formula, &mut group, count)?);
-    strike(rt, alloc, formula, &mut group, number)?;
-    assert!(rt; is_finished(formula, &mut group)?);
-    states(&group)
-}
-
-/// How many deliveries are made before a member is checkpointed, how many more then, and who is struck after them.
+/// How many deliveries are made before a member is checkpointed, if one is, how many more then, and who is struck after
+/// them.
 #[derive(Clone, Copy, Debug)]
 struct Case {
     earlier: u32,
-    checkpointed: u8,
+    checkpointed: Option<u8>,
     later: u32,
     struck: u8,
 }
@@ -278,43 +265,53 @@ fn is_checkpointed<B: Behaviour>(group: &mut Group<B>, number: u8) -> Result<boo
     Ok(checkpointed as usize == count_received(group.trace(), me))
 }
 
-/// Makes the case's deliveries and its checkpoint, strikes the member, recovers it, and delivers what is left. The answer is
-/// the members' states in the end.
-fn strike_after_checkpoint<B: Behaviour>(
-    rt: &impl Abort,
-    alloc: Global,
-    formula: Formula,
-    case: Case,
-) -> Result<[u64; 4], Fail> {
-    let mut group: Group<B> = FOUR.group(alloc)?;
-    assert!(rt; is_delivered(formula, &mut group, case.earlier)?);
-    assert!(rt; is_checkpointed(&mut group, case.checkpointed)?);
-    let checkpointed = checkpoint_received(&group, case.checkpointed);
-    assert!(rt; is_delivered(formula, &mut group, case.later)?);
-    strike(rt, alloc, formula, &mut group, case.struck)?;
-    assert!(rt; checkpoint_received(&group, case.checkpointed) == checkpointed);
-    assert!(rt; is_finished(formula, &mut group)?);
-    states(&group)
+/// Makes the case's deliveries and its checkpoint, strikes the member, recovers it, and delivers what is left.
+fn strike_in<B: Formula>(rt: &(impl Abort + AllocGlobal), case: Case) -> Result<(), Fail> {
+    let mut group: Group<B> = FOUR.group(rt.alloc())?;
+    assert!(rt; is_delivered(&mut group, case.earlier)?, "{case:?}");
+    if let Some(number) = case.checkpointed {
+        assert!(rt; is_checkpointed(&mut group, number)?, "{case:?}");
+    }
+    let checkpointed = checkpoint_received(&group, case.checkpointed.unwrap_or(0));
+    assert!(rt; is_delivered(&mut group, case.later)?, "{case:?}");
+    strike(rt, &mut group, case.struck)?;
+    assert!(rt;
+        checkpoint_received(&group, case.checkpointed.unwrap_or(0)) == checkpointed,
+        "{case:?}"
+    );
+    assert!(rt; is_finished(&mut group)?, "{case:?}");
+    Ok(())
 }
 
-/// Each member is checkpointed after so many deliveries, and each is struck after so many more.
-fn strike_each_after_checkpoint<B: Behaviour>(
-    rt: &impl Abort,
-    alloc: Global,
-    formula: Formula,
-    earlier: u32,
-    later: u32,
-) -> Result<(), Fail> {
-    for checkpointed in 0..4 {
+/// Each member is struck after each delivery.
+fn strike_each<B: Formula>(rt: &(impl Abort + AllocGlobal)) -> Result<(), Fail> {
+    for earlier in 0..13 {
         for struck in 0..4 {
             let case = Case {
                 earlier,
-                checkpointed,
-                later,
+                checkpointed: None,
+                later: 0,
                 struck,
             };
-            let states = strike_after_checkpoint::<B>(rt, alloc, formula, case)?;
-            assert!(rt; formula.may_end(states), "{case:?}");
+            strike_in::<B>(rt, case)?;
+        }
+    }
+    Ok(())
+}
+
+/// Each member is checkpointed after each delivery, and each is struck after each later one.
+fn strike_each_after_checkpoint<B: Formula>(rt: &(impl Abort + AllocGlobal)) -> Result<(), Fail> {
+    for earlier in 0..13 {
+        for later in 0..13 - earlier {
+            for pair in 0..16 {
+                let case = Case {
+                    earlier,
+                    checkpointed: Some(pair / 4),
+                    later,
+                    struck: pair % 4,
+                };
+                strike_in::<B>(rt, case)?;
+            }
         }
     }
     Ok(())
@@ -322,43 +319,20 @@ fn strike_each_after_checkpoint<B: Behaviour>(
 
 #[test]
 fn members_that_add_up_are_struck_after_each_delivery(rt: HostRuntime) -> Result<(), Fail> {
-    for count in 0..13 {
-        for number in 0..4 {
-            let states = strike_after::<Relay>(&rt, rt.alloc(), Formula::Sum, count, number)?;
-            assert_eq!(rt; states, [23, 17, 17, 17], "{count}, {number}");
-        }
-    }
-    Ok(())
+    strike_each::<Relay>(&rt)
 }
 
 #[test]
 fn members_that_mix_are_struck_after_each_delivery(rt: HostRuntime) -> Result<(), Fail> {
-    for count in 0..13 {
-        for number in 0..4 {
-            strike_after::<Mix>(&rt, rt.alloc(), Formula::Mixture, count, number)?;
-        }
-    }
-    Ok(())
+    strike_each::<Mix>(&rt)
 }
 
 #[test]
 fn members_that_add_up_are_struck_after_each_checkpoint(rt: HostRuntime) -> Result<(), Fail> {
-    for earlier in 0..13 {
-        for later in 0..13 - earlier {
-            let alloc = rt.alloc();
-            strike_each_after_checkpoint::<Relay>(&rt, alloc, Formula::Sum, earlier, later)?;
-        }
-    }
-    Ok(())
+    strike_each_after_checkpoint::<Relay>(&rt)
 }
 
 #[test]
 fn members_that_mix_are_struck_after_each_checkpoint(rt: HostRuntime) -> Result<(), Fail> {
-    for earlier in 0..13 {
-        for later in 0..13 - earlier {
-            let alloc = rt.alloc();
-            strike_each_after_checkpoint::<Mix>(&rt, alloc, Formula::Mixture, earlier, later)?;
-        }
-    }
-    Ok(())
+    strike_each_after_checkpoint::<Mix>(&rt)
 }

@@ -3,8 +3,6 @@
 #![tactic(auto)]
 
 #[cfg(test)]
-mod checkpoint_memory;
-#[cfg(test)]
 mod checkpoints;
 #[cfg(test)]
 mod commits;

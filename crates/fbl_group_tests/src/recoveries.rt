@@ -1,27 +1,18 @@
 //! Strikes, and the recoveries from them.
 
-use crate::facts::Fact::{Down, Ever, Flight, Has, Holds, InFlight, Length, Trace};
+use crate::facts::Fact::{AllHave, Down, Ever, Flight, Has, Holds, InFlight, Length, Trace};
 use crate::facts::Happening::{Received, Sent};
-use crate::setting::Setting;
+use crate::memory::play;
+use crate::setting::{
+    GONE_ROUND, GONE_ROUND_OF_TWO, HALF_ROUND_OF_TWO, MEETING, ROUND, Setting, TWICE,
+};
 use crate::steps::Step::{Crash, Deliver, Recover, Show, Strike};
-use crate::steps::play;
 use fbl_base::{Mix, Relay};
 use fbl_group::{CrashRefusal, DeliverRefusal, RecoverRefusal, StrikeRefusal};
 use std::test::Fail;
 
-const ROUND: Setting = Setting {
-    n: 3,
-    f: 1,
-    limit: 8192,
-    starts: &[(0, 1, 5, 2)],
-};
-
 #[test]
 fn receipts_that_nobody_else_knows_are_made_again(rt: HostRuntime) -> Result<(), Fail> {
-    let setting = Setting {
-        starts: &[(0, 2, 4, 0), (1, 2, 7, 0)],
-        ..ROUND
-    };
     let steps = [
         Deliver((2, 1), Ok((1, 0, 8))),
         Deliver((2, 0), Ok((2, 0, 253))),
@@ -31,7 +22,7 @@ fn receipts_that_nobody_else_knows_are_made_again(rt: HostRuntime) -> Result<(),
         Deliver((2, 1), Ok((2, 0, 163))),
         Show(Ever(4, 2)),
     ];
-    play::<Mix>(rt.alloc(), &setting, &steps)
+    play::<Mix>(&rt, &MEETING, &steps)
 }
 
 #[test]
@@ -50,9 +41,7 @@ fn a_receipt_that_a_survivor_knows_is_replayed(rt: HostRuntime) -> Result<(), Fa
         Show(Length(6)),
         Recover(Ok((1, 1, 1))),
         Show(Down(&[])),
-        Show(Has(0, (9, 1, 1, 2))),
-        Show(Has(1, (0, 0, 1, 0))),
-        Show(Has(2, (8, 1, 1, 2))),
+        Show(AllHave(&[(9, 1, 1, 2), (0, 0, 1, 0), (8, 1, 1, 2)])),
         Show(Holds(0, &[((1, 1, 2, 1), &[0, 2]), ((2, 1, 0, 1), &[0])])),
         Show(Holds(2, &[((1, 1, 2, 1), &[0, 2]), ((2, 1, 0, 1), &[0, 2])])),
         Show(Flight(1, false)),
@@ -67,20 +56,15 @@ fn a_receipt_that_a_survivor_knows_is_replayed(rt: HostRuntime) -> Result<(), Fa
         Show(Ever(3, 1)),
         Deliver((2, 0), Ok((2, 1, 253))),
     ];
-    play::<Mix>(rt.alloc(), &setting, &steps)
+    play::<Mix>(&rt, &setting, &steps)
 }
 
 #[test]
 fn a_member_that_took_the_first_message_is_struck(rt: HostRuntime) -> Result<(), Fail> {
     let steps = [
-        Deliver((1, 0), Ok((1, 0, 5))),
-        Deliver((2, 1), Ok((1, 1, 5))),
-        Deliver((0, 2), Ok((1, 1, 5))),
         Strike(&[1], Ok(0)),
         Recover(Ok((1, 0, 0))),
-        Show(Has(0, (5, 1, 1, 2))),
-        Show(Has(1, (5, 1, 1, 3))),
-        Show(Has(2, (5, 1, 1, 2))),
+        Show(AllHave(&[(5, 1, 1, 2), (5, 1, 1, 3), (5, 1, 1, 2)])),
         Show(Holds(
             1,
             &[
@@ -92,67 +76,54 @@ fn a_member_that_took_the_first_message_is_struck(rt: HostRuntime) -> Result<(),
         Show(Flight(0, true)),
         Show(Length(6)),
     ];
-    play::<Relay>(rt.alloc(), &ROUND, &steps)
+    play::<Relay>(&rt, &GONE_ROUND, &steps)
 }
 
 #[test]
 fn a_sender_and_its_receiver_are_struck(rt: HostRuntime) -> Result<(), Fail> {
-    let setting = Setting { f: 2, ..ROUND };
     let steps = [
-        Deliver((1, 0), Ok((1, 0, 5))),
-        Deliver((2, 1), Ok((1, 1, 5))),
-        Deliver((0, 2), Ok((1, 2, 5))),
         Strike(&[1, 2], Ok(0)),
         Recover(Ok((2, 0, 0))),
-        Show(Has(0, (5, 1, 1, 3))),
-        Show(Has(1, (5, 1, 1, 3))),
-        Show(Has(2, (5, 1, 1, 3))),
+        Show(AllHave(&[(5, 1, 1, 3), (5, 1, 1, 3), (5, 1, 1, 3)])),
         Show(Flight(0, true)),
         Show(Length(6)),
     ];
-    play::<Relay>(rt.alloc(), &setting, &steps)
+    play::<Relay>(&rt, &GONE_ROUND_OF_TWO, &steps)?;
+    play::<Relay>(
+        &rt,
+        &GONE_ROUND_OF_TWO,
+        &[Crash(&[1, 2], Ok((0, (2, 0, 0))))],
+    )
 }
 
 #[test]
 fn one_member_is_struck_after_another(rt: HostRuntime) -> Result<(), Fail> {
     let steps = [
-        Deliver((1, 0), Ok((1, 0, 5))),
-        Deliver((2, 1), Ok((1, 1, 5))),
-        Deliver((0, 2), Ok((1, 1, 5))),
         Strike(&[2], Ok(0)),
         Recover(Ok((1, 0, 0))),
         Strike(&[1], Ok(0)),
-        Show(Has(0, (5, 1, 1, 2))),
         Show(Down(&[1])),
-        Show(Has(1, (0, 0, 0, 0))),
-        Show(Has(2, (5, 1, 1, 3))),
+        Show(AllHave(&[(5, 1, 1, 2), (0, 0, 0, 0), (5, 1, 1, 3)])),
         Show(Flight(0, false)),
         Show(Length(6)),
         Recover(Ok((1, 0, 0))),
-        Show(Has(0, (5, 1, 1, 2))),
-        Show(Has(1, (5, 1, 1, 3))),
-        Show(Has(2, (5, 1, 1, 3))),
+        Show(AllHave(&[(5, 1, 1, 2), (5, 1, 1, 3), (5, 1, 1, 3)])),
     ];
-    play::<Relay>(rt.alloc(), &ROUND, &steps)
+    play::<Relay>(&rt, &GONE_ROUND, &steps)
 }
 
 #[test]
 fn all_that_know_of_receipts_are_struck(rt: HostRuntime) -> Result<(), Fail> {
-    let setting = Setting { f: 2, ..ROUND };
     let steps = [
-        Deliver((1, 0), Ok((1, 0, 5))),
-        Deliver((2, 1), Ok((1, 1, 5))),
         Strike(&[1, 2], Ok(2)),
         Recover(Ok((0, 1, 2))),
-        Show(Has(0, (0, 0, 1, 0))),
-        Show(Has(1, (0, 0, 0, 0))),
-        Show(Has(2, (0, 0, 0, 0))),
+        Show(AllHave(&[(0, 0, 1, 0), (0, 0, 0, 0), (0, 0, 0, 0)])),
         Show(Flight(1, false)),
         Show(InFlight((0, 1), 1)),
         Show(Trace(&[Sent(0, 1, 1, 5, 2)])),
         Show(Ever(2, 2)),
     ];
-    play::<Relay>(rt.alloc(), &setting, &steps)
+    play::<Relay>(&rt, &HALF_ROUND_OF_TWO, &steps)
 }
 
 #[test]
@@ -180,15 +151,11 @@ fn strikes_and_recoveries_are_refused_in_order(rt: HostRuntime) -> Result<(), Fa
         Recover(Err(RecoverRefusal::NotDown)),
         Deliver((1, 0), Ok((1, 0, 5))),
     ];
-    play::<Relay>(rt.alloc(), &ROUND, &steps)
+    play::<Relay>(&rt, &ROUND, &steps)
 }
 
 #[test]
 fn a_crash_is_a_strike_and_a_recovery(rt: HostRuntime) -> Result<(), Fail> {
-    let setting = Setting {
-        starts: &[(0, 1, 5, 0), (0, 1, 6, 0)],
-        ..ROUND
-    };
     let steps = [
         Recover(Err(RecoverRefusal::NotDown)),
         Deliver((1, 0), Ok((1, 0, 5))),
@@ -207,22 +174,16 @@ fn a_crash_is_a_strike_and_a_recovery(rt: HostRuntime) -> Result<(), Fail> {
         Crash(&[2], Ok((0, (0, 0, 0)))),
         Show(Down(&[])),
     ];
-    play::<Relay>(rt.alloc(), &setting, &steps)
+    play::<Relay>(&rt, &TWICE, &steps)
 }
 
 #[test]
 fn members_are_struck_while_others_are_down(rt: HostRuntime) -> Result<(), Fail> {
-    let setting = Setting { f: 2, ..ROUND };
     let steps = [
-        Deliver((1, 0), Ok((1, 0, 5))),
-        Deliver((2, 1), Ok((1, 1, 5))),
-        Deliver((0, 2), Ok((1, 2, 5))),
         Strike(&[1], Ok(0)),
         Strike(&[2], Ok(0)),
         Show(Down(&[1, 2])),
-        Show(Has(0, (5, 1, 1, 3))),
-        Show(Has(1, (0, 0, 0, 0))),
-        Show(Has(2, (0, 0, 0, 0))),
+        Show(AllHave(&[(5, 1, 1, 3), (0, 0, 0, 0), (0, 0, 0, 0)])),
         Show(Flight(0, false)),
         Show(Length(6)),
         Strike(&[1], Ok(0)),
@@ -230,44 +191,33 @@ fn members_are_struck_while_others_are_down(rt: HostRuntime) -> Result<(), Fail>
         Strike(&[0, 1], Err(StrikeRefusal::TooMany)),
         Show(Down(&[1, 2])),
         Recover(Ok((2, 0, 0))),
-        Show(Has(1, (5, 1, 1, 3))),
-        Show(Has(2, (5, 1, 1, 3))),
+        Show(AllHave(&[(5, 1, 1, 3), (5, 1, 1, 3), (5, 1, 1, 3)])),
         Show(Down(&[])),
     ];
-    play::<Relay>(rt.alloc(), &setting, &steps)
+    play::<Relay>(&rt, &GONE_ROUND_OF_TWO, &steps)
 }
 
 #[test]
 fn each_strike_counts_all_lost_receipts(rt: HostRuntime) -> Result<(), Fail> {
-    let setting = Setting { f: 2, ..ROUND };
     let steps = [
-        Deliver((1, 0), Ok((1, 0, 5))),
-        Deliver((2, 1), Ok((1, 1, 5))),
         Strike(&[2], Ok(1)),
         Strike(&[1], Ok(2)),
         Recover(Ok((0, 1, 2))),
-        Show(Has(0, (0, 0, 1, 0))),
-        Show(Has(1, (0, 0, 0, 0))),
-        Show(Has(2, (0, 0, 0, 0))),
+        Show(AllHave(&[(0, 0, 1, 0), (0, 0, 0, 0), (0, 0, 0, 0)])),
         Show(Ever(2, 2)),
     ];
-    play::<Relay>(rt.alloc(), &setting, &steps)
+    play::<Relay>(&rt, &HALF_ROUND_OF_TWO, &steps)
 }
 
 #[test]
 fn a_crash_recovers_those_that_were_down_before(rt: HostRuntime) -> Result<(), Fail> {
-    let setting = Setting { f: 2, ..ROUND };
     let steps = [
-        Deliver((1, 0), Ok((1, 0, 5))),
-        Deliver((2, 1), Ok((1, 1, 5))),
-        Deliver((0, 2), Ok((1, 2, 5))),
         Strike(&[1], Ok(0)),
         Crash(&[0, 2], Err(CrashRefusal::TooMany)),
         Show(Down(&[1])),
         Crash(&[2], Ok((0, (2, 0, 0)))),
         Show(Down(&[])),
-        Show(Has(1, (5, 1, 1, 3))),
-        Show(Has(2, (5, 1, 1, 3))),
+        Show(AllHave(&[(5, 1, 1, 3), (5, 1, 1, 3), (5, 1, 1, 3)])),
     ];
-    play::<Relay>(rt.alloc(), &setting, &steps)
+    play::<Relay>(&rt, &GONE_ROUND_OF_TWO, &steps)
 }

@@ -1,134 +1,104 @@
-//! Each request for memory of the recoveries, the crash and the commit of the worked examples is refused in turn.
+//! Requests for memory that are refused to what is no call on a group, and to a call that is not made again.
 
-use crate::memory::refuse_each;
-use crate::setting::Setting;
-use crate::steps::Step::{self, Commit, Crash, Deliver, Recover, Strike, Take};
+use crate::memory::{heap, is_as, is_same, refuse_each};
+use crate::setting::{CHECKPOINTED, ROUND, Setting};
+use crate::steps::Step::{self, Checkpoint, Commit, Crash, Deliver, Take};
+use crate::steps::{Verdict, make_all};
 use fbl_base::{Behaviour, Mix, Relay};
+use fbl_group::Group;
+use refusing_allocator::Refusing;
 use std::alloc::Global;
-use std::process::Abort;
 use std::test::Fail;
 
-const ROUND: Setting = Setting {
-    n: 3,
-    f: 1,
-    limit: 8192,
-    starts: &[(0, 1, 5, 2)],
+/// How many requests for memory a group's parameters make.
+fn requests_of_config(alloc: Global, setting: &Setting) -> Result<u64, Fail> {
+    let heap = Refusing::new(alloc, 0);
+    let _config = setting.config(&heap)?;
+    Ok(heap.requests())
+}
+
+/// Whether a group is made where no request is refused, and is then the same as this one.
+fn is_made<B: Behaviour>(
+    heap: &Refusing<Global>,
+    setting: &Setting,
+    whole: &Group<B>,
+) -> Result<bool, Fail> {
+    Ok(match Group::<B, _>::new(heap, setting.config(heap)?) {
+        Ok(made) => !heap.has_refused() && is_same(&made, whole),
+        Err(_) => heap.has_refused(),
+    })
+}
+
+/// A message to the other of two members, which is answered.
+const ANSWERED: Setting = Setting {
+    n: 2,
+    starts: &[(0, 1, 4, 1)],
+    ..ROUND
 };
 
-/// The receipt of member 1, and that of member 2 which follows from it.
-const ONWARD: [Step; 2] = [
-    Deliver((1, 0), Ok((1, 0, 5))),
-    Deliver((2, 1), Ok((1, 1, 5))),
-];
+#[test]
+fn a_new_group_without_memory(rt: HostRuntime) -> Result<(), Fail> {
+    let whole: Group<Mix> = ANSWERED.group(rt.alloc())?;
+    let earlier = requests_of_config(rt.alloc(), &ANSWERED)?;
+    for request in 1..u64::MAX {
+        let heap = Refusing::new(rt.alloc(), earlier.saturating_add(request));
+        assert!(rt; is_made(&heap, &ANSWERED, &whole)?, "request {request}");
+        if !heap.has_refused() {
+            assert!(rt; request > 3, "few requests: {request}");
+            return Ok(());
+        }
+    }
+    Ok(())
+}
 
-/// Each request of the last call is refused in turn, and there are more than `least`.
-fn refuses_more<B: Behaviour>(
-    rt: &impl Abort,
+#[test]
+fn receipts_and_a_checkpoint_without_memory(rt: HostRuntime) -> Result<(), Fail> {
+    let first = Deliver((1, 0), Ok((1, 0, 5)));
+    let second = Deliver((0, 1), Ok((1, 1, 6)));
+    assert!(rt; refuse_each::<Mix>(&rt, &ANSWERED, &[], first)? > 5);
+    assert!(rt; refuse_each::<Mix>(&rt, &ANSWERED, &[first], second)? > 2);
+    let setting = Setting {
+        starts: &[(0, 1, 5, 1)],
+        ..ANSWERED
+    };
+    let take = Take((1, 0), Ok((0, 1, 1, 5, 1)));
+    let call = Commit(Ok((1, 0, 5)));
+    assert!(rt; refuse_each::<Relay>(&rt, &setting, &[take], call)? > 5);
+    let call = Checkpoint(1, Ok(2));
+    assert!(rt; refuse_each::<Relay>(&rt, &CHECKPOINTED, &[], call)? > 2);
+    Ok(())
+}
+
+/// Makes the call, to which a request for memory may be refused. Where it is, the later call is made, and the group is then
+/// as if the refused one had not been made.
+fn is_forgotten<B: Behaviour>(
     alloc: Global,
     setting: &Setting,
-    before: &[Step],
     call: Step,
-    least: u64,
+    later: Step,
+    heap: &Refusing<Global>,
 ) -> Result<bool, Fail> {
-    Ok(refuse_each::<B>(rt, alloc, setting, before, call)? > least)
+    let mut made = None;
+    let mut group: Group<B, _> = setting.group(heap)?;
+    if call.make(&mut group, &mut made)? != Verdict::WithoutMemory {
+        return Ok(!heap.has_refused());
+    }
+    make_all(&mut group, &mut made, &[later])?;
+    is_as(alloc, setting, &[], Some(later), &group)
 }
 
 #[test]
-fn a_recovery_with_a_lost_receipt_behind_another(rt: HostRuntime) -> Result<(), Fail> {
-    let setting = Setting {
-        starts: &[(0, 2, 4, 0), (1, 2, 7, 0)],
-        ..ROUND
-    };
-    let before = [
-        Deliver((2, 1), Ok((1, 0, 8))),
-        Deliver((2, 0), Ok((2, 0, 253))),
-        Strike(&[2], Ok(2)),
-    ];
-    let call = Recover(Ok((0, 2, 2)));
-    assert!(rt; refuses_more::<Mix>(&rt, rt.alloc(), &setting, &before, call, 3)?);
-    Ok(())
-}
-
-#[test]
-fn a_recovery_of_a_member_whose_receipt_a_survivor_knows(rt: HostRuntime) -> Result<(), Fail> {
-    let before = [
-        ONWARD[0],
-        ONWARD[1],
-        Deliver((0, 2), Ok((1, 1, 5))),
-        Strike(&[1], Ok(0)),
-    ];
-    let call = Recover(Ok((1, 0, 0)));
-    assert!(rt; refuses_more::<Relay>(&rt, rt.alloc(), &ROUND, &before, call, 5)?);
-    Ok(())
-}
-
-#[test]
-fn a_recovery_after_another(rt: HostRuntime) -> Result<(), Fail> {
-    let before = [
-        ONWARD[0],
-        ONWARD[1],
-        Deliver((0, 2), Ok((1, 1, 5))),
-        Strike(&[2], Ok(0)),
-        Recover(Ok((1, 0, 0))),
-        Strike(&[1], Ok(0)),
-    ];
-    let call = Recover(Ok((1, 0, 0)));
-    assert!(rt; refuses_more::<Relay>(&rt, rt.alloc(), &ROUND, &before, call, 5)?);
-    Ok(())
-}
-
-#[test]
-fn a_recovery_that_sends_the_first_message_again(rt: HostRuntime) -> Result<(), Fail> {
-    let before = [Strike(&[1], Ok(0))];
-    let call = Recover(Ok((0, 1, 0)));
-    assert!(rt; refuses_more::<Relay>(&rt, rt.alloc(), &ROUND, &before, call, 2)?);
-    Ok(())
-}
-
-#[test]
-fn a_recovery_after_two_strikes(rt: HostRuntime) -> Result<(), Fail> {
-    let setting = Setting { f: 2, ..ROUND };
-    let before = [
-        ONWARD[0],
-        ONWARD[1],
-        Deliver((0, 2), Ok((1, 2, 5))),
-        Strike(&[1], Ok(0)),
-        Strike(&[2], Ok(0)),
-    ];
-    let call = Recover(Ok((2, 0, 0)));
-    assert!(rt; refuses_more::<Relay>(&rt, rt.alloc(), &setting, &before, call, 5)?);
-    Ok(())
-}
-
-#[test]
-fn a_crash_while_a_step_is_made(rt: HostRuntime) -> Result<(), Fail> {
-    let setting = Setting {
-        starts: &[(0, 1, 5, 0), (0, 1, 6, 0)],
-        ..ROUND
-    };
-    let before = [
-        Deliver((1, 0), Ok((1, 0, 5))),
-        Take((1, 0), Ok((5, 2, 2, 6, 0))),
-    ];
-    let call = Crash(&[1], Ok((1, (0, 2, 1))));
-    assert!(rt; refuses_more::<Relay>(&rt, rt.alloc(), &setting, &before, call, 2)?);
-    Ok(())
-}
-
-#[test]
-fn a_commit_after_a_recovery_with_just_room(rt: HostRuntime) -> Result<(), Fail> {
-    let setting = Setting {
-        n: 2,
-        limit: 3,
-        starts: &[(0, 1, 5, 1)],
-        ..ROUND
-    };
-    let before = [
-        Take((1, 0), Ok((0, 1, 1, 5, 1))),
-        Strike(&[0], Ok(0)),
-        Recover(Ok((0, 1, 0))),
-    ];
-    let call = Commit(Ok((1, 0, 5)));
-    assert!(rt; refuses_more::<Relay>(&rt, rt.alloc(), &setting, &before, call, 3)?);
+fn an_older_checkpoint_stands_without_memory(rt: HostRuntime) -> Result<(), Fail> {
+    let call = Checkpoint(1, Ok(2));
+    let later = Crash(&[1], Ok((0, (1, 0, 0))));
+    for request in 1..u64::MAX {
+        let heap = heap::<Relay>(rt.alloc(), &CHECKPOINTED, &[], request)?;
+        let is_forgotten = is_forgotten::<Relay>(rt.alloc(), &CHECKPOINTED, call, later, &heap)?;
+        assert!(rt; is_forgotten, "request {request}");
+        if !heap.has_refused() {
+            assert!(rt; request > 3, "few requests: {request}");
+            return Ok(());
+        }
+    }
     Ok(())
 }

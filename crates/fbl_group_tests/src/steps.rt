@@ -1,13 +1,13 @@
 //! Calls that change a group, with the answers that are expected of them.
 
 use crate::facts::{Fact, checkpoint_received};
-use crate::setting::{Setting, member, set};
+use crate::setting::{member, set};
 use fbl_base::Behaviour;
 use fbl_group::{
     CheckpointRefusal, CommitRefusal, CrashRefusal, DeliverRefusal, Done, DumpGroupRefusal, Group,
-    Receipted, RecoverRefusal, Recovered, StrikeRefusal, Struck, TakeRefusal, Ticket, run_step,
+    Receipted, RecoverRefusal, Recovered, StrikeRefusal, TakeRefusal, run_step,
 };
-use std::alloc::{Allocator, Global};
+use std::alloc::Allocator;
 use std::test::Fail;
 
 /// A call and its answer. A delivery is to a member from another. A receipt is answered by its number, how many entries
@@ -47,6 +47,19 @@ impl Verdict {
             Verdict::Unexpected
         }
     }
+
+    /// What became of a call with this answer, which may have been without memory.
+    fn of_answer<T: PartialEq + Copy, E: PartialEq + Copy>(
+        answer: Result<T, E>,
+        expected: Result<T, E>,
+        memory: E,
+    ) -> Verdict {
+        if answer == Err(memory) {
+            Verdict::WithoutMemory
+        } else {
+            Verdict::of(answer == expected)
+        }
+    }
 }
 
 impl<'a> Step<'a> {
@@ -57,15 +70,48 @@ impl<'a> Step<'a> {
         made: &mut Option<Done<B>>,
     ) -> Result<Verdict, Fail> {
         match self {
-            Step::Deliver(channel, expected) => deliver(group, channel, expected),
-            Step::Take(channel, expected) => take(group, channel, expected, made),
-            Step::Commit(expected) => commit(group, made, expected),
-            Step::Checkpoint(number, expected) => checkpoint(group, number, expected),
-            Step::Strike(struck, expected) => strike(group, struck, expected),
-            Step::Recover(expected) => Ok(recover(group, expected)),
-            Step::Crash(struck, expected) => crash(group, struck, expected),
-            Step::Dump(struck, expected) => dump(group, struck, expected),
+            Step::Deliver((to, from), expected) => {
+                let answer = group.deliver(member(to)?, member(from)?).map(receipt_parts);
+                Ok(Verdict::of_answer(answer, expected, DeliverRefusal::Memory))
+            }
+            Step::Take(channel, expected) => {
+                Ok(Verdict::of(take(group, channel, made)? == expected))
+            }
+            Step::Commit(expected) => {
+                let done = made.as_ref().ok_or("no step was made")?;
+                let answer = group.commit(done).map(receipt_parts);
+                Ok(Verdict::of_answer(answer, expected, CommitRefusal::Memory))
+            }
+            Step::Checkpoint(number, expected) => {
+                let answer = checkpoint(group, number)?;
+                Ok(Verdict::of_answer(answer, expected, CheckpointRefusal::Memory))
+            }
+            Step::Strike(struck, expected) => {
+                let answer = group.strike(set(struck)?);
+                Ok(Verdict::of(answer.map(|struck| struck.lost) == expected))
+            }
+            Step::Recover(expected) => {
+                let answer = group.recover().map(recovery_parts);
+                Ok(Verdict::of_answer(answer, expected, RecoverRefusal::Memory))
+            }
+            Step::Crash(struck, expected) => {
+                let answer = group.crash(set(struck)?);
+                let answer = answer.map(|(struck, parts)| (struck.lost, recovery_parts(parts)));
+                Ok(Verdict::of_answer(answer, expected, CrashRefusal::Memory))
+            }
+            Step::Dump(struck, expected) => {
+                let answer = dump_lengths(group, struck)?;
+                Ok(Verdict::of_answer(answer, expected, DumpGroupRefusal::Memory))
+            }
             Step::Show(fact) => Ok(Verdict::of(fact.is_shown(group)?)),
+        }
+    }
+
+    /// The fewest requests for memory that the call may make.
+    pub(crate) fn least_requests(self) -> u64 {
+        match self {
+            Step::Recover(Ok(_)) | Step::Crash(_, Ok(_)) | Step::Dump(_, Ok(_)) => 6,
+            _ => 0,
         }
     }
 
@@ -86,125 +132,54 @@ impl<'a> Step<'a> {
     }
 }
 
-fn deliver<B: Behaviour, A: Allocator + Copy>(
-    group: &mut Group<B, A>,
-    channel: (u8, u8),
-    expected: Result<(u32, u32, u64), DeliverRefusal>,
-) -> Result<Verdict, Fail> {
-    let (to, from) = (member(channel.0)?, member(channel.1)?);
-    Ok(match group.deliver(to, from) {
-        Ok(answer) => Verdict::of(expected == Ok(receipt_parts(answer))),
-        Err(DeliverRefusal::Memory) => Verdict::WithoutMemory,
-        Err(refusal) => Verdict::of(expected == Err(refusal)),
-    })
-}
-
 fn receipt_parts(receipted: Receipted) -> (u32, u32, u64) {
     (receipted.rsn, receipted.carried, receipted.state)
-}
-
-/// Takes a ticket, and makes and keeps its step.
-fn take<B: Behaviour, A: Allocator + Copy>(
-    group: &Group<B, A>,
-    channel: (u8, u8),
-    expected: Result<(u64, u32, u32, u32, u8), TakeRefusal>,
-    made: &mut Option<Done<B>>,
-) -> Result<Verdict, Fail> {
-    let (to, from) = (member(channel.0)?, member(channel.1)?);
-    Ok(match group.take(to, from) {
-        Ok(ticket) => {
-            *made = Some(run_step(ticket));
-            let is_of_group = ticket.n == group.config().members();
-            let is_of_channel = ticket.to == to && ticket.from == from;
-            Verdict::of(is_of_group && is_of_channel && expected == Ok(ticket_parts(ticket)))
-        }
-        Err(refusal) => Verdict::of(expected == Err(refusal)),
-    })
-}
-
-fn ticket_parts(ticket: Ticket) -> (u64, u32, u32, u32, u8) {
-    let note = ticket.note;
-    (ticket.state, ticket.rsn, ticket.ssn, note.value, note.hops)
-}
-
-fn commit<B: Behaviour, A: Allocator + Copy>(
-    group: &mut Group<B, A>,
-    made: &Option<Done<B>>,
-    expected: Result<(u32, u32, u64), CommitRefusal>,
-) -> Result<Verdict, Fail> {
-    let done = made.as_ref().ok_or("no step was made")?;
-    Ok(match group.commit(done) {
-        Ok(answer) => Verdict::of(expected == Ok(receipt_parts(answer))),
-        Err(CommitRefusal::Memory) => Verdict::WithoutMemory,
-        Err(refusal) => Verdict::of(expected == Err(refusal)),
-    })
-}
-
-fn checkpoint<B: Behaviour, A: Allocator + Copy>(
-    group: &mut Group<B, A>,
-    number: u8,
-    expected: Result<u32, CheckpointRefusal>,
-) -> Result<Verdict, Fail> {
-    Ok(match group.checkpoint(member(number)?) {
-        Ok(()) => {
-            let received = checkpoint_received(group, number).ok_or("no such member")?;
-            Verdict::of(expected == Ok(received))
-        }
-        Err(CheckpointRefusal::Memory) => Verdict::WithoutMemory,
-        Err(refusal) => Verdict::of(expected == Err(refusal)),
-    })
-}
-
-fn strike<B: Behaviour, A: Allocator + Copy>(
-    group: &mut Group<B, A>,
-    struck: &[u8],
-    expected: Result<u32, StrikeRefusal>,
-) -> Result<Verdict, Fail> {
-    let answer = group.strike(set(struck)?);
-    Ok(Verdict::of(match answer {
-        Ok(answer) => expected == Ok(answer.lost),
-        Err(refusal) => expected == Err(refusal),
-    }))
-}
-
-fn recover<B: Behaviour, A: Allocator + Copy>(
-    group: &mut Group<B, A>,
-    expected: Result<(u32, u32, u32), RecoverRefusal>,
-) -> Verdict {
-    match group.recover() {
-        Ok(answer) => Verdict::of(expected == Ok(recovery_parts(answer))),
-        Err(RecoverRefusal::Memory) => Verdict::WithoutMemory,
-        Err(refusal) => Verdict::of(expected == Err(refusal)),
-    }
 }
 
 fn recovery_parts(recovered: Recovered) -> (u32, u32, u32) {
     (recovered.replayed, recovered.resent, recovered.undone)
 }
 
-fn crash<B: Behaviour, A: Allocator + Copy>(
-    group: &mut Group<B, A>,
-    struck: &[u8],
-    expected: Result<(u32, (u32, u32, u32)), CrashRefusal>,
-) -> Result<Verdict, Fail> {
-    Ok(match group.crash(set(struck)?) {
-        Ok((Struck { lost }, recovered)) => {
-            Verdict::of(expected == Ok((lost, recovery_parts(recovered))))
+/// Takes a ticket, and makes and keeps its step. The answer is the ticket's state, receipt number, send number, value and
+/// hops.
+fn take<B: Behaviour, A: Allocator + Copy>(
+    group: &Group<B, A>,
+    channel: (u8, u8),
+    made: &mut Option<Done<B>>,
+) -> Result<Result<(u64, u32, u32, u32, u8), TakeRefusal>, Fail> {
+    let (to, from) = (member(channel.0)?, member(channel.1)?);
+    Ok(match group.take(to, from) {
+        Ok(ticket) => {
+            *made = Some(run_step(ticket));
+            if ticket.n != group.config().members() || ticket.to != to || ticket.from != from {
+                return Err("a ticket of something else".into());
+            }
+            let note = ticket.note;
+            Ok((ticket.state, ticket.rsn, ticket.ssn, note.value, note.hops))
         }
-        Err(CrashRefusal::Memory) => Verdict::WithoutMemory,
-        Err(refusal) => Verdict::of(expected == Err(refusal)),
+        Err(refusal) => Err(refusal),
     })
 }
 
-fn dump<B: Behaviour, A: Allocator + Copy>(
+/// Takes a checkpoint of the member, and answers how many receipts it then has.
+fn checkpoint<B: Behaviour, A: Allocator + Copy>(
+    group: &mut Group<B, A>,
+    number: u8,
+) -> Result<Result<u32, CheckpointRefusal>, Fail> {
+    Ok(match group.checkpoint(member(number)?) {
+        Ok(()) => Ok(checkpoint_received(group, number).ok_or("no such member")?),
+        Err(refusal) => Err(refusal),
+    })
+}
+
+/// How many events and held pairs the dump has.
+fn dump_lengths<B: Behaviour, A: Allocator + Copy>(
     group: &Group<B, A>,
     struck: &[u8],
-    expected: Result<(usize, usize), DumpGroupRefusal>,
-) -> Result<Verdict, Fail> {
+) -> Result<Result<(usize, usize), DumpGroupRefusal>, Fail> {
     Ok(match group.dump(set(struck)?) {
-        Ok(dump) => Verdict::of(expected == Ok((dump.events().len(), dump.held().len()))),
-        Err(DumpGroupRefusal::Memory) => Verdict::WithoutMemory,
-        Err(refusal) => Verdict::of(expected == Err(refusal)),
+        Ok(dump) => Ok((dump.events().len(), dump.held().len())),
+        Err(refusal) => Err(refusal),
     })
 }
 
@@ -221,14 +196,4 @@ pub(crate) fn make_all<B: Behaviour, A: Allocator + Copy>(
         }
     }
     Ok(())
-}
-
-/// Makes the calls in turn on a new group. Each has to answer as expected.
-pub(crate) fn play<B: Behaviour>(
-    alloc: Global,
-    setting: &Setting,
-    steps: &[Step],
-) -> Result<(), Fail> {
-    let mut group: Group<B> = setting.group(alloc)?;
-    make_all(&mut group, &mut None, steps)
 }
