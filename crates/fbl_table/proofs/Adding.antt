@@ -1,5 +1,5 @@
 -- Tables as a map has them.
-use Rattle.std.proofs.Common.{inl, inr, subst, ◌≡◌, ℕ, zero, suc, ◌+◌, ◌<◌, ◌≤◌, Bool, true, false, cond, ◌||◌, if◌then◌else◌, List, [], ◌∷◌, ◌++◌, map, Option, Some, None, is_some, unwrap_or, max, refl, sym, ap, ◌∙◌, arith, take, drop, length, slice_get, get_or, position, IfSome, IfNone}
+use Rattle.std.proofs.Common.{inl, inr, subst, ◌⊎◌, not, count_by, ◌≡◌, ℕ, zero, suc, ◌+◌, ◌<◌, ◌≤◌, Bool, true, false, cond, ◌||◌, if◌then◌else◌, List, [], ◌∷◌, ◌++◌, map, Option, Some, None, is_some, unwrap_or, max, refl, sym, ap, ◌∙◌, arith, take, drop, length, slice_get, get_or, position, IfSome, IfNone}
 use Rattle.std.specs.Map.{lookup, values_of, keys_of}
 use Rattle.std.specs.Ordering.{nat_cmp}
 use Rattle.std.specs.Option.{option_or}
@@ -10,7 +10,7 @@ use Rattle.fbl_base.proofs.Recorded.{Decides-same_determinant}
 use Rattle.std.proofs.lemmas.List.{take_more, take-append-drop, map-append}
 use Rattle.std.proofs.lemmas.List.Elements.{filter-append}
 use Rattle.std.proofs.lemmas.List.Folds.{find-append}
-use Rattle.std.proofs.lemmas.List.Sums.{fold_push}
+use Rattle.std.proofs.lemmas.List.Sums.{fold_push, count_by_more_no, count_by_more_yes, sum_by-take-le}
 use Rattle.std.proofs.lemmas.Option.{slice_get_within, get_or_from_slice_get, slice_get-get_or}
 use Rattle.indexmap.specs.Layout.{set_value_at}
 use Rattle.std.specs.FinSet as set
@@ -18,7 +18,7 @@ use Rattle.fbl_base.specs.declared.trace.Determinant.{Determinant}
 use Rattle.fbl_base.specs.Events.{same_determinant}
 use Rattle.indexmap.specs.IndexMap.{insert_entry}
 use Rattle.fbl_table.specs.declared.entry.Entry.{Entry}
-use Rattle.fbl_table.specs.Tables.{HasInPlace, is_held, has_at, added, entry_of, is_open, piggybacked, gathered, learned, held_by, greatest_rsn, rsn_of, marked}
+use Rattle.fbl_table.specs.Tables.{HasInPlace, is_held, lacks, has_at, added, entry_of, is_open, piggybacked, gathered, learned, held_by, greatest_rsn, rsn_of, marked}
 
 pub held-lookup : (es : List (Determinant × set.FinSet nat_cmp)) (d : Determinant) → is_some (lookup (same_determinant d) es) ≡ is_held (map entry_of es) d
 held-lookup [] d = refl
@@ -203,6 +203,49 @@ not_held-added (e ∷ table) entry d none other = at (not_held-added table entry
   at more true here is = none
   at more false true is = absurd (false≢true (sym none ∙ ap (λ b. b || is_held table d) is))
   at more false false is = ap (λ b. b || is_held (added table entry) d) is ∙ more (sym (ap (λ b. b || is_held table d) is) ∙ none) other
+
+held-added : (table : List Entry) (entry : Entry) (d : Determinant) → is_held table d ≡ true → is_held (added table entry) d ≡ true
+unfolding added
+held-added [] entry d held = absurd (false≢true held)
+held-added (e ∷ table) entry d held = at (held-added table entry d) (same_determinant entry.det e.det) (same_determinant d e.det) refl where
+  at : (is_held table d ≡ true → is_held (added table entry) d ≡ true) → (same here : Bool) → same_determinant d e.det ≡ here → is_held (if same then record { det = e.det; known = set.union e.known entry.known } ∷ table else e ∷ added table entry) d ≡ true
+  at more true here is = held
+  at more false true is = ap (λ b. b || is_held (added table entry) d) is
+  at more false false is = ap (λ b. b || is_held (added table entry) d) is ∙ more (sym (ap (λ b. b || is_held table d) is) ∙ held)
+
+held-gathered : (table other : List Entry) (d : Determinant) → is_held table d ≡ true → is_held (gathered table other) d ≡ true
+held-gathered table [] d held = held
+held-gathered table (e ∷ other) d held = held-gathered (added table e) other d (held-added table e d held)
+
+pub lacks-same : (table other : List Entry) (i : ℕ) (e : Entry) → slice_get other i ≡ Some e → is_held table e.det ≡ true → count_by (lacks table) (take (i + 1) other) ≡ count_by (lacks table) (take i other)
+lacks-same table other i e is held = count_by_more_no (lacks table) other i e (slice_get_within other i e is) (ap (lacks table) (get_or_from_slice_get other i e e is) ∙ ap not held)
+
+pub lacks-more : (table other : List Entry) (i : ℕ) (e : Entry) → slice_get other i ≡ Some e → is_held table e.det ≡ false → count_by (lacks table) (take (i + 1) other) ≡ count_by (lacks table) (take i other) + 1
+lacks-more table other i e is none = count_by_more_yes (lacks table) other i e (slice_get_within other i e is) (ap (lacks table) (get_or_from_slice_get other i e e is) ∙ ap not none)
+
+-- what has entries in place lacks none of them
+pub lacks-none : (k : ℕ) (table other : List Entry) → k ≤ length other → HasInPlace k table other → count_by (lacks table) (take k other) ≡ 0
+lacks-none zero table other within same = refl
+lacks-none (suc k) table [] within same = absurd (omega (arith, within))
+lacks-none (suc k) table (x ∷ other) within same =
+    let next : suc k ≡ k + 1 = omega arith in
+    let at = slice_get-get_or (x ∷ other) k x (omega (arith, within)) in
+    let held = held-at table (get_or (x ∷ other) k x).det k (same k (get_or (x ∷ other) k x) (omega arith) at) in
+    ap (λ n. count_by (lacks table) (take n (x ∷ other))) next ∙ lacks-same table (x ∷ other) k (get_or (x ∷ other) k x) at held ∙ lacks-none k table (x ∷ other) (omega (arith, within)) (λ place y below is. same place y (omega (arith, below)) is)
+
+-- an entry is counted as lacking, or is held by then
+pub lacks-step : (table other : List Entry) (i : ℕ) (e : Entry) → slice_get other i ≡ Some e → (count_by (lacks table) (take (i + 1) other) ≡ count_by (lacks table) (take i other) + 1) ⊎ ((count_by (lacks table) (take (i + 1) other) ≡ count_by (lacks table) (take i other)) × (is_held (gathered table (take i other)) e.det ≡ true))
+lacks-step table other i e is = at (is_held table e.det) refl where
+  at : (b : Bool) → is_held table e.det ≡ b → (count_by (lacks table) (take (i + 1) other) ≡ count_by (lacks table) (take i other) + 1) ⊎ ((count_by (lacks table) (take (i + 1) other) ≡ count_by (lacks table) (take i other)) × (is_held (gathered table (take i other)) e.det ≡ true))
+  at true held = inr (lacks-same table other i e is held, held-gathered table (take i other) e.det held)
+  at false none = inl (lacks-more table other i e is none)
+
+-- an entry that is not held by then is one more of those that are lacking
+pub lacks-yet : (table other : List Entry) (i : ℕ) (e : Entry) → slice_get other i ≡ Some e → is_held (gathered table (take i other)) e.det ≡ false → count_by (lacks table) (take i other) < count_by (lacks table) other
+lacks-yet table other i e is none = at (lacks-step table other i e is) where
+  at : (count_by (lacks table) (take (i + 1) other) ≡ count_by (lacks table) (take i other) + 1) ⊎ ((count_by (lacks table) (take (i + 1) other) ≡ count_by (lacks table) (take i other)) × (is_held (gathered table (take i other)) e.det ≡ true)) → count_by (lacks table) (take i other) < count_by (lacks table) other
+  at (inl more) = omega (arith, more, sum_by-take-le (λ x. cond (lacks table x) 1 0) other (i + 1))
+  at (inr held) = absurd (false≢true (sym none ∙ held.1))
 
 pub not_held-gathered : (table other : List Entry) (d : Determinant) → is_held table d ≡ false → is_held other d ≡ false → is_held (gathered table other) d ≡ false
 not_held-gathered table [] d none others = none

@@ -2,7 +2,7 @@
 -- determinant are an estimate from below of those that do, its Log (Alvisi and Marzullo 1998). That determinants are passed
 -- on with messages until more than f members are known to hold them is called family-based logging (Alvisi, Hoppe and
 -- Marzullo 1993).
-use Rattle.std.specs.Prelude.{◌≡◌, ◌<◌, ℕ, Bool, true, false, ◌&&◌, ◌==◌, nat_le, if◌then◌else◌, List, [], ◌∷◌, ◌++◌, map, max, Option, Some, slice_get}
+use Rattle.std.specs.Prelude.{◌≡◌, ◌<◌, ℕ, Bool, true, false, not, ◌&&◌, ◌==◌, nat_le, if◌then◌else◌, List, [], ◌∷◌, ◌++◌, map, max, Option, Some, slice_get}
 use Rattle.std.specs.List.{filter, fold, find, list_any}
 use Rattle.std.specs.Option.{option_map, option_map_or}
 use Rattle.std.specs.Ordering.{nat_cmp}
@@ -50,6 +50,10 @@ marked members table = map (λ e. record { det = e.det; known = set.union e.know
 -- whether the table has the determinant
 abbrev pub is_held : List Entry → Determinant → Bool
 is_held table determinant = list_any (λ e. same_determinant determinant e.det) table
+
+-- whether the table has nothing of the entry's determinant
+abbrev pub lacks : List Entry → Entry → Bool
+lacks table entry = not (is_held table entry.det)
 
 -- whether the entry at the place is the determinant's
 abbrev pub has_at : List Entry → Determinant → ℕ → Bool

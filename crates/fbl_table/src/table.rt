@@ -1,13 +1,13 @@
 //! A table of determinants, and what is passed on of it: the entries that few members are known to hold (family-based
 //! logging: Alvisi, Hoppe and Marzullo 1993).
 
-ghost use Rattle.std.specs.Prelude.{◌≡◌, ℕ, ◌+◌, ◌^◌, ◌<◌, ◌≤◌, ◌++◌, [], ◌∷◌, List, take, length, OnOk, OnErr, IfOk, IfSome, IfNone, Some, None, true, false, slice_get, map, vec_len, vec_capacity};
+ghost use Rattle.std.specs.Prelude.{◌≡◌, ℕ, ◌+◌, ◌^◌, ◌<◌, ◌≤◌, ◌++◌, [], ◌∷◌, List, take, length, count_by, OnOk, OnErr, IfOk, IfSome, IfNone, Some, None, true, false, slice_get, map, vec_len, vec_capacity};
 ghost use Rattle.std.specs.List.{IsDistinct, filter_map};
 ghost use Rattle.std.specs.Option.{is_some};
 ghost use Rattle.fbl_base.specs.Events.{same_determinant};
 ghost use Rattle.indexmap.specs.IndexMap.{insert_entry, spare, get};
 ghost use Rattle.fbl_table.specs.Index.{IsIndex, open_at};
-ghost use Rattle.fbl_table.specs.Tables.{HasInPlace, is_held, has_at, found, greatest_rsn, learned, noted, piggybacked, gathered, marked, added, entry_of};
+ghost use Rattle.fbl_table.specs.Tables.{HasInPlace, is_held, lacks, has_at, found, greatest_rsn, learned, noted, piggybacked, gathered, marked, added, entry_of};
 
 use crate::entry::Entry;
 use fbl_base::{Determinant, Member, MemberSet};
@@ -227,8 +227,9 @@ impl<A: Allocator + Copy> Table<A> {
             return self.gather_first(other);
         }
         let shared = shared_places(&self.entries, other);
-        self.entries.reserve(other.len() - shared)?;
-        self.open_places.reserve(other.len() - shared)?;
+        let new = count_new(&self.entries, other, shared);
+        self.entries.reserve(new)?;
+        self.open_places.reserve(new)?;
         unite_shared(&mut self.entries, other, shared);
         let mut likely = Likely::default().after(shared);
         for place in shared..other.len() {
@@ -339,6 +340,24 @@ fn unite_shared<A: Allocator + Copy>(entries: &mut Entries<A>, other: &Table<A>,
     }
 }
 
+/// How many of the other's determinants the table has no entry of. Of those at the first places it has all.
+fn count_new<A: Allocator + Copy>(entries: &Entries<A>, other: &Table<A>, shared: usize) -> usize
+    requires len { shared ≤ length other.now }
+    requires same { HasInPlace shared (map entry_of entries.now.entries) other.now }
+    ensures { result ≡ count_by (lacks (map entry_of entries.now.entries)) other.now }
+{
+    let mut new = 0;
+    let mut likely = Likely::default().after(shared);
+    for place in shared..other.len() {
+        let entry = other.entry_at(place);
+        match place_of(entries, &entry.det, likely) {
+            Some(found) => likely = likely.after(found),
+            None => new += 1,
+        }
+    }
+    new
+}
+
 /// Where the next determinant's entry may be: behind the last one found, or behind one found before in another part of the
 /// table. What one table has in turn, another mostly has in the same order, or in two parts that each are in this order.
 #[derive(Clone, Copy, Default)]
@@ -358,8 +377,8 @@ impl Likely {
     }
 }
 
-/// Adds an entry where there is room for one, and answers its place. The place of a new one is open. It is looked for at
-/// the likely places first.
+/// Adds an entry, with room where its determinant is new, and answers its place. The place of a new one is open. It is
+/// looked for at the likely places first.
 #[inline(always)]
 fn add<A: Allocator>(
     entries: &mut Entries<A>,
@@ -367,13 +386,14 @@ fn add<A: Allocator>(
     entry: Entry,
     likely: Likely,
 ) -> usize
-    requires entries { 0 < spare entries.old }
-    requires places { vec_len open_places.old < vec_capacity open_places.old }
+    requires entries { is_held (map entry_of entries.old.entries) entry.det ≡ false → 0 < spare entries.old }
+    requires places { is_held (map entry_of entries.old.entries) entry.det ≡ false → vec_len open_places.old < vec_capacity open_places.old }
     ensures entries { map entry_of entries.new.entries ≡ added (map entry_of entries.old.entries) entry }
     ensures places { (limit : ℕ) → IsIndex limit (map entry_of entries.old.entries) open_places.old.items → IsIndex limit (map entry_of entries.new.entries) open_places.new.items }
     ensures room { spare entries.old ≤ spare entries.new + 1 }
     ensures open_len { vec_len open_places.new ≤ vec_len open_places.old + 1 }
     ensures open_room { vec_capacity open_places.old ≤ vec_capacity open_places.new }
+    ensures held { is_held (map entry_of entries.old.entries) entry.det ≡ true → (spare entries.old ≤ spare entries.new) × (vec_len open_places.new ≤ vec_len open_places.old) }
 {
     let end = entries.len();
     match place_of(entries, &entry.det, likely) {

@@ -1,7 +1,7 @@
-use Rattle.std.proofs.Common.{◌≡◌, ◌<◌, ◌∙◌, sym, arith, map}
+use Rattle.std.proofs.Common.{◌≡◌, ◌∙◌, sym, arith, map}
 use Rattle.std.proofs.lemmas.List.{length-map}
 use Rattle.indexmap.specs.IndexMap.{set_value_at}
-use Rattle.fbl_table.specs.Tables.{has_at, added, entry_of}
+use Rattle.fbl_table.specs.Tables.{added, entry_of}
 use Rattle.fbl_table.proofs.Adding.{added-at, gather-step, has-set, held-at, within-at}
 use Rattle.fbl_table.proofs.Indexing.{held-index}
 use Rattle.fbl_table.proofs.table.unite_shared.Goals as goal
