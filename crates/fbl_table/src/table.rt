@@ -16,6 +16,9 @@ use std::alloc::{AllocError, Allocator, Global};
 use std::hash::{BuildHasherDefault, FoldHasher};
 use std::marker::Model;
 
+/// How many determinants that a table is to gather are looked for by their hash before there is room for them.
+const HASHES: usize = 8;
+
 /// What a table keeps: each determinant with the members that are known to hold it.
 type Entries<A> = IndexMap<Determinant, MemberSet, BuildHasherDefault<FoldHasher>, A>;
 
@@ -227,9 +230,9 @@ impl<A: Allocator + Copy> Table<A> {
             return self.gather_first(other);
         }
         let shared = shared_places(&self.entries, other);
-        let new = count_new(&self.entries, other, shared);
-        self.entries.reserve(new)?;
-        self.open_places.reserve(new)?;
+        let room = room_for(&self.entries, other, shared);
+        self.entries.reserve(room)?;
+        self.open_places.reserve(room)?;
         unite_shared(&mut self.entries, other, shared);
         let mut likely = Likely::default().after(shared);
         for place in shared..other.len() {
@@ -340,22 +343,25 @@ fn unite_shared<A: Allocator + Copy>(entries: &mut Entries<A>, other: &Table<A>,
     }
 }
 
-/// How many of the other's determinants the table has no entry of. Of those at the first places it has all.
-fn count_new<A: Allocator + Copy>(entries: &Entries<A>, other: &Table<A>, shared: usize) -> usize
+/// Room enough for the other's determinants that the table has no entry of. Of those at the first places it has all. What
+/// is not at a likely place counts as new, but for the first few, which are looked for by their hash: from where they stand
+/// the next ones are likely, and to hash each new one here and once more when it is added would cost more than the room.
+fn room_for<A: Allocator + Copy>(entries: &Entries<A>, other: &Table<A>, shared: usize) -> usize
     requires len { shared ≤ length other.now }
     requires same { HasInPlace shared (map entry_of entries.now.entries) other.now }
-    ensures { result ≡ count_by (lacks (map entry_of entries.now.entries)) other.now }
+    ensures enough { count_by (lacks (map entry_of entries.now.entries)) other.now ≤ result }
+    ensures few { result ≤ length other.now }
 {
-    let mut new = 0;
+    let mut room = 0;
     let mut likely = Likely::default().after(shared);
     for place in shared..other.len() {
         let entry = other.entry_at(place);
-        match place_of(entries, &entry.det, likely) {
+        match find_place(entries, &entry.det, likely, room < HASHES) {
             Some(found) => likely = likely.after(found),
-            None => new += 1,
+            None => room += 1,
         }
     }
-    new
+    room
 }
 
 /// Where the next determinant's entry may be: behind the last one found, or behind one found before in another part of the
@@ -432,13 +438,42 @@ fn place_of<A: Allocator>(entries: &Entries<A>, det: &Determinant, likely: Likel
     ensures has { IfSome result (λ place. has_at (map entry_of entries.now.entries) det.now place ≡ true) }
     ensures none { IfNone result (is_held (map entry_of entries.now.entries) det.now ≡ false) }
 {
-    if let Some(place) = place_from(entries, det, likely.last) {
-        return Some(place);
+    match likely_place_of(entries, det, likely) {
+        Some(place) => Some(place),
+        None => place_by_hash(entries, det),
     }
-    if let Some(place) = place_from(entries, det, likely.earlier) {
-        return Some(place);
+}
+
+/// The place of the determinant's entry, if there is one, and if it is a likely one or may be looked for by its hash.
+#[inline(always)]
+fn find_place<A: Allocator>(
+    entries: &Entries<A>,
+    det: &Determinant,
+    likely: Likely,
+    by_hash: bool,
+) -> Option<usize>
+    ensures { IfSome result (λ place. has_at (map entry_of entries.now.entries) det.now place ≡ true) }
+{
+    if by_hash {
+        place_of(entries, det, likely)
+    } else {
+        likely_place_of(entries, det, likely)
     }
-    place_by_hash(entries, det)
+}
+
+/// The place of the determinant's entry, if it is a likely one.
+#[inline(always)]
+fn likely_place_of<A: Allocator>(
+    entries: &Entries<A>,
+    det: &Determinant,
+    likely: Likely,
+) -> Option<usize>
+    ensures { IfSome result (λ place. has_at (map entry_of entries.now.entries) det.now place ≡ true) }
+{
+    match place_from(entries, det, likely.last) {
+        Some(place) => Some(place),
+        None => place_from(entries, det, likely.earlier),
+    }
 }
 
 /// The place of the determinant's entry, if it is this one or the next.
