@@ -1,7 +1,8 @@
 -- The steps of a recovery before it changes the group: gathering, replay in rounds, tables given.
-use Rattle.std.proofs.Common.{◌≡◌, ℕ, suc, ◌+◌, ◌<◌, ◌≤◌, Bool, true, false, List, [], ◌∷◌, ◌++◌, length, map, take, Option, Some, None, get_or, refl, sym, subst, ap, ◌∙◌, arith, below_more}
+use Rattle.std.proofs.Common.{if◌then◌else◌, nat_lt, ◌≡◌, ℕ, suc, ◌+◌, ◌<◌, ◌≤◌, Bool, true, false, List, [], ◌∷◌, ◌++◌, length, map, take, Option, Some, None, get_or, refl, sym, subst, ap, ◌∙◌, arith, below_more}
 use Rattle.std.specs.Prelude.{slice_index_or, slice_set}
 use Rattle.std.specs.FinSet as set
+use Rattle.std.proofs.lemmas.Bool.Decides.{nat_tests}
 use Rattle.std.proofs.lemmas.List.{append-nil, take_all}
 use Rattle.fbl_base.specs.declared.trace.Determinant.{Determinant}
 use Rattle.fbl_base.specs.declared.trace.Note.{Note}
@@ -81,47 +82,64 @@ module _ (next : Next) (r : GroupRecord) (sound : IsSound next r) where
     is-record {m = m} read = read_at rebuilt place m m at-place read ∙ ap (λ x. slice_index_or rebuilt x blank) is_place
 
     -- the receipt that is sought by its number
-    module _ {m : MemberRecord} {numbered : List (List (Option Determinant))} {rsn : ℕ} {answer : Option Determinant} {d : Determinant} (read : m ≡ get_or rebuilt place m) (by_number : AreByNumber r numbered)
-        (sought : answer ≡ receipt_at (slice_index_or numbered p []) (rsn + 1)) (is_rsn : rsn ≡ m.received) (is : answer ≡ Some d) where
-      is-found : found p ((slice_index_or rebuilt p blank).received + 1) (gathered_table r) ≡ Some d
-      is-found = ap (λ k. found p (k + 1) (gathered_table r)) (sym (is_rsn ∙ ap (λ (x : MemberRecord). x.received) (is-record read))) ∙ sym (sought ∙ by_number.each p (sound.down p down) down (rsn + 1)) ∙ is
+    module _ {m : MemberRecord} {numbered : List (List (Option Determinant))} {rsn : ℕ} {answer : Option Determinant} (read : m ≡ get_or rebuilt place m) (by_number : AreByNumber r numbered)
+        (sought : answer ≡ receipt_at (slice_index_or numbered p []) (rsn + 1)) (is_rsn : rsn ≡ m.received) where
+      is-received : rsn ≡ (slice_index_or rebuilt p blank).received
+      is-received = is_rsn ∙ ap (λ (x : MemberRecord). x.received) (is-record read)
 
-      its-next : IsNextReplay r.config.members p (slice_index_or rebuilt p blank) d
-      its-next = replaying-next next r sound rebuilt p d replaying (sound.down p down) down is-found
+      -- the next receipt is beyond the checkpoint
+      is-beyond : nat_lt (checkpoint r p).received (rsn + 1) ≡ true
+      is-beyond = (let begun_at = replaying.begun p (sound.down p down) down in grind (arith, nat_tests, begun_at, is-received))
 
-      pub from-member : d.from < r.config.members
-      from-member = its-next.from
+      is-looked-up : answer ≡ found p ((slice_index_or rebuilt p blank).received + 1) (gathered_table r)
+      is-looked-up =
+          sought ∙ by_number.each p (sound.down p down) down (rsn + 1) ∙ ap (λ b. if b then found p (rsn + 1) (gathered_table r) else None) is-beyond
+          ∙ ap (λ k. found p (k + 1) (gathered_table r)) is-received
 
-      -- the log of its sender
-      module _ {records : List MemberRecord} {sent : Option Note} (same : records ≡ rebuilt) (looked : sent ≡ logged_note (working r records d.from).log d.ssn) where
-        logged : sent ≡ logged_note (working r rebuilt d.from).log d.ssn
-        logged = looked ∙ ap (λ (ms : List MemberRecord). logged_note (working r ms d.from).log d.ssn) same
+      -- there is none
+      pub waits-unfound : answer ≡ None → Tries next r p rebuilt rebuilt false
+      waits-unfound none = (refl, λ c found_c. (let e : Some c ≡ None = sym found_c ∙ sym is-looked-up ∙ none in cc))
 
-        -- its message is not sent again yet
-        pub waits-unsent : sent ≡ None → Tries next r p rebuilt rebuilt false
-        waits-unsent none = (refl, λ c found_c. ap (λ (x : Determinant). logged_note (working r rebuilt x.from).log x.ssn) (alike c found_c) ∙ sym logged ∙ none) where
-          alike : (c : Determinant) → found p ((slice_index_or rebuilt p blank).received + 1) (gathered_table r) ≡ Some c → c ≡ d
-          alike c found_c = (let e : Some c ≡ Some d = sym found_c ∙ is-found in cc)
+      module _ {d : Determinant} (is : answer ≡ Some d) where
+        is-found : found p ((slice_index_or rebuilt p blank).received + 1) (gathered_table r) ≡ Some d
+        is-found = sym is-looked-up ∙ is
 
-        module _ {n : ℕ} {note : Note} {x : MemberRecord} (all : n ≡ r.config.members) (named : sent ≡ Some note) (here : x ≡ get_or rebuilt place x) where
-          pub may-replay : MayReplay next n p d note x
-          may-replay = record {
-            least = omega (arith, all, sound.config.members.0);
-            most = omega (arith, all, sound.config.members.1);
-            member = omega (arith, all, sound.down p down);
-            to_me = its-next.to;
-            number = its-next.rsn ∙ ap (λ (y : MemberRecord). y.received + 1) (sym (is-record here));
-            receipts = (let room = its-next.room in let received : x.received ≡ (slice_index_or rebuilt p blank).received = ap (λ (y : MemberRecord). y.received) (is-record here) in omega (arith, room, received));
-            sends =
-                subst (λ (k : ℕ). length x.log + length (next p k x.state note).sends.items ≤ 8192) (sym all)
-                (subst (λ (y : MemberRecord). length y.log + length (next p r.config.members y.state note).sends.items ≤ 8192) (sym (is-record here)) (replaying-room next r sound rebuilt p d note replaying (sound.down p down) down is-found (sym logged ∙ named)));
-          }
+        its-next : IsNextReplay r.config.members p (slice_index_or rebuilt p blank) d
+        its-next = replaying-next next r sound rebuilt p d replaying (sound.down p down) down is-found
 
-          pub replays-one : {after : MemberRecord} → after ≡ replayed_by next p n x d note → Tries next r p rebuilt (slice_set rebuilt place after) true
-          replays-one {after = after} is_after =
-              subst (λ (k : ℕ). Tries next r p rebuilt (slice_set rebuilt k after) true) (sym is_place)
-              (subst (λ (y : MemberRecord). Tries next r p rebuilt (slice_set rebuilt p y) true) (sym (is_after ∙ ap (λ (k : ℕ). replayed_by next p k x d note) all ∙ ap (λ (y : MemberRecord). replayed_by next p r.config.members y d note) (is-record here)))
-              (replaying-step next r sound rebuilt p d note replaying (sound.down p down) down is-found (sym logged ∙ named), replayed_in-step next r sound rebuilt p d note replaying (sound.down p down) down))
+        pub from-member : d.from < r.config.members
+        from-member = its-next.from
+
+        -- the log of its sender
+        module _ {records : List MemberRecord} {sent : Option Note} (same : records ≡ rebuilt) (looked : sent ≡ logged_note (working r records d.from).log d.ssn) where
+          logged : sent ≡ logged_note (working r rebuilt d.from).log d.ssn
+          logged = looked ∙ ap (λ (ms : List MemberRecord). logged_note (working r ms d.from).log d.ssn) same
+
+          -- its message is not sent again yet
+          pub waits-unsent : sent ≡ None → Tries next r p rebuilt rebuilt false
+          waits-unsent none = (refl, λ c found_c. ap (λ (x : Determinant). logged_note (working r rebuilt x.from).log x.ssn) (alike c found_c) ∙ sym logged ∙ none) where
+            alike : (c : Determinant) → found p ((slice_index_or rebuilt p blank).received + 1) (gathered_table r) ≡ Some c → c ≡ d
+            alike c found_c = (let e : Some c ≡ Some d = sym found_c ∙ is-found in cc)
+
+          module _ {n : ℕ} {note : Note} {x : MemberRecord} (all : n ≡ r.config.members) (named : sent ≡ Some note) (here : x ≡ get_or rebuilt place x) where
+            pub may-replay : MayReplay next n p d note x
+            may-replay = record {
+              least = omega (arith, all, sound.config.members.0);
+              most = omega (arith, all, sound.config.members.1);
+              member = omega (arith, all, sound.down p down);
+              to_me = its-next.to;
+              number = its-next.rsn ∙ ap (λ (y : MemberRecord). y.received + 1) (sym (is-record here));
+              receipts = (let room = its-next.room in let received : x.received ≡ (slice_index_or rebuilt p blank).received = ap (λ (y : MemberRecord). y.received) (is-record here) in omega (arith, room, received));
+              sends =
+                  subst (λ (k : ℕ). length x.log + length (next p k x.state note).sends.items ≤ 8192) (sym all)
+                  (subst (λ (y : MemberRecord). length y.log + length (next p r.config.members y.state note).sends.items ≤ 8192) (sym (is-record here)) (replaying-room next r sound rebuilt p d note replaying (sound.down p down) down is-found (sym logged ∙ named)));
+            }
+
+            pub replays-one : {after : MemberRecord} → after ≡ replayed_by next p n x d note → Tries next r p rebuilt (slice_set rebuilt place after) true
+            replays-one {after = after} is_after =
+                subst (λ (k : ℕ). Tries next r p rebuilt (slice_set rebuilt k after) true) (sym is_place)
+                (subst (λ (y : MemberRecord). Tries next r p rebuilt (slice_set rebuilt p y) true) (sym (is_after ∙ ap (λ (k : ℕ). replayed_by next p k x d note) all ∙ ap (λ (y : MemberRecord). replayed_by next p r.config.members y d note) (is-record here)))
+                (replaying-step next r sound rebuilt p d note replaying (sound.down p down) down is-found (sym logged ∙ named), replayed_in-step next r sound rebuilt p d note replaying (sound.down p down) down))
 
   -- a try keeps what is so of the replay
   pub tried-replaying : (p : ℕ) (before after : List MemberRecord) (b : Bool) → IsReplaying next r before → Tries next r p before after b → IsReplaying next r after

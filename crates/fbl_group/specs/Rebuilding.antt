@@ -7,13 +7,13 @@ use Rattle.fbl_table.specs.declared.entry.Entry.{Entry}
 use Rattle.fbl_table.specs.Receipts.{IsByNumber}
 use Rattle.fbl_member.specs.Members.{MemberRecord, blank}
 use Rattle.fbl_law.specs.Knowledge.{Members, IsDown}
-use Rattle.fbl_law.specs.Groups.{GroupRecord, knowledge}
+use Rattle.fbl_law.specs.Groups.{GroupRecord, checkpoint, knowledge}
 use Rattle.fbl_law.specs.Replaying.{gathered_table, IsReplaying, IsWaiting, replayed_in}
 
--- of each member that is down, the receipts that the gathered table has, by their numbers
+-- of each member that is down, the receipts beyond its checkpoint that the gathered table has, by their numbers
 pub record AreByNumber (r : GroupRecord) (receipts : List (List (Option Determinant))) : Type 0 where
   pub size : length receipts ≡ r.config.members
-  pub each : (p : ℕ) → p < r.config.members → IsDown (knowledge r) p → IsByNumber p (gathered_table r) (slice_index_or receipts p [])
+  pub each : (p : ℕ) → p < r.config.members → IsDown (knowledge r) p → IsByNumber p (checkpoint r p).received (gathered_table r) (slice_index_or receipts p [])
 
 -- the gathered table, with these receipts
 pub record IsGathered (r : GroupRecord) (held : List Entry) (numbered : List (List (Option Determinant))) : Type 0 where

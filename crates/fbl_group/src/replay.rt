@@ -89,7 +89,7 @@ impl<B: Behaviour, A: Allocator + Copy> Group<B, A> {
         Ok(())
     }
 
-    /// The receipts that the gathered table has of each member that is down, by their numbers.
+    /// The receipts that the gathered table has of each member that is down beyond its checkpoint, by their numbers.
     fn number_receipts(&self, gathered: &Table<A>) -> Result<Vec<Receipts<A>, A>, AllocError>
         requires { gathered.now ≡ gathered_table self.now }
         ensures { IfOk result (λ receipts. AreByNumber self.now receipts.items) }
@@ -102,17 +102,19 @@ impl<B: Behaviour, A: Allocator + Copy> Group<B, A> {
         Ok(receipts)
     }
 
-    /// The receipts that the table has of the member, by their numbers, if it is down. There are none of another.
+    /// The receipts that the table has of the member beyond those of its checkpoint, by their numbers, if it is down. There
+    /// are none of another.
     fn number_receipts_of(
         &self,
         member: Member,
         gathered: &Table<A>,
     ) -> Result<Receipts<A>, AllocError>
-        ensures { set.contains self.now.down member ≡ true → IfOk result (IsByNumber member gathered.now) }
+        ensures { set.contains self.now.down member ≡ true → IfOk result (IsByNumber member (checkpoint_of self.now member).received gathered.now) }
     {
         let alloc = *self.members.allocator();
         if self.down.has(member) {
-            Receipts::of_member(alloc, gathered, member)
+            let checkpoint = &self.checkpoints[usize::from(member.number())];
+            Receipts::of_member(alloc, gathered, member, checkpoint.received())
         } else {
             Ok(Receipts::none(alloc))
         }

@@ -96,14 +96,17 @@ fn finds_alone(table: &Table, det: Determinant) -> bool {
         && !table.holds(&first_receipt(to, from))
 }
 
-/// Whether the receiver's first receipt is found by its number, and no other of its sender and receiver.
+/// Whether the receiver's first receipt is found by its number, unless only those beyond it are asked for, and no other of
+/// its sender and receiver.
 fn numbers_alone(alloc: Global, table: &Table, det: Determinant) -> Result<bool, AllocError> {
-    let own = Receipts::of_member(alloc, table, det.to)?;
-    let other = Receipts::of_member(alloc, table, det.from)?;
+    let own = Receipts::of_member(alloc, table, det.to, 0)?;
+    let beyond = Receipts::of_member(alloc, table, det.to, 1)?;
+    let other = Receipts::of_member(alloc, table, det.from, 0)?;
     Ok(
         own.determinant(0) == None
             && own.determinant(1) == Some(det)
             && own.determinant(2) == None
+            && beyond.determinant(1) == None
             && other.determinant(1) == None
             && Receipts::none(alloc).determinant(1) == None,
     )

@@ -1,6 +1,8 @@
 -- A member's receipts by their numbers, entry by entry.
-use Rattle.std.proofs.Common.{◌≡◌, ℕ, ◌+◌, ◌==◌, ◌&&◌, Bool, true, false, cond, List, [], ◌∷◌, Option, Some, None, refl, ap, ◌∙◌, sym, take, slice_get}
+use Rattle.std.proofs.Common.{if◌then◌else◌, ◌≡◌, ℕ, ◌+◌, ◌==◌, ◌&&◌, Bool, true, false, cond, List, [], ◌∷◌, Option, Some, None, refl, ap, ◌∙◌, sym, take, slice_get}
+use Rattle.std.specs.Prelude.{nat_lt}
 use Rattle.std.specs.List.{find}
+use Rattle.std.proofs.lemmas.Bool.{and_parts, eqb-true, false≢true}
 use Rattle.std.specs.Option.{option_map, option_or}
 use Rattle.std.proofs.lemmas.List.Folds.{find-append}
 use Rattle.fbl_base.specs.declared.trace.Determinant.{Determinant}
@@ -29,14 +31,31 @@ found-more to rsn table i e is =
     ∙ map-or (λ (x : Entry). x.det) (find (is_of_receipt to rsn) (take i table)) (cond (is_of_receipt to rsn e) (Some e) None)
     ∙ ap (option_or (found to rsn (take i table))) (map-test (λ (x : Entry). x.det) (is_of_receipt to rsn e) e)
 
--- an entry of another member's receipt
-pub by_number-other : (to : ℕ) (table : List Entry) (i : ℕ) (e : Entry) (places : List (Option Determinant)) → slice_get table i ≡ Some e → (e.det.to == to) ≡ false → IsByNumber to (take i table) places → IsByNumber to (take (i + 1) table) places
-by_number-other to table i e places is other before rsn =
-    before rsn ∙ sym (found-more to rsn table i e is ∙ ap (λ b. option_or (found to rsn (take i table)) (cond (b && (e.det.rsn == rsn)) (Some e.det) None)) other ∙ or-none (found to rsn (take i table)))
+-- an entry that tells of no receipt that is looked for
+not-sought : (to count rsn : ℕ) (e : Entry) → ((e.det.to == to) && nat_lt count e.det.rsn) ≡ false → nat_lt count rsn ≡ true → is_of_receipt to rsn e ≡ false
+not-sought to count rsn e other more = at (is_of_receipt to rsn e) refl where
+  at : (b : Bool) → is_of_receipt to rsn e ≡ b → is_of_receipt to rsn e ≡ false
+  at false is = is
+  at true is =
+      let parts = and_parts (e.det.to == to) (e.det.rsn == rsn) is in
+      absurd (false≢true (sym other ∙ ap (λ b. b && nat_lt count e.det.rsn) parts.0 ∙ ap (nat_lt count) (eqb-true e.det.rsn rsn parts.1) ∙ more))
 
--- an entry of one of the member's receipts
-pub by_number-put : (to : ℕ) (table : List Entry) (i : ℕ) (e : Entry) (before after : List (Option Determinant)) → slice_get table i ≡ Some e → (e.det.to == to) ≡ true → IsByNumber to (take i table) before
-    → ((rsn : ℕ) → receipt_at after rsn ≡ option_or (receipt_at before rsn) (cond (e.det.rsn == rsn) (Some e.det) None)) → IsByNumber to (take (i + 1) table) after
-by_number-put to table i e before after is own so_far put rsn =
-    put rsn ∙ ap (λ o. option_or o (cond (e.det.rsn == rsn) (Some e.det) None)) (so_far rsn)
-    ∙ sym (found-more to rsn table i e is ∙ ap (λ b. option_or (found to rsn (take i table)) (cond (b && (e.det.rsn == rsn)) (Some e.det) None)) own)
+pub by_number-other : (to count : ℕ) (table : List Entry) (i : ℕ) (e : Entry) (places : List (Option Determinant)) → slice_get table i ≡ Some e → ((e.det.to == to) && nat_lt count e.det.rsn) ≡ false → IsByNumber to count (take i table) places → IsByNumber to count (take (i + 1) table) places
+by_number-other to count table i e places is other so_far rsn = at (nat_lt count rsn) refl where
+  at : (b : Bool) → nat_lt count rsn ≡ b → receipt_at places rsn ≡ (if nat_lt count rsn then found to rsn (take (i + 1) table) else None)
+  at true more =
+      so_far rsn ∙ ap (λ o. if nat_lt count rsn then o else None) (sym (found-more to rsn table i e is ∙ ap (λ b. option_or (found to rsn (take i table)) (cond b (Some e.det) None)) (not-sought to count rsn e other more) ∙ or-none (found to rsn (take i table))))
+  at false few = so_far rsn ∙ ap (λ b. if b then found to rsn (take i table) else None) few ∙ sym (ap (λ b. if b then found to rsn (take (i + 1) table) else None) few)
+
+-- an entry of one of the receipts that are looked for
+pub by_number-put : (to count : ℕ) (table : List Entry) (i : ℕ) (e : Entry) (before after : List (Option Determinant)) → slice_get table i ≡ Some e → ((e.det.to == to) && nat_lt count e.det.rsn) ≡ true → IsByNumber to count (take i table) before
+    → ((rsn : ℕ) → receipt_at after rsn ≡ option_or (receipt_at before rsn) (cond (e.det.rsn == rsn) (Some e.det) None)) → IsByNumber to count (take (i + 1) table) after
+by_number-put to count table i e before after is own so_far put rsn = at (and_parts (e.det.to == to) (nat_lt count e.det.rsn) own) (nat_lt count rsn) refl (e.det.rsn == rsn) refl where
+  at : ((e.det.to == to) ≡ true) × (nat_lt count e.det.rsn ≡ true) → (b : Bool) → nat_lt count rsn ≡ b → (n : Bool) → (e.det.rsn == rsn) ≡ n → receipt_at after rsn ≡ (if nat_lt count rsn then found to rsn (take (i + 1) table) else None)
+  at parts true more n test =
+      put rsn ∙ ap (λ o. option_or o (cond (e.det.rsn == rsn) (Some e.det) None)) (so_far rsn ∙ ap (λ b. if b then found to rsn (take i table) else None) more)
+      ∙ sym (ap (λ b. if b then found to rsn (take (i + 1) table) else None) more ∙ found-more to rsn table i e is ∙ ap (λ b. option_or (found to rsn (take i table)) (cond (b && (e.det.rsn == rsn)) (Some e.det) None)) parts.0)
+  at parts false few true test = absurd (false≢true (sym few ∙ ap (nat_lt count) (sym (eqb-true e.det.rsn rsn test)) ∙ parts.1))
+  at parts false few false test =
+      put rsn ∙ ap (λ b. option_or (receipt_at before rsn) (cond b (Some e.det) None)) test ∙ or-none (receipt_at before rsn) ∙ so_far rsn
+      ∙ ap (λ b. if b then found to rsn (take i table) else None) few ∙ sym (ap (λ b. if b then found to rsn (take (i + 1) table) else None) few)

@@ -1,5 +1,5 @@
 -- One member's receipts by their numbers.
-use Rattle.std.specs.Prelude.{◌≡◌, ℕ, List, Option, None, slice_index_or}
+use Rattle.std.specs.Prelude.{◌≡◌, ℕ, nat_lt, if◌then◌else◌, List, Option, None, slice_index_or}
 use Rattle.fbl_base.specs.declared.trace.Determinant.{Determinant}
 use Rattle.fbl_table.specs.declared.entry.Entry.{Entry}
 use Rattle.fbl_table.specs.Tables.{found}
@@ -8,6 +8,6 @@ use Rattle.fbl_table.specs.Tables.{found}
 abbrev pub receipt_at : List (Option Determinant) → ℕ → Option Determinant
 receipt_at places rsn = slice_index_or places rsn None
 
--- under each number stands what the table finds of the member
-abbrev pub IsByNumber : ℕ → List Entry → List (Option Determinant) → Type 0
-IsByNumber member table places = (rsn : ℕ) → receipt_at places rsn ≡ found member rsn table
+-- under each number beyond a first count stands what the table finds of the member, and under the others nothing
+abbrev pub IsByNumber : ℕ → ℕ → List Entry → List (Option Determinant) → Type 0
+IsByNumber member count table places = (rsn : ℕ) → receipt_at places rsn ≡ (if nat_lt count rsn then found member rsn table else None)

@@ -1,6 +1,6 @@
 //! One member's receipts, by their numbers.
 
-ghost use Rattle.std.specs.Prelude.{◌≡◌, ℕ, ◌==◌, [], Some, None, IfOk, OnOk, if◌then◌else◌};
+ghost use Rattle.std.specs.Prelude.{◌≡◌, ℕ, ◌==◌, ◌&&◌, nat_lt, [], Some, None, IfOk, OnOk, if◌then◌else◌};
 ghost use Rattle.std.specs.Option.{option_or};
 ghost use Rattle.fbl_table.specs.Receipts.{receipt_at, IsByNumber};
 
@@ -39,15 +39,20 @@ impl<A: Allocator + Copy> Receipts<A> {
         }
     }
 
-    /// The member's receipts that the table has, of several with one number the first. It goes over the table once, and
-    /// takes memory for each number up to the greatest. `Err` comes only where there is no memory for them.
-    pub fn of_member(alloc: A, table: &Table<A>, member: Member) -> Result<Receipts<A>, AllocError>
-        ensures { IfOk result (IsByNumber member table.now) }
+    /// The member's receipts beyond its first `count` that the table has, of several with one number the first. It goes over
+    /// the table once, and takes memory for each number up to the greatest. `Err` comes only where there is no memory for them.
+    pub fn of_member(
+        alloc: A,
+        table: &Table<A>,
+        member: Member,
+        count: u32,
+    ) -> Result<Receipts<A>, AllocError>
+        ensures { IfOk result (IsByNumber member count table.now) }
     {
         let mut places = Vec::new(alloc);
         for place in 0..table.len() {
             let entry = table.entry_at(place);
-            if entry.det.to == member {
+            if is_beyond(entry.det, member, count) {
                 put_first(&mut places, entry.det)?;
             }
         }
@@ -65,6 +70,13 @@ impl<A: Allocator + Copy> Receipts<A> {
             None
         }
     }
+}
+
+/// Whether the determinant is of one of the member's receipts beyond its first `count`.
+fn is_beyond(determinant: Determinant, member: Member, count: u32) -> bool
+    ensures { result ≡ ((determinant.to == member) && nat_lt count determinant.rsn) }
+{
+    determinant.to == member && count < determinant.rsn
 }
 
 /// Puts the determinant at the place of its receipt number, unless there is one already.
