@@ -6,51 +6,40 @@ use Rattle.std.specs.Prelude.{count_by}
 use Rattle.fbl_group.specs.Channels.{queued_rows}
 use Rattle.fbl_group.specs.Strikes.{strike_refusal, is_lost}
 use Rattle.fbl_group.proofs.Promised.{survivors_hold, records_first, records_causes}
-use Rattle.fbl_group.proofs.Striking.{emptied-by, is_strike, is_sound, no_orphan, count-lost}
+use Rattle.fbl_group.proofs.Striking.{emptied-by, is_strike, is_sound, count-lost}
 use Rattle.fbl_group.proofs.group.Group.strike.Goals as goal
 
 pub returns-in_err-allow_strike-clause-no_orphan : goal.returns-in_err-allow_strike-clause-no_orphan
 returns-in_err-allow_strike-clause-no_orphan g c m = rw (← c.self.view_is) (sound_has_no_orphan g.B.Behaviour.next _ m c.self.invariant)
+
+pub returns-in_err-allow_strike-clause-survivors : goal.returns-in_err-allow_strike-clause-survivors
+returns-in_err-allow_strike-clause-survivors g c = rw (← c.self.view_is) (survivors_hold g.B.Behaviour.next _ c.self.invariant)
+
+pub returns-in_err-allow_strike-clause-first : goal.returns-in_err-allow_strike-clause-first
+returns-in_err-allow_strike-clause-first g c = rw (← c.self.view_is) (records_first g.B.Behaviour.next _ c.self.invariant)
+
+pub returns-in_err-allow_strike-clause-causes : goal.returns-in_err-allow_strike-clause-causes
+returns-in_err-allow_strike-clause-causes g c = rw (← c.self.view_is) (records_causes g.B.Behaviour.next _ c.self.invariant)
 
 pub invariant_of-self : goal.invariant_of-self
 invariant_of-self g c =
     let allowed = subst (λ (r : GroupRecord). strike_refusal r c.args.set ≡ None) (sym c.self.view_is) c.in_ok-allow_strike.ensures.allowed in
     is_sound g.B.Behaviour.next _ _ c.args.set c.self.invariant allowed c.blank_members.ensures (emptied-by c.members-2.ensures.value c.drop_at.ensures) c.union-self-inside.ensures refl refl refl refl refl
 
-pub returns-clause-struck : goal.returns-clause-struck
-returns-clause-struck g c =
+pub returns : goal.returns
+returns g c =
     let new : GroupRecord = record { config = c.self.inside.config; members = c.blank_members.new.members.items; checkpoints = c.self.inside.checkpoints.items; channels = queued_rows c.drop_at.new.channels.items; trace = c.self.inside.trace.items; down = c.union-self-inside.result; receipts_ever = c.self.inside.receipts_ever; undone_ever = c.self.inside.undone_ever } in
     let allowed = subst (λ (r : GroupRecord). strike_refusal r c.args.set ≡ None) (sym c.self.view_is) c.in_ok-allow_strike.ensures.allowed in
-    let strike = is_strike g.B.Behaviour.next _ new c.args.set c.self.invariant allowed c.blank_members.ensures (emptied-by c.members-2.ensures.value c.drop_at.ensures) c.union-self-inside.ensures refl refl refl refl refl in
-    let sound = is_sound g.B.Behaviour.next _ new c.args.set c.self.invariant allowed c.blank_members.ensures (emptied-by c.members-2.ensures.value c.drop_at.ensures) c.union-self-inside.ensures refl refl refl refl refl in
+    let emptied = emptied-by c.members-2.ensures.value c.drop_at.ensures in
+    let strike = is_strike g.B.Behaviour.next _ new c.args.set c.self.invariant allowed c.blank_members.ensures emptied c.union-self-inside.ensures refl refl refl refl refl in
+    let sound = is_sound g.B.Behaviour.next _ new c.args.set c.self.invariant allowed c.blank_members.ensures emptied c.union-self-inside.ensures refl refl refl refl refl in
     let lost : c.count_lost.result ≡ count_by (is_lost c.union-self-inside.result c.blank_members.new.members.items c.self.inside.checkpoints.items) c.self.inside.trace.items = rw (← c.deref.ensures.value, ← c.deref-2.ensures.value, ← c.deref-3.ensures.value) c.count_lost.ensures in
-    (c.in_ok-allow_strike.ensures.allowed, (subst (λ (r : GroupRecord). IsStrike r new c.args.set) c.self.view_is strike, lost ∙ count-lost g.B.Behaviour.next new sound))
-
-pub returns-clause-no_orphan : goal.returns-clause-no_orphan
-returns-clause-no_orphan g c =
-    let allowed = subst (λ (r : GroupRecord). strike_refusal r c.args.set ≡ None) (sym c.self.view_is) c.in_ok-allow_strike.ensures.allowed in
-    no_orphan g.B.Behaviour.next _ _ c.args.set c.self.invariant allowed c.blank_members.ensures (emptied-by c.members-2.ensures.value c.drop_at.ensures) c.union-self-inside.ensures refl refl refl refl refl
-
-pub returns-in_err-allow_strike-clause-survivors : goal.returns-in_err-allow_strike-clause-survivors
-returns-in_err-allow_strike-clause-survivors g c = rw (← c.self.view_is) (survivors_hold g.B.Behaviour.next _ c.self.invariant)
-
-pub returns-clause-survivors : goal.returns-clause-survivors
-returns-clause-survivors g c =
-    let allowed = subst (λ (r : GroupRecord). strike_refusal r c.args.set ≡ None) (sym c.self.view_is) c.in_ok-allow_strike.ensures.allowed in
-    survivors_hold g.B.Behaviour.next _ (is_sound g.B.Behaviour.next _ _ c.args.set c.self.invariant allowed c.blank_members.ensures (emptied-by c.members-2.ensures.value c.drop_at.ensures) c.union-self-inside.ensures refl refl refl refl refl)
-
-pub returns-in_err-allow_strike-clause-first : goal.returns-in_err-allow_strike-clause-first
-returns-in_err-allow_strike-clause-first g c = rw (← c.self.view_is) (records_first g.B.Behaviour.next _ c.self.invariant)
-
-pub returns-clause-first : goal.returns-clause-first
-returns-clause-first g c =
-    let allowed = subst (λ (r : GroupRecord). strike_refusal r c.args.set ≡ None) (sym c.self.view_is) c.in_ok-allow_strike.ensures.allowed in
-    records_first g.B.Behaviour.next _ (is_sound g.B.Behaviour.next _ _ c.args.set c.self.invariant allowed c.blank_members.ensures (emptied-by c.members-2.ensures.value c.drop_at.ensures) c.union-self-inside.ensures refl refl refl refl refl)
-
-pub returns-in_err-allow_strike-clause-causes : goal.returns-in_err-allow_strike-clause-causes
-returns-in_err-allow_strike-clause-causes g c = rw (← c.self.view_is) (records_causes g.B.Behaviour.next _ c.self.invariant)
-
-pub returns-clause-causes : goal.returns-clause-causes
-returns-clause-causes g c =
-    let allowed = subst (λ (r : GroupRecord). strike_refusal r c.args.set ≡ None) (sym c.self.view_is) c.in_ok-allow_strike.ensures.allowed in
-    records_causes g.B.Behaviour.next _ (is_sound g.B.Behaviour.next _ _ c.args.set c.self.invariant allowed c.blank_members.ensures (emptied-by c.members-2.ensures.value c.drop_at.ensures) c.union-self-inside.ensures refl refl refl refl refl)
+    record {
+      struck = (c.in_ok-allow_strike.ensures.allowed, (subst (λ (r : GroupRecord). IsStrike r new c.args.set) c.self.view_is strike, lost ∙ count-lost g.B.Behaviour.next new sound));
+      refused = tt;
+      unchanged = tt;
+      no_orphan = λ m. sound_has_no_orphan g.B.Behaviour.next new m sound;
+      survivors = survivors_hold g.B.Behaviour.next new sound;
+      first = records_first g.B.Behaviour.next new sound;
+      causes = records_causes g.B.Behaviour.next new sound;
+    }
