@@ -1,6 +1,7 @@
 -- What the first fault of an input says of the input.
 use Rattle.std.proofs.Common.{◌≡◌, ◌≢◌, ℕ, ◌+◌, List, [], ◌∷◌, refl, sym, ap, ◌∙◌, subst, cond, nat_lt, length, Bool, true, false, Option, Some, None, IsSome, option_and_then, Result, Ok, Err}
-use Rattle.std.specs.Prelude.{is_some, ◌==◌}
+use Rattle.std.specs.Prelude.{is_some, ◌==◌, IfOk, IfNone}
+use Rattle.std.specs.Result.{result_err}
 use Rattle.serde_json.specs.Data.{Data, Members}
 use Rattle.serde_json.specs.Find.{as_object, get}
 use Rattle.fbl_input.specs.declared.fault.Key.{Key}
@@ -15,7 +16,7 @@ use Rattle.fbl_script.specs.Scripts.{IsScriptFault, behaviour_shape, commands_fr
 use Rattle.fbl_dump.specs.Dumps.{IsDumpFault, dump_keys, event_shape, pair_shape, parts_of_data}
 use Rattle.fbl_explain.specs.declared.explanation.InputKind.{InputKind}
 use Rattle.fbl_explain.specs.declared.explanation.InputKind.TheVariants as kinds
-use Rattle.fbl_explain.specs.Explanations.{IsFaultIn, IsFaultOf, unknown_key}
+use Rattle.fbl_explain.specs.Explanations.{HasAnother, IsFaultIn, IsFaultOf, IsInputFault, IsUnexplained, unknown_key}
 
 module _ (P : RunFault → Type 0) where
   -- the fault of a step and what comes after it is the step's, or one of what comes after
@@ -118,7 +119,7 @@ dump_value d e h =
     P : RunFault → Type 0
     P = IsFaultOf kinds.Dump d
 
-pub script_in : (input : List ℕ) (e : RunFault) → IsScriptFault input e → e ≢ faults.Memory → IsFaultIn kinds.Script input e
+script_in : (input : List ℕ) (e : RunFault) → IsScriptFault input e → e ≢ faults.Memory → IsFaultIn kinds.Script input e
 script_in input faults.Memory h m = absurd (m refl)
 script_in input faults.Read h m = absurd h
 script_in input faults.Write h m = absurd h
@@ -127,7 +128,7 @@ script_in input (faults.Dump dump.Memory) h m = absurd h.2
 script_in input (faults.Dump c) h m = absurd h.2
 script_in input e h m = misshaped kinds.Script input outline_of e _ refl (λ d g. script_value d e g) h
 
-pub dump_in : (input : List ℕ) (e : RunFault) → IsDumpFault input e → e ≢ faults.Memory → IsFaultIn kinds.Dump input e
+dump_in : (input : List ℕ) (e : RunFault) → IsDumpFault input e → e ≢ faults.Memory → IsFaultIn kinds.Dump input e
 dump_in input faults.Memory h m = absurd (m refl)
 dump_in input faults.Read h m = absurd h
 dump_in input faults.Write h m = absurd h
@@ -135,3 +136,21 @@ dump_in input (faults.Dump c) h m = let v = refused kinds.Dump input parts_of_da
 dump_in input (faults.Config config.Memory) h m = absurd h.2
 dump_in input (faults.Config c) h m = absurd h.2
 dump_in input e h m = misshaped kinds.Dump input parts_of_data e _ refl (λ d g. dump_value d e g) h
+
+-- the fault is an input's of its kind
+pub fault_in : (kind : InputKind) (input : List ℕ) (e : RunFault) → IsInputFault kind input e → e ≢ faults.Memory → IsFaultIn kind input e
+fault_in kinds.Script input e h m = script_in input e h m
+fault_in kinds.Dump input e h m = dump_in input e h m
+
+-- a fault that isn't the input's, and of which there is an explanation only where it is
+pub not_own : (IsFault : RunFault → Type 0) (IsTaken : Type 0) (e : RunFault) → e ≢ faults.TooLong → HasAnother IsFault IsTaken e → IsUnexplained IsFault IsTaken e
+not_own IsFault IsTaken faults.TooLong n h = absurd (n refl)
+not_own IsFault IsTaken faults.Read n h = tt
+not_own IsFault IsTaken faults.Write n h = tt
+not_own IsFault IsTaken faults.Memory n h = tt
+not_own IsFault IsTaken e n h = h
+
+-- what has no fault was read
+pub was_read : {A E : Type 0} (P : A → Type 0) (r : Result A E) → IfOk r P → IfNone (result_err r) ((a : A) × P a)
+was_read P (Ok a) h = (a, h)
+was_read P (Err e) h = tt

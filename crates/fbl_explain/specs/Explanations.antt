@@ -6,12 +6,22 @@ use Rattle.fbl_input.specs.declared.fault.Key.{Key}
 use Rattle.fbl_input.specs.declared.fault.RunFault.{RunFault}
 use Rattle.fbl_input.specs.declared.fault.RunFault.TheVariants as faults
 use Rattle.fbl_input.specs.Shapes.{json_of, other_key, value_of_input}
-use Rattle.fbl_script.specs.Scripts.{script_keys}
-use Rattle.fbl_dump.specs.Dumps.{dump_keys}
+use Rattle.fbl_script.specs.Scripts.{script_keys, IsScript, IsScriptFault}
+use Rattle.fbl_dump.specs.Dumps.{dump_keys, IsSomeDump, IsDumpFault}
 use Rattle.fbl_explain.specs.declared.explanation.InputKind.{InputKind}
 use Rattle.fbl_explain.specs.declared.explanation.InputKind.TheVariants as kinds
 use Rattle.fbl_explain.specs.declared.explanation.Explanation.{Explanation}
 use Rattle.fbl_explain.specs.declared.explanation.Explanation.TheVariants as explanations
+
+-- the bytes are an input of this kind
+abbrev pub IsInput : InputKind → List ℕ → Type 0
+IsInput kinds.Script input = IsScript input
+IsInput kinds.Dump input = IsSomeDump input
+
+-- the fault is the first of the bytes as an input of this kind; memory may be wanting for any
+abbrev pub IsInputFault : InputKind → List ℕ → RunFault → Type 0
+IsInputFault kinds.Script input fault = IsScriptFault input fault
+IsInputFault kinds.Dump input fault = IsDumpFault input fault
 
 -- the explanation is of this fault, and names its key, its place or its refusal
 abbrev pub Explains : RunFault → Explanation → Type 0
@@ -43,21 +53,21 @@ NamesKey kind read (explanations.UnknownKey named name shown) = (named ≡ kind)
 NamesKey kind read explanation = Unit {0}
 
 -- there is an explanation only where the fault is the input's own; one of an input that is too long needs no input
-abbrev pub IsTold : (RunFault → Type 0) → RunFault → Type 0
-IsTold IsFault faults.TooLong = Unit {0}
-IsTold IsFault fault = IsFault fault
+abbrev pub IsExplained : (RunFault → Type 0) → RunFault → Type 0
+IsExplained IsFault faults.TooLong = Unit {0}
+IsExplained IsFault fault = IsFault fault
 
 -- the input is taken, or has another first fault
 abbrev pub HasAnother : (RunFault → Type 0) → Type 0 → RunFault → Type 0
 HasAnother IsFault IsTaken fault = IsTaken ⊎ ((first : RunFault) × IsFault first × (first ≢ faults.Memory) × (first ≢ fault))
 
 -- there is none of a failed read, a failed write and want of memory, and else none only where the fault isn't the input's
-abbrev pub IsUntold : (RunFault → Type 0) → Type 0 → RunFault → Type 0
-IsUntold IsFault IsTaken faults.Read = Unit {0}
-IsUntold IsFault IsTaken faults.Write = Unit {0}
-IsUntold IsFault IsTaken faults.Memory = Unit {0}
-IsUntold IsFault IsTaken faults.TooLong = ⊥
-IsUntold IsFault IsTaken fault = HasAnother IsFault IsTaken fault
+abbrev pub IsUnexplained : (RunFault → Type 0) → Type 0 → RunFault → Type 0
+IsUnexplained IsFault IsTaken faults.Read = Unit {0}
+IsUnexplained IsFault IsTaken faults.Write = Unit {0}
+IsUnexplained IsFault IsTaken faults.Memory = Unit {0}
+IsUnexplained IsFault IsTaken faults.TooLong = ⊥
+IsUnexplained IsFault IsTaken fault = HasAnother IsFault IsTaken fault
 
 -- a fault that a value may have as an input of this kind
 abbrev pub IsFaultOf : InputKind → Data → RunFault → Type 0

@@ -1,20 +1,18 @@
 //! Faults of dumps in words.
 
-ghost use Rattle.std.specs.Prelude.{◌≡◌, ◌≢◌, IfOk, IfSome, IfNone, Ok, true, false};
+ghost use Rattle.std.specs.Prelude.{◌≡◌, IfOk, Ok};
 ghost use Rattle.serde_json.specs.View.{view};
-ghost use Rattle.fbl_input.specs.Shapes.{value_of_input};
-ghost use Rattle.fbl_input.specs.declared.fault.RunFault.TheVariants.{BadField, Dump, Memory};
-ghost use Rattle.fbl_dump.specs.Dumps.{IsDumpFault, IsSomeDump};
-ghost use Rattle.fbl_explain.specs.Explanations.{Explains, HasAnother, IsFaultIn, IsFaultOf, IsTold, IsUntold, NamesKey};
+ghost use Rattle.fbl_input.specs.declared.fault.RunFault.TheVariants.{BadField, Dump};
+ghost use Rattle.fbl_explain.specs.Explanations.{Explains, IsFaultOf, NamesKey};
 ghost use Rattle.fbl_explain.specs.declared.explanation.InputKind.TheVariants as kinds;
 
 use crate::dump_fault::{BadEvent, BadPair, DumpFault};
 use crate::explanation::{Explanation, InputKind};
 use crate::parts::{
-    MemberShape, explain_json, explain_key, explain_kind, explain_list, explain_value, value_again,
+    MemberShape, explain_key, explain_kind, explain_list, explain_value,
 };
 use fbl_base::{Determinant, DumpRefusal, Mark, Member, MemberSet};
-use fbl_dump::{DUMP_KEYS, EventShape, PairShape, dump_of_bytes};
+use fbl_dump::{DUMP_KEYS, EventShape, PairShape};
 use fbl_input::shapes::{Shape, number_field, set_field, values_field};
 use fbl_input::{Key, RunFault};
 use serde_json::Value;
@@ -218,7 +216,7 @@ fn explain_field(alloc: Global, value: &Value, key: Key) -> Result<Explanation, 
 }
 
 /// The fault of the JSON that a dump is, in words.
-fn explain_dump_value(
+pub(crate) fn explain_dump_value(
     alloc: Global,
     value: &Value,
     fault: &RunFault,
@@ -233,61 +231,5 @@ fn explain_dump_value(
         RunFault::UnknownKey => explain_key(alloc, InputKind::Dump, value, &DUMP_KEYS),
         RunFault::Dump(refusal) => explain_refusal(alloc, value, *refusal),
         _ => unreachable!(),
-    }
-}
-
-/// The fault of the input as a dump, in words.
-fn explain_dump_fault(
-    alloc: Global,
-    input: &[u8],
-    fault: &RunFault,
-) -> Result<Explanation, AllocError>
-    requires { IsFaultIn kinds.Dump input.now fault.now }
-    ensures of { IfOk result (Explains fault.now) }
-    ensures named { IfOk result (NamesKey kinds.Dump (value_of_input input.now)) }
-{
-    match fault {
-        RunFault::TooLong => Ok(Explanation::TooLong),
-        RunFault::NotJson => explain_json(alloc, input),
-        _ => {
-            let value = value_again(alloc, input)?;
-            explain_dump_value(alloc, &value, fault)
-        }
-    }
-}
-
-/// Whether the fault is the first of the input as a dump.
-fn has_dump_fault(alloc: Global, input: &[u8], fault: &RunFault) -> Result<bool, AllocError>
-    ensures own { IfOk result (λ has. has ≡ true → IsDumpFault input.now fault.now × (fault.now ≢ Memory)) }
-    ensures other { IfOk result (λ has. has ≡ false → HasAnother (IsDumpFault input.now) (IsSomeDump input.now) fault.now) }
-{
-    match dump_of_bytes(alloc, input) {
-        Ok(_) => Ok(false),
-        Err(RunFault::Memory) => Err(AllocError),
-        Err(first) => Ok(first == *fault),
-    }
-}
-
-/// The fault of a dump in words, as `explain_script` tells those of scripts.
-pub fn explain_dump(
-    alloc: Global,
-    input: &[u8],
-    fault: &RunFault,
-) -> Result<Option<Explanation>, AllocError>
-    ensures of { IfOk result (λ found. IfSome found (Explains fault.now)) }
-    ensures named { IfOk result (λ found. IfSome found (NamesKey kinds.Dump (value_of_input input.now))) }
-    ensures told { IfOk result (λ found. IfSome found (λ _. IsTold (IsDumpFault input.now) fault.now)) }
-    ensures untold { IfOk result (λ found. IfNone found (IsUntold (IsDumpFault input.now) (IsSomeDump input.now) fault.now)) }
-{
-    match fault {
-        RunFault::TooLong => Ok(Some(Explanation::TooLong)),
-        RunFault::Read | RunFault::Write | RunFault::Memory => Ok(None),
-        _ => {
-            if !has_dump_fault(alloc, input, fault)? {
-                return Ok(None);
-            }
-            let explanation = explain_dump_fault(alloc, input, fault)?;
-            Ok(Some(explanation))
-        }
     }
 }

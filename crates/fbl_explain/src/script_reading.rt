@@ -1,23 +1,19 @@
 //! Faults of scripts in words.
 
-ghost use Rattle.std.specs.Prelude.{◌≡◌, ◌≢◌, IfOk, IfSome, IfNone, Ok, true, false};
+ghost use Rattle.std.specs.Prelude.{◌≡◌, IfOk, Ok};
 ghost use Rattle.serde_json.specs.View.{view};
-ghost use Rattle.fbl_input.specs.Shapes.{value_of_input};
-ghost use Rattle.fbl_input.specs.declared.fault.RunFault.TheVariants.{BadCommand, BadField, Config, Memory};
-ghost use Rattle.fbl_script.specs.Scripts.{IsScript, IsScriptFault};
-ghost use Rattle.fbl_explain.specs.Explanations.{Explains, HasAnother, IsFaultIn, IsFaultOf, IsTold, IsUntold, NamesKey};
+ghost use Rattle.fbl_input.specs.declared.fault.RunFault.TheVariants.{BadCommand, BadField, Config};
+ghost use Rattle.fbl_explain.specs.Explanations.{Explains, IsFaultOf, NamesKey};
 ghost use Rattle.fbl_explain.specs.declared.explanation.InputKind.TheVariants as kinds;
 
 use crate::config_fault::ConfigFault;
 use crate::explanation::{Explanation, InputKind};
-use crate::parts::{
-    explain_json, explain_key, explain_kind, explain_list, explain_value, value_again,
-};
+use crate::parts::{explain_key, explain_kind, explain_list, explain_value};
 use crate::shown::value_text;
 use fbl_base::{ConfigRefusal, Start};
 use fbl_input::shapes::{Shape, is_named, list_in, number_in};
 use fbl_input::{Key, RunFault};
-use fbl_script::{SCRIPT_KEYS, StartShape, script_of_bytes};
+use fbl_script::{SCRIPT_KEYS, StartShape};
 use serde_json::Value;
 use std::alloc::{AllocError, Global};
 
@@ -125,7 +121,7 @@ fn explain_field(alloc: Global, value: &Value, key: Key) -> Result<Explanation, 
 }
 
 /// The fault of the JSON that a script is, in words.
-fn explain_script_value(
+pub(crate) fn explain_script_value(
     alloc: Global,
     value: &Value,
     fault: &RunFault,
@@ -141,63 +137,5 @@ fn explain_script_value(
         RunFault::UnknownKey => explain_key(alloc, InputKind::Script, value, &SCRIPT_KEYS),
         RunFault::Config(refusal) => Ok(explain_config(value, *refusal)),
         _ => unreachable!(),
-    }
-}
-
-/// The fault of the input as a script, in words.
-fn explain_script_fault(
-    alloc: Global,
-    input: &[u8],
-    fault: &RunFault,
-) -> Result<Explanation, AllocError>
-    requires { IsFaultIn kinds.Script input.now fault.now }
-    ensures of { IfOk result (Explains fault.now) }
-    ensures named { IfOk result (NamesKey kinds.Script (value_of_input input.now)) }
-{
-    match fault {
-        RunFault::TooLong => Ok(Explanation::TooLong),
-        RunFault::NotJson => explain_json(alloc, input),
-        _ => {
-            let value = value_again(alloc, input)?;
-            explain_script_value(alloc, &value, fault)
-        }
-    }
-}
-
-/// Whether the fault is the first of the input as a script.
-fn has_script_fault(alloc: Global, input: &[u8], fault: &RunFault) -> Result<bool, AllocError>
-    ensures own { IfOk result (λ has. has ≡ true → IsScriptFault input.now fault.now × (fault.now ≢ Memory)) }
-    ensures other { IfOk result (λ has. has ≡ false → HasAnother (IsScriptFault input.now) (IsScript input.now) fault.now) }
-{
-    match script_of_bytes(alloc, input) {
-        Ok(_) => Ok(false),
-        Err(RunFault::Memory) => Err(AllocError),
-        Err(first) => Ok(first == *fault),
-    }
-}
-
-/// The fault of a script in words: its place, what stands there and what is wanted there. The input is read again. There
-/// are no words where a read or a write failed or memory was wanting, and none where the input has not this fault; only
-/// `TooLong` is explained of any input.
-pub fn explain_script(
-    alloc: Global,
-    input: &[u8],
-    fault: &RunFault,
-) -> Result<Option<Explanation>, AllocError>
-    ensures of { IfOk result (λ found. IfSome found (Explains fault.now)) }
-    ensures named { IfOk result (λ found. IfSome found (NamesKey kinds.Script (value_of_input input.now))) }
-    ensures told { IfOk result (λ found. IfSome found (λ _. IsTold (IsScriptFault input.now) fault.now)) }
-    ensures untold { IfOk result (λ found. IfNone found (IsUntold (IsScriptFault input.now) (IsScript input.now) fault.now)) }
-{
-    match fault {
-        RunFault::TooLong => Ok(Some(Explanation::TooLong)),
-        RunFault::Read | RunFault::Write | RunFault::Memory => Ok(None),
-        _ => {
-            if !has_script_fault(alloc, input, fault)? {
-                return Ok(None);
-            }
-            let explanation = explain_script_fault(alloc, input, fault)?;
-            Ok(Some(explanation))
-        }
     }
 }

@@ -19,7 +19,8 @@ use Rattle.fbl_law.specs.Groups.{GroupRecord, channel_in, channel, sum_below, me
 use Rattle.fbl_law.specs.Sound.{IsSound}
 use Rattle.fbl_law.specs.GroupSteps.{IsRecovery}
 use Rattle.fbl_law.specs.Replaying.{is_replayed, stays_by, recovered_trace, count_in, resent_to, sent_again, working, replayed_in, IsRebuilt}
-use Rattle.fbl_law.proofs.GroupRecovery.{length-left, recovery-keeps}
+use Rattle.fbl_base.proofs.Sifted.{length-left}
+use Rattle.fbl_law.proofs.GroupRecovery.{recovery-keeps}
 use Rattle.fbl_law.proofs.Undone.{cut-undone}
 use Rattle.fbl_law.proofs.CutTrace.{recovered_trace-cut}
 use Rattle.fbl_law.proofs.Resending.{channel-outside, sum_below-agree, sent_again-agree, sent_again-short}

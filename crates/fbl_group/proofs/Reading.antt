@@ -2,7 +2,7 @@
 use Rattle.std.proofs.Common.{◌≡◌, ℕ, ◌≤◌, ◌==◌, not, Bool, List, [], ◌∷◌, length, map, inl, inr, Option, Some, None, ap, arith}
 use Rattle.std.specs.List.{filter_map, cons_option, list_any}
 use Rattle.std.proofs.lemmas.List.{length-map}
-use Rattle.std.proofs.lemmas.List.Sums.{length-filter, count_by-le-length}
+use Rattle.fbl_base.proofs.Sifted.{length-left, length-filter_map}
 use Rattle.fbl_base.specs.declared.trace.Mark.{Mark}
 use Rattle.fbl_base.specs.declared.trace.Mark.TheVariants.{Send}
 use Rattle.fbl_base.specs.Events.{determinant_of}
@@ -16,18 +16,11 @@ use Rattle.fbl_law.proofs.Safe.{down_or_up}
 use Rattle.fbl_law.proofs.GroupFacts.{trace_fits}
 use Rattle.fbl_law.proofs.DumpLaws.{table_fits}
 
-pub length-filter_map : {X Y : Type 0} (h : X → Option Y) (xs : List X) → length (filter_map h xs) ≤ length xs
-length-filter_map h [] = omega arith
-length-filter_map {Y = Y} h (x ∷ xs) = at (h x) (length-filter_map h xs) where
-  at : (o : Option Y) → length (filter_map h xs) ≤ length xs → length (cons_option o (filter_map h xs)) ≤ length (x ∷ xs)
-  at None ih = omega (arith, ih)
-  at (Some y) ih = omega (arith, ih)
-
 in_flight-fits : (t : List Mark) (q p : ℕ) → length (in_flight t q p) ≤ length t
 in_flight-fits t q p =
     let sent : List ℕ = filter_map (sent_on q p) t in
     let untaken : ℕ → Bool = (λ ssn. not (list_any (λ taken. taken == ssn) (filter_map (taken_on q p) t))) in
-    omega (arith, length-filter untaken sent, count_by-le-length untaken sent, length-filter_map (sent_on q p) t)
+    omega (arith, length-left untaken sent, length-filter_map (sent_on q p) t)
 
 module _ (next : Next) (r : GroupRecord) (sound : IsSound next r) where
   -- a channel has at most as many messages as the trace may have events

@@ -68,16 +68,16 @@ impl<B: Behaviour, A: Allocator + Copy> Group<B, A> {
 /// Where the next determinant may stand in one of several tables: as far behind the last one found as that was behind the one
 /// before it, since members mostly take turns. It changes no answer.
 #[derive(Clone, Copy, Default)]
-struct Likely {
+struct LikelyRecord {
     record: usize,
     last: usize,
     next: usize,
 }
 
-impl Likely {
+impl LikelyRecord {
     /// Where the next may stand once a determinant was found at this place.
-    fn after(self, place: usize) -> Likely {
-        Likely {
+    fn after(self, place: usize) -> LikelyRecord {
+        LikelyRecord {
             record: self.record,
             last: place,
             next: place.saturating_add(place.saturating_sub(self.last)),
@@ -85,9 +85,9 @@ impl Likely {
     }
 
     /// Where the next may stand once none was found in this record's table, of so many.
-    fn elsewhere(self, records: usize) -> Likely {
+    fn elsewhere(self, records: usize) -> LikelyRecord {
         let next = self.record.saturating_add(1);
-        Likely {
+        LikelyRecord {
             record: if next < records { next } else { 0 },
             last: 0,
             next: 0,
@@ -107,7 +107,7 @@ fn count_lost<A: Allocator + Copy>(
     ensures { result ≡ count_by (is_lost_of down members.now checkpoints.now) trace.now }
 {
     let mut lost = 0;
-    let mut likely = Likely::default();
+    let mut likely = LikelyRecord::default();
     for event in trace {
         if is_lost(down, members, checkpoints, *event, &mut likely) {
             lost += 1;
@@ -123,7 +123,7 @@ fn is_lost<A: Allocator + Copy>(
     members: &[MemberRec<A>],
     checkpoints: &[MemberRec<A>],
     event: Event,
-    likely: &mut Likely,
+    likely: &mut LikelyRecord,
 ) -> bool
     ensures { result ≡ is_lost_of down members.now checkpoints.now event }
 {
@@ -141,7 +141,7 @@ fn is_lost<A: Allocator + Copy>(
 fn is_likely_held<A: Allocator + Copy>(
     records: &[MemberRec<A>],
     determinant: &Determinant,
-    likely: &mut Likely,
+    likely: &mut LikelyRecord,
 ) -> bool
     ensures { result ≡ list_any (λ m. is_held m.table determinant.now) records.now }
 {

@@ -20,7 +20,7 @@ use Rattle.fbl_law.specs.Groups.{GroupRecord, knowledge, receipts}
 use Rattle.fbl_law.specs.Sound.{receipts_at, IsReplayed, IsSound}
 use Rattle.fbl_law.specs.Replaying.{count_in}
 use Rattle.fbl_law.proofs.GroupRecovery.{cut-lawful}
-use Rattle.fbl_law.proofs.Lists.{length-left}
+use Rattle.fbl_base.proofs.Sifted.{length-left}
 use Rattle.fbl_law.proofs.Receipts.{receipts_at-number}
 
 -- counts that are no more on the set

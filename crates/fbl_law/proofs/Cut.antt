@@ -14,7 +14,8 @@ use Rattle.fbl_base.specs.Rules.{is_send_of, is_receipt_of, sends_of, receipts_o
 use Rattle.fbl_base.proofs.Gets.{filter_map-At, At-front, At-below, Apart, Apart-filter, Apart-filter_map, slice_get-take}
 use Rattle.fbl_base.proofs.RulesLaws.{WellFormed-keeps, on_channel, is_sent, WellFormed-none, WellFormed-push, WellFormed-take, in_flight-sent, eqb-self}
 use Rattle.fbl_base.proofs.InFlightLaws.{sent-number, sent-rises}
-use Rattle.fbl_law.proofs.Lists.{At-seam, length-left, filter-At, filter-passes, filter_map-kept}
+use Rattle.fbl_base.proofs.Sifted.{length-left}
+use Rattle.fbl_law.proofs.Lists.{At-seam, filter-At, filter-passes, filter_map-kept}
 use Rattle.fbl_base.proofs.PrecedenceLaws.{Earlier-front}
 
 -- a kept event is in what is left

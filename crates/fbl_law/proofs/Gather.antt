@@ -67,24 +67,24 @@ saved-Contains s checkpoints (suc n) t among =
     one true h = elim (Contains-cons_cases (get_or checkpoints n blank).table [] t h) [ inl first ↦ first | inr none ↦ absurd (Contains-none t none) ]
     one false h = absurd (Contains-none t h)
 
--- an up member, or a checkpoint, knows of the entry's determinant that the member m holds it
-abbrev pub IsTold : Knowledge → Entry → ℕ → Type 0
-IsTold r e m =
+-- an up member, or a checkpoint, knows that the member m holds the entry's determinant
+abbrev pub KnowsHolder : Knowledge → Entry → ℕ → Type 0
+KnowsHolder r e m =
     ((q : ℕ) × (x : Entry) × IsUp r q × Contains (table r q) x × (x.det ≡ e.det) × Includes x.known m)
     ⊎ ((q : ℕ) × (x : Entry) × Contains (checkpoint r q).table x × (x.det ≡ e.det) × Includes x.known m)
 
 -- the entry unites what up members and checkpoints know of a recorded determinant, and names those that are down
 abbrev pub IsGathered : Knowledge → Entry → Type 0
-IsGathered r e = IsRecorded r e.det × ((m : ℕ) → IsDown r m → Includes e.known m) × ((m : ℕ) → Includes e.known m → IsDown r m ⊎ IsTold r e m)
+IsGathered r e = IsRecorded r e.det × ((m : ℕ) → IsDown r m → Includes e.known m) × ((m : ℕ) → Includes e.known m → IsDown r m ⊎ KnowsHolder r e m)
 
 module _ (f : ℕ) (r : Knowledge) (empty : IsDownEmpty f r) where
   -- the tables that are gathered
   abbrev sources : List (List Entry)
   sources = r.tables ++ saved_tables r.down r.checkpoints (length r.checkpoints)
 
-  -- what is known of a recorded determinant was told
+  -- an up member or a checkpoint knows of each holder of a recorded determinant that the entry names
   abbrev IsKnown : Entry → Type 0
-  IsKnown e = IsRecorded r e.det × ((m : ℕ) → Includes e.known m → IsTold r e m)
+  IsKnown e = IsRecorded r e.det × ((m : ℕ) → Includes e.known m → KnowsHolder r e m)
 
   join_known : (x e : Entry) → IsKnown x → IsKnown e → x.det ≡ e.det → IsKnown (record { det = x.det; known = set.union x.known e.known })
   join_known x e a b same = (

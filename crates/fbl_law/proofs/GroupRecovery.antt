@@ -17,7 +17,7 @@ use Rattle.fbl_law.specs.Sound.{IsFold, IsReplayed, IsSound}
 use Rattle.fbl_law.specs.GroupSteps.{IsRecovery}
 use Rattle.fbl_law.specs.GroupLaws.{GroupRecoveryKeeps}
 use Rattle.fbl_law.proofs.Safe.{down_or_up, never_both, IsRecorded-reached}
-pub use Rattle.fbl_law.proofs.Lists.{length-left}
+use Rattle.fbl_base.proofs.Sifted.{length-left}
 use Rattle.fbl_law.proofs.Cut.{KeepsCauses}
 use Rattle.fbl_law.proofs.CutLaw.{cut_is_lawful, stays_is_recorded}
 use Rattle.fbl_law.proofs.GroupFacts.{table_member}

@@ -28,7 +28,8 @@ use Rattle.fbl_law.specs.Groups.{GroupRecord, marks, knowledge}
 use Rattle.fbl_law.specs.Sound.{received_notes, receipts_at, IsReplayed, IsSound}
 use Rattle.fbl_law.specs.Replay.{IsSentAgain, IsStuck}
 use Rattle.fbl_law.specs.Replaying.{IsNextReplay, gathered_table}
-use Rattle.fbl_law.proofs.Lists.{some-at, length-left, Contains-here, Contains-there, Contains-cons_cases, Contains-none}
+use Rattle.fbl_base.proofs.Sifted.{length-left}
+use Rattle.fbl_law.proofs.Lists.{some-at, Contains-here, Contains-there, Contains-cons_cases, Contains-none}
 use Rattle.fbl_law.proofs.Safe.{down_or_up, IsRecorded-before, Has-recorded}
 use Rattle.fbl_law.proofs.Cut.{marks-filter, Has-kept, kept-Has}
 use Rattle.fbl_law.proofs.CutLaw.{stays_is_recorded}

@@ -11,7 +11,7 @@ use Rattle.fbl_member.specs.Members.{Message, MemberRecord, last_from, logged_be
 use Rattle.fbl_law.specs.Knowledge.{Members}
 use Rattle.fbl_law.specs.Groups.{HasChannels, channel_in, sum_below}
 use Rattle.fbl_law.specs.Replaying.{resent_to, sent_again}
-use Rattle.fbl_law.proofs.Lists.{length-left}
+use Rattle.fbl_base.proofs.Sifted.{length-left}
 
 -- there is no channel but between members
 pub channel-outside : (n : ℕ) (channels : List (List (List Message))) (q p : ℕ) → HasChannels n channels → (n ≤ q) ⊎ (n ≤ p) → channel_in channels q p ≡ []

@@ -7,6 +7,7 @@ use Rattle.std.proofs.Math.ListN.{length-set}
 use Rattle.std.proofs.lemmas.Option.{slice_get_past}
 use Rattle.std.specs.List.{filter, filter_map, find, cons_option}
 use Rattle.std.specs.Option.{option_map, option_copied}
+use Rattle.fbl_base.proofs.Sifted.{length-filter_map}
 use Rattle.fbl_base.specs.declared.trace.Note.{Note}
 use Rattle.fbl_base.specs.declared.trace.Start.{Start}
 use Rattle.fbl_base.specs.declared.outcome.Outcome.{Outcome}
@@ -59,13 +60,6 @@ messages-carried me before carried (s ∷ sends) (suc i) m is = messages-carried
 pub made-carried : (me before : ℕ) (carried : List Entry) (sends : List (ℕ × Note)) (messages : List Message) (i : ℕ) (made : Option (Bor Message)) → messages ≡ messages_from me before carried sends → option_copied made ≡ slice_get messages i → IfSome made (λ wire. wire.now.carried ≡ carried)
 made-carried me before carried sends messages i None are at = tt
 made-carried me before carried sends messages i (Some wire) are at = messages-carried me before carried sends i wire.now (sym (ap (λ l. slice_get l i) are) ∙ sym at)
-
-length-filter_map : {X Y : Type 0} (g : X → Option Y) (xs : List X) → length (filter_map g xs) ≤ length xs
-length-filter_map g [] = omega arith
-length-filter_map g (x ∷ xs) = at (g x) (length-filter_map g xs) where
-  at : (o : Option _) → length (filter_map g xs) ≤ length xs → length (cons_option o (filter_map g xs)) ≤ suc (length xs)
-  at None le = omega (arith, le)
-  at (Some y) le = omega (arith, le)
 
 pub few_starts : (me : ℕ) (starts : List Start) → length (starts_of me starts) ≤ length starts
 few_starts me starts = length-filter_map (λ s. if s.from == me then Some (s.to, s.note) else None) starts

@@ -1,7 +1,7 @@
 //! Faults of scripts and dumps in words.
 
 use fbl_dump::dump_of_bytes;
-use fbl_explain::{Explanation, explain_dump, explain_script};
+use fbl_explain::{Explanation, InputKind, explain};
 use fbl_input::RunFault;
 use fbl_script::script_of_bytes;
 use std::alloc::{AllocError, Global};
@@ -133,7 +133,7 @@ fn explains_the_faults_of_scripts(rt: HostRuntime) -> Result<(), Fail> {
     for (script, said) in SCRIPTS {
         let input = script.as_bytes();
         let fault = script_of_bytes(rt.alloc(), input).err().ok_or("no fault")?;
-        let found = explain_script(rt.alloc(), input, &fault)?;
+        let found = explain(rt.alloc(), InputKind::Script, input, &fault)?;
         let text = text_of(rt.alloc(), found)?;
         assert!(rt; text.as_str() == said, "{text}");
     }
@@ -145,7 +145,7 @@ fn explains_the_faults_of_dumps(rt: HostRuntime) -> Result<(), Fail> {
     for (dump, said) in DUMPS {
         let input = dump.as_bytes();
         let fault = dump_of_bytes(rt.alloc(), input).err().ok_or("no fault")?;
-        let found = explain_dump(rt.alloc(), input, &fault)?;
+        let found = explain(rt.alloc(), InputKind::Dump, input, &fault)?;
         let text = text_of(rt.alloc(), found)?;
         assert!(rt; text.as_str() == said, "{text}");
     }
@@ -155,7 +155,7 @@ fn explains_the_faults_of_dumps(rt: HostRuntime) -> Result<(), Fail> {
 #[test]
 fn has_no_words_where_the_input_is_not_at_fault(rt: HostRuntime) -> Result<(), Fail> {
     for fault in [RunFault::Read, RunFault::Write, RunFault::Memory] {
-        let found = explain_script(rt.alloc(), b"{", &fault)?;
+        let found = explain(rt.alloc(), InputKind::Script, b"{", &fault)?;
         assert!(rt; text_of(rt.alloc(), found)?.is_empty());
     }
     Ok(())

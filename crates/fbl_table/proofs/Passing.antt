@@ -7,6 +7,7 @@ use Rattle.std.specs.List.{filter, filter_map, cons_option}
 use Rattle.std.specs.FinSet as set
 use Rattle.fbl_base.specs.declared.trace.Determinant.{Determinant}
 use Rattle.fbl_base.specs.Events.{same_determinant}
+use Rattle.fbl_base.proofs.Sifted.{length-left, length-filter_map}
 use Rattle.fbl_table.specs.declared.entry.Entry.{Entry}
 use Rattle.fbl_table.specs.Tables.{is_open, piggybacked, added, gathered, learned, noted, held_by}
 use Rattle.fbl_table.specs.Index.{IsIndex}
@@ -23,17 +24,6 @@ length-cond_least false x xs = omega arith
 length-cond_more : {X : Type 0} (b : Bool) (x : X) (xs ys : List X) (k : ℕ) → length xs ≤ length ys + k → length (cond b (x ∷ xs) xs) ≤ length (cond b (x ∷ ys) ys) + k
 length-cond_more true x xs ys k le = omega (arith, le)
 length-cond_more false x xs ys k le = le
-
-pub length-filter : {X : Type 0} (p : X → Bool) (xs : List X) → length (filter p xs) ≤ length xs
-length-filter p [] = omega arith
-length-filter p (x ∷ xs) = omega (arith, length-cond_most (p x) x (filter p xs), length-filter p xs)
-
-length-filter_map : {X Y : Type 0} (g : X → Option Y) (xs : List X) → length (filter_map g xs) ≤ length xs
-length-filter_map g [] = omega arith
-length-filter_map g (x ∷ xs) = at (g x) (length-filter_map g xs) where
-  at : (o : Option _) → length (filter_map g xs) ≤ length xs → length (cons_option o (filter_map g xs)) ≤ suc (length xs)
-  at None le = omega (arith, le)
-  at (Some y) le = omega (arith, le)
 
 -- an entry more makes at most one more to pass on
 open-added : (f : ℕ) (table : List Entry) (entry : Entry) → length (piggybacked f (added table entry)) ≤ length (piggybacked f table) + 1
@@ -53,7 +43,7 @@ pub open-receipt : (f me : ℕ) (table carried : List Entry) (d : Determinant) �
 open-receipt f me table carried d =
     let own : Entry = record { det = d; known = set.insert set.empty me } in
     let split : length (piggybacked f (noted me (learned me table carried) d)) ≡ length (piggybacked f (learned me table carried)) + length (piggybacked f (own ∷ [])) = ap length (filter-append (is_open f) (learned me table carried) (own ∷ [])) ∙ length-append (piggybacked f (learned me table carried)) (piggybacked f (own ∷ [])) in
-    let one : length (piggybacked f (own ∷ [])) ≤ 1 = length-filter (is_open f) (own ∷ []) in
+    let one : length (piggybacked f (own ∷ [])) ≤ 1 = length-left (is_open f) (own ∷ []) in
     let some : length (piggybacked f (learned me table carried)) ≤ length (piggybacked f table) + length (map (held_by me) carried) = open-gathered f table (map (held_by me) carried) in
     omega (arith, split, one, some, length-map carried (held_by me))
 
@@ -61,7 +51,7 @@ open-receipt f me table carried d =
 pub open-within : (f limit : ℕ) (table : List Entry) (open_places : List ℕ) → f ≤ limit → IsIndex limit table open_places → length (piggybacked f table) ≤ length open_places
 open-within f limit table open_places le index =
     let same : length (piggybacked f (filter_map (slice_get table) open_places)) ≡ length (piggybacked f table) = ap length (index-piggybacked f limit table open_places le index) in
-    omega (arith, same, length-filter (is_open f) (filter_map (slice_get table) open_places), length-filter_map (slice_get table) open_places)
+    omega (arith, same, length-left (is_open f) (filter_map (slice_get table) open_places), length-filter_map (slice_get table) open_places)
 
 -- those passed on of the first entries are no more than those of all
 pub first-open : (f : ℕ) (table : List Entry) (i : ℕ) → length (piggybacked f (take i table)) ≤ length (piggybacked f table)

@@ -234,7 +234,7 @@ impl<A: Allocator + Copy> Table<A> {
         self.entries.reserve(room)?;
         self.open_places.reserve(room)?;
         unite_shared(&mut self.entries, other, shared);
-        let mut likely = Likely::default().after(shared);
+        let mut likely = LikelyPlaces::default().after(shared);
         for place in shared..other.len() {
             let entry = other.entry_at(place);
             let found = add(&mut self.entries, &mut self.open_places, entry, likely);
@@ -353,7 +353,7 @@ fn room_for<A: Allocator + Copy>(entries: &Entries<A>, other: &Table<A>, shared:
     ensures few { result ≤ length other.now }
 {
     let mut room = 0;
-    let mut likely = Likely::default().after(shared);
+    let mut likely = LikelyPlaces::default().after(shared);
     for place in shared..other.len() {
         let entry = other.entry_at(place);
         match find_place(entries, &entry.det, likely, room < HASHES) {
@@ -367,16 +367,16 @@ fn room_for<A: Allocator + Copy>(entries: &Entries<A>, other: &Table<A>, shared:
 /// Where the next determinant's entry may be: behind the last one found, or behind one found before in another part of the
 /// table. What one table has in turn, another mostly has in the same order, or in two parts that each are in this order.
 #[derive(Clone, Copy, Default)]
-struct Likely {
+struct LikelyPlaces {
     last: usize,
     earlier: usize,
 }
 
-impl Likely {
+impl LikelyPlaces {
     /// Where it may be once an entry was found or put at this place.
-    fn after(self, found: usize) -> Likely {
+    fn after(self, found: usize) -> LikelyPlaces {
         let goes_on = found == self.last || found == self.last.saturating_add(1);
-        Likely {
+        LikelyPlaces {
             last: found.saturating_add(1),
             earlier: if goes_on { self.earlier } else { self.last },
         }
@@ -390,7 +390,7 @@ fn add<A: Allocator>(
     entries: &mut Entries<A>,
     open_places: &mut Vec<usize, A>,
     entry: Entry,
-    likely: Likely,
+    likely: LikelyPlaces,
 ) -> usize
     requires entries { is_held (map entry_of entries.old.entries) entry.det ≡ false → 0 < spare entries.old }
     requires places { is_held (map entry_of entries.old.entries) entry.det ≡ false → vec_len open_places.old < vec_capacity open_places.old }
@@ -434,7 +434,7 @@ fn add_new<A: Allocator>(entries: &mut Entries<A>, open_places: &mut Vec<usize, 
 
 /// The place of the determinant's entry, if there is one. The likely places are looked at before the hash.
 #[inline(always)]
-fn place_of<A: Allocator>(entries: &Entries<A>, det: &Determinant, likely: Likely) -> Option<usize>
+fn place_of<A: Allocator>(entries: &Entries<A>, det: &Determinant, likely: LikelyPlaces) -> Option<usize>
     ensures has { IfSome result (λ place. has_at (map entry_of entries.now.entries) det.now place ≡ true) }
     ensures none { IfNone result (is_held (map entry_of entries.now.entries) det.now ≡ false) }
 {
@@ -449,7 +449,7 @@ fn place_of<A: Allocator>(entries: &Entries<A>, det: &Determinant, likely: Likel
 fn find_place<A: Allocator>(
     entries: &Entries<A>,
     det: &Determinant,
-    likely: Likely,
+    likely: LikelyPlaces,
     by_hash: bool,
 ) -> Option<usize>
     ensures { IfSome result (λ place. has_at (map entry_of entries.now.entries) det.now place ≡ true) }
@@ -466,7 +466,7 @@ fn find_place<A: Allocator>(
 fn likely_place_of<A: Allocator>(
     entries: &Entries<A>,
     det: &Determinant,
-    likely: Likely,
+    likely: LikelyPlaces,
 ) -> Option<usize>
     ensures { IfSome result (λ place. has_at (map entry_of entries.now.entries) det.now place ≡ true) }
 {
@@ -525,7 +525,7 @@ fn add_carried<A: Allocator>(
     ensures open_len { vec_len open_places.new ≤ vec_len open_places.old + length carried.now }
     ensures open_room { vec_capacity open_places.old ≤ vec_capacity open_places.new }
 {
-    let mut likely = Likely::default();
+    let mut likely = LikelyPlaces::default();
     for entry in carried {
         let learned = Entry {
             det: entry.det,

@@ -4,9 +4,7 @@ ghost use Rattle.std.specs.Prelude.{◌≡◌};
 ghost use Rattle.fblrun.specs.Statuses.{status_after as status_after_result};
 
 use crate::status_after;
-use fbl_explain::{
-    Account, AccountOf, Explanation, InputKind, Words, explain_dump, explain_script,
-};
+use fbl_explain::{Account, AccountOf, Explanation, InputKind, Words, explain};
 use fbl_input::RunFault;
 use fbl_play::Observer;
 use fbl_script::Command;
@@ -73,11 +71,7 @@ fn explanation_of(
     let Err(fault) = done else {
         return None;
     };
-    let explained = match kind {
-        InputKind::Script => explain_script(alloc, input, fault),
-        InputKind::Dump => explain_dump(alloc, input, fault),
-    };
-    match explained {
+    match explain(alloc, kind, input, fault) {
         Ok(explanation) => explanation,
         Err(_) => None,
     }
