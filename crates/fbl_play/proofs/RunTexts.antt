@@ -1,19 +1,15 @@
 -- A run goes on by one command.
 use Rattle.std.proofs.Common.{◌≡◌, ℕ, ◌<◌, ◌+◌, inr, List, [], ◌∷◌, ◌++◌, length, take, get_or, refl, sym, ap, subst, ◌∙◌, append_assoc, append-nil, Option, Some, None, Result, Ok, Err, ◌≤◌, arith, length-append}
-use Rattle.std.proofs.Math.Seq.{take-append-add}
 use Rattle.std.proofs.lemmas.List.{take_more, take_all}
 use Rattle.std.specs.Io.KnownBytes.{Appends}
-use Rattle.std.specs.Result.{IsErrAnd}
 use Rattle.fbl_base.specs.Configs.{Settings}
 use Rattle.fbl_base.specs.Fold.{Next}
 use Rattle.fbl_law.specs.Groups.{GroupRecord}
 use Rattle.fbl_law.specs.GroupSteps.{IsGroupStart}
 use Rattle.fbl_law.specs.Sound.{IsSound}
-use Rattle.fbl_input.specs.declared.fault.RunFault.{RunFault}
-use Rattle.fbl_input.specs.declared.fault.RunFault.TheVariants as faults
 use Rattle.fbl_script.specs.declared.script.Command.{Command}
 use Rattle.fbl_input.proofs.Bytes.{appends_more}
-use Rattle.fbl_play.specs.Runs.{Step, Run, IsTextUpTo, PlaysOn}
+use Rattle.fbl_play.specs.Runs.{Step, Run, IsCutAfter, PlaysOn}
 
 pub run_more : (next : Next) (workers : ℕ) (start mid new : GroupRecord) (cs : List Command) (c : Command) (text line : List ℕ) → Run next workers start cs mid text → Step next workers mid c new line → IsSound next new → Run next workers start (cs ++ c ∷ []) new (text ++ line)
 run_more next workers start mid new [] c text line r s sound =
@@ -48,21 +44,22 @@ play_more next workers config mid new cs i d a b c line h p is t sound q =
       written = appends_more a b c p.text line p.written q;
     }
 
--- one more command, and a front of its line
+-- one more command, and a proper prefix of its lines
 pub play_front : (next : Next) (workers : ℕ) (config : Settings) (mid new : GroupRecord) (cs : List Command) (i : ℕ) (d : Command) (a b c : Option (List ℕ)) (line : List ℕ) (n : ℕ)
     → i < length cs → IsPlayed next workers config cs i mid a b → d ≡ get_or cs i d → Step next workers mid d new line → IsSound next new → n < length line → Appends b c (take n line)
-    → (done : ℕ) × (text : List ℕ) × (part : ℕ) × IsTextUpTo next workers config cs done text × (part < length text) × Appends a c (take part text)
+    → IsCutAfter next workers config cs i a c
 play_front next workers config mid new cs i d a b c line n h p is t sound less q =
     let S : Command → Type 0 = λ w. Step next workers mid w new line in
     let s : S (get_or cs i d) = subst S is t in
-    let P : List Command → Type 0 = λ w. Run next workers p.start w new (p.text ++ line) in
-    let Q : List ℕ → Type 0 = λ w. Appends a c w in (
-      i + 1,
-      p.text ++ line,
-      length p.text + n,
+    let P : List Command → Type 0 = λ w. Run next workers p.start w new (p.text ++ line) in (
+      p.text,
+      line,
+      n,
+      h,
+      (p.start, mid, p.is_start, p.sound, p.run),
       (p.start, new, p.is_start, p.sound, subst P (sym (take_more cs i d h)) (run_more next workers p.start mid new (take i cs) (get_or cs i d) p.text line p.run s sound)),
-      omega (arith, less, length-append p.text line),
-      subst Q (sym (take-append-add p.text line n)) (appends_more a b c p.text (take n line) p.written q),
+      less,
+      appends_more a b c p.text (take n line) p.written q,
     )
 
 appends_nothing : (known : Option (List ℕ)) → Appends known known []
@@ -79,19 +76,3 @@ pub play_all : (next : Next) (workers : ℕ) (config : Settings) (end : GroupRec
 play_all next workers config end cs i a b h p =
     let P : List Command → Type 0 = λ w. Run next workers p.start w end p.text in
     (p.text, (p.start, end, p.is_start, p.sound, subst P (take_all _ _ h) p.run), p.written)
-
--- memory was wanting for the next command
-pub play_short : (next : Next) (workers : ℕ) (config : Settings) (mid : GroupRecord) (cs : List Command) (i : ℕ) (a b : Option (List ℕ)) (r : Result (Unit {0}) RunFault) → IsErrAnd r (λ e. e ≡ faults.Memory) → i < length cs → IsPlayed next workers config cs i mid a b → PlaysOn next workers config cs a b r
-play_short next workers config mid cs i a b (Ok x) is h p = absurd is
-play_short next workers config mid cs i a b (Err e) is h p =
-    let P : RunFault → Type 0 = λ fault. PlaysOn next workers config cs a b (Err fault) in
-    subst P (sym is) (inr (i, p.text, h, (p.start, mid, p.is_start, p.sound, p.run), p.written))
-
--- a write failed
-pub play_cut : (next : Next) (workers : ℕ) (config : Settings) (cs : List Command) (a b : Option (List ℕ)) (fault : RunFault) (r : Result (Unit {0}) RunFault) → IsErrAnd r (λ e. e ≡ fault) → fault ≡ faults.Write
-    → (done : ℕ) × (text : List ℕ) × (part : ℕ) × IsTextUpTo next workers config cs done text × (part < length text) × Appends a b (take part text)
-    → PlaysOn next workers config cs a b r
-play_cut next workers config cs a b fault (Ok x) is write front = absurd is
-play_cut next workers config cs a b fault (Err e) is write front =
-    let P : RunFault → Type 0 = λ f. PlaysOn next workers config cs a b (Err f) in
-    subst P (sym (is ∙ write)) front

@@ -1,10 +1,59 @@
--- An observer is told of one more command.
-use Rattle.std.proofs.Common.{◌≡◌, ◌++◌, List, [], ◌∷◌, refl, subst}
+-- How far a play came, and what its observer was told by then.
+use Rattle.std.proofs.Common.{◌≡◌, ℕ, ◌<◌, ◌≤◌, ◌++◌, List, [], ◌∷◌, length, take, get_or, inl, inr, refl, sym, subst, ◌∙◌, Option, Result, Ok, Err}
+use Rattle.std.proofs.lemmas.List.{take_all}
+use Rattle.std.specs.Result.{IsErrAnd}
+use Rattle.fbl_base.specs.Configs.{Settings}
+use Rattle.fbl_base.specs.Fold.{Next}
 use Rattle.fbl_explain.specs.declared.account.Account.{Account}
+use Rattle.fbl_input.proofs.Bytes.{keeps_itself}
+use Rattle.fbl_input.specs.declared.fault.RunFault.{RunFault}
+use Rattle.fbl_input.specs.declared.fault.RunFault.TheVariants as faults
+use Rattle.fbl_law.specs.Groups.{GroupRecord}
 use Rattle.fbl_script.specs.declared.script.Command.{Command}
-use Rattle.fbl_play.specs.Telling.{IsTold}
+use Rattle.fbl_play.specs.Runs.{IsCutAfter, PlaysOn}
+use Rattle.fbl_play.specs.Telling.{IsTold, IsToldUpTo, TellsOn}
+use Rattle.fbl_play.proofs.RunTexts.{IsPlayed, play_all}
 
-pub told_more : {O : Type 0} (before : O → Command → O → Type 0) (after : O → Command → Account → O → Type 0) (cs : List Command) (c : Command) (account : Account) (old mid begun new : O)
-    → IsTold before after cs old mid → before mid c begun → after begun c account new → IsTold before after (cs ++ c ∷ []) old new
-told_more before after [] c account old mid begun new is first last = (begun, account, new, subst (λ o. before o c begun) is first, last, refl)
-told_more before after (d ∷ cs) c account old mid begun new is first last = (is.0, is.1, is.2, is.3, is.4, told_more before after cs c account is.2 mid begun new is.5 first last)
+module _ {O : Type 0} (before : O → Command → O → Type 0) (after : O → Command → Account → O → Type 0) where
+  -- an observer is told of one more command
+  pub told_more : (cs : List Command) (c : Command) (account : Account) (old mid begun new : O)
+      → IsTold before after cs old mid → before mid c begun → after begun c account new → IsTold before after (cs ++ c ∷ []) old new
+  told_more [] c account old mid begun new is first last = (begun, account, new, subst (λ o. before o c begun) is first, last, refl)
+  told_more (d ∷ cs) c account old mid begun new is first last = (is.0, is.1, is.2, is.3, is.4, told_more cs c account is.2 mid begun new is.5 first last)
+
+  module _ (next : Next) (workers : ℕ) (config : Settings) (cs : List Command) (had has : Option (List ℕ)) (old new : O) where
+    -- what tells is a play
+    pub told_plays : (r : Result (Unit {0}) RunFault) → TellsOn before after next workers config cs had has old new r → PlaysOn next workers config cs had has r
+    told_plays (Ok x) h = h.0
+    told_plays (Err faults.Memory) h = elim h [
+      | inl none ↦ inl none.0
+      | inr some ↦ inr (some.0, some.1)
+    ]
+    told_plays (Err faults.Write) h = (h.0, h.1)
+    told_plays (Err e) h = absurd h
+
+    -- of every command
+    pub told_all : (end : GroupRecord) (i : ℕ) → length cs ≤ i → IsPlayed next workers config cs i end had has → IsTold before after (take i cs) old new
+        → TellsOn before after next workers config cs had has old new (Ok tt)
+    told_all end i all p told = (play_all next workers config end cs i had has all p, subst (λ w. IsTold before after w old new) (take_all _ _ all) told)
+
+    -- memory was wanting for the next command
+    pub told_short : (mid : GroupRecord) (i : ℕ) (r : Result (Unit {0}) RunFault) → IsErrAnd r (λ e. e ≡ faults.Memory) → i < length cs → IsPlayed next workers config cs i mid had has
+        → IsToldUpTo before after cs i old new → TellsOn before after next workers config cs had has old new r
+    told_short mid i (Ok x) is h p told = absurd is
+    told_short mid i (Err e) is h p told =
+        subst (λ fault. TellsOn before after next workers config cs had has old new (Err fault)) (sym is) (inr (i, (p.text, h, (p.start, mid, p.is_start, p.sound, p.run), p.written), told))
+
+    -- a write failed
+    pub told_cut : (i : ℕ) (fault : RunFault) (r : Result (Unit {0}) RunFault) → IsErrAnd r (λ e. e ≡ fault) → fault ≡ faults.Write → IsCutAfter next workers config cs i had has
+        → IsToldUpTo before after cs i old new → TellsOn before after next workers config cs had has old new r
+    told_cut i fault (Ok x) is write cut told = absurd is
+    told_cut i fault (Err e) is write cut told =
+        subst (λ f. TellsOn before after next workers config cs had has old new (Err f)) (sym (is ∙ write)) (i, cut, told)
+
+  -- no group could be made
+  pub told_none : (next : Next) (workers : ℕ) (config : Settings) (cs : List Command) (known : Option (List ℕ)) (old : O) (r : Result (Unit {0}) RunFault) → IsErrAnd r (λ e. e ≡ faults.Memory)
+      → TellsOn before after next workers config cs known known old old r
+  told_none next workers config cs known old (Ok x) is = absurd is
+  told_none next workers config cs known old (Err e) is =
+      subst (λ fault. TellsOn before after next workers config cs known known old old (Err fault)) (sym is) (inl (keeps_itself known, refl))

@@ -1,5 +1,5 @@
 -- The runs of a script's commands, with the text that they print.
-use Rattle.std.specs.Prelude.{◌≡◌, ℕ, ◌<◌, ◌⊎◌, List, [], ◌∷◌, ◌++◌, length, take, Option, Some, None, Result, Ok, Err, codes}
+use Rattle.std.specs.Prelude.{◌≡◌, ℕ, ◌+◌, ◌<◌, ◌⊎◌, List, [], ◌∷◌, ◌++◌, length, take, Option, Some, None, Result, Ok, Err, codes}
 use Rattle.std.specs.Io.KnownBytes.{Keeps, Appends}
 use Rattle.std.specs.FinSet as set
 use Rattle.fbl_base.specs.Configs.{Settings}
@@ -127,6 +127,17 @@ IsTextOf next workers config commands text =
 abbrev pub IsTextUpTo : Next → ℕ → Settings → List Command → ℕ → List ℕ → Type 0
 IsTextUpTo next workers config commands done text = IsTextOf next workers config (take done commands) text
 
+-- the text of a run of the first so many commands was written, and one at least is left
+abbrev pub IsWrittenUpTo : Next → ℕ → Settings → List Command → ℕ → Option (List ℕ) → Option (List ℕ) → Type 0
+IsWrittenUpTo next workers config commands done before after =
+    (text : List ℕ) × (done < length commands) × IsTextUpTo next workers config commands done text × Appends before after text
+
+-- the text of a run of the first so many commands was written, and of the next one's lines a proper prefix
+abbrev pub IsCutAfter : Next → ℕ → Settings → List Command → ℕ → Option (List ℕ) → Option (List ℕ) → Type 0
+IsCutAfter next workers config commands done before after =
+    (text : List ℕ) × (lines : List ℕ) × (part : ℕ) × (done < length commands) × IsTextUpTo next workers config commands done text
+    × IsTextUpTo next workers config commands (done + 1) (text ++ lines) × (part < length lines) × Appends before after (text ++ take part lines)
+
 -- what a play of the commands leaves in the writer
 abbrev pub PlaysOn : Next → ℕ → Settings → List Command → Option (List ℕ) → Option (List ℕ) → Result (Unit {0}) RunFault → Type 0
 -- the text of a run of all commands
@@ -134,11 +145,9 @@ PlaysOn next workers config commands before after (Ok _) =
     (text : List ℕ) × IsTextOf next workers config commands text × Appends before after text
 -- nothing where no group could be made, else the text of a run of the commands before the one that met it: there is one
 PlaysOn next workers config commands before after (Err faults.Memory) =
-    Keeps before after
-    ⊎ ((done : ℕ) × (text : List ℕ) × (done < length commands) × IsTextUpTo next workers config commands done text × Appends before after text)
--- a front of the text of a run, without its end
-PlaysOn next workers config commands before after (Err faults.Write) =
-    (done : ℕ) × (text : List ℕ) × (part : ℕ) × IsTextUpTo next workers config commands done text × (part < length text) × Appends before after (take part text)
+    Keeps before after ⊎ ((done : ℕ) × IsWrittenUpTo next workers config commands done before after)
+-- the text of a run of the commands before the one whose lines could not be written, and a proper prefix of those
+PlaysOn next workers config commands before after (Err faults.Write) = (done : ℕ) × IsCutAfter next workers config commands done before after
 PlaysOn next workers config commands before after (Err e) = ⊥
 
 -- ---- what a play of an input leaves in the writer

@@ -1,9 +1,14 @@
--- What an observer of a play is told.
-use Rattle.std.specs.Prelude.{◌≡◌, ℕ, ◌<◌, ◌⊎◌, List, [], ◌∷◌, length, take, slice_index_or, Result, Ok, Err, IsErr}
+-- What an observer of a play is told, and when.
+use Rattle.std.specs.Prelude.{◌≡◌, ℕ, ◌<◌, ◌⊎◌, List, [], ◌∷◌, length, take, slice_index_or, Option, Result, Ok, Err}
+use Rattle.std.specs.Io.KnownBytes.{Keeps}
+use Rattle.fbl_base.specs.Configs.{Settings}
+use Rattle.fbl_base.specs.Fold.{Next}
 use Rattle.fbl_explain.specs.declared.account.Account.{Account}
 use Rattle.fbl_input.specs.declared.fault.RunFault.{RunFault}
+use Rattle.fbl_input.specs.declared.fault.RunFault.TheVariants as faults
 use Rattle.fbl_script.specs.declared.script.Command.{Command}
-use Rattle.fbl_script.specs.Scripts.{Outline, IsScriptOf}
+use Rattle.fbl_script.specs.Scripts.{Outline, IsScriptOf, IsScriptFault}
+use Rattle.fbl_play.specs.Runs.{IsCutAfter, IsWrittenUpTo, PlaysOn, next_of}
 
 -- an observer, by what it is after it was told that a command is to be run, and that it was run with an account
 module _ {O : Type 0} (before : O → Command → O → Type 0) (after : O → Command → Account → O → Type 0) where
@@ -13,14 +18,23 @@ module _ {O : Type 0} (before : O → Command → O → Type 0) (after : O → C
   IsTold (c ∷ cs) old new = (begun : O) × (account : Account) × (mid : O) × before old c begun × after begun c account mid × IsTold cs mid new
 
   -- it was told of the first so many of the commands, and that the next one is to be run
-  abbrev pub IsToldUpTo : List Command → O → O → Type 0
-  IsToldUpTo cs old new = (done : ℕ) × (mid : O) × (c : Command) × (done < length cs) × (c ≡ slice_index_or cs done c) × IsTold (take done cs) old mid × before mid c new
+  abbrev pub IsToldUpTo : List Command → ℕ → O → O → Type 0
+  IsToldUpTo cs done old new = (mid : O) × (c : Command) × (done < length cs) × (c ≡ slice_index_or cs done c) × IsTold (take done cs) old mid × before mid c new
 
-  -- it was told of all of the commands, or, where the play of them ended early, of nothing or up to some command
-  abbrev pub TellsOn : List Command → O → O → Result (Unit {0}) RunFault → Type 0
-  TellsOn cs old new (Ok _) = IsTold cs old new
-  TellsOn cs old new (Err _) = (new ≡ old) ⊎ IsToldUpTo cs old new
+  -- what a play of the commands writes and tells: of each command that it is to be run, once the lines of those before it
+  -- are written, and that it was run, once its own are
+  abbrev pub TellsOn : Next → ℕ → Settings → List Command → Option (List ℕ) → Option (List ℕ) → O → O → Result (Unit {0}) RunFault → Type 0
+  TellsOn next workers config commands had has old new (Ok x) = PlaysOn next workers config commands had has (Ok x) × IsTold commands old new
+  -- nothing where no group could be made, else up to the command that met it, of which no line is written
+  TellsOn next workers config commands had has old new (Err faults.Memory) =
+      (Keeps had has × (new ≡ old)) ⊎ ((done : ℕ) × IsWrittenUpTo next workers config commands done had has × IsToldUpTo commands done old new)
+  -- up to the command whose lines could not be written
+  TellsOn next workers config commands had has old new (Err faults.Write) =
+      (done : ℕ) × IsCutAfter next workers config commands done had has × IsToldUpTo commands done old new
+  TellsOn next workers config commands had has old new (Err e) = ⊥
 
-  -- the same for the commands of a script that the bytes spell; where the play ended before it had one, it was told nothing
-  abbrev pub Tells : List ℕ → O → O → Result (Unit {0}) RunFault → Type 0
-  Tells input old new result = ((s : Outline) × IsScriptOf input s × TellsOn s.commands old new result) ⊎ (IsErr result × (new ≡ old))
+  -- the same for the commands of a script that the bytes spell; of any other input nothing is written and nothing told
+  abbrev pub Tells : ℕ → List ℕ → Option (List ℕ) → Option (List ℕ) → O → O → Result (Unit {0}) RunFault → Type 0
+  Tells workers input had has old new result =
+      ((s : Outline) × IsScriptOf input s × TellsOn (next_of s.behaviour) workers s.config s.commands had has old new result)
+      ⊎ ((fault : RunFault) × (result ≡ Err fault) × IsScriptFault input fault × Keeps had has × (new ≡ old))

@@ -2,7 +2,7 @@
 
 ghost use Rattle.std.specs.Prelude.{◌≡◌, ◌≤◌, ℕ, length, IfOk, OnErr, IfSome, string_bytes};
 ghost use Rattle.fbl_script.specs.Scripts.{outline};
-ghost use Rattle.fbl_play.specs.Runs.{PlaysOn, Plays, ReadsAndPlays, next_of};
+ghost use Rattle.fbl_play.specs.Runs.{Plays, ReadsAndPlays, next_of};
 ghost use Rattle.fbl_play.specs.Telling.{Tells, TellsOn};
 
 use crate::commands::run_command;
@@ -28,8 +28,7 @@ fn play_with<B: Behaviour + Send + Sync, T: Threads + Wait + Sync, W: Write, O: 
 ) -> Result<(), RunFault>
     requires some { 1 ≤ workers }
     requires few { workers ≤ 8 }
-    ensures plays { PlaysOn B.next workers config commands.now (W.contents writer.old) (W.contents writer.new) result }
-    ensures tells { TellsOn O.hears_before O.hears_after commands.now observer.old observer.new result }
+    ensures { TellsOn O.hears_before O.hears_after B.next workers config commands.now (W.contents writer.old) (W.contents writer.new) observer.old observer.new result }
 {
     let mut group: Group<B> = Group::new(alloc, config)?;
     // the trace's contract says that the group is sound
@@ -58,8 +57,7 @@ fn play_script<T: Threads + Wait + Sync, W: Write, O: Observer>(
 ) -> Result<(), RunFault>
     requires some { 1 ≤ workers }
     requires few { workers ≤ 8 }
-    ensures plays { PlaysOn (next_of script.behaviour) workers script.config script.commands.items (W.contents writer.old) (W.contents writer.new) result }
-    ensures tells { TellsOn O.hears_before O.hears_after script.commands.items observer.old observer.new result }
+    ensures { TellsOn O.hears_before O.hears_after (next_of script.behaviour) workers script.config script.commands.items (W.contents writer.old) (W.contents writer.new) observer.old observer.new result }
 {
     let Script {
         behaviour,
@@ -81,11 +79,12 @@ fn play_script<T: Threads + Wait + Sync, W: Write, O: Observer>(
 ///
 /// The script is read whole and checked before anything is run: nothing is written where the fault is one of the script.
 /// A refused command prints its refusal, and the play goes on; want of memory ends it, and the command that met it prints
-/// nothing. After `Write` a front of the text is written. `Read` is no answer. A `run` is made by `workers` workers, 1 to
-/// 8.
+/// nothing. After `Write` the lines of the commands before are written, and a proper prefix of the last one's. `Read` is no
+/// answer. A `run` is made by `workers` workers, 1 to 8.
 ///
 /// The observer is told of each command in turn, before it is run and after its lines are written, and of none twice. Where
-/// the play ends early it is told of the first ones alone. What it does with that is no part of the play.
+/// the play ends early it is told of the commands whose lines are written, and that the next one is to be run. What it does
+/// with that is no part of the play.
 pub fn play_observed<T: Threads + Wait + Sync, W: Write, O: Observer>(
     rt: &T,
     alloc: Global,
@@ -97,7 +96,7 @@ pub fn play_observed<T: Threads + Wait + Sync, W: Write, O: Observer>(
     requires some { 1 ≤ workers }
     requires few { workers ≤ 8 }
     ensures plays { Plays workers input.now (W.contents writer.old) (W.contents writer.new) result }
-    ensures tells { Tells O.hears_before O.hears_after input.now observer.old observer.new result }
+    ensures tells { Tells O.hears_before O.hears_after workers input.now (W.contents writer.old) (W.contents writer.new) observer.old observer.new result }
 {
     match script_of_bytes(alloc, input) {
         Ok(script) => play_script(rt, alloc, writer, workers, script, observer),

@@ -3,19 +3,24 @@ use Rattle.std.proofs.lemmas.List.{take_more}
 use Rattle.std.proofs.lemmas.Result.{IfOk-at_ok}
 use Rattle.std.specs.Io.KnownBytes.{Appends}
 use Rattle.fbl_play.specs.Runs.{Step}
-use Rattle.fbl_play.proofs.RunTexts.{play_none, play_more, play_front, play_all, play_short, play_cut}
+use Rattle.fbl_play.proofs.RunTexts.{play_none, play_more, play_front}
 use Rattle.fbl_play.specs.Telling.{IsTold}
-use Rattle.fbl_play.proofs.Told.{told_more}
+use Rattle.fbl_play.proofs.Told.{told_all, told_cut, told_more, told_none, told_short}
 use Rattle.fbl_play.proofs.engine.play_with.Goals as goal
 
 pub loop-command-init : goal.loop-command-init
 loop-command-init g c = (play_none g.B.Behaviour.next c.args.workers c.args.config c.in_ok-group.group c.args.commands.now _ c.in_ok-group.ensures c.trace-trace.ensures.sound, refl)
 
-pub returns-in_err-answer-clause-plays : goal.returns-in_err-answer-clause-plays
-returns-in_err-answer-clause-plays g c = play_short g.B.Behaviour.next c.args.workers c.args.config c.loop-command.group c.args.commands.now c.loop-command.command-index _ _ c.from_residual-in_err-answer.result c.from_residual-in_err-answer.ensures.1 c.loop-command-test.true c.loop-command.invariant.0
+pub returns-in_err-group : goal.returns-in_err-group
+returns-in_err-group g c = told_none g.O.Observer.hears_before g.O.Observer.hears_after g.B.Behaviour.next c.args.workers c.args.config c.args.commands.now _ _ c.from_residual.result c.from_residual.ensures.1
 
-pub returns-in_err-put-clause-plays : goal.returns-in_err-put-clause-plays
-returns-in_err-put-clause-plays g c =
+pub returns-in_err-answer : goal.returns-in_err-answer
+returns-in_err-answer g c =
+    told_short g.O.Observer.hears_before g.O.Observer.hears_after g.B.Behaviour.next c.args.workers c.args.config c.args.commands.now _ _ _ _ c.loop-command.group c.loop-command.command-index c.from_residual-in_err-answer.result c.from_residual-in_err-answer.ensures.1 c.loop-command-test.true c.loop-command.invariant.0
+    (c.loop-command.observer, c.command-item.result, c.loop-command-test.true, c.command-item.is, c.loop-command.invariant.1, c.before-in-loop-command.ensures)
+
+pub returns-in_err-put : goal.returns-in_err-put
+returns-in_err-put g c =
     let cs = c.args.commands.now in
     let i = c.loop-command.command-index in
     let d = c.command-item.result in
@@ -23,8 +28,9 @@ returns-in_err-put-clause-plays g c =
     let front = c.in_err-put.ensures.front in
     let step = IfOk-at_ok (λ answer. Step g.B.Behaviour.next c.args.workers c.loop-command.group d new (string_bytes answer.text)) c.in_ok-answer.was c.run_command-after.ensures in
     let P : List ℕ → Type 0 = λ w. Appends (g.W.Write.contents c.loop-command.writer) (g.W.Write.contents c.put.new.writer) (take front.0 w) in
-    play_cut g.B.Behaviour.next c.args.workers c.args.config cs _ _ c.in_err-put.field-0.0 c.from_residual-in_err-put.result c.from_residual-in_err-put.ensures.1 c.in_err-put.ensures.fault
+    told_cut g.O.Observer.hears_before g.O.Observer.hears_after g.B.Behaviour.next c.args.workers c.args.config cs _ _ _ _ i c.in_err-put.field-0.0 c.from_residual-in_err-put.result c.from_residual-in_err-put.ensures.1 c.in_err-put.ensures.fault
     (play_front g.B.Behaviour.next c.args.workers c.args.config c.loop-command.group new cs i d _ _ _ _ front.0 c.loop-command-test.true c.loop-command.invariant.0 c.command-item.is step c.trace-trace-in-loop-command.ensures.sound (rw (← c.as_bytes.ensures.value) front.1) (subst P c.as_bytes.ensures.value front.2))
+    (c.loop-command.observer, d, c.loop-command-test.true, c.command-item.is, c.loop-command.invariant.1, c.before-in-loop-command.ensures)
 
 pub loop-command-preserved : goal.loop-command-preserved
 loop-command-preserved g c =
@@ -40,5 +46,5 @@ loop-command-preserved g c =
       subst (λ w. IsTold before after w c.args.observer.now c.after.new.self) (ap (λ x. take i cs ++ x ∷ []) c.command-item.is ∙ sym (take_more cs i d c.loop-command-test.true)) (told_more before after _ _ _ _ _ _ _ c.loop-command.invariant.1 c.before-in-loop-command.ensures c.after.ensures),
     )
 
-pub returns-clause-plays : goal.returns-clause-plays
-returns-clause-plays g c = play_all g.B.Behaviour.next c.args.workers c.args.config c.loop-command.group c.args.commands.now c.loop-command.command-index _ _ (omega (arith, c.loop-command-test.false)) c.loop-command.invariant.0
+pub returns : goal.returns
+returns g c = told_all g.O.Observer.hears_before g.O.Observer.hears_after g.B.Behaviour.next c.args.workers c.args.config c.args.commands.now _ _ _ _ c.loop-command.group c.loop-command.command-index (omega (arith, c.loop-command-test.false)) c.loop-command.invariant.0 c.loop-command.invariant.1
