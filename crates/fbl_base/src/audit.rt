@@ -1,5 +1,5 @@
-//! The audit of a recorded trace: whether it obeys the rules, which receipts nobody left holds (the lost ones), and
-//! which members left depend on one (the orphans).
+//! The audit of a recorded trace: whether it obeys the rules, which receipts no member outside the strike set holds (the
+//! lost ones), and which members outside it depend on one (the orphans).
 //!
 //! The answers are exact for every dump that obeys the rules, whether or not a group made it. Lost receipts and orphans
 //! are those of Alvisi and Marzullo (1998): a receipt is recorded while a member outside the strike set holds its

@@ -63,7 +63,7 @@ impl MemberSet {
         self.bits.count_ones()
     }
 
-    /// The members, rising.
+    /// The members, rising. `Err` comes only where there is no memory for the list.
     #[tactic(auto, unfolding(crate::specs::MemberSets::member_list))]
     pub fn members<A: Allocator + Copy>(self, alloc: A) -> Result<Vec<Member, A>, AllocError>
         ensures { IfOk result (λ v. v.items ≡ member_list self) }

@@ -5,7 +5,7 @@ use Rattle.fbl_input.specs.declared.fault.RunFault.{RunFault}
 use Rattle.fbl_dump.specs.Answering.{Answers, AnswersDump, ReadsAndAnswers}
 use Rattle.fbl_draw.specs.Pictures.{IsPicture}
 
--- what a drawing of the dump leaves in the writer: the picture, a front of it, or nothing
+-- what a drawing of the dump leaves in the writer: the picture, a prefix of it, or nothing
 abbrev pub DrawsDump : Parts → Option (List ℕ) → Option (List ℕ) → Result (Unit {0}) RunFault → Type 0
 DrawsDump = AnswersDump IsPicture
 

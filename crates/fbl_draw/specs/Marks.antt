@@ -58,8 +58,8 @@ marks dump place (e ∷ es) = mark dump place e ++ marks dump (place + 1) es
 
 -- ---- arrows
 
--- an arrow from the sender's line at the place of the send to the receiver's line at the place of the receipt; a message
--- that is not received ends in the air
+-- an arrow from the sender's line at the place of the send to the receiver's line at the place of the receipt; that of a
+-- message that is not received ends halfway to the next member's line, on the receiver's side
 abbrev pub arrow : ℕ → ℕ → ℕ → Option ℕ → List ℕ
 arrow place from to (Some end) =
     line (codes "<line class='message' x1='" ∷ decimal (column place) ∷ codes "' y1='" ∷ decimal (row from) ∷ codes "' x2='" ∷ decimal (column end) ∷ codes "' y2='" ∷ decimal (row to) ∷ codes "'/>" ∷ [])

@@ -20,7 +20,7 @@ fn draw_dump<W: Write>(alloc: Global, writer: &mut W, dump: &Dump) -> Result<(),
 
 /// Draws the dump that the bytes spell, and writes the picture as SVG: a line for each member, a mark for each event and
 /// an arrow for each message. The time taken is nearly linear in the events and the held pairs. Nothing is written where
-/// the fault is another than `Write`, and after `Write` a front of the text. `Read` is no answer.
+/// the fault is another than `Write`, and after `Write` a prefix of the text. `Read` is no answer.
 pub fn draw_bytes<W: Write>(alloc: Global, input: &[u8], writer: &mut W) -> Result<(), RunFault>
     ensures { Draws input.now (W.contents writer.old) (W.contents writer.new) result }
 {

@@ -155,6 +155,7 @@ fn event_arrow_text(
     requires { IsPlacesOf events.now places.now }
     ensures { IfOk result (λ text. string_bytes text ≡ event_arrow events.now place event) }
 {
+    // the contract alone names the events, as those that the places are of
     let _events = events;
     match event {
         Mark::Send { from, ssn, to } => {

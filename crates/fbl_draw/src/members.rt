@@ -79,6 +79,7 @@ fn start_in(dump: &Dump, starts: &[Option<usize>], member: u8) -> Option<u16>
     requires start { IsOrphanStart dump.now member (orphan_start_in starts.now member) }
     ensures { result ≡ orphan_start_in starts.now member }
 {
+    // `event_count` says that a `u16` counts the events, so that the place of one fits it
     let _few = event_count(dump);
     match starts[member as usize] {
         Some(place) => Some(place as u16),

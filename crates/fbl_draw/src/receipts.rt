@@ -95,6 +95,7 @@ impl HeldIndex {
         requires { IsIndexOf dump.now self.now }
         ensures { result ≡ holders_of dump.now determinant.now }
     {
+        // the contract alone names the dump, as the one that the index is of
         let _index_of = dump;
         holders_in(&self.holders, determinant)
     }

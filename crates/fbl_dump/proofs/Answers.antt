@@ -48,7 +48,7 @@ module _ (IsText : Parts → List ℕ → Type 0) where
         ]
       ]
 
-  -- a text that was put out, or a front of it
+  -- a text that was put out, or a prefix of it
   pub answers_text : (dump : Parts) (text : List ℕ) (before after : Option (List ℕ)) (r : Result (Unit {0}) RunFault) → IsText dump text → OnOk r (Appends before after text) → OnErr r ((n : ℕ) × (n < length text) × Appends before after (take n text)) → IfErr r (λ e. e ≡ faults.Write) → AnswersDump IsText dump before after r
   answers_text dump text before after (Ok x) is whole front fault = (text, is, whole)
   answers_text dump text before after (Err f) is whole front fault =

@@ -11,7 +11,7 @@ use Rattle.fbl_dump.specs.Dumps.{IsDumpOf, IsDumpFault}
 abbrev pub AnswersDump : (Parts → List ℕ → Type 0) → Parts → Option (List ℕ) → Option (List ℕ) → Result (Unit {0}) RunFault → Type 0
 -- the whole text
 AnswersDump IsText dump before after (Ok x) = (text : List ℕ) × IsText dump text × Appends before after text
--- a front of it, without its end
+-- a prefix of it, without its end
 AnswersDump IsText dump before after (Err faults.Write) = (text : List ℕ) × (part : ℕ) × IsText dump text × (part < length text) × Appends before after (take part text)
 -- nothing
 AnswersDump IsText dump before after (Err faults.Memory) = Keeps before after

@@ -29,7 +29,7 @@ fn audit_dump<W: Write>(alloc: Global, writer: &mut W, dump: &Dump) -> Result<()
 
 /// Audits the dump that the bytes spell, and writes how many receipts are lost, the determinant of each, and the orphans.
 /// It is `Ok` whatever the audit finds. Nothing is written where the fault is another than `Write`, and after `Write` a
-/// front of the text. `Read` is no answer.
+/// prefix of the text. `Read` is no answer.
 pub fn audit_bytes<W: Write>(alloc: Global, input: &[u8], writer: &mut W) -> Result<(), RunFault>
     ensures { Audits input.now (W.contents writer.old) (W.contents writer.new) result }
 {

@@ -154,7 +154,7 @@ fn json_text(alloc: Global, dump: &Dump) -> Result<String, AllocError>
     Ok(text)
 }
 
-/// The dump as one line of JSON, which ends with a newline.
+/// The dump as one line of JSON, which ends with a newline. `Err` comes only where there is no memory for it.
 pub fn dump_text(alloc: Global, dump: &Dump) -> Result<String, AllocError>
     ensures line { IfOk result (λ text. string_bytes text ≡ dump_line dump.now) }
     ensures reads_back { IfOk result (λ text. ReadsBack dump.now) }

@@ -31,7 +31,8 @@ impl<B: Behaviour, A: Allocator + Copy> Group<B, A> {
         }
     }
 
-    /// How many receipts the member's checkpoint has, 0 where none was taken. These receipts are always recorded.
+    /// How many receipts the member's checkpoint has, 0 where none was taken. These receipts are always recorded. The member
+    /// is one of the group.
     pub fn checkpoint_received(&self, member: Member) -> u32
         requires { member < self.now.config.members }
         ensures value { result ≡ (checkpoint_of self.now member).received }

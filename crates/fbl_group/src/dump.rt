@@ -27,7 +27,7 @@ use std::alloc::{AllocError, Allocator};
 impl<B: Behaviour, A: Allocator + Copy> Group<B, A> {
     /// The trace without notes, who holds which determinants, and these members as the strike set, for the audit. Nobody is
     /// struck by it. Where the set has those that are down and at most f members in all, the audit finds no orphan. A
-    /// member that is down and not in the set is dumped as one that is left and holds nothing.
+    /// member that is down and not in the set is dumped as a survivor that holds nothing.
     pub fn dump(&self, strike: MemberSet) -> Result<Dump<A>, DumpGroupRefusal>
         ensures dumped { IfOk result (λ dump. AllBelow strike self.now.config.members × (dump ≡ dump_of self.now strike)) }
         ensures refused { IfErr result (IsDumpRefusal self.now strike) }

@@ -22,7 +22,7 @@ impl<B: Behaviour, A: Allocator + Copy> Group<B, A> {
         &self.config
     }
 
-    /// The member's state, 0 if it is down.
+    /// The member's state, 0 if it is down. The member is one of the group.
     pub fn state(&self, member: Member) -> u64
         requires { member < self.now.config.members }
         ensures { result ≡ (record_of self.now member).state }
@@ -30,7 +30,7 @@ impl<B: Behaviour, A: Allocator + Copy> Group<B, A> {
         self.record(member).state()
     }
 
-    /// How many messages the member has received, 0 if it is down.
+    /// How many messages the member has received, 0 if it is down. The member is one of the group.
     pub fn received(&self, member: Member) -> u32
         requires { member < self.now.config.members }
         ensures { result ≡ (record_of self.now member).received }
@@ -38,7 +38,7 @@ impl<B: Behaviour, A: Allocator + Copy> Group<B, A> {
         self.record(member).received()
     }
 
-    /// How many messages the member has sent, 0 if it is down.
+    /// How many messages the member has sent, 0 if it is down. The member is one of the group.
     pub fn sent(&self, member: Member) -> u32
         requires { member < self.now.config.members }
         ensures { result ≡ length (record_of self.now member).log }
@@ -46,7 +46,7 @@ impl<B: Behaviour, A: Allocator + Copy> Group<B, A> {
         self.record(member).sent()
     }
 
-    /// How many determinants the member holds, 0 if it is down.
+    /// How many determinants the member holds, 0 if it is down. The member is one of the group.
     pub fn held(&self, member: Member) -> u32
         requires { member < self.now.config.members }
         ensures { result ≡ length (record_of self.now member).table }
@@ -54,7 +54,7 @@ impl<B: Behaviour, A: Allocator + Copy> Group<B, A> {
         self.record(member).table().len() as u32
     }
 
-    /// The determinants that the member holds, none if it is down.
+    /// The determinants that the member holds, none if it is down. The member is one of the group.
     pub fn table(&self, member: Member) -> &Table<A>
         requires { member < self.now.config.members }
         ensures { result.now ≡ (record_of self.now member).table }
@@ -62,7 +62,7 @@ impl<B: Behaviour, A: Allocator + Copy> Group<B, A> {
         self.record(member).table()
     }
 
-    /// How many messages are in flight from one member to the other.
+    /// How many messages are in flight from one member to the other. Both are members of the group.
     pub fn in_flight(&self, from: Member, to: Member) -> u32
         requires from { from < self.now.config.members }
         requires to { to < self.now.config.members }

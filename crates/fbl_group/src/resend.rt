@@ -114,6 +114,7 @@ fn passed_on<A: Allocator + Copy>(table: &Table<A>, f: u8) -> Result<Vec<Entry, 
     ensures value { IfOk result (λ carried. carried.items ≡ piggybacked f table.now) }
     ensures once { IfOk result (λ carried. IsOnce carried.items) }
 {
+    // `len` says that no two of the table's determinants are the same
     let _distinct_entries = table.len();
     table.piggyback(f)
 }

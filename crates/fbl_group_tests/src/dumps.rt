@@ -60,7 +60,7 @@ fn a_dump_has_the_trace_and_the_tables(rt: HostRuntime) -> Result<(), Fail> {
 }
 
 /// Who is struck, which receipts are lost then, and who is an orphan. The first member alone holds the last receipt. Where
-/// both others are struck, nobody left holds the first receipt, and the first member depends on it; at most one of the
+/// both others are struck, no survivor holds the first receipt, and the first member depends on it; at most one of the
 /// group may be lost.
 const AUDITS: [(&[u8], &[(u8, u32, u8, u32)], &[u8]); 5] = [
     (&[], &[], &[]),

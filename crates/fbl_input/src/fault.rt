@@ -9,15 +9,25 @@ use thiserror::Error;
 /// A key of a script or of a dump.
 #[derive(Clone, Copy, Debug, PartialEq, Eq)]
 pub enum Key {
+    /// `version`, of a script
     Version,
+    /// `members`, of both
     Members,
+    /// `f`, of both
     F,
+    /// `behaviour`, of a script
     Behaviour,
+    /// `limit`, of a script
     Limit,
+    /// `start`, of a script
     Start,
+    /// `commands`, of a script
     Commands,
+    /// `events`, of a dump
     Events,
+    /// `held`, of a dump
     Held,
+    /// `strike`, of a dump
     Strike,
 }
 

@@ -107,7 +107,7 @@ pub fn list_field(value: &Value, key: Key) -> Result<&[Value], RunFault>
     list_in(found).ok_or(RunFault::BadField(key))
 }
 
-/// What the values of a list give, if each has the shape.
+/// What the values of a list give, if each has the shape. `Err` comes only where there is no memory for it.
 pub fn all_in<T: Copy, S: Shape<T>>(
     alloc: Global,
     list: &[Value],
@@ -124,7 +124,8 @@ pub fn all_in<T: Copy, S: Shape<T>>(
     Ok(Some(all))
 }
 
-/// What the list at the key gives, if each of its values has the shape, and else `BadField`.
+/// What the list at the key gives, if each of its values has the shape, and else `BadField`. `Memory` comes only where there
+/// is none for what it gives.
 pub fn values_field<T: Copy, S: Shape<T>>(
     alloc: Global,
     value: &Value,
@@ -195,7 +196,8 @@ fn json_in(alloc: Global, input: &[u8]) -> Result<Value, RunFault>
     }
 }
 
-/// The JSON that an input is: `TooLong` past 1,048,576 bytes, and else `NotJson` where the bytes spell none.
+/// The JSON that an input is: `TooLong` past 1,048,576 bytes, and else `NotJson` where the bytes spell none. `Memory` comes
+/// only where there is none for the value.
 pub fn value_in(alloc: Global, input: &[u8]) -> Result<Value, RunFault>
     ensures exact { Gives view result (value_of_input input.now) }
     ensures faults { IfErr result IsOfShape }

@@ -61,9 +61,10 @@ abbrev pub delivery_events : Next → GroupRecord → Message → List Event
 delivery_events next r v =
     Receipt v.to ((member r v.to).received + 1) v.from v.ssn ∷ step_events v.to (length (member r v.to).log) (step_of next r v).sends.items
 
--- the delivery of the message v leads from old to new: nobody is down, v is the front of its channel and is taken off it,
--- the trace gets the receipt and exactly its step's sends and stays within the limit, the messages made go to the ends of
--- their channels, the receiver moves on, the counter of receipts rises by one, and nothing else changes
+-- the delivery of the message v leads from old to new: nobody is down, v's ends are members of the group, v is the front of
+-- its channel and is taken off it, the trace gets the receipt and exactly its step's sends and stays within the limit, the
+-- messages made go to the ends of their channels, the receiver moves on, the counter of receipts rises by one, and nothing
+-- else changes
 pub record IsDelivery (next : Next) (old new : GroupRecord) (v : Message) : Type 0 where
   pub nobody_down : old.down ≡ set.empty
   pub front : slice_get (channel old v.from v.to) 0 ≡ Some v

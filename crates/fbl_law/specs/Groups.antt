@@ -28,7 +28,7 @@ pub record GroupRecord : Type 0 where
 abbrev pub member : GroupRecord → ℕ → MemberRecord
 member r m = slice_index_or r.members m blank
 
--- the checkpoint of a member: its record as it was when it was last kept where no crash empties it
+-- the checkpoint of a member: its record as it was when it was last kept where no strike empties it
 abbrev pub checkpoint : GroupRecord → ℕ → MemberRecord
 checkpoint r m = slice_index_or r.checkpoints m blank
 

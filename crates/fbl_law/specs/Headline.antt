@@ -1,6 +1,6 @@
--- What family-based logging promises of a group between any two calls: each receipt is held by more than f members or by
--- each member that depends on it (always no orphans: Alvisi and Marzullo 1998), so a strike of at most f members leaves no
--- orphan, and of each member's receipts the first ones are recorded.
+-- What family-based logging promises of a group between any two calls: each receipt has more than f holders or is held by
+-- each up member that depends on it (always no orphans: Alvisi and Marzullo 1998), so a strike after which at most f members
+-- are down leaves no orphan, and the recorded receipts of each member are its first ones.
 use Rattle.std.specs.Prelude.{◌≡◌, ℕ, ◌<◌, ◌≤◌, ◌⊎◌, true}
 use Rattle.std.specs.FinSet as set
 use Rattle.fbl_base.specs.declared.trace.Determinant.{Determinant}

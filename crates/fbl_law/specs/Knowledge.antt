@@ -39,7 +39,7 @@ abbrev pub table : Knowledge → ℕ → List Entry
 table r m = get_or r.tables m []
 
 -- the checkpoint of a member (Elnozahy and others 2002): its record as it was at an earlier time, at first its fresh one,
--- which no crash empties and from which it recovers
+-- which no strike empties and from which it recovers
 abbrev pub checkpoint : Knowledge → ℕ → MemberRecord
 checkpoint r m = slice_index_or r.checkpoints m blank
 
@@ -51,9 +51,11 @@ send_mark v = Send v.from v.ssn v.to
 abbrev pub IsInFlight : Knowledge → Message → Type 0
 IsInFlight r v = Contains (r.channel v.from v.to) v
 
+-- the member is down
 abbrev pub IsDown : Knowledge → ℕ → Type 0
 IsDown r m = set.contains r.down m ≡ true
 
+-- the member isn't down
 abbrev pub IsUp : Knowledge → ℕ → Type 0
 IsUp r m = set.contains r.down m ≡ false
 

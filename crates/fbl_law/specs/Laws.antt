@@ -73,7 +73,8 @@ CutIsRecorded =
     (n f : ℕ) (old new : Knowledge) → IsRecovered f old new → IsSoundKnowledge n f old
     → (d : Determinant) → Has new.trace (receipt_of d) ↔ (Has old.trace (receipt_of d) × IsRecorded old d)
 
--- the holders after a recovery are those before, with the members that were down
+-- those that hold a determinant after a recovery are its holders before: those that held it and, where it is recorded, all
+-- members that were down
 abbrev pub HoldersStay : Type 0
 HoldersStay = (n f : ℕ) (old new : Knowledge) → IsRecovered f old new → IsSoundKnowledge n f old → (d : Determinant) (m : ℕ) → Holds new d m ↔ IsHolder old d m
 

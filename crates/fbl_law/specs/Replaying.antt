@@ -16,7 +16,7 @@ use Rattle.fbl_law.specs.Steps.{recovery_table}
 use Rattle.fbl_law.specs.Groups.{GroupRecord, HasChannels, member, checkpoint, channel, marks, knowledge, receipts}
 use Rattle.fbl_law.specs.Sound.{IsReplayed}
 
--- the determinant is that of the next receipt of the member p, from another member, and there is room for it
+-- the determinant is that of the next receipt of the member p, from another member of the group, and there is room for it
 pub record IsNextReplay (n p : ℕ) (m : MemberRecord) (d : Determinant) : Type 0 where
   pub to : d.to ≡ p
   pub rsn : d.rsn ≡ m.received + 1
@@ -92,9 +92,9 @@ IsWaiting r rebuilt p =
 abbrev pub replayed_in : GroupRecord → List MemberRecord → ℕ
 replayed_in r rebuilt = count_in r.down (λ p. (slice_index_or rebuilt p blank).received - (checkpoint r p).received) r.config.members
 
--- a group after the replay: nobody is down, the trace is cut, survivors and their channels stay, each member that was down
--- has its rebuilt record with the gathered table, each channel with such an end has what its sender sends again, the counter
--- of undone receipts rises by as many as the trace has fewer, and all else stays
+-- a group after the replay: nobody is down, the trace is cut, survivors and the channels between them stay, each member that
+-- was down has its rebuilt record with the gathered table, each channel with such an end has what its sender sends again, the
+-- counter of undone receipts rises by as many as the trace has fewer, and all else stays
 pub record IsRebuilt (old new : GroupRecord) (replayed : List MemberRecord) : Type 0 where
   pub nobody_down : new.down ≡ set.empty
   pub trace : new.trace ≡ recovered_trace old

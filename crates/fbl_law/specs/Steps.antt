@@ -1,6 +1,6 @@
--- The steps of what a group knows: a delivery, a strike, a checkpoint, a recovery. That determinants ride on messages until
--- more than f members are known to hold them is family-based logging (Alvisi, Hoppe and Marzullo 1993); checkpoints, and
--- recovery from them by replay, are those of Elnozahy and others (2002).
+-- The steps of what a group knows: a delivery, a strike, a checkpoint, a recovery. That determinants are piggybacked on
+-- messages until more than f members are known to hold them is family-based logging (Alvisi, Hoppe and Marzullo 1993);
+-- checkpoints, and recovery from them by replay, are those of Elnozahy and others (2002).
 use Rattle.std.specs.Prelude.{◌≡◌, ◌≢◌, ℕ, zero, suc, ◌⊎◌, ◌↔◌, ◌==◌, ◌&&◌, Bool, true, Some, List, [], ◌∷◌, ◌++◌, length, map, drop, slice_get, slice_index_or, if◌then◌else◌}
 use Rattle.std.specs.List.{Contains, filter}
 use Rattle.std.specs.FinSet as set

@@ -8,8 +8,9 @@ pub fn group_start_law()
     ensures { GroupStartIsSound }
 {}
 
-/// A delivery keeps a group sound: the determinants of the receipts that the message depends on come with it, so the
-/// receiver's state is again a fold of its receipts and its table names what it depends on, but for stable receipts.
+/// A delivery keeps a group sound: the determinants of the receipts that the message depends on come with it, but for stable
+/// ones, so the receiver's table names what it depends on, but for stable receipts; and its state is again the fold of its
+/// receipts.
 pub fn group_delivery_law()
     ensures { GroupDeliveryKeeps }
 {}
@@ -21,7 +22,7 @@ pub fn group_strike_law()
 {}
 
 /// A checkpoint of a member keeps a group sound: the member is at the fold of its receipts, and its table names what they
-/// depend on.
+/// depend on, but for stable receipts.
 pub fn group_checkpoint_law()
     ensures { GroupCheckpointKeeps }
 {}

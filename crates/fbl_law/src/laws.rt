@@ -7,8 +7,8 @@
 
 ghost use Rattle.fbl_law.specs.Laws.{ClosedIsHeld, ClosedHasNoOrphan, RecordedFromBelow, RecordedFirst, SurvivorsRecord, DeliveryKeeps, StrikeKeeps, CheckpointKeeps, RecoveryKeeps, StaysIsRecorded, CutIsClosed, CutIsRecorded, HoldersStay, CutIsLawful, NeverStuck, RunIsSound, RunIsHeld};
 
-/// Tables that name their causes hold each receipt that isn't stable, so nobody is an orphan, and what is recorded of a
-/// member's receipts are its first ones.
+/// Where tables name their causes, each receipt is stable or held by each up member that depends on it, so no up member is
+/// an orphan; what precedes a recorded receipt is recorded, and a member's recorded receipts are its first ones.
 pub fn closed_law()
     ensures held { ClosedIsHeld }
     ensures orphans { ClosedHasNoOrphan }
@@ -21,7 +21,8 @@ pub fn delivery_law()
     ensures { DeliveryKeeps }
 {}
 
-/// A strike keeps a record sound, and what a survivor depends on a survivor has recorded.
+/// A strike after which at most f members are down keeps a record sound. Whichever members are struck, at most f with those
+/// that are down: what a survivor depends on, the table of a survivor has.
 pub fn strike_law()
     ensures sound { StrikeKeeps }
     ensures survivors { SurvivorsRecord }
@@ -32,7 +33,9 @@ pub fn checkpoint_law()
     ensures { CheckpointKeeps }
 {}
 
-/// A recovery keeps a record sound, and its trace is the recorded part of the old one.
+/// A recovery keeps a record sound. An event stays exactly where each receipt that precedes it is recorded, so all that
+/// precedes it stays with it, and exactly the recorded receipts stay; a receipt's holders stay, the trace stays lawful, and
+/// replay never gets stuck.
 pub fn recovery_law()
     ensures sound { RecoveryKeeps }
     ensures stays { StaysIsRecorded }
@@ -43,9 +46,9 @@ pub fn recovery_law()
     ensures replay { NeverStuck }
 {}
 
-/// After every run of deliveries, strikes of at most f members, checkpoints and recoveries the record is sound, each receipt has
-/// more than f holders or is held by each member that depends on it, and nobody depends on a receipt that isn't
-/// recorded.
+/// After every run of deliveries, strikes after which at most f members are down, checkpoints and recoveries the record is
+/// sound, each receipt has more than f holders or is held by each up member that depends on it, and no up member depends on
+/// a receipt that isn't recorded.
 pub fn run_law()
     ensures sound { RunIsSound }
     ensures held { RunIsHeld }

@@ -30,7 +30,8 @@ fn listed_text(alloc: Global, members: &[Member]) -> Result<String, AllocError>
     }
 }
 
-/// The set as it is printed: its members, rising, with commas between and no spaces. The empty set is `none`.
+/// The set as it is printed: its members, rising, with commas between and no spaces. The empty set is `none`. `Err` comes
+/// only where there is no memory for it.
 pub fn set_text(alloc: Global, set: MemberSet) -> Result<String, AllocError>
     ensures { IfOk result (λ text. string_bytes text ≡ set_words set) }
 {

@@ -1,6 +1,7 @@
 -- A member's volatile record: what it keeps in memory, and what a receipt does to it. State as a fold of receipts, the
 -- sender's log and replay are those of message logging with piecewise determinism (Elnozahy, Alvisi, Wang and Johnson
--- 2002); that determinants ride on application messages is family-based logging (Alvisi, Hoppe and Marzullo 1993).
+-- 2002); that determinants are piggybacked on application messages is family-based logging (Alvisi, Hoppe and
+-- Marzullo 1993).
 use Rattle.std.specs.Prelude.{ℕ, ◌+◌, ◌==◌, ◌&&◌, nat_lt, List, [], ◌∷◌, map, Option, slice_index, slice_set, replicate}
 use Rattle.std.specs.List.{filter, find}
 use Rattle.std.specs.Option.{option_map}

@@ -56,6 +56,7 @@ impl<A: Allocator + Copy> MemberRec<A> {
     pub fn fresh(alloc: A, config: &Config<A>, me: Member) -> Result<MemberRec<A>, AllocError>
         ensures { IfOk result (λ m. m ≡ fresh me config.now.starts) }
     {
+        // the configuration's rules say that there are few starts, so that the log is not too long
         let _members = config.members();
         let mut log = Vec::new(alloc);
         for start in config.starts() {
@@ -113,6 +114,11 @@ impl<A: Allocator + Copy> MemberRec<A> {
     /// takes the new state, and each send gets the next number and goes to the log. What is answered carries the
     /// entries that at most `f` members are known to hold by the table as it then is. All memory is taken before the
     /// first change, so that after `Err` the member is unchanged.
+    ///
+    /// `n` is 2 to 16, and `me` is below it. The message is to `me`, and its number is greater than that of the last one from
+    /// its sender. Neither the table nor the message has the receipt's own determinant yet. `outcome` is the behaviour's
+    /// step at the member's state and the message's content. The member has had fewer than 8192 receipts, and its sends are
+    /// at most 8192 with those of the step.
     pub fn receive<B: Behaviour>(
         &mut self,
         me: Member,
@@ -149,6 +155,7 @@ impl<A: Allocator + Copy> MemberRec<A> {
             rsn: self.received + 1,
         };
         self.table.learn_and_note(me, carried, determinant)?;
+        // `len` says that no two of the table's determinants are the same, as each message must carry them
         let _distinct_entries = self.table.len();
         put_wires(&mut wires, lists, me, before, sends, &self.table, f);
         self.log.extend_from_slice(sends).unwrap();
@@ -160,6 +167,9 @@ impl<A: Allocator + Copy> MemberRec<A> {
 
     /// Takes the message of a receipt in again, by the receipt's determinant and the message's content: the step's
     /// sends go to the log, and nothing is sent. The table stays as it is. After `Err` the member is unchanged.
+    ///
+    /// `n` is 2 to 16, and `me` is below it. The determinant is that of the member's next receipt. The member has had fewer
+    /// than 8192 receipts, and its sends are at most 8192 with those of the step.
     pub fn replay_one<B: Behaviour>(
         &mut self,
         me: Member,

@@ -38,7 +38,8 @@ impl<A: Allocator> Model for Wire<A> {
 }
 
 impl<A: Allocator> Wire<A> {
-    /// A message with these ends, this number among its sender's, this content and these entries. It takes no memory.
+    /// A message with these ends, this number among its sender's, this content and these entries, of which no two have the
+    /// same determinant. It takes no memory.
     pub fn new(from: Member, to: Member, ssn: u32, note: Note, carried: Vec<Entry, A>) -> Wire<A>
         requires { IsOnce carried.items }
         ensures { result ≡ record { from = from; to = to; ssn = ssn; note = note; carried = carried.items } }

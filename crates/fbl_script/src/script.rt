@@ -81,7 +81,10 @@ pub enum Command {
 /// What a script asks for.
 #[derive(Debug, Drop)]
 pub struct Script {
+    /// What each member does with a message.
     pub behaviour: BehaviourName,
+    /// The parameters of the group.
     pub config: Config,
+    /// The commands, in order.
     pub commands: Vec<Command>,
 }

@@ -103,7 +103,7 @@ impl<A: Allocator + Copy> Table<A> {
         place_by_hash(&self.entries, det)
     }
 
-    /// The entry at this place. Places count from 0.
+    /// The entry at this place, which is below `len`. Places count from 0.
     pub fn entry_at(&self, place: usize) -> Entry
         requires { place < length self.now }
         ensures { slice_get self.now place ≡ Some result }
@@ -156,8 +156,8 @@ impl<A: Allocator + Copy> Table<A> {
         Ok(())
     }
 
-    /// Adds the member's own new determinant, last, known to be held by the member alone. After `Err` the table is
-    /// unchanged.
+    /// Adds the member's own new determinant, last, known to be held by the member alone. The table does not hold it yet.
+    /// After `Err` the table is unchanged.
     pub fn note_own(&mut self, me: Member, det: Determinant) -> Result<(), AllocError>
         requires { is_held self.old det ≡ false }
         ensures noted { OnOk result (self.new ≡ noted me self.old det) }
@@ -170,7 +170,7 @@ impl<A: Allocator + Copy> Table<A> {
     }
 
     /// Takes in what a message carried to the member, and then the determinant of the message's receipt, as `learn` and
-    /// `note_own` do in turn. After `Err` neither is done.
+    /// `note_own` do in turn. Neither the table nor what was carried has that determinant yet. After `Err` neither is done.
     pub fn learn_and_note(
         &mut self,
         me: Member,
@@ -337,6 +337,7 @@ fn unite_shared<A: Allocator + Copy>(entries: &mut Entries<A>, other: &Table<A>,
 {
     for place in 0..shared {
         let entry = other.entry_at(place);
+        // `len` says that no two of the table's determinants are the same
         let _distinct = entries.len();
         let known = entries[place].union(entry.known);
         entries[place] = known;

@@ -143,8 +143,8 @@ impl Model for Claim {
 }
 
 impl<A: Allocator> Claims<A> {
-    /// A word for each of `n` members, none of whom is claimed, and the first pass. `Err` comes only where the words can't
-    /// be had.
+    /// A word for each of `n` members, 2 to 16, none of whom is claimed, and the first pass. `Err` comes only where the words
+    /// can't be had.
     pub fn new(alloc: A, n: u8) -> Result<(Claims<A>, Pass), ClaimRefusal>
         requires { (2 ≤ n) × (n ≤ 16) }
         ensures { IfOk result (λ r. (r.0.words ≡ n) × (r.1 ≡ r.0)) }
@@ -156,7 +156,7 @@ impl<A: Allocator> Claims<A> {
         }
     }
 
-    /// Two passes in the place of one.
+    /// Two passes in the place of one. The pass is one of these claims.
     pub fn split(&self, pass: Pass) -> (Pass, Pass)
         requires { pass ≡ self.now }
         ensures { (result.0 ≡ self.now) × (result.1 ≡ self.now) }
@@ -166,7 +166,7 @@ impl<A: Allocator> Claims<A> {
         (Pass { seat }, Pass { seat: other })
     }
 
-    /// One pass in the place of two.
+    /// One pass in the place of two. Both are passes of these claims.
     pub fn join(&self, pass: Pass, other: Pass) -> Pass
         requires { (pass ≡ self.now) × (other ≡ self.now) }
         ensures { result ≡ self.now }
@@ -177,7 +177,8 @@ impl<A: Allocator> Claims<A> {
         Pass { seat }
     }
 
-    /// Claims the member where its word is 0, which one compare-exchange decides. Else the pass comes back.
+    /// Claims the member where its word is 0, which one compare-exchange decides. Else the pass comes back. The pass is one of
+    /// these claims, and the member has a word there.
     pub fn try_claim(&self, pass: Pass, member: Member) -> Result<Claim, Pass>
         requires pass { pass ≡ self.now }
         requires member { member < self.now.words }
@@ -197,7 +198,7 @@ impl<A: Allocator> Claims<A> {
         }
     }
 
-    /// Gives the member back, by one store of 0 to its word.
+    /// Gives the member back, by one store of 0 to its word. The claim was made with these claims.
     pub fn release(&self, claim: Claim) -> Pass
         requires { claim.0 ≡ self.now }
         ensures { result ≡ self.now }
