@@ -2,7 +2,7 @@
 #![tactic(auto)]
 
 ghost use Rattle.std.specs.Prelude.{◌≡◌, IfSome};
-ghost use Rattle.fblrun.specs.Orders.{Answers, CanBeDone, EndsAfter, Obeys};
+ghost use Rattle.fblrun.specs.Orders.{AnswersTask, CanBeDone, EndsAfter, Obeys, ReadsAndAnswersTask};
 ghost use Rattle.fblrun.specs.Statuses.{status_after as status_after_result, status_of as status_of_fault};
 
 mod command_line;
@@ -120,7 +120,7 @@ fn status_after<R: Eprint>(rt: &R, done: Result<(), RunFault>) -> u8
     }
 }
 
-/// Does the task over the bytes.
+/// Does the task over the bytes. `Read` is no answer.
 fn do_task<T: Eprint + Threads + Wait + Sync, W: Write>(
     rt: &T,
     alloc: Global,
@@ -129,7 +129,7 @@ fn do_task<T: Eprint + Threads + Wait + Sync, W: Write>(
     writer: &mut W,
 ) -> Result<(), RunFault>
     requires { CanBeDone order.task }
-    ensures { Answers order.task input.now (W.contents writer.old) (W.contents writer.new) result }
+    ensures { AnswersTask order.task input.now (W.contents writer.old) (W.contents writer.new) result }
 {
     match order.task {
         Task::Play(workers) => {
@@ -150,7 +150,7 @@ fn read_and_do<T: Eprint + Threads + Wait + Sync, R: Read, W: Write>(
     writer: &mut W,
 ) -> u8
     requires { CanBeDone order.task }
-    ensures { IfSome (R.remaining reader.old) (λ input. EndsAfter (Answers order.task input (W.contents writer.old) (W.contents writer.new)) result) }
+    ensures { IfSome (R.remaining reader.old) (λ input. EndsAfter (ReadsAndAnswersTask order.task input (W.contents writer.old) (W.contents writer.new)) result) }
 {
     let kind = match order.task {
         Task::Play(_) => InputKind::Script,

@@ -1,9 +1,18 @@
 use Rattle.std.proofs.Common.{Err}
-use Rattle.fblrun.specs.Orders.{Answers}
-use Rattle.fblrun.proofs.Endings.{ended, unread}
+use Rattle.fbl_input.specs.Faults.{FailsToRead}
+use Rattle.fblrun.specs.Orders.{AnswersTask, ReadsAndAnswersTask}
+use Rattle.fblrun.proofs.Endings.{ended, read_whole, unread}
 use Rattle.fblrun.proofs.read_and_do.Goals as goal
+
+pub returns-in-Ok : goal.returns-in-Ok
+returns-in-Ok g c =
+    let had = g.W.Write.contents c.args.writer.now in
+    let has = g.W.Write.contents c.do_task-done.new.writer in
+    let done = c.do_task-done.result in
+    ended _ (λ input. ReadsAndAnswersTask c.args.order.task input had has) done _ c.end.ensures
+    (read_whole _ _ (λ input. AnswersTask c.args.order.task input had has done) (FailsToRead had has done) c.in-Ok.ensures.whole.1 (rw (← c.as_slice-input.ensures.value) c.do_task-done.ensures))
 
 pub returns-in-Err : goal.returns-in-Err
 returns-in-Err g c =
     let known = g.W.Write.contents c.args.writer.now in
-    ended _ (λ input. Answers c.args.order.task input known known) (Err c.in-Err.fault) _ c.end-in-Err.ensures (unread c.args.order.task _ _ _ c.in-Err.ensures.faults c.in-Err.ensures.long)
+    ended _ (λ input. ReadsAndAnswersTask c.args.order.task input known known) (Err c.in-Err.fault) _ c.end-in-Err.ensures (unread c.args.order.task _ _ _ c.in-Err.ensures.faults c.in-Err.ensures.long)
