@@ -20,7 +20,7 @@ use std::alloc::Global;
 /// The keys that a dump has.
 pub const DUMP_KEYS: [Key; 5] = [Key::Members, Key::F, Key::Events, Key::Held, Key::Strike];
 
-fn send_of(name: &Value, from: &Value, ssn: &Value, to: &Value) -> Option<Mark>
+fn send_in(name: &Value, from: &Value, ssn: &Value, to: &Value) -> Option<Mark>
     ensures { result ≡ send_from (view name.now) (view from.now) (view ssn.now) (view to.now) }
 {
     if !is_named(name, "send") {
@@ -32,7 +32,7 @@ fn send_of(name: &Value, from: &Value, ssn: &Value, to: &Value) -> Option<Mark>
     Some(Mark::Send { from, ssn, to })
 }
 
-fn receipt_of(name: &Value, to: &Value, rsn: &Value, from: &Value, ssn: &Value) -> Option<Mark>
+fn receipt_in(name: &Value, to: &Value, rsn: &Value, from: &Value, ssn: &Value) -> Option<Mark>
     ensures { result ≡ receipt_from (view name.now) (view to.now) (view rsn.now) (view from.now) (view ssn.now) }
 {
     if !is_named(name, "receipt") {
@@ -49,8 +49,8 @@ fn event_of(list: &[Value]) -> Option<Mark>
     ensures { result ≡ event_from (map view list.now) }
 {
     match list {
-        [name, from, ssn, to] => send_of(name, from, ssn, to),
-        [name, to, rsn, from, ssn] => receipt_of(name, to, rsn, from, ssn),
+        [name, from, ssn, to] => send_in(name, from, ssn, to),
+        [name, to, rsn, from, ssn] => receipt_in(name, to, rsn, from, ssn),
         _ => None,
     }
 }

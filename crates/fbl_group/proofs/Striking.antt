@@ -29,7 +29,7 @@ use Rattle.fbl_law.proofs.Promises.{sound_has_no_orphan}
 use Rattle.fbl_group.specs.declared.refusals.StrikeRefusal.{StrikeRefusal}
 use Rattle.fbl_group.specs.declared.refusals.StrikeRefusal.TheVariants.{BadMember, Nobody, TooMany}
 use Rattle.fbl_group.specs.Channels.{AreReplaced}
-use Rattle.fbl_group.specs.Strikes.{is_within, strike_refusal, lost_receipts, is_lost, IsBlanked}
+use Rattle.fbl_group.specs.Strikes.{is_within, strike_refusal, lost_receipts, is_lost_receipt_of, IsBlanked}
 
 -- the test of who is below n
 all_below : (n : ℕ) (ks : List ℕ) → ((q : ℕ) → list_any (eq_by_cmp nat_cmp q) ks ≡ true → q < n) → list_all (λ m. nat_lt m n) ks ≡ true
@@ -257,13 +257,13 @@ counted-agree p q (x ∷ xs) agree =
     ∙ ap (λ k. cond (q x) 1 0 + k) (counted-agree p q xs (λ i. agree (suc i))) ∙ sym (sum_by-cons (λ y. cond (q y) 1 0) x xs)
 
 -- so the lost receipts are all of members that are down
-pub count-lost : (next : Next) (r : GroupRecord) → IsSound next r → count_by (is_lost r.down r.members r.checkpoints) r.trace ≡ length (lost_receipts r)
-count-lost next r sound = counted-agree (is_lost r.down r.members r.checkpoints) (is_unrecorded r) r.trace agree ∙ count-unrecorded r where
+pub count-lost : (next : Next) (r : GroupRecord) → IsSound next r → count_by (is_lost_receipt_of r.down r.members r.checkpoints) r.trace ≡ length (lost_receipts r)
+count-lost next r sound = counted-agree (is_lost_receipt_of r.down r.members r.checkpoints) (is_unrecorded r) r.trace agree ∙ count-unrecorded r where
   of_down : (d : Determinant) → Has (marks r) (receipt_of d) → (b : Bool) → sets.contains r.down d.to ≡ b → (b && not (is_recorded r d)) ≡ not (is_recorded r d)
   of_down d there true is = refl
   of_down d there false is = sym (ap not (up-recorded next r d sound there is))
 
-  agree : (i : ℕ) (e : Event) → slice_get r.trace i ≡ Some e → is_lost r.down r.members r.checkpoints e ≡ is_unrecorded r e
+  agree : (i : ℕ) (e : Event) → slice_get r.trace i ≡ Some e → is_lost_receipt_of r.down r.members r.checkpoints e ≡ is_unrecorded r e
   agree i (event.Send from ssn to note) here = refl
   agree i (event.Receipt to rsn from ssn) here =
       of_down (record { from = from; ssn = ssn; to = to; rsn = rsn }) (i, slice_get-map mark_of r.trace i ∙ ap (option_map mark_of) here) (sets.contains r.down to) refl

@@ -38,8 +38,8 @@ is_unheld s members checkpoints (Some d) =
     && not (list_any (λ (m : MemberRecord). is_held m.table d) members || list_any (λ (m : MemberRecord). is_held m.table d) checkpoints)
 
 -- whether the event is a receipt of a member of the set whose determinant none of these members' and checkpoints' tables has
-abbrev pub is_lost : Members → List MemberRecord → List MemberRecord → Event → Bool
-is_lost s members checkpoints event = is_unheld s members checkpoints (determinant_of (mark_of event))
+abbrev pub is_lost_receipt_of : Members → List MemberRecord → List MemberRecord → Event → Bool
+is_lost_receipt_of s members checkpoints event = is_unheld s members checkpoints (determinant_of (mark_of event))
 
 -- exactly the records of the members named are made blank
 pub record IsBlanked (struck : Members) (old new : List MemberRecord) : Type 0 where

@@ -8,7 +8,7 @@ ghost use Rattle.fbl_law.specs.Knowledge.{IsOrphan};
 ghost use Rattle.fbl_law.specs.Groups.{HasChannels, knowledge};
 ghost use Rattle.fbl_group.specs.Channels.{queued, queued_rows, AreReplaced};
 ghost use Rattle.fbl_group.specs.Promises.{SurvivorsHold, RecordsFirst, RecordsCauses};
-ghost use Rattle.fbl_group.specs.Strikes.{strike_refusal, Strikes, IsBlanked, is_lost as is_lost_of};
+ghost use Rattle.fbl_group.specs.Strikes.{strike_refusal, Strikes, IsBlanked, is_lost_receipt_of};
 
 use crate::answers::Struck;
 use crate::channels::{Channels, Outgoing, has_either};
@@ -104,12 +104,12 @@ fn count_lost<A: Allocator + Copy>(
     trace: &[Event],
 ) -> u32
     requires { length trace.now ≤ 8192 }
-    ensures { result ≡ count_by (is_lost_of down members.now checkpoints.now) trace.now }
+    ensures { result ≡ count_by (is_lost_receipt_of down members.now checkpoints.now) trace.now }
 {
     let mut lost = 0;
     let mut likely = LikelyRecord::default();
     for event in trace {
-        if is_lost(down, members, checkpoints, *event, &mut likely) {
+        if is_lost_receipt(down, members, checkpoints, *event, &mut likely) {
             lost += 1;
         }
     }
@@ -118,14 +118,14 @@ fn count_lost<A: Allocator + Copy>(
 
 /// Whether the event is a receipt of a member of the set whose determinant no member's table and no checkpoint's table
 /// holds. No table is looked at for a receipt of another member.
-fn is_lost<A: Allocator + Copy>(
+fn is_lost_receipt<A: Allocator + Copy>(
     down: MemberSet,
     members: &[MemberRec<A>],
     checkpoints: &[MemberRec<A>],
     event: Event,
     likely: &mut LikelyRecord,
 ) -> bool
-    ensures { result ≡ is_lost_of down members.now checkpoints.now event }
+    ensures { result ≡ is_lost_receipt_of down members.now checkpoints.now event }
 {
     match event.mark().determinant() {
         Some(determinant) => {

@@ -4,7 +4,7 @@ use Rattle.fbl_law.specs.GroupSteps.{IsStrike}
 use Rattle.fbl_law.proofs.Promises.{sound_has_no_orphan}
 use Rattle.std.specs.Prelude.{count_by}
 use Rattle.fbl_group.specs.Channels.{queued_rows}
-use Rattle.fbl_group.specs.Strikes.{strike_refusal, is_lost}
+use Rattle.fbl_group.specs.Strikes.{strike_refusal, is_lost_receipt_of}
 use Rattle.fbl_group.proofs.Promised.{survivors_hold, records_first, records_causes}
 use Rattle.fbl_group.proofs.Striking.{emptied-by, is_strike, is_sound, count-lost}
 use Rattle.fbl_group.proofs.group.Group.strike.Goals as goal
@@ -33,7 +33,7 @@ returns g c =
     let emptied = emptied-by c.members-2.ensures.value c.drop_at.ensures in
     let strike = is_strike g.B.Behaviour.next _ new c.args.set c.self.invariant allowed c.blank_members.ensures emptied c.union-self-inside.ensures refl refl refl refl refl in
     let sound = is_sound g.B.Behaviour.next _ new c.args.set c.self.invariant allowed c.blank_members.ensures emptied c.union-self-inside.ensures refl refl refl refl refl in
-    let lost : c.count_lost.result ≡ count_by (is_lost c.union-self-inside.result c.blank_members.new.members.items c.self.inside.checkpoints.items) c.self.inside.trace.items = rw (← c.deref.ensures.value, ← c.deref-2.ensures.value, ← c.deref-3.ensures.value) c.count_lost.ensures in
+    let lost : c.count_lost.result ≡ count_by (is_lost_receipt_of c.union-self-inside.result c.blank_members.new.members.items c.self.inside.checkpoints.items) c.self.inside.trace.items = rw (← c.deref.ensures.value, ← c.deref-2.ensures.value, ← c.deref-3.ensures.value) c.count_lost.ensures in
     record {
       struck = (c.in_ok-allow_strike.ensures.allowed, (subst (λ (r : GroupRecord). IsStrike r new c.args.set) c.self.view_is strike, lost ∙ count-lost g.B.Behaviour.next new sound));
       refused = tt;
