@@ -8,9 +8,7 @@ ghost use Rattle.fbl_explain.specs.declared.explanation.InputKind.TheVariants as
 
 use crate::dump_fault::{BadEvent, BadPair, DumpFault};
 use crate::explanation::{Explanation, InputKind};
-use crate::parts::{
-    MemberShape, explain_key, explain_kind, explain_list, explain_value,
-};
+use crate::parts::{MemberShape, explain_key, explain_kind, explain_list, explain_value};
 use fbl_base::{Determinant, DumpRefusal, Mark, Member, MemberSet};
 use fbl_dump::{DUMP_KEYS, EventShape, PairShape};
 use fbl_input::shapes::{Shape, number_field, set_field, values_field};

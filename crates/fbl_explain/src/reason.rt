@@ -1,7 +1,7 @@
 //! Why a command is refused.
 
-ghost use Rattle.std.specs.Prelude.{◌≡◌, IfSome};
-ghost use Rattle.fbl_explain.specs.Reasons.{entry_place};
+ghost use Rattle.std.specs.Prelude.{◌≡◌};
+ghost use Rattle.fbl_explain.specs.Reasons.{plan_reason};
 
 use crate::words::MemberList;
 use fbl_base::{Member, MemberSet, Strike};
@@ -55,7 +55,7 @@ const MOST_ENTRIES: usize = 64;
 
 /// The reason that the entry at this place of the plan breaks a rule, in a group of so many members.
 pub fn entry_reason(plan: &[Strike], place: usize, members: u8, f: u8) -> Reason
-    ensures { entry_place result ≡ Some place }
+    ensures { result ≡ plan_reason plan.now place members f }
 {
     let before = match place.checked_sub(1) {
         Some(last) => plan.get(last).map_or(0, |strike| strike.at),

@@ -10,4 +10,5 @@ IsOfGroup r (reasons.NoSuchMember named members) = members ≡ r.config.members
 IsOfGroup r (reasons.Down down) = down ≡ r.down
 IsOfGroup r (reasons.Full events limit) = (events ≡ length r.trace) × (limit ≡ r.config.limit)
 IsOfGroup r (reasons.TooMany down f) = f ≡ r.config.f
+IsOfGroup r (reasons.BadPlan entry) = (entry.members ≡ r.config.members) × (entry.f ≡ r.config.f)
 IsOfGroup r _ = Unit {0}

@@ -74,7 +74,9 @@ pub(crate) fn run_reason<B: Behaviour>(
     group: &Group<B>,
     plan: &[Strike],
     refusal: &DrainRefusal,
-) -> Reason {
+) -> Reason
+    ensures { IsOfGroup group.now result }
+{
     match refusal {
         DrainRefusal::BadPlan(place) => {
             let config = group.config();

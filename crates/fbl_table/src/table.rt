@@ -435,7 +435,11 @@ fn add_new<A: Allocator>(entries: &mut Entries<A>, open_places: &mut Vec<usize, 
 
 /// The place of the determinant's entry, if there is one. The likely places are looked at before the hash.
 #[inline(always)]
-fn place_of<A: Allocator>(entries: &Entries<A>, det: &Determinant, likely: LikelyPlaces) -> Option<usize>
+fn place_of<A: Allocator>(
+    entries: &Entries<A>,
+    det: &Determinant,
+    likely: LikelyPlaces,
+) -> Option<usize>
     ensures has { IfSome result (λ place. has_at (map entry_of entries.now.entries) det.now place ≡ true) }
     ensures none { IfNone result (is_held (map entry_of entries.now.entries) det.now ≡ false) }
 {

@@ -16,7 +16,7 @@ use Rattle.clap.specs.declared.parser.matches.ArgMatches.TheViews.{out-ArgMatche
 use Rattle.clap.specs.declared.parser.matches.SubCommand.{SubCommand}
 use Rattle.clap.proofs.OnLiterals.{clap_on_literals}
 use Rattle.fblrun.specs.declared.Order.{Order}
-use Rattle.fblrun.specs.CommandLines.{IsCommandLine, IsOrderAt, IsOrderOf, audit_line, draw_line, flag_text, play_line, program, with_explain, workers_line}
+use Rattle.fblrun.specs.CommandLines.{IsCommandLine, IsOrderAt, IsOrderOf, audit_line, draw_line, flag_text, play_line, program, with_explain}
 use Rattle.fblrun.specs.Orders.{IsWorkerCount}
 
 -- the subcommand that the words behind the program's name give, with what was found of it

@@ -3,7 +3,6 @@ use Rattle.std.specs.Prelude.{pos}
 use Rattle.clap.specs.Words.{Rule, new_rule, rule_of}
 use Rattle.clap.specs.declared.builder.ArgAction.TheVariants.{Set}
 use Rattle.clap.specs.declared.builder.value_parser.ValueParser.TheVariants as parsers
-use Rattle.fblrun.specs.CommandLines.{workers_rule}
 use Rattle.fblrun.proofs.command_line.workers.Goals as goal
 
 abbrev named_rule : Rule
