@@ -1,6 +1,6 @@
 -- Sets of members.
-use Rattle.std.specs.Prelude.{◌≡◌, ℕ, ◌+◌, ◌<◌, Bool, true, false, cond, List, [], ◌∷◌, length, ◌≢◌}
-use Rattle.std.proofs.Common.{zero, suc, get_or, refl, ◌∙◌, arith, count_by, add-zero}
+use Rattle.std.specs.Prelude.{◌≡◌, ℕ, ◌+◌, ◌<◌, Bool, true, false, cond, List, [], ◌∷◌, ◌≢◌}
+use Rattle.std.proofs.Common.{zero, suc, get_or, ◌∙◌, arith, count_by, add-zero}
 use Rattle.std.proofs.lemmas.Bool.Decides.{nat_tests}
 use Rattle.std.proofs.lemmas.List.Sums.{sum_by-cons}
 use Rattle.std.specs.Ordering.{nat_cmp}

@@ -1,6 +1,6 @@
 -- How large the parts of a sound group are.
-use Rattle.std.proofs.Common.{◌≡◌, ℕ, ◌≤◌, ◌==◌, not, Bool, List, [], ◌∷◌, length, map, inl, inr, Option, Some, None, ap, arith}
-use Rattle.std.specs.List.{filter_map, cons_option, list_any}
+use Rattle.std.proofs.Common.{◌≡◌, ℕ, ◌≤◌, ◌==◌, not, Bool, List, length, map, inl, inr, ap, arith}
+use Rattle.std.specs.List.{filter_map, list_any}
 use Rattle.std.proofs.lemmas.List.{length-map}
 use Rattle.fbl_base.proofs.Sifted.{length-left, length-filter_map}
 use Rattle.fbl_base.specs.declared.trace.Mark.{Mark}

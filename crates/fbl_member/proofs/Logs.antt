@@ -5,7 +5,7 @@ use Rattle.std.proofs.lemmas.List.{length-append, map-append, length-take-le}
 use Rattle.std.proofs.lemmas.List.Elements.{filter-append, filter_map-append}
 use Rattle.std.proofs.Math.ListN.{length-set}
 use Rattle.std.proofs.lemmas.Option.{slice_get_past}
-use Rattle.std.specs.List.{filter, filter_map, find, cons_option}
+use Rattle.std.specs.List.{filter, find, cons_option}
 use Rattle.std.specs.Option.{option_map, option_copied}
 use Rattle.fbl_base.proofs.Sifted.{length-filter_map}
 use Rattle.fbl_base.specs.declared.trace.Note.{Note}
