@@ -68,7 +68,7 @@ fn explain_fault(
 
 /// The fault of an input of this kind in words: its place, what stands there and what is wanted there. The input is read
 /// again. There are no words where a read or a write failed or memory was wanting, and none where the input has not this
-/// fault; only `TooLong` is explained of any input. `Err` comes only where there is no memory for the words.
+/// fault; only `TooLong` is explained of any input. `Err` comes only where there is no memory to read it, or for the words.
 pub fn explain(
     alloc: Global,
     kind: InputKind,
