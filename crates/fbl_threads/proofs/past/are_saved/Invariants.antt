@@ -1,7 +1,0 @@
-use Rattle.std.proofs.Common.{◌≡◌, ℕ, ◌<◌}
-use Rattle.std.specs.Prelude.{slice_index}
-use Rattle.fbl_law.specs.Groups.{checkpoint}
-use Rattle.fbl_threads.proofs.past.are_saved.Given as goal
-
-abbrev pub invariant-loop-number : goal.invariant-loop-number
-invariant-loop-number g l = (member : ℕ) → member < l.number → (checkpoint l.group member).received ≡ slice_index l.saved member
