@@ -2,7 +2,9 @@
 use Rattle.std.specs.Prelude.{◌≢◌, ℕ, ◌+◌, ◌-◌, ◌/◌, ◌%◌, ◌^◌, ◌<◌, ◌≤◌, ◌==◌, nat_lt, max, min, sum_by, if◌then◌else◌}
 use Rattle.std.proofs.Common.{arith}
 use Rattle.std.proofs.lemmas.Bool.Decides.{nat_tests}
+use Rattle.fbl_base.specs.Configs.{Settings, MembersAllowed}
 use Rattle.fbl_base.specs.Steps.{SendsAllowed, onward}
+use Rattle.fbl_law.specs.StepLaws.{AnyState, AnyNote, StepConserves, weight_of_starts}
 use Rattle.fbl_base.specs.declared.trace.Note.{Note}
 use Rattle.fbl_base.specs.declared.outcome.Outcome.{Outcome}
 
@@ -25,3 +27,11 @@ elsewhere me n least member = grind (arith, nat_tests)
 
 pub account_sends_allowed : (me n state : ℕ) (note : Note) → 2 ≤ n → me < n → SendsAllowed me n (account_step me n state note)
 account_sends_allowed me n state note least member = (grind (arith, elsewhere me n), grind arith)
+
+-- what the openings brought
+abbrev pub opened : Settings → ℕ
+opened c = weight_of_starts (λ note. note.value) c
+
+-- no money is made or lost
+pub account_conserves : (n : ℕ) → MembersAllowed n → StepConserves account_step n AnyState AnyNote (λ me state. state) (λ note. note.value)
+account_conserves n allowed me from state note member any_state any_note = grind (arith, nat_tests)

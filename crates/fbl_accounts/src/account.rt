@@ -1,4 +1,5 @@
 use fbl_base::{Behaviour, Member, Note, Outcome};
+use fbl_law::step_laws::Conserving;
 
 /// A member whose state is a balance. It takes a payment in and, if the message has hops left, pays half of the balance to
 /// the next account, with one hop fewer. A payment for which it has no room goes on to the next account.
@@ -28,4 +29,18 @@ impl Behaviour for Account {
         let amount = if note.hops == 0 { 0 } else { half };
         Outcome::with_onward(balance - amount, next, amount as u32, note.hops)
     }
+}
+
+// No money is made or lost, also by a whole group.
+impl Conserving for Account {
+    ghost use Rattle.std.specs.Prelude.{refl};
+    ghost use Rattle.fbl_accounts.specs.Accounts.{account_conserves};
+
+    ghost mass = { λ me state. state };
+
+    ghost weight = { λ note. note.value };
+
+    ghost nothing = { λ me. refl };
+
+    ghost conserves = { account_conserves };
 }

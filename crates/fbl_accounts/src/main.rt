@@ -2,11 +2,15 @@
 //! deliver the rest, and strike and recover another account on the way. No money is made or lost.
 #![tactic(auto)]
 
+ghost use Rattle.std.specs.Prelude.{◌≡◌, ◌≤◌};
+ghost use Rattle.std.specs.FinSet as set;
+ghost use Rattle.fbl_accounts.specs.Accounts.{opened};
+
 mod account;
 
 use account::Account;
 use anyhow::{Result, ensure};
-use fbl_base::{Config, Event, Member, MemberSet, Note, Start, Strike};
+use fbl_base::{Config, Member, MemberSet, Note, Start, Strike};
 use fbl_group::Group;
 use fbl_threads::{NoGate, drain};
 use std::alloc::Global;
@@ -14,50 +18,33 @@ use std::sync::Wait;
 use std::thread::Threads;
 
 /// An opening balance: a message from another account, since each state begins at 0.
-fn opening(from: Member, to: Member, value: u32) -> Start {
+fn opening(from: Member, to: Member, value: u32) -> Start
+    ensures { result.note.value ≡ value }
+{
     let note = Note { value, hops: 15 };
     Start { from, to, note }
 }
 
-/// What the accounts hold.
-fn held(group: &Group<Account>) -> u64 {
-    let mut held = 0u64;
-    for number in 0..group.config().members() {
-        held = held.saturating_add(group.state(Member::new(number).unwrap()));
-    }
-    held
+/// What the accounts hold and what is in flight, in all: what the openings brought where nobody is down, whatever was struck
+/// and recovered, and no more whoever is down.
+fn total(group: &Group<Account>) -> u128
+    ensures whole { group.now.down ≡ set.empty → result ≡ opened group.now.config }
+    ensures most { result ≤ opened group.now.config }
+{
+    group.conserved();
+    group.sum_of_states() + u128::from(group.value_in_flight())
 }
 
-/// What is paid and not received: the sends of the trace that no receipt names.
-fn in_flight(trace: &[Event]) -> u64 {
-    let mut amount = 0u64;
-    for event in trace {
-        if let Event::Send {
-            from,
-            ssn,
-            note,
-            ..
-        } = *event
-            && !is_received(trace, from, ssn)
-        {
-            amount = amount.saturating_add(note.value.into());
-        }
-    }
-    amount
-}
-
-/// Whether a receipt of the trace names the message.
-fn is_received(trace: &[Event], from: Member, ssn: u32) -> bool {
-    let mut receipts = trace.iter().filter_map(|event| event.mark().determinant());
-    receipts.any(|receipt| receipt.from == from && receipt.ssn == ssn)
-}
-
-/// Prints where the money is, and fails where some was made or lost.
-fn report<R: Print>(rt: &R, when: &str, group: &Group<Account>) -> Result<()> {
-    let held = held(group);
-    let in_flight = in_flight(group.trace());
+/// Prints where the money is: 600 in all.
+fn report<R: Print>(rt: &R, when: &str, group: &Group<Account>) -> Result<()>
+    requires opened { opened group.now.config ≡ 600 }
+    requires nobody { group.now.down ≡ set.empty }
+{
+    let all = total(group);
+    prove!(all == 600);
+    let held = group.sum_of_states();
+    let in_flight = group.value_in_flight();
     println!(rt; "{when}: accounts hold {held}, in flight {in_flight}")?;
-    ensure!(held.saturating_add(in_flight) == 600, "not 600 in all");
     Ok(())
 }
 
@@ -80,8 +67,11 @@ fn run<R: Print + Threads + Wait + Sync>(rt: &R, alloc: Global) -> Result<()> {
     let set = MemberSet::empty().with(c);
     let plan = [Strike { at: 20, set }];
     let (group, drained) = drain(rt, alloc, group, &plan, 2, 1_000_000, &NoGate);
+    ensure!(
+        drained?.quiet && group.down() == MemberSet::empty(),
+        "payments are left in flight"
+    );
     report(rt, "drained", &group)?;
-    ensure!(drained?.quiet, "payments are left in flight");
     Ok(())
 }
 

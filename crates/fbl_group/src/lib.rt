@@ -16,6 +16,7 @@ mod refusals;
 mod replay;
 mod resend;
 mod start;
+mod step_laws;
 mod strike;
 mod ticket;
 

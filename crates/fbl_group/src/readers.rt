@@ -1,13 +1,16 @@
 //! What a group answers of itself.
 
-ghost use Rattle.std.specs.Prelude.{◌≡◌, ℕ, ◌<◌, length};
+ghost use Rattle.std.specs.Prelude.{◌≡◌, ℕ, ◌<◌, ◌≤◌, ◌+◌, length};
 ghost use Rattle.fbl_base.specs.MemberSets.{AllBelow};
-ghost use Rattle.fbl_law.specs.Knowledge.{IsOrphan};
+ghost use Rattle.fbl_base.specs.Fold.{state_after};
+ghost use Rattle.fbl_law.specs.Knowledge.{IsOrphan, IsUp, IsDown};
 ghost use Rattle.fbl_law.specs.Groups.{channel as channel_of, messages_in_flight as messages_in_flight_of, knowledge, member as record_of};
-ghost use Rattle.fbl_law.specs.Sound.{IsSound};
+ghost use Rattle.std.specs.FinSet as set;
+ghost use Rattle.fbl_law.specs.Sound.{IsSound, received_notes};
+ghost use Rattle.fbl_law.specs.StepLaws.{weight_held, weight_flying};
 ghost use Rattle.fbl_group.specs.Readers.{is_quiet as is_quiet_now, HoldsEachReceipt};
 
-use crate::channels::{channel_between, count_messages, has_message};
+use crate::channels::{channel_between, count_messages, has_message, sum_values};
 use crate::group::Group;
 use fbl_base::{Behaviour, Config, Event, Member, MemberSet};
 use fbl_member::MemberRec;
@@ -23,11 +26,28 @@ impl<B: Behaviour, A: Allocator + Copy> Group<B, A> {
     }
 
     /// The member's state, 0 if it is down. The member is one of the group.
+    ///
+    /// Where it is up, its causes are the receipts that the trace names: the state is what the steps make of the state 0 and
+    /// of the notes that the member received, in their order.
     pub fn state(&self, member: Member) -> u64
         requires { member < self.now.config.members }
-        ensures { result ≡ (record_of self.now member).state }
+        ensures value { result ≡ (record_of self.now member).state }
+        ensures causes { IsUp (knowledge self.now) member → result ≡ state_after B.next member self.now.config.members (received_notes self.now.trace member) }
+        ensures down { IsDown (knowledge self.now) member → result ≡ 0 }
     {
         self.record(member).state()
+    }
+
+    /// The sum of the members' states.
+    pub fn sum_of_states(&self) -> u128
+        ensures value { result ≡ weight_held (λ me state. state) self.now }
+        ensures bound { result ≤ 295147905179352825840 }
+    {
+        let mut sum = 0u128;
+        for number in 0..self.config.members() {
+            sum += u128::from(self.state(Member::new(number).unwrap()));
+        }
+        sum
     }
 
     /// How many messages the member has received, 0 if it is down. The member is one of the group.
@@ -104,6 +124,13 @@ impl<B: Behaviour, A: Allocator + Copy> Group<B, A> {
         ensures { result ≡ messages_in_flight_of self.now }
     {
         count_messages(&self.channels, self.config.members())
+    }
+
+    /// What the messages in flight hold, on all channels: the sum of their values.
+    pub fn value_in_flight(&self) -> u64
+        ensures { result ≡ weight_flying (λ note. note.value) self.now }
+    {
+        sum_values(&self.channels, self.config.members())
     }
 
     /// How many receipts were ever made, also those that recoveries have undone. It never falls.

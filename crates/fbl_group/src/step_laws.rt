@@ -1,0 +1,60 @@
+//! What the laws of a behaviour's step say of a group. Each of these calls does nothing but promise.
+
+ghost use Rattle.fbl_law.specs.StepLaws.{HoldsOf, WeighsNoMore, WeighsNoLess, WeighsTheSame};
+
+use crate::group::Group;
+use fbl_law::step_laws::{
+    Conserving, Keeping, KeepingWeight, LosingNone, MakingNone, conserved_law, kept_law,
+    none_lost_law, none_made_law, weight_kept_law,
+};
+use std::alloc::Allocator;
+
+impl<B: Conserving, A: Allocator + Copy> Group<B, A> {
+    /// The states and the messages in flight weigh what the starts do where nobody is down, and no more whoever is down.
+    pub fn conserved(&self)
+        ensures { WeighsTheSame B.mass B.weight self.now }
+    {
+        let _ = self.trace();
+        conserved_law::<B>();
+    }
+}
+
+impl<B: Keeping, A: Allocator + Copy> Group<B, A> {
+    /// The predicates hold of each state and each checkpoint's, of each message in flight and each send of the trace.
+    pub fn kept(&self)
+        ensures { HoldsOf self.now (B.states self.now.config) (B.notes self.now.config) }
+    {
+        let _ = self.trace();
+        kept_law::<B>();
+    }
+}
+
+impl<B: KeepingWeight, A: Allocator + Copy> Group<B, A> {
+    /// The states and the messages in flight weigh what the starts do where nobody is down, and no more whoever is down.
+    pub fn weight_kept(&self)
+        ensures { WeighsTheSame (B.mass self.now.config) (B.weight self.now.config) self.now }
+    {
+        let _ = self.trace();
+        weight_kept_law::<B>();
+    }
+}
+
+impl<B: MakingNone, A: Allocator + Copy> Group<B, A> {
+    /// The states and the messages in flight weigh no more than the starts, whoever is down.
+    pub fn none_made(&self)
+        ensures { WeighsNoMore (B.mass self.now.config) (B.weight self.now.config) self.now }
+    {
+        let _ = self.trace();
+        none_made_law::<B>();
+    }
+}
+
+impl<B: LosingNone, A: Allocator + Copy> Group<B, A> {
+    /// The states and the messages in flight weigh no less than the starts where nobody is down.
+    pub fn none_lost(&self)
+        ensures { WeighsNoLess (B.mass self.now.config) (B.weight self.now.config) self.now }
+    {
+        let _ = self.trace();
+        none_lost_law::<B>();
+    }
+}

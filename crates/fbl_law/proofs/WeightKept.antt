@@ -1,0 +1,389 @@
+-- What the step keeps of a weight, the group keeps.
+use Rattle.std.proofs.Common.{◌≡◌, ◌≢◌, ℕ, zero, suc, ◌+◌, ◌<◌, ◌≤◌, ◌==◌, ◌&&◌, Bool, true, false, cond, List, [], ◌∷◌, ◌++◌, inl, inr, drop, map, Option, Some, None, length, slice_get, subst, refl, sym, ap, ◌∙◌, arith}
+use Rattle.std.specs.Prelude.{sum_by}
+use Rattle.std.specs.List.{All, Contains, filter_map, fold}
+use Rattle.std.specs.FinSet as set
+use Rattle.std.proofs.lemmas.Bool.Decides.{nat_tests}
+use Rattle.std.proofs.lemmas.List.Elements.{All-head, All-tail}
+use Rattle.std.proofs.lemmas.List.Sums.{sum_by-cons, sum_by-append, sum_by_push}
+use Rattle.fbl_base.specs.declared.trace.Note.{Note}
+use Rattle.fbl_base.specs.declared.trace.Start.{Start}
+use Rattle.fbl_base.specs.declared.trace.Event.{Event}
+use Rattle.fbl_base.specs.declared.trace.Event.TheVariants.{Send, Receipt}
+use Rattle.fbl_base.specs.declared.trace.Mark.{Mark}
+use Rattle.fbl_base.specs.declared.trace.Mark.TheVariants as mark
+use Rattle.fbl_base.specs.Configs.{Settings}
+use Rattle.fbl_base.specs.Events.{mark_of}
+use Rattle.fbl_base.specs.Rules.{WellFormed, MayFollow, in_flight}
+use Rattle.fbl_base.specs.Fold.{Next, Progress, Action, took, sent, Lawful, action_of, actions_of, notes_of, note_of, responses, starts_of}
+use Rattle.fbl_base.proofs.FoldLaws.{after_notes-state}
+use Rattle.fbl_base.proofs.InFlightLaws.{in_flight-send, in_flight-receipt}
+use Rattle.fbl_base.proofs.LawfulLaws.{receipts-noted}
+use Rattle.fbl_base.proofs.RulesLaws.{WellFormed-keeps, eqb-self}
+use Rattle.fbl_member.specs.Members.{Message, MemberRecord}
+use Rattle.fbl_law.specs.Knowledge.{send_mark, IsInFlight, IsUp, IsDown}
+use Rattle.fbl_law.specs.StepLaws.{StepKeeps, HoldsFirst, StepMakesNone, StepLosesNone, StepConserves, weight_held, weight_flying, weight_of_starts, weight_at_first, WeighsNoMore, WeighsNoLess, WeighsTheSame}
+use Rattle.fbl_law.specs.Groups.{GroupRecord, member, channel, marks, knowledge, messages_in_flight, sum_below}
+use Rattle.fbl_law.specs.Sound.{IsSound, received_notes}
+use Rattle.fbl_law.proofs.GroupFacts.{all_up, channel_ends, same_channel}
+use Rattle.fbl_law.proofs.Lists.{Contains-here, Contains-there}
+use Rattle.fbl_law.proofs.Safe.{down_or_up, never_both}
+use Rattle.fbl_law.proofs.KeptByStep.{Came, all-came, receipt-mark}
+use Rattle.fbl_law.proofs.Notes.{sent-noted, send-mark}
+use Rattle.fbl_law.proofs.Resending.{sum_below-agree}
+
+-- sums over members
+sum_below-plus : (n : ℕ) (a b : ℕ → ℕ) → sum_below n (λ x. a x + b x) ≡ sum_below n a + sum_below n b
+sum_below-plus zero a b = refl
+sum_below-plus (suc n) a b = omega (arith, sum_below-plus n a b)
+
+sum_below-most : (n : ℕ) (a b : ℕ → ℕ) → ((x : ℕ) → x < n → a x ≤ b x) → sum_below n a ≤ sum_below n b
+sum_below-most zero a b most = omega arith
+sum_below-most (suc n) a b most = omega (arith, sum_below-most n a b (λ x below. most x (omega arith)), most n (omega arith))
+
+sum_below-none : (n : ℕ) → sum_below n (λ x. 0) ≡ 0
+sum_below-none zero = refl
+sum_below-none (suc n) = omega (arith, sum_below-none n)
+
+-- one member's term is a part of the sum
+sum_below-part : (n k : ℕ) (a : ℕ → ℕ) → k < n → a k ≤ sum_below n a
+sum_below-part zero k a below = absurd (omega arith)
+sum_below-part (suc n) k a below = at (k == n) refl (λ less. sum_below-part n k a less) where
+  at : (c : Bool) → (k == n) ≡ c → (k < n → a k ≤ sum_below n a) → a k ≤ sum_below n a + a n
+  at true is ih = (let same : k ≡ n = grind (arith, nat_tests) in omega (arith, ap a same))
+  at false is ih = (let ne : k ≢ n = grind (arith, nat_tests) in omega (arith, ih (omega arith)))
+
+-- one member's term grows
+sum_below-at : (n k d : ℕ) (a b : ℕ → ℕ) → k < n → b k ≡ a k + d → ((x : ℕ) → (k == x) ≡ false → b x ≡ a x) → sum_below n b ≡ sum_below n a + d
+sum_below-at zero k d a b below more others = absurd (omega arith)
+sum_below-at (suc n) k d a b below more others = at (k == n) refl (λ less. sum_below-at n k d a b less more others) where
+  at : (c : Bool) → (k == n) ≡ c → (k < n → sum_below n b ≡ sum_below n a + d) → sum_below n b + b n ≡ sum_below n a + a n + d
+  at true is ih =
+      let same : k ≡ n = grind (arith, nat_tests) in
+      let rest : sum_below n b ≡ sum_below n a = sum_below-agree n b a (λ x less. others x (let ne : k ≢ x = omega arith in grind (arith, nat_tests))) in
+      let here : b n ≡ a n + d = subst (λ (x : ℕ). b x ≡ a x + d) same more in
+      omega (arith, rest, here)
+  at false is ih =
+      let ne : k ≢ n = grind (arith, nat_tests) in
+      omega (arith, ih (omega arith), others n is)
+
+-- one pair's term grows
+table-at : (n q p d : ℕ) (a b : ℕ → ℕ → ℕ) → q < n → p < n → b q p ≡ a q p + d → ((x y : ℕ) → (q == x && p == y) ≡ false → b x y ≡ a x y)
+    → sum_below n (λ x. sum_below n (b x)) ≡ sum_below n (λ x. sum_below n (a x)) + d
+table-at n q p d a b below_q below_p more others =
+    sum_below-at n q d (λ x. sum_below n (a x)) (λ x. sum_below n (b x)) below_q
+    (sum_below-at n p d (a q) (b q) below_p more (λ y is. others q y (let self = eqb-self q in rw (self, is) refl)))
+    (λ x is. sum_below-agree n (b x) (a x) (λ y less. others x y (rw is refl)))
+
+sum_by-none : {X : Type 0} (f : X → ℕ) → sum_by f [] ≡ 0
+sum_by-none f = refl
+
+-- what flows through the channels, with a weight for each message
+module _ (n : ℕ) (w : ℕ → ℕ → ℕ) where
+  abbrev pub weight_in : List Mark → ℕ → ℕ → ℕ
+  weight_in t q p = sum_by (w q) (in_flight t q p)
+
+  abbrev pub out : Mark → ℕ
+  out (mark.Send q s p) = w q s
+  out (mark.Receipt p r q s) = 0
+
+  abbrev pub into : Mark → ℕ
+  into (mark.Send q s p) = 0
+  into (mark.Receipt p r q s) = w q s
+
+  abbrev pub weight_on : List Mark → ℕ
+  weight_on t = sum_below n (λ q. sum_below n (weight_in t q))
+
+  drop-first : (q s : ℕ) (xs : List ℕ) → slice_get xs 0 ≡ Some s → sum_by (w q) xs ≡ sum_by (w q) (drop 1 xs) + w q s
+  drop-first q s [] first = absurd cc
+  drop-first q s (x ∷ xs) first = (let e : x ≡ s = cc in omega (arith, sum_by-cons (w q) x xs, ap (w q) e))
+
+  pub flow : (t : List Mark) → WellFormed n t → weight_on t + sum_by into t ≡ sum_by out t
+  flow t obeys = WellFormed-keeps n (λ (t : List Mark). weight_on t + sum_by into t ≡ sum_by out t) none more t obeys where
+    none : weight_on [] + sum_by into [] ≡ sum_by out []
+    none = omega (arith, sum_below-agree n (λ q. sum_below n (weight_in [] q)) (λ q. 0) (λ q below. sum_below-none n), sum_below-none n)
+
+    more : (t : List Mark) (e : Mark) → WellFormed n t → MayFollow n t e → weight_on t + sum_by into t ≡ sum_by out t → weight_on (t ++ e ∷ []) + sum_by into (t ++ e ∷ []) ≡ sum_by out (t ++ e ∷ [])
+    more t (mark.Send q s p) obeys may ih =
+        let e : Mark = mark.Send q s p in
+        let cell : (a b : ℕ) → weight_in (t ++ e ∷ []) a b ≡ sum_by (w a) (in_flight t a b ++ cond (q == a && p == b) (s ∷ []) []) = λ a b. ap (sum_by (w a)) (in_flight-send n t obeys q s p a b may) in
+        let self_q = eqb-self q in
+        let self_p = eqb-self p in
+        let here : weight_in (t ++ e ∷ []) q p ≡ weight_in t q p + w q s = cell q p ∙ (rw (self_q, self_p) (sum_by_push (w q) (in_flight t q p) s)) in
+        let others : (a b : ℕ) → (q == a && p == b) ≡ false → weight_in (t ++ e ∷ []) a b ≡ weight_in t a b = λ a b is. cell a b ∙ (rw is (omega (arith, sum_by-append (w a) (in_flight t a b) []))) in
+        let grown = table-at n q p (w q s) (weight_in t) (weight_in (t ++ e ∷ [])) may.0 may.1 here others in
+        omega (arith, grown, ih, sum_by_push into t e, sum_by_push out t e)
+    more t (mark.Receipt p r q s) obeys may ih =
+        let e : Mark = mark.Receipt p r q s in
+        let cell : (a b : ℕ) → weight_in (t ++ e ∷ []) a b ≡ sum_by (w a) (cond (q == a && p == b) (drop 1 (in_flight t a b)) (in_flight t a b)) = λ a b. ap (sum_by (w a)) (in_flight-receipt n t obeys p r q s a b may) in
+        let self_q = eqb-self q in
+        let self_p = eqb-self p in
+        let left : weight_in (t ++ e ∷ []) q p ≡ sum_by (w q) (drop 1 (in_flight t q p)) = cell q p ∙ (rw (self_q, self_p) refl) in
+        let here : weight_in t q p ≡ weight_in (t ++ e ∷ []) q p + w q s = omega (arith, left, drop-first q s (in_flight t q p) may.5) in
+        let others : (a b : ℕ) → (q == a && p == b) ≡ false → weight_in t a b ≡ weight_in (t ++ e ∷ []) a b = λ a b is. sym (cell a b ∙ (rw is refl)) in
+        let shrunk = table-at n q p (w q s) (weight_in (t ++ e ∷ [])) (weight_in t) may.0 may.1 here others in
+        omega (arith, shrunk, ih, sum_by_push into t e, sum_by_push out t e)
+
+-- what each of n members does, summed over the members, is what the events do
+module _ (n : ℕ) (t : List Event) (g : Action → ℕ) (h : Mark → ℕ) where
+  -- the event is of one of the members, and weighs what its action does
+  abbrev pub Fits : Event → Type 0
+  Fits (Send q s p x) = (q < n) × (g (sent (p, x)) ≡ h (mark.Send q s p))
+  Fits (Receipt p r q s) = (p < n) × ((x : Note) × (note_of t q s ≡ Some x) × (g (took x) ≡ h (mark.Receipt p r q s)))
+
+  done-by : (m : ℕ) → List Event → ℕ
+  done-by m v = sum_by g (filter_map (action_of t m) v)
+
+  pub by-member : (v : List Event) → ((i : ℕ) (e : Event) → slice_get v i ≡ Some e → Fits e) → sum_below n (λ m. sum_by g (filter_map (action_of t m) v)) ≡ sum_by h (map mark_of v)
+  by-member [] fits = sum_below-none n
+  by-member (Send q s p x ∷ v) fits =
+      let here = fits 0 (Send q s p x) refl in
+      let self = eqb-self q in
+      let own : sum_by g (filter_map (action_of t q) (Send q s p x ∷ v)) ≡ sum_by g (filter_map (action_of t q) v) + h (mark.Send q s p) = rw self (omega (arith, sum_by-cons g (sent (p, x)) (filter_map (action_of t q) v), here.1)) in
+      let others : (m : ℕ) → (q == m) ≡ false → sum_by g (filter_map (action_of t m) (Send q s p x ∷ v)) ≡ sum_by g (filter_map (action_of t m) v) = λ m is. rw is refl in
+      let all = sum_below-at n q (h (mark.Send q s p)) (λ m. sum_by g (filter_map (action_of t m) v)) (λ m. sum_by g (filter_map (action_of t m) (Send q s p x ∷ v))) here.0 own others in
+      omega (arith, all, by-member v (λ i e at. fits (suc i) e at), sum_by-cons h (mark.Send q s p) (map mark_of v))
+  by-member (Receipt p r q s ∷ v) fits =
+      let here = fits 0 (Receipt p r q s) refl in
+      let self = eqb-self p in
+      let note = here.1.1 in
+      let own : sum_by g (filter_map (action_of t p) (Receipt p r q s ∷ v)) ≡ sum_by g (filter_map (action_of t p) v) + h (mark.Receipt p r q s) = rw (self, note) (omega (arith, sum_by-cons g (took here.1.0) (filter_map (action_of t p) v), here.1.2)) in
+      let others : (m : ℕ) → (p == m) ≡ false → sum_by g (filter_map (action_of t m) (Receipt p r q s ∷ v)) ≡ sum_by g (filter_map (action_of t m) v) = λ m is. rw is refl in
+      let all = sum_below-at n p (h (mark.Receipt p r q s)) (λ m. sum_by g (filter_map (action_of t m) v)) (λ m. sum_by g (filter_map (action_of t m) (Receipt p r q s ∷ v))) here.0 own others in
+      omega (arith, all, by-member v (λ i e at. fits (suc i) e at), sum_by-cons h (mark.Receipt p r q s) (map mark_of v))
+
+-- a step's weights, along the notes of a member
+module _ (weight : Note → ℕ) where
+  abbrev pub taken : Action → ℕ
+  taken (took x) = weight x
+  taken (sent s) = 0
+
+  abbrev pub given : Action → ℕ
+  given (took x) = 0
+  given (sent s) = weight s.1
+
+  abbrev pub of_note : Option Note → ℕ
+  of_note None = 0
+  of_note (Some x) = weight x
+
+  given-sends : (sends : List (ℕ × Note)) (rest : List Action) → sum_by given (map sent sends ++ rest) ≡ sum_by (λ (s : ℕ × Note). weight s.1) sends + sum_by given rest
+  given-sends [] rest = omega arith
+  given-sends (s ∷ sends) rest = omega (arith, sum_by-cons given (sent s) (map sent sends ++ rest), sum_by-cons (λ (s : ℕ × Note). weight s.1) s sends, given-sends sends rest)
+
+  taken-notes : (actions : List Action) → sum_by taken actions ≡ sum_by weight (notes_of actions)
+  taken-notes [] = refl
+  taken-notes (took x ∷ actions) = omega (arith, sum_by-cons taken (took x) actions, sum_by-cons weight x (notes_of actions), taken-notes actions)
+  taken-notes (sent s ∷ actions) = omega (arith, sum_by-cons taken (sent s) actions, taken-notes actions)
+
+  -- the starts of each member, summed, are the starts
+  starts-weigh : (n : ℕ) (starts : List Start) → ((i : ℕ) (s : Start) → slice_get starts i ≡ Some s → s.from < n) → sum_below n (λ m. sum_by (λ (s : ℕ × Note). weight s.1) (starts_of m starts)) ≡ sum_by (λ (s : Start). weight s.note) starts
+  starts-weigh n [] members = sum_below-none n
+  starts-weigh n (s ∷ starts) members =
+      let f : ℕ × Note → ℕ = λ (s : ℕ × Note). weight s.1 in
+      let self = eqb-self s.from in
+      let own : sum_by f (starts_of s.from (s ∷ starts)) ≡ sum_by f (starts_of s.from starts) + weight s.note = rw self (omega (arith, sum_by-cons f (s.to, s.note) (starts_of s.from starts))) in
+      let all = sum_below-at n s.from (weight s.note) (λ m. sum_by f (starts_of m starts)) (λ m. sum_by f (starts_of m (s ∷ starts))) (members 0 s refl) own (λ m is. rw is refl) in
+      omega (arith, all, starts-weigh n starts (λ i e at. members (suc i) e at), sum_by-cons (λ (s : Start). weight s.note) s starts)
+
+  module _ (next : Next) (n : ℕ) (P : ℕ → ℕ → Type 0) (Q : ℕ → ℕ → Note → Type 0) (keeps : StepKeeps next n P Q) (mass : ℕ → ℕ → ℕ) where
+    abbrev pub reached : ℕ → ℕ → List Note → ℕ
+    reached m state notes = fold (λ s x. (next m n s x).state) state notes
+
+    member-makes-none : StepMakesNone next n P Q mass weight → (m state : ℕ) (notes : List Note) → m < n → P m state → All (Came next n P Q keeps m) notes
+        → mass m (reached m state notes) + sum_by given (responses next m n state notes) ≤ mass m state + sum_by weight notes
+    member-makes-none law m state [] below holds came = omega arith
+    member-makes-none law m state (x ∷ notes) below holds came =
+        let here = All-head (Came next n P Q keeps m) x notes came in
+        let ih = member-makes-none law m (next m n state x).state notes below (keeps m here.0 state x below holds here.1).0 (All-tail (Came next n P Q keeps m) x notes came) in
+        let rest = responses next m n (next m n state x).state notes in
+        omega (
+          arith,
+          ih,
+          law m here.0 state x below holds here.1,
+          sum_by-cons weight x notes,
+          sum_by-cons given (took x) (map sent (next m n state x).sends.items ++ rest),
+          given-sends (next m n state x).sends.items rest,
+        )
+
+    member-loses-none : StepLosesNone next n P Q mass weight → (m state : ℕ) (notes : List Note) → m < n → P m state → All (Came next n P Q keeps m) notes
+        → mass m state + sum_by weight notes ≤ mass m (reached m state notes) + sum_by given (responses next m n state notes)
+    member-loses-none law m state [] below holds came = omega arith
+    member-loses-none law m state (x ∷ notes) below holds came =
+        let here = All-head (Came next n P Q keeps m) x notes came in
+        let ih = member-loses-none law m (next m n state x).state notes below (keeps m here.0 state x below holds here.1).0 (All-tail (Came next n P Q keeps m) x notes came) in
+        let rest = responses next m n (next m n state x).state notes in
+        omega (
+          arith,
+          ih,
+          law m here.0 state x below holds here.1,
+          sum_by-cons weight x notes,
+          sum_by-cons given (took x) (map sent (next m n state x).sends.items ++ rest),
+          given-sends (next m n state x).sends.items rest,
+        )
+
+    module _ (starts : List Start) (t : List Event) (lawful : Lawful next n starts t) (members : (i : ℕ) (s : Start) → slice_get starts i ≡ Some s → s.from < n) (at_first : (m : ℕ) → m < n → P m 0) (started : All (λ (s : Start). Q s.from s.to s.note) starts) where
+      -- what a message weighs, by its number
+      abbrev pub w : ℕ → ℕ → ℕ
+      w q s = of_note (note_of t q s)
+
+      abbrev notes : ℕ → List Note
+      notes m = received_notes t m
+
+      abbrev replies : ℕ → ℕ
+      replies m = sum_by given (responses next m n 0 (notes m))
+
+      abbrev begins : ℕ → ℕ
+      begins m = sum_by (λ (s : ℕ × Note). weight s.1) (starts_of m starts)
+
+      member-gives : (m : ℕ) → sum_by given (actions_of t m) ≡ begins m + replies m
+      member-gives m = ap (sum_by given) (lawful.responds m) ∙ given-sends (starts_of m starts) (responses next m n 0 (notes m))
+
+      fits-given : (i : ℕ) (e : Event) → slice_get t i ≡ Some e → Fits n t given (out n w) e
+      fits-given i (Send q s p x) here =
+          let note = sent-noted n t lawful.well_formed i q s p x here in
+          ((lawful.well_formed i (mark.Send q s p) (send-mark t i q s p x here)).0, rw note refl)
+      fits-given i (Receipt p r q s) here =
+          let noted = receipts-noted n t lawful.well_formed i p r q s here in
+          ((lawful.well_formed i (mark.Receipt p r q s) (receipt-mark t i p r q s here)).1, (noted.0, noted.1, refl))
+
+      fits-taken : (i : ℕ) (e : Event) → slice_get t i ≡ Some e → Fits n t taken (into n w) e
+      fits-taken i (Send q s p x) here = ((lawful.well_formed i (mark.Send q s p) (send-mark t i q s p x here)).0, refl)
+      fits-taken i (Receipt p r q s) here =
+          let noted = receipts-noted n t lawful.well_formed i p r q s here in
+          let note = noted.1 in
+          ((lawful.well_formed i (mark.Receipt p r q s) (receipt-mark t i p r q s here)).1, (noted.0, noted.1, rw note refl))
+
+      -- what is in flight, and what the members received, is what they sent
+      flows : weight_on n w (map mark_of t) + sum_below n (λ m. sum_by weight (notes m)) ≡ sum_by (λ (s : Start). weight s.note) starts + sum_below n replies
+      flows =
+          let f = flow n w (map mark_of t) lawful.well_formed in
+          let given_all = by-member n t given (out n w) t fits-given in
+          let taken_all = by-member n t taken (into n w) t fits-taken in
+          let takes = sum_below-agree n (λ m. sum_by taken (actions_of t m)) (λ m. sum_by weight (notes m)) (λ m below. taken-notes (actions_of t m)) in
+          let gives = sum_below-agree n (λ m. sum_by given (actions_of t m)) (λ m. begins m + replies m) (λ m below. member-gives m) in
+          omega (arith, f, given_all, taken_all, takes, gives, sum_below-plus n begins replies, starts-weigh n starts members)
+
+      pub trace-makes-none : StepMakesNone next n P Q mass weight → sum_below n (λ m. mass m (reached m 0 (notes m))) + weight_on n w (map mark_of t) ≤ sum_below n (λ m. mass m 0) + sum_by (λ (s : Start). weight s.note) starts
+      trace-makes-none law =
+          let each = sum_below-most n (λ m. mass m (reached m 0 (notes m)) + replies m) (λ m. mass m 0 + sum_by weight (notes m)) (λ m below. member-makes-none law m 0 (notes m) below (at_first m below) (all-came next n P Q keeps starts t lawful at_first started m)) in
+          omega (arith, each, flows, sum_below-plus n (λ m. mass m (reached m 0 (notes m))) replies, sum_below-plus n (λ m. mass m 0) (λ m. sum_by weight (notes m)))
+
+      pub trace-loses-none : StepLosesNone next n P Q mass weight → sum_below n (λ m. mass m 0) + sum_by (λ (s : Start). weight s.note) starts ≤ sum_below n (λ m. mass m (reached m 0 (notes m))) + weight_on n w (map mark_of t)
+      trace-loses-none law =
+          let each = sum_below-most n (λ m. mass m 0 + sum_by weight (notes m)) (λ m. mass m (reached m 0 (notes m)) + replies m) (λ m below. member-loses-none law m 0 (notes m) below (at_first m below) (all-came next n P Q keeps starts t lawful at_first started m)) in
+          omega (arith, each, flows, sum_below-plus n (λ m. mass m (reached m 0 (notes m))) replies, sum_below-plus n (λ m. mass m 0) (λ m. sum_by weight (notes m)))
+
+module _ (next : Next) (r : GroupRecord) (P : ℕ → ℕ → Type 0) (Q : ℕ → ℕ → Note → Type 0) (mass : ℕ → ℕ → ℕ) (weight : Note → ℕ) (sound : IsSound next r) (keeps : StepKeeps next r.config.members P Q) (first : HoldsFirst r.config P Q) where
+  abbrev n : ℕ
+  n = r.config.members
+
+  -- what the member's state weighs by the trace
+  abbrev by_trace : ℕ → ℕ
+  by_trace m = mass m (reached weight next r.config.members P Q keeps mass m 0 (received_notes r.trace m))
+
+  abbrev number_weight : ℕ → ℕ → ℕ
+  number_weight q s = of_note weight (note_of r.trace q s)
+
+  up-weighs : (m : ℕ) → m < r.config.members → IsUp (knowledge r) m → mass m (member r m).state ≡ by_trace m
+  up-weighs m below up = ap (mass m) (ap (λ (x : Progress). x.state) (sound.folds m below up).progress ∙ after_notes-state next m r.config.members r.config.starts (received_notes r.trace m))
+
+  queue-weighs : (q p : ℕ) (xs : List Message) (numbers : List ℕ) → map send_mark xs ≡ map (λ ssn. mark.Send q ssn p) numbers → ((v : Message) → Contains xs v → note_of r.trace q v.ssn ≡ Some v.note)
+      → sum_by (λ (v : Message). weight v.note) xs ≡ sum_by (number_weight q) numbers
+  queue-weighs q p [] [] same noted = refl
+  queue-weighs q p [] (k ∷ numbers) same noted = absurd cc
+  queue-weighs q p (v ∷ xs) [] same noted = absurd cc
+  queue-weighs q p (v ∷ xs) (k ∷ numbers) same noted =
+      let number : v.ssn ≡ k = cc in
+      let rest : map send_mark xs ≡ map (λ ssn. mark.Send q ssn p) numbers = cc in
+      let note : note_of r.trace q k ≡ Some v.note = rw (← number) (noted v (Contains-here v xs)) in
+      let here : number_weight q k ≡ weight v.note = rw note refl in
+      omega (arith, here, queue-weighs q p xs numbers rest (λ u among. noted u (Contains-there v xs u among)), sum_by-cons (λ (v : Message). weight v.note) v xs, sum_by-cons (number_weight q) k numbers)
+
+  -- the channel between two members that are up weighs what the trace has in flight there
+  channel-weighs : (q p : ℕ) → IsUp (knowledge r) q → IsUp (knowledge r) p → sum_by (λ (v : Message). weight v.note) (channel r q p) ≡ weight_in n number_weight (marks r) q p
+  channel-weighs q p up_q up_p = queue-weighs q p (channel r q p) (in_flight (marks r) q p) (sound.causes.channels q p up_q up_p) noted where
+    noted : (v : Message) → Contains (channel r q p) v → note_of r.trace q v.ssn ≡ Some v.note
+    noted v among =
+        let ends = (channel_ends next r sound q p v among).0 in
+        let flies : IsInFlight (knowledge r) v = same_channel r v v.from v.to q p ends.0 ends.1 among in
+        rw ends.0 at (sound.notes v flies)
+
+  -- where each step makes no weight, the group weighs at most what it weighed at first, if a state 0 in the place of that of
+  -- a member that is down makes none
+  pub makes-none : StepMakesNone next r.config.members P Q mass weight → ((m : ℕ) → IsDown (knowledge r) m → (state : ℕ) → mass m 0 ≤ mass m state) → weight_held mass r + weight_flying weight r ≤ weight_at_first mass weight r.config
+  makes-none law light =
+      let whole = trace-makes-none weight next n P Q keeps mass r.config.starts r.trace sound.lawful (λ i s here. (sound.config.starts i s here).0) first.0 first.1 law in
+      let states = sum_below-most n (λ m. mass m (member r m).state) by_trace (λ m below. elim (down_or_up r.down m) [
+        | inl down ↦ (let e : (member r m).state ≡ 0 = ap (λ (x : MemberRecord). x.state) (sound.blanks m below down) in omega (arith, ap (mass m) e, light m down (reached weight next n P Q keeps mass m 0 (received_notes r.trace m))))
+        | inr up ↦ omega (arith, up-weighs m below up)
+      ]) in
+      let queues = sum_below-most n (λ q. sum_below n (λ p. sum_by (λ (v : Message). weight v.note) (channel r q p))) (λ q. sum_below n (weight_in n number_weight (marks r) q))
+      (λ q below_q. sum_below-most n (λ p. sum_by (λ (v : Message). weight v.note) (channel r q p)) (weight_in n number_weight (marks r) q) (λ p below_p. cell q p)) in
+      omega (arith, whole, states, queues)
+    where
+      gone : (q p : ℕ) → channel r q p ≡ [] → sum_by (λ (v : Message). weight v.note) (channel r q p) ≤ weight_in n number_weight (marks r) q p
+      gone q p none = omega (arith, ap (sum_by (λ (v : Message). weight v.note)) none)
+
+      cell : (q p : ℕ) → sum_by (λ (v : Message). weight v.note) (channel r q p) ≤ weight_in n number_weight (marks r) q p
+      cell q p = elim (down_or_up r.down q) [
+        | inl down ↦ gone q p (sound.causes.down.channels q p (inl down))
+        | inr up ↦ elim (down_or_up r.down p) [
+          | inl down ↦ gone q p (sound.causes.down.channels q p (inr down))
+          | inr up_to ↦ omega (arith, channel-weighs q p up up_to)
+        ]
+      ]
+
+  -- where each step loses none, and nobody is down, it weighs at least that
+  pub loses-none : StepLosesNone next r.config.members P Q mass weight → r.down ≡ set.empty → weight_at_first mass weight r.config ≤ weight_held mass r + weight_flying weight r
+  loses-none law nobody =
+      let whole = trace-loses-none weight next n P Q keeps mass r.config.starts r.trace sound.lawful (λ i s here. (sound.config.starts i s here).0) first.0 first.1 law in
+      let up = all_up next r sound nobody in
+      let states = sum_below-agree n (λ m. mass m (member r m).state) by_trace (λ m below. up-weighs m below (up m)) in
+      let queues = sum_below-agree n (λ q. sum_below n (λ p. sum_by (λ (v : Message). weight v.note) (channel r q p))) (λ q. sum_below n (weight_in n number_weight (marks r) q))
+      (λ q below_q. sum_below-agree n (λ p. sum_by (λ (v : Message). weight v.note) (channel r q p)) (weight_in n number_weight (marks r) q) (λ p below_p. channel-weighs q p (up q) (up p))) in
+      omega (arith, whole, states, queues)
+
+-- where nothing is in flight, that weighs nothing
+none-flying : (weight : Note → ℕ) (r : GroupRecord) → messages_in_flight r ≡ 0 → weight_flying weight r ≡ 0
+none-flying weight r none = nothing-below r.config.members (λ q. sum_below r.config.members (weighs q)) (λ q below_q. nothing-below r.config.members (weighs q) (λ p below_p. empty q p below_q below_p)) where
+  weighs : ℕ → ℕ → ℕ
+  weighs q p = sum_by (λ (v : Message). weight v.note) (channel r q p)
+
+  nothing-below : (n : ℕ) (f : ℕ → ℕ) → ((x : ℕ) → x < n → f x ≡ 0) → sum_below n f ≡ 0
+  nothing-below n f each = sum_below-agree n f (λ x. 0) each ∙ sum_below-none n
+
+  of_empty : (xs : List Message) → length xs ≡ 0 → sum_by (λ (v : Message). weight v.note) xs ≡ 0
+  of_empty [] is = refl
+  of_empty (v ∷ xs) is = absurd (omega arith)
+
+  empty : (q p : ℕ) → q < r.config.members → p < r.config.members → weighs q p ≡ 0
+  empty q p below_q below_p =
+      let row = sum_below-part r.config.members q (λ q. sum_below r.config.members (λ p. length (channel r q p))) below_q in
+      let cell = sum_below-part r.config.members p (λ p. length (channel r q p)) below_p in
+      of_empty (channel r q p) (omega (arith, none, row, cell))
+
+module _ (next : Next) (r : GroupRecord) (P : ℕ → ℕ → Type 0) (Q : ℕ → ℕ → Note → Type 0) (mass : ℕ → ℕ → ℕ) (weight : Note → ℕ) (nothing : (me : ℕ) → mass me 0 ≡ 0) (sound : IsSound next r) (keeps : StepKeeps next r.config.members P Q) (first : HoldsFirst r.config P Q) where
+  -- states 0 that weigh nothing weigh nothing in all
+  first-nothing : weight_at_first mass weight r.config ≡ weight_of_starts weight r.config
+  first-nothing = omega (arith, sum_below-agree r.config.members (λ m. mass m 0) (λ m. 0) (λ m below. nothing m), sum_below-none r.config.members)
+
+  pub weighs_no_more : StepMakesNone next r.config.members P Q mass weight → WeighsNoMore mass weight r
+  weighs_no_more law =
+      let most = makes-none next r P Q mass weight sound keeps first law (λ m down state. omega (arith, nothing m)) in
+      omega (arith, most, first-nothing)
+
+  pub weighs_no_less : StepLosesNone next r.config.members P Q mass weight → WeighsNoLess mass weight r
+  weighs_no_less law = record {
+    whole = λ nobody. omega (arith, loses-none next r P Q mass weight sound keeps first law nobody, first-nothing);
+    settled = λ nobody none. omega (arith, loses-none next r P Q mass weight sound keeps first law nobody, first-nothing, none-flying weight r none);
+  }
+
+  pub weighs_the_same : StepConserves next r.config.members P Q mass weight → WeighsTheSame mass weight r
+  weighs_the_same law =
+      let more = weighs_no_more (λ me from state note below p q. omega (arith, law me from state note below p q)) in
+      let less = weighs_no_less (λ me from state note below p q. omega (arith, law me from state note below p q)) in
+      record {
+        whole = λ nobody. omega (arith, more, less.whole nobody);
+        settled = λ nobody none. omega (arith, more, less.settled nobody none, none-flying weight r none);
+        most = more;
+      }

@@ -1,0 +1,106 @@
+-- What a law of one step gives of a whole group, whatever was delivered, struck and recovered: a predicate that each step
+-- keeps holds of every state and of every message; where each step keeps a weight, the group does.
+use Rattle.std.specs.Prelude.{◌≡◌, ℕ, ◌+◌, ◌<◌, ◌≤◌, Some, slice_get, sum_by}
+use Rattle.std.specs.List.{All}
+use Rattle.std.specs.FinSet as set
+use Rattle.fbl_base.specs.declared.trace.Note.{Note}
+use Rattle.fbl_base.specs.declared.trace.Start.{Start}
+use Rattle.fbl_base.specs.declared.trace.Event.TheVariants.{Send}
+use Rattle.fbl_base.specs.Configs.{Settings}
+use Rattle.fbl_base.specs.Fold.{Next}
+use Rattle.fbl_member.specs.Members.{Message}
+use Rattle.fbl_law.specs.Knowledge.{IsInFlight}
+use Rattle.fbl_law.specs.Groups.{GroupRecord, member, checkpoint, channel, knowledge, messages_in_flight, sum_below}
+
+-- each step of n members keeps the predicates: from a state with P, at a note with Q from some sender, the new state has P,
+-- and each send has Q, which is of a sender, a receiver and a note
+abbrev pub StepKeeps : Next → ℕ → (ℕ → ℕ → Type 0) → (ℕ → ℕ → Note → Type 0) → Type 0
+StepKeeps next n P Q =
+    (me from state : ℕ) (note : Note) → me < n → P me state → Q from me note
+    → P me (next me n state note).state × All (λ s. Q me s.0 s.1) (next me n state note).sends.items
+
+-- predicates that hold of all
+abbrev pub AnyState : ℕ → ℕ → Type 0
+AnyState me state = Unit {0}
+
+abbrev pub AnyNote : ℕ → ℕ → Note → Type 0
+AnyNote from to note = Unit {0}
+
+-- the predicates hold at first: P of each member's state 0, Q of the starts
+abbrev pub HoldsFirst : Settings → (ℕ → ℕ → Type 0) → (ℕ → ℕ → Note → Type 0) → Type 0
+HoldsFirst c P Q = ((me : ℕ) → me < c.members → P me 0) × All (λ (s : Start). Q s.from s.to s.note) c.starts
+
+-- predicates that hold of all are kept, and hold at first
+pub any_kept : (next : Next) (n : ℕ) → StepKeeps next n AnyState AnyNote
+any_kept next n me from state note member any_state any_note = (tt, λ place default within. tt)
+
+pub any_first : (c : Settings) → HoldsFirst c AnyState AnyNote
+any_first c = ((λ me member. tt), (λ place default within. tt))
+
+-- the predicates hold of a group: P of each member's state and of each checkpoint's, Q of each message in flight and of
+-- each send of the trace
+pub record HoldsOf (r : GroupRecord) (P : ℕ → ℕ → Type 0) (Q : ℕ → ℕ → Note → Type 0) : Type 0 where
+  pub states : (m : ℕ) → m < r.config.members → P m (member r m).state
+  pub checkpoints : (m : ℕ) → m < r.config.members → P m (checkpoint r m).state
+  pub flying : (v : Message) → IsInFlight (knowledge r) v → Q v.from v.to v.note
+  pub sent : (i from ssn to : ℕ) (note : Note) → slice_get r.trace i ≡ Some (Send from ssn to note) → Q from to note
+
+-- what a step weighs after it, the new state and the sends, and before it, the old state and the note
+abbrev pub weight_after : Next → ℕ → (ℕ → ℕ → ℕ) → (Note → ℕ) → ℕ → ℕ → Note → ℕ
+weight_after next n mass weight me state note =
+    mass me (next me n state note).state + sum_by (λ s. weight s.1) (next me n state note).sends.items
+
+-- each step that starts from P and Q makes no weight
+abbrev pub StepMakesNone : Next → ℕ → (ℕ → ℕ → Type 0) → (ℕ → ℕ → Note → Type 0) → (ℕ → ℕ → ℕ) → (Note → ℕ) → Type 0
+StepMakesNone next n P Q mass weight =
+    (me from state : ℕ) (note : Note) → me < n → P me state → Q from me note
+    → weight_after next n mass weight me state note ≤ mass me state + weight note
+
+-- and loses none
+abbrev pub StepLosesNone : Next → ℕ → (ℕ → ℕ → Type 0) → (ℕ → ℕ → Note → Type 0) → (ℕ → ℕ → ℕ) → (Note → ℕ) → Type 0
+StepLosesNone next n P Q mass weight =
+    (me from state : ℕ) (note : Note) → me < n → P me state → Q from me note
+    → mass me state + weight note ≤ weight_after next n mass weight me state note
+
+-- and so keeps the weight
+abbrev pub StepConserves : Next → ℕ → (ℕ → ℕ → Type 0) → (ℕ → ℕ → Note → Type 0) → (ℕ → ℕ → ℕ) → (Note → ℕ) → Type 0
+StepConserves next n P Q mass weight =
+    (me from state : ℕ) (note : Note) → me < n → P me state → Q from me note
+    → weight_after next n mass weight me state note ≡ mass me state + weight note
+
+-- what the members' states weigh
+abbrev pub weight_held : (ℕ → ℕ → ℕ) → GroupRecord → ℕ
+weight_held mass r = sum_below r.config.members (λ m. mass m (member r m).state)
+
+-- what the messages in flight weigh
+abbrev pub weight_flying : (Note → ℕ) → GroupRecord → ℕ
+weight_flying weight r =
+    sum_below r.config.members (λ q. sum_below r.config.members (λ p. sum_by (λ (v : Message). weight v.note) (channel r q p)))
+
+-- what a group weighs: its members' states and its messages in flight
+abbrev pub weight_of : (ℕ → ℕ → ℕ) → (Note → ℕ) → GroupRecord → ℕ
+weight_of mass weight r = weight_held mass r + weight_flying weight r
+
+-- what the starts weigh
+abbrev pub weight_of_starts : (Note → ℕ) → Settings → ℕ
+weight_of_starts weight c = sum_by (λ (s : Start). weight s.note) c.starts
+
+-- what a group weighs at first: the states 0 and the starts
+abbrev pub weight_at_first : (ℕ → ℕ → ℕ) → (Note → ℕ) → Settings → ℕ
+weight_at_first mass weight c = sum_below c.members (λ m. mass m 0) + weight_of_starts weight c
+
+-- the group weighs no more than its starts
+abbrev pub WeighsNoMore : (ℕ → ℕ → ℕ) → (Note → ℕ) → GroupRecord → Type 0
+WeighsNoMore mass weight r = weight_of mass weight r ≤ weight_of_starts weight r.config
+
+-- the group weighs no less than its starts where nobody is down, and nor do its states alone where nothing is in flight
+pub record WeighsNoLess (mass : ℕ → ℕ → ℕ) (weight : Note → ℕ) (r : GroupRecord) : Type 0 where
+  pub whole : r.down ≡ set.empty → weight_of_starts weight r.config ≤ weight_of mass weight r
+  pub settled : r.down ≡ set.empty → messages_in_flight r ≡ 0 → weight_of_starts weight r.config ≤ weight_held mass r
+
+-- the group weighs what its starts do where nobody is down, so do its states alone where nothing is in flight, and whoever is
+-- down it weighs no more
+pub record WeighsTheSame (mass : ℕ → ℕ → ℕ) (weight : Note → ℕ) (r : GroupRecord) : Type 0 where
+  pub whole : r.down ≡ set.empty → weight_of mass weight r ≡ weight_of_starts weight r.config
+  pub settled : r.down ≡ set.empty → messages_in_flight r ≡ 0 → weight_held mass r ≡ weight_of_starts weight r.config
+  pub most : WeighsNoMore mass weight r
