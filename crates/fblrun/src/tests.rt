@@ -432,7 +432,7 @@ command 6: strike []
 command 6, strike []: it names nobody
 command 7: strike [1]
 command 8: checkpoint 0
-command 8, checkpoint 0: these members are down: [1]
+command 8, checkpoint 0: while a member is down nothing is delivered and no checkpoint taken, and these are: [1]
 command 9: recover
 command 10: run [[2,[1]],[9,[0]],[1,[2]]]
 command 10, run [[2,[1]],[9,[0]],[1,[2]]]: entry 2 of the plan comes at 1, and must come after 9
