@@ -1,5 +1,5 @@
 -- What an account does with a payment.
-use Rattle.std.specs.Prelude.{◌≢◌, ℕ, ◌+◌, ◌-◌, ◌/◌, ◌%◌, ◌^◌, ◌<◌, ◌≤◌, ◌==◌, nat_lt, max, min, sum_by, if◌then◌else◌}
+use Rattle.std.specs.Prelude.{◌≢◌, ℕ, ◌+◌, ◌-◌, ◌/◌, ◌%◌, ◌^◌, ◌<◌, ◌≤◌, ◌==◌, nat_lt, max, min, if◌then◌else◌}
 use Rattle.std.proofs.Common.{arith}
 use Rattle.std.proofs.lemmas.Bool.Decides.{nat_tests}
 use Rattle.fbl_base.specs.Configs.{Settings, MembersAllowed}
@@ -16,10 +16,6 @@ account_step me n state note =
     let amount = (if note.hops == 0 then 0 else min (balance / 2) (2 ^ 32 - 1)) in
     if nat_lt balance (2 ^ 64) then onward (balance - amount) ((me + 1) % n) amount note.hops
     else onward state ((me + 1) % n) note.value (max note.hops 1)
-
--- what an outcome sends in all
-abbrev pub sent : Outcome → ℕ
-sent outcome = sum_by (λ s. s.1.value) outcome.sends.items
 
 -- the next account is another one
 elsewhere : (me n : ℕ) → 2 ≤ n → me < n → (me + 1) % n ≢ me

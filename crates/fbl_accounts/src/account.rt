@@ -6,8 +6,8 @@ use fbl_law::step_laws::Conserving;
 pub struct Account;
 
 impl Behaviour for Account {
-    ghost use Rattle.std.specs.Prelude.{◌≡◌, ◌+◌, ◌<◌, ◌≤◌};
-    ghost use Rattle.fbl_accounts.specs.Accounts.{account_step, account_sends_allowed, sent};
+    ghost use Rattle.std.specs.Prelude.{◌≡◌, ◌<◌, ◌≤◌};
+    ghost use Rattle.fbl_accounts.specs.Accounts.{account_step, account_sends_allowed};
 
     ghost next = { account_step };
 
@@ -18,8 +18,6 @@ impl Behaviour for Account {
         requires most { n ≤ 16 }
         requires member { me < n }
         ensures step { result ≡ account_step me n state note }
-        // No money is made or lost.
-        ensures conserved { result.state + sent result ≡ state + note.value }
     {
         let next = Member::new((me.number() + 1) % n).unwrap();
         let Some(balance) = state.checked_add(note.value.into()) else {
@@ -31,7 +29,7 @@ impl Behaviour for Account {
     }
 }
 
-// No money is made or lost, also by a whole group.
+// No money is made or lost, by a step and so by a whole group.
 impl Conserving for Account {
     ghost use Rattle.std.specs.Prelude.{refl};
     ghost use Rattle.fbl_accounts.specs.Accounts.{account_conserves};

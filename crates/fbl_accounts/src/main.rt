@@ -67,10 +67,7 @@ fn run<R: Print + Threads + Wait + Sync>(rt: &R, alloc: Global) -> Result<()> {
     let set = MemberSet::empty().with(c);
     let plan = [Strike { at: 20, set }];
     let (group, drained) = drain(rt, alloc, group, &plan, 2, 1_000_000, &NoGate);
-    ensure!(
-        drained?.quiet && group.down() == MemberSet::empty(),
-        "payments are left in flight"
-    );
+    ensure!(drained?.quiet, "payments are left in flight");
     report(rt, "drained", &group)?;
     Ok(())
 }
