@@ -39,16 +39,6 @@ fn a_member_is_claimed_by_one_pass_at_a_time(rt: HostRuntime) -> Result<(), Fail
     Ok(())
 }
 
-// Whether two claims that are lent are of two members. By their contract alone they are.
-fn are_of_two_members(claims: &Claims, one: &mut Claim, other: &mut Claim) -> bool
-    requires { (one.old.0 ≡ claims.now) × (other.old.0 ≡ claims.now) }
-    ensures members { result ≡ true }
-    ensures lent { (one.new ≡ one.old) × (other.new ≡ other.old) }
-{
-    claims.are_apart(one, other);
-    one.member() != other.member()
-}
-
 #[test]
 fn two_claims_are_of_two_members(rt: HostRuntime) -> Result<(), Fail> {
     let (one, two) = (member(1)?, member(2)?);
@@ -62,7 +52,7 @@ fn two_claims_are_of_two_members(rt: HostRuntime) -> Result<(), Fail> {
         Ok(claim) => claim,
         Err(_) => panic!(rt; "member 2 is free"),
     };
-    assert!(rt; are_of_two_members(&claims, &mut a_has_one, &mut b_has_two));
+    claims.are_apart(&mut a_has_one, &mut b_has_two);
     assert_eq!(rt; a_has_one.member(), one);
     assert_eq!(rt; b_has_two.member(), two);
     let (a, b) = (claims.release(a_has_one), claims.release(b_has_two));

@@ -125,3 +125,20 @@ fn a_drain_goes_on_after_want_of_memory(rt: HostRuntime) -> Result<(), Fail> {
     assert!(rt; group.is_quiet() && has_states(&group, &STATES_OF_TWELVE));
     Ok(())
 }
+
+/// It holds too where any one request for memory is refused, one of which leaves the only worker without a thread: then the group
+/// is as it was, and it is told. The gate refuses each in turn.
+#[test]
+fn a_worker_without_a_thread_changes_nothing(rt: HostRuntime) -> Result<(), Fail> {
+    let starts = starts_of_twelve()?;
+    let Ok(group) = group(rt.alloc(), 4, 2, 8192, &starts) else {
+        return Ok(());
+    };
+    let before = reading_of(&group);
+    let (group, answer) = drain_by(&rt, rt.alloc(), group, &[], 1);
+    assert!(rt; is_fair(&answer, &group, before, false));
+    if let Err(refusal) = answer {
+        println!(rt; "{refusal}")?;
+    }
+    Ok(())
+}

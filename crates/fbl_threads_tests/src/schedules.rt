@@ -210,3 +210,17 @@ fn a_drain_without_turns_leaves_the_group_as_it_was(rt: HostRuntime) -> Result<(
     assert!(rt; group.messages_in_flight() == 3 && group.receipts_ever() == 0);
     Ok(())
 }
+
+/// With one turn each, worker 0 looks for messages to member 0, to whom none is in flight, and worker 1 for those to member 1.
+#[test]
+fn what_a_worker_does_is_booked_to_its_place(rt: HostRuntime) -> Result<(), Fail> {
+    let starts = [start(0, 1, 5, 0)?, start(0, 1, 6, 0)?];
+    let group = group(rt.alloc(), 2, 1, 8192, &starts)?;
+    let plan = [strike(1, &[1])?];
+    let (group, answer) = drain(&rt, rt.alloc(), group, &plan, 2, 1, &NoGate);
+    let drained = answer?;
+    assert!(rt; drained.started == 2 && !drained.quiet && !drained.full && !drained.memory);
+    assert!(rt; has_counts(&drained, &[0, 1], &[0, 1]));
+    assert!(rt; group.messages_in_flight() == 2 && group.receipts_ever() == 1);
+    Ok(())
+}
