@@ -2,12 +2,13 @@
 
 use crate::reason::Reason;
 use crate::words::Words;
+use arrayvec::ArrayVec;
 use fbl_base::Strike;
 use fbl_script::Command;
 use std::fmt;
 
 /// What a command did beside what its lines say.
-#[derive(Clone, Copy, PartialEq, Eq, Debug)]
+#[derive(Drop, PartialEq, Debug)]
 pub enum Account {
     /// Nothing more.
     Done,
@@ -17,8 +18,8 @@ pub enum Account {
     Ran(RunCounts),
 }
 
-/// How many receipts a group had made before and after a run, and how many of them were undone.
-#[derive(Clone, Copy, PartialEq, Eq, Debug)]
+/// How many receipts a group had made before and after a run, how many of them were undone, and what each worker did.
+#[derive(Drop, PartialEq, Debug)]
 pub struct RunCounts {
     /// How many were ever made before the run.
     pub ever_before: u64,
@@ -28,6 +29,10 @@ pub struct RunCounts {
     pub undone_before: u64,
     /// How many were ever undone after it.
     pub undone_after: u64,
+    /// How many receipts each worker made, from worker 0 on.
+    pub by_worker: ArrayVec<u64, 8>,
+    /// How many receipts were undone by the recoveries that each worker ran.
+    pub undone_by_worker: ArrayVec<u64, 8>,
 }
 
 /// Writes the entries of the plan whose counts are above the one and not above the other.
@@ -50,7 +55,7 @@ fn write_entries<W: fmt::Write>(
 }
 
 impl RunCounts {
-    /// Writes how many receipts were made and undone, and which entries of the plan struck nobody.
+    /// Writes how many receipts were made and undone, which entries of the plan struck nobody, and what each worker did.
     fn write<W: fmt::Write>(&self, f: &mut fmt::Formatter<W>, plan: &[Strike]) -> fmt::Result {
         let made = self.ever_after.saturating_sub(self.ever_before);
         let undone = self.undone_after.saturating_sub(self.undone_before);
@@ -62,7 +67,12 @@ impl RunCounts {
             0,
             self.ever_before,
         )?;
-        write_entries(f, plan, "; never reached: entry", self.ever_after, u64::MAX)
+        write_entries(f, plan, "; never reached: entry", self.ever_after, u64::MAX)?;
+        let workers = self.by_worker.iter().zip(self.undone_by_worker.iter());
+        for (worker, (made, undone)) in workers.enumerate() {
+            write!(f, "; worker {worker} made {made}, undid {undone}")?;
+        }
+        Ok(())
     }
 }
 

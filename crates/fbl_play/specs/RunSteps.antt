@@ -3,6 +3,9 @@ use Rattle.std.specs.Prelude.{◌≡◌, ℕ, Bool, true, false, List, codes, Re
 use Rattle.fbl_base.specs.declared.strike.Strike.{Strike}
 use Rattle.fbl_base.specs.Fold.{Next}
 use Rattle.fbl_law.specs.Groups.{GroupRecord}
+use Rattle.fbl_explain.specs.declared.account.Account.{Account}
+use Rattle.fbl_explain.specs.declared.account.Account.TheVariants.{Ran, Refused}
+use Rattle.fbl_explain.specs.declared.reason.Reason.{Reason}
 use Rattle.fbl_lines.specs.declared.lines.RunEnd.{RunEnd}
 use Rattle.fbl_lines.specs.declared.lines.RunEnd.TheVariants.{Quiet, Full, Stopped}
 use Rattle.fbl_lines.specs.Lines.{run_line, refused_at_line, refused_line}
@@ -33,8 +36,26 @@ abbrev pub IsRunText : Result Drained DrainRefusal → List ℕ → Type 0
 IsRunText (Ok drained) text = IsDrainedText drained text
 IsRunText (Err refusal) text = IsRefusedRunText refusal text
 
--- a run with this plan by this many workers may lead from old to new and print the text: it follows by an answer of the
--- workers' drain, and the text is the line of that answer; which answer it is and where it ends is left open
+-- what is told beside the line, where the group had made and undone so many receipts and is now like this: the counts of the
+-- group, and those of each worker as the drain answered them; or that it was refused
+abbrev pub IsRunAccount : ℕ → ℕ → GroupRecord → Result Drained DrainRefusal → Account → Type 0
+IsRunAccount made undone now (Ok drained) account =
+    account ≡ Ran (record {
+      ever_before = made;
+      ever_after = now.receipts_ever;
+      undone_before = undone;
+      undone_after = now.undone_ever;
+      by_worker = drained.by_worker;
+      undone_by_worker = drained.undone_by_worker;
+    })
+IsRunAccount made undone now (Err refusal) account = (reason : Reason) × (account ≡ Refused reason)
+
+-- a run with this plan by this many workers may lead from old to new, print the text and have the account: it follows by an
+-- answer of the workers' drain, whose line the text is, and whose counts the account has
+abbrev pub RunAnswers : Next → ℕ → List Strike → GroupRecord → GroupRecord → List ℕ → Account → Type 0
+RunAnswers next workers plan old new text account =
+    (answer : Result Drained DrainRefusal) × Drains next workers plan old new answer × IsRunText answer text × IsRunAccount old.receipts_ever old.undone_ever new answer account
+
+-- and print the text, whatever the account
 abbrev pub RunStep : Next → ℕ → List Strike → GroupRecord → GroupRecord → List ℕ → Type 0
-RunStep next workers plan old new text =
-    (answer : Result Drained DrainRefusal) × Drains next workers plan old new answer × IsRunText answer text
+RunStep next workers plan old new text = (account : Account) × RunAnswers next workers plan old new text account

@@ -17,7 +17,8 @@ pub(crate) fn answer_with(
     text: Result<String, AllocError>,
     account: Account,
 ) -> Result<Answer, AllocError>
-    ensures { IfOk result (λ answer. text ≡ Ok answer.text) }
+    ensures text { IfOk result (λ answer. text ≡ Ok answer.text) }
+    ensures account { IfOk result (λ answer. answer.account ≡ account) }
 {
     match text {
         Ok(text) => Ok(Answer { text, account }),

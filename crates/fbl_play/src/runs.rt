@@ -2,7 +2,7 @@
 
 ghost use Rattle.std.specs.Prelude.{◌≡◌, ◌≤◌, false, IfOk, string_bytes};
 ghost use Rattle.fbl_lines.specs.Lines.{run_line};
-ghost use Rattle.fbl_play.specs.RunSteps.{RunStep, IsRefusedRunText, IsRunText, end_of as end_of_run};
+ghost use Rattle.fbl_play.specs.RunSteps.{RunAnswers, IsRefusedRunText, IsRunAccount, IsRunText, end_of as end_of_run};
 
 use crate::answer::{Answer, answer_with};
 use crate::reasons::run_reason;
@@ -55,35 +55,39 @@ fn refused_run_text(alloc: Global, refusal: DrainRefusal) -> Result<String, Allo
 }
 
 /// The line of a run that answered this.
-fn answer_text(alloc: Global, answer: Result<Drained, DrainRefusal>) -> Result<String, AllocError>
-    ensures { IfOk result (λ text. IsRunText answer (string_bytes text)) }
+fn answer_text(alloc: Global, answer: &Result<Drained, DrainRefusal>) -> Result<String, AllocError>
+    ensures { IfOk result (λ text. IsRunText answer.now (string_bytes text)) }
 {
     match answer {
-        Ok(drained) => drained_text(alloc, &drained),
-        Err(refusal) => refused_run_text(alloc, refusal),
+        Ok(drained) => drained_text(alloc, drained),
+        Err(refusal) => refused_run_text(alloc, *refusal),
     }
 }
 
-/// What a run did beside what its line says: how many receipts the group made and undid, or why it was refused.
+/// What a run did beside what its line says: how many receipts the group and each worker made and undid, or why it was refused.
 fn account_of<B: Behaviour>(
     group: &Group<B>,
     plan: &Plan,
     ever_before: u64,
     undone_before: u64,
-    answer: &Result<Drained, DrainRefusal>,
-) -> Account {
+    answer: Result<Drained, DrainRefusal>,
+) -> Account
+    ensures { IsRunAccount ever_before undone_before group.now answer result }
+{
     match answer {
-        Ok(_) => Account::Ran(RunCounts {
+        Ok(drained) => Account::Ran(RunCounts {
             ever_before,
             ever_after: group.receipts_ever(),
             undone_before,
             undone_after: group.undone_ever(),
+            by_worker: drained.by_worker,
+            undone_by_worker: drained.undone_by_worker,
         }),
-        Err(refusal) => Account::Refused(run_reason(group, plan.strikes(), refusal)),
+        Err(refusal) => Account::Refused(run_reason(group, plan.strikes(), &refusal)),
     }
 }
 
-/// Lets workers deliver, strike and recover, and answers the line.
+/// Lets workers deliver, strike and recover, and answers the line and the account.
 pub(crate) fn run_plan<B: Behaviour + Send + Sync, T: Threads + Wait + Sync>(
     rt: &T,
     alloc: Global,
@@ -91,13 +95,13 @@ pub(crate) fn run_plan<B: Behaviour + Send + Sync, T: Threads + Wait + Sync>(
     group: Group<B>,
     plan: &Plan,
 ) -> (Group<B>, Result<Answer, AllocError>)
-    ensures { IfOk result.1 (λ answer. RunStep B.next workers plan.now group result.0 (string_bytes answer.text)) }
+    ensures { IfOk result.1 (λ answer. RunAnswers B.next workers plan.now group result.0 (string_bytes answer.text) answer.account) }
 {
     let ever = group.receipts_ever();
     let undone = group.undone_ever();
     let strikes = plan.strikes();
     let (group, answer) = drain(rt, alloc, group, strikes, workers, TURNS, &NoGate);
-    let account = account_of(&group, plan, ever, undone, &answer);
-    let text = answer_text(alloc, answer);
+    let text = answer_text(alloc, &answer);
+    let account = account_of(&group, plan, ever, undone, answer);
     (group, answer_with(text, account))
 }

@@ -437,7 +437,7 @@ command 9: recover
 command 10: run [[2,[1]],[9,[0]],[1,[2]]]
 command 10, run [[2,[1]],[9,[0]],[1,[2]]]: entry 2 of the plan comes at 1, and must come after 9
 command 11: run [[1,[1]],[3,[0]],[9,[2]]]
-command 11, run [[1,[1]],[3,[0]],[9,[2]]]: receipts made 1, undone 0; passed before the run: entry 0 at 1; never reached: entry 1 at 3, 2 at 9
+command 11, run [[1,[1]],[3,[0]],[9,[2]]]: receipts made 1, undone 0; passed before the run: entry 0 at 1; never reached: entry 1 at 3, 2 at 9; worker 0 made 1, undid 0
 command 12: states
 ";
 
@@ -455,13 +455,17 @@ fn explained<T: Threads + Wait + Sync>(
     rt: &T,
     alloc: Global,
     script: &str,
+    workers: u8,
     is_closed: bool,
-) -> Result<(Told, String), Fail> {
+) -> Result<(Told, String), Fail>
+    requires some { 1 ≤ workers }
+    requires few { workers ≤ 8 }
+{
     let console = Console::new(alloc, is_closed);
     let mut teller = Teller::new(&console, true);
     let mut writer = Vec::new(alloc);
     let input = script.as_bytes();
-    let done = play_observed(rt, alloc, input, &mut writer, 2, &mut teller);
+    let done = play_observed(rt, alloc, input, &mut writer, workers, &mut teller);
     let status = end(&console, alloc, true, InputKind::Script, input, done);
     Ok((Told::of(console, status), String::from_utf8(writer)?))
 }
@@ -469,7 +473,7 @@ fn explained<T: Threads + Wait + Sync>(
 #[test]
 fn tells_of_each_command(rt: HostRuntime) -> Result<(), Fail> {
     for (script, told) in [(REFUSED, REFUSED_TOLD), (FULL, FULL_TOLD)] {
-        let (found, _) = explained(&rt, rt.alloc(), script, false)?;
+        let (found, _) = explained(&rt, rt.alloc(), script, 1, false)?;
         assert!(rt;
             found.status == 0 && found.err.as_str() == told,
             "{}",
@@ -480,8 +484,18 @@ fn tells_of_each_command(rt: HostRuntime) -> Result<(), Fail> {
 }
 
 #[test]
+fn tells_of_each_worker(rt: HostRuntime) -> Result<(), Fail> {
+    let (found, _) = explained(&rt, rt.alloc(), REFUSED, 3, false)?;
+    for told in ["; worker 0 made ", "; worker 1 made ", "; worker 2 made "] {
+        assert!(rt; found.err.contains(told), "{}", found.err);
+    }
+    assert!(rt; !found.err.contains("; worker 3 "), "{}", found.err);
+    Ok(())
+}
+
+#[test]
 fn tells_of_a_fault_behind_its_line(rt: HostRuntime) -> Result<(), Fail> {
-    let (found, text) = explained(&rt, rt.alloc(), "[1]", false)?;
+    let (found, text) = explained(&rt, rt.alloc(), "[1]", 1, false)?;
     let told = "fault: not an object\nthe input is a list, and must be an object\n";
     assert!(rt; text.is_empty() && found.has(2, "", told), "{}", found.err);
     Ok(())
@@ -490,11 +504,11 @@ fn tells_of_a_fault_behind_its_line(rt: HostRuntime) -> Result<(), Fail> {
 #[test]
 fn prints_the_same_where_nothing_can_be_told(rt: HostRuntime) -> Result<(), Fail> {
     for script in [REFUSED, FULL, SCRIPT, "[1]"] {
-        let (open, text) = explained(&rt, rt.alloc(), script, false)?;
-        let (closed, same) = explained(&rt, rt.alloc(), script, true)?;
+        let (open, text) = explained(&rt, rt.alloc(), script, 1, false)?;
+        let (closed, same) = explained(&rt, rt.alloc(), script, 1, true)?;
         assert!(rt; open.status == closed.status && text.as_str() == same.as_str());
     }
-    let (_, text) = explained(&rt, rt.alloc(), SCRIPT, false)?;
+    let (_, text) = explained(&rt, rt.alloc(), SCRIPT, 1, false)?;
     assert!(rt; text.as_str() == SCRIPT_TEXT);
     Ok(())
 }
