@@ -3,8 +3,9 @@
 ghost use Rattle.std.specs.Prelude.{◌≡◌, ◌<◌};
 
 use crate::fixtures::{STATES_OF_TWELVE, drain_by, group, has_states, starts_of_twelve, strike};
-use fbl_base::{Event, Member, MemberSet, Relay};
+use fbl_base::{Config, Event, Member, MemberSet, Relay, Start};
 use fbl_group::Group;
+use fbl_table::{Entry, Table};
 use fbl_threads::{DrainRefusal, Drained};
 use std::test::Fail;
 
@@ -16,8 +17,14 @@ fn is_up(group: &mut Group<Relay>) -> bool {
 /// What the readers of a group of four answer, which takes no memory to keep.
 #[derive(Clone, Copy, PartialEq, Eq)]
 struct Reading {
+    /// Members, f and limit.
+    config: (u8, u8, u32),
+    /// The starts, of which there are at most 8.
+    starts: [Option<Start>; 8],
     /// State, receipts, sends, determinants held and the checkpoint's receipts of each member.
     members: [(u64, u32, u32, u32, u32); 4],
+    /// The entries of each member's table, of which there are at most 32.
+    tables: [[Option<Entry>; 32]; 4],
     /// How many messages are in each channel, by sender.
     channels: [[u32; 4]; 4],
     /// The events of the trace, of which there are fewer than 64.
@@ -25,6 +32,28 @@ struct Reading {
     down: MemberSet,
     receipts_ever: u64,
     undone_ever: u64,
+}
+
+/// The entries in their order.
+fn entries(table: &Table) -> [Option<Entry>; 32] {
+    let mut entries = [None; 32];
+    for place in 0..table.len() {
+        if place < 32 {
+            entries[place] = Some(table.entry_at(place));
+        }
+    }
+    entries
+}
+
+/// The starts in their order.
+fn starts(config: &Config) -> [Option<Start>; 8] {
+    let mut starts = [None; 8];
+    for (place, start) in config.starts().iter().enumerate() {
+        if place < 8 {
+            starts[place] = Some(*start);
+        }
+    }
+    starts
 }
 
 /// The events in their order.
@@ -40,13 +69,16 @@ fn events(trace: &[Event]) -> [Option<Event>; 64] {
 
 /// What the readers of the group answer, if it has four members.
 fn reading_of(group: &Group<Relay>) -> Option<Reading> {
-    if group.config().members() != 4 {
+    let config = group.config();
+    if config.members() != 4 {
         return None;
     }
     let mut members = [(0, 0, 0, 0, 0); 4];
+    let mut tables = [[None; 32]; 4];
     let mut channels = [[0; 4]; 4];
     for number in 0..4u8 {
         let member = Member::new(number).unwrap();
+        tables[usize::from(number)] = entries(group.table(member));
         members[usize::from(number)] = (
             group.state(member),
             group.received(member),
@@ -57,7 +89,10 @@ fn reading_of(group: &Group<Relay>) -> Option<Reading> {
         channels[usize::from(number)] = channels_from(group, member);
     }
     Some(Reading {
+        config: (config.members(), config.f(), config.limit()),
+        starts: starts(config),
         members,
+        tables,
         channels,
         trace: events(group.trace()),
         down: group.down(),
@@ -87,7 +122,8 @@ fn is_fair(
 ) -> bool {
     match answer {
         Ok(drained) => {
-            (drained.quiet || drained.memory || drained.started < 2)
+            (drained.quiet || drained.memory)
+                && drained.started > 0
                 && drained.quiet == group.is_quiet()
                 && !drained.full
         }
