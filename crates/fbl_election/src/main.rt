@@ -1,0 +1,105 @@
+//! Four members in a ring elect the greatest identifier that a start brings. Some notes are delivered, the one member that has
+//! it is struck and recovered, and then two workers deliver the rest, and strike and recover another member on the way.
+#![tactic(auto)]
+
+ghost use Rattle.std.specs.Prelude.{◌≡◌, ◌≤◌, ◌<◌, ℕ};
+ghost use Rattle.fbl_law.specs.Groups.{member as record_of};
+ghost use Rattle.fbl_law.specs.StepLaws.{HoldsOf};
+ghost use Rattle.fbl_threads.specs.Drains.{IsQuiet};
+ghost use Rattle.fbl_election.specs.Elections.{HasTaken, IsPassedOn, ReachesAll, greatest};
+
+mod candidate;
+
+use anyhow::{Result, ensure};
+use candidate::Candidate;
+use fbl_base::{Config, Member, MemberSet, Note, Start, Strike};
+use fbl_group::Group;
+use fbl_threads::{NoGate, drain};
+use std::alloc::Global;
+use std::sync::Wait;
+use std::thread::Threads;
+
+/// A start that brings an identifier, which is to reach three members more.
+fn bringing(from: Member, to: Member, value: u32) -> Start
+    ensures ends { (result.from ≡ from) × (result.to ≡ to) }
+    ensures note { (result.note.value ≡ value) × (result.note.hops ≡ 3) }
+{
+    let note = Note { value, hops: 3 };
+    Start { from, to, note }
+}
+
+/// What holds of an election, whatever was delivered, struck, recovered or drained: a start brought what members have and what
+/// is in flight, and nothing is greater than the greatest identifier. Where that one is to reach all members, nothing is in
+/// flight and nobody is down, each member has it.
+fn elected(group: &Group<Candidate>)
+    ensures brought { HoldsOf group.now (HasTaken group.now.config) (IsPassedOn group.now.config) }
+    ensures most { HoldsOf group.now (λ m state. state ≤ greatest group.now.config.starts) (λ from to note. note.value ≤ greatest group.now.config.starts) }
+    ensures agreed { ReachesAll group.now.config → IsQuiet group.now → (m : ℕ) → m < group.now.config.members → (record_of group.now m).state ≡ greatest group.now.config.starts }
+{
+    group.kept();
+    group.none_lost();
+}
+
+/// Prints what each member has, which is at most 9.
+fn report<R: Print>(rt: &R, when: &str, group: &Group<Candidate>) -> Result<()>
+    requires { greatest group.now.config.starts ≡ 9 }
+{
+    elected(group);
+    print!(rt; "{when}:")?;
+    for number in 0..group.config().members() {
+        let state = group.state(Member::new(number).unwrap());
+        prove!(state <= 9);
+        print!(rt; " {state}")?;
+    }
+    println!(rt; ", in flight {}", group.messages_in_flight())?;
+    Ok(())
+}
+
+/// Prints whom each member has elected: 9.
+fn declare<R: Print>(rt: &R, group: &Group<Candidate>) -> Result<()>
+    requires greatest { greatest group.now.config.starts ≡ 9 }
+    requires reaches { ReachesAll group.now.config }
+    requires quiet { IsQuiet group.now }
+{
+    elected(group);
+    for number in 0..group.config().members() {
+        let state = group.state(Member::new(number).unwrap());
+        prove!(state == 9);
+        println!(rt; "member {number} has elected {state}")?;
+    }
+    Ok(())
+}
+
+/// Runs the election until nothing is in flight.
+fn run<R: Print + Threads + Wait + Sync>(rt: &R, alloc: Global) -> Result<()> {
+    let a = Member::new(0).unwrap();
+    let b = Member::new(1).unwrap();
+    let c = Member::new(2).unwrap();
+    let d = Member::new(3).unwrap();
+    let starts = [
+        bringing(d, a, 7),
+        bringing(a, b, 3),
+        bringing(b, c, 9),
+        bringing(c, d, 5),
+    ];
+    let config = Config::new(alloc, 4, 1, 8192, &starts)?;
+    let mut group = Group::<Candidate>::new(alloc, config)?;
+    for (to, from) in [(a, d), (b, a), (b, a), (c, b)] {
+        group.deliver(to, from)?;
+    }
+    report(rt, "delivered", &group)?;
+    group.strike(MemberSet::empty().with(c))?;
+    report(rt, "member 2 struck", &group)?;
+    let recovered = group.recover()?;
+    println!(rt; "receipts undone {}", recovered.undone)?;
+    report(rt, "recovered", &group)?;
+    let set = MemberSet::empty().with(d);
+    let plan = [Strike { at: 8, set }];
+    let (group, drained) = drain(rt, alloc, group, &plan, 2, 1_000_000, &NoGate);
+    ensure!(drained?.quiet, "identifiers are left in flight");
+    declare(rt, &group)
+}
+
+fn main(rt: HostRuntime) -> Result<()> {
+    run(&rt, rt.alloc())
+}
