@@ -1,0 +1,227 @@
+-- Which receipts are unsafe, and that the run is safe where none is.
+use Rattle.std.proofs.Common.{ℕ, Bool, true, false, ◌≡◌, ◌<◌, ◌≤◌, ◌+◌, ◌==◌, ◌&&◌, ◌||◌, ◌↔◌, inl, inr, List, [], ◌∷◌, ◌++◌, length, take, map, Option, Some, None, refl, sym, ap, ◌∙◌, arith, get_or, max, append-nil, cond, not, zero, suc, slice_get}
+use Rattle.std.specs.List.{Contains, filter, filter_map, list_any}
+use Rattle.std.specs.Cmp.{nat_cmp_total}
+use Rattle.std.specs.FinSet as set
+use Rattle.std.proofs.lemmas.List.{take_more}
+use Rattle.std.proofs.lemmas.Option.{slice_get_read}
+use Rattle.std.proofs.lemmas.List.Elements.{filter_map-append}
+use Rattle.std.proofs.lemmas.List.Folds.{Any-from_list_any, list_any-from_Any}
+use Rattle.std.proofs.lemmas.Bool.{false≢true}
+use Rattle.fbl_base.specs.declared.trace.Determinant.{Determinant}
+use Rattle.fbl_base.specs.declared.trace.Mark.{Mark}
+use Rattle.fbl_base.specs.declared.trace.Mark.TheVariants.{Send, Receipt}
+use Rattle.fbl_base.specs.Audit.{Parts, IsDump, IsLost}
+use Rattle.fbl_base.specs.Events.{At, determinant_of, receipt_of, same_determinant}
+use Rattle.fbl_base.specs.Precedence.{Depends}
+use Rattle.fbl_base.proofs.Gets.{filter_map-At}
+use Rattle.fbl_base.proofs.PlacesAndEvents.{depends-from_places, places-from_depends}
+use Rattle.fbl_base.proofs.PrecedenceLaws.{Has-first}
+use Rattle.fbl_base.proofs.Recorded.{Decides-same_determinant, both_true, eqb_same, same_eqb}
+use Rattle.fbl_base.proofs.Sizes.{len-remove_one, len-within, some_member}
+use Rattle.fbl_audit.specs.declared.checking.UnsafeReceipt.{UnsafeReceipt}
+use Rattle.fbl_audit.specs.Checking.{IsLeftOrphan, IsSafe, IsSaidOf, IsUnsafe, LosesReceipt, MayBeLost, SaysUnsafe, receipts_of_dump, struck_by}
+use Rattle.fbl_audit.specs.declared.dependents.Dependents.{Dependents}
+use Rattle.fbl_audit.specs.Dependents.{AreDependents, Members, dependents_at}
+use Rattle.fbl_base.specs.Rules.{WellFormed}
+use Rattle.fbl_audit.specs.Holders.{holders_of}
+use Rattle.fbl_audit.proofs.Following.{contains-both}
+
+-- ---- who holds a determinant
+
+abbrev is_pair : Determinant → ℕ → ℕ × Determinant → Bool
+is_pair d holder h = same_determinant h.1 d && (h.0 == holder)
+
+any_holder : (d : Determinant) (holder : ℕ) (held : List (ℕ × Determinant)) → list_any (λ y. y == holder) (map (λ h. h.0) (filter (λ h. same_determinant h.1 d) held)) ≡ list_any (is_pair d holder) held
+any_holder d holder [] = refl
+any_holder d holder (x ∷ xs) = by_test (same_determinant x.1 d) (any_holder d holder xs) where
+  by_test : (b : Bool) → list_any (λ y. y == holder) (map (λ (h : ℕ × Determinant). h.0) (filter (λ h. same_determinant h.1 d) xs)) ≡ list_any (is_pair d holder) xs
+      → list_any (λ y. y == holder) (map (λ (h : ℕ × Determinant). h.0) (cond b (x ∷ filter (λ h. same_determinant h.1 d) xs) (filter (λ h. same_determinant h.1 d) xs))) ≡ ((b && (x.0 == holder)) || list_any (is_pair d holder) xs)
+  by_test true rest = ap (λ r. (x.0 == holder) || r) rest
+  by_test false rest = rest
+
+-- the index has exactly the holders that the pairs name
+pub holds : (dump : Parts) (d : Determinant) (holder : ℕ) → (set.contains (holders_of dump d) holder ≡ true) ↔ Contains dump.held (holder, d)
+holds dump d holder = (
+  λ h.
+      let a = Any-from_list_any (is_pair d holder) dump.held (sym same ∙ h) in
+      let b = both_true (same_determinant a.1.1 d) (a.1.0 == holder) a.4 in
+      let det : a.1.1 ≡ d = (Decides-same_determinant a.1.1 d).0 b.0 in
+      let member : a.1.0 ≡ holder = eqb_same b.1 in
+      (a.0, a.2, (let pair : (holder, d) ≡ a.1 = (λ i. (sym member i, sym det i)) in rw pair a.3)),
+  λ r. same ∙ list_any-from_Any (is_pair d holder) dump.held (r.0, (holder, d), r.1, r.2, (rw ((Decides-same_determinant d d).1 refl, same_eqb holder))),
+) where
+  same : set.contains (holders_of dump d) holder ≡ list_any (is_pair d holder) dump.held
+  same = set.contains-from_list_nat _ holder ∙ any_holder d holder dump.held
+
+-- ---- one receipt
+
+-- the strike set and the holders of a determinant
+abbrev pub least_of : Parts → Determinant → Members
+least_of dump d = set.union dump.strike (holders_of dump d)
+
+-- members lose the receipt where they have all its holders
+loses_all : (dump : Parts) (members : Members) (d : Determinant) → LosesReceipt dump members d → (q : ℕ) → set.contains (holders_of dump d) q ≡ true → set.contains members q ≡ true
+loses_all dump members d loses q has = by_test (set.contains members q) refl where
+  by_test : (b : Bool) → set.contains members q ≡ b → set.contains members q ≡ true
+  by_test true is = is
+  by_test false is = absurd (loses (q, (holds dump d q).0 has, is))
+
+all_lose : (dump : Parts) (members : Members) (d : Determinant) → ((q : ℕ) → set.contains (holders_of dump d) q ≡ true → set.contains members q ≡ true) → LosesReceipt dump members d
+all_lose dump members d all held = false≢true (sym held.2 ∙ all held.0 ((holds dump d held.0).1 held.1))
+
+-- whatever may be lost and loses the receipt has the least members
+has_least : (dump : Parts) (members : Members) (d : Determinant) → MayBeLost dump members → LosesReceipt dump members d → (q : ℕ) → set.contains (least_of dump d) q ≡ true → set.contains members q ≡ true
+has_least dump members d may loses q h = elim ((contains-both dump.strike (holders_of dump d) q).0 h) [
+  | inl x ↦ may.struck q x
+  | inr x ↦ loses_all dump members d loses q x
+]
+
+-- the least members lose the receipt, and may be lost where they are few enough
+least_loses : (dump : Parts) (d : Determinant) → LosesReceipt dump (least_of dump d) d
+least_loses dump d = all_lose dump (least_of dump d) d (λ q has. (contains-both dump.strike (holders_of dump d) q).1 (inr has))
+
+least_may : (dump : Parts) (d : Determinant) → IsDump dump → set.len (least_of dump d) ≤ max dump.f (set.len dump.strike) → MayBeLost dump (least_of dump d)
+least_may dump d rules few = record {
+  below = λ q h. elim ((contains-both dump.strike (holders_of dump d) q).0 h) [
+    | inl x ↦ rules.strike q x
+    | inr x ↦ (let pair = (holds dump d q).0 x in (rules.held pair.0 (q, d) (slice_get_read dump.held (length dump.held) pair.0 (q, d) refl pair.1 (sym pair.2))).1)
+  ];
+  struck = λ q h. (contains-both dump.strike (holders_of dump d) q).1 (inl h);
+  few = few;
+}
+
+both_not : (a b : Bool) → ((a && not b) ≡ true) ↔ ((b ≡ false) × (a ≡ true))
+both_not true true = (λ h. cc, λ h. sym h.0)
+both_not true false = (λ h. (refl, refl), λ h. refl)
+both_not false b = (λ h. cc, λ h. h.1)
+
+-- who is left of those that depend on the receipt
+left : (dump : Parts) (members dependents : Members) (d : Determinant) → ((q : ℕ) → (set.contains dependents q ≡ true) ↔ Depends dump.events q (receipt_of d))
+    → (q : ℕ) → (set.contains (set.difference dependents members) q ≡ true) ↔ IsLeftOrphan dump members d q
+left dump members dependents d are q =
+    let is = both_not (set.contains dependents q) (set.contains members q) in
+    rw (set.contains-difference nat_cmp_total) (λ h. ((is.0 h).0, (are q).0 (is.0 h).1), λ o. is.1 (o.0, (are q).1 o.1))
+
+module _ (dump : Parts) (rules : IsDump dump) (d : Determinant) (dependents : Members) (are : (q : ℕ) → (set.contains dependents q ≡ true) ↔ Depends dump.events q (receipt_of d)) where
+  -- what is found of an unsafe receipt is what is to be said of it
+  pub said_right : (said : UnsafeReceipt) → said ≡ record { determinant = d; strike = least_of dump d; orphans = set.difference dependents (least_of dump d) }
+      → set.len (least_of dump d) ≤ max dump.f (set.len dump.strike) → 0 < set.len (set.difference dependents (least_of dump d)) → IsSaidOf dump d said
+  said_right said is few more = (rw is record {
+    determinant = refl;
+    may = least_may dump d rules few;
+    loses = least_loses dump d;
+    least = λ members may loses q h. has_least dump members d may loses q h;
+    orphans = left dump (least_of dump d) dependents d are;
+    some = some_member (set.difference dependents (least_of dump d)) more;
+  })
+
+  -- a receipt of which nothing is found is none
+  pub none_unsafe : ¬ ((set.len (least_of dump d) ≤ max dump.f (set.len dump.strike)) × (0 < set.len (set.difference dependents (least_of dump d)))) → ¬ (IsUnsafe dump d)
+  none_unsafe none u =
+      let members = u.0 in
+      let least = has_least dump members d u.1 u.2 in
+      let fewer = len-within (set.len (least_of dump d)) (least_of dump d) members refl least in
+      let few : set.len (least_of dump d) ≤ max dump.f (set.len dump.strike) = omega (arith, fewer, u.1.few) in
+      let out : set.contains (least_of dump d) u.3.0 ≡ false = not_in (set.contains (least_of dump d) u.3.0) refl in
+      let here = (left dump (least_of dump d) dependents d are u.3.0).1 (out, u.3.1.1) in
+      none (few, more_than_none (set.difference dependents (least_of dump d)) u.3.0 here)
+    where
+      not_in : (b : Bool) → set.contains (least_of dump d) u.3.0 ≡ b → set.contains (least_of dump d) u.3.0 ≡ false
+      not_in true is = absurd (false≢true (sym u.3.1.0 ∙ has_least dump u.0 d u.1 u.2 u.3.0 is))
+      not_in false is = is
+
+      more_than_none : (s : Members) (q : ℕ) → set.contains s q ≡ true → 0 < set.len s
+      more_than_none s q has = (let one = len-remove_one s q has in omega (arith, one))
+
+-- ---- all receipts
+
+abbrev determinants_here : Option Determinant → List Determinant
+determinants_here None = []
+determinants_here (Some d) = d ∷ []
+
+no_cons : (x : UnsafeReceipt) (xs : List UnsafeReceipt) → [] ≡ x ∷ xs → ⊥
+no_cons x xs h = cc
+
+-- one more receipt
+pub says_more : (dump : Parts) (ds more : List Determinant) (said said' : List UnsafeReceipt) → SaysUnsafe dump ds said → SaysUnsafe dump more said' → SaysUnsafe dump (ds ++ more) (said ++ said')
+says_more dump [] more said said' first last = (rw first last)
+says_more dump (d ∷ ds) more said said' first last = elim first [
+  | inl safe ↦ inl (safe.0, says_more dump ds more said said' safe.1 last)
+  | inr un ↦ inr (un.0, un.1 ++ said', (rw un.2 refl), un.3, says_more dump ds more un.1 said' un.4 last)
+]
+
+-- an unsafe receipt is one that is not safe
+said_is_unsafe : (dump : Parts) (d : Determinant) (said : UnsafeReceipt) → IsSaidOf dump d said → IsUnsafe dump d
+said_is_unsafe dump d said is = (said.strike, is.may, is.loses, (is.some.0, (is.orphans is.some.0).0 is.some.1))
+
+-- the events go on by one: a receipt of which something is said, a receipt that is not unsafe, or no receipt
+module _ (dump : Parts) (events : List Mark) (i : ℕ) (e : Mark) (within : i < length events) (is : e ≡ get_or events i e) (said : List UnsafeReceipt) (says : SaysUnsafe dump (filter_map determinant_of (take i events)) said) where
+  one_more : (more : List Determinant) → determinants_here (determinant_of e) ≡ more → filter_map determinant_of (take (i + 1) events) ≡ filter_map determinant_of (take i events) ++ more
+  one_more more here =
+      ap (filter_map determinant_of) (take_more events i e within ∙ ap (λ x. take i events ++ x ∷ []) (sym is))
+      ∙ filter_map-append determinant_of (take i events) (e ∷ [])
+      ∙ ap (λ l. filter_map determinant_of (take i events) ++ l) (one e ∙ here)
+    where
+      one : (e : Mark) → filter_map determinant_of (e ∷ []) ≡ determinants_here (determinant_of e)
+      one (Send from ssn to) = refl
+      one (Receipt to rsn from ssn) = refl
+
+  pub says_unsafe : (d : Determinant) (first : UnsafeReceipt) → determinant_of e ≡ Some d → IsSaidOf dump d first → SaysUnsafe dump (filter_map determinant_of (take (i + 1) events)) (said ++ first ∷ [])
+  says_unsafe d first of_e is_said = rw (one_more (d ∷ []) (ap determinants_here of_e)) (says_more dump _ (d ∷ []) said (first ∷ []) says (inr (first, [], refl, is_said, refl)))
+
+  pub says_nothing : (d : Determinant) → determinant_of e ≡ Some d → ¬ (IsUnsafe dump d) → SaysUnsafe dump (filter_map determinant_of (take (i + 1) events)) said
+  says_nothing d of_e safe =
+      let all : SaysUnsafe dump (filter_map determinant_of (take i events) ++ d ∷ []) (said ++ []) = says_more dump _ (d ∷ []) said [] says (inl (safe, refl)) in
+      rw (one_more (d ∷ []) (ap determinants_here of_e)) (rw (append-nil said) at all)
+
+  pub says_no_receipt : determinant_of e ≡ None → SaysUnsafe dump (filter_map determinant_of (take (i + 1) events)) said
+  says_no_receipt none = rw (one_more [] (ap determinants_here none)) (rw (append-nil (filter_map determinant_of (take i events))) says)
+
+-- nothing is said where no receipt is unsafe, and where nothing is said none is
+says_none : (dump : Parts) (ds : List Determinant) (said : List UnsafeReceipt) → SaysUnsafe dump ds said → ((d : Determinant) → ¬ (IsUnsafe dump d)) → said ≡ []
+says_none dump [] said says none = says
+says_none dump (d ∷ ds) said says none = elim says [
+  | inl safe ↦ says_none dump ds said safe.1 none
+  | inr un ↦ absurd (none d (said_is_unsafe dump d un.0 un.3))
+]
+
+none_said : (dump : Parts) (ds : List Determinant) (said : List UnsafeReceipt) → SaysUnsafe dump ds said → said ≡ [] → (i : ℕ) (d : Determinant) → slice_get ds i ≡ Some d → ¬ (IsUnsafe dump d)
+none_said dump [] said says none i d at = cc
+none_said dump (e ∷ ds) said says none zero d at = elim says [
+  | inl safe ↦ (let same : e ≡ d = cc in rw same at safe.0)
+  | inr un ↦ absurd (no_cons un.0 un.1 (sym none ∙ un.2))
+]
+none_said dump (e ∷ ds) said says none (suc i) d at = elim says [
+  | inl safe ↦ none_said dump ds said safe.1 none i d at
+  | inr un ↦ absurd (no_cons un.0 un.1 (sym none ∙ un.2))
+]
+
+-- the run is safe exactly where no receipt of it is unsafe
+pub says_safe : (dump : Parts) (said : List UnsafeReceipt) → SaysUnsafe dump (receipts_of_dump dump) said → (said ≡ []) ↔ IsSafe dump
+says_safe dump said says = (
+  λ none members may q orphan. by_event none members may q orphan.0 orphan.1.0 orphan.1.1 orphan.1.2,
+  λ safe. says_none dump (receipts_of_dump dump) said says (λ d u. safe u.0 u.1 u.3.0 (u.3.1.0, (receipt_of d, u.2, u.3.1.1))),
+) where
+  by_event : said ≡ [] → (members : Members) → MayBeLost dump members → (q : ℕ) → set.contains members q ≡ false → (e : Mark) → IsLost (struck_by members dump) e → Depends dump.events q e → ⊥
+  by_event none members may q out (Send from ssn to) lost depends = lost
+  by_event none members may q out (Receipt to rsn from ssn) lost depends =
+      let d : Determinant = record { from = from; ssn = ssn; to = to; rsn = rsn } in
+      let has = Has-first depends.1 in
+      let among = filter_map-At determinant_of dump.events has.0 (Receipt to rsn from ssn) d has.1 refl in
+      none_said dump (receipts_of_dump dump) said says none among.0 d among.1 (members, may, lost, (q, (out, depends)))
+
+-- who is found to depend on a receipt's place depends on the receipt
+pub dependents_of_receipt : (n : ℕ) (t : List Mark) (found : Dependents) (i : ℕ) (e : Mark) (d : Determinant) → WellFormed n t → AreDependents t found → i < length t → e ≡ get_or t i e → determinant_of e ≡ Some d
+    → (q : ℕ) → (set.contains (dependents_at found i) q ≡ true) ↔ Depends t q (receipt_of d)
+dependents_of_receipt n t found i (Send from ssn to) d obeys are within is of_e q = cc
+dependents_of_receipt n t found i (Receipt to rsn from ssn) d obeys are within is of_e q =
+    let at : At t i (Receipt to rsn from ssn) = slice_get_read t (length t) i (Receipt to rsn from ssn) refl within is in
+    let same : Receipt to rsn from ssn ≡ receipt_of d = ap receipt_of (some_same of_e) in
+    let here = are.members i q within in (
+      λ h. rw same at (depends-from_places t q i (Receipt to rsn from ssn) at (here.0 h)),
+      λ d'. here.1 (places-from_depends n t obeys q i (Receipt to rsn from ssn) at (rw same d')),
+    )
+  where
+    some_same : {a b : Determinant} → Some a ≡ Some b → a ≡ b
+    some_same e = cc

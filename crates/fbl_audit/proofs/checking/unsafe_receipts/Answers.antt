@@ -1,0 +1,40 @@
+use Rattle.std.proofs.Common.{◌≡◌, arith, ap, sym, ◌∙◌, take}
+use Rattle.std.specs.List.{filter_map}
+use Rattle.std.proofs.lemmas.List.{take_all}
+use Rattle.fbl_base.specs.Events.{determinant_of}
+use Rattle.fbl_base.specs.Rules.{WellFormed}
+use Rattle.fbl_audit.specs.Dependents.{AreDependents}
+use Rattle.fbl_audit.specs.Checking.{receipts_of_dump}
+use Rattle.fbl_audit.proofs.Checks.{dependents_of_receipt, says_safe, says_unsafe, says_nothing, says_no_receipt}
+use Rattle.fbl_audit.proofs.checking.unsafe_receipts.Goals as goal
+use Rattle.fbl_audit.proofs.checking.unsafe_receipts.Goals.{in-Some+in-Some-said_of+in_ok-push, in-Some+in_default-said_of, in_default}
+
+pub said_of-requires-clause-dependents : goal.said_of-requires-clause-dependents
+said_of-requires-clause-dependents c =
+    let t = c.events-event-items.result.now in
+    let events : t ≡ c.args.dump.now.events = c.events-event-items.ensures.events in
+    let obeys : WellFormed c.args.dump.now.members t = rw events c.events-event-items.ensures.rules.events in
+    let found : AreDependents t c.in_ok-dependents.dependents = rw events c.in_ok-dependents.ensures in
+    rw (← events, c.at.ensures) (dependents_of_receipt c.args.dump.now.members t c.in_ok-dependents.dependents c.loop-place.place c.event-item.result c.in-Some.determinant obeys found (omega arith) c.event-item.is (sym c.in-Some.ensures))
+
+pub loop-place-preserved : goal.loop-place-preserved
+loop-place-preserved c =
+    let dump = c.args.dump.now in
+    let events = c.events-event-items.result.now in
+    let i = c.loop-place.place in
+    let e = c.event-item.result in
+    elim c.match-determinant.branch [
+      | in-Some+in-Some-said_of+in_ok-push w ↦ rw (w.unsafe_receipts-is, w.in_ok-push.ensures.items) (says_unsafe dump events i e (omega arith) c.event-item.is _ c.loop-place.invariant w.in-Some.determinant _ (sym w.in-Some.ensures) w.in-Some-said_of.ensures)
+      | in-Some+in_default-said_of w ↦ rw w.unsafe_receipts-is (says_nothing dump events i e (omega arith) c.event-item.is _ c.loop-place.invariant w.in-Some.determinant (sym w.in-Some.ensures) w.in_default-said_of.ensures)
+      | in_default w ↦ rw w.unsafe_receipts-is (says_no_receipt dump events i e (omega arith) c.event-item.is _ c.loop-place.invariant (sym w.in_default.ensures))
+    ]
+
+pub returns-clause-said : goal.returns-clause-said
+returns-clause-said c =
+    let all : filter_map determinant_of (take c.loop-place.place c.events-event-items.result.now) ≡ receipts_of_dump c.args.dump.now = ap (filter_map determinant_of) (take_all c.loop-place.place c.events-event-items.result.now (omega arith) ∙ c.events-event-items.ensures.events) in
+    rw (← all) c.loop-place.invariant
+
+pub returns-clause-safe : goal.returns-clause-safe
+returns-clause-safe c =
+    let all : filter_map determinant_of (take c.loop-place.place c.events-event-items.result.now) ≡ receipts_of_dump c.args.dump.now = ap (filter_map determinant_of) (take_all c.loop-place.place c.events-event-items.result.now (omega arith) ∙ c.events-event-items.ensures.events) in
+    says_safe c.args.dump.now c.loop-place.unsafe_receipts.items (rw (← all) c.loop-place.invariant)

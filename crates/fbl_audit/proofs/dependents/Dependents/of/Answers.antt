@@ -1,0 +1,23 @@
+use Rattle.std.proofs.Common.{ap, arith, unwrap_or, ◌-◌}
+use Rattle.std.specs.FinSet as set
+use Rattle.fbl_base.specs.Rules.{WellFormed}
+use Rattle.fbl_audit.proofs.Following.{Knows-none, Seen-all, Seen-more, member_within}
+use Rattle.fbl_audit.proofs.dependents.Dependents.of.Goals as goal
+
+pub loop-place-init : goal.loop-place-init
+loop-place-init c = record {
+  knows = Knows-none c.events-events.result.now _ _ c.new-later.ensures.members (λ m. ap (λ o. unwrap_or o set.empty) (c.new-later.ensures.messages m));
+  count = rw c.new-from_the_end.ensures.items (omega arith);
+  found = λ i q from below. absurd (omega (arith, from, below));
+}
+
+pub loop-place-preserved : goal.loop-place-preserved
+loop-place-preserved c =
+    let t = c.events-events.result.now in
+    let rules = c.events-events.ensures.rules in
+    let obeys : WellFormed c.args.dump.now.members t = rw c.events-events.ensures.events rules.events in
+    let within = member_within c.args.dump.now.members t (c.loop-place.place - 1) c.index-events-place.result obeys rules.members.1 (omega (arith, c.loop-place.invariant.count, c.loop-place-test.true)) c.index-events-place.is in
+    rw c.in_ok-push.ensures.items (Seen-more t c.loop-place.place _ _ _ _ c.loop-place.from_the_end.items c.index-events-place.result c.dependents-members.result c.loop-place.invariant c.loop-place-test.true c.index-events-place.is within c.dependents-members.ensures c.in_ok-add.ensures.members c.in_ok-add.ensures.messages)
+
+pub returns : goal.returns
+returns c = rw (← c.events-events.ensures.events) (Seen-all c.events-events.result.now c.loop-place.place _ _ (record { from_the_end = c.loop-place.from_the_end }) c.loop-place-test.false c.loop-place.invariant)

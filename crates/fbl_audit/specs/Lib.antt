@@ -1,0 +1,3 @@
+pub mod Checking
+pub mod Dependents
+pub mod Holders
