@@ -5,7 +5,7 @@ ghost use Rattle.std.specs.Prelude.{◌≡◌, ◌<◌};
 use crate::fixtures::{STATES_OF_TWELVE, drain_by, group, has_states, starts_of_twelve, strike};
 use fbl_base::{Config, Event, Member, MemberSet, Relay, Start};
 use fbl_group::Group;
-use fbl_table::{Entry, Table};
+use fbl_table::Entry;
 use fbl_threads::{DrainRefusal, Drained};
 use std::test::Fail;
 
@@ -34,8 +34,12 @@ struct Reading {
     undone_ever: u64,
 }
 
-/// The entries in their order.
-fn entries(table: &Table) -> [Option<Entry>; 32] {
+/// The entries of the member's table, in their order.
+fn table_of(group: &Group<Relay>, number: u8) -> [Option<Entry>; 32]
+    requires members { group.now.config.members ≡ 4 }
+    requires number { number < 4 }
+{
+    let table = group.table(Member::new(number).unwrap());
     let mut entries = [None; 32];
     for place in 0..table.len() {
         if place < 32 {
@@ -74,11 +78,9 @@ fn reading_of(group: &Group<Relay>) -> Option<Reading> {
         return None;
     }
     let mut members = [(0, 0, 0, 0, 0); 4];
-    let mut tables = [[None; 32]; 4];
     let mut channels = [[0; 4]; 4];
     for number in 0..4u8 {
         let member = Member::new(number).unwrap();
-        tables[usize::from(number)] = entries(group.table(member));
         members[usize::from(number)] = (
             group.state(member),
             group.received(member),
@@ -92,7 +94,12 @@ fn reading_of(group: &Group<Relay>) -> Option<Reading> {
         config: (config.members(), config.f(), config.limit()),
         starts: starts(config),
         members,
-        tables,
+        tables: [
+            table_of(group, 0),
+            table_of(group, 1),
+            table_of(group, 2),
+            table_of(group, 3),
+        ],
         channels,
         trace: events(group.trace()),
         down: group.down(),

@@ -1,5 +1,7 @@
 //! Command lines with the orders that they give, or with the exit statuses and what is printed.
 
+ghost use Rattle.std.specs.Prelude.{◌≤◌};
+
 use crate::command_line::order_of;
 use crate::telling::{Teller, end};
 use crate::{Order, Task, obey, refuse, refuse_words, status_after};
