@@ -61,7 +61,7 @@ abbrev pub least_of : Parts → Determinant → Members
 least_of dump d = set.union dump.strike (holders_of dump d)
 
 -- members lose the receipt where they have all its holders
-loses_all : (dump : Parts) (members : Members) (d : Determinant) → LosesReceipt dump members d → (q : ℕ) → set.contains (holders_of dump d) q ≡ true → set.contains members q ≡ true
+pub loses_all : (dump : Parts) (members : Members) (d : Determinant) → LosesReceipt dump members d → (q : ℕ) → set.contains (holders_of dump d) q ≡ true → set.contains members q ≡ true
 loses_all dump members d loses q has = by_test (set.contains members q) refl where
   by_test : (b : Bool) → set.contains members q ≡ b → set.contains members q ≡ true
   by_test true is = is
@@ -78,10 +78,10 @@ has_least dump members d may loses q h = elim ((contains-both dump.strike (holde
 ]
 
 -- the least members lose the receipt, and may be lost where they are few enough
-least_loses : (dump : Parts) (d : Determinant) → LosesReceipt dump (least_of dump d) d
+pub least_loses : (dump : Parts) (d : Determinant) → LosesReceipt dump (least_of dump d) d
 least_loses dump d = all_lose dump (least_of dump d) d (λ q has. (contains-both dump.strike (holders_of dump d) q).1 (inr has))
 
-least_may : (dump : Parts) (d : Determinant) → IsDump dump → set.len (least_of dump d) ≤ max dump.f (set.len dump.strike) → MayBeLost dump (least_of dump d)
+pub least_may : (dump : Parts) (d : Determinant) → IsDump dump → set.len (least_of dump d) ≤ max dump.f (set.len dump.strike) → MayBeLost dump (least_of dump d)
 least_may dump d rules few = record {
   below = λ q h. elim ((contains-both dump.strike (holders_of dump d) q).0 h) [
     | inl x ↦ rules.strike q x
@@ -91,7 +91,7 @@ least_may dump d rules few = record {
   few = few;
 }
 
-both_not : (a b : Bool) → ((a && not b) ≡ true) ↔ ((b ≡ false) × (a ≡ true))
+pub both_not : (a b : Bool) → ((a && not b) ≡ true) ↔ ((b ≡ false) × (a ≡ true))
 both_not true true = (λ h. cc, λ h. sym h.0)
 both_not true false = (λ h. (refl, refl), λ h. refl)
 both_not false b = (λ h. cc, λ h. h.1)

@@ -32,7 +32,7 @@ abbrev pub DependsOnLater : List Mark → (Mark → Type 0) → ℕ → ℕ → 
 DependsOnLater t P i member = (j : ℕ) × (b : Mark) × (i ≤ j) × At t j b × P b × Depends t member j
 
 -- one place has one event
-same_event : (t : List Mark) (i j : ℕ) (a b : Mark) → i ≡ j → At t i a → At t j b → a ≡ b
+pub same_event : (t : List Mark) (i j : ℕ) (a b : Mark) → i ≡ j → At t i a → At t j b → a ≡ b
 same_event t i j a b here at_i at_j = (let e : Some a ≡ Some b = sym at_i ∙ (rw here at_j) in cc)
 
 -- the events from i on: those after it, and it
@@ -124,7 +124,7 @@ dependents_right t i by_member by_message (Receipt to rsn from ssn) at below kno
       ]),
     )
 
-Decides-same_message : (a b : Message) → Decides (same_message a b) (a ≡ b)
+pub Decides-same_message : (a b : Message) → Decides (same_message a b) (a ≡ b)
 Decides-same_message a b =
     let all = Decides-and (a.from == b.from) _ (Decides-eqb a.from b.from) (Decides-and (a.ssn == b.ssn) _ (Decides-eqb a.ssn b.ssn) (Decides-eqb a.to b.to)) in (
       λ h. (let e = all.0 h in λ i. record { from = e.0 i; ssn = e.1.0 i; to = e.1.1 i }),

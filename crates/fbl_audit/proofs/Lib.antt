@@ -1,3 +1,7 @@
 pub mod Holding
 pub mod Following
 pub mod Checks
+pub mod Searching
+pub mod Auditing
+pub mod SafeRuns
+pub mod Causes

@@ -14,11 +14,11 @@ use std::hash::{BuildHasherDefault, FoldHasher};
 
 /// What names a message with its receiver.
 #[derive(Clone, Copy, PartialEq, Eq, Hash, Debug)]
-struct Message {
-    from: Member,
+pub(crate) struct Message {
+    pub(crate) from: Member,
     /// Which of the sender's sends it is.
-    ssn: u32,
-    to: Member,
+    pub(crate) ssn: u32,
+    pub(crate) to: Member,
 }
 
 /// For each message that is received, the members that depend on a receipt of it.
@@ -34,7 +34,7 @@ fn found_by(by_message: &ByMessage, message: &Message) -> MemberSet
 }
 
 /// The message that the event takes, if it is a receipt.
-fn message_taken(event: &Mark) -> Option<Message>
+pub(crate) fn message_taken(event: &Mark) -> Option<Message>
     ensures { result ≡ message_of event.now }
 {
     match *event {

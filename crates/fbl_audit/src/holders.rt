@@ -4,7 +4,7 @@ ghost use Rattle.std.specs.Prelude.{◌≡◌, IfOk, unwrap_or};
 ghost use Rattle.std.specs.FinSet as set;
 ghost use Rattle.std.specs.HashMap as hash_map;
 ghost use Rattle.fbl_base.specs.Events.{same_determinant};
-ghost use Rattle.fbl_audit.specs.Holders.{holders_of};
+ghost use Rattle.fbl_audit.specs.Holders.{AreHolders};
 
 use fbl_base::audit::Dump;
 use fbl_base::{Determinant, MemberSet};
@@ -34,7 +34,7 @@ impl Holders {
     /// The holders that the pairs of a dump name. The time taken is linear in the pairs. `Err` comes only where there is no
     /// memory for them.
     pub fn of(alloc: Global, dump: &Dump) -> Result<Holders, AllocError>
-        ensures { IfOk result (λ h. (d : _) → unwrap_or (hash_map.get same_determinant h.index d) set.empty ≡ holders_of dump.now d) }
+        ensures { IfOk result (AreHolders dump.now) }
     {
         let mut index = HashMap::new(alloc);
         for (holder, determinant) in dump.held() {

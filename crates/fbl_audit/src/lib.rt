@@ -2,10 +2,16 @@
 //! members are.
 #![tactic(auto)]
 
+mod audit;
 mod checking;
 mod dependents;
 mod holders;
+mod laws;
+mod paths;
 
+pub use audit::Audit;
 pub use checking::{UnsafeReceipt, unsafe_receipts};
 pub use dependents::Dependents;
 pub use holders::Holders;
+pub use laws::safe_law;
+pub use paths::Paths;

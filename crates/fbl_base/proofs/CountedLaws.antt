@@ -1,29 +1,47 @@
 -- What is counted, after one more event.
-use Rattle.std.proofs.Common.{IsTrue, ℕ, Bool, true, false, cond, ◌≡◌, ◌≢◌, ◌<◌, ◌≤◌, ◌+◌, ◌*◌, ◌==◌, ◌&&◌, ◌⊎◌, ◌↔◌, inl, inr, List, [], ◌∷◌, ◌++◌, length, take, drop, Some, refl, sym, ap, ◌∙◌, arith, get_or, set as set_at, get_or-set_same, get_or-set_other, length-set, length-take}
+use Rattle.std.proofs.Common.{ℕ, Bool, true, false, cond, ◌≡◌, ◌≢◌, ◌<◌, ◌≤◌, ◌+◌, ◌*◌, ◌==◌, ◌&&◌, ◌⊎◌, ◌↔◌, inl, inr, List, [], ◌∷◌, ◌++◌, length, take, drop, Option, Some, None, slice_get, MatchOption, subst, refl, sym, ap, ◌∙◌, arith, get_or, set as set_at, get_or-set_same, get_or-set_other, length-set, length-take}
 use Rattle.std.proofs.lemmas.Bool.{cases_eq, eq-eqb, ne_eqb}
 use Rattle.std.proofs.lemmas.List.{take_more, append-nil, get_or_read}
 use Rattle.std.proofs.lemmas.Option.{slice_get-get_or}
 use Rattle.fbl_base.specs.declared.trace.Mark.{Mark}
 use Rattle.fbl_base.specs.declared.trace.Mark.TheVariants.{Send, Receipt}
 use Rattle.fbl_base.specs.declared.rules.Counts.{Counts}
-use Rattle.fbl_base.specs.Events.{At}
+use Rattle.fbl_base.specs.Events.{At, destination_of, source_of}
 use Rattle.fbl_base.specs.Rules.{sends_of, receipts_of, in_flight, MayFollow, ObeysAt, WellFormed}
-use Rattle.fbl_base.specs.Counted.{Counted, SendFits, ReceiptFits}
+use Rattle.fbl_base.specs.Counted.{Counted, CountsEvent, first_by, next_by}
+use Rattle.fbl_base.specs.Breaches.{Breaks, BreaksAt, BreaksEvent, Fits, first_in_flight, next_number}
+use Rattle.fbl_base.specs.declared.fault.EventRule.{EventRule}
+use Rattle.fbl_base.specs.declared.fault.EventRule.TheVariants as rules
 use Rattle.fbl_base.proofs.InFlightLaws.{in_flight-send, in_flight-receipt}
 use Rattle.fbl_base.proofs.RulesLaws.{sends-step, receipts-step}
 
 module _ {A : Type 0} (n : ℕ) (t : List Mark) (c : Counts A) (most : n ≤ 16) (few : length t < 8192) (counted : Counted t c) where
-  pub send_fits : (q s p : ℕ) → SendFits n c q s p ↔ MayFollow n t (Send q s p)
-  send_fits q s p = (
-    λ h. (h.0, h.1, h.2, h.3 ∙ ap (λ x. x + 1) (counted.sends q (omega (arith, h.0, most))), few),
-    λ h. (h.0, h.1, h.2, h.3 ∙ ap (λ x. x + 1) (sym (counted.sends q (omega (arith, h.0, most))))),
-  )
+  next_counted : (e : Mark) → source_of e < 16 → destination_of e < 16 → next_by c e ≡ next_number t e
+  next_counted (Send q s p) below_q below_p = ap (λ x. x + 1) (counted.sends q below_q)
+  next_counted (Receipt p r q s) below_q below_p = ap (λ x. x + 1) (counted.receipts p below_p)
 
-  pub receipt_fits : (p r q s : ℕ) → ReceiptFits n c p r q s ↔ MayFollow n t (Receipt p r q s)
-  receipt_fits p r q s = (
-    λ h. (h.0, h.1, h.2, h.3 ∙ ap (λ x. x + 1) (counted.receipts p (omega (arith, h.1, most))), few, (rw (counted.channels q p (omega (arith, h.0, most)) (omega (arith, h.1, most))) at h.4)),
-    λ h. (h.0, h.1, h.2, h.3 ∙ ap (λ x. x + 1) (sym (counted.receipts p (omega (arith, h.1, most)))), rw (counted.channels q p (omega (arith, h.0, most)) (omega (arith, h.1, most))) h.5),
-  )
+  first_counted : (e : Mark) → source_of e < 16 → destination_of e < 16 → first_by c e ≡ first_in_flight t e
+  first_counted e below_q below_p = ap (λ xs. slice_get xs 0) (counted.channels (source_of e) (destination_of e) below_q below_p)
+
+  may : (e : Mark) → Fits n e (next_number t e) (first_in_flight t e) → MayFollow n t e
+  may (Send q s p) h = (h.0.0, h.0.1, h.0.2, h.1, few)
+  may (Receipt p r q s) h = (h.0.0, h.0.1, h.0.2, h.1, few, h.2)
+
+  breaks : (e : Mark) (rule : EventRule) → Breaks n e (next_number t e) (first_in_flight t e) rule → BreaksEvent n t e rule
+  breaks e rules.TooMany h = absurd h
+  breaks e (rules.Outside o) h = (few, h)
+  breaks e rules.ToItself h = (few, h)
+  breaks e (rules.WrongNumber w) h = (few, h)
+  breaks e (rules.NothingInFlight q p) h = (few, h)
+  breaks e (rules.OtherInFlight q p w) h = (few, h)
+
+  -- what the counts say of an event is what the trace says
+  pub verdict : (e : Mark) (next : ℕ) (first : Option ℕ) (found : Option EventRule) → source_of e < 16 → destination_of e < 16 → next ≡ next_by c e → first ≡ first_by c e
+      → MatchOption found (Fits n e next first) (Breaks n e next first) → MatchOption found (MayFollow n t e) (BreaksEvent n t e)
+  verdict e next first found q p is_next is_first h = by_found found (rw (← next_counted e q p, ← first_counted e q p, ← is_next, ← is_first) h) where
+    by_found : (found : Option EventRule) → MatchOption found (Fits n e (next_number t e) (first_in_flight t e)) (Breaks n e (next_number t e) (first_in_flight t e)) → MatchOption found (MayFollow n t e) (BreaksEvent n t e)
+    by_found None h = may e h
+    by_found (Some rule) h = breaks e rule h
 
 -- the rule at a place is the rule for its event
 pub obeys_at : (n : ℕ) (t : List Mark) (i : ℕ) (e : Mark) → At t i e → ObeysAt n t i ↔ MayFollow n (take i t) e
@@ -93,31 +111,43 @@ place_has events place d e within is = slice_get-get_or events place d within �
 few_before : (events : List Mark) (place : ℕ) → place < 8192 → length (take place events) < 8192
 few_before events place few = omega (arith, length-take place events)
 
--- the test of a send tells whether its place obeys the rules
-pub verdict_send : {A : Type 0} (n : ℕ) (events : List Mark) (place : ℕ) (d : Mark) (c : Counts A) (q s p : ℕ) (b : Bool) → n ≤ 16 → place < length events → place < 8192 → Counted (take place events) c → get_or events place d ≡ Send q s p → IsTrue b ↔ SendFits n c q s p → IsTrue b ↔ ObeysAt n events place
-verdict_send n events place d c q s p b most within few counted is test =
-    let fits = send_fits n (take place events) c most (few_before events place few) counted q s p in
-    let obeys = obeys_at n events place (Send q s p) (place_has events place d _ within is) in
-    (λ h. obeys.1 (fits.0 (test.0 h)), λ h. test.1 (fits.1 (obeys.0 h)))
+one_more : (events : List Mark) (place : ℕ) (e : Mark) → place < length events → e ≡ get_or events place e → take (place + 1) events ≡ take place events ++ e ∷ []
+one_more events place e within is = take_more events place e within ∙ ap (λ x. take place events ++ x ∷ []) (sym is)
 
-pub verdict_receipt : {A : Type 0} (n : ℕ) (events : List Mark) (place : ℕ) (d : Mark) (c : Counts A) (p r q s : ℕ) (b : Bool) → n ≤ 16 → place < length events → place < 8192 → Counted (take place events) c → get_or events place d ≡ Receipt p r q s → IsTrue b ↔ ReceiptFits n c p r q s → IsTrue b ↔ ObeysAt n events place
-verdict_receipt n events place d c p r q s b most within few counted is test =
-    let fits = receipt_fits n (take place events) c most (few_before events place few) counted p r q s in
-    let obeys = obeys_at n events place (Receipt p r q s) (place_has events place d _ within is) in
-    (λ h. obeys.1 (fits.0 (test.0 h)), λ h. test.1 (fits.1 (obeys.0 h)))
+-- the verdict on the event at a place
+pub verdict_at : {A : Type 0} (n : ℕ) (events : List Mark) (place : ℕ) (e : Mark) (c : Counts A) (next : ℕ) (first : Option ℕ) (found : Option EventRule) → n ≤ 16 → place < length events → place < 8192 → Counted (take place events) c → e ≡ get_or events place e → source_of e < 16 → destination_of e < 16 → next ≡ next_by c e → first ≡ first_by c e
+    → MatchOption found (Fits n e next first) (Breaks n e next first) → MatchOption found (ObeysAt n events place) (BreaksAt n events place)
+verdict_at n events place e c next first found most within few counted is below_q below_p is_next is_first h =
+    by_found found (verdict n (take place events) c most (few_before events place few) counted e next first found below_q below_p is_next is_first h)
+  where
+    at : At events place e
+    at = place_has events place e e within (sym is)
 
-one_more : (events : List Mark) (place : ℕ) (d e : Mark) → place < length events → get_or events place d ≡ e → take (place + 1) events ≡ take place events ++ e ∷ []
-one_more events place d e within is = take_more events place d within ∙ ap (λ x. take place events ++ x ∷ []) is
+    by_found : (found : Option EventRule) → MatchOption found (MayFollow n (take place events) e) (BreaksEvent n (take place events) e) → MatchOption found (ObeysAt n events place) (BreaksAt n events place)
+    by_found None m = (obeys_at n events place e at).1 m
+    by_found (Some rule) b = (e, at, b)
 
-pub admitted_send : {A : Type 0} (n : ℕ) (events : List Mark) (place : ℕ) (d : Mark) (c after : Counts A) (q s p : ℕ) → n ≤ 16 → place < length events → place < 8192 → WellFormed n (take place events) → Counted (take place events) c → get_or events place d ≡ Send q s p → SendFits n c q s p → after.sends ≡ set_at c.sends q s → after.receipts ≡ c.receipts → after.channels.items ≡ set_at c.channels.items (16 * q + p) (get_or c.channels.items (16 * q + p) [] ++ s ∷ []) → Counted (take (place + 1) events) after
-admitted_send n events place d c after q s p most within few obeys counted is fits e1 e2 e3 =
-    rw (one_more events place d (Send q s p) within is) (counted_send n (take place events) c after q s p most obeys counted ((send_fits n (take place events) c most (few_before events place few) counted q s p).0 fits) e1 e2 e3)
-
-pub admitted_receipt : {A : Type 0} (n : ℕ) (events : List Mark) (place : ℕ) (d : Mark) (c after : Counts A) (p r q s : ℕ) → n ≤ 16 → place < length events → place < 8192 → WellFormed n (take place events) → Counted (take place events) c → get_or events place d ≡ Receipt p r q s → ReceiptFits n c p r q s → after.sends ≡ c.sends → after.receipts ≡ set_at c.receipts p r → after.channels.items ≡ set_at c.channels.items (16 * q + p) (drop 1 (get_or c.channels.items (16 * q + p) [])) → Counted (take (place + 1) events) after
-admitted_receipt n events place d c after p r q s most within few obeys counted is fits e1 e2 e3 =
-    rw (one_more events place d (Receipt p r q s) within is) (counted_receipt n (take place events) c after p r q s most obeys counted ((receipt_fits n (take place events) c most (few_before events place few) counted p r q s).0 fits) e1 e2 e3)
+-- an event that was admitted is counted
+pub admitted : {A : Type 0} (n : ℕ) (events : List Mark) (place : ℕ) (e : Mark) (c after : Counts A) → n ≤ 16 → place < length events → place < 8192 → WellFormed n (take place events) → Counted (take place events) c → e ≡ get_or events place e
+    → ObeysAt n events place → CountsEvent e c after → Counted (take (place + 1) events) after
+admitted n events place e c after most within few obeys counted is obeyed counts =
+    rw (one_more events place e within is) (by_kind e (obeyed e (place_has events place e e within (sym is))) counts)
+  where
+    by_kind : (e : Mark) → MayFollow n (take place events) e → CountsEvent e c after → Counted (take place events ++ e ∷ []) after
+    by_kind (Send q s p) m k = counted_send n (take place events) c after q s p most obeys counted m k.0 k.1 k.2
+    by_kind (Receipt p r q s) m k = counted_receipt n (take place events) c after p r q s most obeys counted m k.0 k.1 k.2
 
 pub channel_written : (f : List ℕ → List ℕ) (xs : List (List ℕ)) (i j : ℕ) (old new : List ℕ) → i ≡ j → i < length xs → old ≡ get_or xs i old → new ≡ f old → set_at xs i new ≡ set_at xs j (f (get_or xs j []))
 channel_written f xs i j old new same within was is =
     let read : old ≡ get_or xs i [] = get_or_read xs i old within was [] in
     rw (is, ← same, ← read)
+
+-- a rule was found, or none
+module _ (P : Type 0) (Q : EventRule → Type 0) where
+  pub found_rule : (found : Option EventRule) (rule : EventRule) → found ≡ Some rule → MatchOption found P Q → Q rule
+  found_rule None rule is h = absurd cc
+  found_rule (Some r) rule is h = (let same : r ≡ rule = cc in subst Q same h)
+
+  pub found_none : (found : Option EventRule) → ((rule : EventRule) → found ≢ Some rule) → MatchOption found P Q → P
+  found_none None is h = h
+  found_none (Some r) is h = absurd (is r refl)

@@ -15,3 +15,4 @@ pub mod PlacesAndEvents
 pub mod LawfulLaws
 pub mod BitSets
 pub mod OrphanStarts
+mod Breached

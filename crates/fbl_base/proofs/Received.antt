@@ -1,22 +1,20 @@
 -- Which determinants receipts have.
-use Rattle.std.proofs.Common.{nat_lt, drop, ◌&&◌, ℕ, ◌+◌, ◌<◌, ◌≤◌, ◌≡◌, Bool, true, cond, ◌||◌, List, [], ◌∷◌, length, take, get_or, slice_get, Some, None, refl, sym, ap, ◌∙◌, arith, Decides, length-take}
-use Rattle.std.proofs.lemmas.Bool.{ltb-true, lt-ltb}
+use Rattle.std.proofs.Common.{drop, ℕ, ◌+◌, ◌<◌, ◌≤◌, ◌≡◌, Bool, true, cond, ◌||◌, List, [], ◌∷◌, length, take, get_or, Some, None, refl, sym, ap, ◌∙◌, arith, Decides, length-take}
 use Rattle.std.specs.List.{list_any, filter_map, cons_option}
 use Rattle.std.proofs.lemmas.List.{take_more, take-append-drop, take-append-le}
 use Rattle.std.proofs.lemmas.List.Folds.{list_any-append, Any-from_list_any, list_any-from_Any}
 use Rattle.std.proofs.lemmas.List.Elements.{filter_map-append}
-use Rattle.std.proofs.lemmas.Option.{slice_get_read, slice_get-get_or, get_or_from_slice_get}
+use Rattle.std.proofs.lemmas.Option.{slice_get-get_or, get_or_from_slice_get}
 use Rattle.fbl_base.specs.declared.trace.Determinant.{Determinant}
 use Rattle.fbl_base.specs.declared.trace.Mark.{Mark}
 use Rattle.fbl_base.specs.declared.trace.Mark.TheVariants.{Send, Receipt}
 use Rattle.fbl_base.specs.Events.{At, determinant_of}
 use Rattle.fbl_base.specs.Precedence.{Has}
 use Rattle.fbl_base.specs.Rules.{MayFollow, ObeysAt, WellFormed}
-use Rattle.fbl_base.specs.Audit.{Parts, HeldAt}
 use Rattle.fbl_base.specs.Events.{same_determinant, receipt_of}
 use Rattle.fbl_base.specs.DumpParts.{is_received}
 use Rattle.fbl_base.proofs.Gets.{At-front, At-below, At-filter_map, filter_map-At}
-use Rattle.fbl_base.proofs.Recorded.{Decides-same_determinant, or_cond, or_false, both_true}
+use Rattle.fbl_base.proofs.Recorded.{Decides-same_determinant, or_cond, or_false}
 
 more : (events : List Mark) (i : ℕ) (e : Mark) (d : Determinant) → i < length events → e ≡ get_or events i e → is_received (take (i + 1) events) d ≡ (is_received (take i events) d || list_any (λ x. same_determinant x d) (cons_option (determinant_of e) []))
 more events i e d below is = rw (take_more events i e below, ← is, filter_map-append determinant_of (take i events) (e ∷ []), list_any-append (λ x. same_determinant x d))
@@ -68,15 +66,3 @@ too_many n (e ∷ t) place below most obeys = over (get_or (e ∷ t) place e) (o
   over (Send q s p) may = omega (arith, may.4, length-take place (e ∷ t), below, most)
   over (Receipt p r q s) may = omega (arith, may.4, length-take place (e ∷ t), below, most)
 too_many n [] place below most obeys = omega arith
-
--- the test of a pair tells whether its place fits
-pub pair_verdict : (dump : Parts) (i : ℕ) (h : ℕ × Determinant) (received : Bool) → i < length dump.held → h ≡ get_or dump.held i h → received ≡ is_received dump.events h.1 → Decides (nat_lt i 131072 && (nat_lt h.0 dump.members && received)) (HeldAt dump i)
-pair_verdict dump i h received below is was =
-    let at : slice_get dump.held i ≡ Some h = slice_get_read dump.held (length dump.held) i h refl below is in
-    let decides = Decides-is_received dump.events h.1 in (
-      λ t.
-          let t1 = both_true (nat_lt i 131072) _ t in
-          let t2 = both_true (nat_lt h.0 dump.members) _ t1.1 in
-          λ g at_g. (let same : h ≡ g = cc in rw (← same) (ltb-true i 131072 t1.0, ltb-true h.0 dump.members t2.0, decides.0 (sym was ∙ t2.1))),
-      λ held. (let g = held h at in rw (lt-ltb i 131072 g.0, lt-ltb h.0 dump.members g.1, was) (decides.1 g.2)),
-    )

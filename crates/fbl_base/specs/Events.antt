@@ -17,6 +17,21 @@ abbrev pub member_of : Mark → ℕ
 member_of (Send from ssn to) = from
 member_of (Receipt to rsn from ssn) = to
 
+-- the sender of an event's message
+abbrev pub source_of : Mark → ℕ
+source_of (Send from ssn to) = from
+source_of (Receipt to rsn from ssn) = from
+
+-- the receiver of an event's message
+abbrev pub destination_of : Mark → ℕ
+destination_of (Send from ssn to) = to
+destination_of (Receipt to rsn from ssn) = to
+
+-- which of its member's sends, or receipts, an event says that it is
+abbrev pub number_of : Mark → ℕ
+number_of (Send from ssn to) = ssn
+number_of (Receipt to rsn from ssn) = rsn
+
 -- what names the event, if it is a receipt
 abbrev pub determinant_of : Mark → Option Determinant
 determinant_of (Send from ssn to) = None

@@ -1,7 +1,9 @@
 pub mod Laws
 pub mod DumpParts
 pub mod Counted
+pub mod Breaches
 pub mod Configs
+pub mod Plans
 pub mod Names
 pub mod Fold
 pub mod Audit

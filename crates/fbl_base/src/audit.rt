@@ -5,15 +5,17 @@
 //! are those of Alvisi and Marzullo (1998): a receipt is recorded while a member outside the strike set holds its
 //! determinant.
 
-ghost use Rattle.std.specs.Prelude.{◌≡◌, ◌<◌, ◌≤◌, ◌↔◌, ℕ, true, Decides, ◌&&◌, nat_lt, IfOk, IfErr, MatchOption, replicate, length, IsTrue};
+ghost use Rattle.std.specs.Prelude.{◌≡◌, ◌<◌, ◌≤◌, ◌↔◌, ℕ, true, IfOk, IfErr, IfSome, MatchOption, replicate, length, IsTrue};
 ghost use Rattle.std.specs.FinSet as set;
 ghost use Rattle.fbl_base.specs.Audit.{HeldAt, IsDump, IsFirstBreach, IsLost, IsOrphan, IsOrphanStart, RefusesDump, is_held_outside, lost_determinants, orphan_start_in};
+ghost use Rattle.fbl_base.specs.Breaches.{BreaksPair, FitsPair, IsEventFault, IsOfDump, IsPairFault, dump_refusal};
 ghost use Rattle.fbl_base.specs.Events.{same_determinant};
 ghost use Rattle.std.specs.HashSet as hash_set;
 ghost use Rattle.fbl_base.specs.DumpParts.{parts_of, is_received};
 ghost use Rattle.fbl_base.specs.Rules.{ObeysAt, WellFormed};
 ghost use Rattle.fbl_base.specs.Reach.{reached_after, unreached_sends_after, is_lost_test};
 
+use crate::fault::{DumpFault, EventFault, EventRule, Outsider, PairFault, PairRule};
 use crate::member::Member;
 use crate::member_set::MemberSet;
 use crate::raw_dump::RawDump;
@@ -52,6 +54,14 @@ impl<A: Allocator> Model for Dump<A> {
 }
 
 impl<A: Allocator> Dump<A> {
+    /// The dump of these parts, for a caller who has shown that they obey the rules: nothing is tested, and no memory is taken.
+    pub fn lawful(raw: RawDump<A>) -> Dump<A>
+        requires { IsDump (parts_of raw) }
+        ensures { result ≡ parts_of raw }
+    {
+        Dump { raw }
+    }
+
     /// How many members the group had.
     pub fn members(&self) -> u8
         ensures { result ≡ self.now.members }
@@ -236,22 +246,31 @@ pub fn orphan_starts<A: Allocator + Copy>(
     Ok(starts)
 }
 
-/// The first event that breaks a rule.
+/// The first event that breaks a rule, and the first rule that it breaks.
 fn first_bad_event<A: Allocator + Copy>(
     alloc: A,
     n: u8,
     events: &[Mark],
-) -> Result<Option<usize>, AllocError>
+) -> Result<Option<EventFault>, AllocError>
     requires { n ≤ 16 }
-    ensures { IfOk result (λ r. MatchOption r (WellFormed n events.now) (IsFirstBreach (ObeysAt n events.now))) }
+    ensures place { IfOk result (λ r. MatchOption r (WellFormed n events.now) (λ fault. IsFirstBreach (ObeysAt n events.now) fault.place)) }
+    ensures fault { IfOk result (λ r. IfSome r (IsEventFault n events.now)) }
 {
     let mut counts = Counts::new(alloc)?;
-    for place in 0..events.len() {
+    for (place, event) in events.iter().enumerate() {
         if place >= 8192 {
-            return Ok(Some(place));
+            return Ok(Some(EventFault {
+                place,
+                event: *event,
+                rule: EventRule::TooMany,
+            }));
         }
-        if !counts.admit(n, events, place)? {
-            return Ok(Some(place));
+        if let Some(rule) = counts.admit(n, events, place)? {
+            return Ok(Some(EventFault {
+                place,
+                event: *event,
+                rule,
+            }));
         }
     }
     Ok(None)
@@ -270,31 +289,48 @@ fn receipts<A: Allocator + Copy>(alloc: A, events: &[Mark]) -> Result<Determinan
     Ok(receipts)
 }
 
-/// Whether the pair at `place` has a member below `n` and the determinant of one of the receipts.
-fn pair_fits<A: Allocator>(
-    n: u8,
+/// The first rule that the pair at `place` breaks, where these are the determinants of the receipts.
+fn broken_rule<A: Allocator>(
+    raw: &RawDump<A>,
     receipts: &DeterminantSet<A>,
     place: usize,
-    pair: (Member, Determinant),
-) -> bool
-    ensures { result ≡ (nat_lt place 131072 && (nat_lt pair.0 n && hash_set.contains same_determinant receipts.now pair.1)) }
+    pair: &(Member, Determinant),
+) -> Option<PairRule>
+    requires { (d : _) → hash_set.contains same_determinant receipts.now d ≡ is_received raw.now.events.items d }
+    ensures { MatchOption result (FitsPair raw.now.members raw.now.events.items place pair.now.0 pair.now.1) (BreaksPair raw.now.members raw.now.events.items place pair.now.0 pair.now.1) }
 {
-    place < 131_072 && pair.0.number() < n && receipts.contains(&pair.1)
+    let members = raw.members;
+    if place >= 131_072 {
+        return Some(PairRule::TooMany);
+    }
+    if pair.0.number() >= members {
+        let member = pair.0;
+        return Some(PairRule::Outside(Outsider { member, members }));
+    }
+    if !receipts.contains(&pair.1) {
+        return Some(PairRule::NoReceipt(pair.1.receipt()));
+    }
+    None
 }
 
-/// The first pair whose holder isn't below `n`, or that holds no receipt's determinant, or that is one
-/// too many.
+/// The first pair that breaks a rule, and the first rule that it breaks.
 fn first_bad_pair<A: Allocator + Copy>(
     alloc: A,
     raw: &RawDump<A>,
-) -> Result<Option<usize>, AllocError>
-    ensures { IfOk result (λ r. MatchOption r ((i : ℕ) → HeldAt (parts_of raw.now) i) (IsFirstBreach (HeldAt (parts_of raw.now)))) }
+) -> Result<Option<PairFault>, AllocError>
+    ensures place { IfOk result (λ r. MatchOption r ((i : ℕ) → HeldAt (parts_of raw.now) i) (λ fault. IsFirstBreach (HeldAt (parts_of raw.now)) fault.place)) }
+    ensures fault { IfOk result (λ r. IfSome r (IsPairFault (parts_of raw.now))) }
 {
     let receipts = receipts(alloc, raw.events.as_slice())?;
     for place in 0..raw.held.len() {
-        let pair = raw.held[place];
-        if !pair_fits(raw.members, &receipts, place, pair) {
-            return Ok(Some(place));
+        let pair = &raw.held[place];
+        if let Some(rule) = broken_rule(raw, &receipts, place, pair) {
+            return Ok(Some(PairFault {
+                place,
+                holder: pair.0,
+                determinant: pair.1,
+                rule,
+            }));
         }
     }
     Ok(None)
@@ -308,24 +344,38 @@ pub fn check_dump<A: Allocator + Copy>(alloc: A, raw: RawDump<A>) -> Result<Dump
     ensures rules { IfOk result IsDump }
     ensures refused { IfErr result (RefusesDump (parts_of raw)) }
 {
-    if raw.members < 2 || raw.members > 16 {
-        return Err(DumpRefusal::BadMembers);
+    match checked_dump(alloc, raw) {
+        Ok(dump) => Ok(dump),
+        Err(fault) => Err(fault.refusal()),
     }
-    if raw.f < 1 || raw.f >= raw.members {
-        return Err(DumpRefusal::BadF);
+}
+
+/// The dump, as `check_dump` answers it, or the first rule that it breaks, with the numbers that break it.
+pub fn checked_dump<A: Allocator + Copy>(alloc: A, raw: RawDump<A>) -> Result<Dump<A>, DumpFault>
+    ensures accepted { IfOk result (λ d. d ≡ parts_of raw) }
+    ensures rules { IfOk result IsDump }
+    ensures refused { IfErr result (λ fault. RefusesDump (parts_of raw) (dump_refusal fault)) }
+    ensures fault { IfErr result (IsOfDump (parts_of raw)) }
+{
+    let members = raw.members;
+    if members < 2 || members > 16 {
+        return Err(DumpFault::BadMembers { members });
     }
-    match first_bad_event(alloc, raw.members, raw.events.as_slice()) {
+    if raw.f < 1 || raw.f >= members {
+        return Err(DumpFault::BadF { f: raw.f, members });
+    }
+    match first_bad_event(alloc, members, raw.events.as_slice()) {
         Ok(None) => {}
-        Ok(Some(place)) => return Err(DumpRefusal::BadEvent(place)),
-        Err(_) => return Err(DumpRefusal::Memory),
+        Ok(Some(fault)) => return Err(DumpFault::BadEvent(fault)),
+        Err(_) => return Err(DumpFault::Memory),
     }
     match first_bad_pair(alloc, &raw) {
         Ok(None) => {}
-        Ok(Some(place)) => return Err(DumpRefusal::BadHeld(place)),
-        Err(_) => return Err(DumpRefusal::Memory),
+        Ok(Some(fault)) => return Err(DumpFault::BadHeld(fault)),
+        Err(_) => return Err(DumpFault::Memory),
     }
-    if !raw.strike.within(raw.members) {
-        return Err(DumpRefusal::BadStrike);
+    match raw.strike.outsider(members) {
+        None => Ok(Dump { raw }),
+        Some(outsider) => Err(DumpFault::BadStrike(outsider)),
     }
-    Ok(Dump { raw })
 }

@@ -1,8 +1,10 @@
 //! The parameters of a group.
 
-ghost use Rattle.std.specs.Prelude.{◌≡◌, ◌↔◌, IsTrue, IfOk, IfErr, MatchResult, length};
-ghost use Rattle.fbl_base.specs.Configs.{IsConfig, RefusesConfig};
+ghost use Rattle.std.specs.Prelude.{◌≡◌, ◌↔◌, IsTrue, IfOk, IfErr, IfNone, IfSome, MatchResult, length};
+ghost use Rattle.fbl_base.specs.Breaches.{IsOfConfig, IsStartFault, config_refusal};
+ghost use Rattle.fbl_base.specs.Configs.{AreAllowed, AreAllowedBefore, IsConfig, RefusesConfig};
 
+use crate::fault::{ConfigFault, StartFault};
 use crate::trace::Start;
 use std::alloc::{AllocError, Allocator, Global};
 use std::marker::Model;
@@ -83,25 +85,46 @@ impl<A: Allocator + Copy> Config<A> {
         ensures rules { IfOk result IsConfig }
         ensures refused { IfErr result (RefusesConfig (record { members = members; f = f; limit = limit; starts = starts.now })) }
     {
+        match Config::checked(alloc, members, f, limit, starts) {
+            Ok(config) => Ok(config),
+            Err(fault) => Err(fault.refusal()),
+        }
+    }
+
+    /// A configuration as `new` makes it, or the first rule that the parameters break, with the numbers that break it.
+    pub fn checked(
+        alloc: A,
+        members: u8,
+        f: u8,
+        limit: u32,
+        starts: &[Start],
+    ) -> Result<Config<A>, ConfigFault>
+        ensures accepted { IfOk result (λ c. c ≡ record { members = members; f = f; limit = limit; starts = starts.now }) }
+        ensures rules { IfOk result IsConfig }
+        ensures refused { IfErr result (λ fault. RefusesConfig (record { members = members; f = f; limit = limit; starts = starts.now }) (config_refusal fault)) }
+        ensures fault { IfErr result (IsOfConfig (record { members = members; f = f; limit = limit; starts = starts.now })) }
+    {
         if members < 2 || members > 16 {
-            return Err(ConfigRefusal::BadMembers);
+            return Err(ConfigFault::BadMembers { members });
         }
         if f < 1 || f >= members {
-            return Err(ConfigRefusal::BadF);
+            return Err(ConfigFault::BadF { f, members });
         }
         if limit < 1 || limit > 8192 {
-            return Err(ConfigRefusal::BadLimit);
+            return Err(ConfigFault::BadLimit { limit });
         }
-        if starts.len() > 64 {
-            return Err(ConfigRefusal::TooManyStarts);
+        let count = starts.len();
+        if count > 64 {
+            return Err(ConfigFault::TooManyStarts { starts: count });
         }
-        for (place, start) in starts.iter().enumerate() {
-            if !start.is_allowed(members) {
-                return Err(ConfigRefusal::BadStart(place));
-            }
+        if let Some(fault) = first_bad_start(members, starts) {
+            return Err(ConfigFault::BadStart(fault));
         }
-        if (limit as usize) < starts.len() {
-            return Err(ConfigRefusal::LimitBelowStarts);
+        if (limit as usize) < count {
+            return Err(ConfigFault::LimitBelowStarts {
+                limit,
+                starts: count,
+            });
         }
         match starts.to_vec(alloc) {
             Ok(starts) => Ok(Config {
@@ -110,7 +133,7 @@ impl<A: Allocator + Copy> Config<A> {
                 limit,
                 starts,
             }),
-            Err(_) => Err(ConfigRefusal::Memory),
+            Err(_) => Err(ConfigFault::Memory),
         }
     }
 
@@ -165,4 +188,22 @@ impl<A: Allocator + Copy> Config<A> {
             starts: self.starts.as_slice().to_vec(*self.starts.allocator())?,
         })
     }
+}
+
+/// The first start that breaks a rule in a group of so many members.
+fn first_bad_start(members: u8, starts: &[Start]) -> Option<StartFault>
+    ensures all { IfNone result (AreAllowed members starts.now) }
+    ensures first { IfSome result (λ fault. AreAllowedBefore members starts.now fault.place) }
+    ensures fault { IfSome result (IsStartFault members starts.now) }
+{
+    for (place, start) in starts.iter().enumerate() {
+        if let Some(rule) = start.broken_rule(members) {
+            return Some(StartFault {
+                place,
+                start: *start,
+                rule,
+            });
+        }
+    }
+    None
 }

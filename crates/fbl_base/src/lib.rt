@@ -4,10 +4,12 @@
 pub mod audit;
 mod behaviour;
 mod config;
+mod fault;
 pub mod laws;
 mod member;
 mod member_set;
 mod outcome;
+mod plan;
 mod raw_dump;
 mod refusal;
 mod rules;
@@ -16,9 +18,14 @@ mod trace;
 
 pub use behaviour::{Behaviour, Mix, Relay};
 pub use config::{Config, ConfigRefusal};
+pub use fault::{
+    ConfigFault, DumpFault, EntryRule, EventFault, EventRule, Outsider, PairFault, PairRule,
+    PlanFault, StartFault, StartRule,
+};
 pub use member::Member;
 pub use member_set::MemberSet;
 pub use outcome::Outcome;
+pub use plan::{first_bad_entry, plan_fault};
 pub use raw_dump::RawDump;
 pub use refusal::DumpRefusal;
 pub use strike::Strike;

@@ -1,9 +1,12 @@
-ghost use Rattle.std.specs.Prelude.{◌≡◌, ◌<◌, ◌≤◌, ◌↔◌, ℕ, IfOk, IsTrue, true, ◌&&◌, not};
+ghost use Rattle.std.specs.Prelude.{◌≡◌, ◌<◌, ◌≤◌, ◌↔◌, ℕ, IfOk, IsTrue, true, ◌&&◌, not, MatchOption};
 ghost use Rattle.std.specs.FinSet as set;
+ghost use Rattle.fbl_base.specs.Breaches.{IsLeastOutside};
 ghost use Rattle.fbl_base.specs.MemberSets.{AllBelow, member_list};
 
+use crate::fault::Outsider;
 use crate::member::Member;
 use std::alloc::{AllocError, Allocator};
+use std::fmt;
 use std::marker::Model;
 
 /// A set of members.
@@ -95,6 +98,21 @@ impl MemberSet {
         n >= 16 || self.bits >> n == 0
     }
 
+    /// The least member that isn't below `n`, if there is one.
+    pub fn outsider(self, n: u8) -> Option<Outsider>
+        ensures { MatchOption result (AllBelow self n) (IsLeastOutside self n) }
+    {
+        // the bits are 16: no member is above 15
+        let _bits = self.bits;
+        for number in n..16u8 {
+            let member = Member::new(number)?;
+            if self.has(member) {
+                return Some(Outsider { member, members: n });
+            }
+        }
+        None
+    }
+
     /// The members that are not in the other set.
     pub fn without(self, other: MemberSet) -> MemberSet
         ensures { result ≡ set.difference self other }
@@ -102,5 +120,20 @@ impl MemberSet {
         MemberSet {
             bits: self.bits & !other.bits,
         }
+    }
+}
+
+/// As the list of its members, rising, as in `[0,2]`.
+impl fmt::Display for MemberSet {
+    fn fmt<W: fmt::Write>(&self, f: &mut fmt::Formatter<W>) -> fmt::Result {
+        f.write_str("[")?;
+        let mut end = "";
+        for number in 0..16u8 {
+            if (self.bits >> number) & 1 == 1 {
+                write!(f, "{end}{number}")?;
+                end = ",";
+            }
+        }
+        f.write_str("]")
     }
 }

@@ -1,12 +1,15 @@
 //! The rules of events, checked in one pass: how many sends and receipts each member has had, and what is in flight on each
 //! channel.
 
-ghost use Rattle.std.specs.Prelude.{◌≡◌, ◌↔◌, ◌<◌, ◌≤◌, ◌+◌, ◌*◌, ◌++◌, ◌∷◌, [], ℕ, IsTrue, IfOk, OnOk, length, take, drop, slice_get, slice_index, vec_len};
-ghost use Rattle.fbl_base.specs.Counted.{Counted, SendFits, ReceiptFits};
+ghost use Rattle.std.specs.Prelude.{◌≡◌, ◌<◌, ◌≤◌, ◌+◌, ◌*◌, ◌++◌, ◌∷◌, [], ℕ, IfNone, IfOk, OnOk, MatchOption, length, take, drop, slice_get, slice_index, vec_len};
+ghost use Rattle.fbl_base.specs.Breaches.{Breaks, BreaksAt, Fits};
+ghost use Rattle.fbl_base.specs.Events.{destination_of, source_of};
+ghost use Rattle.fbl_base.specs.Counted.{Counted, CountsEvent, first_by, next_by};
 ghost use Rattle.fbl_base.specs.Rules.{ObeysAt, WellFormed};
 
+use crate::fault::EventRule;
 use crate::member::Member;
-use crate::trace::Mark;
+use crate::trace::{Mark, end_outside};
 use std::alloc::{AllocError, Allocator, Global};
 use std::collections::VecDeque;
 use std::marker::Model;
@@ -78,57 +81,92 @@ impl<A: Allocator + Copy> Counts<A> {
         })
     }
 
-    /// Whether the send has the numbers of the next one.
-    fn fits_send(&self, n: u8, from: Member, ssn: u32, to: Member) -> bool
-        requires { slice_index self.now.sends from < 8192 }
-        ensures { IsTrue result ↔ SendFits n self.now from ssn to }
+    /// The number that the event has to have.
+    fn next_number(&self, event: &Mark) -> u32
+        requires { next_by self.now event.now ≤ 8192 }
+        ensures { result ≡ next_by self.now event.now }
     {
-        from.number() < n
-            && to.number() < n
-            && from.number() != to.number()
-            && ssn == self.sends[from.number() as usize] + 1
+        match *event {
+            Mark::Send { from, .. } => self.sends[from.number() as usize] + 1,
+            Mark::Receipt { to, .. } => self.receipts[to.number() as usize] + 1,
+        }
     }
 
-    /// Whether the receipt has the numbers of the next one, and takes the first message of its channel.
-    fn fits_receipt(&self, n: u8, to: Member, rsn: u32, from: Member, ssn: u32) -> bool
-        requires few { slice_index self.now.receipts to < 8192 }
-        requires channels { vec_len self.now.channels ≡ 256 }
-        ensures { IsTrue result ↔ ReceiptFits n self.now to rsn from ssn }
+    /// The first message in flight from the event's source to its destination.
+    fn first_in_flight(&self, event: &Mark) -> Option<u32>
+        requires { vec_len self.now.channels ≡ 256 }
+        ensures first { result ≡ first_by self.now event.now }
+        ensures ends { (source_of event.now < 16) × (destination_of event.now < 16) }
     {
-        from.number() < n
-            && to.number() < n
-            && from.number() != to.number()
-            && rsn == self.receipts[to.number() as usize] + 1
-            && self.channels[channel_index(from, to)].first() == Some(ssn)
+        self.channels[channel_index(event.source(), event.destination())].first()
     }
 
-    /// Counts the event at `place`, if it obeys the rules after those before it.
-    pub(crate) fn admit(&mut self, n: u8, events: &[Mark], place: usize) -> Result<bool, AllocError>
+    /// Counts the event, which obeys the rules.
+    fn count(&mut self, event: &Mark) -> Result<(), AllocError>
+        requires { vec_len self.old.channels ≡ 256 }
+        ensures { OnOk result (CountsEvent event.now self.old self.new) }
+    {
+        match *event {
+            Mark::Send { from, ssn, to } => {
+                self.channels[channel_index(from, to)].push(ssn)?;
+                self.sends[from.number() as usize] = ssn;
+            }
+            Mark::Receipt { to, rsn, from, .. } => {
+                self.channels[channel_index(from, to)].pop();
+                self.receipts[to.number() as usize] = rsn;
+            }
+        }
+        Ok(())
+    }
+
+    /// Counts the event at `place`, if it obeys the rules after those before it, and else answers the first rule that it breaks.
+    pub(crate) fn admit(
+        &mut self,
+        n: u8,
+        events: &[Mark],
+        place: usize,
+    ) -> Result<Option<EventRule>, AllocError>
         requires members { n ≤ 16 }
         requires within { place < length events.now }
         requires few { place < 8192 }
         requires rules { WellFormed n (take place events.now) }
         requires counted { Counted (take place events.now) self.old }
-        ensures verdict { IfOk result (λ ok. IsTrue ok ↔ ObeysAt n events.now place) }
-        ensures counted { IfOk result (λ ok. IsTrue ok → Counted (take (place + 1) events.now) self.new) }
+        ensures verdict { IfOk result (λ found. MatchOption found (ObeysAt n events.now place) (BreaksAt n events.now place)) }
+        ensures counted { IfOk result (λ found. IfNone found (Counted (take (place + 1) events.now) self.new)) }
     {
-        match events[place] {
-            Mark::Send { from, ssn, to } => {
-                if !self.fits_send(n, from, ssn, to) {
-                    return Ok(false);
-                }
-                self.channels[channel_index(from, to)].push(ssn)?;
-                self.sends[from.number() as usize] = ssn;
-            }
-            Mark::Receipt { to, rsn, from, ssn } => {
-                if !self.fits_receipt(n, to, rsn, from, ssn) {
-                    return Ok(false);
-                }
-                self.channels[channel_index(from, to)].pop();
-                self.receipts[to.number() as usize] = rsn;
-            }
+        let event = &events[place];
+        let next = self.next_number(event);
+        let first = self.first_in_flight(event);
+        if let Some(rule) = broken_rule(n, event, next, first) {
+            return Ok(Some(rule));
         }
-        Ok(true)
+        self.count(event)?;
+        Ok(None)
+    }
+}
+
+/// The first rule that an event breaks in a group of `n`, where its number has to be `next`, and `first` is the first message
+/// in flight on its channel.
+fn broken_rule(n: u8, event: &Mark, next: u32, first: Option<u32>) -> Option<EventRule>
+    ensures { MatchOption result (Fits n event.now next first) (Breaks n event.now next first) }
+{
+    let from = event.source();
+    let to = event.destination();
+    if let Some(outsider) = end_outside(n, from, to) {
+        return Some(EventRule::Outside(outsider));
+    }
+    if from == to {
+        return Some(EventRule::ToItself);
+    }
+    if event.number() != next {
+        return Some(EventRule::WrongNumber(next));
+    }
+    match *event {
+        Mark::Receipt { ssn, .. } if first != Some(ssn) => Some(match first {
+            Some(first) => EventRule::OtherInFlight { from, to, first },
+            None => EventRule::NothingInFlight { from, to },
+        }),
+        _ => None,
     }
 }
 

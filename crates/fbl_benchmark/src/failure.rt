@@ -13,7 +13,7 @@ pub enum Failure {
     /// A group's parameters are refused.
     #[error("configuration: {0}")]
     Configuration(#[from] ConfigRefusal),
-    /// Memory is wanting.
+    /// Memory runs out.
     #[error("memory: {0}")]
     Memory(#[from] AllocError),
     /// A delivery is refused.

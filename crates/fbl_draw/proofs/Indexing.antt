@@ -1,48 +1,12 @@
--- How the indexes of determinants and of messages are made.
-use Rattle.std.proofs.Common.{ℕ, ◌+◌, ◌<◌, ◌≡◌, ◌==◌, Bool, true, false, cond, List, [], ◌∷◌, ◌++◌, length, length-take, take, get_or, map, Option, Some, None, unwrap_or, Decides, refl, sym, ap, ◌∙◌, arith, append-nil}
+-- How the index of messages is made.
+use Rattle.std.proofs.Common.{ℕ, ◌+◌, ◌<◌, ◌≡◌, ◌==◌, Bool, true, false, cond, List, [], ◌∷◌, ◌++◌, length, length-take, take, get_or, Option, Some, None, Decides, refl, sym, ap, ◌∙◌, arith}
 use Rattle.std.specs.Option.{option_or, is_some}
-use Rattle.std.specs.List.{filter, position_from}
-use Rattle.std.specs.Ordering.{nat_cmp}
-use Rattle.std.specs.Cmp.{nat_cmp_total}
-use Rattle.std.specs.FinSet as set
-use Rattle.std.proofs.lemmas.List.{map-append, take_more}
-use Rattle.std.proofs.lemmas.List.Elements.{filter_more}
-use Rattle.fbl_base.specs.declared.trace.Determinant.{Determinant}
+use Rattle.std.specs.List.{position_from}
+use Rattle.std.proofs.lemmas.List.{take_more}
 use Rattle.fbl_base.specs.declared.trace.Mark.{Mark}
-use Rattle.fbl_base.specs.Events.{same_determinant}
-use Rattle.fbl_base.proofs.Recorded.{Decides-same_determinant, both_true, eqb_same, same_eqb}
+use Rattle.fbl_base.proofs.Recorded.{both_true, eqb_same, same_eqb}
 use Rattle.fbl_draw.specs.declared.receipts.Message.{Message}
 use Rattle.fbl_draw.specs.Receipts.{is_message, receipt_place, same_message, taken_by, takes}
-
--- ---- who holds what
-
--- the members that hold the determinant by these pairs
-abbrev held_by : Determinant → List (ℕ × Determinant) → set.FinSet nat_cmp
-held_by d xs = set.from_list (map (λ h. h.0) (filter (λ h. same_determinant h.1 d) xs))
-
--- one more pair
-pub held_more : (old : Determinant → Option (set.FinSet nat_cmp)) (xs : List (ℕ × Determinant)) (i : ℕ) (x : ℕ × Determinant) (d : Determinant) (members : set.FinSet nat_cmp) (after : Option (set.FinSet nat_cmp))
-    → i < length xs → x ≡ get_or xs i x → unwrap_or (old d) set.empty ≡ held_by d (take i xs) → members ≡ set.insert (unwrap_or (old x.1) set.empty) x.0
-    → after ≡ cond (same_determinant x.1 d) (Some members) (old d) → unwrap_or after set.empty ≡ held_by d (take (i + 1) xs)
-held_more old xs i x d members after within is was now new = at_key (same_determinant x.1 d) refl where
-  more : (b : Bool) → same_determinant x.1 d ≡ b → held_by d (take (i + 1) xs) ≡ set.from_list (map (λ h. h.0) (filter (λ h. same_determinant h.1 d) (take i xs)) ++ map (λ h. h.0) (cond b (x ∷ []) []))
-  more b e =
-      ap (λ l. set.from_list (map (λ h. h.0) l)) (filter_more (λ h. same_determinant h.1 d) xs i x within ∙ ap (λ y. filter (λ h. same_determinant h.1 d) (take i xs) ++ cond (same_determinant y.1 d) (y ∷ []) []) (sym is) ∙ ap (λ c. filter (λ h. same_determinant h.1 d) (take i xs) ++ cond c (x ∷ []) []) e)
-      ∙ ap set.from_list (map-append (λ h. h.0) (filter (λ h. same_determinant h.1 d) (take i xs)) (cond b (x ∷ []) []))
-
-  at_key : (b : Bool) → same_determinant x.1 d ≡ b → unwrap_or after set.empty ≡ held_by d (take (i + 1) xs)
-  at_key true e =
-      let key : x.1 ≡ d = (Decides-same_determinant x.1 d).0 e in
-      ap (λ o. unwrap_or o set.empty) (new ∙ ap (λ b. cond b (Some members) (old d)) e) ∙ now
-      ∙ ap (λ s. set.insert s x.0) (ap (λ k. unwrap_or (old k) set.empty) key ∙ was)
-      ∙ sym (set.from_list_push nat_cmp_total set.nat_cmp-IsAntisymmetric _ x.0)
-      ∙ sym (more true e)
-  at_key false e =
-      ap (λ o. unwrap_or o set.empty) (new ∙ ap (λ b. cond b (Some members) (old d)) e) ∙ was
-      ∙ ap set.from_list (sym (append-nil _))
-      ∙ sym (more false e)
-
--- ---- where messages are received
 
 pub Decides-same_message : (a b : Message) → Decides (same_message a b) (a ≡ b)
 Decides-same_message a b = (same, is) where

@@ -1,3 +1,2 @@
-pub mod Lengths
 pub mod Indexing
 pub mod Rows

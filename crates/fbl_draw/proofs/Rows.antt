@@ -1,16 +1,38 @@
--- The lines of members, one after another.
-use Rattle.std.proofs.Common.{ℕ, ◌+◌, ◌<◌, ◌≡◌, List, [], ◌++◌, Bool, Option, take, get_or, sym, ap, ◌∙◌, arith}
+-- The shapes of members, one after another.
+use Rattle.std.proofs.Common.{ℕ, ◌+◌, ◌<◌, ◌≡◌, List, ◌++◌, Bool, Option, Some, None, Vec, Global, inl, inr, length, slice_get, take, get_or, sym, ap, ◌∙◌, arith}
 use Rattle.std.specs.List.{flat_map, range_with_len}
+use Rattle.std.specs.Option.{SomeIff}
 use Rattle.std.proofs.lemmas.List.{flat_map_more, take_more}
 use Rattle.std.proofs.lemmas.List.FromFn.{get_or-range_with_len, length-range_with_len}
-use Rattle.fbl_draw.specs.Pictures.{member_row}
+use Rattle.std.proofs.lemmas.Option.{slice_get_cases}
+use Rattle.fbl_base.specs.Audit.{Parts}
+use Rattle.fbl_draw.specs.Members.{member_shapes}
+use Rattle.fbl_draw.specs.Paths.{IsPathDrawn, places_in}
 
 -- one more number
-pub rows_more : (f : ℕ → List ℕ) (n i : ℕ) → i < n → flat_map f (take i (range_with_len 0 n)) ++ f i ≡ flat_map f (take (i + 1) (range_with_len 0 n))
-rows_more f n i lt =
+pub rows_more : {X : Type 0} (f : ℕ → List X) (before : List X) (n i : ℕ) → i < n
+    → (before ++ flat_map f (take i (range_with_len 0 n))) ++ f i ≡ before ++ flat_map f (take (i + 1) (range_with_len 0 n))
+rows_more f before n i lt =
     let r : List ℕ = range_with_len 0 n in
     let at : get_or r i 0 ≡ i = omega (arith, get_or-range_with_len 0 n i 0 lt) in
-    ap (λ k. flat_map f (take i r) ++ f k) (sym at) ∙ flat_map_more f [] (take i r) (get_or r i 0) ∙ ap (flat_map f) (sym (take_more r i 0 (omega (arith, length-range_with_len 0 n))))
+    let more = take_more r i 0 (omega (arith, length-range_with_len 0 n)) in
+    ap (λ k. (before ++ flat_map f (take i r)) ++ f k) (sym at)
+    ∙ flat_map_more f before (take i r) (get_or r i 0)
+    ∙ ap (λ l. before ++ flat_map f l) (sym more)
 
-pub row_same : (m events events' : ℕ) (struck struck' : Bool) (start start' : Option ℕ) → events ≡ events' → struck ≡ struck' → start ≡ start' → member_row m events struck start ≡ member_row m events' struck' start'
-row_same m events events' struck struck' start start' e s p = (λ i. member_row m (e i) (s i) (p i))
+pub row_same : (columns columns' m m' : ℕ) (struck struck' : Bool) (start start' : Option ℕ) → columns ≡ columns' → m ≡ m' → struck ≡ struck' → start ≡ start'
+    → member_shapes columns m struck start ≡ member_shapes columns' m' struck' start'
+row_same columns columns' m m' struck struck' start start' c e s p = (λ i. member_shapes (c i) (e i) (s i) (p i))
+
+-- the member that there is with a number
+pub is_number : (o : Option ℕ) (x n : ℕ) → SomeIff o (n < 16) n → o ≡ Some x → x ≡ n
+is_number None x n iff is = cc
+is_number (Some y) x n iff is = (let e : y ≡ x = cc in sym e ∙ iff.1)
+
+-- what holds of each path of a list holds of what the list has for each member
+pub each_path : (dump : Parts) (paths : List (Vec ℕ Global)) → length paths ≡ 16
+    → ((q : ℕ) (path : Vec ℕ Global) → slice_get paths q ≡ Some path → IsPathDrawn dump q path.items) → (q : ℕ) → q < 16 → IsPathDrawn dump q (places_in paths q)
+each_path dump paths count each q within = elim (slice_get_cases paths q).1 [
+  | inl found ↦ (let at : slice_get paths q ≡ Some found.0 = found.2 in rw at (each q found.0 at))
+  | inr past ↦ absurd (omega (arith, past.0, count, within))
+]

@@ -1,5 +1,6 @@
-pub mod Places
 pub mod Receipts
-pub mod Marks
+pub mod Events
+pub mod Members
+pub mod Paths
 pub mod Pictures
 pub mod Drawing

@@ -3,7 +3,7 @@
 ghost use Rattle.std.specs.Prelude.{◌≡◌, ◌≤◌, ℕ, length, IfOk, IfErr, OnErr, IfSome, string_bytes};
 ghost use Rattle.fbl_draw.specs.Drawing.{Draws, DrawsDump, ReadsAndDraws};
 
-use crate::picture::picture_text;
+use crate::picture::dump_picture;
 use fbl_base::audit::Dump;
 use fbl_dump::dump_of_bytes;
 use fbl_input::{RunFault, put, read_input};
@@ -14,7 +14,7 @@ use std::io::{Read, Write};
 fn draw_dump<W: Write>(alloc: Global, writer: &mut W, dump: &Dump) -> Result<(), RunFault>
     ensures { DrawsDump dump.now (W.contents writer.old) (W.contents writer.new) result }
 {
-    let text = picture_text(alloc, dump)?;
+    let text = dump_picture(alloc, dump)?;
     put(writer, text.as_bytes())
 }
 

@@ -4,8 +4,8 @@
 mod drawing;
 mod events;
 mod members;
+mod paths;
 mod picture;
-mod places;
 mod receipts;
 
 pub use drawing::{draw, draw_bytes};

@@ -3,3 +3,4 @@ pub mod Newlines
 pub mod DumpValues
 pub mod DumpTexts
 pub mod Answers
+pub mod Verdicts

@@ -5,7 +5,7 @@ use Rattle.std.specs.FinSet as set
 use Rattle.fbl_base.specs.Audit.{Parts, IsOrphan, lost_determinants}
 use Rattle.fbl_lines.specs.Lines.{audit_lines}
 use Rattle.fbl_input.specs.declared.fault.RunFault.{RunFault}
-use Rattle.fbl_dump.specs.Answering.{Answers, AnswersDump, ReadsAndAnswers}
+use Rattle.fbl_dump.specs.Answering.{Answers, AnswersDump, ReadsAndAnswers, TextAlone}
 
 -- the lines of the audit of a dump: its lost determinants and its orphans
 abbrev pub IsAuditText : Parts → List ℕ → Type 0
@@ -13,12 +13,12 @@ IsAuditText dump text = (orphans : set.FinSet nat_cmp) × ((q : ℕ) → (set.co
 
 -- what an audit of the dump leaves in the writer
 abbrev pub AuditsDump : Parts → Option (List ℕ) → Option (List ℕ) → Result (Unit {0}) RunFault → Type 0
-AuditsDump = AnswersDump IsAuditText
+AuditsDump = AnswersDump (TextAlone IsAuditText)
 
 -- what an audit of the bytes leaves in the writer
 abbrev pub Audits : List ℕ → Option (List ℕ) → Option (List ℕ) → Result (Unit {0}) RunFault → Type 0
-Audits = Answers IsAuditText
+Audits = Answers (TextAlone IsAuditText)
 
 -- what an audit of what a reader has leaves in the writer: a read may fail, and else it is an audit of the bytes
 abbrev pub ReadsAndAudits : List ℕ → Option (List ℕ) → Option (List ℕ) → Result (Unit {0}) RunFault → Type 0
-ReadsAndAudits = ReadsAndAnswers IsAuditText
+ReadsAndAudits = ReadsAndAnswers (TextAlone IsAuditText)

@@ -10,42 +10,12 @@ use Rattle.fbl_input.specs.declared.fault.Key.{Key}
 use Rattle.fbl_input.specs.declared.fault.Key.TheVariants as keys
 use Rattle.fbl_input.specs.declared.fault.RunFault.{RunFault}
 use Rattle.fbl_input.specs.declared.fault.RunFault.TheVariants as faults
+pub use Rattle.fbl_input.specs.Items.{dump_keys, event_from, event_shape, pair_from, pair_shape, receipt_from, send_from}
+use Rattle.fbl_input.specs.declared.input_fault.InputFault.{InputFault}
+use Rattle.fbl_input.specs.declared.input_fault.InputKind.TheVariants as kinds
+use Rattle.fbl_input.specs.Misfits.{IsMisfit, IsOfParts}
 use Rattle.fbl_input.specs.Faults.{IsFirstFault, IsRefused}
 use Rattle.fbl_input.specs.Shapes.{◌>>=◌, or_fault, number_within, count_shape, member_shape, as_list, is_text, list_of, set_shape, field, has_other_key, value_of_input}
-
--- `["send", from, ssn, to]`
-abbrev pub send_from : Data → Data → Data → Data → Option Mark
-send_from name from ssn to =
-    if is_text (codes "send") name then option_and_then (λ p. option_and_then (λ s. option_map (λ q. Send p s q)
-    (member_shape to)) (count_shape ssn)) (member_shape from) else None
-
--- `["receipt", to, rsn, from, ssn]`
-abbrev pub receipt_from : Data → Data → Data → Data → Data → Option Mark
-receipt_from name to rsn from ssn =
-    if is_text (codes "receipt") name then option_and_then (λ p. option_and_then (λ r. option_and_then (λ q. option_map (λ s. Receipt p r q s)
-    (count_shape ssn)) (member_shape from)) (count_shape rsn)) (member_shape to) else None
-
-abbrev pub event_from : List Data → Option Mark
-event_from (name ∷ from ∷ ssn ∷ to ∷ []) = send_from name from ssn to
-event_from (name ∷ to ∷ rsn ∷ from ∷ ssn ∷ []) = receipt_from name to rsn from ssn
-event_from _ = None
-
-abbrev pub event_shape : Data → Option Mark
-event_shape d = option_and_then event_from (as_list d)
-
--- `[holder, from, ssn, to, rsn]`
-abbrev pub pair_from : List Data → Option (ℕ × Determinant)
-pair_from (holder ∷ from ∷ ssn ∷ to ∷ rsn ∷ []) =
-    option_and_then (λ h. option_and_then (λ p. option_and_then (λ s. option_and_then (λ q. option_map (λ r.
-    (h, record { from = p; ssn = s; to = q; rsn = r }))
-    (count_shape rsn)) (member_shape to)) (count_shape ssn)) (member_shape from)) (member_shape holder)
-pair_from _ = None
-
-abbrev pub pair_shape : Data → Option (ℕ × Determinant)
-pair_shape d = option_and_then pair_from (as_list d)
-
-abbrev pub dump_keys : List Key
-dump_keys = keys.Members ∷ keys.F ∷ keys.Events ∷ keys.Held ∷ keys.Strike ∷ []
 
 -- the parts of a dump that a value gives, or its first fault
 unfoldable pub parts_of_data : Data → Result Parts RunFault
@@ -70,10 +40,17 @@ IsDumpOf input dump = (parts_of_input input ≡ Ok dump) × IsDump dump
 abbrev pub IsSomeDump : List ℕ → Type 0
 IsSomeDump input = (dump : Parts) × IsDumpOf input dump
 
--- the fault is the input's first as a dump; memory may be wanting for any input
+-- the fault is the input's first as a dump; memory may run out for any input
 abbrev pub IsDumpFault : List ℕ → RunFault → Type 0
 IsDumpFault input = IsFirstFault (parts_of_input input) (λ _ _. ⊥) RefusesDump
 
--- the dump breaks a rule, or memory was wanting
+-- the dump breaks a rule, or memory ran out
 abbrev pub IsDumpRefused : Parts → RunFault → Type 0
 IsDumpRefused dump = IsRefused (λ _. ⊥) (RefusesDump dump)
+
+-- what the fault says of the input is so: of the value that it is, and of the parts that it has
+abbrev pub IsDumpMisfit : List ℕ → InputFault → Type 0
+IsDumpMisfit input fault = (d : Data) → value_of_input input ≡ Ok d → IsMisfit kinds.Dump d fault
+
+abbrev pub IsOfDumpRead : List ℕ → InputFault → Type 0
+IsOfDumpRead input fault = (dump : Parts) → parts_of_input input ≡ Ok dump → IsOfParts dump fault

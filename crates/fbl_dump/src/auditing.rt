@@ -4,7 +4,8 @@ ghost use Rattle.std.specs.Prelude.{◌≡◌, ◌≤◌, ℕ, length, IfOk, IfE
 ghost use Rattle.fbl_dump.specs.Auditing.{Audits, AuditsDump, IsAuditText, ReadsAndAudits};
 
 use crate::reading::dump_of_bytes;
-use fbl_base::audit::{Dump, lost, orphans};
+use fbl_audit::Audit;
+use fbl_base::audit::Dump;
 use fbl_input::{RunFault, put, read_input};
 use fbl_lines::audit_text;
 use std::alloc::{AllocError, Global};
@@ -14,9 +15,9 @@ use std::io::{Read, Write};
 fn text_of(alloc: Global, dump: &Dump) -> Result<String, AllocError>
     ensures { IfOk result (λ text. IsAuditText dump.now (string_bytes text)) }
 {
-    let lost = lost(alloc, dump)?;
-    let orphans = orphans(alloc, dump)?;
-    audit_text(alloc, lost.as_slice(), orphans)
+    let audit = Audit::of(alloc, dump)?;
+    let lost = audit.lost(alloc)?;
+    audit_text(alloc, lost.as_slice(), audit.orphans())
 }
 
 /// Audits a dump.

@@ -1,24 +1,24 @@
 //! Dumps as JSON.
 
-ghost use Rattle.std.specs.Prelude.{◌≡◌, ◌≤◌, map, IfOk, IfErr};
-ghost use Rattle.serde_json.specs.View.{view, members_view};
+ghost use Rattle.std.specs.Prelude.{◌≡◌, map, IfOk, IfErr};
+ghost use Rattle.serde_json.specs.Data.{Data};
+ghost use Rattle.serde_json.specs.View.{view};
 ghost use Rattle.fbl_base.specs.Audit.{IsDump};
 ghost use Rattle.fbl_base.specs.DumpParts.{parts_of};
-ghost use Rattle.fbl_input.specs.Shapes.{Gives, IsOfShape, has_other_key as has_other_key_of};
-ghost use Rattle.fbl_dump.specs.Dumps.{dump_keys, IsDumpOf, IsDumpFault, IsDumpRefused, event_from, pair_from, parts_of_data, parts_of_input, receipt_from, send_from};
+ghost use Rattle.fbl_input.specs.Items.{event_from, pair_from, receipt_from, send_from};
+ghost use Rattle.fbl_input.specs.Misfits.{Gives, IsMisfit, IsOfParts, IsOfShape, run_fault};
+ghost use Rattle.fbl_input.specs.declared.input_fault.InputKind.TheVariants as kinds;
+ghost use Rattle.fbl_dump.specs.Dumps.{IsDumpOf, IsDumpFault, IsDumpMisfit, IsDumpRefused, IsOfDumpRead, parts_of_data, parts_of_input};
 
-use fbl_base::audit::{Dump, check_dump};
+use fbl_base::audit::{Dump, checked_dump};
 use fbl_base::{Determinant, Mark, Member, RawDump};
 use fbl_input::shapes::{
-    Shape, count_in, has_other_key, is_named, list_in, member_in, number_field, set_field,
-    value_in, values_field,
+    ByteShape, Shape, count_in, is_named, list_in, member_in, no_other_key, object_in, set_field,
+    value_field, value_in, values_field,
 };
-use fbl_input::{Key, RunFault};
-use serde_json::{Map, Value};
+use fbl_input::{InputFault, InputKind, Key, RunFault};
+use serde_json::Value;
 use std::alloc::Global;
-
-/// The keys that a dump has.
-pub const DUMP_KEYS: [Key; 5] = [Key::Members, Key::F, Key::Events, Key::Held, Key::Strike];
 
 fn send_in(name: &Value, from: &Value, ssn: &Value, to: &Value) -> Option<Mark>
     ensures { result ≡ send_from (view name.now) (view from.now) (view ssn.now) (view to.now) }
@@ -56,10 +56,10 @@ fn event_of(list: &[Value]) -> Option<Mark>
 }
 
 /// An event: a list that begins with its name.
-pub struct EventShape;
+struct EventShape;
 
 impl Shape<Mark> for EventShape {
-    ghost use Rattle.fbl_dump.specs.Dumps.{event_shape};
+    ghost use Rattle.fbl_input.specs.Items.{event_shape};
 
     ghost shape = { event_shape };
 
@@ -85,10 +85,10 @@ fn pair_of(list: &[Value]) -> Option<(Member, Determinant)>
 }
 
 /// A held pair: a list of the holder and the parts of the determinant.
-pub struct PairShape;
+struct PairShape;
 
 impl Shape<(Member, Determinant)> for PairShape {
-    ghost use Rattle.fbl_dump.specs.Dumps.{pair_shape};
+    ghost use Rattle.fbl_input.specs.Items.{pair_shape};
 
     ghost shape = { pair_shape };
 
@@ -97,28 +97,21 @@ impl Shape<(Member, Determinant)> for PairShape {
     }
 }
 
-/// Whether there is a key that no dump has.
-fn has_unknown_key(object: &Map<String, Value>) -> bool
-    ensures { result ≡ has_other_key_of dump_keys (members_view object.now.entries) }
-{
-    has_other_key(object, &DUMP_KEYS)
-}
-
 /// The dump that a value gives, not yet checked.
 #[tactic(auto, unfolding(crate::specs::Dumps::parts_of_data))]
-fn raw_dump_of(alloc: Global, value: &Value) -> Result<RawDump, RunFault>
+fn raw_dump_of(alloc: Global, value: &Value) -> Result<RawDump, InputFault>
     ensures exact { Gives parts_of result (parts_of_data (view value.now)) }
     ensures faults { IfErr result IsOfShape }
+    ensures misfit { IfErr result (IsMisfit kinds.Dump (view value.now)) }
 {
-    let object = value.as_object().ok_or(RunFault::NotObject)?;
-    let members = number_field(value, Key::Members, 0, 255)? as u8;
-    let f = number_field(value, Key::F, 0, 255)? as u8;
-    let events = values_field::<Mark, EventShape>(alloc, value, Key::Events)?;
-    let held = values_field::<(Member, Determinant), PairShape>(alloc, value, Key::Held)?;
-    let strike = set_field(value, Key::Strike)?;
-    if has_unknown_key(object) {
-        return Err(RunFault::UnknownKey);
-    }
+    let kind = InputKind::Dump;
+    let object = object_in(kind, value)?;
+    let members = value_field::<u8, ByteShape>(alloc, kind, value, Key::Members)?;
+    let f = value_field::<u8, ByteShape>(alloc, kind, value, Key::F)?;
+    let events = values_field::<Mark, EventShape>(alloc, kind, value, Key::Events)?;
+    let held = values_field::<(Member, Determinant), PairShape>(alloc, kind, value, Key::Held)?;
+    let strike = set_field(alloc, kind, value)?;
+    no_other_key(alloc, kind, value, object)?;
     Ok(RawDump {
         members,
         f,
@@ -129,29 +122,49 @@ fn raw_dump_of(alloc: Global, value: &Value) -> Result<RawDump, RunFault>
 }
 
 /// The dump that an input gives, not yet checked.
-fn raw_dump_in(alloc: Global, input: &[u8]) -> Result<RawDump, RunFault>
+fn raw_dump_in(alloc: Global, input: &[u8]) -> Result<RawDump, InputFault>
     ensures exact { Gives parts_of result (parts_of_input input.now) }
     ensures faults { IfErr result IsOfShape }
+    ensures misfit { IfErr result (IsDumpMisfit input.now) }
 {
     let value = value_in(alloc, input)?;
     raw_dump_of(alloc, &value)
 }
 
 /// The dump, if it obeys the rules.
-fn checked(alloc: Global, raw: RawDump) -> Result<Dump, RunFault>
+fn checked(alloc: Global, raw: RawDump) -> Result<Dump, InputFault>
     ensures same { IfOk result (λ d. d ≡ parts_of raw) }
     ensures rules { IfOk result IsDump }
-    ensures refused { IfErr result (IsDumpRefused (parts_of raw)) }
+    ensures refused { IfErr result (λ fault. IsDumpRefused (parts_of raw) (run_fault fault)) }
+    ensures misfit { IfErr result (λ fault. (d : Data) → IsMisfit kinds.Dump d fault) }
+    ensures parts { IfErr result (IsOfParts (parts_of raw)) }
 {
-    Ok(check_dump(alloc, raw)?)
+    match checked_dump(alloc, raw) {
+        Ok(dump) => Ok(dump),
+        Err(fault) => Err(InputFault::Dump(fault)),
+    }
 }
 
-/// The dump that the bytes spell, as one JSON object. Each fault that isn't want of memory is the first of the input;
+/// The dump that the bytes spell, as one JSON object, or their first fault, with the place, what stands there and what is
+/// wanted there.
+pub fn read_dump(alloc: Global, input: &[u8]) -> Result<Dump, InputFault>
+    ensures dump { IfOk result (IsDumpOf input.now) }
+    ensures fault { IfErr result (λ fault. IsDumpFault input.now (run_fault fault)) }
+    ensures misfit { IfErr result (IsDumpMisfit input.now) }
+    ensures parts { IfErr result (IsOfDumpRead input.now) }
+{
+    let raw = raw_dump_in(alloc, input)?;
+    checked(alloc, raw)
+}
+
+/// The dump that the bytes spell, as one JSON object. Each fault that isn't lack of memory is the first of the input;
 /// neither `Read` nor `Write` nor `BadCommand` nor `Config` is among them.
 pub fn dump_of_bytes(alloc: Global, input: &[u8]) -> Result<Dump, RunFault>
     ensures dump { IfOk result (IsDumpOf input.now) }
     ensures fault { IfErr result (IsDumpFault input.now) }
 {
-    let raw = raw_dump_in(alloc, input)?;
-    checked(alloc, raw)
+    match read_dump(alloc, input) {
+        Ok(dump) => Ok(dump),
+        Err(fault) => Err(fault.fault()),
+    }
 }

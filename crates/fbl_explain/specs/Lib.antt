@@ -1,2 +1,3 @@
-pub mod Reasons
 pub mod Explanations
+pub mod Accounts
+pub mod Whys

@@ -1,9 +1,12 @@
 //! What a command did beside what its lines say.
 
+ghost use Rattle.std.specs.Prelude.{◌≡◌};
+ghost use Rattle.fbl_explain.specs.Accounts.{is_refusal as is_refusal_of};
+
 use crate::reason::Reason;
-use crate::words::Words;
+use crate::words::{ReceiptWords, Words};
 use arrayvec::ArrayVec;
-use fbl_base::Strike;
+use fbl_base::{Determinant, Strike};
 use fbl_script::Command;
 use std::fmt;
 
@@ -14,8 +17,33 @@ pub enum Account {
     Done,
     /// It was refused.
     Refused(Reason),
+    /// A strike: these receipts are lost, in the order of the trace.
+    Lost(Vec<Determinant>),
+    /// A recovery: these receipts are undone, in the order of the trace.
+    Undone(Vec<Determinant>),
     /// Workers ran.
     Ran(RunCounts),
+}
+
+impl Account {
+    /// Whether the command was refused.
+    pub fn is_refusal(&self) -> bool
+        ensures { result ≡ is_refusal_of self.now }
+    {
+        match self {
+            Account::Refused(_) => true,
+            _ => false,
+        }
+    }
+
+    /// Whether there is something to tell beside what the command's lines say.
+    pub fn is_told(&self) -> bool {
+        match self {
+            Account::Done => false,
+            Account::Lost(receipts) | Account::Undone(receipts) => !receipts.is_empty(),
+            Account::Refused(_) | Account::Ran(_) => true,
+        }
+    }
 }
 
 /// How many receipts a group had made before and after a run, how many of them were undone, and what each worker did.
@@ -76,7 +104,23 @@ impl RunCounts {
     }
 }
 
-/// A command's place and words with its account, as in `command 7, deliver 1 2: nothing is in flight from 2 to 1`.
+/// Writes the receipts, as in `lost: receipt 1 of member 2 (send 3 of member 0)`.
+fn write_receipts<W: fmt::Write>(
+    f: &mut fmt::Formatter<W>,
+    head: &str,
+    receipts: &[Determinant],
+) -> fmt::Result {
+    f.write_str(head)?;
+    let mut before = ":";
+    for receipt in receipts {
+        let words = ReceiptWords(*receipt);
+        write!(f, "{before} {words}")?;
+        before = ",";
+    }
+    Ok(())
+}
+
+/// A command's place and words with its account, as in `command 7, deliver to 1 from 2: nothing is in flight from 2 to 1`.
 #[derive(Clone, Copy)]
 pub struct AccountOf<'a> {
     /// The command's place in its script.
@@ -93,6 +137,8 @@ impl fmt::Display for AccountOf<'_> {
         match (self.account, self.command) {
             (Account::Done, _) => f.write_str("done"),
             (Account::Refused(reason), _) => write!(f, "{reason}"),
+            (Account::Lost(receipts), _) => write_receipts(f, "lost", receipts),
+            (Account::Undone(receipts), _) => write_receipts(f, "undone", receipts),
             (Account::Ran(counts), Command::Run(plan)) => counts.write(f, plan.strikes()),
             (Account::Ran(counts), _) => counts.write(f, &[]),
         }

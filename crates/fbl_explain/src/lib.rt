@@ -3,21 +3,13 @@
 #![tactic(auto)]
 
 mod account;
-mod config_fault;
-mod dump_fault;
-mod dump_reading;
 mod explaining;
-mod explanation;
-mod parts;
 mod reason;
-mod script_reading;
-mod shown;
+mod why;
 mod words;
 
 pub use account::{Account, AccountOf, RunCounts};
-pub use config_fault::ConfigFault;
-pub use dump_fault::{BadEvent, BadPair, DumpFault};
 pub use explaining::explain;
-pub use explanation::{Explanation, InputKind};
-pub use reason::{BadEntry, Reason, entry_reason};
-pub use words::{MemberList, Words};
+pub use reason::{NamedMembers, Reason};
+pub use why::{LossReason, OrphanPath, Why, why_lost, why_unsafe};
+pub use words::Words;

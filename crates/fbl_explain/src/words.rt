@@ -1,27 +1,8 @@
 //! Commands in words.
 
-use fbl_base::{Member, MemberSet, Strike};
+use fbl_base::{Determinant, Strike};
 use fbl_script::Command;
 use std::fmt;
-
-/// A set as the list of its members, rising, as in `[0,2]`.
-#[derive(Clone, Copy)]
-pub struct MemberList(pub MemberSet);
-
-impl fmt::Display for MemberList {
-    fn fmt<W: fmt::Write>(&self, f: &mut fmt::Formatter<W>) -> fmt::Result {
-        f.write_str("[")?;
-        let mut end = "";
-        for number in 0..16u8 {
-            let member = Member::new(number).unwrap();
-            if self.0.has(member) {
-                write!(f, "{end}{number}")?;
-                end = ",";
-            }
-        }
-        f.write_str("]")
-    }
-}
 
 /// A plan as a script has it, as in `[[2,[1]],[5,[0,3]]]`.
 #[derive(Clone, Copy)]
@@ -33,7 +14,7 @@ impl fmt::Display for PlanWords<'_> {
         let mut end = "";
         for strike in self.0 {
             let at = strike.at;
-            let members = MemberList(strike.set);
+            let members = strike.set;
             write!(f, "{end}[{at},{members}]")?;
             end = ",";
         }
@@ -41,37 +22,38 @@ impl fmt::Display for PlanWords<'_> {
     }
 }
 
-/// A command's name with its arguments as a script has them, as in `deliver 1 2` and `strike [1,2]`.
+/// A receipt in words, as in `receipt 1 of member 2 (send 3 of member 0)`.
+#[derive(Clone, Copy)]
+pub(crate) struct ReceiptWords(pub(crate) Determinant);
+
+impl fmt::Display for ReceiptWords {
+    fn fmt<W: fmt::Write>(&self, f: &mut fmt::Formatter<W>) -> fmt::Result {
+        let Determinant { from, ssn, to, rsn } = self.0;
+        write!(
+            f,
+            "receipt {rsn} of member {to} (send {ssn} of member {from})"
+        )
+    }
+}
+
+/// A command's name with its arguments as a script has them, as in `deliver to 1 from 2` and `strike [1,2]`.
 #[derive(Clone, Copy)]
 pub struct Words<'a>(pub &'a Command);
 
 impl fmt::Display for Words<'_> {
     fn fmt<W: fmt::Write>(&self, f: &mut fmt::Formatter<W>) -> fmt::Result {
         match self.0 {
-            Command::Deliver { to, from } => {
-                let to = to.number();
-                let from = from.number();
-                write!(f, "deliver {to} {from}")
-            }
+            Command::Deliver { to, from } => write!(f, "deliver to {to} from {from}"),
             Command::States => f.write_str("states"),
             Command::Report => f.write_str("report"),
-            Command::Strike(set) => {
-                let members = MemberList(*set);
-                write!(f, "strike {members}")
-            }
+            Command::Strike(set) => write!(f, "strike {set}"),
             Command::Recover => f.write_str("recover"),
-            Command::Dump(set) => {
-                let members = MemberList(*set);
-                write!(f, "dump {members}")
-            }
+            Command::Dump(set) => write!(f, "dump {set}"),
             Command::Run(plan) => {
                 let plan = PlanWords(plan.strikes());
                 write!(f, "run {plan}")
             }
-            Command::Checkpoint(member) => {
-                let member = member.number();
-                write!(f, "checkpoint {member}")
-            }
+            Command::Checkpoint(member) => write!(f, "checkpoint {member}"),
         }
     }
 }

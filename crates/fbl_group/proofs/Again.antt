@@ -1,6 +1,6 @@
 -- Messages that are sent again.
 use Rattle.std.proofs.Common.{◌≡◌, ℕ, ◌+◌, ◌<◌, List, [], ◌∷◌, ◌++◌, length, take, Result, Ok, Err, sym, ap, ◌∙◌, subst, append_assoc}
-use Rattle.std.proofs.Common.{Vec, get_or}
+use Rattle.std.proofs.Common.{get_or, Option, None, Some, IfSome}
 use Rattle.std.specs.Result.{IfOk, OnOk}
 use Rattle.std.proofs.lemmas.List.{map_more}
 use Rattle.fbl_base.specs.declared.trace.Note.{Note}
@@ -23,9 +23,14 @@ again-step q p i carried sends d first before after v below was is message =
     one x = record { from = q; to = p; ssn = x.0; note = x.1; carried = carried }
 
 -- what a table passes on has no determinant twice
-pub passed-once : {A E : Type 0} (f : ℕ) (table : List Entry) (result : Result (Vec Entry A) E) → IsOnce table → IfOk result (λ v. v.items ≡ piggybacked f table) → IfOk result (λ v. IsOnce v.items)
+pub passed-once : {E : Type 0} (f : ℕ) (table : List Entry) (result : Result (List Entry) E) → IsOnce table → IfOk result (λ v. v ≡ piggybacked f table) → IfOk result (λ v. IsOnce v)
 passed-once f table (Ok v) once is = subst IsOnce (sym is) (IsOnce-piggybacked f table once)
 passed-once f table (Err e) once is = is
+
+-- a list that was made of what a table passes on, where the table goes by another name
+pub passed-as : (f g : ℕ) (table other : List Entry) (passed : Option (List Entry)) → f ≡ g → table ≡ other → IfSome passed (λ carried. carried ≡ piggybacked f table) → IfSome passed (λ carried. carried ≡ piggybacked g other)
+passed-as f g table other None limit same is = tt
+passed-as f g table other (Some carried) limit same is = is ∙ (λ j. piggybacked (limit j) (same j))
 
 -- what is put in is what the sender sends again
 pub resent-is : {X E : Type 0} (q p f : ℕ) (from to sender receiver : MemberRecord) (last : ℕ) (unsent given : List (ℕ × Note)) (held : List Entry) (limit : ℕ) (before after : List Message) (result : Result X E)

@@ -2,9 +2,6 @@
 use Rattle.std.proofs.Common.{◌≡◌, ℕ, zero, suc, ◌+◌, ◌<◌, List, [], ◌∷◌, ◌++◌, length, take, get_or, Some, slice_get, refl, sym, ap, ◌∙◌, arith, below_more}
 use Rattle.std.specs.Prelude.{slice_index_or}
 use Rattle.std.proofs.lemmas.List.{map-append, length-take-le}
-use Rattle.fbl_base.specs.Audit.{Parts, IsDump, RefusesDump}
-use Rattle.fbl_base.specs.declared.refusal.DumpRefusal.{DumpRefusal}
-use Rattle.fbl_base.specs.declared.refusal.DumpRefusal.TheVariants.{BadMembers, BadF, BadEvent, BadHeld, BadStrike, Memory}
 use Rattle.fbl_table.specs.declared.entry.Entry.{Entry}
 use Rattle.fbl_member.specs.Carried.{IsOnce}
 use Rattle.fbl_member.specs.Members.{MemberRecord, blank}
@@ -33,12 +30,3 @@ pairs_from-more ms i x below at =
 
 pub distinct-more : (ms : List MemberRecord) (i : ℕ) (x : MemberRecord) → i < length ms → x ≡ get_or ms i x → ((m : ℕ) → m < i → IsOnce (slice_index_or ms m blank).table) → IsOnce x.table → (m : ℕ) → m < i + 1 → IsOnce (slice_index_or ms m blank).table
 distinct-more ms i x below at so_far once = below_more (λ m. IsOnce (slice_index_or ms m blank).table) i so_far (rw (get-at ms i x blank below at).1 once)
-
--- a dump that obeys the rules is refused only for want of memory
-pub only_memory : (dump : Parts) (refusal : DumpRefusal) → IsDump dump → RefusesDump dump refusal → refusal ≡ Memory
-only_memory dump BadMembers rules refused = absurd (refused rules.members)
-only_memory dump BadF rules refused = absurd (refused.1 rules.f)
-only_memory dump (BadEvent place) rules refused = absurd (refused.2.1 (rules.events place))
-only_memory dump (BadHeld place) rules refused = absurd (refused.3.1 (rules.held place))
-only_memory dump BadStrike rules refused = absurd (refused.4 rules.strike)
-only_memory dump Memory rules refused = refl

@@ -2,6 +2,7 @@ pub mod Queues
 pub mod Planning
 pub mod Deciding
 pub mod Striking
+pub mod Unrecorded
 pub mod Promised
 pub mod Checkpointing
 pub mod Reading

@@ -97,7 +97,7 @@ module _ (next : Next) {r now : GroupRecord} {q p : ℕ} {outcome : Outcome} (we
 
   -- of channels that are still the group's: there is a front, what is read there is the message, and receivers are members
   module _ {cs : List (List (List Message))} (same : cs ≡ r.channels) where
-    -- where memory was wanting, all is as it was
+    -- where memory ran out, all is as it was
     pub stays : {place : ℕ} {x before : MemberRecord} {trace : List Event} → place ≡ p → x ≡ before → before ≡ get_or r.members place before → trace ≡ r.trace → record r { members = slice_set r.members place x; channels = cs; trace = trace } ≡ r
     stays {place = place} {x = x} {before = before} {trace = trace} is unchanged read kept =
         same_parts r _ cs trace (set-same r.members place x before (omega (arith, is, plan.to_member, sound.members)) (unchanged ∙ read)) same kept

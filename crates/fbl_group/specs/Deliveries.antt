@@ -22,7 +22,7 @@ of_take take.BadMember = BadMember
 of_take take.Down = Down
 of_take take.Empty = Empty
 
--- a refusal of the commit of a step whose ticket was just taken, as one of a delivery: room is wanting, or memory, since
+-- a refusal of the commit of a step whose ticket was just taken, as one of a delivery: there is no room, or no memory, since
 -- nobody is down and nothing is stale then
 abbrev pub of_commit : CommitRefusal → DeliverRefusal
 of_commit commit.Memory = Memory
@@ -38,12 +38,12 @@ abbrev pub take_or_room : Next → GroupRecord → Option Message → Option Tak
 take_or_room next r message (Some refusal) = Some (of_take refusal)
 take_or_room next r message None = room_refusal next r message
 
--- the first refusal of a delivery to p from q that holds, but for want of memory: a delivery is a ticket, its step and its
+-- the first refusal of a delivery to p from q that holds, but for lack of memory: a delivery is a ticket, its step and its
 -- commit, so that it is the ticket's (BadMember, Down, Empty, in this order), or else want of room for the step (Full)
 abbrev pub deliver_refusal : Next → GroupRecord → ℕ → ℕ → Option DeliverRefusal
 deliver_refusal next r p q = take_or_room next r (front r q p) (take_refusal r p q)
 
--- the refusal is the first that holds; want of memory is answered only where no other holds
+-- the refusal is the first that holds; lack of memory is answered only where no other holds
 abbrev pub IsDeliverRefusal : Option DeliverRefusal → DeliverRefusal → Type 0
 IsDeliverRefusal first Memory = first ≡ None
 IsDeliverRefusal first refusal = first ≡ Some refusal
@@ -60,7 +60,7 @@ pub record Delivered (next : Next) (old new : GroupRecord) (v : Message) (answer
 abbrev pub Delivers : Next → GroupRecord → GroupRecord → ℕ → ℕ → Receipted → Type 0
 Delivers next old new p q answer = (v : Message) × (front old q p ≡ Some v) × Delivered next old new v answer
 
--- the step of the delivery to p of the front of its channel from q, that nothing but want of memory refuses
+-- the step of the delivery to p of the front of its channel from q, that nothing but lack of memory refuses
 pub record IsPlanned (next : Next) (r : GroupRecord) (q p : ℕ) (outcome : Outcome) : Type 0 where
   pub nobody_down : r.down ≡ set.empty
   pub to_member : p < r.config.members

@@ -23,7 +23,7 @@ HoldsEachReceipt r =
     → (d : Determinant) → Has (marks r) (receipt_of d)
     → IsHeldByMore r d ⊎ ((m : ℕ) → Depends (marks r) m (receipt_of d) → IsHeldBy r d m)
 
--- a dump is refused exactly where the strike set has a member outside the group, or else for want of memory
+-- a dump is refused exactly where the strike set has a member outside the group, or else for lack of memory
 abbrev pub IsDumpRefusal : GroupRecord → Members → DumpGroupRefusal → Type 0
 IsDumpRefusal r strike BadStrike = ¬ (AllBelow strike r.config.members)
 IsDumpRefusal r strike Memory = AllBelow strike r.config.members

@@ -25,7 +25,7 @@ pub record Recovers (next : Next) (old new : GroupRecord) (answer : Recovered) :
   pub resent : answer.resent ≡ messages_at old.down new
   pub undone : answer.undone + length (receipts (marks new)) ≡ length (receipts (marks old))
 
--- a recovery is refused exactly where nobody is down, or for want of memory
+-- a recovery is refused exactly where nobody is down, or for lack of memory
 abbrev pub IsRecoverRefusal : GroupRecord → RecoverRefusal → Type 0
 IsRecoverRefusal r NotDown = r.down ≡ set.empty
 IsRecoverRefusal r Memory = ¬ (r.down ≡ set.empty)

@@ -1,14 +1,13 @@
 -- When a strike is refused, and what it answers.
-use Rattle.std.specs.Prelude.{◌≡◌, ℕ, ◌==◌, ◌&&◌, ◌||◌, not, nat_lt, Bool, true, false, length, Option, Some, None, if◌then◌else◌, List, slice_index_or}
-use Rattle.std.specs.List.{filter, list_any, list_all}
+use Rattle.std.specs.Prelude.{◌≡◌, ℕ, ◌==◌, ◌&&◌, not, nat_lt, Bool, true, false, length, Option, Some, None, if◌then◌else◌, List, map, slice_index_or}
+use Rattle.std.specs.List.{filter, list_all}
 use Rattle.std.specs.FinSet as set
 use Rattle.fbl_base.specs.declared.trace.Determinant.{Determinant}
 use Rattle.fbl_base.specs.declared.trace.Event.{Event}
 use Rattle.fbl_base.specs.Events.{determinant_of, mark_of}
-use Rattle.fbl_table.specs.Tables.{is_held}
 use Rattle.fbl_member.specs.Members.{MemberRecord, blank}
 use Rattle.fbl_law.specs.Knowledge.{Members}
-use Rattle.fbl_law.specs.Groups.{GroupRecord, marks, receipts, is_recorded}
+use Rattle.fbl_law.specs.Groups.{GroupRecord, receipts, is_recorded_among}
 use Rattle.fbl_law.specs.GroupSteps.{IsStrike}
 use Rattle.fbl_group.specs.declared.refusals.StrikeRefusal.{StrikeRefusal}
 use Rattle.fbl_group.specs.declared.refusals.StrikeRefusal.TheVariants.{BadMember, Nobody, TooMany}
@@ -26,16 +25,18 @@ strike_refusal r struck =
     else (if set.len struck == 0 then Some Nobody
     else (if nat_lt r.config.f (set.len (set.union r.down struck)) then Some TooMany else None))
 
+-- the determinants of those receipts among the events that no table of these members and checkpoints has, in order
+abbrev pub unrecorded_among : List MemberRecord → List MemberRecord → List Event → List Determinant
+unrecorded_among members checkpoints events = filter (λ d. not (is_recorded_among members checkpoints d)) (receipts (map mark_of events))
+
 -- the determinants of the lost receipts: those that no survivor and no checkpoint has recorded
 abbrev pub lost_receipts : GroupRecord → List Determinant
-lost_receipts r = filter (λ d. not (is_recorded r d)) (receipts (marks r))
+lost_receipts r = unrecorded_among r.members r.checkpoints r.trace
 
 -- whether there is a determinant of a member of the set, and none of these members' and checkpoints' tables has it
 abbrev pub is_unheld : Members → List MemberRecord → List MemberRecord → Option Determinant → Bool
 is_unheld s members checkpoints None = false
-is_unheld s members checkpoints (Some d) =
-    set.contains s d.to
-    && not (list_any (λ (m : MemberRecord). is_held m.table d) members || list_any (λ (m : MemberRecord). is_held m.table d) checkpoints)
+is_unheld s members checkpoints (Some d) = set.contains s d.to && not (is_recorded_among members checkpoints d)
 
 -- whether the event is a receipt of a member of the set whose determinant none of these members' and checkpoints' tables has
 abbrev pub is_lost_receipt_of : Members → List MemberRecord → List MemberRecord → Event → Bool

@@ -58,14 +58,14 @@ stale_or_full r t sends (Some v) =
     if not (is_current (member r t.to) v t) then Some commit.Stale
     else (if is_full r sends then Some commit.Full else None)
 
--- the first refusal of a commit that holds, but for want of memory
+-- the first refusal of a commit that holds, but for lack of memory
 abbrev pub commit_refusal : Next → GroupRecord → Ticket → Option CommitRefusal
 commit_refusal next r t =
     if not (set.len r.down == 0) then Some commit.Down
     else (if not (r.config.members == t.n) then Some commit.Stale
     else stale_or_full r t (length (next t.to t.n t.state t.note).sends.items) (front r t.from t.to))
 
--- the refusal is the first that holds; want of memory is answered only where no other holds
+-- the refusal is the first that holds; lack of memory is answered only where no other holds
 abbrev pub IsCommitRefusal : Option CommitRefusal → CommitRefusal → Type 0
 IsCommitRefusal first commit.Memory = first ≡ None
 IsCommitRefusal first refusal = first ≡ Some refusal

@@ -59,7 +59,7 @@ impl<B: Behaviour, A: Allocator + Copy> Group<B, A> {
         }
     }
 
-    /// Whether nothing but want of memory refuses the commit.
+    /// Whether nothing but lack of memory refuses the commit.
     fn plan_commit(&self, done: &Done<B>) -> Result<(), CommitRefusal>
         ensures planned { OnOk result ((commit_refusal B.next self.now done.now.ticket ≡ None) × IsPlanned B.next self.now done.now.ticket.from done.now.ticket.to done.now.outcome) }
         ensures refused { IfErr result (λ refusal. commit_refusal B.next self.now done.now.ticket ≡ Some refusal) }

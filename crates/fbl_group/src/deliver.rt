@@ -30,7 +30,7 @@ impl<B: Behaviour, A: Allocator + Copy> Group<B, A> {
         }
     }
 
-    /// Moves the front of the step's channel to its receiver, or changes nothing where memory is wanting.
+    /// Moves the front of the step's channel to its receiver, or changes nothing where memory runs out.
     pub(crate) fn settle(&mut self, done: &Done<B>) -> Result<Receipted, AllocError>
         requires { IsPlanned B.next self.old done.now.ticket.from done.now.ticket.to done.now.outcome }
         ensures delivered { IfOk result (Delivered B.next self.old self.new (front_message self.old done.now.ticket.from done.now.ticket.to)) }

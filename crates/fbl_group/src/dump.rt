@@ -6,20 +6,18 @@ ghost use Rattle.fbl_base.specs.Audit.{IsOrphan};
 ghost use Rattle.fbl_base.specs.DumpParts.{parts_of};
 ghost use Rattle.fbl_base.specs.Events.{mark_of};
 ghost use Rattle.fbl_base.specs.MemberSets.{AllBelow};
-ghost use Rattle.fbl_base.specs.declared.refusal.DumpRefusal.TheVariants as dump_refusal;
 ghost use Rattle.fbl_member.specs.Carried.{IsOnce};
 ghost use Rattle.fbl_member.specs.Members.{blank};
 ghost use Rattle.fbl_law.specs.Knowledge.{Includes, IsDown};
 ghost use Rattle.fbl_law.specs.Groups.{knowledge};
 ghost use Rattle.fbl_law.specs.Sound.{IsSound};
 ghost use Rattle.fbl_law.specs.Dumps.{pairs_of, pairs_from, dump_of, HasDistinctTables};
-ghost use Rattle.fbl_group.specs.declared.refusals.DumpGroupRefusal.TheVariants as group_refusal;
 ghost use Rattle.fbl_group.specs.Readers.{IsDumpRefusal};
 
 use crate::group::Group;
 use crate::refusals::DumpGroupRefusal;
-use fbl_base::audit::{Dump, check_dump};
-use fbl_base::{Behaviour, Determinant, DumpRefusal, Event, Mark, Member, MemberSet, RawDump};
+use fbl_base::audit::Dump;
+use fbl_base::{Behaviour, Determinant, Event, Mark, Member, MemberSet, RawDump};
 use fbl_member::MemberRec;
 use fbl_table::Table;
 use std::alloc::{AllocError, Allocator};
@@ -36,12 +34,9 @@ impl<B: Behaviour, A: Allocator + Copy> Group<B, A> {
         if !strike.within(self.config.members()) {
             return Err(DumpGroupRefusal::BadStrike);
         }
-        let Ok(raw) = self.raw_dump(strike) else {
-            return Err(DumpGroupRefusal::Memory);
-        };
-        match check_dump(*self.trace.allocator(), raw) {
-            Ok(dump) => Ok(dump),
-            Err(refusal) => Err(of_lawful_dump(refusal)),
+        match self.raw_dump(strike) {
+            Ok(raw) => Ok(Dump::lawful(raw)),
+            Err(_) => Err(DumpGroupRefusal::Memory),
         }
     }
 
@@ -58,17 +53,6 @@ impl<B: Behaviour, A: Allocator + Copy> Group<B, A> {
             held: held_pairs(alloc, &self.members)?,
             strike,
         })
-    }
-}
-
-/// The refusal of a dump that obeys the rules, which is refused only for want of memory.
-fn of_lawful_dump(refusal: DumpRefusal) -> DumpGroupRefusal
-    requires { refusal ≡ dump_refusal.Memory }
-    ensures { result ≡ group_refusal.Memory }
-{
-    match refusal {
-        DumpRefusal::Memory => DumpGroupRefusal::Memory,
-        _ => unreachable!(),
     }
 }
 

@@ -104,6 +104,16 @@ impl<B: Behaviour, A: Allocator + Copy> Group<B, A> {
         self.trace.as_slice()
     }
 
+    /// Does nothing but promise what `trace` does: the group is sound, nobody is an orphan, and where nobody is down each
+    /// receipt is held by more than f members or by every member whose state depends on it.
+    pub fn recoverable(&self)
+        ensures sound { IsSound B.next self.now }
+        ensures held { HoldsEachReceipt self.now }
+        ensures no_orphan { (m : ℕ) → ¬ (IsOrphan (knowledge self.now) m) }
+    {
+        let _ = self.trace();
+    }
+
     /// Who is down.
     pub fn down(&self) -> MemberSet
         ensures down { result ≡ self.now.down }

@@ -23,7 +23,7 @@ impl<B: Behaviour, A: Allocator + Copy> Group<B, A> {
     /// survivor's table or a checkpoint has, in their order, and knows what the survivors and these checkpoints know.
     /// Receipts that neither has are undone, with all that came after them at their member, and each message on a channel
     /// with an end that was down is sent again, unless its receiver has had it. Survivors, the channels between them and
-    /// the checkpoints stay as they are. After a refusal nothing has changed: where memory was wanting the members are still
+    /// the checkpoints stay as they are. After a refusal nothing has changed: where memory ran out the members are still
     /// down, and `recover` may be called again.
     pub fn recover(&mut self) -> Result<Recovered, RecoverRefusal>
         ensures recovered { IfOk result (λ answer. ¬ (self.old.down ≡ set.empty) × Recovers B.next self.old self.new answer) }

@@ -1,6 +1,6 @@
 //! Messages that are sent again: those of the members that were down, and those that these have not received.
 
-ghost use Rattle.std.specs.Prelude.{◌≡◌, ℕ, ◌<◌, ◌++◌, [], length, slice_index_or, IfOk, OnOk};
+ghost use Rattle.std.specs.Prelude.{◌≡◌, ℕ, ◌<◌, ◌++◌, [], length, slice_index_or, IfOk, IfSome, OnOk};
 ghost use Rattle.fbl_table.specs.Tables.{piggybacked};
 ghost use Rattle.fbl_member.specs.Carried.{IsOnce};
 ghost use Rattle.fbl_law.specs.Groups.{HasChannels, channel_in};
@@ -10,8 +10,8 @@ ghost use Rattle.fbl_group.specs.Channels.{queued, queued_rows};
 use crate::channels::{Channel, Channels, Outgoing, has_either};
 use crate::group::Group;
 use fbl_base::{Behaviour, Member, Note};
-use fbl_member::{MemberRec, Wire};
-use fbl_table::{Entry, Table};
+use fbl_member::{Carried, MemberRec, Wire};
+use fbl_table::Table;
 use std::alloc::{AllocError, Allocator};
 use std::collections::VecDeque;
 
@@ -38,28 +38,33 @@ impl<B: Behaviour, A: Allocator + Copy> Group<B, A> {
         ensures each { IfOk result (λ outgoing. (p : ℕ) → p < self.now.config.members → slice_index_or (queued outgoing.items) p [] ≡ sent_again self.now.config.f self.now.down (working self.now rebuilt.now) from p) }
     {
         let mut outgoing = Vec::new(*self.members.allocator());
+        let mut passed = None;
         for number in 0..self.config.members() {
             let to = Member::new(number).unwrap();
-            outgoing.push(self.resend_on(rebuilt, from, to)?)?;
+            outgoing.push(self.resend_on(rebuilt, from, to, &mut passed)?)?;
         }
         Ok(outgoing)
     }
 
-    /// The channel from one member to another made again, where one of the two is down.
+    /// The channel from one member to another made again, where one of the two is down. What the sender passes on is lent once
+    /// it was made.
     fn resend_on(
         &self,
         rebuilt: &[MemberRec<A>],
         from: Member,
         to: Member,
+        passed: &mut Option<Carried<A>>,
     ) -> Result<Channel<A>, AllocError>
         requires size { length rebuilt.now ≡ self.now.config.members }
         requires from { from < self.now.config.members }
         requires to { to < self.now.config.members }
-        ensures { IfOk result (λ channel. channel.wires.items ≡ sent_again self.now.config.f self.now.down (working self.now rebuilt.now) from to) }
+        requires passed { IfSome passed.old (λ carried. carried ≡ piggybacked self.now.config.f (working self.now rebuilt.now from).table) }
+        ensures passed { IfSome passed.new (λ carried. carried ≡ piggybacked self.now.config.f (working self.now rebuilt.now from).table) }
+        ensures made { IfOk result (λ channel. channel.wires.items ≡ sent_again self.now.config.f self.now.down (working self.now rebuilt.now) from to) }
     {
         let mut wires = VecDeque::new(*self.members.allocator());
         if has_either(self.down, from, to) {
-            self.resend_to(rebuilt, from, to, &mut wires)?;
+            self.resend_to(rebuilt, from, to, passed, &mut wires)?;
         }
         Ok(Channel { wires })
     }
@@ -70,12 +75,15 @@ impl<B: Behaviour, A: Allocator + Copy> Group<B, A> {
         rebuilt: &[MemberRec<A>],
         from: Member,
         to: Member,
+        passed: &mut Option<Carried<A>>,
         wires: &mut VecDeque<Wire<A>, A>,
     ) -> Result<(), AllocError>
         requires size { length rebuilt.now ≡ self.now.config.members }
         requires from { from < self.now.config.members }
         requires to { to < self.now.config.members }
-        ensures { OnOk result (wires.new.items ≡ wires.old.items ++ resent_to self.now.config.f from to (working self.now rebuilt.now from) (working self.now rebuilt.now to)) }
+        requires passed { IfSome passed.old (λ carried. carried ≡ piggybacked self.now.config.f (working self.now rebuilt.now from).table) }
+        ensures passed { IfSome passed.new (λ carried. carried ≡ piggybacked self.now.config.f (working self.now rebuilt.now from).table) }
+        ensures put { OnOk result (wires.new.items ≡ wires.old.items ++ resent_to self.now.config.f from to (working self.now rebuilt.now from) (working self.now rebuilt.now to)) }
     {
         let sender = self.working(rebuilt, from);
         let last = self.working(rebuilt, to).last_from(from);
@@ -87,11 +95,13 @@ impl<B: Behaviour, A: Allocator + Copy> Group<B, A> {
             unsent.as_slice(),
             sender.table(),
             self.config.f(),
+            passed,
         )
     }
 }
 
-/// Puts in these messages, each with what the sender's table passes on.
+/// Puts in these messages, each with what the sender's table passes on: one list for all of them, where there is memory to
+/// share it.
 fn put_again<A: Allocator + Copy>(
     wires: &mut VecDeque<Wire<A>, A>,
     from: Member,
@@ -99,22 +109,38 @@ fn put_again<A: Allocator + Copy>(
     unsent: &[(u32, Note)],
     table: &Table<A>,
     f: u8,
+    passed: &mut Option<Carried<A>>,
 ) -> Result<(), AllocError>
-    ensures { OnOk result (wires.new.items ≡ wires.old.items ++ resent from to (piggybacked f table.now) unsent.now) }
+    requires { IfSome passed.old (λ carried. carried ≡ piggybacked f table.now) }
+    ensures passed { IfSome passed.new (λ carried. carried ≡ piggybacked f table.now) }
+    ensures put { OnOk result (wires.new.items ≡ wires.old.items ++ resent from to (piggybacked f table.now) unsent.now) }
 {
     for send in unsent {
-        let carried = passed_on(table, f)?;
+        let carried = pass_on(passed, table, f)?;
         wires.push_back(Wire::new(from, to, send.0, send.1, carried))?;
     }
     Ok(())
 }
 
-/// What the table passes on: no determinant twice, as the table has none twice.
-fn passed_on<A: Allocator + Copy>(table: &Table<A>, f: u8) -> Result<Vec<Entry, A>, AllocError>
-    ensures value { IfOk result (λ carried. carried.items ≡ piggybacked f table.now) }
-    ensures once { IfOk result (λ carried. IsOnce carried.items) }
+/// What the table passes on, for one message more: no determinant twice, as the table has none twice. The list is made for
+/// the first message, and lent for the others.
+fn pass_on<A: Allocator + Copy>(
+    passed: &mut Option<Carried<A>>,
+    table: &Table<A>,
+    f: u8,
+) -> Result<Carried<A>, AllocError>
+    requires { IfSome passed.old (λ carried. carried ≡ piggybacked f table.now) }
+    ensures passed { IfSome passed.new (λ carried. carried ≡ piggybacked f table.now) }
+    ensures value { IfOk result (λ carried. carried ≡ piggybacked f table.now) }
+    ensures once { IfOk result (λ carried. IsOnce carried) }
 {
     // `len` says that no two of the table's determinants are the same
     let _distinct_entries = table.len();
-    table.piggyback(f)
+    if let Some(carried) = passed {
+        return carried.another();
+    }
+    let made = Carried::for_several(table.piggyback(f)?);
+    let carried = made.another()?;
+    *passed = Some(made);
+    Ok(carried)
 }

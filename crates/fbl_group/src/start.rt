@@ -13,7 +13,7 @@ ghost use Rattle.fbl_law.specs.GroupSteps.{IsGroupStart, start_events, message_o
 use crate::channels::{Channels, empty_channels, send};
 use crate::group::Group;
 use fbl_base::{Behaviour, Config, Event, Member, MemberSet, Start};
-use fbl_member::{MemberRec, Wire};
+use fbl_member::{Carried, MemberRec, Wire};
 use std::alloc::{AllocError, Allocator};
 use std::marker::PhantomData;
 
@@ -100,7 +100,7 @@ fn send_starts<A: Allocator + Copy>(
 }
 
 /// The message of a send. It carries nothing.
-fn message<A: Allocator>(alloc: A, event: Event) -> Option<Wire<A>>
+fn message<A: Allocator + Copy>(alloc: A, event: Event) -> Option<Wire<A>>
     ensures { result ≡ message_of event }
 {
     match event {
@@ -109,7 +109,7 @@ fn message<A: Allocator>(alloc: A, event: Event) -> Option<Wire<A>>
             ssn,
             to,
             note,
-        } => Some(Wire::new(from, to, ssn, note, Vec::new(alloc))),
+        } => Some(Wire::new(from, to, ssn, note, Carried::none(alloc))),
         Event::Receipt { .. } => None,
     }
 }

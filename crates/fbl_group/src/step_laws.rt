@@ -14,7 +14,7 @@ impl<B: Conserving, A: Allocator + Copy> Group<B, A> {
     pub fn conserved(&self)
         ensures { WeighsTheSame B.mass B.weight self.now }
     {
-        let _ = self.trace();
+        self.recoverable();
         conserved_law::<B>();
     }
 }
@@ -24,7 +24,7 @@ impl<B: Keeping, A: Allocator + Copy> Group<B, A> {
     pub fn kept(&self)
         ensures { HoldsOf self.now (B.states self.now.config) (B.notes self.now.config) }
     {
-        let _ = self.trace();
+        self.recoverable();
         kept_law::<B>();
     }
 }
@@ -34,7 +34,7 @@ impl<B: KeepingWeight, A: Allocator + Copy> Group<B, A> {
     pub fn weight_kept(&self)
         ensures { WeighsTheSame (B.mass self.now.config) (B.weight self.now.config) self.now }
     {
-        let _ = self.trace();
+        self.recoverable();
         weight_kept_law::<B>();
     }
 }
@@ -44,7 +44,7 @@ impl<B: MakingNone, A: Allocator + Copy> Group<B, A> {
     pub fn none_made(&self)
         ensures { WeighsNoMore (B.mass self.now.config) (B.weight self.now.config) self.now }
     {
-        let _ = self.trace();
+        self.recoverable();
         none_made_law::<B>();
     }
 }
@@ -54,7 +54,7 @@ impl<B: LosingNone, A: Allocator + Copy> Group<B, A> {
     pub fn none_lost(&self)
         ensures { WeighsNoLess (B.mass self.now.config) (B.weight self.now.config) self.now }
     {
-        let _ = self.trace();
+        self.recoverable();
         none_lost_law::<B>();
     }
 }

@@ -4,11 +4,12 @@ ghost use Rattle.std.specs.Prelude.{◌≡◌, ℕ, ◌<◌, ◌≤◌, ◌||◌
 ghost use Rattle.std.specs.List.{list_any};
 ghost use Rattle.std.specs.FinSet as sets;
 ghost use Rattle.fbl_table.specs.Tables.{is_held};
+ghost use Rattle.fbl_member.specs.Members.{blank};
 ghost use Rattle.fbl_law.specs.Knowledge.{IsOrphan};
-ghost use Rattle.fbl_law.specs.Groups.{HasChannels, knowledge};
+ghost use Rattle.fbl_law.specs.Groups.{HasChannels, is_recorded_among as is_recorded_among_of, knowledge};
 ghost use Rattle.fbl_group.specs.Channels.{queued, queued_rows, AreReplaced};
 ghost use Rattle.fbl_group.specs.Promises.{SurvivorsHold, RecordsFirst, RecordsCauses};
-ghost use Rattle.fbl_group.specs.Strikes.{strike_refusal, Strikes, IsBlanked, is_lost_receipt_of};
+ghost use Rattle.fbl_group.specs.Strikes.{strike_refusal, Strikes, IsBlanked, is_lost_receipt_of, lost_receipts, unrecorded_among};
 
 use crate::answers::Struck;
 use crate::channels::{Channels, Outgoing, has_either};
@@ -16,7 +17,7 @@ use crate::group::Group;
 use crate::refusals::StrikeRefusal;
 use fbl_base::{Behaviour, Determinant, Event, Member, MemberSet};
 use fbl_member::MemberRec;
-use std::alloc::Allocator;
+use std::alloc::{AllocError, Allocator};
 
 impl<B: Behaviour, A: Allocator + Copy> Group<B, A> {
     /// Strikes the members named: they lose what they kept in memory, and each message in flight from them or to them is
@@ -45,6 +46,15 @@ impl<B: Behaviour, A: Allocator + Copy> Group<B, A> {
         Ok(Struck {
             lost: count_lost(self.down, &self.members, &self.checkpoints, &self.trace),
         })
+    }
+
+    /// The determinants of the receipts that are lost, in the order of the trace: those that neither the table of a survivor nor a
+    /// checkpoint has, which a recovery undoes. While nobody is down there are none. `Err` comes only where there is no memory for
+    /// the answer.
+    pub fn lost_receipts(&self, alloc: A) -> Result<Vec<Determinant, A>, AllocError>
+        ensures { IfOk result (λ v. v.items ≡ lost_receipts self.now) }
+    {
+        unrecorded(alloc, &self.members, &self.checkpoints, &self.trace)
     }
 
     /// Whether these members may be struck.
@@ -116,6 +126,37 @@ fn count_lost<A: Allocator + Copy>(
     lost
 }
 
+/// The determinants of those receipts among the events that no member's table and no checkpoint's table holds.
+fn unrecorded<A: Allocator + Copy>(
+    alloc: A,
+    members: &[MemberRec<A>],
+    checkpoints: &[MemberRec<A>],
+    trace: &[Event],
+) -> Result<Vec<Determinant, A>, AllocError>
+    ensures { IfOk result (λ v. v.items ≡ unrecorded_among members.now checkpoints.now trace.now) }
+{
+    let mut unrecorded = Vec::new(alloc);
+    for event in trace {
+        if let Some(determinant) = event.mark().determinant() {
+            if !is_recorded_among(members, checkpoints, &determinant) {
+                unrecorded.push(determinant)?;
+            }
+        }
+    }
+    Ok(unrecorded)
+}
+
+/// Whether the table of some of these members or checkpoints holds the determinant.
+fn is_recorded_among<A: Allocator + Copy>(
+    members: &[MemberRec<A>],
+    checkpoints: &[MemberRec<A>],
+    determinant: &Determinant,
+) -> bool
+    ensures { result ≡ is_recorded_among_of members.now checkpoints.now determinant.now }
+{
+    is_held_in(members, determinant) || is_held_in(checkpoints, determinant)
+}
+
 /// Whether the event is a receipt of a member of the set whose determinant no member's table and no checkpoint's table
 /// holds. No table is looked at for a receipt of another member.
 fn is_lost_receipt<A: Allocator + Copy>(
@@ -179,9 +220,16 @@ fn blank_members<A: Allocator + Copy>(
     for number in 0..n {
         let member = Member::new(number).unwrap();
         if set.has(member) {
-            members[usize::from(number)] = MemberRec::blank(alloc, f);
+            make_blank(&mut members[usize::from(number)], alloc, f);
         }
     }
+}
+
+/// Makes the member's record blank.
+fn make_blank<A: Allocator + Copy>(member: &mut MemberRec<A>, alloc: A, f: u8)
+    ensures { member.new ≡ blank }
+{
+    *member = MemberRec::blank(alloc, f);
 }
 
 /// Drops the messages in flight with an end among the members named, of `n`.

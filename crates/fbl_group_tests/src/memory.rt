@@ -70,8 +70,8 @@ pub(crate) fn is_as<B: Behaviour, A: Allocator + Copy>(
     Ok(is_same(group, &other))
 }
 
-/// Makes the call, to which a request for memory may be refused. Where it is, the group is as before the call, but struck
-/// by a crash, and the call or the crash's recovery then has its answer.
+/// Makes the call, to which a request for memory may be refused. Where it is, the call succeeds in spite of it, or the group is
+/// as before the call, but struck by a crash, and the call or the crash's recovery then has its answer.
 fn make_again<B: Behaviour>(
     alloc: Global,
     setting: &Setting,
@@ -88,7 +88,7 @@ fn make_again<B: Behaviour>(
         }
         make_all(&mut group, &mut made, &[call.left_when_refused()])?;
     }
-    let is_told = (verdict == Verdict::WithoutMemory) == heap.has_refused();
+    let is_told = verdict != Verdict::WithoutMemory || heap.has_refused();
     Ok(
         is_told
             && verdict != Verdict::Unexpected

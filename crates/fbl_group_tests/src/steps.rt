@@ -110,7 +110,8 @@ impl<'a> Step<'a> {
     /// The fewest requests for memory that the call may make.
     pub(crate) fn least_requests(self) -> u64 {
         match self {
-            Step::Recover(Ok(_)) | Step::Crash(_, Ok(_)) | Step::Dump(_, Ok(_)) => 6,
+            Step::Recover(Ok(_)) | Step::Crash(_, Ok(_)) => 6,
+            Step::Dump(_, Ok(_)) => 1,
             _ => 0,
         }
     }

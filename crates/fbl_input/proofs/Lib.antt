@@ -2,3 +2,5 @@ pub mod Lists
 pub mod Bytes
 pub mod Inputs
 pub mod Faults
+pub mod Firsts
+pub mod Misfitting

@@ -18,7 +18,7 @@ abbrev pub dump_fault : DumpRefusal → RunFault
 dump_fault dump.Memory = faults.Memory
 dump_fault e = faults.Dump e
 
--- what was read is refused by its configuration or as a dump, or memory was wanting
+-- what was read is refused by its configuration or as a dump, or memory ran out
 abbrev pub IsRefused : (ConfigRefusal → Type 0) → (DumpRefusal → Type 0) → RunFault → Type 0
 IsRefused RefusesConfig RefusesDump faults.Memory = Unit {0}
 IsRefused RefusesConfig RefusesDump (faults.Config config.Memory) = ⊥
@@ -27,7 +27,7 @@ IsRefused RefusesConfig RefusesDump (faults.Dump dump.Memory) = ⊥
 IsRefused RefusesConfig RefusesDump (faults.Dump e) = RefusesDump e
 IsRefused RefusesConfig RefusesDump e = ⊥
 
--- the fault is the first of an input that is asked for this, and is refused by these; memory may be wanting for any input
+-- the fault is the first of an input that is asked for this, and is refused by these; memory may run out for any input
 abbrev pub IsFirstFault : {A : Type 0} → Result A RunFault → (A → ConfigRefusal → Type 0) → (A → DumpRefusal → Type 0) → RunFault → Type 0
 IsFirstFault asked RefusesConfig RefusesDump faults.Memory = Unit {0}
 IsFirstFault asked RefusesConfig RefusesDump faults.Read = ⊥
@@ -37,5 +37,5 @@ IsFirstFault {A} asked RefusesConfig RefusesDump (faults.Dump e) = (a : A) × (a
 IsFirstFault asked RefusesConfig RefusesDump e = asked ≡ Err e
 
 -- a read failed, and nothing was written
-abbrev pub FailsToRead : Option (List ℕ) → Option (List ℕ) → Result (Unit {0}) RunFault → Type 0
+abbrev pub FailsToRead : {A : Type 0} → Option (List ℕ) → Option (List ℕ) → Result A RunFault → Type 0
 FailsToRead before after result = (result ≡ Err faults.Read) × Keeps before after

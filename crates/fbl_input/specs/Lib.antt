@@ -1,2 +1,4 @@
 pub mod Shapes
+pub mod Items
+pub mod Misfits
 pub mod Faults

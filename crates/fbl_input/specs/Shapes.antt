@@ -25,23 +25,10 @@ abbrev pub or_fault : {A : Type 0} → RunFault → Option A → Result A RunFau
 or_fault e None = Err e
 or_fault e (Some a) = Ok a
 
--- memory may be wanting whatever is asked
+-- memory may run out whatever is asked
 abbrev pub Fails : {Y : Type 0} → RunFault → Result Y RunFault → Type 0
 Fails faults.Memory asked = Unit {0}
 Fails e asked = asked ≡ Err e
-
--- what a function returned, seen by view, is what is asked, unless memory was wanting
-abbrev pub Gives : {X Y : Type 0} → (X → Y) → Result X RunFault → Result Y RunFault → Type 0
-Gives view (Ok x) asked = asked ≡ Ok (view x)
-Gives view (Err e) asked = Fails e asked
-
--- a fault that the shape of an input can have, and memory
-abbrev pub IsOfShape : RunFault → Type 0
-IsOfShape faults.Read = ⊥
-IsOfShape faults.Write = ⊥
-IsOfShape (faults.Config e) = ⊥
-IsOfShape (faults.Dump e) = ⊥
-IsOfShape e = Unit {0}
 
 -- ---- the input
 
@@ -65,6 +52,10 @@ number_within low high d = option_and_then (λ n. if nat_le low n && nat_le n hi
 -- a count, a place or a value
 abbrev pub count_shape : Data → Option ℕ
 count_shape = number_within 0 4294967295
+
+-- a number that a byte holds
+abbrev pub byte_shape : Data → Option ℕ
+byte_shape = number_within 0 255
 
 abbrev pub member_shape : Data → Option ℕ
 member_shape = number_within 0 15

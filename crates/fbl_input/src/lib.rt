@@ -4,9 +4,12 @@
 
 mod fault;
 mod input;
+mod input_fault;
 mod output;
 pub mod shapes;
+mod shown;
 
 pub use fault::{Key, RunFault};
 pub use input::read_input;
+pub use input_fault::{CommandForm, InputFault, InputKind};
 pub use output::put;

@@ -1,13 +1,20 @@
 //! Shapes of JSON values, as scripts and dumps ask for them.
 
-ghost use Rattle.std.specs.Prelude.{◌≡◌, ◌≤◌, ℕ, find, map, IfOk, IfErr, not, option_map, string_bytes};
+ghost use Rattle.std.specs.Prelude.{◌≡◌, ◌≤◌, ◌<◌, ℕ, find, map, IfOk, IfErr, Ok, Err, Some, None, not, is_some, option_map, string_bytes, if◌then◌else◌};
 ghost use Rattle.std.specs.FinSet as set;
+ghost use Rattle.std.specs.Result.{result_ok};
 ghost use Rattle.std.specs.BTreeMap.{keys};
+ghost use Rattle.serde_json.specs.Data.{Data};
+ghost use Rattle.serde_json.specs.Find.{as_object, get};
 ghost use Rattle.serde_json.specs.View.{view, members_view};
-ghost use Rattle.fbl_input.specs.Shapes.{Gives, IsOfShape, all_shaped, as_list, count_shape, field, has_other_key as has_other_key_of, other_key as other_key_of, is_key_of, is_text, json_of, list_of, member_shape, number_within, or_fault, set_shape, value_of_input};
-ghost use Rattle.fbl_input.specs.declared.fault.RunFault.TheVariants.{NotJson};
+ghost use Rattle.fbl_input.specs.Items.{is_item, items_at, known_keys, unknown_key};
+ghost use Rattle.fbl_input.specs.Misfits.{Gives, IsBadItem, IsBadValue, IsFirstOther, IsNotObject, IsMisfit, IsOfShape, run_fault};
+ghost use Rattle.fbl_input.specs.Shapes.{Fails, all_shaped, as_list, count_shape, field, has_other_key as has_other_key_of, is_key_of, is_text, json_of, list_of, member_shape, name_of, number_within, or_fault, other_key as other_key_of, set_shape, value_of_input};
+ghost use Rattle.fbl_input.specs.declared.fault.Key.TheVariants.{Strike};
+ghost use Rattle.fbl_input.specs.declared.fault.RunFault.TheVariants.{BadField, NotJson, NotObject, UnknownKey};
 
-use crate::fault::{Key, RunFault};
+use crate::fault::Key;
+use crate::input_fault::{InputFault, InputKind};
 use fbl_base::{Member, MemberSet};
 use serde_json::{Map, Value};
 use std::alloc::{AllocError, Global};
@@ -23,6 +30,20 @@ pub trait Shape<T> {
     /// What the value gives, if it has the shape.
     fn in_value(value: &Value) -> Option<T>
         ensures { result ≡ shape (view value.now) };
+}
+
+/// A number that a byte holds.
+pub struct ByteShape;
+
+impl Shape<u8> for ByteShape {
+    ghost use Rattle.fbl_input.specs.Shapes.{byte_shape};
+
+    ghost shape = { byte_shape };
+
+    fn in_value(value: &Value) -> Option<u8> {
+        let number = number_in(value, 0, 255)?;
+        Some(number as u8)
+    }
 }
 
 /// The longest input.
@@ -72,80 +93,6 @@ pub fn is_named(value: &Value, text: &str) -> bool
     }
 }
 
-/// The set of the members in a list.
-fn set_of(list: &[Value]) -> Option<MemberSet>
-    ensures { result ≡ option_map set.from_list (all_shaped member_shape (map view list.now)) }
-{
-    let mut set = MemberSet::empty();
-    for value in list {
-        set = set.with(member_in(value)?);
-    }
-    Some(set)
-}
-
-/// A set, from a list of members in any order. A member that is named twice counts once.
-pub fn set_in(value: &Value) -> Option<MemberSet>
-    ensures { result ≡ set_shape (view value.now) }
-{
-    set_of(list_in(value)?)
-}
-
-/// The number from `low` to `high` at the key, and else `BadField`.
-pub fn number_field(value: &Value, key: Key, low: u64, high: u64) -> Result<u64, RunFault>
-    ensures { result ≡ field key (number_within low high) (view value.now) }
-{
-    let found = value.get(key.name()).ok_or(RunFault::BadField(key))?;
-    number_in(found, low, high).ok_or(RunFault::BadField(key))
-}
-
-/// The list at the key, and else `BadField`.
-pub fn list_field(value: &Value, key: Key) -> Result<&[Value], RunFault>
-    ensures exact { Gives (λ v. map view v.now) result (field key as_list (view value.now)) }
-    ensures faults { IfErr result IsOfShape }
-{
-    let found = value.get(key.name()).ok_or(RunFault::BadField(key))?;
-    list_in(found).ok_or(RunFault::BadField(key))
-}
-
-/// What the values of a list give, if each has the shape. `Err` comes only where there is no memory for it.
-pub fn all_in<T: Copy, S: Shape<T>>(
-    alloc: Global,
-    list: &[Value],
-) -> Result<Option<Vec<T>>, AllocError>
-    ensures { IfOk result (λ found. option_map (λ v. v.items) found ≡ all_shaped S.shape (map view list.now)) }
-{
-    let mut all = Vec::new(alloc);
-    for value in list {
-        match S::in_value(value) {
-            Some(one) => all.push(one)?,
-            None => return Ok(None),
-        }
-    }
-    Ok(Some(all))
-}
-
-/// What the list at the key gives, if each of its values has the shape, and else `BadField`. `Memory` comes only where there
-/// is none for what it gives.
-pub fn values_field<T: Copy, S: Shape<T>>(
-    alloc: Global,
-    value: &Value,
-    key: Key,
-) -> Result<Vec<T>, RunFault>
-    ensures exact { Gives (λ v. v.items) result (field key (list_of S.shape) (view value.now)) }
-    ensures faults { IfErr result IsOfShape }
-{
-    let list = list_field(value, key)?;
-    all_in::<T, S>(alloc, list)?.ok_or(RunFault::BadField(key))
-}
-
-/// The set at the key, and else `BadField`.
-pub fn set_field(value: &Value, key: Key) -> Result<MemberSet, RunFault>
-    ensures { result ≡ field key set_shape (view value.now) }
-{
-    let found = value.get(key.name()).ok_or(RunFault::BadField(key))?;
-    set_in(found).ok_or(RunFault::BadField(key))
-}
-
 /// Whether the text is the name of one of the keys.
 fn is_key_in(known: &[Key], text: &str) -> bool
     ensures { result ≡ is_key_of known.now text.now }
@@ -169,18 +116,231 @@ pub fn other_key<'a>(object: &'a Map<String, Value>, known: &[Key]) -> Option<&'
     }
 }
 
-/// Whether the object has a key that is none of these.
-pub fn has_other_key(object: &Map<String, Value>, known: &[Key]) -> bool
-    ensures { result ≡ has_other_key_of known.now (members_view object.now.entries) }
+/// The set of the members in a list, or the first place where none stands.
+fn set_of(list: &[Value]) -> Result<MemberSet, usize>
+    ensures exact { result_ok result ≡ option_map set.from_list (all_shaped member_shape (map view list.now)) }
+    ensures place { IfErr result (IsFirstOther member_shape (map view list.now)) }
 {
-    match other_key(object, known) {
-        Some(_) => true,
-        None => false,
+    let mut set = MemberSet::empty();
+    for (place, value) in list.iter().enumerate() {
+        match member_in(value) {
+            Some(member) => set = set.with(member),
+            None => return Err(place),
+        }
+    }
+    Ok(set)
+}
+
+/// A set, from a list of members in any order. A member that is named twice counts once.
+pub fn set_in(value: &Value) -> Option<MemberSet>
+    ensures { result ≡ set_shape (view value.now) }
+{
+    set_of(list_in(value)?).ok()
+}
+
+/// What the values of a list give, if each has the shape, or the first place of one that hasn't. `Err` comes only where
+/// there is no memory for it.
+pub fn all_in<T: Copy, S: Shape<T>>(
+    alloc: Global,
+    list: &[Value],
+) -> Result<Result<Vec<T>, usize>, AllocError>
+    ensures exact { IfOk result (λ found. option_map (λ v. v.items) (result_ok found) ≡ all_shaped S.shape (map view list.now)) }
+    ensures place { IfOk result (λ found. IfErr found (IsFirstOther S.shape (map view list.now))) }
+{
+    let mut all = Vec::new(alloc);
+    for (place, value) in list.iter().enumerate() {
+        match S::in_value(value) {
+            Some(one) => all.push(one)?,
+            None => return Ok(Err(place)),
+        }
+    }
+    Ok(Ok(all))
+}
+
+/// The first key of the value that an input of this kind may not have. `Err` comes only where there is no memory for it.
+fn unknown_key_in(
+    alloc: Global,
+    kind: InputKind,
+    value: &Value,
+) -> Result<Option<String>, AllocError>
+    ensures { IfOk result (λ name. option_map string_bytes name ≡ unknown_key kind (view value.now)) }
+{
+    let Some(object) = value.as_object() else {
+        return Ok(None);
+    };
+    match other_key(object, kind.keys()) {
+        Some(name) => Ok(Some(String::from_str(alloc, name)?)),
+        None => Ok(None),
+    }
+}
+
+/// The fault of a key at which nothing stands, or lack of memory.
+fn missing(alloc: Global, kind: InputKind, value: &Value, key: Key) -> InputFault
+    requires { get (name_of key) (view value.now) ≡ None }
+    ensures exact { Fails {Y = ℕ} (run_fault result) (Err (BadField key)) }
+    ensures faults { IsOfShape result }
+    ensures misfit { IsMisfit kind (view value.now) result }
+{
+    match unknown_key_in(alloc, kind, value) {
+        Ok(unknown) => InputFault::MissingKey { key, unknown },
+        Err(_) => InputFault::Memory,
+    }
+}
+
+/// The fault of what stands at the key, or lack of memory.
+fn bad_value(key: Key, found: &Value) -> InputFault
+    ensures { IsBadValue key (view found.now) result }
+{
+    match found.clone() {
+        Ok(found) => InputFault::BadValue { key, found },
+        Err(_) => InputFault::Memory,
+    }
+}
+
+/// The fault of what stands at a place of the list at the key, or lack of memory.
+fn bad_item(key: Key, place: usize, found: &Value) -> InputFault
+    ensures { IsBadItem key place (view found.now) result }
+{
+    match found.clone() {
+        Ok(found) => InputFault::BadItem { key, place, found },
+        Err(_) => InputFault::Memory,
+    }
+}
+
+/// The object that the value is, and else `NotObject`.
+pub fn object_in(kind: InputKind, value: &Value) -> Result<&Map<String, Value>, InputFault>
+    ensures exact { Gives (λ o. members_view o.now.entries) result (or_fault NotObject (as_object (view value.now))) }
+    ensures object { IfOk result (λ o. as_object (view value.now) ≡ Some (members_view o.now.entries)) }
+    ensures faults { IfErr result IsOfShape }
+    ensures misfit { IfErr result (IsMisfit kind (view value.now)) }
+{
+    match value.as_object() {
+        Some(object) => Ok(object),
+        None => Err(not_object(value)),
+    }
+}
+
+/// The fault of a value that is no object, or lack of memory.
+fn not_object(value: &Value) -> InputFault
+    ensures { IsNotObject (view value.now) result }
+{
+    match value.clone() {
+        Ok(found) => InputFault::NotObject(found),
+        Err(_) => InputFault::Memory,
+    }
+}
+
+/// What stands at the key, and else `MissingKey`.
+fn value_at<'a>(
+    alloc: Global,
+    kind: InputKind,
+    value: &'a Value,
+    key: Key,
+) -> Result<&'a Value, InputFault>
+    ensures found { IfOk result (λ v. get (name_of key) (view value.now) ≡ Some (view v.now)) }
+    ensures exact { IfErr result (λ fault. (get (name_of key) (view value.now) ≡ None) × Fails {Y = ℕ} (run_fault fault) (Err (BadField key))) }
+    ensures faults { IfErr result IsOfShape }
+    ensures misfit { IfErr result (IsMisfit kind (view value.now)) }
+{
+    match value.get(key.name()) {
+        Some(found) => Ok(found),
+        None => Err(missing(alloc, kind, value, key)),
+    }
+}
+
+/// What the value at the key gives, if it has the shape, and else `MissingKey` or `BadValue`.
+pub fn value_field<T: Copy, S: Shape<T>>(
+    alloc: Global,
+    kind: InputKind,
+    value: &Value,
+    key: Key,
+) -> Result<T, InputFault>
+    ensures exact { Gives (λ x. x) result (field key S.shape (view value.now)) }
+    ensures faults { IfErr result IsOfShape }
+    ensures misfit { IfErr result (IsMisfit kind (view value.now)) }
+{
+    let found = value_at(alloc, kind, value, key)?;
+    match S::in_value(found) {
+        Some(item) => Ok(item),
+        None => Err(bad_value(key, found)),
+    }
+}
+
+/// The list at the key, and else `MissingKey` or `BadValue`.
+pub fn list_field<'a>(
+    alloc: Global,
+    kind: InputKind,
+    value: &'a Value,
+    key: Key,
+) -> Result<&'a [Value], InputFault>
+    ensures exact { Gives (λ v. map view v.now) result (field key as_list (view value.now)) }
+    ensures items { IfOk result (λ v. map view v.now ≡ items_at key (view value.now)) }
+    ensures faults { IfErr result IsOfShape }
+    ensures misfit { IfErr result (IsMisfit kind (view value.now)) }
+{
+    let found = value_at(alloc, kind, value, key)?;
+    match list_in(found) {
+        Some(list) => Ok(list),
+        None => Err(bad_value(key, found)),
+    }
+}
+
+/// What the list at the key gives, if each of its values has the shape, and else a fault of the key. `Memory` comes only
+/// where there is none for what it gives or for the fault.
+pub fn values_field<T: Copy, S: Shape<T>>(
+    alloc: Global,
+    kind: InputKind,
+    value: &Value,
+    key: Key,
+) -> Result<Vec<T>, InputFault>
+    requires { (d : Data) → is_item key d ≡ is_some (S.shape d) }
+    ensures exact { Gives (λ v. v.items) result (field key (list_of S.shape) (view value.now)) }
+    ensures faults { IfErr result IsOfShape }
+    ensures misfit { IfErr result (IsMisfit kind (view value.now)) }
+{
+    let list = list_field(alloc, kind, value, key)?;
+    match all_in::<T, S>(alloc, list)? {
+        Ok(all) => Ok(all),
+        Err(place) => Err(bad_item(key, place, &list[place])),
+    }
+}
+
+/// The set at the key, and else a fault of the key.
+pub fn set_field(alloc: Global, kind: InputKind, value: &Value) -> Result<MemberSet, InputFault>
+    ensures exact { Gives (λ s. s) result (field Strike set_shape (view value.now)) }
+    ensures faults { IfErr result IsOfShape }
+    ensures misfit { IfErr result (IsMisfit kind (view value.now)) }
+{
+    let list = list_field(alloc, kind, value, Key::Strike)?;
+    match set_of(list) {
+        Ok(set) => Ok(set),
+        Err(place) => Err(bad_item(Key::Strike, place, &list[place])),
+    }
+}
+
+/// Whether each key is one that an input of this kind may have, and else `UnknownKey`: the value is this object.
+pub fn no_other_key(
+    alloc: Global,
+    kind: InputKind,
+    value: &Value,
+    object: &Map<String, Value>,
+) -> Result<(), InputFault>
+    requires { as_object (view value.now) ≡ Some (members_view object.now.entries) }
+    ensures exact { Gives (λ x. x) result (if has_other_key_of (known_keys kind) (members_view object.now.entries) then Err UnknownKey else Ok tt) }
+    ensures faults { IfErr result IsOfShape }
+    ensures misfit { IfErr result (IsMisfit kind (view value.now)) }
+{
+    match other_key(object, kind.keys()) {
+        None => Ok(()),
+        Some(name) => {
+            let name = String::from_str(alloc, name)?;
+            Err(InputFault::UnknownKey { kind, name })
+        }
     }
 }
 
 /// The JSON that the bytes spell.
-fn json_in(alloc: Global, input: &[u8]) -> Result<Value, RunFault>
+fn json_in(alloc: Global, input: &[u8]) -> Result<Value, InputFault>
     ensures exact { Gives view result (or_fault NotJson (json_of input.now)) }
     ensures faults { IfErr result IsOfShape }
 {
@@ -188,9 +348,9 @@ fn json_in(alloc: Global, input: &[u8]) -> Result<Value, RunFault>
         Ok(value) => Ok(value),
         Err(e) => {
             if e.is_memory() {
-                Err(RunFault::Memory)
+                Err(InputFault::Memory)
             } else {
-                Err(RunFault::NotJson)
+                Err(InputFault::NotJson(e))
             }
         }
     }
@@ -198,12 +358,12 @@ fn json_in(alloc: Global, input: &[u8]) -> Result<Value, RunFault>
 
 /// The JSON that an input is: `TooLong` past 1,048,576 bytes, and else `NotJson` where the bytes spell none. `Memory` comes
 /// only where there is none for the value.
-pub fn value_in(alloc: Global, input: &[u8]) -> Result<Value, RunFault>
+pub fn value_in(alloc: Global, input: &[u8]) -> Result<Value, InputFault>
     ensures exact { Gives view result (value_of_input input.now) }
     ensures faults { IfErr result IsOfShape }
 {
     if input.len() > LONGEST {
-        return Err(RunFault::TooLong);
+        return Err(InputFault::TooLong);
     }
     json_in(alloc, input)
 }

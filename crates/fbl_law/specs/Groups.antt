@@ -70,10 +70,14 @@ marks r = map mark_of r.trace
 abbrev pub knowledge : GroupRecord → Knowledge
 knowledge r = record { trace = marks r; tables = tables r; checkpoints = r.checkpoints; channel = channel r; down = r.down }
 
+-- whether the table of some of these members or checkpoints has the determinant
+abbrev pub is_recorded_among : List MemberRecord → List MemberRecord → Determinant → Bool
+is_recorded_among members checkpoints d =
+    list_any (λ (m : MemberRecord). is_held m.table d) members || list_any (λ (m : MemberRecord). is_held m.table d) checkpoints
+
 -- whether some member's table (that of a member that is down is empty) or some checkpoint's has the determinant
 abbrev pub is_recorded : GroupRecord → Determinant → Bool
-is_recorded r d =
-    list_any (λ (m : MemberRecord). is_held m.table d) r.members || list_any (λ (m : MemberRecord). is_held m.table d) r.checkpoints
+is_recorded r d = is_recorded_among r.members r.checkpoints d
 
 -- the determinants of the receipts of a trace, in order
 abbrev pub receipts : List Mark → List Determinant

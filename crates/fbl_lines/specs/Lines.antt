@@ -88,3 +88,12 @@ determinant_line d = line (codes "determinant " ∷ decimal d.from ∷ codes " "
 -- what the audit prints: how many receipts are lost, their determinants, and the orphans
 abbrev pub audit_lines : List Determinant → set.FinSet nat_cmp → List ℕ
 audit_lines lost orphans = lost_line (length lost) ++ flat_map determinant_line lost ++ orphans_line orphans
+
+-- what a check prints where no loss leaves an orphan
+abbrev pub safe_line : List ℕ
+safe_line = line (codes "safe" ∷ [])
+
+-- a receipt that could be lost, by its determinant: the members lost with it, and the orphans that are left
+abbrev pub unsafe_line : Determinant → set.FinSet nat_cmp → set.FinSet nat_cmp → List ℕ
+unsafe_line d strike orphans =
+    line (codes "unsafe " ∷ decimal d.from ∷ codes " " ∷ decimal d.ssn ∷ codes " " ∷ decimal d.to ∷ codes " " ∷ decimal d.rsn ∷ codes " strike " ∷ set_words strike ∷ codes " orphans " ∷ set_words orphans ∷ [])

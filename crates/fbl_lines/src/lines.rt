@@ -2,7 +2,7 @@
 
 ghost use Rattle.std.specs.Prelude.{◌≡◌, ◌++◌, IfOk, OnOk, string_bytes};
 ghost use Rattle.std.specs.List.{flat_map};
-ghost use Rattle.fbl_lines.specs.Lines.{audit_lines, checkpoint_line, deliver_line, determinant_line, end_word, member_line, member_lines, recover_line, refused_at_line, refused_line, report_lines, run_line, states_line, strike_line, total_lines};
+ghost use Rattle.fbl_lines.specs.Lines.{audit_lines, checkpoint_line, deliver_line, determinant_line, end_word, member_line, member_lines, recover_line, refused_at_line, refused_line, report_lines, run_line, safe_line, states_line, strike_line, total_lines, unsafe_line};
 
 use crate::sets::set_text;
 use fbl_base::{Determinant, Member, MemberSet};
@@ -251,5 +251,33 @@ pub fn audit_text(
     push_determinants(&mut text, alloc, lost)?;
     let set = set_text(alloc, orphans)?;
     write!(text, "orphans {set}\n")?;
+    Ok(text)
+}
+
+/// The line of a check of a run that no loss leaves an orphan in.
+pub fn safe_text(alloc: Global) -> Result<String, AllocError>
+    ensures { IfOk result (λ text. string_bytes text ≡ safe_line) }
+{
+    String::from_str(alloc, "safe\n")
+}
+
+/// The line of a check for a receipt that could be lost: its determinant, the members lost with it, and the orphans then.
+pub fn unsafe_text(
+    alloc: Global,
+    determinant: Determinant,
+    strike: MemberSet,
+    orphans: MemberSet,
+) -> Result<String, AllocError>
+    ensures { IfOk result (λ text. string_bytes text ≡ unsafe_line determinant strike orphans) }
+{
+    let from = determinant.from.number();
+    let ssn = determinant.ssn;
+    let to = determinant.to.number();
+    let rsn = determinant.rsn;
+    let strike = set_text(alloc, strike)?;
+    let orphans = set_text(alloc, orphans)?;
+    let mut text = format!(in alloc; "unsafe {from} {ssn} {to} {rsn}")?;
+    write!(text, " strike {strike}")?;
+    write!(text, " orphans {orphans}\n")?;
     Ok(text)
 }

@@ -1,9 +1,11 @@
 //! One member's volatile record, and the messages in flight.
 #![tactic(auto)]
 
+mod carried;
 pub mod laws;
 mod member_rec;
 mod wire;
 
+pub use carried::Carried;
 pub use member_rec::MemberRec;
 pub use wire::Wire;

@@ -9,14 +9,12 @@ ghost use Rattle.fbl_member.specs.Kept.{IsKept};
 ghost use Rattle.fbl_member.specs.Rooms.{HasRoom};
 ghost use Rattle.fbl_member.specs.Members.{fresh, blank, last_from, next_determinant, received_by, replayed_by, messages_from, logged_note, logged_beyond};
 
+use crate::carried::Carried;
 use crate::wire::Wire;
 use fbl_base::{Behaviour, Config, Determinant, Member, Note, Outcome};
 use fbl_table::{Entry, Table};
 use std::alloc::{AllocError, Allocator, Global};
 use std::marker::Model;
-
-/// How many entries a list may leave room for that it has no use for.
-const SPARE: usize = 32;
 
 /// What a member keeps in memory: its state, how many receipts it has had, the number of the last message from each
 /// member, its sends in order, and its table.
@@ -84,14 +82,14 @@ impl<A: Allocator + Copy> MemberRec<A> {
         }
     }
 
-    /// An equal record: state, counts, log and table. `Err` comes for want of memory, and the record is unchanged then.
+    /// An equal record: state, counts, log and table. `Err` comes for lack of memory, and the record is unchanged then.
     pub fn copy(&self) -> Result<MemberRec<A>, AllocError>
         ensures { IfOk result (λ m. m ≡ self.now) }
     {
         self.copy_with(self.table.copy()?)
     }
 
-    /// A record with this table, and equal to this one in state, counts and log. `Err` comes for want of memory, and the
+    /// A record with this table, and equal to this one in state, counts and log. `Err` comes for lack of memory, and the
     /// record is unchanged then.
     pub fn copy_with(&self, table: Table<A>) -> Result<MemberRec<A>, AllocError>
         ensures { IfOk result (λ m. m ≡ record self.now { table = table }) }
@@ -312,65 +310,65 @@ fn put_wires<A: Allocator + Copy>(
     for place in 0..sends.len() {
         let send = sends[place];
         let number = before + place as u32 + 1;
-        let mut carried = lists.take_last();
-        fill_carried(&mut carried, wires.last(), table, f);
+        let carried = next_carried(lists.take_last(), wires.last(), table, f, sends.len());
         wires.push_reserved(Wire::new(me, send.0, number, send.1, carried));
     }
 }
 
-/// Puts what the table passes on into the list, which is empty and has room for it. A message made before has a copy of it.
-fn fill_carried<A: Allocator + Copy>(
-    carried: &mut Vec<Entry, A>,
+/// What the next of so many messages of a step carries: the list of the one made before, if that can be shared, and else a
+/// list of what the table passes on.
+fn next_carried<A: Allocator + Copy>(
+    reserved: Vec<Entry, A>,
     made: Option<&Wire<A>>,
     table: &Table<A>,
     f: u8,
-)
+    messages: usize,
+) -> Carried<A>
     requires made { IfSome made (λ wire. wire.now.carried ≡ piggybacked f table.now) }
-    requires none { carried.old.items ≡ [] }
-    requires room { vec_len carried.old + length (piggybacked f table.now) ≤ vec_capacity carried.old }
-    ensures { carried.new.items ≡ piggybacked f table.now }
+    requires room { HasRoom (length (piggybacked f table.now)) reserved }
+    ensures { result ≡ piggybacked f table.now }
 {
     match made {
-        Some(wire) => put_copy(carried, wire.carried()),
-        None => {
-            table.piggyback_into(f, carried);
-            give_room_back(carried);
-        }
+        Some(wire) => match wire.share_carried() {
+            Some(carried) => carried,
+            None => carried_by(reserved, table, f, messages),
+        },
+        None => carried_by(reserved, table, f, messages),
     }
 }
 
-/// Puts the entries into the list, which is empty and has room for them. Where that would leave much of its room, the list
-/// becomes a copy of the entries that fits, if there is memory for one.
-fn put_copy<A: Allocator + Copy>(carried: &mut Vec<Entry, A>, entries: &[Entry])
-    requires none { carried.old.items ≡ [] }
-    requires room { vec_len carried.old + length entries.now ≤ vec_capacity carried.old }
-    ensures { carried.new.items ≡ entries.now }
+/// What the table passes on, for so many messages. Where there is no memory for a list of it, or for sharing one, each
+/// message has its own list, for which room was taken.
+fn carried_by<A: Allocator + Copy>(
+    reserved: Vec<Entry, A>,
+    table: &Table<A>,
+    f: u8,
+    messages: usize,
+) -> Carried<A>
+    requires { HasRoom (length (piggybacked f table.now)) reserved }
+    ensures { result ≡ piggybacked f table.now }
 {
-    if leaves_much(carried.capacity(), entries.len()) {
-        let mut copy = Vec::new(*carried.allocator());
-        if copy.extend_from_slice(entries).is_ok() {
-            *carried = copy;
-            return;
-        }
+    let entries = passed_on(reserved, table, f);
+    if messages > 1 {
+        Carried::for_several(entries)
+    } else {
+        Carried::own(entries)
     }
-    carried.extend_from_slice(entries).unwrap();
 }
 
-/// Gives back the room that a list turned out not to need, if it is much: how many of the carried entries are new shows only
-/// once the table has taken them in, and by then a want of memory has no call to refuse. Where a copy that fits can't be had,
-/// the list stays as it is. A copy, and not the list cut short, since what is cut off is too little for the next list.
-fn give_room_back<A: Allocator + Copy>(carried: &mut Vec<Entry, A>)
-    ensures { carried.new.items ≡ carried.old.items }
+/// What the table passes on, in a list that fits, or in the one for which room was taken where there is no memory for one that
+/// fits. How many of the carried entries are new shows only once the table has taken them in, and by then a lack of memory has
+/// no call to refuse: so the room is mostly much more than is needed.
+fn passed_on<A: Allocator + Copy>(reserved: Vec<Entry, A>, table: &Table<A>, f: u8) -> Vec<Entry, A>
+    requires { HasRoom (length (piggybacked f table.now)) reserved }
+    ensures { result.items ≡ piggybacked f table.now }
 {
-    if leaves_much(carried.capacity(), carried.len()) {
-        if let Ok(copy) = carried.clone() {
-            *carried = copy;
+    match table.piggyback(f) {
+        Ok(entries) => entries,
+        Err(_) => {
+            let mut entries = reserved;
+            table.piggyback_into(f, &mut entries);
+            entries
         }
     }
-}
-
-/// Whether a list with room for so many entries has much that so many don't need. It changes the memory that is kept, and
-/// nothing else.
-fn leaves_much(capacity: usize, len: usize) -> bool {
-    capacity.saturating_sub(len) > SPARE
 }

@@ -1,8 +1,9 @@
 //! Messages in flight.
 
-ghost use Rattle.std.specs.Prelude.{◌≡◌};
+ghost use Rattle.std.specs.Prelude.{◌≡◌, IfSome};
 ghost use Rattle.fbl_member.specs.Carried.{IsOnce};
 
+use crate::carried::Carried;
 use fbl_base::{Member, Note};
 use fbl_table::Entry;
 use std::alloc::{Allocator, Global};
@@ -16,7 +17,7 @@ pub struct Wire<A: Allocator = Global> {
     to: Member,
     ssn: u32,
     note: Note,
-    carried: Vec<Entry, A>,
+    carried: Carried<A>,
 }
 
 impl<A: Allocator> Model for Wire<A> {
@@ -32,17 +33,17 @@ impl<A: Allocator> Model for Wire<A> {
 
     ghost use Rattle.fbl_member.specs.Carried.{IsOnce};
 
-    ghost view = { λ w. record { from = w.from; to = w.to; ssn = w.ssn; note = w.note; carried = w.carried.items } };
+    ghost view = { λ w. record { from = w.from; to = w.to; ssn = w.ssn; note = w.note; carried = w.carried } };
 
-    ghost invariant = { λ w. IsOnce w.carried.items };
+    ghost invariant = { λ w. IsOnce w.carried };
 }
 
 impl<A: Allocator> Wire<A> {
     /// A message with these ends, this number among its sender's, this content and these entries, of which no two have the
     /// same determinant. It takes no memory.
-    pub fn new(from: Member, to: Member, ssn: u32, note: Note, carried: Vec<Entry, A>) -> Wire<A>
-        requires { IsOnce carried.items }
-        ensures { result ≡ record { from = from; to = to; ssn = ssn; note = note; carried = carried.items } }
+    pub fn new(from: Member, to: Member, ssn: u32, note: Note, carried: Carried<A>) -> Wire<A>
+        requires { IsOnce carried }
+        ensures { result ≡ record { from = from; to = to; ssn = ssn; note = note; carried = carried } }
     {
         Wire {
             from,
@@ -86,6 +87,13 @@ impl<A: Allocator> Wire<A> {
         ensures value { result.now ≡ self.now.carried }
         ensures once { IsOnce result.now }
     {
-        self.carried.as_slice()
+        self.carried.entries()
+    }
+
+    /// What it carries, for another message of the same step, if the list can be shared.
+    pub(crate) fn share_carried(&self) -> Option<Carried<A>>
+        ensures { IfSome result (λ carried. carried ≡ self.now.carried) }
+    {
+        self.carried.share()
     }
 }

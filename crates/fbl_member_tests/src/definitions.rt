@@ -9,7 +9,7 @@ use fbl_base::{
 use std::alloc::{AllocError, Allocator, Global};
 use std::test::Fail;
 
-fn send(from: u8, ssn: u32, to: u8) -> Result<Mark, Fail> {
+pub(crate) fn send(from: u8, ssn: u32, to: u8) -> Result<Mark, Fail> {
     Ok(Mark::Send {
         from: member(from)?,
         ssn,

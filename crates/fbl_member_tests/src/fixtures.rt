@@ -47,7 +47,9 @@ pub(crate) enum Refusal {
     NotAsked,
     /// The call failed, and what it was made on was as before.
     Kept,
-    /// The call failed with no refusal, or succeeded in spite of one, or changed what it was made on.
+    /// The call succeeded in spite of it: the memory would have spared time or room.
+    Borne,
+    /// The call failed with no refusal, or failed and changed what it was made on.
     Broken,
 }
 
@@ -55,6 +57,7 @@ impl Refusal {
     pub(crate) fn of(has_refused: bool, succeeded: bool, kept: bool) -> Refusal {
         match (has_refused, succeeded) {
             (false, true) => Refusal::NotAsked,
+            (true, true) => Refusal::Borne,
             (true, false) if kept => Refusal::Kept,
             _ => Refusal::Broken,
         }

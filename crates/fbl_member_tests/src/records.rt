@@ -2,7 +2,7 @@ ghost use Rattle.std.specs.Prelude.{◌≡◌, ◌<◌, IfOk};
 
 use crate::fixtures::{Refusal, first_receipt, member, own_table};
 use fbl_base::{Behaviour, Config, Determinant, Member, MemberSet, Mix, Note, Relay, Start};
-use fbl_member::{MemberRec, Wire};
+use fbl_member::{Carried, MemberRec, Wire};
 use fbl_table::{Entry, Table};
 use refusing_allocator::Refusing;
 use std::alloc::{AllocError, Allocator, Global};
@@ -35,7 +35,13 @@ fn deliver<B: Behaviour, A: Allocator + Copy>(
     requires { me < 3 }
 {
     let outcome = B::step(me, 3, member_record.state(), note);
-    let wire = Wire::new(determinant.from, me, determinant.ssn, note, Vec::new(alloc));
+    let wire = Wire::new(
+        determinant.from,
+        me,
+        determinant.ssn,
+        note,
+        Carried::none(alloc),
+    );
     if member_record.received() < 8192
         && determinant.to == me
         && determinant.rsn == member_record.received() + 1
@@ -280,7 +286,7 @@ fn a_copy_without_memory(rt: HostRuntime) -> Result<(), Fail> {
                 assert!(rt; request > 2, "{request}");
                 return Ok(());
             }
-            Refusal::Broken => assert!(rt; false, "{request}"),
+            Refusal::Borne | Refusal::Broken => assert!(rt; false, "{request}"),
         }
     }
     Ok(())
@@ -365,7 +371,7 @@ fn refuse_each(alloc: Global, call: Call, first: Member, second: Member) -> Resu
 {
     for request in 1..u64::MAX {
         match refuse(alloc, call, first, second, request)? {
-            Refusal::Kept => {}
+            Refusal::Kept | Refusal::Borne => {}
             Refusal::NotAsked => return Ok(request - 1),
             Refusal::Broken => return Ok(0),
         }

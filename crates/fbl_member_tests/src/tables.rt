@@ -252,7 +252,7 @@ fn refuse(alloc: Global, call: Call, scene: &Scene, request: u64) -> Result<Refu
 fn refuse_each(alloc: Global, call: Call, scene: &Scene) -> Result<u64, AllocError> {
     for request in 1..u64::MAX {
         match refuse(alloc, call, scene, request)? {
-            Refusal::Kept => {}
+            Refusal::Kept | Refusal::Borne => {}
             Refusal::NotAsked => return Ok(request - 1),
             Refusal::Broken => return Ok(0),
         }

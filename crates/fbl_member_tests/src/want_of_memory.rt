@@ -64,7 +64,7 @@ impl Parameters<'_> {
             match self.refuse_new(alloc, request) {
                 Refusal::Kept => {}
                 Refusal::NotAsked => return request - 1,
-                Refusal::Broken => return 0,
+                Refusal::Borne | Refusal::Broken => return 0,
             }
         }
         0
@@ -75,7 +75,7 @@ impl Parameters<'_> {
             match self.refuse_copy(alloc, request)? {
                 Refusal::Kept => {}
                 Refusal::NotAsked => return Ok(request - 1),
-                Refusal::Broken => return Ok(0),
+                Refusal::Borne | Refusal::Broken => return Ok(0),
             }
         }
         Ok(0)
@@ -112,7 +112,7 @@ fn make_and_audit<A: Allocator + Copy>(
 }
 
 /// Refuses each request in turn of making, checking and asking a dump of these parts, and answers how many there were, or 0
-/// where the answer was neither this one nor want of memory where it was refused.
+/// where the answer was neither this one nor lack of memory where it was refused.
 fn refuse_each_of_audit(
     alloc: Global,
     events: &[Mark],

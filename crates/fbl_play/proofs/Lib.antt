@@ -1,3 +1,4 @@
 pub mod RunTexts
 pub mod Playing
 pub mod Told
+pub mod HistoryRuns

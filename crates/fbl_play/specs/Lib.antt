@@ -3,3 +3,4 @@ pub mod RunSteps
 pub mod Runs
 pub mod Reasons
 pub mod Telling
+pub mod Histories

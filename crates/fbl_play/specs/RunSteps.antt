@@ -4,8 +4,7 @@ use Rattle.fbl_base.specs.declared.strike.Strike.{Strike}
 use Rattle.fbl_base.specs.Fold.{Next}
 use Rattle.fbl_law.specs.Groups.{GroupRecord}
 use Rattle.fbl_explain.specs.declared.account.Account.{Account}
-use Rattle.fbl_explain.specs.declared.account.Account.TheVariants.{Ran, Refused}
-use Rattle.fbl_explain.specs.declared.reason.Reason.{Reason}
+use Rattle.fbl_explain.specs.declared.account.Account.TheVariants.{Ran}
 use Rattle.fbl_lines.specs.declared.lines.RunEnd.{RunEnd}
 use Rattle.fbl_lines.specs.declared.lines.RunEnd.TheVariants.{Quiet, Full, Stopped}
 use Rattle.fbl_lines.specs.Lines.{run_line, refused_at_line, refused_line}
@@ -14,6 +13,7 @@ use Rattle.fbl_threads.specs.declared.draining.DrainRefusal.{DrainRefusal}
 use Rattle.fbl_threads.specs.declared.draining.DrainRefusal.TheVariants as drain
 use Rattle.fbl_threads.specs.Names.{drain_name}
 use Rattle.fbl_threads.specs.Drains.{Drains}
+use Rattle.fbl_play.specs.Reasons.{IsRunRefusal}
 
 -- how a run ended that came back quiet or not, and in which a worker met the end of the trace's room or not
 abbrev pub end_of : Bool → Bool → RunEnd
@@ -21,11 +21,11 @@ end_of true full = Quiet
 end_of false true = Full
 end_of false false = Stopped
 
--- the line of an accepted run, which met no want of memory
+-- the line of an accepted run, which met no lack of memory
 abbrev pub IsDrainedText : Drained → List ℕ → Type 0
 IsDrainedText drained text = (drained.memory ≡ false) × (text ≡ run_line (end_of drained.quiet drained.full))
 
--- the line of a refused run; want of memory has none
+-- the line of a refused run; lack of memory has none
 abbrev pub IsRefusedRunText : DrainRefusal → List ℕ → Type 0
 IsRefusedRunText drain.Memory text = ⊥
 IsRefusedRunText (drain.BadPlan place) text = text ≡ refused_at_line (codes "run") (drain_name (drain.BadPlan place)) place
@@ -36,10 +36,10 @@ abbrev pub IsRunText : Result Drained DrainRefusal → List ℕ → Type 0
 IsRunText (Ok drained) text = IsDrainedText drained text
 IsRunText (Err refusal) text = IsRefusedRunText refusal text
 
--- what is told beside the line, where the group had made and undone so many receipts and is now like this: the counts of the
+-- what is told beside the line of a run with this plan, where the group had made and undone so many receipts and is now like this: the counts of the
 -- group, and those of each worker as the drain answered them; or that it was refused
-abbrev pub IsRunAccount : ℕ → ℕ → GroupRecord → Result Drained DrainRefusal → Account → Type 0
-IsRunAccount made undone now (Ok drained) account =
+abbrev pub IsRunAccount : List Strike → ℕ → ℕ → GroupRecord → Result Drained DrainRefusal → Account → Type 0
+IsRunAccount plan made undone now (Ok drained) account =
     account ≡ Ran (record {
       ever_before = made;
       ever_after = now.receipts_ever;
@@ -48,14 +48,10 @@ IsRunAccount made undone now (Ok drained) account =
       by_worker = drained.by_worker;
       undone_by_worker = drained.undone_by_worker;
     })
-IsRunAccount made undone now (Err refusal) account = (reason : Reason) × (account ≡ Refused reason)
+IsRunAccount plan made undone now (Err refusal) account = IsRunRefusal plan now account
 
 -- a run with this plan by this many workers may lead from old to new, print the text and have the account: it follows by an
 -- answer of the workers' drain, whose line the text is, and whose counts the account has
-abbrev pub RunAnswers : Next → ℕ → List Strike → GroupRecord → GroupRecord → List ℕ → Account → Type 0
-RunAnswers next workers plan old new text account =
-    (answer : Result Drained DrainRefusal) × Drains next workers plan old new answer × IsRunText answer text × IsRunAccount old.receipts_ever old.undone_ever new answer account
-
--- and print the text, whatever the account
-abbrev pub RunStep : Next → ℕ → List Strike → GroupRecord → GroupRecord → List ℕ → Type 0
-RunStep next workers plan old new text = (account : Account) × RunAnswers next workers plan old new text account
+abbrev pub RunStep : Next → ℕ → List Strike → GroupRecord → GroupRecord → List ℕ → Account → Type 0
+RunStep next workers plan old new text account =
+    (answer : Result Drained DrainRefusal) × Drains next workers plan old new answer × IsRunText answer text × IsRunAccount plan old.receipts_ever old.undone_ever new answer account

@@ -1,7 +1,8 @@
--- The runs of a script's commands, with the text that they print.
+-- The runs of a script's commands, with the text that they print and what is told of each beside it.
 use Rattle.std.specs.Prelude.{◌≡◌, ℕ, ◌+◌, ◌<◌, ◌⊎◌, List, [], ◌∷◌, ◌++◌, length, take, Option, Some, None, Result, Ok, Err, codes}
 use Rattle.std.specs.Io.KnownBytes.{Keeps, Appends}
 use Rattle.std.specs.FinSet as set
+use Rattle.fbl_base.specs.declared.trace.Determinant.{Determinant}
 use Rattle.fbl_base.specs.Configs.{Settings}
 use Rattle.fbl_base.specs.Fold.{Next}
 use Rattle.fbl_base.specs.MemberSets.{AllBelow}
@@ -23,7 +24,9 @@ use Rattle.fbl_group.specs.Checkpoints.{checkpoint_refusal}
 use Rattle.fbl_group.specs.Deliveries.{deliver_refusal, Delivers}
 use Rattle.fbl_group.specs.Names.{checkpoint_name, deliver_name, dump_name, recover_name, strike_name}
 use Rattle.fbl_group.specs.Recoveries.{Recovers}
-use Rattle.fbl_group.specs.Strikes.{strike_refusal, Strikes}
+use Rattle.fbl_explain.specs.declared.account.Account.{Account}
+use Rattle.fbl_explain.specs.declared.account.Account.TheVariants.{Done, Lost, Undone}
+use Rattle.fbl_group.specs.Strikes.{lost_receipts, strike_refusal, Strikes}
 use Rattle.fbl_lines.specs.declared.lines.Totals.{Totals}
 use Rattle.fbl_lines.specs.Lines.{checkpoint_line, deliver_line, refused_line, states_line, report_lines, strike_line, recover_line}
 use Rattle.fbl_dump.specs.DumpLines.{dump_line}
@@ -36,118 +39,141 @@ use Rattle.fbl_script.specs.declared.script.Command.TheVariants as commands
 use Rattle.fbl_input.specs.Faults.{FailsToRead}
 use Rattle.fbl_script.specs.Scripts.{Outline, IsScriptOf, IsScriptFault}
 use Rattle.fbl_play.specs.Texts.{shown_states, shown_statuses, AreTotals}
+use Rattle.fbl_play.specs.Reasons.{IsRefusal}
 use Rattle.fbl_play.specs.RunSteps.{RunStep}
 
 -- ---- one command
 
 -- a delivery, by its first refusal: a refused one changes nothing
-abbrev pub DeliveryBy : Option DeliverRefusal → Next → GroupRecord → ℕ → ℕ → GroupRecord → List ℕ → Type 0
-DeliveryBy None next old to from new text =
-    (answer : Receipted) × Delivers next old new to from answer × (text ≡ deliver_line to from answer.rsn answer.carried answer.state)
-DeliveryBy (Some refusal) next old to from new text = (new ≡ old) × (text ≡ refused_line (codes "deliver") (deliver_name refusal))
+abbrev pub DeliveryBy : Option DeliverRefusal → Next → GroupRecord → ℕ → ℕ → GroupRecord → List ℕ → Account → Type 0
+DeliveryBy None next old to from new text account =
+    (answer : Receipted) × Delivers next old new to from answer × (text ≡ deliver_line to from answer.rsn answer.carried answer.state) × (account ≡ Done)
+DeliveryBy (Some refusal) next old to from new text account =
+    (new ≡ old) × (text ≡ refused_line (codes "deliver") (deliver_name refusal)) × IsRefusal old account
 
-abbrev pub DeliverStep : Next → GroupRecord → ℕ → ℕ → GroupRecord → List ℕ → Type 0
-DeliverStep next old to from new text = DeliveryBy (deliver_refusal next old to from) next old to from new text
+abbrev pub DeliverStep : Next → GroupRecord → ℕ → ℕ → GroupRecord → List ℕ → Account → Type 0
+DeliverStep next old to from new text account = DeliveryBy (deliver_refusal next old to from) next old to from new text account
 
-abbrev pub StatesStep : GroupRecord → GroupRecord → List ℕ → Type 0
-StatesStep old new text = (new ≡ old) × (text ≡ states_line (shown_states old))
+abbrev pub StatesStep : GroupRecord → GroupRecord → List ℕ → Account → Type 0
+StatesStep old new text account = (new ≡ old) × (text ≡ states_line (shown_states old)) × (account ≡ Done)
 
 -- the lines of a report of the group
 abbrev pub IsReport : GroupRecord → List ℕ → Type 0
 IsReport r text = (totals : Totals) × AreTotals r totals × (text ≡ report_lines (shown_statuses r) totals)
 
-abbrev pub ReportStep : GroupRecord → GroupRecord → List ℕ → Type 0
-ReportStep old new text = (new ≡ old) × IsReport old text
+abbrev pub ReportStep : GroupRecord → GroupRecord → List ℕ → Account → Type 0
+ReportStep old new text account = (new ≡ old) × IsReport old text × (account ≡ Done)
+
+-- the account names these receipts as those that a strike loses
+abbrev pub NamesLost : List Determinant → Account → Type 0
+NamesLost receipts (Lost named) = named.items ≡ receipts
+NamesLost receipts _ = ⊥
+
+-- the account names these receipts as those that a recovery undoes
+abbrev pub NamesUndone : List Determinant → Account → Type 0
+NamesUndone receipts (Undone named) = named.items ≡ receipts
+NamesUndone receipts _ = ⊥
 
 -- a strike, by its first refusal: a refused one changes nothing
-abbrev pub StrikeBy : Option StrikeRefusal → GroupRecord → Members → GroupRecord → List ℕ → Type 0
-StrikeBy None old struck new text = (answer : Struck) × Strikes old new struck answer × (text ≡ strike_line struck answer.lost)
-StrikeBy (Some refusal) old struck new text = (new ≡ old) × (text ≡ refused_line (codes "strike") (strike_name refusal))
+abbrev pub StrikeBy : Option StrikeRefusal → GroupRecord → Members → GroupRecord → List ℕ → Account → Type 0
+StrikeBy None old struck new text account =
+    (answer : Struck) × Strikes old new struck answer × (text ≡ strike_line struck answer.lost) × NamesLost (lost_receipts new) account
+StrikeBy (Some refusal) old struck new text account = (new ≡ old) × (text ≡ refused_line (codes "strike") (strike_name refusal)) × IsRefusal old account
 
-abbrev pub StrikeStep : GroupRecord → Members → GroupRecord → List ℕ → Type 0
-StrikeStep old struck new text = StrikeBy (strike_refusal old struck) old struck new text
+abbrev pub StrikeStep : GroupRecord → Members → GroupRecord → List ℕ → Account → Type 0
+StrikeStep old struck new text account = StrikeBy (strike_refusal old struck) old struck new text account
 
 -- a recovery where nobody is down
-abbrev pub RefusedRecovery : GroupRecord → GroupRecord → List ℕ → Type 0
-RefusedRecovery old new text = (old.down ≡ set.empty) × (new ≡ old) × (text ≡ refused_line (codes "recover") (recover_name NotDown))
+abbrev pub RefusedRecovery : GroupRecord → GroupRecord → List ℕ → Account → Type 0
+RefusedRecovery old new text account =
+    (old.down ≡ set.empty) × (new ≡ old) × (text ≡ refused_line (codes "recover") (recover_name NotDown)) × IsRefusal old account
 
 -- a recovery of those that are down
-abbrev pub AcceptedRecovery : Next → GroupRecord → GroupRecord → List ℕ → Type 0
-AcceptedRecovery next old new text =
-    ¬ (old.down ≡ set.empty) × ((answer : Recovered) × Recovers next old new answer × (text ≡ recover_line answer.replayed answer.resent answer.undone))
+abbrev pub AcceptedRecovery : Next → GroupRecord → GroupRecord → List ℕ → Account → Type 0
+AcceptedRecovery next old new text account =
+    ¬ (old.down ≡ set.empty)
+    × ((answer : Recovered) × Recovers next old new answer × (text ≡ recover_line answer.replayed answer.resent answer.undone))
+    × NamesUndone (lost_receipts old) account
 
-abbrev pub RecoverStep : Next → GroupRecord → GroupRecord → List ℕ → Type 0
-RecoverStep next old new text = RefusedRecovery old new text ⊎ AcceptedRecovery next old new text
+abbrev pub RecoverStep : Next → GroupRecord → GroupRecord → List ℕ → Account → Type 0
+RecoverStep next old new text account = RefusedRecovery old new text account ⊎ AcceptedRecovery next old new text account
 
 -- the line of a dump of the group with this strike set
-abbrev pub IsDumpText : GroupRecord → Members → List ℕ → Type 0
-IsDumpText r strike text =
-    (AllBelow strike r.config.members × (text ≡ dump_line (dump_of r strike)))
-    ⊎ (¬ (AllBelow strike r.config.members) × (text ≡ refused_line (codes "dump") (dump_name BadStrike)))
+abbrev pub IsDumpText : GroupRecord → Members → List ℕ → Account → Type 0
+IsDumpText r strike text account =
+    (AllBelow strike r.config.members × (text ≡ dump_line (dump_of r strike)) × (account ≡ Done))
+    ⊎ (¬ (AllBelow strike r.config.members) × (text ≡ refused_line (codes "dump") (dump_name BadStrike)) × IsRefusal r account)
 
-abbrev pub DumpStep : GroupRecord → Members → GroupRecord → List ℕ → Type 0
-DumpStep old strike new text = (new ≡ old) × IsDumpText old strike text
+abbrev pub DumpStep : GroupRecord → Members → GroupRecord → List ℕ → Account → Type 0
+DumpStep old strike new text account = (new ≡ old) × IsDumpText old strike text account
 
 -- a checkpoint, by its first refusal: a refused one changes nothing
-abbrev pub CheckpointBy : Option CheckpointRefusal → GroupRecord → ℕ → GroupRecord → List ℕ → Type 0
-CheckpointBy None old p new text = IsCheckpoint old new p × (text ≡ checkpoint_line p (checkpoint new p).received)
-CheckpointBy (Some refusal) old p new text = (new ≡ old) × (text ≡ refused_line (codes "checkpoint") (checkpoint_name refusal))
+abbrev pub CheckpointBy : Option CheckpointRefusal → GroupRecord → ℕ → GroupRecord → List ℕ → Account → Type 0
+CheckpointBy None old p new text account = IsCheckpoint old new p × (text ≡ checkpoint_line p (checkpoint new p).received) × (account ≡ Done)
+CheckpointBy (Some refusal) old p new text account =
+    (new ≡ old) × (text ≡ refused_line (codes "checkpoint") (checkpoint_name refusal)) × IsRefusal old account
 
-abbrev pub CheckpointStep : GroupRecord → ℕ → GroupRecord → List ℕ → Type 0
-CheckpointStep old p new text = CheckpointBy (checkpoint_refusal old p) old p new text
+abbrev pub CheckpointStep : GroupRecord → ℕ → GroupRecord → List ℕ → Account → Type 0
+CheckpointStep old p new text account = CheckpointBy (checkpoint_refusal old p) old p new text account
 
--- a command, with this many workers, may lead from old to new, and print the text
-abbrev pub Step : Next → ℕ → GroupRecord → Command → GroupRecord → List ℕ → Type 0
-Step next workers old (commands.Deliver to from) new text = DeliverStep next old to from new text
-Step next workers old commands.States new text = StatesStep old new text
-Step next workers old commands.Report new text = ReportStep old new text
-Step next workers old (commands.Strike struck) new text = StrikeStep old struck new text
-Step next workers old commands.Recover new text = RecoverStep next old new text
-Step next workers old (commands.Dump strike) new text = DumpStep old strike new text
-Step next workers old (commands.Run plan) new text = RunStep next workers plan old new text
-Step next workers old (commands.Checkpoint p) new text = CheckpointStep old p new text
+-- a command, with this many workers, may lead from old to new, print the text and have the account
+abbrev pub Step : Next → ℕ → GroupRecord → Command → GroupRecord → List ℕ → Account → Type 0
+Step next workers old (commands.Deliver to from) new text account = DeliverStep next old to from new text account
+Step next workers old commands.States new text account = StatesStep old new text account
+Step next workers old commands.Report new text account = ReportStep old new text account
+Step next workers old (commands.Strike struck) new text account = StrikeStep old struck new text account
+Step next workers old commands.Recover new text account = RecoverStep next old new text account
+Step next workers old (commands.Dump strike) new text account = DumpStep old strike new text account
+Step next workers old (commands.Run plan) new text account = RunStep next workers plan old new text account
+Step next workers old (commands.Checkpoint p) new text account = CheckpointStep old p new text account
 
 -- ---- the commands of a script
 
--- the commands may lead from old to new, one after another, and print the text; each record that a command leaves is sound
-abbrev pub Run : Next → ℕ → GroupRecord → List Command → GroupRecord → List ℕ → Type 0
-Run next workers old [] new text = (new ≡ old) × (text ≡ [])
-Run next workers old (c ∷ cs) new text =
-    (mid : GroupRecord) × (first : List ℕ) × (rest : List ℕ) × Step next workers old c mid first × IsSound next mid × Run next workers mid cs new rest × (text ≡ first ++ rest)
+-- the commands may lead from old to new, one after another, print the text and have these accounts; each record that a command
+-- leaves is sound
+abbrev pub Run : Next → ℕ → GroupRecord → List Command → GroupRecord → List ℕ → List Account → Type 0
+Run next workers old [] new text [] = (new ≡ old) × (text ≡ [])
+Run next workers old (c ∷ cs) new text (account ∷ accounts) =
+    (mid : GroupRecord) × (first : List ℕ) × (rest : List ℕ) × Step next workers old c mid first account × IsSound next mid
+    × Run next workers mid cs new rest accounts × (text ≡ first ++ rest)
+Run next workers old _ new text _ = ⊥
 
--- some run of the commands, from a new group of this config, prints the text; each record of the run is sound, so that
--- each state that is printed is the fold of the member's receipts in the trace
-abbrev pub IsTextOf : Next → ℕ → Settings → List Command → List ℕ → Type 0
-IsTextOf next workers config commands text =
-    (start : GroupRecord) × (end : GroupRecord) × IsGroupStart config start × IsSound next start × Run next workers start commands end text
+-- some run of the commands, from a new group of this config, prints the text and has these accounts; each record of the run is
+-- sound, so that each state that is printed is the fold of the member's receipts in the trace
+abbrev pub IsTextOf : Next → ℕ → Settings → List Command → List ℕ → List Account → Type 0
+IsTextOf next workers config commands text accounts =
+    (start : GroupRecord) × (end : GroupRecord) × IsGroupStart config start × IsSound next start × Run next workers start commands end text accounts
 
 -- ---- what a play of the commands leaves in the writer
 
--- the text of a run of the first so many commands
-abbrev pub IsTextUpTo : Next → ℕ → Settings → List Command → ℕ → List ℕ → Type 0
-IsTextUpTo next workers config commands done text = IsTextOf next workers config (take done commands) text
+-- the text of a run of all commands, which has these accounts, was written
+abbrev pub IsWritten : Next → ℕ → Settings → List Command → List Account → Option (List ℕ) → Option (List ℕ) → Type 0
+IsWritten next workers config commands accounts before after =
+    (text : List ℕ) × IsTextOf next workers config commands text accounts × Appends before after text
 
--- the text of a run of the first so many commands was written, and one at least is left
-abbrev pub IsWrittenUpTo : Next → ℕ → Settings → List Command → ℕ → Option (List ℕ) → Option (List ℕ) → Type 0
-IsWrittenUpTo next workers config commands done before after =
-    (text : List ℕ) × (done < length commands) × IsTextUpTo next workers config commands done text × Appends before after text
+-- that of a run of the first so many commands was written, and one at least is left
+abbrev pub IsWrittenUpTo : Next → ℕ → Settings → List Command → ℕ → List Account → Option (List ℕ) → Option (List ℕ) → Type 0
+IsWrittenUpTo next workers config commands done accounts before after =
+    (done < length commands) × IsWritten next workers config (take done commands) accounts before after
 
 -- the text of a run of the first so many commands was written, and of the next one's lines a proper prefix
-abbrev pub IsCutAfter : Next → ℕ → Settings → List Command → ℕ → Option (List ℕ) → Option (List ℕ) → Type 0
-IsCutAfter next workers config commands done before after =
-    (text : List ℕ) × (lines : List ℕ) × (part : ℕ) × (done < length commands) × IsTextUpTo next workers config commands done text
-    × IsTextUpTo next workers config commands (done + 1) (text ++ lines) × (part < length lines) × Appends before after (text ++ take part lines)
+abbrev pub IsCutAfter : Next → ℕ → Settings → List Command → ℕ → List Account → Option (List ℕ) → Option (List ℕ) → Type 0
+IsCutAfter next workers config commands done accounts before after =
+    (text : List ℕ) × (lines : List ℕ) × (last : Account) × (part : ℕ) × (done < length commands)
+    × IsTextOf next workers config (take done commands) text accounts
+    × IsTextOf next workers config (take (done + 1) commands) (text ++ lines) (accounts ++ last ∷ [])
+    × (part < length lines) × Appends before after (text ++ take part lines)
 
 -- what a play of the commands leaves in the writer
 abbrev pub PlaysOn : Next → ℕ → Settings → List Command → Option (List ℕ) → Option (List ℕ) → Result (Unit {0}) RunFault → Type 0
 -- the text of a run of all commands
-PlaysOn next workers config commands before after (Ok _) =
-    (text : List ℕ) × IsTextOf next workers config commands text × Appends before after text
+PlaysOn next workers config commands before after (Ok _) = (accounts : List Account) × IsWritten next workers config commands accounts before after
 -- nothing where no group could be made, else the text of a run of the commands before the one that met it: there is one
 PlaysOn next workers config commands before after (Err faults.Memory) =
-    Keeps before after ⊎ ((done : ℕ) × IsWrittenUpTo next workers config commands done before after)
+    Keeps before after ⊎ ((done : ℕ) × (accounts : List Account) × IsWrittenUpTo next workers config commands done accounts before after)
 -- the text of a run of the commands before the one whose lines could not be written, and a proper prefix of those
-PlaysOn next workers config commands before after (Err faults.Write) = (done : ℕ) × IsCutAfter next workers config commands done before after
+PlaysOn next workers config commands before after (Err faults.Write) =
+    (done : ℕ) × (accounts : List Account) × IsCutAfter next workers config commands done accounts before after
 PlaysOn next workers config commands before after (Err e) = ⊥
 
 -- ---- what a play of an input leaves in the writer
@@ -166,7 +192,7 @@ PlaysScript workers input before after result =
 abbrev pub Plays : ℕ → List ℕ → Option (List ℕ) → Option (List ℕ) → Result (Unit {0}) RunFault → Type 0
 Plays workers input before after (Ok x) = PlaysScript workers input before after (Ok x)
 Plays workers input before after (Err faults.Write) = PlaysScript workers input before after (Err faults.Write)
--- memory may be wanting while the input is read, and then nothing is written
+-- memory may run out while the input is read, and then nothing is written
 Plays workers input before after (Err faults.Memory) = Keeps before after ⊎ PlaysScript workers input before after (Err faults.Memory)
 -- any other fault is the input's first as a script; so a failed read is none
 Plays workers input before after (Err e) = IsScriptFault input e × Keeps before after

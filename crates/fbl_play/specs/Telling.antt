@@ -8,29 +8,34 @@ use Rattle.fbl_input.specs.declared.fault.RunFault.{RunFault}
 use Rattle.fbl_input.specs.declared.fault.RunFault.TheVariants as faults
 use Rattle.fbl_script.specs.declared.script.Command.{Command}
 use Rattle.fbl_script.specs.Scripts.{Outline, IsScriptOf, IsScriptFault}
-use Rattle.fbl_play.specs.Runs.{IsCutAfter, IsWrittenUpTo, PlaysOn, next_of}
+use Rattle.fbl_play.specs.Runs.{IsCutAfter, IsWritten, IsWrittenUpTo, next_of}
 
 -- an observer, by what it is after it was told that a command is to be run, and that it was run with an account
 module _ {O : Type 0} (before : O → Command → O → Type 0) (after : O → Command → Account → O → Type 0) where
   -- it was told of each of the commands in turn, before it was run and then with its account
-  abbrev pub IsTold : List Command → O → O → Type 0
-  IsTold [] old new = new ≡ old
-  IsTold (c ∷ cs) old new = (begun : O) × (account : Account) × (mid : O) × before old c begun × after begun c account mid × IsTold cs mid new
+  abbrev pub IsTold : List Command → List Account → O → O → Type 0
+  IsTold [] [] old new = new ≡ old
+  IsTold (c ∷ cs) (account ∷ accounts) old new =
+      (begun : O) × (mid : O) × before old c begun × after begun c account mid × IsTold cs accounts mid new
+  IsTold _ _ old new = ⊥
 
   -- it was told of the first so many of the commands, and that the next one is to be run
-  abbrev pub IsToldUpTo : List Command → ℕ → O → O → Type 0
-  IsToldUpTo cs done old new = (mid : O) × (c : Command) × (done < length cs) × (c ≡ slice_index_or cs done c) × IsTold (take done cs) old mid × before mid c new
+  abbrev pub IsToldUpTo : List Command → ℕ → List Account → O → O → Type 0
+  IsToldUpTo cs done accounts old new =
+      (mid : O) × (c : Command) × (done < length cs) × (c ≡ slice_index_or cs done c) × IsTold (take done cs) accounts old mid × before mid c new
 
   -- what a play of the commands writes and tells: of each command that it is to be run, once the lines of those before it
-  -- are written, and that it was run, once its own are
+  -- are written, and that it was run, with its account, once its own are
   abbrev pub TellsOn : Next → ℕ → Settings → List Command → Option (List ℕ) → Option (List ℕ) → O → O → Result (Unit {0}) RunFault → Type 0
-  TellsOn next workers config commands had has old new (Ok x) = PlaysOn next workers config commands had has (Ok x) × IsTold commands old new
+  TellsOn next workers config commands had has old new (Ok x) =
+      (accounts : List Account) × IsWritten next workers config commands accounts had has × IsTold commands accounts old new
   -- nothing where no group could be made, else up to the command that met it, of which no line is written
   TellsOn next workers config commands had has old new (Err faults.Memory) =
-      (Keeps had has × (new ≡ old)) ⊎ ((done : ℕ) × IsWrittenUpTo next workers config commands done had has × IsToldUpTo commands done old new)
+      (Keeps had has × (new ≡ old))
+      ⊎ ((done : ℕ) × (accounts : List Account) × IsWrittenUpTo next workers config commands done accounts had has × IsToldUpTo commands done accounts old new)
   -- up to the command whose lines could not be written
   TellsOn next workers config commands had has old new (Err faults.Write) =
-      (done : ℕ) × IsCutAfter next workers config commands done had has × IsToldUpTo commands done old new
+      (done : ℕ) × (accounts : List Account) × IsCutAfter next workers config commands done accounts had has × IsToldUpTo commands done accounts old new
   TellsOn next workers config commands had has old new (Err e) = ⊥
 
   -- the same for the commands of a script that the bytes spell; of any other input nothing is written and nothing told

@@ -8,7 +8,7 @@ ghost use Rattle.fbl_lines.specs.Lines.{states_line};
 use crate::answer::{Answer, answer_with};
 use crate::reasons::{checkpoint_reason, deliver_reason, no_such_member, strike_reason};
 use crate::runs::run_plan;
-use fbl_base::audit::{lost, orphans};
+use fbl_audit::Audit;
 use fbl_base::{Behaviour, Member, MemberSet};
 use fbl_dump::dump_text;
 use fbl_explain::{Account, Reason};
@@ -29,7 +29,7 @@ fn run_deliver<B: Behaviour>(
     to: Member,
     from: Member,
 ) -> Result<Answer, AllocError>
-    ensures { IfOk result (λ answer. DeliverStep B.next group.old to from group.new (string_bytes answer.text)) }
+    ensures { IfOk result (λ answer. DeliverStep B.next group.old to from group.new (string_bytes answer.text) answer.account) }
 {
     match group.deliver(to, from) {
         Ok(answer) => answer_with(
@@ -107,13 +107,13 @@ fn totals<B: Behaviour>(alloc: Global, group: &Group<B>) -> Result<Totals, Alloc
         Err(DumpGroupRefusal::Memory) => return Err(AllocError),
         Err(DumpGroupRefusal::BadStrike) => unreachable!(),
     };
-    let lost = lost(alloc, &dump)?;
-    let orphans = orphans(alloc, &dump)?;
+    let audit = Audit::of(alloc, &dump)?;
+    let lost = audit.lost(alloc)?;
     Ok(Totals {
         flight: group.messages_in_flight(),
         trace: group.trace().len(),
         lost: lost.len(),
-        orphans,
+        orphans: audit.orphans(),
     })
 }
 
@@ -132,10 +132,13 @@ fn run_strike<B: Behaviour>(
     group: &mut Group<B>,
     set: MemberSet,
 ) -> Result<Answer, AllocError>
-    ensures { IfOk result (λ answer. StrikeStep group.old set group.new (string_bytes answer.text)) }
+    ensures { IfOk result (λ answer. StrikeStep group.old set group.new (string_bytes answer.text) answer.account) }
 {
     match group.strike(set) {
-        Ok(struck) => answer_with(strike_text(alloc, set, struck.lost), Account::Done),
+        Ok(struck) => {
+            let lost = group.lost_receipts(alloc)?;
+            answer_with(strike_text(alloc, set, struck.lost), Account::Lost(lost))
+        }
         Err(refusal) => answer_with(
             refused_text(alloc, "strike", refusal.name()),
             Account::Refused(strike_reason(group, set, refusal)),
@@ -145,12 +148,13 @@ fn run_strike<B: Behaviour>(
 
 /// Recovers, and answers the line.
 fn run_recover<B: Behaviour>(alloc: Global, group: &mut Group<B>) -> Result<Answer, AllocError>
-    ensures { IfOk result (λ answer. RecoverStep B.next group.old group.new (string_bytes answer.text)) }
+    ensures { IfOk result (λ answer. RecoverStep B.next group.old group.new (string_bytes answer.text) answer.account) }
 {
+    let undone = group.lost_receipts(alloc)?;
     match group.recover() {
         Ok(answer) => answer_with(
             recover_text(alloc, answer.replayed, answer.resent, answer.undone),
-            Account::Done,
+            Account::Undone(undone),
         ),
         Err(RecoverRefusal::Memory) => Err(AllocError),
         Err(refusal) => answer_with(
@@ -166,7 +170,7 @@ fn run_checkpoint<B: Behaviour>(
     group: &mut Group<B>,
     member: Member,
 ) -> Result<Answer, AllocError>
-    ensures { IfOk result (λ answer. CheckpointStep group.old member group.new (string_bytes answer.text)) }
+    ensures { IfOk result (λ answer. CheckpointStep group.old member group.new (string_bytes answer.text) answer.account) }
 {
     match group.checkpoint(member) {
         Ok(()) => answer_with(
@@ -187,7 +191,7 @@ fn run_dump<B: Behaviour>(
     group: &Group<B>,
     strike: MemberSet,
 ) -> Result<Answer, AllocError>
-    ensures { IfOk result (λ answer. IsDumpText group.now strike (string_bytes answer.text)) }
+    ensures { IfOk result (λ answer. IsDumpText group.now strike (string_bytes answer.text) answer.account) }
 {
     match group.dump(strike) {
         Ok(dump) => answer_with(dump_text(alloc, &dump), Account::Done),
@@ -209,7 +213,7 @@ pub(crate) fn run_command<B: Behaviour + Send + Sync, T: Threads + Wait + Sync>(
 ) -> (Group<B>, Result<Answer, AllocError>)
     requires some { 1 ≤ workers }
     requires few { workers ≤ 8 }
-    ensures { IfOk result.1 (λ answer. Step B.next workers group command.now result.0 (string_bytes answer.text)) }
+    ensures { IfOk result.1 (λ answer. Step B.next workers group command.now result.0 (string_bytes answer.text) answer.account) }
 {
     let answer = match command {
         Command::Deliver { to, from } => run_deliver(alloc, &mut group, *to, *from),

@@ -31,14 +31,14 @@ fn play_with<B: Behaviour + Send + Sync, T: Threads + Wait + Sync, W: Write, O: 
     ensures { TellsOn O.hears_before O.hears_after B.next workers config commands.now (W.contents writer.old) (W.contents writer.new) observer.old observer.new result }
 {
     let mut group: Group<B> = Group::new(alloc, config)?;
-    // the trace's contract says that the group is sound
-    let _trace = group.trace();
+    // the group is sound
+    group.recoverable();
     for command in commands {
         observer.before(command);
         let (after, answer) = run_command(rt, alloc, workers, group, command);
         group = after;
-        // and that it is so after each command
-        let _trace = group.trace();
+        // and so it is after each command
+        group.recoverable();
         let answer = answer?;
         put(writer, answer.text.as_bytes())?;
         observer.after(command, &answer.account);
@@ -78,7 +78,7 @@ fn play_script<T: Threads + Wait + Sync, W: Write, O: Observer>(
 /// Plays the script that the bytes spell, and writes each command's lines when it ends, before the next one begins.
 ///
 /// The script is read whole and checked before anything is run: nothing is written where the fault is one of the script.
-/// A refused command prints its refusal, and the play goes on; want of memory ends it, and the command that met it prints
+/// A refused command prints its refusal, and the play goes on; lack of memory ends it, and the command that met it prints
 /// nothing. After `Write` the lines of the commands before are written, and a proper prefix of the last one's. `Read` is no
 /// answer. A `run` is made by `workers` workers, 1 to 8.
 ///

@@ -1,8 +1,9 @@
 //! Runs by workers.
 
-ghost use Rattle.std.specs.Prelude.{◌≡◌, ◌≤◌, false, IfOk, string_bytes};
+ghost use Rattle.std.specs.Prelude.{◌≡◌, ◌≤◌, false, IfErr, IfOk, string_bytes};
 ghost use Rattle.fbl_lines.specs.Lines.{run_line};
-ghost use Rattle.fbl_play.specs.RunSteps.{RunAnswers, IsRefusedRunText, IsRunAccount, IsRunText, end_of as end_of_run};
+ghost use Rattle.fbl_play.specs.Reasons.{IsPlanRefused};
+ghost use Rattle.fbl_play.specs.RunSteps.{RunStep, IsRefusedRunText, IsRunAccount, IsRunText, end_of as end_of_run};
 
 use crate::answer::{Answer, answer_with};
 use crate::reasons::run_reason;
@@ -32,7 +33,7 @@ fn end_of(quiet: bool, full: bool) -> RunEnd
     }
 }
 
-/// The line of an accepted run. There is none where a worker ended for want of memory.
+/// The line of an accepted run. There is none where a worker ended for lack of memory.
 fn drained_text(alloc: Global, drained: &Drained) -> Result<String, AllocError>
     ensures memory { IfOk result (λ text. drained.now.memory ≡ false) }
     ensures line { IfOk result (λ text. string_bytes text ≡ run_line (end_of_run drained.now.quiet drained.now.full)) }
@@ -43,7 +44,7 @@ fn drained_text(alloc: Global, drained: &Drained) -> Result<String, AllocError>
     run_text(alloc, end_of(drained.quiet, drained.full))
 }
 
-/// The line of a refused run. There is none for want of memory.
+/// The line of a refused run. There is none for lack of memory.
 fn refused_run_text(alloc: Global, refusal: DrainRefusal) -> Result<String, AllocError>
     ensures { IfOk result (λ text. IsRefusedRunText refusal (string_bytes text)) }
 {
@@ -72,7 +73,8 @@ fn account_of<B: Behaviour>(
     undone_before: u64,
     answer: Result<Drained, DrainRefusal>,
 ) -> Account
-    ensures { IsRunAccount ever_before undone_before group.now answer result }
+    requires { IfErr answer (IsPlanRefused plan.now group.now.config) }
+    ensures { IsRunAccount plan.now ever_before undone_before group.now answer result }
 {
     match answer {
         Ok(drained) => Account::Ran(RunCounts {
@@ -95,7 +97,7 @@ pub(crate) fn run_plan<B: Behaviour + Send + Sync, T: Threads + Wait + Sync>(
     group: Group<B>,
     plan: &Plan,
 ) -> (Group<B>, Result<Answer, AllocError>)
-    ensures { IfOk result.1 (λ answer. RunAnswers B.next workers plan.now group result.0 (string_bytes answer.text) answer.account) }
+    ensures { IfOk result.1 (λ answer. RunStep B.next workers plan.now group result.0 (string_bytes answer.text) answer.account) }
 {
     let ever = group.receipts_ever();
     let undone = group.undone_ever();

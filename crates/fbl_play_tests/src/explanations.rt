@@ -1,22 +1,30 @@
-//! Faults of scripts and dumps in words.
+//! Faults of scripts and dumps in words, and why receipts are lost.
 
 use fbl_dump::dump_of_bytes;
-use fbl_explain::{Explanation, InputKind, explain};
-use fbl_input::RunFault;
+use fbl_explain::{explain, why_lost, why_unsafe};
+use fbl_input::{InputFault, InputKind, RunFault};
 use fbl_script::script_of_bytes;
 use std::alloc::{AllocError, Global};
 use std::test::Fail;
 
 /// Scripts with a fault, and what is said of each.
-const SCRIPTS: [(&str, &str); 16] = [
+const SCRIPTS: [(&str, &str); 19] = [
     (
         "{",
-        "the input is no JSON: EOF while parsing at line 1 column 1",
+        "the input must be one JSON object, and is no JSON: EOF while parsing at line 1 column 1",
     ),
-    ("[1]", "the input is a list, and must be an object"),
+    ("[1]", "the input must be one JSON object, and is [1]"),
     (
         r#"{"version":1,"members":2,"f":1,"start":[[0,1,4,1]],"commands":[]}"#,
         r#"behaviour is missing, and must be "relay" or "mix""#,
+    ),
+    (
+        r#"{"version":1,"members":2,"f":1,"behavior":"mix","start":[],"commands":[]}"#,
+        r#"behaviour is missing, and must be "relay" or "mix"; the key "behavior" is unknown"#,
+    ),
+    (
+        r#"{"version":1,"members":2,"f":1,"behaviour":"0123456789012345678901234567890123456789012345678901234567890123456789","start":[],"commands":[]}"#,
+        r#"behaviour is "01234567890123456789012345678901234567890123456789012345678.., and must be "relay" or "mix""#,
     ),
     (
         r#"{"version":3,"members":2,"f":1,"behaviour":"mix","start":[],"commands":[]}"#,
@@ -52,7 +60,7 @@ const SCRIPTS: [(&str, &str); 16] = [
     ),
     (
         r#"{"version":1,"members":3,"f":3,"behaviour":"mix","start":[],"commands":[]}"#,
-        "f is 3, and must be 1 to 2",
+        "f is 3, and must be 1 to 2, one less than members",
     ),
     (
         r#"{"version":1,"members":2,"f":1,"behaviour":"mix","limit":0,"start":[],"commands":[]}"#,
@@ -60,11 +68,15 @@ const SCRIPTS: [(&str, &str); 16] = [
     ),
     (
         r#"{"version":1,"members":2,"f":1,"behaviour":"mix","start":[[0,1,1,1],[0,2,1,1]],"commands":[]}"#,
-        "start 1 goes from 0 to 2, and the members are 0 to 1",
+        "start 1 goes from 0 to 2, and member 2 is outside the group, whose members are 0 to 1",
     ),
     (
         r#"{"version":1,"members":2,"f":1,"behaviour":"mix","start":[[0,1,1,16]],"commands":[]}"#,
-        "start 0 has 16 hops, and may have 0 to 15",
+        "start 0 goes from 0 to 1, and may have 0 to 15 hops, not 16",
+    ),
+    (
+        r#"{"version":1,"members":2,"f":1,"behaviour":"mix","start":[[1,1,1,0]],"commands":[]}"#,
+        "start 0 goes from 1 to 1, and must go to another member",
     ),
     (
         r#"{"version":1,"members":2,"f":1,"behaviour":"mix","limit":1,"start":[[0,1,1,1],[0,1,1,1]],"commands":[]}"#,
@@ -73,14 +85,14 @@ const SCRIPTS: [(&str, &str); 16] = [
 ];
 
 /// Dumps with a fault, and what is said of each.
-const DUMPS: [(&str, &str); 11] = [
+const DUMPS: [(&str, &str); 12] = [
     (
         r#"{"members":17,"f":1,"events":[],"held":[],"strike":[]}"#,
         "members is 17, and must be 2 to 16",
     ),
     (
         r#"{"members":3,"f":0,"events":[],"held":[],"strike":[]}"#,
-        "f is 0, and must be 1 to 2",
+        "f is 0, and must be 1 to 2, one less than members",
     ),
     (
         r#"{"members":3,"f":1,"events":[["fly"]],"held":[],"strike":[]}"#,
@@ -99,12 +111,16 @@ const DUMPS: [(&str, &str); 11] = [
         r#"event 0 is ["send",0,1,0], and its ends must differ"#,
     ),
     (
+        r#"{"members":3,"f":1,"events":[["send",0,1,7]],"held":[],"strike":[]}"#,
+        r#"event 0 is ["send",0,1,7], and member 7 is outside the group, whose members are 0 to 2"#,
+    ),
+    (
         r#"{"members":3,"f":1,"events":[["send",0,1,1],["send",0,2,1],["receipt",1,1,0,2]],"held":[],"strike":[]}"#,
-        r#"event 2 is ["receipt",1,1,0,2], and the first message in flight there is number 1"#,
+        r#"event 2 is ["receipt",1,1,0,2], and the first message in flight from 0 to 1 is number 1"#,
     ),
     (
         r#"{"members":3,"f":1,"events":[["receipt",1,1,0,1]],"held":[],"strike":[]}"#,
-        r#"event 0 is ["receipt",1,1,0,1], and nothing is in flight there"#,
+        r#"event 0 is ["receipt",1,1,0,1], and nothing is in flight from 0 to 1"#,
     ),
     (
         r#"{"members":3,"f":1,"events":[],"held":[[0,2,1,0,1]],"strike":[]}"#,
@@ -112,7 +128,7 @@ const DUMPS: [(&str, &str); 11] = [
     ),
     (
         r#"{"members":3,"f":1,"events":[],"held":[],"strike":[1,5]}"#,
-        "strike has 5, and the members are 0 to 2",
+        "in strike, member 5 is outside the group, whose members are 0 to 2",
     ),
     (
         r#"{"members":3,"f":1,"events":[],"held":[],"strike":[],"limit":1}"#,
@@ -121,9 +137,9 @@ const DUMPS: [(&str, &str); 11] = [
 ];
 
 /// The text of an explanation, or nothing where there is none.
-fn text_of(alloc: Global, found: Option<Explanation>) -> Result<String, AllocError> {
+fn text_of(alloc: Global, found: Option<InputFault>) -> Result<String, AllocError> {
     match found {
-        Some(explanation) => explanation.to_string(alloc),
+        Some(reason) => reason.to_string(alloc),
         None => Ok(String::new(alloc)),
     }
 }
@@ -157,6 +173,55 @@ fn has_no_words_where_the_input_is_not_at_fault(rt: HostRuntime) -> Result<(), F
     for fault in [RunFault::Read, RunFault::Write, RunFault::Memory] {
         let found = explain(rt.alloc(), InputKind::Script, b"{", &fault)?;
         assert!(rt; text_of(rt.alloc(), found)?.is_empty());
+    }
+    Ok(())
+}
+
+/// A dump of a message that goes round, whose first receipt member 1 alone holds; nobody is struck.
+const ROUND: &str =
+    r#"{"members":3,"f":1,"events":[["send",0,1,1],["receipt",1,1,0,1],["send",1,1,2],["receipt",2,1,1,1],["send",2,1,0],["receipt",0,1,2,1]],"held":[[0,1,1,2,1],[0,2,1,0,1],[1,0,1,1,1],[2,1,1,2,1]],"strike":[]}"#;
+
+/// The same with member 1 struck.
+const ROUND_STRUCK: &str =
+    r#"{"members":3,"f":1,"events":[["send",0,1,1],["receipt",1,1,0,1],["send",1,1,2],["receipt",2,1,1,1],["send",2,1,0],["receipt",0,1,2,1]],"held":[[0,1,1,2,1],[0,2,1,0,1],[1,0,1,1,1],[2,1,1,2,1]],"strike":[1]}"#;
+
+const ROUND_WHY: &str = "\
+determinant 0 1 1 1 is held by [1], and a strike of [1] loses it
+orphan 0 depends on it: receipt 1 of member 1, send 1 of member 1, receipt 1 of member 2, send 1 of member 2, receipt 1 of member 0
+orphan 2 depends on it: receipt 1 of member 1, send 1 of member 1, receipt 1 of member 2
+";
+
+/// Dumps, why receipts of each are lost, and why some are unsafe.
+const REASONS: [(&str, &str, &str); 5] = [
+    (ROUND, "", ROUND_WHY),
+    (ROUND_STRUCK, ROUND_WHY, ROUND_WHY),
+    (
+        r#"{"members":2,"f":1,"events":[["send",0,1,1],["receipt",1,1,0,1]],"held":[],"strike":[]}"#,
+        "determinant 0 1 1 1 is held by nobody\norphan 1 depends on it: receipt 1 of member 1\n",
+        "determinant 0 1 1 1 is held by nobody\norphan 1 depends on it: receipt 1 of member 1\n",
+    ),
+    (
+        r#"{"members":3,"f":1,"events":[["send",0,1,2],["send",1,1,2],["receipt",2,1,1,1],["send",2,1,0],["receipt",2,2,0,1],["receipt",0,1,2,1]],"held":[[0,1,1,2,1],[0,2,1,0,1],[2,1,1,2,1],[2,0,1,2,2]],"strike":[2]}"#,
+        "determinant 0 1 2 2 is held by [2], and a strike of [2] loses it; nobody else depends on it\n",
+        "",
+    ),
+    (
+        r#"{"members":4,"f":2,"events":[["send",0,1,1],["receipt",1,1,0,1],["send",1,1,3],["receipt",3,1,1,1]],"held":[[1,0,1,1,1],[0,0,1,1,1],[3,1,1,3,1]],"strike":[0]}"#,
+        "",
+        "determinant 0 1 1 1 is held by [0,1], and a strike of [0,1] loses it\norphan 3 depends on it: receipt 1 of member 1, send 1 of member 1, receipt 1 of member 3\n",
+    ),
+];
+
+#[test]
+fn tells_why_receipts_are_lost_or_unsafe(rt: HostRuntime) -> Result<(), Fail> {
+    for (input, lost, not_safe) in REASONS {
+        let dump = dump_of_bytes(rt.alloc(), input.as_bytes())
+            .ok()
+            .ok_or("no dump")?;
+        let text = why_lost(rt.alloc(), &dump)?.to_string(rt.alloc())?;
+        assert!(rt; text.as_str() == lost, "{text}");
+        let text = why_unsafe(rt.alloc(), &dump)?.to_string(rt.alloc())?;
+        assert!(rt; text.as_str() == not_safe, "{text}");
     }
     Ok(())
 }

@@ -10,6 +10,8 @@ mod dumps;
 #[cfg(test)]
 mod explanations;
 #[cfg(test)]
+mod histories;
+#[cfg(test)]
 mod pictures;
 #[cfg(test)]
 mod plays;

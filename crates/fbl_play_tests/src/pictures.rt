@@ -31,24 +31,29 @@ const SMALL: &str =
     r#"{"members":2,"f":1,"events":[["send",0,1,1],["receipt",1,1,0,1],["send",1,1,0]],"held":[[1,0,1,1,1]],"strike":[1]}"#;
 
 const SMALL_START: &str =
-    "<svg xmlns='http://www.w3.org/2000/svg' viewBox='0 0 720 230' width='720' height='230' role='img'>
+    "<svg class='fbl' xmlns='http://www.w3.org/2000/svg' viewBox='0 0 760 296' width='760' height='296' role='img'>
 <title>2 members, f 1, 3 events: struck 1, lost 1, orphans none</title>
 <style>
 ";
 
 const SMALL_BODY: &str = "
 </defs>
+<rect class='back' width='760' height='296'/>
 <text class='head' x='16' y='28'>2 members, f 1, 3 events: struck 1, lost 1, orphans none</text>
-<text x='16' y='75'>member 0 up</text>
-<line class='member' x1='170' y1='70' x2='310' y2='70'/>
-<text x='16' y='135'>member 1 struck</text>
-<line class='member struck' x1='170' y1='130' x2='310' y2='130'/>
-<line class='message' x1='190' y1='70' x2='230' y2='130'/>
-<line class='message in-flight' x1='270' y1='130' x2='290' y2='100'/>
-<use class='send' href='#send' x='190' y='70'><title>send 1 of member 0 to member 1</title></use>
-<use class='lost' href='#lost' x='230' y='130'><title>lost receipt 1 of member 1: message 1 of member 0, held by 1</title></use>
-<use class='send' href='#send' x='270' y='130'><title>send 1 of member 1 to member 0</title></use>
-<g class='note' transform='translate(0 180)'>
+<text x='16' y='79'>member 0 up</text>
+<line class='line' x1='170' y1='74' x2='328' y2='74'/>
+<text x='16' y='145'>member 1 struck</text>
+<line class='line down' x1='170' y1='140' x2='328' y2='140'/>
+<line class='message' x1='190' y1='74' x2='236' y2='140'/>
+<line class='message in-flight' x1='282' y1='140' x2='300' y2='120'/>
+<text class='at' x='308' y='118'>to 0</text>
+<circle class='send' cx='190' cy='74' r='5'><title>member 0 sends its message 1 to 1</title></circle>
+<text class='at' x='190' y='63'>1</text>
+<path class='receipt lost' d='M236 140m-7 -7l14 14m0 -14l-14 14'><title>member 1 receipt 1: message 1 of 0, held by 1</title></path>
+<text class='at' x='236' y='162'>1</text>
+<circle class='send' cx='282' cy='140' r='5'><title>member 1 sends its message 1 to 0</title></circle>
+<text class='at' x='282' y='129'>1</text>
+<g transform='translate(0 220)'>
 ";
 
 #[test]
@@ -58,8 +63,14 @@ fn draws_a_small_dump(rt: HostRuntime) -> Result<(), Fail> {
     assert!(rt; text.starts_with(SMALL_START), "{text}");
     assert!(rt; text.contains(SMALL_BODY), "{text}");
     assert!(rt; text.ends_with("</g>\n</svg>\n"), "{text}");
-    assert!(rt; lines_from(text, "<use class=") == 3);
     Ok(())
+}
+
+/// How many marks have this class. A mark has a title, as the legend's entries have none.
+fn marks(text: &str, class: &str) -> usize {
+    text.lines()
+        .filter(|line| line.contains(class) && line.contains("><title>"))
+        .count()
 }
 
 /// Dumps, and how many receipts of each are stable, recorded and lost.
@@ -74,14 +85,14 @@ fn draws_a_mark_for_each_event(rt: HostRuntime) -> Result<(), Fail> {
     for (dump, stable, recorded, lost) in KINDS {
         let text = drawn(rt.alloc(), dump.as_bytes())?;
         let text = text.as_str();
-        assert_eq!(rt; lines_from(text, "<use class='stable'"), stable, "{text}");
+        assert_eq!(rt; marks(text, " class='receipt stable'"), stable, "{text}");
         assert_eq!(rt;
-            lines_from(text, "<use class='recorded'"),
+            marks(text, " class='receipt recorded'"),
             recorded,
             "{text}"
         );
-        assert_eq!(rt; lines_from(text, "<use class='lost'"), lost, "{text}");
-        let sends = lines_from(text, "<use class='send'");
+        assert_eq!(rt; marks(text, " class='receipt lost'"), lost, "{text}");
+        let sends = marks(text, " class='send'");
         assert_eq!(rt; lines_from(text, "<line class='message"), sends, "{text}");
         let told = audited(rt.alloc(), dump.as_bytes())?;
         assert_eq!(rt; lines_from(told.as_str(), "determinant "), lost, "{told}");
@@ -93,10 +104,29 @@ fn draws_a_mark_for_each_event(rt: HostRuntime) -> Result<(), Fail> {
 fn marks_orphans_from_where_they_depend(rt: HostRuntime) -> Result<(), Fail> {
     let text = drawn(rt.alloc(), LOST.as_bytes())?;
     let text = text.as_str();
-    assert!(rt; text.contains("<line class='orphan' x1='390' y1='70' x2='430' y2='70'/>\n"));
-    assert!(rt; text.contains("<line class='orphan' x1='310' y1='190' x2='430' y2='190'/>\n"));
-    assert!(rt; lines_from(text, "<line class='orphan'") == 2);
+    assert!(rt; text.contains("<line class='line orphan' x1='420' y1='74' x2='466' y2='74'/>\n"));
+    assert!(rt; text.contains("<line class='line orphan' x1='328' y1='206' x2='466' y2='206'/>\n"));
+    assert!(rt; lines_from(text, "<line class='line orphan'") == 2);
     assert!(rt; text.contains(">3 members, f 1, 6 events: struck 1, lost 1, orphans 0,2<"));
+    Ok(())
+}
+
+/// The path to member 0 goes on from where that to member 2 ends.
+const PATHS: &str = "
+<line class='line path' x1='236' y1='140' x2='282' y2='140'/>
+<line class='path' x1='282' y1='140' x2='328' y2='206'/>
+<line class='line path' x1='328' y1='206' x2='374' y2='206'/>
+<line class='path' x1='374' y1='206' x2='420' y2='74'/>
+<line class='line path' x1='236' y1='140' x2='282' y2='140'/>
+<line class='path' x1='282' y1='140' x2='328' y2='206'/>
+<circle ";
+
+#[test]
+fn draws_a_path_to_each_orphan(rt: HostRuntime) -> Result<(), Fail> {
+    let text = drawn(rt.alloc(), LOST.as_bytes())?;
+    assert!(rt; text.as_str().contains(PATHS), "{text}");
+    let small = drawn(rt.alloc(), SMALL.as_bytes())?;
+    assert!(rt; !small.as_str().contains("<line class='path'"), "{small}");
     Ok(())
 }
 
@@ -155,12 +185,12 @@ fn stops_at_a_failed_read(rt: HostRuntime) {
 #[test]
 fn stops_at_a_failed_write(rt: HostRuntime) -> Result<(), Fail> {
     let text = drawn(rt.alloc(), LOST.as_bytes())?;
-    for fails_at in 1..=6u32 {
+    for fails_at in 1..=8u32 {
         let mut reader = LOST.as_bytes();
         let mut writer = UnsteadyWriter::new(rt.alloc(), 1000, fails_at, FailedWrite::Interruption);
         let done = draw(rt.alloc(), &mut reader, &mut writer);
         assert!(rt; text.as_bytes().starts_with(writer.held.as_slice()));
-        if fails_at <= 4 {
+        if fails_at <= 6 {
             assert!(rt; matches!(done, Err(RunFault::Write)), "at {fails_at}");
             assert!(rt; writer.held.len() < text.len());
         } else {

@@ -100,18 +100,18 @@ impl Write for UnsteadyWriter {
     }
 }
 
-/// A writer that takes no memory, and at most 4096 bytes.
+/// A writer that takes no memory, and at most 8192 bytes.
 #[derive(Drop)]
 pub(crate) struct Page {
-    pub held: [u8; 4096],
+    pub held: [u8; 8192],
     pub len: usize,
-    ghost within: { len ≤ 4096 },
+    ghost within: { len ≤ 8192 },
 }
 
 impl Page {
     pub(crate) fn new() -> Page {
         Page {
-            held: [0; 4096],
+            held: [0; 8192],
             len: 0,
         }
     }
@@ -120,7 +120,7 @@ impl Page {
 impl Write for Page {
     fn write(&mut self, buf: &[u8]) -> io::Result<usize> {
         let start = self.len;
-        let n = buf.len().min(4096 - start);
+        let n = buf.len().min(8192 - start);
         self.held[start..start + n].copy_from_slice(&buf[..n]);
         self.len = start + n;
         Ok(n)

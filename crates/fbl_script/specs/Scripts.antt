@@ -18,6 +18,10 @@ use Rattle.fbl_script.specs.declared.script.Command.{Command}
 use Rattle.fbl_script.specs.declared.script.Command.TheVariants.{Deliver, States, Report, Strike, Recover, Dump, Run, Checkpoint}
 use Rattle.fbl_script.specs.declared.script.Script.{Script}
 use Rattle.fbl_script.specs.declared.script_reading.Request.{Request}
+use Rattle.fbl_input.specs.declared.input_fault.InputFault.{InputFault}
+use Rattle.fbl_input.specs.declared.input_fault.InputKind.TheVariants as kinds
+use Rattle.fbl_input.specs.Misfits.{IsMisfit, IsOfSettings}
+pub use Rattle.fbl_input.specs.Items.{script_keys, start_from, start_shape}
 use Rattle.fbl_input.specs.Faults.{IsFirstFault, IsRefused}
 use Rattle.fbl_input.specs.Shapes.{◌>>=◌, or_fault, number_within, count_shape, member_shape, as_list, is_text, list_of, set_shape, name_of, field, field_or, has_other_key, value_of_input}
 
@@ -39,19 +43,13 @@ version_from n = if n == 1 then Some First else (if n == 2 then Some Second else
 abbrev pub version_shape : Data → Option Version
 version_shape d = option_and_then version_from (count_shape d)
 
+-- the word by which a script names a behaviour
+abbrev pub behaviour_word : BehaviourName → List ℕ
+behaviour_word Relay = codes "relay"
+behaviour_word Mix = codes "mix"
+
 abbrev pub behaviour_shape : Data → Option BehaviourName
-behaviour_shape d = if is_text (codes "relay") d then Some Relay else (if is_text (codes "mix") d then Some Mix else None)
-
--- `[from, to, value, hops]`
-abbrev pub start_from : List Data → Option Start
-start_from (from ∷ to ∷ value ∷ hops ∷ []) =
-    option_and_then (λ p. option_and_then (λ q. option_and_then (λ v. option_map (λ h.
-    record { from = p; to = q; note = record { value = v; hops = h } })
-    (number_within 0 255 hops)) (count_shape value)) (member_shape to)) (member_shape from)
-start_from _ = None
-
-abbrev pub start_shape : Data → Option Start
-start_shape d = option_and_then start_from (as_list d)
+behaviour_shape d = if is_text (behaviour_word Relay) d then Some Relay else (if is_text (behaviour_word Mix) d then Some Mix else None)
 
 -- `[at, set]`
 abbrev pub planned_from : List Data → Option planned.Strike
@@ -113,8 +111,9 @@ commands_from shape place (d ∷ ds) =
     commands_from shape (place + 1) ds >>= λ cs.
     Ok (c ∷ cs)
 
-abbrev pub script_keys : List Key
-script_keys = keys.Version ∷ keys.Members ∷ keys.F ∷ keys.Behaviour ∷ keys.Limit ∷ keys.Start ∷ keys.Commands ∷ []
+-- the commands of a script of this version
+abbrev pub commands_at : Version → Data → Result (List Command) RunFault
+commands_at version d = field keys.Commands as_list d >>= commands_from (versioned_shape version) 0
 
 -- what an object asks for as a script once its version is read, where commands have this shape, or its first fault
 unfoldable pub outline_by : (Data → Option Command) → Members → Data → Result Outline RunFault
@@ -162,15 +161,22 @@ IsScriptOf input s = (outline_of_input input ≡ Ok s) × IsConfig s.config
 abbrev pub IsScript : List ℕ → Type 0
 IsScript input = (s : Outline) × IsScriptOf input s
 
--- the fault is the input's first as a script; memory may be wanting for any input
+-- the fault is the input's first as a script; memory may run out for any input
 abbrev pub IsScriptFault : List ℕ → RunFault → Type 0
 IsScriptFault input = IsFirstFault (outline_of_input input) (λ s. RefusesConfig s.config) (λ _ _. ⊥)
+
+-- what the fault says of the input is so: of the value that it is, and of the parameters that it has
+abbrev pub IsScriptMisfit : List ℕ → InputFault → Type 0
+IsScriptMisfit input fault = (d : Data) → value_of_input input ≡ Ok d → IsMisfit kinds.Script d fault
+
+abbrev pub IsOfScript : List ℕ → InputFault → Type 0
+IsOfScript input fault = (s : Outline) → outline_of_input input ≡ Ok s → IsOfSettings s.config fault
 
 -- what is asked for as a script, before it is known whether there is such a group
 abbrev pub request_outline : Request → Outline
 request_outline r = record { behaviour = r.behaviour; config = record { members = r.members; f = r.f; limit = r.limit; starts = r.starts.items }; commands = r.commands.items }
 
--- there is no such group, or memory was wanting
+-- there is no such group, or memory ran out
 abbrev pub IsRequestRefused : Outline → RunFault → Type 0
 IsRequestRefused s = IsRefused (RefusesConfig s.config) (λ _. ⊥)
 

@@ -2,13 +2,15 @@
 
 ghost use Rattle.std.specs.Prelude.{◌≡◌, ◌≤◌, map, IfOk, IfErr};
 ghost use Rattle.serde_json.specs.View.{view};
-ghost use Rattle.fbl_input.specs.Shapes.{Gives, IsOfShape, list_of};
+ghost use Rattle.fbl_input.specs.Misfits.{Gives, IsOfShape, form_of, wanted_form};
+ghost use Rattle.fbl_input.specs.Shapes.{list_of};
+ghost use Rattle.fbl_script.specs.Commands.{IsBadAmong, IsBadCommand};
 ghost use Rattle.fbl_script.specs.Scripts.{checkpoint_from, command_from, command_on, commands_from, delivery, lone_command, planned_from, planned_shape, versioned_from, versioned_shape};
 
 use crate::script::{Command, Plan, Version};
 use fbl_base::Strike;
-use fbl_input::RunFault;
 use fbl_input::shapes::{Shape, all_in, count_in, is_named, list_in, member_in, set_in};
+use fbl_input::{CommandForm, InputFault};
 use serde_json::Value;
 use std::alloc::{AllocError, Global};
 
@@ -42,7 +44,11 @@ fn plan_in(alloc: Global, value: &Value) -> Result<Option<Plan>, AllocError>
     ensures { IfOk result (λ plan. plan ≡ list_of planned_shape (view value.now)) }
 {
     match list_in(value) {
-        Some(list) => Ok(all_in::<Strike, PlannedShape>(alloc, list)?.map(Plan::new)),
+        Some(list) => Ok(
+            all_in::<Strike, PlannedShape>(alloc, list)?
+                .ok()
+                .map(Plan::new),
+        ),
         None => Ok(None),
     }
 }
@@ -133,23 +139,86 @@ fn command_in(alloc: Global, version: Version, value: &Value) -> Result<Option<C
     }
 }
 
+/// The form of the command that the name is of; a checkpoint is of version 2 alone.
+fn form_in(is_second: bool, name: &Value) -> CommandForm
+    ensures { result ≡ form_of is_second (view name.now) }
+{
+    if is_named(name, "deliver") {
+        return CommandForm::Deliver;
+    }
+    if is_named(name, "states") {
+        return CommandForm::States;
+    }
+    if is_named(name, "report") {
+        return CommandForm::Report;
+    }
+    if is_named(name, "strike") {
+        return CommandForm::Strike;
+    }
+    if is_named(name, "recover") {
+        return CommandForm::Recover;
+    }
+    if is_named(name, "dump") {
+        return CommandForm::Dump;
+    }
+    if is_named(name, "run") {
+        return CommandForm::Run;
+    }
+    if !is_named(name, "checkpoint") {
+        return CommandForm::Any;
+    }
+    if is_second {
+        CommandForm::Checkpoint
+    } else {
+        CommandForm::NoCheckpoint
+    }
+}
+
+/// The form of the command that is wanted where this stands.
+fn wanted_in(is_second: bool, value: &Value) -> CommandForm
+    ensures { result ≡ wanted_form is_second (view value.now) }
+{
+    match list_in(value) {
+        Some([name, ..]) => form_in(is_second, name),
+        _ => CommandForm::Any,
+    }
+}
+
+/// The fault of a place at which no command of this version stands, or lack of memory.
+fn bad_command(version: Version, place: usize, found: &Value) -> InputFault
+    ensures { IsBadCommand version place (view found.now) result }
+{
+    let wanted = wanted_in(version == Version::Second, found);
+    match found.clone() {
+        Ok(found) => InputFault::BadCommand {
+            place,
+            found,
+            wanted,
+        },
+        Err(_) => InputFault::Memory,
+    }
+}
+
 /// The commands of a script of this version, or the first fault among them.
 pub(crate) fn commands_in(
     alloc: Global,
     version: Version,
     list: &[Value],
-) -> Result<Vec<Command>, RunFault>
+) -> Result<Vec<Command>, InputFault>
     ensures exact { Gives (λ v. v.items) result (commands_from (versioned_shape version) 0 (map view list.now)) }
     ensures faults { IfErr result IsOfShape }
+    ensures misfit { IfErr result (IsBadAmong version (map view list.now)) }
 {
     let mut commands = Vec::new(alloc);
     let mut place = 0;
     for value in list {
         if place == 1024 {
-            return Err(RunFault::BadCommand(place));
+            return Err(InputFault::TooManyCommands);
         }
-        let command = command_in(alloc, version, value)?.ok_or(RunFault::BadCommand(place))?;
-        commands.push(command)?;
+        match command_in(alloc, version, value)? {
+            Some(command) => commands.push(command)?,
+            None => return Err(bad_command(version, place, value)),
+        }
         place += 1;
     }
     Ok(commands)

@@ -1,4 +1,5 @@
 ghost use Rattle.std.specs.Prelude.{◌≡◌};
+ghost use Rattle.fbl_script.specs.Scripts.{behaviour_word};
 
 use fbl_base::{Config, Member, MemberSet, Strike};
 use std::marker::Model;
@@ -19,6 +20,18 @@ pub enum BehaviourName {
     Relay,
     /// `mix`
     Mix,
+}
+
+impl BehaviourName {
+    /// The word by which a script names it.
+    pub fn name(self) -> &'static str
+        ensures { result.now ≡ behaviour_word self }
+    {
+        match self {
+            BehaviourName::Relay => "relay",
+            BehaviourName::Mix => "mix",
+        }
+    }
 }
 
 /// The strikes that a run makes on its way, in the order given. Contracts see the list.

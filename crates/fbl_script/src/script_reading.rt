@@ -1,34 +1,27 @@
 //! Scripts as JSON.
 
-ghost use Rattle.std.specs.Prelude.{◌≡◌, ◌≤◌, map, IfOk, IfErr};
-ghost use Rattle.serde_json.specs.View.{view, members_view};
+ghost use Rattle.std.specs.Prelude.{◌≡◌, ◌≤◌, map, IfOk, IfErr, Ok};
+ghost use Rattle.serde_json.specs.Data.{Data};
+ghost use Rattle.serde_json.specs.View.{view};
 ghost use Rattle.serde_json.specs.Find.{get};
-ghost use Rattle.fbl_input.specs.Shapes.{Gives, IsOfShape, count_shape, field, field_or, has_other_key as has_other_key_of, name_of};
-ghost use Rattle.fbl_script.specs.Scripts.{IsScriptOf, IsScriptFault, IsRequestRefused, behaviour_shape, outline, outline_of, outline_of_input, request_outline, script_keys, start_from, version_shape};
 ghost use Rattle.fbl_base.specs.Configs.{IsConfig};
-ghost use Rattle.fbl_input.specs.declared.fault.RunFault.TheVariants.{Memory};
+ghost use Rattle.fbl_input.specs.Items.{start_from};
+ghost use Rattle.fbl_input.specs.Misfits.{Gives, IsMisfit, IsOfSettings, IsOfShape, run_fault};
+ghost use Rattle.fbl_input.specs.Shapes.{count_shape, field, field_or, name_of};
+ghost use Rattle.fbl_input.specs.declared.fault.Key.TheVariants as keys;
+ghost use Rattle.fbl_input.specs.declared.input_fault.InputKind.TheVariants as kinds;
+ghost use Rattle.fbl_script.specs.Scripts.{IsOfScript, IsScriptOf, IsScriptFault, IsScriptMisfit, IsRequestRefused, behaviour_shape, commands_at, outline, outline_of, outline_of_input, request_outline, version_shape};
 
 use crate::commands::commands_in;
 use crate::script::{BehaviourName, Command, Script, Version};
 use fbl_base::{Config, Note, Start};
 use fbl_input::shapes::{
-    Shape, count_in, has_other_key, is_named, list_field, list_in, member_in, number_field,
-    number_in, value_in, values_field,
+    ByteShape, Shape, count_in, is_named, list_field, list_in, member_in, no_other_key, number_in,
+    object_in, value_field, value_in, values_field,
 };
-use fbl_input::{Key, RunFault};
-use serde_json::{Map, Value};
+use fbl_input::{InputFault, InputKind, Key, RunFault};
+use serde_json::Value;
 use std::alloc::Global;
-
-/// The keys that a script may have.
-pub const SCRIPT_KEYS: [Key; 7] = [
-    Key::Version,
-    Key::Members,
-    Key::F,
-    Key::Behaviour,
-    Key::Limit,
-    Key::Start,
-    Key::Commands,
-];
 
 /// What a script asks for, before it is known whether there is such a group.
 #[derive(Drop)]
@@ -83,10 +76,10 @@ fn start_of(list: &[Value]) -> Option<Start>
 }
 
 /// A start: a list of its sender, its receiver, its value and its hops.
-pub struct StartShape;
+struct StartShape;
 
 impl Shape<Start> for StartShape {
-    ghost use Rattle.fbl_script.specs.Scripts.{start_shape};
+    ghost use Rattle.fbl_input.specs.Items.{start_shape};
 
     ghost shape = { start_shape };
 
@@ -95,54 +88,98 @@ impl Shape<Start> for StartShape {
     }
 }
 
-fn version_field(value: &Value, key: Key) -> Result<Version, RunFault>
-    ensures { result ≡ field key version_shape (view value.now) }
-{
-    let found = value.get(key.name()).ok_or(RunFault::BadField(key))?;
-    version_in(found).ok_or(RunFault::BadField(key))
-}
+/// A version, by its number.
+struct VersionShape;
 
-fn behaviour_field(value: &Value, key: Key) -> Result<BehaviourName, RunFault>
-    ensures { result ≡ field key behaviour_shape (view value.now) }
-{
-    let found = value.get(key.name()).ok_or(RunFault::BadField(key))?;
-    behaviour_in(found).ok_or(RunFault::BadField(key))
-}
+impl Shape<Version> for VersionShape {
+    ghost use Rattle.fbl_script.specs.Scripts.{version_shape};
 
-fn limit_field(value: &Value, key: Key) -> Result<u32, RunFault>
-    ensures { result ≡ field_or 8192 key count_shape (get (name_of key) (view value.now)) }
-{
-    match value.get(key.name()) {
-        None => Ok(8192),
-        Some(found) => count_in(found).ok_or(RunFault::BadField(key)),
+    ghost shape = { version_shape };
+
+    fn in_value(value: &Value) -> Option<Version> {
+        version_in(value)
     }
 }
 
-/// Whether there is a key that no script has.
-fn has_unknown_key(object: &Map<String, Value>) -> bool
-    ensures { result ≡ has_other_key_of script_keys (members_view object.now.entries) }
+/// A behaviour, by its name.
+struct BehaviourShape;
+
+impl Shape<BehaviourName> for BehaviourShape {
+    ghost use Rattle.fbl_script.specs.Scripts.{behaviour_shape};
+
+    ghost shape = { behaviour_shape };
+
+    fn in_value(value: &Value) -> Option<BehaviourName> {
+        behaviour_in(value)
+    }
+}
+
+/// A count, a place or a value.
+struct CountShape;
+
+impl Shape<u32> for CountShape {
+    ghost use Rattle.fbl_input.specs.Shapes.{count_shape};
+
+    ghost shape = { count_shape };
+
+    fn in_value(value: &Value) -> Option<u32> {
+        count_in(value)
+    }
+}
+
+/// The limit, which may be missing.
+fn limit_field(alloc: Global, value: &Value) -> Result<u32, InputFault>
+    ensures exact { Gives (λ n. n) result (field_or 8192 keys.Limit count_shape (get (name_of keys.Limit) (view value.now))) }
+    ensures faults { IfErr result IsOfShape }
+    ensures misfit { IfErr result (IsMisfit kinds.Script (view value.now)) }
 {
-    has_other_key(object, &SCRIPT_KEYS)
+    match value.get(Key::Limit.name()) {
+        None => Ok(8192),
+        Some(_) => value_field::<u32, CountShape>(alloc, InputKind::Script, value, Key::Limit),
+    }
+}
+
+/// The commands of a script of this version.
+fn commands_field(
+    alloc: Global,
+    version: Version,
+    value: &Value,
+) -> Result<Vec<Command>, InputFault>
+    requires { field keys.Version version_shape (view value.now) ≡ Ok version }
+    ensures exact { Gives (λ v. v.items) result (commands_at version (view value.now)) }
+    ensures faults { IfErr result IsOfShape }
+    ensures misfit { IfErr result (IsMisfit kinds.Script (view value.now)) }
+{
+    let list = list_field(alloc, InputKind::Script, value, Key::Commands)?;
+    commands_in(alloc, version, list)
 }
 
 /// What a value asks for as a script.
 #[tactic(auto, unfolding(crate::specs::Scripts::outline_of, crate::specs::Scripts::outline_by))]
-fn request_of(alloc: Global, value: &Value) -> Result<Request, RunFault>
+fn request_of(alloc: Global, value: &Value) -> Result<Request, InputFault>
     ensures exact { Gives request_outline result (outline_of (view value.now)) }
     ensures faults { IfErr result IsOfShape }
+    ensures misfit { IfErr result (IsMisfit kinds.Script (view value.now)) }
 {
-    let object = value.as_object().ok_or(RunFault::NotObject)?;
-    let version = version_field(value, Key::Version)?;
-    let members = number_field(value, Key::Members, 0, 255)? as u8;
-    let f = number_field(value, Key::F, 0, 255)? as u8;
-    let behaviour = behaviour_field(value, Key::Behaviour)?;
-    let limit = limit_field(value, Key::Limit)?;
-    let starts = values_field::<Start, StartShape>(alloc, value, Key::Start)?;
-    let listed = list_field(value, Key::Commands)?;
-    let commands = commands_in(alloc, version, listed)?;
-    if has_unknown_key(object) {
-        return Err(RunFault::UnknownKey);
-    }
+    let object = object_in(InputKind::Script, value)?;
+    let version = value_field::<Version, VersionShape>(
+        alloc,
+        InputKind::Script,
+        value,
+        Key::Version,
+    )?;
+    let members = value_field::<u8, ByteShape>(alloc, InputKind::Script, value, Key::Members)?;
+    let f = value_field::<u8, ByteShape>(alloc, InputKind::Script, value, Key::F)?;
+    let behaviour = value_field::<BehaviourName, BehaviourShape>(
+        alloc,
+        InputKind::Script,
+        value,
+        Key::Behaviour,
+    )?;
+    let limit = limit_field(alloc, value)?;
+    let starts = values_field::<Start, StartShape>(alloc, InputKind::Script, value, Key::Start)?;
+    let commands = commands_field(alloc, version, value)?;
+    no_other_key(alloc, InputKind::Script, value, object)?;
     Ok(Request {
         behaviour,
         members,
@@ -154,19 +191,22 @@ fn request_of(alloc: Global, value: &Value) -> Result<Request, RunFault>
 }
 
 /// What an input asks for as a script.
-fn request_in(alloc: Global, input: &[u8]) -> Result<Request, RunFault>
+fn request_in(alloc: Global, input: &[u8]) -> Result<Request, InputFault>
     ensures exact { Gives request_outline result (outline_of_input input.now) }
     ensures faults { IfErr result IsOfShape }
+    ensures misfit { IfErr result (IsScriptMisfit input.now) }
 {
     let value = value_in(alloc, input)?;
     request_of(alloc, &value)
 }
 
 /// The script of a request, if there is such a group.
-fn script_of(alloc: Global, request: Request) -> Result<Script, RunFault>
+fn script_of(alloc: Global, request: Request) -> Result<Script, InputFault>
     ensures same { IfOk result (λ s. outline s ≡ request_outline request) }
     ensures rules { IfOk result (λ s. IsConfig s.config) }
-    ensures refused { IfErr result (IsRequestRefused (request_outline request)) }
+    ensures refused { IfErr result (λ fault. IsRequestRefused (request_outline request) (run_fault fault)) }
+    ensures misfit { IfErr result (λ fault. (d : Data) → IsMisfit kinds.Script d fault) }
+    ensures settings { IfErr result (IsOfSettings (request_outline request).config) }
 {
     let Request {
         behaviour,
@@ -176,20 +216,36 @@ fn script_of(alloc: Global, request: Request) -> Result<Script, RunFault>
         starts,
         commands,
     } = request;
-    let config = Config::new(alloc, members, f, limit, starts.as_slice())?;
-    Ok(Script {
-        behaviour,
-        config,
-        commands,
-    })
+    match Config::checked(alloc, members, f, limit, starts.as_slice()) {
+        Ok(config) => Ok(Script {
+            behaviour,
+            config,
+            commands,
+        }),
+        Err(fault) => Err(InputFault::Config(fault)),
+    }
 }
 
-/// The script that the bytes spell, as one JSON object. Each fault that isn't want of memory is the first of the input;
+/// The script that the bytes spell, as one JSON object, or their first fault, with the place, what stands there and what
+/// is wanted there.
+pub fn read_script(alloc: Global, input: &[u8]) -> Result<Script, InputFault>
+    ensures script { IfOk result (λ s. IsScriptOf input.now (outline s)) }
+    ensures fault { IfErr result (λ fault. IsScriptFault input.now (run_fault fault)) }
+    ensures misfit { IfErr result (IsScriptMisfit input.now) }
+    ensures settings { IfErr result (IsOfScript input.now) }
+{
+    let request = request_in(alloc, input)?;
+    script_of(alloc, request)
+}
+
+/// The script that the bytes spell, as one JSON object. Each fault that isn't lack of memory is the first of the input;
 /// neither `Read` nor `Write` nor `Dump` is among them.
 pub fn script_of_bytes(alloc: Global, input: &[u8]) -> Result<Script, RunFault>
     ensures script { IfOk result (λ s. IsScriptOf input.now (outline s)) }
     ensures fault { IfErr result (IsScriptFault input.now) }
 {
-    let request = request_in(alloc, input)?;
-    script_of(alloc, request)
+    match read_script(alloc, input) {
+        Ok(script) => Ok(script),
+        Err(fault) => Err(fault.fault()),
+    }
 }

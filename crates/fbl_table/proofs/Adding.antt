@@ -1,7 +1,8 @@
 -- Tables as a map has them.
-use Rattle.std.proofs.Common.{inl, inr, subst, ◌⊎◌, not, count_by, ◌≡◌, ℕ, zero, suc, ◌+◌, ◌<◌, ◌≤◌, Bool, true, false, cond, ◌||◌, if◌then◌else◌, List, [], ◌∷◌, ◌++◌, map, Option, Some, None, is_some, unwrap_or, max, refl, sym, ap, ◌∙◌, arith, take, drop, length, slice_get, get_or, position, IfSome, IfNone}
+use Rattle.std.proofs.Common.{inl, inr, subst, ◌⊎◌, not, count_by, ◌≡◌, ℕ, zero, suc, ◌+◌, ◌<◌, ◌≤◌, Bool, true, false, cond, ◌||◌, ◌&&◌, if◌then◌else◌, List, [], ◌∷◌, ◌++◌, map, Option, Some, None, is_some, unwrap_or, max, refl, sym, ap, ◌∙◌, arith, take, drop, length, slice_get, get_or, position, IfSome, IfNone}
 use Rattle.std.specs.Map.{lookup, values_of, keys_of}
 use Rattle.std.specs.Ordering.{nat_cmp}
+use Rattle.std.specs.Cmp.{nat_cmp_total}
 use Rattle.std.specs.Option.{option_or}
 use Rattle.std.proofs.lemmas.Bool.{cases_lt, false≢true}
 use Rattle.std.specs.List.{find, AllByRecursion, IsDistinct}
@@ -16,6 +17,7 @@ use Rattle.indexmap.specs.Layout.{set_value_at}
 use Rattle.std.specs.FinSet as set
 use Rattle.fbl_base.specs.declared.trace.Determinant.{Determinant}
 use Rattle.fbl_base.specs.Events.{same_determinant}
+use Rattle.fbl_base.specs.MemberSets.{same_from_contains}
 use Rattle.indexmap.specs.IndexMap.{insert_entry}
 use Rattle.fbl_table.specs.declared.entry.Entry.{Entry}
 use Rattle.fbl_table.specs.Tables.{HasInPlace, is_held, lacks, has_at, added, entry_of, is_open, piggybacked, gathered, learned, held_by, greatest_rsn, rsn_of, marked}
@@ -117,6 +119,33 @@ added-at (e ∷ es) entry zero v once has is =
 added-at (e ∷ es) entry (suc i) v once has is =
     ap (λ t. entry_of e ∷ t) (added-at es entry i v once.1 has is)
     ∙ sym (ap (λ b. if b then record { det = e.0; known = set.union e.1 entry.known } ∷ map entry_of es else entry_of e ∷ added (map entry_of es) entry) (apart-at es e.0 entry.det i once.0 has))
+
+-- a value that is written over itself
+same-value : (es : List (Determinant × set.FinSet nat_cmp)) (i : ℕ) (v : set.FinSet nat_cmp) → slice_get (values_of es) i ≡ Some v
+    → set_value_at es i v ≡ es
+same-value [] zero v is = refl
+same-value [] (suc i) v is = refl
+same-value (e ∷ es) zero v is = let value : v ≡ e.1 = sym (ap (λ o. unwrap_or o v) is) in λ j. (e.0, value j) ∷ es
+same-value (e ∷ es) (suc i) v is = ap (λ t. e ∷ t) (same-value es i v is)
+
+-- a union with a set that has nothing more
+nothing-more : (s t : set.FinSet nat_cmp) → set.len (set.difference t s) ≡ 0 → set.union s t ≡ s
+nothing-more s t none = same_from_contains (set.union s t) s (λ q. set.contains-union nat_cmp_total s t q ∙ at (set.contains s q) (set.contains t q) (lacks q)) where
+  lacks : (q : ℕ) → (set.contains t q && not (set.contains s q)) ≡ false
+  lacks q = sym (set.contains-difference nat_cmp_total t s q) ∙ ap (λ x. set.contains x q) (set.empty_of_len (set.difference t s) none) ∙ set.contains-empty nat_cmp q
+
+  at : (a b : Bool) → (b && not a) ≡ false → (a || b) ≡ a
+  at true b none = refl
+  at false false none = refl
+  at false true none = none
+
+-- an entry that knows no more than what is known already
+pub added-nothing : (es : List (Determinant × set.FinSet nat_cmp)) (entry : Entry) (i : ℕ) (v : set.FinSet nat_cmp)
+    → IsDistinct same_determinant (keys_of es) → has_at (map entry_of es) entry.det i ≡ true → slice_get (values_of es) i ≡ Some v
+    → set.len (set.difference entry.known v) ≡ 0 → map entry_of es ≡ added (map entry_of es) entry
+added-nothing es entry i v once has is none =
+    ap (map entry_of) (sym (same-value es i v is) ∙ ap (set_value_at es i) (sym (nothing-more v entry.known none)))
+    ∙ added-at es entry i v once has is
 
 pub take-next : {X : Type 0} (xs : List X) (i : ℕ) (x : X) → slice_get xs i ≡ Some x → take (i + 1) xs ≡ take i xs ++ x ∷ []
 take-next xs i x is = take_more xs i x (slice_get_within xs i x is) ∙ ap (λ y. take i xs ++ y ∷ []) (get_or_from_slice_get xs i x x is)

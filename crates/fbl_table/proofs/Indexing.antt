@@ -85,6 +85,29 @@ index-push limit table e open_places index =
       covers = filter-append q open_places (n ∷ []) ∙ ap (λ t. t ++ filter q (n ∷ [])) before ∙ sym (filter-append q (places n) (n ∷ [])) ∙ ap (λ k. filter q (places k)) (sym (length-push table e));
     }
 
+last-at : (table : List Entry) (e : Entry) → slice_get (table ++ e ∷ []) (length table) ≡ Some e
+last-at [] e = refl
+last-at (x ∷ table) e = last-at table e
+
+-- a new last entry that is not open, whose place is left out
+pub index-push_closed : (limit : ℕ) (table : List Entry) (e : Entry) (open_places : List ℕ) → is_open limit e ≡ false
+    → IsIndex limit table open_places → IsIndex limit (table ++ e ∷ []) open_places
+unfolding places
+index-push_closed limit table e open_places closed index =
+    let p : ℕ → Bool = open_at limit table in
+    let q : ℕ → Bool = open_at limit (table ++ e ∷ []) in
+    let n = length table in
+    let agrees : (x : ℕ) → x < n → q x ≡ p x = λ x below. ap (λ o. option_map_or (is_open limit) o false) (front table e x below) in
+    let before : filter q open_places ≡ filter q (places n) =
+    filter-agree p q n agrees open_places index.within ∙ index.covers ∙ sym (filter-agree p q n agrees (places n) (Within-places n)) in
+    let none : filter q (n ∷ []) ≡ [] = ap (λ b. cond b (n ∷ []) []) (ap (λ o. option_map_or (is_open limit) o false) (last-at table e) ∙ closed) in
+    let same : filter q (places (suc n)) ≡ filter q (places n) =
+    filter-append q (places n) (n ∷ []) ∙ ap (λ t. filter q (places n) ++ t) none ∙ append-nil (filter q (places n)) in
+    record {
+      within = rw (length-push table e) (Within-more n (suc n) open_places (omega arith) index.within);
+      covers = before ∙ sym same ∙ ap (λ k. filter q (places k)) (sym (length-push table e));
+    }
+
 -- places of entries that are stable now are let go
 pub index-pruned : (limit : ℕ) (table : List Entry) (open_places : List ℕ) → IsIndex limit table open_places → IsIndex limit table (filter (open_at limit table) open_places)
 index-pruned limit table open_places index = record {

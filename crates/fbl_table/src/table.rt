@@ -10,14 +10,12 @@ ghost use Rattle.fbl_table.specs.Index.{IsIndex, open_at};
 ghost use Rattle.fbl_table.specs.Tables.{HasInPlace, is_held, lacks, has_at, found, greatest_rsn, learned, noted, piggybacked, gathered, marked, added, entry_of};
 
 use crate::entry::Entry;
+use crate::likely::LikelyPlaces;
 use fbl_base::{Determinant, Member, MemberSet};
 use indexmap::IndexMap;
 use std::alloc::{AllocError, Allocator, Global};
 use std::hash::{BuildHasherDefault, FoldHasher};
 use std::marker::Model;
-
-/// How many determinants that a table is to gather are looked for by their hash before there is room for them.
-const HASHES: usize = 8;
 
 /// What a table keeps: each determinant with the members that are known to hold it.
 type Entries<A> = IndexMap<Determinant, MemberSet, BuildHasherDefault<FoldHasher>, A>;
@@ -30,6 +28,7 @@ type Entries<A> = IndexMap<Determinant, MemberSet, BuildHasherDefault<FoldHasher
 pub struct Table<A: Allocator = Global> {
     entries: Entries<A>,
     open_places: Vec<usize, A>,
+    likely_places: LikelyPlaces<A>,
     limit: u8,
 }
 
@@ -71,6 +70,7 @@ impl<A: Allocator + Copy> Table<A> {
         Table {
             entries: IndexMap::new(alloc),
             open_places: Vec::new(alloc),
+            likely_places: LikelyPlaces::none(alloc),
             limit,
         }
     }
@@ -97,10 +97,7 @@ impl<A: Allocator + Copy> Table<A> {
         ensures held { is_some result ≡ is_held self.now det.now }
         ensures at { IfSome result (λ place. has_at self.now det.now place ≡ true) }
     {
-        if is_at(&self.entries, det, likely) {
-            return Some(likely);
-        }
-        place_by_hash(&self.entries, det)
+        place_of(&self.entries, &self.likely_places, det, likely)
     }
 
     /// The entry at this place, which is below `len`. Places count from 0.
@@ -151,8 +148,16 @@ impl<A: Allocator + Copy> Table<A> {
     {
         self.entries.reserve(carried.len())?;
         self.open_places.reserve(carried.len())?;
-        add_carried(&mut self.entries, &mut self.open_places, me, carried);
-        prune(&self.entries, &mut self.open_places, self.limit);
+        let limit = self.limit;
+        let closed = add_carried(
+            &mut self.entries,
+            &mut self.open_places,
+            &mut self.likely_places,
+            limit,
+            me,
+            carried,
+        );
+        prune(&self.entries, &mut self.open_places, limit, closed);
         Ok(())
     }
 
@@ -165,7 +170,14 @@ impl<A: Allocator + Copy> Table<A> {
     {
         self.entries.reserve(1)?;
         self.open_places.reserve(1)?;
-        add_own(&mut self.entries, &mut self.open_places, me, det);
+        add_own(
+            &mut self.entries,
+            &mut self.open_places,
+            &mut self.likely_places,
+            self.limit,
+            me,
+            det,
+        );
         Ok(())
     }
 
@@ -184,9 +196,24 @@ impl<A: Allocator + Copy> Table<A> {
     {
         self.entries.reserve(carried.len() + 1)?;
         self.open_places.reserve(carried.len() + 1)?;
-        add_carried(&mut self.entries, &mut self.open_places, me, carried);
-        prune(&self.entries, &mut self.open_places, self.limit);
-        add_own(&mut self.entries, &mut self.open_places, me, det);
+        let limit = self.limit;
+        let closed = add_carried(
+            &mut self.entries,
+            &mut self.open_places,
+            &mut self.likely_places,
+            limit,
+            me,
+            carried,
+        );
+        prune(&self.entries, &mut self.open_places, limit, closed);
+        add_own(
+            &mut self.entries,
+            &mut self.open_places,
+            &mut self.likely_places,
+            limit,
+            me,
+            det,
+        );
         Ok(())
     }
 
@@ -230,17 +257,26 @@ impl<A: Allocator + Copy> Table<A> {
             return self.gather_first(other);
         }
         let shared = shared_places(&self.entries, other);
-        let room = room_for(&self.entries, other, shared);
+        let room = room_for(&self.entries, &self.likely_places, other, shared);
         self.entries.reserve(room)?;
         self.open_places.reserve(room)?;
-        unite_shared(&mut self.entries, other, shared);
-        let mut likely = LikelyPlaces::default().after(shared);
+        let mut closed = unite_shared(&mut self.entries, self.limit, other, shared);
+        let mut likely = shared;
         for place in shared..other.len() {
             let entry = other.entry_at(place);
-            let found = add(&mut self.entries, &mut self.open_places, entry, likely);
-            likely = likely.after(found);
+            let added = add(
+                &mut self.entries,
+                &mut self.open_places,
+                &mut self.likely_places,
+                self.limit,
+                &entry,
+                entry.known,
+                likely,
+            );
+            likely = added.place.saturating_add(1);
+            closed = closed || added.closes;
         }
-        prune(&self.entries, &mut self.open_places, self.limit);
+        prune(&self.entries, &mut self.open_places, self.limit, closed);
         Ok(())
     }
 
@@ -269,7 +305,7 @@ impl<A: Allocator + Copy> Table<A> {
             let known = self.entries[place].union(members);
             self.entries[place] = known;
         }
-        prune(&self.entries, &mut self.open_places, self.limit);
+        prune(&self.entries, &mut self.open_places, self.limit, true);
     }
 
     /// An equal table, in the same allocator's memory. `Err` comes only where there is no memory for it.
@@ -281,6 +317,7 @@ impl<A: Allocator + Copy> Table<A> {
         Ok(Table {
             entries: self.entries.clone()?,
             open_places,
+            likely_places: self.likely_places.copy()?,
             limit: self.limit,
         })
     }
@@ -327,171 +364,196 @@ fn shared_places<A: Allocator + Copy>(entries: &Entries<A>, other: &Table<A>) ->
 }
 
 /// Unites what the table knows of the determinants at its first places with what another knows, which has the same ones
-/// there: these need no room.
-fn unite_shared<A: Allocator + Copy>(entries: &mut Entries<A>, other: &Table<A>, shared: usize)
+/// there: these need no room. The answer is whether that closed an entry.
+fn unite_shared<A: Allocator + Copy>(
+    entries: &mut Entries<A>,
+    limit: u8,
+    other: &Table<A>,
+    shared: usize,
+) -> bool
     requires len { shared ≤ length other.now }
     requires same { HasInPlace shared (map entry_of entries.old.entries) other.now }
     ensures entries { map entry_of entries.new.entries ≡ gathered (map entry_of entries.old.entries) (take shared other.now) }
-    ensures places { (limit : ℕ) (open_places : List ℕ) → IsIndex limit (map entry_of entries.old.entries) open_places → IsIndex limit (map entry_of entries.new.entries) open_places }
+    ensures places { (open_places : List ℕ) → IsIndex limit (map entry_of entries.old.entries) open_places → IsIndex limit (map entry_of entries.new.entries) open_places }
     ensures room { spare entries.new ≡ spare entries.old }
 {
+    let mut closed = false;
     for place in 0..shared {
-        let entry = other.entry_at(place);
-        // `len` says that no two of the table's determinants are the same
-        let _distinct = entries.len();
-        let known = entries[place].union(entry.known);
-        entries[place] = known;
+        let closes = unite(entries, limit, other.entry_at(place), place);
+        closed = closed || closes;
     }
+    closed
 }
 
 /// Room enough for the other's determinants that the table has no entry of. Of those at the first places it has all. What
-/// is not at a likely place counts as new, but for the first few, which are looked for by their hash: from where they stand
-/// the next ones are likely, and to hash each new one here and once more when it is added would cost more than the room.
-fn room_for<A: Allocator + Copy>(entries: &Entries<A>, other: &Table<A>, shared: usize) -> usize
+/// is not at a likely place counts as new: to hash each new one here and once more when it is added would cost more than the
+/// room.
+fn room_for<A: Allocator + Copy>(
+    entries: &Entries<A>,
+    likely_places: &LikelyPlaces<A>,
+    other: &Table<A>,
+    shared: usize,
+) -> usize
     requires len { shared ≤ length other.now }
     requires same { HasInPlace shared (map entry_of entries.now.entries) other.now }
     ensures enough { count_by (lacks (map entry_of entries.now.entries)) other.now ≤ result }
     ensures few { result ≤ length other.now }
 {
     let mut room = 0;
-    let mut likely = LikelyPlaces::default().after(shared);
+    let mut likely = shared;
     for place in shared..other.len() {
         let entry = other.entry_at(place);
-        match find_place(entries, &entry.det, likely, room < HASHES) {
-            Some(found) => likely = likely.after(found),
+        match likely_place_of(entries, likely_places, &entry.det, likely) {
+            Some(found) => likely = found.saturating_add(1),
             None => room += 1,
         }
     }
     room
 }
 
-/// Where the next determinant's entry may be: behind the last one found, or behind one found before in another part of the
-/// table. What one table has in turn, another mostly has in the same order, or in two parts that each are in this order.
-#[derive(Clone, Copy, Default)]
-struct LikelyPlaces {
-    last: usize,
-    earlier: usize,
+/// What became of an entry that was added.
+#[derive(Clone, Copy)]
+struct Added {
+    /// The place of its determinant.
+    place: usize,
+    /// Whether more than the limit's members are known to hold it now, where at most so many were before. It changes no
+    /// answer: without such an entry the open places need not be gone over.
+    closes: bool,
 }
 
-impl LikelyPlaces {
-    /// Where it may be once an entry was found or put at this place.
-    fn after(self, found: usize) -> LikelyPlaces {
-        let goes_on = found == self.last || found == self.last.saturating_add(1);
-        LikelyPlaces {
-            last: found.saturating_add(1),
-            earlier: if goes_on { self.earlier } else { self.last },
-        }
-    }
-}
-
-/// Adds an entry, with room where its determinant is new, and answers its place. The place of a new one is open. It is
-/// looked for at the likely places first.
+/// Adds what is known of the entry's determinant, with room where it is new. The place of a new one is open if at most `limit`
+/// members are known to hold it. It is looked for at the likely place first.
 #[inline(always)]
-fn add<A: Allocator>(
+fn add<A: Allocator + Copy>(
     entries: &mut Entries<A>,
     open_places: &mut Vec<usize, A>,
-    entry: Entry,
-    likely: LikelyPlaces,
-) -> usize
-    requires entries { is_held (map entry_of entries.old.entries) entry.det ≡ false → 0 < spare entries.old }
-    requires places { is_held (map entry_of entries.old.entries) entry.det ≡ false → vec_len open_places.old < vec_capacity open_places.old }
-    ensures entries { map entry_of entries.new.entries ≡ added (map entry_of entries.old.entries) entry }
-    ensures places { (limit : ℕ) → IsIndex limit (map entry_of entries.old.entries) open_places.old.items → IsIndex limit (map entry_of entries.new.entries) open_places.new.items }
+    likely_places: &mut LikelyPlaces<A>,
+    limit: u8,
+    carried: &Entry,
+    known: MemberSet,
+    likely: usize,
+) -> Added
+    requires entries { is_held (map entry_of entries.old.entries) carried.now.det ≡ false → 0 < spare entries.old }
+    requires places { is_held (map entry_of entries.old.entries) carried.now.det ≡ false → vec_len open_places.old < vec_capacity open_places.old }
+    ensures entries { map entry_of entries.new.entries ≡ added (map entry_of entries.old.entries) (record { det = carried.now.det; known = known }) }
+    ensures places { IsIndex limit (map entry_of entries.old.entries) open_places.old.items → IsIndex limit (map entry_of entries.new.entries) open_places.new.items }
     ensures room { spare entries.old ≤ spare entries.new + 1 }
     ensures open_len { vec_len open_places.new ≤ vec_len open_places.old + 1 }
     ensures open_room { vec_capacity open_places.old ≤ vec_capacity open_places.new }
-    ensures held { is_held (map entry_of entries.old.entries) entry.det ≡ true → (spare entries.old ≤ spare entries.new) × (vec_len open_places.new ≤ vec_len open_places.old) }
+    ensures held { is_held (map entry_of entries.old.entries) carried.now.det ≡ true → (spare entries.old ≤ spare entries.new) × (vec_len open_places.new ≤ vec_len open_places.old) }
 {
-    let end = entries.len();
-    match place_of(entries, &entry.det, likely) {
+    match place_of(entries, likely_places, &carried.det, likely) {
         Some(place) => {
-            let known = entries[place].union(entry.known);
-            entries[place] = known;
-            place
+            let det = carried.det;
+            let closes = unite(entries, limit, Entry { det, known }, place);
+            Added { place, closes }
         }
         None => {
-            add_new(entries, open_places, entry);
-            end
+            let place = entries.len();
+            let det = carried.det;
+            add_new(
+                entries,
+                open_places,
+                likely_places,
+                limit,
+                Entry { det, known },
+            );
+            Added {
+                place,
+                closes: false,
+            }
         }
     }
 }
 
-/// Adds an entry of a determinant that there is none of, where there is room for one. Its place is open.
+/// Unites what is known of the entry's determinant, which has an entry at the place, with what the entry knows, and answers
+/// whether that closed it: whether more than `limit` members are known to hold it now, where at most so many were before.
+/// It is written only where more is known.
+#[inline(always)]
+fn unite<A: Allocator>(entries: &mut Entries<A>, limit: u8, entry: Entry, place: usize) -> bool
+    requires { has_at (map entry_of entries.old.entries) entry.det place ≡ true }
+    ensures entries { map entry_of entries.new.entries ≡ added (map entry_of entries.old.entries) entry }
+    ensures same { (det : Determinant) (at : ℕ) → has_at (map entry_of entries.new.entries) det at ≡ has_at (map entry_of entries.old.entries) det at }
+    ensures places { (open_places : List ℕ) → IsIndex limit (map entry_of entries.old.entries) open_places → IsIndex limit (map entry_of entries.new.entries) open_places }
+    ensures room { spare entries.new ≡ spare entries.old }
+{
+    // `len` says that no two of the table's determinants are the same
+    let _distinct = entries.len();
+    let before = entries[place];
+    if entry.known.without(before).count() == 0 {
+        return false;
+    }
+    let known = before.union(entry.known);
+    entries[place] = known;
+    is_closed_by(before, known, limit)
+}
+
+/// Whether more than `limit` members are known now, where at most so many were before.
+fn is_closed_by(before: MemberSet, now: MemberSet, limit: u8) -> bool {
+    let limit = u32::from(limit);
+    before.count() <= limit && limit < now.count()
+}
+
+/// Adds an entry of a determinant that there is none of, where there is room for one. Its place is open if at most `limit`
+/// members are known to hold it.
 #[inline(never)]
-fn add_new<A: Allocator>(entries: &mut Entries<A>, open_places: &mut Vec<usize, A>, entry: Entry)
+fn add_new<A: Allocator + Copy>(
+    entries: &mut Entries<A>,
+    open_places: &mut Vec<usize, A>,
+    likely_places: &mut LikelyPlaces<A>,
+    limit: u8,
+    entry: Entry,
+)
     requires new { is_held (map entry_of entries.old.entries) entry.det ≡ false }
     requires entries { 0 < spare entries.old }
     requires places { vec_len open_places.old < vec_capacity open_places.old }
     ensures entries { map entry_of entries.new.entries ≡ map entry_of entries.old.entries ++ entry ∷ [] }
-    ensures places { (limit : ℕ) → IsIndex limit (map entry_of entries.old.entries) open_places.old.items → IsIndex limit (map entry_of entries.new.entries) open_places.new.items }
+    ensures places { IsIndex limit (map entry_of entries.old.entries) open_places.old.items → IsIndex limit (map entry_of entries.new.entries) open_places.new.items }
     ensures room { spare entries.old ≤ spare entries.new + 1 }
     ensures open_len { vec_len open_places.new ≤ vec_len open_places.old + 1 }
     ensures open_room { vec_capacity open_places.old ≤ vec_capacity open_places.new }
 {
     let place = entries.len();
     entries.insert(entry.det, entry.known).unwrap();
-    open_places.push_reserved(place);
+    likely_places.keep(&entry.det, place);
+    if entry.is_open(limit) {
+        open_places.push_reserved(place);
+    }
 }
 
 /// The place of the determinant's entry, if there is one. The likely places are looked at before the hash.
 #[inline(always)]
 fn place_of<A: Allocator>(
     entries: &Entries<A>,
+    likely_places: &LikelyPlaces<A>,
     det: &Determinant,
-    likely: LikelyPlaces,
+    likely: usize,
 ) -> Option<usize>
     ensures has { IfSome result (λ place. has_at (map entry_of entries.now.entries) det.now place ≡ true) }
     ensures none { IfNone result (is_held (map entry_of entries.now.entries) det.now ≡ false) }
 {
-    match likely_place_of(entries, det, likely) {
+    match likely_place_of(entries, likely_places, det, likely) {
         Some(place) => Some(place),
         None => place_by_hash(entries, det),
     }
 }
 
-/// The place of the determinant's entry, if there is one, and if it is a likely one or may be looked for by its hash.
-#[inline(always)]
-fn find_place<A: Allocator>(
-    entries: &Entries<A>,
-    det: &Determinant,
-    likely: LikelyPlaces,
-    by_hash: bool,
-) -> Option<usize>
-    ensures { IfSome result (λ place. has_at (map entry_of entries.now.entries) det.now place ≡ true) }
-{
-    if by_hash {
-        place_of(entries, det, likely)
-    } else {
-        likely_place_of(entries, det, likely)
-    }
-}
-
-/// The place of the determinant's entry, if it is a likely one.
+/// The place of the determinant's entry, if it is the likely one or the one that was kept.
 #[inline(always)]
 fn likely_place_of<A: Allocator>(
     entries: &Entries<A>,
+    likely_places: &LikelyPlaces<A>,
     det: &Determinant,
-    likely: LikelyPlaces,
+    likely: usize,
 ) -> Option<usize>
     ensures { IfSome result (λ place. has_at (map entry_of entries.now.entries) det.now place ≡ true) }
 {
-    match place_from(entries, det, likely.last) {
-        Some(place) => Some(place),
-        None => place_from(entries, det, likely.earlier),
+    if is_at(entries, det, likely) {
+        return Some(likely);
     }
-}
-
-/// The place of the determinant's entry, if it is this one or the next.
-#[inline(always)]
-fn place_from<A: Allocator>(entries: &Entries<A>, det: &Determinant, place: usize) -> Option<usize>
-    ensures { IfSome result (λ place. has_at (map entry_of entries.now.entries) det.now place ≡ true) }
-{
-    if is_at(entries, det, place) {
-        return Some(place);
-    }
-    let next = place.saturating_add(1);
-    if is_at(entries, det, next) {
-        return Some(next);
+    let kept = likely_places.place(det);
+    if is_at(entries, det, kept) {
+        return Some(kept);
     }
     None
 }
@@ -515,36 +577,49 @@ fn is_at<A: Allocator>(entries: &Entries<A>, det: &Determinant, place: usize) ->
     }
 }
 
-/// Adds each entry that was carried to the member, where there is room for all of them.
-fn add_carried<A: Allocator>(
+/// Adds each entry that was carried to the member, where there is room for all of them. The answer is whether that closed an
+/// entry.
+fn add_carried<A: Allocator + Copy>(
     entries: &mut Entries<A>,
     open_places: &mut Vec<usize, A>,
+    likely_places: &mut LikelyPlaces<A>,
+    limit: u8,
     me: Member,
     carried: &[Entry],
-)
+) -> bool
     requires entries { length carried.now ≤ spare entries.old }
     requires places { vec_len open_places.old + length carried.now ≤ vec_capacity open_places.old }
     ensures entries { map entry_of entries.new.entries ≡ learned me (map entry_of entries.old.entries) carried.now }
-    ensures places { (limit : ℕ) → IsIndex limit (map entry_of entries.old.entries) open_places.old.items → IsIndex limit (map entry_of entries.new.entries) open_places.new.items }
+    ensures places { IsIndex limit (map entry_of entries.old.entries) open_places.old.items → IsIndex limit (map entry_of entries.new.entries) open_places.new.items }
     ensures room { spare entries.old ≤ spare entries.new + length carried.now }
     ensures open_len { vec_len open_places.new ≤ vec_len open_places.old + length carried.now }
     ensures open_room { vec_capacity open_places.old ≤ vec_capacity open_places.new }
 {
-    let mut likely = LikelyPlaces::default();
+    let mut closed = false;
+    let mut likely = 0;
     for entry in carried {
-        let learned = Entry {
-            det: entry.det,
-            known: entry.known.with(me),
-        };
-        let found = add(entries, open_places, learned, likely);
-        likely = likely.after(found);
+        let known = entry.known.with(me);
+        let added = add(
+            entries,
+            open_places,
+            likely_places,
+            limit,
+            entry,
+            known,
+            likely,
+        );
+        likely = added.place.saturating_add(1);
+        closed = closed || added.closes;
     }
+    closed
 }
 
 /// Adds the member's own new determinant, where there is room for it.
-fn add_own<A: Allocator>(
+fn add_own<A: Allocator + Copy>(
     entries: &mut Entries<A>,
     open_places: &mut Vec<usize, A>,
+    likely_places: &mut LikelyPlaces<A>,
+    limit: u8,
     me: Member,
     det: Determinant,
 )
@@ -552,13 +627,13 @@ fn add_own<A: Allocator>(
     requires entries { 0 < spare entries.old }
     requires places { vec_len open_places.old < vec_capacity open_places.old }
     ensures entries { map entry_of entries.new.entries ≡ noted me (map entry_of entries.old.entries) det }
-    ensures places { (limit : ℕ) → IsIndex limit (map entry_of entries.old.entries) open_places.old.items → IsIndex limit (map entry_of entries.new.entries) open_places.new.items }
+    ensures places { IsIndex limit (map entry_of entries.old.entries) open_places.old.items → IsIndex limit (map entry_of entries.new.entries) open_places.new.items }
 {
     let own = Entry {
         det,
         known: MemberSet::empty().with(me),
     };
-    add_new(entries, open_places, own);
+    add_new(entries, open_places, likely_places, limit, own);
 }
 
 /// Puts the entries at these places that at most `f` members are known to hold at the end of the list.
@@ -581,14 +656,22 @@ fn push_open<A: Allocator>(
     }
 }
 
-/// Lets go of the places of entries that more than `limit` members are known to hold.
-fn prune<A: Allocator>(entries: &Entries<A>, open_places: &mut Vec<usize, A>, limit: u8)
+/// Lets go of the places of entries that more than `limit` members are known to hold, where an entry was closed. Where none was
+/// there is nothing to let go of, and no place is looked at.
+fn prune<A: Allocator>(
+    entries: &Entries<A>,
+    open_places: &mut Vec<usize, A>,
+    limit: u8,
+    closed: bool,
+)
     requires { IsIndex limit (map entry_of entries.now.entries) open_places.old.items }
     ensures index { IsIndex limit (map entry_of entries.now.entries) open_places.new.items }
     ensures len { vec_len open_places.new ≤ vec_len open_places.old }
     ensures room { vec_capacity open_places.new ≡ vec_capacity open_places.old }
 {
-    open_places.retain(|place| is_open(entries, *place, limit));
+    if closed {
+        open_places.retain(|place| is_open(entries, *place, limit));
+    }
 }
 
 /// Whether at most `limit` members are known to hold the determinant at the place.

@@ -77,7 +77,7 @@ impl Join<View> for NoPass {
 #[derive(Clone, Copy, PartialEq, Eq, Debug, Error)]
 #[error("{}", self.name())]
 pub enum ClaimRefusal {
-    /// The table of words is refused for another cause than want of memory. The present table never does so.
+    /// The table of words is refused for another cause than lack of memory. The present table never does so.
     NoTable,
     /// There is no memory for the words.
     Memory,

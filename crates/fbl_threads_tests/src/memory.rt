@@ -1,4 +1,4 @@
-//! Want of memory in a drain.
+//! Lack of memory in a drain.
 
 ghost use Rattle.std.specs.Prelude.{◌≡◌, ◌<◌};
 
@@ -120,7 +120,7 @@ fn channels_from(group: &Group<Relay>, from: Member) -> [u32; 4]
     channels
 }
 
-/// Whether a drain of a group of which this was read before may be answered so and leave this group, where memory may be wanting.
+/// Whether a drain of a group of which this was read before may be answered so and leave this group, where memory may run out.
 fn is_fair(
     answer: &Result<Drained, DrainRefusal>,
     group: &Group<Relay>,
@@ -144,7 +144,7 @@ fn is_fair(
 }
 
 /// It holds too where any one request for memory is refused: then the group is drained in spite of it, or the answer says
-/// that memory was wanting, and what is left is drained afterwards as if nothing had been refused. The gate refuses each in
+/// that memory ran out, and what is left is drained afterwards as if nothing had been refused. The gate refuses each in
 /// turn.
 #[test]
 fn a_drain_goes_on_after_want_of_memory(rt: HostRuntime) -> Result<(), Fail> {

@@ -1,5 +1,5 @@
 -- What the parser of command lines makes of the program's command lines.
-use Rattle.std.proofs.Common.{◌≡◌, ℕ, zero, suc, ◌+◌, ◌<◌, ◌&&◌, Bool, true, false, List, [], ◌∷◌, Option, Some, None, option_map, Result, Ok, Err, IfErr, refl, sym, ap, ◌∙◌, arith, codes, decimal, drop, inl, inr, subst, unwrap_or}
+use Rattle.std.proofs.Common.{◌≡◌, ℕ, zero, suc, ◌+◌, ◌<◌, ◌&&◌, Bool, true, false, List, [], ◌∷◌, ◌++◌, Option, Some, None, option_map, Result, Ok, Err, IfErr, refl, sym, ap, ◌∙◌, arith, codes, decimal, drop, subst, unwrap_or}
 use Rattle.std.proofs.lemmas.Fmt.{decimal_digit, parse-decimal}
 use Rattle.std.specs.Prelude.{Box}
 use Rattle.std.specs.Box.{box_value}
@@ -16,16 +16,19 @@ use Rattle.clap.specs.declared.parser.matches.ArgMatches.TheViews.{out-ArgMatche
 use Rattle.clap.specs.declared.parser.matches.SubCommand.{SubCommand}
 use Rattle.clap.proofs.OnLiterals.{clap_on_literals}
 use Rattle.fblrun.specs.declared.Order.{Order}
-use Rattle.fblrun.specs.CommandLines.{IsCommandLine, IsOrderAt, IsOrderOf, audit_line, draw_line, flag_text, play_line, program, with_explain}
+use Rattle.fblrun.specs.CommandLines.{IsCommandLine, is_audit, is_check, is_draw, is_play, is_show, is_show_workers, is_workers, IsOrderAt, IsOrderOf, audit_line, check_line, draw_line, flag_text, play_line, program, show_line, with_explain, with_strict}
 use Rattle.fblrun.specs.Orders.{IsWorkerCount}
 
 -- the subcommand that the words behind the program's name give, with what was found of it
 abbrev named : List Text → Option (Text × List Row)
 named line = entered (built program) (stop_after (built program).top.rules (names_of (built program)) line)
 
--- its name, and the texts of the number of workers and of the flag
-abbrev asked : Option (Text × List Row) → Option (Text × Option Text × Option Text)
-asked found = option_map (λ p. (p.0, one_of (codes "workers") p.1, one_of (codes "explain") p.1)) found
+-- its name, and the texts of the number of workers and of the two flags
+abbrev Asked : Type 0
+Asked = Text × Option Text × Option Text × Option Text
+
+abbrev asked : Option (Text × List Row) → Option Asked
+asked found = option_map (λ p. (p.0, one_of (codes "workers") p.1, one_of (codes "strict") p.1, one_of (codes "explain") p.1)) found
 
 -- the words are taken
 abbrev IsTaken : List Text → Type 0
@@ -37,21 +40,35 @@ program_simple : is_simple program ≡ true
 unfolding clap_on_literals
 program_simple = refl
 
--- the words of a line are taken, with or without the flag, and ask for this
-abbrev Gives : List Text → Text → Option Text → Bool → Type 0
-Gives line name workers e = (asked (named (with_explain e line)) ≡ Some (name, workers, Some (flag_text e))) × IsTaken (with_explain e line)
+-- the words of a line are taken, with or without `--explain`, and ask for this
+abbrev Gives : List Text → Text → Option Text → Option Text → Bool → Type 0
+Gives line name workers strict e =
+    (asked (named (with_explain e line)) ≡ Some (name, workers, strict, Some (flag_text e))) × IsTaken (with_explain e line)
 
-audit_gives : (e : Bool) → Gives audit_line (codes "audit") None e
+audit_gives : (e : Bool) → Gives audit_line (codes "audit") None None e
 unfolding clap_on_literals
 audit_gives = elim [ true ↦ (refl, refl) | false ↦ (refl, refl) ]
 
-draw_gives : (e : Bool) → Gives draw_line (codes "draw") None e
+check_gives : (e : Bool) → Gives check_line (codes "check") None None e
+unfolding clap_on_literals
+check_gives = elim [ true ↦ (refl, refl) | false ↦ (refl, refl) ]
+
+draw_gives : (e : Bool) → Gives draw_line (codes "draw") None None e
 unfolding clap_on_literals
 draw_gives = elim [ true ↦ (refl, refl) | false ↦ (refl, refl) ]
 
-play_gives : (e : Bool) → Gives play_line (codes "play") (Some (codes "2")) e
+-- the same of a line of a play, with or without `--strict`
+abbrev PlayGives : List Text → Text → Bool → Bool → Type 0
+PlayGives line workers s e = Gives (with_strict s line) (codes "play") (Some workers) (Some (flag_text s)) e
+
+play_gives : (s e : Bool) → PlayGives play_line (codes "2") s e
 unfolding clap_on_literals
-play_gives = elim [ true ↦ (refl, refl) | false ↦ (refl, refl) ]
+play_gives true = elim [ true ↦ (refl, refl) | false ↦ (refl, refl) ]
+play_gives false = elim [ true ↦ (refl, refl) | false ↦ (refl, refl) ]
+
+show_gives : (e : Bool) → Gives show_line (codes "show") (Some (codes "2")) None e
+unfolding clap_on_literals
+show_gives = elim [ true ↦ (refl, refl) | false ↦ (refl, refl) ]
 
 -- a fact of each number of workers
 by_count : (P : ℕ → Type 0) → P 1 → P 2 → P 3 → P 4 → P 5 → P 6 → P 7 → P 8 → (n : ℕ) → IsWorkerCount n → P n
@@ -66,27 +83,43 @@ by_count P a b c d e f g h (suc (suc (suc (suc (suc (suc (suc zero))))))) is = g
 by_count P a b c d e f g h (suc (suc (suc (suc (suc (suc (suc (suc zero)))))))) is = h
 by_count P a b c d e f g h (suc (suc (suc (suc (suc (suc (suc (suc (suc n))))))))) is = absurd (omega (arith, is.1))
 
-abbrev with_word : Text → List Text
-with_word word = codes "play" ∷ codes "--workers" ∷ word ∷ []
+abbrev with_word : Text → List Text → List Text
+with_word word line = line ++ codes "--workers" ∷ word ∷ []
 
-abbrev WordGives : Bool → Text → Type 0
-WordGives e word = Gives (with_word word) (codes "play") (Some word) e
+abbrev WordGives : Bool → Bool → Text → Type 0
+WordGives s e word = PlayGives (with_word word play_line) word s e
 
-digit_gives : (e : Bool) (n : ℕ) → IsWorkerCount n → WordGives e ((48 + n) ∷ [])
+abbrev ShowGives : Bool → Text → Type 0
+ShowGives e word = Gives (with_word word show_line) (codes "show") (Some word) None e
+
+digit_gives : (s e : Bool) (n : ℕ) → IsWorkerCount n → WordGives s e ((48 + n) ∷ [])
 unfolding clap_on_literals
-digit_gives true = by_count (λ n. WordGives true ((48 + n) ∷ [])) (refl, refl) (refl, refl) (refl, refl) (refl, refl) (refl, refl) (refl, refl) (refl, refl) (refl, refl)
-digit_gives false = by_count (λ n. WordGives false ((48 + n) ∷ [])) (refl, refl) (refl, refl) (refl, refl) (refl, refl) (refl, refl) (refl, refl) (refl, refl) (refl, refl)
+digit_gives true true = by_count (λ n. WordGives true true ((48 + n) ∷ [])) (refl, refl) (refl, refl) (refl, refl) (refl, refl) (refl, refl) (refl, refl) (refl, refl) (refl, refl)
+digit_gives true false = by_count (λ n. WordGives true false ((48 + n) ∷ [])) (refl, refl) (refl, refl) (refl, refl) (refl, refl) (refl, refl) (refl, refl) (refl, refl) (refl, refl)
+digit_gives false true = by_count (λ n. WordGives false true ((48 + n) ∷ [])) (refl, refl) (refl, refl) (refl, refl) (refl, refl) (refl, refl) (refl, refl) (refl, refl) (refl, refl)
+digit_gives false false = by_count (λ n. WordGives false false ((48 + n) ∷ [])) (refl, refl) (refl, refl) (refl, refl) (refl, refl) (refl, refl) (refl, refl) (refl, refl) (refl, refl)
 
-workers_gives : (e : Bool) (n : ℕ) → IsWorkerCount n → WordGives e (decimal n)
-workers_gives e n is = subst (WordGives e) (sym (decimal_digit n (omega (arith, is.1)))) (digit_gives e n is)
+workers_gives : (s e : Bool) (n : ℕ) → IsWorkerCount n → WordGives s e (decimal n)
+workers_gives s e n is = subst (WordGives s e) (sym (decimal_digit n (omega (arith, is.1)))) (digit_gives s e n is)
+
+digit_shows : (e : Bool) (n : ℕ) → IsWorkerCount n → ShowGives e ((48 + n) ∷ [])
+unfolding clap_on_literals
+digit_shows true = by_count (λ n. ShowGives true ((48 + n) ∷ [])) (refl, refl) (refl, refl) (refl, refl) (refl, refl) (refl, refl) (refl, refl) (refl, refl) (refl, refl)
+digit_shows false = by_count (λ n. ShowGives false ((48 + n) ∷ [])) (refl, refl) (refl, refl) (refl, refl) (refl, refl) (refl, refl) (refl, refl) (refl, refl) (refl, refl)
+
+show_workers_gives : (e : Bool) (n : ℕ) → IsWorkerCount n → ShowGives e (decimal n)
+show_workers_gives e n is = subst (ShowGives e) (sym (decimal_digit n (omega (arith, is.1)))) (digit_shows e n is)
 
 -- ---- refusals
 
 line_taken : (words : List Text) → IsCommandLine words → IsTaken (drop 1 words)
-line_taken words (inl line) = ap (built_takes (built program) nothing_held) line.1 ∙ (audit_gives line.0).1
-line_taken words (inr (inl line)) = ap (built_takes (built program) nothing_held) line.1 ∙ (draw_gives line.0).1
-line_taken words (inr (inr (inl line))) = ap (built_takes (built program) nothing_held) line.1 ∙ (play_gives line.0).1
-line_taken words (inr (inr (inr (n, count, line)))) = ap (built_takes (built program) nothing_held) line.1 ∙ (workers_gives line.0 n count).1
+line_taken words (is_audit line) = ap (built_takes (built program) nothing_held) line.1 ∙ (audit_gives line.0).1
+line_taken words (is_check line) = ap (built_takes (built program) nothing_held) line.1 ∙ (check_gives line.0).1
+line_taken words (is_draw line) = ap (built_takes (built program) nothing_held) line.1 ∙ (draw_gives line.0).1
+line_taken words (is_play s line) = ap (built_takes (built program) nothing_held) line.1 ∙ (play_gives s line.0).1
+line_taken words (is_workers s n count line) = ap (built_takes (built program) nothing_held) line.1 ∙ (workers_gives s line.0 n count).1
+line_taken words (is_show line) = ap (built_takes (built program) nothing_held) line.1 ∙ (show_gives line.0).1
+line_taken words (is_show_workers n count line) = ap (built_takes (built program) nothing_held) line.1 ∙ (show_workers_gives line.0 n count).1
 
 pub taken : (a : App) (words : List Text) → a ≡ program → IsCommandLine words → takes a words ≡ true
 taken a words is line = ap (λ p. takes p words) is ∙ (λ i. program_simple i && line_taken words line i)
@@ -109,16 +142,27 @@ matches_name : (m : ArgMatches) → option_map (λ p. p.0) (subcommand_rows_of m
 matches_name m = name_is (out-ArgMatches m).subcommand
 
 -- what was asked for, where a subcommand was found
-found_asked : (o : Option (Text × List Row)) (name : Text) (rows : List Row) (line : Text) (workers explain : Option Text) → option_map (λ p. p.0) o ≡ Some name → option_map (λ p. p.1) o ≡ Some rows → asked o ≡ Some (line, workers, explain)
-    → (name ≡ line) × (one_of (codes "workers") rows ≡ workers) × (one_of (codes "explain") rows ≡ explain)
-found_asked None name rows line workers explain is found e = absurd (cc)
-found_asked (Some p) name rows line workers explain is found e =
+record IsFound (name : Text) (rows : List Row) (x : Asked) : Type 0 where
+  pub named : name ≡ x.0
+  pub workers : one_of (codes "workers") rows ≡ x.1
+  pub strict : one_of (codes "strict") rows ≡ x.2
+  pub explain : one_of (codes "explain") rows ≡ x.3
+
+found_asked : (o : Option (Text × List Row)) (name : Text) (rows : List Row) (x : Asked) → option_map (λ p. p.0) o ≡ Some name → option_map (λ p. p.1) o ≡ Some rows → asked o ≡ Some x
+    → IsFound name rows x
+found_asked None name rows x is found e = absurd (cc)
+found_asked (Some p) name rows x is found e =
     let same = of_some _ _ e in
-    let same_rows = of_some _ _ found in
-    (sym (of_some _ _ is) ∙ ap (λ q. q.0) same, ap (one_of (codes "workers")) (sym same_rows) ∙ ap (λ q. q.1) same, ap (one_of (codes "explain")) (sym same_rows) ∙ ap (λ q. q.2) same)
+    let same_rows = sym (of_some _ _ found) in
+    record {
+      named = sym (of_some _ _ is) ∙ ap (λ q. q.0) same;
+      workers = ap (one_of (codes "workers")) same_rows ∙ ap (λ q. q.1) same;
+      strict = ap (one_of (codes "strict")) same_rows ∙ ap (λ q. q.2) same;
+      explain = ap (one_of (codes "explain")) same_rows ∙ ap (λ q. q.3) same;
+    }
 
 -- nothing was asked for, where none was found
-none_asked : {A : Type 0} (o : Option (Text × List Row)) (x : Text × Option Text × Option Text) → option_map (λ p. p.0) o ≡ None → asked o ≡ Some x → A
+none_asked : {A : Type 0} (o : Option (Text × List Row)) (x : Asked) → option_map (λ p. p.0) o ≡ None → asked o ≡ Some x → A
 none_asked None x is e = absurd (cc)
 none_asked (Some p) x is e = absurd (cc)
 
@@ -133,21 +177,23 @@ module _ (a : App) (words : List Text) (m : ArgMatches) (is : a ≡ program) (ma
   -- a subcommand was found, and the order is the one at its name and rows
   pub order_is : (name : Text) (rows : List Row) (order : Order) → Some name ≡ subcommand_name_of m → Some rows ≡ option_map (λ p. p.1) (subcommand_rows_of m) → IsOrderAt name rows order → IsOrderOf words order
   order_is name rows order name_of rows_of at =
-      let named_so = matches_name m ∙ sym name_of in
+      let found : (line : List Text) (x : Asked) → drop 1 words ≡ line → asked (named line) ≡ Some x → IsFound name rows x =
+      λ line x e gives. found_asked _ name rows x (matches_name m ∙ sym name_of) (sym rows_of) (asked_on line e ∙ gives) in
+      let two : decimal 2 ≡ codes "2" = decimal_digit 2 (omega arith) in
       record {
-        audit = λ x e.
-            let found = found_asked _ name rows _ _ _ named_so (sym rows_of) (asked_on _ e ∙ (audit_gives x).0) in
-            at.audit x found.0 found.2;
-        draw = λ x e.
-            let found = found_asked _ name rows _ _ _ named_so (sym rows_of) (asked_on _ e ∙ (draw_gives x).0) in
-            at.draw x found.0 found.2;
-        play = λ x e.
-            let found = found_asked _ name rows _ _ _ named_so (sym rows_of) (asked_on _ e ∙ (play_gives x).0) in
-            let two : decimal 2 ≡ codes "2" = decimal_digit 2 (omega arith) in
-            at.play x 2 (omega arith) found.0 (found.1 ∙ ap Some (sym two)) found.2;
-        workers = λ x n count e.
-            let found = found_asked _ name rows _ _ _ named_so (sym rows_of) (asked_on _ e ∙ (workers_gives x n count).0) in
-            at.play x n (omega (arith, count.1)) found.0 found.1 found.2;
+        audit = λ x e. (let f = found _ _ e (audit_gives x).0 in at.audit x f.named f.explain);
+        check = λ x e. (let f = found _ _ e (check_gives x).0 in at.check x f.named f.explain);
+        draw = λ x e. (let f = found _ _ e (draw_gives x).0 in at.draw x f.named f.explain);
+        play = λ s x e.
+            let f = found _ _ e (play_gives s x).0 in
+            at.play s x 2 (omega arith) f.named (f.workers ∙ ap Some (sym two)) f.strict f.explain;
+        workers = λ s x n count e.
+            let f = found _ _ e (workers_gives s x n count).0 in
+            at.play s x n (omega (arith, count.1)) f.named f.workers f.strict f.explain;
+        show = λ x e. (let f = found _ _ e (show_gives x).0 in at.show x 2 (omega arith) f.named (f.workers ∙ ap Some (sym two)) f.explain);
+        show_workers = λ x n count e.
+            let f = found _ _ e (show_workers_gives x n count).0 in
+            at.show x n (omega (arith, count.1)) f.named f.workers f.explain;
       }
 
   -- no subcommand was found, and the words are none of the lines
@@ -156,9 +202,12 @@ module _ (a : App) (words : List Text) (m : ArgMatches) (is : a ≡ program) (ma
       let named_none = matches_name m ∙ sym none in
       record {
         audit = λ x e. none_asked _ _ named_none (asked_on _ e ∙ (audit_gives x).0);
+        check = λ x e. none_asked _ _ named_none (asked_on _ e ∙ (check_gives x).0);
         draw = λ x e. none_asked _ _ named_none (asked_on _ e ∙ (draw_gives x).0);
-        play = λ x e. none_asked _ _ named_none (asked_on _ e ∙ (play_gives x).0);
-        workers = λ x n count e. none_asked _ _ named_none (asked_on _ e ∙ (workers_gives x n count).0);
+        play = λ s x e. none_asked _ _ named_none (asked_on _ e ∙ (play_gives s x).0);
+        workers = λ s x n count e. none_asked _ _ named_none (asked_on _ e ∙ (workers_gives s x n count).0);
+        show = λ x e. none_asked _ _ named_none (asked_on _ e ∙ (show_gives x).0);
+        show_workers = λ x n count e. none_asked _ _ named_none (asked_on _ e ∙ (show_workers_gives x n count).0);
       }
 
 -- ---- the number of workers
@@ -172,9 +221,9 @@ read_number {E} gives n other None small parses h =
     let r : Result ℕ E = Err h.0 in
     let same : r ≡ Ok n = parse-decimal 8 n (decimal n) r (omega arith) (omega arith) refl (parses r h.1) in absurd (cc)
 
--- ---- whether explanations are asked for
+-- ---- whether a flag is given
 
 -- what a flag's text says
-pub flag_is : (explain result : Bool) (text : Option Text) → (text ≡ Some (codes "true") → result ≡ true) → (text ≡ Some (codes "false") → result ≡ false) → text ≡ Some (flag_text explain) → result ≡ explain
+pub flag_is : (flag result : Bool) (text : Option Text) → (text ≡ Some (codes "true") → result ≡ true) → (text ≡ Some (codes "false") → result ≡ false) → text ≡ Some (flag_text flag) → result ≡ flag
 flag_is true result text given other e = given e
 flag_is false result text given other e = other e

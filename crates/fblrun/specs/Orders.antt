@@ -1,14 +1,21 @@
 -- What the program leaves in its writer, and its exit status, by the order that it is given.
-use Rattle.std.specs.Prelude.{◌≡◌, ℕ, ◌≤◌, ◌⊎◌, List, Option, Result}
+use Rattle.std.specs.Prelude.{◌≡◌, ℕ, ◌≤◌, ◌⊎◌, ◌&&◌, not, Bool, true, false, List, Option, Result, Ok, Err}
+use Rattle.std.specs.List.{list_any}
 use Rattle.std.specs.Io.KnownBytes.{Keeps}
 use Rattle.fbl_input.specs.declared.fault.RunFault.{RunFault}
 use Rattle.fbl_input.specs.Faults.{FailsToRead}
 use Rattle.fbl_draw.specs.Drawing.{Draws}
 use Rattle.fbl_dump.specs.Auditing.{Audits}
-use Rattle.fbl_play.specs.Runs.{Plays}
+use Rattle.fbl_dump.specs.Checking.{Checks}
+use Rattle.fbl_dump.specs.declared.checking.Verdict.TheVariants.{Safe, Unsafe}
+use Rattle.fbl_explain.specs.declared.account.Account.{Account}
+use Rattle.fbl_explain.specs.Accounts.{is_refusal}
+use Rattle.fbl_play.specs.Runs.{IsWritten, Plays, next_of}
+use Rattle.fbl_script.specs.Scripts.{Outline, IsScriptOf}
 use Rattle.fblrun.specs.declared.Order.{Order}
 use Rattle.fblrun.specs.declared.Task.{Task}
-use Rattle.fblrun.specs.declared.Task.TheVariants.{Play, Audit, Draw}
+use Rattle.fblrun.specs.declared.Task.TheVariants.{Play, Show, Audit, Check, Draw}
+use Rattle.fblrun.specs.Showing.{Shows}
 use Rattle.fblrun.specs.Statuses.{status_after}
 
 -- so many workers can make a run
@@ -16,32 +23,63 @@ abbrev pub IsWorkerCount : ℕ → Type 0
 IsWorkerCount workers = (1 ≤ workers) × (workers ≤ 8)
 
 -- this holds of the answer, and the exit status is that of the answer
-abbrev pub EndsAfter : (Result (Unit {0}) RunFault → Type 0) → ℕ → Type 0
-EndsAfter Answers status = (answer : Result (Unit {0}) RunFault) × Answers answer × (status ≡ status_after answer)
+abbrev pub EndsAfter : (Result Bool RunFault → Type 0) → ℕ → Type 0
+EndsAfter Answers status = (answer : Result Bool RunFault) × Answers answer × (status ≡ status_after answer)
+
+-- all is well where such a task is done
+abbrev pub IsWellDone : (Result (Unit {0}) RunFault → Type 0) → Result Bool RunFault → Type 0
+IsWellDone Answers (Ok is_well) = Answers (Ok tt) × (is_well ≡ true)
+IsWellDone Answers (Err e) = Answers (Err e)
+
+-- a play, after which all is well but where it is strict and some command was refused
+abbrev pub PlaysWell : ℕ → Bool → List ℕ → Option (List ℕ) → Option (List ℕ) → Result Bool RunFault → Type 0
+PlaysWell workers strict input before after (Ok is_well) =
+    (s : Outline) × (accounts : List Account) × IsScriptOf input s
+    × IsWritten (next_of s.behaviour) workers s.config s.commands accounts before after
+    × (is_well ≡ not (strict && list_any is_refusal accounts))
+PlaysWell workers strict input before after (Err e) = Plays workers input before after (Err e)
+
+-- a check, after which all is well where the dump is safe
+abbrev pub ChecksWell : List ℕ → Option (List ℕ) → Option (List ℕ) → Result Bool RunFault → Type 0
+ChecksWell input before after (Ok true) = Checks input before after (Ok Safe)
+ChecksWell input before after (Ok false) = Checks input before after (Ok Unsafe)
+ChecksWell input before after (Err e) = Checks input before after (Err e)
 
 -- the task can be done
 abbrev pub CanBeDone : Task → Type 0
-CanBeDone (Play workers) = IsWorkerCount workers
+CanBeDone (Play workers strict) = IsWorkerCount workers
+CanBeDone (Show workers) = IsWorkerCount workers
 CanBeDone _ = Unit {0}
 
 -- what is left in the writer where the task is answered so over these bytes
-abbrev pub AnswersTask : Task → List ℕ → Option (List ℕ) → Option (List ℕ) → Result (Unit {0}) RunFault → Type 0
-AnswersTask (Play workers) = Plays workers
-AnswersTask Audit = Audits
-AnswersTask Draw = Draws
+abbrev pub AnswersTask : Task → List ℕ → Option (List ℕ) → Option (List ℕ) → Result Bool RunFault → Type 0
+AnswersTask (Play workers strict) input before after = PlaysWell workers strict input before after
+AnswersTask (Show workers) input before after = IsWellDone (Shows workers input before after)
+AnswersTask Audit input before after = IsWellDone (Audits input before after)
+AnswersTask Check input before after = ChecksWell input before after
+AnswersTask Draw input before after = IsWellDone (Draws input before after)
 
 -- the same over what a reader has: a read may fail, and else the task is answered over the bytes
-abbrev pub ReadsAndAnswersTask : Task → List ℕ → Option (List ℕ) → Option (List ℕ) → Result (Unit {0}) RunFault → Type 0
+abbrev pub ReadsAndAnswersTask : Task → List ℕ → Option (List ℕ) → Option (List ℕ) → Result Bool RunFault → Type 0
 ReadsAndAnswersTask task input before after result = FailsToRead before after result ⊎ AnswersTask task input before after result
+
+-- so many workers do a task; where there can't be so many, the command line has a fault, and nothing is written
+abbrev pub IsDoneBy : ℕ → (ℕ → Type 0) → Option (List ℕ) → Option (List ℕ) → ℕ → Type 0
+IsDoneBy workers Ends before after status =
+    (IsWorkerCount workers × Ends status) ⊎ (¬ (IsWorkerCount workers) × (status ≡ 2) × Keeps before after)
 
 -- what is left in the writer, and the exit status, where the task is done over an input
 abbrev pub Does : Task → List ℕ → Option (List ℕ) → Option (List ℕ) → ℕ → Type 0
--- a play with so many workers; where there can't be so many, the command line has a fault, and nothing is written
-Does (Play workers) input before after status =
-    (IsWorkerCount workers × EndsAfter (ReadsAndAnswersTask (Play workers) input before after) status)
-    ⊎ (¬ (IsWorkerCount workers) × (status ≡ 2) × Keeps before after)
+-- a play with so many workers
+Does (Play workers strict) input before after status =
+    IsDoneBy workers (EndsAfter (ReadsAndAnswersTask (Play workers strict) input before after)) before after status
+-- the picture of the history of such a play
+Does (Show workers) input before after status =
+    IsDoneBy workers (EndsAfter (ReadsAndAnswersTask (Show workers) input before after)) before after status
 -- an audit
 Does Audit input before after status = EndsAfter (ReadsAndAnswersTask Audit input before after) status
+-- a check
+Does Check input before after status = EndsAfter (ReadsAndAnswersTask Check input before after) status
 -- a drawing
 Does Draw input before after status = EndsAfter (ReadsAndAnswersTask Draw input before after) status
 

@@ -1,20 +1,22 @@
-//! Plays the script, or audits or draws the dump, that standard input has.
+//! Plays or shows the script, or audits, checks or draws the dump, that standard input has.
 #![tactic(auto)]
 
-ghost use Rattle.std.specs.Prelude.{◌≡◌, IfSome};
-ghost use Rattle.fblrun.specs.Orders.{AnswersTask, CanBeDone, EndsAfter, Obeys, ReadsAndAnswersTask};
+ghost use Rattle.std.specs.Prelude.{◌≡◌, ◌&&◌, not, IfSome};
+ghost use Rattle.fblrun.specs.Orders.{AnswersTask, CanBeDone, ChecksWell, EndsAfter, IsWellDone, IsWorkerCount, Obeys, PlaysWell, ReadsAndAnswersTask};
+ghost use Rattle.fblrun.specs.Showing.{Shows};
 ghost use Rattle.fblrun.specs.Statuses.{status_after as status_after_result, status_of as status_of_fault};
 
 mod command_line;
+mod showing;
 mod telling;
 
 use clap::error::ErrorKind;
 use command_line::order_of;
 use fbl_draw::draw_bytes;
-use fbl_dump::audit_bytes;
-use fbl_explain::InputKind;
+use fbl_dump::{Verdict, audit_bytes, check_bytes};
 use fbl_input::{RunFault, read_input};
 use fbl_play::play_observed;
+use showing::show_observed;
 use std::alloc::Global;
 use std::io::{Read, Write};
 use std::process::ExitCode;
@@ -23,8 +25,11 @@ use std::thread::Threads;
 use std::{env, io};
 use telling::{Teller, end};
 
-/// Everything was done.
+/// Everything was done, and all is well.
 const DONE: u8 = 0;
+
+/// The checked dump is unsafe, or a command of a strict play was refused.
+const NOT_WELL: u8 = 1;
 
 /// The command line, the script or the dump has a fault.
 const INPUT_FAULT: u8 = 2;
@@ -32,16 +37,28 @@ const INPUT_FAULT: u8 = 2;
 /// A read or a write failed.
 const CHANNEL_FAULT: u8 = 3;
 
-/// Memory is wanting.
+/// Memory runs out.
 const MEMORY_FAULT: u8 = 4;
 
 /// What is to be done with the input.
 #[derive(Clone, Copy, PartialEq, Eq, Debug)]
 enum Task {
-    /// Play a script, with this many workers.
-    Play(u8),
+    /// Play a script.
+    Play {
+        /// How many workers make a run.
+        workers: u8,
+        /// Whether all is well only where no command was refused.
+        strict: bool,
+    },
+    /// Draw the history of a script.
+    Show {
+        /// How many workers make a run.
+        workers: u8,
+    },
     /// Audit a dump.
     Audit,
+    /// Check a dump. All is well where it is safe.
+    Check,
     /// Draw a dump.
     Draw,
 }
@@ -79,7 +96,7 @@ fn refuse<R: Print + Eprint>(rt: &R, error: clap::Error) -> u8 {
     }
 }
 
-/// Prints why the words of the process can't be had, and answers the exit status: memory is wanting, or they are not
+/// Prints why the words of the process can't be had, and answers the exit status: memory runs out, or they are not
 /// UTF-8, which is a fault of the command line.
 fn refuse_words<R: Eprint>(rt: &R, kind: io::ErrorKind) -> u8 {
     match kind {
@@ -106,12 +123,13 @@ fn order_in(rt: &HostRuntime) -> Result<Order, u8> {
     }
 }
 
-/// Prints the fault, if there is one, and answers the exit status.
-fn status_after<R: Eprint>(rt: &R, done: Result<(), RunFault>) -> u8
+/// Prints the fault, if there is one, and answers the exit status of what was done, by whether all is well.
+fn status_after<R: Eprint>(rt: &R, done: Result<bool, RunFault>) -> u8
     ensures { result ≡ status_after_result done }
 {
     match done {
-        Ok(()) => DONE,
+        Ok(true) => DONE,
+        Ok(false) => NOT_WELL,
         Err(fault) => {
             let status = status_of(&fault);
             let _ = eprintln!(rt; "fault: {fault}");
@@ -120,24 +138,91 @@ fn status_after<R: Eprint>(rt: &R, done: Result<(), RunFault>) -> u8
     }
 }
 
-/// Does the task over the bytes. `Read` is no answer.
+/// All is well where this was done.
+fn well_done(done: Result<(), RunFault>) -> Result<bool, RunFault>
+    ensures { IsWellDone (λ answer. answer ≡ done) result }
+{
+    match done {
+        Ok(()) => Ok(true),
+        Err(fault) => Err(fault),
+    }
+}
+
+/// Whether all is well after a play, strict or not, in which some command was refused or none.
+fn is_well(strict: bool, has_refused: bool) -> bool
+    ensures { result ≡ not (strict && has_refused) }
+{
+    !(strict && has_refused)
+}
+
+/// Plays the script that the bytes spell, and answers whether all is well: whether it isn't strict, or no command was refused.
+fn play_well<T: Eprint + Threads + Wait + Sync, W: Write>(
+    rt: &T,
+    alloc: Global,
+    workers: u8,
+    strict: bool,
+    explain: bool,
+    input: &[u8],
+    writer: &mut W,
+) -> Result<bool, RunFault>
+    requires { IsWorkerCount workers }
+    ensures { PlaysWell workers strict input.now (W.contents writer.old) (W.contents writer.new) result }
+{
+    let mut teller = Teller::new(rt, explain);
+    match play_observed(rt, alloc, input, writer, workers, &mut teller) {
+        Ok(()) => Ok(is_well(strict, teller.has_refused())),
+        Err(fault) => Err(fault),
+    }
+}
+
+/// Plays the script that the bytes spell, and draws its history.
+fn show_all<T: Eprint + Threads + Wait + Sync, W: Write>(
+    rt: &T,
+    alloc: Global,
+    workers: u8,
+    explain: bool,
+    input: &[u8],
+    writer: &mut W,
+) -> Result<(), RunFault>
+    requires { IsWorkerCount workers }
+    ensures { Shows workers input.now (W.contents writer.old) (W.contents writer.new) result }
+{
+    let mut teller = Teller::new(rt, explain);
+    show_observed(rt, alloc, input, writer, workers, &mut teller)
+}
+
+/// Checks the dump that the bytes spell, and answers whether all is well: whether it is safe.
+fn check_well<W: Write>(alloc: Global, input: &[u8], writer: &mut W) -> Result<bool, RunFault>
+    ensures { ChecksWell input.now (W.contents writer.old) (W.contents writer.new) result }
+{
+    match check_bytes(alloc, input, writer) {
+        Ok(Verdict::Safe) => Ok(true),
+        Ok(Verdict::Unsafe) => Ok(false),
+        Err(fault) => Err(fault),
+    }
+}
+
+/// Does the task over the bytes, and answers whether all is well. `Read` is no answer.
 fn do_task<T: Eprint + Threads + Wait + Sync, W: Write>(
     rt: &T,
     alloc: Global,
     order: Order,
     input: &[u8],
     writer: &mut W,
-) -> Result<(), RunFault>
+) -> Result<bool, RunFault>
     requires { CanBeDone order.task }
     ensures { AnswersTask order.task input.now (W.contents writer.old) (W.contents writer.new) result }
 {
     match order.task {
-        Task::Play(workers) => {
-            let mut teller = Teller::new(rt, order.explain);
-            play_observed(rt, alloc, input, writer, workers, &mut teller)
+        Task::Play { workers, strict } => {
+            play_well(rt, alloc, workers, strict, order.explain, input, writer)
         }
-        Task::Audit => audit_bytes(alloc, input, writer),
-        Task::Draw => draw_bytes(alloc, input, writer),
+        Task::Show { workers } => {
+            well_done(show_all(rt, alloc, workers, order.explain, input, writer))
+        }
+        Task::Audit => well_done(audit_bytes(alloc, input, writer)),
+        Task::Check => check_well(alloc, input, writer),
+        Task::Draw => well_done(draw_bytes(alloc, input, writer)),
     }
 }
 
@@ -152,22 +237,18 @@ fn read_and_do<T: Eprint + Threads + Wait + Sync, R: Read, W: Write>(
     requires { CanBeDone order.task }
     ensures { IfSome (R.remaining reader.old) (λ input. EndsAfter (ReadsAndAnswersTask order.task input (W.contents writer.old) (W.contents writer.new)) result) }
 {
-    let kind = match order.task {
-        Task::Play(_) => InputKind::Script,
-        Task::Audit | Task::Draw => InputKind::Dump,
-    };
     match read_input(alloc, reader) {
         Ok(input) => {
             let input = input.as_slice();
             let done = do_task(rt, alloc, order, input, writer);
-            end(rt, alloc, order.explain, kind, input, done)
+            end(rt, alloc, order, input, done)
         }
-        Err(fault) => end(rt, alloc, order.explain, kind, &[], Err(fault)),
+        Err(fault) => end(rt, alloc, order, &[], Err(fault)),
     }
 }
 
-/// Obeys the order over what the reader has, and answers the exit status. It is 2, and nothing is read, where a play is
-/// asked for with another number of workers than 1 to 8, which the command line does not give.
+/// Obeys the order over what the reader has, and answers the exit status. It is 2, and nothing is read, where a play or a
+/// picture of its history is asked for with another number of workers than 1 to 8, which the command line does not give.
 fn obey<T: Eprint + Threads + Wait + Sync, R: Read, W: Write>(
     rt: &T,
     alloc: Global,
@@ -178,11 +259,11 @@ fn obey<T: Eprint + Threads + Wait + Sync, R: Read, W: Write>(
     ensures { IfSome (R.remaining reader.old) (λ input. Obeys order input (W.contents writer.old) (W.contents writer.new) result) }
 {
     match order.task {
-        Task::Play(workers) => match workers {
+        Task::Play { workers, .. } | Task::Show { workers } => match workers {
             1..=8 => read_and_do(rt, alloc, order, reader, writer),
             _ => INPUT_FAULT,
         },
-        Task::Audit | Task::Draw => read_and_do(rt, alloc, order, reader, writer),
+        Task::Audit | Task::Check | Task::Draw => read_and_do(rt, alloc, order, reader, writer),
     }
 }
 

@@ -1,43 +1,57 @@
 //! What is told on standard error, where the command line asks for explanations, beside the fault line.
 
-ghost use Rattle.std.specs.Prelude.{◌≡◌};
+ghost use Rattle.std.specs.Prelude.{◌≡◌, false};
 ghost use Rattle.fblrun.specs.Statuses.{status_after as status_after_result};
 
-use crate::status_after;
-use fbl_explain::{Account, AccountOf, Explanation, InputKind, Words, explain};
-use fbl_input::RunFault;
+use crate::{Order, Task, status_after};
+use fbl_base::audit::Dump;
+use fbl_dump::dump_of_bytes;
+use fbl_explain::{Account, AccountOf, Why, Words, explain, why_lost, why_unsafe};
+use fbl_input::{InputFault, InputKind, RunFault};
 use fbl_play::Observer;
 use fbl_script::Command;
 use std::alloc::Global;
 
-/// Tells of each command on standard error, where that is asked for. A write that fails there is passed over: what is
-/// written and the exit status stay as they would be.
+/// Tells of each command on standard error, where that is asked for, and keeps whether some command was refused. A write that fails
+/// there is passed over: what is written and the exit status stay as they would be.
 #[derive(Drop)]
 pub(crate) struct Teller<'a, R> {
     rt: &'a R,
     is_asked: bool,
     /// The place of the next command.
     place: usize,
+    has_refused: bool,
 }
 
 impl<'a, R> Teller<'a, R> {
     /// Tells where it is asked to, from the first command on.
-    pub(crate) fn new(rt: &'a R, is_asked: bool) -> Teller<'a, R> {
+    pub(crate) fn new(rt: &'a R, is_asked: bool) -> Teller<'a, R>
+        ensures { result.has_refused ≡ false }
+    {
         Teller {
             rt,
             is_asked,
             place: 0,
+            has_refused: false,
         }
+    }
+
+    /// Whether some command was refused.
+    pub(crate) fn has_refused(&self) -> bool
+        ensures { result ≡ self.now.has_refused }
+    {
+        self.has_refused
     }
 }
 
 impl<R: Eprint> Observer for Teller<'_, R> {
-    ghost use Rattle.std.specs.Prelude.{⊤};
+    ghost use Rattle.std.specs.Prelude.{◌≡◌, ◌||◌};
+    ghost use Rattle.fbl_explain.specs.Accounts.{is_refusal};
 
     // what is told on standard error no contract sees
-    ghost hears_before = { λ _ _ _. ⊤ };
+    ghost hears_before = { λ old _ new. new.has_refused ≡ old.has_refused };
 
-    ghost hears_after = { λ _ _ _ _. ⊤ };
+    ghost hears_after = { λ old _ account new. new.has_refused ≡ (old.has_refused || is_refusal account) };
 
     fn before(&mut self, command: &Command) {
         if self.is_asked {
@@ -50,7 +64,8 @@ impl<R: Eprint> Observer for Teller<'_, R> {
     fn after(&mut self, command: &Command, account: &Account) {
         let place = self.place;
         self.place = place.saturating_add(1);
-        if self.is_asked && *account != Account::Done {
+        self.has_refused = self.has_refused || account.is_refusal();
+        if self.is_asked && account.is_told() {
             let told = AccountOf {
                 place,
                 command,
@@ -61,41 +76,69 @@ impl<R: Eprint> Observer for Teller<'_, R> {
     }
 }
 
-/// The fault of the input in words, if there is one. Where memory is wanting for them they are left out.
-fn explanation_of(
-    alloc: Global,
-    kind: InputKind,
-    input: &[u8],
-    done: &Result<(), RunFault>,
-) -> Option<Explanation> {
-    let Err(fault) = done else {
-        return None;
-    };
-    match explain(alloc, kind, input, fault) {
+/// What kind of input a task is done over.
+fn kind_of(task: Task) -> InputKind {
+    match task {
+        Task::Play { .. } | Task::Show { .. } => InputKind::Script,
+        Task::Audit | Task::Check | Task::Draw => InputKind::Dump,
+    }
+}
+
+/// Why receipts of a dump are lost, for an audit, or could be, for a check. Where memory runs out for it that is left out.
+fn why_of<'a>(alloc: Global, task: Task, dump: &'a Dump) -> Option<Why<'a>> {
+    match task {
+        Task::Audit => why_lost(alloc, dump).ok(),
+        Task::Check => why_unsafe(alloc, dump).ok(),
+        Task::Play { .. } | Task::Show { .. } | Task::Draw => None,
+    }
+}
+
+/// Tells on standard error what there is to tell of the task that was done over the bytes.
+fn tell_why<R: Eprint>(rt: &R, alloc: Global, task: Task, input: &[u8]) {
+    if kind_of(task) == InputKind::Script {
+        return;
+    }
+    if let Ok(dump) = dump_of_bytes(alloc, input) {
+        if let Some(why) = why_of(alloc, task, &dump) {
+            let _ = eprint!(rt; "{why}");
+        }
+    }
+}
+
+/// The reason of the fault of the input, if it has one. Where memory runs out for it that is left out.
+fn explanation_of(alloc: Global, task: Task, input: &[u8], fault: &RunFault) -> Option<InputFault> {
+    match explain(alloc, kind_of(task), input, fault) {
         Ok(explanation) => explanation,
         Err(_) => None,
     }
 }
 
-/// Prints the fault, if there is one, and its explanation, where one is asked for; answers the exit status.
+/// Prints the fault, if there is one, and answers the exit status. Where explanations are asked for that of the fault stands
+/// behind it, or else what there is to tell of the task that was done.
 pub(crate) fn end<R: Eprint>(
     rt: &R,
     alloc: Global,
-    is_asked: bool,
-    kind: InputKind,
+    order: Order,
     input: &[u8],
-    done: Result<(), RunFault>,
+    done: Result<bool, RunFault>,
 ) -> u8
     ensures { result ≡ status_after_result done }
 {
-    let explanation = if is_asked {
-        explanation_of(alloc, kind, input, &done)
-    } else {
-        None
-    };
-    let status = status_after(rt, done);
-    if let Some(explanation) = explanation {
-        let _ = eprintln!(rt; "{explanation}");
+    if !order.explain {
+        return status_after(rt, done);
     }
-    status
+    match done {
+        Ok(is_well) => {
+            tell_why(rt, alloc, order.task, input);
+            status_after(rt, Ok(is_well))
+        }
+        Err(fault) => {
+            let explanation = explanation_of(alloc, order.task, input, &fault);
+            let status = status_after(rt, Err(fault));
+            if let Some(explanation) = explanation {
+                let _ = eprintln!(rt; "{explanation}");
+            }
+            status
+        }
+    }
 }

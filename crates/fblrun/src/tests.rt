@@ -4,9 +4,8 @@ ghost use Rattle.std.specs.Prelude.{◌≤◌};
 
 use crate::command_line::order_of;
 use crate::telling::{Teller, end};
-use crate::{Order, Task, obey, refuse, refuse_words, status_after};
+use crate::{Order, Task, obey, refuse, refuse_words, status_after, well_done};
 use fbl_base::{ConfigRefusal, DumpRefusal};
-use fbl_explain::InputKind;
 use fbl_input::{Key, RunFault};
 use fbl_play::play_observed;
 use std::alloc::{AllocError, Global};
@@ -92,16 +91,18 @@ fn words_of(alloc: Global, line: &str) -> Result<Vec<String>, AllocError> {
     Ok(words)
 }
 
-/// Command lines that ask for a play, their workers, and whether they ask for explanations.
-const PLAYS: [(&str, u8, bool); 8] = [
-    ("play", 2, false),
-    ("play --workers 1", 1, false),
-    ("play --workers 8", 8, false),
-    ("play --workers=3", 3, false),
-    ("play --workers 007", 7, false),
-    ("play --explain", 2, true),
-    ("play --workers 8 --explain", 8, true),
-    ("play --explain --workers 1", 1, true),
+/// Command lines that ask for a play, their workers, and whether they ask for a strict play and for explanations.
+const PLAYS: [(&str, u8, bool, bool); 10] = [
+    ("play", 2, false, false),
+    ("play --workers 1", 1, false, false),
+    ("play --workers 8", 8, false, false),
+    ("play --workers=3", 3, false, false),
+    ("play --workers 007", 7, false, false),
+    ("play --strict", 2, true, false),
+    ("play --explain", 2, false, true),
+    ("play --workers 8 --explain", 8, false, true),
+    ("play --workers 8 --strict --explain", 8, true, true),
+    ("play --explain --strict --workers 1", 1, true, true),
 ];
 
 /// The order of the command line, if it gives one.
@@ -112,9 +113,28 @@ fn order_in_line(alloc: Global, line: &str) -> Result<Option<Order>, Fail> {
 
 #[test]
 fn plays_with_the_workers_asked_for(rt: HostRuntime) -> Result<(), Fail> {
-    for (line, workers, explain) in PLAYS {
+    for (line, workers, strict, explain) in PLAYS {
         let order = order_in_line(rt.alloc(), line)?;
-        let task = Task::Play(workers);
+        let task = Task::Play { workers, strict };
+        assert!(rt; order == Some(Order { task, explain }), "{line}");
+    }
+    Ok(())
+}
+
+/// Command lines that ask for a picture of a history, their workers, and whether they ask for explanations.
+const SHOWS: [(&str, u8, bool); 5] = [
+    ("show", 2, false),
+    ("show --workers 8", 8, false),
+    ("show --explain", 2, true),
+    ("show --workers=3 --explain", 3, true),
+    ("show --explain --workers 1", 1, true),
+];
+
+#[test]
+fn shows_with_the_workers_asked_for(rt: HostRuntime) -> Result<(), Fail> {
+    for (line, workers, explain) in SHOWS {
+        let order = order_in_line(rt.alloc(), line)?;
+        let task = Task::Show { workers };
         assert!(rt; order == Some(Order { task, explain }), "{line}");
     }
     Ok(())
@@ -125,6 +145,16 @@ fn audits_where_that_is_asked_for(rt: HostRuntime) -> Result<(), Fail> {
     for (line, explain) in [("audit", false), ("audit --explain", true)] {
         let order = order_in_line(rt.alloc(), line)?;
         let task = Task::Audit;
+        assert!(rt; order == Some(Order { task, explain }), "{line}");
+    }
+    Ok(())
+}
+
+#[test]
+fn checks_where_that_is_asked_for(rt: HostRuntime) -> Result<(), Fail> {
+    for (line, explain) in [("check", false), ("check --explain", true)] {
+        let order = order_in_line(rt.alloc(), line)?;
+        let task = Task::Check;
         assert!(rt; order == Some(Order { task, explain }), "{line}");
     }
     Ok(())
@@ -151,6 +181,19 @@ const DUMP: &str =
     r#"{"events":[["send",0,1,1],["receipt",1,1,0,1],["send",1,1,2],["receipt",2,1,1,1],["send",2,1,0],["receipt",0,1,2,1]],"f":1,"held":[[0,1,1,2,1],[0,2,1,0,1],[1,0,1,1,1],[2,1,1,2,1]],"members":3,"strike":[1]}"#;
 
 const DUMP_TEXT: &str = "lost 1\ndeterminant 0 1 1 1\norphans 0,2\n";
+
+const CHECK_TEXT: &str = "unsafe 0 1 1 1 strike 1 orphans 0,2\n";
+
+/// The same, where a survivor holds that receipt's determinant too.
+const SAFE_DUMP: &str =
+    r#"{"events":[["send",0,1,1],["receipt",1,1,0,1],["send",1,1,2],["receipt",2,1,1,1],["send",2,1,0],["receipt",0,1,2,1]],"f":1,"held":[[0,1,1,2,1],[0,2,1,0,1],[1,0,1,1,1],[2,0,1,1,1],[2,1,1,2,1]],"members":3,"strike":[1]}"#;
+
+/// Why the receipt is lost, and the path to each orphan.
+const DUMP_TOLD: &str = "\
+determinant 0 1 1 1 is held by [1], and a strike of [1] loses it
+orphan 0 depends on it: receipt 1 of member 1, send 1 of member 1, receipt 1 of member 2, send 1 of member 2, receipt 1 of member 0
+orphan 2 depends on it: receipt 1 of member 1, send 1 of member 1, receipt 1 of member 2
+";
 
 /// The exit status and what is written where the order of the command line is obeyed over the input.
 fn obeyed<T: Eprint + Threads + Wait + Sync>(
@@ -191,6 +234,50 @@ fn audits_where_an_audit_is_asked_for(rt: HostRuntime) -> Result<(), Fail> {
 }
 
 #[test]
+fn checks_where_a_check_is_asked_for(rt: HostRuntime) -> Result<(), Fail> {
+    let (status, text) = obeyed(&rt, rt.alloc(), "check", DUMP)?;
+    assert!(rt; status == 1 && text.as_str() == CHECK_TEXT, "{text}");
+    let (status, text) = obeyed(&rt, rt.alloc(), "check", SAFE_DUMP)?;
+    assert!(rt; status == 0 && text.as_str() == "safe\n", "{text}");
+    let (status, text) = obeyed(&rt, rt.alloc(), "check", SCRIPT)?;
+    assert!(rt; status == 2 && text.is_empty());
+    Ok(())
+}
+
+#[test]
+fn a_strict_play_in_which_a_command_was_refused_ends_with_another_status(
+    rt: HostRuntime,
+) -> Result<(), Fail> {
+    for (line, script, status, said) in [
+        ("play", FULL, 0, FULL_TEXT),
+        ("play --strict", FULL, 1, FULL_TEXT),
+        ("play --strict", SCRIPT, 0, SCRIPT_TEXT),
+    ] {
+        let (ended, text) = obeyed(&rt, rt.alloc(), line, script)?;
+        assert!(rt; ended == status && text.as_str() == said, "{line}: {text}");
+    }
+    Ok(())
+}
+
+#[test]
+fn tells_why_receipts_are_lost_or_could_be(rt: HostRuntime) -> Result<(), Fail> {
+    for (task, is_well, status) in [(Task::Audit, true, 0), (Task::Check, false, 1)] {
+        for (explain, said) in [(true, DUMP_TOLD), (false, "")] {
+            let console = Console::new(rt.alloc(), false);
+            let order = Order { task, explain };
+            let ended = end(&console, rt.alloc(), order, DUMP.as_bytes(), Ok(is_well));
+            let told = Told::of(console, ended);
+            assert!(rt;
+                told.has(status, "", said) && told.err.as_str() == said,
+                "{}",
+                told.err
+            );
+        }
+    }
+    Ok(())
+}
+
+#[test]
 fn draws_where_a_drawing_is_asked_for(rt: HostRuntime) -> Result<(), Fail> {
     let (status, text) = obeyed(&rt, rt.alloc(), "draw", DUMP)?;
     assert!(rt; status == 0 && text.as_str().starts_with("<svg "), "{text}");
@@ -200,13 +287,59 @@ fn draws_where_a_drawing_is_asked_for(rt: HostRuntime) -> Result<(), Fail> {
     Ok(())
 }
 
+/// What the picture of the history of `LOST` says, in order.
+const LOST_SHOWN: [&str; 7] = [
+    "<svg ",
+    "<title>3 members, f 1, relay: 1 receipt made, 1 undone</title>",
+    "<title>member 0 sends its message 1 to 1</title>",
+    "<title>member 1 receipt 1: message 1 of 0, state 5, undone</title>",
+    "<title>member 1 sends its message 1 to 2, undone</title>",
+    "<title>member 1 is struck</title>",
+    "<title>member 1 is recovered, 0 receipts replayed</title>",
+];
+
+#[test]
+fn shows_where_a_history_is_asked_for(rt: HostRuntime) -> Result<(), Fail> {
+    for line in ["show", "show --workers 8", "show --explain"] {
+        let (status, text) = obeyed(&rt, rt.alloc(), line, LOST)?;
+        assert!(rt; status == 0, "{line}");
+        let mut rest = text.as_str();
+        for part in LOST_SHOWN {
+            let (_, behind) = rest.split_once(part).ok_or("a part is missing")?;
+            rest = behind;
+        }
+        assert!(rt;
+            !rest.contains("<title>") && rest.ends_with("</svg>\n"),
+            "{rest}"
+        );
+    }
+    let (status, text) = obeyed(&rt, rt.alloc(), "show", DUMP)?;
+    assert!(rt; status == 2 && text.is_empty());
+    Ok(())
+}
+
+#[test]
+fn shows_with_no_other_number_of_workers(rt: HostRuntime) {
+    for workers in [0, 9, 255] {
+        let mut reader = LOST.as_bytes();
+        let mut writer = Vec::new(rt.alloc());
+        let order = Order {
+            task: Task::Show { workers },
+            explain: false,
+        };
+        let status = obey(&rt, rt.alloc(), order, &mut reader, &mut writer);
+        assert!(rt; status == 2 && writer.is_empty(), "at {workers}");
+    }
+}
+
 #[test]
 fn plays_with_no_other_number_of_workers(rt: HostRuntime) {
     for workers in [0, 9, 255] {
         let mut reader = SCRIPT.as_bytes();
         let mut writer = Vec::new(rt.alloc());
+        let strict = false;
         let order = Order {
-            task: Task::Play(workers),
+            task: Task::Play { workers, strict },
             explain: true,
         };
         let status = obey(&rt, rt.alloc(), order, &mut reader, &mut writer);
@@ -254,14 +387,14 @@ fn told_of_line(alloc: Global, line: &str, is_closed: bool) -> Result<Told, Fail
 }
 
 /// What is told after a play, an audit or a drawing.
-fn told_after(alloc: Global, done: Result<(), RunFault>) -> Told {
+fn told_after(alloc: Global, done: Result<bool, RunFault>) -> Told {
     let console = Console::new(alloc, false);
     let status = status_after(&console, done);
     Told::of(console, status)
 }
 
 /// Command lines that give no order, and a part of what is said of each.
-const MISTAKES: [(&str, &str); 17] = [
+const MISTAKES: [(&str, &str); 20] = [
     ("", "requires a subcommand"),
     ("fly", "unrecognized subcommand 'fly'"),
     ("Play", "unrecognized subcommand 'Play'"),
@@ -279,6 +412,9 @@ const MISTAKES: [(&str, &str); 17] = [
     ),
     ("play twice", "unexpected argument 'twice'"),
     ("audit --workers 2", "unexpected argument '--workers'"),
+    ("audit --strict", "unexpected argument '--strict'"),
+    ("show --strict", "unexpected argument '--strict'"),
+    ("show --workers 9", "invalid value '9'"),
     ("play --explain=1", "unexpected value '1'"),
     ("--explain audit", "unexpected argument '--explain'"),
     ("draw dump.json", "unexpected argument 'dump.json'"),
@@ -294,19 +430,24 @@ fn refuses_another_command_line(rt: HostRuntime) -> Result<(), Fail> {
 }
 
 /// Command lines that ask for help or the version, and a part of what is printed.
-const HELPS: [(&str, &str); 15] = [
+const HELPS: [(&str, &str); 19] = [
     ("--help", "Usage: fblrun"),
     (
         "--help",
-        "plays scripts of a group, and audits and draws recorded traces",
+        "plays and shows scripts of a group, and audits, checks and draws recorded traces",
     ),
-    ("-h", "Exit statuses: 0 done; 2 a fault of the command line"),
+    (
+        "-h",
+        "Exit statuses: 0 done; 1 a checked dump is unsafe, or a command of a strict play was refused; 2 a fault",
+    ),
     ("help", "prints each command's lines on standard output"),
     (
         "play --help",
         "--workers <N>  How many workers make a run, 1 to 8 [default: 2]",
     ),
     ("play --help", "--explain"),
+    ("play --help", "--strict"),
+    ("check --help", "| fblrun check"),
     ("audit --help", "--explain"),
     ("draw --help", "--explain"),
     ("--version", "fblrun 1.0.0\n"),
@@ -322,6 +463,11 @@ const HELPS: [(&str, &str); 15] = [
         "writes its picture, as SVG, on standard output",
     ),
     ("draw --help", "| fblrun draw > dump.svg"),
+    (
+        "help show",
+        "writes the picture of its history, as SVG, on standard output",
+    ),
+    ("show --help", "| fblrun show > run.svg"),
 ];
 
 #[test]
@@ -352,7 +498,8 @@ fn fails_where_help_cannot_be_printed(rt: HostRuntime) -> Result<(), Fail> {
 #[test]
 fn ends_with_the_status_of_each_fault(rt: HostRuntime) {
     let rows = [
-        (Ok(()), 0, ""),
+        (Ok(true), 0, ""),
+        (Ok(false), 1, ""),
         (Err(RunFault::Read), 3, "fault: read\n"),
         (Err(RunFault::TooLong), 2, "fault: too long\n"),
         (Err(RunFault::NotJson), 2, "fault: not json\n"),
@@ -419,17 +566,17 @@ const REFUSED: &str =
     r#"{"version":2,"members":3,"f":1,"behaviour":"mix","start":[[0,2,4,0],[1,2,7,0]],"commands":[["deliver",2,1],["deliver",1,2],["strike",[0,1]],["deliver",2,9],["recover"],["dump",[9]],["strike",[]],["strike",[1]],["checkpoint",0],["recover"],["run",[[2,[1]],[9,[0]],[1,[2]]]],["run",[[1,[1]],[3,[0]],[9,[2]]]],["states"]]}"#;
 
 const REFUSED_TOLD: &str = "\
-command 0: deliver 2 1
-command 1: deliver 1 2
-command 1, deliver 1 2: nothing is in flight from 2 to 1
+command 0: deliver to 2 from 1
+command 1: deliver to 1 from 2
+command 1, deliver to 1 from 2: nothing is in flight from 2 to 1
 command 2: strike [0,1]
 command 2, strike [0,1]: 2 members would be down, [0,1], and f is 1
-command 3: deliver 2 9
-command 3, deliver 2 9: it names [2,9], and the members are 0 to 2
+command 3: deliver to 2 from 9
+command 3, deliver to 2 from 9: member 9 is outside the group, whose members are 0 to 2
 command 4: recover
 command 4, recover: nobody is down
 command 5: dump [9]
-command 5, dump [9]: it names [9], and the members are 0 to 2
+command 5, dump [9]: member 9 is outside the group, whose members are 0 to 2
 command 6: strike []
 command 6, strike []: it names nobody
 command 7: strike [1]
@@ -437,7 +584,7 @@ command 8: checkpoint 0
 command 8, checkpoint 0: while a member is down nothing is delivered and no checkpoint taken, and these are: [1]
 command 9: recover
 command 10: run [[2,[1]],[9,[0]],[1,[2]]]
-command 10, run [[2,[1]],[9,[0]],[1,[2]]]: entry 2 of the plan comes at 1, and must come after 9
+command 10, run [[2,[1]],[9,[0]],[1,[2]]]: entry 2 of the plan comes at 1 and strikes [2], and must come after 9
 command 11: run [[1,[1]],[3,[0]],[9,[2]]]
 command 11, run [[1,[1]],[3,[0]],[9,[2]]]: receipts made 1, undone 0; passed before the run: entry 0 at 1; never reached: entry 1 at 3, 2 at 9; worker 0 made 1, undid 0
 command 12: states
@@ -447,9 +594,23 @@ command 12: states
 const FULL: &str =
     r#"{"version":1,"members":2,"f":1,"behaviour":"relay","limit":1,"start":[[0,1,5,0]],"commands":[["deliver",1,0]]}"#;
 
+const FULL_TEXT: &str = "deliver refused Full\n";
+
 const FULL_TOLD: &str = "\
-command 0: deliver 1 0
-command 0, deliver 1 0: the trace has 1 events of at most 1, and no room for the receipt and what its step sends
+command 0: deliver to 1 from 0
+command 0, deliver to 1 from 0: the trace has 1 events of at most 1, and no room for the receipt and what its step sends
+";
+
+/// A script in which a receipt is lost, as nobody but its struck receiver has its determinant, and is undone.
+const LOST: &str =
+    r#"{"version":1,"members":3,"f":1,"behaviour":"relay","start":[[0,1,5,1]],"commands":[["deliver",1,0],["strike",[1]],["recover"]]}"#;
+
+const LOST_TOLD: &str = "\
+command 0: deliver to 1 from 0
+command 1: strike [1]
+command 1, strike [1]: lost: receipt 1 of member 1 (send 1 of member 0)
+command 2: recover
+command 2, recover: undone: receipt 1 of member 1 (send 1 of member 0)
 ";
 
 /// What is told of a play, with its status, and what it prints.
@@ -468,13 +629,22 @@ fn explained<T: Threads + Wait + Sync>(
     let mut writer = Vec::new(alloc);
     let input = script.as_bytes();
     let done = play_observed(rt, alloc, input, &mut writer, workers, &mut teller);
-    let status = end(&console, alloc, true, InputKind::Script, input, done);
+    let strict = false;
+    let order = Order {
+        task: Task::Play { workers, strict },
+        explain: true,
+    };
+    let status = end(&console, alloc, order, input, well_done(done));
     Ok((Told::of(console, status), String::from_utf8(writer)?))
 }
 
 #[test]
 fn tells_of_each_command(rt: HostRuntime) -> Result<(), Fail> {
-    for (script, told) in [(REFUSED, REFUSED_TOLD), (FULL, FULL_TOLD)] {
+    for (script, told) in [
+        (REFUSED, REFUSED_TOLD),
+        (FULL, FULL_TOLD),
+        (LOST, LOST_TOLD),
+    ] {
         let (found, _) = explained(&rt, rt.alloc(), script, 1, false)?;
         assert!(rt;
             found.status == 0 && found.err.as_str() == told,
@@ -498,7 +668,7 @@ fn tells_of_each_worker(rt: HostRuntime) -> Result<(), Fail> {
 #[test]
 fn tells_of_a_fault_behind_its_line(rt: HostRuntime) -> Result<(), Fail> {
     let (found, text) = explained(&rt, rt.alloc(), "[1]", 1, false)?;
-    let told = "fault: not an object\nthe input is a list, and must be an object\n";
+    let told = "fault: not an object\nthe input must be one JSON object, and is [1]\n";
     assert!(rt; text.is_empty() && found.has(2, "", told), "{}", found.err);
     Ok(())
 }

@@ -12,7 +12,7 @@ loop-place-preserved c =
     let i = c.loop-place.place in
     let e = c.index-events-place.result in
     let old : Message → Option ℕ = λ m. hash_map.get same_message c.loop-place.places m in
-    let within : i < length events = rw c.events-events.ensures.events (omega (arith, c.event_count-count.ensures.count)) in
+    let within : i < length events = omega arith in
     elim c.match-message_taken.branch [
       | in-Some+then-not-contains_key+in_ok-insert w ↦
           rw w.places-is (new_message old events i e within c.index-events-place.is c.loop-place.invariant w.in-Some.message (sym w.in-Some.ensures) (sym w.contains_key.ensures ∙ w.if-not-contains_key.true) (λ m. hash_map.get same_message w.insert.new.self m) w.in_ok-insert.ensures.updates.0)

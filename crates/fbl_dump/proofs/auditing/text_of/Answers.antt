@@ -1,9 +1,13 @@
-use Rattle.std.proofs.Common.{ap, ◌∙◌}
+use Rattle.std.proofs.Common.{ap, ◌∙◌, ◌≡◌}
 use Rattle.std.proofs.lemmas.Result.{IfOk-weaker}
+use Rattle.fbl_base.specs.Audit.{lost_determinants}
 use Rattle.fbl_lines.specs.Lines.{audit_lines}
 use Rattle.fbl_dump.proofs.auditing.text_of.Goals as goal
 
 pub returns : goal.returns
 returns c =
-    let orphans = c.in_ok-orphans.orphans in
-    IfOk-weaker c.audit_text.result _ _ (λ text h. (orphans, c.in_ok-orphans.ensures, h ∙ ap (λ lost. audit_lines lost orphans) (c.as_slice.ensures.value ∙ c.in_ok-lost.ensures))) c.audit_text.ensures
+    let orphans = c.orphans.result in
+    let is : c.in_ok-audit.audit ≡ c.args.dump.now = c.in_ok-audit.ensures in
+    let lost : c.as_slice.result.now ≡ lost_determinants c.args.dump.now = c.as_slice.ensures.value ∙ (rw is at c.in_ok-lost.ensures) in
+    let right = (rw is at c.orphans.ensures) in
+    IfOk-weaker c.audit_text.result _ _ (λ text h. (orphans, right, h ∙ ap (λ lost. audit_lines lost orphans) lost)) c.audit_text.ensures

@@ -1,8 +1,11 @@
-use Rattle.fbl_explain.proofs.Faults.{fault_in, not_own}
+use Rattle.std.proofs.Common.{inr, rules, arith}
+use Rattle.std.proofs.lemmas.Grind.{common_steps}
+use Rattle.fbl_explain.proofs.Faults.{not_own, of_input}
 use Rattle.fbl_explain.proofs.explaining.explain.Goals as goal
 
-pub explain_fault-requires : goal.explain_fault-requires
-explain_fault-requires c = let own = c.in_ok-has_fault-in_default.ensures.own c.if-not-branch.false in fault_in _ _ _ own.0 own.1
-
-pub returns-then-not-branch-clause-unexplained : goal.returns-then-not-branch-clause-unexplained
-returns-then-not-branch-clause-unexplained c = not_own _ _ _ c.in_default.not-TooLong (c.in_ok-has_fault-in_default.ensures.other c.if-not-branch.true)
+pub returns-else-eq-2 : goal.returns-else-eq-2
+returns-else-eq-2 c = record {
+  of = tt;
+  explained = tt;
+  unexplained = not_own _ _ _ c.in_default.not-TooLong (inr (c.fault-first.result, rw c.fault-first.ensures (of_input c.args.kind c.args.input.now c.in-Some.reason c.in-Some.ensures.some), grind (arith, common_steps), grind (arith, common_steps)));
+}

@@ -1,7 +1,10 @@
-use Rattle.std.proofs.Common.{◌≡◌, ◌++◌, take}
+use Rattle.std.proofs.Common.{◌≡◌, ◌++◌, take, IfSome}
 use Rattle.fbl_table.specs.Tables.{piggybacked}
 use Rattle.fbl_law.specs.Replaying.{resent}
 use Rattle.fbl_group.proofs.resend.put_again.Given as goal
 
 abbrev pub invariant-loop-send : goal.invariant-loop-send
-invariant-loop-send g l = l.wires.items ≡ l.initial.wires.items ++ resent l.from l.to (piggybacked l.f l.table) (take l.send-index l.unsent)
+invariant-loop-send g l = record {
+  so_far : l.wires.items ≡ l.initial.wires.items ++ resent l.from l.to (piggybacked l.f l.table) (take l.send-index l.unsent);
+  passed : IfSome l.passed (λ carried. carried ≡ piggybacked l.f l.table);
+}

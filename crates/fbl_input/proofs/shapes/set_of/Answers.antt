@@ -4,6 +4,7 @@ use Rattle.std.specs.FinSet as set
 use Rattle.serde_json.specs.Data.{Data}
 use Rattle.serde_json.specs.View.{view}
 use Rattle.fbl_input.specs.Shapes.{all_shaped, member_shape}
+use Rattle.fbl_input.proofs.Firsts.{one_more}
 use Rattle.fbl_input.proofs.shapes.set_of.Goals as goal
 
 moved : (front : List ℕ) (m : ℕ) (rest : Option (List ℕ)) → option_map (λ r. (front ++ m ∷ []) ++ r) rest ≡ option_map (λ r. front ++ r) (option_and_then (λ a. option_map (λ r. a ∷ r) rest) (Some m))
@@ -14,16 +15,17 @@ next : (front : List ℕ) (m : ℕ) (d : Data) (ds : List Data) (all : Option (L
 next front m d ds all shape h =
     moved front m (all_shaped member_shape ds) ∙ ap (λ (found : Option ℕ). option_map (λ r. front ++ r) (option_and_then (λ a. option_map (λ r. a ∷ r) (all_shaped member_shape ds)) found)) (sym shape) ∙ h
 
-pub loop-value-preserved : goal.loop-value-preserved
-loop-value-preserved c =
+pub loop-place-preserved : goal.loop-place-preserved
+loop-place-preserved c =
     let list = c.args.list.now in
-    let i = c.loop-value.value-index in
-    let item = c.value-item.result in
-    let member = c.in_ok-member_in.field-0 in
-    let front = c.loop-value.invariant.0 in
-    let lt : i < length list = c.loop-value-test.true in
-    let here : drop i list ≡ item ∷ drop (i + 1) list = rw add-one (drop-cons list i item lt ∙ ap (λ v. v ∷ drop (suc i) list) (sym c.value-item.is)) in (
+    let i = c.loop-place.place in
+    let item = c.index-list-place.result in
+    let member = c.in-Some.member in
+    let front = c.loop-place.invariant.0 in
+    let lt : i < length list = c.loop-place-test.true in
+    let here : drop i list ≡ item ∷ drop (i + 1) list = rw add-one (drop-cons list i item lt ∙ ap (λ v. v ∷ drop (suc i) list) (sym c.index-list-place.is)) in (
       front ++ member ∷ [],
-      c.with-set.ensures ∙ ap (λ s. set.insert s member) c.loop-value.invariant.1 ∙ sym (set.from_list_push nat_cmp_total set.nat_cmp-IsAntisymmetric front member),
-      next front member (view item) (map view (drop (i + 1) list)) _ (sym c.in_ok-member_in.ensures) (ap (λ l. option_map (λ r. front ++ r) (all_shaped member_shape (map view l))) (sym here) ∙ c.loop-value.invariant.2),
+      c.with-set.ensures ∙ ap (λ s. set.insert s member) c.loop-place.invariant.1 ∙ sym (set.from_list_push nat_cmp_total set.nat_cmp-IsAntisymmetric front member),
+      next front member (view item) (map view (drop (i + 1) list)) _ (sym c.in-Some.ensures) (ap (λ l. option_map (λ r. front ++ r) (all_shaped member_shape (map view l))) (sym here) ∙ c.loop-place.invariant.2),
+      one_more view member_shape list i item member lt c.index-list-place.is c.in-Some.ensures c.loop-place.invariant.3,
     )

@@ -13,32 +13,27 @@ loop-place-preserved g c =
     let s = c.index-sends-place.result in
     let at = item_at c.args.sends.now i s (omega (arith, c.loop-place-test.true)) c.index-sends-place.is in
     let next = messages-next c.args.me c.args.before carried c.args.sends.now i s at c.loop-place-test.true in
-    let popped = All-pop (HasRoom (length carried)) c.loop-place.lists.items c.take_last-carried.new.self.items (Some c.take_last-carried.result) c.take_last-carried.ensures.items c.loop-place.invariant.room in
+    let popped = All-pop (HasRoom (length carried)) c.loop-place.lists.items c.take_last.new.self.items (Some c.take_last.result) c.take_last.ensures.items c.loop-place.invariant.room in
     record {
-      so_far = rw (c.push_reserved.ensures.items, next, c.loop-place.invariant.so_far, c.new.ensures, c.fill_carried.ensures) refl;
+      so_far = rw (c.push_reserved.ensures.items, next, c.loop-place.invariant.so_far, c.new.ensures, c.next_carried-carried.ensures) refl;
       wires = omega (arith, c.push_reserved.ensures.len, c.loop-place.invariant.wires);
       wires_room = c.push_reserved.ensures.capacity ∙ c.loop-place.invariant.wires_room;
-      left = omega (arith, c.take_last-carried.ensures.len, c.loop-place.invariant.left);
+      left = omega (arith, c.take_last.ensures.len, c.loop-place.invariant.left);
       room = popped.0;
     }
 
 pub new-requires : goal.new-requires
-new-requires g c = rw c.fill_carried.ensures c.requires.once
+new-requires g c = rw c.next_carried-carried.ensures c.requires.once
 
-pub fill_carried-requires-clause-made : goal.fill_carried-requires-clause-made
-fill_carried-requires-clause-made g c =
+pub next_carried-carried-requires-clause-made : goal.next_carried-carried-requires-clause-made
+next_carried-carried-requires-clause-made g c =
     let carried = piggybacked c.args.f c.args.table.now in
     let wires = c.deref.result.now in
     let are = c.deref.ensures.value ∙ c.loop-place.invariant.so_far in
     made-carried c.args.me c.args.before carried (take c.loop-place.place c.args.sends.now) wires (length wires - 1) c.last.result are c.last.ensures.value
 
-pub fill_carried-requires-clause-room : goal.fill_carried-requires-clause-room
-fill_carried-requires-clause-room g c =
+pub next_carried-carried-requires-clause-room : goal.next_carried-carried-requires-clause-room
+next_carried-carried-requires-clause-room g c =
     let carried = piggybacked c.args.f c.args.table.now in
-    let popped = All-pop (HasRoom (length carried)) c.loop-place.lists.items c.take_last-carried.new.self.items (Some c.take_last-carried.result) c.take_last-carried.ensures.items c.loop-place.invariant.room in
-    omega (arith, popped.1.1, popped.1.2)
-
-pub fill_carried-requires-clause-none : goal.fill_carried-requires-clause-none
-fill_carried-requires-clause-none g c =
-    let popped = All-pop (HasRoom (length (piggybacked c.args.f c.args.table.now))) c.loop-place.lists.items c.take_last-carried.new.self.items (Some c.take_last-carried.result) c.take_last-carried.ensures.items c.loop-place.invariant.room in
-    popped.1.0
+    let popped = All-pop (HasRoom (length carried)) c.loop-place.lists.items c.take_last.new.self.items (Some c.take_last.result) c.take_last.ensures.items c.loop-place.invariant.room in
+    popped.1

@@ -9,42 +9,66 @@ use Rattle.fbl_play.proofs.Told.{told_all, told_cut, told_more, told_none, told_
 use Rattle.fbl_play.proofs.engine.play_with.Goals as goal
 
 pub loop-command-init : goal.loop-command-init
-loop-command-init g c = (play_none g.B.Behaviour.next c.args.workers c.args.config c.in_ok-group.group c.args.commands.now _ c.in_ok-group.ensures c.trace-trace.ensures.sound, refl)
+loop-command-init g c = (
+  [],
+  play_none g.B.Behaviour.next c.args.workers c.args.config c.in_ok-group.group c.args.commands.now _ c.in_ok-group.ensures c.recoverable.ensures.sound,
+  refl,
+)
 
 pub returns-in_err-group : goal.returns-in_err-group
-returns-in_err-group g c = told_none g.O.Observer.hears_before g.O.Observer.hears_after g.B.Behaviour.next c.args.workers c.args.config c.args.commands.now _ _ c.from_residual.result c.from_residual.ensures.1
+returns-in_err-group g c =
+    told_none g.O.Observer.hears_before g.O.Observer.hears_after g.B.Behaviour.next c.args.workers c.args.config c.args.commands.now _ _
+    c.from_residual.result c.from_residual.ensures.1
 
 pub returns-in_err-answer : goal.returns-in_err-answer
 returns-in_err-answer g c =
-    told_short g.O.Observer.hears_before g.O.Observer.hears_after g.B.Behaviour.next c.args.workers c.args.config c.args.commands.now _ _ _ _ c.loop-command.group c.loop-command.command-index c.from_residual-in_err-answer.result c.from_residual-in_err-answer.ensures.1 c.loop-command-test.true c.loop-command.invariant.0
-    (c.loop-command.observer, c.command-item.result, c.loop-command-test.true, c.command-item.is, c.loop-command.invariant.1, c.before-in-loop-command.ensures)
+    let accounts = c.loop-command.invariant.0 in
+    told_short g.O.Observer.hears_before g.O.Observer.hears_after g.B.Behaviour.next c.args.workers c.args.config c.args.commands.now _ _ _ _
+    c.loop-command.group c.loop-command.command-index accounts c.from_residual-in_err-answer.result c.from_residual-in_err-answer.ensures.1
+    c.loop-command-test.true c.loop-command.invariant.1
+    (c.loop-command.observer, c.command-item.result, c.loop-command-test.true, c.command-item.is, c.loop-command.invariant.2, c.before-in-loop-command.ensures)
 
 pub returns-in_err-put : goal.returns-in_err-put
 returns-in_err-put g c =
+    let next = g.B.Behaviour.next in
     let cs = c.args.commands.now in
     let i = c.loop-command.command-index in
     let d = c.command-item.result in
     let new = c.run_command-after.result.0 in
+    let accounts = c.loop-command.invariant.0 in
     let front = c.in_err-put.ensures.front in
-    let step = IfOk-at_ok (λ answer. Step g.B.Behaviour.next c.args.workers c.loop-command.group d new (string_bytes answer.text)) c.in_ok-answer.was c.run_command-after.ensures in
+    let step =
+    IfOk-at_ok (λ answer. Step next c.args.workers c.loop-command.group d new (string_bytes answer.text) answer.account) c.in_ok-answer.was c.run_command-after.ensures in
     let P : List ℕ → Type 0 = λ w. Appends (g.W.Write.contents c.loop-command.writer) (g.W.Write.contents c.put.new.writer) (take front.0 w) in
-    told_cut g.O.Observer.hears_before g.O.Observer.hears_after g.B.Behaviour.next c.args.workers c.args.config cs _ _ _ _ i c.in_err-put.field-0.0 c.from_residual-in_err-put.result c.from_residual-in_err-put.ensures.1 c.in_err-put.ensures.fault
-    (play_front g.B.Behaviour.next c.args.workers c.args.config c.loop-command.group new cs i d _ _ _ _ front.0 c.loop-command-test.true c.loop-command.invariant.0 c.command-item.is step c.trace-trace-in-loop-command.ensures.sound (rw (← c.as_bytes.ensures.value) front.1) (subst P c.as_bytes.ensures.value front.2))
-    (c.loop-command.observer, d, c.loop-command-test.true, c.command-item.is, c.loop-command.invariant.1, c.before-in-loop-command.ensures)
+    told_cut g.O.Observer.hears_before g.O.Observer.hears_after next c.args.workers c.args.config cs _ _ _ _ i accounts c.in_err-put.field-0.0
+    c.from_residual-in_err-put.result c.from_residual-in_err-put.ensures.1 c.in_err-put.ensures.fault
+    (play_front next c.args.workers c.args.config c.loop-command.group new cs i d accounts c.in_ok-answer.answer.account _ _ _ _ c.loop-command-test.true
+    c.loop-command.invariant.1 c.command-item.is step c.recoverable-in-loop-command.ensures.sound front.0 (rw (← c.as_bytes.ensures.value) front.1) (subst P c.as_bytes.ensures.value front.2))
+    (c.loop-command.observer, d, c.loop-command-test.true, c.command-item.is, c.loop-command.invariant.2, c.before-in-loop-command.ensures)
 
 pub loop-command-preserved : goal.loop-command-preserved
 loop-command-preserved g c =
+    let next = g.B.Behaviour.next in
     let cs = c.args.commands.now in
     let i = c.loop-command.command-index in
     let d = c.command-item.result in
     let new = c.run_command-after.result.0 in
-    let step = IfOk-at_ok (λ answer. Step g.B.Behaviour.next c.args.workers c.loop-command.group d new (string_bytes answer.text)) c.in_ok-answer.was c.run_command-after.ensures in
+    let accounts = c.loop-command.invariant.0 in
+    let account = c.in_ok-answer.answer.account in
+    let step =
+    IfOk-at_ok (λ answer. Step next c.args.workers c.loop-command.group d new (string_bytes answer.text) answer.account) c.in_ok-answer.was c.run_command-after.ensures in
     let P : List ℕ → Type 0 = λ w. Appends (g.W.Write.contents c.loop-command.writer) (g.W.Write.contents c.put.new.writer) w in
     let before = g.O.Observer.hears_before in
     let after = g.O.Observer.hears_after in (
-      play_more g.B.Behaviour.next c.args.workers c.args.config c.loop-command.group new cs i d _ _ _ _ c.loop-command-test.true c.loop-command.invariant.0 c.command-item.is step c.trace-trace-in-loop-command.ensures.sound (subst P c.as_bytes.ensures.value c.in_ok-put.ensures.whole),
-      subst (λ w. IsTold before after w c.args.observer.now c.after.new.self) (ap (λ x. take i cs ++ x ∷ []) c.command-item.is ∙ sym (take_more cs i d c.loop-command-test.true)) (told_more before after _ _ _ _ _ _ _ c.loop-command.invariant.1 c.before-in-loop-command.ensures c.after.ensures),
+      accounts ++ account ∷ [],
+      play_more next c.args.workers c.args.config c.loop-command.group new cs i d accounts account _ _ _ _ c.loop-command-test.true c.loop-command.invariant.1
+          c.command-item.is step c.recoverable-in-loop-command.ensures.sound (subst P c.as_bytes.ensures.value c.in_ok-put.ensures.whole),
+      subst (λ w. IsTold before after w (accounts ++ account ∷ []) c.args.observer.now c.after.new.self)
+          (ap (λ x. take i cs ++ x ∷ []) c.command-item.is ∙ sym (take_more cs i d c.loop-command-test.true))
+          (told_more before after _ accounts _ account _ _ _ _ c.loop-command.invariant.2 c.before-in-loop-command.ensures c.after.ensures),
     )
 
 pub returns : goal.returns
-returns g c = told_all g.O.Observer.hears_before g.O.Observer.hears_after g.B.Behaviour.next c.args.workers c.args.config c.args.commands.now _ _ _ _ c.loop-command.group c.loop-command.command-index (omega (arith, c.loop-command-test.false)) c.loop-command.invariant.0 c.loop-command.invariant.1
+returns g c =
+    told_all g.O.Observer.hears_before g.O.Observer.hears_after g.B.Behaviour.next c.args.workers c.args.config c.args.commands.now _ _ _ _
+    c.loop-command.group c.loop-command.command-index c.loop-command.invariant.0 (omega (arith, c.loop-command-test.false)) c.loop-command.invariant.1 c.loop-command.invariant.2

@@ -1,9 +1,11 @@
-use Rattle.std.proofs.Common.{take}
+use Rattle.std.proofs.Common.{List, take}
+use Rattle.fbl_explain.specs.declared.account.Account.{Account}
 use Rattle.fbl_play.proofs.RunTexts.{IsPlayed}
 use Rattle.fbl_play.specs.Telling.{IsTold}
 use Rattle.fbl_play.proofs.engine.play_with.Given as goal
 
 abbrev pub invariant-loop-command : goal.invariant-loop-command
 invariant-loop-command g l =
-    IsPlayed g.B.Behaviour.next l.workers l.fn.config l.commands l.command-index l.group (g.W.Write.contents l.fn.writer) (g.W.Write.contents l.writer)
-    × IsTold g.O.Observer.hears_before g.O.Observer.hears_after (take l.command-index l.commands) l.fn.observer l.observer
+    (accounts : List Account)
+    × IsPlayed g.B.Behaviour.next l.workers l.fn.config l.commands l.command-index accounts l.group (g.W.Write.contents l.fn.writer) (g.W.Write.contents l.writer)
+    × IsTold g.O.Observer.hears_before g.O.Observer.hears_after (take l.command-index l.commands) accounts l.fn.observer l.observer

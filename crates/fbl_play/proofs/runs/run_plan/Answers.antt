@@ -1,8 +1,14 @@
-use Rattle.std.proofs.Common.{List, subst, sym, string_bytes, Result, Ok, Err, IfOk}
+use Rattle.std.proofs.Common.{ℕ, IfErr, List, subst, sym, string_bytes, Result, Ok, Err, IfOk}
 use Rattle.std.proofs.lemmas.Result.{IfOk-at_ok}
 use Rattle.fbl_base.specs.declared.strike.Strike.{Strike}
 use Rattle.fbl_explain.specs.declared.account.Account.{Account}
+use Rattle.fbl_base.specs.Fold.{Next}
+use Rattle.fbl_law.specs.Groups.{GroupRecord}
 use Rattle.fbl_threads.specs.Drains.{Drains}
+use Rattle.fbl_threads.specs.declared.draining.Drained.{Drained}
+use Rattle.fbl_threads.specs.declared.draining.DrainRefusal.{DrainRefusal}
+use Rattle.fbl_threads.specs.declared.draining.DrainRefusal.TheVariants as drain
+use Rattle.fbl_play.specs.Reasons.{IsPlanRefused}
 use Rattle.fbl_play.specs.RunSteps.{IsRunAccount, IsRunText}
 use Rattle.fbl_play.proofs.runs.run_plan.Goals as goal
 
@@ -16,11 +22,21 @@ returns g c =
     let answer = c.drain-group.result.1 in
     let P : List Strike → Type 0 = λ plan. Drains g.B.Behaviour.next c.args.workers plan c.args.group c.drain-group.result.0 answer in
     let drained = subst P c.strikes-strikes.ensures c.drain-group.ensures in
-    let account : IsRunAccount c.args.group.receipts_ever c.args.group.undone_ever c.drain-group.result.0 answer c.account_of-account.result = rw (← c.receipts_ever-ever.ensures, ← c.undone_ever-undone.ensures) c.account_of-account.ensures in
-    let A : Account → Type 0 = λ a. IsRunAccount c.args.group.receipts_ever c.args.group.undone_ever c.drain-group.result.0 answer a in
+    let account : IsRunAccount c.args.plan.now c.args.group.receipts_ever c.args.group.undone_ever c.drain-group.result.0 answer c.account_of-account.result = rw (← c.receipts_ever-ever.ensures, ← c.undone_ever-undone.ensures) c.account_of-account.ensures in
+    let A : Account → Type 0 = λ a. IsRunAccount c.args.plan.now c.args.group.receipts_ever c.args.group.undone_ever c.drain-group.result.0 answer a in
     joined c.answer_with.result _ _ _ c.answer_with.ensures.text c.answer_with.ensures.account (λ told is same. (
       answer,
       drained,
       IfOk-at_ok (λ text. IsRunText answer (string_bytes text)) is c.answer_text-text.ensures,
       subst A (sym same) account,
     ))
+
+-- a refused plan has a bad entry, and the group is as it was
+plan_refused : (next : Next) (workers : ℕ) (plan : List Strike) (old new : GroupRecord) (answer : Result Drained DrainRefusal) → Drains next workers plan old new answer → IfErr answer (IsPlanRefused plan new.config)
+plan_refused next workers plan old new (Ok drained) h = tt
+plan_refused next workers plan old new (Err (drain.BadPlan place)) h = rw h.1.1 h.1.0.1
+plan_refused next workers plan old new (Err refusal) h = tt
+
+pub account_of-account-requires : goal.account_of-account-requires
+account_of-account-requires g c =
+    rw (← c.strikes-strikes.ensures) (plan_refused g.B.Behaviour.next c.args.workers c.strikes-strikes.result.now c.args.group c.drain-group.result.0 c.drain-group.result.1 c.drain-group.ensures)

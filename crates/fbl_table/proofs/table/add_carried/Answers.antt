@@ -7,9 +7,9 @@ loop-entry-preserved g c =
     let e = c.entry-item.result in
     let at = item_at c.args.carried.now c.loop-entry.entry-index e (omega (arith, c.loop-entry-test.true)) c.entry-item.is in
     record {
-      so_far = rw (c.add-found.ensures.entries, c.loop-entry.invariant.so_far, c.with.ensures) (sym (learn-step c.args.me _ c.args.carried.now c.loop-entry.entry-index e at));
-      room = omega (arith, c.add-found.ensures.room, c.loop-entry.invariant.room);
-      open_len = omega (arith, c.add-found.ensures.open_len, c.loop-entry.invariant.open_len);
-      open_room = omega (arith, c.add-found.ensures.open_room, c.loop-entry.invariant.open_room);
-      index = λ limit before. c.add-found.ensures.places limit (c.loop-entry.invariant.index limit before);
+      so_far = rw (c.add-added.ensures.entries, c.loop-entry.invariant.so_far, c.with-known.ensures) (sym (learn-step c.args.me _ c.args.carried.now c.loop-entry.entry-index e at));
+      room = omega (arith, c.add-added.ensures.room, c.loop-entry.invariant.room);
+      open_len = omega (arith, c.add-added.ensures.open_len, c.loop-entry.invariant.open_len);
+      open_room = omega (arith, c.add-added.ensures.open_room, c.loop-entry.invariant.open_room);
+      index = λ before. c.add-added.ensures.places (c.loop-entry.invariant.index before);
     }

@@ -1,4 +1,4 @@
-use Rattle.std.proofs.Common.{◌≡◌, ◌+◌, ◌≤◌, ℕ, map, take}
+use Rattle.std.proofs.Common.{◌≡◌, ◌+◌, ◌≤◌, map, take}
 use Rattle.std.specs.Vec.{vec_len, vec_capacity}
 use Rattle.indexmap.specs.IndexMap.{spare}
 use Rattle.fbl_table.specs.Tables.{learned, entry_of}
@@ -11,5 +11,5 @@ invariant-loop-entry g l = record {
   room : spare l.initial.entries ≤ l.entry-index + spare l.entries;
   open_len : vec_len l.open_places ≤ vec_len l.initial.open_places + l.entry-index;
   open_room : vec_capacity l.initial.open_places ≤ vec_capacity l.open_places;
-  index : (limit : ℕ) → IsIndex limit (map entry_of l.initial.entries.entries) l.initial.open_places.items → IsIndex limit (map entry_of l.entries.entries) l.open_places.items;
+  index : IsIndex l.limit (map entry_of l.initial.entries.entries) l.initial.open_places.items → IsIndex l.limit (map entry_of l.entries.entries) l.open_places.items;
 }

@@ -14,7 +14,7 @@ pub loop-place-preserved : goal.loop-place-preserved
 loop-place-preserved g c =
     let table = map entry_of c.args.entries.now.entries in
     let entry = c.entry_at-entry.result in
-    elim c.match-find_place.branch [
+    elim c.match-likely_place_of.branch [
       | in-Some w ↦
           let same = lacks-same table c.args.other.now c.loop-place.place entry c.entry_at-entry.ensures (held-at table entry.det w.in-Some.found w.in-Some.ensures) in
           record {

@@ -8,6 +8,6 @@ abbrev pub invariant-loop-place : goal.invariant-loop-place
 invariant-loop-place g l = record {
   so_far : map entry_of l.entries.entries ≡ gathered (map entry_of l.initial.entries.entries) (take l.place l.other);
   same : HasInPlace l.shared (map entry_of l.entries.entries) l.other;
-  index : (limit : ℕ) (open_places : List ℕ) → IsIndex limit (map entry_of l.initial.entries.entries) open_places → IsIndex limit (map entry_of l.entries.entries) open_places;
+  index : (open_places : List ℕ) → IsIndex l.limit (map entry_of l.initial.entries.entries) open_places → IsIndex l.limit (map entry_of l.entries.entries) open_places;
   room : spare l.entries ≡ spare l.initial.entries;
 }

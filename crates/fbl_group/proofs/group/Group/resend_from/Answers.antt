@@ -9,15 +9,22 @@ pub unwrap-to-requires : goal.unwrap-to-requires
 unwrap-to-requires g c = is-made c.new.result c.loop-number.number c.new.ensures (let rules = c.members-number-end.ensures.rules in omega (arith, c.loop-number-test.true, c.members-number-end.ensures.value, rules.members.1))
 
 pub loop-number-init : goal.loop-number-init
-loop-number-init g c = rw c.new-outgoing.ensures.items (made-none [] (λ p m. m ≡ sent_again c.args.self.now.config.f c.args.self.now.down (working c.args.self.now c.args.rebuilt.now) c.args.from p))
+loop-number-init g c = record {
+  made = rw c.new-outgoing.ensures.items (made-none [] (λ p m. m ≡ sent_again c.args.self.now.config.f c.args.self.now.down (working c.args.self.now c.args.rebuilt.now) c.args.from p));
+  passed = tt;
+}
 
 pub loop-number-preserved : goal.loop-number-preserved
 loop-number-preserved g c =
     let member : c.unwrap-to.result ≡ c.loop-number.number = numbered c.new.result c.unwrap-to.result c.loop-number.number c.new.ensures (let rules = c.members-number-end.ensures.rules in omega (arith, c.loop-number-test.true, c.members-number-end.ensures.value, rules.members.1)) c.unwrap-to.ensures in
-    rw c.in_ok-push.ensures.items (made-channel (λ p m. m ≡ sent_again c.args.self.now.config.f c.args.self.now.down (working c.args.self.now c.args.rebuilt.now) c.args.from p) c.loop-number.number c.loop-number.outgoing.items c.in_ok-resend_on.field-0 c.loop-number.invariant
-    (c.in_ok-resend_on.ensures ∙ ap (λ k. sent_again c.args.self.now.config.f c.args.self.now.down (working c.args.self.now c.args.rebuilt.now) c.args.from k) member))
+    record {
+      made =
+          rw c.in_ok-push.ensures.items (made-channel (λ p m. m ≡ sent_again c.args.self.now.config.f c.args.self.now.down (working c.args.self.now c.args.rebuilt.now) c.args.from p) c.loop-number.number c.loop-number.outgoing.items c.in_ok-resend_on.field-0 c.loop-number.invariant.made
+          (c.in_ok-resend_on.ensures.made ∙ ap (λ k. sent_again c.args.self.now.config.f c.args.self.now.down (working c.args.self.now c.args.rebuilt.now) c.args.from k) member));
+      passed = c.resend_on.ensures.passed;
+    }
 
 pub returns : goal.returns
 returns g c =
     let same : c.loop-number.number ≡ c.args.self.now.config.members = omega (arith, c.members-number-end.ensures.value, ap (λ (r : GroupRecord). r.config.members) c.self.view_is, c.loop-number-test.false, c.loop-number.auto.number-end) in
-    record { size = c.loop-number.invariant.size ∙ same; each = λ p below. c.loop-number.invariant.each p (omega (arith, same, below)) }
+    record { size = c.loop-number.invariant.made.size ∙ same; each = λ p below. c.loop-number.invariant.made.each p (omega (arith, same, below)) }

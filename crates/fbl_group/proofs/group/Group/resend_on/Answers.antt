@@ -6,13 +6,20 @@ use Rattle.fbl_law.specs.Replaying.{working, resent_to}
 use Rattle.fbl_group.proofs.group.Group.resend_on.Goals as goal
 use Rattle.fbl_group.proofs.group.Group.resend_on.Goals.{then-has_either+in_ok-resend_to, else-has_either}
 
-pub returns : goal.returns
-returns g c =
+pub returns-clause-made : goal.returns-clause-made
+returns-clause-made g c =
     let ends = c.has_either.ensures ∙ ap (λ (r : GroupRecord). set.contains r.down c.args.from || set.contains r.down c.args.to) c.self.view_is in
     elim c.if-has_either.branch [
       | then-has_either+in_ok-resend_to w ↦
-          rw w.wires-is (w.in_ok-resend_to.ensures ∙ ap (λ (vs : List Message). vs ++ resent_to c.args.self.now.config.f c.args.from c.args.to (working c.args.self.now c.args.rebuilt.now c.args.from) (working c.args.self.now c.args.rebuilt.now c.args.to)) c.new-wires.ensures.items
+          rw w.wires-is (w.in_ok-resend_to.ensures.put ∙ ap (λ (vs : List Message). vs ++ resent_to c.args.self.now.config.f c.args.from c.args.to (working c.args.self.now c.args.rebuilt.now c.args.from) (working c.args.self.now c.args.rebuilt.now c.args.to)) c.new-wires.ensures.items
           ∙ sym (ap (λ b. cond b (resent_to c.args.self.now.config.f c.args.from c.args.to (working c.args.self.now c.args.rebuilt.now c.args.from) (working c.args.self.now c.args.rebuilt.now c.args.to)) []) (sym ends ∙ w.if-has_either.true)))
       | else-has_either w ↦
           rw w.wires-is (c.new-wires.ensures.items ∙ sym (ap (λ b. cond b (resent_to c.args.self.now.config.f c.args.from c.args.to (working c.args.self.now c.args.rebuilt.now c.args.from) (working c.args.self.now c.args.rebuilt.now c.args.to)) []) (sym ends ∙ w.if-has_either.false)))
+    ]
+
+pub returns-clause-passed : goal.returns-clause-passed
+returns-clause-passed g c =
+    elim c.if-has_either.branch [
+      | then-has_either+in_ok-resend_to w ↦ rw w.passed-is w.resend_to.ensures.passed
+      | else-has_either w ↦ rw w.passed-is c.requires.passed
     ]

@@ -1,0 +1,254 @@
+-- A search from the first event on finds a path to each member that depends on an event.
+use Rattle.std.proofs.Common.{ℕ, zero, suc, Bool, true, false, ◌≡◌, ◌≢◌, ◌<◌, ◌+◌, ◌-◌, ◌⊎◌, inl, inr, List, [], ◌∷◌, ◌++◌, length, Option, Some, None, option_and_then, refl, sym, ap, ◌∙◌, arith, get_or, get_or-set_same, get_or-set_other, length-set, length-append, replicate, reverse, slice_get, cond}
+use Rattle.std.specs.Option.{is_some, option_or}
+use Rattle.std.proofs.lemmas.Bool.{false≢true, cases_eq}
+use Rattle.std.proofs.lemmas.List.{reverse-append}
+use Rattle.std.proofs.lemmas.Option.{slice_get_read}
+use Rattle.fbl_base.specs.declared.trace.Mark.{Mark}
+use Rattle.fbl_base.specs.declared.trace.Mark.TheVariants.{Send, Receipt}
+use Rattle.fbl_base.specs.Events.{At, member_of, send_of}
+use Rattle.fbl_base.specs.Places.{Leads, Precedes, Depends, itself, step}
+use Rattle.fbl_base.proofs.Gets.{At-below, At-push, get_or-same}
+use Rattle.fbl_audit.specs.declared.dependents.Message.{Message}
+use Rattle.fbl_audit.specs.Dependents.{message_of, same_message}
+use Rattle.fbl_audit.specs.Paths.{ArePaths, IsBefore, IsEndBy, IsPath, IsSentBy, Origin, end_after, message_sent_by, place_before, sent_after}
+use Rattle.fbl_audit.proofs.Following.{Decides-same_message, same_event}
+
+-- a path is empty, or ends with a step
+last_step : {t : List Mark} {i p : ℕ} → Precedes t i p → (p ≡ i) ⊎ ((j : ℕ) × Precedes t i j × Leads t j p)
+last_step (itself h) = inl refl
+last_step (step {j} q l) = inr (j, q, l)
+
+pub Precedes-has : {t : List Mark} {i p : ℕ} → Precedes t i p → (e : Mark) × At t p e
+Precedes-has (itself {a} h) = (a, h)
+Precedes-has (step q l) = (l.1, l.4)
+
+-- what a search knows of the first p events: of each member and of each message
+pub record Knows (t : List Mark) (i p : ℕ) (ends : List (Option ℕ)) (sends : Message → Option ℕ) : Type 0 where
+  pub room : length ends ≡ 16
+  pub members : (m : ℕ) → m < 16 → IsEndBy t i p m (get_or ends m None)
+  pub messages : (m : Message) → IsSentBy t i p m (sends m)
+
+-- where a path comes from to the event at p
+pub before_right : (t : List Mark) (i p : ℕ) (ends : List (Option ℕ)) (sends : Message → Option ℕ) (e : Mark) → At t p e → member_of e < 16
+    → Knows t i p ends sends → IsBefore t i p (place_before ends sends e)
+before_right t i p ends sends e at below knows = by_member (get_or ends (member_of e) None) (knows.members (member_of e) below) where
+  no_own : IsEndBy t i p (member_of e) None → (j : ℕ) → Precedes t i j → (l : Leads t j p) → member_of l.0 ≡ member_of l.1 → ⊥
+  no_own none j q l own = none j l.0 l.2 l.3 (own ∙ ap member_of (same_event t p p l.1 e refl l.4 at)) q
+
+  by_message : IsEndBy t i p (member_of e) None → (e' : Mark) → e' ≡ e → IsBefore t i p (option_and_then sends (message_of e'))
+  by_message none (Send from ssn to) is = λ pr. elim (last_step pr) [
+    | inl here ↦ here
+    | inr s ↦ elim s.2.5 [
+      | inl own ↦ absurd (no_own none s.0 s.1 s.2 own)
+      | inr sends' ↦ absurd (no_send (same_event t p p s.2.1 e refl s.2.4 at ∙ sym is) sends')
+    ]
+  ] where
+    no_send : {b a : Mark} → b ≡ Send from ssn to → send_of b ≡ Some a → ⊥
+    no_send {b} {a} same h = (let e : None ≡ Some a = ap send_of (sym same) ∙ h in cc)
+  by_message none (Receipt to rsn from ssn) is = at_send (sends (record { from = from; ssn = ssn; to = to })) (knows.messages (record { from = from; ssn = ssn; to = to })) where
+    at_p : At t p (Receipt to rsn from ssn)
+    at_p = (rw is at)
+
+    at_send : (o : Option ℕ) → IsSentBy t i p (record { from = from; ssn = ssn; to = to }) o → IsBefore t i p o
+    at_send (Some k) sent = ((Send from ssn to, Receipt to rsn from ssn, sent.0, sent.1, at_p, inr refl), sent.2)
+    at_send None unsent = λ pr. elim (last_step pr) [
+      | inl here ↦ here
+      | inr s ↦ elim s.2.5 [
+        | inl own ↦ absurd (no_own none s.0 s.1 s.2 own)
+        | inr sends' ↦
+            let same : s.2.1 ≡ Receipt to rsn from ssn = same_event t p p s.2.1 (Receipt to rsn from ssn) refl s.2.4 at_p in
+            let from_send : Some (Send from ssn to) ≡ Some s.2.0 = ap send_of (sym same) ∙ sends' in
+            let is_send : s.2.0 ≡ Send from ssn to = cc in
+            absurd (unsent s.0 s.2.2 (rw is_send at s.2.3) s.1)
+      ]
+    ]
+
+  by_member : (o : Option ℕ) → IsEndBy t i p (member_of e) o → IsBefore t i p (option_or o (option_and_then sends (message_of e)))
+  by_member (Some k) found = (let b = found.1.own in ((b.0, e, found.0, b.1, at, inl b.2), found.1.depends))
+  by_member None none = by_message none e refl
+
+-- ---- one more event
+
+-- a path comes to the event
+pub Knows-more : (t : List Mark) (i p : ℕ) (ends ends' : List (Option ℕ)) (sends sends' : Message → Option ℕ) (e : Mark) → At t p e → member_of e < 16
+    → Precedes t i p → Knows t i p ends sends
+    → ends' ≡ end_after ends p e → ((m : Message) → sends' m ≡ sent_after sends (message_sent_by e) p m) → Knows t i (p + 1) ends' sends'
+Knows-more t i p ends ends' sends sends' e at below pr knows ends_are sends_are = record {
+  room = rw ends_are (length-set ends (member_of e) _ ∙ knows.room);
+  members = λ m within. (rw ends_are (at_member m (cases_eq m (member_of e)) (knows.members m within)));
+  messages = λ m. (rw (sends_are m) (at_message m e refl (sends m) refl (knows.messages m)));
+} where
+  here_more : (o : Option ℕ) → IsEndBy t i p (member_of e) o → IsEndBy t i (p + 1) (member_of e) (option_or o (Some p))
+  here_more (Some j) found = (omega (arith, found.0), found.1)
+  here_more None none = (omega arith, record { own = (e, at, refl); depends = pr; first = none })
+
+  other_more : (m : ℕ) → m ≢ member_of e → (o : Option ℕ) → IsEndBy t i p m o → IsEndBy t i (p + 1) m o
+  other_more m ne (Some j) found = (omega (arith, found.0), found.1)
+  other_more m ne None none = λ k b within at_k own. elim (cases_eq k p) [
+    | inl here ↦ absurd (ne (sym own ∙ ap member_of (same_event t k p b e here at_k at)))
+    | inr before ↦ none k b (omega (arith, within, before)) at_k own
+  ]
+
+  at_member : (m : ℕ) → (m ≡ member_of e) ⊎ (m ≢ member_of e) → IsEndBy t i p m (get_or ends m None) → IsEndBy t i (p + 1) m (get_or (end_after ends p e) m None)
+  at_member m (inl is) end =
+      let room : member_of e < length ends = omega (arith, below, knows.room) in
+      rw is (rw (get_or-set_same ends (member_of e) (option_or (get_or ends (member_of e) None) (Some p)) None room) (here_more (get_or ends (member_of e) None) (rw is at end)))
+  at_member m (inr ne) end = rw (get_or-set_other ends (member_of e) m (option_or (get_or ends (member_of e) None) (Some p)) None ne) (other_more m ne (get_or ends m None) end)
+
+  -- an event that is not the send of the message
+  kept : (m : Message) → e ≢ Send m.from m.ssn m.to → (o : Option ℕ) → IsSentBy t i p m o → IsSentBy t i (p + 1) m o
+  kept m ne (Some j) sent = (omega (arith, sent.0), sent.1, sent.2)
+  kept m ne None unsent = λ k within at_k. elim (cases_eq k p) [
+    | inl here ↦ absurd (ne (same_event t p k e (Send m.from m.ssn m.to) (sym here) at at_k))
+    | inr before ↦ unsent k (omega (arith, within, before)) at_k
+  ]
+
+  at_message : (m : Message) (e' : Mark) → e' ≡ e → (o : Option ℕ) → sends m ≡ o → IsSentBy t i p m o → IsSentBy t i (p + 1) m (sent_after sends (message_sent_by e') p m)
+  at_message m (Receipt to rsn from ssn) is o old sent = rw old (kept m (λ h. (let no : Receipt to rsn from ssn ≡ Send m.from m.ssn m.to = is ∙ h in cc)) o sent)
+  at_message m (Send from ssn to) is o old sent = by_test (same_message (record { from = from; ssn = ssn; to = to }) m) refl where
+    by_test : (b : Bool) → same_message (record { from = from; ssn = ssn; to = to }) m ≡ b → IsSentBy t i (p + 1) m (cond b (Some p) (sends m))
+    by_test true test =
+        let same : record { from = from; ssn = ssn; to = to } ≡ m = (Decides-same_message (record { from = from; ssn = ssn; to = to }) m).0 test in
+        let here : e ≡ Send m.from m.ssn m.to = sym is ∙ ap (λ (x : Message). Send x.from x.ssn x.to) same in
+        (omega arith, (rw here at at), pr)
+    by_test false test = rw old (kept m (λ h. (
+        let sent_here : Send from ssn to ≡ Send m.from m.ssn m.to = is ∙ h in
+        let e1 : from ≡ m.from = cc in
+        let e2 : ssn ≡ m.ssn = cc in
+        let e3 : to ≡ m.to = cc in
+        false≢true (sym test ∙ (Decides-same_message (record { from = from; ssn = ssn; to = to }) m).1 (λ j. record { from = e1 j; ssn = e2 j; to = e3 j }))
+        )) o sent)
+
+-- no path comes to the event
+pub Knows-same : (t : List Mark) (i p : ℕ) (ends : List (Option ℕ)) (sends : Message → Option ℕ) → ¬ (Precedes t i p) → Knows t i p ends sends → Knows t i (p + 1) ends sends
+Knows-same t i p ends sends none_comes knows = record {
+  room = knows.room;
+  members = λ m within. at_member m (get_or ends m None) (knows.members m within);
+  messages = λ m. at_message m (sends m) (knows.messages m);
+} where
+  at_member : (m : ℕ) (o : Option ℕ) → IsEndBy t i p m o → IsEndBy t i (p + 1) m o
+  at_member m (Some j) found = (omega (arith, found.0), found.1)
+  at_member m None none = λ k b within at_k own pr. elim (cases_eq k p) [
+    | inl here ↦ none_comes (rw here at pr)
+    | inr before ↦ none k b (omega (arith, within, before)) at_k own pr
+  ]
+
+  at_message : (m : Message) (o : Option ℕ) → IsSentBy t i p m o → IsSentBy t i (p + 1) m o
+  at_message m (Some j) sent = (omega (arith, sent.0), sent.1, sent.2)
+  at_message m None unsent = λ k within at_k pr. elim (cases_eq k p) [
+    | inl here ↦ none_comes (rw here at pr)
+    | inr before ↦ unsent k (omega (arith, within, before)) at_k pr
+  ]
+
+-- nothing is known before the first event
+pub Knows-none : (t : List Mark) (i : ℕ) (ends : List (Option ℕ)) (sends : Message → Option ℕ) → ends ≡ replicate 16 None
+    → ((m : Message) → sends m ≡ None) → Knows t i 0 ends sends
+Knows-none t i ends sends ends_are sends_are = record {
+  room = rw ends_are refl;
+  members = λ m within. (rw (ends_are, get_or-same {X = Option ℕ} 16 m None) (λ k b before. absurd (omega (arith, before))));
+  messages = λ m. (rw (sends_are m) (λ k before. absurd (omega (arith, before))));
+}
+
+-- ---- the pass
+
+-- what the pass has when it has seen the first p events
+pub record Seen (t : List Mark) (i p : ℕ) (ends : List (Option ℕ)) (sends : Message → Option ℕ) (earlier : List (Option ℕ)) : Type 0 where
+  pub knows : Knows t i p ends sends
+  pub count : length earlier ≡ p
+  pub before : (k : ℕ) (o : Option ℕ) → slice_get earlier k ≡ Some o → IsBefore t i k o
+
+Before-more : (t : List Mark) (i p : ℕ) (earlier : List (Option ℕ)) (o : Option ℕ) → length earlier ≡ p
+    → ((k : ℕ) (o : Option ℕ) → slice_get earlier k ≡ Some o → IsBefore t i k o) → IsBefore t i p o
+    → (k : ℕ) (o' : Option ℕ) → slice_get (earlier ++ o ∷ []) k ≡ Some o' → IsBefore t i k o'
+Before-more t i p earlier o count before here k o' at = elim (At-push earlier o k o' at) [
+  | inl old ↦ before k o' old
+  | inr new ↦ (rw (new.0, count, ← new.1) here)
+]
+
+-- a path comes to what a place leads to, and to the first event itself
+pub comes : (t : List Mark) (i p : ℕ) (e : Mark) (o : Option ℕ) → At t p e → IsBefore t i p o → ((k : ℕ) × (o ≡ Some k)) ⊎ (p ≡ i) → Precedes t i p
+comes t i p e o at before (inl some) = (let b : Leads t some.0 p × Precedes t i some.0 = rw some.1 at before in step b.1 b.0)
+comes t i p e o at before (inr is) = rw (← is) (itself at)
+
+pub Seen-more : (t : List Mark) (i p : ℕ) (ends ends' : List (Option ℕ)) (sends sends' : Message → Option ℕ) (earlier : List (Option ℕ)) (e : Mark) (o : Option ℕ)
+    → Seen t i p ends sends earlier → At t p e → member_of e < 16 → IsBefore t i p o → Precedes t i p → ends' ≡ end_after ends p e
+    → ((m : Message) → sends' m ≡ sent_after sends (message_sent_by e) p m)
+    → Seen t i (p + 1) ends' sends' (earlier ++ o ∷ [])
+Seen-more t i p ends ends' sends sends' earlier e o seen at below here pr ends_are sends_are = record {
+  knows = Knows-more t i p ends ends' sends sends' e at below pr seen.knows ends_are sends_are;
+  count = length-append earlier (o ∷ []) ∙ ap (λ n. n + 1) seen.count;
+  before = Before-more t i p earlier o seen.count seen.before here;
+}
+
+pub Seen-same : (t : List Mark) (i p : ℕ) (ends : List (Option ℕ)) (sends : Message → Option ℕ) (earlier : List (Option ℕ)) → Seen t i p ends sends earlier
+    → p ≢ i → IsBefore t i p None
+    → Seen t i (p + 1) ends sends (earlier ++ None ∷ [])
+Seen-same t i p ends sends earlier seen ne here = record {
+  knows = Knows-same t i p ends sends (λ pr. ne (here pr)) seen.knows;
+  count = length-append earlier (None ∷ []) ∙ ap (λ n. n + 1) seen.count;
+  before = Before-more t i p earlier None seen.count seen.before here;
+}
+
+pub Seen-all : (t : List Mark) (i p : ℕ) (ends : List (Option ℕ)) (sends : Message → Option ℕ) (earlier : List (Option ℕ)) → Seen t i p ends sends earlier
+    → p ≡ length t → ArePaths (record { events = t; place = i }) earlier ends
+Seen-all t i p ends sends earlier seen all = record {
+  count = seen.count ∙ all;
+  room = seen.knows.room;
+  before = seen.before;
+  members = λ m within. (rw all at (seen.knows.members m within));
+}
+
+pub some_of : (o : Option ℕ) → is_some o ≡ true → (k : ℕ) × (o ≡ Some k)
+some_of None h = cc
+some_of (Some k) h = (k, refl)
+
+pub none_of : (o : Option ℕ) → is_some o ≡ false → o ≡ None
+none_of None h = refl
+none_of (Some k) h = cc
+
+-- ---- walking back
+
+pub IsPath-one : (t : List Mark) (j : ℕ) → IsPath t j j (j ∷ [])
+IsPath-one t j = record { begins = refl; steps = λ k a b at_k at_next. absurd (omega (arith, At-below (j ∷ []) (k + 1) b at_next)); ends = refl }
+
+pub IsPath-more : (t : List Mark) (i k j : ℕ) (path : List ℕ) → Leads t i k → IsPath t k j path → IsPath t i j (i ∷ path)
+IsPath-more t i k j path leads is = record {
+  begins = refl;
+  steps = steps_more;
+  ends = last_more path is.begins is.ends;
+} where
+  steps_more : (n a b : ℕ) → slice_get (i ∷ path) n ≡ Some a → slice_get (i ∷ path) (n + 1) ≡ Some b → Leads t a b
+  steps_more zero a b at_n at_next =
+      let first : i ≡ a = cc in
+      let next : slice_get path 0 ≡ Some b = at_next in
+      let second : k ≡ b = (let e : Some k ≡ Some b = sym is.begins ∙ next in cc) in
+      (rw (← first, ← second) leads)
+  steps_more (suc n) a b at_n at_next = is.steps n a b at_n (rw (let e : suc n + 1 ≡ suc (n + 1) = omega arith in e) at at_next)
+
+  last_more : (path : List ℕ) → slice_get path 0 ≡ Some k → slice_get path (length path - 1) ≡ Some j → slice_get (i ∷ path) (length (i ∷ path) - 1) ≡ Some j
+  last_more [] begins ends = cc
+  last_more (x ∷ path) begins ends = (rw (let e : length (i ∷ x ∷ path) - 1 ≡ suc (length (x ∷ path) - 1) = omega arith in e) ends)
+
+-- one more step back
+pub IsPath-back : (t : List Mark) (i k j : ℕ) (path path' : List ℕ) → Leads t i k → IsPath t k j (reverse path) → path' ≡ path ++ i ∷ [] → IsPath t i j (reverse path')
+IsPath-back t i k j path path' leads is more = rw (more, reverse-append path (i ∷ [])) (IsPath-more t i k j (reverse path) leads is)
+
+-- what the list has of a place that a path comes to
+At-place : (origin : Origin) (earlier ends : List (Option ℕ)) → ArePaths origin earlier ends → (p : ℕ) (o : Option ℕ) → Precedes origin.events origin.place p
+    → o ≡ get_or earlier p o → slice_get earlier p ≡ Some o
+At-place origin earlier ends are p o comes is =
+    let has = Precedes-has comes in
+    slice_get_read earlier (length earlier) p o refl (omega (arith, are.count, At-below origin.events p has.0 has.1)) is
+
+pub before_at : (origin : Origin) (earlier ends : List (Option ℕ)) → ArePaths origin earlier ends → (p : ℕ) (o : Option ℕ) → Precedes origin.events origin.place p
+    → o ≡ get_or earlier p o → IsBefore origin.events origin.place p o
+before_at origin earlier ends are p o comes is = are.before p o (At-place origin earlier ends are p o comes is)
+
+-- where nothing leads on to it, a path begins
+pub begins_here : (t : List Mark) (i p : ℕ) (o : Option ℕ) → o ≡ None → IsBefore t i p o → Precedes t i p → p ≡ i
+begins_here t i p o none before comes = (let at_none : IsBefore t i p None = rw none at before in at_none comes)
+
+-- nobody depends on the event where no path comes to the member
+pub none_depends : (t : List Mark) (i member : ℕ) → IsEndBy t i (length t) member None → ¬ (Depends t member i)
+none_depends t i member none d = none d.0 d.1 (At-below t d.0 d.1 d.3) d.3 d.4 d.2

@@ -1,0 +1,8 @@
+use Rattle.std.proofs.Common.{◌≡◌, not, take}
+use Rattle.std.specs.List.{filter, filter_map}
+use Rattle.fbl_base.specs.Events.{determinant_of}
+use Rattle.fbl_base.specs.Audit.{is_held_outside}
+use Rattle.fbl_audit.proofs.audit.Audit.lost.Given as goal
+
+abbrev pub invariant-loop-event : goal.invariant-loop-event
+invariant-loop-event l = l.lost.items ≡ filter (λ d. not (is_held_outside l.self d)) (filter_map determinant_of (take l.event-index l.event-items))

@@ -1,0 +1,5 @@
+use Rattle.fbl_audit.proofs.SafeRuns.{safe_by_condition}
+use Rattle.fbl_audit.proofs.laws.safe_law.Goals as goal
+
+pub returns : goal.returns
+returns c = safe_by_condition

@@ -1,0 +1,34 @@
+use Rattle.std.proofs.Common.{◌≡◌, None, inl, inr, length, refl, arith, sym, ◌∙◌}
+use Rattle.std.proofs.lemmas.Option.{slice_get_read}
+use Rattle.fbl_base.specs.Events.{At}
+use Rattle.fbl_base.specs.Places.{Precedes}
+use Rattle.fbl_base.specs.Rules.{WellFormed}
+use Rattle.fbl_audit.specs.Paths.{IsBefore}
+use Rattle.fbl_audit.proofs.Following.{member_within}
+use Rattle.fbl_audit.proofs.Searching.{before_right, comes, none_of, some_of, Seen-more, Seen-same}
+use Rattle.fbl_audit.proofs.paths.Paths.of.Goals as goal
+use Rattle.fbl_audit.proofs.paths.Paths.of.Goals.{then-is_some+in_ok-add, then-is_some-via-then-is_some, then-is_some-via-else-is_some+then-later-place, else-is_some+else-later-place}
+
+pub loop-later-preserved : goal.loop-later-preserved
+loop-later-preserved c =
+    let t = c.events-events.result.now in
+    let rules = c.events-events.ensures.rules in
+    let obeys : WellFormed c.args.dump.now.members t = rw c.events-events.ensures.events rules.events in
+    let i = c.args.place in
+    let p = c.loop-later.later in
+    let e = c.index-events-later.result in
+    let o = c.before-before.result in
+    let at : At t p e = slice_get_read t (length t) p e refl (omega arith) c.index-events-later.is in
+    let within = member_within c.args.dump.now.members t p e obeys rules.members.1 (omega arith) c.index-events-later.is in
+    let here : IsBefore t i p o = rw c.before-before.ensures (before_right t i p _ _ e at within c.loop-later.invariant.knows) in
+    elim c.if-is_some.branch [
+      | then-is_some+in_ok-add w ↦
+          let pr : Precedes t i p = comes t i p e o at here (elim w.then-is_some.branch [
+            | then-is_some-via-then-is_some w' ↦ inl (some_of o (sym c.is_some.ensures ∙ w'.if-is_some.true))
+            | then-is_some-via-else-is_some+then-later-place w' ↦ inr w'.if-later-place.true
+          ]) in
+          rw (w.search-is, c.in_ok-push.ensures.items) (Seen-more t i p _ _ _ _ c.loop-later.earlier.items e o c.loop-later.invariant at within here pr w.add.ensures.ends w.in_ok-add.ensures.sends)
+      | else-is_some+else-later-place w ↦
+          let none : o ≡ None = none_of o (sym c.is_some.ensures ∙ w.if-is_some.false) in
+          rw (w.search-is, c.in_ok-push.ensures.items, none) (Seen-same t i p _ _ c.loop-later.earlier.items c.loop-later.invariant w.if-later-place.false (rw none at here))
+    ]

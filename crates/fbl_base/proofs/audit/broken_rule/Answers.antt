@@ -1,0 +1,16 @@
+use Rattle.std.proofs.Common.{◌∙◌, sym, arith}
+use Rattle.std.proofs.lemmas.Bool.{false≢true}
+use Rattle.fbl_base.proofs.Received.{Decides-is_received}
+use Rattle.fbl_base.proofs.audit.broken_rule.Goals as goal
+
+pub returns-then-not-contains : goal.returns-then-not-contains
+returns-then-not-contains g c =
+    let d = c.args.pair.now.1 in
+    let received = Decides-is_received c.args.raw.now.events.items d in
+    (omega arith, omega (arith, c.number.ensures.value), c.receipt.ensures, rw c.receipt.ensures (λ has. false≢true (sym c.if-not-contains.true ∙ c.contains.ensures ∙ c.requires d ∙ received.1 has)))
+
+pub returns : goal.returns
+returns g c =
+    let d = c.args.pair.now.1 in
+    let received = Decides-is_received c.args.raw.now.events.items d in
+    (omega arith, omega (arith, c.number.ensures.value), received.0 (sym (c.requires d) ∙ sym c.contains.ensures ∙ c.if-not-contains.false))

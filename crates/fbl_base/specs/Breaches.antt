@@ -1,0 +1,163 @@
+-- Which rule a configuration, a dump or a plan breaks. Of several the first in the order given here is named.
+use Rattle.std.specs.Prelude.{◌≡◌, ◌≢◌, ◌⊎◌, ℕ, ◌+◌, ◌<◌, ◌≤◌, true, false, List, length, take, Option, Some, None, slice_get}
+use Rattle.std.specs.Ordering.{nat_cmp}
+use Rattle.std.specs.FinSet as set
+use Rattle.fbl_base.specs.declared.trace.Start.{Start}
+use Rattle.fbl_base.specs.declared.trace.Determinant.{Determinant}
+use Rattle.fbl_base.specs.declared.trace.Mark.{Mark}
+use Rattle.fbl_base.specs.declared.trace.Mark.TheVariants.{Send, Receipt}
+use Rattle.fbl_base.specs.declared.config.ConfigRefusal.{ConfigRefusal}
+use Rattle.fbl_base.specs.declared.config.ConfigRefusal.TheVariants as refusal
+use Rattle.fbl_base.specs.declared.refusal.DumpRefusal.{DumpRefusal}
+use Rattle.fbl_base.specs.declared.refusal.DumpRefusal.TheVariants as refused
+use Rattle.fbl_base.specs.declared.fault.Outsider.{Outsider}
+use Rattle.fbl_base.specs.declared.fault.StartRule.{StartRule}
+use Rattle.fbl_base.specs.declared.fault.StartRule.TheVariants as start_rule
+use Rattle.fbl_base.specs.declared.fault.StartFault.{StartFault}
+use Rattle.fbl_base.specs.declared.fault.ConfigFault.{ConfigFault}
+use Rattle.fbl_base.specs.declared.fault.ConfigFault.TheVariants as config_fault
+use Rattle.fbl_base.specs.declared.fault.EventRule.{EventRule}
+use Rattle.fbl_base.specs.declared.fault.EventRule.TheVariants as event_rule
+use Rattle.fbl_base.specs.declared.fault.EventFault.{EventFault}
+use Rattle.fbl_base.specs.declared.fault.PairRule.{PairRule}
+use Rattle.fbl_base.specs.declared.fault.PairRule.TheVariants as pair_rule
+use Rattle.fbl_base.specs.declared.fault.PairFault.{PairFault}
+use Rattle.fbl_base.specs.declared.fault.DumpFault.{DumpFault}
+use Rattle.fbl_base.specs.declared.fault.DumpFault.TheVariants as dump_fault
+use Rattle.fbl_base.specs.Audit.{Parts}
+use Rattle.fbl_base.specs.Configs.{Settings}
+use Rattle.fbl_base.specs.Events.{At, destination_of, number_of, receipt_of, source_of}
+use Rattle.fbl_base.specs.Precedence.{Has}
+use Rattle.fbl_base.specs.Rules.{sends_of, receipts_of, in_flight}
+
+-- ---- members outside a group
+
+-- the member is named as one outside a group of n
+abbrev pub IsOutside : ℕ → ℕ → Outsider → Type 0
+IsOutside n member outsider = (outsider.member ≡ member) × (outsider.members ≡ n) × (n ≤ member)
+
+-- the first of a message's ends that is outside a group of n
+abbrev pub IsEndOutside : ℕ → ℕ → ℕ → Outsider → Type 0
+IsEndOutside n from to outsider = IsOutside n from outsider ⊎ ((from < n) × IsOutside n to outsider)
+
+-- the least member of the set that is outside a group of n
+abbrev pub IsLeastOutside : set.FinSet nat_cmp → ℕ → Outsider → Type 0
+IsLeastOutside s n outsider =
+    (set.contains s outsider.member ≡ true) × IsOutside n outsider.member outsider × ((k : ℕ) → n ≤ k → k < outsider.member → set.contains s k ≡ false)
+
+-- ---- starts and configurations
+
+-- the start breaks this rule in a group of n
+abbrev pub BreaksStart : ℕ → Start → StartRule → Type 0
+BreaksStart n start (start_rule.Outside outsider) = IsEndOutside n start.from start.to outsider
+BreaksStart n start start_rule.ToItself = (start.from < n) × (start.to < n) × (start.from ≡ start.to)
+BreaksStart n start (start_rule.TooManyHops hops) =
+    (start.from < n) × (start.to < n) × (start.from ≢ start.to) × (hops ≡ start.note.hops) × (15 < hops)
+
+-- the start at the fault's place is the fault's, and breaks its rule
+abbrev pub IsStartFault : ℕ → List Start → StartFault → Type 0
+IsStartFault n starts fault = (slice_get starts fault.place ≡ Some fault.start) × BreaksStart n fault.start fault.rule
+
+-- what the fault says of the parameters is so
+abbrev pub IsOfConfig : Settings → ConfigFault → Type 0
+IsOfConfig c (config_fault.BadMembers members) = members ≡ c.members
+IsOfConfig c (config_fault.BadF f members) = (f ≡ c.f) × (members ≡ c.members)
+IsOfConfig c (config_fault.BadLimit limit) = limit ≡ c.limit
+IsOfConfig c (config_fault.TooManyStarts starts) = starts ≡ length c.starts
+IsOfConfig c (config_fault.BadStart fault) = IsStartFault c.members c.starts fault
+IsOfConfig c (config_fault.LimitBelowStarts limit starts) = (limit ≡ c.limit) × (starts ≡ length c.starts)
+IsOfConfig c config_fault.Memory = Unit {0}
+
+-- the refusal that stands for the fault
+abbrev pub config_refusal : ConfigFault → ConfigRefusal
+config_refusal (config_fault.BadMembers members) = refusal.BadMembers
+config_refusal (config_fault.BadF f members) = refusal.BadF
+config_refusal (config_fault.BadLimit limit) = refusal.BadLimit
+config_refusal (config_fault.TooManyStarts starts) = refusal.TooManyStarts
+config_refusal (config_fault.BadStart fault) = refusal.BadStart fault.place
+config_refusal (config_fault.LimitBelowStarts limit starts) = refusal.LimitBelowStarts
+config_refusal config_fault.Memory = refusal.Memory
+
+-- ---- events
+
+-- which of its member's sends, or receipts, an event is behind the trace
+abbrev pub next_number : List Mark → Mark → ℕ
+next_number trace (Send from ssn to) = sends_of trace from + 1
+next_number trace (Receipt to rsn from ssn) = receipts_of trace to + 1
+
+-- the first message in flight from the event's source to its destination
+abbrev pub first_in_flight : List Mark → Mark → Option ℕ
+first_in_flight trace e = slice_get (in_flight trace (source_of e) (destination_of e)) 0
+
+-- the ends of the event's message are two members of a group of n
+abbrev pub AreEndsAllowed : ℕ → Mark → Type 0
+AreEndsAllowed n e = (source_of e < n) × (destination_of e < n) × (source_of e ≢ destination_of e)
+
+-- a receipt takes this message, and not another
+abbrev pub TakesMessage : Mark → Option ℕ → Type 0
+TakesMessage (Send from ssn to) first = Unit {0}
+TakesMessage (Receipt to rsn from ssn) first = first ≡ Some ssn
+
+-- the event breaks no rule in a group of n, where its number has to be `next` and a receipt's message the first in flight
+abbrev pub Fits : ℕ → Mark → ℕ → Option ℕ → Type 0
+Fits n e next first = AreEndsAllowed n e × (number_of e ≡ next) × TakesMessage e first
+
+-- the event breaks this rule in a group of n, where its number has to be `next` and a receipt's message the first in flight
+abbrev pub Breaks : ℕ → Mark → ℕ → Option ℕ → EventRule → Type 0
+Breaks n e next first event_rule.TooMany = ⊥
+Breaks n e next first (event_rule.Outside outsider) = IsEndOutside n (source_of e) (destination_of e) outsider
+Breaks n e next first event_rule.ToItself = (source_of e < n) × (destination_of e < n) × (source_of e ≡ destination_of e)
+Breaks n e next first (event_rule.WrongNumber wanted) = AreEndsAllowed n e × (wanted ≡ next) × (number_of e ≢ next)
+Breaks n e next first (event_rule.NothingInFlight from to) =
+    AreEndsAllowed n e × (number_of e ≡ next) × (from ≡ source_of e) × (to ≡ destination_of e) × (first ≡ None) × ¬ (TakesMessage e first)
+Breaks n e next first (event_rule.OtherInFlight from to wanted) =
+    AreEndsAllowed n e × (number_of e ≡ next) × (from ≡ source_of e) × (to ≡ destination_of e) × (first ≡ Some wanted) × ¬ (TakesMessage e first)
+
+-- the event breaks this rule in a group of n behind the trace
+abbrev pub BreaksEvent : ℕ → List Mark → Mark → EventRule → Type 0
+BreaksEvent n trace e event_rule.TooMany = 8192 ≤ length trace
+BreaksEvent n trace e rule = (length trace < 8192) × Breaks n e (next_number trace e) (first_in_flight trace e) rule
+
+-- the event at the place breaks this rule behind those before it
+abbrev pub BreaksAt : ℕ → List Mark → ℕ → EventRule → Type 0
+BreaksAt n trace place rule = (e : Mark) × At trace place e × BreaksEvent n (take place trace) e rule
+
+-- the event at the fault's place is the fault's, and breaks its rule behind those before it
+abbrev pub IsEventFault : ℕ → List Mark → EventFault → Type 0
+IsEventFault n trace fault = At trace fault.place fault.event × BreaksEvent n (take fault.place trace) fault.event fault.rule
+
+-- ---- held pairs and dumps
+
+-- the pair at the place breaks no rule in a group of n
+abbrev pub FitsPair : ℕ → List Mark → ℕ → ℕ → Determinant → Type 0
+FitsPair n trace place holder d = (place < 131072) × (holder < n) × Has trace (receipt_of d)
+
+-- the pair at the place breaks this rule in a group of n
+abbrev pub BreaksPair : ℕ → List Mark → ℕ → ℕ → Determinant → PairRule → Type 0
+BreaksPair n trace place holder d pair_rule.TooMany = 131072 ≤ place
+BreaksPair n trace place holder d (pair_rule.Outside outsider) = (place < 131072) × IsOutside n holder outsider
+BreaksPair n trace place holder d (pair_rule.NoReceipt receipt) =
+    (place < 131072) × (holder < n) × (receipt ≡ receipt_of d) × ¬ (Has trace receipt)
+
+-- the pair at the fault's place is the fault's, and breaks its rule
+abbrev pub IsPairFault : Parts → PairFault → Type 0
+IsPairFault dump fault =
+    (slice_get dump.held fault.place ≡ Some (fault.holder, fault.determinant)) × BreaksPair dump.members dump.events fault.place fault.holder fault.determinant fault.rule
+
+-- what the fault says of the dump is so
+abbrev pub IsOfDump : Parts → DumpFault → Type 0
+IsOfDump dump (dump_fault.BadMembers members) = members ≡ dump.members
+IsOfDump dump (dump_fault.BadF f members) = (f ≡ dump.f) × (members ≡ dump.members)
+IsOfDump dump (dump_fault.BadEvent fault) = IsEventFault dump.members dump.events fault
+IsOfDump dump (dump_fault.BadHeld fault) = IsPairFault dump fault
+IsOfDump dump (dump_fault.BadStrike outsider) = IsLeastOutside dump.strike dump.members outsider
+IsOfDump dump dump_fault.Memory = Unit {0}
+
+-- the refusal that stands for the fault
+abbrev pub dump_refusal : DumpFault → DumpRefusal
+dump_refusal (dump_fault.BadMembers members) = refused.BadMembers
+dump_refusal (dump_fault.BadF f members) = refused.BadF
+dump_refusal (dump_fault.BadEvent fault) = refused.BadEvent fault.place
+dump_refusal (dump_fault.BadHeld fault) = refused.BadHeld fault.place
+dump_refusal (dump_fault.BadStrike outsider) = refused.BadStrike
+dump_refusal dump_fault.Memory = refused.Memory

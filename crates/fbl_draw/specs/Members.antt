@@ -1,0 +1,41 @@
+-- The shapes of members: a label, names and a line for each.
+use Rattle.std.specs.Prelude.{ℕ, Bool, true, false, List, [], ◌∷◌, ◌++◌, length, Option, Some, None}
+use Rattle.std.specs.List.{flat_map, range_with_len}
+use Rattle.std.specs.FinSet as set
+use Rattle.fbl_base.specs.Audit.{Parts, orphan_start_in}
+use Rattle.fbl_shapes.specs.declared.shape.LineKind.{LineKind}
+use Rattle.fbl_shapes.specs.declared.shape.LineKind.TheVariants as line_kind
+use Rattle.fbl_shapes.specs.declared.shape.Shape.{Shape}
+use Rattle.fbl_shapes.specs.declared.shape.Shape.TheVariants.{Label, Line}
+use Rattle.fbl_shapes.specs.declared.shape.Status.{Status}
+use Rattle.fbl_shapes.specs.declared.shape.Status.TheVariants.{Struck, Orphan, Up}
+use Rattle.fbl_shapes.specs.Names.{names}
+
+-- whether a member is struck, and else whether it is an orphan from some place on
+abbrev pub status_of : Bool → Option ℕ → Status
+status_of true start = Struck
+status_of false (Some place) = Orphan
+status_of false None = Up
+
+-- a struck member is down
+abbrev pub line_kind_of : Bool → LineKind
+line_kind_of true = line_kind.Down
+line_kind_of false = line_kind.Up
+
+-- an orphan's line from the first event that depends on a lost receipt
+abbrev pub orphan_line : ℕ → ℕ → Option ℕ → List Shape
+orphan_line columns member None = []
+orphan_line columns member (Some place) = Line member (Some place) columns line_kind.Orphan ∷ []
+
+-- a member's label, its number again in a wide picture, and its line, which goes by all columns
+abbrev pub member_shapes : ℕ → ℕ → Bool → Option ℕ → List Shape
+member_shapes columns member struck start =
+    Label member (Some (status_of struck start)) ∷ [] ++ names columns member ++ Line member None columns (line_kind_of struck) ∷ [] ++ orphan_line columns member start
+
+-- the shapes of one member of a dump, where each orphan starts at a place
+abbrev pub shapes_of_member : Parts → List (Option ℕ) → ℕ → List Shape
+shapes_of_member dump starts member = member_shapes (length dump.events) member (set.contains dump.strike member) (orphan_start_in starts member)
+
+-- the shapes of the members of a dump, in their order
+abbrev pub members_drawn : Parts → List (Option ℕ) → List Shape
+members_drawn dump starts = flat_map (shapes_of_member dump starts) (range_with_len 0 dump.members)

@@ -1,0 +1,6 @@
+use Rattle.std.proofs.Common.{◌≡◌, take, string_bytes}
+use Rattle.fbl_dump.specs.Checking.{unsafe_lines}
+use Rattle.fbl_dump.proofs.checking.unsafe_texts.Given as goal
+
+abbrev pub invariant-loop-receipt : goal.invariant-loop-receipt
+invariant-loop-receipt l = string_bytes l.text ≡ unsafe_lines (take l.receipt-index l.unsafe_receipts)

@@ -1,0 +1,45 @@
+-- What a check leaves in the writer, and what it answers.
+use Rattle.std.specs.Prelude.{◌≡◌, ℕ, List, [], ◌∷◌, Option, Result}
+use Rattle.std.specs.List.{flat_map}
+use Rattle.fbl_base.specs.Audit.{Parts}
+use Rattle.fbl_audit.specs.Checking.{IsSafe, SaysUnsafe, receipts_of_dump}
+use Rattle.fbl_audit.specs.declared.checking.UnsafeReceipt.{UnsafeReceipt}
+use Rattle.fbl_lines.specs.Lines.{safe_line, unsafe_line}
+use Rattle.fbl_input.specs.declared.fault.RunFault.{RunFault}
+use Rattle.fbl_dump.specs.Answering.{Answers, AnswersDump, ReadsAndAnswers}
+use Rattle.fbl_dump.specs.declared.checking.Verdict.{Verdict}
+use Rattle.fbl_dump.specs.declared.checking.Verdict.TheVariants.{Safe, Unsafe}
+
+-- the verdict on the dump: whichever members may be lost, no orphan is left, or not so
+abbrev pub IsVerdict : Parts → Verdict → Type 0
+IsVerdict dump Safe = IsSafe dump
+IsVerdict dump Unsafe = ¬ (IsSafe dump)
+
+-- a line for each receipt
+abbrev pub unsafe_lines : List UnsafeReceipt → List ℕ
+unsafe_lines said = flat_map (λ u. unsafe_line u.determinant u.strike u.orphans) said
+
+-- the lines of the unsafe receipts, or that of a safe run
+abbrev pub check_lines : List UnsafeReceipt → List ℕ
+check_lines [] = safe_line
+check_lines (first ∷ rest) = unsafe_lines (first ∷ rest)
+
+-- the lines of the check of a dump: exactly its unsafe receipts are said
+abbrev pub IsCheckText : Parts → List ℕ → Type 0
+IsCheckText dump text = (said : List UnsafeReceipt) × SaysUnsafe dump (receipts_of_dump dump) said × (text ≡ check_lines said)
+
+-- the verdict on the dump, with the lines of its check
+abbrev pub IsChecked : Parts → Verdict → List ℕ → Type 0
+IsChecked dump verdict text = IsVerdict dump verdict × IsCheckText dump text
+
+-- what a check of the dump leaves in the writer
+abbrev pub ChecksDump : Parts → Option (List ℕ) → Option (List ℕ) → Result Verdict RunFault → Type 0
+ChecksDump = AnswersDump IsChecked
+
+-- what a check of the bytes leaves in the writer; its faults are those of an audit
+abbrev pub Checks : List ℕ → Option (List ℕ) → Option (List ℕ) → Result Verdict RunFault → Type 0
+Checks = Answers IsChecked
+
+-- what a check of what a reader has leaves in the writer: a read may fail, and else it is a check of the bytes
+abbrev pub ReadsAndChecks : List ℕ → Option (List ℕ) → Option (List ℕ) → Result Verdict RunFault → Type 0
+ReadsAndChecks = ReadsAndAnswers IsChecked

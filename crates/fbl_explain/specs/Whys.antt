@@ -1,0 +1,43 @@
+-- Why receipts are lost, or could be.
+use Rattle.std.specs.Prelude.{ℕ, ◌≡◌, ◌<◌, List, length, map, Some, slice_get}
+use Rattle.fbl_base.specs.declared.trace.Determinant.{Determinant}
+use Rattle.fbl_base.specs.Audit.{Parts, lost_determinants}
+use Rattle.fbl_base.specs.Events.{At, receipt_of}
+use Rattle.fbl_audit.specs.declared.checking.UnsafeReceipt.{UnsafeReceipt}
+use Rattle.fbl_audit.specs.Checking.{IsLeftOrphan, SaysUnsafe, receipts_of_dump}
+use Rattle.fbl_audit.specs.Dependents.{Members}
+use Rattle.fbl_audit.specs.Holders.{holders_of}
+use Rattle.fbl_audit.specs.Paths.{IsPathTo}
+use Rattle.fbl_explain.specs.declared.why.LossReason.{LossReason}
+use Rattle.fbl_explain.specs.declared.why.OrphanPath.{OrphanPath}
+
+-- the places are those of a path from the receipt with the determinant to the member
+abbrev pub IsPathFrom : Parts → Determinant → ℕ → List ℕ → Type 0
+IsPathFrom dump d member places = (i : ℕ) × At dump.events i (receipt_of d) × IsPathTo (record { events = dump.events; place = i }) member places
+
+-- there is a path from the receipt to each member outside these that depends on it, and to no other; the members rise
+pub record ArePathsTo (dump : Parts) (d : Determinant) (members : Members) (paths : List OrphanPath) : Type 0 where
+  pub each : (k : ℕ) (p : OrphanPath) → slice_get paths k ≡ Some p → IsLeftOrphan dump members d p.orphan × IsPathFrom dump d p.orphan p.places.items
+  pub all : (q : ℕ) → IsLeftOrphan dump members d q → (k : ℕ) × (p : OrphanPath) × (slice_get paths k ≡ Some p) × (p.orphan ≡ q)
+  pub rising : (k l : ℕ) (p r : OrphanPath) → k < l → slice_get paths k ≡ Some p → slice_get paths l ≡ Some r → p.orphan < r.orphan
+
+-- who holds the receipt, and why it has orphans outside these
+pub record IsReasonOf (dump : Parts) (d : Determinant) (members : Members) (reason : LossReason) : Type 0 where
+  pub determinant : reason.determinant ≡ d
+  pub holders : reason.holders ≡ holders_of dump d
+  pub strike : reason.strike ≡ members
+  pub orphans : ArePathsTo dump d members reason.orphans.items
+
+-- a reason is told of each of these receipts with the members that lose it, in their order
+pub record TellsOf (dump : Parts) (receipts : List (Determinant × Members)) (reasons : List LossReason) : Type 0 where
+  pub count : length reasons ≡ length receipts
+  pub each : (k : ℕ) (x : Determinant × Members) (r : LossReason) → slice_get receipts k ≡ Some x → slice_get reasons k ≡ Some r → IsReasonOf dump x.0 x.1 r
+
+-- of the lost receipts, with the strike set
+abbrev pub TellsLost : Parts → List LossReason → Type 0
+TellsLost dump reasons = TellsOf dump (map (λ d. (d, dump.strike)) (lost_determinants dump)) reasons
+
+-- of the unsafe receipts, each with the least members that may be lost and lose it
+abbrev pub TellsUnsafe : Parts → List LossReason → Type 0
+TellsUnsafe dump reasons =
+    (said : List UnsafeReceipt) × SaysUnsafe dump (receipts_of_dump dump) said × TellsOf dump (map (λ u. (u.determinant, u.strike)) said) reasons

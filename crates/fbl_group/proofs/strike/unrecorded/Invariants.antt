@@ -1,0 +1,6 @@
+use Rattle.std.proofs.Common.{◌≡◌, take}
+use Rattle.fbl_group.specs.Strikes.{unrecorded_among}
+use Rattle.fbl_group.proofs.strike.unrecorded.Given as goal
+
+abbrev pub invariant-loop-event : goal.invariant-loop-event
+invariant-loop-event g l = l.unrecorded.items ≡ unrecorded_among l.members l.checkpoints (take l.event-index l.trace)

@@ -1,0 +1,121 @@
+-- How a history goes on to a trace.
+use Rattle.std.proofs.Common.{◌≡◌, ℕ, ◌+◌, ◌<◌, ◌≤◌, ◌==◌, ◌&&◌, ◌⊎◌, inl, inr, Bool, true, false}
+use Rattle.std.proofs.Common.{List, [], ◌∷◌, ◌++◌, length, take, drop, get_or, refl, sym, ap, ◌∙◌, arith, append_assoc}
+use Rattle.std.specs.Prelude.{slice_set}
+use Rattle.std.proofs.lemmas.Bool.Decides.{nat_tests}
+use Rattle.std.proofs.lemmas.List.{drop_more, drop_all, drop-drop, drop-set-lt, take_more_set}
+use Rattle.fbl_history.specs.declared.column.Column.{Column}
+use Rattle.fbl_history.specs.declared.column.Column.TheVariants.{Send, Receipt, Strike, Recovery, Checkpoint}
+use Rattle.fbl_history.specs.Columns.{is_standing, crossed, same_standing, standing, is_next, column_then, trace_then, go_on, GoesOnFrom}
+
+none : (b : Bool) → (b && false) ≡ false
+none true = refl
+none false = refl
+
+-- ---- one column
+
+pub then-kept : (column : Column) (rest : List Column) → is_next column rest ≡ true → column_then column rest ≡ column
+then-kept column rest is = rw (is, none (is_standing column)) refl
+
+pub then-crossed : (column : Column) (rest : List Column) → is_standing column ≡ true → is_next column rest ≡ false → column_then column rest ≡ crossed column
+then-crossed column rest stands is = rw (stands, is) refl
+
+pub then-left : (column : Column) (rest : List Column) → is_standing column ≡ false → column_then column rest ≡ column
+then-left column rest stands = rw stands refl
+
+pub then-past : (column : Column) (rest : List Column) → is_next column rest ≡ false → trace_then column rest ≡ rest
+then-past column rest is = rw is refl
+
+module _ (trace : List Column) (k : ℕ) (column : Column) where
+  -- whether the column is of the event at a place
+  pub next-there : (event : Column) → k < length trace → event ≡ get_or trace k event → is_next column (drop k trace) ≡ same_standing column event
+  next-there event below is = rw (drop_more trace k event below) (ap (same_standing column) (sym is))
+
+  pub next-none : length trace ≤ k → is_next column (drop k trace) ≡ false
+  next-none past = rw (drop_all k trace past) refl
+
+  pub trace-taken : is_next column (drop k trace) ≡ true → drop (k + 1) trace ≡ trace_then column (drop k trace)
+  trace-taken is = rw is (sym (drop-drop 1 k trace))
+
+-- one more column has been gone over
+pub cross-step : (whole now trace : List Column) (i : ℕ) (column new : Column) (rest later : List Column) → i < length now → column ≡ get_or now i column
+    → go_on whole trace ≡ take i now ++ go_on (drop i now) rest → new ≡ column_then column rest → later ≡ trace_then column rest
+    → go_on whole trace ≡ take (i + 1) (slice_set now i new) ++ go_on (drop (i + 1) (slice_set now i new)) later
+cross-step whole now trace i column new rest later below is before this left =
+    let front : take (i + 1) (slice_set now i new) ≡ take i now ++ new ∷ [] = take_more_set now i new below in
+    let back : drop (i + 1) (slice_set now i new) ≡ drop (i + 1) now = drop-set-lt (i + 1) now i new (omega arith) in
+    let at : drop i now ≡ column ∷ drop (i + 1) now = drop_more now i column below ∙ ap (λ x. x ∷ drop (i + 1) now) (sym is) in
+    before ∙ ap (λ xs. take i now ++ go_on xs rest) at
+    ∙ (rw (front, back, append_assoc, this, left) refl)
+
+-- ---- laws
+
+both : (a b : Bool) → (a && b) ≡ true → (a ≡ true) × (b ≡ true)
+both true b h = (refl, h)
+both false b h = absurd cc
+
+equal : (x y : ℕ) → (x == y) ≡ true → x ≡ y
+equal x y h = grind (arith, nat_tests)
+
+-- columns of the same standing event are equal, and stand
+pub same-is : (a b : Column) → same_standing a b ≡ true → (a ≡ b) × (is_standing b ≡ true)
+same-is (Send q k p false) (Send q' k' p' false) h =
+    let first = both (q == q') _ h in
+    let second = both (k == k') _ first.1 in
+    let e1 = equal q q' first.0 in
+    let e2 = equal k k' second.0 in
+    let e3 = equal p p' second.1 in
+    (rw (e1, e2, e3) refl, refl)
+same-is (Receipt p r q k s false) (Receipt p' r' q' k' s' false) h =
+    let first = both (p == p') _ h in
+    let second = both (r == r') _ first.1 in
+    let third = both (q == q') _ second.1 in
+    let fourth = both (k == k') _ third.1 in
+    let e1 = equal p p' first.0 in
+    let e2 = equal r r' second.0 in
+    let e3 = equal q q' third.0 in
+    let e4 = equal k k' fourth.0 in
+    let e5 = equal s s' fourth.1 in
+    (rw (e1, e2, e3, e4, e5) refl, refl)
+same-is _ _ h = absurd cc
+
+-- a crossed column does not stand
+pub crossed-lies : (column : Column) → is_standing (crossed column) ≡ false
+crossed-lies (Send q k p undone) = refl
+crossed-lies (Receipt p r q k s undone) = refl
+crossed-lies (Strike struck) = refl
+crossed-lies (Recovery replays) = refl
+crossed-lies (Checkpoint m) = refl
+
+-- what is next stands
+pub next-is : (column : Column) (trace : List Column) → is_next column trace ≡ true → (trace ≡ column ∷ drop 1 trace) × (is_standing column ≡ true)
+next-is column [] h = absurd cc
+next-is column (event ∷ trace) h =
+    let same = same-is column event h in
+    (ap (λ x. x ∷ trace) (sym same.0), ap is_standing same.0 ∙ same.1)
+
+-- the standing events of what goes on to a trace are that trace
+pub standing-trace : (columns trace : List Column) → standing trace ≡ trace → standing (go_on columns trace) ≡ trace
+standing-trace [] trace stand = stand
+standing-trace (column ∷ columns) trace stand = at (is_next column trace) (is_standing column) refl refl (standing-trace columns) where
+  at : (n s : Bool) → is_next column trace ≡ n → is_standing column ≡ s → ((rest : List Column) → standing rest ≡ rest → standing (go_on columns rest) ≡ rest)
+      → standing (column_then column trace ∷ go_on columns (trace_then column trace)) ≡ trace
+  at true s is stands later =
+      let next = next-is column trace is in
+      let rest : standing (drop 1 trace) ≡ drop 1 trace =
+      (let whole : standing (column ∷ drop 1 trace) ≡ column ∷ drop 1 trace = ap standing (sym next.0) ∙ stand ∙ next.0 in
+      let first : column ∷ standing (drop 1 trace) ≡ column ∷ drop 1 trace = rw next.1 at whole in cc) in
+      let ih = later (drop 1 trace) rest in
+      rw (then-kept column trace is, is, next.1) (ap (λ xs. column ∷ xs) ih ∙ sym next.0)
+  at false true is stands later = rw (then-crossed column trace stands is, then-past column trace is, crossed-lies column) (later trace stand)
+  at false false is stands later = rw (then-left column trace stands, then-past column trace is, stands) (later trace stand)
+
+-- nothing but what stands is crossed, and nothing that is crossed comes back
+pub goes-on : (columns trace : List Column) → GoesOnFrom columns (go_on columns trace)
+goes-on [] trace = tt
+goes-on (column ∷ columns) trace = (at (is_next column trace) (is_standing column) refl refl, goes-on columns (trace_then column trace)) where
+  at : (n s : Bool) → is_next column trace ≡ n → is_standing column ≡ s
+      → (column_then column trace ≡ column) ⊎ ((is_standing column ≡ true) × (column_then column trace ≡ crossed column))
+  at true s is stands = inl (then-kept column trace is)
+  at false true is stands = inr (stands, then-crossed column trace stands is)
+  at false false is stands = inl (then-left column trace stands)

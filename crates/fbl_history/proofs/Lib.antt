@@ -1,0 +1,4 @@
+pub mod Following
+pub mod Crossing
+pub mod Standing
+pub mod Cutting

@@ -1,0 +1,55 @@
+-- The columns of a trace stand, and no two are the same.
+use Rattle.std.proofs.Common.{◌≡◌, ℕ, List, [], ◌∷◌, map, Some, refl, sym, ap, ◌∙◌}
+use Rattle.std.specs.Prelude.{slice_get}
+use Rattle.std.proofs.lemmas.Option.{slice_get-map}
+use Rattle.fbl_base.specs.declared.trace.Event.{Event}
+use Rattle.fbl_base.specs.declared.trace.Event.TheVariants.{Send, Receipt}
+use Rattle.fbl_base.specs.Events.{At, mark_of}
+use Rattle.fbl_base.specs.Fold.{Next}
+use Rattle.fbl_base.proofs.Gets.{map-At}
+use Rattle.fbl_base.proofs.PlacesAndEvents.{one_place}
+use Rattle.fbl_law.specs.Groups.{GroupRecord, marks}
+use Rattle.fbl_law.specs.Sound.{IsSound}
+use Rattle.fbl_history.specs.declared.column.Column.{Column}
+use Rattle.fbl_history.specs.Columns.{standing, go_on, HasEachOnce}
+use Rattle.fbl_history.specs.Traces.{event_column, trace_columns}
+use Rattle.fbl_history.proofs.Crossing.{same-is, standing-trace}
+
+columns-stand : (next : Next) (n : ℕ) (trace events : List Event) → standing (map (event_column next n trace) events) ≡ map (event_column next n trace) events
+columns-stand next n trace [] = refl
+columns-stand next n trace (Send q k p note ∷ events) = ap (λ (xs : List Column). event_column next n trace (Send q k p note) ∷ xs) (columns-stand next n trace events)
+columns-stand next n trace (Receipt p r q k ∷ events) = ap (λ (xs : List Column). event_column next n trace (Receipt p r q k) ∷ xs) (columns-stand next n trace events)
+
+pub trace-stands : (next : Next) (r : GroupRecord) → standing (trace_columns next r) ≡ trace_columns next r
+trace-stands next r = columns-stand next r.config.members r.trace r.trace
+
+pub standing-is-trace : (next : Next) (r : GroupRecord) (columns : List Column) → standing (go_on columns (trace_columns next r)) ≡ trace_columns next r
+standing-is-trace next r columns = standing-trace columns (trace_columns next r) (trace-stands next r)
+
+-- events whose columns are equal have the same mark
+same-mark : (next : Next) (n : ℕ) (trace : List Event) (e e' : Event) → event_column next n trace e ≡ event_column next n trace e' → mark_of e ≡ mark_of e'
+same-mark next n trace (Send q k p note) (Send q' k' p' note') same =
+    let e1 : q ≡ q' = cc in
+    let e2 : k ≡ k' = cc in
+    let e3 : p ≡ p' = cc in
+    rw (e1, e2, e3) refl
+same-mark next n trace (Receipt p r q k) (Receipt p' r' q' k') same =
+    let e1 : p ≡ p' = cc in
+    let e2 : r ≡ r' = cc in
+    let e3 : q ≡ q' = cc in
+    let e4 : k ≡ k' = cc in
+    rw (e1, e2, e3, e4) refl
+same-mark next n trace (Send q k p note) (Receipt p' r' q' k') same = absurd cc
+same-mark next n trace (Receipt p r q k) (Send q' k' p' note') same = absurd cc
+
+mark-at : (r : GroupRecord) (i : ℕ) (e : Event) → slice_get r.trace i ≡ Some e → At (marks r) i (mark_of e)
+mark-at r i e here = slice_get-map mark_of r.trace i ∙ (rw here refl)
+
+pub trace-once : (next : Next) (r : GroupRecord) → IsSound next r → HasEachOnce (trace_columns next r)
+trace-once next r sound i j a b at_i at_j same =
+    let first = map-At (event_column next r.config.members r.trace) r.trace i a at_i in
+    let second = map-At (event_column next r.config.members r.trace) r.trace j b at_j in
+    let marked : mark_of first.0 ≡ mark_of second.0 =
+    same-mark next r.config.members r.trace first.0 second.0 (first.2 ∙ (same-is a b same).0 ∙ sym second.2) in
+    one_place r.config.members (marks r) sound.lawful.well_formed (mark_of first.0) i j (mark-at r i first.0 first.1)
+    (mark-at r j second.0 second.1 ∙ ap (λ m. Some m) (sym marked))

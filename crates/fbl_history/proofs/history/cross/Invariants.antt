@@ -1,0 +1,9 @@
+use Rattle.std.proofs.Common.{◌≡◌, ◌≤◌, ◌++◌, drop, take, length}
+use Rattle.fbl_history.specs.Columns.{go_on}
+use Rattle.fbl_history.proofs.history.cross.Given as goal
+
+abbrev pub invariant-loop-column : goal.invariant-loop-column
+invariant-loop-column l = record {
+  within : l.kept ≤ length l.trace;
+  before : go_on l.initial.column-items l.trace ≡ take l.column-index l.column-items ++ go_on (drop l.column-index l.column-items) (drop l.kept l.trace);
+}

@@ -1,0 +1,10 @@
+use Rattle.std.proofs.Common.{◌≡◌, map, take}
+use Rattle.fbl_base.specs.MemberSets.{member_list}
+use Rattle.fbl_history.specs.Traces.{replay_of}
+use Rattle.fbl_history.proofs.history.replays.Given as goal
+
+abbrev pub invariant-loop-member : goal.invariant-loop-member
+invariant-loop-member g l = record {
+  listed : l.member-items ≡ member_list l.fn.members;
+  replays : l.replays.items ≡ map (replay_of l.group) (take l.member-index l.member-items);
+}

@@ -1,0 +1,28 @@
+use Rattle.std.proofs.Common.{◌≡◌, ℕ, ap, ◌∙◌, arith}
+use Rattle.fbl_base.specs.Configs.{Settings}
+use Rattle.fbl_member.specs.Members.{MemberRecord, blank, fresh}
+use Rattle.fbl_group.proofs.MemberNumbers.{numbered}
+use Rattle.fbl_group.proofs.Queues.{made-more}
+use Rattle.fbl_history.proofs.Following.{fresh-replayed}
+use Rattle.fbl_history.proofs.states.fresh_members.Goals as goal
+
+pub loop-number-preserved : goal.loop-number-preserved
+loop-number-preserved g c =
+    let member : c.unwrap-member.result ≡ c.loop-number.number =
+    numbered c.new.result _ c.loop-number.number c.new.ensures
+    (omega (arith, c.loop-number-test.true, c.members-number-end.ensures.rules.members.1)) c.unwrap-member.ensures in
+    let is : c.in_ok-fresh.field-0 ≡ fresh c.loop-number.number c.args.group.now.config.starts =
+    c.in_ok-fresh.ensures ∙ ap (λ (x : Settings). fresh c.unwrap-member.result x.starts) c.config-config.ensures
+    ∙ ap (λ (m : ℕ). fresh m c.args.group.now.config.starts) member in
+    let more =
+    made-more blank (λ (m : ℕ) (x : MemberRecord). x ≡ fresh m c.args.group.now.config.starts) c.loop-number.number c.loop-number.members.items
+    c.in_ok-fresh.field-0 (record { size = c.loop-number.invariant.size; each = c.loop-number.invariant.fresh }) is in
+    rw c.in_ok-push.ensures.items (record { size = more.size; fresh = more.each })
+
+pub returns : goal.returns
+returns g c =
+    let count : c.members-number-end.result ≡ c.args.group.now.config.members =
+    c.members-number-end.ensures.value ∙ ap (λ (x : Settings). x.members) c.config-config.ensures in
+    fresh-replayed g.B.Behaviour.next c.args.group.now c.loop-number.members.items
+    (omega (arith, count, c.loop-number.invariant.size, c.loop-number.auto.number-end, c.loop-number-test.false))
+    (λ m below. c.loop-number.invariant.fresh m (omega (arith, count, below, c.loop-number-test.false)))

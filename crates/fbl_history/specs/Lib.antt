@@ -1,0 +1,4 @@
+pub mod Columns
+pub mod Traces
+pub mod Replays
+pub mod Laws

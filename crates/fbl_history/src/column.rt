@@ -1,0 +1,123 @@
+//! The columns of a history.
+
+ghost use Rattle.std.specs.Prelude.{◌≡◌};
+ghost use Rattle.fbl_history.specs.Columns.{crossed, is_standing as stands, same_standing};
+
+use fbl_base::{Member, MemberSet};
+
+/// How many receipts a member replayed in a recovery, counted after its checkpoint.
+#[derive(Clone, Copy, PartialEq, Eq, Debug)]
+pub struct Replay {
+    /// The member that was down.
+    pub member: Member,
+    /// How many receipts it has after the recovery, less those that its checkpoint has.
+    pub receipts: u32,
+}
+
+/// A column of a history: what came, in the order in which it came. An event that is `undone` was taken out of the trace,
+/// by a recovery or by a run of workers.
+#[derive(Drop, PartialEq, Debug)]
+pub enum Column {
+    /// A message is sent.
+    Send {
+        /// The sender.
+        from: Member,
+        /// Which of the sender's sends it is, over all destinations, from 1.
+        ssn: u32,
+        /// The receiver.
+        to: Member,
+        /// Whether it is no longer in the trace.
+        undone: bool,
+    },
+    /// A message is received.
+    Receipt {
+        /// The receiver.
+        to: Member,
+        /// Which of the receiver's receipts it is, over all senders, from 1.
+        rsn: u32,
+        /// The message's sender.
+        from: Member,
+        /// The message's number among its sender's sends.
+        ssn: u32,
+        /// The receiver's state after it.
+        state: u64,
+        /// Whether it is no longer in the trace.
+        undone: bool,
+    },
+    /// Members are struck by one command.
+    Strike(MemberSet),
+    /// The members that were down are brought back by one command, in member order.
+    Recovery(Vec<Replay>),
+    /// A checkpoint of a member is taken.
+    Checkpoint(Member),
+}
+
+impl Column {
+    /// Whether it is an event that is not undone.
+    pub fn is_standing(&self) -> bool
+        ensures { result ≡ stands self.now }
+    {
+        match self {
+            Column::Send { undone, .. } | Column::Receipt { undone, .. } => !*undone,
+            _ => false,
+        }
+    }
+
+    /// Whether both are the same event, with the same state, that is not undone.
+    pub(crate) fn is_same_standing(&self, other: &Column) -> bool
+        ensures { result ≡ same_standing self.now other.now }
+    {
+        match (self, other) {
+            (
+                Column::Send {
+                    from,
+                    ssn,
+                    to,
+                    undone: false,
+                },
+                Column::Send {
+                    from: other_from,
+                    ssn: other_ssn,
+                    to: other_to,
+                    undone: false,
+                },
+            ) => from == other_from && ssn == other_ssn && to == other_to,
+            (
+                Column::Receipt {
+                    to,
+                    rsn,
+                    from,
+                    ssn,
+                    state,
+                    undone: false,
+                },
+                Column::Receipt {
+                    to: other_to,
+                    rsn: other_rsn,
+                    from: other_from,
+                    ssn: other_ssn,
+                    state: other_state,
+                    undone: false,
+                },
+            ) => {
+                to == other_to
+                    && rsn == other_rsn
+                    && from == other_from
+                    && ssn == other_ssn
+                    && state == other_state
+            }
+            _ => false,
+        }
+    }
+
+    /// Makes an event one that is undone.
+    pub(crate) fn cross(&mut self)
+        ensures { self.new ≡ crossed self.old }
+    {
+        match self {
+            Column::Send { undone, .. } => *undone = true,
+            Column::Receipt { undone, .. } => *undone = true,
+            _ => {}
+        }
+    }
+}

@@ -1,0 +1,138 @@
+//! A history, and how it goes on.
+
+ghost use Rattle.std.specs.Prelude.{◌≡◌, ◌≤◌, ◌++◌, ◌∷◌, [], drop, length, IfOk};
+ghost use Rattle.fbl_base.specs.MemberSets.{AllBelow};
+ghost use Rattle.fbl_history.specs.Columns.{go_on as gone_on};
+ghost use Rattle.fbl_history.specs.Traces.{trace_columns as columns_of_trace, replays_of, IsAfterRecovery};
+ghost use Rattle.fbl_history.specs.declared.column.Column.TheVariants.{Strike, Checkpoint};
+
+use crate::column::{Column, Replay};
+use crate::states::trace_columns;
+use fbl_base::{Behaviour, Member, MemberSet};
+use fbl_group::Group;
+use std::alloc::{AllocError, Global};
+use std::marker::Model;
+
+/// What came in a run of a group, in the order in which it came. Contracts see the list of its columns.
+#[derive(Drop, Debug)]
+pub struct History {
+    columns: Vec<Column>,
+}
+
+impl Model for History {
+    ghost use Rattle.std.specs.Prelude.{List};
+    ghost use Rattle.fbl_history.specs.declared.column.Column.{Column};
+
+    ghost Value = { List Column };
+
+    ghost use Rattle.std.specs.Coded.{codes};
+    ghost use Rattle.fbl_history.specs.contracts.column.Column as column;
+
+    ghost coded = { Prim.hlevel (codes, column.the_row.coded) };
+
+    ghost view = { λ h. h.columns.items };
+}
+
+impl History {
+    /// The history of a group of which nothing is told yet: the events of its trace.
+    pub fn new<B: Behaviour>(alloc: Global, group: &Group<B>) -> Result<History, AllocError>
+        ensures { IfOk result (λ history. history ≡ columns_of_trace B.next group.now) }
+    {
+        Ok(History {
+            columns: trace_columns(alloc, group)?,
+        })
+    }
+
+    /// The columns, in the order in which they came.
+    pub fn columns(&self) -> &[Column]
+        ensures { result.now ≡ self.now }
+    {
+        self.columns.as_slice()
+    }
+
+    /// The history after deliveries or workers have led to this group: what they made is added, and what is no longer in the
+    /// trace is undone.
+    pub fn go_on<B: Behaviour>(self, alloc: Global, group: &Group<B>) -> Result<History, AllocError>
+        ensures { IfOk result (λ history. history ≡ gone_on self (columns_of_trace B.next group.now)) }
+    {
+        let History { mut columns } = self;
+        let trace = trace_columns(alloc, group)?;
+        let kept = cross(&mut columns, trace.as_slice());
+        columns.extend(trace.into_iter().skip(kept))?;
+        Ok(History { columns })
+    }
+
+    /// The history after a strike of these members by one command.
+    pub fn strike(self, members: MemberSet) -> Result<History, AllocError>
+        ensures { IfOk result (λ history. history ≡ self ++ Strike members ∷ []) }
+    {
+        self.with(Column::Strike(members))
+    }
+
+    /// The history after a recovery of these members, which were down, has led to this group.
+    pub fn recover<B: Behaviour>(
+        self,
+        alloc: Global,
+        group: &Group<B>,
+        members: MemberSet,
+    ) -> Result<History, AllocError>
+        requires { AllBelow members group.now.config.members }
+        ensures { IfOk result (λ history. IsAfterRecovery B.next group.now members self history) }
+    {
+        let replays = replays(alloc, group, members)?;
+        self.go_on(alloc, group)?.with(Column::Recovery(replays))
+    }
+
+    /// The history after a checkpoint of the member.
+    pub fn checkpoint(self, member: Member) -> Result<History, AllocError>
+        ensures { IfOk result (λ history. history ≡ self ++ Checkpoint member ∷ []) }
+    {
+        self.with(Column::Checkpoint(member))
+    }
+
+    /// The history with one more column.
+    fn with(self, column: Column) -> Result<History, AllocError>
+        ensures { IfOk result (λ history. history ≡ self ++ column ∷ []) }
+    {
+        let History { mut columns } = self;
+        columns.push(column)?;
+        Ok(History { columns })
+    }
+}
+
+/// How many receipts each of the members has beyond its checkpoint, in member order.
+fn replays<B: Behaviour>(
+    alloc: Global,
+    group: &Group<B>,
+    members: MemberSet,
+) -> Result<Vec<Replay>, AllocError>
+    requires { AllBelow members group.now.config.members }
+    ensures { IfOk result (λ replays. replays.items ≡ replays_of group.now members) }
+{
+    let listed = members.members(alloc)?;
+    let mut replays = Vec::with_capacity(alloc, listed.len())?;
+    for member in &listed {
+        let received = group.received(*member);
+        replays.push(Replay {
+            member: *member,
+            receipts: received.saturating_sub(group.checkpoint_received(*member)),
+        })?;
+    }
+    Ok(replays)
+}
+
+/// Crosses the standing events that are not the next ones of the trace, and answers how many of the trace's are.
+fn cross(columns: &mut Vec<Column>, trace: &[Column]) -> usize
+    ensures within { result ≤ length trace.now }
+    ensures crossed { columns.new.items ++ drop result trace.now ≡ gone_on columns.old.items trace.now }
+{
+    let mut kept = 0;
+    for column in columns.iter_mut() {
+        if kept < trace.len() && column.is_same_standing(&trace[kept]) {
+            kept += 1;
+        } else if column.is_standing() {
+            column.cross();
+        }
+    }
+    kept
+}

@@ -1,0 +1,18 @@
+//! Laws of histories. Each is the contract of a function that does nothing, so that the check of the crate proves it.
+
+ghost use Rattle.fbl_history.specs.Laws.{StandingIsTrace, NothingComesBack, OthersAreCrossed, TraceHasEachOnce};
+
+/// After a history has gone on to a group, its events that are not undone are exactly the group's trace, in order. Nothing
+/// that stood before it changes but that events become undone, and none that is undone comes back.
+pub fn going_on_law()
+    ensures standing { StandingIsTrace }
+    ensures nothing_comes_back { NothingComesBack }
+{}
+
+/// A history of whose standing events no two are the same goes on to some of these, in their order: exactly the others become
+/// undone, and no column is added. A recovery's trace is such a part of the trace before it, and a sound group's trace has no
+/// event twice.
+pub fn cutting_law()
+    ensures crossed { OthersAreCrossed }
+    ensures once { TraceHasEachOnce }
+{}

@@ -1,0 +1,17 @@
+use Rattle.std.proofs.Common.{◌++◌, ◌∙◌, ap, drop, map, option_map, ◌+◌}
+use Rattle.serde_json.specs.View.{view}
+use Rattle.fbl_input.specs.Shapes.{all_shaped}
+use Rattle.fbl_input.proofs.Firsts.{one_more, read_more}
+use Rattle.fbl_input.proofs.shapes.all_in.Goals as goal
+
+pub loop-place-preserved : goal.loop-place-preserved
+loop-place-preserved g c =
+    let list = c.args.list.now in
+    let i = c.loop-place.place in
+    let item = c.index-list-place.result in
+    let is = c.index-list-place.is in
+    let within = c.loop-place-test.true in (
+      ap (λ items. option_map (λ rest. items ++ rest) (all_shaped g.S.Shape.shape (map view (drop (i + 1) list)))) c.in_ok-push-in-Some.ensures.items
+          ∙ read_more view g.S.Shape.shape list i item c.in-Some.one c.loop-place.all.items _ within is c.in-Some.ensures c.loop-place.invariant.0,
+      one_more view g.S.Shape.shape list i item c.in-Some.one within is c.in-Some.ensures c.loop-place.invariant.1,
+    )

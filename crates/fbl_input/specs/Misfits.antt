@@ -1,0 +1,124 @@
+-- What a fault says of the value that an input is.
+use Rattle.std.specs.Prelude.{◌≡◌, ℕ, ◌<◌, ◌==◌, List, [], ◌∷◌, length, Bool, true, false, Option, Some, None, is_some, option_and_then, option_map, Result, Ok, Err, slice_get, string_bytes, codes, if◌then◌else◌}
+use Rattle.serde_json.specs.Data.{Data}
+use Rattle.serde_json.specs.Find.{get}
+use Rattle.serde_json.specs.View.{view}
+use Rattle.fbl_base.specs.Audit.{Parts}
+use Rattle.fbl_base.specs.Breaches.{IsOfConfig, IsOfDump, config_refusal, dump_refusal}
+use Rattle.fbl_base.specs.Configs.{Settings}
+use Rattle.fbl_input.specs.declared.fault.Key.{Key}
+use Rattle.fbl_input.specs.declared.fault.Key.TheVariants as keys
+use Rattle.fbl_input.specs.declared.fault.RunFault.{RunFault}
+use Rattle.fbl_input.specs.declared.fault.RunFault.TheVariants as faults
+use Rattle.fbl_input.specs.declared.input_fault.CommandForm.{CommandForm}
+use Rattle.fbl_input.specs.declared.input_fault.CommandForm.TheVariants as forms
+use Rattle.fbl_input.specs.declared.input_fault.InputKind.{InputKind}
+use Rattle.fbl_input.specs.declared.input_fault.InputFault.{InputFault}
+use Rattle.fbl_input.specs.declared.input_fault.InputFault.TheVariants as inputs
+use Rattle.fbl_input.specs.Faults.{config_fault, dump_fault}
+use Rattle.fbl_input.specs.Items.{is_item, items_at, unknown_key}
+use Rattle.fbl_input.specs.Shapes.{Fails, as_list, count_shape, is_text, name_of}
+
+-- the fault that stands for it
+abbrev pub run_fault : InputFault → RunFault
+run_fault inputs.TooLong = faults.TooLong
+run_fault (inputs.NotJson error) = faults.NotJson
+run_fault (inputs.NotObject found) = faults.NotObject
+run_fault (inputs.MissingKey key unknown) = faults.BadField key
+run_fault (inputs.BadValue key found) = faults.BadField key
+run_fault (inputs.BadItem key place found) = faults.BadField key
+run_fault inputs.TooManyCommands = faults.BadCommand 1024
+run_fault (inputs.BadCommand place found wanted) = faults.BadCommand place
+run_fault (inputs.UnknownKey kind name) = faults.UnknownKey
+run_fault (inputs.Config fault) = config_fault (config_refusal fault)
+run_fault (inputs.Dump fault) = dump_fault (dump_refusal fault)
+run_fault inputs.Memory = faults.Memory
+
+-- what a function returned, seen by view, is what is asked, unless memory ran out
+abbrev pub Gives : {X Y : Type 0} → (X → Y) → Result X InputFault → Result Y RunFault → Type 0
+Gives view (Ok x) asked = asked ≡ Ok (view x)
+Gives view (Err e) asked = Fails (run_fault e) asked
+
+-- a fault that the shape of an input can have, and memory
+abbrev pub IsOfShape : InputFault → Type 0
+IsOfShape (inputs.Config e) = ⊥
+IsOfShape (inputs.Dump e) = ⊥
+IsOfShape e = Unit {0}
+
+-- the value at the place of the list is the first that hasn't the shape
+abbrev pub IsFirstOther : {A : Type 0} → (Data → Option A) → List Data → ℕ → Type 0
+IsFirstOther shape items place =
+    (place < length items) × ((d : Data) → slice_get items place ≡ Some d → is_some (shape d) ≡ false) × ((i : ℕ) (d : Data) → i < place → slice_get items i ≡ Some d → is_some (shape d) ≡ true)
+
+-- this is the value, or memory ran out
+abbrev pub IsNotObject : Data → InputFault → Type 0
+IsNotObject d (inputs.NotObject found) = view found ≡ d
+IsNotObject d inputs.Memory = Unit {0}
+IsNotObject d fault = ⊥
+
+-- this stands at the key, or memory ran out
+abbrev pub IsBadValue : Key → Data → InputFault → Type 0
+IsBadValue key d (inputs.BadValue named found) = (named ≡ key) × (view found ≡ d)
+IsBadValue key d inputs.Memory = Unit {0}
+IsBadValue key d fault = ⊥
+
+-- this stands at the place of the list at the key, or memory ran out
+abbrev pub IsBadItem : Key → ℕ → Data → InputFault → Type 0
+IsBadItem key place d (inputs.BadItem named at found) = (named ≡ key) × (at ≡ place) × (view found ≡ d)
+IsBadItem key place d inputs.Memory = Unit {0}
+IsBadItem key place d fault = ⊥
+
+-- the form of the command that a list's first item names, where there is one; a checkpoint is of version 2 alone
+abbrev pub form_of : Bool → Data → CommandForm
+form_of is_second name =
+    if is_text (codes "deliver") name then forms.Deliver
+    else (if is_text (codes "states") name then forms.States
+    else (if is_text (codes "report") name then forms.Report
+    else (if is_text (codes "strike") name then forms.Strike
+    else (if is_text (codes "recover") name then forms.Recover
+    else (if is_text (codes "dump") name then forms.Dump
+    else (if is_text (codes "run") name then forms.Run
+    else (if is_text (codes "checkpoint") name then (if is_second then forms.Checkpoint else forms.NoCheckpoint) else forms.Any)))))))
+
+-- the form that is wanted where this stands: by its first item, if it is a list that has one
+abbrev pub wanted_form : Bool → Data → CommandForm
+wanted_form is_second d = by_items (as_list d)
+  where
+    by_items : Option (List Data) → CommandForm
+    by_items None = forms.Any
+    by_items (Some []) = forms.Any
+    by_items (Some (name ∷ rest)) = form_of is_second name
+
+-- whether the value is of version 2
+abbrev pub is_second : Data → Bool
+is_second d = by_number (option_and_then count_shape (get (name_of keys.Version) d))
+  where
+    by_number : Option ℕ → Bool
+    by_number None = false
+    by_number (Some n) = n == 2
+
+-- the value at the place of the list is the first that may not stand in the list at the key
+abbrev pub IsFirstMisfit : Key → List Data → ℕ → Data → Type 0
+IsFirstMisfit key items place found =
+    (slice_get items place ≡ Some found) × (is_item key found ≡ false) × ((i : ℕ) (d : Data) → i < place → slice_get items i ≡ Some d → is_item key d ≡ true)
+
+-- what the fault says of the value is so: what stands at its key or place, what is wanted there, and which key is unknown
+abbrev pub IsMisfit : InputKind → Data → InputFault → Type 0
+IsMisfit kind d (inputs.NotObject found) = view found ≡ d
+IsMisfit kind d (inputs.MissingKey key unknown) = (get (name_of key) d ≡ None) × (option_map string_bytes unknown ≡ unknown_key kind d)
+IsMisfit kind d (inputs.BadValue key found) = get (name_of key) d ≡ Some (view found)
+IsMisfit kind d (inputs.BadItem key place found) = IsFirstMisfit key (items_at key d) place (view found)
+IsMisfit kind d (inputs.BadCommand place found wanted) =
+    (slice_get (items_at keys.Commands d) place ≡ Some (view found)) × (wanted ≡ wanted_form (is_second d) (view found))
+IsMisfit kind d (inputs.UnknownKey named name) = (named ≡ kind) × (unknown_key kind d ≡ Some (string_bytes name))
+IsMisfit kind d fault = Unit {0}
+
+-- what the fault says of the parameters that were read is so
+abbrev pub IsOfSettings : Settings → InputFault → Type 0
+IsOfSettings c (inputs.Config fault) = IsOfConfig c fault
+IsOfSettings c fault = Unit {0}
+
+-- what the fault says of the dump that was read is so
+abbrev pub IsOfParts : Parts → InputFault → Type 0
+IsOfParts dump (inputs.Dump fault) = IsOfDump dump fault
+IsOfParts dump fault = Unit {0}

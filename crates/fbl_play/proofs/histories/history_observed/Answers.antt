@@ -1,0 +1,9 @@
+use Rattle.std.proofs.Common.{inl, inr, refl}
+use Rattle.fbl_script.specs.Scripts.{outline}
+use Rattle.fbl_play.proofs.histories.history_observed.Goals as goal
+
+pub returns-in-Ok : goal.returns-in-Ok
+returns-in-Ok g c = inl (outline c.in-Ok.script, c.in-Ok.ensures.script, c.history_of_script.ensures)
+
+pub returns-in-Err : goal.returns-in-Err
+returns-in-Err g c = inr (_, refl, c.in-Err.ensures.fault, refl)

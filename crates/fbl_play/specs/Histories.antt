@@ -1,0 +1,93 @@
+-- The histories of scripts' runs.
+use Rattle.std.specs.Prelude.{◌≡◌, ℕ, ◌<◌, ◌⊎◌, List, [], ◌∷◌, ◌++◌, length, take, Result, Ok, Err}
+use Rattle.fbl_base.specs.Configs.{Settings}
+use Rattle.fbl_base.specs.Fold.{Next}
+use Rattle.fbl_explain.specs.declared.account.Account.{Account}
+use Rattle.fbl_explain.specs.declared.account.Account.TheVariants.{Refused}
+use Rattle.fbl_history.specs.declared.column.Column.{Column}
+use Rattle.fbl_history.specs.declared.column.Column.TheVariants as columns
+use Rattle.fbl_history.specs.Columns.{go_on}
+use Rattle.fbl_history.specs.Traces.{trace_columns, IsAfterRecovery}
+use Rattle.fbl_input.specs.declared.fault.RunFault.{RunFault}
+use Rattle.fbl_input.specs.declared.fault.RunFault.TheVariants as faults
+use Rattle.fbl_law.specs.Groups.{GroupRecord}
+use Rattle.fbl_law.specs.GroupSteps.{IsGroupStart}
+use Rattle.fbl_law.specs.Knowledge.{Members}
+use Rattle.fbl_law.specs.Sound.{IsSound}
+use Rattle.fbl_script.specs.declared.script.Command.{Command}
+use Rattle.fbl_script.specs.declared.script.Command.TheVariants as commands
+use Rattle.fbl_script.specs.Scripts.{Outline, IsScriptOf, IsScriptFault}
+use Rattle.fbl_play.specs.declared.histories.RunHistory.{RunHistory}
+use Rattle.fbl_play.specs.Runs.{Step, next_of}
+use Rattle.fbl_play.specs.Telling.{IsTold, IsToldUpTo}
+
+-- the history after a command that was not refused, before which these members were down, and which left the group like this:
+-- it goes on to the trace after a delivery or a run, and has a column of a strike, a recovery or a checkpoint
+abbrev pub IsAfterCommand : Next → Members → Command → GroupRecord → List Column → List Column → Type 0
+IsAfterCommand next down (commands.Deliver to from) r old new = new ≡ go_on old (trace_columns next r)
+IsAfterCommand next down (commands.Run plan) r old new = new ≡ go_on old (trace_columns next r)
+IsAfterCommand next down (commands.Strike struck) r old new = new ≡ old ++ columns.Strike struck ∷ []
+IsAfterCommand next down commands.Recover r old new = IsAfterRecovery next r down old new
+IsAfterCommand next down (commands.Checkpoint p) r old new = new ≡ old ++ columns.Checkpoint p ∷ []
+IsAfterCommand next down _ r old new = new ≡ old
+
+-- the history after a command with this account: a refused command adds no column
+abbrev pub HistoryStep : Next → Members → Command → Account → GroupRecord → List Column → List Column → Type 0
+HistoryStep next down command (Refused reason) r old new = new ≡ old
+HistoryStep next down command _ r old new = IsAfterCommand next down command r old new
+
+-- the commands may lead from old to new, one after another, with these accounts, and from the history before to the one
+-- after; each record that a command leaves is sound
+abbrev pub HistoryRun : Next → ℕ → GroupRecord → List Command → GroupRecord → List Account → List Column → List Column → Type 0
+HistoryRun next workers old [] new [] before after = (new ≡ old) × (after ≡ before)
+HistoryRun next workers old (c ∷ cs) new (account ∷ accounts) before after =
+    (mid : GroupRecord) × (text : List ℕ) × (columns : List Column) × Step next workers old c mid text account × IsSound next mid
+    × HistoryStep next old.down c account mid before columns × HistoryRun next workers mid cs new accounts columns after
+HistoryRun next workers old _ new _ before after = ⊥
+
+-- some run of the commands, from a new group of this config, has these accounts and this history
+abbrev pub IsHistoryOf : Next → ℕ → Settings → List Command → List Account → List Column → Type 0
+IsHistoryOf next workers config commands accounts history =
+    (start : GroupRecord) × (end : GroupRecord) × IsGroupStart config start × IsSound next start
+    × HistoryRun next workers start commands end accounts (trace_columns next start) history
+
+-- the first so many commands had this history, and one at least is left
+abbrev pub IsHistoryUpTo : Next → ℕ → Settings → List Command → ℕ → List Account → Type 0
+IsHistoryUpTo next workers config commands done accounts =
+    (done < length commands) × ((history : List Column) × IsHistoryOf next workers config (take done commands) accounts history)
+
+-- the answer has the parameters of the script
+abbrev pub IsOfOutline : Outline → RunHistory → Type 0
+IsOfOutline s answer = (answer.members ≡ s.config.members) × (answer.f ≡ s.config.f) × (answer.behaviour ≡ s.behaviour)
+
+-- the answer is the history of a run of the script that the bytes spell, or there is no memory for it, or they spell none
+abbrev pub IsHistoryOfBytes : ℕ → List ℕ → Result RunHistory RunFault → Type 0
+IsHistoryOfBytes workers input (Ok answer) =
+    (s : Outline) × IsScriptOf input s × IsOfOutline s answer
+    × ((accounts : List Account) × IsHistoryOf (next_of s.behaviour) workers s.config s.commands accounts answer.history)
+IsHistoryOfBytes workers input (Err faults.Memory) = Unit {0}
+IsHistoryOfBytes workers input (Err fault) = IsScriptFault input fault
+
+-- an observer, by what it is after it was told that a command is to be run, and that it was run with an account
+module _ {O : Type 0} (before : O → Command → O → Type 0) (after : O → Command → Account → O → Type 0) where
+  -- the history of a run of the commands is answered, and each is told of as it was run
+  abbrev pub HistoryTellsOn : Next → ℕ → Settings → List Command → O → O → Result (List Column) RunFault → Type 0
+  HistoryTellsOn next workers config commands old new (Ok history) =
+      (accounts : List Account) × IsHistoryOf next workers config commands accounts history × IsTold before after commands accounts old new
+  -- nothing is told where there is no memory for the group or its first events, else up to the command that met the want
+  HistoryTellsOn next workers config commands old new (Err faults.Memory) =
+      (new ≡ old)
+      ⊎ ((done : ℕ) × (accounts : List Account) × IsHistoryUpTo next workers config commands done accounts × IsToldUpTo before after commands done accounts old new)
+  HistoryTellsOn next workers config commands old new (Err e) = ⊥
+
+  -- the same for a script, whose parameters are answered beside the history
+  abbrev pub HistoryTellsScript : ℕ → Outline → O → O → Result RunHistory RunFault → Type 0
+  HistoryTellsScript workers s old new (Ok answer) =
+      IsOfOutline s answer × HistoryTellsOn (next_of s.behaviour) workers s.config s.commands old new (Ok answer.history)
+  HistoryTellsScript workers s old new (Err fault) = HistoryTellsOn (next_of s.behaviour) workers s.config s.commands old new (Err fault)
+
+  -- the same for the script that the bytes spell; of any other input nothing is told
+  abbrev pub HistoryTells : ℕ → List ℕ → O → O → Result RunHistory RunFault → Type 0
+  HistoryTells workers input old new result =
+      ((s : Outline) × IsScriptOf input s × HistoryTellsScript workers s old new result)
+      ⊎ ((fault : RunFault) × (result ≡ Err fault) × IsScriptFault input fault × (new ≡ old))

@@ -1,0 +1,67 @@
+-- A picture: a frame with a heading and a legend, and in it the texts of shapes.
+use Rattle.std.specs.Prelude.{ℕ, ◌+◌, List, [], ◌∷◌, ◌++◌, codes, decimal}
+use Rattle.std.specs.List.{flat_map}
+use Rattle.fbl_lines.specs.Lines.{line}
+use Rattle.fbl_shapes.specs.declared.look.TheConstants.{DUMP_LEGEND, HISTORY_LEGEND, LOOK}
+use Rattle.fbl_shapes.specs.declared.shape.Legend.{Legend}
+use Rattle.fbl_shapes.specs.declared.shape.Legend.TheVariants as legend
+use Rattle.fbl_shapes.specs.declared.shape.Shape.{Shape}
+use Rattle.fbl_shapes.specs.declared.shape.Shape.TheVariants.{Label, Name, Line, Arrow, InFlight, Send, Receipt, Held, Strike, Recovery, Checkpoint}
+use Rattle.fbl_shapes.specs.Lines.{arrow, in_flight, label, member_line, name}
+use Rattle.fbl_shapes.specs.Marks.{checkpoint_mark, held_mark, receipt_mark, recovery_mark, send_mark, strike_mark}
+use Rattle.fbl_shapes.specs.Places.{height, width, y}
+
+-- the text of a shape
+abbrev pub text_of : Shape → List ℕ
+text_of (Label member status) = label member status
+text_of (Name column member) = name column member
+text_of (Line member start end kind) = member_line member start end kind
+text_of (Arrow from sent to received kind) = arrow from sent to received kind
+text_of (InFlight from sent to) = in_flight from sent to
+text_of (Send column from ssn to undone) = send_mark column from ssn to undone
+text_of (Receipt column to rsn from ssn state undone) = receipt_mark column to rsn from ssn state undone
+text_of (Held column to rsn from ssn kind holders) = held_mark column to rsn from ssn kind holders
+text_of (Strike column member) = strike_mark column member
+text_of (Recovery column member receipts) = recovery_mark column member receipts
+text_of (Checkpoint column member) = checkpoint_mark column member
+
+-- how each kind of shape is drawn, in light and in dark: the style, and the tips of arrows
+unfoldable pub look : List ℕ
+look = LOOK.now
+
+-- the start of a picture, as wide and as high as this
+unfoldable pub opening : ℕ → ℕ → List ℕ
+opening width height =
+    line (codes "<svg class='fbl' xmlns='http://www.w3.org/2000/svg' viewBox='0 0 " ∷ decimal width ∷ codes " " ∷ decimal height ∷ codes "' width='" ∷ decimal width ∷ codes "' height='" ∷ decimal height ∷ codes "' role='img'>" ∷ [])
+
+-- the title for those who can't see the picture, its look, its background and its heading
+unfoldable pub heading : List ℕ → ℕ → ℕ → List ℕ
+heading title width height =
+    line (codes "<title>" ∷ title ∷ codes "</title>" ∷ [])
+    ++ look
+    ++ line (codes "<rect class='back' width='" ∷ decimal width ∷ codes "' height='" ∷ decimal height ∷ codes "'/>" ∷ [])
+    ++ line (codes "<text class='head' x='16' y='28'>" ∷ title ∷ codes "</text>" ∷ [])
+
+-- what the marks mean
+unfoldable pub entries : Legend → List ℕ
+entries legend.History = HISTORY_LEGEND.now
+entries legend.Dump = DUMP_LEGEND.now
+
+-- the legend, below the members' lines, and the end of the picture
+unfoldable pub ending : ℕ → Legend → List ℕ
+ending members legend =
+    line (codes "<g transform='translate(0 " ∷ decimal (y members + 14) ∷ codes ")'>" ∷ [])
+    ++ entries legend
+    ++ line (codes "</g>" ∷ [])
+    ++ line (codes "</svg>" ∷ [])
+
+-- the texts of shapes, one after another
+abbrev pub texts_of : List Shape → List ℕ
+texts_of shapes = flat_map text_of shapes
+
+-- the picture of shapes on the lines of so many members, in so many columns, under a title
+unfoldable pub picture : List ℕ → ℕ → ℕ → Legend → List Shape → List ℕ
+picture title members columns legend shapes =
+    let wide = width columns in
+    let high = height members legend in
+    opening wide high ++ heading title wide high ++ texts_of shapes ++ ending members legend

@@ -1,0 +1,207 @@
+//! The texts of marks.
+
+ghost use Rattle.std.specs.Prelude.{◌≡◌, IfOk, string_bytes};
+ghost use Rattle.fbl_shapes.specs.Marks.{checkpoint_mark, cross, held_mark, number, receipt_mark, receipt_words, recovery_mark, send_mark, strike_mark};
+
+use crate::places::{x, y};
+use crate::shape::Kind;
+use crate::words::{gone_class, receipts_word, undone_class, undone_words};
+use fbl_base::{Determinant, Member, MemberSet};
+use fbl_lines::set_text;
+use std::alloc::{AllocError, Global};
+
+/// The text of a number beside a mark.
+#[tactic(auto, unfolding(crate::specs::Marks::number))]
+fn number_text(
+    alloc: Global,
+    x: u128,
+    y: u32,
+    undone: bool,
+    words: &str,
+) -> Result<String, AllocError>
+    ensures { IfOk result (λ text. string_bytes text ≡ number x y undone words.now) }
+{
+    let gone = gone_class(undone);
+    format!(in alloc; "<text class='at{gone}' x='{x}' y='{y}'>{words}</text>\n")
+}
+
+/// The text of the cross over the mark of an undone event.
+#[tactic(auto, unfolding(crate::specs::Marks::cross))]
+fn cross_text(
+    alloc: Global,
+    column: usize,
+    member: Member,
+    undone: bool,
+) -> Result<String, AllocError>
+    ensures { IfOk result (λ text. string_bytes text ≡ cross column member undone) }
+{
+    if !undone {
+        return Ok(String::new(alloc));
+    }
+    let x = x(column) - 9;
+    let y = y(member.number()) + 9;
+    format!(in alloc; "<path class='crossed' d='M{x} {y}l18 -18'/>\n")
+}
+
+/// The text of a send.
+#[tactic(auto, unfolding(crate::specs::Marks::send_mark))]
+pub(crate) fn send_text(
+    alloc: Global,
+    column: usize,
+    from: Member,
+    ssn: u32,
+    to: Member,
+    undone: bool,
+) -> Result<String, AllocError>
+    ensures { IfOk result (λ text. string_bytes text ≡ send_mark column from ssn to undone) }
+{
+    let sender = from.number();
+    let receiver = to.number();
+    let x = x(column);
+    let y = y(sender);
+    let class = undone_class(undone);
+    let end = undone_words(undone);
+    let mut text = format!(in alloc;
+        "<circle class='send{class}' cx='{x}' cy='{y}' r='5'><title>"
+    )?;
+    write!(
+        text,
+        "member {sender} sends its message {ssn} to {receiver}{end}</title></circle>\n"
+    )?;
+    let cross = cross_text(alloc, column, from, undone)?;
+    text.push_str(cross.as_str())?;
+    let words = format!(in alloc; "{ssn}")?;
+    let number = number_text(alloc, x, y - 11, undone, words.as_str())?;
+    text.push_str(number.as_str())?;
+    Ok(text)
+}
+
+/// The start of the title of a receipt.
+#[tactic(auto, unfolding(crate::specs::Marks::receipt_words))]
+fn receipt_title_text(alloc: Global, determinant: &Determinant) -> Result<String, AllocError>
+    ensures { IfOk result (λ text. string_bytes text ≡ receipt_words determinant.now.to determinant.now.rsn determinant.now.from determinant.now.ssn) }
+{
+    let from = determinant.from.number();
+    let ssn = determinant.ssn;
+    let to = determinant.to.number();
+    let rsn = determinant.rsn;
+    format!(in alloc; "<title>member {to} receipt {rsn}: message {ssn} of {from}")
+}
+
+/// The text of a receipt of a history.
+#[tactic(auto, unfolding(crate::specs::Marks::receipt_mark))]
+pub(crate) fn receipt_text(
+    alloc: Global,
+    column: usize,
+    determinant: &Determinant,
+    state: u64,
+    undone: bool,
+) -> Result<String, AllocError>
+    ensures { IfOk result (λ text. string_bytes text ≡ receipt_mark column determinant.now.to determinant.now.rsn determinant.now.from determinant.now.ssn state undone) }
+{
+    let rsn = determinant.rsn;
+    let x = x(column);
+    let y = y(determinant.to.number());
+    let class = undone_class(undone);
+    let end = undone_words(undone);
+    let left = x - 7;
+    let top = y - 7;
+    let mut text = format!(in alloc;
+        "<rect class='receipt{class}' x='{left}' y='{top}' width='14' height='14'>"
+    )?;
+    let title = receipt_title_text(alloc, determinant)?;
+    text.push_str(title.as_str())?;
+    write!(text, ", state {state}{end}</title></rect>\n")?;
+    let cross = cross_text(alloc, column, determinant.to, undone)?;
+    text.push_str(cross.as_str())?;
+    let words = format!(in alloc; "{rsn}: {state}")?;
+    let number = number_text(alloc, x, y + 22, undone, words.as_str())?;
+    text.push_str(number.as_str())?;
+    Ok(text)
+}
+
+/// The text of a receipt of a dump.
+#[tactic(auto, unfolding(crate::specs::Marks::held_mark))]
+pub(crate) fn held_text(
+    alloc: Global,
+    column: usize,
+    determinant: &Determinant,
+    kind: Kind,
+    holders: MemberSet,
+) -> Result<String, AllocError>
+    ensures { IfOk result (λ text. string_bytes text ≡ held_mark column determinant.now.to determinant.now.rsn determinant.now.from determinant.now.ssn kind holders) }
+{
+    let rsn = determinant.rsn;
+    let x = x(column);
+    let y = y(determinant.to.number());
+    let class = kind.class();
+    let outline = kind.outline();
+    let mut text = format!(in alloc; "<path class='{class}' d='M{x} {y}{outline}'>")?;
+    let title = receipt_title_text(alloc, determinant)?;
+    text.push_str(title.as_str())?;
+    let holders = set_text(alloc, holders)?;
+    write!(text, ", held by {holders}</title></path>\n")?;
+    let words = format!(in alloc; "{rsn}")?;
+    let number = number_text(alloc, x, y + 22, false, words.as_str())?;
+    text.push_str(number.as_str())?;
+    Ok(text)
+}
+
+/// The text of a strike.
+#[tactic(auto, unfolding(crate::specs::Marks::strike_mark))]
+pub(crate) fn strike_text(
+    alloc: Global,
+    column: usize,
+    member: Member,
+) -> Result<String, AllocError>
+    ensures { IfOk result (λ text. string_bytes text ≡ strike_mark column member) }
+{
+    let member = member.number();
+    let x = x(column) + 3;
+    let y = y(member) - 13;
+    format!(in alloc;
+        "<path class='strike' d='M{x} {y}l-10 14h6l-3 12l11 -16h-7z'><title>member {member} is struck</title></path>\n"
+    )
+}
+
+/// The text of a recovery.
+#[tactic(auto, unfolding(crate::specs::Marks::recovery_mark))]
+pub(crate) fn recovery_text(
+    alloc: Global,
+    column: usize,
+    member: Member,
+    receipts: u32,
+) -> Result<String, AllocError>
+    ensures { IfOk result (λ text. string_bytes text ≡ recovery_mark column member receipts) }
+{
+    let member = member.number();
+    let x = x(column);
+    let y = y(member);
+    let top = y - 9;
+    let word = receipts_word(receipts);
+    let mut text = format!(in alloc;
+        "<path class='recovery' d='M{x} {top}l9 16h-18z'><title>member {member} is recovered, "
+    )?;
+    write!(text, "{receipts} {word} replayed</title></path>\n")?;
+    let words = format!(in alloc; "replays {receipts}")?;
+    let number = number_text(alloc, x, y + 24, false, words.as_str())?;
+    text.push_str(number.as_str())?;
+    Ok(text)
+}
+
+/// The text of a checkpoint.
+#[tactic(auto, unfolding(crate::specs::Marks::checkpoint_mark))]
+pub(crate) fn checkpoint_text(
+    alloc: Global,
+    column: usize,
+    member: Member,
+) -> Result<String, AllocError>
+    ensures { IfOk result (λ text. string_bytes text ≡ checkpoint_mark column member) }
+{
+    let member = member.number();
+    let x = x(column) - 2;
+    let y = y(member) - 10;
+    format!(in alloc;
+        "<rect class='checkpoint' x='{x}' y='{y}' width='5' height='20'><title>checkpoint of member {member}</title></rect>\n"
+    )
+}

@@ -1,0 +1,98 @@
+//! The words of shapes: what their classes and titles say.
+
+ghost use Rattle.std.specs.Prelude.{◌≡◌};
+ghost use Rattle.fbl_shapes.specs.Marks.{outline as outline_of};
+ghost use Rattle.fbl_shapes.specs.Words.{arrow_class, gone_class as gone_class_of, kind_class, line_class, receipts_word as receipts_word_of, status_words as status_words_of, undone_class as undone_class_of, undone_words as undone_words_of};
+
+use crate::shape::{ArrowKind, Kind, LineKind, Status};
+
+/// What a label says behind a member's number.
+pub(crate) fn status_words(status: Option<Status>) -> &'static str
+    ensures { result.now ≡ status_words_of status }
+{
+    match status {
+        None => "",
+        Some(Status::Struck) => " struck",
+        Some(Status::Orphan) => " orphan",
+        Some(Status::Up) => " up",
+    }
+}
+
+impl LineKind {
+    /// The class of a part of a member's line.
+    pub(crate) fn class(self) -> &'static str
+        ensures { result.now ≡ line_class self }
+    {
+        match self {
+            LineKind::Up => "line",
+            LineKind::Down => "line down",
+            LineKind::Orphan => "line orphan",
+            LineKind::Path => "line path",
+        }
+    }
+}
+
+impl ArrowKind {
+    /// The class of an arrow.
+    pub(crate) fn class(self) -> &'static str
+        ensures { result.now ≡ arrow_class self }
+    {
+        match self {
+            ArrowKind::Message => "message",
+            ArrowKind::Undone => "message undone",
+            ArrowKind::Path => "path",
+        }
+    }
+}
+
+impl Kind {
+    /// The class of a receipt of a dump.
+    pub(crate) fn class(self) -> &'static str
+        ensures { result.now ≡ kind_class self }
+    {
+        match self {
+            Kind::Stable => "receipt stable",
+            Kind::Recorded => "receipt recorded",
+            Kind::Lost => "receipt lost",
+        }
+    }
+
+    /// The outline of its mark, from the point at which it stands.
+    pub(crate) fn outline(self) -> &'static str
+        ensures { result.now ≡ outline_of self }
+    {
+        match self {
+            Kind::Stable => "m-7 -7h14v14h-14z",
+            Kind::Recorded => "m-8 0l8 -8l8 8l-8 8z",
+            Kind::Lost => "m-7 -7l14 14m0 -14l-14 14",
+        }
+    }
+}
+
+/// What the class of an event has beside its sort.
+pub(crate) fn undone_class(undone: bool) -> &'static str
+    ensures { result.now ≡ undone_class_of undone }
+{
+    if undone { " undone" } else { "" }
+}
+
+/// What the title of an event ends with.
+pub(crate) fn undone_words(undone: bool) -> &'static str
+    ensures { result.now ≡ undone_words_of undone }
+{
+    if undone { ", undone" } else { "" }
+}
+
+/// What the class of a number beside a mark has.
+pub(crate) fn gone_class(undone: bool) -> &'static str
+    ensures { result.now ≡ gone_class_of undone }
+{
+    if undone { " gone" } else { "" }
+}
+
+/// The word for so many receipts.
+pub(crate) fn receipts_word(count: u32) -> &'static str
+    ensures { result.now ≡ receipts_word_of count }
+{
+    if count == 1 { "receipt" } else { "receipts" }
+}

@@ -1,0 +1,134 @@
+-- One column more: of members' lines, of messages that were sent or received, and of members.
+use Rattle.std.proofs.Common.{ℕ, suc, ◌+◌, ◌<◌, ◌≡◌, ◌||◌, not, Bool, true, false, cond, List, [], ◌∷◌, ◌++◌, length, take, drop, get_or, Option, Some, None, refl, sym, ap, ◌∙◌, arith}
+use Rattle.std.specs.Bool.{beq}
+use Rattle.std.specs.Cmp.{booleans_Decides}
+use Rattle.std.specs.List.{flat_map, fold, range_with_len}
+use Rattle.std.proofs.lemmas.List.{append_assoc, at_drop_more, flat_map_more, take_more}
+use Rattle.std.proofs.lemmas.List.Folds.{list_any-append}
+use Rattle.std.proofs.lemmas.List.FromFn.{get_or-range_with_len, length-range_with_len}
+use Rattle.std.proofs.lemmas.List.Sums.{fold_push}
+use Rattle.fbl_history.specs.declared.column.Column.{Column}
+use Rattle.fbl_shapes.specs.declared.shape.Shape.{Shape}
+use Rattle.fbl_shapes.specs.declared.shape.Shape.TheVariants.{Line}
+use Rattle.fbl_show.specs.declared.messages.Message.{Message}
+use Rattle.fbl_show.specs.Members.{differs, is_down, is_down_after, line_kind, line_part, line_to, turns}
+use Rattle.fbl_show.specs.Messages.{arrow_from, is_message, is_received, same_message, stub_where, taken_by}
+use Rattle.fbl_show.specs.Places.{drawn, last_before}
+
+-- one more number
+pub rows_more : (f : ℕ → List Shape) (n i : ℕ) → i < n → flat_map f (take i (range_with_len 0 n)) ++ f i ≡ flat_map f (take (i + 1) (range_with_len 0 n))
+rows_more f n i lt =
+    let r : List ℕ = range_with_len 0 n in
+    let at : get_or r i 0 ≡ i = omega (arith, get_or-range_with_len 0 n i 0 lt) in
+    ap (λ k. flat_map f (take i r) ++ f k) (sym at) ∙ flat_map_more f [] (take i r) (get_or r i 0) ∙ ap (flat_map f) (sym (take_more r i 0 (omega (arith, length-range_with_len 0 n))))
+
+-- the last place before the next one
+pub last_more : (test : ℕ → Bool) (i : ℕ) → last_before test (i + 1) ≡ cond (test i) (Some i) (last_before test i)
+last_more test i = let e : i + 1 ≡ suc i = omega arith in ap (last_before test) e
+
+-- what is drawn is the same where the places at which messages were sent are
+pub arrow_same : (sent sent' : Message → Option ℕ) (place : ℕ) (column : Column) → ((m : Message) → sent m ≡ sent' m) → arrow_from sent place column ≡ arrow_from sent' place column
+arrow_same sent sent' place column same = (λ i. arrow_from (λ m. same m i) place column)
+
+pub stub_same : (received received' : Message → Bool) (place : ℕ) (column : Column) → ((m : Message) → received m ≡ received' m)
+    → stub_where received place column ≡ stub_where received' place column
+stub_same received received' place column same = (λ i. stub_where (λ m. same m i) place column)
+
+-- at a column of a history
+module _ (columns : List Column) (i : ℕ) (c : Column) (within : i < length columns) (is : c ≡ get_or columns i c) where
+  before_more : take (i + 1) columns ≡ take i columns ++ c ∷ []
+  before_more = take_more columns i c within ∙ ap (λ x. take i columns ++ x ∷ []) (sym is)
+
+  -- what is drawn from it on
+  pub drawn_more : (draw : ℕ → Column → List Shape) → drawn draw i (drop i columns) ≡ draw i c ++ drawn draw (i + 1) (drop (i + 1) columns)
+  drawn_more draw = at_drop_more (drawn draw i) columns i c within ∙ ap (λ x. draw i x ++ drawn draw (i + 1) (drop (i + 1) columns)) (sym is)
+
+  -- whether a message is received behind it
+  pub received_more : (m : Message) → is_received (take (i + 1) columns) m ≡ (is_received (take i columns) m || is_message m (taken_by c))
+  received_more m =
+      ap (λ l. is_received l m) before_more ∙ list_any-append (λ column. is_message m (taken_by column)) (take i columns) (c ∷ [])
+      ∙ ap (λ b. is_received (take i columns) m || b) (alone (is_message m (taken_by c))) where
+        alone : (b : Bool) → (b || false) ≡ b
+        alone true = refl
+        alone false = refl
+
+  -- the messages that are received behind it, where a set has those received before it
+  module _ (old : Message → Bool) (was : (m : Message) → old m ≡ is_received (take i columns) m) where
+    pub added : (taken : Message) → taken_by c ≡ Some taken → (new : Message → Bool)
+        → ((m : Message) → new m ≡ cond (same_message taken m) true (old m)) → (m : Message) → new m ≡ is_received (take (i + 1) columns) m
+    added taken some new put m =
+        put m ∙ with_it (same_message taken m) (old m)
+        ∙ (λ j. was m j || is_message m (sym some j))
+        ∙ sym (received_more m) where
+          with_it : (b o : Bool) → cond b true o ≡ (o || b)
+          with_it true true = refl
+          with_it true false = refl
+          with_it false true = refl
+          with_it false false = refl
+
+    pub not_added : taken_by c ≡ None → (m : Message) → old m ≡ is_received (take (i + 1) columns) m
+    not_added none m =
+        was m ∙ without (is_received (take i columns) m) ∙ ap (λ t. is_received (take i columns) m || is_message m t) (sym none) ∙ sym (received_more m) where
+          without : (o : Bool) → o ≡ (o || false)
+          without true = refl
+          without false = refl
+
+  module _ (m : ℕ) (down after : Bool) (was : down ≡ is_down columns m i) (then : after ≡ is_down_after m down c) where
+    -- whether the member is down behind it
+    pub down_more : after ≡ is_down columns m (i + 1)
+    down_more =
+        then ∙ ap (λ b. is_down_after m b c) was
+        ∙ sym (ap (fold (is_down_after m) false) before_more ∙ fold_push (is_down_after m) false (take i columns) c)
+
+    pub turns_is : turns columns m i ≡ differs down after
+    turns_is = sym (λ j. differs (was j) (down_more j))
+
+    -- what is drawn of the member's line from the column on, where the line turns there
+    pub turned : (shapes base : List Shape) (start : Option ℕ) → start ≡ last_before (turns columns m) i
+        → shapes ++ drawn (line_part columns m) i (drop i columns) ≡ base → differs down after ≡ true
+        → (shapes ++ Line m start i (line_kind down) ∷ []) ++ drawn (line_part columns m) (i + 1) (drop (i + 1) columns) ≡ base
+    turned shapes base start starts drew turn =
+        let rest = drawn (line_part columns m) (i + 1) (drop (i + 1) columns) in
+        let part : Line m start i (line_kind down) ∷ [] ≡ line_part columns m i c =
+        (λ j. Line m (starts j) i (line_kind (was j)) ∷ []) ∙ ap (λ b. cond b (line_to columns m i ∷ []) []) (sym (turns_is ∙ turn)) in
+        append_assoc shapes (Line m start i (line_kind down) ∷ []) rest ∙ ap (λ p. shapes ++ (p ++ rest)) part ∙ ap (λ s. shapes ++ s) (sym (drawn_more (line_part columns m))) ∙ drew
+
+    -- and where it doesn't
+    pub straight : (shapes base : List Shape) → shapes ++ drawn (line_part columns m) i (drop i columns) ≡ base → differs down after ≡ false
+        → shapes ++ drawn (line_part columns m) (i + 1) (drop (i + 1) columns) ≡ base
+    straight shapes base drew turn =
+        let rest = drawn (line_part columns m) (i + 1) (drop (i + 1) columns) in
+        let part : [] ≡ line_part columns m i c = ap (λ b. cond b (line_to columns m i ∷ []) []) (sym (turns_is ∙ turn)) in
+        ap (λ p. shapes ++ (p ++ rest)) part ∙ ap (λ s. shapes ++ s) (sym (drawn_more (line_part columns m))) ∙ drew
+
+    -- where the member last turned, behind the column
+    pub start_turned : differs down after ≡ true → Some i ≡ last_before (turns columns m) (i + 1)
+    start_turned turn = sym (last_more (turns columns m) i ∙ ap (λ b. cond b (Some i) (last_before (turns columns m) i)) (turns_is ∙ turn))
+
+    pub start_straight : (start : Option ℕ) → start ≡ last_before (turns columns m) i → differs down after ≡ false → start ≡ last_before (turns columns m) (i + 1)
+    start_straight start starts turn = starts ∙ sym (last_more (turns columns m) i ∙ ap (λ b. cond b (Some i) (last_before (turns columns m) i)) (turns_is ∙ turn))
+
+-- two that are not the same, and two that are
+pub differ : (a b : Bool) → not (beq a b) ≡ true → differs b a ≡ true
+differ a b test = other a b (λ same. not_same (beq a b) test ((booleans_Decides a b).1 same)) where
+  not_same : (t : Bool) → not t ≡ true → t ≡ true → ⊥
+  not_same true n e = cc
+  not_same false n e = cc
+
+  other : (a b : Bool) → (a ≡ b → ⊥) → differs b a ≡ true
+  other true true ne = absurd (ne refl)
+  other true false ne = refl
+  other false true ne = refl
+  other false false ne = absurd (ne refl)
+
+pub agree : (a b : Bool) → not (beq a b) ≡ false → a ≡ b
+agree a b test = (booleans_Decides a b).0 (holds (beq a b) test) where
+  holds : (t : Bool) → not t ≡ false → t ≡ true
+  holds true n = refl
+  holds false n = absurd (cc)
+
+pub straight_on : (a b : Bool) → a ≡ b → differs b a ≡ false
+straight_on true true e = refl
+straight_on true false e = absurd (cc)
+straight_on false true e = absurd (cc)
+straight_on false false e = refl

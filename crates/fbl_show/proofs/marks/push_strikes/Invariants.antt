@@ -1,0 +1,6 @@
+use Rattle.std.proofs.Common.{◌≡◌, ◌++◌, map}
+use Rattle.fbl_show.specs.Marks.{strike_mark}
+use Rattle.fbl_show.proofs.marks.push_strikes.Given as goal
+
+abbrev pub invariant-loop-member : goal.invariant-loop-member
+invariant-loop-member l = l.shapes.items ≡ l.initial.shapes.items ++ map (strike_mark l.column) l.yielded

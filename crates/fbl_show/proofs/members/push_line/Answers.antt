@@ -1,0 +1,41 @@
+use Rattle.std.proofs.Common.{◌≡◌, ◌∷◌, ◌++◌, [], ◌<◌, arith, ap, ◌∙◌, sym, length}
+use Rattle.fbl_shapes.specs.declared.shape.Shape.TheVariants.{Line}
+use Rattle.fbl_show.specs.Members.{line_part}
+use Rattle.fbl_show.specs.Places.{drawn}
+use Rattle.fbl_show.proofs.Steps.{agree, differ, down_more, start_straight, start_turned, straight, straight_on, turned}
+use Rattle.fbl_show.proofs.members.push_line.Goals as goal
+use Rattle.fbl_show.proofs.members.push_line.Goals.{then-is_down_after-is_down+in_ok-push, else-is_down_after-is_down}
+
+pub loop-place-preserved : goal.loop-place-preserved
+loop-place-preserved c =
+    let columns = c.args.columns.now in
+    let m = c.args.member in
+    let i = c.loop-place.place in
+    let x = c.index-columns-place.result in
+    let down = c.loop-place.is_down in
+    let after = c.after-is_down_after.result in
+    let within : i < length columns = omega arith in
+    let was = c.loop-place.invariant.0 in
+    let starts = c.loop-place.invariant.1 in
+    let drew = c.loop-place.invariant.2 in
+    let base = c.args.shapes.now.items ++ drawn (line_part columns m) 0 columns in
+    let next = down_more columns i x within c.index-columns-place.is m down after was c.after-is_down_after.ensures in
+    elim c.if-is_down_after-is_down.branch [
+      | then-is_down_after-is_down+in_ok-push w ↦
+          let turn = differ after down w.if-is_down_after-is_down.true in
+          let pushed : w.push.new.self.items ≡ c.loop-place.shapes.items ++ Line m c.loop-place.start i _ ∷ [] =
+          w.in_ok-push.ensures.items ∙ ap (λ k. c.loop-place.shapes.items ++ Line m c.loop-place.start i k ∷ []) w.kind_of_line-kind.ensures in
+          rw (w.shapes-is, w.is_down-is, w.start-is, pushed) (
+            next,
+            start_turned columns i x within c.index-columns-place.is m down after was c.after-is_down_after.ensures turn,
+            turned columns i x within c.index-columns-place.is m down after was c.after-is_down_after.ensures _ base _ starts drew turn,
+          )
+      | else-is_down_after-is_down w ↦
+          let same = agree after down w.if-is_down_after-is_down.false in
+          let turn = straight_on after down same in
+          rw (w.shapes-is, w.is_down-is, w.start-is) (
+            sym same ∙ next,
+            start_straight columns i x within c.index-columns-place.is m down after was c.after-is_down_after.ensures _ starts turn,
+            straight columns i x within c.index-columns-place.is m down after was c.after-is_down_after.ensures _ base drew turn,
+          )
+    ]

@@ -1,0 +1,7 @@
+use Rattle.std.proofs.Common.{◌≡◌, ◌++◌, drop}
+use Rattle.fbl_show.specs.Messages.{stub}
+use Rattle.fbl_show.specs.Places.{drawn}
+use Rattle.fbl_show.proofs.messages.push_stubs.Given as goal
+
+abbrev pub invariant-loop-place : goal.invariant-loop-place
+invariant-loop-place l = l.shapes.items ++ drawn (stub l.columns) l.place (drop l.place l.columns) ≡ l.initial.shapes.items ++ drawn (stub l.columns) 0 l.columns

@@ -1,0 +1,43 @@
+-- The picture of a history: a line for each member, and a column for each event that was ever made and for each strike,
+-- recovery and checkpoint, in the order in which they came.
+use Rattle.std.specs.Prelude.{ℕ, Bool, true, false, List, [], ◌∷◌, ◌++◌, length, codes, count_by, decimal}
+use Rattle.fbl_history.specs.declared.column.Column.{Column}
+use Rattle.fbl_history.specs.declared.column.Column.TheVariants as columns
+use Rattle.fbl_shapes.specs.Marks.{joined}
+use Rattle.fbl_shapes.specs.Pictures.{picture}
+use Rattle.fbl_shapes.specs.declared.shape.Legend.TheVariants as legends
+use Rattle.fbl_shapes.specs.declared.shape.Shape.{Shape}
+use Rattle.fbl_shapes.specs.Words.{receipts_word}
+use Rattle.fbl_show.specs.Marks.{mark}
+use Rattle.fbl_show.specs.Members.{members_shapes}
+use Rattle.fbl_show.specs.Messages.{arrow, stub}
+use Rattle.fbl_show.specs.Places.{drawn}
+
+-- ---- the heading
+
+abbrev pub is_receipt : Column → Bool
+is_receipt (columns.Receipt to rsn from ssn state undone) = true
+is_receipt _ = false
+
+abbrev pub is_undone_receipt : Column → Bool
+is_undone_receipt (columns.Receipt to rsn from ssn state undone) = undone
+is_undone_receipt _ = false
+
+-- the numbers of the group, the behaviour, how many receipts were ever made, and how many of them were undone
+abbrev pub heading : ℕ → ℕ → List ℕ → List Column → List ℕ
+heading members f behaviour columns =
+    let made = count_by is_receipt columns in
+    joined (decimal members ∷ codes " members, f " ∷ decimal f ∷ codes ", " ∷ behaviour ∷ codes ": "
+    ∷ decimal made ∷ codes " " ∷ receipts_word made ∷ codes " made, " ∷ decimal (count_by is_undone_receipt columns) ∷ codes " undone" ∷ [])
+
+-- ---- the whole
+
+-- the members' lines, the arrows and the messages in flight, and over them the marks
+unfoldable pub shapes_of : ℕ → List Column → List Shape
+shapes_of members columns =
+    members_shapes members columns ++ drawn (arrow columns) 0 columns ++ drawn (stub columns) 0 columns ++ drawn mark 0 columns
+
+-- the picture of a history of a group of so many members, of whom f may be lost at once, under a behaviour of this name
+abbrev pub history_picture : ℕ → ℕ → List ℕ → List Column → List ℕ
+history_picture members f behaviour columns =
+    picture (heading members f behaviour columns) members (length columns) legends.History (shapes_of members columns)

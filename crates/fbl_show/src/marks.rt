@@ -1,0 +1,114 @@
+//! The marks of the columns.
+
+ghost use Rattle.std.specs.Prelude.{◌≡◌, ◌++◌, OnOk, map};
+ghost use Rattle.fbl_base.specs.MemberSets.{member_list};
+ghost use Rattle.fbl_show.specs.Marks.{mark, strike_mark, recovery_mark};
+ghost use Rattle.fbl_show.specs.Places.{drawn};
+
+use fbl_base::MemberSet;
+use fbl_history::{Column, Replay};
+use fbl_shapes::Shape;
+use std::alloc::{AllocError, Global};
+
+/// Draws a mark on the line of each member that is struck at this place.
+fn push_strikes(
+    shapes: &mut Vec<Shape>,
+    alloc: Global,
+    column: usize,
+    struck: MemberSet,
+) -> Result<(), AllocError>
+    ensures { OnOk result (shapes.new.items ≡ shapes.old.items ++ map (strike_mark column) (member_list struck)) }
+{
+    for member in struck.members(alloc)? {
+        shapes.push(Shape::Strike { column, member })?;
+    }
+    Ok(())
+}
+
+/// Draws a mark on the line of each member that is brought back at this place.
+fn push_recoveries(
+    shapes: &mut Vec<Shape>,
+    column: usize,
+    replays: &[Replay],
+) -> Result<(), AllocError>
+    ensures { OnOk result (shapes.new.items ≡ shapes.old.items ++ map (recovery_mark column) replays.now) }
+{
+    for Replay { member, receipts } in replays {
+        shapes.push(Shape::Recovery {
+            column,
+            member: *member,
+            receipts: *receipts,
+        })?;
+    }
+    Ok(())
+}
+
+/// Draws the marks of a column at this place.
+fn push_mark(
+    shapes: &mut Vec<Shape>,
+    alloc: Global,
+    place: usize,
+    column: &Column,
+) -> Result<(), AllocError>
+    ensures { OnOk result (shapes.new.items ≡ shapes.old.items ++ mark place column.now) }
+{
+    match column {
+        Column::Send {
+            from,
+            ssn,
+            to,
+            undone,
+        } => {
+            shapes.push(Shape::Send {
+                column: place,
+                from: *from,
+                ssn: *ssn,
+                to: *to,
+                undone: *undone,
+            })?;
+            Ok(())
+        }
+        Column::Receipt {
+            to,
+            rsn,
+            from,
+            ssn,
+            state,
+            undone,
+        } => {
+            shapes.push(Shape::Receipt {
+                column: place,
+                to: *to,
+                rsn: *rsn,
+                from: *from,
+                ssn: *ssn,
+                state: *state,
+                undone: *undone,
+            })?;
+            Ok(())
+        }
+        Column::Strike(struck) => push_strikes(shapes, alloc, place, *struck),
+        Column::Recovery(replays) => push_recoveries(shapes, place, replays.as_slice()),
+        Column::Checkpoint(member) => {
+            shapes.push(Shape::Checkpoint {
+                column: place,
+                member: *member,
+            })?;
+            Ok(())
+        }
+    }
+}
+
+/// Draws the marks of all columns.
+pub(crate) fn push_marks(
+    shapes: &mut Vec<Shape>,
+    alloc: Global,
+    columns: &[Column],
+) -> Result<(), AllocError>
+    ensures { OnOk result (shapes.new.items ≡ shapes.old.items ++ drawn mark 0 columns.now) }
+{
+    for (place, column) in columns.iter().enumerate() {
+        push_mark(shapes, alloc, place, column)?;
+    }
+    Ok(())
+}

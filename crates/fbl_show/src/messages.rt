@@ -1,0 +1,228 @@
+//! The arrows of messages, and the messages in flight.
+
+ghost use Rattle.std.specs.Prelude.{◌≡◌, ◌++◌, ◌+◌, ◌<◌, IfOk, OnOk, length, slice_get, Some};
+ghost use Rattle.std.specs.HashMap as hash_map;
+ghost use Rattle.std.specs.HashSet as hash_set;
+ghost use Rattle.fbl_show.specs.Messages.{arrow, arrow_between, arrow_from, arrow_kind, is_received, same_message, sent_before, sent_by, stub, stub_unless, stub_where, taken_by};
+ghost use Rattle.fbl_show.specs.Places.{drawn};
+
+use fbl_base::Member;
+use fbl_history::Column;
+use fbl_shapes::{ArrowKind, Shape};
+use std::alloc::{AllocError, Global};
+use std::collections::{HashMap, HashSet};
+use std::hash::{BuildHasherDefault, FoldHasher};
+
+/// What names a message.
+#[derive(Clone, Copy, PartialEq, Eq, Hash, Debug)]
+pub(crate) struct Message {
+    from: Member,
+    /// Which of the sender's sends it is.
+    ssn: u32,
+}
+
+/// For each message that was sent, the place of the last column that sends it.
+type SendPlaces = HashMap<Message, usize, BuildHasherDefault<FoldHasher>>;
+
+/// The messages of which a receipt stands.
+type Received = HashSet<Message, BuildHasherDefault<FoldHasher>>;
+
+/// The message that a column sends, undone or not.
+fn message_sent(column: &Column) -> Option<Message>
+    ensures { result ≡ sent_by column.now }
+{
+    match column {
+        Column::Send { from, ssn, .. } => Some(Message {
+            from: *from,
+            ssn: *ssn,
+        }),
+        _ => None,
+    }
+}
+
+/// The message that a column receives, if the receipt stands.
+fn message_taken(column: &Column) -> Option<Message>
+    ensures { result ≡ taken_by column.now }
+{
+    match column {
+        Column::Receipt {
+            from,
+            ssn,
+            undone: false,
+            ..
+        } => Some(Message {
+            from: *from,
+            ssn: *ssn,
+        }),
+        _ => None,
+    }
+}
+
+/// How the arrow to a receipt is drawn.
+fn kind_of_arrow(undone: bool) -> ArrowKind
+    ensures { result ≡ arrow_kind undone }
+{
+    if undone {
+        ArrowKind::Undone
+    } else {
+        ArrowKind::Message
+    }
+}
+
+/// The last place at which the message was sent, if it was.
+fn place_of(places: &SendPlaces, from: Member, ssn: u32) -> Option<usize>
+    ensures { result ≡ hash_map.get same_message places.now (record { from = from; ssn = ssn }) }
+{
+    let message = Message { from, ssn };
+    places.get(&message).copied()
+}
+
+/// Draws the arrow to a receipt from where its message was sent, if it was.
+fn push_arrow_between(
+    shapes: &mut Vec<Shape>,
+    sent: Option<usize>,
+    from: Member,
+    to: Member,
+    received: usize,
+    undone: bool,
+) -> Result<(), AllocError>
+    ensures { OnOk result (shapes.new.items ≡ shapes.old.items ++ arrow_between sent from to received undone) }
+{
+    if let Some(sent) = sent {
+        shapes.push(Shape::Arrow {
+            from,
+            sent,
+            to,
+            received,
+            kind: kind_of_arrow(undone),
+        })?;
+    }
+    Ok(())
+}
+
+/// Draws the arrow to a column at this place, if it is a receipt.
+fn push_arrow(
+    shapes: &mut Vec<Shape>,
+    places: &SendPlaces,
+    place: usize,
+    column: &Column,
+) -> Result<(), AllocError>
+    ensures { OnOk result (shapes.new.items ≡ shapes.old.items ++ arrow_from (λ m. hash_map.get same_message places.now m) place column.now) }
+{
+    match column {
+        Column::Receipt {
+            to,
+            from,
+            ssn,
+            undone,
+            ..
+        } => {
+            let sent = place_of(places, *from, *ssn);
+            push_arrow_between(shapes, sent, *from, *to, place, *undone)
+        }
+        _ => Ok(()),
+    }
+}
+
+/// Notes that the message of the column at this place, if it is a send, was sent there.
+fn note_send(places: &mut SendPlaces, columns: &[Column], place: usize) -> Result<(), AllocError>
+    requires within { place < length columns.now }
+    requires before { (m : Message) → hash_map.get same_message places.old m ≡ sent_before columns.now place m }
+    ensures { OnOk result ((m : Message) → hash_map.get same_message places.new m ≡ sent_before columns.now (place + 1) m) }
+{
+    if let Some(message) = message_sent(&columns[place]) {
+        places.insert(message, place)?;
+    }
+    Ok(())
+}
+
+/// Draws an arrow to each receipt, undone or not, from where its message was sent.
+pub(crate) fn push_arrows(
+    shapes: &mut Vec<Shape>,
+    alloc: Global,
+    columns: &[Column],
+) -> Result<(), AllocError>
+    ensures { OnOk result (shapes.new.items ≡ shapes.old.items ++ drawn (arrow columns.now) 0 columns.now) }
+{
+    let mut places = HashMap::new(alloc);
+    for (place, column) in columns.iter().enumerate() {
+        push_arrow(shapes, &places, place, column)?;
+        note_send(&mut places, columns, place)?;
+    }
+    Ok(())
+}
+
+/// The messages that receipts that stand have taken.
+fn received_in(alloc: Global, columns: &[Column]) -> Result<Received, AllocError>
+    ensures { IfOk result (λ received. (m : Message) → hash_set.contains same_message received m ≡ is_received columns.now m) }
+{
+    let mut received = HashSet::new(alloc);
+    for column in columns {
+        if let Some(message) = message_taken(column) {
+            received.insert(message)?;
+        }
+    }
+    Ok(received)
+}
+
+/// Whether a receipt of the message stands.
+fn is_taken(received: &Received, from: Member, ssn: u32) -> bool
+    ensures { result ≡ hash_set.contains same_message received.now (record { from = from; ssn = ssn }) }
+{
+    let message = Message { from, ssn };
+    received.contains(&message)
+}
+
+/// Draws the stub of a message that was sent at this place, if no receipt of it stands.
+fn push_stub_unless(
+    shapes: &mut Vec<Shape>,
+    taken: bool,
+    from: Member,
+    sent: usize,
+    to: Member,
+) -> Result<(), AllocError>
+    ensures { OnOk result (shapes.new.items ≡ shapes.old.items ++ stub_unless taken from sent to) }
+{
+    if !taken {
+        shapes.push(Shape::InFlight { from, sent, to })?;
+    }
+    Ok(())
+}
+
+/// Draws the stub of a column at this place, if it is a send of a message in flight.
+fn push_stub(
+    shapes: &mut Vec<Shape>,
+    received: &Received,
+    place: usize,
+    column: &Column,
+) -> Result<(), AllocError>
+    ensures { OnOk result (shapes.new.items ≡ shapes.old.items ++ stub_where (λ m. hash_set.contains same_message received.now m) place column.now) }
+{
+    match column {
+        Column::Send {
+            from,
+            ssn,
+            to,
+            undone: false,
+        } => {
+            let taken = is_taken(received, *from, *ssn);
+            push_stub_unless(shapes, taken, *from, place, *to)
+        }
+        _ => Ok(()),
+    }
+}
+
+/// Draws a stub at each send of a message in flight.
+pub(crate) fn push_stubs(
+    shapes: &mut Vec<Shape>,
+    alloc: Global,
+    columns: &[Column],
+) -> Result<(), AllocError>
+    ensures { OnOk result (shapes.new.items ≡ shapes.old.items ++ drawn (stub columns.now) 0 columns.now) }
+{
+    let received = received_in(alloc, columns)?;
+    for (place, column) in columns.iter().enumerate() {
+        push_stub(shapes, &received, place, column)?;
+    }
+    Ok(())
+}

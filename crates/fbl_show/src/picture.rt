@@ -1,0 +1,94 @@
+//! The whole picture.
+
+ghost use Rattle.std.specs.Prelude.{◌≡◌, ◌≤◌, IfOk, count_by, string_bytes};
+ghost use Rattle.fbl_show.specs.HistoryPictures.{heading, history_picture, is_receipt, is_undone_receipt, shapes_of};
+ghost use Rattle.fbl_shapes.specs.Words.{receipts_word};
+
+use crate::marks::push_marks;
+use crate::members::push_members;
+use crate::messages::{push_arrows, push_stubs};
+use fbl_history::Column;
+use fbl_shapes::{Legend, Shape, picture_text};
+use std::alloc::{AllocError, Global};
+
+/// How many receipts were ever made.
+fn receipts_made(columns: &[Column]) -> usize
+    ensures { result ≡ count_by is_receipt columns.now }
+{
+    columns
+        .iter()
+        .filter(|column| matches!(column, Column::Receipt { .. }))
+        .count()
+}
+
+/// How many of them were undone.
+fn receipts_undone(columns: &[Column]) -> usize
+    ensures { result ≡ count_by is_undone_receipt columns.now }
+{
+    columns
+        .iter()
+        .filter(|column| matches!(column, Column::Receipt { undone: true, .. }))
+        .count()
+}
+
+/// The word for so many receipts.
+fn word_for(count: usize) -> &'static str
+    ensures { result.now ≡ receipts_word count }
+{
+    if count == 1 { "receipt" } else { "receipts" }
+}
+
+/// The heading: the numbers of the group, the behaviour, and how many receipts were made and undone.
+fn heading_text(
+    alloc: Global,
+    members: u8,
+    f: u8,
+    behaviour: &str,
+    columns: &[Column],
+) -> Result<String, AllocError>
+    ensures { IfOk result (λ text. string_bytes text ≡ heading members f behaviour.now columns.now) }
+{
+    let made = receipts_made(columns);
+    let undone = receipts_undone(columns);
+    let word = word_for(made);
+    format!(in alloc; "{members} members, f {f}, {behaviour}: {made} {word} made, {undone} undone")
+}
+
+/// What is drawn of a history of so many members.
+#[tactic(auto, unfolding(crate::specs::HistoryPictures::shapes_of))]
+fn shapes_in(alloc: Global, members: u8, columns: &[Column]) -> Result<Vec<Shape>, AllocError>
+    requires { members ≤ 16 }
+    ensures { IfOk result (λ shapes. shapes.items ≡ shapes_of members columns.now) }
+{
+    let mut shapes = Vec::new(alloc);
+    push_members(&mut shapes, members, columns)?;
+    push_arrows(&mut shapes, alloc, columns)?;
+    push_stubs(&mut shapes, alloc, columns)?;
+    push_marks(&mut shapes, alloc, columns)?;
+    Ok(shapes)
+}
+
+/// The picture of a history, as SVG: the heading, a line for each member of the group, of whom there are 16 at most, and a
+/// column for each entry of the history, from left to right. The name of the behaviour stands in the heading as it is: it is to
+/// have none of the characters `<`, `>` and `&`. `Err` comes only where memory runs out.
+pub fn show_text(
+    alloc: Global,
+    members: u8,
+    f: u8,
+    behaviour: &str,
+    columns: &[Column],
+) -> Result<String, AllocError>
+    requires { members ≤ 16 }
+    ensures { IfOk result (λ text. string_bytes text ≡ history_picture members f behaviour.now columns.now) }
+{
+    let heading = heading_text(alloc, members, f, behaviour, columns)?;
+    let shapes = shapes_in(alloc, members, columns)?;
+    picture_text(
+        alloc,
+        heading.as_str(),
+        members,
+        columns.len(),
+        Legend::History,
+        shapes.as_slice(),
+    )
+}

@@ -1,0 +1,91 @@
+//! Three members share a store of eight keys. A command for a key goes round the ring to the member that owns it. Some are
+//! delivered, a member is struck and recovered, and then two workers deliver the rest, and strike and recover another member on
+//! the way. No command is applied by any but its key's owner, and none counts twice.
+#![tactic(auto)]
+
+ghost use Rattle.std.specs.Prelude.{◌≡◌, ℕ, ◌<◌, ◌≤◌, ◌==◌, if◌then◌else◌};
+ghost use Rattle.fbl_law.specs.Groups.{member as record_of};
+ghost use Rattle.fbl_store.specs.Commands.{amount_of, brought, value_at};
+ghost use Rattle.fbl_store.specs.Shards.{amount_brought, owner};
+
+mod command;
+mod shard;
+
+use anyhow::{Result, ensure};
+use command::{Change, Command};
+use fbl_base::{Config, Member, MemberSet, Note, Start, Strike};
+use fbl_group::Group;
+use fbl_threads::{NoGate, drain};
+use shard::Shard;
+use std::alloc::Global;
+use std::sync::Wait;
+use std::thread::Threads;
+
+/// A start that asks for a change of a key's value, and may be passed on twice.
+fn asking(from: Member, to: Member, key: u8, change: Change) -> Start
+    requires { key < 8 }
+    ensures { brought result.note ≡ amount_of change }
+{
+    let value = Command { key, change }.write();
+    let note = Note { value, hops: 2 };
+    Start { from, to, note }
+}
+
+/// The value of a key: its owner has it, and another member has none. It is no more than the starts bring.
+fn look_up(group: &Group<Shard>, key: u8) -> u8
+    requires { key < 8 }
+    ensures value { (m : ℕ) → m < group.now.config.members → value_at (record_of group.now m).state key ≡ (if m == owner group.now.config.members key then result else 0) }
+    ensures most { result ≤ amount_brought group.now.config }
+{
+    group.kept();
+    group.none_made();
+    let owner = Member::new(key % group.config().members()).unwrap();
+    group.state(owner).to_le_bytes()[usize::from(key)]
+}
+
+/// Prints the values of the keys, each of which is at most 50.
+fn report<R: Print>(rt: &R, when: &str, group: &Group<Shard>) -> Result<()>
+    requires { amount_brought group.now.config ≡ 50 }
+{
+    print!(rt; "{when}:")?;
+    for key in 0..8 {
+        let value = look_up(group, key);
+        prove!(value <= 50);
+        print!(rt; " {value}")?;
+    }
+    println!(rt; ", in flight {}", group.messages_in_flight())?;
+    Ok(())
+}
+
+/// Runs the store until no command is in flight.
+fn run<R: Print + Threads + Wait + Sync>(rt: &R, alloc: Global) -> Result<()> {
+    let a = Member::new(0).unwrap();
+    let b = Member::new(1).unwrap();
+    let c = Member::new(2).unwrap();
+    let starts = [
+        asking(a, b, 3, Change::Put(40)),
+        asking(a, b, 3, Change::Add(2)),
+        asking(b, c, 5, Change::Put(7)),
+        asking(c, a, 4, Change::Add(1)),
+    ];
+    let config = Config::new(alloc, 3, 1, 8192, &starts)?;
+    let mut group = Group::<Shard>::new(alloc, config)?;
+    for (to, from) in [(b, a), (c, b), (c, b), (a, c), (a, c)] {
+        group.deliver(to, from)?;
+    }
+    report(rt, "delivered", &group)?;
+    group.strike(MemberSet::empty().with(a))?;
+    let recovered = group.recover()?;
+    println!(rt; "member 0 struck: receipts undone {}", recovered.undone)?;
+    report(rt, "recovered", &group)?;
+    let set = MemberSet::empty().with(c);
+    let plan = [Strike { at: 8, set }];
+    let (group, drained) = drain(rt, alloc, group, &plan, 2, 1_000_000, &NoGate);
+    ensure!(drained?.quiet, "commands are left in flight");
+    report(rt, "drained", &group)?;
+    Ok(())
+}
+
+fn main(rt: HostRuntime) -> Result<()> {
+    run(&rt, rt.alloc())
+}

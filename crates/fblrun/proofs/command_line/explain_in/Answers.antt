@@ -1,8 +1,0 @@
-use Rattle.std.proofs.Common.{◌∙◌, codes}
-use Rattle.clap.specs.Words.{found_of}
-use Rattle.clap.proofs.WalkLemmas.{one_text-rows}
-use Rattle.fblrun.proofs.Lines.{flag_is}
-use Rattle.fblrun.proofs.command_line.explain_in.Goals as goal
-
-pub returns : goal.returns
-returns c = λ explain e. flag_is explain c.get_flag.result _ c.get_flag.ensures.value c.get_flag.ensures.other (one_text-rows (found_of c.args.found.now) (codes "explain") ∙ e)
