@@ -1,5 +1,8 @@
 -- Which receipts are unsafe, and that the run is safe where none is.
-use Rattle.std.proofs.Common.{ℕ, Bool, true, false, ◌≡◌, ◌<◌, ◌≤◌, ◌+◌, ◌==◌, ◌&&◌, ◌||◌, ◌↔◌, inl, inr, List, [], ◌∷◌, ◌++◌, length, take, map, Option, Some, None, refl, sym, ap, ◌∙◌, arith, get_or, max, append-nil, cond, not, zero, suc, slice_get}
+use Rattle.std.proofs.Common.{
+  ℕ, Bool, true, false, ◌≡◌, ◌<◌, ◌≤◌, ◌+◌, ◌==◌, ◌&&◌, ◌||◌, ◌↔◌, inl, inr, List, [], ◌∷◌, ◌++◌, length, take, map, Option,
+  Some, None, refl, sym, ap, ◌∙◌, arith, get_or, max, append-nil, cond, not, zero, suc, slice_get,
+}
 use Rattle.std.specs.List.{Contains, filter, filter_map, list_any}
 use Rattle.std.specs.Cmp.{nat_cmp_total}
 use Rattle.std.specs.FinSet as set
@@ -32,11 +35,13 @@ use Rattle.fbl_audit.proofs.Following.{contains-both}
 abbrev is_pair : Determinant → ℕ → ℕ × Determinant → Bool
 is_pair d holder h = same_determinant h.1 d && (h.0 == holder)
 
-any_holder : (d : Determinant) (holder : ℕ) (held : List (ℕ × Determinant)) → list_any (λ y. y == holder) (map (λ h. h.0) (filter (λ h. same_determinant h.1 d) held)) ≡ list_any (is_pair d holder) held
+any_holder : (d : Determinant) (holder : ℕ) (held : List (ℕ × Determinant))
+    → list_any (λ y. y == holder) (map (λ h. h.0) (filter (λ h. same_determinant h.1 d) held)) ≡ list_any (is_pair d holder) held
 any_holder d holder [] = refl
 any_holder d holder (x ∷ xs) = by_test (same_determinant x.1 d) (any_holder d holder xs) where
   by_test : (b : Bool) → list_any (λ y. y == holder) (map (λ (h : ℕ × Determinant). h.0) (filter (λ h. same_determinant h.1 d) xs)) ≡ list_any (is_pair d holder) xs
-      → list_any (λ y. y == holder) (map (λ (h : ℕ × Determinant). h.0) (cond b (x ∷ filter (λ h. same_determinant h.1 d) xs) (filter (λ h. same_determinant h.1 d) xs))) ≡ ((b && (x.0 == holder)) || list_any (is_pair d holder) xs)
+      → list_any (λ y. y == holder) (map (λ (h : ℕ × Determinant). h.0)
+          (cond b (x ∷ filter (λ h. same_determinant h.1 d) xs) (filter (λ h. same_determinant h.1 d) xs))) ≡ ((b && (x.0 == holder)) || list_any (is_pair d holder) xs)
   by_test true rest = ap (λ r. (x.0 == holder) || r) rest
   by_test false rest = rest
 
@@ -71,7 +76,8 @@ all_lose : (dump : Parts) (members : Members) (d : Determinant) → ((q : ℕ) �
 all_lose dump members d all held = false≢true (sym held.2 ∙ all held.0 ((holds dump d held.0).1 held.1))
 
 -- whatever may be lost and loses the receipt has the least members
-has_least : (dump : Parts) (members : Members) (d : Determinant) → MayBeLost dump members → LosesReceipt dump members d → (q : ℕ) → set.contains (least_of dump d) q ≡ true → set.contains members q ≡ true
+has_least : (dump : Parts) (members : Members) (d : Determinant) → MayBeLost dump members → LosesReceipt dump members d → (q : ℕ)
+    → set.contains (least_of dump d) q ≡ true → set.contains members q ≡ true
 has_least dump members d may loses q h = elim ((contains-both dump.strike (holders_of dump d) q).0 h) [
   | inl x ↦ may.struck q x
   | inr x ↦ loses_all dump members d loses q x
@@ -144,7 +150,8 @@ no_cons : (x : UnsafeReceipt) (xs : List UnsafeReceipt) → [] ≡ x ∷ xs → 
 no_cons x xs h = cc
 
 -- one more receipt
-pub says_more : (dump : Parts) (ds more : List Determinant) (said said' : List UnsafeReceipt) → SaysUnsafe dump ds said → SaysUnsafe dump more said' → SaysUnsafe dump (ds ++ more) (said ++ said')
+pub says_more : (dump : Parts) (ds more : List Determinant) (said said' : List UnsafeReceipt) → SaysUnsafe dump ds said → SaysUnsafe dump more said'
+    → SaysUnsafe dump (ds ++ more) (said ++ said')
 says_more dump [] more said said' first last = (rw first last)
 says_more dump (d ∷ ds) more said said' first last = elim first [
   | inl safe ↦ inl (safe.0, says_more dump ds more said said' safe.1 last)
@@ -156,7 +163,8 @@ said_is_unsafe : (dump : Parts) (d : Determinant) (said : UnsafeReceipt) → IsS
 said_is_unsafe dump d said is = (said.strike, is.may, is.loses, (is.some.0, (is.orphans is.some.0).0 is.some.1))
 
 -- the events go on by one: a receipt of which something is said, a receipt that is not unsafe, or no receipt
-module _ (dump : Parts) (events : List Mark) (i : ℕ) (e : Mark) (within : i < length events) (is : e ≡ get_or events i e) (said : List UnsafeReceipt) (says : SaysUnsafe dump (filter_map determinant_of (take i events)) said) where
+module _ (dump : Parts) (events : List Mark) (i : ℕ) (e : Mark) (within : i < length events) (is : e ≡ get_or events i e) (said : List UnsafeReceipt)
+    (says : SaysUnsafe dump (filter_map determinant_of (take i events)) said) where
   one_more : (more : List Determinant) → determinants_here (determinant_of e) ≡ more → filter_map determinant_of (take (i + 1) events) ≡ filter_map determinant_of (take i events) ++ more
   one_more more here =
       ap (filter_map determinant_of) (take_more events i e within ∙ ap (λ x. take i events ++ x ∷ []) (sym is))
@@ -167,7 +175,8 @@ module _ (dump : Parts) (events : List Mark) (i : ℕ) (e : Mark) (within : i < 
       one (Send from ssn to) = refl
       one (Receipt to rsn from ssn) = refl
 
-  pub says_unsafe : (d : Determinant) (first : UnsafeReceipt) → determinant_of e ≡ Some d → IsSaidOf dump d first → SaysUnsafe dump (filter_map determinant_of (take (i + 1) events)) (said ++ first ∷ [])
+  pub says_unsafe : (d : Determinant) (first : UnsafeReceipt) → determinant_of e ≡ Some d → IsSaidOf dump d first
+      → SaysUnsafe dump (filter_map determinant_of (take (i + 1) events)) (said ++ first ∷ [])
   says_unsafe d first of_e is_said = rw (one_more (d ∷ []) (ap determinants_here of_e)) (says_more dump _ (d ∷ []) said (first ∷ []) says (inr (first, [], refl, is_said, refl)))
 
   pub says_nothing : (d : Determinant) → determinant_of e ≡ Some d → ¬ (IsUnsafe dump d) → SaysUnsafe dump (filter_map determinant_of (take (i + 1) events)) said
@@ -186,7 +195,8 @@ says_none dump (d ∷ ds) said says none = elim says [
   | inr un ↦ absurd (none d (said_is_unsafe dump d un.0 un.3))
 ]
 
-none_said : (dump : Parts) (ds : List Determinant) (said : List UnsafeReceipt) → SaysUnsafe dump ds said → said ≡ [] → (i : ℕ) (d : Determinant) → slice_get ds i ≡ Some d → ¬ (IsUnsafe dump d)
+none_said : (dump : Parts) (ds : List Determinant) (said : List UnsafeReceipt) → SaysUnsafe dump ds said → said ≡ [] → (i : ℕ) (d : Determinant)
+    → slice_get ds i ≡ Some d → ¬ (IsUnsafe dump d)
 none_said dump [] said says none i d at = cc
 none_said dump (e ∷ ds) said says none zero d at = elim says [
   | inl safe ↦ (let same : e ≡ d = cc in rw same at safe.0)
@@ -203,7 +213,8 @@ says_safe dump said says = (
   λ none members may q orphan. by_event none members may q orphan.0 orphan.1.0 orphan.1.1 orphan.1.2,
   λ safe. says_none dump (receipts_of_dump dump) said says (λ d u. safe u.0 u.1 u.3.0 (u.3.1.0, (receipt_of d, u.2, u.3.1.1))),
 ) where
-  by_event : said ≡ [] → (members : Members) → MayBeLost dump members → (q : ℕ) → set.contains members q ≡ false → (e : Mark) → IsLost (struck_by members dump) e → Depends dump.events q e → ⊥
+  by_event : said ≡ [] → (members : Members) → MayBeLost dump members → (q : ℕ) → set.contains members q ≡ false → (e : Mark)
+      → IsLost (struck_by members dump) e → Depends dump.events q e → ⊥
   by_event none members may q out (Send from ssn to) lost depends = lost
   by_event none members may q out (Receipt to rsn from ssn) lost depends =
       let d : Determinant = record { from = from; ssn = ssn; to = to; rsn = rsn } in
@@ -212,7 +223,8 @@ says_safe dump said says = (
       none_said dump (receipts_of_dump dump) said says none among.0 d among.1 (members, may, lost, (q, (out, depends)))
 
 -- who is found to depend on a receipt's place depends on the receipt
-pub dependents_of_receipt : (n : ℕ) (t : List Mark) (found : Dependents) (i : ℕ) (e : Mark) (d : Determinant) → WellFormed n t → AreDependents t found → i < length t → e ≡ get_or t i e → determinant_of e ≡ Some d
+pub dependents_of_receipt : (n : ℕ) (t : List Mark) (found : Dependents) (i : ℕ) (e : Mark) (d : Determinant) → WellFormed n t → AreDependents t found
+    → i < length t → e ≡ get_or t i e → determinant_of e ≡ Some d
     → (q : ℕ) → (set.contains (dependents_at found i) q ≡ true) ↔ Depends t q (receipt_of d)
 dependents_of_receipt n t found i (Send from ssn to) d obeys are within is of_e q = cc
 dependents_of_receipt n t found i (Receipt to rsn from ssn) d obeys are within is of_e q =

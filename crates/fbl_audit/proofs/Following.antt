@@ -1,5 +1,8 @@
 -- A pass from the end of a trace finds who depends on each event.
-use Rattle.std.proofs.Common.{ℕ, Bool, true, false, ◌≡◌, ◌≢◌, ◌<◌, ◌≤◌, ◌+◌, ◌⊎◌, ◌↔◌, inl, inr, List, length, Some, None, refl, sym, ap, ◌∙◌, arith, get_or, set as set_at, get_or-set_same, get_or-set_other, length-set, length-append, ◌-◌, ◌++◌, [], ◌∷◌, cond, replicate, ◌==◌, Decides}
+use Rattle.std.proofs.Common.{
+  ℕ, Bool, true, false, ◌≡◌, ◌≢◌, ◌<◌, ◌≤◌, ◌+◌, ◌⊎◌, ◌↔◌, inl, inr, List, length, Some, None, refl, sym, ap, ◌∙◌, arith, get_or,
+  set as set_at, get_or-set_same, get_or-set_other, length-set, length-append, ◌-◌, ◌++◌, [], ◌∷◌, cond, replicate, ◌==◌, Decides,
+}
 use Rattle.std.proofs.lemmas.Bool.Decides.{Decides-and, Decides-eqb}
 use Rattle.std.proofs.lemmas.Bool.{false≢true, cases_eq, or_cases, or_left, or_right}
 use Rattle.std.specs.Cmp.{nat_cmp_total}
@@ -82,7 +85,8 @@ pub record Knows (t : List Mark) (i : ℕ) (by_member : List Members) (by_messag
   pub messages : (m : Message) (q : ℕ) → (set.contains (by_message m) q ≡ true) ↔ DependsOnLater t (λ b. send_of b ≡ Some (Send m.from m.ssn m.to)) i q
 
 pub contains-both : (s t : Members) (q : ℕ) → (set.contains (set.union s t) q ≡ true) ↔ (set.contains s q ≡ true) ⊎ (set.contains t q ≡ true)
-contains-both s t q = (rw (set.contains-union nat_cmp_total s t q) (or_cases (set.contains s q) (set.contains t q), elim [ inl h ↦ or_left (set.contains s q) (set.contains t q) h | inr h ↦ or_right (set.contains s q) (set.contains t q) h ]))
+contains-both s t q = (rw (set.contains-union nat_cmp_total s t q)
+    (or_cases (set.contains s q) (set.contains t q), elim [ inl h ↦ or_left (set.contains s q) (set.contains t q) h | inr h ↦ or_right (set.contains s q) (set.contains t q) h ]))
 
 contains-one_more : (s : Members) (m q : ℕ) → (set.contains (set.insert s m) q ≡ true) ↔ (m ≡ q) ⊎ (set.contains s q ≡ true)
 contains-one_more s m q = at_place (cases_eq q m) where
@@ -132,13 +136,17 @@ Decides-same_message a b =
     )
 
 -- who depends on the event takes its place among those that depend on later ones
-module _ (t : List Mark) (i : ℕ) (by_member : List Members) (by_message : Message → Members) (e : Mark) (at : At t i e) (knows : Knows t (i + 1) by_member by_message) (found : Members) (right : (q : ℕ) → (set.contains found q ≡ true) ↔ Depends t q i) where
-  members_more : member_of e < 16 → (m q : ℕ) → m < 16 → (set.contains (get_or (set_at by_member (member_of e) (set.union (get_or by_member (member_of e) set.empty) found)) m set.empty) q ≡ true) ↔ DependsOnLater t (λ b. member_of b ≡ m) i q
+module _ (t : List Mark) (i : ℕ) (by_member : List Members) (by_message : Message → Members) (e : Mark) (at : At t i e)
+    (knows : Knows t (i + 1) by_member by_message) (found : Members) (right : (q : ℕ) → (set.contains found q ≡ true) ↔ Depends t q i) where
+  members_more : member_of e < 16 → (m q : ℕ) → m < 16
+      → (set.contains (get_or (set_at by_member (member_of e) (set.union (get_or by_member (member_of e) set.empty) found)) m set.empty) q ≡ true) ↔
+      DependsOnLater t (λ b. member_of b ≡ m) i q
   members_more below m q within = at_place (cases_eq m (member_of e)) (later_more t (λ b. member_of b ≡ m) i q e at) (knows.members m q within) where
     at_place : (m ≡ member_of e) ⊎ (m ≢ member_of e)
         → (DependsOnLater t (λ b. member_of b ≡ m) i q ↔ DependsOnLater t (λ b. member_of b ≡ m) (i + 1) q ⊎ ((member_of e ≡ m) × Depends t q i))
         → ((set.contains (get_or by_member m set.empty) q ≡ true) ↔ DependsOnLater t (λ b. member_of b ≡ m) (i + 1) q)
-        → (set.contains (get_or (set_at by_member (member_of e) (set.union (get_or by_member (member_of e) set.empty) found)) m set.empty) q ≡ true) ↔ DependsOnLater t (λ b. member_of b ≡ m) i q
+        → (set.contains (get_or (set_at by_member (member_of e) (set.union (get_or by_member (member_of e) set.empty) found)) m set.empty) q ≡ true) ↔
+            DependsOnLater t (λ b. member_of b ≡ m) i q
     at_place (inl is) more later =
         let room : member_of e < length by_member = omega (arith, below, knows.room) in
         let both = contains-both (get_or by_member (member_of e) set.empty) found q in
@@ -173,7 +181,8 @@ module _ (t : List Mark) (i : ℕ) (by_member : List Members) (by_message : Mess
     same_send a b h = (let e1 : a.from ≡ b.from = cc in let e2 : a.ssn ≡ b.ssn = cc in let e3 : a.to ≡ b.to = cc in λ j. record { from = e1 j; ssn = e2 j; to = e3 j })
 
     at_message : (b : Bool) → same_message taken m ≡ b
-        → (DependsOnLater t (λ b. send_of b ≡ Some (Send m.from m.ssn m.to)) i q ↔ DependsOnLater t (λ b. send_of b ≡ Some (Send m.from m.ssn m.to)) (i + 1) q ⊎ ((send_of e ≡ Some (Send m.from m.ssn m.to)) × Depends t q i))
+        → (DependsOnLater t (λ b. send_of b ≡ Some (Send m.from m.ssn m.to)) i q ↔ DependsOnLater t (λ b. send_of b ≡ Some (Send m.from m.ssn m.to))
+            (i + 1) q ⊎ ((send_of e ≡ Some (Send m.from m.ssn m.to)) × Depends t q i))
         → ((set.contains (by_message m) q ≡ true) ↔ DependsOnLater t (λ b. send_of b ≡ Some (Send m.from m.ssn m.to)) (i + 1) q)
         → (set.contains (cond b (set.union (by_message taken) found) (by_message m)) q ≡ true) ↔ DependsOnLater t (λ b. send_of b ≡ Some (Send m.from m.ssn m.to)) i q
     at_message true is more later =
@@ -197,12 +206,14 @@ module _ (t : List Mark) (i : ℕ) (by_member : List Members) (by_message : Mess
     members = members_more below;
     messages = by_event e refl;
   } where
-    by_event : (b : Mark) → b ≡ e → (m : Message) (q : ℕ) → (set.contains (known_after by_message (message_of b) found m) q ≡ true) ↔ DependsOnLater t (λ b. send_of b ≡ Some (Send m.from m.ssn m.to)) i q
+    by_event : (b : Mark) → b ≡ e → (m : Message) (q : ℕ)
+        → (set.contains (known_after by_message (message_of b) found m) q ≡ true) ↔ DependsOnLater t (λ b. send_of b ≡ Some (Send m.from m.ssn m.to)) i q
     by_event (Send from ssn to) is m q = messages_kept (ap message_of (sym is)) m q
     by_event (Receipt to rsn from ssn) is m q = messages_more (record { from = from; ssn = ssn; to = to }) (ap send_of (sym is)) m q
 
 -- nothing is known behind the last event
-pub Knows-none : (t : List Mark) (by_member : List Members) (by_message : Message → Members) → by_member ≡ replicate 16 set.empty → ((m : Message) → by_message m ≡ set.empty) → Knows t (length t) by_member by_message
+pub Knows-none : (t : List Mark) (by_member : List Members) (by_message : Message → Members) → by_member ≡ replicate 16 set.empty
+    → ((m : Message) → by_message m ≡ set.empty) → Knows t (length t) by_member by_message
 Knows-none t by_member by_message members messages = record {
   room = rw members refl;
   members = λ m q within. (rw (members, get_or-same 16 m set.empty) (λ h. absurd (false≢true (sym (set.contains-empty nat_cmp q) ∙ h)), λ d. absurd (none (λ b. member_of b ≡ m) q d)));
@@ -221,7 +232,8 @@ Knows-at : (t : List Mark) (p i : ℕ) (by_member : List Members) (by_message : 
 Knows-at t p i by_member by_message same knows = (rw same at knows)
 
 -- the same is known in other words
-Knows-as : (t : List Mark) (p : ℕ) (by_member by_member' : List Members) (by_message by_message' : Message → Members) → by_member' ≡ by_member → ((m : Message) → by_message' m ≡ by_message m) → Knows t p by_member by_message → Knows t p by_member' by_message'
+Knows-as : (t : List Mark) (p : ℕ) (by_member by_member' : List Members) (by_message by_message' : Message → Members) → by_member' ≡ by_member
+    → ((m : Message) → by_message' m ≡ by_message m) → Knows t p by_member by_message → Knows t p by_member' by_message'
 Knows-as t p by_member by_member' by_message by_message' members messages knows = record {
   room = rw members knows.room;
   members = rw members knows.members;
@@ -264,7 +276,8 @@ member_within n t i (Receipt to rsn from ssn) obeys few below is =
     omega (arith, may.1, few)
 
 -- at the end of the pass it has seen all
-pub Seen-all : (t : List Mark) (p : ℕ) (by_member : List Members) (by_message : Message → Members) (found : Dependents) → p ≤ 0 → Seen t p by_member by_message found.from_the_end.items → AreDependents t found
+pub Seen-all : (t : List Mark) (p : ℕ) (by_member : List Members) (by_message : Message → Members) (found : Dependents) → p ≤ 0
+    → Seen t p by_member by_message found.from_the_end.items → AreDependents t found
 Seen-all t p by_member by_message found none seen =
     let all : length found.from_the_end.items ≡ length t = omega (arith, seen.count, none) in
     record {

@@ -1,5 +1,8 @@
 -- How the index of holders is made.
-use Rattle.std.proofs.Common.{ℕ, ◌+◌, ◌<◌, ◌≡◌, Bool, true, false, cond, List, [], ◌∷◌, ◌++◌, length, take, get_or, map, Option, Some, unwrap_or, refl, sym, ap, ◌∙◌, append-nil}
+use Rattle.std.proofs.Common.{
+  ℕ, ◌+◌, ◌<◌, ◌≡◌, Bool, true, false, cond, List, [], ◌∷◌, ◌++◌, length, take, get_or, map, Option, Some, unwrap_or, refl, sym, ap, ◌∙◌,
+  append-nil,
+}
 use Rattle.std.specs.List.{filter}
 use Rattle.std.specs.Ordering.{nat_cmp}
 use Rattle.std.specs.Cmp.{nat_cmp_total}
@@ -15,13 +18,17 @@ abbrev held_by : Determinant → List (ℕ × Determinant) → set.FinSet nat_cm
 held_by d xs = set.from_list (map (λ h. h.0) (filter (λ h. same_determinant h.1 d) xs))
 
 -- one more pair
-pub held_more : (old : Determinant → Option (set.FinSet nat_cmp)) (xs : List (ℕ × Determinant)) (i : ℕ) (x : ℕ × Determinant) (d : Determinant) (members : set.FinSet nat_cmp) (after : Option (set.FinSet nat_cmp))
+pub held_more : (old : Determinant → Option (set.FinSet nat_cmp)) (xs : List (ℕ × Determinant)) (i : ℕ) (x : ℕ × Determinant) (d : Determinant)
+    (members : set.FinSet nat_cmp) (after : Option (set.FinSet nat_cmp))
     → i < length xs → x ≡ get_or xs i x → unwrap_or (old d) set.empty ≡ held_by d (take i xs) → members ≡ set.insert (unwrap_or (old x.1) set.empty) x.0
     → after ≡ cond (same_determinant x.1 d) (Some members) (old d) → unwrap_or after set.empty ≡ held_by d (take (i + 1) xs)
 held_more old xs i x d members after within is was now new = at_key (same_determinant x.1 d) refl where
-  more : (b : Bool) → same_determinant x.1 d ≡ b → held_by d (take (i + 1) xs) ≡ set.from_list (map (λ h. h.0) (filter (λ h. same_determinant h.1 d) (take i xs)) ++ map (λ h. h.0) (cond b (x ∷ []) []))
+  more : (b : Bool) → same_determinant x.1 d ≡ b
+      → held_by d (take (i + 1) xs) ≡ set.from_list (map (λ h. h.0) (filter (λ h. same_determinant h.1 d) (take i xs)) ++ map (λ h. h.0) (cond b (x ∷ []) []))
   more b e =
-      ap (λ l. set.from_list (map (λ h. h.0) l)) (filter_more (λ h. same_determinant h.1 d) xs i x within ∙ ap (λ y. filter (λ h. same_determinant h.1 d) (take i xs) ++ cond (same_determinant y.1 d) (y ∷ []) []) (sym is) ∙ ap (λ c. filter (λ h. same_determinant h.1 d) (take i xs) ++ cond c (x ∷ []) []) e)
+      ap (λ l. set.from_list (map (λ h. h.0) l)) (filter_more (λ h. same_determinant h.1 d) xs i x within
+          ∙ ap (λ y. filter (λ h. same_determinant h.1 d) (take i xs) ++ cond (same_determinant y.1 d) (y ∷ []) []) (sym is)
+          ∙ ap (λ c. filter (λ h. same_determinant h.1 d) (take i xs) ++ cond c (x ∷ []) []) e)
       ∙ ap set.from_list (map-append (λ h. h.0) (filter (λ h. same_determinant h.1 d) (take i xs)) (cond b (x ∷ []) []))
 
   at_key : (b : Bool) → same_determinant x.1 d ≡ b → unwrap_or after set.empty ≡ held_by d (take (i + 1) xs)

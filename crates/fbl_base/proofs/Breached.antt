@@ -63,7 +63,8 @@ pair_not_allowed n t place holder d (pair_rule.NoReceipt e) h fits = h.3 (rw h.2
 pub pair_at : (held : List (ℕ × Determinant)) (place : ℕ) (h : ℕ × Determinant) → place < length held → h ≡ get_or held place h → slice_get held place ≡ Some h
 pair_at held place h within is = slice_get-get_or held place h within ∙ ap Some (sym is)
 
-pub pair_breaks : (dump : Parts) (place : ℕ) (h : ℕ × Determinant) (rule : PairRule) → slice_get dump.held place ≡ Some h → BreaksPair dump.members dump.events place h.0 h.1 rule → ¬ (HeldAt dump place)
+pub pair_breaks : (dump : Parts) (place : ℕ) (h : ℕ × Determinant) (rule : PairRule) → slice_get dump.held place ≡ Some h
+    → BreaksPair dump.members dump.events place h.0 h.1 rule → ¬ (HeldAt dump place)
 pair_breaks dump place h rule at breaks held = pair_not_allowed dump.members dump.events place h.0 h.1 rule breaks (held h at)
 
 pub pair_fits : (dump : Parts) (place : ℕ) (h : ℕ × Determinant) → slice_get dump.held place ≡ Some h → FitsPair dump.members dump.events place h.0 h.1 → HeldAt dump place

@@ -1,5 +1,9 @@
 -- What is counted, after one more event.
-use Rattle.std.proofs.Common.{ℕ, Bool, true, false, cond, ◌≡◌, ◌≢◌, ◌<◌, ◌≤◌, ◌+◌, ◌*◌, ◌==◌, ◌&&◌, ◌⊎◌, ◌↔◌, inl, inr, List, [], ◌∷◌, ◌++◌, length, take, drop, Option, Some, None, slice_get, MatchOption, subst, refl, sym, ap, ◌∙◌, arith, get_or, set as set_at, get_or-set_same, get_or-set_other, length-set, length-take}
+use Rattle.std.proofs.Common.{
+  ℕ, Bool, true, false, cond, ◌≡◌, ◌≢◌, ◌<◌, ◌≤◌, ◌+◌, ◌*◌, ◌==◌, ◌&&◌, ◌⊎◌, ◌↔◌, inl, inr, List, [], ◌∷◌, ◌++◌,
+  length, take, drop, Option, Some, None, slice_get, MatchOption, subst, refl, sym, ap, ◌∙◌, arith, get_or, set as set_at, get_or-set_same,
+  get_or-set_other, length-set, length-take,
+}
 use Rattle.std.proofs.lemmas.Bool.{cases_eq, eq-eqb, ne_eqb}
 use Rattle.std.proofs.lemmas.List.{take_more, append-nil, get_or_read}
 use Rattle.std.proofs.lemmas.Option.{slice_get-get_or}
@@ -39,7 +43,8 @@ module _ {A : Type 0} (n : ℕ) (t : List Mark) (c : Counts A) (most : n ≤ 16)
   pub verdict : (e : Mark) (next : ℕ) (first : Option ℕ) (found : Option EventRule) → source_of e < 16 → destination_of e < 16 → next ≡ next_by c e → first ≡ first_by c e
       → MatchOption found (Fits n e next first) (Breaks n e next first) → MatchOption found (MayFollow n t e) (BreaksEvent n t e)
   verdict e next first found q p is_next is_first h = by_found found (rw (← next_counted e q p, ← first_counted e q p, ← is_next, ← is_first) h) where
-    by_found : (found : Option EventRule) → MatchOption found (Fits n e (next_number t e) (first_in_flight t e)) (Breaks n e (next_number t e) (first_in_flight t e)) → MatchOption found (MayFollow n t e) (BreaksEvent n t e)
+    by_found : (found : Option EventRule) → MatchOption found (Fits n e (next_number t e) (first_in_flight t e))
+        (Breaks n e (next_number t e) (first_in_flight t e)) → MatchOption found (MayFollow n t e) (BreaksEvent n t e)
     by_found None h = may e h
     by_found (Some rule) h = breaks e rule h
 
@@ -48,18 +53,22 @@ pub obeys_at : (n : ℕ) (t : List Mark) (i : ℕ) (e : Mark) → At t i e → O
 obeys_at n t i e at = (λ h. h e at, λ h b at_b. (let same : e ≡ b = cc in rw (← same) h))
 
 -- a counter that is set to the next number
-counter_set : (xs : List ℕ) (q s x : ℕ) (count after : ℕ) → q < length xs → s ≡ get_or xs q 0 + 1 → get_or xs x 0 ≡ count → after ≡ count + cond (q == x) 1 0 → get_or (set_at xs q s) x 0 ≡ after
+counter_set : (xs : List ℕ) (q s x : ℕ) (count after : ℕ) → q < length xs → s ≡ get_or xs q 0 + 1 → get_or xs x 0 ≡ count
+    → after ≡ count + cond (q == x) 1 0 → get_or (set_at xs q s) x 0 ≡ after
 counter_set xs q s x count after within next was step = at (cases_eq x q) where
   at : (x ≡ q) ⊎ (x ≢ q) → get_or (set_at xs q s) x 0 ≡ after
-  at (inl here) = (let e : (q == x) ≡ true = eq-eqb q x (sym here) in let f : after ≡ count + 1 = step ∙ (rw e) in let w : get_or xs q 0 ≡ count = (rw here at was) in rw (here, get_or-set_same) (omega (arith, next, f, w)))
+  at (inl here) = (let e : (q == x) ≡ true = eq-eqb q x (sym here) in let f : after ≡ count + 1 = step ∙ (rw e) in
+      let w : get_or xs q 0 ≡ count = (rw here at was) in rw (here, get_or-set_same) (omega (arith, next, f, w)))
   at (inr other) = (let e : (q == x) ≡ false = ne_eqb q x (λ h. other (sym h)) in let f : after ≡ count + 0 = step ∙ (rw e) in rw get_or-set_other (omega (arith, was, f)))
 
 -- the channel of one pair of members is set
-channel_set : (xs : List (List ℕ)) (q p x y : ℕ) (new was after : List ℕ) → 16 * q + p < length xs → p < 16 → y < 16 → get_or xs (16 * x + y) [] ≡ was → after ≡ cond (q == x && p == y) new was → get_or (set_at xs (16 * q + p) new) (16 * x + y) [] ≡ after
+channel_set : (xs : List (List ℕ)) (q p x y : ℕ) (new was after : List ℕ) → 16 * q + p < length xs → p < 16 → y < 16 → get_or xs (16 * x + y) [] ≡ was
+    → after ≡ cond (q == x && p == y) new was → get_or (set_at xs (16 * q + p) new) (16 * x + y) [] ≡ after
 channel_set xs q p x y new was after within below_p below_y is step = at (cases_eq x q) (cases_eq y p) where
   at : (x ≡ q) ⊎ (x ≢ q) → (y ≡ p) ⊎ (y ≢ p) → get_or (set_at xs (16 * q + p) new) (16 * x + y) [] ≡ after
   at (inl a) (inl b) = (let e : (q == x) ≡ true = eq-eqb q x (sym a) in let f : (p == y) ≡ true = eq-eqb p y (sym b) in rw (step, e, f, a, b, get_or-set_same))
-  at (inl a) (inr b) = (let f : (p == y) ≡ false = ne_eqb p y (λ h. b (sym h)) in let e : (q == x) ≡ true = eq-eqb q x (sym a) in let ne : 16 * x + y ≢ 16 * q + p = omega (arith, a, b) in rw (step, e, f, get_or-set_other) is)
+  at (inl a) (inr b) = (let f : (p == y) ≡ false = ne_eqb p y (λ h. b (sym h)) in let e : (q == x) ≡ true = eq-eqb q x (sym a) in
+      let ne : 16 * x + y ≢ 16 * q + p = omega (arith, a, b) in rw (step, e, f, get_or-set_other) is)
   at (inr a) b = (let e : (q == x) ≡ false = ne_eqb q x (λ h. a (sym h)) in let ne : 16 * x + y ≢ 16 * q + p = (λ h. a (omega (arith, h))) in rw (step, e, get_or-set_other) is)
 
 cond_append : (b : Bool) (xs ys : List ℕ) → xs ++ cond b ys [] ≡ cond b (xs ++ ys) xs
@@ -74,32 +83,43 @@ cond_at q p x y f g = at (cases_eq x q) (cases_eq y p) where
   at (inr a) b = (let e : (q == x) ≡ false = ne_eqb q x (λ h. a (sym h)) in rw e)
 
 -- the counts after a send
-pub counted_send : {A : Type 0} (n : ℕ) (t : List Mark) (c d : Counts A) (q s p : ℕ) → n ≤ 16 → WellFormed n t → Counted t c → MayFollow n t (Send q s p) → d.sends ≡ set_at c.sends q s → d.receipts ≡ c.receipts → d.channels.items ≡ set_at c.channels.items (16 * q + p) (get_or c.channels.items (16 * q + p) [] ++ s ∷ []) → Counted (t ++ Send q s p ∷ []) d
+pub counted_send : {A : Type 0} (n : ℕ) (t : List Mark) (c d : Counts A) (q s p : ℕ) → n ≤ 16 → WellFormed n t → Counted t c
+    → MayFollow n t (Send q s p) → d.sends ≡ set_at c.sends q s → d.receipts ≡ c.receipts
+    → d.channels.items ≡ set_at c.channels.items (16 * q + p) (get_or c.channels.items (16 * q + p) [] ++ s ∷ []) → Counted (t ++ Send q s p ∷ []) d
 counted_send n t c d q s p most obeys counted may is_sends is_receipts is_channels =
     let below_q : q < 16 = omega (arith, may.0, most) in
     let below_p : p < 16 = omega (arith, may.1, most) in
     let was = counted.channels q p below_q below_p in
     record {
-      sends = λ x below. rw is_sends (counter_set c.sends q s x (sends_of t x) _ (omega (arith, counted.sends_length)) (may.3 ∙ ap (λ z. z + 1) (sym (counted.sends q below_q))) (counted.sends x below) (sends-step t (Send q s p) x));
+      sends = λ x below. rw is_sends (counter_set c.sends q s x (sends_of t x) _ (omega (arith, counted.sends_length))
+          (may.3 ∙ ap (λ z. z + 1) (sym (counted.sends q below_q))) (counted.sends x below) (sends-step t (Send q s p) x));
       receipts = λ x below. rw is_receipts (omega (arith, counted.receipts x below, receipts-step t (Send q s p) x));
       channels = λ x y below_x below_y.
-          rw is_channels (channel_set c.channels.items q p x y _ (in_flight t x y) _ (omega (arith, counted.channels_length)) below_p below_y (counted.channels x y below_x below_y) (in_flight-send n t obeys q s p x y may ∙ cond_append (q == x && p == y) (in_flight t x y) (s ∷ []) ∙ cond_at q p x y (in_flight t) (λ z. z ++ s ∷ []) ∙ ap (λ z. cond (q == x && p == y) (z ++ s ∷ []) (in_flight t x y)) (sym was)));
+          rw is_channels (channel_set c.channels.items q p x y _ (in_flight t x y) _ (omega (arith, counted.channels_length)) below_p below_y
+              (counted.channels x y below_x below_y) (in_flight-send n t obeys q s p x y may
+              ∙ cond_append (q == x && p == y) (in_flight t x y) (s ∷ []) ∙ cond_at q p x y (in_flight t) (λ z. z ++ s ∷ [])
+              ∙ ap (λ z. cond (q == x && p == y) (z ++ s ∷ []) (in_flight t x y)) (sym was)));
       sends_length = rw (is_sends, length-set) counted.sends_length;
       receipts_length = rw is_receipts counted.receipts_length;
       channels_length = rw (is_channels, length-set) counted.channels_length;
     }
 
 -- and after a receipt
-pub counted_receipt : {A : Type 0} (n : ℕ) (t : List Mark) (c d : Counts A) (p r q s : ℕ) → n ≤ 16 → WellFormed n t → Counted t c → MayFollow n t (Receipt p r q s) → d.sends ≡ c.sends → d.receipts ≡ set_at c.receipts p r → d.channels.items ≡ set_at c.channels.items (16 * q + p) (drop 1 (get_or c.channels.items (16 * q + p) [])) → Counted (t ++ Receipt p r q s ∷ []) d
+pub counted_receipt : {A : Type 0} (n : ℕ) (t : List Mark) (c d : Counts A) (p r q s : ℕ) → n ≤ 16 → WellFormed n t → Counted t c
+    → MayFollow n t (Receipt p r q s) → d.sends ≡ c.sends → d.receipts ≡ set_at c.receipts p r
+    → d.channels.items ≡ set_at c.channels.items (16 * q + p) (drop 1 (get_or c.channels.items (16 * q + p) [])) → Counted (t ++ Receipt p r q s ∷ []) d
 counted_receipt n t c d p r q s most obeys counted may is_sends is_receipts is_channels =
     let below_q : q < 16 = omega (arith, may.0, most) in
     let below_p : p < 16 = omega (arith, may.1, most) in
     let was = counted.channels q p below_q below_p in
     record {
       sends = λ x below. rw is_sends (omega (arith, counted.sends x below, sends-step t (Receipt p r q s) x));
-      receipts = λ x below. rw is_receipts (counter_set c.receipts p r x (receipts_of t x) _ (omega (arith, counted.receipts_length)) (may.3 ∙ ap (λ z. z + 1) (sym (counted.receipts p below_p))) (counted.receipts x below) (receipts-step t (Receipt p r q s) x));
+      receipts = λ x below. rw is_receipts (counter_set c.receipts p r x (receipts_of t x) _ (omega (arith, counted.receipts_length))
+          (may.3 ∙ ap (λ z. z + 1) (sym (counted.receipts p below_p))) (counted.receipts x below) (receipts-step t (Receipt p r q s) x));
       channels = λ x y below_x below_y.
-          rw is_channels (channel_set c.channels.items q p x y _ (in_flight t x y) _ (omega (arith, counted.channels_length)) below_p below_y (counted.channels x y below_x below_y) (in_flight-receipt n t obeys p r q s x y may ∙ cond_at q p x y (in_flight t) (λ z. drop 1 z) ∙ ap (λ z. cond (q == x && p == y) (drop 1 z) (in_flight t x y)) (sym was)));
+          rw is_channels (channel_set c.channels.items q p x y _ (in_flight t x y) _ (omega (arith, counted.channels_length)) below_p below_y
+              (counted.channels x y below_x below_y) (in_flight-receipt n t obeys p r q s x y may ∙ cond_at q p x y (in_flight t) (λ z. drop 1 z)
+              ∙ ap (λ z. cond (q == x && p == y) (drop 1 z) (in_flight t x y)) (sym was)));
       sends_length = rw is_sends counted.sends_length;
       receipts_length = rw (is_receipts, length-set) counted.receipts_length;
       channels_length = rw (is_channels, length-set) counted.channels_length;
@@ -115,7 +135,9 @@ one_more : (events : List Mark) (place : ℕ) (e : Mark) → place < length even
 one_more events place e within is = take_more events place e within ∙ ap (λ x. take place events ++ x ∷ []) (sym is)
 
 -- the verdict on the event at a place
-pub verdict_at : {A : Type 0} (n : ℕ) (events : List Mark) (place : ℕ) (e : Mark) (c : Counts A) (next : ℕ) (first : Option ℕ) (found : Option EventRule) → n ≤ 16 → place < length events → place < 8192 → Counted (take place events) c → e ≡ get_or events place e → source_of e < 16 → destination_of e < 16 → next ≡ next_by c e → first ≡ first_by c e
+pub verdict_at : {A : Type 0} (n : ℕ) (events : List Mark) (place : ℕ) (e : Mark) (c : Counts A) (next : ℕ) (first : Option ℕ)
+    (found : Option EventRule) → n ≤ 16 → place < length events → place < 8192 → Counted (take place events) c → e ≡ get_or events place e
+    → source_of e < 16 → destination_of e < 16 → next ≡ next_by c e → first ≡ first_by c e
     → MatchOption found (Fits n e next first) (Breaks n e next first) → MatchOption found (ObeysAt n events place) (BreaksAt n events place)
 verdict_at n events place e c next first found most within few counted is below_q below_p is_next is_first h =
     by_found found (verdict n (take place events) c most (few_before events place few) counted e next first found below_q below_p is_next is_first h)
@@ -123,12 +145,14 @@ verdict_at n events place e c next first found most within few counted is below_
     at : At events place e
     at = place_has events place e e within (sym is)
 
-    by_found : (found : Option EventRule) → MatchOption found (MayFollow n (take place events) e) (BreaksEvent n (take place events) e) → MatchOption found (ObeysAt n events place) (BreaksAt n events place)
+    by_found : (found : Option EventRule) → MatchOption found (MayFollow n (take place events) e) (BreaksEvent n (take place events) e)
+        → MatchOption found (ObeysAt n events place) (BreaksAt n events place)
     by_found None m = (obeys_at n events place e at).1 m
     by_found (Some rule) b = (e, at, b)
 
 -- an event that was admitted is counted
-pub admitted : {A : Type 0} (n : ℕ) (events : List Mark) (place : ℕ) (e : Mark) (c after : Counts A) → n ≤ 16 → place < length events → place < 8192 → WellFormed n (take place events) → Counted (take place events) c → e ≡ get_or events place e
+pub admitted : {A : Type 0} (n : ℕ) (events : List Mark) (place : ℕ) (e : Mark) (c after : Counts A) → n ≤ 16 → place < length events → place < 8192
+    → WellFormed n (take place events) → Counted (take place events) c → e ≡ get_or events place e
     → ObeysAt n events place → CountsEvent e c after → Counted (take (place + 1) events) after
 admitted n events place e c after most within few obeys counted is obeyed counts =
     rw (one_more events place e within is) (by_kind e (obeyed e (place_has events place e e within (sym is))) counts)
@@ -137,7 +161,8 @@ admitted n events place e c after most within few obeys counted is obeyed counts
     by_kind (Send q s p) m k = counted_send n (take place events) c after q s p most obeys counted m k.0 k.1 k.2
     by_kind (Receipt p r q s) m k = counted_receipt n (take place events) c after p r q s most obeys counted m k.0 k.1 k.2
 
-pub channel_written : (f : List ℕ → List ℕ) (xs : List (List ℕ)) (i j : ℕ) (old new : List ℕ) → i ≡ j → i < length xs → old ≡ get_or xs i old → new ≡ f old → set_at xs i new ≡ set_at xs j (f (get_or xs j []))
+pub channel_written : (f : List ℕ → List ℕ) (xs : List (List ℕ)) (i j : ℕ) (old new : List ℕ) → i ≡ j → i < length xs → old ≡ get_or xs i old
+    → new ≡ f old → set_at xs i new ≡ set_at xs j (f (get_or xs j []))
 channel_written f xs i j old new same within was is =
     let read : old ≡ get_or xs i [] = get_or_read xs i old within was [] in
     rw (is, ← same, ← read)

@@ -1,5 +1,8 @@
 -- What is in flight after one more event.
-use Rattle.std.proofs.Common.{◌==◌, ◌&&◌, not, ◌||◌, ℕ, suc, Bool, true, false, cond, ◌≡◌, ◌≢◌, ◌<◌, ◌≤◌, List, [], ◌∷◌, ◌++◌, take, drop, Some, None, refl, ap, ◌∙◌, arith, slice_get}
+use Rattle.std.proofs.Common.{
+  ◌==◌, ◌&&◌, not, ◌||◌, ℕ, suc, Bool, true, false, cond, ◌≡◌, ◌≢◌, ◌<◌, ◌≤◌, List, [], ◌∷◌, ◌++◌, take, drop, Some, None, refl, ap,
+  ◌∙◌, arith, slice_get,
+}
 use Rattle.std.specs.List.{filter, filter_map, list_any, cons_option}
 use Rattle.std.proofs.lemmas.Bool.Decides.{nat_tests}
 use Rattle.std.proofs.lemmas.List.{append-nil}
@@ -56,14 +59,16 @@ none_any p [] none = refl
 none_any p (x ∷ xs) none = (let h : p x ≡ false = none 0 x refl in rw h (none_any p xs (λ i y at. none (suc i) y at)))
 
 -- a send is in flight after what was in flight on its channel
-pub in_flight-send : (n : ℕ) (t : List Mark) → WellFormed n t → (q s p a b : ℕ) → MayFollow n t (Send q s p) → in_flight (t ++ Send q s p ∷ []) a b ≡ in_flight t a b ++ (cond (q == a && p == b) (s ∷ []) [])
+pub in_flight-send : (n : ℕ) (t : List Mark) → WellFormed n t → (q s p a b : ℕ) → MayFollow n t (Send q s p)
+    → in_flight (t ++ Send q s p ∷ []) a b ≡ in_flight t a b ++ (cond (q == a && p == b) (s ∷ []) [])
 in_flight-send n t obeys q s p a b may =
     let taken : filter_map (taken_on a b) (t ++ Send q s p ∷ []) ≡ filter_map (taken_on a b) t = rw (filter_map-append (taken_on a b) t (Send q s p ∷ [])) (append-nil _) in
     rw (taken, filter_map-append (sent_on a b) t (Send q s p ∷ []), filter-append) (ap (λ ys. in_flight t a b ++ ys) (on (q == a) (p == b) refl refl)) where
       not_it : (x : ℕ) → x ≤ sends_of t q → (x == s) ≡ false
       not_it x below = (let ne : x ≢ s = omega (arith, may.3, below) in grind (arith, nat_tests))
 
-      on : (x y : Bool) → (q == a) ≡ x → (p == b) ≡ y → filter (λ ssn. not (list_any (λ k. k == ssn) (filter_map (taken_on a b) t))) (cons_option (cond (x && y) (Some s) None) []) ≡ cond (x && y) (s ∷ []) []
+      on : (x y : Bool) → (q == a) ≡ x → (p == b) ≡ y
+          → filter (λ ssn. not (list_any (λ k. k == ssn) (filter_map (taken_on a b) t))) (cons_option (cond (x && y) (Some s) None) []) ≡ cond (x && y) (s ∷ []) []
       on true true ex ey =
           let e1 : q ≡ a = grind (arith, nat_tests) in
           let e2 : p ≡ b = grind (arith, nat_tests) in
@@ -72,12 +77,17 @@ in_flight-send n t obeys q s p a b may =
       on false y ex ey = refl
 
 -- to leave out one more number is to leave it out of what is left
-filter_twice : (ks : List ℕ) (s : ℕ) (xs : List ℕ) → filter (λ x. not (list_any (λ k. k == x) (ks ++ s ∷ []))) xs ≡ filter (λ x. not (s == x)) (filter (λ x. not (list_any (λ k. k == x) ks)) xs)
+filter_twice : (ks : List ℕ) (s : ℕ) (xs : List ℕ)
+    → filter (λ x. not (list_any (λ k. k == x) (ks ++ s ∷ []))) xs ≡ filter (λ x. not (s == x)) (filter (λ x. not (list_any (λ k. k == x) ks)) xs)
 filter_twice ks s [] = refl
 filter_twice ks s (x ∷ xs) =
     let ih = filter_twice ks s xs in
     rw (list_any-append (λ k. k == x) ks (s ∷ [])) (at (list_any (λ k. k == x) ks) (s == x) refl ih) where
-      at : (b c : Bool) → (s == x) ≡ c → filter (λ y. not (list_any (λ k. k == y) (ks ++ s ∷ []))) xs ≡ filter (λ y. not (s == y)) (filter (λ y. not (list_any (λ k. k == y) ks)) xs) → cond (not (b || (c || false))) (x ∷ filter (λ y. not (list_any (λ k. k == y) (ks ++ s ∷ []))) xs) (filter (λ y. not (list_any (λ k. k == y) (ks ++ s ∷ []))) xs) ≡ filter (λ y. not (s == y)) (cond (not b) (x ∷ filter (λ y. not (list_any (λ k. k == y) ks)) xs) (filter (λ y. not (list_any (λ k. k == y) ks)) xs))
+      at : (b c : Bool) → (s == x) ≡ c → filter (λ y. not (list_any (λ k. k == y) (ks ++ s ∷ []))) xs
+          ≡ filter (λ y. not (s == y)) (filter (λ y. not (list_any (λ k. k == y) ks)) xs)
+          → cond (not (b || (c || false))) (x ∷ filter (λ y. not (list_any (λ k. k == y) (ks ++ s ∷ []))) xs)
+          (filter (λ y. not (list_any (λ k. k == y) (ks ++ s ∷ []))) xs)
+          ≡ filter (λ y. not (s == y)) (cond (not b) (x ∷ filter (λ y. not (list_any (λ k. k == y) ks)) xs) (filter (λ y. not (list_any (λ k. k == y) ks)) xs))
       at true c e ih = ih
       at false true e ih = rw e ih
       at false false e ih = rw e (ap (λ ys. x ∷ ys) ih)
@@ -92,11 +102,14 @@ filter_first s (x ∷ xs) first others =
       differs y ne = (let f : (s == y) ≡ false = grind (arith, nat_tests) in rw f)
 
 -- a receipt takes the first message off its channel
-pub in_flight-receipt : (n : ℕ) (t : List Mark) → WellFormed n t → (p r q s a b : ℕ) → MayFollow n t (Receipt p r q s) → in_flight (t ++ Receipt p r q s ∷ []) a b ≡ cond (q == a && p == b) (drop 1 (in_flight t a b)) (in_flight t a b)
+pub in_flight-receipt : (n : ℕ) (t : List Mark) → WellFormed n t → (p r q s a b : ℕ) → MayFollow n t (Receipt p r q s)
+    → in_flight (t ++ Receipt p r q s ∷ []) a b ≡ cond (q == a && p == b) (drop 1 (in_flight t a b)) (in_flight t a b)
 in_flight-receipt n t obeys p r q s a b may =
     let sent : filter_map (sent_on a b) (t ++ Receipt p r q s ∷ []) ≡ filter_map (sent_on a b) t = rw (filter_map-append (sent_on a b) t (Receipt p r q s ∷ [])) (append-nil _) in
     rw (sent, filter_map-append (taken_on a b) t (Receipt p r q s ∷ [])) (on (q == a) (p == b) refl refl) where
-      on : (x y : Bool) → (q == a) ≡ x → (p == b) ≡ y → filter (λ ssn. not (list_any (λ k. k == ssn) (filter_map (taken_on a b) t ++ cons_option (cond (x && y) (Some s) None) []))) (filter_map (sent_on a b) t) ≡ cond (x && y) (drop 1 (in_flight t a b)) (in_flight t a b)
+      on : (x y : Bool) → (q == a) ≡ x → (p == b) ≡ y
+          → filter (λ ssn. not (list_any (λ k. k == ssn) (filter_map (taken_on a b) t ++ cons_option (cond (x && y) (Some s) None) [])))
+          (filter_map (sent_on a b) t) ≡ cond (x && y) (drop 1 (in_flight t a b)) (in_flight t a b)
       on true true ex ey =
           let e1 : q ≡ a = grind (arith, nat_tests) in
           let e2 : p ≡ b = grind (arith, nat_tests) in

@@ -44,7 +44,8 @@ Precedes-push t e {a} new old (step {b} {c} p l) =
     ]
 
 -- what precedes an appended event: itself, and what precedes an event that leads to it
-pub Precedes-new : (t : List Mark) (e : Mark) {a c : Mark} → ¬ (Has t e) → c ≡ e → Precedes (t ++ e ∷ []) a c → (a ≡ e) ⊎ ((b : Mark) × Precedes t a b × ((member_of b ≡ member_of e) ⊎ (send_of e ≡ Some b)))
+pub Precedes-new : (t : List Mark) (e : Mark) {a c : Mark} → ¬ (Has t e) → c ≡ e → Precedes (t ++ e ∷ []) a c
+    → (a ≡ e) ⊎ ((b : Mark) × Precedes t a b × ((member_of b ≡ member_of e) ⊎ (send_of e ≡ Some b)))
 Precedes-new t e new is (itself h) = inl is
 Precedes-new t e {a} new is (step {b} {c} p l) =
     elim (Earlier-push t e b c new l.0) [
@@ -59,7 +60,8 @@ new-Precedes t e {a} {b} p leads =
     step (Precedes-front t (e ∷ []) p) ((h.0, length t, At-below t h.0 b h.1, At-front t (e ∷ []) h.0 b h.1, At-new t e), leads)
 
 -- what an appended receipt depends on: what its member depended on, and what precedes its send
-pub Precedes-receipt : (t : List Mark) (to rsn from ssn : ℕ) (a : Mark) → ¬ (Has t (Receipt to rsn from ssn)) → Precedes (t ++ Receipt to rsn from ssn ∷ []) a (Receipt to rsn from ssn) ↔ (a ≡ Receipt to rsn from ssn) ⊎ Depends t to a ⊎ Precedes t a (Send from ssn to)
+pub Precedes-receipt : (t : List Mark) (to rsn from ssn : ℕ) (a : Mark) → ¬ (Has t (Receipt to rsn from ssn))
+    → Precedes (t ++ Receipt to rsn from ssn ∷ []) a (Receipt to rsn from ssn) ↔ (a ≡ Receipt to rsn from ssn) ⊎ Depends t to a ⊎ Precedes t a (Send from ssn to)
 Precedes-receipt t to rsn from ssn a new = (
   λ p. elim (Precedes-new t (Receipt to rsn from ssn) new refl p) [
     | inl x ↦ inl x

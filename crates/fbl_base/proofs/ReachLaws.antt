@@ -1,5 +1,8 @@
 -- A pass over the events finds what a lost receipt reaches.
-use Rattle.std.proofs.Common.{subst, take, length-set, ◌==◌, ℕ, Bool, true, false, cond, ◌||◌, ◌≡◌, ◌≢◌, ◌<◌, ◌≤◌, ◌+◌, ◌⊎◌, ◌↔◌, inl, inr, List, [], ◌∷◌, ◌++◌, length, Decides, refl, sym, ap, ◌∙◌, arith, get_or, set as set_at, get_or-set_same, get_or-set_other, ltb}
+use Rattle.std.proofs.Common.{
+  subst, take, length-set, ◌==◌, ℕ, Bool, true, false, cond, ◌||◌, ◌≡◌, ◌≢◌, ◌<◌, ◌≤◌, ◌+◌, ◌⊎◌, ◌↔◌, inl, inr, List, [],
+  ◌∷◌, ◌++◌, length, Decides, refl, sym, ap, ◌∙◌, arith, get_or, set as set_at, get_or-set_same, get_or-set_other, ltb,
+}
 use Rattle.std.proofs.lemmas.Bool.{false≢true, cases_eq, or_cases, or_left, or_right, ltb-true, lt-ltb}
 use Rattle.std.proofs.lemmas.List.Sums.{sum_by-append}
 use Rattle.std.proofs.lemmas.List.{take_more}
@@ -32,7 +35,8 @@ pub record Tracks (Lost : Mark → Type 0) (t : List Mark) (reached : set.FinSet
   pub counted : (q : ℕ) → get_or unreached_sends q 0 ≤ sends_of t q
 
 -- one more event: who is reached
-reached_push : (Lost : Mark → Type 0) (t : List Mark) (e : Mark) (x : ℕ) → ¬ (Has t e) → IsReached Lost (t ++ e ∷ []) x ↔ IsReached Lost t x ⊎ ((member_of e ≡ x) × IsPreceded Lost (t ++ e ∷ []) e)
+reached_push : (Lost : Mark → Type 0) (t : List Mark) (e : Mark) (x : ℕ) → ¬ (Has t e)
+    → IsReached Lost (t ++ e ∷ []) x ↔ IsReached Lost t x ⊎ ((member_of e ≡ x) × IsPreceded Lost (t ++ e ∷ []) e)
 reached_push Lost t e x new = (
   λ r. elim ((Depends-push t e x r.0 new).0 r.2) [ inl d ↦ inl (r.0, r.1, d) | inr d ↦ inr (d.0, (r.0, r.1, d.1)) ],
   elim [ inl r ↦ (r.0, r.1, (Depends-push t e x r.0 new).1 (inl r.2)) | inr r ↦ (r.1.0, r.1.1, (Depends-push t e x r.1.0 new).1 (inr (r.0, r.1.2))) ],
@@ -43,7 +47,8 @@ preceded_old : (Lost : Mark → Type 0) (t : List Mark) (e b : Mark) → ¬ (Has
 preceded_old Lost t e b new old =
     (λ r. (r.0, r.1, Precedes-push t e new old r.2), λ r. (r.0, r.1, Precedes-front t (e ∷ []) r.2))
 
-preceded_receipt : (Lost : Mark → Type 0) (t : List Mark) (p r q s : ℕ) → ¬ (Has t (Receipt p r q s)) → IsPreceded Lost (t ++ Receipt p r q s ∷ []) (Receipt p r q s) ↔ Lost (Receipt p r q s) ⊎ IsReached Lost t p ⊎ IsPreceded Lost t (Send q s p)
+preceded_receipt : (Lost : Mark → Type 0) (t : List Mark) (p r q s : ℕ) → ¬ (Has t (Receipt p r q s))
+    → IsPreceded Lost (t ++ Receipt p r q s ∷ []) (Receipt p r q s) ↔ Lost (Receipt p r q s) ⊎ IsReached Lost t p ⊎ IsPreceded Lost t (Send q s p)
 preceded_receipt Lost t p r q s new = (
   λ d. elim ((Precedes-receipt t p r q s d.0 new).0 d.2) [
     | inl is ↦ inl (rw is at d.1)
@@ -58,7 +63,8 @@ preceded_receipt Lost t p r q s new = (
   ],
 )
 
-preceded_send : (Lost : Mark → Type 0) → ((q s p : ℕ) → Lost (Send q s p) → ⊥) → (t : List Mark) (q s p : ℕ) → ¬ (Has t (Send q s p)) → IsPreceded Lost (t ++ Send q s p ∷ []) (Send q s p) ↔ IsReached Lost t q
+preceded_send : (Lost : Mark → Type 0) → ((q s p : ℕ) → Lost (Send q s p) → ⊥) → (t : List Mark) (q s p : ℕ) → ¬ (Has t (Send q s p))
+    → IsPreceded Lost (t ++ Send q s p ∷ []) (Send q s p) ↔ IsReached Lost t q
 preceded_send Lost no_send t q s p new = (
   λ d. elim (Precedes-new t (Send q s p) new refl d.2) [
     | inl is ↦ absurd (no_send q s p (rw is at d.1))
@@ -67,7 +73,8 @@ preceded_send Lost no_send t q s p new = (
   λ r. (r.0, r.1, new-Precedes t (Send q s p) r.2.1 (inl r.2.2)),
 )
 
-contains-if : (b : Bool) (reached : set.FinSet nat_cmp) (p x : ℕ) → (set.contains (cond b (set.insert reached p) reached) x ≡ true) ↔ (set.contains reached x ≡ true) ⊎ ((p ≡ x) × (b ≡ true))
+contains-if : (b : Bool) (reached : set.FinSet nat_cmp) (p x : ℕ)
+    → (set.contains (cond b (set.insert reached p) reached) x ≡ true) ↔ (set.contains reached x ≡ true) ⊎ ((p ≡ x) × (b ≡ true))
 contains-if false reached p x = (inl, elim [ inl h ↦ h | inr h ↦ absurd (false≢true h.1) ])
 contains-if true reached p x = at_place (cases_eq x p) where
   at_place : (x ≡ p) ⊎ (x ≢ p) → (set.contains (set.insert reached p) x ≡ true) ↔ (set.contains reached x ≡ true) ⊎ ((p ≡ x) × (true ≡ true))
@@ -84,8 +91,10 @@ sends-send t q s p =
     let e : (q == q) ≡ true = eqb-self q in
     rw (sum_by-append (λ y. cond (is_send_of q y) 1 0) t (Send q s p ∷ []), e) (omega arith)
 
-module _ (n : ℕ) (Lost : Mark → Type 0) (no_send : (q s p : ℕ) → Lost (Send q s p) → ⊥) (t : List Mark) (obeys : WellFormed n t) (reached : set.FinSet nat_cmp) (unreached_sends : List ℕ) (tracks : Tracks Lost t reached unreached_sends) where
-  tracks_send : (q s p : ℕ) → q < length unreached_sends → MayFollow n t (Send q s p) → Tracks Lost (t ++ Send q s p ∷ []) reached (unreached_sends_after (Send q s p) reached unreached_sends)
+module _ (n : ℕ) (Lost : Mark → Type 0) (no_send : (q s p : ℕ) → Lost (Send q s p) → ⊥) (t : List Mark) (obeys : WellFormed n t)
+    (reached : set.FinSet nat_cmp) (unreached_sends : List ℕ) (tracks : Tracks Lost t reached unreached_sends) where
+  tracks_send : (q s p : ℕ) → q < length unreached_sends → MayFollow n t (Send q s p)
+      → Tracks Lost (t ++ Send q s p ∷ []) reached (unreached_sends_after (Send q s p) reached unreached_sends)
   tracks_send q s p within may =
       let new = MayFollow-new n t (Send q s p) obeys may in
       let preceded = preceded_send Lost no_send t q s p new in
@@ -106,11 +115,14 @@ module _ (n : ℕ) (Lost : Mark → Type 0) (no_send : (q s p : ℕ) → Lost (S
         counted = λ x. counts more (set.contains reached q) refl x (cases_eq x q);
       }
     where
-      new_send : (IsPreceded Lost (t ++ Send q s p ∷ []) (Send q s p) ↔ IsReached Lost t q) → (b : Bool) → set.contains reached q ≡ b → (get_or (cond b unreached_sends (set_at unreached_sends q s)) q 0 < s) ↔ IsPreceded Lost (t ++ Send q s p ∷ []) (Send q s p)
+      new_send : (IsPreceded Lost (t ++ Send q s p ∷ []) (Send q s p) ↔ IsReached Lost t q) → (b : Bool) → set.contains reached q ≡ b
+          → (get_or (cond b unreached_sends (set_at unreached_sends q s)) q 0 < s) ↔ IsPreceded Lost (t ++ Send q s p ∷ []) (Send q s p)
       new_send preceded true is = (λ _. preceded.1 ((tracks.members q).0 is), λ _. omega (arith, may.3, tracks.counted q))
       new_send preceded false is = (rw get_or-set_same (λ h. absurd (omega (arith, h)), λ h. absurd (false≢true (sym is ∙ (tracks.members q).1 (preceded.0 h)))))
 
-      old_send : (q' s' p' : ℕ) → Has t (Send q' s' p') → (IsPreceded Lost (t ++ Send q s p ∷ []) (Send q' s' p') ↔ IsPreceded Lost t (Send q' s' p')) → (b : Bool) → set.contains reached q ≡ b → (q' ≡ q) ⊎ (q' ≢ q) → (get_or (cond b unreached_sends (set_at unreached_sends q s)) q' 0 < s') ↔ IsPreceded Lost (t ++ Send q s p ∷ []) (Send q' s' p')
+      old_send : (q' s' p' : ℕ) → Has t (Send q' s' p') → (IsPreceded Lost (t ++ Send q s p ∷ []) (Send q' s' p') ↔ IsPreceded Lost t (Send q' s' p'))
+          → (b : Bool) → set.contains reached q ≡ b → (q' ≡ q) ⊎ (q' ≢ q)
+          → (get_or (cond b unreached_sends (set_at unreached_sends q s)) q' 0 < s') ↔ IsPreceded Lost (t ++ Send q s p ∷ []) (Send q' s' p')
       old_send q' s' p' old same true is at = (λ h. same.1 ((tracks.sends q' s' p' old).0 h), λ h. (tracks.sends q' s' p' old).1 (same.0 h))
       old_send q' s' p' old same false is (inr ne) = rw get_or-set_other (λ h. same.1 ((tracks.sends q' s' p' old).0 h), λ h. (tracks.sends q' s' p' old).1 (same.0 h))
       old_send q' s' p' old same false is (inl here) =
@@ -119,15 +131,18 @@ module _ (n : ℕ) (Lost : Mark → Type 0) (no_send : (q s p : ℕ) → Lost (S
           let fewer' : s' ≤ sends_of t q = (rw (← here) omega (arith, number.3, fewer)) in
           rw (here, get_or-set_same) (
             λ h. absurd (omega (arith, h, fewer', may.3)),
-            λ h. (let d = same.0 (subst (λ (y : ℕ). IsPreceded Lost (t ++ Send q s p ∷ []) (Send y s' p')) (sym here) h) in absurd (false≢true (sym is ∙ (tracks.members q).1 (d.0, d.1, (Send q' s' p', d.2, here))))),
+            λ h. (let d = same.0 (subst (λ (y : ℕ). IsPreceded Lost (t ++ Send q s p ∷ []) (Send y s' p')) (sym here) h) in
+                absurd (false≢true (sym is ∙ (tracks.members q).1 (d.0, d.1, (Send q' s' p', d.2, here))))),
           )
 
-      counts : sends_of (t ++ Send q s p ∷ []) q ≡ sends_of t q + 1 → (b : Bool) → set.contains reached q ≡ b → (x : ℕ) → (x ≡ q) ⊎ (x ≢ q) → get_or (cond b unreached_sends (set_at unreached_sends q s)) x 0 ≤ sends_of (t ++ Send q s p ∷ []) x
+      counts : sends_of (t ++ Send q s p ∷ []) q ≡ sends_of t q + 1 → (b : Bool) → set.contains reached q ≡ b → (x : ℕ) → (x ≡ q) ⊎ (x ≢ q)
+          → get_or (cond b unreached_sends (set_at unreached_sends q s)) x 0 ≤ sends_of (t ++ Send q s p ∷ []) x
       counts more true is x at = omega (arith, tracks.counted x, sends-push t (Send q s p) x)
       counts more false is x (inr ne) = rw get_or-set_other (omega (arith, tracks.counted x, sends-push t (Send q s p) x))
       counts more false is x (inl here) = rw (here, get_or-set_same) (omega (arith, may.3, more))
 
-  tracks_receipt : (p r q s : ℕ) (lost : Bool) → Decides lost (Lost (Receipt p r q s)) → MayFollow n t (Receipt p r q s) → Tracks Lost (t ++ Receipt p r q s ∷ []) (reached_after (Receipt p r q s) lost reached unreached_sends) unreached_sends
+  tracks_receipt : (p r q s : ℕ) (lost : Bool) → Decides lost (Lost (Receipt p r q s)) → MayFollow n t (Receipt p r q s)
+      → Tracks Lost (t ++ Receipt p r q s ∷ []) (reached_after (Receipt p r q s) lost reached unreached_sends) unreached_sends
   tracks_receipt p r q s lost decides may =
       let new = MayFollow-new n t (Receipt p r q s) obeys may in
       let sent = in_flight-sent t q s p may.5 in
@@ -165,9 +180,14 @@ module _ (n : ℕ) (Lost : Mark → Type 0) (no_send : (q s p : ℕ) → Lost (S
         counted = λ x. omega (arith, tracks.counted x, sends-push t (Receipt p r q s) x);
       }
 
-pub Tracks-next : (n : ℕ) (Lost : Mark → Type 0) → ((q s p : ℕ) → Lost (Send q s p) → ⊥) → (t : List Mark) → WellFormed n t → (reached : set.FinSet nat_cmp) (unreached_sends : List ℕ) → Tracks Lost t reached unreached_sends → n ≤ length unreached_sends → (e : Mark) (lost : Bool) → Decides lost (Lost e) → MayFollow n t e → Tracks Lost (t ++ e ∷ []) (reached_after e lost reached unreached_sends) (unreached_sends_after e reached unreached_sends)
-Tracks-next n Lost no_send t obeys reached unreached_sends tracks room (Send q s p) lost decides may = tracks_send n Lost no_send t obeys reached unreached_sends tracks q s p (omega (arith, may.0, room)) may
-Tracks-next n Lost no_send t obeys reached unreached_sends tracks room (Receipt p r q s) lost decides may = tracks_receipt n Lost no_send t obeys reached unreached_sends tracks p r q s lost decides may
+pub Tracks-next : (n : ℕ) (Lost : Mark → Type 0) → ((q s p : ℕ) → Lost (Send q s p) → ⊥) → (t : List Mark) → WellFormed n t
+    → (reached : set.FinSet nat_cmp) (unreached_sends : List ℕ) → Tracks Lost t reached unreached_sends → n ≤ length unreached_sends
+    → (e : Mark) (lost : Bool) → Decides lost (Lost e) → MayFollow n t e
+    → Tracks Lost (t ++ e ∷ []) (reached_after e lost reached unreached_sends) (unreached_sends_after e reached unreached_sends)
+Tracks-next n Lost no_send t obeys reached unreached_sends tracks room (Send q s p) lost decides may =
+    tracks_send n Lost no_send t obeys reached unreached_sends tracks q s p (omega (arith, may.0, room)) may
+Tracks-next n Lost no_send t obeys reached unreached_sends tracks room (Receipt p r q s) lost decides may =
+    tracks_receipt n Lost no_send t obeys reached unreached_sends tracks p r q s lost decides may
 
 pub Tracks-none : (Lost : Mark → Type 0) (unreached_sends : List ℕ) → ((q : ℕ) → get_or unreached_sends q 0 ≡ 0) → Tracks Lost [] set.empty unreached_sends
 Tracks-none Lost unreached_sends zeros = record {
@@ -182,7 +202,10 @@ unreached_sends_after-length (Send q s p) reached unreached_sends =
 unreached_sends_after-length (Receipt p r q s) reached unreached_sends = refl
 
 -- a step of the pass
-pub Tracks-more : (n : ℕ) (Lost : Mark → Type 0) → ((q s p : ℕ) → Lost (Send q s p) → ⊥) → (t : List Mark) → WellFormed n t → (reached : set.FinSet nat_cmp) (unreached_sends : List ℕ) (i : ℕ) (e : Mark) (lost : Bool) → Tracks Lost (take i t) reached unreached_sends → n ≤ length unreached_sends → i < length t → e ≡ get_or t i e → Decides lost (Lost e) → Tracks Lost (take (i + 1) t) (reached_after e lost reached unreached_sends) (unreached_sends_after e reached unreached_sends)
+pub Tracks-more : (n : ℕ) (Lost : Mark → Type 0) → ((q s p : ℕ) → Lost (Send q s p) → ⊥) → (t : List Mark) → WellFormed n t
+    → (reached : set.FinSet nat_cmp) (unreached_sends : List ℕ) (i : ℕ) (e : Mark) (lost : Bool) → Tracks Lost (take i t) reached unreached_sends
+    → n ≤ length unreached_sends → i < length t → e ≡ get_or t i e → Decides lost (Lost e)
+    → Tracks Lost (take (i + 1) t) (reached_after e lost reached unreached_sends) (unreached_sends_after e reached unreached_sends)
 Tracks-more n Lost no_send t obeys reached unreached_sends i e lost tracks room below is decides =
     let at : At t i e = slice_get_read t (length t) i e refl below is in
     let more : take (i + 1) t ≡ take i t ++ e ∷ [] = take_more t i e below ∙ ap (λ x. take i t ++ x ∷ []) (sym is) in

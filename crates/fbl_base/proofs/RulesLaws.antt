@@ -1,5 +1,8 @@
 -- Laws of the rules of events.
-use Rattle.std.proofs.Common.{◌+◌, ◌==◌, ◌&&◌, not, None, ℕ, zero, suc, Bool, true, cond, ◌≡◌, ◌<◌, inl, inr, List, [], ◌∷◌, ◌++◌, length, take, drop, Some, refl, ap, ◌∙◌, arith, count_by, slice_get}
+use Rattle.std.proofs.Common.{
+  ◌+◌, ◌==◌, ◌&&◌, not, None, ℕ, zero, suc, Bool, true, cond, ◌≡◌, ◌<◌, inl, inr, List, [], ◌∷◌, ◌++◌, length, take, drop, Some, refl, ap,
+  ◌∙◌, arith, count_by, slice_get,
+}
 use Rattle.std.proofs.lemmas.Bool.{and_parts, eqb-true}
 use Rattle.std.proofs.lemmas.Bool.Decides.{nat_tests}
 use Rattle.std.proofs.lemmas.Option.{cond_some}
@@ -37,7 +40,8 @@ MayFollow-last n t e obeys =
     (let here : take (length t) (t ++ e ∷ []) ≡ t = take-append-le (length t) t (e ∷ []) (omega arith) ∙ take_all (length t) t (omega arith) in rw here at (obeys (length t) e (At-new t e)))
 
 -- what holds of no event, and of one more that may come next, holds of each trace that obeys the rules
-pub WellFormed-keeps : (n : ℕ) (P : List Mark → Type 0) → P [] → ((t : List Mark) (e : Mark) → WellFormed n t → MayFollow n t e → P t → P (t ++ e ∷ [])) → (t : List Mark) → WellFormed n t → P t
+pub WellFormed-keeps : (n : ℕ) (P : List Mark → Type 0) → P []
+    → ((t : List Mark) (e : Mark) → WellFormed n t → MayFollow n t e → P t → P (t ++ e ∷ [])) → (t : List Mark) → WellFormed n t → P t
 WellFormed-keeps n P none more t obeys = from [] t obeys none where
   from : (u rest : List Mark) → WellFormed n (u ++ rest) → P u → P (u ++ rest)
   from u [] obeys done = rw append-nil done

@@ -1,5 +1,8 @@
 -- How the index of messages is made.
-use Rattle.std.proofs.Common.{ℕ, ◌+◌, ◌<◌, ◌≡◌, ◌==◌, Bool, true, false, cond, List, [], ◌∷◌, ◌++◌, length, length-take, take, get_or, Option, Some, None, Decides, refl, sym, ap, ◌∙◌, arith}
+use Rattle.std.proofs.Common.{
+  ℕ, ◌+◌, ◌<◌, ◌≡◌, ◌==◌, Bool, true, false, cond, List, [], ◌∷◌, ◌++◌, length, length-take, take, get_or, Option, Some, None, Decides, refl, sym,
+  ap, ◌∙◌, arith,
+}
 use Rattle.std.specs.Option.{option_or, is_some}
 use Rattle.std.specs.List.{position_from}
 use Rattle.std.proofs.lemmas.List.{take_more}
@@ -23,13 +26,15 @@ Decides-same_message a b = (same, is) where
 -- the first place at which a test passes, with one more element behind
 position_push : {X : Type 0} (p : X → Bool) (k : ℕ) (xs : List X) (x : X) → position_from p k (xs ++ x ∷ []) ≡ option_or (position_from p k xs) (cond (p x) (Some (k + length xs)) None)
 position_push p k [] x = ap (λ n. cond (p x) (Some n) None) (let e : k ≡ k + 0 = omega arith in e)
-position_push p k (y ∷ ys) x = at_first (p y) (position_push p (k + 1) ys x ∙ ap (λ n. option_or (position_from p (k + 1) ys) (cond (p x) (Some n) None)) (let e : k + 1 + length ys ≡ k + length (y ∷ ys) = omega arith in e)) where
+position_push p k (y ∷ ys) x = at_first (p y)
+    (position_push p (k + 1) ys x ∙ ap (λ n. option_or (position_from p (k + 1) ys) (cond (p x) (Some n) None)) (let e : k + 1 + length ys ≡ k + length (y ∷ ys) = omega arith in e)) where
   at_first : (b : Bool) → position_from p (k + 1) (ys ++ x ∷ []) ≡ option_or (position_from p (k + 1) ys) (cond (p x) (Some (k + length (y ∷ ys))) None)
       → cond b (Some k) (position_from p (k + 1) (ys ++ x ∷ [])) ≡ option_or (cond b (Some k) (position_from p (k + 1) ys)) (cond (p x) (Some (k + length (y ∷ ys))) None)
   at_first true later = refl
   at_first false later = later
 
-place_more : (events : List Mark) (i : ℕ) (e : Mark) (m : Message) → i < length events → e ≡ get_or events i e → receipt_place (take (i + 1) events) m ≡ option_or (receipt_place (take i events) m) (cond (takes m e) (Some i) None)
+place_more : (events : List Mark) (i : ℕ) (e : Mark) (m : Message) → i < length events → e ≡ get_or events i e
+    → receipt_place (take (i + 1) events) m ≡ option_or (receipt_place (take i events) m) (cond (takes m e) (Some i) None)
 place_more events i e m within is =
     ap (λ l. receipt_place l m) (take_more events i e within ∙ ap (λ x. take i events ++ x ∷ []) (sym is))
     ∙ position_push (takes m) 0 (take i events) e
@@ -47,7 +52,8 @@ is_none : {X : Type 0} (o : Option X) → is_some o ≡ false → o ≡ None
 is_none None h = refl
 is_none (Some x) h = cc
 
-module _ (old : Message → Option ℕ) (events : List Mark) (i : ℕ) (e : Mark) (within : i < length events) (is : e ≡ get_or events i e) (was : (m : Message) → old m ≡ receipt_place (take i events) m) where
+module _ (old : Message → Option ℕ) (events : List Mark) (i : ℕ) (e : Mark) (within : i < length events) (is : e ≡ get_or events i e)
+    (was : (m : Message) → old m ≡ receipt_place (take i events) m) where
   -- where a message is received, by the event too
   more : (m : Message) (taken : Option Message) → taken_by e ≡ taken → option_or (old m) (cond (is_message m taken) (Some i) None) ≡ receipt_place (take (i + 1) events) m
   more m taken takes' =
@@ -69,7 +75,8 @@ module _ (old : Message → Option ℕ) (events : List Mark) (i : ℕ) (e : Mark
     at_key false key = or_none (old m) ∙ ap (λ c. option_or (old m) (cond c (Some i) None)) (sym key)
 
   -- the event takes a message that has no place yet
-  pub new_message : (taken : Message) → taken_by e ≡ Some taken → is_some (old taken) ≡ false → (after : Message → Option ℕ) → ((m : Message) → after m ≡ cond (same_message taken m) (Some i) (old m)) → (m : Message) → after m ≡ receipt_place (take (i + 1) events) m
+  pub new_message : (taken : Message) → taken_by e ≡ Some taken → is_some (old taken) ≡ false → (after : Message → Option ℕ)
+      → ((m : Message) → after m ≡ cond (same_message taken m) (Some i) (old m)) → (m : Message) → after m ≡ receipt_place (take (i + 1) events) m
   new_message taken some absent after put m = put m ∙ at_key (same_message taken m) refl ∙ more m (Some taken) some where
     at_key : (b : Bool) → same_message taken m ≡ b → cond (same_message taken m) (Some i) (old m) ≡ option_or (old m) (cond (same_message taken m) (Some i) None)
     at_key true key =

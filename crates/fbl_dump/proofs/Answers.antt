@@ -17,7 +17,8 @@ long_input input h = ap (λ v. v >>= parts_of_data) (too_long input h)
 
 module _ {A : Type 0} (IsRight : Parts → A → List ℕ → Type 0) where
   -- an answer about the dump is one about the input
-  pub answers_dump : (input : List ℕ) (dump : Parts) (before after : Option (List ℕ)) (r : Result A RunFault) → IsDumpOf input dump → AnswersDump IsRight dump before after r → Answers IsRight input before after r
+  pub answers_dump : (input : List ℕ) (dump : Parts) (before after : Option (List ℕ)) (r : Result A RunFault) → IsDumpOf input dump
+      → AnswersDump IsRight dump before after r → Answers IsRight input before after r
   answers_dump input dump before after (Ok x) is h = (dump, is, h)
   answers_dump input dump before after (Err faults.Write) is h = (dump, is, h)
   answers_dump input dump before after (Err faults.Memory) is h = h
@@ -32,12 +33,14 @@ module _ {A : Type 0} (IsRight : Parts → A → List ℕ → Type 0) where
   answers_fault input before f is = (is, keeps_itself before)
 
   -- what is known of an input that was read whole
-  pub answers_whole : (known : Option (List ℕ)) (bytes : List ℕ) (before after : Option (List ℕ)) (r : Result A RunFault) → IfSome known (λ input. bytes ≡ input) → Answers IsRight bytes before after r → IfSome known (λ input. ReadsAndAnswers IsRight input before after r)
+  pub answers_whole : (known : Option (List ℕ)) (bytes : List ℕ) (before after : Option (List ℕ)) (r : Result A RunFault)
+      → IfSome known (λ input. bytes ≡ input) → Answers IsRight bytes before after r → IfSome known (λ input. ReadsAndAnswers IsRight input before after r)
   answers_whole None bytes before after r e h = tt
   answers_whole (Some input) bytes before after r e h = let P : List ℕ → Type 0 = λ w. Answers IsRight w before after r in inr (subst P e h)
 
   -- a reading that failed, with nothing written
-  pub answers_unread : (known before : Option (List ℕ)) (f : RunFault) → (f ≡ faults.Read) ⊎ (f ≡ faults.TooLong) ⊎ (f ≡ faults.Memory) → (f ≡ faults.TooLong → IfSome known (λ input. longest < length input)) → IfSome known (λ input. ReadsAndAnswers IsRight input before before (Err f))
+  pub answers_unread : (known before : Option (List ℕ)) (f : RunFault) → (f ≡ faults.Read) ⊎ (f ≡ faults.TooLong) ⊎ (f ≡ faults.Memory)
+      → (f ≡ faults.TooLong → IfSome known (λ input. longest < length input)) → IfSome known (λ input. ReadsAndAnswers IsRight input before before (Err f))
   answers_unread None before f w long = tt
   answers_unread (Some input) before f w long =
       let P : RunFault → Type 0 = λ fault. ReadsAndAnswers IsRight input before before (Err fault) in
@@ -50,17 +53,21 @@ module _ {A : Type 0} (IsRight : Parts → A → List ℕ → Type 0) where
       ]
 
   -- a prefix of a text that was put out
-  pub answers_front : (dump : Parts) (x : A) (text : List ℕ) (before after : Option (List ℕ)) (f : RunFault) → IsRight dump x text → (n : ℕ) × (n < length text) × Appends before after (take n text) → f ≡ faults.Write → AnswersDump IsRight dump before after (Err f)
+  pub answers_front : (dump : Parts) (x : A) (text : List ℕ) (before after : Option (List ℕ)) (f : RunFault) → IsRight dump x text
+      → (n : ℕ) × (n < length text) × Appends before after (take n text) → f ≡ faults.Write → AnswersDump IsRight dump before after (Err f)
   answers_front dump x text before after f is front fault =
       let P : RunFault → Type 0 = λ e. AnswersDump IsRight dump before after (Err e) in
       subst P (sym fault) (x, text, front.0, is, front.1, front.2)
 
   -- the same where the fault is passed on
-  pub answers_passed : (dump : Parts) (x : A) (text : List ℕ) (before after : Option (List ℕ)) (f : RunFault) (r : Result A RunFault) → IsErrAnd r (λ e. e ≡ f) → IsRight dump x text → (n : ℕ) × (n < length text) × Appends before after (take n text) → f ≡ faults.Write → AnswersDump IsRight dump before after r
+  pub answers_passed : (dump : Parts) (x : A) (text : List ℕ) (before after : Option (List ℕ)) (f : RunFault) (r : Result A RunFault)
+      → IsErrAnd r (λ e. e ≡ f) → IsRight dump x text → (n : ℕ) × (n < length text) × Appends before after (take n text) → f ≡ faults.Write → AnswersDump IsRight dump before after r
   answers_passed dump x text before after f (Ok y) same is front fault = absurd same
   answers_passed dump x text before after f (Err e) same is front fault = answers_front dump x text before after e is front (same ∙ fault)
 
 -- a text that was put out, or a prefix of it
-pub answers_text : (IsText : Parts → List ℕ → Type 0) (dump : Parts) (text : List ℕ) (before after : Option (List ℕ)) (r : Result (Unit {0}) RunFault) → IsText dump text → OnOk r (Appends before after text) → OnErr r ((n : ℕ) × (n < length text) × Appends before after (take n text)) → IfErr r (λ e. e ≡ faults.Write) → AnswersDump (TextAlone IsText) dump before after r
+pub answers_text : (IsText : Parts → List ℕ → Type 0) (dump : Parts) (text : List ℕ) (before after : Option (List ℕ)) (r : Result (Unit {0}) RunFault)
+    → IsText dump text → OnOk r (Appends before after text) → OnErr r ((n : ℕ) × (n < length text) × Appends before after (take n text))
+    → IfErr r (λ e. e ≡ faults.Write) → AnswersDump (TextAlone IsText) dump before after r
 answers_text IsText dump text before after (Ok x) is whole front fault = (text, is, whole)
 answers_text IsText dump text before after (Err f) is whole front fault = answers_front (TextAlone IsText) dump tt text before after f is front fault

@@ -60,7 +60,8 @@ short_read bytes d short e =
     let within : nat_lt longest (length bytes) ≡ false = le-ltb longest (length bytes) short in
     ap (λ b. cond b (Err faults.TooLong) (or_fault faults.NotJson (json_of bytes)) >>= parts_of_data) within ∙ ap (λ o. or_fault faults.NotJson o >>= parts_of_data) e
 
-pub text_reads_back : (d : Data) (dump : Parts) (text : List ℕ) → d ≡ dump_data dump → IsUtf8 text → text ≡ compact_text (dump_data dump) → (depth d ≤ max_depth → read text ≡ Some d) → parts_of_data (dump_data dump) ≡ Ok dump → ReadsBack dump
+pub text_reads_back : (d : Data) (dump : Parts) (text : List ℕ) → d ≡ dump_data dump → IsUtf8 text → text ≡ compact_text (dump_data dump)
+    → (depth d ≤ max_depth → read text ≡ Some d) → parts_of_data (dump_data dump) ≡ Ok dump → ReadsBack dump
 text_reads_back d dump text e valid is reads parts short =
     let P : List ℕ → Type 0 = λ t. json_of (t ++ 10 ∷ []) ≡ Some (dump_data dump) in
     let flat : depth d ≤ max_depth = subst (λ (x : Data). depth x ≤ max_depth) (sym e) (dump_depth dump) in

@@ -1,5 +1,8 @@
 -- The values of a dump, and how they are read back.
-use Rattle.std.proofs.Common.{◌≡◌, ℕ, ◌+◌, ◌<◌, ◌≤◌, ◌⊎◌, List, [], ◌∷◌, ◌++◌, map, take, get_or, length, suc, zero, refl, sym, ap, subst, ◌∙◌, arith, Bool, true, false, ◌&&◌, cond, Option, Some, None, option_map, Ok, nat_cmp, nat_eq, inl, inr, eq-eqb, nat_le, ◌||◌}
+use Rattle.std.proofs.Common.{
+  ◌≡◌, ℕ, ◌+◌, ◌<◌, ◌≤◌, ◌⊎◌, List, [], ◌∷◌, ◌++◌, map, take, get_or, length, suc, zero, refl, sym, ap, subst, ◌∙◌, arith, Bool, true,
+  false, ◌&&◌, cond, Option, Some, None, option_map, Ok, nat_cmp, nat_eq, inl, inr, eq-eqb, nat_le, ◌||◌,
+}
 use Rattle.std.proofs.Math.Bool.{or-true}
 use Rattle.std.proofs.lemmas.List.{take_more, map_push}
 use Rattle.std.proofs.lemmas.List.Elements.{All-push}
@@ -22,7 +25,8 @@ use Rattle.fbl_base.specs.declared.trace.Determinant.{Determinant}
 use Rattle.fbl_input.proofs.Lists.{elements_of}
 
 -- one more value
-pub next_value : {X : Type 0} (f : X → Data) (vs : List Value) (v : Value) (xs : List X) (i : ℕ) (x : X) → i < length xs → map view vs ≡ map f (take i xs) → view v ≡ f (get_or xs i x) → map view (vs ++ v ∷ []) ≡ map f (take (i + 1) xs)
+pub next_value : {X : Type 0} (f : X → Data) (vs : List Value) (v : Value) (xs : List X) (i : ℕ) (x : X) → i < length xs
+    → map view vs ≡ map f (take i xs) → view v ≡ f (get_or xs i x) → map view (vs ++ v ∷ []) ≡ map f (take (i + 1) xs)
 next_value f vs v xs i x lt before is =
     map_push view vs v ∙ ap (λ l. l ++ view v ∷ []) before ∙ ap (λ d. map f (take i xs) ++ d ∷ []) is
     ∙ sym (map_push f (take i xs) (get_or xs i x)) ∙ ap (map f) (sym (take_more xs i x lt))
@@ -48,7 +52,8 @@ found a (suc n) q least below = at (split a q least) (λ h. found (a + 1) n q h 
   split : (a q : ℕ) → a ≤ q → (a ≡ q) ⊎ (a + 1 ≤ q)
   split a q h = grind arith
 
-  at : (a ≡ q) ⊎ (a + 1 ≤ q) → (a + 1 ≤ q → list_any (λ y. nat_eq y q) (range_with_len (a + 1) n) ≡ true) → (nat_eq a q || list_any (λ y. nat_eq y q) (range_with_len (a + 1) n)) ≡ true
+  at : (a ≡ q) ⊎ (a + 1 ≤ q) → (a + 1 ≤ q → list_any (λ y. nat_eq y q) (range_with_len (a + 1) n) ≡ true)
+      → (nat_eq a q || list_any (λ y. nat_eq y q) (range_with_len (a + 1) n)) ≡ true
   at (inl e) rest = ap (λ b. b || list_any (λ y. nat_eq y q) (range_with_len (a + 1) n)) (eq-eqb a q e)
   at (inr h) rest = ap (λ b. nat_eq a q || b) (rest h) ∙ or-true (nat_eq a q)
 
@@ -87,7 +92,8 @@ unfolding parts_of_data
 object_read members f events held strike es hs s few fewer e h t = rw (number_read 255 members few, number_read 255 f fewer, e, h, t) refl
 
 -- the parts of a dump are read back
-pub parts_read : (dump : Parts) → IsDump dump → All (λ x. event_shape (event_data x) ≡ Some x) dump.events → All (λ x. pair_shape (pair_data x) ≡ Some x) dump.held → All (λ m. member_shape (number_data m) ≡ Some m) (member_list dump.strike) → parts_of_data (dump_data dump) ≡ Ok dump
+pub parts_read : (dump : Parts) → IsDump dump → All (λ x. event_shape (event_data x) ≡ Some x) dump.events
+    → All (λ x. pair_shape (pair_data x) ≡ Some x) dump.held → All (λ m. member_shape (number_data m) ≡ Some m) (member_list dump.strike) → parts_of_data (dump_data dump) ≡ Ok dump
 unfolding dump_data
 parts_read dump rules events held strike =
     let few = rules.members.1 in
@@ -96,7 +102,8 @@ parts_read dump rules events held strike =
     (list_read event_shape event_data dump.events events) (list_read pair_shape pair_data dump.held held) (set_read dump.strike (λ q h. let lt = rules.strike q h in omega (arith, few, lt)) strike)
 
 -- an object of a dump's parts
-pub dump_same : (dump : Parts) (m f : ℕ) (e h s : Data) → m ≡ dump.members → f ≡ dump.f → e ≡ list_data (map event_data dump.events) → h ≡ list_data (map pair_data dump.held) → s ≡ list_data (map number_data (member_list dump.strike)) → dump_object m f e h s ≡ dump_data dump
+pub dump_same : (dump : Parts) (m f : ℕ) (e h s : Data) → m ≡ dump.members → f ≡ dump.f → e ≡ list_data (map event_data dump.events)
+    → h ≡ list_data (map pair_data dump.held) → s ≡ list_data (map number_data (member_list dump.strike)) → dump_object m f e h s ≡ dump_data dump
 unfolding dump_data
 dump_same dump m f e h s em ef ee eh es =
     let held : Data = list_data (map pair_data dump.held) in

@@ -15,5 +15,6 @@ verdict_is : (dump : Parts) (said : List UnsafeReceipt) → (said ≡ []) ↔ Is
 verdict_is dump [] safe = safe.0 refl
 verdict_is dump (first ∷ rest) safe = λ is. (let none : first ∷ rest ≡ [] = safe.1 is in cc)
 
-pub checked : (dump : Parts) (said : List UnsafeReceipt) (text : List ℕ) → SaysUnsafe dump (receipts_of_dump dump) said → (said ≡ []) ↔ IsSafe dump → text ≡ check_lines said → IsChecked dump (verdict_of said) text
+pub checked : (dump : Parts) (said : List UnsafeReceipt) (text : List ℕ) → SaysUnsafe dump (receipts_of_dump dump) said → (said ≡ []) ↔ IsSafe dump
+    → text ≡ check_lines said → IsChecked dump (verdict_of said) text
 checked dump said text says safe is = (verdict_is dump said safe, (said, says, is))

@@ -21,7 +21,8 @@ tail_of : (done : ℕ) (bytes : List ℕ) → take (length bytes - done) (drop d
 tail_of done bytes = take_all _ _ (omega (arith, length-drop {A = ℕ}))
 
 -- one more write
-pub written_more : (a b c : Option (List ℕ)) (done n : ℕ) (bytes : List ℕ) → Appends a b (take done bytes) → Appends b c (take n (take (length bytes - done) (drop done bytes))) → Appends a c (take (done + n) bytes)
+pub written_more : (a b c : Option (List ℕ)) (done n : ℕ) (bytes : List ℕ) → Appends a b (take done bytes)
+    → Appends b c (take n (take (length bytes - done) (drop done bytes))) → Appends a c (take (done + n) bytes)
 written_more a b c done n bytes p q =
     let P : List ℕ → Type 0 = λ w. Appends a c w in
     let Q : List ℕ → Type 0 = λ w. Appends b c (take n w) in

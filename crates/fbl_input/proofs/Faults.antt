@@ -6,7 +6,8 @@ use Rattle.fbl_input.specs.declared.fault.RunFault.{RunFault}
 use Rattle.fbl_input.specs.declared.fault.RunFault.TheVariants as faults
 use Rattle.fbl_input.specs.Faults.{IsFirstFault, IsRefused}
 
-pub refused : {A : Type 0} (asked : Result A RunFault) (RefusesConfig : A → ConfigRefusal → Type 0) (RefusesDump : A → DumpRefusal → Type 0) (a : A) (e : RunFault) → asked ≡ Ok a → IsRefused (RefusesConfig a) (RefusesDump a) e → IsFirstFault asked RefusesConfig RefusesDump e
+pub refused : {A : Type 0} (asked : Result A RunFault) (RefusesConfig : A → ConfigRefusal → Type 0) (RefusesDump : A → DumpRefusal → Type 0) (a : A)
+    (e : RunFault) → asked ≡ Ok a → IsRefused (RefusesConfig a) (RefusesDump a) e → IsFirstFault asked RefusesConfig RefusesDump e
 refused asked RefusesConfig RefusesDump a faults.Memory is h = tt
 refused asked RefusesConfig RefusesDump a (faults.Config e) is h = (a, is, h)
 refused asked RefusesConfig RefusesDump a (faults.Dump e) is h = (a, is, h)

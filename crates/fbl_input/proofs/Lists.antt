@@ -16,11 +16,13 @@ pub elements_of : (ds : List Data) → elements (items_of ds) ≡ ds
 elements_of [] = refl
 elements_of (d ∷ ds) = ap (λ rest. d ∷ rest) (elements_of ds)
 
-by_key : (b : Bool) (k : String Global) (r : Option (String Global)) (s : Option (List ℕ)) → option_map string_bytes r ≡ s → option_map string_bytes (cond b (Some k) r) ≡ cond b (Some (string_bytes k)) s
+by_key : (b : Bool) (k : String Global) (r : Option (String Global)) (s : Option (List ℕ)) → option_map string_bytes r ≡ s
+    → option_map string_bytes (cond b (Some k) r) ≡ cond b (Some (string_bytes k)) s
 by_key true k r s e = refl
 by_key false k r s e = e
 
-pub other_key_of : (known : List Key) (ms : List (String Global × Value)) → option_map string_bytes (find (λ k. not (is_key_of known (string_bytes k))) (map (λ m. m.0) ms)) ≡ other_key known (members_view ms)
+pub other_key_of : (known : List Key) (ms : List (String Global × Value))
+    → option_map string_bytes (find (λ k. not (is_key_of known (string_bytes k))) (map (λ m. m.0) ms)) ≡ other_key known (members_view ms)
 other_key_of known [] = refl
 other_key_of known (m ∷ ms) = by_key (not (is_key_of known (string_bytes m.0))) m.0 _ _ (other_key_of known ms)
 

@@ -9,7 +9,8 @@ use Rattle.fbl_input.proofs.Inputs.{too_long}
 use Rattle.fbl_play.specs.Runs.{PlaysOn, Plays, ReadsAndPlays, next_of}
 
 -- a play of the script is one of the input
-pub plays_script : (workers : ℕ) (input : List ℕ) (s : Outline) (before after : Option (List ℕ)) (r : Result (Unit {0}) RunFault) → IsScriptOf input s → PlaysOn (next_of s.behaviour) workers s.config s.commands before after r → Plays workers input before after r
+pub plays_script : (workers : ℕ) (input : List ℕ) (s : Outline) (before after : Option (List ℕ)) (r : Result (Unit {0}) RunFault) → IsScriptOf input s
+    → PlaysOn (next_of s.behaviour) workers s.config s.commands before after r → Plays workers input before after r
 plays_script workers input s before after (Ok x) is h = (s, is, h)
 plays_script workers input s before after (Err faults.Write) is h = (s, is, h)
 plays_script workers input s before after (Err faults.Memory) is h = inr (s, is, h)
@@ -24,7 +25,8 @@ plays_fault workers input before faults.Memory is = inl (keeps_itself before)
 plays_fault workers input before f is = (is, keeps_itself before)
 
 -- what is known of an input that was read whole
-pub plays_whole : (workers : ℕ) (known : Option (List ℕ)) (bytes : List ℕ) (before after : Option (List ℕ)) (r : Result (Unit {0}) RunFault) → IfSome known (λ input. bytes ≡ input) → Plays workers bytes before after r → IfSome known (λ input. ReadsAndPlays workers input before after r)
+pub plays_whole : (workers : ℕ) (known : Option (List ℕ)) (bytes : List ℕ) (before after : Option (List ℕ)) (r : Result (Unit {0}) RunFault)
+    → IfSome known (λ input. bytes ≡ input) → Plays workers bytes before after r → IfSome known (λ input. ReadsAndPlays workers input before after r)
 plays_whole workers None bytes before after r e h = tt
 plays_whole workers (Some input) bytes before after r e h = let P : List ℕ → Type 0 = λ w. Plays workers w before after r in inr (subst P e h)
 
@@ -33,7 +35,8 @@ long_input : (input : List ℕ) → longest < length input → outline_of_input 
 long_input input h = ap (λ v. v >>= outline_of) (too_long input h)
 
 -- a reading that failed, with nothing written
-pub plays_unread : (workers : ℕ) (known before : Option (List ℕ)) (f : RunFault) → (f ≡ faults.Read) ⊎ (f ≡ faults.TooLong) ⊎ (f ≡ faults.Memory) → (f ≡ faults.TooLong → IfSome known (λ input. longest < length input)) → IfSome known (λ input. ReadsAndPlays workers input before before (Err f))
+pub plays_unread : (workers : ℕ) (known before : Option (List ℕ)) (f : RunFault) → (f ≡ faults.Read) ⊎ (f ≡ faults.TooLong) ⊎ (f ≡ faults.Memory)
+    → (f ≡ faults.TooLong → IfSome known (λ input. longest < length input)) → IfSome known (λ input. ReadsAndPlays workers input before before (Err f))
 plays_unread workers None before f w long = tt
 plays_unread workers (Some input) before f w long =
     let P : RunFault → Type 0 = λ fault. ReadsAndPlays workers input before before (Err fault) in

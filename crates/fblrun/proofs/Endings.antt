@@ -1,5 +1,8 @@
 -- The exit status of an answer, the answer where nothing could be read, and whether a play was refused something.
-use Rattle.std.proofs.Common.{◌≡◌, ℕ, ◌<◌, ◌⊎◌, ◌||◌, ◌&&◌, not, Bool, true, false, List, [], ◌∷◌, Option, Some, None, Result, Ok, Err, IfSome, length, inl, inr, subst, refl, sym, ap, ◌∙◌}
+use Rattle.std.proofs.Common.{
+  ◌≡◌, ℕ, ◌<◌, ◌⊎◌, ◌||◌, ◌&&◌, not, Bool, true, false, List, [], ◌∷◌, Option, Some, None, Result, Ok, Err, IfSome, length, inl, inr, subst, refl,
+  sym, ap, ◌∙◌,
+}
 use Rattle.std.specs.List.{list_any}
 use Rattle.fbl_input.specs.declared.fault.RunFault.{RunFault}
 use Rattle.fbl_input.specs.declared.fault.RunFault.TheVariants as faults
@@ -25,12 +28,14 @@ use Rattle.fblrun.specs.Statuses.{status_after}
 use Rattle.fblrun.proofs.Showings.{shows_unread}
 
 -- what is known of an answer over an input is known of the status that it ends with
-pub ended : (known : Option (List ℕ)) (Answers : List ℕ → Result Bool RunFault → Type 0) (r : Result Bool RunFault) (status : ℕ) → status ≡ status_after r → IfSome known (λ input. Answers input r) → IfSome known (λ input. EndsAfter (Answers input) status)
+pub ended : (known : Option (List ℕ)) (Answers : List ℕ → Result Bool RunFault → Type 0) (r : Result Bool RunFault) (status : ℕ)
+    → status ≡ status_after r → IfSome known (λ input. Answers input r) → IfSome known (λ input. EndsAfter (Answers input) status)
 ended None Answers r status is h = tt
 ended (Some input) Answers r status is h = (r, h, is)
 
 -- what is answered over the bytes of a reading is so over the input, where it is known
-pub read_whole : (known : Option (List ℕ)) (bytes : List ℕ) (Answers : List ℕ → Type 0) (Fails : Type 0) → IfSome known (λ input. bytes ≡ input) → Answers bytes → IfSome known (λ input. Fails ⊎ Answers input)
+pub read_whole : (known : Option (List ℕ)) (bytes : List ℕ) (Answers : List ℕ → Type 0) (Fails : Type 0) → IfSome known (λ input. bytes ≡ input)
+    → Answers bytes → IfSome known (λ input. Fails ⊎ Answers input)
 read_whole None bytes Answers Fails is h = tt
 read_whole (Some input) bytes Answers Fails is h = inr (subst Answers is h)
 
@@ -45,7 +50,8 @@ unread_as A B Answers (Some input) before f (inl h) =
 unread_as A B Answers (Some input) before f (inr h) = inr h
 
 -- a reading that failed, with nothing written
-pub unread : (task : Task) (known before : Option (List ℕ)) (f : RunFault) → (f ≡ faults.Read) ⊎ (f ≡ faults.TooLong) ⊎ (f ≡ faults.Memory) → (f ≡ faults.TooLong → IfSome known (λ input. longest < length input))
+pub unread : (task : Task) (known before : Option (List ℕ)) (f : RunFault) → (f ≡ faults.Read) ⊎ (f ≡ faults.TooLong) ⊎ (f ≡ faults.Memory)
+    → (f ≡ faults.TooLong → IfSome known (λ input. longest < length input))
     → IfSome known (λ input. ReadsAndAnswersTask task input before before (Err f))
 unread (Play workers strict) known before f is long = unread_as _ _ (λ input. Plays workers input before before (Err f)) known before f (plays_unread workers known before f is long)
 unread (Show workers) known before f is long = unread_as _ _ (λ input. Shows workers input before before (Err f)) known before f (shows_unread workers known before f is long)
@@ -80,6 +86,7 @@ module _ {O : Type 0} (has : O → Bool) where
   plays_well workers strict input before after old new fresh (inr (fault, is, other, keeps, same)) = absurd (cc)
 
 -- what is known of an answer is known of it with all well
-pub well_done_as : (Answers : Result (Unit {0}) RunFault → Type 0) (done : Result (Unit {0}) RunFault) (r : Result Bool RunFault) → IsWellDone (λ answer. answer ≡ done) r → Answers done → IsWellDone Answers r
+pub well_done_as : (Answers : Result (Unit {0}) RunFault → Type 0) (done : Result (Unit {0}) RunFault) (r : Result Bool RunFault)
+    → IsWellDone (λ answer. answer ≡ done) r → Answers done → IsWellDone Answers r
 well_done_as Answers done (Ok is_well) is answered = (subst Answers (sym is.0) answered, is.1)
 well_done_as Answers done (Err e) is answered = subst Answers (sym is) answered

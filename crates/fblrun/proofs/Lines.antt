@@ -1,5 +1,8 @@
 -- What the parser of command lines makes of the program's command lines.
-use Rattle.std.proofs.Common.{◌≡◌, ℕ, zero, suc, ◌+◌, ◌<◌, ◌&&◌, Bool, true, false, List, [], ◌∷◌, ◌++◌, Option, Some, None, option_map, Result, Ok, Err, IfErr, refl, sym, ap, ◌∙◌, arith, codes, decimal, drop, subst, unwrap_or}
+use Rattle.std.proofs.Common.{
+  ◌≡◌, ℕ, zero, suc, ◌+◌, ◌<◌, ◌&&◌, Bool, true, false, List, [], ◌∷◌, ◌++◌, Option, Some, None, option_map, Result, Ok, Err, IfErr, refl, sym, ap,
+  ◌∙◌, arith, codes, decimal, drop, subst, unwrap_or,
+}
 use Rattle.std.proofs.lemmas.Fmt.{decimal_digit, parse-decimal}
 use Rattle.std.specs.Prelude.{Box}
 use Rattle.std.specs.Box.{box_value}
@@ -16,7 +19,10 @@ use Rattle.clap.specs.declared.parser.matches.ArgMatches.TheViews.{out-ArgMatche
 use Rattle.clap.specs.declared.parser.matches.SubCommand.{SubCommand}
 use Rattle.clap.proofs.OnLiterals.{clap_on_literals}
 use Rattle.fblrun.specs.declared.Order.{Order}
-use Rattle.fblrun.specs.CommandLines.{IsCommandLine, is_audit, is_check, is_draw, is_play, is_show, is_show_workers, is_workers, IsOrderAt, IsOrderOf, audit_line, check_line, draw_line, flag_text, play_line, program, show_line, with_explain, with_strict}
+use Rattle.fblrun.specs.CommandLines.{
+  IsCommandLine, is_audit, is_check, is_draw, is_play, is_show, is_show_workers, is_workers, IsOrderAt, IsOrderOf, audit_line, check_line, draw_line,
+  flag_text, play_line, program, show_line, with_explain, with_strict,
+}
 use Rattle.fblrun.specs.Orders.{IsWorkerCount}
 
 -- the subcommand that the words behind the program's name give, with what was found of it
@@ -124,7 +130,8 @@ line_taken words (is_show_workers n count line) = ap (built_takes (built program
 pub taken : (a : App) (words : List Text) → a ≡ program → IsCommandLine words → takes a words ≡ true
 taken a words is line = ap (λ p. takes p words) is ∙ (λ i. program_simple i && line_taken words line i)
 
-pub refused : {T : Type 0} (words : List Text) (e : Error) (r : Result T Error) → IsErrAnd r (λ f. f ≡ e) → (IsCommandLine words → kind_of e ≡ OutOfMemory) → IfErr r (λ f. IsCommandLine words → kind_of f ≡ OutOfMemory)
+pub refused : {T : Type 0} (words : List Text) (e : Error) (r : Result T Error) → IsErrAnd r (λ f. f ≡ e)
+    → (IsCommandLine words → kind_of e ≡ OutOfMemory) → IfErr r (λ f. IsCommandLine words → kind_of f ≡ OutOfMemory)
 refused words e (Ok x) is h = tt
 refused words e (Err f) is h = λ line. ap kind_of is ∙ h line
 
@@ -175,7 +182,8 @@ module _ (a : App) (words : List Text) (m : ArgMatches) (is : a ≡ program) (ma
   asked_on line e = ap asked (rows_are ∙ ap named e)
 
   -- a subcommand was found, and the order is the one at its name and rows
-  pub order_is : (name : Text) (rows : List Row) (order : Order) → Some name ≡ subcommand_name_of m → Some rows ≡ option_map (λ p. p.1) (subcommand_rows_of m) → IsOrderAt name rows order → IsOrderOf words order
+  pub order_is : (name : Text) (rows : List Row) (order : Order) → Some name ≡ subcommand_name_of m
+      → Some rows ≡ option_map (λ p. p.1) (subcommand_rows_of m) → IsOrderAt name rows order → IsOrderOf words order
   order_is name rows order name_of rows_of at =
       let found : (line : List Text) (x : Asked) → drop 1 words ≡ line → asked (named line) ≡ Some x → IsFound name rows x =
       λ line x e gives. found_asked _ name rows x (matches_name m ∙ sym name_of) (sym rows_of) (asked_on line e ∙ gives) in
@@ -213,7 +221,8 @@ module _ (a : App) (words : List Text) (m : ArgMatches) (is : a ≡ program) (ma
 -- ---- the number of workers
 
 -- a number that was read from its decimal
-pub read_number : {E : Type 0} (gives : List ℕ → Result ℕ E → Type 0) (n other : ℕ) (o : Option ℕ) → n < 10 → ((r : Result ℕ E) → gives (decimal n) r → ParsesUnsigned 8 10 (decimal n) r) → ReadsOne gives (decimal n) o → unwrap_or o other ≡ n
+pub read_number : {E : Type 0} (gives : List ℕ → Result ℕ E → Type 0) (n other : ℕ) (o : Option ℕ) → n < 10
+    → ((r : Result ℕ E) → gives (decimal n) r → ParsesUnsigned 8 10 (decimal n) r) → ReadsOne gives (decimal n) o → unwrap_or o other ≡ n
 read_number {E} gives n other (Some v) small parses h =
     let r : Result ℕ E = Ok v in
     let same : r ≡ Ok n = parse-decimal 8 n (decimal n) r (omega arith) (omega arith) refl (parses r h) in cc
@@ -224,6 +233,7 @@ read_number {E} gives n other None small parses h =
 -- ---- whether a flag is given
 
 -- what a flag's text says
-pub flag_is : (flag result : Bool) (text : Option Text) → (text ≡ Some (codes "true") → result ≡ true) → (text ≡ Some (codes "false") → result ≡ false) → text ≡ Some (flag_text flag) → result ≡ flag
+pub flag_is : (flag result : Bool) (text : Option Text) → (text ≡ Some (codes "true") → result ≡ true)
+    → (text ≡ Some (codes "false") → result ≡ false) → text ≡ Some (flag_text flag) → result ≡ flag
 flag_is true result text given other e = given e
 flag_is false result text given other e = other e

@@ -15,7 +15,8 @@ said_of-requires-clause-dependents c =
     let events : t ≡ c.args.dump.now.events = c.events-event-items.ensures.events in
     let obeys : WellFormed c.args.dump.now.members t = rw events c.events-event-items.ensures.rules.events in
     let found : AreDependents t c.in_ok-dependents.dependents = rw events c.in_ok-dependents.ensures in
-    rw (← events, c.at.ensures) (dependents_of_receipt c.args.dump.now.members t c.in_ok-dependents.dependents c.loop-place.place c.event-item.result c.in-Some.determinant obeys found (omega arith) c.event-item.is (sym c.in-Some.ensures))
+    rw (← events, c.at.ensures) (dependents_of_receipt c.args.dump.now.members t c.in_ok-dependents.dependents c.loop-place.place c.event-item.result
+        c.in-Some.determinant obeys found (omega arith) c.event-item.is (sym c.in-Some.ensures))
 
 pub loop-place-preserved : goal.loop-place-preserved
 loop-place-preserved c =
@@ -24,17 +25,21 @@ loop-place-preserved c =
     let i = c.loop-place.place in
     let e = c.event-item.result in
     elim c.match-determinant.branch [
-      | in-Some+in-Some-said_of+in_ok-push w ↦ rw (w.unsafe_receipts-is, w.in_ok-push.ensures.items) (says_unsafe dump events i e (omega arith) c.event-item.is _ c.loop-place.invariant w.in-Some.determinant _ (sym w.in-Some.ensures) w.in-Some-said_of.ensures)
-      | in-Some+in_default-said_of w ↦ rw w.unsafe_receipts-is (says_nothing dump events i e (omega arith) c.event-item.is _ c.loop-place.invariant w.in-Some.determinant (sym w.in-Some.ensures) w.in_default-said_of.ensures)
+      | in-Some+in-Some-said_of+in_ok-push w ↦ rw (w.unsafe_receipts-is, w.in_ok-push.ensures.items)
+          (says_unsafe dump events i e (omega arith) c.event-item.is _ c.loop-place.invariant w.in-Some.determinant _ (sym w.in-Some.ensures) w.in-Some-said_of.ensures)
+      | in-Some+in_default-said_of w ↦ rw w.unsafe_receipts-is
+          (says_nothing dump events i e (omega arith) c.event-item.is _ c.loop-place.invariant w.in-Some.determinant (sym w.in-Some.ensures) w.in_default-said_of.ensures)
       | in_default w ↦ rw w.unsafe_receipts-is (says_no_receipt dump events i e (omega arith) c.event-item.is _ c.loop-place.invariant (sym w.in_default.ensures))
     ]
 
 pub returns-clause-said : goal.returns-clause-said
 returns-clause-said c =
-    let all : filter_map determinant_of (take c.loop-place.place c.events-event-items.result.now) ≡ receipts_of_dump c.args.dump.now = ap (filter_map determinant_of) (take_all c.loop-place.place c.events-event-items.result.now (omega arith) ∙ c.events-event-items.ensures.events) in
+    let all : filter_map determinant_of (take c.loop-place.place c.events-event-items.result.now) ≡ receipts_of_dump c.args.dump.now =
+        ap (filter_map determinant_of) (take_all c.loop-place.place c.events-event-items.result.now (omega arith) ∙ c.events-event-items.ensures.events) in
     rw (← all) c.loop-place.invariant
 
 pub returns-clause-safe : goal.returns-clause-safe
 returns-clause-safe c =
-    let all : filter_map determinant_of (take c.loop-place.place c.events-event-items.result.now) ≡ receipts_of_dump c.args.dump.now = ap (filter_map determinant_of) (take_all c.loop-place.place c.events-event-items.result.now (omega arith) ∙ c.events-event-items.ensures.events) in
+    let all : filter_map determinant_of (take c.loop-place.place c.events-event-items.result.now) ≡ receipts_of_dump c.args.dump.now =
+        ap (filter_map determinant_of) (take_all c.loop-place.place c.events-event-items.result.now (omega arith) ∙ c.events-event-items.ensures.events) in
     says_safe c.args.dump.now c.loop-place.unsafe_receipts.items (rw (← all) c.loop-place.invariant)

@@ -29,5 +29,6 @@ loop-place-preserved c =
     let strike = c.index-plan-place.result in
     let is = c.index-plan-place.is in (
       after_one_more c.args.plan.now c.loop-place.place strike c.loop-place-test.true is,
-      below_more _ _ c.loop-place.invariant.1 (not_bad c.args.plan.now c.args.config.now c.loop-place.place strike c.loop-place.before c.loop-place-test.true is c.loop-place.invariant.0 c.in_default.ensures),
+      below_more _ _ c.loop-place.invariant.1 (not_bad c.args.plan.now c.args.config.now c.loop-place.place strike c.loop-place.before
+          c.loop-place-test.true is c.loop-place.invariant.0 c.in_default.ensures),
     )

@@ -6,4 +6,5 @@ use Rattle.fbl_dump.proofs.auditing.audit_dump.Goals as goal
 pub returns : goal.returns
 returns g c =
     let P : List ℕ → Type 0 = IsAuditText c.args.dump.now in
-    answers_text IsAuditText c.args.dump.now c.as_bytes.result.now _ _ c.put.result (subst P (sym c.as_bytes.ensures.value) c.in_ok-text.ensures) c.put.ensures.whole c.put.ensures.front c.put.ensures.fault
+    answers_text IsAuditText c.args.dump.now c.as_bytes.result.now _ _ c.put.result
+        (subst P (sym c.as_bytes.ensures.value) c.in_ok-text.ensures) c.put.ensures.whole c.put.ensures.front c.put.ensures.fault

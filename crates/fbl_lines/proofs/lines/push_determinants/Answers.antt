@@ -5,7 +5,8 @@ use Rattle.fbl_lines.specs.Lines.{determinant_line}
 use Rattle.fbl_lines.proofs.lines.push_determinants.Goals as goal
 
 -- one more piece
-next : {X : Type 0} (f : X → List ℕ) (before : List ℕ) (xs : List X) (i : ℕ) (d : X) → i < length xs → (before ++ flat_map f (take i xs)) ++ f (get_or xs i d) ≡ before ++ flat_map f (take (i + 1) xs)
+next : {X : Type 0} (f : X → List ℕ) (before : List ℕ) (xs : List X) (i : ℕ) (d : X) → i < length xs
+    → (before ++ flat_map f (take i xs)) ++ f (get_or xs i d) ≡ before ++ flat_map f (take (i + 1) xs)
 next f before xs i d lt = flat_map_more f before (take i xs) (get_or xs i d) ∙ ap (λ l. before ++ flat_map f l) (sym (take_more xs i d lt))
 
 pub loop-determinant-preserved : goal.loop-determinant-preserved

@@ -22,7 +22,8 @@ returns g c =
     let answer = c.drain-group.result.1 in
     let P : List Strike → Type 0 = λ plan. Drains g.B.Behaviour.next c.args.workers plan c.args.group c.drain-group.result.0 answer in
     let drained = subst P c.strikes-strikes.ensures c.drain-group.ensures in
-    let account : IsRunAccount c.args.plan.now c.args.group.receipts_ever c.args.group.undone_ever c.drain-group.result.0 answer c.account_of-account.result = rw (← c.receipts_ever-ever.ensures, ← c.undone_ever-undone.ensures) c.account_of-account.ensures in
+    let account : IsRunAccount c.args.plan.now c.args.group.receipts_ever c.args.group.undone_ever c.drain-group.result.0 answer
+        c.account_of-account.result = rw (← c.receipts_ever-ever.ensures, ← c.undone_ever-undone.ensures) c.account_of-account.ensures in
     let A : Account → Type 0 = λ a. IsRunAccount c.args.plan.now c.args.group.receipts_ever c.args.group.undone_ever c.drain-group.result.0 answer a in
     joined c.answer_with.result _ _ _ c.answer_with.ensures.text c.answer_with.ensures.account (λ told is same. (
       answer,
@@ -32,7 +33,8 @@ returns g c =
     ))
 
 -- a refused plan has a bad entry, and the group is as it was
-plan_refused : (next : Next) (workers : ℕ) (plan : List Strike) (old new : GroupRecord) (answer : Result Drained DrainRefusal) → Drains next workers plan old new answer → IfErr answer (IsPlanRefused plan new.config)
+plan_refused : (next : Next) (workers : ℕ) (plan : List Strike) (old new : GroupRecord) (answer : Result Drained DrainRefusal)
+    → Drains next workers plan old new answer → IfErr answer (IsPlanRefused plan new.config)
 plan_refused next workers plan old new (Ok drained) h = tt
 plan_refused next workers plan old new (Err (drain.BadPlan place)) h = rw h.1.1 h.1.0.1
 plan_refused next workers plan old new (Err refusal) h = tt

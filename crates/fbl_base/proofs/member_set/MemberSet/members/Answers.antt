@@ -11,10 +11,12 @@ next p i lt =
     let at : get_or (range_with_len 0 16) i 0 ≡ i = omega (arith, get_or-range_with_len 0 16 i 0 lt) in
     filter_more p (range_with_len 0 16) i 0 lt ∙ ap (λ k. filter p (take i (range_with_len 0 16)) ++ cond (p k) (k ∷ []) []) at
 
-taken : (p : ℕ → Bool) (i : ℕ) → i < 16 → (items : List ℕ) → items ≡ filter p (take i (range_with_len 0 16)) → p i ≡ true → items ++ i ∷ [] ≡ filter p (take (i + 1) (range_with_len 0 16))
+taken : (p : ℕ → Bool) (i : ℕ) → i < 16 → (items : List ℕ) → items ≡ filter p (take i (range_with_len 0 16)) → p i ≡ true
+    → items ++ i ∷ [] ≡ filter p (take (i + 1) (range_with_len 0 16))
 taken p i lt items e h = ap (λ l. l ++ i ∷ []) e ∙ sym (next p i lt ∙ ap (λ b. filter p (take i (range_with_len 0 16)) ++ cond b (i ∷ []) []) h)
 
-passed : (p : ℕ → Bool) (i : ℕ) → i < 16 → (items : List ℕ) → items ≡ filter p (take i (range_with_len 0 16)) → p i ≡ false → items ≡ filter p (take (i + 1) (range_with_len 0 16))
+passed : (p : ℕ → Bool) (i : ℕ) → i < 16 → (items : List ℕ) → items ≡ filter p (take i (range_with_len 0 16)) → p i ≡ false
+    → items ≡ filter p (take (i + 1) (range_with_len 0 16))
 passed p i lt items e h = e ∙ sym (next p i lt ∙ ap (λ b. filter p (take i (range_with_len 0 16)) ++ cond b (i ∷ []) []) h ∙ append-nil _)
 
 pub loop-number-preserved : goal.loop-number-preserved
