@@ -77,7 +77,7 @@ pub record IsDump (dump : Parts) : Type 0 where
 abbrev pub IsFirstBreach : (ℕ → Type 0) → ℕ → Type 0
 IsFirstBreach P place = ((i : ℕ) → i < place → P i) × ¬ (P place)
 
--- the refusal is the first that fits; memory may run out whether or not another fits
+-- the refusal is the first that fits; memory may run out once the parameters are allowed, whether or not another fits
 abbrev pub RefusesDump : Parts → DumpRefusal → Type 0
 RefusesDump dump BadMembers = ¬ (MembersAllowed dump.members)
 RefusesDump dump BadF = MembersAllowed dump.members × ¬ (FAllowed dump.members dump.f)
@@ -87,4 +87,4 @@ RefusesDump dump (BadHeld place) =
     MembersAllowed dump.members × FAllowed dump.members dump.f × WellFormed dump.members dump.events × IsFirstBreach (HeldAt dump) place
 RefusesDump dump BadStrike =
     MembersAllowed dump.members × FAllowed dump.members dump.f × WellFormed dump.members dump.events × ((i : ℕ) → HeldAt dump i) × ¬ (AllBelow dump.strike dump.members)
-RefusesDump dump Memory = Unit {0}
+RefusesDump dump Memory = MembersAllowed dump.members × FAllowed dump.members dump.f

@@ -1,6 +1,6 @@
 //! Reading an input whole.
 
-ghost use Rattle.std.specs.Prelude.{◌≡◌, ◌+◌, ◌-◌, ◌<◌, ◌≤◌, ◌⊎◌, ℕ, length, take, drop, OnOk, OnErr, IfOk, IfErr, IfSome, vec_len};
+ghost use Rattle.std.specs.Prelude.{◌≡◌, ◌+◌, ◌-◌, ◌<◌, ◌≤◌, ◌⊎◌, ℕ, List, length, take, drop, OnOk, OnErr, IfOk, IfErr, IfSome, vec_len};
 ghost use Rattle.std.specs.Io.KnownBytes.{Consumes, Keeps, IsAtEnd};
 ghost use Rattle.fbl_input.specs.Shapes.{longest};
 ghost use Rattle.fbl_input.specs.declared.fault.RunFault.TheVariants.{Read, TooLong, Memory};
@@ -22,6 +22,7 @@ pub fn read_input<R: io::Read>(alloc: Global, reader: &mut R) -> Result<Vec<u8>,
     ensures whole { IfOk result (λ v. (length v.items ≤ longest) × IfSome (R.remaining reader.old) (λ input. v.items ≡ input)) }
     ensures long { IfErr result (λ e. e ≡ TooLong → IfSome (R.remaining reader.old) (λ input. longest < length input)) }
     ensures faults { IfErr result (λ e. (e ≡ Read) ⊎ (e ≡ TooLong) ⊎ (e ≡ Memory)) }
+    ensures stops { (taken : List ℕ) × Consumes (R.remaining reader.old) (R.remaining reader.new) taken × (length taken ≤ longest + 1) }
 {
     let mut input = Vec::new(alloc);
     let mut buffer = [0u8; BUFFER];
