@@ -20,7 +20,8 @@ use Rattle.fbl_base.specs.Precedence.{Depends}
 use Rattle.fbl_base.proofs.Gets.{filter_map-At}
 use Rattle.fbl_base.proofs.PlacesAndEvents.{depends-from_places, places-from_depends}
 use Rattle.fbl_base.proofs.PrecedenceLaws.{Has-first}
-use Rattle.fbl_base.proofs.Recorded.{Decides-same_determinant, both_true, eqb_same, same_eqb}
+use Rattle.fbl_base.proofs.Recorded.{Decides-same_determinant, both_true, eqb_same}
+use Rattle.fbl_base.proofs.RulesLaws.{eqb-self}
 use Rattle.fbl_base.proofs.Sizes.{len-remove_one, len-within, some_member}
 use Rattle.fbl_audit.specs.declared.checking.UnsafeReceipt.{UnsafeReceipt}
 use Rattle.fbl_audit.specs.Checking.{IsLeftOrphan, IsSafe, IsSaidOf, IsUnsafe, LosesReceipt, MayBeLost, SaysUnsafe, receipts_of_dump, struck_by}
@@ -54,7 +55,7 @@ holds dump d holder = (
       let det : a.1.1 ≡ d = (Decides-same_determinant a.1.1 d).0 b.0 in
       let member : a.1.0 ≡ holder = eqb_same b.1 in
       (a.0, a.2, (let pair : (holder, d) ≡ a.1 = (λ i. (sym member i, sym det i)) in rw pair a.3)),
-  λ r. same ∙ list_any-from_Any (is_pair d holder) dump.held (r.0, (holder, d), r.1, r.2, (rw ((Decides-same_determinant d d).1 refl, same_eqb holder))),
+  λ r. same ∙ list_any-from_Any (is_pair d holder) dump.held (r.0, (holder, d), r.1, r.2, (rw ((Decides-same_determinant d d).1 refl, eqb-self holder))),
 ) where
   same : set.contains (holders_of dump d) holder ≡ list_any (is_pair d holder) dump.held
   same = set.contains-from_list_nat _ holder ∙ any_holder d holder dump.held

@@ -48,9 +48,6 @@ recorded_skipped strike xs i x d before within is out was =
 pub eqb_same : {a b : ℕ} → (a == b) ≡ true → a ≡ b
 eqb_same {a} {b} h = grind (arith, nat_tests)
 
-pub same_eqb : (a : ℕ) → (a == a) ≡ true
-same_eqb a = grind (arith, nat_tests)
-
 pub both_true : (a b : Bool) → (a && b) ≡ true → (a ≡ true) × (b ≡ true)
 both_true true b h = (refl, h)
 both_true false b h = cc

@@ -1,12 +1,10 @@
 -- What the behaviour does that answers a message by four.
 use Rattle.std.specs.Prelude.{◌≡◌, ◌≢◌, ℕ, ◌+◌, ◌-◌, ◌*◌, ◌%◌, ◌<◌, ◌≤◌, List, [], ◌∷◌, length, if◌then◌else◌, ◌==◌, nat_lt}
 use Rattle.std.specs.List.{All}
-use Rattle.std.proofs.Common.{Bool, true, false, cond, ◌⊎◌, inl, inr, ◌∙◌, refl, arith, lit≤}
-use Rattle.std.proofs.Math.Nat.{mod-eq_of_lt}
+use Rattle.std.proofs.Common.{Bool, true, false, cond, refl, arith, lit≤}
 use Rattle.std.proofs.lemmas.Bool.Decides.{nat_tests}
-use Rattle.std.proofs.lemmas.Nat.{mod-mul-add}
 use Rattle.std.proofs.lemmas.List.Elements.{All-cons, All-nil}
-use Rattle.fbl_base.specs.Steps.{SendsAllowed, relay_step}
+use Rattle.fbl_base.specs.Steps.{SendsAllowed, relay_step, another_member}
 use Rattle.fbl_base.specs.declared.trace.Note.{Note}
 use Rattle.fbl_base.specs.declared.outcome.Outcome.{Outcome}
 
@@ -22,18 +20,6 @@ spread_step me n state note = record {
   sends = record { items = (if note.hops == 0 then [] else (if nat_lt n 5 then [] else to_next_four me n (record { value = note.value; hops = note.hops - 1 }))) };
 }
 
--- 1 to n - 1 places round the group stands another member
-elsewhere : (me n by : ℕ) → me < n → 0 < by → by < n → (me + by) % n ≢ me
-elsewhere me n by member more less is = at_place (split (me + by)) where
-  split : (x : ℕ) → (x < n) ⊎ (n ≤ x)
-  split x = grind arith
-
-  at_place : (me + by < n) ⊎ (n ≤ me + by) → ⊥
-  at_place (inl below) = omega (arith, is, mod-eq_of_lt below)
-  at_place (inr past) =
-      let wrapped : (me + by) % n ≡ me + by - n = (let e : me + by ≡ 1 * n + (me + by - n) = omega arith in rw e (mod-mul-add 1 n (me + by - n) (omega arith) ∙ omega arith)) in
-      omega (arith, is, wrapped)
-
 allowed : (me n : ℕ) (last few : Bool) (note : Note) → me < n → nat_lt n 5 ≡ few → All (λ (s : ℕ × Note). (s.0 < n) × (s.0 ≢ me)) (cond last [] (cond few [] (to_next_four me n note))) × (length (cond last [] (cond few [] (to_next_four me n note))) ≤ 4)
 allowed me n true few note member is = (All-nil (λ (s : ℕ × Note). (s.0 < n) × (s.0 ≢ me)), lit≤ tt)
 allowed me n false true note member is = (All-nil (λ (s : ℕ × Note). (s.0 < n) × (s.0 ≢ me)), lit≤ tt)
@@ -41,7 +27,7 @@ allowed me n false false note member is =
     let many : 5 ≤ n = grind (arith, nat_tests) in
     let send : ℕ → ℕ × Note = λ (by : ℕ). ((me + by) % n, note) in
     let goes_on : ℕ × Note → Type 0 = λ (s : ℕ × Note). (s.0 < n) × (s.0 ≢ me) in
-    let other : (by : ℕ) → 0 < by → by < n → goes_on (send by) = λ by more less. (omega arith, elsewhere me n by member more less) in
+    let other : (by : ℕ) → 0 < by → by < n → goes_on (send by) = λ by more less. (omega arith, another_member me n by member more less) in
     let fourth : All goes_on (send 4 ∷ []) = All-cons goes_on (send 4) [] (other 4 (omega arith) (omega arith)) (All-nil goes_on) in
     let third : All goes_on (send 3 ∷ send 4 ∷ []) = All-cons goes_on (send 3) (send 4 ∷ []) (other 3 (omega arith) (omega arith)) fourth in
     let second : All goes_on (send 2 ∷ send 3 ∷ send 4 ∷ []) = All-cons goes_on (send 2) (send 3 ∷ send 4 ∷ []) (other 2 (omega arith) (omega arith)) third in

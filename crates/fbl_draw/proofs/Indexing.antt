@@ -7,7 +7,8 @@ use Rattle.std.specs.Option.{option_or, is_some}
 use Rattle.std.specs.List.{position_from}
 use Rattle.std.proofs.lemmas.List.{take_more}
 use Rattle.fbl_base.specs.declared.trace.Mark.{Mark}
-use Rattle.fbl_base.proofs.Recorded.{both_true, eqb_same, same_eqb}
+use Rattle.fbl_base.proofs.Recorded.{both_true, eqb_same}
+use Rattle.fbl_base.proofs.RulesLaws.{eqb-self}
 use Rattle.fbl_draw.specs.declared.receipts.Message.{Message}
 use Rattle.fbl_draw.specs.Receipts.{is_message, receipt_place, same_message, taken_by, takes}
 
@@ -21,7 +22,7 @@ Decides-same_message a b = (same, is) where
       (λ i. record { from = e1 i; ssn = e2 i })
 
   is : a ≡ b → same_message a b ≡ true
-  is e = rw (← e) (rw (same_eqb a.from, same_eqb a.ssn))
+  is e = rw (← e) (rw (eqb-self a.from, eqb-self a.ssn))
 
 -- the first place at which a test passes, with one more element behind
 position_push : {X : Type 0} (p : X → Bool) (k : ℕ) (xs : List X) (x : X) → position_from p k (xs ++ x ∷ []) ≡ option_or (position_from p k xs) (cond (p x) (Some (k + length xs)) None)

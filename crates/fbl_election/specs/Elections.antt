@@ -7,7 +7,7 @@ use Rattle.std.proofs.lemmas.Bool.Decides.{nat_tests}
 use Rattle.std.proofs.lemmas.List.Elements.{Contains-get_or}
 use Rattle.std.proofs.lemmas.Option.{slice_get-get_or}
 use Rattle.fbl_base.specs.Configs.{Settings, IsConfig}
-use Rattle.fbl_base.specs.Steps.{SendsAllowed, onward}
+use Rattle.fbl_base.specs.Steps.{SendsAllowed, onward, another_member}
 use Rattle.fbl_law.specs.StepLaws.{HoldsFirst, StepKeeps, StepLosesNone, weight_of_starts}
 use Rattle.fbl_base.specs.declared.trace.Note.{Note}
 use Rattle.fbl_base.specs.declared.trace.Start.{Start}
@@ -22,12 +22,8 @@ hops_left state note = if nat_lt state note.value then note.hops else (if state 
 abbrev pub candidate_step : ℕ → ℕ → ℕ → Note → Outcome
 candidate_step me n state note = onward (max state note.value) ((me + 1) % n) note.value (hops_left state note)
 
--- the next member is another one
-elsewhere : (me n : ℕ) → 2 ≤ n → me < n → (me + 1) % n ≢ me
-elsewhere me n least member = grind (arith, nat_tests)
-
 pub candidate_sends_allowed : (me n state : ℕ) (note : Note) → 2 ≤ n → me < n → SendsAllowed me n (candidate_step me n state note)
-candidate_sends_allowed me n state note least member = (grind (arith, elsewhere me n), grind arith)
+candidate_sends_allowed me n state note least member = (grind (arith, another_member me n 1), grind arith)
 
 -- a start brings the identifier
 abbrev pub IsBrought : Settings → ℕ → Type 0

@@ -24,11 +24,6 @@ use Rattle.fbl_explain.specs.declared.why.LossReason.{LossReason}
 use Rattle.fbl_explain.specs.declared.why.OrphanPath.{OrphanPath}
 use Rattle.fbl_explain.specs.Whys.{ArePathsTo, IsPathFrom, IsReasonOf, TellsOf}
 
--- the receipt with a determinant is the one event that has it
-pub is_receipt_of : (e : Mark) (d : Determinant) → determinant_of e ≡ Some d → e ≡ receipt_of d
-is_receipt_of (Send from ssn to) d is = cc
-is_receipt_of (Receipt to rsn from ssn) d is = (let same : record { from = from; ssn = ssn; to = to; rsn = rsn } ≡ d = cc in ap receipt_of same)
-
 -- an event of a trace is one of a member
 within : (n : ℕ) (t : List Mark) (i : ℕ) (e : Mark) → WellFormed n t → n ≤ 16 → At t i e → member_of e < 16
 within n t i (Send from ssn to) obeys few at = (let may = obeys i (Send from ssn to) at in omega (arith, may.0, few))

@@ -2,8 +2,8 @@
 use Rattle.std.proofs.Common.{◌≡◌, ℕ, ◌+◌, ◌<◌, ◌≤◌, ◌==◌, ◌&&◌, ◌⊎◌, inl, inr, Bool, true, false}
 use Rattle.std.proofs.Common.{List, [], ◌∷◌, ◌++◌, length, take, drop, get_or, refl, sym, ap, ◌∙◌, arith, append_assoc}
 use Rattle.std.specs.Prelude.{slice_set}
-use Rattle.std.proofs.lemmas.Bool.Decides.{nat_tests}
 use Rattle.std.proofs.lemmas.List.{drop_more, drop_all, drop-drop, drop-set-lt, take_more_set}
+use Rattle.fbl_base.proofs.Recorded.{both_true, eqb_same}
 use Rattle.fbl_history.specs.declared.column.Column.{Column}
 use Rattle.fbl_history.specs.declared.column.Column.TheVariants.{Send, Receipt, Strike, Recovery, Checkpoint}
 use Rattle.fbl_history.specs.Columns.{is_standing, crossed, same_standing, standing, is_next, column_then, trace_then, go_on, GoesOnFrom}
@@ -50,32 +50,25 @@ cross-step whole now trace i column new rest later below is before this left =
 
 -- ---- laws
 
-both : (a b : Bool) → (a && b) ≡ true → (a ≡ true) × (b ≡ true)
-both true b h = (refl, h)
-both false b h = absurd cc
-
-equal : (x y : ℕ) → (x == y) ≡ true → x ≡ y
-equal x y h = grind (arith, nat_tests)
-
 -- columns of the same standing event are equal, and stand
 pub same-is : (a b : Column) → same_standing a b ≡ true → (a ≡ b) × (is_standing b ≡ true)
 same-is (Send q k p false) (Send q' k' p' false) h =
-    let first = both (q == q') _ h in
-    let second = both (k == k') _ first.1 in
-    let e1 = equal q q' first.0 in
-    let e2 = equal k k' second.0 in
-    let e3 = equal p p' second.1 in
+    let first = both_true (q == q') _ h in
+    let second = both_true (k == k') _ first.1 in
+    let e1 = eqb_same {a = q} {b = q'} first.0 in
+    let e2 = eqb_same {a = k} {b = k'} second.0 in
+    let e3 = eqb_same {a = p} {b = p'} second.1 in
     (rw (e1, e2, e3) refl, refl)
 same-is (Receipt p r q k s false) (Receipt p' r' q' k' s' false) h =
-    let first = both (p == p') _ h in
-    let second = both (r == r') _ first.1 in
-    let third = both (q == q') _ second.1 in
-    let fourth = both (k == k') _ third.1 in
-    let e1 = equal p p' first.0 in
-    let e2 = equal r r' second.0 in
-    let e3 = equal q q' third.0 in
-    let e4 = equal k k' fourth.0 in
-    let e5 = equal s s' fourth.1 in
+    let first = both_true (p == p') _ h in
+    let second = both_true (r == r') _ first.1 in
+    let third = both_true (q == q') _ second.1 in
+    let fourth = both_true (k == k') _ third.1 in
+    let e1 = eqb_same {a = p} {b = p'} first.0 in
+    let e2 = eqb_same {a = r} {b = r'} second.0 in
+    let e3 = eqb_same {a = q} {b = q'} third.0 in
+    let e4 = eqb_same {a = k} {b = k'} fourth.0 in
+    let e5 = eqb_same {a = s} {b = s'} fourth.1 in
     (rw (e1, e2, e3, e4, e5) refl, refl)
 same-is _ _ h = absurd cc
 

@@ -10,6 +10,7 @@ use Rattle.std.proofs.lemmas.List.{append_assoc, at_drop_more, flat_map_more, ta
 use Rattle.std.proofs.lemmas.List.Folds.{list_any-append}
 use Rattle.std.proofs.lemmas.List.FromFn.{get_or-range_with_len, length-range_with_len}
 use Rattle.std.proofs.lemmas.List.Sums.{fold_push}
+use Rattle.fbl_base.proofs.Recorded.{or_cond, or_false}
 use Rattle.fbl_history.specs.declared.column.Column.{Column}
 use Rattle.fbl_shapes.specs.declared.shape.Shape.{Shape}
 use Rattle.fbl_shapes.specs.declared.shape.Shape.TheVariants.{Line}
@@ -50,31 +51,20 @@ module _ (columns : List Column) (i : ℕ) (c : Column) (within : i < length col
   pub received_more : (m : Message) → is_received (take (i + 1) columns) m ≡ (is_received (take i columns) m || is_message m (taken_by c))
   received_more m =
       ap (λ l. is_received l m) before_more ∙ list_any-append (λ column. is_message m (taken_by column)) (take i columns) (c ∷ [])
-      ∙ ap (λ b. is_received (take i columns) m || b) (alone (is_message m (taken_by c))) where
-        alone : (b : Bool) → (b || false) ≡ b
-        alone true = refl
-        alone false = refl
+      ∙ ap (λ b. is_received (take i columns) m || b) (sym (or_false (is_message m (taken_by c))))
 
   -- the messages that are received behind it, where a set has those received before it
   module _ (old : Message → Bool) (was : (m : Message) → old m ≡ is_received (take i columns) m) where
     pub added : (taken : Message) → taken_by c ≡ Some taken → (new : Message → Bool)
         → ((m : Message) → new m ≡ cond (same_message taken m) true (old m)) → (m : Message) → new m ≡ is_received (take (i + 1) columns) m
     added taken some new put m =
-        put m ∙ with_it (same_message taken m) (old m)
+        put m ∙ or_cond (same_message taken m) (old m)
         ∙ (λ j. was m j || is_message m (sym some j))
-        ∙ sym (received_more m) where
-          with_it : (b o : Bool) → cond b true o ≡ (o || b)
-          with_it true true = refl
-          with_it true false = refl
-          with_it false true = refl
-          with_it false false = refl
+        ∙ sym (received_more m)
 
     pub not_added : taken_by c ≡ None → (m : Message) → old m ≡ is_received (take (i + 1) columns) m
     not_added none m =
-        was m ∙ without (is_received (take i columns) m) ∙ ap (λ t. is_received (take i columns) m || is_message m t) (sym none) ∙ sym (received_more m) where
-          without : (o : Bool) → o ≡ (o || false)
-          without true = refl
-          without false = refl
+        was m ∙ or_false (is_received (take i columns) m) ∙ ap (λ t. is_received (take i columns) m || is_message m t) (sym none) ∙ sym (received_more m)
 
   module _ (m : ℕ) (down after : Bool) (was : down ≡ is_down columns m i) (then : after ≡ is_down_after m down c) where
     -- whether the member is down behind it
