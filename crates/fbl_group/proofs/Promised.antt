@@ -11,7 +11,7 @@ use Rattle.fbl_law.specs.Sound.{IsSound}
 use Rattle.fbl_law.specs.GroupSteps.{IsRecovery, IsStrike}
 use Rattle.fbl_law.proofs.Safe.{down_or_up, never_both, IsRecorded-before}
 use Rattle.fbl_law.proofs.Survivors.{survivors_record}
-use Rattle.fbl_law.proofs.Run.{cut_is_recorded}
+use Rattle.fbl_law.proofs.Recover.{cut_is_recorded}
 use Rattle.fbl_law.proofs.GroupFacts.{table_member}
 use Rattle.fbl_law.proofs.GroupRecovery.{recovery-knowledge}
 use Rattle.fbl_law.proofs.Promises.{recorded_is_prefix}

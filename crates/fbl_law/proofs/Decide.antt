@@ -9,7 +9,7 @@ use Rattle.fbl_base.specs.Events.{same_determinant}
 use Rattle.fbl_base.proofs.Recorded.{Decides-same_determinant}
 use Rattle.fbl_base.proofs.Sizes.{len-remove_one, some_member, len-within}
 use Rattle.fbl_table.specs.declared.entry.Entry.{Entry}
-use Rattle.fbl_law.specs.Knowledge.{Members, Includes, Knowledge, table, checkpoint, IsUp, Names, Holds, IsRecorded, IsHolder, IsStable, IsClosed, IsAlwaysHeld}
+use Rattle.fbl_law.specs.Knowledge.{in_table, Members, Includes, Knowledge, table, checkpoint, IsUp, Names, Holds, IsRecorded, IsHolder, IsStable, IsClosed, IsAlwaysHeld}
 use Rattle.fbl_law.proofs.Lists.{Contains-here, Contains-there, Contains-cons_cases, Contains-none}
 use Rattle.fbl_law.proofs.Safe.{down_or_up, never_both}
 use Rattle.fbl_law.proofs.Tables.{Includes-insert, Includes-insert_cases, Includes-union, Includes-left, Includes-right, named_record}
@@ -114,5 +114,5 @@ pub IsAlwaysHeld-closed : (f : ℕ) (r : Knowledge) → IsClosed f r → IsAlway
 IsAlwaysHeld-closed f r closed d there =
     elim (Known-stable f r d) [
       | inl stable ↦ inl stable
-      | inr unstable ↦ inr (λ m up depends. elim (closed.events m depends.0 up depends.2 d depends.1) [ inl named ↦ (up, named) | inr stable ↦ absurd (unstable stable) ])
+      | inr unstable ↦ inr (λ m up depends. elim (closed.events (in_table m) depends.0 up depends.2 d depends.1) [ inl named ↦ (up, named) | inr stable ↦ absurd (unstable stable) ])
     ]

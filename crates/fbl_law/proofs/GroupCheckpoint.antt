@@ -16,7 +16,7 @@ use Rattle.fbl_law.specs.Sound.{IsFold, IsReplayed, IsSound}
 use Rattle.fbl_law.specs.GroupSteps.{IsCheckpoint}
 use Rattle.fbl_law.specs.GroupLaws.{GroupCheckpointKeeps, CheckpointIsRecorded}
 use Rattle.fbl_law.proofs.Safe.{IsRecorded-reached}
-use Rattle.fbl_law.proofs.Run.{checkpoint_keeps}
+use Rattle.fbl_law.proofs.Checkpoint.{checkpoint_keeps}
 use Rattle.fbl_law.proofs.GroupFacts.{table_member, received_counted, log_counted}
 use Rattle.fbl_law.proofs.Replayed.{fold-replayed}
 

@@ -21,7 +21,7 @@ use Rattle.fbl_base.proofs.Sifted.{length-left}
 use Rattle.fbl_law.proofs.Cut.{KeepsCauses}
 use Rattle.fbl_law.proofs.CutLaw.{cut_is_lawful, stays_is_recorded}
 use Rattle.fbl_law.proofs.GroupFacts.{table_member}
-use Rattle.fbl_law.proofs.Run.{recovery_keeps, cut_is_recorded}
+use Rattle.fbl_law.proofs.Recover.{recovery_keeps, cut_is_recorded}
 use Rattle.fbl_law.proofs.Replayed.{replayed-cut}
 use Rattle.fbl_law.proofs.CutFolds.{actions-stay, last_taken-stays, note-stays, note-was}
 

@@ -17,7 +17,7 @@ use Rattle.fbl_law.specs.GroupSteps.{IsStrike}
 use Rattle.fbl_law.specs.GroupLaws.{GroupStrikeKeeps, RecordedTest}
 use Rattle.fbl_law.proofs.Safe.{down_or_up, never_both, up_at_ends, up_if_named, IsRecorded-held, IsRecorded-saved}
 use Rattle.fbl_law.proofs.Tables.{Includes-union, Includes-left, named_record}
-use Rattle.fbl_law.proofs.Run.{strike_keeps}
+use Rattle.fbl_law.proofs.Strike.{strike_keeps}
 use Rattle.fbl_law.proofs.GroupFacts.{table_member, Names-held, held-Names}
 
 module _ (next : Next) (old new : GroupRecord) (struck : Members) (s : IsStrike old new struck) (sound : IsSound next old) where

@@ -16,7 +16,7 @@ use Rattle.fbl_law.specs.Groups.{GroupRecord, member, marks, knowledge}
 use Rattle.fbl_law.specs.Headline.{IsHeldBy, EachReceiptIsHeld, SoundIsAlwaysHeld, SoundHasNoOrphan, NoSurvivorIsOrphan, AnySurvivorsHold, RecordedIsPrefix}
 use Rattle.fbl_law.proofs.Safe.{never_both, no_orphan, IsRecorded-before, IsRecorded-prefix, Has-recorded}
 use Rattle.fbl_law.proofs.Decide.{IsAlwaysHeld-closed}
-use Rattle.fbl_law.proofs.Run.{strike_keeps}
+use Rattle.fbl_law.proofs.Strike.{strike_keeps}
 use Rattle.fbl_law.proofs.Survivors.{survivors_record}
 use Rattle.fbl_law.proofs.GroupFacts.{table_member, held-Names}
 use Rattle.fbl_law.proofs.GroupStrike.{is_struck}

@@ -8,7 +8,7 @@ use Rattle.fbl_law.specs.Steps.{Stays, IsEventCut}
 use Rattle.fbl_law.specs.Groups.{GroupRecord, marks, knowledge}
 use Rattle.fbl_law.specs.Replaying.{recovered_trace}
 use Rattle.fbl_law.specs.RecoveryLaws.{GroupHoldersStay, HoldersGainTheDown, RecoveryLeavesRecorded, RecoveryUndoesLost, OnePassCuts, CutIsOne}
-use Rattle.fbl_law.proofs.Run.{holders_stay}
+use Rattle.fbl_law.proofs.Recover.{holders_stay}
 use Rattle.fbl_law.proofs.GroupRecovery.{recovery-knowledge}
 use Rattle.fbl_law.proofs.CutTrace.{recovered_trace-cut}
 use Rattle.fbl_law.proofs.CutCounts.{filter-agree, same-test}

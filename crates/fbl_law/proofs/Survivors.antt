@@ -2,7 +2,7 @@
 use Rattle.std.proofs.Common.{inl, inr, arith}
 use Rattle.std.specs.FinSet as set
 use Rattle.fbl_base.proofs.Sizes.{some_outside}
-use Rattle.fbl_law.specs.Knowledge.{IsUp}
+use Rattle.fbl_law.specs.Knowledge.{in_table, IsUp}
 use Rattle.fbl_law.specs.Laws.{SurvivorsRecord}
 use Rattle.fbl_law.proofs.Safe.{down_or_up, never_both}
 use Rattle.fbl_law.proofs.Tables.{Includes-left}
@@ -10,7 +10,7 @@ use Rattle.fbl_law.proofs.Tables.{Includes-left}
 pub survivors_record : SurvivorsRecord
 survivors_record n f r struck sound few m d out depends =
     let up : IsUp r m = elim (down_or_up r.down m) [ inl down ↦ absurd (out (Includes-left r.down struck m down)) | inr up ↦ up ] in
-    elim (sound.closed.events m depends.0 up depends.2 d depends.1) [
+    elim (sound.closed.events (in_table m) depends.0 up depends.2 d depends.1) [
       | inl named ↦ (m, out, named)
       | inr stable ↦
           let one = some_outside stable.0 (set.union r.down struck) (omega (arith, few, stable.1)) in

@@ -1,4 +1,4 @@
-use Rattle.fbl_law.proofs.Run.{recovery_keeps, cut_is_closed, cut_is_recorded, holders_stay}
+use Rattle.fbl_law.proofs.Recover.{recovery_keeps, cut_is_closed, cut_is_recorded, holders_stay}
 use Rattle.fbl_law.proofs.CutLaw.{cut_is_lawful, stays_is_recorded}
 use Rattle.fbl_law.proofs.Replay.{never_stuck}
 use Rattle.fbl_law.proofs.laws.recovery_law.Goals as goal

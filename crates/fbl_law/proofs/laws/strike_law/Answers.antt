@@ -1,4 +1,4 @@
-use Rattle.fbl_law.proofs.Run.{strike_keeps}
+use Rattle.fbl_law.proofs.Strike.{strike_keeps}
 use Rattle.fbl_law.proofs.Survivors.{survivors_record}
 use Rattle.fbl_law.proofs.laws.strike_law.Goals as goal
 
