@@ -5,6 +5,7 @@ use Rattle.std.specs.Ordering.{nat_cmp}
 use Rattle.std.specs.Cmp.{nat_cmp_total}
 use Rattle.fbl_base.specs.MemberSets.{same_from_contains}
 use Rattle.fbl_base.specs.Fold.{Next}
+use Rattle.fbl_member.specs.Members.{MemberRecord}
 use Rattle.fbl_law.specs.Knowledge.{Includes, IsUp, Names, table, Members}
 use Rattle.fbl_law.specs.Groups.{GroupRecord, knowledge}
 use Rattle.fbl_law.specs.Sound.{IsSound}
@@ -12,7 +13,6 @@ use Rattle.fbl_law.specs.GroupSteps.{IsRecovery, IsStrike}
 use Rattle.fbl_law.proofs.Safe.{down_or_up, never_both, IsRecorded-before}
 use Rattle.fbl_law.proofs.Survivors.{survivors_record}
 use Rattle.fbl_law.proofs.Recover.{cut_is_recorded}
-use Rattle.fbl_law.proofs.GroupFacts.{table_member}
 use Rattle.fbl_law.proofs.GroupRecovery.{recovery-knowledge}
 use Rattle.fbl_law.proofs.Promises.{recorded_is_prefix}
 use Rattle.fbl_law.proofs.RecoveredLaws.{group_holders_stay, recovery_leaves_recorded, recovery_undoes_lost}
@@ -71,4 +71,4 @@ keeps_holders old down new set strike leaves gains d m left holds =
     ]
   where
     still : IsUp (knowledge down) m → Names (table (knowledge down) m) d
-    still up = rw (table_member down m, strike.survivors m up, ← table_member old m) holds.1
+    still up = subst (λ (x : MemberRecord). Names x.table d) (sym (strike.survivors m up)) holds.1

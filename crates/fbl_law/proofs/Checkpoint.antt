@@ -17,14 +17,14 @@ module _ (n f : ℕ) (old new : Knowledge) (p : ℕ) (s : IsCheckpointed old new
   keeps : KeepsHolders f old new
   keeps = record {
     down = nobody_down_empty f new (s.down ∙ s.nobody_down);
-    held = λ d m up holder. elim holder [ inl holds ↦ (up, rw s.tables holds.1) | inr down ↦ never_both old.down m down.0 (was_up m) ];
+    held = λ d m up holder. elim holder [ inl holds ↦ (up, rw (s.tables m) holds.1) | inr down ↦ never_both old.down m down.0 (was_up m) ];
     receipts = λ d recorded there. rw s.trace there;
     paths = λ there path. rw s.trace at path;
   }
 
   -- the new checkpoint was its member's table
   source : (k : Store) → IsThere new k → (was : Store) × IsSameStore old new was k
-  source (in_table m) up = (in_table m, record { there = was_up m; owner = refl; entries = rw s.tables refl; owes = λ b there owes. (rw s.trace at there, owes) })
+  source (in_table m) up = (in_table m, record { there = was_up m; owner = refl; entries = s.tables m; owes = λ b there owes. (rw s.trace at there, owes) })
   source (in_message v) flies = (in_message v, record { there = rw (s.channels v.from v.to) at flies; owner = refl; entries = refl; owes = λ b there owes. (rw s.trace at there, owes) })
   source (in_checkpoint m) there = elim (cases_eq m p) [
     | inl same ↦ (in_table p, record { there = was_up p; owner = same; entries = rw same s.table; owes = λ b there owes. (rw s.trace at there, owes.0 ∙ same) })
@@ -36,13 +36,13 @@ module _ (n f : ℕ) (old new : Knowledge) (p : ℕ) (s : IsCheckpointed old new
 
   kept : (m : ℕ) → IsCheckpointKept new m
   kept m = elim (cases_eq m p) [
-    | inl same ↦ rw (same, s.trace) (record { receipts = omega (arith, s.receipts); sends = omega (arith, s.sends); table = λ d up named. rw s.tables (rw s.table at named) })
+    | inl same ↦ rw (same, s.trace) (record { receipts = omega (arith, s.receipts); sends = omega (arith, s.sends); table = λ d up named. rw (s.tables p) (rw s.table at named) })
     | inr other ↦
         let was = sound.checkpoints m in
         record {
           receipts = rw (s.others m other, s.trace) was.receipts;
           sends = rw (s.others m other, s.trace) was.sends;
-          table = λ d up named. rw s.tables (was.table d (was_up m) (rw (s.others m other) at named));
+          table = λ d up named. rw (s.tables m) (was.table d (was_up m) (rw (s.others m other) at named));
         }
   ]
 

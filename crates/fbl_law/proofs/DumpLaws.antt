@@ -29,7 +29,7 @@ use Rattle.fbl_law.proofs.Lists.{At-append, Contains-at, Contains-map, Contains-
 use Rattle.fbl_law.proofs.Safe.{down_or_up}
 use Rattle.fbl_law.proofs.Tables.{Includes-union, Includes-right}
 use Rattle.fbl_law.proofs.Survivors.{survivors_record}
-use Rattle.fbl_law.proofs.GroupFacts.{table_member, named_received, carried_received, trace_fits}
+use Rattle.fbl_law.proofs.GroupFacts.{named_received, carried_received, trace_fits}
 
 -- one more member
 pub pairs_from-push : (m : ℕ) (members : List MemberRecord) (x : MemberRecord) → pairs_from m (members ++ x ∷ []) ≡ pairs_from m members ++ pairs_of (m + length members) x.table
@@ -144,4 +144,4 @@ dump_has_no_orphan next r strike m sound covers few orphan = at orphan.1.0 orpha
       let d : Determinant = record { from = from; ssn = ssn; to = to; rsn = rsn } in
       let less = union_few r strike covers in
       let one = survivors_record r.config.members r.config.f (knowledge r) strike sound.causes (omega (arith, less, few)) m d (out m orphan.0) depends in
-      lost (one.0, held_pairs-Names r one.0 d (rw (table_member r one.0) at one.2), elim (down_or_up strike one.0) [ inl struck ↦ absurd (one.1 (Includes-right r.down strike one.0 struck)) | inr apart ↦ apart ])
+      lost (one.0, held_pairs-Names r one.0 d one.2, elim (down_or_up strike one.0) [ inl struck ↦ absurd (one.1 (Includes-right r.down strike one.0 struck)) | inr apart ↦ apart ])

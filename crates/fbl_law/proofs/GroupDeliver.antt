@@ -21,7 +21,7 @@ use Rattle.fbl_base.proofs.LawfulLaws.{Lawful-deliver, Lawful-begun, note_of-fro
 use Rattle.fbl_table.specs.declared.entry.Entry.{Entry}
 use Rattle.fbl_table.specs.Tables.{piggybacked}
 use Rattle.fbl_member.specs.Members.{Message, MemberRecord, blank, progress_of, messages_from}
-use Rattle.fbl_law.specs.Knowledge.{table, send_mark, IsInFlight, IsUp}
+use Rattle.fbl_law.specs.Knowledge.{send_mark, IsInFlight, IsUp}
 use Rattle.fbl_law.specs.Steps.{IsDelivered, is_on, between, taken_off}
 use Rattle.fbl_law.specs.Groups.{GroupRecord, member, checkpoint, channel, marks, knowledge, receipts}
 use Rattle.fbl_law.specs.Sound.{IsFold, IsReplayed, IsSound, received_notes, receipts_at, last_taken}
@@ -34,7 +34,7 @@ use Rattle.fbl_law.proofs.Grown.{received_notes-delivered}
 use Rattle.fbl_law.proofs.Notes.{sent-noted}
 use Rattle.fbl_law.proofs.InOrder.{last_taken-push, last_taken-same}
 use Rattle.fbl_law.proofs.Replayed.{replayed-grown}
-use Rattle.fbl_law.proofs.GroupFacts.{table_member, log_counted, front_flight, front_may_follow}
+use Rattle.fbl_law.proofs.GroupFacts.{log_counted, front_flight, front_may_follow}
 
 -- the events of a step are the sends of its messages
 marks_made : (p before : ℕ) (carried : List Entry) (sends : List (ℕ × Note)) → map mark_of (step_events p before sends) ≡ map send_mark (messages_from p before carried sends)
@@ -122,9 +122,6 @@ module _ (next : Next) (old new : GroupRecord) (v : Message) (well : SendsWell n
   other_now : (m : ℕ) → m ≢ v.to → member new m ≡ member old m
   other_now m other = ap (λ ms. get_or ms m blank) s.members ∙ get_or-set_other old.members v.to m (receiver next old v) blank other
 
-  table_now : table (knowledge new) v.to ≡ (receiver next old v).table
-  table_now = table_member new v.to ∙ ap (λ (x : MemberRecord). x.table) receiver_now
-
   pub is_delivered : IsDelivered n old.config.f (knowledge old) (knowledge new) v (was.received + 1) (made next old v)
   is_delivered = record {
     nobody_down = s.nobody_down;
@@ -132,11 +129,11 @@ module _ (next : Next) (old new : GroupRecord) (v : Message) (well : SendsWell n
     front = s.front;
     trace = marks_now;
     rules = is_lawful.well_formed;
-    receiver = rw (table_now, table_member old v.to) refl;
-    others = λ m other. table_member new m ∙ ap (λ (x : MemberRecord). x.table) (other_now m other) ∙ sym (table_member old m);
+    receiver = ap (λ (x : MemberRecord). x.table) receiver_now;
+    others = λ m other. ap (λ (x : MemberRecord). x.table) (other_now m other);
     messages = λ x among.
         let r = made_event v.to (length was.log) (piggybacked old.config.f (receiver next old v).table) sends x among in
-        (r.0, r.1 ∙ ap (piggybacked old.config.f) (sym table_now));
+        (r.0, r.1 ∙ ap (λ (x : MemberRecord). piggybacked old.config.f x.table) (sym receiver_now));
     channels = s.channels;
     checkpoints = s.checkpoints;
   }

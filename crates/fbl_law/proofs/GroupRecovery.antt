@@ -20,7 +20,6 @@ use Rattle.fbl_law.proofs.Safe.{down_or_up, never_both, IsRecorded-reached}
 use Rattle.fbl_base.proofs.Sifted.{length-left}
 use Rattle.fbl_law.proofs.Cut.{KeepsCauses}
 use Rattle.fbl_law.proofs.CutLaw.{cut_is_lawful, stays_is_recorded}
-use Rattle.fbl_law.proofs.GroupFacts.{table_member}
 use Rattle.fbl_law.proofs.Recover.{recovery_keeps, cut_is_recorded}
 use Rattle.fbl_law.proofs.Replayed.{replayed-cut}
 use Rattle.fbl_law.proofs.CutFolds.{actions-stay, last_taken-stays, note-stays, note-was}
@@ -60,12 +59,12 @@ module _ (next : Next) (old new : GroupRecord) (step : IsRecovery next old new) 
   recovery-knowledge = record {
     nobody_down = step.nobody_down;
     trace = (cut-lawful next old sound new.trace step.trace).1;
-    tables = λ m up. table_member new m ∙ ap (λ (x : MemberRecord). x.table) (step.survivors m up) ∙ sym (table_member old m);
-    gathered = λ m down. table_member new m ∙ step.gathered m (down-member m down) down;
+    tables = λ m up. ap (λ (x : MemberRecord). x.table) (step.survivors m up);
+    gathered = λ m down. step.gathered m (down-member m down) down;
     channels = step.channels;
     rebuilt = λ q p down. (step.made_again q p down).sends;
     checkpoints = step.checkpoints;
-    messages = λ v flies down. (step.made_again v.from v.to down).carried v flies ∙ ap (λ c. piggybacked c (member new v.from).table) (let e = step.config in rw e refl) ∙ ap (λ t. piggybacked old.config.f t) (sym (table_member new v.from));
+    messages = λ v flies down. (step.made_again v.from v.to down).carried v flies ∙ ap (λ c. piggybacked c (member new v.from).table) (let e = step.config in rw e refl);
   }
 
   fold-stays : (m : ℕ) → IsUp (knowledge old) m → IsFold next old m → IsFold next new m

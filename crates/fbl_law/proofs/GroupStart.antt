@@ -32,7 +32,6 @@ use Rattle.fbl_law.proofs.Lists.{Contains-cons_cases, Contains-from_filter, Cont
 use Rattle.fbl_law.proofs.Safe.{never_both}
 use Rattle.fbl_law.proofs.Run.{run_is_sound}
 use Rattle.fbl_law.proofs.Notes.{sent-noted}
-use Rattle.fbl_law.proofs.GroupFacts.{table_member}
 use Rattle.fbl_law.proofs.Logs.{length-numbered, log-length}
 use Rattle.fbl_law.proofs.Replayed.{replayed-fresh}
 use Rattle.fbl_law.proofs.Channels.{messages_between}
@@ -156,7 +155,7 @@ module _ (next : Next) (config : Settings) (r : GroupRecord) (is : IsConfig conf
     mapped (e ∷ t) = ap (λ ys. cons_option (determinant_of (mark_of e)) ys) (mapped t)
 
   no_table : (m : ℕ) → table (knowledge r) m ≡ []
-  no_table m = table_member r m ∙ elim (cases_lt m n) [
+  no_table m = elim (cases_lt m n) [
     | inl below ↦ ap (λ (x : MemberRecord). x.table) (s.members m below)
     | inr above ↦ ap (λ (x : MemberRecord). x.table) (get_or_past r.members m blank (omega (arith, above, s.size)))
   ]

@@ -18,12 +18,12 @@ use Rattle.fbl_law.proofs.Safe.{never_both, no_orphan, IsRecorded-before, IsReco
 use Rattle.fbl_law.proofs.Decide.{IsAlwaysHeld-closed}
 use Rattle.fbl_law.proofs.Strike.{strike_keeps}
 use Rattle.fbl_law.proofs.Survivors.{survivors_record}
-use Rattle.fbl_law.proofs.GroupFacts.{table_member, held-Names}
+use Rattle.fbl_law.proofs.GroupFacts.{held-Names}
 use Rattle.fbl_law.proofs.GroupStrike.{is_struck}
 
 -- what a table names, the member holds
 pub is_held_by : (r : GroupRecord) (d : Determinant) (m : ℕ) → Names (table (knowledge r) m) d → IsHeldBy r d m
-is_held_by r d m named = held-Names (member r m).table d (rw (table_member r m) at named)
+is_held_by r d m named = held-Names (member r m).table d named
 
 pub sound_is_always_held : SoundIsAlwaysHeld
 sound_is_always_held next r sound = IsAlwaysHeld-closed r.config.f (knowledge r) sound.causes.closed

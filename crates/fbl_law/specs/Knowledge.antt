@@ -3,7 +3,7 @@
 -- on it is the always-no-orphans condition, of Alvisi and Marzullo, Message Logging: Pessimistic, Optimistic, Causal and
 -- Optimal (IEEE TSE 24(2), 1998). Checkpoints and orphans are those of Elnozahy, Alvisi, Wang and Johnson (ACM CSUR
 -- 34(3), 2002).
-use Rattle.std.specs.Prelude.{◌≡◌, ℕ, ◌<◌, ◌≤◌, ◌⊎◌, true, false, List, [], length, get_or, slice_index_or, map, ⊤}
+use Rattle.std.specs.Prelude.{◌≡◌, ℕ, ◌<◌, ◌≤◌, ◌⊎◌, true, false, List, [], length, slice_index_or, map, ⊤}
 use Rattle.std.specs.List.{Contains}
 use Rattle.std.specs.Ordering.{nat_cmp}
 use Rattle.std.specs.FinSet as set
@@ -25,18 +25,18 @@ Members = set.FinSet nat_cmp
 abbrev pub Includes : Members → ℕ → Type 0
 Includes s m = set.contains s m ≡ true
 
--- what the laws of causes speak of: the group's trace, each member's table and its checkpoint, the channel of each pair
--- of members, and who is down
+-- what the laws of causes speak of: the group's trace, the members' records (of which they read the tables) and their
+-- checkpoints, the channel of each pair of members, and who is down
 pub record Knowledge : Type 0 where
   pub trace : List Mark
-  pub tables : List (List Entry)
+  pub members : List MemberRecord
   pub checkpoints : List MemberRecord
   pub channel : ℕ → ℕ → List Message
   pub down : Members
 
 -- the table of a member
 abbrev pub table : Knowledge → ℕ → List Entry
-table r m = get_or r.tables m []
+table r m = (slice_index_or r.members m blank).table
 
 -- the checkpoint of a member (Elnozahy and others 2002): its record as it was at an earlier time, at first its fresh one,
 -- which no strike empties and from which it recovers
