@@ -28,7 +28,7 @@ use Rattle.fbl_law.proofs.GroupCheckpoint.{checkpoint_is_recorded}
 use Rattle.fbl_law.proofs.GroupRecovery.{cut-causes, cut-lawful, fold-survives}
 use Rattle.fbl_law.proofs.Replayed.{replayed-cut, fold-received, fold-replayed, replayed-fold}
 use Rattle.fbl_law.proofs.Replaying.{recorded-cut, found-next, replay-room, replayed-next, replays-log, all-replayed}
-use Rattle.fbl_law.proofs.Counting.{is_of, count_in-none, count_in-same, count_in-most, count_in-step, replayed-most, replayed-count, to-replay-short}
+use Rattle.fbl_law.proofs.Counting.{is_of, count_in-same, count_in-most, count_in-step, replayed-most, replayed-count, to-replay-short}
 use Rattle.fbl_law.proofs.CutTrace.{recovered_trace-cut}
 use Rattle.fbl_law.proofs.CutCounts.{filter-agree, stays_by-cut}
 use Rattle.fbl_law.proofs.MadeAgain.{made-again, made-again-outside}
@@ -101,11 +101,6 @@ module _ (next : Next) (old : GroupRecord) (sound : IsSound next old) where
     replayed = λ p below down. subst (Replays p) (sym (begins p below down)) (checkpoint-replays p below);
     begun = λ p below down. (let e = ap (λ (m : MemberRecord). m.received) (begins p below down) in omega (arith, e));
   }
-
-  pub replayed_in-start : (rebuilt : List MemberRecord) → ((p : ℕ) → p < old.config.members → IsDown (knowledge old) p → slice_index_or rebuilt p blank ≡ checkpoint old p) → replayed_in old rebuilt ≡ 0
-  replayed_in-start rebuilt begins =
-      count_in-same old.down (λ p. (slice_index_or rebuilt p blank).received - (checkpoint old p).received) (λ p. 0) old.config.members (λ p below down. (let e = ap (λ (m : MemberRecord). m.received) (begins p below down) in omega (arith, e)))
-      ∙ count_in-none old.down old.config.members
 
   -- what the gathered tables find is the next receipt
   pub replaying-next : (rebuilt : List MemberRecord) (p : ℕ) (d : Determinant) → IsReplaying next old rebuilt → p < old.config.members → IsDown (knowledge old) p

@@ -150,10 +150,6 @@ module _ (next : Next) (old : GroupRecord) (sound : IsSound next old) (new : Lis
       let left : length new ≤ length old.trace = (let e = cut.1 in rw e (length-left (λ x. cut.0 (mark_of x)) old.trace)) in
       omega (arith, left, sound.room, sound.config.limit.1, length-map new mark_of)
 
-  -- a replaying member's counts are within their bounds
-  pub replays-received : (p : ℕ) (m : MemberRecord) → Replays p m → m.received ≤ 8192
-  replays-received p m replayed = omega (arith, replayed.within, length-receipts_at (map mark_of new) p, count_by-le-length (is_receipt_of p) (map mark_of new), cut-short)
-
   pub replays-log : (p : ℕ) (m : MemberRecord) → Replays p m → length m.log ≤ 8192
   replays-log p m replayed =
       let log : length m.log ≡ length (after_notes next p old.config.members old.config.starts (take m.received (received_notes new p))).log = ap (λ (x : Progress). length x.log) replayed.progress in
