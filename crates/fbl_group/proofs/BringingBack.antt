@@ -138,18 +138,20 @@ module _ (next : Next) (old : GroupRecord) (sound : IsSound next old) where
 
       is_rebuilt : IsRebuilt old new rebuilt
       is_rebuilt = record {
-        nobody_down = down;
+        rest = record {
+          nobody_down = down;
+          size = members.size;
+          survivors = members.kept;
+          shape = replaced.shape;
+          channels = survive;
+          config = config;
+          receipts_ever = receipts_ever;
+          undone_ever = omega (arith, undone_ever, undone_is, marks_left);
+          checkpoints = checkpoints;
+        };
         trace = trace ∙ left-is;
-        size = members.size;
-        survivors = members.kept;
         rebuilt = λ m below is. members.put m (omega (arith, below, sound.members)) is ∙ with-table (slice_index_or rebuilt m blank) _ (ready.tables m below is);
-        shape = replaced.shape;
-        channels = survive;
         resent = resent_on;
-        config = config;
-        receipts_ever = receipts_ever;
-        undone_ever = omega (arith, undone_ever, undone_is, marks_left);
-        checkpoints = checkpoints;
       }
 
       is_recovery : IsRecovery next old new

@@ -1,9 +1,5 @@
 -- What strikes and recoveries promise.
 use Rattle.std.proofs.Common.{◌≡◌, ℕ, ◌≤◌, ◌||◌, Bool, true, false, length, inl, inr, refl, sym, subst, ap, ◌∙◌, arith}
-use Rattle.std.specs.FinSet as sets
-use Rattle.std.specs.Ordering.{nat_cmp}
-use Rattle.std.specs.Cmp.{nat_cmp_total}
-use Rattle.fbl_base.specs.MemberSets.{same_from_contains}
 use Rattle.fbl_base.specs.Fold.{Next}
 use Rattle.fbl_member.specs.Members.{MemberRecord}
 use Rattle.fbl_law.specs.Knowledge.{Includes, IsUp, Names, table, Members}
@@ -24,20 +20,8 @@ use Rattle.fbl_group.specs.Promises.{SurvivorsHold, RecordsFirst, RecordsCauses,
 module _ (next : Next) (r : GroupRecord) (sound : IsSound next r) where
   pub survivors_hold : SurvivorsHold r
   survivors_hold m d up depends =
-      let same : sets.union r.down sets.empty ≡ r.down = same_from_contains (sets.union r.down sets.empty) r.down nobody_more in
-      let few : sets.len (sets.union r.down sets.empty) ≤ r.config.f = subst (λ (s : Members). sets.len s ≤ r.config.f) (sym same) sound.causes.down.few in
-      let out : ¬ (Includes (sets.union r.down sets.empty) m) = λ down. never_both r.down m (subst (λ (s : Members). Includes s m) same down) up in
-      let one = survivors_record r.config.members r.config.f (knowledge r) sets.empty sound.causes few m d out depends in
-      elim (down_or_up r.down one.0) [
-        | inl down ↦ absurd (one.1 (subst (λ (s : Members). Includes s one.0) (sym same) down))
-        | inr is ↦ (one.0, (is, one.2))
-      ]
-    where
-      nobody_more : (q : ℕ) → sets.contains (sets.union r.down sets.empty) q ≡ sets.contains r.down q
-      nobody_more q = sets.contains-union {R = nat_cmp} nat_cmp_total r.down sets.empty q ∙ ap (λ b. sets.contains r.down q || b) (sets.contains-empty nat_cmp q) ∙ or_false (sets.contains r.down q) where
-        or_false : (b : Bool) → (b || false) ≡ b
-        or_false true = refl
-        or_false false = refl
+      let one = survivors_record r.config.members r.config.f (knowledge r) r.down sound.causes (λ q down. down) sound.causes.down.few m d (λ down. never_both r.down m down up) depends in
+      elim (down_or_up r.down one.0) [ inl down ↦ absurd (one.1 down) | inr is ↦ (one.0, (is, one.2)) ]
 
   pub records_first : RecordsFirst r
   records_first c d there same before recorded = recorded_is_prefix next r c d sound there same before recorded

@@ -1,9 +1,8 @@
 -- Dumps of a sound group.
-use Rattle.std.proofs.Common.{◌≡◌, ℕ, zero, suc, ◌+◌, ◌*◌, ◌<◌, ◌≤◌, false, List, [], ◌∷◌, ◌++◌, length, map, inl, inr, Some, slice_get, get_or, refl, sym, subst, ap, ◌∙◌, arith, append_assoc, append-nil, length-append}
+use Rattle.std.proofs.Common.{◌≡◌, ℕ, zero, suc, ◌+◌, ◌*◌, ◌<◌, ◌≤◌, List, [], ◌∷◌, ◌++◌, length, map, inl, inr, Some, slice_get, get_or, refl, sym, subst, ap, ◌∙◌, arith, append_assoc, append-nil, length-append}
 use Rattle.std.specs.List.{Contains, IsDistinct}
 use Rattle.std.specs.Bool.{Decides}
 use Rattle.std.specs.Cmp.{IsEquivalence}
-use Rattle.std.specs.FinSet as sets
 use Rattle.std.proofs.lemmas.Bool.Decides.{same_from_decides}
 use Rattle.std.proofs.lemmas.List.{length-map}
 use Rattle.std.proofs.lemmas.List.Elements.{Contains-append_left, Contains-append_right}
@@ -18,16 +17,14 @@ use Rattle.fbl_base.specs.Audit.{IsLost, HeldAt}
 use Rattle.fbl_base.proofs.Gets.{map-At, filter_map-At, At-below}
 use Rattle.fbl_base.proofs.LawfulLaws.{filter_map-shorter}
 use Rattle.fbl_base.proofs.Recorded.{Decides-same_determinant}
-use Rattle.fbl_base.proofs.Sizes.{len-within}
 use Rattle.fbl_table.specs.declared.entry.Entry.{Entry}
 use Rattle.fbl_member.specs.Members.{Message, MemberRecord, blank}
-use Rattle.fbl_law.specs.Knowledge.{Members, Includes, IsDown, IsInFlight, Names}
+use Rattle.fbl_law.specs.Knowledge.{Members, IsInFlight, Names}
 use Rattle.fbl_law.specs.Groups.{GroupRecord, member, marks, knowledge, receipts}
 use Rattle.fbl_law.specs.Sound.{IsSound}
 use Rattle.fbl_law.specs.Dumps.{pairs_of, pairs_from, held_pairs, dump_of, HasDistinctTables, DumpObeysRules, DumpHasNoOrphan}
 use Rattle.fbl_law.proofs.Lists.{At-append, Contains-at, Contains-map, Contains-changed, Contains-none}
-use Rattle.fbl_law.proofs.Safe.{down_or_up}
-use Rattle.fbl_law.proofs.Tables.{Includes-union, Includes-right}
+use Rattle.fbl_law.proofs.Safe.{down_or_up, never_both}
 use Rattle.fbl_law.proofs.Survivors.{survivors_record}
 use Rattle.fbl_law.proofs.GroupFacts.{named_received, carried_received, trace_fits}
 
@@ -129,19 +126,11 @@ dump_obeys_rules next r strike sound distinct within = record {
   strike = within;
 }
 
--- the set of those struck with those that are down is the strike set
-union_few : (r : GroupRecord) (strike : Members) → ((q : ℕ) → IsDown (knowledge r) q → Includes strike q) → sets.len (sets.union r.down strike) ≤ sets.len strike
-union_few r strike covers = len-within (sets.len (sets.union r.down strike)) (sets.union r.down strike) strike refl (λ q h. elim (Includes-union r.down strike q h) [ inl down ↦ covers q down | inr struck ↦ struck ])
-
 pub dump_has_no_orphan : DumpHasNoOrphan
 dump_has_no_orphan next r strike m sound covers few orphan = at orphan.1.0 orphan.1.1 orphan.1.2 where
-  out : (q : ℕ) → sets.contains strike q ≡ false → ¬ (Includes (sets.union r.down strike) q)
-  out q apart h = elim (Includes-union r.down strike q h) [ inl down ↦ (let is = covers q down in cc) | inr struck ↦ cc ]
-
   at : (e : Mark) → IsLost (dump_of r strike) e → Depends (marks r) m e → ⊥
   at (Send from ssn to) lost depends = absurd lost
   at (Receipt to rsn from ssn) lost depends =
       let d : Determinant = record { from = from; ssn = ssn; to = to; rsn = rsn } in
-      let less = union_few r strike covers in
-      let one = survivors_record r.config.members r.config.f (knowledge r) strike sound.causes (omega (arith, less, few)) m d (out m orphan.0) depends in
-      lost (one.0, held_pairs-Names r one.0 d one.2, elim (down_or_up strike one.0) [ inl struck ↦ absurd (one.1 (Includes-right r.down strike one.0 struck)) | inr apart ↦ apart ])
+      let one = survivors_record r.config.members r.config.f (knowledge r) strike sound.causes covers few m d (λ h. never_both strike m h orphan.0) depends in
+      lost (one.0, held_pairs-Names r one.0 d one.2, elim (down_or_up strike one.0) [ inl struck ↦ absurd (one.1 struck) | inr apart ↦ apart ])

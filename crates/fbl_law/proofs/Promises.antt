@@ -51,8 +51,8 @@ no_survivor_is_orphan next old new struck m sound s few =
     no_orphan old.config.f (knowledge new) keeps.closed m
 
 pub survivors_hold : AnySurvivorsHold
-survivors_hold next r struck m d sound few out depends =
-    let one = survivors_record r.config.members r.config.f (knowledge r) struck sound.causes few m d out depends in
+survivors_hold next r s m d sound covers few out depends =
+    let one = survivors_record r.config.members r.config.f (knowledge r) s sound.causes covers few m d out depends in
     (one.0, one.1, is_held_by r d one.0 one.2)
 
 -- the numbers of a member's receipts rise

@@ -203,11 +203,11 @@ module _ (next : Next) (old : GroupRecord) (sound : IsSound next old) where
     -- so a group with these records, and with channels made again, is the group recovered
     module _ (new : GroupRecord) (step : IsRebuilt old new rebuilt) where
       is-lawful : Lawful next new.config.members new.config.starts new.trace
-      is-lawful = (let config : new.config ≡ old.config = step.config in let trace : new.trace ≡ recovered_trace old = step.trace in rw (config, trace) lawful)
+      is-lawful = (let config : new.config ≡ old.config = step.rest.config in let trace : new.trace ≡ recovered_trace old = step.trace in rw (config, trace) lawful)
 
       rebuilt-fold : (m : ℕ) → m < old.config.members → IsDown (knowledge old) m → IsFold next new m
       rebuilt-fold m below down =
-          let config : new.config ≡ old.config = step.config in
+          let config : new.config ≡ old.config = step.rest.config in
           let trace : new.trace ≡ recovered_trace old = step.trace in
           let is : member new m ≡ record (slice_index_or rebuilt m blank) { table = gathered_table old } = step.rebuilt m below down in
           replayed-fold next new m is-lawful.well_formed
@@ -217,38 +217,30 @@ module _ (next : Next) (old : GroupRecord) (sound : IsSound next old) where
       fold-all : (m : ℕ) → m < old.config.members → IsFold next new m
       fold-all m below = elim (down_or_up old.down m) [
         | inl down ↦ rebuilt-fold m below down
-        | inr up ↦ fold-survives next old sound (recovered_trace old) cut new m up step.trace step.config (step.survivors m up) (sound.folds m below up)
+        | inr up ↦ fold-survives next old sound (recovered_trace old) cut new m up step.trace step.rest.config (step.rest.survivors m up) (sound.folds m below up)
       ]
 
       outside : (q p : ℕ) → (old.config.members ≤ q) ⊎ (old.config.members ≤ p) → channel new q p ≡ []
-      outside q p out = channel-outside old.config.members new.channels q p step.shape out
+      outside q p out = channel-outside old.config.members new.channels q p step.rest.shape out
 
       made : (q p : ℕ) → IsDown (knowledge old) q ⊎ IsDown (knowledge old) p → IsMadeAgain new q p
       made q p down = elim (cases_lt q old.config.members) [
-        | inr past ↦ made-again-outside new q p is-lawful.well_formed (inl (let config : new.config ≡ old.config = step.config in rw config past)) (outside q p (inl past))
+        | inr past ↦ made-again-outside new q p is-lawful.well_formed (inl (let config : new.config ≡ old.config = step.rest.config in rw config past)) (outside q p (inl past))
         | inl below_q ↦ elim (cases_lt p old.config.members) [
-          | inr past ↦ made-again-outside new q p is-lawful.well_formed (inr (let config : new.config ≡ old.config = step.config in rw config past)) (outside q p (inr past))
+          | inr past ↦ made-again-outside new q p is-lawful.well_formed (inr (let config : new.config ≡ old.config = step.rest.config in rw config past)) (outside q p (inr past))
           | inl below_p ↦
               made-again next new is-lawful q p (fold-all q below_q) (fold-all p below_p) (omega (arith, below_q, sound.config.members.1))
-              (step.resent q p down below_q below_p ∙ ap (λ f. resent_to f q p (member new q) (member new p)) (let config : new.config ≡ old.config = step.config in rw config refl))
+              (step.resent q p down below_q below_p ∙ ap (λ f. resent_to f q p (member new q) (member new p)) (let config : new.config ≡ old.config = step.rest.config in rw config refl))
         ]
       ]
 
       pub recovery-made : IsRecovery next old new
       recovery-made = record {
-        nobody_down = step.nobody_down;
+        rest = step.rest;
         trace = (let trace : new.trace ≡ recovered_trace old = step.trace in rw trace cut);
-        size = step.size;
-        survivors = step.survivors;
         folds = rebuilt-fold;
         gathered = λ m below down. ap (λ (x : MemberRecord). x.table) (step.rebuilt m below down);
-        shape = step.shape;
-        channels = step.channels;
         made_again = made;
-        config = step.config;
-        receipts_ever = step.receipts_ever;
-        undone_ever = step.undone_ever;
-        checkpoints = step.checkpoints;
       }
 
 pub replay_begins : ReplayBegins

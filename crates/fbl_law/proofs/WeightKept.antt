@@ -12,7 +12,6 @@ use Rattle.fbl_base.specs.declared.trace.Event.{Event}
 use Rattle.fbl_base.specs.declared.trace.Event.TheVariants.{Send, Receipt}
 use Rattle.fbl_base.specs.declared.trace.Mark.{Mark}
 use Rattle.fbl_base.specs.declared.trace.Mark.TheVariants as mark
-use Rattle.fbl_base.specs.Configs.{Settings}
 use Rattle.fbl_base.specs.Events.{mark_of}
 use Rattle.fbl_base.specs.Rules.{WellFormed, MayFollow, in_flight}
 use Rattle.fbl_base.specs.Fold.{Next, Progress, Action, took, sent, Lawful, action_of, actions_of, notes_of, note_of, responses, starts_of}
@@ -27,7 +26,7 @@ use Rattle.fbl_law.specs.Groups.{GroupRecord, member, channel, marks, knowledge,
 use Rattle.fbl_law.specs.Sound.{IsSound, received_notes}
 use Rattle.fbl_law.proofs.GroupFacts.{all_up, channel_ends, same_channel}
 use Rattle.fbl_law.proofs.Lists.{Contains-here, Contains-there}
-use Rattle.fbl_law.proofs.Safe.{down_or_up, never_both}
+use Rattle.fbl_law.proofs.Safe.{down_or_up}
 use Rattle.fbl_law.proofs.KeptByStep.{Came, all-came, receipt-mark}
 use Rattle.fbl_law.proofs.Notes.{sent-noted, send-mark}
 use Rattle.fbl_law.proofs.Resending.{sum_below-agree}

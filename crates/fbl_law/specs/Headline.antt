@@ -8,7 +8,7 @@ use Rattle.fbl_base.specs.Events.{receipt_of}
 use Rattle.fbl_base.specs.Precedence.{Has, Depends}
 use Rattle.fbl_base.specs.Fold.{Next}
 use Rattle.fbl_table.specs.Tables.{is_held}
-use Rattle.fbl_law.specs.Knowledge.{Members, Includes, IsRecorded, IsAlwaysHeld, IsOrphan}
+use Rattle.fbl_law.specs.Knowledge.{Members, Includes, IsDown, IsRecorded, IsAlwaysHeld, IsOrphan}
 use Rattle.fbl_law.specs.Groups.{GroupRecord, member, marks, knowledge}
 use Rattle.fbl_law.specs.GroupSteps.{IsStrike}
 use Rattle.fbl_law.specs.Sound.{IsSound}
@@ -43,14 +43,13 @@ NoSurvivorIsOrphan =
     (next : Next) (old new : GroupRecord) (struck : Members) (m : ℕ)
     → IsSound next old → IsStrike old new struck → set.len new.down ≤ old.config.f → ¬ (IsOrphan (knowledge new) m)
 
--- whichever members are struck, at most f with those that are down: what a member depends on that is not among these, the
--- table of such a member has
+-- whichever at most f members have those that are down among them: what another member depends on, the table of another
+-- member has
 abbrev pub AnySurvivorsHold : Type 0
 AnySurvivorsHold =
-    (next : Next) (r : GroupRecord) (struck : Members) (m : ℕ) (d : Determinant)
-    → IsSound next r → set.len (set.union r.down struck) ≤ r.config.f
-    → ¬ (Includes (set.union r.down struck) m) → Depends (marks r) m (receipt_of d)
-    → (q : ℕ) × ¬ (Includes (set.union r.down struck) q) × IsHeldBy r d q
+    (next : Next) (r : GroupRecord) (s : Members) (m : ℕ) (d : Determinant)
+    → IsSound next r → ((q : ℕ) → IsDown (knowledge r) q → Includes s q) → set.len s ≤ r.config.f
+    → ¬ (Includes s m) → Depends (marks r) m (receipt_of d) → (q : ℕ) × ¬ (Includes s q) × IsHeldBy r d q
 
 -- of the receipts of each member, up or down, those up to a recorded one are recorded
 abbrev pub RecordedIsPrefix : Type 0

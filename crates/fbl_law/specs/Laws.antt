@@ -9,7 +9,7 @@ use Rattle.fbl_base.specs.Events.{mark_of}
 use Rattle.fbl_base.specs.Fold.{Next, Lawful}
 use Rattle.fbl_base.specs.Precedence.{Has, Earlier, Precedes, Depends}
 use Rattle.fbl_base.specs.Events.{receipt_of}
-use Rattle.fbl_law.specs.Knowledge.{Members, Includes, Knowledge, table, Names, Holds, IsHolder, IsRecorded, IsClosed, IsAlwaysHeld, IsOrphan, IsSoundKnowledge}
+use Rattle.fbl_law.specs.Knowledge.{Members, Includes, Knowledge, table, Names, Holds, IsHolder, IsDown, IsRecorded, IsClosed, IsAlwaysHeld, IsOrphan, IsSoundKnowledge}
 use Rattle.fbl_member.specs.Members.{Message}
 use Rattle.fbl_law.specs.Steps.{IsDelivered, IsStruck, IsCheckpointed, IsRecovered, Stays, IsCut, IsEventCut}
 use Rattle.fbl_base.specs.Rules.{WellFormed}
@@ -34,13 +34,12 @@ abbrev pub RecordedFirst : Type 0
 RecordedFirst =
     (f : ℕ) (r : Knowledge) → IsClosed f r → (c d : Determinant) → c.to ≡ d.to → Earlier r.trace (receipt_of c) (receipt_of d) → IsRecorded r d → IsRecorded r c
 
--- whichever members were struck, at most f with those that are down: what a member depends on that is not among these, the
--- table of such a member has
+-- whichever at most f members have those that are down among them: what another member depends on, the table of another
+-- member has
 abbrev pub SurvivorsRecord : Type 0
 SurvivorsRecord =
-    (n f : ℕ) (r : Knowledge) (struck : Members) → IsSoundKnowledge n f r → set.len (set.union r.down struck) ≤ f
-    → (m : ℕ) (d : Determinant) → ¬ (Includes (set.union r.down struck) m) → Depends r.trace m (receipt_of d)
-    → (q : ℕ) × ¬ (Includes (set.union r.down struck) q) × Names (table r q) d
+    (n f : ℕ) (r : Knowledge) (s : Members) → IsSoundKnowledge n f r → ((q : ℕ) → IsDown r q → Includes s q) → set.len s ≤ f
+    → (m : ℕ) (d : Determinant) → ¬ (Includes s m) → Depends r.trace m (receipt_of d) → (q : ℕ) × ¬ (Includes s q) × Names (table r q) d
 
 -- a delivery keeps a record sound
 abbrev pub DeliveryKeeps : Type 0
