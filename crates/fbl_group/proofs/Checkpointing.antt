@@ -6,7 +6,7 @@ use Rattle.std.proofs.lemmas.Bool.Decides.{nat_tests}
 use Rattle.fbl_base.specs.Fold.{Next}
 use Rattle.fbl_member.specs.Members.{MemberRecord, blank}
 use Rattle.fbl_law.specs.Groups.{GroupRecord, member}
-use Rattle.fbl_law.specs.Sound.{IsSound}
+use Rattle.fbl_law.specs.Sound.{IsCheckpointFold, IsSound}
 use Rattle.fbl_law.specs.GroupSteps.{IsCheckpoint}
 use Rattle.fbl_law.proofs.GroupCheckpoint.{group_checkpoint_keeps}
 use Rattle.fbl_group.specs.declared.refusals.CheckpointRefusal.TheVariants.{BadMember, Down}
@@ -48,3 +48,6 @@ module _ (next : Next) (old : GroupRecord) (sound : IsSound next old) (p : ℕ) 
 
   pub is_sound : IsSound next (record old { checkpoints = slice_set old.checkpoints place copy })
   is_sound = group_checkpoint_keeps next old (record old { checkpoints = slice_set old.checkpoints place copy }) p is_checkpoint sound
+
+  pub is_fold : IsCheckpointFold next (record old { checkpoints = slice_set old.checkpoints place copy }) p
+  is_fold = is_sound.saved p may.below

@@ -8,13 +8,13 @@ use Rattle.fbl_law.specs.Knowledge.{Knowledge, Store, in_table, in_message, in_c
 use Rattle.fbl_law.specs.Steps.{IsCheckpointed}
 use Rattle.fbl_law.specs.Laws.{CheckpointKeeps}
 use Rattle.fbl_law.proofs.Safe.{never_both, nobody_down_empty}
-use Rattle.fbl_law.proofs.Keeping.{KeepsHolders, IsSameStore, IsSoundAt, sound_kept, truth_everywhere, closed_everywhere}
+use Rattle.fbl_law.proofs.Keeping.{KeepsKnowledge, IsSameStore, IsSoundAt, sound_kept, truth_everywhere, closed_everywhere}
 
 module _ (n f : ℕ) (old new : Knowledge) (p : ℕ) (s : IsCheckpointed old new p) (sound : IsSoundKnowledge n f old) where
   was_up : (m : ℕ) → IsUp old m
   was_up m = rw s.nobody_down (set.contains-empty nat_cmp m)
 
-  keeps : KeepsHolders f old new
+  keeps : KeepsKnowledge f old new
   keeps = record {
     down = nobody_down_empty f new (s.down ∙ s.nobody_down);
     held = λ d m up holder. elim holder [ inl holds ↦ (up, rw (s.tables m) holds.1) | inr down ↦ never_both old.down m down.0 (was_up m) ];

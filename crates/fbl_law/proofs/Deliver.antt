@@ -25,7 +25,7 @@ use Rattle.fbl_law.proofs.Lists.{Contains-at, Contains-there, Contains-from_filt
 use Rattle.fbl_law.proofs.Channels.{AreSent-matched, made-Has, channel-delivered}
 use Rattle.fbl_law.proofs.Numbered.{count-grown, added-later}
 use Rattle.fbl_law.proofs.Safe.{never_both, nobody_down_empty, recorded_holder, IsRecorded-held}
-use Rattle.fbl_law.proofs.Keeping.{KeepsHolders, IsSoundAt, NamesCauses-kept, IsTrueEntry-kept, sound_kept, sound_passed, truth_everywhere, closed_everywhere}
+use Rattle.fbl_law.proofs.Keeping.{KeepsKnowledge, IsSoundAt, NamesCauses-kept, IsTrueEntry-kept, sound_kept, sound_passed, truth_everywhere, closed_everywhere}
 use Rattle.fbl_law.proofs.Tables.{Includes-insert, Includes-insert_cases, Includes-only, Includes-union, Includes-left, Names-learned_kept, Names-learned_gained, Names-noted_kept, Names-noted, Contains-noted, Names-from_table, learned-keeps}
 
 -- what is left of a channel was in it
@@ -76,7 +76,7 @@ module _ (n f : ℕ) (old new : Knowledge) (v : Message) (rsn : ℕ) (made : Lis
   held : (d : Determinant) (m : ℕ) → IsHolder old d m → Holds new d m
   held d m holder = elim holder [ inl holds ↦ (up m, Names-delivered d m holds.1) | inr was ↦ never_both old.down m was.0 (was_up m) ]
 
-  keeps : KeepsHolders f old new
+  keeps : KeepsKnowledge f old new
   keeps = record {
     down = nobody_down_empty f new s.down;
     held = λ d m up_m. held d m;

@@ -24,8 +24,7 @@ use Rattle.fbl_law.specs.Groups.{GroupRecord, member, marks, knowledge, receipts
 use Rattle.fbl_law.specs.Sound.{IsSound}
 use Rattle.fbl_law.specs.Dumps.{pairs_of, pairs_from, held_pairs, dump_of, HasDistinctTables, DumpObeysRules, DumpHasNoOrphan}
 use Rattle.fbl_law.proofs.Lists.{At-append, Contains-at, Contains-map, Contains-changed, Contains-none}
-use Rattle.fbl_law.proofs.Safe.{down_or_up, never_both}
-use Rattle.fbl_law.proofs.Survivors.{survivors_record}
+use Rattle.fbl_law.proofs.Promises.{any_survivors_hold}
 use Rattle.fbl_law.proofs.GroupFacts.{named_received, carried_received, trace_fits}
 
 -- one more member
@@ -132,5 +131,5 @@ dump_has_no_orphan next r strike m sound covers few orphan = at orphan.1.0 orpha
   at (Send from ssn to) lost depends = absurd lost
   at (Receipt to rsn from ssn) lost depends =
       let d : Determinant = record { from = from; ssn = ssn; to = to; rsn = rsn } in
-      let one = survivors_record r.config.members r.config.f (knowledge r) strike sound.causes covers few m d (λ h. never_both strike m h orphan.0) depends in
-      lost (one.0, held_pairs-Names r one.0 d one.2, elim (down_or_up strike one.0) [ inl struck ↦ absurd (one.1 struck) | inr apart ↦ apart ])
+      let one = any_survivors_hold r.config.members r.config.f (knowledge r) strike sound.causes covers few m d orphan.0 depends in
+      lost (one.0, held_pairs-Names r one.0 d one.2, one.1)

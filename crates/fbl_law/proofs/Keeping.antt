@@ -49,7 +49,7 @@ sound_passed f r v good is = record {
 
 -- a step after which at most f members are down, up members hold what they were holders of, recorded receipts are left,
 -- and each path to an old event is an old path
-pub record KeepsHolders (f : ℕ) (old new : Knowledge) : Type 0 where
+pub record KeepsKnowledge (f : ℕ) (old new : Knowledge) : Type 0 where
   pub down : IsDownEmpty f new
   pub held : (d : Determinant) (m : ℕ) → IsUp new m → IsHolder old d m → Holds new d m
   pub receipts : (d : Determinant) → IsRecorded old d → Has old.trace (receipt_of d) → Has new.trace (receipt_of d)
@@ -62,7 +62,7 @@ pub record IsSameStore (old new : Knowledge) (was now : Store) : Type 0 where
   pub entries : entries new now ≡ entries old was
   pub owes : (b : Mark) → Has new.trace b → Owes new now b → Has old.trace b × Owes old was b
 
-module _ (f : ℕ) (old new : Knowledge) (keeps : KeepsHolders f old new) where
+module _ (f : ℕ) (old new : Knowledge) (keeps : KeepsKnowledge f old new) where
   pub IsHolder-kept : (d : Determinant) (m : ℕ) → IsRecorded new d → IsHolder old d m → IsHolder new d m
   IsHolder-kept d m recorded holder = elim (down_or_up new.down m) [ inl down ↦ inr (down, recorded) | inr up ↦ inl (keeps.held d m up holder) ]
 

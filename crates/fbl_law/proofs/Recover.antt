@@ -22,8 +22,8 @@ use Rattle.fbl_law.proofs.Appended.{Earlier-joined}
 use Rattle.fbl_law.proofs.Gather.{IsGathered, entries_gathered, recorded_gathered}
 use Rattle.fbl_law.proofs.Numbered.{receipt-there, send-there, receipt-number}
 use Rattle.fbl_law.proofs.Safe.{down_or_up, never_both, nobody_down_empty, IsRecorded-depended, IsRecorded-before, IsRecorded-saved, IsRecorded-reached, Has-recorded}
-use Rattle.fbl_law.specs.Laws.{RecoveryKeeps, CutIsClosed, CutIsRecorded, HoldersStay}
-use Rattle.fbl_law.proofs.Keeping.{KeepsHolders, IsSoundAt, sound_kept, sound_passed, truth_everywhere, closed_everywhere}
+use Rattle.fbl_law.specs.Laws.{RecoveryKeeps, CutIsClosed, CutIsRecorded, RecoveryGainsHolders}
+use Rattle.fbl_law.proofs.Keeping.{KeepsKnowledge, IsSoundAt, sound_kept, sound_passed, truth_everywhere, closed_everywhere}
 
 -- an event is a receipt or is none
 receipt_or_send : (e : Mark) → ((d : Determinant) × (e ≡ receipt_of d)) ⊎ ((d : Determinant) → ¬ (e ≡ receipt_of d))
@@ -138,7 +138,7 @@ module _ (n f : ℕ) (old new : Knowledge) (s : IsRecovered f old new) (sound : 
     Holds-recovered d m,
   )
 
-  keeps : KeepsHolders f old new
+  keeps : KeepsKnowledge f old new
   keeps = record {
     down = nobody_down_empty f new s.nobody_down;
     held = λ d m up. Holds-recovered d m;
@@ -255,5 +255,5 @@ cut_is_closed = Has-recovered
 pub cut_is_recorded : CutIsRecorded
 cut_is_recorded = exactly_recorded
 
-pub holders_stay : HoldersStay
-holders_stay = holders_same
+pub recovery_gains_holders : RecoveryGainsHolders
+recovery_gains_holders = holders_same

@@ -6,10 +6,11 @@ use Rattle.std.specs.List.{Contains}
 use Rattle.std.proofs.lemmas.Bool.{cases_Bool}
 use Rattle.fbl_base.specs.declared.trace.Determinant.{Determinant}
 use Rattle.fbl_base.specs.declared.trace.Mark.{Mark}
-use Rattle.fbl_base.specs.Precedence.{Has, Earlier, Precedes, itself, step, Depends}
+use Rattle.fbl_base.specs.Precedence.{Has, Precedes, Depends}
 use Rattle.fbl_base.specs.Events.{member_of, receipt_of}
 use Rattle.fbl_base.proofs.Sizes.{some_member}
 use Rattle.fbl_law.specs.Knowledge.{IsTrueEntry, in_table, in_checkpoint, IsHolder, Members, Includes, Knowledge, table, checkpoint, IsUp, IsDown, Names, Holds, IsRecorded, IsStable, KnowsTruth, IsBeforeCheckpoint, IsClosed, IsOrphan, IsDownEmpty}
+use Rattle.fbl_law.specs.Promises.{RecordsCauses}
 use Rattle.fbl_member.specs.Members.{Message}
 use Rattle.fbl_law.proofs.Lists.{Contains-none}
 use Rattle.fbl_table.specs.declared.entry.Entry.{Entry}
@@ -69,18 +70,13 @@ pub IsRecorded-depended : (f : ℕ) (r : Knowledge) → IsClosed f r → (d : De
 IsRecorded-depended f r closed d m up depends = recorded_by f r d m up (closed.events (in_table m) depends.0 up depends.2 d depends.1)
 
 -- what precedes a recorded receipt is recorded
-pub IsRecorded-before : (f : ℕ) (r : Knowledge) → IsClosed f r → (c d : Determinant) → IsRecorded r d → Precedes r.trace (receipt_of c) (receipt_of d) → IsRecorded r c
+pub IsRecorded-before : (f : ℕ) (r : Knowledge) → IsClosed f r → RecordsCauses r
 IsRecorded-before f r closed c d (inl held) before = recorded_by f r c held.0 held.1.0 (closed.named (in_table held.0) d held.1.0 held.1.1 c before)
 IsRecorded-before f r closed c d (inr saved) before = saved_by f r c saved.0 (closed.named (in_checkpoint saved.0) d tt saved.1 c before)
 
 -- what precedes an event from before its member's checkpoint is recorded
 pub IsRecorded-reached : (f : ℕ) (r : Knowledge) → IsClosed f r → (d : Determinant) (b : Mark) → IsBeforeCheckpoint r b → Precedes r.trace (receipt_of d) b → IsRecorded r d
 IsRecorded-reached f r closed d b reached before = saved_by f r d _ (closed.events (in_checkpoint (member_of b)) b tt (refl, reached) d before)
-
--- so a member's recorded receipts are its first ones
-pub IsRecorded-prefix : (f : ℕ) (r : Knowledge) → IsClosed f r → (c d : Determinant) → c.to ≡ d.to → Earlier r.trace (receipt_of c) (receipt_of d) → IsRecorded r d → IsRecorded r c
-IsRecorded-prefix f r closed c d same earlier recorded =
-    IsRecorded-before f r closed c d recorded (step (itself (earlier.0, earlier.3)) (earlier, inl same))
 
 -- in a closed record no up member is an orphan
 pub no_orphan : (f : ℕ) (r : Knowledge) → IsClosed f r → (m : ℕ) → ¬ (IsOrphan r m)

@@ -6,7 +6,7 @@ use Rattle.fbl_law.specs.Steps.{IsStruck}
 use Rattle.fbl_law.specs.Laws.{StrikeKeeps}
 use Rattle.fbl_law.proofs.Tables.{Includes-left}
 use Rattle.fbl_law.proofs.Safe.{down_or_up, never_both, up_at_ends}
-use Rattle.fbl_law.proofs.Keeping.{KeepsHolders, IsSameStore, IsSoundAt, sound_kept, truth_everywhere, closed_everywhere}
+use Rattle.fbl_law.proofs.Keeping.{KeepsKnowledge, IsSameStore, IsSoundAt, sound_kept, truth_everywhere, closed_everywhere}
 
 module _ (n f : ℕ) (old new : Knowledge) (struck : Members) (s : IsStruck old new struck) (few : set.len new.down ≤ f) (sound : IsSoundKnowledge n f old) where
   stays_down : (m : ℕ) → IsDown old m → IsDown new m
@@ -15,7 +15,7 @@ module _ (n f : ℕ) (old new : Knowledge) (struck : Members) (s : IsStruck old 
   was_up : (m : ℕ) → IsUp new m → IsUp old m
   was_up m up = elim (down_or_up old.down m) [ inl down ↦ never_both new.down m (stays_down m down) up | inr h ↦ h ]
 
-  keeps : KeepsHolders f old new
+  keeps : KeepsKnowledge f old new
   keeps = record {
     down = record { few = few; tables = s.blank; channels = s.emptied };
     held = λ d m up holder. elim holder [ inl holds ↦ (up, rw (s.tables m up) holds.1) | inr was ↦ never_both new.down m (stays_down m was.0) up ];

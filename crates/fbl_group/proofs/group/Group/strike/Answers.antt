@@ -1,11 +1,11 @@
 use Rattle.std.proofs.Common.{◌≡◌, None, sym, subst, refl, ◌∙◌}
 use Rattle.fbl_law.specs.Groups.{GroupRecord}
 use Rattle.fbl_law.specs.GroupSteps.{IsStrike}
-use Rattle.fbl_law.proofs.Promises.{sound_has_no_orphan}
+use Rattle.fbl_law.proofs.Promises.{sound_has_no_orphan, sound_records_first}
 use Rattle.std.specs.Prelude.{count_by}
 use Rattle.fbl_group.specs.Channels.{queued_rows}
 use Rattle.fbl_group.specs.Strikes.{strike_refusal, is_lost_receipt_of}
-use Rattle.fbl_group.proofs.Promised.{survivors_hold, records_first, records_causes}
+use Rattle.fbl_group.proofs.Promised.{survivors_hold, records_causes}
 use Rattle.fbl_group.proofs.Striking.{emptied-by, is_strike, is_sound, count-lost}
 use Rattle.fbl_group.proofs.group.Group.strike.Goals as goal
 
@@ -16,7 +16,7 @@ pub returns-in_err-allow_strike-clause-survivors : goal.returns-in_err-allow_str
 returns-in_err-allow_strike-clause-survivors g c = rw (← c.self.view_is) (survivors_hold g.B.Behaviour.next _ c.self.invariant)
 
 pub returns-in_err-allow_strike-clause-first : goal.returns-in_err-allow_strike-clause-first
-returns-in_err-allow_strike-clause-first g c = rw (← c.self.view_is) (records_first g.B.Behaviour.next _ c.self.invariant)
+returns-in_err-allow_strike-clause-first g c = rw (← c.self.view_is) (sound_records_first g.B.Behaviour.next _ c.self.invariant)
 
 pub returns-in_err-allow_strike-clause-causes : goal.returns-in_err-allow_strike-clause-causes
 returns-in_err-allow_strike-clause-causes g c = rw (← c.self.view_is) (records_causes g.B.Behaviour.next _ c.self.invariant)
@@ -40,6 +40,6 @@ returns g c =
       unchanged = tt;
       no_orphan = λ m. sound_has_no_orphan g.B.Behaviour.next new m sound;
       survivors = survivors_hold g.B.Behaviour.next new sound;
-      first = records_first g.B.Behaviour.next new sound;
+      first = sound_records_first g.B.Behaviour.next new sound;
       causes = records_causes g.B.Behaviour.next new sound;
     }
