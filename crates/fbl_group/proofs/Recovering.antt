@@ -96,10 +96,6 @@ module _ (next : Next) (r : GroupRecord) (sound : IsSound next r) where
           sought ∙ by_number.each p (sound.down p down) down (rsn + 1) ∙ ap (λ b. if b then found p (rsn + 1) (gathered_table r) else None) is-beyond
           ∙ ap (λ k. found p (k + 1) (gathered_table r)) is-received
 
-      -- there is none
-      pub waits-unfound : answer ≡ None → Tries next r p rebuilt rebuilt false
-      waits-unfound none = (refl, λ c found_c. (let e : Some c ≡ None = sym found_c ∙ sym is-looked-up ∙ none in cc))
-
       module _ {d : Determinant} (is : answer ≡ Some d) where
         is-found : found p ((slice_index_or rebuilt p blank).received + 1) (gathered_table r) ≡ Some d
         is-found = sym is-looked-up ∙ is

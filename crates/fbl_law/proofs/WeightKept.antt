@@ -74,9 +74,6 @@ table-at n q p d a b below_q below_p more others =
     (sum_below-at n p d (a q) (b q) below_p more (λ y is. others q y (let self = eqb-self q in rw (self, is) refl)))
     (λ x is. sum_below-agree n (b x) (a x) (λ y less. others x y (rw is refl)))
 
-sum_by-none : {X : Type 0} (f : X → ℕ) → sum_by f [] ≡ 0
-sum_by-none f = refl
-
 -- what flows through the channels, with a weight for each message
 module _ (n : ℕ) (w : ℕ → ℕ → ℕ) where
   abbrev pub weight_in : List Mark → ℕ → ℕ → ℕ
@@ -129,9 +126,6 @@ module _ (n : ℕ) (t : List Event) (g : Action → ℕ) (h : Mark → ℕ) wher
   abbrev pub Fits : Event → Type 0
   Fits (Send q s p x) = (q < n) × (g (sent (p, x)) ≡ h (mark.Send q s p))
   Fits (Receipt p r q s) = (p < n) × ((x : Note) × (note_of t q s ≡ Some x) × (g (took x) ≡ h (mark.Receipt p r q s)))
-
-  done-by : (m : ℕ) → List Event → ℕ
-  done-by m v = sum_by g (filter_map (action_of t m) v)
 
   pub by-member : (v : List Event) → ((i : ℕ) (e : Event) → slice_get v i ≡ Some e → Fits e) → sum_below n (λ m. sum_by g (filter_map (action_of t m) v)) ≡ sum_by h (map mark_of v)
   by-member [] fits = sum_below-none n
