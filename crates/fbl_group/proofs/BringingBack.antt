@@ -22,9 +22,9 @@ use Rattle.fbl_law.specs.Replaying.{is_replayed, stays_by, recovered_trace, coun
 use Rattle.fbl_base.proofs.Sifted.{length-left}
 use Rattle.fbl_law.proofs.GroupRecovery.{recovery-keeps}
 use Rattle.fbl_law.proofs.Undone.{cut-undone}
-use Rattle.fbl_law.proofs.CutTrace.{recovered_trace-cut}
-use Rattle.fbl_law.proofs.Resending.{channel-outside, sum_below-agree, sent_again-agree, sent_again-short}
-use Rattle.fbl_law.proofs.Rebuilding.{with-table, working-log, replayed_in-all, recovered_trace-rebuilt, recovery-made}
+use Rattle.fbl_law.proofs.CutInOnePass.{recovered_trace-cut}
+use Rattle.fbl_law.proofs.ChannelCounts.{channel-outside, sum_below-agree, sent_again-agree, sent_again-short}
+use Rattle.fbl_law.proofs.ReplayLaws.{with-table, working-log, replayed_in-all, recovered_trace-rebuilt, recovery-made}
 use Rattle.fbl_group.specs.declared.answers.Recovered.{Recovered}
 use Rattle.fbl_group.specs.Recoveries.{messages_at, Recovers}
 use Rattle.fbl_group.specs.Channels.{AreReplaced}

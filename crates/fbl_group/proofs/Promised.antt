@@ -9,7 +9,7 @@ use Rattle.fbl_law.specs.Sound.{IsSound}
 use Rattle.fbl_law.specs.GroupSteps.{IsStrike}
 use Rattle.fbl_law.proofs.Safe.{down_or_up, IsRecorded-before}
 use Rattle.fbl_law.proofs.Promises.{sound_survivors_hold}
-use Rattle.fbl_law.proofs.RecoveredLaws.{recovery_undoes_lost}
+use Rattle.fbl_law.proofs.RecoveryLaws.{recovery_undoes_lost}
 use Rattle.fbl_group.specs.declared.answers.Recovered.{Recovered}
 use Rattle.fbl_group.specs.Strikes.{lost_receipts}
 use Rattle.fbl_group.specs.Recoveries.{Recovers}

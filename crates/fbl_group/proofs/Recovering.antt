@@ -16,8 +16,8 @@ use Rattle.fbl_law.specs.Steps.{gathered_all, saved_tables}
 use Rattle.fbl_law.specs.Groups.{GroupRecord, checkpoint, knowledge}
 use Rattle.fbl_law.specs.Sound.{IsSound}
 use Rattle.fbl_law.specs.Replaying.{IsNextReplay, gathered_table, working, IsReplaying, IsWaiting, replayed_in}
-use Rattle.fbl_law.proofs.Gathering.{gathered_all-more, gathered_all-push}
-use Rattle.fbl_law.proofs.Rebuilding.{replaying-start, replaying-next, replaying-room, replaying-step, replayed_in-step, replayed_in-short, replaying-tables}
+use Rattle.fbl_law.proofs.GatheredTables.{gathered_all-more, gathered_all-push}
+use Rattle.fbl_law.proofs.ReplayLaws.{replaying-start, replaying-next, replaying-room, replaying-step, replayed_in-step, replayed_in-short, replaying-tables}
 use Rattle.fbl_group.specs.Rebuilding.{AreByNumber, Tries, Rounds, HasReplayed, IsReady}
 use Rattle.fbl_group.proofs.Queues.{read_any}
 

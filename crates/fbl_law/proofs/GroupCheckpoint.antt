@@ -18,7 +18,7 @@ use Rattle.fbl_law.specs.GroupLaws.{GroupCheckpointKeeps, CheckpointIsRecorded}
 use Rattle.fbl_law.proofs.Safe.{IsRecorded-reached}
 use Rattle.fbl_law.proofs.Checkpoint.{checkpoint_keeps}
 use Rattle.fbl_law.proofs.GroupFacts.{received_counted, log_counted}
-use Rattle.fbl_law.proofs.Replayed.{fold-replayed}
+use Rattle.fbl_law.proofs.ReplayedRecords.{fold-replayed}
 
 -- the receipts of a member's checkpoint are recorded
 pub checkpoint_is_recorded : CheckpointIsRecorded

@@ -18,11 +18,11 @@ use Rattle.fbl_law.specs.GroupSteps.{IsRecovery}
 use Rattle.fbl_law.specs.GroupLaws.{GroupRecoveryKeeps}
 use Rattle.fbl_law.proofs.Safe.{down_or_up, never_both, IsRecorded-reached}
 use Rattle.fbl_base.proofs.Sifted.{length-left}
-use Rattle.fbl_law.proofs.Cut.{KeepsCauses}
-use Rattle.fbl_law.proofs.CutLaw.{cut_is_lawful, stays_is_recorded}
-use Rattle.fbl_law.proofs.Recover.{recovery_keeps, cut_is_recorded}
-use Rattle.fbl_law.proofs.Replayed.{replayed-cut}
-use Rattle.fbl_law.proofs.CutFolds.{actions-stay, last_taken-stays, note-stays, note-was}
+use Rattle.fbl_law.proofs.CutWellFormed.{KeepsCauses}
+use Rattle.fbl_law.proofs.CutStays.{cut_is_lawful, stays_is_recorded}
+use Rattle.fbl_law.proofs.Recovery.{recovery_keeps, cut_is_recorded}
+use Rattle.fbl_law.proofs.ReplayedRecords.{replayed-cut}
+use Rattle.fbl_law.proofs.CutNotes.{actions-stay, last_taken-stays, note-stays, note-was}
 
 -- a cut of a sound group's trace keeps what leads to an event that stays, and the events of up members
 module _ (next : Next) (old : GroupRecord) (sound : IsSound next old) (new : List Event) (cut : IsEventCut (Stays (knowledge old)) old.trace new) where

@@ -33,7 +33,7 @@ use Rattle.fbl_law.proofs.Safe.{never_both}
 use Rattle.fbl_law.proofs.Run.{run_is_sound}
 use Rattle.fbl_law.proofs.Notes.{sent-noted}
 use Rattle.fbl_law.proofs.Logs.{length-numbered, log-length}
-use Rattle.fbl_law.proofs.Replayed.{replayed-fresh}
+use Rattle.fbl_law.proofs.ReplayedRecords.{replayed-fresh}
 use Rattle.fbl_law.proofs.Channels.{messages_between}
 
 -- the send of a start after the events so far

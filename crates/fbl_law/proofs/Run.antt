@@ -10,10 +10,10 @@ use Rattle.fbl_law.specs.Laws.{RunIsSound, RunIsHeld}
 use Rattle.fbl_law.proofs.Lists.{Contains-none}
 use Rattle.fbl_law.proofs.Safe.{no_orphan, nobody_down_empty}
 use Rattle.fbl_law.proofs.Decide.{IsAlwaysHeld-closed}
-use Rattle.fbl_law.proofs.Deliver.{delivery_keeps}
+use Rattle.fbl_law.proofs.Delivery.{delivery_keeps}
 use Rattle.fbl_law.proofs.Strike.{strike_keeps}
 use Rattle.fbl_law.proofs.Checkpoint.{checkpoint_keeps}
-use Rattle.fbl_law.proofs.Recover.{recovery_keeps}
+use Rattle.fbl_law.proofs.Recovery.{recovery_keeps}
 
 pub run_is_sound : RunIsSound
 run_is_sound n f start r s starts = record {

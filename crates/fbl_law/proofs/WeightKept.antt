@@ -29,7 +29,7 @@ use Rattle.fbl_law.proofs.Lists.{Contains-here, Contains-there}
 use Rattle.fbl_law.proofs.Safe.{down_or_up}
 use Rattle.fbl_law.proofs.KeptByStep.{Came, all-came, receipt-mark}
 use Rattle.fbl_law.proofs.Notes.{sent-noted, send-mark}
-use Rattle.fbl_law.proofs.Resending.{sum_below-agree}
+use Rattle.fbl_law.proofs.ChannelCounts.{sum_below-agree}
 
 -- sums over members
 sum_below-plus : (n : ℕ) (a b : ℕ → ℕ) → sum_below n (λ x. a x + b x) ≡ sum_below n a + sum_below n b

@@ -14,7 +14,7 @@ use Rattle.fbl_law.specs.Promises.{SurvivorsHold, RecordsFirst, RecordsCauses, G
 use Rattle.fbl_member.specs.Members.{Message}
 use Rattle.fbl_law.specs.Steps.{IsDelivered, IsStruck, IsCheckpointed, IsRecovered, Stays, IsCut, IsEventCut}
 use Rattle.fbl_base.specs.Rules.{WellFormed}
-use Rattle.fbl_law.specs.Replay.{IsStuck}
+use Rattle.fbl_law.specs.Stuck.{IsStuck}
 use Rattle.fbl_law.specs.Run.{IsStart, Run}
 
 -- in a closed record each receipt is stable, or held by each up member that depends on it

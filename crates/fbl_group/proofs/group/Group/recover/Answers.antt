@@ -3,7 +3,7 @@ use Rattle.std.specs.FinSet as set
 use Rattle.fbl_law.specs.Groups.{GroupRecord}
 use Rattle.fbl_law.specs.Sound.{IsSound}
 use Rattle.fbl_law.proofs.Promises.{sound_records_first}
-use Rattle.fbl_law.proofs.RecoveredLaws.{recovery_leaves_recorded, group_recovery_gains_holders}
+use Rattle.fbl_law.proofs.RecoveryLaws.{recovery_leaves_recorded, group_recovery_gains_holders}
 use Rattle.fbl_group.proofs.BringingBack.{nobody, somebody}
 use Rattle.fbl_group.proofs.Promised.{undoes_lost}
 use Rattle.fbl_group.proofs.group.Group.recover.Goals as goal

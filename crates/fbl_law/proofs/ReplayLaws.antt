@@ -23,16 +23,16 @@ use Rattle.fbl_law.specs.GroupSteps.{IsRecovery, IsMadeAgain}
 use Rattle.fbl_law.specs.Replaying.{IsNextReplay, is_replayed, gathered_table, recovered_trace, stays_by, resent_to, working, IsReplaying, IsWaiting, replayed_in, IsRebuilt}
 use Rattle.fbl_law.specs.RecoveryLaws.{ReplayBegins, ReplayIsRight, ReplayEnds, RebuiltIsRecovered}
 use Rattle.fbl_law.proofs.Safe.{down_or_up}
-use Rattle.fbl_law.proofs.CutFolds.{note-was}
+use Rattle.fbl_law.proofs.CutNotes.{note-was}
 use Rattle.fbl_law.proofs.GroupCheckpoint.{checkpoint_is_recorded}
 use Rattle.fbl_law.proofs.GroupRecovery.{cut-causes, cut-lawful, fold-survives}
-use Rattle.fbl_law.proofs.Replayed.{replayed-cut, fold-received, fold-replayed, replayed-fold}
-use Rattle.fbl_law.proofs.Replaying.{recorded-cut, found-next, replay-room, replayed-next, replays-log, all-replayed}
+use Rattle.fbl_law.proofs.ReplayedRecords.{replayed-cut, fold-received, fold-replayed, replayed-fold}
+use Rattle.fbl_law.proofs.ReplayFromGathered.{recorded-cut, found-next, replay-room, replayed-next, replays-log, all-replayed}
 use Rattle.fbl_law.proofs.Counting.{is_of, count_in-same, count_in-most, count_in-step, replayed-most, replayed-count, to-replay-short}
-use Rattle.fbl_law.proofs.CutTrace.{recovered_trace-cut}
-use Rattle.fbl_law.proofs.CutCounts.{filter-agree, stays_by-cut}
-use Rattle.fbl_law.proofs.MadeAgain.{made-again, made-again-outside}
-use Rattle.fbl_law.proofs.Resending.{channel-outside}
+use Rattle.fbl_law.proofs.CutInOnePass.{recovered_trace-cut}
+use Rattle.fbl_law.proofs.CutByCounts.{filter-agree, stays_by-cut}
+use Rattle.fbl_law.proofs.ChannelsMadeAgain.{made-again, made-again-outside}
+use Rattle.fbl_law.proofs.ChannelCounts.{channel-outside}
 
 -- a replay does not read the table
 pub replayed-table : (next : Next) (n : ℕ) (r : GroupRecord) (trace : List Event) (p : ℕ) (m : MemberRecord) (t : List Entry) → IsReplayed next n r.config.starts trace p m → IsReplayed next n r.config.starts trace p (record m { table = t })

@@ -28,7 +28,7 @@ use Rattle.fbl_law.specs.Replaying.{stops_at, cut_from, gathered_table, recovere
 use Rattle.fbl_law.proofs.GroupFacts.{Names-held, held-Names}
 use Rattle.fbl_law.proofs.Appended.{once}
 use Rattle.fbl_law.proofs.Lists.{At-seam}
-use Rattle.fbl_law.proofs.Gather.{entries_gathered, recorded_gathered}
+use Rattle.fbl_law.proofs.GatheredTables.{entries_gathered, recorded_gathered}
 
 same_mark : Mark → Mark → Bool
 same_mark (Send q k to) (Send q' k' to') = (q == q') && ((k == k') && (to == to'))

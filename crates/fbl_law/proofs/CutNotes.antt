@@ -16,7 +16,7 @@ use Rattle.fbl_base.proofs.Gets.{At-filter}
 use Rattle.fbl_base.proofs.LawfulLaws.{receipts-noted}
 use Rattle.fbl_law.specs.Sound.{last_taken}
 use Rattle.fbl_law.proofs.Lists.{filter-At, filter_map-kept}
-use Rattle.fbl_law.proofs.Cut.{marks-filter, KeepsCauses, WellFormed-kept, map-kept, taken_at}
+use Rattle.fbl_law.proofs.CutWellFormed.{marks-filter, KeepsCauses, WellFormed-kept, map-kept, taken_at}
 use Rattle.fbl_law.proofs.Notes.{noted-sent, sent-noted}
 
 module _ (n : ℕ) (keep : Mark → Bool) (t : List Event) (obeys : WellFormed n (map mark_of t)) (causes : KeepsCauses keep (map mark_of t)) where

@@ -1,7 +1,8 @@
 -- What gathered tables have.
-use Rattle.std.proofs.Common.{◌≡◌, ℕ, zero, suc, ◌<◌, Bool, true, false, cond, List, [], ◌∷◌, ◌++◌, length, map, inl, inr, ◌⊎◌, arith, refl, sym, get_or, subst, ap, ◌∙◌}
+use Rattle.std.proofs.Common.{◌≡◌, ℕ, zero, suc, ◌+◌, ◌<◌, Bool, true, false, cond, List, [], ◌∷◌, ◌++◌, length, take, map, inl, inr, ◌⊎◌, arith, refl, sym, get_or, subst, ap, ◌∙◌}
 use Rattle.std.proofs.lemmas.Bool.{cases_eq}
-use Rattle.std.proofs.lemmas.List.{get_or_default}
+use Rattle.std.specs.Prelude.{slice_index_or}
+use Rattle.std.proofs.lemmas.List.{get_or_default, map_more}
 use Rattle.std.proofs.lemmas.List.Elements.{Contains-get_or, Contains-append_cases, Contains-append_left, Contains-append_right}
 use Rattle.std.specs.List.{Contains}
 use Rattle.std.specs.FinSet as set
@@ -127,3 +128,14 @@ module _ (f : ℕ) (r : Knowledge) (empty : IsDownEmpty f r) where
             (Contains-append_right (map (λ (m : MemberRecord). m.table) r.members) _ (checkpoint r saved.0).table (Contains-saved r.down r.checkpoints (length r.checkpoints) saved.0 (named_record r.checkpoints saved.0 d saved.1) down))
             saved.1
       ]
+
+-- one table more
+pub gathered_all-push : (table : List Entry) (ts : List (List Entry)) (t : List Entry) → gathered_all table (ts ++ t ∷ []) ≡ gathered (gathered_all table ts) t
+gathered_all-push table [] t = refl
+gathered_all-push table (u ∷ ts) t = gathered_all-push (gathered table u) ts t
+
+-- the table of one member more
+pub gathered_all-more : (members : List MemberRecord) (i : ℕ) → i < length members
+    → gathered_all [] (map (λ (m : MemberRecord). m.table) (take (i + 1) members)) ≡ gathered (gathered_all [] (map (λ (m : MemberRecord). m.table) (take i members))) (slice_index_or members i blank).table
+gathered_all-more members i below =
+    ap (gathered_all []) (map_more (λ (m : MemberRecord). m.table) members i blank below) ∙ gathered_all-push [] (map (λ (m : MemberRecord). m.table) (take i members)) (slice_index_or members i blank).table

@@ -29,11 +29,11 @@ use Rattle.fbl_law.specs.GroupSteps.{IsDelivery, step_of, receiver, made, delive
 use Rattle.fbl_law.specs.GroupLaws.{SendsWell, GroupDeliveryKeeps}
 use Rattle.fbl_law.proofs.Lists.{Contains-cons_cases, Contains-none, Contains-from_filter, At-behind}
 use Rattle.fbl_law.proofs.Safe.{never_both}
-use Rattle.fbl_law.proofs.Deliver.{taken_off-was, delivery_keeps}
+use Rattle.fbl_law.proofs.Delivery.{taken_off-was, delivery_keeps}
 use Rattle.fbl_law.proofs.Grown.{received_notes-delivered}
 use Rattle.fbl_law.proofs.Notes.{sent-noted}
 use Rattle.fbl_law.proofs.InOrder.{last_taken-push, last_taken-same}
-use Rattle.fbl_law.proofs.Replayed.{replayed-grown}
+use Rattle.fbl_law.proofs.ReplayedRecords.{replayed-grown}
 use Rattle.fbl_law.proofs.GroupFacts.{log_counted, front_flight, front_may_follow}
 
 -- the events of a step are the sends of its messages

@@ -26,19 +26,19 @@ use Rattle.fbl_law.specs.Knowledge.{Names, IsUp, IsDown, IsRecorded}
 use Rattle.fbl_law.specs.Steps.{Stays, IsEventCut}
 use Rattle.fbl_law.specs.Groups.{GroupRecord, marks, knowledge}
 use Rattle.fbl_law.specs.Sound.{received_notes, receipts_at, IsReplayed, IsSound}
-use Rattle.fbl_law.specs.Replay.{IsSentAgain, IsStuck}
+use Rattle.fbl_law.specs.Stuck.{IsSentAgain, IsStuck}
 use Rattle.fbl_law.specs.Replaying.{IsNextReplay, gathered_table}
 use Rattle.fbl_base.proofs.Sifted.{length-left}
 use Rattle.fbl_law.proofs.Lists.{some-at, Contains-here, Contains-there, Contains-cons_cases, Contains-none}
 use Rattle.fbl_law.proofs.Safe.{down_or_up, IsRecorded-before, Has-recorded}
-use Rattle.fbl_law.proofs.Cut.{marks-filter, Has-kept, kept-Has}
-use Rattle.fbl_law.proofs.CutLaw.{stays_is_recorded}
-use Rattle.fbl_law.proofs.Gather.{entries_gathered, recorded_gathered}
-use Rattle.fbl_law.proofs.Replay.{never_stuck}
+use Rattle.fbl_law.proofs.CutWellFormed.{marks-filter, Has-kept, kept-Has}
+use Rattle.fbl_law.proofs.CutStays.{stays_is_recorded}
+use Rattle.fbl_law.proofs.GatheredTables.{entries_gathered, recorded_gathered}
+use Rattle.fbl_law.proofs.NeverStuck.{never_stuck}
 use Rattle.fbl_law.proofs.GroupRecovery.{cut-lawful}
 use Rattle.fbl_law.proofs.Logs.{length-numbered, logged-noted, logged-by, log-short}
 use Rattle.fbl_law.proofs.Receipts.{receipts_at-number, receipts_at-Has, Has-receipts_at, length-receipts_at}
-use Rattle.fbl_law.proofs.Replayed.{replayed-step}
+use Rattle.fbl_law.proofs.ReplayedRecords.{replayed-step}
 
 -- what a table finds is one of its entries' determinants, of that receipt
 pub found-named : (p k : ℕ) (table : List Entry) (d : Determinant) → found p k table ≡ Some d → Names table d × (d.to ≡ p) × (d.rsn ≡ k)

@@ -25,8 +25,8 @@ use Rattle.fbl_base.proofs.InFlightLaws.{filter_all}
 use Rattle.fbl_base.proofs.LawfulLaws.{filter_map-shorter, receipts-noted, notes_of-sent, notes_of-append, Lawful-begun}
 use Rattle.fbl_law.proofs.Lists.{At-append, At-seam, filter-passes}
 use Rattle.fbl_law.proofs.Appended.{Has-append}
-use Rattle.fbl_law.proofs.Cut.{KeepsCauses, WellFormed-kept, marks-filter}
-use Rattle.fbl_law.proofs.CutFolds.{note-left}
+use Rattle.fbl_law.proofs.CutWellFormed.{KeepsCauses, WellFormed-kept, marks-filter}
+use Rattle.fbl_law.proofs.CutNotes.{note-left}
 use Rattle.fbl_law.proofs.Notes.{noted-sent, send-mark, one-send}
 
 -- an action, and whether it is kept

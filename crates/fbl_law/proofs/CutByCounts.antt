@@ -23,7 +23,7 @@ use Rattle.fbl_law.specs.Groups.{GroupRecord, marks, knowledge}
 use Rattle.fbl_law.specs.Sound.{received_notes, receipts_at, IsReplayed, IsSound}
 use Rattle.fbl_law.specs.Replaying.{stays_by}
 use Rattle.fbl_law.proofs.Lists.{some-at}
-use Rattle.fbl_law.proofs.Cut.{marks-filter, Has-kept, kept-Has}
+use Rattle.fbl_law.proofs.CutWellFormed.{marks-filter, Has-kept, kept-Has}
 use Rattle.fbl_law.proofs.GroupRecovery.{cut-lawful, cut-keeps_up}
 use Rattle.fbl_law.proofs.Logs.{log-has, log-length, logged-noted}
 use Rattle.fbl_law.proofs.Notes.{noted-sent, one-send, send-mark}

@@ -17,9 +17,9 @@ use Rattle.fbl_table.specs.declared.entry.Entry.{Entry}
 use Rattle.fbl_member.specs.Members.{Message}
 use Rattle.fbl_law.specs.Knowledge.{Includes, Knowledge, Store, in_table, in_message, in_checkpoint, IsThere, table, IsInFlight, IsDown, IsUp, Names, Holds, IsRecorded, IsHolder, IsClosed, MatchesTrace, checkpoint, IsBeforeCheckpoint, IsSoundKnowledge, NamesCauses}
 use Rattle.fbl_law.specs.Steps.{Stays, UpTo, IsRecovered}
-use Rattle.fbl_law.proofs.Cut.{Has-kept, kept-Has, KeepsCauses, Has-before, WellFormed-kept, map-kept, taken_at}
+use Rattle.fbl_law.proofs.CutWellFormed.{Has-kept, kept-Has, KeepsCauses, Has-before, WellFormed-kept, map-kept, taken_at}
 use Rattle.fbl_law.proofs.Appended.{Earlier-joined}
-use Rattle.fbl_law.proofs.Gather.{IsGathered, entries_gathered, recorded_gathered}
+use Rattle.fbl_law.proofs.GatheredTables.{IsGathered, entries_gathered, recorded_gathered}
 use Rattle.fbl_law.proofs.Numbered.{receipt-there, send-there, receipt-number}
 use Rattle.fbl_law.proofs.Safe.{down_or_up, never_both, nobody_down_empty, IsRecorded-depended, IsRecorded-before, IsRecorded-saved, IsRecorded-reached, Has-recorded}
 use Rattle.fbl_law.specs.Laws.{RecoveryKeeps, CutIsClosed, CutIsRecorded, RecoveryGainsHolders}

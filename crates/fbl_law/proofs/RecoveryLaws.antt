@@ -8,10 +8,10 @@ use Rattle.fbl_law.specs.Steps.{Stays, IsEventCut}
 use Rattle.fbl_law.specs.Groups.{GroupRecord, marks, knowledge}
 use Rattle.fbl_law.specs.Replaying.{recovered_trace}
 use Rattle.fbl_law.specs.RecoveryLaws.{GroupRecoveryGainsHolders, HoldersGainTheDown, RecoveryLeavesRecorded, RecoveryUndoesLost, OnePassCuts, CutIsOne}
-use Rattle.fbl_law.proofs.Recover.{cut_is_recorded, recovery_gains_holders}
+use Rattle.fbl_law.proofs.Recovery.{cut_is_recorded, recovery_gains_holders}
 use Rattle.fbl_law.proofs.GroupRecovery.{recovery-knowledge}
-use Rattle.fbl_law.proofs.CutTrace.{recovered_trace-cut}
-use Rattle.fbl_law.proofs.CutCounts.{filter-agree, same-test}
+use Rattle.fbl_law.proofs.CutInOnePass.{recovered_trace-cut}
+use Rattle.fbl_law.proofs.CutByCounts.{filter-agree, same-test}
 use Rattle.fbl_law.proofs.Undone.{cut-receipts, cut-undone}
 
 pub group_recovery_gains_holders : GroupRecoveryGainsHolders
