@@ -27,31 +27,40 @@ read_at ms i d m below read = read ∙ read_any ms i d blank below
 
 -- the table of one member more
 pub gathered-step : (ms : List MemberRecord) (i : ℕ) (before after : List Entry) (m : MemberRecord) → i < length ms → m ≡ slice_index_or ms i blank
-    → before ≡ gathered_all [] (map (λ (x : MemberRecord). x.table) (take i ms)) → after ≡ gathered before m.table → after ≡ gathered_all [] (map (λ (x : MemberRecord). x.table) (take (i + 1) ms))
+    → before ≡ gathered_all [] (map (λ (x : MemberRecord). x.table) (take i ms)) → after ≡ gathered before m.table
+        → after ≡ gathered_all [] (map (λ (x : MemberRecord). x.table) (take (i + 1) ms))
 gathered-step ms i before after m below read was is =
-    is ∙ ap (λ (t : List Entry). gathered t m.table) was ∙ ap (λ (x : MemberRecord). gathered (gathered_all [] (map (λ (y : MemberRecord). y.table) (take i ms))) x.table) read ∙ sym (gathered_all-more ms i below)
+    is ∙ ap (λ (t : List Entry). gathered t m.table) was
+        ∙ ap (λ (x : MemberRecord). gathered (gathered_all [] (map (λ (y : MemberRecord). y.table) (take i ms))) x.table) read ∙ sym (gathered_all-more ms i below)
 
 -- some tables, and then others
 gathered_all-then : (t : List Entry) (xs ys : List (List Entry)) → gathered_all t (xs ++ ys) ≡ gathered_all (gathered_all t xs) ys
 gathered_all-then t [] ys = refl
 gathered_all-then t (x ∷ xs) ys = gathered_all-then (gathered t x) xs ys
 
-pub gathered-end : (r : GroupRecord) (i n : ℕ) (before saved after : List Entry) → length r.members ≤ i → length r.checkpoints ≡ n → before ≡ gathered_all [] (map (λ (x : MemberRecord). x.table) (take i r.members))
+pub gathered-end : (r : GroupRecord) (i n : ℕ) (before saved after : List Entry) → length r.members ≤ i → length r.checkpoints ≡ n
+    → before ≡ gathered_all [] (map (λ (x : MemberRecord). x.table) (take i r.members))
     → saved ≡ gathered_all before (saved_tables r.down r.checkpoints n) → after ≡ marked r.down saved → after ≡ gathered_table r
 gathered-end r i n before saved after all size was adds is =
-    let first : before ≡ gathered_all [] (map (λ (x : MemberRecord). x.table) r.members) = was ∙ ap (λ (ms : List MemberRecord). gathered_all [] (map (λ (x : MemberRecord). x.table) ms)) (take_all i r.members all) in
-    is ∙ ap (marked r.down) (adds ∙ ap (λ (t : List Entry). gathered_all t (saved_tables r.down r.checkpoints n)) first ∙ ap (λ k. gathered_all (gathered_all [] (map (λ (x : MemberRecord). x.table) r.members)) (saved_tables r.down r.checkpoints k)) (sym size) ∙ sym (gathered_all-then [] (map (λ (x : MemberRecord). x.table) r.members) (saved_tables r.down r.checkpoints (length r.checkpoints))))
+    let first : before ≡ gathered_all [] (map (λ (x : MemberRecord). x.table) r.members) = was
+        ∙ ap (λ (ms : List MemberRecord). gathered_all [] (map (λ (x : MemberRecord). x.table) ms)) (take_all i r.members all) in
+    is ∙ ap (marked r.down) (adds ∙ ap (λ (t : List Entry). gathered_all t (saved_tables r.down r.checkpoints n)) first
+        ∙ ap (λ k. gathered_all (gathered_all [] (map (λ (x : MemberRecord). x.table) r.members)) (saved_tables r.down r.checkpoints k)) (sym size)
+        ∙ sym (gathered_all-then [] (map (λ (x : MemberRecord). x.table) r.members) (saved_tables r.down r.checkpoints (length r.checkpoints))))
 
 -- the table of one checkpoint more
-pub saved-step : (s : Members) (ms : List MemberRecord) (i x place : ℕ) (first before after : List Entry) (m : MemberRecord) → x ≡ i → place ≡ i → i < length ms → m ≡ get_or ms place m → set.contains s x ≡ true
+pub saved-step : (s : Members) (ms : List MemberRecord) (i x place : ℕ) (first before after : List Entry) (m : MemberRecord) → x ≡ i → place ≡ i
+    → i < length ms → m ≡ get_or ms place m → set.contains s x ≡ true
     → before ≡ gathered_all first (saved_tables s ms i) → after ≡ gathered before m.table → after ≡ gathered_all first (saved_tables s ms (i + 1))
 saved-step s ms i x place first before after m same is_place below read down was is =
     let here : set.contains s i ≡ true = ap (λ k. set.contains s k) (sym same) ∙ down in
     let it : m ≡ slice_index_or ms i blank = read_at ms place m m (omega (arith, below, is_place)) read ∙ ap (λ k. slice_index_or ms k blank) is_place in
     let e : i + 1 ≡ suc i = omega arith in
-    rw (e, here) (is ∙ ap (λ (t : List Entry). gathered t m.table) was ∙ ap (λ (y : MemberRecord). gathered (gathered_all first (saved_tables s ms i)) y.table) it ∙ sym (gathered_all-push first (saved_tables s ms i) (slice_index_or ms i blank).table))
+    rw (e, here) (is ∙ ap (λ (t : List Entry). gathered t m.table) was
+        ∙ ap (λ (y : MemberRecord). gathered (gathered_all first (saved_tables s ms i)) y.table) it ∙ sym (gathered_all-push first (saved_tables s ms i) (slice_index_or ms i blank).table))
 
-pub saved-skip : (s : Members) (ms : List MemberRecord) (i x : ℕ) (first before : List Entry) → x ≡ i → set.contains s x ≡ false → before ≡ gathered_all first (saved_tables s ms i) → before ≡ gathered_all first (saved_tables s ms (i + 1))
+pub saved-skip : (s : Members) (ms : List MemberRecord) (i x : ℕ) (first before : List Entry) → x ≡ i → set.contains s x ≡ false
+    → before ≡ gathered_all first (saved_tables s ms i) → before ≡ gathered_all first (saved_tables s ms (i + 1))
 saved-skip s ms i x first before same up was =
     let here : set.contains s i ≡ false = ap (λ k. set.contains s k) (sym same) ∙ up in
     let e : i + 1 ≡ suc i = omega arith in
@@ -68,7 +77,8 @@ pub record MayReplay (next : Next) (n p : ℕ) (d : Determinant) (note : Note) (
   pub sends : length x.log + length (next p n x.state note).sends.items ≤ 8192
 
 module _ (next : Next) (r : GroupRecord) (sound : IsSound next r) where
-  pub begun : (rebuilt : List MemberRecord) (i : ℕ) → i ≡ r.config.members → length rebuilt ≡ i → ((p : ℕ) → p < i → set.contains r.down p ≡ true → slice_index_or rebuilt p blank ≡ record (checkpoint r p) { table = [] }) → IsReplaying next r rebuilt
+  pub begun : (rebuilt : List MemberRecord) (i : ℕ) → i ≡ r.config.members → length rebuilt ≡ i
+      → ((p : ℕ) → p < i → set.contains r.down p ≡ true → slice_index_or rebuilt p blank ≡ record (checkpoint r p) { table = [] }) → IsReplaying next r rebuilt
   begun rebuilt i all size each =
       replaying-tables next r sound r.checkpoints rebuilt [] (replaying-start next r sound r.checkpoints sound.checkpoints (λ p below down. refl)) (size ∙ all ∙ sym sound.checkpoints)
       (λ p below down. each p (omega (arith, all, below)) down)
@@ -125,17 +135,21 @@ module _ (next : Next) (r : GroupRecord) (sound : IsSound next r) where
               member = omega (arith, all, sound.down p down);
               to_me = its-next.to;
               number = its-next.rsn ∙ ap (λ (y : MemberRecord). y.received + 1) (sym (is-record here));
-              receipts = (let room = its-next.room in let received : x.received ≡ (slice_index_or rebuilt p blank).received = ap (λ (y : MemberRecord). y.received) (is-record here) in omega (arith, room, received));
+              receipts = (let room = its-next.room in let received : x.received ≡ (slice_index_or rebuilt p blank).received =
+                  ap (λ (y : MemberRecord). y.received) (is-record here) in omega (arith, room, received));
               sends =
                   subst (λ (k : ℕ). length x.log + length (next p k x.state note).sends.items ≤ 8192) (sym all)
-                  (subst (λ (y : MemberRecord). length y.log + length (next p r.config.members y.state note).sends.items ≤ 8192) (sym (is-record here)) (replaying-room next r sound rebuilt p d note replaying (sound.down p down) down is-found (sym logged ∙ named)));
+                  (subst (λ (y : MemberRecord). length y.log + length (next p r.config.members y.state note).sends.items ≤ 8192)
+                      (sym (is-record here)) (replaying-room next r sound rebuilt p d note replaying (sound.down p down) down is-found (sym logged ∙ named)));
             }
 
             pub replays-one : {after : MemberRecord} → after ≡ replayed_by next p n x d note → Tries next r p rebuilt (slice_set rebuilt place after) true
             replays-one {after = after} is_after =
                 subst (λ (k : ℕ). Tries next r p rebuilt (slice_set rebuilt k after) true) (sym is_place)
-                (subst (λ (y : MemberRecord). Tries next r p rebuilt (slice_set rebuilt p y) true) (sym (is_after ∙ ap (λ (k : ℕ). replayed_by next p k x d note) all ∙ ap (λ (y : MemberRecord). replayed_by next p r.config.members y d note) (is-record here)))
-                (replaying-step next r sound rebuilt p d note replaying (sound.down p down) down is-found (sym logged ∙ named), replayed_in-step next r sound rebuilt p d note replaying (sound.down p down) down))
+                (subst (λ (y : MemberRecord). Tries next r p rebuilt (slice_set rebuilt p y) true)
+                    (sym (is_after ∙ ap (λ (k : ℕ). replayed_by next p k x d note) all ∙ ap (λ (y : MemberRecord). replayed_by next p r.config.members y d note) (is-record here)))
+                (replaying-step next r sound rebuilt p d note replaying (sound.down p down) down is-found (sym logged ∙ named),
+                    replayed_in-step next r sound rebuilt p d note replaying (sound.down p down) down))
 
   -- a try keeps what is so of the replay
   pub tried-replaying : (p : ℕ) (before after : List MemberRecord) (b : Bool) → IsReplaying next r before → Tries next r p before after b → IsReplaying next r after
@@ -143,16 +157,20 @@ module _ (next : Next) (r : GroupRecord) (sound : IsSound next r) where
   tried-replaying p before after false replaying tried = subst (IsReplaying next r) (sym tried.0) replaying
 
   -- a round so far, and one more member that replays, waits or is up
-  pub round-moved : (i k : ℕ) (first before after : List MemberRecord) (moved b : Bool) → b ≡ true → Rounds next r i first before moved → Tries next r k before after b → Rounds next r (i + 1) first after true
+  pub round-moved : (i k : ℕ) (first before after : List MemberRecord) (moved b : Bool) → b ≡ true → Rounds next r i first before moved
+      → Tries next r k before after b → Rounds next r (i + 1) first after true
   round-moved i k first before after true true holds so_far tried = (tried.0, omega (arith, so_far.1, tried.1))
   round-moved i k first before after false true holds so_far tried = (tried.0, (let e : replayed_in r before ≡ replayed_in r first = ap (replayed_in r) so_far.0 in omega (arith, e, tried.1)))
   round-moved i k first before after moved false holds so_far tried = cc
 
-  pub round-waits : (i k : ℕ) (first before after : List MemberRecord) (moved b : Bool) → k ≡ i → b ≡ false → Rounds next r i first before moved → Tries next r k before after b → Rounds next r (i + 1) first after moved
+  pub round-waits : (i k : ℕ) (first before after : List MemberRecord) (moved b : Bool) → k ≡ i → b ≡ false → Rounds next r i first before moved
+      → Tries next r k before after b → Rounds next r (i + 1) first after moved
   round-waits i k first before after moved true is_k fails so_far tried = cc
-  round-waits i k first before after true false is_k fails so_far tried = (subst (IsReplaying next r) (sym tried.0) so_far.0, (let e : replayed_in r after ≡ replayed_in r before = ap (replayed_in r) tried.0 in omega (arith, e, so_far.1)))
+  round-waits i k first before after true false is_k fails so_far tried =
+      (subst (IsReplaying next r) (sym tried.0) so_far.0, (let e : replayed_in r after ≡ replayed_in r before = ap (replayed_in r) tried.0 in omega (arith, e, so_far.1)))
   round-waits i k first before after false false is_k fails so_far tried =
-      (tried.0 ∙ so_far.0, below_more (λ p. IsDown (knowledge r) p → IsWaiting r first p) i so_far.1 (λ down. subst (IsWaiting r first) is_k (subst (λ (ms : List MemberRecord). IsWaiting r ms k) so_far.0 tried.1)))
+      (tried.0 ∙ so_far.0, below_more (λ p. IsDown (knowledge r) p → IsWaiting r first p) i so_far.1
+          (λ down. subst (IsWaiting r first) is_k (subst (λ (ms : List MemberRecord). IsWaiting r ms k) so_far.0 tried.1)))
 
   pub round-up : (i : ℕ) (first now : List MemberRecord) (moved : Bool) → Rounds next r i first now moved → set.contains r.down i ≡ false → Rounds next r (i + 1) first now moved
   round-up i first now true so_far up = so_far
@@ -179,7 +197,8 @@ module _ (next : Next) (r : GroupRecord) (sound : IsSound next r) where
 
     still-waits : (p : ℕ) → p < r.config.members → IsDown (knowledge r) p → IsWaiting r after p
     still-waits p below down d is =
-        let was : found p ((slice_index_or before p blank).received + 1) (gathered_table r) ≡ Some d = ap (λ (m : MemberRecord). found p (m.received + 1) (gathered_table r)) (sym (given p below down)) ∙ is in
+        let was : found p ((slice_index_or before p blank).received + 1) (gathered_table r) ≡ Some d =
+            ap (λ (m : MemberRecord). found p (m.received + 1) (gathered_table r)) (sym (given p below down)) ∙ is in
         let from = (replaying-next next r sound before p d replayed.replaying below down was).from in
         ap (λ (log : List Logged). logged_note log d.ssn) (same-log d.from from) ∙ replayed.waiting p below down d was
 

@@ -40,7 +40,8 @@ pairs_of-At m entries i h at =
     let held = map-At (λ (e : Entry). (m, e.det)) entries i h at in
     (sym (ap (λ (x : ℕ × Determinant). x.0) held.2), (held.0, Contains-at entries i held.0 held.1, ap (λ (x : ℕ × Determinant). x.1) held.2))
 
-pairs_from-At : (m : ℕ) (members : List MemberRecord) (i : ℕ) (h : ℕ × Determinant) → slice_get (pairs_from m members) i ≡ Some h → (j : ℕ) × (h.0 ≡ m + j) × (j < length members) × Names (get_or members j blank).table h.1
+pairs_from-At : (m : ℕ) (members : List MemberRecord) (i : ℕ) (h : ℕ × Determinant) → slice_get (pairs_from m members) i ≡ Some h
+    → (j : ℕ) × (h.0 ≡ m + j) × (j < length members) × Names (get_or members j blank).table h.1
 pairs_from-At m [] i h at = cc
 pairs_from-At m (x ∷ members) i h at =
     elim (At-append (pairs_of m x.table) (pairs_from (m + 1) members) i h at) [
@@ -77,7 +78,8 @@ Contains-receipts t d has =
     let place = filter_map-At determinant_of t has.0 (receipt_of d) d has.1 refl in
     Contains-at (receipts t) place.0 d place.1
 
-pairs_fit : (m : ℕ) (members : List MemberRecord) → ((j : ℕ) → j < length members → length (get_or members j blank).table ≤ 8192) → length (pairs_from m members) ≤ 8192 * length members
+pairs_fit : (m : ℕ) (members : List MemberRecord) → ((j : ℕ) → j < length members → length (get_or members j blank).table ≤ 8192)
+    → length (pairs_from m members) ≤ 8192 * length members
 pairs_fit m [] fit = omega arith
 pairs_fit m (x ∷ members) fit =
     omega (
@@ -90,7 +92,8 @@ pairs_fit m (x ∷ members) fit =
 
 module _ (next : Next) (r : GroupRecord) (sound : IsSound next r) where
   -- entries in which no determinant stands twice, all of receipts of the trace, are at most as many as its receipts
-  entries_fit : (entries : List Entry) → IsDistinct same_determinant (map (λ (e : Entry). e.det) entries) → ((d : Determinant) → Names entries d → Has (marks r) (receipt_of d)) → length entries ≤ length (receipts (marks r))
+  entries_fit : (entries : List Entry) → IsDistinct same_determinant (map (λ (e : Entry). e.det) entries)
+      → ((d : Determinant) → Names entries d → Has (marks r) (receipt_of d)) → length entries ≤ length (receipts (marks r))
   entries_fit entries distinct received =
       let dets : List Determinant = map (λ (e : Entry). e.det) entries in
       let fits : length dets ≤ length (receipts (marks r)) = length-le_from_is_member equivalence dets (receipts (marks r)) distinct
@@ -110,7 +113,8 @@ module _ (next : Next) (r : GroupRecord) (sound : IsSound next r) where
   held_at distinct strike i h at =
       let where_held = pairs_from-At 0 r.members i h at in
       let fits : length (held_pairs r) ≤ 8192 * length r.members =
-      pairs_fit 0 r.members (λ j below. (let t = table_fits j (distinct j (omega (arith, below, sound.members))) in omega (arith, t, filter_map-shorter determinant_of (marks r), trace_fits next r sound))) in
+      pairs_fit 0 r.members (λ j below. (let t = table_fits j (distinct j (omega (arith, below, sound.members))) in
+          omega (arith, t, filter_map-shorter determinant_of (marks r), trace_fits next r sound))) in
       let below : i < length (held_pairs r) = At-below (held_pairs r) i h at in
       let few : length r.members ≤ 16 = omega (arith, sound.members, sound.config.members.1) in
       let holder : h.0 < r.config.members = omega (arith, where_held.1, where_held.2, sound.members) in

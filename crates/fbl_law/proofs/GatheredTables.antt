@@ -34,7 +34,8 @@ gathered_all-named xs (u ∷ ts) t d among named =
 
 -- what holds of each entry of the tables, and of two that are joined, holds of each that is gathered
 module _ (Q : Entry → Type 0) (join : (x e : Entry) → Q x → Q e → x.det ≡ e.det → Q (joined x e)) where
-  pub gathered_all-keeps : (xs : List Entry) (ts : List (List Entry)) → ((x : Entry) → Contains xs x → Q x) → ((t : List Entry) (e : Entry) → Contains ts t → Contains t e → Q e) → (y : Entry) → Contains (gathered_all xs ts) y → Q y
+  pub gathered_all-keeps : (xs : List Entry) (ts : List (List Entry)) → ((x : Entry) → Contains xs x → Q x)
+      → ((t : List Entry) (e : Entry) → Contains ts t → Contains t e → Q e) → (y : Entry) → Contains (gathered_all xs ts) y → Q y
   gathered_all-keeps xs [] all each y among = all y among
   gathered_all-keeps xs (t ∷ ts) all each y among =
       gathered_all-keeps (gathered xs t) ts (gathered-keeps Q join xs t all (λ e h. each t e (Contains-here t ts) h)) (λ u e h k. each u e (Contains-there t ts u h) k) y among
@@ -108,14 +109,18 @@ module _ (f : ℕ) (r : Knowledge) (empty : IsDownEmpty f r) where
   pub entries_gathered : (e : Entry) → Contains (recovery_table r) e → IsGathered r e
   entries_gathered e among =
       let was = Contains-changed (mark r.down) (gathered_all [] sources) e among in
-      let known = gathered_all-keeps IsKnown join_known [] sources (λ x h. absurd (Contains-none x h)) (λ t x h k. elim (Contains-append_cases (map (λ (m : MemberRecord). m.table) r.members) _ t h) [ inl one ↦ table_known t x one k | inr other ↦ saved_known t x other k ]) was.0 was.1 in
-      subst (IsGathered r) was.2 (known.0, (λ m down. Includes-right was.0.known r.down m down), λ m h. elim (Includes-union was.0.known r.down m h) [ inl told ↦ inr (known.1 m told) | inr down ↦ inl down ])
+      let known = gathered_all-keeps IsKnown join_known [] sources (λ x h. absurd (Contains-none x h))
+          (λ t x h k. elim (Contains-append_cases (map (λ (m : MemberRecord). m.table) r.members) _ t h) [ inl one ↦ table_known t x one k | inr other ↦ saved_known t x other k ]) was.0 was.1 in
+      subst (IsGathered r) was.2 (known.0, (λ m down. Includes-right was.0.known r.down m down),
+          λ m h. elim (Includes-union was.0.known r.down m h) [ inl told ↦ inr (known.1 m told) | inr down ↦ inl down ])
 
   source_gathered : (t : List Entry) (d : Determinant) → Contains sources t → Names t d → Names (recovery_table r) d
   source_gathered t d among named = Names-changed (mark r.down) (λ e. refl) (gathered_all [] sources) d (gathered_all-named [] sources t d among named)
 
   table_gathered : (m : ℕ) (d : Determinant) → Names (table r m) d → Names (recovery_table r) d
-  table_gathered m d named = source_gathered (table r m) d (Contains-append_left _ _ (table r m) (Contains-map (λ (x : MemberRecord). x.table) r.members (get_or r.members m blank) (Contains-get_or r.members m blank (named_record r.members m d named)))) named
+  table_gathered m d named = source_gathered (table r m) d
+      (Contains-append_left _ _ (table r m) (Contains-map (λ (x : MemberRecord). x.table) r.members (get_or r.members m blank)
+      (Contains-get_or r.members m blank (named_record r.members m d named)))) named
 
   -- what an up member's checkpoint names, the member's table names
   pub recorded_gathered : ((m : ℕ) → IsCheckpointKept r m) → (d : Determinant) → IsRecorded r d → Names (recovery_table r) d
@@ -125,7 +130,8 @@ module _ (f : ℕ) (r : Knowledge) (empty : IsDownEmpty f r) where
         | inr up ↦ table_gathered saved.0 d ((kept saved.0).table d up saved.1)
         | inl down ↦
             source_gathered (checkpoint r saved.0).table d
-            (Contains-append_right (map (λ (m : MemberRecord). m.table) r.members) _ (checkpoint r saved.0).table (Contains-saved r.down r.checkpoints (length r.checkpoints) saved.0 (named_record r.checkpoints saved.0 d saved.1) down))
+            (Contains-append_right (map (λ (m : MemberRecord). m.table) r.members) _ (checkpoint r saved.0).table
+                (Contains-saved r.down r.checkpoints (length r.checkpoints) saved.0 (named_record r.checkpoints saved.0 d saved.1) down))
             saved.1
       ]
 
@@ -136,6 +142,8 @@ gathered_all-push table (u ∷ ts) t = gathered_all-push (gathered table u) ts t
 
 -- the table of one member more
 pub gathered_all-more : (members : List MemberRecord) (i : ℕ) → i < length members
-    → gathered_all [] (map (λ (m : MemberRecord). m.table) (take (i + 1) members)) ≡ gathered (gathered_all [] (map (λ (m : MemberRecord). m.table) (take i members))) (slice_index_or members i blank).table
+    → gathered_all [] (map (λ (m : MemberRecord). m.table) (take (i + 1) members))
+        ≡ gathered (gathered_all [] (map (λ (m : MemberRecord). m.table) (take i members))) (slice_index_or members i blank).table
 gathered_all-more members i below =
-    ap (gathered_all []) (map_more (λ (m : MemberRecord). m.table) members i blank below) ∙ gathered_all-push [] (map (λ (m : MemberRecord). m.table) (take i members)) (slice_index_or members i blank).table
+    ap (gathered_all []) (map_more (λ (m : MemberRecord). m.table) members i blank below)
+        ∙ gathered_all-push [] (map (λ (m : MemberRecord). m.table) (take i members)) (slice_index_or members i blank).table

@@ -152,7 +152,8 @@ module _ (n f : ℕ) (old new : Knowledge) (s : IsRecovered f old new) (sound : 
 
   good_table : (m : ℕ) → IsSoundAt f new (in_table m)
   good_table m = elim (down_or_up old.down m) [
-    | inr up ↦ sound_kept f old new keeps sound.truth sound.closed (in_table m) (in_table m) (up_now m) (record { there = up; owner = refl; entries = s.tables m up; owes = λ b has owes. ((was b has).0, owes) })
+    | inr up ↦ sound_kept f old new keeps sound.truth sound.closed (in_table m) (in_table m) (up_now m)
+        (record { there = up; owner = refl; entries = s.tables m up; owes = λ b has owes. ((was b has).0, owes) })
     | inl down ↦ record {
       truth = λ e among.
           let g = entries m e down among in (

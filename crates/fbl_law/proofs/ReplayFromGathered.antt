@@ -44,7 +44,8 @@ use Rattle.fbl_law.proofs.ReplayedRecords.{replayed-step}
 pub found-named : (p k : ℕ) (table : List Entry) (d : Determinant) → found p k table ≡ Some d → Names table d × (d.to ≡ p) × (d.rsn ≡ k)
 found-named p k [] d is = absurd cc
 found-named p k (e ∷ table) d is = at (is_of_receipt p k e) refl is (found-named p k table d) where
-  at : (b : Bool) → is_of_receipt p k e ≡ b → option_map (λ (x : Entry). x.det) (cond b (Some e) (find (is_of_receipt p k) table)) ≡ Some d → (found p k table ≡ Some d → Names table d × (d.to ≡ p) × (d.rsn ≡ k)) → Names (e ∷ table) d × (d.to ≡ p) × (d.rsn ≡ k)
+  at : (b : Bool) → is_of_receipt p k e ≡ b → option_map (λ (x : Entry). x.det) (cond b (Some e) (find (is_of_receipt p k) table)) ≡ Some d
+      → (found p k table ≡ Some d → Names table d × (d.to ≡ p) × (d.rsn ≡ k)) → Names (e ∷ table) d × (d.to ≡ p) × (d.rsn ≡ k)
   at true yes' g rest =
       let same : e.det ≡ d = cc in
       let parts = and_parts (e.det.to == p) (e.det.rsn == k) yes' in
@@ -55,7 +56,8 @@ found-named p k (e ∷ table) d is = at (is_of_receipt p k e) refl is (found-nam
 pub found-none : (p k : ℕ) (table : List Entry) (d : Determinant) → found p k table ≡ None → Names table d → d.to ≡ p → d.rsn ≡ k → ⊥
 found-none p k [] d is named to rsn = Contains-none named.0 named.1
 found-none p k (e ∷ table) d is named to rsn = at (is_of_receipt p k e) refl is (found-none p k table d) where
-  at : (b : Bool) → is_of_receipt p k e ≡ b → option_map (λ (x : Entry). x.det) (cond b (Some e) (find (is_of_receipt p k) table)) ≡ None → (found p k table ≡ None → Names table d → d.to ≡ p → d.rsn ≡ k → ⊥) → ⊥
+  at : (b : Bool) → is_of_receipt p k e ≡ b → option_map (λ (x : Entry). x.det) (cond b (Some e) (find (is_of_receipt p k) table)) ≡ None
+      → (found p k table ≡ None → Names table d → d.to ≡ p → d.rsn ≡ k → ⊥) → ⊥
   at true yes' g rest = cc
   at false no' g rest = elim (Contains-cons_cases e table named.0 named.1) [
     | inl first ↦
@@ -108,7 +110,8 @@ module _ (next : Next) (old : GroupRecord) (sound : IsSound next old) (new : Lis
   pub recorded-cut : (d : Determinant) → IsRecorded (knowledge old) d → Has (map mark_of new) (receipt_of d)
   recorded-cut d recorded =
       let was = recorded-Has d recorded in
-      let stays = (stays_is_recorded old.config.members old.config.f (knowledge old) sound.causes (receipt_of d) was).1 (λ c before. IsRecorded-before old.config.f (knowledge old) sound.causes.closed c d recorded before) in
+      let stays = (stays_is_recorded old.config.members old.config.f (knowledge old) sound.causes (receipt_of d) was).1
+          (λ c before. IsRecorded-before old.config.f (knowledge old) sound.causes.closed c d recorded before) in
       rw is-marks (Has-kept cut.0 (marks old) (receipt_of d) was ((cut.2 (receipt_of d) was).1 stays))
 
   -- the gathered tables name exactly what is recorded
@@ -131,7 +134,8 @@ module _ (next : Next) (old : GroupRecord) (sound : IsSound next old) (new : Lis
     has = receipts_at-Has (map mark_of new) p k d here
 
     at : (o : Option Determinant) → found p (k + 1) (gathered_table old) ≡ o → found p (k + 1) (gathered_table old) ≡ Some d
-    at None is = absurd (found-none p (k + 1) (gathered_table old) d is (recorded-gathering d (cut-recorded d has.0)) has.1 (receipts_at-number old.config.members (map mark_of new) p k d cut-obeys here))
+    at None is = absurd (found-none p (k + 1) (gathered_table old) d is (recorded-gathering d (cut-recorded d has.0)) has.1
+        (receipts_at-number old.config.members (map mark_of new) p k d cut-obeys here))
     at (Some c) is = (let there = found-receipt p k c is in is ∙ sym there ∙ here)
 
   -- a note that a replaying member's log names is the note of that message in the cut
@@ -141,7 +145,8 @@ module _ (next : Next) (old : GroupRecord) (sound : IsSound next old) (new : Lis
       logged-noted next old.config.members old.config.starts new q w.received ssn note (cut-lawful next old sound new cut).0 (rw log at named)
 
   -- the next replay of a member: the gathered tables find its next receipt, and the sender's log has the message
-  pub replayed-next : (p : ℕ) (m : MemberRecord) (d : Determinant) (w : MemberRecord) (note : Note) → Replays p m → found p (m.received + 1) (gathered_table old) ≡ Some d → Replays d.from w → logged_note w.log d.ssn ≡ Some note → Replays p (replayed_by next p old.config.members m d note)
+  pub replayed-next : (p : ℕ) (m : MemberRecord) (d : Determinant) (w : MemberRecord) (note : Note) → Replays p m
+      → found p (m.received + 1) (gathered_table old) ≡ Some d → Replays d.from w → logged_note w.log d.ssn ≡ Some note → Replays p (replayed_by next p old.config.members m d note)
   replayed-next p m d w note replayed is sender named =
       replayed-step next old.config.members old.config.starts new p m d note cut-obeys replayed (found-receipt p m.received d is) (replayed-noted d.from w d.ssn note sender named)
 
@@ -152,7 +157,8 @@ module _ (next : Next) (old : GroupRecord) (sound : IsSound next old) (new : Lis
 
   pub replays-log : (p : ℕ) (m : MemberRecord) → Replays p m → length m.log ≤ 8192
   replays-log p m replayed =
-      let log : length m.log ≡ length (after_notes next p old.config.members old.config.starts (take m.received (received_notes new p))).log = ap (λ (x : Progress). length x.log) replayed.progress in
+      let log : length m.log ≡ length (after_notes next p old.config.members old.config.starts (take m.received (received_notes new p))).log =
+          ap (λ (x : Progress). length x.log) replayed.progress in
       omega (arith, log, log-short next old.config.members old.config.starts new p m.received (cut-lawful next old sound new cut).0, count_by-le-length (is_send_of p) (map mark_of new), cut-short)
 
   -- the next receipt that the gathered tables find is that of the member's next number, from another member
@@ -171,7 +177,8 @@ module _ (next : Next) (old : GroupRecord) (sound : IsSound next old) (new : Lis
       }
 
   -- and its step's sends have room in the log
-  pub replay-room : (p : ℕ) (m : MemberRecord) (d : Determinant) (w : MemberRecord) (note : Note) → Replays p m → found p (m.received + 1) (gathered_table old) ≡ Some d → Replays d.from w → logged_note w.log d.ssn ≡ Some note
+  pub replay-room : (p : ℕ) (m : MemberRecord) (d : Determinant) (w : MemberRecord) (note : Note) → Replays p m
+      → found p (m.received + 1) (gathered_table old) ≡ Some d → Replays d.from w → logged_note w.log d.ssn ≡ Some note
       → length m.log + length (next p old.config.members m.state note).sends.items ≤ 8192
   replay-room p m d w note replayed is sender named =
       let after = replays-log p (replayed_by next p old.config.members m d note) (replayed-next p m d w note replayed is sender named) in
@@ -195,7 +202,8 @@ module _ (next : Next) (old : GroupRecord) (sound : IsSound next old) (new : Lis
         (x, is ∙ (rw (e1, e2, e3) refl))
 
     -- a message whose sender has replayed all that comes before it is in the sender's log
-    sent-again : (q k to : ℕ) → q < old.config.members → Has (map mark_of new) (Send q k to) → IsSentAgain (map mark_of new) (λ m. (work m).received) q k to → (note : Note) × (logged_note (work q).log k ≡ Some note)
+    sent-again : (q k to : ℕ) → q < old.config.members → Has (map mark_of new) (Send q k to)
+        → IsSentAgain (map mark_of new) (λ m. (work m).received) q k to → (note : Note) × (logged_note (work q).log k ≡ Some note)
     sent-again q k to below has sent =
         let j = has.0 in
         let here = send-event j q k to (slice_get new j) refl (sym (slice_get-map mark_of new j) ∙ has.1) in
@@ -205,8 +213,10 @@ module _ (next : Next) (old : GroupRecord) (sound : IsSound next old) (new : Lis
         let few : length (receipts_at (map mark_of (take j new)) q) ≤ (work q).received = at-most old.config.members (map mark_of (take j new)) q (work q).received obeys (λ c there at_q.
         let before : there.0 < j = omega (arith, At-below (map mark_of (take j new)) there.0 (receipt_of c) there.1, length-map (take j new) mark_of, length-take j new) in
         sent c at_q (there.0, j, before, rw marks-at (At-front (map mark_of (take j new)) (map mark_of (drop j new)) there.0 (receipt_of c) there.1), has.1)) in
-        let logged = logged-by next old.config.members old.config.starts new (take j new) (drop (suc j) new) q k to (work q).received here.0 (cut-lawful next old sound new cut).0 cut-at (omega (arith, few, length-receipts_at (map mark_of (take j new)) q)) in
-        let log : (work q).log ≡ (after_notes next q old.config.members old.config.starts (take (work q).received (received_notes new q))).log = ap (λ (x : Progress). x.log) (replays q below).progress in
+        let logged = logged-by next old.config.members old.config.starts new (take j new) (drop (suc j) new) q k to (work q).received here.0
+            (cut-lawful next old sound new cut).0 cut-at (omega (arith, few, length-receipts_at (map mark_of (take j new)) q)) in
+        let log : (work q).log ≡ (after_notes next q old.config.members old.config.starts (take (work q).received (received_notes new q))).log =
+            ap (λ (x : Progress). x.log) (replays q below).progress in
         (logged.0, rw log logged.1)
 
     is-stuck : IsStuck (map mark_of new) (λ q. (work q).received)
@@ -226,5 +236,6 @@ module _ (next : Next) (old : GroupRecord) (sound : IsSound next old) (new : Lis
     -- where no member that is down can go on, each has replayed all its receipts of the cut
     pub all-replayed : (p : ℕ) → p < old.config.members → (work p).received ≡ length (receipts_at (map mark_of new) p)
     all-replayed p below =
-        let most = at-most old.config.members (map mark_of new) p (work p).received cut-obeys (λ d has to. subst (λ (x : ℕ). d.rsn ≤ (work x).received) to (never_stuck old.config.members (map mark_of new) (λ q. (work q).received) cut-obeys is-stuck d has)) in
+        let most = at-most old.config.members (map mark_of new) p (work p).received cut-obeys
+            (λ d has to. subst (λ (x : ℕ). d.rsn ≤ (work x).received) to (never_stuck old.config.members (map mark_of new) (λ q. (work q).received) cut-obeys is-stuck d has)) in
         omega (arith, most, (replays p below).within)

@@ -35,7 +35,8 @@ use Rattle.fbl_law.proofs.ChannelsMadeAgain.{made-again, made-again-outside}
 use Rattle.fbl_law.proofs.ChannelCounts.{channel-outside}
 
 -- a replay does not read the table
-pub replayed-table : (next : Next) (n : ℕ) (r : GroupRecord) (trace : List Event) (p : ℕ) (m : MemberRecord) (t : List Entry) → IsReplayed next n r.config.starts trace p m → IsReplayed next n r.config.starts trace p (record m { table = t })
+pub replayed-table : (next : Next) (n : ℕ) (r : GroupRecord) (trace : List Event) (p : ℕ) (m : MemberRecord) (t : List Entry)
+    → IsReplayed next n r.config.starts trace p m → IsReplayed next n r.config.starts trace p (record m { table = t })
 replayed-table next n r trace p m t replayed = record { within = replayed.within; progress = replayed.progress; places = replayed.places; last = replayed.last }
 
 -- a record with a table that it has
@@ -64,7 +65,8 @@ module _ (next : Next) (old : GroupRecord) (sound : IsSound next old) where
   Replays p m = IsReplayed next old.config.members old.config.starts (recovered_trace old) p m
 
   -- a survivor is at the fold of all its receipts
-  pub survivor-replays : (q : ℕ) → q < old.config.members → IsUp (knowledge old) q → Replays q (member old q) × ((member old q).received ≡ length (receipts_at (map mark_of (recovered_trace old)) q))
+  pub survivor-replays : (q : ℕ) → q < old.config.members → IsUp (knowledge old) q
+      → Replays q (member old q) × ((member old q).received ≡ length (receipts_at (map mark_of (recovered_trace old)) q))
   survivor-replays q below up =
       let r : GroupRecord = record old { trace = recovered_trace old } in
       let fold : IsFold next r q = fold-survives next old sound (recovered_trace old) cut r q up refl refl refl (sound.folds q below up) in
@@ -82,7 +84,8 @@ module _ (next : Next) (old : GroupRecord) (sound : IsSound next old) where
     | inr up ↦ subst (Replays q) (sym (working-up rebuilt q up)) (survivor-replays q below up).0
   ]
 
-  working-all : (rebuilt : List MemberRecord) (q : ℕ) → q < old.config.members → IsUp (knowledge old) q → (working old rebuilt q).received ≡ length (receipts_at (map mark_of (recovered_trace old)) q)
+  working-all : (rebuilt : List MemberRecord) (q : ℕ) → q < old.config.members → IsUp (knowledge old) q
+      → (working old rebuilt q).received ≡ length (receipts_at (map mark_of (recovered_trace old)) q)
   working-all rebuilt q below up = ap (λ (m : MemberRecord). m.received) (working-up rebuilt q up) ∙ (survivor-replays q below up).1
 
   -- a checkpoint's receipts stay, so its replay is one of the trace that is left
@@ -95,7 +98,8 @@ module _ (next : Next) (old : GroupRecord) (sound : IsSound next old) where
       (sound.saved p below)
 
   -- each member that is down begins at its checkpoint
-  pub replaying-start : (rebuilt : List MemberRecord) → length rebuilt ≡ old.config.members → ((p : ℕ) → p < old.config.members → IsDown (knowledge old) p → slice_index_or rebuilt p blank ≡ checkpoint old p) → IsReplaying next old rebuilt
+  pub replaying-start : (rebuilt : List MemberRecord) → length rebuilt ≡ old.config.members
+      → ((p : ℕ) → p < old.config.members → IsDown (knowledge old) p → slice_index_or rebuilt p blank ≡ checkpoint old p) → IsReplaying next old rebuilt
   replaying-start rebuilt size begins = record {
     size = size;
     replayed = λ p below down. subst (Replays p) (sym (begins p below down)) (checkpoint-replays p below);
@@ -147,14 +151,16 @@ module _ (next : Next) (old : GroupRecord) (sound : IsSound next old) where
   replayed_in-step rebuilt p d note replaying below down =
       let after = replayed_by next p old.config.members (slice_index_or rebuilt p blank) d note in
       let own = ap (λ (m : MemberRecord). m.received) (get_or-set_same rebuilt p after blank (omega (arith, replaying.size, below))) in
-      count_in-step old.down (λ q. (slice_index_or rebuilt q blank).received - (checkpoint old q).received) (λ q. (slice_index_or (slice_set rebuilt p after) q blank).received - (checkpoint old q).received) old.config.members p below down
+      count_in-step old.down (λ q. (slice_index_or rebuilt q blank).received - (checkpoint old q).received)
+          (λ q. (slice_index_or (slice_set rebuilt p after) q blank).received - (checkpoint old q).received) old.config.members p below down
       (omega (arith, own, replaying.begun p below down))
       (λ q other. ap (λ (m : MemberRecord). m.received - (checkpoint old q).received) (get_or-set_other rebuilt p q after blank other))
 
   -- no more are replayed than the trace that recovery leaves has of the members that are down
   pub replayed_in-most : (rebuilt : List MemberRecord) → IsReplaying next old rebuilt → replayed_in old rebuilt ≤ length (filter (is_of old.down) (receipts (map mark_of (recovered_trace old))))
   replayed_in-most rebuilt replaying =
-      let fewer = count_in-most old.down (λ p. (slice_index_or rebuilt p blank).received - (checkpoint old p).received) (λ p. (slice_index_or rebuilt p blank).received) old.config.members (λ p below down. omega arith) in
+      let fewer = count_in-most old.down (λ p. (slice_index_or rebuilt p blank).received - (checkpoint old p).received)
+          (λ p. (slice_index_or rebuilt p blank).received) old.config.members (λ p below down. omega arith) in
       omega (arith, fewer, replayed-most next old sound (recovered_trace old) cut (λ p. slice_index_or rebuilt p blank) replaying.replayed)
 
   pub replayed_in-short : (rebuilt : List MemberRecord) → IsReplaying next old rebuilt → replayed_in old rebuilt ≤ 8192
@@ -169,7 +175,8 @@ module _ (next : Next) (old : GroupRecord) (sound : IsSound next old) where
       → ((p : ℕ) → p < old.config.members → IsDown (knowledge old) p → slice_index_or given p blank ≡ record (slice_index_or rebuilt p blank) { table = t }) → IsReplaying next old given
   replaying-tables rebuilt given t replaying size same = record {
     size = size ∙ replaying.size;
-    replayed = λ p below down. subst (Replays p) (sym (same p below down)) (replayed-table next old.config.members old (recovered_trace old) p (slice_index_or rebuilt p blank) t (replaying.replayed p below down));
+    replayed = λ p below down. subst (Replays p) (sym (same p below down))
+        (replayed-table next old.config.members old (recovered_trace old) p (slice_index_or rebuilt p blank) t (replaying.replayed p below down));
     begun = λ p below down. (let e = ap (λ (m : MemberRecord). m.received) (same p below down) in omega (arith, e, replaying.begun p below down));
   }
 
@@ -180,7 +187,8 @@ module _ (next : Next) (old : GroupRecord) (sound : IsSound next old) where
         all-replayed next old sound (recovered_trace old) cut (working old rebuilt) (working-replays rebuilt replaying) (working-all rebuilt)
         (λ p below down d is. waiting p below down d (rw (working-down rebuilt p down) at is))
 
-    pub rebuilt-received : (p : ℕ) → p < old.config.members → IsDown (knowledge old) p → (slice_index_or rebuilt p blank).received ≡ length (receipts_at (map mark_of (recovered_trace old)) p)
+    pub rebuilt-received : (p : ℕ) → p < old.config.members → IsDown (knowledge old) p
+        → (slice_index_or rebuilt p blank).received ≡ length (receipts_at (map mark_of (recovered_trace old)) p)
     rebuilt-received p below down = ap (λ (m : MemberRecord). m.received) (sym (working-down rebuilt p down)) ∙ working-received p below
 
     -- as many are replayed as the trace has of the members that are down, beyond those of their checkpoints

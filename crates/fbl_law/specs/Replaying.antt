@@ -99,4 +99,5 @@ pub record IsRebuilt (old new : GroupRecord) (replayed : List MemberRecord) : Ty
   pub rest : IsBroughtBack old new
   pub trace : new.trace ≡ recovered_trace old
   pub rebuilt : (m : ℕ) → m < old.config.members → IsDown (knowledge old) m → member new m ≡ record (slice_index_or replayed m blank) { table = gathered_table old }
-  pub resent : (q p : ℕ) → IsDown (knowledge old) q ⊎ IsDown (knowledge old) p → q < old.config.members → p < old.config.members → channel new q p ≡ resent_to old.config.f q p (member new q) (member new p)
+  pub resent : (q p : ℕ) → IsDown (knowledge old) q ⊎ IsDown (knowledge old) p → q < old.config.members → p < old.config.members
+      → channel new q p ≡ resent_to old.config.f q p (member new q) (member new p)
