@@ -12,10 +12,10 @@ use Rattle.fbl_table.specs.Tables.{found, gathered, marked}
 use Rattle.fbl_table.specs.Receipts.{receipt_at}
 use Rattle.fbl_member.specs.Members.{MemberRecord, blank, logged_note, replayed_by}
 use Rattle.fbl_law.specs.Knowledge.{Members, IsDown}
-use Rattle.fbl_law.specs.Steps.{gathered_all, saved_tables}
+use Rattle.fbl_law.specs.Steps.{gathered_all, saved_tables, recovery_table}
 use Rattle.fbl_law.specs.Groups.{GroupRecord, checkpoint, knowledge}
 use Rattle.fbl_law.specs.Sound.{IsSound}
-use Rattle.fbl_law.specs.Replaying.{IsNextReplay, gathered_table, working, IsReplaying, IsWaiting, replayed_in}
+use Rattle.fbl_law.specs.Replaying.{IsNextReplay, working, IsReplaying, IsWaiting, replayed_in}
 use Rattle.fbl_law.proofs.GatheredTables.{gathered_all-more, gathered_all-push}
 use Rattle.fbl_law.proofs.ReplayLaws.{replaying-start, replaying-next, replaying-room, replaying-step, replayed_in-step, replayed_in-short, replaying-tables}
 use Rattle.fbl_group.specs.Rebuilding.{AreByNumber, Tries, Rounds, HasReplayed, IsReady}
@@ -40,7 +40,7 @@ gathered_all-then t (x ∷ xs) ys = gathered_all-then (gathered t x) xs ys
 
 pub gathered-end : (r : GroupRecord) (i n : ℕ) (before saved after : List Entry) → length r.members ≤ i → length r.checkpoints ≡ n
     → before ≡ gathered_all [] (map (λ (x : MemberRecord). x.table) (take i r.members))
-    → saved ≡ gathered_all before (saved_tables r.down r.checkpoints n) → after ≡ marked r.down saved → after ≡ gathered_table r
+    → saved ≡ gathered_all before (saved_tables r.down r.checkpoints n) → after ≡ marked r.down saved → after ≡ recovery_table (knowledge r)
 gathered-end r i n before saved after all size was adds is =
     let first : before ≡ gathered_all [] (map (λ (x : MemberRecord). x.table) r.members) = was
         ∙ ap (λ (ms : List MemberRecord). gathered_all [] (map (λ (x : MemberRecord). x.table) ms)) (take_all i r.members all) in
@@ -101,13 +101,13 @@ module _ (next : Next) (r : GroupRecord) (sound : IsSound next r) where
       is-beyond : nat_lt (checkpoint r p).received (rsn + 1) ≡ true
       is-beyond = (let begun_at = replaying.begun p (sound.down p down) down in grind (arith, nat_tests, begun_at, is-received))
 
-      is-looked-up : answer ≡ found p ((slice_index_or rebuilt p blank).received + 1) (gathered_table r)
+      is-looked-up : answer ≡ found p ((slice_index_or rebuilt p blank).received + 1) (recovery_table (knowledge r))
       is-looked-up =
-          sought ∙ by_number.each p (sound.down p down) down (rsn + 1) ∙ ap (λ b. if b then found p (rsn + 1) (gathered_table r) else None) is-beyond
-          ∙ ap (λ k. found p (k + 1) (gathered_table r)) is-received
+          sought ∙ by_number.each p (sound.down p down) down (rsn + 1) ∙ ap (λ b. if b then found p (rsn + 1) (recovery_table (knowledge r)) else None) is-beyond
+          ∙ ap (λ k. found p (k + 1) (recovery_table (knowledge r))) is-received
 
       module _ {d : Determinant} (is : answer ≡ Some d) where
-        is-found : found p ((slice_index_or rebuilt p blank).received + 1) (gathered_table r) ≡ Some d
+        is-found : found p ((slice_index_or rebuilt p blank).received + 1) (recovery_table (knowledge r)) ≡ Some d
         is-found = sym is-looked-up ∙ is
 
         its-next : IsNextReplay r.config.members p (slice_index_or rebuilt p blank) d
@@ -124,7 +124,7 @@ module _ (next : Next) (r : GroupRecord) (sound : IsSound next r) where
           -- its message is not sent again yet
           pub waits-unsent : sent ≡ None → Tries next r p rebuilt rebuilt false
           waits-unsent none = (refl, λ c found_c. ap (λ (x : Determinant). logged_note (working r rebuilt x.from).log x.ssn) (alike c found_c) ∙ sym logged ∙ none) where
-            alike : (c : Determinant) → found p ((slice_index_or rebuilt p blank).received + 1) (gathered_table r) ≡ Some c → c ≡ d
+            alike : (c : Determinant) → found p ((slice_index_or rebuilt p blank).received + 1) (recovery_table (knowledge r)) ≡ Some c → c ≡ d
             alike c found_c = (let e : Some c ≡ Some d = sym found_c ∙ is-found in cc)
 
           module _ {n : ℕ} {note : Note} {x : MemberRecord} (all : n ≡ r.config.members) (named : sent ≡ Some note) (here : x ≡ get_or rebuilt place x) where
@@ -188,7 +188,7 @@ module _ (next : Next) (r : GroupRecord) (sound : IsSound next r) where
 
   -- the tables are given
   module _ (before after : List MemberRecord) (replayed : HasReplayed next r before) (size : length after ≡ length before)
-      (given : (p : ℕ) → p < r.config.members → IsDown (knowledge r) p → slice_index_or after p blank ≡ record (slice_index_or before p blank) { table = gathered_table r }) where
+      (given : (p : ℕ) → p < r.config.members → IsDown (knowledge r) p → slice_index_or after p blank ≡ record (slice_index_or before p blank) { table = recovery_table (knowledge r) }) where
     same-log : (q : ℕ) → q < r.config.members → (working r after q).log ≡ (working r before q).log
     same-log q below = at (set.contains r.down q) refl where
       at : (b : Bool) → set.contains r.down q ≡ b → (working r after q).log ≡ (working r before q).log
@@ -197,13 +197,13 @@ module _ (next : Next) (r : GroupRecord) (sound : IsSound next r) where
 
     still-waits : (p : ℕ) → p < r.config.members → IsDown (knowledge r) p → IsWaiting r after p
     still-waits p below down d is =
-        let was : found p ((slice_index_or before p blank).received + 1) (gathered_table r) ≡ Some d =
-            ap (λ (m : MemberRecord). found p (m.received + 1) (gathered_table r)) (sym (given p below down)) ∙ is in
+        let was : found p ((slice_index_or before p blank).received + 1) (recovery_table (knowledge r)) ≡ Some d =
+            ap (λ (m : MemberRecord). found p (m.received + 1) (recovery_table (knowledge r))) (sym (given p below down)) ∙ is in
         let from = (replaying-next next r sound before p d replayed.replaying below down was).from in
         ap (λ (log : List Logged). logged_note log d.ssn) (same-log d.from from) ∙ replayed.waiting p below down d was
 
     pub tables-given : IsReady next r after
     tables-given = record {
-      replayed = record { replaying = replaying-tables next r sound before after (gathered_table r) replayed.replaying size given; waiting = still-waits };
+      replayed = record { replaying = replaying-tables next r sound before after (recovery_table (knowledge r)) replayed.replaying size given; waiting = still-waits };
       tables = λ p below down. ap (λ (m : MemberRecord). m.table) (given p below down);
     }

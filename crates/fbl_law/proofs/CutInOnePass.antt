@@ -21,10 +21,10 @@ use Rattle.fbl_base.proofs.RulesLaws.{eqb-self}
 use Rattle.fbl_table.specs.declared.entry.Entry.{Entry}
 use Rattle.fbl_table.specs.Tables.{is_held}
 use Rattle.fbl_law.specs.Knowledge.{Members, IsRecorded}
-use Rattle.fbl_law.specs.Steps.{UpTo, Stays, IsEventCut}
+use Rattle.fbl_law.specs.Steps.{UpTo, Stays, IsEventCut, recovery_table}
 use Rattle.fbl_law.specs.Groups.{GroupRecord, marks, knowledge}
 use Rattle.fbl_law.specs.Sound.{IsSound}
-use Rattle.fbl_law.specs.Replaying.{stops_at, cut_from, gathered_table, recovered_trace}
+use Rattle.fbl_law.specs.Replaying.{stops_at, cut_from, recovered_trace}
 use Rattle.fbl_law.proofs.GroupFacts.{Names-held, held-Names}
 use Rattle.fbl_law.proofs.Appended.{once}
 use Rattle.fbl_law.proofs.Lists.{At-seam}
@@ -212,32 +212,32 @@ cut_from-pass s held stopped (e ∷ t) = at (set.contains stopped (member_of (ma
 
 module _ (next : Next) (old : GroupRecord) (sound : IsSound next old) where
   abbrev lost : Mark → Bool
-  lost = stops_at old.down (gathered_table old)
+  lost = stops_at old.down (recovery_table (knowledge old))
 
   abbrev keep : Mark → Bool
   keep e = not (loses lost (marks old) e)
 
-  recorded-held : (d : Determinant) → IsRecorded (knowledge old) d → is_held (gathered_table old) d ≡ true
-  recorded-held d recorded = held-Names (gathered_table old) d (recorded_gathered old.config.f (knowledge old) sound.causes.down sound.causes.checkpoints d recorded)
+  recorded-held : (d : Determinant) → IsRecorded (knowledge old) d → is_held (recovery_table (knowledge old)) d ≡ true
+  recorded-held d recorded = held-Names (recovery_table (knowledge old)) d (recorded_gathered old.config.f (knowledge old) sound.causes.down sound.causes.checkpoints d recorded)
 
-  held-recorded : (d : Determinant) → is_held (gathered_table old) d ≡ true → IsRecorded (knowledge old) d
+  held-recorded : (d : Determinant) → is_held (recovery_table (knowledge old)) d ≡ true → IsRecorded (knowledge old) d
   held-recorded d held =
-      let named = Names-held (gathered_table old) d held in
+      let named = Names-held (recovery_table (knowledge old)) d held in
       let told = (entries_gathered old.config.f (knowledge old) sound.causes.down named.0 named.1).0 in
       rw named.2 at told
 
-  is-held : (d : Determinant) (b : Bool) → is_held (gathered_table old) d ≡ b → (b ≡ false → IsRecorded (knowledge old) d) → IsRecorded (knowledge old) d
+  is-held : (d : Determinant) (b : Bool) → is_held (recovery_table (knowledge old)) d ≡ b → (b ≡ false → IsRecorded (knowledge old) d) → IsRecorded (knowledge old) d
   is-held d true is otherwise = held-recorded d is
   is-held d false is otherwise = otherwise refl
 
   keep-stays : (e : Mark) → Has (marks old) e → keep e ≡ true → Stays (knowledge old) e
-  keep-stays e has kept down c at_e up_to = is-held c (is_held (gathered_table old) c) refl (λ none. absurd (lose none))
+  keep-stays e has kept down c at_e up_to = is-held c (is_held (recovery_table (knowledge old)) c) refl (λ none. absurd (lose none))
     where
       at-place : UpTo (marks old) (receipt_of c) e → (i : ℕ) × (j : ℕ) × (i ≤ j) × At (marks old) i (receipt_of c) × At (marks old) j e
       at-place (inl same) = (has.0, has.0, omega arith, (rw same has.1), has.1)
       at-place (inr earlier) = (earlier.0, earlier.1, omega (arith, earlier.2), earlier.3, earlier.4)
 
-      lose : is_held (gathered_table old) c ≡ false → ⊥
+      lose : is_held (recovery_table (knowledge old)) c ≡ false → ⊥
       lose unheld =
           let place = at-place up_to in
           let d : set.contains old.down c.to ≡ true = ap (λ x. set.contains old.down x) at_e ∙ down in
@@ -257,14 +257,14 @@ module _ (next : Next) (old : GroupRecord) (sound : IsSound next old) where
         let d : Determinant = record { from = q; ssn = k; to = to; rsn = r } in
         let recorded = stays (ap (λ x. set.contains old.down x) (sym same) ∙ parts.0) d same up_to in
         let held = recorded-held d recorded in
-        let not-held = not-true (is_held (gathered_table old) d) parts.1 in
+        let not-held = not-true (is_held (recovery_table (knowledge old)) d) parts.1 in
         cc
 
   -- the trace that recovery leaves, computed in one pass, is the cut
   pub recovered_trace-cut : IsEventCut (Stays (knowledge old)) old.trace (recovered_trace old)
   recovered_trace-cut = (
     keep,
-    cut_from-pass old.down (gathered_table old) set.empty old.trace
+    cut_from-pass old.down (recovery_table (knowledge old)) set.empty old.trace
         ∙ pass-filter lost old.config.members old.trace [] old.trace set.empty sound.lawful.well_formed refl (λ m. set.contains-empty nat_cmp m),
     λ e has. (keep-stays e has, stays-keep e has),
   )

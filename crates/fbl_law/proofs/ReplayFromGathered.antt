@@ -23,11 +23,11 @@ use Rattle.fbl_table.specs.declared.entry.Entry.{Entry}
 use Rattle.fbl_table.specs.Tables.{found, is_of_receipt}
 use Rattle.fbl_member.specs.Members.{MemberRecord, logged_note, replayed_by}
 use Rattle.fbl_law.specs.Knowledge.{Names, IsUp, IsDown, IsRecorded}
-use Rattle.fbl_law.specs.Steps.{Stays, IsEventCut}
+use Rattle.fbl_law.specs.Steps.{Stays, IsEventCut, recovery_table}
 use Rattle.fbl_law.specs.Groups.{GroupRecord, marks, knowledge}
 use Rattle.fbl_law.specs.Sound.{received_notes, receipts_at, IsReplayed, IsSound}
 use Rattle.fbl_law.specs.Stuck.{IsSentAgain, IsStuck}
-use Rattle.fbl_law.specs.Replaying.{IsNextReplay, gathered_table}
+use Rattle.fbl_law.specs.Replaying.{IsNextReplay}
 use Rattle.fbl_base.proofs.Sifted.{length-left}
 use Rattle.fbl_law.proofs.Lists.{some-at, Contains-here, Contains-there, Contains-cons_cases, Contains-none}
 use Rattle.fbl_law.proofs.Safe.{down_or_up, IsRecorded-before, Has-recorded}
@@ -115,26 +115,26 @@ module _ (next : Next) (old : GroupRecord) (sound : IsSound next old) (new : Lis
       rw is-marks (Has-kept cut.0 (marks old) (receipt_of d) was ((cut.2 (receipt_of d) was).1 stays))
 
   -- the gathered tables name exactly what is recorded
-  pub gathering-recorded : (d : Determinant) → Names (gathered_table old) d → IsRecorded (knowledge old) d
+  pub gathering-recorded : (d : Determinant) → Names (recovery_table (knowledge old)) d → IsRecorded (knowledge old) d
   gathering-recorded d named = subst (λ (c : Determinant). IsRecorded (knowledge old) c) named.2 (entries_gathered old.config.f (knowledge old) sound.causes.down named.0 named.1).0
 
-  pub recorded-gathering : (d : Determinant) → IsRecorded (knowledge old) d → Names (gathered_table old) d
+  pub recorded-gathering : (d : Determinant) → IsRecorded (knowledge old) d → Names (recovery_table (knowledge old)) d
   recorded-gathering d recorded = recorded_gathered old.config.f (knowledge old) sound.causes.down sound.causes.checkpoints d recorded
 
   -- what the gathered tables find of a member is its receipt in the cut with that number
-  pub found-receipt : (p k : ℕ) (d : Determinant) → found p (k + 1) (gathered_table old) ≡ Some d → slice_get (receipts_at (map mark_of new) p) k ≡ Some d
+  pub found-receipt : (p k : ℕ) (d : Determinant) → found p (k + 1) (recovery_table (knowledge old)) ≡ Some d → slice_get (receipts_at (map mark_of new) p) k ≡ Some d
   found-receipt p k d is =
-      let named = found-named p (k + 1) (gathered_table old) d is in
+      let named = found-named p (k + 1) (recovery_table (knowledge old)) d is in
       Has-receipts_at old.config.members (map mark_of new) p k d cut-obeys (recorded-cut d (gathering-recorded d named.0)) named.1 named.2
 
   -- and they find each receipt of the cut
-  pub found-all : (p k : ℕ) (d : Determinant) → slice_get (receipts_at (map mark_of new) p) k ≡ Some d → found p (k + 1) (gathered_table old) ≡ Some d
-  found-all p k d here = at (found p (k + 1) (gathered_table old)) refl where
+  pub found-all : (p k : ℕ) (d : Determinant) → slice_get (receipts_at (map mark_of new) p) k ≡ Some d → found p (k + 1) (recovery_table (knowledge old)) ≡ Some d
+  found-all p k d here = at (found p (k + 1) (recovery_table (knowledge old))) refl where
     has : Has (map mark_of new) (receipt_of d) × (d.to ≡ p)
     has = receipts_at-Has (map mark_of new) p k d here
 
-    at : (o : Option Determinant) → found p (k + 1) (gathered_table old) ≡ o → found p (k + 1) (gathered_table old) ≡ Some d
-    at None is = absurd (found-none p (k + 1) (gathered_table old) d is (recorded-gathering d (cut-recorded d has.0)) has.1
+    at : (o : Option Determinant) → found p (k + 1) (recovery_table (knowledge old)) ≡ o → found p (k + 1) (recovery_table (knowledge old)) ≡ Some d
+    at None is = absurd (found-none p (k + 1) (recovery_table (knowledge old)) d is (recorded-gathering d (cut-recorded d has.0)) has.1
         (receipts_at-number old.config.members (map mark_of new) p k d cut-obeys here))
     at (Some c) is = (let there = found-receipt p k c is in is ∙ sym there ∙ here)
 
@@ -146,7 +146,7 @@ module _ (next : Next) (old : GroupRecord) (sound : IsSound next old) (new : Lis
 
   -- the next replay of a member: the gathered tables find its next receipt, and the sender's log has the message
   pub replayed-next : (p : ℕ) (m : MemberRecord) (d : Determinant) (w : MemberRecord) (note : Note) → Replays p m
-      → found p (m.received + 1) (gathered_table old) ≡ Some d → Replays d.from w → logged_note w.log d.ssn ≡ Some note → Replays p (replayed_by next p old.config.members m d note)
+      → found p (m.received + 1) (recovery_table (knowledge old)) ≡ Some d → Replays d.from w → logged_note w.log d.ssn ≡ Some note → Replays p (replayed_by next p old.config.members m d note)
   replayed-next p m d w note replayed is sender named =
       replayed-step next old.config.members old.config.starts new p m d note cut-obeys replayed (found-receipt p m.received d is) (replayed-noted d.from w d.ssn note sender named)
 
@@ -162,7 +162,7 @@ module _ (next : Next) (old : GroupRecord) (sound : IsSound next old) (new : Lis
       omega (arith, log, log-short next old.config.members old.config.starts new p m.received (cut-lawful next old sound new cut).0, count_by-le-length (is_send_of p) (map mark_of new), cut-short)
 
   -- the next receipt that the gathered tables find is that of the member's next number, from another member
-  pub found-next : (p : ℕ) (m : MemberRecord) (d : Determinant) → Replays p m → found p (m.received + 1) (gathered_table old) ≡ Some d → IsNextReplay old.config.members p m d
+  pub found-next : (p : ℕ) (m : MemberRecord) (d : Determinant) → Replays p m → found p (m.received + 1) (recovery_table (knowledge old)) ≡ Some d → IsNextReplay old.config.members p m d
   found-next p m d replayed is =
       let here = found-receipt p m.received d is in
       let has = receipts_at-Has (map mark_of new) p m.received d here in
@@ -178,7 +178,7 @@ module _ (next : Next) (old : GroupRecord) (sound : IsSound next old) (new : Lis
 
   -- and its step's sends have room in the log
   pub replay-room : (p : ℕ) (m : MemberRecord) (d : Determinant) (w : MemberRecord) (note : Note) → Replays p m
-      → found p (m.received + 1) (gathered_table old) ≡ Some d → Replays d.from w → logged_note w.log d.ssn ≡ Some note
+      → found p (m.received + 1) (recovery_table (knowledge old)) ≡ Some d → Replays d.from w → logged_note w.log d.ssn ≡ Some note
       → length m.log + length (next p old.config.members m.state note).sends.items ≤ 8192
   replay-room p m d w note replayed is sender named =
       let after = replays-log p (replayed_by next p old.config.members m d note) (replayed-next p m d w note replayed is sender named) in
@@ -187,7 +187,7 @@ module _ (next : Next) (old : GroupRecord) (sound : IsSound next old) (new : Lis
 
   -- the receipt that a member would replay next waits for its message: the sender's log has none yet
   abbrev pub Waits : (ℕ → MemberRecord) → ℕ → Type 0
-  Waits work p = (d : Determinant) → found p ((work p).received + 1) (gathered_table old) ≡ Some d → logged_note (work d.from).log d.ssn ≡ None
+  Waits work p = (d : Determinant) → found p ((work p).received + 1) (recovery_table (knowledge old)) ≡ Some d → logged_note (work d.from).log d.ssn ≡ None
 
   module _ (work : ℕ → MemberRecord) (replays : (q : ℕ) → q < old.config.members → Replays q (work q))
       (survivors : (q : ℕ) → q < old.config.members → IsUp (knowledge old) q → (work q).received ≡ length (receipts_at (map mark_of new) q))

@@ -16,11 +16,11 @@ use Rattle.fbl_table.specs.declared.entry.Entry.{Entry}
 use Rattle.fbl_table.specs.Tables.{found}
 use Rattle.fbl_member.specs.Members.{MemberRecord, blank, logged_note, replayed_by}
 use Rattle.fbl_law.specs.Knowledge.{Members, IsUp, IsDown}
-use Rattle.fbl_law.specs.Steps.{Stays, IsEventCut}
+use Rattle.fbl_law.specs.Steps.{Stays, IsEventCut, recovery_table}
 use Rattle.fbl_law.specs.Groups.{GroupRecord, member, checkpoint, channel, knowledge, receipts}
 use Rattle.fbl_law.specs.Sound.{receipts_at, IsReplayed, IsFold, IsSound}
 use Rattle.fbl_law.specs.GroupSteps.{IsRecovery, IsMadeAgain}
-use Rattle.fbl_law.specs.Replaying.{IsNextReplay, is_replayed, gathered_table, recovered_trace, stays_by, resent_to, working, IsReplaying, IsWaiting, replayed_in, IsRebuilt}
+use Rattle.fbl_law.specs.Replaying.{IsNextReplay, is_replayed, recovered_trace, stays_by, resent_to, working, IsReplaying, IsWaiting, replayed_in, IsRebuilt}
 use Rattle.fbl_law.specs.RecoveryLaws.{ReplayBegins, ReplayIsRight, ReplayEnds, RebuiltIsRecovered}
 use Rattle.fbl_law.proofs.Safe.{down_or_up}
 use Rattle.fbl_law.proofs.CutNotes.{note-was}
@@ -108,12 +108,12 @@ module _ (next : Next) (old : GroupRecord) (sound : IsSound next old) where
 
   -- what the gathered tables find is the next receipt
   pub replaying-next : (rebuilt : List MemberRecord) (p : ℕ) (d : Determinant) → IsReplaying next old rebuilt → p < old.config.members → IsDown (knowledge old) p
-      → found p ((slice_index_or rebuilt p blank).received + 1) (gathered_table old) ≡ Some d → IsNextReplay old.config.members p (slice_index_or rebuilt p blank) d
+      → found p ((slice_index_or rebuilt p blank).received + 1) (recovery_table (knowledge old)) ≡ Some d → IsNextReplay old.config.members p (slice_index_or rebuilt p blank) d
   replaying-next rebuilt p d replaying below down is = found-next next old sound (recovered_trace old) cut p (slice_index_or rebuilt p blank) d (replaying.replayed p below down) is
 
   -- its step's sends have room in the log
   pub replaying-room : (rebuilt : List MemberRecord) (p : ℕ) (d : Determinant) (note : Note) → IsReplaying next old rebuilt → p < old.config.members → IsDown (knowledge old) p
-      → found p ((slice_index_or rebuilt p blank).received + 1) (gathered_table old) ≡ Some d → logged_note (working old rebuilt d.from).log d.ssn ≡ Some note
+      → found p ((slice_index_or rebuilt p blank).received + 1) (recovery_table (knowledge old)) ≡ Some d → logged_note (working old rebuilt d.from).log d.ssn ≡ Some note
       → length (slice_index_or rebuilt p blank).log + length (next p old.config.members (slice_index_or rebuilt p blank).state note).sends.items ≤ 8192
   replaying-room rebuilt p d note replaying below down is named =
       replay-room next old sound (recovered_trace old) cut p (slice_index_or rebuilt p blank) d (working old rebuilt d.from) note (replaying.replayed p below down) is
@@ -121,7 +121,7 @@ module _ (next : Next) (old : GroupRecord) (sound : IsSound next old) where
 
   -- its replay
   pub replaying-step : (rebuilt : List MemberRecord) (p : ℕ) (d : Determinant) (note : Note) → IsReplaying next old rebuilt → p < old.config.members → IsDown (knowledge old) p
-      → found p ((slice_index_or rebuilt p blank).received + 1) (gathered_table old) ≡ Some d → logged_note (working old rebuilt d.from).log d.ssn ≡ Some note
+      → found p ((slice_index_or rebuilt p blank).received + 1) (recovery_table (knowledge old)) ≡ Some d → logged_note (working old rebuilt d.from).log d.ssn ≡ Some note
       → IsReplaying next old (slice_set rebuilt p (replayed_by next p old.config.members (slice_index_or rebuilt p blank) d note))
   replaying-step rebuilt p d note replaying below down is named = record {
     size = length-set rebuilt p after ∙ replaying.size;
@@ -217,9 +217,9 @@ module _ (next : Next) (old : GroupRecord) (sound : IsSound next old) where
       rebuilt-fold m below down =
           let config : new.config ≡ old.config = step.rest.config in
           let trace : new.trace ≡ recovered_trace old = step.trace in
-          let is : member new m ≡ record (slice_index_or rebuilt m blank) { table = gathered_table old } = step.rebuilt m below down in
+          let is : member new m ≡ record (slice_index_or rebuilt m blank) { table = recovery_table (knowledge old) } = step.rebuilt m below down in
           replayed-fold next new m is-lawful.well_formed
-          (rw (config, trace, is) (replayed-table next old.config.members old (recovered_trace old) m (slice_index_or rebuilt m blank) (gathered_table old) (replaying.replayed m below down)))
+          (rw (config, trace, is) (replayed-table next old.config.members old (recovered_trace old) m (slice_index_or rebuilt m blank) (recovery_table (knowledge old)) (replaying.replayed m below down)))
           (rw (trace, is) (rebuilt-received m below down))
 
       fold-all : (m : ℕ) → m < old.config.members → IsFold next new m

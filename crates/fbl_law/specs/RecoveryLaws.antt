@@ -9,11 +9,11 @@ use Rattle.fbl_table.specs.Tables.{found}
 use Rattle.fbl_member.specs.Members.{MemberRecord, blank, logged_note, replayed_by}
 use Rattle.fbl_law.specs.Knowledge.{Holds, IsDown, IsRecorded}
 use Rattle.fbl_law.specs.Promises.{LeavesRecorded, GainsHolders}
-use Rattle.fbl_law.specs.Steps.{Stays, IsEventCut}
+use Rattle.fbl_law.specs.Steps.{Stays, IsEventCut, recovery_table}
 use Rattle.fbl_law.specs.Groups.{GroupRecord, checkpoint, marks, knowledge, receipts, is_recorded}
 use Rattle.fbl_law.specs.Sound.{receipts_at, IsSound}
 use Rattle.fbl_law.specs.GroupSteps.{IsRecovery}
-use Rattle.fbl_law.specs.Replaying.{gathered_table, recovered_trace, working, IsReplaying, IsWaiting, IsRebuilt}
+use Rattle.fbl_law.specs.Replaying.{recovered_trace, working, IsReplaying, IsWaiting, IsRebuilt}
 
 -- the holders of a receipt after a recovery are those before
 abbrev pub GroupRecoveryGainsHolders : Type 0
@@ -60,7 +60,7 @@ abbrev pub ReplayIsRight : Type 0
 ReplayIsRight =
     (next : Next) (old : GroupRecord) (rebuilt : List MemberRecord) (p : ℕ) (d : Determinant) (note : Note)
     → IsSound next old → IsReplaying next old rebuilt → p < old.config.members → IsDown (knowledge old) p
-    → found p ((slice_index_or rebuilt p blank).received + 1) (gathered_table old) ≡ Some d
+    → found p ((slice_index_or rebuilt p blank).received + 1) (recovery_table (knowledge old)) ≡ Some d
     → logged_note (working old rebuilt d.from).log d.ssn ≡ Some note
     → IsReplaying next old (slice_set rebuilt p (replayed_by next p old.config.members (slice_index_or rebuilt p blank) d note))
 

@@ -47,13 +47,9 @@ cut_from s held stopped (e ∷ trace) =
     else (if stops_at s held (mark_of e) then cut_from s held (set.insert stopped (member_of (mark_of e))) trace
     else e ∷ cut_from s held stopped trace)
 
--- what recovery gives the members that are down
-abbrev pub gathered_table : GroupRecord → List Entry
-gathered_table r = recovery_table (knowledge r)
-
 -- the trace that recovery leaves
 abbrev pub recovered_trace : GroupRecord → List Event
-recovered_trace r = cut_from r.down (gathered_table r) set.empty r.trace
+recovered_trace r = cut_from r.down (recovery_table (knowledge r)) set.empty r.trace
 
 -- whether the event stays, by how many receipts and sends the members of the set have after their replay
 abbrev pub stays_by : Members → (ℕ → MemberRecord) → Mark → Bool
@@ -87,7 +83,7 @@ pub record IsReplaying (next : Next) (r : GroupRecord) (rebuilt : List MemberRec
 -- sender has not sent the message again
 abbrev pub IsWaiting : GroupRecord → List MemberRecord → ℕ → Type 0
 IsWaiting r rebuilt p =
-    (d : Determinant) → found p ((slice_index_or rebuilt p blank).received + 1) (gathered_table r) ≡ Some d → logged_note (working r rebuilt d.from).log d.ssn ≡ None
+    (d : Determinant) → found p ((slice_index_or rebuilt p blank).received + 1) (recovery_table (knowledge r)) ≡ Some d → logged_note (working r rebuilt d.from).log d.ssn ≡ None
 
 -- how many receipts were replayed: those that the members that are down have beyond their checkpoints
 abbrev pub replayed_in : GroupRecord → List MemberRecord → ℕ
@@ -98,6 +94,6 @@ replayed_in r rebuilt = count_in r.down (λ p. (slice_index_or rebuilt p blank).
 pub record IsRebuilt (old new : GroupRecord) (replayed : List MemberRecord) : Type 0 where
   pub rest : IsBroughtBack old new
   pub trace : new.trace ≡ recovered_trace old
-  pub rebuilt : (m : ℕ) → m < old.config.members → IsDown (knowledge old) m → member new m ≡ record (slice_index_or replayed m blank) { table = gathered_table old }
+  pub rebuilt : (m : ℕ) → m < old.config.members → IsDown (knowledge old) m → member new m ≡ record (slice_index_or replayed m blank) { table = recovery_table (knowledge old) }
   pub resent : (q p : ℕ) → IsDown (knowledge old) q ⊎ IsDown (knowledge old) p → q < old.config.members → p < old.config.members
       → channel new q p ≡ resent_to old.config.f q p (member new q) (member new p)
