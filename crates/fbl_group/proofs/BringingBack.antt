@@ -22,9 +22,9 @@ use Rattle.fbl_law.specs.Replaying.{is_replayed, stays_by, recovered_trace, coun
 use Rattle.fbl_base.proofs.Sifted.{length-left}
 use Rattle.fbl_law.proofs.GroupRecovery.{recovery-keeps}
 use Rattle.fbl_law.proofs.Undone.{cut-undone}
-use Rattle.fbl_law.proofs.CutTrace.{recovered_trace-cut}
-use Rattle.fbl_law.proofs.Resending.{channel-outside, sum_below-agree, sent_again-agree, sent_again-short}
-use Rattle.fbl_law.proofs.Rebuilding.{with-table, working-log, replayed_in-all, recovered_trace-rebuilt, recovery-made}
+use Rattle.fbl_law.proofs.CutInOnePass.{recovered_trace-cut}
+use Rattle.fbl_law.proofs.ChannelCounts.{channel-outside, sum_below-agree, sent_again-agree, sent_again-short}
+use Rattle.fbl_law.proofs.ReplayLaws.{with-table, working-log, replayed_in-all, recovered_trace-rebuilt, recovery-made}
 use Rattle.fbl_group.specs.declared.answers.Recovered.{Recovered}
 use Rattle.fbl_group.specs.Recoveries.{messages_at, Recovers}
 use Rattle.fbl_group.specs.Channels.{AreReplaced}
@@ -35,7 +35,8 @@ pub counted-receipts : (trace : List Event) → count_by (λ e. is_some (determi
 counted-receipts [] = refl
 counted-receipts (e ∷ trace) = sum_by-cons (λ x. cond (is_some (determinant_of (mark_of x))) 1 0) e trace ∙ at e (counted-receipts trace) where
   at : (x : Event) → count_by (λ y. is_some (determinant_of (mark_of y))) trace ≡ length (receipts (map mark_of trace))
-      → cond (is_some (determinant_of (mark_of x))) 1 0 + count_by (λ y. is_some (determinant_of (mark_of y))) trace ≡ length (cons_option (determinant_of (mark_of x)) (receipts (map mark_of trace)))
+      → cond (is_some (determinant_of (mark_of x))) 1 0 + count_by (λ y. is_some (determinant_of (mark_of y))) trace
+          ≡ length (cons_option (determinant_of (mark_of x)) (receipts (map mark_of trace)))
   at (event.Send from ssn to note) ih = omega (arith, ih)
   at (event.Receipt to rsn from ssn) ih = omega (arith, ih)
 
@@ -96,7 +97,8 @@ module _ (next : Next) (old : GroupRecord) (sound : IsSound next old) where
         at false is = rw is (members.kept q is)
 
       -- a channel with an end that was down has what its sender sends again
-      resent_on : (q p : ℕ) → IsDown (knowledge old) q ⊎ IsDown (knowledge old) p → q < old.config.members → p < old.config.members → channel new q p ≡ resent_to old.config.f q p (member new q) (member new p)
+      resent_on : (q p : ℕ) → IsDown (knowledge old) q ⊎ IsDown (knowledge old) p → q < old.config.members → p < old.config.members
+          → channel new q p ≡ resent_to old.config.f q p (member new q) (member new p)
       resent_on q p down below_q below_p =
           replaced.each q p below_q below_p ∙ ap (λ b. cond b (channel_in again q p) (channel old q p)) (ends down) ∙ made q p below_q below_p
           ∙ sent_again-agree old.config.f old.down (working old rebuilt) (λ m. member new m) q p (sym (works q below_q)) (sym (works p below_p))
@@ -116,40 +118,48 @@ module _ (next : Next) (old : GroupRecord) (sound : IsSound next old) where
         outside out = channel-outside old.config.members new.channels q p replaced.shape out ∙ sym (channel-outside old.config.members old.channels q p sound.shape out)
 
         at : (q < old.config.members) ⊎ (old.config.members ≤ q) → (p < old.config.members) ⊎ (old.config.members ≤ p) → channel new q p ≡ channel old q p
-        at (inl below_q) (inl below_p) = replaced.each q p below_q below_p ∙ ap (λ b. cond (b || set.contains old.down p) (channel_in again q p) (channel old q p)) up_q ∙ ap (λ b. cond b (channel_in again q p) (channel old q p)) up_p
+        at (inl below_q) (inl below_p) = replaced.each q p below_q below_p
+            ∙ ap (λ b. cond (b || set.contains old.down p) (channel_in again q p) (channel old q p)) up_q ∙ ap (λ b. cond b (channel_in again q p) (channel old q p)) up_p
         at (inl below_q) (inr past) = outside (inr past)
         at (inr past) within_p = outside (inl past)
 
       -- how many messages are sent again
       counted : messages_in old.config.members again ≡ messages_at old.down new
       counted =
-          sum_below-agree old.config.members (λ q. sum_below old.config.members (λ p. length (channel_in again q p))) (λ q. sum_below old.config.members (λ p. cond (set.contains old.down q || set.contains old.down p) (length (channel new q p)) 0)) row
+          sum_below-agree old.config.members (λ q. sum_below old.config.members (λ p. length (channel_in again q p)))
+              (λ q. sum_below old.config.members (λ p. cond (set.contains old.down q || set.contains old.down p) (length (channel new q p)) 0)) row
           ∙ ap (λ n. sum_below n (λ q. sum_below n (λ p. cond (set.contains old.down q || set.contains old.down p) (length (channel new q p)) 0))) (sym (ap (λ (c : Settings). c.members) config))
         where
-          one : (q p : ℕ) → q < old.config.members → p < old.config.members → (b : Bool) → (set.contains old.down q || set.contains old.down p) ≡ b → length (channel_in again q p) ≡ cond b (length (channel new q p)) 0
+          one : (q p : ℕ) → q < old.config.members → p < old.config.members → (b : Bool) → (set.contains old.down q || set.contains old.down p) ≡ b
+              → length (channel_in again q p) ≡ cond b (length (channel new q p)) 0
           one q p below_q below_p true is = ap length (sym (replaced.each q p below_q below_p ∙ ap (λ b. cond b (channel_in again q p) (channel old q p)) is))
           one q p below_q below_p false is = ap length (made q p below_q below_p ∙ ap (λ b. cond b (resent_to old.config.f q p (working old rebuilt q) (working old rebuilt p)) []) is)
 
-          row : (q : ℕ) → q < old.config.members → sum_below old.config.members (λ p. length (channel_in again q p)) ≡ sum_below old.config.members (λ p. cond (set.contains old.down q || set.contains old.down p) (length (channel new q p)) 0)
-          row q below_q = sum_below-agree old.config.members (λ p. length (channel_in again q p)) (λ p. cond (set.contains old.down q || set.contains old.down p) (length (channel new q p)) 0) (λ p below_p. one q p below_q below_p (set.contains old.down q || set.contains old.down p) refl)
+          row : (q : ℕ) → q < old.config.members → sum_below old.config.members (λ p. length (channel_in again q p))
+              ≡ sum_below old.config.members (λ p. cond (set.contains old.down q || set.contains old.down p) (length (channel new q p)) 0)
+          row q below_q = sum_below-agree old.config.members (λ p. length (channel_in again q p))
+              (λ p. cond (set.contains old.down q || set.contains old.down p) (length (channel new q p)) 0)
+              (λ p below_p. one q p below_q below_p (set.contains old.down q || set.contains old.down p) refl)
 
       marks_left : length (receipts (marks new)) ≡ length (receipts (map mark_of left))
       marks_left = ap (λ (es : List Event). length (receipts (map mark_of es))) trace
 
       is_rebuilt : IsRebuilt old new rebuilt
       is_rebuilt = record {
-        nobody_down = down;
+        rest = record {
+          nobody_down = down;
+          size = members.size;
+          survivors = members.kept;
+          shape = replaced.shape;
+          channels = survive;
+          config = config;
+          receipts_ever = receipts_ever;
+          undone_ever = omega (arith, undone_ever, undone_is, marks_left);
+          checkpoints = checkpoints;
+        };
         trace = trace ∙ left-is;
-        size = members.size;
-        survivors = members.kept;
         rebuilt = λ m below is. members.put m (omega (arith, below, sound.members)) is ∙ with-table (slice_index_or rebuilt m blank) _ (ready.tables m below is);
-        shape = replaced.shape;
-        channels = survive;
         resent = resent_on;
-        config = config;
-        receipts_ever = receipts_ever;
-        undone_ever = omega (arith, undone_ever, undone_is, marks_left);
-        checkpoints = checkpoints;
       }
 
       is_recovery : IsRecovery next old new
@@ -159,10 +169,12 @@ module _ (next : Next) (old : GroupRecord) (sound : IsSound next old) where
       sound-again = recovery-keeps next old new is_recovery sound
 
       -- what the recovery answers
-      answers : (answer : Recovered) → answer.replayed ≡ replayed_in old rebuilt → answer.resent ≡ messages_in old.config.members again → answer.undone ≡ undone → Recovers next old new answer
+      answers : (answer : Recovered) → answer.replayed ≡ replayed_in old rebuilt → answer.resent ≡ messages_in old.config.members again
+          → answer.undone ≡ undone → Recovers next old new answer
       answers answer replayed resent lost = record {
         recovery = is_recovery;
-        replayed = replayed ∙ replayed_in-all next old sound rebuilt ready.replayed.replaying ready.replayed.waiting ∙ ap (λ (es : List Event). length (filter (is_replayed old) (receipts (map mark_of es)))) (sym (trace ∙ left-is));
+        replayed = replayed ∙ replayed_in-all next old sound rebuilt ready.replayed.replaying ready.replayed.waiting
+            ∙ ap (λ (es : List Event). length (filter (is_replayed old) (receipts (map mark_of es)))) (sym (trace ∙ left-is));
         resent = resent ∙ counted;
         undone = omega (arith, lost, undone_is, marks_left);
       }
@@ -195,7 +207,8 @@ module _ (next : Next) {old now : GroupRecord} {rebuilt : List MemberRecord} (so
     short-rest is = omega (arith, ap length (is ∙ cut-left), few-left next old sound rebuilt ready)
 
     -- its receipts, counted before and after
-    module _ {before after : ℕ} {first last : List Event} (counts_first : before ≡ length (receipts (map mark_of first))) (is_first : first ≡ old.trace) (counts_last : after ≡ length (receipts (map mark_of last))) (is_last : last ≡ rest) where
+    module _ {before after : ℕ} {first last : List Event} (counts_first : before ≡ length (receipts (map mark_of first)))
+        (is_first : first ≡ old.trace) (counts_last : after ≡ length (receipts (map mark_of last))) (is_last : last ≡ rest) where
       first-counted : before ≡ length (receipts (map mark_of old.trace))
       first-counted = counts_first ∙ ap (λ (es : List Event). length (receipts (map mark_of es))) is_first
 
@@ -214,9 +227,11 @@ module _ (next : Next) {old now : GroupRecord} {rebuilt : List MemberRecord} (so
         undone-fits fits = within old.receipts_ever (old.undone_ever + undone) fits (omega (arith, undone-left, sound.counted))
 
         -- the group that is left
-        module _ {new : GroupRecord} {n : ℕ} {records : List MemberRecord} (again : List (List (List Message))) (all : n ≡ old.config.members) (same : records ≡ rebuilt) (each : AreSentAgain now records again)
+        module _ {new : GroupRecord} {n : ℕ} {records : List MemberRecord} (again : List (List (List Message))) (all : n ≡ old.config.members)
+            (same : records ≡ rebuilt) (each : AreSentAgain now records again)
             (put : IsPutBack s rebuilt old.members new.members) (replaced : AreReplaced n old.down (channel_in again) old.channels new.channels) (config : new.config ≡ old.config)
-            (trace : new.trace ≡ rest) (checkpoints : new.checkpoints ≡ old.checkpoints) (down : new.down ≡ set.empty) (receipts_ever : new.receipts_ever ≡ old.receipts_ever) (undone_ever : new.undone_ever ≡ old.undone_ever + undone) where
+            (trace : new.trace ≡ rest) (checkpoints : new.checkpoints ≡ old.checkpoints) (down : new.down ≡ set.empty)
+                (receipts_ever : new.receipts_ever ≡ old.receipts_ever) (undone_ever : new.undone_ever ≡ old.undone_ever + undone) where
           members : IsPutBack old.down rebuilt old.members new.members
           members = subst (λ (d : Members). IsPutBack d rebuilt old.members new.members) same-down put
 
@@ -224,10 +239,13 @@ module _ (next : Next) {old now : GroupRecord} {rebuilt : List MemberRecord} (so
           channels = subst (λ (k : ℕ). AreReplaced k old.down (channel_in again) old.channels new.channels) all replaced
 
           pub is_sound : IsSound next new
-          is_sound = sound-again next old sound rebuilt ready new again config members (made again all same each) channels (trace ∙ cut-left) checkpoints down receipts_ever undone undone-left undone_ever
+          is_sound = sound-again next old sound rebuilt ready new again config members (made again all same each) channels
+              (trace ∙ cut-left) checkpoints down receipts_ever undone undone-left undone_ever
 
           -- what is answered, from the number of receipts that were replayed and of messages that are sent again
-          pub recovers : {replays messages : ℕ} {saved : List MemberRecord} → replays ≡ count_in s (λ p. (slice_index_or rebuilt p blank).received - (slice_index_or saved p blank).received) n → saved ≡ old.checkpoints → messages ≡ messages_in n again
+          pub recovers : {replays messages : ℕ} {saved : List MemberRecord}
+              → replays ≡ count_in s (λ p. (slice_index_or rebuilt p blank).received - (slice_index_or saved p blank).received) n
+              → saved ≡ old.checkpoints → messages ≡ messages_in n again
               → Recovers next now new (record { replayed = replays; resent = messages; undone = before - after })
           recovers {replays = replays} {messages = messages} {saved = saved} replayed is_saved resent =
               subst (λ (r : GroupRecord). Recovers next r new (record { replayed = replays; resent = messages; undone = before - after })) view

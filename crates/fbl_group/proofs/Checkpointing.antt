@@ -6,7 +6,7 @@ use Rattle.std.proofs.lemmas.Bool.Decides.{nat_tests}
 use Rattle.fbl_base.specs.Fold.{Next}
 use Rattle.fbl_member.specs.Members.{MemberRecord, blank}
 use Rattle.fbl_law.specs.Groups.{GroupRecord, member}
-use Rattle.fbl_law.specs.Sound.{IsSound}
+use Rattle.fbl_law.specs.Sound.{IsCheckpointFold, IsSound}
 use Rattle.fbl_law.specs.GroupSteps.{IsCheckpoint}
 use Rattle.fbl_law.proofs.GroupCheckpoint.{group_checkpoint_keeps}
 use Rattle.fbl_group.specs.declared.refusals.CheckpointRefusal.TheVariants.{BadMember, Down}
@@ -29,7 +29,8 @@ may_checkpoint r p allowed = at (nat_lt p r.config.members) (sets.len r.down == 
   }
 
 -- a record that is read at the member's place is copied there
-module _ (next : Next) (old : GroupRecord) (sound : IsSound next old) (p : ℕ) (allowed : checkpoint_refusal old p ≡ None) (place : ℕ) (is_place : place ≡ p) (copy read : MemberRecord) (same : copy ≡ read) (is : read ≡ get_or old.members place read) where
+module _ (next : Next) (old : GroupRecord) (sound : IsSound next old) (p : ℕ) (allowed : checkpoint_refusal old p ≡ None) (place : ℕ)
+    (is_place : place ≡ p) (copy read : MemberRecord) (same : copy ≡ read) (is : read ≡ get_or old.members place read) where
   may : MayCheckpoint old p
   may = may_checkpoint old p allowed
 
@@ -43,8 +44,12 @@ module _ (next : Next) (old : GroupRecord) (sound : IsSound next old) (p : ℕ) 
   is_checkpoint = record {
     nobody_down = may.nobody_down;
     below = may.below;
-    saved = ap (λ k. let r : GroupRecord = record old { checkpoints = slice_set old.checkpoints k copy } in r) is_place ∙ ap (λ m. let r : GroupRecord = record old { checkpoints = slice_set old.checkpoints p m } in r) it;
+    saved = ap (λ k. let r : GroupRecord = record old { checkpoints = slice_set old.checkpoints k copy } in r) is_place
+        ∙ ap (λ m. let r : GroupRecord = record old { checkpoints = slice_set old.checkpoints p m } in r) it;
   }
 
   pub is_sound : IsSound next (record old { checkpoints = slice_set old.checkpoints place copy })
   is_sound = group_checkpoint_keeps next old (record old { checkpoints = slice_set old.checkpoints place copy }) p is_checkpoint sound
+
+  pub is_fold : IsCheckpointFold next (record old { checkpoints = slice_set old.checkpoints place copy }) p
+  is_fold = is_sound.saved p may.below

@@ -21,7 +21,7 @@ use Rattle.fbl_law.specs.GroupLaws.{SendsWell}
 use Rattle.fbl_law.proofs.GroupFacts.{all_up, receipts_fit, sends_fit, receipt_is_new, new_not_held, new_not_carried, flight_ends, front_flight, front_is_later}
 use Rattle.fbl_member.specs.Carried.{IsOnce}
 use Rattle.fbl_law.proofs.DumpLaws.{carried_fits}
-use Rattle.fbl_law.proofs.GroupDeliver.{length-step_events, group_delivery_keeps}
+use Rattle.fbl_law.proofs.GroupDelivery.{length-step_events, group_delivery_keeps}
 use Rattle.fbl_group.specs.Channels.{first_message, front_message, send_of_message, taken_and_sent}
 use Rattle.fbl_group.specs.Deliveries.{IsPlanned, Delivered}
 use Rattle.fbl_group.specs.Tickets.{has_no_room}

@@ -24,7 +24,7 @@ use Rattle.fbl_law.specs.Groups.{GroupRecord, channel, marks, knowledge, receipt
 use Rattle.fbl_law.specs.Sound.{IsSound}
 use Rattle.fbl_law.specs.GroupSteps.{IsStrike}
 use Rattle.fbl_law.proofs.GroupStrike.{group_strike_keeps, recorded_test}
-use Rattle.fbl_law.proofs.Resending.{channel-outside}
+use Rattle.fbl_law.proofs.ChannelCounts.{channel-outside}
 use Rattle.fbl_law.proofs.Promises.{sound_has_no_orphan}
 use Rattle.fbl_group.specs.declared.refusals.StrikeRefusal.{StrikeRefusal}
 use Rattle.fbl_group.specs.declared.refusals.StrikeRefusal.TheVariants.{BadMember, Nobody, TooMany}

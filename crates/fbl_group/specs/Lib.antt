@@ -6,6 +6,5 @@ pub mod Tickets
 pub mod Crashes
 pub mod Readers
 pub mod Rebuilding
-pub mod Promises
 pub mod Checkpoints
 pub mod Names

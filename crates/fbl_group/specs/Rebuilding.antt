@@ -7,17 +7,18 @@ use Rattle.fbl_table.specs.declared.entry.Entry.{Entry}
 use Rattle.fbl_table.specs.Receipts.{IsByNumber}
 use Rattle.fbl_member.specs.Members.{MemberRecord, blank}
 use Rattle.fbl_law.specs.Knowledge.{Members, IsDown}
+use Rattle.fbl_law.specs.Steps.{recovery_table}
 use Rattle.fbl_law.specs.Groups.{GroupRecord, checkpoint, knowledge}
-use Rattle.fbl_law.specs.Replaying.{gathered_table, IsReplaying, IsWaiting, replayed_in}
+use Rattle.fbl_law.specs.Replaying.{IsReplaying, IsWaiting, replayed_in}
 
 -- of each member that is down, the receipts beyond its checkpoint that the gathered table has, by their numbers
 pub record AreByNumber (r : GroupRecord) (receipts : List (List (Option Determinant))) : Type 0 where
   pub size : length receipts ≡ r.config.members
-  pub each : (p : ℕ) → p < r.config.members → IsDown (knowledge r) p → IsByNumber p (checkpoint r p).received (gathered_table r) (slice_index_or receipts p [])
+  pub each : (p : ℕ) → p < r.config.members → IsDown (knowledge r) p → IsByNumber p (checkpoint r p).received (recovery_table (knowledge r)) (slice_index_or receipts p [])
 
 -- the gathered table, with these receipts
 pub record IsGathered (r : GroupRecord) (held : List Entry) (numbered : List (List (Option Determinant))) : Type 0 where
-  pub table : held ≡ gathered_table r
+  pub table : held ≡ recovery_table (knowledge r)
   pub receipts : AreByNumber r numbered
 
 -- a try of the member p to replay its next receipt: one receipt more is replayed, or p waits and nothing changes
@@ -38,7 +39,7 @@ pub record HasReplayed (next : Next) (r : GroupRecord) (rebuilt : List MemberRec
 -- and has the gathered table
 pub record IsReady (next : Next) (r : GroupRecord) (rebuilt : List MemberRecord) : Type 0 where
   pub replayed : HasReplayed next r rebuilt
-  pub tables : (p : ℕ) → p < r.config.members → IsDown (knowledge r) p → (slice_index_or rebuilt p blank).table ≡ gathered_table r
+  pub tables : (p : ℕ) → p < r.config.members → IsDown (knowledge r) p → (slice_index_or rebuilt p blank).table ≡ recovery_table (knowledge r)
 
 -- exactly the members of the set are put back, each with the record that was rebuilt
 pub record IsPutBack (down : Members) (rebuilt old new : List MemberRecord) : Type 0 where

@@ -7,6 +7,7 @@ ghost use Rattle.fbl_base.specs.Precedence.{Has};
 ghost use Rattle.fbl_law.specs.Knowledge.{IsRecorded};
 ghost use Rattle.fbl_law.specs.Groups.{checkpoint as checkpoint_of, knowledge, marks};
 ghost use Rattle.fbl_law.specs.GroupSteps.{IsCheckpoint};
+ghost use Rattle.fbl_law.specs.Sound.{IsCheckpointFold};
 ghost use Rattle.fbl_group.specs.Checkpoints.{checkpoint_refusal, IsCheckpointRefusal};
 
 use crate::group::Group;
@@ -21,6 +22,7 @@ impl<B: Behaviour, A: Allocator + Copy> Group<B, A> {
     /// the older checkpoint stands, and nothing has changed.
     pub fn checkpoint(&mut self, member: Member) -> Result<(), CheckpointRefusal>
         ensures taken { OnOk result ((checkpoint_refusal self.old member ≡ None) × IsCheckpoint self.old self.new member) }
+        ensures fold { OnOk result (IsCheckpointFold B.next self.new member) }
         ensures refused { IfErr result (IsCheckpointRefusal (checkpoint_refusal self.old member)) }
         ensures unchanged { OnErr result (self.new ≡ self.old) }
     {
@@ -36,6 +38,7 @@ impl<B: Behaviour, A: Allocator + Copy> Group<B, A> {
     pub fn checkpoint_received(&self, member: Member) -> u32
         requires { member < self.now.config.members }
         ensures value { result ≡ (checkpoint_of self.now member).received }
+        ensures fold { IsCheckpointFold B.next self.now member }
         ensures recorded { (d : Determinant) → Has (marks self.now) (receipt_of d) → d.to ≡ member → d.rsn ≤ result → IsRecorded (knowledge self.now) d }
     {
         self.checkpoints[usize::from(member.number())].received()
@@ -59,6 +62,7 @@ impl<B: Behaviour, A: Allocator + Copy> Group<B, A> {
     fn save(&mut self, member: Member) -> Result<(), AllocError>
         requires { checkpoint_refusal self.old member ≡ None }
         ensures saved { OnOk result (IsCheckpoint self.old self.new member) }
+        ensures fold { OnOk result (IsCheckpointFold B.next self.new member) }
         ensures unchanged { OnErr result (self.new ≡ self.old) }
     {
         let place = usize::from(member.number());

@@ -1,7 +1,8 @@
 //! A strike and the recovery from it in one call.
 
 ghost use Rattle.std.specs.Prelude.{◌≡◌, IfOk, IfErr, OnOk, None};
-ghost use Rattle.fbl_group.specs.Promises.{KeepsHolders};
+ghost use Rattle.fbl_law.specs.Groups.{knowledge};
+ghost use Rattle.fbl_law.specs.Promises.{KeepsHolders};
 ghost use Rattle.fbl_group.specs.Strikes.{strike_refusal};
 ghost use Rattle.fbl_group.specs.Crashes.{Crashes, CrashLeaves, of_strike};
 
@@ -16,7 +17,7 @@ impl<B: Behaviour, A: Allocator + Copy> Group<B, A> {
     /// after `Memory` it is as the strike leaves it, and `recover` may be called.
     pub fn crash(&mut self, set: MemberSet) -> Result<(Struck, Recovered), CrashRefusal>
         ensures crashed { IfOk result (λ answer. (strike_refusal self.old set ≡ None) × Crashes B.next self.old self.new set answer.0 answer.1) }
-        ensures holders { OnOk result (KeepsHolders self.old self.new) }
+        ensures holders { OnOk result (KeepsHolders (knowledge self.old) (knowledge self.new)) }
         ensures refused { IfErr result (CrashLeaves self.old self.new set) }
     {
         match self.strike(set) {

@@ -8,7 +8,8 @@ ghost use Rattle.fbl_law.specs.Groups.{channel as channel_of, messages_in_flight
 ghost use Rattle.std.specs.FinSet as set;
 ghost use Rattle.fbl_law.specs.Sound.{IsSound, received_notes};
 ghost use Rattle.fbl_law.specs.StepLaws.{weight_held, weight_flying};
-ghost use Rattle.fbl_group.specs.Readers.{is_quiet as is_quiet_now, HoldsEachReceipt};
+ghost use Rattle.fbl_law.specs.Promises.{HoldsEachReceipt};
+ghost use Rattle.fbl_group.specs.Readers.{is_quiet as is_quiet_now};
 
 use crate::channels::{channel_between, count_messages, has_message, sum_values};
 use crate::group::Group;

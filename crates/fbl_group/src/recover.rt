@@ -4,9 +4,9 @@ ghost use Rattle.std.specs.Prelude.{◌≡◌, ℕ, ◌<◌, ◌≤◌, ◌||◌
 ghost use Rattle.std.specs.Option.{is_some};
 ghost use Rattle.std.specs.FinSet as set;
 ghost use Rattle.fbl_base.specs.Events.{mark_of, determinant_of};
-ghost use Rattle.fbl_law.specs.Groups.{HasChannels, channel_in, receipts};
+ghost use Rattle.fbl_law.specs.Groups.{HasChannels, channel_in, knowledge, receipts};
+ghost use Rattle.fbl_law.specs.Promises.{GainsHolders, LeavesRecorded, RecordsFirst};
 ghost use Rattle.fbl_group.specs.Channels.{queued, queued_rows, AreReplaced};
-ghost use Rattle.fbl_group.specs.Promises.{GainsHolders, LeavesRecorded, RecordsFirst};
 ghost use Rattle.fbl_group.specs.Recoveries.{Recovers, IsRecoverRefusal};
 ghost use Rattle.fbl_group.specs.Strikes.{lost_receipts};
 
@@ -29,8 +29,8 @@ impl<B: Behaviour, A: Allocator + Copy> Group<B, A> {
         ensures recovered { IfOk result (λ answer. ¬ (self.old.down ≡ set.empty) × Recovers B.next self.old self.new answer) }
         ensures left { OnOk result (LeavesRecorded self.old self.new) }
         ensures undone { IfOk result (λ answer. answer.undone ≡ length (lost_receipts self.old)) }
-        ensures first { RecordsFirst self.old }
-        ensures holders { OnOk result (GainsHolders self.old self.new) }
+        ensures first { RecordsFirst (knowledge self.old) }
+        ensures holders { OnOk result (GainsHolders (knowledge self.old) (knowledge self.new)) }
         ensures refused { IfErr result (IsRecoverRefusal self.old) }
         ensures unchanged { OnErr result (self.new ≡ self.old) }
     {

@@ -4,10 +4,10 @@ ghost use Rattle.std.specs.Prelude.{◌≡◌, ℕ, ◌<◌, [], true, false, le
 ghost use Rattle.std.specs.FinSet as set;
 ghost use Rattle.fbl_table.specs.Receipts.{receipt_at, IsByNumber};
 ghost use Rattle.fbl_member.specs.Members.{logged_note};
-ghost use Rattle.fbl_law.specs.Groups.{checkpoint as checkpoint_of};
-ghost use Rattle.fbl_law.specs.Steps.{gathered_all, saved_tables};
+ghost use Rattle.fbl_law.specs.Groups.{checkpoint as checkpoint_of, knowledge};
+ghost use Rattle.fbl_law.specs.Steps.{gathered_all, saved_tables, recovery_table};
 ghost use Rattle.fbl_law.specs.Sound.{IsSound};
-ghost use Rattle.fbl_law.specs.Replaying.{gathered_table, working, IsReplaying};
+ghost use Rattle.fbl_law.specs.Replaying.{working, IsReplaying};
 ghost use Rattle.fbl_group.specs.Rebuilding.{AreByNumber, IsGathered, Tries, Rounds, HasReplayed, IsReady};
 
 use crate::group::Group;
@@ -65,7 +65,7 @@ impl<B: Behaviour, A: Allocator + Copy> Group<B, A> {
     /// The survivors' tables in member order and then those of the checkpoints of the members that are down, where these
     /// count as holders.
     fn gather_table(&self) -> Result<Table<A>, AllocError>
-        ensures table { IfOk result (λ table. table ≡ gathered_table self.now) }
+        ensures table { IfOk result (λ table. table ≡ recovery_table (knowledge self.now)) }
         ensures sound { IsSound B.next self.now }
     {
         let mut gathered = Table::for_limit(*self.members.allocator(), self.config.f());
@@ -91,7 +91,7 @@ impl<B: Behaviour, A: Allocator + Copy> Group<B, A> {
 
     /// The receipts that the gathered table has of each member that is down beyond its checkpoint, by their numbers.
     fn number_receipts(&self, gathered: &Table<A>) -> Result<Vec<Receipts<A>, A>, AllocError>
-        requires { gathered.now ≡ gathered_table self.now }
+        requires { gathered.now ≡ recovery_table (knowledge self.now) }
         ensures { IfOk result (λ receipts. AreByNumber self.now receipts.items) }
     {
         let mut receipts = Vec::new(*self.members.allocator());
@@ -227,7 +227,7 @@ impl<B: Behaviour, A: Allocator + Copy> Group<B, A> {
         gathered: Table<A>,
         rebuilt: &mut Vec<MemberRec<A>, A>,
     ) -> Result<(), AllocError>
-        requires gathered { gathered ≡ gathered_table self.now }
+        requires gathered { gathered ≡ recovery_table (knowledge self.now) }
         requires replayed { HasReplayed B.next self.now rebuilt.old.items }
         ensures { OnOk result (IsReady B.next self.now rebuilt.new.items) }
     {

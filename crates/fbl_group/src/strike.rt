@@ -6,9 +6,9 @@ ghost use Rattle.std.specs.FinSet as sets;
 ghost use Rattle.fbl_table.specs.Tables.{is_held};
 ghost use Rattle.fbl_member.specs.Members.{blank};
 ghost use Rattle.fbl_law.specs.Knowledge.{IsOrphan};
+ghost use Rattle.fbl_law.specs.Promises.{SurvivorsHold, RecordsFirst, RecordsCauses};
 ghost use Rattle.fbl_law.specs.Groups.{HasChannels, is_recorded_among as is_recorded_among_of, knowledge};
 ghost use Rattle.fbl_group.specs.Channels.{queued, queued_rows, AreReplaced};
-ghost use Rattle.fbl_group.specs.Promises.{SurvivorsHold, RecordsFirst, RecordsCauses};
 ghost use Rattle.fbl_group.specs.Strikes.{strike_refusal, Strikes, IsBlanked, is_lost_receipt_of, lost_receipts, unrecorded_among};
 
 use crate::answers::Struck;
@@ -29,9 +29,9 @@ impl<B: Behaviour, A: Allocator + Copy> Group<B, A> {
         ensures refused { IfErr result (λ refusal. strike_refusal self.old set ≡ Some refusal) }
         ensures unchanged { OnErr result (self.new ≡ self.old) }
         ensures no_orphan { (m : ℕ) → ¬ (IsOrphan (knowledge self.new) m) }
-        ensures survivors { SurvivorsHold self.new }
-        ensures first { RecordsFirst self.new }
-        ensures causes { RecordsCauses self.new }
+        ensures survivors { SurvivorsHold (knowledge self.new) self.new.down }
+        ensures first { RecordsFirst (knowledge self.new) }
+        ensures causes { RecordsCauses (knowledge self.new) }
     {
         self.allow_strike(set)?;
         blank_members(

@@ -28,7 +28,7 @@ use Rattle.fbl_law.specs.Knowledge.{Members}
 use Rattle.fbl_law.proofs.Lists.{filter-passes, some-at}
 use Rattle.fbl_law.proofs.Logs.{logged-by, logged-noted, log-short, length-numbered}
 use Rattle.fbl_law.proofs.Receipts.{Has-receipts_at}
-use Rattle.fbl_law.proofs.Replayed.{take-next, replayed-fresh, replayed-step}
+use Rattle.fbl_law.proofs.ReplayedRecords.{take-next, replayed-fresh, replayed-step}
 use Rattle.fbl_history.specs.Replays.{HaveReplayed}
 use Rattle.fbl_history.specs.Traces.{state_after_receipt}
 

@@ -45,14 +45,16 @@ AreSent-matched f r matches empty v flies =
     matched-Has r v (matches v.from v.to ends.0 ends.1) flies
 
 -- sends come last in flight
-in_flight-made : (n : ℕ) (u : List Mark) (made : List Message) (q p : ℕ) → WellFormed n (u ++ map send_mark made) → in_flight (u ++ map send_mark made) q p ≡ in_flight u q p ++ filter_map (sent_on q p) (map send_mark made)
+in_flight-made : (n : ℕ) (u : List Mark) (made : List Message) (q p : ℕ) → WellFormed n (u ++ map send_mark made)
+    → in_flight (u ++ map send_mark made) q p ≡ in_flight u q p ++ filter_map (sent_on q p) (map send_mark made)
 in_flight-made n u [] q p obeys = simp append-nil
 in_flight-made n u (x ∷ made) q p obeys =
     let next : WellFormed n ((u ++ send_mark x ∷ []) ++ map send_mark made) = rw append_assoc obeys in
     let front : WellFormed n (u ++ send_mark x ∷ []) = WellFormed-front n (u ++ send_mark x ∷ []) (map send_mark made) next in
     let rest = in_flight-made n (u ++ send_mark x ∷ []) made q p next in
     let one = in_flight-send n u (WellFormed-front n u (send_mark x ∷ []) front) x.from x.ssn x.to q p (MayFollow-last n u (send_mark x) front) in
-    ap (λ (t : List Mark). in_flight t q p) (sym (append_assoc u (send_mark x ∷ []) (map send_mark made))) ∙ rest ∙ ap (λ (ys : List ℕ). ys ++ filter_map (sent_on q p) (map send_mark made)) one
+    ap (λ (t : List Mark). in_flight t q p) (sym (append_assoc u (send_mark x ∷ []) (map send_mark made))) ∙ rest
+        ∙ ap (λ (ys : List ℕ). ys ++ filter_map (sent_on q p) (map send_mark made)) one
     ∙ append_assoc (in_flight u q p) _ _ ∙ ap (λ (ys : List ℕ). in_flight u q p ++ ys) (joined (x.from == q && x.to == p))
   where
     joined : (b : Bool) → cond b (x.ssn ∷ []) [] ++ filter_map (sent_on q p) (map send_mark made) ≡ cons_option (cond b (Some x.ssn) None) (filter_map (sent_on q p) (map send_mark made))
@@ -64,7 +66,10 @@ pub messages_between : (made : List Message) (q p : ℕ) → map send_mark (betw
 messages_between [] q p = refl
 messages_between (x ∷ made) q p = at (x.from == q) (x.to == p) refl refl (messages_between made q p)
   where
-    at : (a b : Bool) → (x.from == q) ≡ a → (x.to == p) ≡ b → map send_mark (between q p made) ≡ map (λ ssn. Send q ssn p) (filter_map (sent_on q p) (map send_mark made)) → map send_mark (cond (a && b) (x ∷ between q p made) (between q p made)) ≡ map (λ ssn. Send q ssn p) (cons_option (cond (a && b) (Some x.ssn) None) (filter_map (sent_on q p) (map send_mark made)))
+    at : (a b : Bool) → (x.from == q) ≡ a → (x.to == p) ≡ b
+        → map send_mark (between q p made) ≡ map (λ ssn. Send q ssn p) (filter_map (sent_on q p) (map send_mark made))
+        → map send_mark (cond (a && b) (x ∷ between q p made) (between q p made))
+        ≡ map (λ ssn. Send q ssn p) (cons_option (cond (a && b) (Some x.ssn) None) (filter_map (sent_on q p) (map send_mark made)))
     at true true ea eb ih =
         let e1 : x.from ≡ q = grind (arith, nat_tests) in
         let e2 : x.to ≡ p = grind (arith, nat_tests) in
@@ -74,14 +79,20 @@ messages_between (x ∷ made) q p = at (x.from == q) (x.to == p) refl refl (mess
     at false b ea eb ih = ih
 
 -- a delivery keeps a channel that matches the trace so
-pub channel-delivered : (n : ℕ) (t : List Mark) (v : Message) (rsn : ℕ) (made channel : List Message) (q p : ℕ) → WellFormed n (t ++ Receipt v.to rsn v.from v.ssn ∷ map send_mark made) → map send_mark channel ≡ map (λ ssn. Send q ssn p) (in_flight t q p) → map send_mark (taken_off v q p channel ++ between q p made) ≡ map (λ ssn. Send q ssn p) (in_flight (t ++ Receipt v.to rsn v.from v.ssn ∷ map send_mark made) q p)
+pub channel-delivered : (n : ℕ) (t : List Mark) (v : Message) (rsn : ℕ) (made channel : List Message) (q p : ℕ)
+    → WellFormed n (t ++ Receipt v.to rsn v.from v.ssn ∷ map send_mark made) → map send_mark channel ≡ map (λ ssn. Send q ssn p) (in_flight t q p)
+    → map send_mark (taken_off v q p channel ++ between q p made) ≡ map (λ ssn. Send q ssn p) (in_flight (t ++ Receipt v.to rsn v.from v.ssn ∷ map send_mark made) q p)
 channel-delivered n t v rsn made channel q p obeys was =
     let R : Mark = Receipt v.to rsn v.from v.ssn in
     let next : WellFormed n ((t ++ R ∷ []) ++ map send_mark made) = rw append_assoc obeys in
     let front : WellFormed n (t ++ R ∷ []) = WellFormed-front n (t ++ R ∷ []) (map send_mark made) next in
     let one = in_flight-receipt n t (WellFormed-front n t (R ∷ []) front) v.to rsn v.from v.ssn q p (MayFollow-last n t R front) in
-    let all : in_flight (t ++ R ∷ map send_mark made) q p ≡ cond (v.from == q && v.to == p) (drop 1 (in_flight t q p)) (in_flight t q p) ++ filter_map (sent_on q p) (map send_mark made) = ap (λ (u : List Mark). in_flight u q p) (sym (append_assoc t (R ∷ []) (map send_mark made))) ∙ in_flight-made n (t ++ R ∷ []) made q p next ∙ ap (λ (ys : List ℕ). ys ++ filter_map (sent_on q p) (map send_mark made)) one in
-    rw (all, map-append send_mark, map-append (λ ssn. Send q ssn p), messages_between made q p) (ap (λ (ys : List Mark). ys ++ map (λ ssn. Send q ssn p) (filter_map (sent_on q p) (map send_mark made))) (old_part (v.from == q && v.to == p)))
+    let all : in_flight (t ++ R ∷ map send_mark made) q p
+        ≡ cond (v.from == q && v.to == p) (drop 1 (in_flight t q p)) (in_flight t q p) ++ filter_map (sent_on q p) (map send_mark made) =
+        ap (λ (u : List Mark). in_flight u q p) (sym (append_assoc t (R ∷ []) (map send_mark made))) ∙ in_flight-made n (t ++ R ∷ []) made q p next
+        ∙ ap (λ (ys : List ℕ). ys ++ filter_map (sent_on q p) (map send_mark made)) one in
+    rw (all, map-append send_mark, map-append (λ ssn. Send q ssn p), messages_between made q p)
+        (ap (λ (ys : List Mark). ys ++ map (λ ssn. Send q ssn p) (filter_map (sent_on q p) (map send_mark made))) (old_part (v.from == q && v.to == p)))
   where
     old_part : (b : Bool) → map send_mark (cond b (drop 1 channel) channel) ≡ map (λ ssn. Send q ssn p) (cond b (drop 1 (in_flight t q p)) (in_flight t q p))
     old_part true = sym (drop-map send_mark 1 channel) ∙ ap (λ (ys : List Mark). drop 1 ys) was ∙ drop-map (λ ssn. Send q ssn p) 1 (in_flight t q p)

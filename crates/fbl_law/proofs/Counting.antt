@@ -39,7 +39,8 @@ count_in-same s a b n agree =
     omega (arith, more, fewer)
 
 -- one more of a member of the set
-pub count_in-step : (s : Members) (a b : ℕ → ℕ) (n p : ℕ) → p < n → set.contains s p ≡ true → b p ≡ a p + 1 → ((q : ℕ) → q ≢ p → b q ≡ a q) → count_in s b n ≡ count_in s a n + 1
+pub count_in-step : (s : Members) (a b : ℕ → ℕ) (n p : ℕ) → p < n → set.contains s p ≡ true → b p ≡ a p + 1 → ((q : ℕ) → q ≢ p → b q ≡ a q)
+    → count_in s b n ≡ count_in s a n + 1
 count_in-step s a b zero p below in' one others = absurd (omega arith)
 count_in-step s a b (suc n) p below in' one others = at (n == p) refl (λ less. count_in-step s a b n p less in' one others) where
   at : (c : Bool) → (n == p) ≡ c → (p < n → count_in s b n ≡ count_in s a n + 1) → count_in s b n + cond (set.contains s n) (b n) 0 ≡ count_in s a n + cond (set.contains s n) (a n) 0 + 1
@@ -93,7 +94,8 @@ count_in-receipts s n t within = count_in-determinants s n (receipts t) within
 abbrev beyond : (ℕ → ℕ) → Determinant → Bool
 beyond past d = nat_lt (past d.to) d.rsn
 
-beyond-numbered : (k b : ℕ) (ds : List Determinant) → ((j : ℕ) (d : Determinant) → slice_get ds j ≡ Some d → d.rsn ≡ b + j + 1) → length (filter (λ (d : Determinant). nat_lt k d.rsn) ds) ≡ length ds - (k - b)
+beyond-numbered : (k b : ℕ) (ds : List Determinant) → ((j : ℕ) (d : Determinant) → slice_get ds j ≡ Some d → d.rsn ≡ b + j + 1)
+    → length (filter (λ (d : Determinant). nat_lt k d.rsn) ds) ≡ length ds - (k - b)
 beyond-numbered k b [] numbers = omega arith
 beyond-numbered k b (d ∷ ds) numbers = at (nat_lt k d.rsn) refl (numbers 0 d refl) (beyond-numbered k (b + 1) ds (λ j e here. omega (arith, numbers (suc j) e here))) where
   at : (c : Bool) → nat_lt k d.rsn ≡ c → d.rsn ≡ b + 0 + 1 → length (filter (λ (e : Determinant). nat_lt k e.rsn) ds) ≡ length ds - (k - (b + 1))
@@ -101,14 +103,17 @@ beyond-numbered k b (d ∷ ds) numbers = at (nat_lt k d.rsn) refl (numbers 0 d r
   at true is number ih = (let less : k < d.rsn = grind (arith, nat_tests) in omega (arith, number, less, ih))
   at false is number ih = (let most : d.rsn ≤ k = grind (arith, nat_tests) in omega (arith, number, most, ih))
 
-beyond-of : (past : ℕ → ℕ) (p : ℕ) (ds : List Determinant) → filter (λ (d : Determinant). d.to == p) (filter (beyond past) ds) ≡ filter (λ (d : Determinant). nat_lt (past p) d.rsn) (filter (λ (d : Determinant). d.to == p) ds)
+beyond-of : (past : ℕ → ℕ) (p : ℕ) (ds : List Determinant)
+    → filter (λ (d : Determinant). d.to == p) (filter (beyond past) ds) ≡ filter (λ (d : Determinant). nat_lt (past p) d.rsn) (filter (λ (d : Determinant). d.to == p) ds)
 beyond-of past p [] = refl
 beyond-of past p (d ∷ ds) = at (d.to == p) (beyond past d) refl refl (beyond-of past p ds) where
   own : (d.to == p) ≡ true → nat_lt (past p) d.rsn ≡ beyond past d
   own is = (let same : p ≡ d.to = grind (arith, nat_tests) in ap (λ q. nat_lt (past q) d.rsn) same)
 
-  at : (a b : Bool) → (d.to == p) ≡ a → beyond past d ≡ b → filter (λ (x : Determinant). x.to == p) (filter (beyond past) ds) ≡ filter (λ (x : Determinant). nat_lt (past p) x.rsn) (filter (λ (x : Determinant). x.to == p) ds)
-      → filter (λ (x : Determinant). x.to == p) (cond (beyond past d) (d ∷ filter (beyond past) ds) (filter (beyond past) ds)) ≡ filter (λ (x : Determinant). nat_lt (past p) x.rsn) (cond (d.to == p) (d ∷ filter (λ (x : Determinant). x.to == p) ds) (filter (λ (x : Determinant). x.to == p) ds))
+  at : (a b : Bool) → (d.to == p) ≡ a → beyond past d ≡ b
+      → filter (λ (x : Determinant). x.to == p) (filter (beyond past) ds) ≡ filter (λ (x : Determinant). nat_lt (past p) x.rsn) (filter (λ (x : Determinant). x.to == p) ds)
+      → filter (λ (x : Determinant). x.to == p) (cond (beyond past d) (d ∷ filter (beyond past) ds) (filter (beyond past) ds))
+          ≡ filter (λ (x : Determinant). nat_lt (past p) x.rsn) (cond (d.to == p) (d ∷ filter (λ (x : Determinant). x.to == p) ds) (filter (λ (x : Determinant). x.to == p) ds))
   at true true ea eb ih = (let e = own ea ∙ eb in rw (eb, ea, e) (ap (λ (xs : List Determinant). d ∷ xs) ih))
   at true false ea eb ih = (let e = own ea ∙ eb in rw (eb, ea, e) ih)
   at false true ea eb ih = rw (eb, ea) ih
@@ -117,7 +122,8 @@ beyond-of past p (d ∷ ds) = at (d.to == p) (beyond past d) refl refl (beyond-o
 filter-both : (p q : Determinant → Bool) (ds : List Determinant) → filter p (filter q ds) ≡ filter (λ d. p d && q d) ds
 filter-both p q [] = refl
 filter-both p q (d ∷ ds) = at (p d) (q d) refl refl (filter-both p q ds) where
-  at : (a b : Bool) → p d ≡ a → q d ≡ b → filter p (filter q ds) ≡ filter (λ x. p x && q x) ds → filter p (cond (q d) (d ∷ filter q ds) (filter q ds)) ≡ cond (p d && q d) (d ∷ filter (λ x. p x && q x) ds) (filter (λ x. p x && q x) ds)
+  at : (a b : Bool) → p d ≡ a → q d ≡ b → filter p (filter q ds) ≡ filter (λ x. p x && q x) ds
+      → filter p (cond (q d) (d ∷ filter q ds) (filter q ds)) ≡ cond (p d && q d) (d ∷ filter (λ x. p x && q x) ds) (filter (λ x. p x && q x) ds)
   at true true ea eb ih = rw (eb, ea) (ap (λ (xs : List Determinant). d ∷ xs) ih)
   at true false ea eb ih = rw (eb, ea) ih
   at false true ea eb ih = rw (eb, ea) ih
@@ -128,7 +134,8 @@ pub count_in-beyond : (s : Members) (past : ℕ → ℕ) (n m : ℕ) (t : List M
     → count_in s (λ p. length (receipts_at t p) - past p) n ≡ length (filter (λ d. set.contains s d.to && nat_lt (past d.to) d.rsn) (receipts t))
 count_in-beyond s past n m t within obeys =
     count_in-same s (λ p. length (receipts_at t p) - past p) (λ p. length (filter (λ (d : Determinant). d.to == p) (filter (beyond past) (receipts t)))) n
-    (λ p below among. sym (ap length (beyond-of past p (receipts t)) ∙ beyond-numbered (past p) 0 (receipts_at t p) (λ j d here. omega (arith, receipts_at-number m t p j d obeys here)) ∙ omega arith))
+    (λ p below among. sym (ap length (beyond-of past p (receipts t))
+        ∙ beyond-numbered (past p) 0 (receipts_at t p) (λ j d here. omega (arith, receipts_at-number m t p j d obeys here)) ∙ omega arith))
     ∙ count_in-determinants s n (filter (beyond past) (receipts t)) within ∙ ap length (filter-both (is_of s) (beyond past) (receipts t))
 
 module _ (next : Next) (old : GroupRecord) (sound : IsSound next old) (new : List Event) (cut : IsEventCut (Stays (knowledge old)) old.trace new) where
@@ -143,7 +150,8 @@ module _ (next : Next) (old : GroupRecord) (sound : IsSound next old) (new : Lis
       omega (arith, left, some, filter_map-shorter determinant_of (map mark_of new), length-map new mark_of)
 
   -- so far they have replayed no more than that
-  pub replayed-most : (work : ℕ → MemberRecord) → ((p : ℕ) → p < old.config.members → set.contains old.down p ≡ true → IsReplayed next old.config.members old.config.starts new p (work p))
+  pub replayed-most : (work : ℕ → MemberRecord)
+      → ((p : ℕ) → p < old.config.members → set.contains old.down p ≡ true → IsReplayed next old.config.members old.config.starts new p (work p))
       → count_in old.down (λ p. (work p).received) old.config.members ≤ length (filter (is_of old.down) (receipts (map mark_of new)))
   replayed-most work replays =
       let most = count_in-most old.down (λ p. (work p).received) (λ p. length (receipts_at (map mark_of new) p)) old.config.members (λ p below down. (replays p below down).within) in

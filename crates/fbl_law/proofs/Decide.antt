@@ -1,15 +1,14 @@
 -- A closed record always has each receipt held.
-use Rattle.std.proofs.Common.{◌≡◌, ℕ, zero, suc, ◌<◌, Bool, true, false, List, [], ◌∷◌, length, inl, inr, ◌⊎◌, arith, refl, get_or, subst, ap, ◌∙◌}
+use Rattle.std.proofs.Common.{◌≡◌, ℕ, zero, suc, ◌<◌, Bool, true, false, List, [], ◌∷◌, length, inl, inr, ◌⊎◌, arith, refl, subst, ap, ◌∙◌}
 use Rattle.std.specs.Ordering.{nat_cmp}
 use Rattle.std.specs.FinSet as set
 use Rattle.std.proofs.lemmas.Bool.{cases_lt, cases_eq}
-use Rattle.std.proofs.lemmas.List.{get_or_past}
 use Rattle.fbl_base.specs.declared.trace.Determinant.{Determinant}
 use Rattle.fbl_base.specs.Events.{same_determinant}
 use Rattle.fbl_base.proofs.Recorded.{Decides-same_determinant}
 use Rattle.fbl_base.proofs.Sizes.{len-remove_one, some_member, len-within}
 use Rattle.fbl_table.specs.declared.entry.Entry.{Entry}
-use Rattle.fbl_law.specs.Knowledge.{Members, Includes, Knowledge, table, checkpoint, IsUp, Names, Holds, IsRecorded, IsHolder, IsStable, IsClosed, IsAlwaysHeld}
+use Rattle.fbl_law.specs.Knowledge.{in_table, Members, Includes, Knowledge, table, checkpoint, IsUp, Names, Holds, IsRecorded, IsHolder, IsStable, IsClosed, IsAlwaysHeld}
 use Rattle.fbl_law.proofs.Lists.{Contains-here, Contains-there, Contains-cons_cases, Contains-none}
 use Rattle.fbl_law.proofs.Safe.{down_or_up, never_both}
 use Rattle.fbl_law.proofs.Tables.{Includes-insert, Includes-insert_cases, Includes-union, Includes-left, Includes-right, named_record}
@@ -58,12 +57,6 @@ set_of (suc n) P decide =
       | inr none ↦ (rest.0, rest.1, λ m below p. elim (cases_eq m n) [ inl same ↦ absurd (none (subst P same p)) | inr other ↦ rest.2 m (omega arith) p ])
     ]
 
-named_within : (tables : List (List Entry)) (d : Determinant) (m : ℕ) → Names (get_or tables m []) d → m < length tables
-named_within tables d m named = elim (cases_lt m (length tables)) [
-  | inl below ↦ below
-  | inr past ↦ absurd (Contains-none named.0 (rw (get_or_past tables m [] past) at named.1))
-]
-
 some_has : (s : Members) (m : ℕ) → Includes s m → 0 < set.len s
 some_has s m has = omega (arith, len-remove_one s m has)
 
@@ -84,14 +77,14 @@ module _ (f : ℕ) (r : Knowledge) (d : Determinant) where
 
   Known-recorded : Known (IsRecorded r d)
   Known-recorded =
-      let holders = set_of (length r.tables) (Holds r d) Known-holds in
+      let holders = set_of (length r.members) (Holds r d) Known-holds in
       let savers = set_of (length r.checkpoints) (λ m. Names (checkpoint r m).table d) (λ m. Known-names (checkpoint r m).table d) in
       elim (cases_lt 0 (set.len holders.0)) [
         | inl some ↦ let one = some_member holders.0 some in inl (inl (one.0, holders.1 one.0 one.1))
         | inr no_holder ↦ elim (cases_lt 0 (set.len savers.0)) [
           | inl some ↦ let one = some_member savers.0 some in inl (inr (one.0, savers.1 one.0 one.1))
           | inr no_saver ↦ inr (λ recorded. elim recorded [
-            | inl held ↦ let some = some_has holders.0 held.0 (holders.2 held.0 (named_within r.tables d held.0 held.1.1) held.1) in omega (arith, some, no_holder)
+            | inl held ↦ let some = some_has holders.0 held.0 (holders.2 held.0 (named_record r.members held.0 d held.1.1) held.1) in omega (arith, some, no_holder)
             | inr saved ↦ let some = some_has savers.0 saved.0 (savers.2 saved.0 (named_record r.checkpoints saved.0 d saved.1) saved.1) in omega (arith, some, no_saver)
           ])
         ]
@@ -99,8 +92,8 @@ module _ (f : ℕ) (r : Knowledge) (d : Determinant) where
 
   Known-stable : Known (IsStable f r d)
   Known-stable =
-      let holders = set_of (length r.tables) (Holds r d) Known-holds in
-      let every : (m : ℕ) → Holds r d m → Includes holders.0 m = λ m h. holders.2 m (named_within r.tables d m h.1) h in
+      let holders = set_of (length r.members) (Holds r d) Known-holds in
+      let every : (m : ℕ) → Holds r d m → Includes holders.0 m = λ m h. holders.2 m (named_record r.members m d h.1) h in
       elim Known-recorded [
         | inl recorded ↦
             told (set.union holders.0 r.down)
@@ -114,5 +107,5 @@ pub IsAlwaysHeld-closed : (f : ℕ) (r : Knowledge) → IsClosed f r → IsAlway
 IsAlwaysHeld-closed f r closed d there =
     elim (Known-stable f r d) [
       | inl stable ↦ inl stable
-      | inr unstable ↦ inr (λ m up depends. elim (closed.events m depends.0 up depends.2 d depends.1) [ inl named ↦ (up, named) | inr stable ↦ absurd (unstable stable) ])
+      | inr unstable ↦ inr (λ m up depends. elim (closed.events (in_table m) depends.0 up depends.2 d depends.1) [ inl named ↦ (up, named) | inr stable ↦ absurd (unstable stable) ])
     ]

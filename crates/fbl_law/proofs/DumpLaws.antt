@@ -1,9 +1,8 @@
 -- Dumps of a sound group.
-use Rattle.std.proofs.Common.{◌≡◌, ℕ, zero, suc, ◌+◌, ◌*◌, ◌<◌, ◌≤◌, false, List, [], ◌∷◌, ◌++◌, length, map, inl, inr, Some, slice_get, get_or, refl, sym, subst, ap, ◌∙◌, arith, append_assoc, append-nil, length-append}
+use Rattle.std.proofs.Common.{◌≡◌, ℕ, zero, suc, ◌+◌, ◌*◌, ◌<◌, ◌≤◌, List, [], ◌∷◌, ◌++◌, length, map, inl, inr, Some, slice_get, get_or, refl, sym, subst, ap, ◌∙◌, arith, append_assoc, append-nil, length-append}
 use Rattle.std.specs.List.{Contains, IsDistinct}
 use Rattle.std.specs.Bool.{Decides}
 use Rattle.std.specs.Cmp.{IsEquivalence}
-use Rattle.std.specs.FinSet as sets
 use Rattle.std.proofs.lemmas.Bool.Decides.{same_from_decides}
 use Rattle.std.proofs.lemmas.List.{length-map}
 use Rattle.std.proofs.lemmas.List.Elements.{Contains-append_left, Contains-append_right}
@@ -18,18 +17,15 @@ use Rattle.fbl_base.specs.Audit.{IsLost, HeldAt}
 use Rattle.fbl_base.proofs.Gets.{map-At, filter_map-At, At-below}
 use Rattle.fbl_base.proofs.LawfulLaws.{filter_map-shorter}
 use Rattle.fbl_base.proofs.Recorded.{Decides-same_determinant}
-use Rattle.fbl_base.proofs.Sizes.{len-within}
 use Rattle.fbl_table.specs.declared.entry.Entry.{Entry}
 use Rattle.fbl_member.specs.Members.{Message, MemberRecord, blank}
-use Rattle.fbl_law.specs.Knowledge.{Members, Includes, IsDown, IsInFlight, Names}
+use Rattle.fbl_law.specs.Knowledge.{Members, IsInFlight, Names}
 use Rattle.fbl_law.specs.Groups.{GroupRecord, member, marks, knowledge, receipts}
 use Rattle.fbl_law.specs.Sound.{IsSound}
 use Rattle.fbl_law.specs.Dumps.{pairs_of, pairs_from, held_pairs, dump_of, HasDistinctTables, DumpObeysRules, DumpHasNoOrphan}
 use Rattle.fbl_law.proofs.Lists.{At-append, Contains-at, Contains-map, Contains-changed, Contains-none}
-use Rattle.fbl_law.proofs.Safe.{down_or_up}
-use Rattle.fbl_law.proofs.Tables.{Includes-union, Includes-right}
-use Rattle.fbl_law.proofs.Survivors.{survivors_record}
-use Rattle.fbl_law.proofs.GroupFacts.{table_member, named_received, carried_received, trace_fits}
+use Rattle.fbl_law.proofs.Promises.{any_survivors_hold}
+use Rattle.fbl_law.proofs.GroupFacts.{named_received, carried_received, trace_fits}
 
 -- one more member
 pub pairs_from-push : (m : ℕ) (members : List MemberRecord) (x : MemberRecord) → pairs_from m (members ++ x ∷ []) ≡ pairs_from m members ++ pairs_of (m + length members) x.table
@@ -44,7 +40,8 @@ pairs_of-At m entries i h at =
     let held = map-At (λ (e : Entry). (m, e.det)) entries i h at in
     (sym (ap (λ (x : ℕ × Determinant). x.0) held.2), (held.0, Contains-at entries i held.0 held.1, ap (λ (x : ℕ × Determinant). x.1) held.2))
 
-pairs_from-At : (m : ℕ) (members : List MemberRecord) (i : ℕ) (h : ℕ × Determinant) → slice_get (pairs_from m members) i ≡ Some h → (j : ℕ) × (h.0 ≡ m + j) × (j < length members) × Names (get_or members j blank).table h.1
+pairs_from-At : (m : ℕ) (members : List MemberRecord) (i : ℕ) (h : ℕ × Determinant) → slice_get (pairs_from m members) i ≡ Some h
+    → (j : ℕ) × (h.0 ≡ m + j) × (j < length members) × Names (get_or members j blank).table h.1
 pairs_from-At m [] i h at = cc
 pairs_from-At m (x ∷ members) i h at =
     elim (At-append (pairs_of m x.table) (pairs_from (m + 1) members) i h at) [
@@ -81,7 +78,8 @@ Contains-receipts t d has =
     let place = filter_map-At determinant_of t has.0 (receipt_of d) d has.1 refl in
     Contains-at (receipts t) place.0 d place.1
 
-pairs_fit : (m : ℕ) (members : List MemberRecord) → ((j : ℕ) → j < length members → length (get_or members j blank).table ≤ 8192) → length (pairs_from m members) ≤ 8192 * length members
+pairs_fit : (m : ℕ) (members : List MemberRecord) → ((j : ℕ) → j < length members → length (get_or members j blank).table ≤ 8192)
+    → length (pairs_from m members) ≤ 8192 * length members
 pairs_fit m [] fit = omega arith
 pairs_fit m (x ∷ members) fit =
     omega (
@@ -94,7 +92,8 @@ pairs_fit m (x ∷ members) fit =
 
 module _ (next : Next) (r : GroupRecord) (sound : IsSound next r) where
   -- entries in which no determinant stands twice, all of receipts of the trace, are at most as many as its receipts
-  entries_fit : (entries : List Entry) → IsDistinct same_determinant (map (λ (e : Entry). e.det) entries) → ((d : Determinant) → Names entries d → Has (marks r) (receipt_of d)) → length entries ≤ length (receipts (marks r))
+  entries_fit : (entries : List Entry) → IsDistinct same_determinant (map (λ (e : Entry). e.det) entries)
+      → ((d : Determinant) → Names entries d → Has (marks r) (receipt_of d)) → length entries ≤ length (receipts (marks r))
   entries_fit entries distinct received =
       let dets : List Determinant = map (λ (e : Entry). e.det) entries in
       let fits : length dets ≤ length (receipts (marks r)) = length-le_from_is_member equivalence dets (receipts (marks r)) distinct
@@ -114,7 +113,8 @@ module _ (next : Next) (r : GroupRecord) (sound : IsSound next r) where
   held_at distinct strike i h at =
       let where_held = pairs_from-At 0 r.members i h at in
       let fits : length (held_pairs r) ≤ 8192 * length r.members =
-      pairs_fit 0 r.members (λ j below. (let t = table_fits j (distinct j (omega (arith, below, sound.members))) in omega (arith, t, filter_map-shorter determinant_of (marks r), trace_fits next r sound))) in
+      pairs_fit 0 r.members (λ j below. (let t = table_fits j (distinct j (omega (arith, below, sound.members))) in
+          omega (arith, t, filter_map-shorter determinant_of (marks r), trace_fits next r sound))) in
       let below : i < length (held_pairs r) = At-below (held_pairs r) i h at in
       let few : length r.members ≤ 16 = omega (arith, sound.members, sound.config.members.1) in
       let holder : h.0 < r.config.members = omega (arith, where_held.1, where_held.2, sound.members) in
@@ -129,19 +129,11 @@ dump_obeys_rules next r strike sound distinct within = record {
   strike = within;
 }
 
--- the set of those struck with those that are down is the strike set
-union_few : (r : GroupRecord) (strike : Members) → ((q : ℕ) → IsDown (knowledge r) q → Includes strike q) → sets.len (sets.union r.down strike) ≤ sets.len strike
-union_few r strike covers = len-within (sets.len (sets.union r.down strike)) (sets.union r.down strike) strike refl (λ q h. elim (Includes-union r.down strike q h) [ inl down ↦ covers q down | inr struck ↦ struck ])
-
 pub dump_has_no_orphan : DumpHasNoOrphan
 dump_has_no_orphan next r strike m sound covers few orphan = at orphan.1.0 orphan.1.1 orphan.1.2 where
-  out : (q : ℕ) → sets.contains strike q ≡ false → ¬ (Includes (sets.union r.down strike) q)
-  out q apart h = elim (Includes-union r.down strike q h) [ inl down ↦ (let is = covers q down in cc) | inr struck ↦ cc ]
-
   at : (e : Mark) → IsLost (dump_of r strike) e → Depends (marks r) m e → ⊥
   at (Send from ssn to) lost depends = absurd lost
   at (Receipt to rsn from ssn) lost depends =
       let d : Determinant = record { from = from; ssn = ssn; to = to; rsn = rsn } in
-      let less = union_few r strike covers in
-      let one = survivors_record r.config.members r.config.f (knowledge r) strike sound.causes (omega (arith, less, few)) m d (out m orphan.0) depends in
-      lost (one.0, held_pairs-Names r one.0 d (rw (table_member r one.0) at one.2), elim (down_or_up strike one.0) [ inl struck ↦ absurd (one.1 (Includes-right r.down strike one.0 struck)) | inr apart ↦ apart ])
+      let one = any_survivors_hold r.config.members r.config.f (knowledge r) strike sound.causes covers few m d orphan.0 depends in
+      lost (one.0, held_pairs-Names r one.0 d one.2, one.1)

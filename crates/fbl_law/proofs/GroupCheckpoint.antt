@@ -16,9 +16,9 @@ use Rattle.fbl_law.specs.Sound.{IsFold, IsReplayed, IsSound}
 use Rattle.fbl_law.specs.GroupSteps.{IsCheckpoint}
 use Rattle.fbl_law.specs.GroupLaws.{GroupCheckpointKeeps, CheckpointIsRecorded}
 use Rattle.fbl_law.proofs.Safe.{IsRecorded-reached}
-use Rattle.fbl_law.proofs.Run.{checkpoint_keeps}
-use Rattle.fbl_law.proofs.GroupFacts.{table_member, received_counted, log_counted}
-use Rattle.fbl_law.proofs.Replayed.{fold-replayed}
+use Rattle.fbl_law.proofs.Checkpoint.{checkpoint_keeps}
+use Rattle.fbl_law.proofs.GroupFacts.{received_counted, log_counted}
+use Rattle.fbl_law.proofs.ReplayedRecords.{fold-replayed}
 
 -- the receipts of a member's checkpoint are recorded
 pub checkpoint_is_recorded : CheckpointIsRecorded
@@ -46,9 +46,9 @@ module _ (next : Next) (old new : GroupRecord) (p : ℕ) (s : IsCheckpoint old n
     nobody_down = s.nobody_down;
     down = refl;
     trace = refl;
-    tables = refl;
+    tables = λ m. refl;
     channels = λ q m. refl;
-    table = ap (λ (x : MemberRecord). x.table) own ∙ sym (table_member old p);
+    table = ap (λ (x : MemberRecord). x.table) own;
     receipts = ap (λ (x : MemberRecord). x.received) own ∙ received_counted next old sound p s.below (up p);
     sends = ap (λ (x : MemberRecord). length x.log) own ∙ log_counted next old sound p s.below (up p);
     others = other;

@@ -18,12 +18,11 @@ use Rattle.fbl_law.specs.GroupSteps.{IsRecovery}
 use Rattle.fbl_law.specs.GroupLaws.{GroupRecoveryKeeps}
 use Rattle.fbl_law.proofs.Safe.{down_or_up, never_both, IsRecorded-reached}
 use Rattle.fbl_base.proofs.Sifted.{length-left}
-use Rattle.fbl_law.proofs.Cut.{KeepsCauses}
-use Rattle.fbl_law.proofs.CutLaw.{cut_is_lawful, stays_is_recorded}
-use Rattle.fbl_law.proofs.GroupFacts.{table_member}
-use Rattle.fbl_law.proofs.Run.{recovery_keeps, cut_is_recorded}
-use Rattle.fbl_law.proofs.Replayed.{replayed-cut}
-use Rattle.fbl_law.proofs.CutFolds.{actions-stay, last_taken-stays, note-stays, note-was}
+use Rattle.fbl_law.proofs.CutWellFormed.{KeepsCauses}
+use Rattle.fbl_law.proofs.CutStays.{cut_is_lawful, stays_is_recorded}
+use Rattle.fbl_law.proofs.Recovery.{recovery_keeps, cut_is_recorded}
+use Rattle.fbl_law.proofs.ReplayedRecords.{replayed-cut}
+use Rattle.fbl_law.proofs.CutNotes.{actions-stay, last_taken-stays, note-stays, note-was}
 
 -- a cut of a sound group's trace keeps what leads to an event that stays, and the events of up members
 module _ (next : Next) (old : GroupRecord) (sound : IsSound next old) (new : List Event) (cut : IsEventCut (Stays (knowledge old)) old.trace new) where
@@ -58,18 +57,18 @@ module _ (next : Next) (old new : GroupRecord) (step : IsRecovery next old new) 
   -- the tables' part of the recovery
   pub recovery-knowledge : IsRecovered old.config.f (knowledge old) (knowledge new)
   recovery-knowledge = record {
-    nobody_down = step.nobody_down;
+    nobody_down = step.rest.nobody_down;
     trace = (cut-lawful next old sound new.trace step.trace).1;
-    tables = λ m up. table_member new m ∙ ap (λ (x : MemberRecord). x.table) (step.survivors m up) ∙ sym (table_member old m);
-    gathered = λ m down. table_member new m ∙ step.gathered m (down-member m down) down;
-    channels = step.channels;
+    tables = λ m up. ap (λ (x : MemberRecord). x.table) (step.rest.survivors m up);
+    gathered = λ m down. step.gathered m (down-member m down) down;
+    channels = step.rest.channels;
     rebuilt = λ q p down. (step.made_again q p down).sends;
-    checkpoints = step.checkpoints;
-    messages = λ v flies down. (step.made_again v.from v.to down).carried v flies ∙ ap (λ c. piggybacked c (member new v.from).table) (let e = step.config in rw e refl) ∙ ap (λ t. piggybacked old.config.f t) (sym (table_member new v.from));
+    checkpoints = step.rest.checkpoints;
+    messages = λ v flies down. (step.made_again v.from v.to down).carried v flies ∙ ap (λ c. piggybacked c (member new v.from).table) (let e = step.rest.config in rw e refl);
   }
 
   fold-stays : (m : ℕ) → IsUp (knowledge old) m → IsFold next old m → IsFold next new m
-  fold-stays m up fold = fold-survives next old sound new.trace step.trace new m up refl step.config (step.survivors m up) fold
+  fold-stays m up fold = fold-survives next old sound new.trace step.trace new m up refl step.rest.config (step.rest.survivors m up) fold
 
   note-flies : (v : Message) → IsInFlight (knowledge new) v → note_of new.trace v.from v.ssn ≡ Some v.note
   note-flies v among =
@@ -79,10 +78,11 @@ module _ (next : Next) (old new : GroupRecord) (step : IsRecovery next old new) 
         | inr up ↦ elim (down_or_up old.down v.to) [
           | inl down ↦ (step.made_again v.from v.to (inr down)).notes v on
           | inr up_to ↦
-              let stayed : Contains (channel old v.from v.to) v = rw (step.channels v.from v.to up up_to) at on in
+              let stayed : Contains (channel old v.from v.to) v = rw (step.rest.channels v.from v.to up up_to) at on in
               let was = sound.notes v stayed in
               let is : new.trace ≡ filter (λ e. step.trace.0 (mark_of e)) old.trace = step.trace.1 in
-              rw is (note-stays old.config.members step.trace.0 old.trace sound.lawful.well_formed (cut-causes next old sound new.trace step.trace) v.from v.ssn v.note (cut-keeps_up next old sound new.trace step.trace v.from up) was)
+              rw is (note-stays old.config.members step.trace.0 old.trace sound.lawful.well_formed
+                  (cut-causes next old sound new.trace step.trace) v.from v.ssn v.note (cut-keeps_up next old sound new.trace step.trace v.from up) was)
         ]
       ]
 
@@ -93,7 +93,7 @@ module _ (next : Next) (old new : GroupRecord) (step : IsRecovery next old new) 
   saved-after : (m : ℕ) → m < old.config.members → IsReplayed next old.config.members old.config.starts new.trace m (checkpoint new m)
   saved-after m below =
       let is : new.trace ≡ filter (λ e. step.trace.0 (mark_of e)) old.trace = step.trace.1 in
-      rw step.checkpoints
+      rw step.rest.checkpoints
       (replayed-cut next old.config.members old.config.starts old.trace new.trace m (checkpoint old m) sound.lawful.well_formed (cut-lawful next old sound new.trace step.trace).0.well_formed
       (λ q k x noted. note-was old.config.members step.trace.0 old.trace sound.lawful.well_formed (cut-causes next old sound new.trace step.trace) q k x (rw is at noted))
       (λ d there to within.
@@ -102,18 +102,18 @@ module _ (next : Next) (old new : GroupRecord) (step : IsRecovery next old new) 
       (sound.saved m below))
 
   nobody : (m : ℕ) → IsUp (knowledge new) m
-  nobody m = rw step.nobody_down (set.contains-empty nat_cmp m)
+  nobody m = rw step.rest.nobody_down (set.contains-empty nat_cmp m)
 
   shorter : length new.trace ≤ length old.trace
   shorter = (let is : new.trace ≡ filter (λ e. step.trace.0 (mark_of e)) old.trace = step.trace.1 in rw is (length-left (λ e. step.trace.0 (mark_of e)) old.trace))
 
   pub recovery-keeps : IsSound next new
   recovery-keeps =
-      let config : new.config ≡ old.config = step.config in
+      let config : new.config ≡ old.config = step.rest.config in
       record {
         config = rw config sound.config;
-        members = rw config (step.size ∙ sound.members);
-        checkpoints = rw config (ap length step.checkpoints ∙ sound.checkpoints);
+        members = rw config (step.rest.size ∙ sound.members);
+        checkpoints = rw config (ap length step.rest.checkpoints ∙ sound.checkpoints);
         saved = λ m below. rw config (saved-after m (rw config at below));
         down = λ m down. never_both new.down m down (nobody m);
         lawful = rw config (cut-lawful next old sound new.trace step.trace).0;
@@ -121,9 +121,9 @@ module _ (next : Next) (old new : GroupRecord) (step : IsRecovery next old new) 
         causes = rw config (recovery_keeps old.config.members old.config.f (knowledge old) (knowledge new) recovery-knowledge sound.causes);
         folds = λ m below up. folds-after m (rw config at below);
         blanks = λ m below down. never_both new.down m down (nobody m);
-        shape = rw config step.shape;
+        shape = rw config step.rest.shape;
         notes = note-flies;
-        counted = omega (arith, step.undone_ever, sound.counted, step.receipts_ever);
+        counted = omega (arith, step.rest.undone_ever, sound.counted, step.rest.receipts_ever);
       }
 
 pub group_recovery_keeps : GroupRecoveryKeeps

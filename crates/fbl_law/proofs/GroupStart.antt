@@ -32,9 +32,8 @@ use Rattle.fbl_law.proofs.Lists.{Contains-cons_cases, Contains-from_filter, Cont
 use Rattle.fbl_law.proofs.Safe.{never_both}
 use Rattle.fbl_law.proofs.Run.{run_is_sound}
 use Rattle.fbl_law.proofs.Notes.{sent-noted}
-use Rattle.fbl_law.proofs.GroupFacts.{table_member}
 use Rattle.fbl_law.proofs.Logs.{length-numbered, log-length}
-use Rattle.fbl_law.proofs.Replayed.{replayed-fresh}
+use Rattle.fbl_law.proofs.ReplayedRecords.{replayed-fresh}
 use Rattle.fbl_law.proofs.Channels.{messages_between}
 
 -- the send of a start after the events so far
@@ -42,7 +41,8 @@ abbrev send_of : List Event → Start → Event
 send_of done s = event.Send s.from (sends_of (map mark_of done) s.from + 1) s.to s.note
 
 -- what a map that drops receipts gives of the starts' events
-starts_given : {Y : Type 0} (g : Event → Option Y) (h : Start → Option Y) → ((s : Start) (k : ℕ) → g (event.Send s.from k s.to s.note) ≡ h s) → (done : List Event) (ss : List Start) → filter_map g (start_events done ss) ≡ filter_map g done ++ filter_map h ss
+starts_given : {Y : Type 0} (g : Event → Option Y) (h : Start → Option Y) → ((s : Start) (k : ℕ) → g (event.Send s.from k s.to s.note) ≡ h s)
+    → (done : List Event) (ss : List Start) → filter_map g (start_events done ss) ≡ filter_map g done ++ filter_map h ss
 starts_given g h is done [] = sym (append-nil (filter_map g done))
 starts_given g h is done (s ∷ ss) =
     starts_given g h is (done ++ send_of done s ∷ []) ss
@@ -67,7 +67,8 @@ length-starts done [] = omega arith
 length-starts done (s ∷ ss) = omega (arith, length-starts (done ++ send_of done s ∷ []) ss, length-append done (send_of done s ∷ []))
 
 -- the starts obey the rules
-starts_obey : (n : ℕ) (done : List Event) (ss : List Start) → WellFormed n (map mark_of done) → ((i : ℕ) (s : Start) → slice_get ss i ≡ Some s → StartAllowed n s) → length done + length ss ≤ 8192 → WellFormed n (map mark_of (start_events done ss))
+starts_obey : (n : ℕ) (done : List Event) (ss : List Start) → WellFormed n (map mark_of done)
+    → ((i : ℕ) (s : Start) → slice_get ss i ≡ Some s → StartAllowed n s) → length done + length ss ≤ 8192 → WellFormed n (map mark_of (start_events done ss))
 starts_obey n done [] obeys allowed room = obeys
 starts_obey n done (s ∷ ss) obeys allowed room =
     let here = allowed 0 s refl in
@@ -117,7 +118,9 @@ message_sent (event.Send from ssn to note ∷ t) v among = elim (Contains-cons_c
 sends_of_one : (m : ℕ) (ss : List Start) → filter_map (λ s. if s.from == m then Some (sent (s.to, s.note)) else None) ss ≡ map sent (starts_of m ss)
 sends_of_one m [] = refl
 sends_of_one m (s ∷ ss) = at (s.from == m) (sends_of_one m ss) where
-  at : (b : Bool) → filter_map (λ s. if s.from == m then Some (sent (s.to, s.note)) else None) ss ≡ map sent (starts_of m ss) → cons_option (cond b (Some (sent (s.to, s.note))) None) (filter_map (λ s. if s.from == m then Some (sent (s.to, s.note)) else None) ss) ≡ map sent (cons_option (cond b (Some (s.to, s.note)) None) (starts_of m ss))
+  at : (b : Bool) → filter_map (λ s. if s.from == m then Some (sent (s.to, s.note)) else None) ss ≡ map sent (starts_of m ss)
+      → cons_option (cond b (Some (sent (s.to, s.note))) None) (filter_map (λ s. if s.from == m then Some (sent (s.to, s.note)) else None) ss)
+      ≡ map sent (cons_option (cond b (Some (s.to, s.note)) None) (starts_of m ss))
   at true ih = ap (λ ys. sent (s.to, s.note) ∷ ys) ih
   at false ih = ih
 
@@ -146,7 +149,8 @@ module _ (next : Next) (config : Settings) (r : GroupRecord) (is : IsConfig conf
     starts_first =
         ap (filter_map start_of) (take_all (length config.starts) events (omega (arith, length-starts [] config.starts)))
         ∙ starts_given start_of (λ s. Some s) (λ s k. refl) [] config.starts ∙ filter_map-all config.starts;
-    responds = λ m. acted m ∙ sym (append-nil (map sent (starts_of m config.starts))) ∙ ap (λ (notes : List Note). map sent (starts_of m config.starts) ++ responses next m n 0 notes) (sym (no_notes m));
+    responds = λ m. acted m ∙ sym (append-nil (map sent (starts_of m config.starts)))
+        ∙ ap (λ (notes : List Note). map sent (starts_of m config.starts) ++ responses next m n 0 notes) (sym (no_notes m));
   }
 
   unreceived : receipts (map mark_of events) ≡ []
@@ -156,7 +160,7 @@ module _ (next : Next) (config : Settings) (r : GroupRecord) (is : IsConfig conf
     mapped (e ∷ t) = ap (λ ys. cons_option (determinant_of (mark_of e)) ys) (mapped t)
 
   no_table : (m : ℕ) → table (knowledge r) m ≡ []
-  no_table m = table_member r m ∙ elim (cases_lt m n) [
+  no_table m = elim (cases_lt m n) [
     | inl below ↦ ap (λ (x : MemberRecord). x.table) (s.members m below)
     | inr above ↦ ap (λ (x : MemberRecord). x.table) (get_or_past r.members m blank (omega (arith, above, s.size)))
   ]
@@ -164,7 +168,8 @@ module _ (next : Next) (config : Settings) (r : GroupRecord) (is : IsConfig conf
   -- the starts of a member are its sends in the trace
   starts_sent : (m : ℕ) → length (starts_of m config.starts) ≡ sends_of (map mark_of events) m
   starts_sent m =
-      sym (length-numbered 0 (starts_of m config.starts)) ∙ ap (λ (notes : List Note). length (after_notes next m n config.starts notes).log) (sym (no_notes m)) ∙ log-length next n config.starts events m is_lawful
+      sym (length-numbered 0 (starts_of m config.starts))
+          ∙ ap (λ (notes : List Note). length (after_notes next m n config.starts notes).log) (sym (no_notes m)) ∙ log-length next n config.starts events m is_lawful
 
   no_checkpoint : (m : ℕ) → ((checkpoint r m).table ≡ []) × ((checkpoint r m).received ≡ 0) × (length (checkpoint r m).log ≤ sends_of (map mark_of r.trace) m)
   no_checkpoint m = elim (cases_lt m n) [

@@ -17,8 +17,8 @@ use Rattle.fbl_law.specs.GroupSteps.{IsStrike}
 use Rattle.fbl_law.specs.GroupLaws.{GroupStrikeKeeps, RecordedTest}
 use Rattle.fbl_law.proofs.Safe.{down_or_up, never_both, up_at_ends, up_if_named, IsRecorded-held, IsRecorded-saved}
 use Rattle.fbl_law.proofs.Tables.{Includes-union, Includes-left, named_record}
-use Rattle.fbl_law.proofs.Run.{strike_keeps}
-use Rattle.fbl_law.proofs.GroupFacts.{table_member, Names-held, held-Names}
+use Rattle.fbl_law.proofs.Strike.{strike_keeps}
+use Rattle.fbl_law.proofs.GroupFacts.{Names-held, held-Names}
 
 module _ (next : Next) (old new : GroupRecord) (struck : Members) (s : IsStrike old new struck) (sound : IsSound next old) where
   was_up : (m : ℕ) → IsUp (knowledge new) m → IsUp (knowledge old) m
@@ -28,8 +28,8 @@ module _ (next : Next) (old new : GroupRecord) (struck : Members) (s : IsStrike 
   is_struck = record {
     down = s.down;
     trace = rw s.trace refl;
-    tables = λ m up. table_member new m ∙ ap (λ (x : MemberRecord). x.table) (s.survivors m up) ∙ sym (table_member old m);
-    blank = λ m down. table_member new m ∙ ap (λ (x : MemberRecord). x.table) (s.blanks m down);
+    tables = λ m up. ap (λ (x : MemberRecord). x.table) (s.survivors m up);
+    blank = λ m down. ap (λ (x : MemberRecord). x.table) (s.blanks m down);
     channels = s.channels;
     emptied = s.emptied;
     checkpoints = s.checkpoints;
@@ -80,7 +80,7 @@ recorded_test next r d sound = (λ h. elim (or_cases _ _ h) [ inl member ↦ hel
     held : list_any (λ (m : MemberRecord). is_held m.table d) r.members ≡ true → IsRecorded (knowledge r) d
     held h =
         let some = some_record (λ (m : MemberRecord). is_held m.table d) r.members h in
-        let named : Names (table (knowledge r) some.0) d = rw (table_member r some.0) (Names-held (member r some.0).table d some.2) in
+        let named : Names (table (knowledge r) some.0) d = Names-held (member r some.0).table d some.2 in
         IsRecorded-held (knowledge r) d some.0 (up_if_named r.config.f (knowledge r) sound.causes.down some.0 d named, named)
 
     kept : list_any (λ (m : MemberRecord). is_held m.table d) r.checkpoints ≡ true → IsRecorded (knowledge r) d
@@ -90,7 +90,7 @@ recorded_test next r d sound = (λ h. elim (or_cases _ _ h) [ inl member ↦ hel
 
     back : IsRecorded (knowledge r) d → is_recorded r d ≡ true
     back (inl held') =
-        let named : Names (member r held'.0).table d = (rw (table_member r held'.0) at held'.1.1) in
+        let named : Names (member r held'.0).table d = held'.1.1 in
         or_left _ _ (list_any_at (λ (m : MemberRecord). is_held m.table d) r.members held'.0 blank (named_record r.members held'.0 d named) (held-Names (member r held'.0).table d named))
     back (inr saved) =
         or_right (list_any (λ (m : MemberRecord). is_held m.table d) r.members) _

@@ -15,10 +15,12 @@ use Rattle.fbl_law.specs.Sound.{last_taken}
 
 -- a message that was received on a channel is the last one
 pub last_taken-push : (t u : List Mark) (q p : ℕ) (s : ℕ) → filter_map (taken_on q p) u ≡ s ∷ [] → last_taken (t ++ u) q p ≡ s
-last_taken-push t u q p s is = ap (λ (ks : List ℕ). fold (λ last ssn. ssn) 0 ks) (filter_map-append (taken_on q p) t u ∙ ap (λ (ks : List ℕ). filter_map (taken_on q p) t ++ ks) is) ∙ fold_push (λ last ssn. ssn) 0 (filter_map (taken_on q p) t) s
+last_taken-push t u q p s is = ap (λ (ks : List ℕ). fold (λ last ssn. ssn) 0 ks)
+    (filter_map-append (taken_on q p) t u ∙ ap (λ (ks : List ℕ). filter_map (taken_on q p) t ++ ks) is) ∙ fold_push (λ last ssn. ssn) 0 (filter_map (taken_on q p) t) s
 
 pub last_taken-same : (t u : List Mark) (q p : ℕ) → filter_map (taken_on q p) u ≡ [] → last_taken (t ++ u) q p ≡ last_taken t q p
-last_taken-same t u q p is = ap (λ (ks : List ℕ). fold (λ last ssn. ssn) 0 ks) (filter_map-append (taken_on q p) t u ∙ ap (λ (ks : List ℕ). filter_map (taken_on q p) t ++ ks) is ∙ append-nil (filter_map (taken_on q p) t))
+last_taken-same t u q p is = ap (λ (ks : List ℕ). fold (λ last ssn. ssn) 0 ks)
+    (filter_map-append (taken_on q p) t u ∙ ap (λ (ks : List ℕ). filter_map (taken_on q p) t ++ ks) is ∙ append-nil (filter_map (taken_on q p) t))
 
 -- the last number of a list is one of its numbers, or there is none
 last_of : (a : ℕ) (ks : List ℕ) → (fold (λ last ssn. ssn) a ks ≡ a) ⊎ ((j : ℕ) × (slice_get ks j ≡ Some (fold (λ last ssn. ssn) a ks)))
@@ -70,8 +72,10 @@ IsBeyond-push n t (Receipt b r a s) q p obeys may beyond j x at =
         let later : slice_get (in_flight t q p) (suc j) ≡ Some x = drop_one-At (in_flight t q p) j x at' in
         let rises : s < x = sent-rises n t obeys q p s x (Apart-filter _ (filter_map (sent_on q p) t) s x (0, suc j, omega arith, first, later)) in
         omega (arith, last, rises)
-    on true false ea eb at' = let taken : filter_map (taken_on q p) (Receipt b r a s ∷ []) ≡ [] = rw (ea, eb) in let last = last_taken-same t (Receipt b r a s ∷ []) q p taken in let below = beyond j x at' in omega (arith, last, below)
-    on false d ea eb at' = let taken : filter_map (taken_on q p) (Receipt b r a s ∷ []) ≡ [] = rw ea in let last = last_taken-same t (Receipt b r a s ∷ []) q p taken in let below = beyond j x at' in omega (arith, last, below)
+    on true false ea eb at' = let taken : filter_map (taken_on q p) (Receipt b r a s ∷ []) ≡ [] = rw (ea, eb) in
+        let last = last_taken-same t (Receipt b r a s ∷ []) q p taken in let below = beyond j x at' in omega (arith, last, below)
+    on false d ea eb at' = let taken : filter_map (taken_on q p) (Receipt b r a s ∷ []) ≡ [] = rw ea in
+        let last = last_taken-same t (Receipt b r a s ∷ []) q p taken in let below = beyond j x at' in omega (arith, last, below)
 
 pub in_flight-beyond : (n : ℕ) (t : List Mark) (q p j x : ℕ) → WellFormed n t → slice_get (in_flight t q p) j ≡ Some x → last_taken t q p < x
 in_flight-beyond n t q p j x obeys at = WellFormed-keeps n (IsBeyond q p) (λ i y none. cc) (λ u e. IsBeyond-push n u e q p) t obeys j x at

@@ -21,7 +21,8 @@ use Rattle.fbl_base.proofs.LawfulLaws.{sent-note}
 pub noted-sent : (t : List Event) (q k : ℕ) (x : Note) → note_of t q k ≡ Some x → (i : ℕ) × (to : ℕ) × (slice_get t i ≡ Some (Send q k to x))
 noted-sent [] q k x is = absurd cc
 noted-sent (Send q' k' to' x' ∷ t) q k x is = at (q' == q) (k' == k) refl refl is (noted-sent t q k x) where
-  at : (a b : Bool) → (q' == q) ≡ a → (k' == k) ≡ b → cond (a && b) (Some x') (note_of t q k) ≡ Some x → (note_of t q k ≡ Some x → (i : ℕ) × (to : ℕ) × (slice_get t i ≡ Some (Send q k to x)))
+  at : (a b : Bool) → (q' == q) ≡ a → (k' == k) ≡ b → cond (a && b) (Some x') (note_of t q k) ≡ Some x
+      → (note_of t q k ≡ Some x → (i : ℕ) × (to : ℕ) × (slice_get t i ≡ Some (Send q k to x)))
       → (i : ℕ) × (to : ℕ) × (slice_get (Send q' k' to' x' ∷ t) i ≡ Some (Send q k to x))
   at true true ea eb g rest =
       let e1 : q' ≡ q = grind (arith, nat_tests) in

@@ -21,7 +21,8 @@ counted-later p x t i k is = sum_by-cons (λ y. cond (p y) 1 0) x (take i t) ∙
 counted-at : (p : Mark → Bool) (t : List Mark) (k : ℕ) → k < count_by p t → (i : ℕ) × (e : Mark) × At t i e × (p e ≡ true) × (count_by p (take i t) ≡ k)
 counted-at p [] k below = absurd (omega arith)
 counted-at p (x ∷ t) k below = at (p x) refl k (rw (sum_by-cons (λ y. cond (p y) 1 0) x t) at below) (counted-at p t) where
-  at : (b : Bool) → p x ≡ b → (k : ℕ) → k < cond (p x) 1 0 + count_by p t → ((k : ℕ) → k < count_by p t → (i : ℕ) × (e : Mark) × At t i e × (p e ≡ true) × (count_by p (take i t) ≡ k))
+  at : (b : Bool) → p x ≡ b → (k : ℕ) → k < cond (p x) 1 0 + count_by p t
+      → ((k : ℕ) → k < count_by p t → (i : ℕ) × (e : Mark) × At t i e × (p e ≡ true) × (count_by p (take i t) ≡ k))
       → (i : ℕ) × (e : Mark) × At (x ∷ t) i e × (p e ≡ true) × (count_by p (take i (x ∷ t)) ≡ k)
   at true is zero less rest = (0, x, refl, is, refl)
   at true is (suc k) less rest =

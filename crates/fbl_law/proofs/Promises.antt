@@ -1,4 +1,4 @@
--- The headline.
+-- What soundness promises.
 use Rattle.std.proofs.Common.{◌≡◌, ℕ, ◌<◌, inl, inr, arith, List}
 use Rattle.std.specs.FinSet as sets
 use Rattle.std.specs.Ordering.{nat_cmp}
@@ -7,23 +7,25 @@ use Rattle.fbl_base.specs.declared.trace.Determinant.{Determinant}
 use Rattle.fbl_base.specs.declared.trace.Mark.{Mark}
 use Rattle.fbl_base.specs.declared.trace.Mark.TheVariants.{Receipt}
 use Rattle.fbl_base.specs.Events.{At, receipt_of}
-use Rattle.fbl_base.specs.Precedence.{Has, itself}
+use Rattle.fbl_base.specs.Precedence.{Has, itself, step}
 use Rattle.fbl_base.specs.Rules.{is_receipt_of, WellFormed}
 use Rattle.fbl_base.proofs.Gets.{slice_get-take}
+use Rattle.fbl_base.proofs.Sizes.{some_outside}
 use Rattle.fbl_base.proofs.RulesLaws.{count_at, eqb-self, WellFormed-take}
-use Rattle.fbl_law.specs.Knowledge.{IsUp, Names, table, IsHolder}
-use Rattle.fbl_law.specs.Groups.{GroupRecord, member, marks, knowledge}
-use Rattle.fbl_law.specs.Headline.{IsHeldBy, EachReceiptIsHeld, SoundIsAlwaysHeld, SoundHasNoOrphan, NoSurvivorIsOrphan, AnySurvivorsHold, RecordedIsPrefix}
-use Rattle.fbl_law.proofs.Safe.{never_both, no_orphan, IsRecorded-before, IsRecorded-prefix, Has-recorded}
+use Rattle.fbl_law.specs.Knowledge.{in_table, IsUp, Names, table, IsHolder}
+use Rattle.fbl_law.specs.Groups.{GroupRecord, member, knowledge}
+use Rattle.fbl_law.specs.Promises.{IsHeldBy}
+use Rattle.fbl_law.specs.Laws.{ClosedRecordsFirst, AnySurvivorsHold}
+use Rattle.fbl_law.specs.Headline.{SoundHoldsEachReceipt, SoundIsAlwaysHeld, SoundHasNoOrphan, NoSurvivorIsOrphan, SoundSurvivorsHold, SoundRecordsFirst}
+use Rattle.fbl_law.proofs.Safe.{down_or_up, never_both, no_orphan, IsRecorded-before, Has-recorded}
 use Rattle.fbl_law.proofs.Decide.{IsAlwaysHeld-closed}
-use Rattle.fbl_law.proofs.Run.{strike_keeps}
-use Rattle.fbl_law.proofs.Survivors.{survivors_record}
-use Rattle.fbl_law.proofs.GroupFacts.{table_member, held-Names}
+use Rattle.fbl_law.proofs.Strike.{strike_keeps}
+use Rattle.fbl_law.proofs.GroupFacts.{held-Names}
 use Rattle.fbl_law.proofs.GroupStrike.{is_struck}
 
 -- what a table names, the member holds
 pub is_held_by : (r : GroupRecord) (d : Determinant) (m : ℕ) → Names (table (knowledge r) m) d → IsHeldBy r d m
-is_held_by r d m named = held-Names (member r m).table d (rw (table_member r m) at named)
+is_held_by r d m named = held-Names (member r m).table d named
 
 pub sound_is_always_held : SoundIsAlwaysHeld
 sound_is_always_held next r sound = IsAlwaysHeld-closed r.config.f (knowledge r) sound.causes.closed
@@ -31,8 +33,8 @@ sound_is_always_held next r sound = IsAlwaysHeld-closed r.config.f (knowledge r)
 pub sound_has_no_orphan : SoundHasNoOrphan
 sound_has_no_orphan next r m sound = no_orphan r.config.f (knowledge r) sound.causes.closed m
 
-pub each_receipt_is_held : EachReceiptIsHeld
-each_receipt_is_held next r d sound nobody there =
+pub sound_holds_each_receipt : SoundHoldsEachReceipt
+sound_holds_each_receipt next r sound nobody d there =
     elim (sound_is_always_held next r sound d there) [
       | inl stable ↦ inl (stable.0, stable.1, λ m among. holder m (stable.2 m among))
       | inr held ↦ inr (λ m depends. is_held_by r d m (held m (up m) depends).1)
@@ -50,30 +52,47 @@ no_survivor_is_orphan next old new struck m sound s few =
     let keeps = strike_keeps old.config.members old.config.f (knowledge old) (knowledge new) struck (is_struck next old new struck s sound) few sound.causes in
     no_orphan old.config.f (knowledge new) keeps.closed m
 
-pub survivors_hold : AnySurvivorsHold
-survivors_hold next r struck m d sound few out depends =
-    let one = survivors_record r.config.members r.config.f (knowledge r) struck sound.causes few m d out depends in
-    (one.0, one.1, is_held_by r d one.0 one.2)
+-- of more than f holders one is outside a set of at most f members, and up
+pub any_survivors_hold : AnySurvivorsHold
+any_survivors_hold n f r s sound covers few m d out depends =
+    let up : IsUp r m = elim (down_or_up r.down m) [ inl down ↦ never_both s m (covers m down) out | inr up ↦ up ] in
+    elim (sound.closed.events (in_table m) depends.0 up depends.2 d depends.1) [
+      | inl named ↦ (m, out, named)
+      | inr stable ↦
+          let one = some_outside stable.0 s (omega (arith, few, stable.1)) in
+          elim (stable.2 one.0 one.1) [ inl holds ↦ (one.0, one.2, holds.1) | inr down ↦ never_both s one.0 (covers one.0 down.0) one.2 ]
+    ]
+
+pub sound_survivors_hold : SoundSurvivorsHold
+sound_survivors_hold next r s sound covers few =
+    any_survivors_hold r.config.members r.config.f (knowledge r) s sound.causes covers few
 
 -- the numbers of a member's receipts rise
-receipts_rise : (n : ℕ) (t : List Mark) (i j p a b q s q' s' : ℕ) → WellFormed n t → At t i (Receipt p a q s) → At t j (Receipt p b q' s') → i < j → a < b
+receipts_rise : (n : ℕ) (t : List Mark) (i j p a b q s q' s' : ℕ)
+    → WellFormed n t → At t i (Receipt p a q s) → At t j (Receipt p b q' s') → i < j → a < b
 receipts_rise n t i j p a b q s q' s' obeys first second below =
     let front : At _ i (Receipt p a q s) = slice_get-take t j i (Receipt p a q s) below first in
     let number = WellFormed-take n j t obeys i (Receipt p a q s) front in
     let later = obeys j (Receipt p b q' s') second in
     omega (arith, number.3, later.3, count_at (is_receipt_of p) _ i (Receipt p a q s) front (eqb-self p))
 
-pub recorded_is_prefix : RecordedIsPrefix
-recorded_is_prefix next r c d sound there same before recorded =
-    let found : Has (marks r) (receipt_of d) = Has-recorded (knowledge r) sound.causes.truth d recorded in
+pub closed_records_first : ClosedRecordsFirst
+closed_records_first n f r rules truth closed c d there same before recorded =
+    let found : Has r.trace (receipt_of d) = Has-recorded r truth d recorded in
     elim (cases_order there.0 found.0) [
       | inl place ↦
-          let here : At (marks r) found.0 (receipt_of c) = rw (← place) there.1 in
+          let here : At r.trace found.0 (receipt_of c) = rw (← place) there.1 in
           let one : receipt_of c ≡ receipt_of d = (let e1 = here in let e2 = found.1 in cc) in
-          IsRecorded-before r.config.f (knowledge r) sound.causes.closed c d recorded (rw one (itself found))
-      | inr (inl earlier) ↦ IsRecorded-prefix r.config.f (knowledge r) sound.causes.closed c d same (there.0, found.0, earlier, there.1, found.1) recorded
+          IsRecorded-before f r closed c d recorded (rw one (itself found))
+      | inr (inl earlier) ↦
+          IsRecorded-before f r closed c d recorded (step (itself there) ((there.0, found.0, earlier, there.1, found.1), inl same))
       | inr (inr later) ↦
-          let at_same : At (marks r) there.0 (Receipt d.to c.rsn c.from c.ssn) = rw (← same) there.1 in
-          let rises = receipts_rise r.config.members (marks r) found.0 there.0 d.to d.rsn c.rsn d.from d.ssn c.from c.ssn sound.lawful.well_formed found.1 at_same later in
+          let at_same : At r.trace there.0 (Receipt d.to c.rsn c.from c.ssn) = rw (← same) there.1 in
+          let rises =
+              receipts_rise n r.trace found.0 there.0 d.to d.rsn c.rsn d.from d.ssn c.from c.ssn rules found.1 at_same later in
           absurd (omega (arith, rises, before))
     ]
+
+pub sound_records_first : SoundRecordsFirst
+sound_records_first next r sound =
+    closed_records_first r.config.members r.config.f (knowledge r) sound.causes.rules sound.causes.truth sound.causes.closed

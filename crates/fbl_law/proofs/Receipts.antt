@@ -57,7 +57,8 @@ receipts_at-Has t p j d here =
     ((b.0, b.2 ∙ ap Some (is_receipt b.1 d b.3)), grind (arith, nat_tests))
 
 -- and each receipt of the member is among them, at its number
-pub Has-receipts_at : (n : ℕ) (t : List Mark) (p j : ℕ) (d : Determinant) → WellFormed n t → Has t (receipt_of d) → d.to ≡ p → d.rsn ≡ j + 1 → slice_get (receipts_at t p) j ≡ Some d
+pub Has-receipts_at : (n : ℕ) (t : List Mark) (p j : ℕ) (d : Determinant) → WellFormed n t → Has t (receipt_of d) → d.to ≡ p → d.rsn ≡ j + 1
+    → slice_get (receipts_at t p) j ≡ Some d
 Has-receipts_at n t p j d obeys has to number =
     let a = filter_map-At determinant_of t has.0 (receipt_of d) d has.1 refl in
     let is : (d.to == p) ≡ true = grind (arith, nat_tests) in
@@ -71,7 +72,8 @@ pub length-receipts_at : (t : List Mark) (p : ℕ) → length (receipts_at t p) 
 length-receipts_at [] p = refl
 length-receipts_at (Send q k to ∷ t) p = length-receipts_at t p ∙ (rw (sum_by-cons (λ y. cond (is_receipt_of p y) 1 0) (Send q k to) t) (omega arith))
 length-receipts_at (Receipt to r q k ∷ t) p = rw (sum_by-cons (λ y. cond (is_receipt_of p y) 1 0) (Receipt to r q k) t) (at (to == p) (length-receipts_at t p)) where
-  at : (b : Bool) → length (receipts_at t p) ≡ receipts_of t p → length (cond b (record { from = q; ssn = k; to = to; rsn = r } ∷ receipts_at t p) (receipts_at t p)) ≡ cond b 1 0 + receipts_of t p
+  at : (b : Bool) → length (receipts_at t p) ≡ receipts_of t p
+      → length (cond b (record { from = q; ssn = k; to = to; rsn = r } ∷ receipts_at t p) (receipts_at t p)) ≡ cond b 1 0 + receipts_of t p
   at true ih = omega (arith, ih)
   at false ih = omega (arith, ih)
 
@@ -81,27 +83,34 @@ notes-at : (all u : List Event) (p : ℕ) → ((i to rsn from ssn : ℕ) → sli
 notes-at all [] p noted = refl
 notes-at all (event.Send q k to x ∷ u) p noted = at (q == p) (notes-at all u p (λ i. noted (suc i))) where
   at : (b : Bool) → map (λ (y : Note). Some y) (notes_of (filter_map (action_of all p) u)) ≡ map (λ (d : Determinant). note_of all d.from d.ssn) (receipts_at (map mark_of u) p)
-      → map (λ (y : Note). Some y) (notes_of (cons_option (cond b (Some (sent (to, x))) None) (filter_map (action_of all p) u))) ≡ map (λ (d : Determinant). note_of all d.from d.ssn) (receipts_at (map mark_of u) p)
+      → map (λ (y : Note). Some y) (notes_of (cons_option (cond b (Some (sent (to, x))) None) (filter_map (action_of all p) u)))
+          ≡ map (λ (d : Determinant). note_of all d.from d.ssn) (receipts_at (map mark_of u) p)
   at true ih = ih
   at false ih = ih
 notes-at all (event.Receipt to r q k ∷ u) p noted = at (to == p) refl (noted 0 to r q k refl) (notes-at all u p (λ i. noted (suc i))) where
-  at : (b : Bool) → (to == p) ≡ b → (note : Note) × (note_of all q k ≡ Some note) → map (λ (y : Note). Some y) (notes_of (filter_map (action_of all p) u)) ≡ map (λ (d : Determinant). note_of all d.from d.ssn) (receipts_at (map mark_of u) p)
-      → map (λ (y : Note). Some y) (notes_of (filter_map (action_of all p) (event.Receipt to r q k ∷ u))) ≡ map (λ (d : Determinant). note_of all d.from d.ssn) (receipts_at (map mark_of (event.Receipt to r q k ∷ u)) p)
+  at : (b : Bool) → (to == p) ≡ b → (note : Note) × (note_of all q k ≡ Some note)
+      → map (λ (y : Note). Some y) (notes_of (filter_map (action_of all p) u)) ≡ map (λ (d : Determinant). note_of all d.from d.ssn) (receipts_at (map mark_of u) p)
+      → map (λ (y : Note). Some y) (notes_of (filter_map (action_of all p) (event.Receipt to r q k ∷ u)))
+          ≡ map (λ (d : Determinant). note_of all d.from d.ssn) (receipts_at (map mark_of (event.Receipt to r q k ∷ u)) p)
   at true is note ih = (let e = note.1 in rw (is, e) (ap (λ (ys : List (Option Note)). Some note.0 ∷ ys) ih))
   at false is note ih = rw is ih
 
 -- in a trace that obeys the rules a member's notes are those of its receipts
-pub received-notes : (n : ℕ) (t : List Event) (p : ℕ) → WellFormed n (map mark_of t) → map (λ (x : Note). Some x) (received_notes t p) ≡ map (λ (d : Determinant). note_of t d.from d.ssn) (receipts_at (map mark_of t) p)
+pub received-notes : (n : ℕ) (t : List Event) (p : ℕ) → WellFormed n (map mark_of t)
+    → map (λ (x : Note). Some x) (received_notes t p) ≡ map (λ (d : Determinant). note_of t d.from d.ssn) (receipts_at (map mark_of t) p)
 received-notes n t p obeys = notes-at t t p (receipts-noted n t obeys)
 
 pub length-received_notes : (n : ℕ) (t : List Event) (p : ℕ) → WellFormed n (map mark_of t) → length (received_notes t p) ≡ length (receipts_at (map mark_of t) p)
 length-received_notes n t p obeys =
-    sym (length-map (received_notes t p) (λ (x : Note). Some x)) ∙ ap length (received-notes n t p obeys) ∙ length-map (receipts_at (map mark_of t) p) (λ (d : Determinant). note_of t d.from d.ssn)
+    sym (length-map (received_notes t p) (λ (x : Note). Some x)) ∙ ap length (received-notes n t p obeys)
+        ∙ length-map (receipts_at (map mark_of t) p) (λ (d : Determinant). note_of t d.from d.ssn)
 
-pub note-at : (n : ℕ) (t : List Event) (p j : ℕ) (d : Determinant) (x : Note) → WellFormed n (map mark_of t) → slice_get (receipts_at (map mark_of t) p) j ≡ Some d → note_of t d.from d.ssn ≡ Some x → slice_get (received_notes t p) j ≡ Some x
+pub note-at : (n : ℕ) (t : List Event) (p j : ℕ) (d : Determinant) (x : Note) → WellFormed n (map mark_of t)
+    → slice_get (receipts_at (map mark_of t) p) j ≡ Some d → note_of t d.from d.ssn ≡ Some x → slice_get (received_notes t p) j ≡ Some x
 note-at n t p j d x obeys here noted =
     at (slice_get (received_notes t p) j) refl
-    (sym (slice_get-map (λ (y : Note). Some y) (received_notes t p) j) ∙ ap (λ (xs : List (Option Note)). slice_get xs j) (received-notes n t p obeys) ∙ slice_get-map (λ (c : Determinant). note_of t c.from c.ssn) (receipts_at (map mark_of t) p) j ∙ (rw (here, noted) refl))
+    (sym (slice_get-map (λ (y : Note). Some y) (received_notes t p) j) ∙ ap (λ (xs : List (Option Note)). slice_get xs j) (received-notes n t p obeys)
+        ∙ slice_get-map (λ (c : Determinant). note_of t c.from c.ssn) (receipts_at (map mark_of t) p) j ∙ (rw (here, noted) refl))
   where
     at : (o : Option Note) → slice_get (received_notes t p) j ≡ o → option_map (λ (y : Note). Some y) o ≡ Some (Some x) → slice_get (received_notes t p) j ≡ Some x
     at None is h = absurd cc
@@ -114,7 +123,8 @@ last-from q p z (Send q' k to ∷ t) = last-from q p z t
 last-from q p z (Receipt to r q' k ∷ t) = at (q' == q) (to == p) refl (last-from q p z t) (last-from q p k t) where
   at : (a b : Bool) → (q' == q) ≡ a → fold (λ last ssn. ssn) z (filter_map (taken_on q p) t) ≡ fold (λ last (d : Determinant). cond (d.from == q) d.ssn last) z (receipts_at t p)
       → fold (λ last ssn. ssn) k (filter_map (taken_on q p) t) ≡ fold (λ last (d : Determinant). cond (d.from == q) d.ssn last) k (receipts_at t p)
-      → fold (λ last ssn. ssn) z (cons_option (cond (a && b) (Some k) None) (filter_map (taken_on q p) t)) ≡ fold (λ last (d : Determinant). cond (d.from == q) d.ssn last) z (cond b (record { from = q'; ssn = k; to = to; rsn = r } ∷ receipts_at t p) (receipts_at t p))
+      → fold (λ last ssn. ssn) z (cons_option (cond (a && b) (Some k) None) (filter_map (taken_on q p) t))
+          ≡ fold (λ last (d : Determinant). cond (d.from == q) d.ssn last) z (cond b (record { from = q'; ssn = k; to = to; rsn = r } ∷ receipts_at t p) (receipts_at t p))
   at true true ea same next = rw (ea, fold) next
   at true false ea same next = same
   at false true ea same next = rw (ea, fold) same

@@ -1,16 +1,16 @@
 -- What a closed record promises.
-use Rattle.std.proofs.Common.{List, ◌≡◌, ℕ, false, [], inl, inr, ◌⊎◌, arith, subst}
+use Rattle.std.proofs.Common.{List, ◌≡◌, ℕ, false, [], inl, inr, ◌⊎◌, arith, subst, refl}
 use Rattle.std.specs.Ordering.{nat_cmp}
 use Rattle.std.specs.FinSet as set
 use Rattle.std.specs.List.{Contains}
 use Rattle.std.proofs.lemmas.Bool.{cases_Bool}
 use Rattle.fbl_base.specs.declared.trace.Determinant.{Determinant}
 use Rattle.fbl_base.specs.declared.trace.Mark.{Mark}
-use Rattle.fbl_base.specs.declared.trace.Mark.TheVariants.{Send, Receipt}
-use Rattle.fbl_base.specs.Precedence.{Has, Earlier, Precedes, itself, step, Depends}
+use Rattle.fbl_base.specs.Precedence.{Has, Precedes, Depends}
 use Rattle.fbl_base.specs.Events.{member_of, receipt_of}
 use Rattle.fbl_base.proofs.Sizes.{some_member}
-use Rattle.fbl_law.specs.Knowledge.{IsTrueEntry, Members, Includes, Knowledge, table, checkpoint, IsUp, IsDown, Names, Holds, IsRecorded, IsStable, KnowsTruth, IsBeforeCheckpoint, IsClosed, IsOrphan, IsDownEmpty}
+use Rattle.fbl_law.specs.Knowledge.{IsTrueEntry, in_table, in_checkpoint, IsHolder, Members, Includes, Knowledge, table, checkpoint, IsUp, IsDown, Names, Holds, IsRecorded, IsStable, KnowsTruth, IsBeforeCheckpoint, IsClosed, IsOrphan, IsDownEmpty}
+use Rattle.fbl_law.specs.Promises.{RecordsCauses}
 use Rattle.fbl_member.specs.Members.{Message}
 use Rattle.fbl_law.proofs.Lists.{Contains-none}
 use Rattle.fbl_table.specs.declared.entry.Entry.{Entry}
@@ -41,10 +41,14 @@ IsRecorded-held r d m holds = inl (m, holds)
 pub IsRecorded-saved : (r : Knowledge) (d : Determinant) (m : ℕ) → Names (checkpoint r m).table d → IsRecorded r d
 IsRecorded-saved r d m named = inr (m, named)
 
+-- and so is what has a holder
+pub recorded_holder : (r : Knowledge) (d : Determinant) (m : ℕ) → IsHolder r d m → IsRecorded r d
+recorded_holder r d m holder = elim holder [ inl holds ↦ IsRecorded-held r d m holds | inr down ↦ down.1 ]
+
 pub IsRecorded-stable : (f : ℕ) (r : Knowledge) (d : Determinant) → IsStable f r d → IsRecorded r d
 IsRecorded-stable f r d s =
     let one = some_member s.0 (omega (arith, s.1)) in
-    elim (s.2 one.0 one.1) [ inl holds ↦ IsRecorded-held r d one.0 holds | inr down ↦ down.1 ]
+    recorded_holder r d one.0 (s.2 one.0 one.1)
 
 recorded_by : (f : ℕ) (r : Knowledge) (d : Determinant) (m : ℕ) → IsUp r m → Names (table r m) d ⊎ IsStable f r d → IsRecorded r d
 recorded_by f r d m up cause = elim cause [ inl named ↦ IsRecorded-held r d m (up, named) | inr stable ↦ IsRecorded-stable f r d stable ]
@@ -58,31 +62,21 @@ Has-named r entries known d named = subst (λ (c : Determinant). Has r.trace (re
 
 -- a recorded determinant is that of a receipt
 pub Has-recorded : (r : Knowledge) → KnowsTruth r → (d : Determinant) → IsRecorded r d → Has r.trace (receipt_of d)
-Has-recorded r known d (inl held) = Has-named r (table r held.0) (λ e h. (known.tables held.0 e held.1.0 h).0) d held.1.1
-Has-recorded r known d (inr saved) = Has-named r (checkpoint r saved.0).table (λ e h. (known.checkpoints saved.0 e h).0) d saved.1
+Has-recorded r known d (inl held) = Has-named r (table r held.0) (λ e h. (known (in_table held.0) e held.1.0 h).0) d held.1.1
+Has-recorded r known d (inr saved) = Has-named r (checkpoint r saved.0).table (λ e h. (known (in_checkpoint saved.0) e tt h).0) d saved.1
 
 -- what an up member depends on is recorded
 pub IsRecorded-depended : (f : ℕ) (r : Knowledge) → IsClosed f r → (d : Determinant) (m : ℕ) → IsUp r m → Depends r.trace m (receipt_of d) → IsRecorded r d
-IsRecorded-depended f r closed d m up depends = recorded_by f r d m up (closed.events m depends.0 up depends.2 d depends.1)
+IsRecorded-depended f r closed d m up depends = recorded_by f r d m up (closed.events (in_table m) depends.0 up depends.2 d depends.1)
 
 -- what precedes a recorded receipt is recorded
-pub IsRecorded-before : (f : ℕ) (r : Knowledge) → IsClosed f r → (c d : Determinant) → IsRecorded r d → Precedes r.trace (receipt_of c) (receipt_of d) → IsRecorded r c
-IsRecorded-before f r closed c d (inl held) before = recorded_by f r c held.0 held.1.0 (closed.tables held.0 d held.1.0 held.1.1 c before)
-IsRecorded-before f r closed c d (inr saved) before = saved_by f r c saved.0 (closed.checkpoints saved.0 d saved.1 c before)
+pub IsRecorded-before : (f : ℕ) (r : Knowledge) → IsClosed f r → RecordsCauses r
+IsRecorded-before f r closed c d (inl held) before = recorded_by f r c held.0 held.1.0 (closed.named (in_table held.0) d held.1.0 held.1.1 c before)
+IsRecorded-before f r closed c d (inr saved) before = saved_by f r c saved.0 (closed.named (in_checkpoint saved.0) d tt saved.1 c before)
 
 -- what precedes an event from before its member's checkpoint is recorded
 pub IsRecorded-reached : (f : ℕ) (r : Knowledge) → IsClosed f r → (d : Determinant) (b : Mark) → IsBeforeCheckpoint r b → Precedes r.trace (receipt_of d) b → IsRecorded r d
-IsRecorded-reached f r closed d b reached before = saved_by f r d _ (closed.reached b reached d before)
-
--- where the checkpoint of its member is the same, an event is from before it or not
-pub IsBeforeCheckpoint-same : (old new : Knowledge) (b : Mark) → checkpoint new (member_of b) ≡ checkpoint old (member_of b) → IsBeforeCheckpoint new b → IsBeforeCheckpoint old b
-IsBeforeCheckpoint-same old new (Send from ssn to) same reached = rw same at reached
-IsBeforeCheckpoint-same old new (Receipt to rsn from ssn) same reached = rw same at reached
-
--- so a member's recorded receipts are its first ones
-pub IsRecorded-prefix : (f : ℕ) (r : Knowledge) → IsClosed f r → (c d : Determinant) → c.to ≡ d.to → Earlier r.trace (receipt_of c) (receipt_of d) → IsRecorded r d → IsRecorded r c
-IsRecorded-prefix f r closed c d same earlier recorded =
-    IsRecorded-before f r closed c d recorded (step (itself (earlier.0, earlier.3)) (earlier, inl same))
+IsRecorded-reached f r closed d b reached before = saved_by f r d _ (closed.events (in_checkpoint (member_of b)) b tt (refl, reached) d before)
 
 -- in a closed record no up member is an orphan
 pub no_orphan : (f : ℕ) (r : Knowledge) → IsClosed f r → (m : ℕ) → ¬ (IsOrphan r m)

@@ -123,7 +123,8 @@ module _ (Q : Entry → Type 0) (join : (x e : Entry) → Q x → Q e → x.det 
   gathered-keeps xs (e ∷ es) all each y among =
       gathered-keeps (added xs e) es (added-keeps xs e all (each e (Contains-here e es))) (λ x h. each x (Contains-there e es x h)) y among
 
-  pub learned-keeps : (p : ℕ) (xs es : List Entry) → ((x : Entry) → Contains xs x → Q x) → ((e : Entry) → Contains es e → Q (held_by p e)) → (y : Entry) → Contains (learned p xs es) y → Q y
+  pub learned-keeps : (p : ℕ) (xs es : List Entry) → ((x : Entry) → Contains xs x → Q x) → ((e : Entry) → Contains es e → Q (held_by p e))
+      → (y : Entry) → Contains (learned p xs es) y → Q y
   learned-keeps p xs es all each y among =
       gathered-keeps xs (map (held_by p) es) all (λ x h. let r = Contains-changed (held_by p) es x h in subst Q r.2 (each r.0 r.1)) y among
 

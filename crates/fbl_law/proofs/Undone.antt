@@ -11,14 +11,15 @@ use Rattle.fbl_base.specs.Fold.{Next}
 use Rattle.fbl_law.specs.Steps.{Stays, IsEventCut}
 use Rattle.fbl_law.specs.Groups.{GroupRecord, marks, knowledge, receipts, is_recorded}
 use Rattle.fbl_law.specs.Sound.{IsSound}
-use Rattle.fbl_law.proofs.Cut.{marks-filter, Has-kept, kept-Has}
+use Rattle.fbl_law.proofs.CutWellFormed.{marks-filter, Has-kept, kept-Has}
 use Rattle.fbl_law.proofs.GroupStrike.{recorded_test}
 use Rattle.fbl_base.proofs.Received.{is_receipt}
-use Rattle.fbl_law.proofs.CutCounts.{same-test}
-use Rattle.fbl_law.proofs.Replaying.{cut-recorded, recorded-cut}
+use Rattle.fbl_law.proofs.CutByCounts.{same-test}
+use Rattle.fbl_law.proofs.ReplayFromGathered.{cut-recorded, recorded-cut}
 
 -- a filter before a map, and after it
-filter_map-after : {X Y : Type 0} (K : X → Bool) (R : Y → Bool) (g : X → Option Y) (xs : List X) → ((i : ℕ) (x : X) (y : Y) → slice_get xs i ≡ Some x → g x ≡ Some y → K x ≡ R y) → filter_map g (filter K xs) ≡ filter R (filter_map g xs)
+filter_map-after : {X Y : Type 0} (K : X → Bool) (R : Y → Bool) (g : X → Option Y) (xs : List X)
+    → ((i : ℕ) (x : X) (y : Y) → slice_get xs i ≡ Some x → g x ≡ Some y → K x ≡ R y) → filter_map g (filter K xs) ≡ filter R (filter_map g xs)
 filter_map-after K R g [] agree = refl
 filter_map-after {X} {Y} K R g (x ∷ xs) agree = at (g x) refl (K x) refl (λ y. agree 0 x y refl) (filter_map-after K R g xs (λ i. agree (suc i))) where
   at : (o : Option Y) → g x ≡ o → (b : Bool) → K x ≡ b → ((y : Y) → g x ≡ Some y → K x ≡ R y) → filter_map g (filter K xs) ≡ filter R (filter_map g xs)
@@ -46,4 +47,5 @@ module _ (next : Next) (old : GroupRecord) (sound : IsSound next old) (new : Lis
 
   -- so the receipts that the trace loses are those that aren't
   pub cut-undone : length (receipts (map mark_of new)) + length (filter (λ d. not (is_recorded old d)) (receipts (marks old))) ≡ length (receipts (marks old))
-  cut-undone = ap (λ (ds : List Determinant). length ds + length (filter (λ d. not (is_recorded old d)) (receipts (marks old)))) cut-receipts ∙ length-filter_both (is_recorded old) (λ d. not (is_recorded old d)) (λ d. refl) (receipts (marks old))
+  cut-undone = ap (λ (ds : List Determinant). length ds + length (filter (λ d. not (is_recorded old d)) (receipts (marks old)))) cut-receipts
+      ∙ length-filter_both (is_recorded old) (λ d. not (is_recorded old d)) (λ d. refl) (receipts (marks old))

@@ -12,7 +12,6 @@ use Rattle.fbl_base.specs.declared.trace.Event.{Event}
 use Rattle.fbl_base.specs.declared.trace.Event.TheVariants.{Send, Receipt}
 use Rattle.fbl_base.specs.declared.trace.Mark.{Mark}
 use Rattle.fbl_base.specs.declared.trace.Mark.TheVariants as mark
-use Rattle.fbl_base.specs.Configs.{Settings}
 use Rattle.fbl_base.specs.Events.{mark_of}
 use Rattle.fbl_base.specs.Rules.{WellFormed, MayFollow, in_flight}
 use Rattle.fbl_base.specs.Fold.{Next, Progress, Action, took, sent, Lawful, action_of, actions_of, notes_of, note_of, responses, starts_of}
@@ -27,10 +26,10 @@ use Rattle.fbl_law.specs.Groups.{GroupRecord, member, channel, marks, knowledge,
 use Rattle.fbl_law.specs.Sound.{IsSound, received_notes}
 use Rattle.fbl_law.proofs.GroupFacts.{all_up, channel_ends, same_channel}
 use Rattle.fbl_law.proofs.Lists.{Contains-here, Contains-there}
-use Rattle.fbl_law.proofs.Safe.{down_or_up, never_both}
+use Rattle.fbl_law.proofs.Safe.{down_or_up}
 use Rattle.fbl_law.proofs.KeptByStep.{Came, all-came, receipt-mark}
 use Rattle.fbl_law.proofs.Notes.{sent-noted, send-mark}
-use Rattle.fbl_law.proofs.Resending.{sum_below-agree}
+use Rattle.fbl_law.proofs.ChannelCounts.{sum_below-agree}
 
 -- sums over members
 sum_below-plus : (n : ℕ) (a b : ℕ → ℕ) → sum_below n (λ x. a x + b x) ≡ sum_below n a + sum_below n b
@@ -75,9 +74,6 @@ table-at n q p d a b below_q below_p more others =
     (sum_below-at n p d (a q) (b q) below_p more (λ y is. others q y (let self = eqb-self q in rw (self, is) refl)))
     (λ x is. sum_below-agree n (b x) (a x) (λ y less. others x y (rw is refl)))
 
-sum_by-none : {X : Type 0} (f : X → ℕ) → sum_by f [] ≡ 0
-sum_by-none f = refl
-
 -- what flows through the channels, with a weight for each message
 module _ (n : ℕ) (w : ℕ → ℕ → ℕ) where
   abbrev pub weight_in : List Mark → ℕ → ℕ → ℕ
@@ -103,19 +99,23 @@ module _ (n : ℕ) (w : ℕ → ℕ → ℕ) where
     none : weight_on [] + sum_by into [] ≡ sum_by out []
     none = omega (arith, sum_below-agree n (λ q. sum_below n (weight_in [] q)) (λ q. 0) (λ q below. sum_below-none n), sum_below-none n)
 
-    more : (t : List Mark) (e : Mark) → WellFormed n t → MayFollow n t e → weight_on t + sum_by into t ≡ sum_by out t → weight_on (t ++ e ∷ []) + sum_by into (t ++ e ∷ []) ≡ sum_by out (t ++ e ∷ [])
+    more : (t : List Mark) (e : Mark) → WellFormed n t → MayFollow n t e → weight_on t + sum_by into t ≡ sum_by out t
+        → weight_on (t ++ e ∷ []) + sum_by into (t ++ e ∷ []) ≡ sum_by out (t ++ e ∷ [])
     more t (mark.Send q s p) obeys may ih =
         let e : Mark = mark.Send q s p in
-        let cell : (a b : ℕ) → weight_in (t ++ e ∷ []) a b ≡ sum_by (w a) (in_flight t a b ++ cond (q == a && p == b) (s ∷ []) []) = λ a b. ap (sum_by (w a)) (in_flight-send n t obeys q s p a b may) in
+        let cell : (a b : ℕ) → weight_in (t ++ e ∷ []) a b ≡ sum_by (w a) (in_flight t a b ++ cond (q == a && p == b) (s ∷ []) []) =
+            λ a b. ap (sum_by (w a)) (in_flight-send n t obeys q s p a b may) in
         let self_q = eqb-self q in
         let self_p = eqb-self p in
         let here : weight_in (t ++ e ∷ []) q p ≡ weight_in t q p + w q s = cell q p ∙ (rw (self_q, self_p) (sum_by_push (w q) (in_flight t q p) s)) in
-        let others : (a b : ℕ) → (q == a && p == b) ≡ false → weight_in (t ++ e ∷ []) a b ≡ weight_in t a b = λ a b is. cell a b ∙ (rw is (omega (arith, sum_by-append (w a) (in_flight t a b) []))) in
+        let others : (a b : ℕ) → (q == a && p == b) ≡ false → weight_in (t ++ e ∷ []) a b ≡ weight_in t a b = λ a b is. cell a b
+            ∙ (rw is (omega (arith, sum_by-append (w a) (in_flight t a b) []))) in
         let grown = table-at n q p (w q s) (weight_in t) (weight_in (t ++ e ∷ [])) may.0 may.1 here others in
         omega (arith, grown, ih, sum_by_push into t e, sum_by_push out t e)
     more t (mark.Receipt p r q s) obeys may ih =
         let e : Mark = mark.Receipt p r q s in
-        let cell : (a b : ℕ) → weight_in (t ++ e ∷ []) a b ≡ sum_by (w a) (cond (q == a && p == b) (drop 1 (in_flight t a b)) (in_flight t a b)) = λ a b. ap (sum_by (w a)) (in_flight-receipt n t obeys p r q s a b may) in
+        let cell : (a b : ℕ) → weight_in (t ++ e ∷ []) a b ≡ sum_by (w a) (cond (q == a && p == b) (drop 1 (in_flight t a b)) (in_flight t a b)) =
+            λ a b. ap (sum_by (w a)) (in_flight-receipt n t obeys p r q s a b may) in
         let self_q = eqb-self q in
         let self_p = eqb-self p in
         let left : weight_in (t ++ e ∷ []) q p ≡ sum_by (w q) (drop 1 (in_flight t q p)) = cell q p ∙ (rw (self_q, self_p) refl) in
@@ -131,15 +131,13 @@ module _ (n : ℕ) (t : List Event) (g : Action → ℕ) (h : Mark → ℕ) wher
   Fits (Send q s p x) = (q < n) × (g (sent (p, x)) ≡ h (mark.Send q s p))
   Fits (Receipt p r q s) = (p < n) × ((x : Note) × (note_of t q s ≡ Some x) × (g (took x) ≡ h (mark.Receipt p r q s)))
 
-  done-by : (m : ℕ) → List Event → ℕ
-  done-by m v = sum_by g (filter_map (action_of t m) v)
-
   pub by-member : (v : List Event) → ((i : ℕ) (e : Event) → slice_get v i ≡ Some e → Fits e) → sum_below n (λ m. sum_by g (filter_map (action_of t m) v)) ≡ sum_by h (map mark_of v)
   by-member [] fits = sum_below-none n
   by-member (Send q s p x ∷ v) fits =
       let here = fits 0 (Send q s p x) refl in
       let self = eqb-self q in
-      let own : sum_by g (filter_map (action_of t q) (Send q s p x ∷ v)) ≡ sum_by g (filter_map (action_of t q) v) + h (mark.Send q s p) = rw self (omega (arith, sum_by-cons g (sent (p, x)) (filter_map (action_of t q) v), here.1)) in
+      let own : sum_by g (filter_map (action_of t q) (Send q s p x ∷ v)) ≡ sum_by g (filter_map (action_of t q) v) + h (mark.Send q s p) =
+          rw self (omega (arith, sum_by-cons g (sent (p, x)) (filter_map (action_of t q) v), here.1)) in
       let others : (m : ℕ) → (q == m) ≡ false → sum_by g (filter_map (action_of t m) (Send q s p x ∷ v)) ≡ sum_by g (filter_map (action_of t m) v) = λ m is. rw is refl in
       let all = sum_below-at n q (h (mark.Send q s p)) (λ m. sum_by g (filter_map (action_of t m) v)) (λ m. sum_by g (filter_map (action_of t m) (Send q s p x ∷ v))) here.0 own others in
       omega (arith, all, by-member v (λ i e at. fits (suc i) e at), sum_by-cons h (mark.Send q s p) (map mark_of v))
@@ -147,7 +145,8 @@ module _ (n : ℕ) (t : List Event) (g : Action → ℕ) (h : Mark → ℕ) wher
       let here = fits 0 (Receipt p r q s) refl in
       let self = eqb-self p in
       let note = here.1.1 in
-      let own : sum_by g (filter_map (action_of t p) (Receipt p r q s ∷ v)) ≡ sum_by g (filter_map (action_of t p) v) + h (mark.Receipt p r q s) = rw (self, note) (omega (arith, sum_by-cons g (took here.1.0) (filter_map (action_of t p) v), here.1.2)) in
+      let own : sum_by g (filter_map (action_of t p) (Receipt p r q s ∷ v)) ≡ sum_by g (filter_map (action_of t p) v) + h (mark.Receipt p r q s) =
+          rw (self, note) (omega (arith, sum_by-cons g (took here.1.0) (filter_map (action_of t p) v), here.1.2)) in
       let others : (m : ℕ) → (p == m) ≡ false → sum_by g (filter_map (action_of t m) (Receipt p r q s ∷ v)) ≡ sum_by g (filter_map (action_of t m) v) = λ m is. rw is refl in
       let all = sum_below-at n p (h (mark.Receipt p r q s)) (λ m. sum_by g (filter_map (action_of t m) v)) (λ m. sum_by g (filter_map (action_of t m) (Receipt p r q s ∷ v))) here.0 own others in
       omega (arith, all, by-member v (λ i e at. fits (suc i) e at), sum_by-cons h (mark.Receipt p r q s) (map mark_of v))
@@ -176,7 +175,8 @@ module _ (weight : Note → ℕ) where
   taken-notes (sent s ∷ actions) = omega (arith, sum_by-cons taken (sent s) actions, taken-notes actions)
 
   -- the starts of each member, summed, are the starts
-  starts-weigh : (n : ℕ) (starts : List Start) → ((i : ℕ) (s : Start) → slice_get starts i ≡ Some s → s.from < n) → sum_below n (λ m. sum_by (λ (s : ℕ × Note). weight s.1) (starts_of m starts)) ≡ sum_by (λ (s : Start). weight s.note) starts
+  starts-weigh : (n : ℕ) (starts : List Start) → ((i : ℕ) (s : Start) → slice_get starts i ≡ Some s → s.from < n)
+      → sum_below n (λ m. sum_by (λ (s : ℕ × Note). weight s.1) (starts_of m starts)) ≡ sum_by (λ (s : Start). weight s.note) starts
   starts-weigh n [] members = sum_below-none n
   starts-weigh n (s ∷ starts) members =
       let f : ℕ × Note → ℕ = λ (s : ℕ × Note). weight s.1 in
@@ -221,7 +221,9 @@ module _ (weight : Note → ℕ) where
           given-sends (next m n state x).sends.items rest,
         )
 
-    module _ (starts : List Start) (t : List Event) (lawful : Lawful next n starts t) (members : (i : ℕ) (s : Start) → slice_get starts i ≡ Some s → s.from < n) (at_first : (m : ℕ) → m < n → P m 0) (started : All (λ (s : Start). Q s.from s.to s.note) starts) where
+    module _ (starts : List Start) (t : List Event) (lawful : Lawful next n starts t)
+        (members : (i : ℕ) (s : Start) → slice_get starts i ≡ Some s → s.from < n) (at_first : (m : ℕ) → m < n → P m 0)
+        (started : All (λ (s : Start). Q s.from s.to s.note) starts) where
       -- what a message weighs, by its number
       abbrev pub w : ℕ → ℕ → ℕ
       w q s = of_note (note_of t q s)
@@ -263,17 +265,22 @@ module _ (weight : Note → ℕ) where
           let gives = sum_below-agree n (λ m. sum_by given (actions_of t m)) (λ m. begins m + replies m) (λ m below. member-gives m) in
           omega (arith, f, given_all, taken_all, takes, gives, sum_below-plus n begins replies, starts-weigh n starts members)
 
-      pub trace-makes-none : StepMakesNone next n P Q mass weight → sum_below n (λ m. mass m (reached m 0 (notes m))) + weight_on n w (map mark_of t) ≤ sum_below n (λ m. mass m 0) + sum_by (λ (s : Start). weight s.note) starts
+      pub trace-makes-none : StepMakesNone next n P Q mass weight
+          → sum_below n (λ m. mass m (reached m 0 (notes m))) + weight_on n w (map mark_of t) ≤ sum_below n (λ m. mass m 0) + sum_by (λ (s : Start). weight s.note) starts
       trace-makes-none law =
-          let each = sum_below-most n (λ m. mass m (reached m 0 (notes m)) + replies m) (λ m. mass m 0 + sum_by weight (notes m)) (λ m below. member-makes-none law m 0 (notes m) below (at_first m below) (all-came next n P Q keeps starts t lawful at_first started m)) in
+          let each = sum_below-most n (λ m. mass m (reached m 0 (notes m)) + replies m) (λ m. mass m 0 + sum_by weight (notes m))
+              (λ m below. member-makes-none law m 0 (notes m) below (at_first m below) (all-came next n P Q keeps starts t lawful at_first started m)) in
           omega (arith, each, flows, sum_below-plus n (λ m. mass m (reached m 0 (notes m))) replies, sum_below-plus n (λ m. mass m 0) (λ m. sum_by weight (notes m)))
 
-      pub trace-loses-none : StepLosesNone next n P Q mass weight → sum_below n (λ m. mass m 0) + sum_by (λ (s : Start). weight s.note) starts ≤ sum_below n (λ m. mass m (reached m 0 (notes m))) + weight_on n w (map mark_of t)
+      pub trace-loses-none : StepLosesNone next n P Q mass weight
+          → sum_below n (λ m. mass m 0) + sum_by (λ (s : Start). weight s.note) starts ≤ sum_below n (λ m. mass m (reached m 0 (notes m))) + weight_on n w (map mark_of t)
       trace-loses-none law =
-          let each = sum_below-most n (λ m. mass m 0 + sum_by weight (notes m)) (λ m. mass m (reached m 0 (notes m)) + replies m) (λ m below. member-loses-none law m 0 (notes m) below (at_first m below) (all-came next n P Q keeps starts t lawful at_first started m)) in
+          let each = sum_below-most n (λ m. mass m 0 + sum_by weight (notes m)) (λ m. mass m (reached m 0 (notes m)) + replies m)
+              (λ m below. member-loses-none law m 0 (notes m) below (at_first m below) (all-came next n P Q keeps starts t lawful at_first started m)) in
           omega (arith, each, flows, sum_below-plus n (λ m. mass m (reached m 0 (notes m))) replies, sum_below-plus n (λ m. mass m 0) (λ m. sum_by weight (notes m)))
 
-module _ (next : Next) (r : GroupRecord) (P : ℕ → ℕ → Type 0) (Q : ℕ → ℕ → Note → Type 0) (mass : ℕ → ℕ → ℕ) (weight : Note → ℕ) (sound : IsSound next r) (keeps : StepKeeps next r.config.members P Q) (first : HoldsFirst r.config P Q) where
+module _ (next : Next) (r : GroupRecord) (P : ℕ → ℕ → Type 0) (Q : ℕ → ℕ → Note → Type 0) (mass : ℕ → ℕ → ℕ) (weight : Note → ℕ)
+    (sound : IsSound next r) (keeps : StepKeeps next r.config.members P Q) (first : HoldsFirst r.config P Q) where
   abbrev n : ℕ
   n = r.config.members
 
@@ -287,7 +294,8 @@ module _ (next : Next) (r : GroupRecord) (P : ℕ → ℕ → Type 0) (Q : ℕ �
   up-weighs : (m : ℕ) → m < r.config.members → IsUp (knowledge r) m → mass m (member r m).state ≡ by_trace m
   up-weighs m below up = ap (mass m) (ap (λ (x : Progress). x.state) (sound.folds m below up).progress ∙ after_notes-state next m r.config.members r.config.starts (received_notes r.trace m))
 
-  queue-weighs : (q p : ℕ) (xs : List Message) (numbers : List ℕ) → map send_mark xs ≡ map (λ ssn. mark.Send q ssn p) numbers → ((v : Message) → Contains xs v → note_of r.trace q v.ssn ≡ Some v.note)
+  queue-weighs : (q p : ℕ) (xs : List Message) (numbers : List ℕ) → map send_mark xs ≡ map (λ ssn. mark.Send q ssn p) numbers
+      → ((v : Message) → Contains xs v → note_of r.trace q v.ssn ≡ Some v.note)
       → sum_by (λ (v : Message). weight v.note) xs ≡ sum_by (number_weight q) numbers
   queue-weighs q p [] [] same noted = refl
   queue-weighs q p [] (k ∷ numbers) same noted = absurd cc
@@ -297,7 +305,8 @@ module _ (next : Next) (r : GroupRecord) (P : ℕ → ℕ → Type 0) (Q : ℕ �
       let rest : map send_mark xs ≡ map (λ ssn. mark.Send q ssn p) numbers = cc in
       let note : note_of r.trace q k ≡ Some v.note = rw (← number) (noted v (Contains-here v xs)) in
       let here : number_weight q k ≡ weight v.note = rw note refl in
-      omega (arith, here, queue-weighs q p xs numbers rest (λ u among. noted u (Contains-there v xs u among)), sum_by-cons (λ (v : Message). weight v.note) v xs, sum_by-cons (number_weight q) k numbers)
+      omega (arith, here, queue-weighs q p xs numbers rest (λ u among. noted u (Contains-there v xs u among)),
+          sum_by-cons (λ (v : Message). weight v.note) v xs, sum_by-cons (number_weight q) k numbers)
 
   -- the channel between two members that are up weighs what the trace has in flight there
   channel-weighs : (q p : ℕ) → IsUp (knowledge r) q → IsUp (knowledge r) p → sum_by (λ (v : Message). weight v.note) (channel r q p) ≡ weight_in n number_weight (marks r) q p
@@ -310,11 +319,13 @@ module _ (next : Next) (r : GroupRecord) (P : ℕ → ℕ → Type 0) (Q : ℕ �
 
   -- where each step makes no weight, the group weighs at most what it weighed at first, if a state 0 in the place of that of
   -- a member that is down makes none
-  pub makes-none : StepMakesNone next r.config.members P Q mass weight → ((m : ℕ) → IsDown (knowledge r) m → (state : ℕ) → mass m 0 ≤ mass m state) → weight_held mass r + weight_flying weight r ≤ weight_at_first mass weight r.config
+  pub makes-none : StepMakesNone next r.config.members P Q mass weight → ((m : ℕ) → IsDown (knowledge r) m → (state : ℕ) → mass m 0 ≤ mass m state)
+      → weight_held mass r + weight_flying weight r ≤ weight_at_first mass weight r.config
   makes-none law light =
       let whole = trace-makes-none weight next n P Q keeps mass r.config.starts r.trace sound.lawful (λ i s here. (sound.config.starts i s here).0) first.0 first.1 law in
       let states = sum_below-most n (λ m. mass m (member r m).state) by_trace (λ m below. elim (down_or_up r.down m) [
-        | inl down ↦ (let e : (member r m).state ≡ 0 = ap (λ (x : MemberRecord). x.state) (sound.blanks m below down) in omega (arith, ap (mass m) e, light m down (reached weight next n P Q keeps mass m 0 (received_notes r.trace m))))
+        | inl down ↦ (let e : (member r m).state ≡ 0 = ap (λ (x : MemberRecord). x.state) (sound.blanks m below down) in
+            omega (arith, ap (mass m) e, light m down (reached weight next n P Q keeps mass m 0 (received_notes r.trace m))))
         | inr up ↦ omega (arith, up-weighs m below up)
       ]) in
       let queues = sum_below-most n (λ q. sum_below n (λ p. sum_by (λ (v : Message). weight v.note) (channel r q p))) (λ q. sum_below n (weight_in n number_weight (marks r) q))
@@ -345,7 +356,8 @@ module _ (next : Next) (r : GroupRecord) (P : ℕ → ℕ → Type 0) (Q : ℕ �
 
 -- where nothing is in flight, that weighs nothing
 none-flying : (weight : Note → ℕ) (r : GroupRecord) → messages_in_flight r ≡ 0 → weight_flying weight r ≡ 0
-none-flying weight r none = nothing-below r.config.members (λ q. sum_below r.config.members (weighs q)) (λ q below_q. nothing-below r.config.members (weighs q) (λ p below_p. empty q p below_q below_p)) where
+none-flying weight r none = nothing-below r.config.members (λ q. sum_below r.config.members (weighs q))
+    (λ q below_q. nothing-below r.config.members (weighs q) (λ p below_p. empty q p below_q below_p)) where
   weighs : ℕ → ℕ → ℕ
   weighs q p = sum_by (λ (v : Message). weight v.note) (channel r q p)
 
@@ -362,7 +374,8 @@ none-flying weight r none = nothing-below r.config.members (λ q. sum_below r.co
       let cell = sum_below-part r.config.members p (λ p. length (channel r q p)) below_p in
       of_empty (channel r q p) (omega (arith, none, row, cell))
 
-module _ (next : Next) (r : GroupRecord) (P : ℕ → ℕ → Type 0) (Q : ℕ → ℕ → Note → Type 0) (mass : ℕ → ℕ → ℕ) (weight : Note → ℕ) (nothing : (me : ℕ) → mass me 0 ≡ 0) (sound : IsSound next r) (keeps : StepKeeps next r.config.members P Q) (first : HoldsFirst r.config P Q) where
+module _ (next : Next) (r : GroupRecord) (P : ℕ → ℕ → Type 0) (Q : ℕ → ℕ → Note → Type 0) (mass : ℕ → ℕ → ℕ) (weight : Note → ℕ)
+    (nothing : (me : ℕ) → mass me 0 ≡ 0) (sound : IsSound next r) (keeps : StepKeeps next r.config.members P Q) (first : HoldsFirst r.config P Q) where
   -- states 0 that weigh nothing weigh nothing in all
   first-nothing : weight_at_first mass weight r.config ≡ weight_of_starts weight r.config
   first-nothing = omega (arith, sum_below-agree r.config.members (λ m. mass m 0) (λ m. 0) (λ m below. nothing m), sum_below-none r.config.members)

@@ -111,22 +111,26 @@ pub record IsMadeAgain (r : GroupRecord) (q p : ℕ) : Type 0 where
   pub notes : (v : Message) → Contains (channel r q p) v → note_of r.trace v.from v.ssn ≡ Some v.note
   pub carried : (v : Message) → Contains (channel r q p) v → v.carried ≡ piggybacked r.config.f (member r q).table
 
--- a recovery leads from old to new: nobody is down; the trace loses, for each member that was down, its first lost
--- receipt and all its later events; survivors and the channels between them stay; each member that was down is at the
--- fold of its receipts that are left, with a table that gathers the survivors' tables and those of the checkpoints of the
--- members that were down and counts these as holders; each channel with such an end is made again; the counter of undone
--- receipts rises by as many as the trace has fewer; and the configuration, the counter of receipts and the checkpoints stay
-pub record IsRecovery (next : Next) (old new : GroupRecord) : Type 0 where
+-- after it nobody is down, survivors, the channels between them, the configuration, the counter of receipts and the
+-- checkpoints stay, and the counter of undone receipts rises by as many as the trace has fewer
+pub record IsBroughtBack (old new : GroupRecord) : Type 0 where
   pub nobody_down : new.down ≡ set.empty
-  pub trace : IsEventCut (Stays (knowledge old)) old.trace new.trace
   pub size : length new.members ≡ length old.members
   pub survivors : (m : ℕ) → IsUp (knowledge old) m → member new m ≡ member old m
-  pub folds : (m : ℕ) → m < old.config.members → IsDown (knowledge old) m → IsFold next new m
-  pub gathered : (m : ℕ) → m < old.config.members → IsDown (knowledge old) m → (member new m).table ≡ recovery_table (knowledge old)
   pub shape : HasChannels old.config.members new.channels
   pub channels : (q p : ℕ) → IsUp (knowledge old) q → IsUp (knowledge old) p → channel new q p ≡ channel old q p
-  pub made_again : (q p : ℕ) → IsDown (knowledge old) q ⊎ IsDown (knowledge old) p → IsMadeAgain new q p
   pub config : new.config ≡ old.config
   pub receipts_ever : new.receipts_ever ≡ old.receipts_ever
   pub undone_ever : new.undone_ever + length (receipts (marks new)) ≡ old.undone_ever + length (receipts (marks old))
   pub checkpoints : new.checkpoints ≡ old.checkpoints
+
+-- a recovery leads from old to new: the trace loses, for each member that was down, its first lost receipt and all its
+-- later events; each member that was down is at the fold of its receipts that are left, with a table that gathers the
+-- survivors' tables and those of the checkpoints of the members that were down and counts these as holders; and each
+-- channel with such an end is made again
+pub record IsRecovery (next : Next) (old new : GroupRecord) : Type 0 where
+  pub rest : IsBroughtBack old new
+  pub trace : IsEventCut (Stays (knowledge old)) old.trace new.trace
+  pub folds : (m : ℕ) → m < old.config.members → IsDown (knowledge old) m → IsFold next new m
+  pub gathered : (m : ℕ) → m < old.config.members → IsDown (knowledge old) m → (member new m).table ≡ recovery_table (knowledge old)
+  pub made_again : (q p : ℕ) → IsDown (knowledge old) q ⊎ IsDown (knowledge old) p → IsMadeAgain new q p

@@ -6,7 +6,6 @@ use Rattle.fbl_base.specs.declared.trace.Event.{Event}
 use Rattle.fbl_base.specs.declared.trace.Mark.{Mark}
 use Rattle.fbl_base.specs.Configs.{Settings}
 use Rattle.fbl_base.specs.Events.{determinant_of, mark_of}
-use Rattle.fbl_table.specs.declared.entry.Entry.{Entry}
 use Rattle.fbl_table.specs.Tables.{is_held}
 use Rattle.fbl_member.specs.Members.{Message, MemberRecord, blank}
 use Rattle.fbl_law.specs.Knowledge.{Members, Knowledge}
@@ -58,17 +57,13 @@ messages_in n channels = sum_below n (λ q. sum_below n (λ p. length (channel_i
 abbrev pub messages_in_flight : GroupRecord → ℕ
 messages_in_flight r = messages_in r.config.members r.channels
 
--- the tables of the members, in member order
-abbrev pub tables : GroupRecord → List (List Entry)
-tables r = map (λ (m : MemberRecord). m.table) r.members
-
 -- the marks of the trace
 abbrev pub marks : GroupRecord → List Mark
 marks r = map mark_of r.trace
 
 -- the part of the record that the laws of causes speak of
 abbrev pub knowledge : GroupRecord → Knowledge
-knowledge r = record { trace = marks r; tables = tables r; checkpoints = r.checkpoints; channel = channel r; down = r.down }
+knowledge r = record { trace = marks r; members = r.members; checkpoints = r.checkpoints; channel = channel r; down = r.down }
 
 -- whether the table of some of these members or checkpoints has the determinant
 abbrev pub is_recorded_among : List MemberRecord → List MemberRecord → Determinant → Bool

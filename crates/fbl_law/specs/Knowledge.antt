@@ -3,7 +3,7 @@
 -- on it is the always-no-orphans condition, of Alvisi and Marzullo, Message Logging: Pessimistic, Optimistic, Causal and
 -- Optimal (IEEE TSE 24(2), 1998). Checkpoints and orphans are those of Elnozahy, Alvisi, Wang and Johnson (ACM CSUR
 -- 34(3), 2002).
-use Rattle.std.specs.Prelude.{◌≡◌, ℕ, ◌<◌, ◌≤◌, ◌⊎◌, true, false, List, [], length, get_or, slice_index_or, map}
+use Rattle.std.specs.Prelude.{◌≡◌, ℕ, ◌<◌, ◌≤◌, ◌⊎◌, true, false, List, [], length, slice_index_or, map, ⊤}
 use Rattle.std.specs.List.{Contains}
 use Rattle.std.specs.Ordering.{nat_cmp}
 use Rattle.std.specs.FinSet as set
@@ -25,18 +25,18 @@ Members = set.FinSet nat_cmp
 abbrev pub Includes : Members → ℕ → Type 0
 Includes s m = set.contains s m ≡ true
 
--- what the laws of causes speak of: the group's trace, each member's table and its checkpoint, the channel of each pair
--- of members, and who is down
+-- what the laws of causes speak of: the group's trace, the members' records (of which they read the tables) and their
+-- checkpoints, the channel of each pair of members, and who is down
 pub record Knowledge : Type 0 where
   pub trace : List Mark
-  pub tables : List (List Entry)
+  pub members : List MemberRecord
   pub checkpoints : List MemberRecord
   pub channel : ℕ → ℕ → List Message
   pub down : Members
 
 -- the table of a member
 abbrev pub table : Knowledge → ℕ → List Entry
-table r m = get_or r.tables m []
+table r m = (slice_index_or r.members m blank).table
 
 -- the checkpoint of a member (Elnozahy and others 2002): its record as it was at an earlier time, at first its fresh one,
 -- which no strike empties and from which it recovers
@@ -83,32 +83,58 @@ IsStable f r d = (s : Members) × (f < set.len s) × ((m : ℕ) → Includes s m
 abbrev pub IsTrueEntry : Knowledge → Entry → Type 0
 IsTrueEntry r e = Has r.trace (receipt_of e.det) × ((m : ℕ) → Includes e.known m → IsHolder r e.det m)
 
--- true knowledge: entries are true, an entry of a table or of a checkpoint's table is known to be held by the member, and
--- a message's sender holds what the message carries
-pub record KnowsTruth (r : Knowledge) : Type 0 where
-  pub tables : (m : ℕ) (e : Entry) → IsUp r m → Contains (table r m) e → IsTrueEntry r e × Includes e.known m
-  pub messages : (v : Message) (e : Entry) → IsInFlight r v → Contains v.carried e → IsTrueEntry r e × Holds r e.det v.from
-  pub checkpoints : (m : ℕ) (e : Entry) → Contains (checkpoint r m).table e → IsTrueEntry r e × Includes e.known m
+-- where entries are kept: in a member's table, in a message in flight, in a member's checkpoint
+pub data Store : Type 0 where
+  in_table : ℕ → Store
+  in_message : Message → Store
+  in_checkpoint : ℕ → Store
+
+-- whose entries they are: a message's are its sender's
+abbrev pub owner : Store → ℕ
+owner (in_table m) = m
+owner (in_message v) = v.from
+owner (in_checkpoint m) = m
+
+-- the entries of a store
+abbrev pub entries : Knowledge → Store → List Entry
+entries r (in_table m) = table r m
+entries r (in_message v) = v.carried
+entries r (in_checkpoint m) = (checkpoint r m).table
+
+-- the stores that count: the tables of up members, the messages in flight, and all checkpoints
+abbrev pub IsThere : Knowledge → Store → Type 0
+IsThere r (in_table m) = IsUp r m
+IsThere r (in_message v) = IsInFlight r v
+IsThere r (in_checkpoint m) = ⊤
+
+-- true knowledge: entries are true, and known to be held by their owner
+abbrev pub KnowsTruth : Knowledge → Type 0
+KnowsTruth r = (k : Store) (e : Entry) → IsThere r k → Contains (entries r k) e → IsTrueEntry r e × Includes e.known (owner k)
 
 -- the entries name each receipt that precedes the event, but for stable ones
 abbrev pub NamesCauses : ℕ → Knowledge → List Entry → Mark → Type 0
 NamesCauses f r entries b = (d : Determinant) → Precedes r.trace (receipt_of d) b → Names entries d ⊎ IsStable f r d
 
--- the event comes from before its member's checkpoint: its number is within the counts that the member then had
-abbrev pub IsBeforeCheckpoint : Knowledge → Mark → Type 0
-IsBeforeCheckpoint r (Send from ssn to) = ssn ≤ length (checkpoint r from).log
-IsBeforeCheckpoint r (Receipt to rsn from ssn) = rsn ≤ (checkpoint r to).received
+-- the event's number is within the counts of its member's record
+abbrev pub IsWithin : MemberRecord → Mark → Type 0
+IsWithin m (Send from ssn to) = ssn ≤ length m.log
+IsWithin m (Receipt to rsn from ssn) = rsn ≤ m.received
 
--- the tables of up members, the carried lists and the tables of checkpoints are closed: a table names the causes of its
--- member's events and of the receipts that it names, a carried list those of its message's send and of the receipts that
--- it names, a checkpoint's table those of its member's events before it and of the receipts that it names
+-- the event comes from before its member's checkpoint
+abbrev pub IsBeforeCheckpoint : Knowledge → Mark → Type 0
+IsBeforeCheckpoint r b = IsWithin (checkpoint r (member_of b)) b
+
+-- the events whose causes a store owes: a table its member's events, a message its send, a checkpoint its member's events
+-- from before it
+abbrev pub Owes : Knowledge → Store → Mark → Type 0
+Owes r (in_table m) b = member_of b ≡ m
+Owes r (in_message v) b = send_mark v ≡ b
+Owes r (in_checkpoint m) b = (member_of b ≡ m) × IsWithin (checkpoint r m) b
+
+-- each store names the causes of the events that it owes, and of the receipts that it names
 pub record IsClosed (f : ℕ) (r : Knowledge) : Type 0 where
-  pub events : (m : ℕ) (b : Mark) → IsUp r m → member_of b ≡ m → NamesCauses f r (table r m) b
-  pub tables : (m : ℕ) (c : Determinant) → IsUp r m → Names (table r m) c → NamesCauses f r (table r m) (receipt_of c)
-  pub sends : (v : Message) → IsInFlight r v → NamesCauses f r v.carried (send_mark v)
-  pub carried : (v : Message) (c : Determinant) → IsInFlight r v → Names v.carried c → NamesCauses f r v.carried (receipt_of c)
-  pub reached : (b : Mark) → IsBeforeCheckpoint r b → NamesCauses f r (checkpoint r (member_of b)).table b
-  pub checkpoints : (m : ℕ) (c : Determinant) → Names (checkpoint r m).table c → NamesCauses f r (checkpoint r m).table (receipt_of c)
+  pub events : (k : Store) (b : Mark) → IsThere r k → Owes r k b → NamesCauses f r (entries r k) b
+  pub named : (k : Store) (c : Determinant) → IsThere r k → Names (entries r k) c → NamesCauses f r (entries r k) (receipt_of c)
 
 -- each receipt of the trace has more than f holders, or is held by each up member that depends on it
 abbrev pub IsAlwaysHeld : ℕ → Knowledge → Type 0

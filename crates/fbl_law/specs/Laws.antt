@@ -7,13 +7,14 @@ use Rattle.fbl_base.specs.declared.trace.Event.{Event}
 use Rattle.fbl_base.specs.declared.trace.Start.{Start}
 use Rattle.fbl_base.specs.Events.{mark_of}
 use Rattle.fbl_base.specs.Fold.{Next, Lawful}
-use Rattle.fbl_base.specs.Precedence.{Has, Earlier, Precedes, Depends}
+use Rattle.fbl_base.specs.Precedence.{Has, Precedes}
 use Rattle.fbl_base.specs.Events.{receipt_of}
-use Rattle.fbl_law.specs.Knowledge.{Members, Includes, Knowledge, table, Names, Holds, IsHolder, IsRecorded, IsClosed, IsAlwaysHeld, IsOrphan, IsSoundKnowledge}
+use Rattle.fbl_law.specs.Knowledge.{Members, Includes, Knowledge, IsDown, IsRecorded, KnowsTruth, IsClosed, IsAlwaysHeld, IsOrphan, IsSoundKnowledge}
+use Rattle.fbl_law.specs.Promises.{SurvivorsHold, RecordsFirst, RecordsCauses, GainsHolders}
 use Rattle.fbl_member.specs.Members.{Message}
 use Rattle.fbl_law.specs.Steps.{IsDelivered, IsStruck, IsCheckpointed, IsRecovered, Stays, IsCut, IsEventCut}
 use Rattle.fbl_base.specs.Rules.{WellFormed}
-use Rattle.fbl_law.specs.Replay.{IsStuck}
+use Rattle.fbl_law.specs.Stuck.{IsStuck}
 use Rattle.fbl_law.specs.Run.{IsStart, Run}
 
 -- in a closed record each receipt is stable, or held by each up member that depends on it
@@ -24,23 +25,19 @@ ClosedIsHeld = (f : ℕ) (r : Knowledge) → IsClosed f r → IsAlwaysHeld f r
 abbrev pub ClosedHasNoOrphan : Type 0
 ClosedHasNoOrphan = (f : ℕ) (r : Knowledge) → IsClosed f r → (m : ℕ) → ¬ (IsOrphan r m)
 
--- what precedes a recorded receipt is recorded
-abbrev pub RecordedFromBelow : Type 0
-RecordedFromBelow =
-    (f : ℕ) (r : Knowledge) → IsClosed f r → (c d : Determinant) → IsRecorded r d → Precedes r.trace (receipt_of c) (receipt_of d) → IsRecorded r c
+-- in a closed record what precedes a recorded receipt is recorded
+abbrev pub ClosedRecordsCauses : Type 0
+ClosedRecordsCauses = (f : ℕ) (r : Knowledge) → IsClosed f r → RecordsCauses r
 
--- the recorded receipts of a member are its first ones: one that comes earlier than a recorded one is recorded
-abbrev pub RecordedFirst : Type 0
-RecordedFirst =
-    (f : ℕ) (r : Knowledge) → IsClosed f r → (c d : Determinant) → c.to ≡ d.to → Earlier r.trace (receipt_of c) (receipt_of d) → IsRecorded r d → IsRecorded r c
+-- in a closed record of a well-formed trace, of true knowledge, a member's recorded receipts are its first ones
+abbrev pub ClosedRecordsFirst : Type 0
+ClosedRecordsFirst = (n f : ℕ) (r : Knowledge) → WellFormed n r.trace → KnowsTruth r → IsClosed f r → RecordsFirst r
 
--- whichever members were struck, at most f with those that are down: what a member depends on that is not among these, the
--- table of such a member has
-abbrev pub SurvivorsRecord : Type 0
-SurvivorsRecord =
-    (n f : ℕ) (r : Knowledge) (struck : Members) → IsSoundKnowledge n f r → set.len (set.union r.down struck) ≤ f
-    → (m : ℕ) (d : Determinant) → ¬ (Includes (set.union r.down struck) m) → Depends r.trace m (receipt_of d)
-    → (q : ℕ) × ¬ (Includes (set.union r.down struck) q) × Names (table r q) d
+-- whichever at most f members have those that are down among them, the other members hold what they depend on
+abbrev pub AnySurvivorsHold : Type 0
+AnySurvivorsHold =
+    (n f : ℕ) (r : Knowledge) (s : Members)
+    → IsSoundKnowledge n f r → ((q : ℕ) → IsDown r q → Includes s q) → set.len s ≤ f → SurvivorsHold r s
 
 -- a delivery keeps a record sound
 abbrev pub DeliveryKeeps : Type 0
@@ -73,10 +70,9 @@ CutIsRecorded =
     (n f : ℕ) (old new : Knowledge) → IsRecovered f old new → IsSoundKnowledge n f old
     → (d : Determinant) → Has new.trace (receipt_of d) ↔ (Has old.trace (receipt_of d) × IsRecorded old d)
 
--- those that hold a determinant after a recovery are its holders before: those that held it and, where it is recorded, all
--- members that were down
-abbrev pub HoldersStay : Type 0
-HoldersStay = (n f : ℕ) (old new : Knowledge) → IsRecovered f old new → IsSoundKnowledge n f old → (d : Determinant) (m : ℕ) → Holds new d m ↔ IsHolder old d m
+-- those that hold a determinant after a recovery are its holders before
+abbrev pub RecoveryGainsHolders : Type 0
+RecoveryGainsHolders = (n f : ℕ) (old new : Knowledge) → IsRecovered f old new → IsSoundKnowledge n f old → GainsHolders old new
 
 -- the cut of a lawful trace is lawful, and its marks are the cut of the marks
 abbrev pub CutIsLawful : Type 0

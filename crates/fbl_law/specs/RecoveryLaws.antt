@@ -7,18 +7,18 @@ use Rattle.fbl_base.specs.Events.{mark_of}
 use Rattle.fbl_base.specs.Fold.{Next}
 use Rattle.fbl_table.specs.Tables.{found}
 use Rattle.fbl_member.specs.Members.{MemberRecord, blank, logged_note, replayed_by}
-use Rattle.fbl_law.specs.Knowledge.{Holds, IsHolder, IsDown, IsRecorded}
-use Rattle.fbl_law.specs.Steps.{Stays, IsEventCut}
+use Rattle.fbl_law.specs.Knowledge.{Holds, IsDown, IsRecorded}
+use Rattle.fbl_law.specs.Promises.{LeavesRecorded, GainsHolders}
+use Rattle.fbl_law.specs.Steps.{Stays, IsEventCut, recovery_table}
 use Rattle.fbl_law.specs.Groups.{GroupRecord, checkpoint, marks, knowledge, receipts, is_recorded}
 use Rattle.fbl_law.specs.Sound.{receipts_at, IsSound}
 use Rattle.fbl_law.specs.GroupSteps.{IsRecovery}
-use Rattle.fbl_law.specs.Replaying.{gathered_table, recovered_trace, working, IsReplaying, IsWaiting, IsRebuilt}
+use Rattle.fbl_law.specs.Replaying.{recovered_trace, working, IsReplaying, IsWaiting, IsRebuilt}
 
 -- the holders of a receipt after a recovery are those before
-abbrev pub GroupHoldersStay : Type 0
-GroupHoldersStay =
-    (next : Next) (old new : GroupRecord) (d : Determinant) (m : ℕ)
-    → IsRecovery next old new → IsSound next old → Holds (knowledge new) d m ↔ IsHolder (knowledge old) d m
+abbrev pub GroupRecoveryGainsHolders : Type 0
+GroupRecoveryGainsHolders =
+    (next : Next) (old new : GroupRecord) → IsRecovery next old new → IsSound next old → GainsHolders (knowledge old) (knowledge new)
 
 -- so those of a recorded receipt are those before, and the members that were down
 abbrev pub HoldersGainTheDown : Type 0
@@ -26,11 +26,9 @@ HoldersGainTheDown =
     (next : Next) (old new : GroupRecord) (d : Determinant) (m : ℕ)
     → IsRecovery next old new → IsSound next old → IsRecorded (knowledge old) d → Holds (knowledge new) d m ↔ Holds (knowledge old) d m ⊎ IsDown (knowledge old) m
 
--- a recovery leaves the recorded receipts, in their order
+-- a recovery leaves exactly the recorded receipts, in their order
 abbrev pub RecoveryLeavesRecorded : Type 0
-RecoveryLeavesRecorded =
-    (next : Next) (old new : GroupRecord)
-    → IsRecovery next old new → IsSound next old → receipts (marks new) ≡ filter (is_recorded old) (receipts (marks old))
+RecoveryLeavesRecorded = (next : Next) (old new : GroupRecord) → IsRecovery next old new → IsSound next old → LeavesRecorded old new
 
 -- and it undoes the others: the receipts left and the lost ones are as many as there were
 abbrev pub RecoveryUndoesLost : Type 0
@@ -62,7 +60,7 @@ abbrev pub ReplayIsRight : Type 0
 ReplayIsRight =
     (next : Next) (old : GroupRecord) (rebuilt : List MemberRecord) (p : ℕ) (d : Determinant) (note : Note)
     → IsSound next old → IsReplaying next old rebuilt → p < old.config.members → IsDown (knowledge old) p
-    → found p ((slice_index_or rebuilt p blank).received + 1) (gathered_table old) ≡ Some d
+    → found p ((slice_index_or rebuilt p blank).received + 1) (recovery_table (knowledge old)) ≡ Some d
     → logged_note (working old rebuilt d.from).log d.ssn ≡ Some note
     → IsReplaying next old (slice_set rebuilt p (replayed_by next p old.config.members (slice_index_or rebuilt p blank) d note))
 

@@ -11,10 +11,11 @@ use Rattle.fbl_base.specs.Fold.{Next}
 use Rattle.fbl_table.specs.declared.entry.Entry.{Entry}
 use Rattle.fbl_table.specs.Tables.{is_held, found, piggybacked}
 use Rattle.fbl_member.specs.Members.{Message, MemberRecord, last_from, blank, logged_note, logged_beyond}
-use Rattle.fbl_law.specs.Knowledge.{Members, IsDown, IsUp}
+use Rattle.fbl_law.specs.Knowledge.{Members, IsDown}
 use Rattle.fbl_law.specs.Steps.{recovery_table}
-use Rattle.fbl_law.specs.Groups.{GroupRecord, HasChannels, member, checkpoint, channel, marks, knowledge, receipts}
+use Rattle.fbl_law.specs.Groups.{GroupRecord, member, checkpoint, channel, knowledge}
 use Rattle.fbl_law.specs.Sound.{IsReplayed}
+use Rattle.fbl_law.specs.GroupSteps.{IsBroughtBack}
 
 -- the determinant is that of the next receipt of the member p, from another member of the group, and there is room for it
 pub record IsNextReplay (n p : ℕ) (m : MemberRecord) (d : Determinant) : Type 0 where
@@ -46,13 +47,9 @@ cut_from s held stopped (e ∷ trace) =
     else (if stops_at s held (mark_of e) then cut_from s held (set.insert stopped (member_of (mark_of e))) trace
     else e ∷ cut_from s held stopped trace)
 
--- what recovery gives the members that are down
-abbrev pub gathered_table : GroupRecord → List Entry
-gathered_table r = recovery_table (knowledge r)
-
 -- the trace that recovery leaves
 abbrev pub recovered_trace : GroupRecord → List Event
-recovered_trace r = cut_from r.down (gathered_table r) set.empty r.trace
+recovered_trace r = cut_from r.down (recovery_table (knowledge r)) set.empty r.trace
 
 -- whether the event stays, by how many receipts and sends the members of the set have after their replay
 abbrev pub stays_by : Members → (ℕ → MemberRecord) → Mark → Bool
@@ -86,25 +83,17 @@ pub record IsReplaying (next : Next) (r : GroupRecord) (rebuilt : List MemberRec
 -- sender has not sent the message again
 abbrev pub IsWaiting : GroupRecord → List MemberRecord → ℕ → Type 0
 IsWaiting r rebuilt p =
-    (d : Determinant) → found p ((slice_index_or rebuilt p blank).received + 1) (gathered_table r) ≡ Some d → logged_note (working r rebuilt d.from).log d.ssn ≡ None
+    (d : Determinant) → found p ((slice_index_or rebuilt p blank).received + 1) (recovery_table (knowledge r)) ≡ Some d → logged_note (working r rebuilt d.from).log d.ssn ≡ None
 
 -- how many receipts were replayed: those that the members that are down have beyond their checkpoints
 abbrev pub replayed_in : GroupRecord → List MemberRecord → ℕ
 replayed_in r rebuilt = count_in r.down (λ p. (slice_index_or rebuilt p blank).received - (checkpoint r p).received) r.config.members
 
--- a group after the replay: nobody is down, the trace is cut, survivors and the channels between them stay, each member that
--- was down has its rebuilt record with the gathered table, each channel with such an end has what its sender sends again, the
--- counter of undone receipts rises by as many as the trace has fewer, and all else stays
+-- a group after the replay: the trace is cut, each member that was down has its rebuilt record with the gathered table, and
+-- each channel with such an end has what its sender sends again
 pub record IsRebuilt (old new : GroupRecord) (replayed : List MemberRecord) : Type 0 where
-  pub nobody_down : new.down ≡ set.empty
+  pub rest : IsBroughtBack old new
   pub trace : new.trace ≡ recovered_trace old
-  pub size : length new.members ≡ length old.members
-  pub survivors : (m : ℕ) → IsUp (knowledge old) m → member new m ≡ member old m
-  pub rebuilt : (m : ℕ) → m < old.config.members → IsDown (knowledge old) m → member new m ≡ record (slice_index_or replayed m blank) { table = gathered_table old }
-  pub shape : HasChannels old.config.members new.channels
-  pub channels : (q p : ℕ) → IsUp (knowledge old) q → IsUp (knowledge old) p → channel new q p ≡ channel old q p
-  pub resent : (q p : ℕ) → IsDown (knowledge old) q ⊎ IsDown (knowledge old) p → q < old.config.members → p < old.config.members → channel new q p ≡ resent_to old.config.f q p (member new q) (member new p)
-  pub config : new.config ≡ old.config
-  pub receipts_ever : new.receipts_ever ≡ old.receipts_ever
-  pub undone_ever : new.undone_ever + length (receipts (marks new)) ≡ old.undone_ever + length (receipts (marks old))
-  pub checkpoints : new.checkpoints ≡ old.checkpoints
+  pub rebuilt : (m : ℕ) → m < old.config.members → IsDown (knowledge old) m → member new m ≡ record (slice_index_or replayed m blank) { table = recovery_table (knowledge old) }
+  pub resent : (q p : ℕ) → IsDown (knowledge old) q ⊎ IsDown (knowledge old) p → q < old.config.members → p < old.config.members
+      → channel new q p ≡ resent_to old.config.f q p (member new q) (member new p)

@@ -45,6 +45,10 @@ pub record IsReplayed (next : Next) (n : ℕ) (starts : List Start) (trace : Lis
   pub places : length m.last ≡ 16
   pub last : (q : ℕ) → q < 16 → last_from m q ≡ last_among (take m.received (receipts_at (map mark_of trace) p)) q
 
+-- the member's checkpoint is at the fold of its first receipts in the trace, as many as it has had
+abbrev pub IsCheckpointFold : Next → GroupRecord → ℕ → Type 0
+IsCheckpointFold next r m = IsReplayed next r.config.members r.config.starts r.trace m (checkpoint r m)
+
 -- a group's record is sound: its parameters are allowed, each member has a record and a checkpoint, only members are
 -- down, its trace is lawful and within its limit, each up member is at the fold of its receipts and each down member is
 -- blank, each checkpoint is at the fold of its member's first receipts, what the tables know is true and closed, there
@@ -60,7 +64,7 @@ pub record IsSound (next : Next) (r : GroupRecord) : Type 0 where
   pub causes : IsSoundKnowledge r.config.members r.config.f (knowledge r)
   pub folds : (m : ℕ) → m < r.config.members → IsUp (knowledge r) m → IsFold next r m
   pub blanks : (m : ℕ) → m < r.config.members → IsDown (knowledge r) m → member r m ≡ blank
-  pub saved : (m : ℕ) → m < r.config.members → IsReplayed next r.config.members r.config.starts r.trace m (checkpoint r m)
+  pub saved : (m : ℕ) → m < r.config.members → IsCheckpointFold next r m
   pub shape : HasChannels r.config.members r.channels
   pub notes : (v : Message) → IsInFlight (knowledge r) v → note_of r.trace v.from v.ssn ≡ Some v.note
   pub counted : length (receipts (marks r)) + r.undone_ever ≡ r.receipts_ever

@@ -30,7 +30,7 @@ saved_tables s checkpoints (suc m) =
 -- what recovery gives the members that are down: the survivors' tables in member order (the others' are empty) and then
 -- those of the checkpoints of the members that are down, in member order, where those that are down count as holders
 abbrev pub recovery_table : Knowledge → List Entry
-recovery_table r = marked r.down (gathered_all [] (r.tables ++ saved_tables r.down r.checkpoints (length r.checkpoints)))
+recovery_table r = marked r.down (gathered_all [] (map (λ (m : MemberRecord). m.table) r.members ++ saved_tables r.down r.checkpoints (length r.checkpoints)))
 
 -- the determinant of the receipt of a message
 abbrev pub determinant : Message → ℕ → Determinant
@@ -81,7 +81,7 @@ pub record IsCheckpointed (old new : Knowledge) (p : ℕ) : Type 0 where
   pub nobody_down : old.down ≡ set.empty
   pub down : new.down ≡ old.down
   pub trace : new.trace ≡ old.trace
-  pub tables : new.tables ≡ old.tables
+  pub tables : (m : ℕ) → table new m ≡ table old m
   pub channels : (q m : ℕ) → new.channel q m ≡ old.channel q m
   pub table : (checkpoint new p).table ≡ table old p
   pub receipts : (checkpoint new p).received ≡ receipts_of old.trace p

@@ -3,13 +3,13 @@
 //! the check of the crate proves it.
 
 ghost use Rattle.fbl_law.specs.Dumps.{DumpHasNoOrphan, DumpObeysRules};
-ghost use Rattle.fbl_law.specs.Headline.{EachReceiptIsHeld, NoSurvivorIsOrphan, RecordedIsPrefix, SoundHasNoOrphan, SoundIsAlwaysHeld, AnySurvivorsHold};
+ghost use Rattle.fbl_law.specs.Headline.{NoSurvivorIsOrphan, SoundHasNoOrphan, SoundHoldsEachReceipt, SoundIsAlwaysHeld, SoundRecordsFirst, SoundSurvivorsHold};
 
 /// In a sound group in which nobody is down each receipt is held by more than f members or by each member that depends on
 /// it. Whoever is down, each receipt has more than f holders or is held by each up member that depends on it. This is the
 /// condition of "always no orphans" (Alvisi and Marzullo 1998).
 pub fn always_held_law()
-    ensures tables { EachReceiptIsHeld }
+    ensures tables { SoundHoldsEachReceipt }
     ensures holders { SoundIsAlwaysHeld }
 {}
 
@@ -18,12 +18,12 @@ pub fn always_held_law()
 pub fn no_orphan_law()
     ensures sound { SoundHasNoOrphan }
     ensures struck { NoSurvivorIsOrphan }
-    ensures recorded { AnySurvivorsHold }
+    ensures recorded { SoundSurvivorsHold }
 {}
 
 /// The recorded receipts of a member, up or down, are its first ones, so that it can be put at the fold of them.
 pub fn recorded_prefix_law()
-    ensures { RecordedIsPrefix }
+    ensures { SoundRecordsFirst }
 {}
 
 /// A dump of a sound group obeys the rules of dumps, and where its strike set has those that are down and at most f

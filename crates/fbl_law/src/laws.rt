@@ -5,15 +5,15 @@
 //! checkpoints, the channels, and who is down. It is *sound* where it is `IsSoundKnowledge`. `group_laws` and
 //! `recovery_laws` speak of the whole record of a group, and the contracts of `fbl_group` stand on those.
 
-ghost use Rattle.fbl_law.specs.Laws.{ClosedIsHeld, ClosedHasNoOrphan, RecordedFromBelow, RecordedFirst, SurvivorsRecord, DeliveryKeeps, StrikeKeeps, CheckpointKeeps, RecoveryKeeps, StaysIsRecorded, CutIsClosed, CutIsRecorded, HoldersStay, CutIsLawful, NeverStuck, RunIsSound, RunIsHeld};
+ghost use Rattle.fbl_law.specs.Laws.{ClosedIsHeld, ClosedHasNoOrphan, ClosedRecordsCauses, ClosedRecordsFirst, AnySurvivorsHold, DeliveryKeeps, StrikeKeeps, CheckpointKeeps, RecoveryKeeps, StaysIsRecorded, CutIsClosed, CutIsRecorded, RecoveryGainsHolders, CutIsLawful, NeverStuck, RunIsSound, RunIsHeld};
 
 /// Where tables name their causes, each receipt is stable or held by each up member that depends on it, so no up member is
 /// an orphan; what precedes a recorded receipt is recorded, and a member's recorded receipts are its first ones.
 pub fn closed_law()
     ensures held { ClosedIsHeld }
     ensures orphans { ClosedHasNoOrphan }
-    ensures causes { RecordedFromBelow }
-    ensures first { RecordedFirst }
+    ensures causes { ClosedRecordsCauses }
+    ensures first { ClosedRecordsFirst }
 {}
 
 /// A delivery keeps a record sound.
@@ -25,7 +25,7 @@ pub fn delivery_law()
 /// that are down: what a survivor depends on, the table of a survivor has.
 pub fn strike_law()
     ensures sound { StrikeKeeps }
-    ensures survivors { SurvivorsRecord }
+    ensures survivors { AnySurvivorsHold }
 {}
 
 /// A checkpoint of a member keeps a record sound.
@@ -41,7 +41,7 @@ pub fn recovery_law()
     ensures stays { StaysIsRecorded }
     ensures closed { CutIsClosed }
     ensures recorded { CutIsRecorded }
-    ensures holders { HoldersStay }
+    ensures holders { RecoveryGainsHolders }
     ensures lawful { CutIsLawful }
     ensures replay { NeverStuck }
 {}

@@ -2,7 +2,7 @@
 //! that the check of the crate proves it.
 
 ghost use Rattle.fbl_law.specs.GroupLaws.{GroupRecoveryKeeps};
-ghost use Rattle.fbl_law.specs.RecoveryLaws.{GroupHoldersStay, HoldersGainTheDown, RecoveryLeavesRecorded, RecoveryUndoesLost, OnePassCuts, CutIsOne, ReplayBegins, ReplayIsRight, ReplayEnds, RebuiltIsRecovered};
+ghost use Rattle.fbl_law.specs.RecoveryLaws.{GroupRecoveryGainsHolders, HoldersGainTheDown, RecoveryLeavesRecorded, RecoveryUndoesLost, OnePassCuts, CutIsOne, ReplayBegins, ReplayIsRight, ReplayEnds, RebuiltIsRecovered};
 
 /// A recovery keeps a group sound.
 pub fn group_recovery_law()
@@ -11,7 +11,7 @@ pub fn group_recovery_law()
 
 /// The holders of a receipt after a recovery are those before it: of a recorded receipt, with all members that were down.
 pub fn recovered_holders_law()
-    ensures stay { GroupHoldersStay }
+    ensures stay { GroupRecoveryGainsHolders }
     ensures gain { HoldersGainTheDown }
 {}
 

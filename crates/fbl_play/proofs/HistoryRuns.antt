@@ -63,7 +63,7 @@ step-config next workers old commands.Report new text account h = ap (λ (r : Gr
 step-config next workers old (commands.Strike struck) new text account h = strike-config (strike_refusal old struck) old struck new text account h
 step-config next workers old commands.Recover new text account h = elim h [
   | inl refused ↦ ap (λ (r : GroupRecord). r.config) refused.1
-  | inr accepted ↦ accepted.1.1.recovery.config
+  | inr accepted ↦ accepted.1.1.recovery.rest.config
 ]
 step-config next workers old (commands.Dump strike) new text account h = ap (λ (r : GroupRecord). r.config) h.0
 step-config next workers old (commands.Run plan) new text account h = drain-config next workers plan old new h.0 h.1

@@ -1,4 +1,4 @@
-use Rattle.fbl_law.proofs.GroupDeliver.{group_delivery_keeps}
+use Rattle.fbl_law.proofs.GroupDelivery.{group_delivery_keeps}
 use Rattle.fbl_law.proofs.group_laws.group_delivery_law.Goals as goal
 
 pub returns : goal.returns

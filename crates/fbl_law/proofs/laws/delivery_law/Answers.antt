@@ -1,4 +1,4 @@
-use Rattle.fbl_law.proofs.Run.{delivery_keeps}
+use Rattle.fbl_law.proofs.Delivery.{delivery_keeps}
 use Rattle.fbl_law.proofs.laws.delivery_law.Goals as goal
 
 pub returns : goal.returns

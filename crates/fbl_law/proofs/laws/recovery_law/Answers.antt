@@ -1,6 +1,6 @@
-use Rattle.fbl_law.proofs.Run.{recovery_keeps, cut_is_closed, cut_is_recorded, holders_stay}
-use Rattle.fbl_law.proofs.CutLaw.{cut_is_lawful, stays_is_recorded}
-use Rattle.fbl_law.proofs.Replay.{never_stuck}
+use Rattle.fbl_law.proofs.Recovery.{recovery_keeps, cut_is_closed, cut_is_recorded, recovery_gains_holders}
+use Rattle.fbl_law.proofs.CutStays.{cut_is_lawful, stays_is_recorded}
+use Rattle.fbl_law.proofs.NeverStuck.{never_stuck}
 use Rattle.fbl_law.proofs.laws.recovery_law.Goals as goal
 
 pub returns : goal.returns
@@ -8,7 +8,7 @@ returns c = record {
   sound = recovery_keeps;
   closed = cut_is_closed;
   recorded = cut_is_recorded;
-  holders = holders_stay;
+  holders = recovery_gains_holders;
   lawful = cut_is_lawful;
   replay = never_stuck;
   stays = stays_is_recorded;

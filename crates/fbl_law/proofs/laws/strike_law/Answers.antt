@@ -1,9 +1,9 @@
-use Rattle.fbl_law.proofs.Run.{strike_keeps}
-use Rattle.fbl_law.proofs.Survivors.{survivors_record}
+use Rattle.fbl_law.proofs.Strike.{strike_keeps}
+use Rattle.fbl_law.proofs.Promises.{any_survivors_hold}
 use Rattle.fbl_law.proofs.laws.strike_law.Goals as goal
 
 pub returns : goal.returns
 returns c = record {
   sound = strike_keeps;
-  survivors = survivors_record;
+  survivors = any_survivors_hold;
 }

@@ -1,9 +1,9 @@
 use Rattle.std.proofs.Common.{◌≡◌, ◌<◌, length, List, subst, sym, ap, ◌∙◌, arith}
 use Rattle.std.specs.FinSet as set
 use Rattle.fbl_table.specs.declared.entry.Entry.{Entry}
-use Rattle.fbl_law.specs.Groups.{GroupRecord}
+use Rattle.fbl_law.specs.Steps.{recovery_table}
+use Rattle.fbl_law.specs.Groups.{GroupRecord, knowledge}
 use Rattle.fbl_law.specs.Sound.{IsSound}
-use Rattle.fbl_law.specs.Replaying.{gathered_table}
 use Rattle.fbl_group.proofs.MemberNumbers.{numbered}
 use Rattle.fbl_group.proofs.Recovering.{tables-given}
 use Rattle.fbl_group.proofs.GivingTables.{give-one, give-none}
@@ -13,7 +13,7 @@ use Rattle.fbl_group.proofs.group.Group.give_tables.Goals.{then-has+in_ok-table,
 pub loop-number-preserved : goal.loop-number-preserved
 loop-number-preserved g c =
     let down = c.args.self.now.down in
-    let table = gathered_table c.args.self.now in
+    let table = recovery_table (knowledge c.args.self.now) in
     let first = c.args.rebuilt.now.items in
     let all : c.members-number-end.result ≡ c.args.self.now.config.members = c.members-number-end.ensures.value ∙ ap (λ (r : GroupRecord). r.config.members) c.self.view_is in
     let member : c.unwrap-member.result ≡ c.loop-number.number = numbered c.new.result c.unwrap-member.result c.loop-number.number c.new.ensures (let rules = c.members-number-end.ensures.rules in omega (arith, c.loop-number-test.true, c.members-number-end.ensures.value, rules.members.1)) c.unwrap-member.ensures in

@@ -11,7 +11,7 @@ use Rattle.fbl_base.specs.Rules.{is_receipt_of, receipts_of, WellFormed}
 use Rattle.fbl_base.specs.Events.{receipt_of}
 use Rattle.fbl_base.proofs.RulesLaws.{sent-before}
 use Rattle.fbl_law.specs.Laws.{NeverStuck}
-use Rattle.fbl_law.specs.Replay.{IsSentAgain, IsStuck}
+use Rattle.fbl_law.specs.Stuck.{IsSentAgain, IsStuck}
 use Rattle.fbl_base.proofs.PlacesAndEvents.{one_place}
 
 take_end : (xs : List Mark) (i : ℕ) → slice_get xs i ≡ None → take (suc i) xs ≡ take i xs

@@ -23,7 +23,7 @@ use Rattle.fbl_law.specs.Groups.{GroupRecord, marks, knowledge}
 use Rattle.fbl_law.specs.Sound.{received_notes, receipts_at, IsReplayed, IsSound}
 use Rattle.fbl_law.specs.Replaying.{stays_by}
 use Rattle.fbl_law.proofs.Lists.{some-at}
-use Rattle.fbl_law.proofs.Cut.{marks-filter, Has-kept, kept-Has}
+use Rattle.fbl_law.proofs.CutWellFormed.{marks-filter, Has-kept, kept-Has}
 use Rattle.fbl_law.proofs.GroupRecovery.{cut-lawful, cut-keeps_up}
 use Rattle.fbl_law.proofs.Logs.{log-has, log-length, logged-noted}
 use Rattle.fbl_law.proofs.Notes.{noted-sent, one-send, send-mark}
@@ -104,7 +104,8 @@ module _ (next : Next) (old : GroupRecord) (sound : IsSound next old) (new : Lis
       at false is = rw is (sym (cut-keeps_up next old sound new cut q is (Send q k to) there refl))
       at true is = rw is (same-test (nat_le k (length (work q).log)) (cut.0 (Send q k to))
           (λ within. send-left q k to may.0 there (omega (arith, may.3)) (grind (arith, nat_tests)))
-          (λ kept. (let number = sent-number old.config.members (map mark_of new) obeys-cut q k to (kept-left (Send q k to) there kept) in let count = log-sent q may.0 in let le : k ≤ length (work q).log = omega (arith, number, count) in grind (arith, nat_tests))))
+          (λ kept. (let number = sent-number old.config.members (map mark_of new) obeys-cut q k to (kept-left (Send q k to) there kept) in
+              let count = log-sent q may.0 in let le : k ≤ length (work q).log = omega (arith, number, count) in grind (arith, nat_tests))))
   agrees i (event.Receipt p r q k) here = at (set.contains old.down p) refl
     where
       there : Has (marks old) (Receipt p r q k)
@@ -117,8 +118,11 @@ module _ (next : Next) (old : GroupRecord) (sound : IsSound next old) (new : Lis
       at false is = rw is (sym (cut-keeps_up next old sound new cut p is (Receipt p r q k) there refl))
       at true is = rw is (same-test (nat_le r (work p).received) (cut.0 (Receipt p r q k))
           (λ within. receipt-left p r q k may.1 there (omega (arith, may.3)) (grind (arith, nat_tests)))
-          (λ kept. (let number : r ≡ r - 1 + 1 = omega (arith, may.3) in let place = Has-receipts_at old.config.members (map mark_of new) p (r - 1) (record { from = q; ssn = k; to = p; rsn = r }) obeys-cut (kept-left (Receipt p r q k) there kept) refl number in
-          let below = slice_get_within (receipts_at (map mark_of new) p) (r - 1) (record { from = q; ssn = k; to = p; rsn = r }) place in let count = all p may.1 in let le : r ≤ (work p).received = omega (arith, below, count) in grind (arith, nat_tests))))
+          (λ kept. (let number : r ≡ r - 1 + 1 = omega (arith, may.3) in
+              let place = Has-receipts_at old.config.members (map mark_of new) p (r - 1) (record { from = q; ssn = k; to = p; rsn = r }) obeys-cut
+              (kept-left (Receipt p r q k) there kept) refl number in
+          let below = slice_get_within (receipts_at (map mark_of new) p) (r - 1) (record { from = q; ssn = k; to = p; rsn = r }) place in
+              let count = all p may.1 in let le : r ≤ (work p).received = omega (arith, below, count) in grind (arith, nat_tests))))
 
   -- the events that stay by the members' counts are the cut
   pub stays_by-cut : filter (λ e. stays_by old.down work (mark_of e)) old.trace ≡ new

@@ -21,7 +21,7 @@ use Rattle.fbl_base.proofs.LawfulLaws.{Lawful-deliver, Lawful-begun, note_of-fro
 use Rattle.fbl_table.specs.declared.entry.Entry.{Entry}
 use Rattle.fbl_table.specs.Tables.{piggybacked}
 use Rattle.fbl_member.specs.Members.{Message, MemberRecord, blank, progress_of, messages_from}
-use Rattle.fbl_law.specs.Knowledge.{table, send_mark, IsInFlight, IsUp}
+use Rattle.fbl_law.specs.Knowledge.{send_mark, IsInFlight, IsUp}
 use Rattle.fbl_law.specs.Steps.{IsDelivered, is_on, between, taken_off}
 use Rattle.fbl_law.specs.Groups.{GroupRecord, member, checkpoint, channel, marks, knowledge, receipts}
 use Rattle.fbl_law.specs.Sound.{IsFold, IsReplayed, IsSound, received_notes, receipts_at, last_taken}
@@ -29,13 +29,12 @@ use Rattle.fbl_law.specs.GroupSteps.{IsDelivery, step_of, receiver, made, delive
 use Rattle.fbl_law.specs.GroupLaws.{SendsWell, GroupDeliveryKeeps}
 use Rattle.fbl_law.proofs.Lists.{Contains-cons_cases, Contains-none, Contains-from_filter, At-behind}
 use Rattle.fbl_law.proofs.Safe.{never_both}
-use Rattle.fbl_law.proofs.Deliver.{taken_off-was}
-use Rattle.fbl_law.proofs.Run.{delivery_keeps}
+use Rattle.fbl_law.proofs.Delivery.{taken_off-was, delivery_keeps}
 use Rattle.fbl_law.proofs.Grown.{received_notes-delivered}
 use Rattle.fbl_law.proofs.Notes.{sent-noted}
 use Rattle.fbl_law.proofs.InOrder.{last_taken-push, last_taken-same}
-use Rattle.fbl_law.proofs.Replayed.{replayed-grown}
-use Rattle.fbl_law.proofs.GroupFacts.{table_member, log_counted, front_flight, front_may_follow}
+use Rattle.fbl_law.proofs.ReplayedRecords.{replayed-grown}
+use Rattle.fbl_law.proofs.GroupFacts.{log_counted, front_flight, front_may_follow}
 
 -- the events of a step are the sends of its messages
 marks_made : (p before : ℕ) (carried : List Entry) (sends : List (ℕ × Note)) → map mark_of (step_events p before sends) ≡ map send_mark (messages_from p before carried sends)
@@ -47,7 +46,8 @@ length-step_events p before [] = refl
 length-step_events p before (s ∷ sends) = ap suc (length-step_events p (before + 1) sends)
 
 -- each message made is of the member, carries what it passes on, and is sent by an event
-made_event : (p before : ℕ) (carried : List Entry) (sends : List (ℕ × Note)) (x : Message) → Contains (messages_from p before carried sends) x → (x.from ≡ p) × (x.carried ≡ carried) × ((i : ℕ) × (slice_get (step_events p before sends) i ≡ Some (event.Send x.from x.ssn x.to x.note)))
+made_event : (p before : ℕ) (carried : List Entry) (sends : List (ℕ × Note)) (x : Message) → Contains (messages_from p before carried sends) x
+    → (x.from ≡ p) × (x.carried ≡ carried) × ((i : ℕ) × (slice_get (step_events p before sends) i ≡ Some (event.Send x.from x.ssn x.to x.note)))
 made_event p before carried [] x among = absurd (Contains-none x among)
 made_event p before carried (s ∷ sends) x among = elim (Contains-cons_cases _ (messages_from p (before + 1) carried sends) x among) [
   | inl first ↦ (sym (ap (λ (y : Message). y.from) first), sym (ap (λ (y : Message). y.carried) first), (0, ap (λ (y : Message). Some (event.Send y.from y.ssn y.to y.note)) first))
@@ -123,9 +123,6 @@ module _ (next : Next) (old new : GroupRecord) (v : Message) (well : SendsWell n
   other_now : (m : ℕ) → m ≢ v.to → member new m ≡ member old m
   other_now m other = ap (λ ms. get_or ms m blank) s.members ∙ get_or-set_other old.members v.to m (receiver next old v) blank other
 
-  table_now : table (knowledge new) v.to ≡ (receiver next old v).table
-  table_now = table_member new v.to ∙ ap (λ (x : MemberRecord). x.table) receiver_now
-
   pub is_delivered : IsDelivered n old.config.f (knowledge old) (knowledge new) v (was.received + 1) (made next old v)
   is_delivered = record {
     nobody_down = s.nobody_down;
@@ -133,11 +130,11 @@ module _ (next : Next) (old new : GroupRecord) (v : Message) (well : SendsWell n
     front = s.front;
     trace = marks_now;
     rules = is_lawful.well_formed;
-    receiver = rw (table_now, table_member old v.to) refl;
-    others = λ m other. table_member new m ∙ ap (λ (x : MemberRecord). x.table) (other_now m other) ∙ sym (table_member old m);
+    receiver = ap (λ (x : MemberRecord). x.table) receiver_now;
+    others = λ m other. ap (λ (x : MemberRecord). x.table) (other_now m other);
     messages = λ x among.
         let r = made_event v.to (length was.log) (piggybacked old.config.f (receiver next old v).table) sends x among in
-        (r.0, r.1 ∙ ap (piggybacked old.config.f) (sym table_now));
+        (r.0, r.1 ∙ ap (λ (x : MemberRecord). piggybacked old.config.f x.table) (sym receiver_now));
     channels = s.channels;
     checkpoints = s.checkpoints;
   }
@@ -166,12 +163,14 @@ module _ (next : Next) (old new : GroupRecord) (v : Message) (well : SendsWell n
   last_now =
       let a : (v.from == v.from) ≡ true = grind (arith, nat_tests) in
       let b : (v.to == v.to) ≡ true = grind (arith, nat_tests) in
-      ap (λ t. last_taken t v.from v.to) marks_split ∙ last_taken-push (marks old) added_marks v.from v.to v.ssn (taken_now v.from v.to ∙ ap (λ c. cond (c && v.to == v.to) (v.ssn ∷ []) []) a ∙ ap (λ c. cond c (v.ssn ∷ []) []) b)
+      ap (λ t. last_taken t v.from v.to) marks_split
+          ∙ last_taken-push (marks old) added_marks v.from v.to v.ssn (taken_now v.from v.to ∙ ap (λ c. cond (c && v.to == v.to) (v.ssn ∷ []) []) a ∙ ap (λ c. cond c (v.ssn ∷ []) []) b)
 
   other_fold : (m : ℕ) → m < n → m ≢ v.to → IsFold next old m → IsFold next new m
   other_fold m below other f =
       let apart : (v.to == m) ≡ false = (let ne : v.to ≢ m = (λ e. other (sym e)) in grind (arith, nat_tests)) in
-      let notes : received_notes new.trace m ≡ received_notes old.trace m = notes_now m ∙ ap (λ b. received_notes old.trace m ++ cond b (v.note ∷ []) []) apart ∙ append-nil (received_notes old.trace m) in
+      let notes : received_notes new.trace m ≡ received_notes old.trace m = notes_now m
+          ∙ ap (λ b. received_notes old.trace m ++ cond b (v.note ∷ []) []) apart ∙ append-nil (received_notes old.trace m) in
       record {
         progress = rw (other_now m other, s.config, notes) f.progress;
         places = rw (other_now m other) f.places;
@@ -221,7 +220,8 @@ module _ (next : Next) (old new : GroupRecord) (v : Message) (well : SendsWell n
   saved_grown : (m : ℕ) → m < n → IsReplayed next n old.config.starts new.trace m (checkpoint old m)
   saved_grown m below =
       replayed-grown next n old.config.starts old.trace new.trace m (checkpoint old m) _ _ sound.lawful.well_formed
-      (ap (λ t. receipts_at t m) marks_split ∙ ap (filter (λ (d : Determinant). d.to == m)) (filter_map-append determinant_of (marks old) added_marks) ∙ filter-append (λ (d : Determinant). d.to == m) (receipts (marks old)) (receipts added_marks))
+      (ap (λ t. receipts_at t m) marks_split ∙ ap (filter (λ (d : Determinant). d.to == m)) (filter_map-append determinant_of (marks old) added_marks)
+          ∙ filter-append (λ (d : Determinant). d.to == m) (receipts (marks old)) (receipts added_marks))
       (notes_now m) (sound.saved m below)
 
   IsSound-delivered : IsSound next new

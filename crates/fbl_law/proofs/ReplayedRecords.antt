@@ -40,7 +40,8 @@ replayed-fresh next n starts trace p = record {
 }
 
 -- a member that replays its next receipt in the trace, with the note of its message, has replayed one more
-pub replayed-step : (next : Next) (n : ℕ) (starts : List Start) (trace : List Event) (p : ℕ) (m : MemberRecord) (d : Determinant) (note : Note) → WellFormed n (map mark_of trace) → IsReplayed next n starts trace p m
+pub replayed-step : (next : Next) (n : ℕ) (starts : List Start) (trace : List Event) (p : ℕ) (m : MemberRecord) (d : Determinant) (note : Note)
+    → WellFormed n (map mark_of trace) → IsReplayed next n starts trace p m
     → slice_get (receipts_at (map mark_of trace) p) m.received ≡ Some d → note_of trace d.from d.ssn ≡ Some note → IsReplayed next n starts trace p (replayed_by next p n m d note)
 replayed-step next n starts trace p m d note obeys replayed here noted = record {
   within = (let below = slice_get_within (receipts_at (map mark_of trace) p) m.received d here in omega (arith, below));
@@ -50,10 +51,12 @@ replayed-step next n starts trace p m d note obeys replayed here noted = record 
   places = length-set m.last d.from d.ssn ∙ replayed.places;
   last = λ q below.
       at q below (d.from == q) refl
-      ∙ sym (ap (λ (ds : List Determinant). last_among ds q) (take-next (receipts_at (map mark_of trace) p) m.received d here) ∙ fold_push (λ last (x : Determinant). cond (x.from == q) x.ssn last) 0 (take m.received (receipts_at (map mark_of trace) p)) d);
+      ∙ sym (ap (λ (ds : List Determinant). last_among ds q) (take-next (receipts_at (map mark_of trace) p) m.received d here)
+          ∙ fold_push (λ last (x : Determinant). cond (x.from == q) x.ssn last) 0 (take m.received (receipts_at (map mark_of trace) p)) d);
 }
   where
-    at : (q : ℕ) → q < 16 → (b : Bool) → (d.from == q) ≡ b → get_or (slice_set m.last d.from d.ssn) q 0 ≡ cond (d.from == q) d.ssn (last_among (take m.received (receipts_at (map mark_of trace) p)) q)
+    at : (q : ℕ) → q < 16 → (b : Bool) → (d.from == q) ≡ b
+        → get_or (slice_set m.last d.from d.ssn) q 0 ≡ cond (d.from == q) d.ssn (last_among (take m.received (receipts_at (map mark_of trace) p)) q)
     at q below true is =
         let same : d.from ≡ q = grind (arith, nat_tests) in
         rw (is, ← same) (get_or-set_same m.last d.from d.ssn 0 (omega (arith, replayed.places, same, below)))
@@ -64,7 +67,8 @@ replayed-step next n starts trace p m d note obeys replayed here noted = record 
 -- a member at the fold of its receipts has replayed them all
 pub fold-received : (next : Next) (r : GroupRecord) (m : ℕ) → WellFormed r.config.members (marks r) → IsFold next r m → (member r m).received ≡ length (receipts_at (marks r) m)
 fold-received next r m obeys fold' =
-    let count : (after_notes next m r.config.members r.config.starts (received_notes r.trace m)).received ≡ length (received_notes r.trace m) = received-fold next m r.config.members (begun m r.config.starts) (received_notes r.trace m) ∙ omega arith in
+    let count : (after_notes next m r.config.members r.config.starts (received_notes r.trace m)).received ≡ length (received_notes r.trace m) =
+        received-fold next m r.config.members (begun m r.config.starts) (received_notes r.trace m) ∙ omega arith in
     ap (λ (x : Progress). x.received) fold'.progress ∙ count ∙ length-received_notes r.config.members r.trace m obeys
 
 pub fold-replayed : (next : Next) (r : GroupRecord) (m : ℕ) → WellFormed r.config.members (marks r) → IsFold next r m → IsReplayed next r.config.members r.config.starts r.trace m (member r m)
@@ -81,7 +85,8 @@ fold-replayed next r m obeys fold' =
     }
 
 -- and the other way round
-pub replayed-fold : (next : Next) (r : GroupRecord) (m : ℕ) → WellFormed r.config.members (marks r) → IsReplayed next r.config.members r.config.starts r.trace m (member r m) → (member r m).received ≡ length (receipts_at (marks r) m) → IsFold next r m
+pub replayed-fold : (next : Next) (r : GroupRecord) (m : ℕ) → WellFormed r.config.members (marks r)
+    → IsReplayed next r.config.members r.config.starts r.trace m (member r m) → (member r m).received ≡ length (receipts_at (marks r) m) → IsFold next r m
 replayed-fold next r m obeys replayed count =
     let notes = length-received_notes r.config.members r.trace m obeys in
     let all_notes : take (member r m).received (received_notes r.trace m) ≡ received_notes r.trace m = take_all (member r m).received (received_notes r.trace m) (omega (arith, count, notes)) in
@@ -105,7 +110,8 @@ receipt-event (event.Receipt p r q k ∷ t) zero to rsn from ssn here =
 receipt-event (e ∷ t) (suc i) to rsn from ssn here = receipt-event t i to rsn from ssn here
 
 -- lists that agree on their first elements
-take-agree : {X : Type 0} (k : ℕ) (xs ys : List X) → k ≤ length xs → ((j : ℕ) (x : X) → j < k → slice_get xs j ≡ Some x → slice_get ys j ≡ Some x) → (k ≤ length ys) × (take k xs ≡ take k ys)
+take-agree : {X : Type 0} (k : ℕ) (xs ys : List X) → k ≤ length xs → ((j : ℕ) (x : X) → j < k → slice_get xs j ≡ Some x → slice_get ys j ≡ Some x)
+    → (k ≤ length ys) × (take k xs ≡ take k ys)
 take-agree zero xs ys within agree = (omega arith, refl)
 take-agree (suc k) [] ys within agree = absurd (omega arith)
 take-agree (suc k) (x ∷ xs) [] within agree = (let e = agree 0 x (omega arith) refl in cc)

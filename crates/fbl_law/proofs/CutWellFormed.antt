@@ -1,4 +1,4 @@
--- What a cut keeps.
+-- What a cut of a well-formed trace leaves is well formed.
 use Rattle.std.proofs.Common.{map, ◌≡◌, ℕ, zero, suc, ◌<◌, ◌==◌, not, Bool, true, false, cond, List, [], ◌∷◌, ◌++◌, length, take, inl, inr, ◌⊎◌, arith, refl, ap, ◌∙◌, Option, Some, None, slice_get, count_by}
 use Rattle.std.specs.List.{filter, filter_map, list_any}
 use Rattle.std.proofs.lemmas.Bool.Decides.{nat_tests}
@@ -33,13 +33,15 @@ count-kept keep p (x ∷ u) all =
     let rest : count_by p (filter keep u) ≡ count_by p u = count-kept keep p u (λ e h. all e (suc h.0, h.1)) in
     at (keep x) (p x) refl refl (all x (0, refl)) rest
   where
-    at : (k c : Bool) → keep x ≡ k → p x ≡ c → (p x ≡ true → keep x ≡ true) → count_by p (filter keep u) ≡ count_by p u → count_by p (filter keep (x ∷ u)) ≡ count_by p (x ∷ u)
+    at : (k c : Bool) → keep x ≡ k → p x ≡ c → (p x ≡ true → keep x ≡ true) → count_by p (filter keep u) ≡ count_by p u
+        → count_by p (filter keep (x ∷ u)) ≡ count_by p (x ∷ u)
     at true c ek ec h rest = rw (ek, sum_by-cons (λ y. cond (p y) 1 0) x (filter keep u), sum_by-cons (λ y. cond (p y) 1 0) x u) (omega (arith, rest))
     at false false ek ec h rest = rw (ek, sum_by-cons (λ y. cond (p y) 1 0) x u, ec) (omega (arith, rest))
     at false true ek ec h rest = absurd (let k = h ec in cc)
 
 -- a part of the events of which each one is kept
-pub map-kept : {Y : Type 0} (keep : Mark → Bool) (g : Mark → Option Y) (u : List Mark) → ((e : Mark) (y : Y) → Has u e → g e ≡ Some y → keep e ≡ true) → filter_map g (filter keep u) ≡ filter_map g u
+pub map-kept : {Y : Type 0} (keep : Mark → Bool) (g : Mark → Option Y) (u : List Mark) → ((e : Mark) (y : Y) → Has u e → g e ≡ Some y → keep e ≡ true)
+    → filter_map g (filter keep u) ≡ filter_map g u
 map-kept {Y} keep g u all = filter_map-kept keep g g u (λ i e here. at e (g e) refl (λ y is. all e y (i, here) is)) where
   at : (e : Mark) (o : Option Y) → g e ≡ o → ((y : Y) → g e ≡ Some y → keep e ≡ true) → ((keep e ≡ true) × (g e ≡ g e)) ⊎ ((g e ≡ None) × (g e ≡ None))
   at e None is kept = inr (is, is)
@@ -49,7 +51,8 @@ map-kept {Y} keep g u all = filter_map-kept keep g g u (λ i e here. at e (g e) 
 pub marks-filter : (keep : Mark → Bool) (t : List Event) → map mark_of (filter (λ e. keep (mark_of e)) t) ≡ filter keep (map mark_of t)
 marks-filter keep [] = refl
 marks-filter keep (x ∷ t) = at (keep (mark_of x)) (marks-filter keep t) where
-  at : (b : Bool) → map mark_of (filter (λ e. keep (mark_of e)) t) ≡ filter keep (map mark_of t) → map mark_of (cond b (x ∷ filter (λ e. keep (mark_of e)) t) (filter (λ e. keep (mark_of e)) t)) ≡ cond b (mark_of x ∷ filter keep (map mark_of t)) (filter keep (map mark_of t))
+  at : (b : Bool) → map mark_of (filter (λ e. keep (mark_of e)) t) ≡ filter keep (map mark_of t)
+      → map mark_of (cond b (x ∷ filter (λ e. keep (mark_of e)) t) (filter (λ e. keep (mark_of e)) t)) ≡ cond b (mark_of x ∷ filter keep (map mark_of t)) (filter keep (map mark_of t))
   at true ih = ap (λ (ys : List Mark). mark_of x ∷ ys) ih
   at false ih = ih
 
@@ -76,7 +79,8 @@ taken_at q p y (Receipt to rsn from ssn) h = (on_channel from to q p ssn y h).1
 
 -- an event that may follow a trace may follow what is left of it, where what leads to it is left
 module _ (n : ℕ) (keep : Mark → Bool) (u : List Mark) (obeys : WellFormed n u) where
-  of_member : (p : Mark → Bool) (m : ℕ) → ((e : Mark) → p e ≡ true → member_of e ≡ m) → ((e : Mark) → Has u e → member_of e ≡ m → keep e ≡ true) → (e : Mark) → Has u e → p e ≡ true → keep e ≡ true
+  of_member : (p : Mark → Bool) (m : ℕ) → ((e : Mark) → p e ≡ true → member_of e ≡ m) → ((e : Mark) → Has u e → member_of e ≡ m → keep e ≡ true)
+      → (e : Mark) → Has u e → p e ≡ true → keep e ≡ true
   of_member p m at_m all e h yes' = all e h (at_m e yes')
 
   sends_at : (m : ℕ) (e : Mark) → is_send_of m e ≡ true → member_of e ≡ m
@@ -104,7 +108,8 @@ module _ (n : ℕ) (keep : Mark → Bool) (u : List Mark) (obeys : WellFormed n 
   abbrev all_sent : ℕ → ℕ → List ℕ
   all_sent q p = filter_map (sent_on q p) u
 
-  first-kept : (q s p : ℕ) → slice_get (in_flight u q p) 0 ≡ Some s → keep (Send q s p) ≡ true → filter_map (taken_on q p) (filter keep u) ≡ filter_map (taken_on q p) u → slice_get (in_flight (filter keep u) q p) 0 ≡ Some s
+  first-kept : (q s p : ℕ) → slice_get (in_flight u q p) 0 ≡ Some s → keep (Send q s p) ≡ true
+      → filter_map (taken_on q p) (filter keep u) ≡ filter_map (taken_on q p) u → slice_get (in_flight (filter keep u) q p) 0 ≡ Some s
   first-kept q s p first kept same =
       let there = in_flight-sent u q s p first in
       let left = Has-kept keep u (Send q s p) there kept in
@@ -137,7 +142,8 @@ module _ (n : ℕ) (keep : Mark → Bool) (u : List Mark) (obeys : WellFormed n 
       let count : sends_of (filter keep u) from ≡ sends_of u from = count-kept keep (is_send_of from) u (of_member (is_send_of from) from (sends_at from) (λ a h same. causes a h (inl same))) in
       (may.0, may.1, may.2, omega (arith, may.3, count), omega (arith, may.4, length-left keep u))
   MayFollow-kept (Receipt to rsn from ssn) may causes =
-      let count : receipts_of (filter keep u) to ≡ receipts_of u to = count-kept keep (is_receipt_of to) u (of_member (is_receipt_of to) to (receipts_at to) (λ a h same. causes a h (inl same))) in (
+      let count : receipts_of (filter keep u) to ≡ receipts_of u to =
+          count-kept keep (is_receipt_of to) u (of_member (is_receipt_of to) to (receipts_at to) (λ a h same. causes a h (inl same))) in (
         may.0,
         may.1,
         may.2,
@@ -150,11 +156,13 @@ module _ (n : ℕ) (keep : Mark → Bool) (u : List Mark) (obeys : WellFormed n 
 -- what is left of a trace that obeys the rules obeys them, where what leads to a kept event is kept
 pub WellFormed-kept : (n : ℕ) (keep : Mark → Bool) (t : List Mark) → WellFormed n t → KeepsCauses keep t → WellFormed n (filter keep t)
 WellFormed-kept n keep t obeys = WellFormed-keeps n (λ u. KeepsCauses keep u → WellFormed n (filter keep u)) (λ causes. WellFormed-none n) more t obeys where
-  more : (u : List Mark) (e : Mark) → WellFormed n u → MayFollow n u e → (KeepsCauses keep u → WellFormed n (filter keep u)) → KeepsCauses keep (u ++ e ∷ []) → WellFormed n (filter keep (u ++ e ∷ []))
+  more : (u : List Mark) (e : Mark) → WellFormed n u → MayFollow n u e → (KeepsCauses keep u → WellFormed n (filter keep u))
+      → KeepsCauses keep (u ++ e ∷ []) → WellFormed n (filter keep (u ++ e ∷ []))
   more u e obeys_u may before causes = rw (filter-append keep u (e ∷ [])) (at (keep e) refl) where
     done : WellFormed n (filter keep u)
     done = before (λ a b kept leads. causes a b kept (Earlier-front u (e ∷ []) a b leads.0, leads.1))
 
     at : (b : Bool) → keep e ≡ b → WellFormed n (filter keep u ++ cond b (e ∷ []) [])
     at false is = rw append-nil done
-    at true is = WellFormed-push n (filter keep u) e done (MayFollow-kept n keep u obeys_u e may (λ a h why. causes a e is ((h.0, length u, At-below u h.0 a h.1, At-front u (e ∷ []) h.0 a h.1, At-seam u e []), why)))
+    at true is = WellFormed-push n (filter keep u) e done
+        (MayFollow-kept n keep u obeys_u e may (λ a h why. causes a e is ((h.0, length u, At-below u h.0 a h.1, At-front u (e ∷ []) h.0 a h.1, At-seam u e []), why)))

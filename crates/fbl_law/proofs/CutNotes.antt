@@ -16,7 +16,7 @@ use Rattle.fbl_base.proofs.Gets.{At-filter}
 use Rattle.fbl_base.proofs.LawfulLaws.{receipts-noted}
 use Rattle.fbl_law.specs.Sound.{last_taken}
 use Rattle.fbl_law.proofs.Lists.{filter-At, filter_map-kept}
-use Rattle.fbl_law.proofs.Cut.{marks-filter, KeepsCauses, WellFormed-kept, map-kept, taken_at}
+use Rattle.fbl_law.proofs.CutWellFormed.{marks-filter, KeepsCauses, WellFormed-kept, map-kept, taken_at}
 use Rattle.fbl_law.proofs.Notes.{noted-sent, sent-noted}
 
 module _ (n : ℕ) (keep : Mark → Bool) (t : List Event) (obeys : WellFormed n (map mark_of t)) (causes : KeepsCauses keep (map mark_of t)) where
@@ -49,13 +49,16 @@ module _ (n : ℕ) (keep : Mark → Bool) (t : List Event) (obeys : WellFormed n
     Has-mark : (i : ℕ) (e : Event) → slice_get t i ≡ Some e → Has (map mark_of t) (mark_of e)
     Has-mark i e here = (i, slice_get-map mark_of t i ∙ (rw here refl))
 
-    each-action : (i : ℕ) (e : Event) → slice_get t i ≡ Some e → ((keep (mark_of e) ≡ true) × (action_of left m e ≡ action_of t m e)) ⊎ ((action_of left m e ≡ None) × (action_of t m e ≡ None))
+    each-action : (i : ℕ) (e : Event) → slice_get t i ≡ Some e
+        → ((keep (mark_of e) ≡ true) × (action_of left m e ≡ action_of t m e)) ⊎ ((action_of left m e ≡ None) × (action_of t m e ≡ None))
     each-action i (Send q k to x) here = at (q == m) refl where
-      at : (b : Bool) → (q == m) ≡ b → ((keep (mark.Send q k to) ≡ true) × (action_of left m (Send q k to x) ≡ action_of t m (Send q k to x))) ⊎ ((action_of left m (Send q k to x) ≡ None) × (action_of t m (Send q k to x) ≡ None))
+      at : (b : Bool) → (q == m) ≡ b → ((keep (mark.Send q k to) ≡ true) × (action_of left m (Send q k to x) ≡ action_of t m (Send q k to x)))
+          ⊎ ((action_of left m (Send q k to x) ≡ None) × (action_of t m (Send q k to x) ≡ None))
       at true is = inl (all (mark.Send q k to) (Has-mark i (Send q k to x) here) (let same : q ≡ m = grind (arith, nat_tests) in same), refl)
       at false is = inr (rw is refl, rw is refl)
     each-action i (Receipt to r q k) here = at (to == m) refl where
-      at : (b : Bool) → (to == m) ≡ b → ((keep (mark.Receipt to r q k) ≡ true) × (action_of left m (Receipt to r q k) ≡ action_of t m (Receipt to r q k))) ⊎ ((action_of left m (Receipt to r q k) ≡ None) × (action_of t m (Receipt to r q k) ≡ None))
+      at : (b : Bool) → (to == m) ≡ b → ((keep (mark.Receipt to r q k) ≡ true)
+          × (action_of left m (Receipt to r q k) ≡ action_of t m (Receipt to r q k))) ⊎ ((action_of left m (Receipt to r q k) ≡ None) × (action_of t m (Receipt to r q k) ≡ None))
       at true is =
           let kept : keep (mark.Receipt to r q k) ≡ true = all (mark.Receipt to r q k) (Has-mark i (Receipt to r q k) here) (let same : to ≡ m = grind (arith, nat_tests) in same) in
           let place = filter-At (λ e. keep (mark_of e)) t i (Receipt to r q k) here kept in
@@ -71,5 +74,6 @@ module _ (n : ℕ) (keep : Mark → Bool) (t : List Event) (obeys : WellFormed n
 
     pub last_taken-stays : (q : ℕ) → last_taken (map mark_of left) q m ≡ last_taken (map mark_of t) q m
     last_taken-stays q =
-        let same : filter_map (taken_on q m) (filter keep (map mark_of t)) ≡ filter_map (taken_on q m) (map mark_of t) = map-kept keep (taken_on q m) (map mark_of t) (λ e y there is. all e there (taken_at q m y e is)) in
+        let same : filter_map (taken_on q m) (filter keep (map mark_of t)) ≡ filter_map (taken_on q m) (map mark_of t) =
+            map-kept keep (taken_on q m) (map mark_of t) (λ e y there is. all e there (taken_at q m y e is)) in
         rw (marks-filter keep t, same) refl

@@ -16,26 +16,27 @@ use Rattle.fbl_table.specs.declared.entry.Entry.{Entry}
 use Rattle.fbl_table.specs.Tables.{found}
 use Rattle.fbl_member.specs.Members.{MemberRecord, blank, logged_note, replayed_by}
 use Rattle.fbl_law.specs.Knowledge.{Members, IsUp, IsDown}
-use Rattle.fbl_law.specs.Steps.{Stays, IsEventCut}
+use Rattle.fbl_law.specs.Steps.{Stays, IsEventCut, recovery_table}
 use Rattle.fbl_law.specs.Groups.{GroupRecord, member, checkpoint, channel, knowledge, receipts}
 use Rattle.fbl_law.specs.Sound.{receipts_at, IsReplayed, IsFold, IsSound}
 use Rattle.fbl_law.specs.GroupSteps.{IsRecovery, IsMadeAgain}
-use Rattle.fbl_law.specs.Replaying.{IsNextReplay, is_replayed, gathered_table, recovered_trace, stays_by, resent_to, working, IsReplaying, IsWaiting, replayed_in, IsRebuilt}
+use Rattle.fbl_law.specs.Replaying.{IsNextReplay, is_replayed, recovered_trace, stays_by, resent_to, working, IsReplaying, IsWaiting, replayed_in, IsRebuilt}
 use Rattle.fbl_law.specs.RecoveryLaws.{ReplayBegins, ReplayIsRight, ReplayEnds, RebuiltIsRecovered}
 use Rattle.fbl_law.proofs.Safe.{down_or_up}
-use Rattle.fbl_law.proofs.CutFolds.{note-was}
+use Rattle.fbl_law.proofs.CutNotes.{note-was}
 use Rattle.fbl_law.proofs.GroupCheckpoint.{checkpoint_is_recorded}
 use Rattle.fbl_law.proofs.GroupRecovery.{cut-causes, cut-lawful, fold-survives}
-use Rattle.fbl_law.proofs.Replayed.{replayed-cut, fold-received, fold-replayed, replayed-fold}
-use Rattle.fbl_law.proofs.Replaying.{recorded-cut, found-next, replay-room, replayed-next, replays-log, all-replayed}
-use Rattle.fbl_law.proofs.Counting.{is_of, count_in-none, count_in-same, count_in-most, count_in-step, replayed-most, replayed-count, to-replay-short}
-use Rattle.fbl_law.proofs.CutTrace.{recovered_trace-cut}
-use Rattle.fbl_law.proofs.CutCounts.{filter-agree, stays_by-cut}
-use Rattle.fbl_law.proofs.MadeAgain.{made-again, made-again-outside}
-use Rattle.fbl_law.proofs.Resending.{channel-outside}
+use Rattle.fbl_law.proofs.ReplayedRecords.{replayed-cut, fold-received, fold-replayed, replayed-fold}
+use Rattle.fbl_law.proofs.ReplayFromGathered.{recorded-cut, found-next, replay-room, replayed-next, replays-log, all-replayed}
+use Rattle.fbl_law.proofs.Counting.{is_of, count_in-same, count_in-most, count_in-step, replayed-most, replayed-count, to-replay-short}
+use Rattle.fbl_law.proofs.CutInOnePass.{recovered_trace-cut}
+use Rattle.fbl_law.proofs.CutByCounts.{filter-agree, stays_by-cut}
+use Rattle.fbl_law.proofs.ChannelsMadeAgain.{made-again, made-again-outside}
+use Rattle.fbl_law.proofs.ChannelCounts.{channel-outside}
 
 -- a replay does not read the table
-pub replayed-table : (next : Next) (n : ℕ) (r : GroupRecord) (trace : List Event) (p : ℕ) (m : MemberRecord) (t : List Entry) → IsReplayed next n r.config.starts trace p m → IsReplayed next n r.config.starts trace p (record m { table = t })
+pub replayed-table : (next : Next) (n : ℕ) (r : GroupRecord) (trace : List Event) (p : ℕ) (m : MemberRecord) (t : List Entry)
+    → IsReplayed next n r.config.starts trace p m → IsReplayed next n r.config.starts trace p (record m { table = t })
 replayed-table next n r trace p m t replayed = record { within = replayed.within; progress = replayed.progress; places = replayed.places; last = replayed.last }
 
 -- a record with a table that it has
@@ -64,7 +65,8 @@ module _ (next : Next) (old : GroupRecord) (sound : IsSound next old) where
   Replays p m = IsReplayed next old.config.members old.config.starts (recovered_trace old) p m
 
   -- a survivor is at the fold of all its receipts
-  pub survivor-replays : (q : ℕ) → q < old.config.members → IsUp (knowledge old) q → Replays q (member old q) × ((member old q).received ≡ length (receipts_at (map mark_of (recovered_trace old)) q))
+  pub survivor-replays : (q : ℕ) → q < old.config.members → IsUp (knowledge old) q
+      → Replays q (member old q) × ((member old q).received ≡ length (receipts_at (map mark_of (recovered_trace old)) q))
   survivor-replays q below up =
       let r : GroupRecord = record old { trace = recovered_trace old } in
       let fold : IsFold next r q = fold-survives next old sound (recovered_trace old) cut r q up refl refl refl (sound.folds q below up) in
@@ -82,7 +84,8 @@ module _ (next : Next) (old : GroupRecord) (sound : IsSound next old) where
     | inr up ↦ subst (Replays q) (sym (working-up rebuilt q up)) (survivor-replays q below up).0
   ]
 
-  working-all : (rebuilt : List MemberRecord) (q : ℕ) → q < old.config.members → IsUp (knowledge old) q → (working old rebuilt q).received ≡ length (receipts_at (map mark_of (recovered_trace old)) q)
+  working-all : (rebuilt : List MemberRecord) (q : ℕ) → q < old.config.members → IsUp (knowledge old) q
+      → (working old rebuilt q).received ≡ length (receipts_at (map mark_of (recovered_trace old)) q)
   working-all rebuilt q below up = ap (λ (m : MemberRecord). m.received) (working-up rebuilt q up) ∙ (survivor-replays q below up).1
 
   -- a checkpoint's receipts stay, so its replay is one of the trace that is left
@@ -95,26 +98,22 @@ module _ (next : Next) (old : GroupRecord) (sound : IsSound next old) where
       (sound.saved p below)
 
   -- each member that is down begins at its checkpoint
-  pub replaying-start : (rebuilt : List MemberRecord) → length rebuilt ≡ old.config.members → ((p : ℕ) → p < old.config.members → IsDown (knowledge old) p → slice_index_or rebuilt p blank ≡ checkpoint old p) → IsReplaying next old rebuilt
+  pub replaying-start : (rebuilt : List MemberRecord) → length rebuilt ≡ old.config.members
+      → ((p : ℕ) → p < old.config.members → IsDown (knowledge old) p → slice_index_or rebuilt p blank ≡ checkpoint old p) → IsReplaying next old rebuilt
   replaying-start rebuilt size begins = record {
     size = size;
     replayed = λ p below down. subst (Replays p) (sym (begins p below down)) (checkpoint-replays p below);
     begun = λ p below down. (let e = ap (λ (m : MemberRecord). m.received) (begins p below down) in omega (arith, e));
   }
 
-  pub replayed_in-start : (rebuilt : List MemberRecord) → ((p : ℕ) → p < old.config.members → IsDown (knowledge old) p → slice_index_or rebuilt p blank ≡ checkpoint old p) → replayed_in old rebuilt ≡ 0
-  replayed_in-start rebuilt begins =
-      count_in-same old.down (λ p. (slice_index_or rebuilt p blank).received - (checkpoint old p).received) (λ p. 0) old.config.members (λ p below down. (let e = ap (λ (m : MemberRecord). m.received) (begins p below down) in omega (arith, e)))
-      ∙ count_in-none old.down old.config.members
-
   -- what the gathered tables find is the next receipt
   pub replaying-next : (rebuilt : List MemberRecord) (p : ℕ) (d : Determinant) → IsReplaying next old rebuilt → p < old.config.members → IsDown (knowledge old) p
-      → found p ((slice_index_or rebuilt p blank).received + 1) (gathered_table old) ≡ Some d → IsNextReplay old.config.members p (slice_index_or rebuilt p blank) d
+      → found p ((slice_index_or rebuilt p blank).received + 1) (recovery_table (knowledge old)) ≡ Some d → IsNextReplay old.config.members p (slice_index_or rebuilt p blank) d
   replaying-next rebuilt p d replaying below down is = found-next next old sound (recovered_trace old) cut p (slice_index_or rebuilt p blank) d (replaying.replayed p below down) is
 
   -- its step's sends have room in the log
   pub replaying-room : (rebuilt : List MemberRecord) (p : ℕ) (d : Determinant) (note : Note) → IsReplaying next old rebuilt → p < old.config.members → IsDown (knowledge old) p
-      → found p ((slice_index_or rebuilt p blank).received + 1) (gathered_table old) ≡ Some d → logged_note (working old rebuilt d.from).log d.ssn ≡ Some note
+      → found p ((slice_index_or rebuilt p blank).received + 1) (recovery_table (knowledge old)) ≡ Some d → logged_note (working old rebuilt d.from).log d.ssn ≡ Some note
       → length (slice_index_or rebuilt p blank).log + length (next p old.config.members (slice_index_or rebuilt p blank).state note).sends.items ≤ 8192
   replaying-room rebuilt p d note replaying below down is named =
       replay-room next old sound (recovered_trace old) cut p (slice_index_or rebuilt p blank) d (working old rebuilt d.from) note (replaying.replayed p below down) is
@@ -122,7 +121,7 @@ module _ (next : Next) (old : GroupRecord) (sound : IsSound next old) where
 
   -- its replay
   pub replaying-step : (rebuilt : List MemberRecord) (p : ℕ) (d : Determinant) (note : Note) → IsReplaying next old rebuilt → p < old.config.members → IsDown (knowledge old) p
-      → found p ((slice_index_or rebuilt p blank).received + 1) (gathered_table old) ≡ Some d → logged_note (working old rebuilt d.from).log d.ssn ≡ Some note
+      → found p ((slice_index_or rebuilt p blank).received + 1) (recovery_table (knowledge old)) ≡ Some d → logged_note (working old rebuilt d.from).log d.ssn ≡ Some note
       → IsReplaying next old (slice_set rebuilt p (replayed_by next p old.config.members (slice_index_or rebuilt p blank) d note))
   replaying-step rebuilt p d note replaying below down is named = record {
     size = length-set rebuilt p after ∙ replaying.size;
@@ -152,14 +151,16 @@ module _ (next : Next) (old : GroupRecord) (sound : IsSound next old) where
   replayed_in-step rebuilt p d note replaying below down =
       let after = replayed_by next p old.config.members (slice_index_or rebuilt p blank) d note in
       let own = ap (λ (m : MemberRecord). m.received) (get_or-set_same rebuilt p after blank (omega (arith, replaying.size, below))) in
-      count_in-step old.down (λ q. (slice_index_or rebuilt q blank).received - (checkpoint old q).received) (λ q. (slice_index_or (slice_set rebuilt p after) q blank).received - (checkpoint old q).received) old.config.members p below down
+      count_in-step old.down (λ q. (slice_index_or rebuilt q blank).received - (checkpoint old q).received)
+          (λ q. (slice_index_or (slice_set rebuilt p after) q blank).received - (checkpoint old q).received) old.config.members p below down
       (omega (arith, own, replaying.begun p below down))
       (λ q other. ap (λ (m : MemberRecord). m.received - (checkpoint old q).received) (get_or-set_other rebuilt p q after blank other))
 
   -- no more are replayed than the trace that recovery leaves has of the members that are down
   pub replayed_in-most : (rebuilt : List MemberRecord) → IsReplaying next old rebuilt → replayed_in old rebuilt ≤ length (filter (is_of old.down) (receipts (map mark_of (recovered_trace old))))
   replayed_in-most rebuilt replaying =
-      let fewer = count_in-most old.down (λ p. (slice_index_or rebuilt p blank).received - (checkpoint old p).received) (λ p. (slice_index_or rebuilt p blank).received) old.config.members (λ p below down. omega arith) in
+      let fewer = count_in-most old.down (λ p. (slice_index_or rebuilt p blank).received - (checkpoint old p).received)
+          (λ p. (slice_index_or rebuilt p blank).received) old.config.members (λ p below down. omega arith) in
       omega (arith, fewer, replayed-most next old sound (recovered_trace old) cut (λ p. slice_index_or rebuilt p blank) replaying.replayed)
 
   pub replayed_in-short : (rebuilt : List MemberRecord) → IsReplaying next old rebuilt → replayed_in old rebuilt ≤ 8192
@@ -174,7 +175,8 @@ module _ (next : Next) (old : GroupRecord) (sound : IsSound next old) where
       → ((p : ℕ) → p < old.config.members → IsDown (knowledge old) p → slice_index_or given p blank ≡ record (slice_index_or rebuilt p blank) { table = t }) → IsReplaying next old given
   replaying-tables rebuilt given t replaying size same = record {
     size = size ∙ replaying.size;
-    replayed = λ p below down. subst (Replays p) (sym (same p below down)) (replayed-table next old.config.members old (recovered_trace old) p (slice_index_or rebuilt p blank) t (replaying.replayed p below down));
+    replayed = λ p below down. subst (Replays p) (sym (same p below down))
+        (replayed-table next old.config.members old (recovered_trace old) p (slice_index_or rebuilt p blank) t (replaying.replayed p below down));
     begun = λ p below down. (let e = ap (λ (m : MemberRecord). m.received) (same p below down) in omega (arith, e, replaying.begun p below down));
   }
 
@@ -185,7 +187,8 @@ module _ (next : Next) (old : GroupRecord) (sound : IsSound next old) where
         all-replayed next old sound (recovered_trace old) cut (working old rebuilt) (working-replays rebuilt replaying) (working-all rebuilt)
         (λ p below down d is. waiting p below down d (rw (working-down rebuilt p down) at is))
 
-    pub rebuilt-received : (p : ℕ) → p < old.config.members → IsDown (knowledge old) p → (slice_index_or rebuilt p blank).received ≡ length (receipts_at (map mark_of (recovered_trace old)) p)
+    pub rebuilt-received : (p : ℕ) → p < old.config.members → IsDown (knowledge old) p
+        → (slice_index_or rebuilt p blank).received ≡ length (receipts_at (map mark_of (recovered_trace old)) p)
     rebuilt-received p below down = ap (λ (m : MemberRecord). m.received) (sym (working-down rebuilt p down)) ∙ working-received p below
 
     -- as many are replayed as the trace has of the members that are down, beyond those of their checkpoints
@@ -208,52 +211,44 @@ module _ (next : Next) (old : GroupRecord) (sound : IsSound next old) where
     -- so a group with these records, and with channels made again, is the group recovered
     module _ (new : GroupRecord) (step : IsRebuilt old new rebuilt) where
       is-lawful : Lawful next new.config.members new.config.starts new.trace
-      is-lawful = (let config : new.config ≡ old.config = step.config in let trace : new.trace ≡ recovered_trace old = step.trace in rw (config, trace) lawful)
+      is-lawful = (let config : new.config ≡ old.config = step.rest.config in let trace : new.trace ≡ recovered_trace old = step.trace in rw (config, trace) lawful)
 
       rebuilt-fold : (m : ℕ) → m < old.config.members → IsDown (knowledge old) m → IsFold next new m
       rebuilt-fold m below down =
-          let config : new.config ≡ old.config = step.config in
+          let config : new.config ≡ old.config = step.rest.config in
           let trace : new.trace ≡ recovered_trace old = step.trace in
-          let is : member new m ≡ record (slice_index_or rebuilt m blank) { table = gathered_table old } = step.rebuilt m below down in
+          let is : member new m ≡ record (slice_index_or rebuilt m blank) { table = recovery_table (knowledge old) } = step.rebuilt m below down in
           replayed-fold next new m is-lawful.well_formed
-          (rw (config, trace, is) (replayed-table next old.config.members old (recovered_trace old) m (slice_index_or rebuilt m blank) (gathered_table old) (replaying.replayed m below down)))
+          (rw (config, trace, is) (replayed-table next old.config.members old (recovered_trace old) m (slice_index_or rebuilt m blank) (recovery_table (knowledge old)) (replaying.replayed m below down)))
           (rw (trace, is) (rebuilt-received m below down))
 
       fold-all : (m : ℕ) → m < old.config.members → IsFold next new m
       fold-all m below = elim (down_or_up old.down m) [
         | inl down ↦ rebuilt-fold m below down
-        | inr up ↦ fold-survives next old sound (recovered_trace old) cut new m up step.trace step.config (step.survivors m up) (sound.folds m below up)
+        | inr up ↦ fold-survives next old sound (recovered_trace old) cut new m up step.trace step.rest.config (step.rest.survivors m up) (sound.folds m below up)
       ]
 
       outside : (q p : ℕ) → (old.config.members ≤ q) ⊎ (old.config.members ≤ p) → channel new q p ≡ []
-      outside q p out = channel-outside old.config.members new.channels q p step.shape out
+      outside q p out = channel-outside old.config.members new.channels q p step.rest.shape out
 
       made : (q p : ℕ) → IsDown (knowledge old) q ⊎ IsDown (knowledge old) p → IsMadeAgain new q p
       made q p down = elim (cases_lt q old.config.members) [
-        | inr past ↦ made-again-outside new q p is-lawful.well_formed (inl (let config : new.config ≡ old.config = step.config in rw config past)) (outside q p (inl past))
+        | inr past ↦ made-again-outside new q p is-lawful.well_formed (inl (let config : new.config ≡ old.config = step.rest.config in rw config past)) (outside q p (inl past))
         | inl below_q ↦ elim (cases_lt p old.config.members) [
-          | inr past ↦ made-again-outside new q p is-lawful.well_formed (inr (let config : new.config ≡ old.config = step.config in rw config past)) (outside q p (inr past))
+          | inr past ↦ made-again-outside new q p is-lawful.well_formed (inr (let config : new.config ≡ old.config = step.rest.config in rw config past)) (outside q p (inr past))
           | inl below_p ↦
               made-again next new is-lawful q p (fold-all q below_q) (fold-all p below_p) (omega (arith, below_q, sound.config.members.1))
-              (step.resent q p down below_q below_p ∙ ap (λ f. resent_to f q p (member new q) (member new p)) (let config : new.config ≡ old.config = step.config in rw config refl))
+              (step.resent q p down below_q below_p ∙ ap (λ f. resent_to f q p (member new q) (member new p)) (let config : new.config ≡ old.config = step.rest.config in rw config refl))
         ]
       ]
 
       pub recovery-made : IsRecovery next old new
       recovery-made = record {
-        nobody_down = step.nobody_down;
+        rest = step.rest;
         trace = (let trace : new.trace ≡ recovered_trace old = step.trace in rw trace cut);
-        size = step.size;
-        survivors = step.survivors;
         folds = rebuilt-fold;
         gathered = λ m below down. ap (λ (x : MemberRecord). x.table) (step.rebuilt m below down);
-        shape = step.shape;
-        channels = step.channels;
         made_again = made;
-        config = step.config;
-        receipts_ever = step.receipts_ever;
-        undone_ever = step.undone_ever;
-        checkpoints = step.checkpoints;
       }
 
 pub replay_begins : ReplayBegins

@@ -1,7 +1,8 @@
 -- What gathered tables have.
-use Rattle.std.proofs.Common.{◌≡◌, ℕ, zero, suc, ◌<◌, Bool, true, false, cond, List, [], ◌∷◌, ◌++◌, length, inl, inr, ◌⊎◌, arith, refl, sym, get_or, subst, ap, ◌∙◌}
-use Rattle.std.proofs.lemmas.Bool.{cases_eq, cases_lt}
-use Rattle.std.proofs.lemmas.List.{get_or_default, get_or_past}
+use Rattle.std.proofs.Common.{◌≡◌, ℕ, zero, suc, ◌+◌, ◌<◌, Bool, true, false, cond, List, [], ◌∷◌, ◌++◌, length, take, map, inl, inr, ◌⊎◌, arith, refl, sym, get_or, subst, ap, ◌∙◌}
+use Rattle.std.proofs.lemmas.Bool.{cases_eq}
+use Rattle.std.specs.Prelude.{slice_index_or}
+use Rattle.std.proofs.lemmas.List.{get_or_default, map_more}
 use Rattle.std.proofs.lemmas.List.Elements.{Contains-get_or, Contains-append_cases, Contains-append_left, Contains-append_right}
 use Rattle.std.specs.List.{Contains}
 use Rattle.std.specs.FinSet as set
@@ -11,8 +12,8 @@ use Rattle.fbl_member.specs.Members.{MemberRecord, blank}
 use Rattle.fbl_law.specs.Knowledge.{Members, Includes, Names, Knowledge, table, checkpoint, IsDown, IsUp, IsRecorded, IsDownEmpty, IsCheckpointKept}
 use Rattle.fbl_table.specs.Tables.{gathered}
 use Rattle.fbl_law.specs.Steps.{gathered_all, saved_tables, recovery_table}
-use Rattle.fbl_law.proofs.Lists.{Contains-changed, Contains-here, Contains-there, Contains-cons_cases, Contains-none}
-use Rattle.fbl_law.proofs.Safe.{down_or_up, IsRecorded-held, IsRecorded-saved}
+use Rattle.fbl_law.proofs.Lists.{Contains-changed, Contains-map, Contains-here, Contains-there, Contains-cons_cases, Contains-none}
+use Rattle.fbl_law.proofs.Safe.{down_or_up, up_if_named, IsRecorded-held, IsRecorded-saved}
 use Rattle.fbl_law.proofs.Tables.{joined, Includes-union, Includes-right, Names-gathered, Names-gathered_kept, gathered-keeps, Names-changed, named_record}
 
 abbrev mark : Members → Entry → Entry
@@ -33,16 +34,11 @@ gathered_all-named xs (u ∷ ts) t d among named =
 
 -- what holds of each entry of the tables, and of two that are joined, holds of each that is gathered
 module _ (Q : Entry → Type 0) (join : (x e : Entry) → Q x → Q e → x.det ≡ e.det → Q (joined x e)) where
-  pub gathered_all-keeps : (xs : List Entry) (ts : List (List Entry)) → ((x : Entry) → Contains xs x → Q x) → ((t : List Entry) (e : Entry) → Contains ts t → Contains t e → Q e) → (y : Entry) → Contains (gathered_all xs ts) y → Q y
+  pub gathered_all-keeps : (xs : List Entry) (ts : List (List Entry)) → ((x : Entry) → Contains xs x → Q x)
+      → ((t : List Entry) (e : Entry) → Contains ts t → Contains t e → Q e) → (y : Entry) → Contains (gathered_all xs ts) y → Q y
   gathered_all-keeps xs [] all each y among = all y among
   gathered_all-keeps xs (t ∷ ts) all each y among =
       gathered_all-keeps (gathered xs t) ts (gathered-keeps Q join xs t all (λ e h. each t e (Contains-here t ts) h)) (λ u e h k. each u e (Contains-there t ts u h) k) y among
-
-Contains-table : (tables : List (List Entry)) (m : ℕ) (e : Entry) → Contains (get_or tables m []) e → Contains tables (get_or tables m [])
-Contains-table tables m e among = elim (cases_lt m (length tables)) [
-  | inl below ↦ Contains-get_or tables m [] below
-  | inr past ↦ absurd (Contains-none e (rw (get_or_past tables m [] past) at among))
-]
 
 -- the tables of checkpoints are those of the members of the set
 Contains-saved : (s : Members) (checkpoints : List MemberRecord) (n m : ℕ) → m < n → Includes s m → Contains (saved_tables s checkpoints n) (get_or checkpoints m blank).table
@@ -80,7 +76,7 @@ IsGathered r e = IsRecorded r e.det × ((m : ℕ) → IsDown r m → Includes e.
 module _ (f : ℕ) (r : Knowledge) (empty : IsDownEmpty f r) where
   -- the tables that are gathered
   abbrev sources : List (List Entry)
-  sources = r.tables ++ saved_tables r.down r.checkpoints (length r.checkpoints)
+  sources = map (λ (m : MemberRecord). m.table) r.members ++ saved_tables r.down r.checkpoints (length r.checkpoints)
 
   -- an up member or a checkpoint knows of each holder of a recorded determinant that the entry names
   abbrev IsKnown : Entry → Type 0
@@ -95,12 +91,14 @@ module _ (f : ℕ) (r : Knowledge) (empty : IsDownEmpty f r) where
     ],
   )
 
-  table_known : (t : List Entry) (e : Entry) → Contains r.tables t → Contains t e → IsKnown e
+  table_known : (t : List Entry) (e : Entry) → Contains (map (λ (m : MemberRecord). m.table) r.members) t → Contains t e → IsKnown e
   table_known t e among of_t =
-      let is : table r among.0 ≡ t = get_or_default r.tables among.0 [] t among.1 ∙ among.2 in
-      let here : Contains (table r among.0) e = rw is of_t in
-      let up : IsUp r among.0 = elim (down_or_up r.down among.0) [ inl down ↦ absurd (Contains-none e (rw (empty.tables among.0 down) at here)) | inr h ↦ h ] in
-      (IsRecorded-held r e.det among.0 (up, (e, here, refl)), λ m h. inl (among.0, e, up, here, refl, h))
+      let member = Contains-changed (λ (m : MemberRecord). m.table) r.members t among in
+      let at = member.1 in
+      let is : table r at.0 ≡ t = ap (λ (m : MemberRecord). m.table) (get_or_default r.members at.0 blank member.0 at.1 ∙ at.2) ∙ member.2 in
+      let here : Contains (table r at.0) e = rw is of_t in
+      let up = up_if_named f r empty at.0 e.det (e, here, refl) in
+      (IsRecorded-held r e.det at.0 (up, (e, here, refl)), λ m h. inl (at.0, e, up, here, refl, h))
 
   saved_known : (t : List Entry) (e : Entry) → Contains (saved_tables r.down r.checkpoints (length r.checkpoints)) t → Contains t e → IsKnown e
   saved_known t e among of_t =
@@ -111,14 +109,18 @@ module _ (f : ℕ) (r : Knowledge) (empty : IsDownEmpty f r) where
   pub entries_gathered : (e : Entry) → Contains (recovery_table r) e → IsGathered r e
   entries_gathered e among =
       let was = Contains-changed (mark r.down) (gathered_all [] sources) e among in
-      let known = gathered_all-keeps IsKnown join_known [] sources (λ x h. absurd (Contains-none x h)) (λ t x h k. elim (Contains-append_cases r.tables _ t h) [ inl one ↦ table_known t x one k | inr other ↦ saved_known t x other k ]) was.0 was.1 in
-      subst (IsGathered r) was.2 (known.0, (λ m down. Includes-right was.0.known r.down m down), λ m h. elim (Includes-union was.0.known r.down m h) [ inl told ↦ inr (known.1 m told) | inr down ↦ inl down ])
+      let known = gathered_all-keeps IsKnown join_known [] sources (λ x h. absurd (Contains-none x h))
+          (λ t x h k. elim (Contains-append_cases (map (λ (m : MemberRecord). m.table) r.members) _ t h) [ inl one ↦ table_known t x one k | inr other ↦ saved_known t x other k ]) was.0 was.1 in
+      subst (IsGathered r) was.2 (known.0, (λ m down. Includes-right was.0.known r.down m down),
+          λ m h. elim (Includes-union was.0.known r.down m h) [ inl told ↦ inr (known.1 m told) | inr down ↦ inl down ])
 
   source_gathered : (t : List Entry) (d : Determinant) → Contains sources t → Names t d → Names (recovery_table r) d
   source_gathered t d among named = Names-changed (mark r.down) (λ e. refl) (gathered_all [] sources) d (gathered_all-named [] sources t d among named)
 
   table_gathered : (m : ℕ) (d : Determinant) → Names (table r m) d → Names (recovery_table r) d
-  table_gathered m d named = source_gathered (table r m) d (Contains-append_left r.tables _ (table r m) (Contains-table r.tables m named.0 named.1)) named
+  table_gathered m d named = source_gathered (table r m) d
+      (Contains-append_left _ _ (table r m) (Contains-map (λ (x : MemberRecord). x.table) r.members (get_or r.members m blank)
+      (Contains-get_or r.members m blank (named_record r.members m d named)))) named
 
   -- what an up member's checkpoint names, the member's table names
   pub recorded_gathered : ((m : ℕ) → IsCheckpointKept r m) → (d : Determinant) → IsRecorded r d → Names (recovery_table r) d
@@ -128,6 +130,20 @@ module _ (f : ℕ) (r : Knowledge) (empty : IsDownEmpty f r) where
         | inr up ↦ table_gathered saved.0 d ((kept saved.0).table d up saved.1)
         | inl down ↦
             source_gathered (checkpoint r saved.0).table d
-            (Contains-append_right r.tables _ (checkpoint r saved.0).table (Contains-saved r.down r.checkpoints (length r.checkpoints) saved.0 (named_record r.checkpoints saved.0 d saved.1) down))
+            (Contains-append_right (map (λ (m : MemberRecord). m.table) r.members) _ (checkpoint r saved.0).table
+                (Contains-saved r.down r.checkpoints (length r.checkpoints) saved.0 (named_record r.checkpoints saved.0 d saved.1) down))
             saved.1
       ]
+
+-- one table more
+pub gathered_all-push : (table : List Entry) (ts : List (List Entry)) (t : List Entry) → gathered_all table (ts ++ t ∷ []) ≡ gathered (gathered_all table ts) t
+gathered_all-push table [] t = refl
+gathered_all-push table (u ∷ ts) t = gathered_all-push (gathered table u) ts t
+
+-- the table of one member more
+pub gathered_all-more : (members : List MemberRecord) (i : ℕ) → i < length members
+    → gathered_all [] (map (λ (m : MemberRecord). m.table) (take (i + 1) members))
+        ≡ gathered (gathered_all [] (map (λ (m : MemberRecord). m.table) (take i members))) (slice_index_or members i blank).table
+gathered_all-more members i below =
+    ap (gathered_all []) (map_more (λ (m : MemberRecord). m.table) members i blank below)
+        ∙ gathered_all-push [] (map (λ (m : MemberRecord). m.table) (take i members)) (slice_index_or members i blank).table

@@ -35,10 +35,14 @@ fifo-one n t (Send q' s p') q p obeys may was =
     rw (in_flight-send n t obeys q' s p' q p may, filter_map-append (sent_on q p) t (Send q' s p' ∷ []), filter_map-append (taken_on q p) t (Send q' s p' ∷ [])) (at (q' == q && p' == p))
   where
     at : (b : Bool) → filter_map (sent_on q p) t ++ cons_option (cond b (Some s) None) [] ≡ (filter_map (taken_on q p) t ++ []) ++ (in_flight t q p ++ cond b (s ∷ []) [])
-    at true = ap (λ (xs : List ℕ). xs ++ s ∷ []) was ∙ append_assoc (filter_map (taken_on q p) t) (in_flight t q p) (s ∷ []) ∙ ap (λ (xs : List ℕ). xs ++ (in_flight t q p ++ s ∷ [])) (sym (append-nil (filter_map (taken_on q p) t)))
-    at false = append-nil (filter_map (sent_on q p) t) ∙ was ∙ ap (λ (xs : List ℕ). xs ++ in_flight t q p) (sym (append-nil (filter_map (taken_on q p) t))) ∙ ap (λ (xs : List ℕ). (filter_map (taken_on q p) t ++ []) ++ xs) (sym (append-nil (in_flight t q p)))
+    at true = ap (λ (xs : List ℕ). xs ++ s ∷ []) was ∙ append_assoc (filter_map (taken_on q p) t) (in_flight t q p) (s ∷ [])
+        ∙ ap (λ (xs : List ℕ). xs ++ (in_flight t q p ++ s ∷ [])) (sym (append-nil (filter_map (taken_on q p) t)))
+    at false = append-nil (filter_map (sent_on q p) t) ∙ was
+        ∙ ap (λ (xs : List ℕ). xs ++ in_flight t q p) (sym (append-nil (filter_map (taken_on q p) t)))
+        ∙ ap (λ (xs : List ℕ). (filter_map (taken_on q p) t ++ []) ++ xs) (sym (append-nil (in_flight t q p)))
 fifo-one n t (Receipt p' r q' s) q p obeys may was =
-    rw (in_flight-receipt n t obeys p' r q' s q p may, filter_map-append (sent_on q p) t (Receipt p' r q' s ∷ []), filter_map-append (taken_on q p) t (Receipt p' r q' s ∷ [])) (at (q' == q) (p' == p) refl refl)
+    rw (in_flight-receipt n t obeys p' r q' s q p may, filter_map-append (sent_on q p) t (Receipt p' r q' s ∷ []),
+        filter_map-append (taken_on q p) t (Receipt p' r q' s ∷ [])) (at (q' == q) (p' == p) refl refl)
   where
     first : (xs : List ℕ) → slice_get xs 0 ≡ Some s → xs ≡ s ∷ drop 1 xs
     first [] h = absurd cc
@@ -50,7 +54,8 @@ fifo-one n t (Receipt p' r q' s) q p obeys may was =
         let e1 : q' ≡ q = grind (arith, nat_tests) in
         let e2 : p' ≡ p = grind (arith, nat_tests) in
         let front : slice_get (in_flight t q p) 0 ≡ Some s = rw (← e1, ← e2) may.5 in
-        append-nil (filter_map (sent_on q p) t) ∙ was ∙ ap (λ (xs : List ℕ). filter_map (taken_on q p) t ++ xs) (first (in_flight t q p) front) ∙ sym (append_assoc (filter_map (taken_on q p) t) (s ∷ []) (drop 1 (in_flight t q p)))
+        append-nil (filter_map (sent_on q p) t) ∙ was ∙ ap (λ (xs : List ℕ). filter_map (taken_on q p) t ++ xs) (first (in_flight t q p) front)
+            ∙ sym (append_assoc (filter_map (taken_on q p) t) (s ∷ []) (drop 1 (in_flight t q p)))
     at true false ea eb = append-nil (filter_map (sent_on q p) t) ∙ was ∙ ap (λ (xs : List ℕ). xs ++ in_flight t q p) (sym (append-nil (filter_map (taken_on q p) t)))
     at false b ea eb = append-nil (filter_map (sent_on q p) t) ∙ was ∙ ap (λ (xs : List ℕ). xs ++ in_flight t q p) (sym (append-nil (filter_map (taken_on q p) t)))
 
@@ -65,7 +70,8 @@ last-above : (z y : ℕ) (xs : List ℕ) → z ≤ y → ((i x : ℕ) → slice_
 last-above z y [] below above = below
 last-above z y (x ∷ xs) below above = last-above z x xs (omega (arith, above 0 x refl)) (λ i. above (suc i))
 
-beyond-last : (z : ℕ) (xs ys : List ℕ) → ((i x : ℕ) → slice_get (xs ++ ys) i ≡ Some x → z < x) → ((x y : ℕ) → Apart (xs ++ ys) x y → x < y) → filter (λ x. nat_lt (last_of z xs) x) (xs ++ ys) ≡ ys
+beyond-last : (z : ℕ) (xs ys : List ℕ) → ((i x : ℕ) → slice_get (xs ++ ys) i ≡ Some x → z < x) → ((x y : ℕ) → Apart (xs ++ ys) x y → x < y)
+    → filter (λ x. nat_lt (last_of z xs) x) (xs ++ ys) ≡ ys
 beyond-last z [] ys above rises = filter_all (λ x. nat_lt z x) ys (λ i x here. (let below = above i x here in grind (arith, nat_tests)))
 beyond-last z (x ∷ xs) ys above rises =
     let later : (i y : ℕ) → slice_get (xs ++ ys) i ≡ Some y → x < y = λ i y here. rises x y (0, suc i, omega arith, refl, here) in
@@ -84,14 +90,18 @@ sent-positive n t q p i x obeys here =
 pub in_flight-beyond : (n : ℕ) (t : List Mark) (q p : ℕ) → WellFormed n t → filter (λ x. nat_lt (last_taken t q p) x) (filter_map (sent_on q p) t) ≡ in_flight t q p
 in_flight-beyond n t q p obeys =
     let order = fifo n t q p obeys in
-    ap (filter (λ x. nat_lt (last_taken t q p) x)) order ∙ (beyond-last 0 (filter_map (taken_on q p) t) (in_flight t q p) (λ i x here. sent-positive n t q p i x obeys (rw order here)) (λ x y apart. sent-rises n t obeys q p x y (rw order apart)))
+    ap (filter (λ x. nat_lt (last_taken t q p) x)) order
+        ∙ (beyond-last 0 (filter_map (taken_on q p) t) (in_flight t q p) (λ i x here. sent-positive n t q p i x obeys (rw order here)) (λ x y apart. sent-rises n t obeys q p x y (rw order apart)))
 
 -- the log's numbers beyond one
-beyond-sent : (t : List Event) (q p k : ℕ) → map (λ (s : ℕ × Note). s.0) (logged_beyond (filter_map (logged_of q) t) p k) ≡ filter (λ x. nat_lt k x) (filter_map (sent_on q p) (map mark_of t))
+beyond-sent : (t : List Event) (q p k : ℕ) → map (λ (s : ℕ × Note). s.0) (logged_beyond (filter_map (logged_of q) t) p k)
+    ≡ filter (λ x. nat_lt k x) (filter_map (sent_on q p) (map mark_of t))
 beyond-sent [] q p k = refl
 beyond-sent (event.Send q' s to x ∷ t) q p k = at (q' == q) (to == p) (nat_lt k s) refl refl (beyond-sent t q p k) where
-  at : (a b c : Bool) → (to == p) ≡ b → nat_lt k s ≡ c → map (λ (y : ℕ × Note). y.0) (logged_beyond (filter_map (logged_of q) t) p k) ≡ filter (λ y. nat_lt k y) (filter_map (sent_on q p) (map mark_of t))
-      → map (λ (y : ℕ × Note). y.0) (logged_beyond (cons_option (cond a (Some (record { ssn = s; to = to; note = x })) None) (filter_map (logged_of q) t)) p k) ≡ filter (λ y. nat_lt k y) (cons_option (cond (a && b) (Some s) None) (filter_map (sent_on q p) (map mark_of t)))
+  at : (a b c : Bool) → (to == p) ≡ b → nat_lt k s ≡ c
+      → map (λ (y : ℕ × Note). y.0) (logged_beyond (filter_map (logged_of q) t) p k) ≡ filter (λ y. nat_lt k y) (filter_map (sent_on q p) (map mark_of t))
+      → map (λ (y : ℕ × Note). y.0) (logged_beyond (cons_option (cond a (Some (record { ssn = s; to = to; note = x })) None)
+          (filter_map (logged_of q) t)) p k) ≡ filter (λ y. nat_lt k y) (cons_option (cond (a && b) (Some s) None) (filter_map (sent_on q p) (map mark_of t)))
   at true true true eb ec ih = rw (eb, ec) (ap (λ (ys : List ℕ). s ∷ ys) ih)
   at true true false eb ec ih = rw (eb, ec) ih
   at true false c eb ec ih = rw eb ih
@@ -109,7 +119,8 @@ logged-event q (event.Send q' k to x) l is = at (q' == q) refl is where
 logged-event q (event.Receipt to r q' k) l is = absurd cc
 
 -- what a member's log has beyond a number was sent with that note
-logged_beyond-sent : (t : List Event) (q p k i : ℕ) (s : ℕ × Note) → slice_get (logged_beyond (filter_map (logged_of q) t) p k) i ≡ Some s → (j : ℕ) × (to : ℕ) × (slice_get t j ≡ Some (event.Send q s.0 to s.1))
+logged_beyond-sent : (t : List Event) (q p k i : ℕ) (s : ℕ × Note) → slice_get (logged_beyond (filter_map (logged_of q) t) p k) i ≡ Some s
+    → (j : ℕ) × (to : ℕ) × (slice_get t j ≡ Some (event.Send q s.0 to s.1))
 logged_beyond-sent t q p k i s here =
     let a = map-At (λ (l : Logged). (l.ssn, l.note)) (filter (λ l. l.to == p && nat_lt k l.ssn) (filter_map (logged_of q) t)) i s here in
     let b = At-filter (λ (l : Logged). l.to == p && nat_lt k l.ssn) (filter_map (logged_of q) t) i a.0 a.1 in
@@ -135,16 +146,19 @@ module _ (next : Next) (r : GroupRecord) (lawful : Lawful next r.config.members 
   resent-marks carried (s ∷ sends) = ap (λ (ms : List Mark). Send q s.0 p ∷ ms) (resent-marks carried sends)
 
   message-at : (v : Message) → Contains (resent_to r.config.f q p (member r q) (member r p)) v
-      → (i : ℕ) × (s : ℕ × Note) × (slice_get (logged_beyond (member r q).log p (last_from (member r p) q)) i ≡ Some s) × (◌≡◌ {A = Message} (record { from = q; to = p; ssn = s.0; note = s.1; carried = piggybacked r.config.f (member r q).table }) v)
+      → (i : ℕ) × (s : ℕ × Note) × (slice_get (logged_beyond (member r q).log p (last_from (member r p) q)) i ≡ Some s)
+          × (◌≡◌ {A = Message} (record { from = q; to = p; ssn = s.0; note = s.1; carried = piggybacked r.config.f (member r q).table }) v)
   message-at v among =
       let here = slice_get-get_or (resent_to r.config.f q p (member r q) (member r p)) among.0 v among.1 ∙ ap Some among.2 in
-      let a = map-At (λ (s : ℕ × Note). record { from = q; to = p; ssn = s.0; note = s.1; carried = piggybacked r.config.f (member r q).table }) (logged_beyond (member r q).log p (last_from (member r p) q)) among.0 v here in
+      let a = map-At (λ (s : ℕ × Note). record { from = q; to = p; ssn = s.0; note = s.1; carried = piggybacked r.config.f (member r q).table })
+          (logged_beyond (member r q).log p (last_from (member r p) q)) among.0 v here in
       (among.0, a.0, a.1, a.2)
 
   note-resent : (v : Message) → Contains (resent_to r.config.f q p (member r q) (member r p)) v → note_of r.trace v.from v.ssn ≡ Some v.note
   note-resent v among =
       let m = message-at v among in
-      let there : slice_get (logged_beyond (filter_map (logged_of q) r.trace) p (last_from (member r p) q)) m.0 ≡ Some m.1 = ap (λ (log : List Logged). slice_get (logged_beyond log p (last_from (member r p) q)) m.0) (sym the-log) ∙ m.2 in
+      let there : slice_get (logged_beyond (filter_map (logged_of q) r.trace) p (last_from (member r p) q)) m.0 ≡ Some m.1 =
+          ap (λ (log : List Logged). slice_get (logged_beyond log p (last_from (member r p) q)) m.0) (sym the-log) ∙ m.2 in
       let sent = logged_beyond-sent r.trace q p (last_from (member r p) q) m.0 m.1 there in
       let noted = sent-noted r.config.members r.trace lawful.well_formed sent.0 q m.1.0 sent.1 m.1.1 sent.2 in
       let from : q ≡ v.from = ap (λ (x : Message). x.from) m.3 in
@@ -155,7 +169,8 @@ module _ (next : Next) (r : GroupRecord) (lawful : Lawful next r.config.members 
   -- a channel that has what the sender sends again is made again
   pub made-again : channel r q p ≡ resent_to r.config.f q p (member r q) (member r p) → IsMadeAgain r q p
   made-again is = record {
-    sends = ap (map send_mark) is ∙ resent-marks (piggybacked r.config.f (member r q).table) (logged_beyond (member r q).log p (last_from (member r p) q)) ∙ ap (map (λ ssn. Send q ssn p)) beyond-flight;
+    sends = ap (map send_mark) is ∙ resent-marks (piggybacked r.config.f (member r q).table)
+        (logged_beyond (member r q).log p (last_from (member r p) q)) ∙ ap (map (λ ssn. Send q ssn p)) beyond-flight;
     notes = λ v among. note-resent v (rw is at among);
     carried = λ v among. sym (ap (λ (x : Message). x.carried) (message-at v (rw is at among)).3);
   }
@@ -171,7 +186,8 @@ in_flight-outside n t q p obeys out = at (in_flight t q p) refl where
       absurd (elim out [ inl from ↦ (let f = from in let m = may.0 in omega arith) | inr to ↦ (let f = to in let m = may.1 in omega arith) ])
 
 -- so an empty channel outside is made again
-pub made-again-outside : (r : GroupRecord) (q p : ℕ) → WellFormed r.config.members (marks r) → (r.config.members ≤ q) ⊎ (r.config.members ≤ p) → channel r q p ≡ [] → IsMadeAgain r q p
+pub made-again-outside : (r : GroupRecord) (q p : ℕ) → WellFormed r.config.members (marks r) → (r.config.members ≤ q) ⊎ (r.config.members ≤ p)
+    → channel r q p ≡ [] → IsMadeAgain r q p
 made-again-outside r q p obeys out none = record {
   sends = ap (map send_mark) none ∙ sym (ap (map (λ ssn. Send q ssn p)) (in_flight-outside r.config.members (marks r) q p obeys out));
   notes = λ v among. absurd (Contains-none v (rw none at among));

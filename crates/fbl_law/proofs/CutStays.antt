@@ -1,4 +1,4 @@
--- The cut of a sound record's trace is lawful.
+-- What stays in a recovery: what has its causes recorded; and what is left is lawful.
 use Rattle.std.proofs.Common.{◌≡◌, ℕ, ◌↔◌, Bool, true, map, inl, inr, refl, sym, ap, ◌∙◌}
 use Rattle.std.specs.List.{filter}
 use Rattle.fbl_base.specs.declared.trace.Mark.{Mark}
@@ -8,9 +8,9 @@ use Rattle.fbl_base.specs.Events.{receipt_of}
 use Rattle.fbl_law.specs.Knowledge.{Knowledge, IsSoundKnowledge}
 use Rattle.fbl_law.specs.Steps.{Stays}
 use Rattle.fbl_law.specs.Laws.{CutIsLawful, StaysIsRecorded}
-use Rattle.fbl_law.proofs.Cut.{marks-filter, KeepsCauses}
-use Rattle.fbl_law.proofs.Recover.{Stays-leads, recorded_before}
-use Rattle.fbl_law.proofs.LawfulCut.{KeepsResponses, Lawful-kept}
+use Rattle.fbl_law.proofs.CutWellFormed.{marks-filter, KeepsCauses}
+use Rattle.fbl_law.proofs.Recovery.{Stays-leads, recorded_before}
+use Rattle.fbl_law.proofs.CutLawful.{KeepsResponses, Lawful-kept}
 
 module _ (n f : ℕ) (r : Knowledge) (sound : IsSoundKnowledge n f r) (keep : Mark → Bool) (tells : (e : Mark) → Has r.trace e → (keep e ≡ true) ↔ Stays r e) where
   cut_causes : KeepsCauses keep r.trace

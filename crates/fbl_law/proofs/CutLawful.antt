@@ -25,8 +25,8 @@ use Rattle.fbl_base.proofs.InFlightLaws.{filter_all}
 use Rattle.fbl_base.proofs.LawfulLaws.{filter_map-shorter, receipts-noted, notes_of-sent, notes_of-append, Lawful-begun}
 use Rattle.fbl_law.proofs.Lists.{At-append, At-seam, filter-passes}
 use Rattle.fbl_law.proofs.Appended.{Has-append}
-use Rattle.fbl_law.proofs.Cut.{KeepsCauses, WellFormed-kept, marks-filter}
-use Rattle.fbl_law.proofs.CutFolds.{note-left}
+use Rattle.fbl_law.proofs.CutWellFormed.{KeepsCauses, WellFormed-kept, marks-filter}
+use Rattle.fbl_law.proofs.CutNotes.{note-left}
 use Rattle.fbl_law.proofs.Notes.{noted-sent, send-mark, one-send}
 
 -- an action, and whether it is kept
@@ -63,7 +63,8 @@ sends_kept ((b, sent x) ∷ fs) (s ∷ sends) rest o is =
     (r.0, r.1, r.2, rw (o.0, same) (ap (λ (ys : List Action). sent s ∷ ys) r.3))
 
 -- what is kept of a behaviour's responses are its responses to the first of the notes
-responses_kept : (next : Next) (p n state : ℕ) (notes : List Note) (fs : List Flagged) → Orderly true fs → flags fs ≡ responses next p n state notes → (some : List Note) × (kept fs ≡ responses next p n state some)
+responses_kept : (next : Next) (p n state : ℕ) (notes : List Note) (fs : List Flagged) → Orderly true fs → flags fs ≡ responses next p n state notes
+    → (some : List Note) × (kept fs ≡ responses next p n state some)
 responses_kept next p n state [] [] o is = ([], refl)
 responses_kept next p n state [] (x ∷ fs) o is = absurd cc
 responses_kept next p n state (note ∷ notes) [] o is = absurd cc
@@ -80,21 +81,25 @@ notes_of-responses next p n state [] = refl
 notes_of-responses next p n state (note ∷ notes) =
     let sends = (next p n state note).sends.items in
     let rest = responses next p n (next p n state note).state notes in
-    ap (λ (ys : List Note). note ∷ ys) (notes_of-append (map sent sends) rest ∙ ap (λ (ys : List Note). ys ++ notes_of rest) (notes_of-sent sends) ∙ notes_of-responses next p n (next p n state note).state notes)
+    ap (λ (ys : List Note). note ∷ ys) (notes_of-append (map sent sends) rest ∙ ap (λ (ys : List Note). ys ++ notes_of rest) (notes_of-sent sends)
+        ∙ notes_of-responses next p n (next p n state note).state notes)
 
 -- so a member's kept actions are those of a run
-responds_kept : (next : Next) (p n : ℕ) (sends : List (ℕ × Note)) (notes : List Note) (fs : List Flagged) → Orderly true fs → flags fs ≡ map sent sends ++ responses next p n 0 notes → kept fs ≡ map sent sends ++ responses next p n 0 (notes_of (kept fs))
+responds_kept : (next : Next) (p n : ℕ) (sends : List (ℕ × Note)) (notes : List Note) (fs : List Flagged) → Orderly true fs
+    → flags fs ≡ map sent sends ++ responses next p n 0 notes → kept fs ≡ map sent sends ++ responses next p n 0 (notes_of (kept fs))
 responds_kept next p n sends notes fs o is =
     let r = sends_kept fs sends (responses next p n 0 notes) o is in
     let some = responses_kept next p n 0 notes r.0 r.2 r.1 in
     let all : kept fs ≡ map sent sends ++ responses next p n 0 some.0 = r.3 ∙ ap (λ (ys : List Action). map sent sends ++ ys) some.1 in
-    let taken : notes_of (kept fs) ≡ some.0 = ap notes_of all ∙ notes_of-append (map sent sends) (responses next p n 0 some.0) ∙ ap (λ (ys : List Note). ys ++ notes_of (responses next p n 0 some.0)) (notes_of-sent sends) ∙ notes_of-responses next p n 0 some.0 in
+    let taken : notes_of (kept fs) ≡ some.0 = ap notes_of all ∙ notes_of-append (map sent sends) (responses next p n 0 some.0)
+        ∙ ap (λ (ys : List Note). ys ++ notes_of (responses next p n 0 some.0)) (notes_of-sent sends) ∙ notes_of-responses next p n 0 some.0 in
     rw taken all
 
 -- a send is kept where each receipt of its member that comes before it is
 abbrev pub KeepsResponses : (Mark → Bool) → List Mark → Type 0
 KeepsResponses keep t =
-    (e : Mark) → Has t e → ((d : Determinant) → ¬ (e ≡ receipt_of d)) → ((d : Determinant) → d.to ≡ member_of e → Earlier t (receipt_of d) e → keep (receipt_of d) ≡ true) → keep e ≡ true
+    (e : Mark) → Has t e → ((d : Determinant) → ¬ (e ≡ receipt_of d))
+        → ((d : Determinant) → d.to ≡ member_of e → Earlier t (receipt_of d) e → keep (receipt_of d) ≡ true) → keep e ≡ true
 
 only : (x y : Mark) → Has (x ∷ []) y → x ≡ y
 only x y h = at h.0 h.1 where
@@ -108,7 +113,8 @@ last u e = rw map-append (length (map mark_of u), At-seam (map mark_of u) (mark_
 more : (u : List Event) (e : Event) (x : Mark) → Has (map mark_of u) x → Has (map mark_of (u ++ e ∷ [])) x
 more u e x h = rw map-append (h.0, At-front (map mark_of u) (mark_of e ∷ []) h.0 x h.1)
 
-module _ (n : ℕ) (keep : Mark → Bool) (t : List Event) (obeys : WellFormed n (map mark_of t)) (causes : KeepsCauses keep (map mark_of t)) (follow : KeepsResponses keep (map mark_of t)) (p : ℕ) where
+module _ (n : ℕ) (keep : Mark → Bool) (t : List Event) (obeys : WellFormed n (map mark_of t)) (causes : KeepsCauses keep (map mark_of t))
+    (follow : KeepsResponses keep (map mark_of t)) (p : ℕ) where
   abbrev M : List Mark
   M = map mark_of t
 
@@ -124,7 +130,8 @@ module _ (n : ℕ) (keep : Mark → Bool) (t : List Event) (obeys : WellFormed n
   flags-flagged : (u : List Event) → flags (flagged u) ≡ filter_map (action_of t p) u
   flags-flagged [] = refl
   flags-flagged (e ∷ u) = at (action_of t p e) (flags-flagged u) where
-    at : (o : Option Action) → flags (flagged u) ≡ filter_map (action_of t p) u → flags (cons_option (option_map (λ (a : Action). (keeps e, a)) o) (flagged u)) ≡ cons_option o (filter_map (action_of t p) u)
+    at : (o : Option Action) → flags (flagged u) ≡ filter_map (action_of t p) u
+        → flags (cons_option (option_map (λ (a : Action). (keeps e, a)) o) (flagged u)) ≡ cons_option o (filter_map (action_of t p) u)
     at None ih = ih
     at (Some a) ih = ap (λ (ys : List Action). a ∷ ys) ih
 
@@ -152,7 +159,8 @@ module _ (n : ℕ) (keep : Mark → Bool) (t : List Event) (obeys : WellFormed n
 
   earlier_of : (u : List Event) (e : Event) (rest : List Event) → t ≡ u ++ e ∷ rest → (x : Mark) → Has (map mark_of u) x → Earlier M x (mark_of e)
   earlier_of u e rest is x h =
-      rw (split u e rest is) (h.0, length (map mark_of u), At-below (map mark_of u) h.0 x h.1, At-front (map mark_of u) (mark_of e ∷ map mark_of rest) h.0 x h.1, At-seam (map mark_of u) (mark_of e) (map mark_of rest))
+      rw (split u e rest is) (h.0, length (map mark_of u), At-below (map mark_of u) h.0 x h.1,
+          At-front (map mark_of u) (mark_of e ∷ map mark_of rest) h.0 x h.1, At-seam (map mark_of u) (mark_of e) (map mark_of rest))
 
   earlier_back : (u : List Event) (e : Event) (rest : List Event) → t ≡ u ++ e ∷ rest → (x : Mark) → Earlier M x (mark_of e) → Has (map mark_of u) x
   earlier_back u e rest is x h =
@@ -188,8 +196,10 @@ module _ (n : ℕ) (keep : Mark → Bool) (t : List Event) (obeys : WellFormed n
   )
 
   -- a send of the member is kept where the receipts so far are
-  send_flag : (b : Bool) (u : List Event) (e : Event) (rest : List Event) → t ≡ u ++ e ∷ rest → member_of (mark_of e) ≡ p → ((d : Determinant) → ¬ (mark_of e ≡ receipt_of d)) → Alive b u → keeps e ≡ b
-  send_flag true u e rest is at_p no_receipt state = follow (mark_of e) (Has-all u e rest is) no_receipt (λ d to earlier. state.0 refl d (to ∙ at_p) (earlier_back u e rest is (receipt_of d) earlier))
+  send_flag : (b : Bool) (u : List Event) (e : Event) (rest : List Event) → t ≡ u ++ e ∷ rest → member_of (mark_of e) ≡ p
+      → ((d : Determinant) → ¬ (mark_of e ≡ receipt_of d)) → Alive b u → keeps e ≡ b
+  send_flag true u e rest is at_p no_receipt state =
+      follow (mark_of e) (Has-all u e rest is) no_receipt (λ d to earlier. state.0 refl d (to ∙ at_p) (earlier_back u e rest is (receipt_of d) earlier))
   send_flag false u e rest is at_p no_receipt state = dead u e rest is at_p state
 
   receipt_flag : (b : Bool) (u : List Event) (e : Event) (rest : List Event) → t ≡ u ++ e ∷ rest → member_of (mark_of e) ≡ p → Alive b u → keeps e ≡ true → b ≡ true
@@ -200,14 +210,16 @@ module _ (n : ℕ) (keep : Mark → Bool) (t : List Event) (obeys : WellFormed n
   orderly_from b u [] is state = tt
   orderly_from b u (Send q k to x ∷ rest) is state = at (q == p) refl (orderly_from b (u ++ Send q k to x ∷ []) rest (is ∙ sym (append_assoc u (Send q k to x ∷ []) rest)))
     where
-      at : (c : Bool) → (q == p) ≡ c → (Alive b (u ++ Send q k to x ∷ []) → Orderly b (flagged rest)) → Orderly b (cons_option (option_map (λ (a : Action). (keep (mark.Send q k to), a)) (cond c (Some (sent (to, x))) None)) (flagged rest))
+      at : (c : Bool) → (q == p) ≡ c → (Alive b (u ++ Send q k to x ∷ []) → Orderly b (flagged rest))
+          → Orderly b (cons_option (option_map (λ (a : Action). (keep (mark.Send q k to), a)) (cond c (Some (sent (to, x))) None)) (flagged rest))
       at true ec more =
           let at_p : q ≡ p = grind (arith, nat_tests) in
           (send_flag b u (Send q k to x) rest is at_p (λ d h. cc) state, more (same_state b u (Send q k to x) (λ d to' h. cc) state))
       at false ec more = more (same_state b u (Send q k to x) (λ d to' h. cc) state)
   orderly_from b u (Receipt to r q k ∷ rest) is state = at (to == p) refl (λ c. orderly_from c (u ++ Receipt to r q k ∷ []) rest (is ∙ sym (append_assoc u (Receipt to r q k ∷ []) rest)))
     where
-      at : (c : Bool) → (to == p) ≡ c → ((v : Bool) → Alive v (u ++ Receipt to r q k ∷ []) → Orderly v (flagged rest)) → Orderly b (cons_option (option_map (λ (a : Action). (keep (mark.Receipt to r q k), a)) (action_of t p (Receipt to r q k))) (flagged rest))
+      at : (c : Bool) → (to == p) ≡ c → ((v : Bool) → Alive v (u ++ Receipt to r q k ∷ []) → Orderly v (flagged rest))
+          → Orderly b (cons_option (option_map (λ (a : Action). (keep (mark.Receipt to r q k), a)) (action_of t p (Receipt to r q k))) (flagged rest))
       at true ec more =
           let at_p : to ≡ p = grind (arith, nat_tests) in
           let here : slice_get t (length u) ≡ Some (Receipt to r q k) = rw is (At-seam u (Receipt to r q k) rest) in
@@ -227,7 +239,8 @@ module _ (n : ℕ) (keep : Mark → Bool) (t : List Event) (obeys : WellFormed n
   orderly = orderly_from true [] t refl (λ yes' d to has. absurd (let here : At [] has.0 (receipt_of d) = has.1 in cc), λ no'. absurd cc)
 
   -- the notes of kept receipts stay
-  note_stays : (i to rsn from ssn : ℕ) → slice_get t i ≡ Some (Receipt to rsn from ssn) → keep (mark.Receipt to rsn from ssn) ≡ true → note_of (filter keeps t) from ssn ≡ note_of t from ssn
+  note_stays : (i to rsn from ssn : ℕ) → slice_get t i ≡ Some (Receipt to rsn from ssn) → keep (mark.Receipt to rsn from ssn) ≡ true
+      → note_of (filter keeps t) from ssn ≡ note_of t from ssn
   note_stays i to rsn from ssn here kept' =
       let at_mark : At M i (mark.Receipt to rsn from ssn) = slice_get-map mark_of t i ∙ (rw here) in
       let sent' = sent-before n M obeys i to rsn from ssn at_mark in
@@ -259,7 +272,8 @@ all_sends (Send q' k' to' x ∷ xs) whole zero to r q k here = cc
 all_sends (Send q' k' to' x ∷ xs) whole (suc i) to r q k here = all_sends xs (omega (arith, whole)) i to r q k here
 all_sends (Receipt to' r' q' k' ∷ xs) whole i to r q k here = omega (arith, whole, filter_map-shorter start_of xs)
 
-module _ (next : Next) (n : ℕ) (starts : List Start) (keep : Mark → Bool) (t : List Event) (lawful : Lawful next n starts t) (causes : KeepsCauses keep (map mark_of t)) (follow : KeepsResponses keep (map mark_of t)) where
+module _ (next : Next) (n : ℕ) (starts : List Start) (keep : Mark → Bool) (t : List Event) (lawful : Lawful next n starts t)
+    (causes : KeepsCauses keep (map mark_of t)) (follow : KeepsResponses keep (map mark_of t)) where
   abbrev first : List Event
   first = take (length starts) t
 

@@ -23,28 +23,29 @@ use Rattle.fbl_table.specs.declared.entry.Entry.{Entry}
 use Rattle.fbl_table.specs.Tables.{found, is_of_receipt}
 use Rattle.fbl_member.specs.Members.{MemberRecord, logged_note, replayed_by}
 use Rattle.fbl_law.specs.Knowledge.{Names, IsUp, IsDown, IsRecorded}
-use Rattle.fbl_law.specs.Steps.{Stays, IsEventCut}
+use Rattle.fbl_law.specs.Steps.{Stays, IsEventCut, recovery_table}
 use Rattle.fbl_law.specs.Groups.{GroupRecord, marks, knowledge}
 use Rattle.fbl_law.specs.Sound.{received_notes, receipts_at, IsReplayed, IsSound}
-use Rattle.fbl_law.specs.Replay.{IsSentAgain, IsStuck}
-use Rattle.fbl_law.specs.Replaying.{IsNextReplay, gathered_table}
+use Rattle.fbl_law.specs.Stuck.{IsSentAgain, IsStuck}
+use Rattle.fbl_law.specs.Replaying.{IsNextReplay}
 use Rattle.fbl_base.proofs.Sifted.{length-left}
 use Rattle.fbl_law.proofs.Lists.{some-at, Contains-here, Contains-there, Contains-cons_cases, Contains-none}
 use Rattle.fbl_law.proofs.Safe.{down_or_up, IsRecorded-before, Has-recorded}
-use Rattle.fbl_law.proofs.Cut.{marks-filter, Has-kept, kept-Has}
-use Rattle.fbl_law.proofs.CutLaw.{stays_is_recorded}
-use Rattle.fbl_law.proofs.Gather.{entries_gathered, recorded_gathered}
-use Rattle.fbl_law.proofs.Replay.{never_stuck}
+use Rattle.fbl_law.proofs.CutWellFormed.{marks-filter, Has-kept, kept-Has}
+use Rattle.fbl_law.proofs.CutStays.{stays_is_recorded}
+use Rattle.fbl_law.proofs.GatheredTables.{entries_gathered, recorded_gathered}
+use Rattle.fbl_law.proofs.NeverStuck.{never_stuck}
 use Rattle.fbl_law.proofs.GroupRecovery.{cut-lawful}
 use Rattle.fbl_law.proofs.Logs.{length-numbered, logged-noted, logged-by, log-short}
 use Rattle.fbl_law.proofs.Receipts.{receipts_at-number, receipts_at-Has, Has-receipts_at, length-receipts_at}
-use Rattle.fbl_law.proofs.Replayed.{replayed-step}
+use Rattle.fbl_law.proofs.ReplayedRecords.{replayed-step}
 
 -- what a table finds is one of its entries' determinants, of that receipt
 pub found-named : (p k : ℕ) (table : List Entry) (d : Determinant) → found p k table ≡ Some d → Names table d × (d.to ≡ p) × (d.rsn ≡ k)
 found-named p k [] d is = absurd cc
 found-named p k (e ∷ table) d is = at (is_of_receipt p k e) refl is (found-named p k table d) where
-  at : (b : Bool) → is_of_receipt p k e ≡ b → option_map (λ (x : Entry). x.det) (cond b (Some e) (find (is_of_receipt p k) table)) ≡ Some d → (found p k table ≡ Some d → Names table d × (d.to ≡ p) × (d.rsn ≡ k)) → Names (e ∷ table) d × (d.to ≡ p) × (d.rsn ≡ k)
+  at : (b : Bool) → is_of_receipt p k e ≡ b → option_map (λ (x : Entry). x.det) (cond b (Some e) (find (is_of_receipt p k) table)) ≡ Some d
+      → (found p k table ≡ Some d → Names table d × (d.to ≡ p) × (d.rsn ≡ k)) → Names (e ∷ table) d × (d.to ≡ p) × (d.rsn ≡ k)
   at true yes' g rest =
       let same : e.det ≡ d = cc in
       let parts = and_parts (e.det.to == p) (e.det.rsn == k) yes' in
@@ -55,7 +56,8 @@ found-named p k (e ∷ table) d is = at (is_of_receipt p k e) refl is (found-nam
 pub found-none : (p k : ℕ) (table : List Entry) (d : Determinant) → found p k table ≡ None → Names table d → d.to ≡ p → d.rsn ≡ k → ⊥
 found-none p k [] d is named to rsn = Contains-none named.0 named.1
 found-none p k (e ∷ table) d is named to rsn = at (is_of_receipt p k e) refl is (found-none p k table d) where
-  at : (b : Bool) → is_of_receipt p k e ≡ b → option_map (λ (x : Entry). x.det) (cond b (Some e) (find (is_of_receipt p k) table)) ≡ None → (found p k table ≡ None → Names table d → d.to ≡ p → d.rsn ≡ k → ⊥) → ⊥
+  at : (b : Bool) → is_of_receipt p k e ≡ b → option_map (λ (x : Entry). x.det) (cond b (Some e) (find (is_of_receipt p k) table)) ≡ None
+      → (found p k table ≡ None → Names table d → d.to ≡ p → d.rsn ≡ k → ⊥) → ⊥
   at true yes' g rest = cc
   at false no' g rest = elim (Contains-cons_cases e table named.0 named.1) [
     | inl first ↦
@@ -108,30 +110,32 @@ module _ (next : Next) (old : GroupRecord) (sound : IsSound next old) (new : Lis
   pub recorded-cut : (d : Determinant) → IsRecorded (knowledge old) d → Has (map mark_of new) (receipt_of d)
   recorded-cut d recorded =
       let was = recorded-Has d recorded in
-      let stays = (stays_is_recorded old.config.members old.config.f (knowledge old) sound.causes (receipt_of d) was).1 (λ c before. IsRecorded-before old.config.f (knowledge old) sound.causes.closed c d recorded before) in
+      let stays = (stays_is_recorded old.config.members old.config.f (knowledge old) sound.causes (receipt_of d) was).1
+          (λ c before. IsRecorded-before old.config.f (knowledge old) sound.causes.closed c d recorded before) in
       rw is-marks (Has-kept cut.0 (marks old) (receipt_of d) was ((cut.2 (receipt_of d) was).1 stays))
 
   -- the gathered tables name exactly what is recorded
-  pub gathering-recorded : (d : Determinant) → Names (gathered_table old) d → IsRecorded (knowledge old) d
+  pub gathering-recorded : (d : Determinant) → Names (recovery_table (knowledge old)) d → IsRecorded (knowledge old) d
   gathering-recorded d named = subst (λ (c : Determinant). IsRecorded (knowledge old) c) named.2 (entries_gathered old.config.f (knowledge old) sound.causes.down named.0 named.1).0
 
-  pub recorded-gathering : (d : Determinant) → IsRecorded (knowledge old) d → Names (gathered_table old) d
+  pub recorded-gathering : (d : Determinant) → IsRecorded (knowledge old) d → Names (recovery_table (knowledge old)) d
   recorded-gathering d recorded = recorded_gathered old.config.f (knowledge old) sound.causes.down sound.causes.checkpoints d recorded
 
   -- what the gathered tables find of a member is its receipt in the cut with that number
-  pub found-receipt : (p k : ℕ) (d : Determinant) → found p (k + 1) (gathered_table old) ≡ Some d → slice_get (receipts_at (map mark_of new) p) k ≡ Some d
+  pub found-receipt : (p k : ℕ) (d : Determinant) → found p (k + 1) (recovery_table (knowledge old)) ≡ Some d → slice_get (receipts_at (map mark_of new) p) k ≡ Some d
   found-receipt p k d is =
-      let named = found-named p (k + 1) (gathered_table old) d is in
+      let named = found-named p (k + 1) (recovery_table (knowledge old)) d is in
       Has-receipts_at old.config.members (map mark_of new) p k d cut-obeys (recorded-cut d (gathering-recorded d named.0)) named.1 named.2
 
   -- and they find each receipt of the cut
-  pub found-all : (p k : ℕ) (d : Determinant) → slice_get (receipts_at (map mark_of new) p) k ≡ Some d → found p (k + 1) (gathered_table old) ≡ Some d
-  found-all p k d here = at (found p (k + 1) (gathered_table old)) refl where
+  pub found-all : (p k : ℕ) (d : Determinant) → slice_get (receipts_at (map mark_of new) p) k ≡ Some d → found p (k + 1) (recovery_table (knowledge old)) ≡ Some d
+  found-all p k d here = at (found p (k + 1) (recovery_table (knowledge old))) refl where
     has : Has (map mark_of new) (receipt_of d) × (d.to ≡ p)
     has = receipts_at-Has (map mark_of new) p k d here
 
-    at : (o : Option Determinant) → found p (k + 1) (gathered_table old) ≡ o → found p (k + 1) (gathered_table old) ≡ Some d
-    at None is = absurd (found-none p (k + 1) (gathered_table old) d is (recorded-gathering d (cut-recorded d has.0)) has.1 (receipts_at-number old.config.members (map mark_of new) p k d cut-obeys here))
+    at : (o : Option Determinant) → found p (k + 1) (recovery_table (knowledge old)) ≡ o → found p (k + 1) (recovery_table (knowledge old)) ≡ Some d
+    at None is = absurd (found-none p (k + 1) (recovery_table (knowledge old)) d is (recorded-gathering d (cut-recorded d has.0)) has.1
+        (receipts_at-number old.config.members (map mark_of new) p k d cut-obeys here))
     at (Some c) is = (let there = found-receipt p k c is in is ∙ sym there ∙ here)
 
   -- a note that a replaying member's log names is the note of that message in the cut
@@ -141,7 +145,8 @@ module _ (next : Next) (old : GroupRecord) (sound : IsSound next old) (new : Lis
       logged-noted next old.config.members old.config.starts new q w.received ssn note (cut-lawful next old sound new cut).0 (rw log at named)
 
   -- the next replay of a member: the gathered tables find its next receipt, and the sender's log has the message
-  pub replayed-next : (p : ℕ) (m : MemberRecord) (d : Determinant) (w : MemberRecord) (note : Note) → Replays p m → found p (m.received + 1) (gathered_table old) ≡ Some d → Replays d.from w → logged_note w.log d.ssn ≡ Some note → Replays p (replayed_by next p old.config.members m d note)
+  pub replayed-next : (p : ℕ) (m : MemberRecord) (d : Determinant) (w : MemberRecord) (note : Note) → Replays p m
+      → found p (m.received + 1) (recovery_table (knowledge old)) ≡ Some d → Replays d.from w → logged_note w.log d.ssn ≡ Some note → Replays p (replayed_by next p old.config.members m d note)
   replayed-next p m d w note replayed is sender named =
       replayed-step next old.config.members old.config.starts new p m d note cut-obeys replayed (found-receipt p m.received d is) (replayed-noted d.from w d.ssn note sender named)
 
@@ -150,17 +155,14 @@ module _ (next : Next) (old : GroupRecord) (sound : IsSound next old) (new : Lis
       let left : length new ≤ length old.trace = (let e = cut.1 in rw e (length-left (λ x. cut.0 (mark_of x)) old.trace)) in
       omega (arith, left, sound.room, sound.config.limit.1, length-map new mark_of)
 
-  -- a replaying member's counts are within their bounds
-  pub replays-received : (p : ℕ) (m : MemberRecord) → Replays p m → m.received ≤ 8192
-  replays-received p m replayed = omega (arith, replayed.within, length-receipts_at (map mark_of new) p, count_by-le-length (is_receipt_of p) (map mark_of new), cut-short)
-
   pub replays-log : (p : ℕ) (m : MemberRecord) → Replays p m → length m.log ≤ 8192
   replays-log p m replayed =
-      let log : length m.log ≡ length (after_notes next p old.config.members old.config.starts (take m.received (received_notes new p))).log = ap (λ (x : Progress). length x.log) replayed.progress in
+      let log : length m.log ≡ length (after_notes next p old.config.members old.config.starts (take m.received (received_notes new p))).log =
+          ap (λ (x : Progress). length x.log) replayed.progress in
       omega (arith, log, log-short next old.config.members old.config.starts new p m.received (cut-lawful next old sound new cut).0, count_by-le-length (is_send_of p) (map mark_of new), cut-short)
 
   -- the next receipt that the gathered tables find is that of the member's next number, from another member
-  pub found-next : (p : ℕ) (m : MemberRecord) (d : Determinant) → Replays p m → found p (m.received + 1) (gathered_table old) ≡ Some d → IsNextReplay old.config.members p m d
+  pub found-next : (p : ℕ) (m : MemberRecord) (d : Determinant) → Replays p m → found p (m.received + 1) (recovery_table (knowledge old)) ≡ Some d → IsNextReplay old.config.members p m d
   found-next p m d replayed is =
       let here = found-receipt p m.received d is in
       let has = receipts_at-Has (map mark_of new) p m.received d here in
@@ -175,7 +177,8 @@ module _ (next : Next) (old : GroupRecord) (sound : IsSound next old) (new : Lis
       }
 
   -- and its step's sends have room in the log
-  pub replay-room : (p : ℕ) (m : MemberRecord) (d : Determinant) (w : MemberRecord) (note : Note) → Replays p m → found p (m.received + 1) (gathered_table old) ≡ Some d → Replays d.from w → logged_note w.log d.ssn ≡ Some note
+  pub replay-room : (p : ℕ) (m : MemberRecord) (d : Determinant) (w : MemberRecord) (note : Note) → Replays p m
+      → found p (m.received + 1) (recovery_table (knowledge old)) ≡ Some d → Replays d.from w → logged_note w.log d.ssn ≡ Some note
       → length m.log + length (next p old.config.members m.state note).sends.items ≤ 8192
   replay-room p m d w note replayed is sender named =
       let after = replays-log p (replayed_by next p old.config.members m d note) (replayed-next p m d w note replayed is sender named) in
@@ -184,7 +187,7 @@ module _ (next : Next) (old : GroupRecord) (sound : IsSound next old) (new : Lis
 
   -- the receipt that a member would replay next waits for its message: the sender's log has none yet
   abbrev pub Waits : (ℕ → MemberRecord) → ℕ → Type 0
-  Waits work p = (d : Determinant) → found p ((work p).received + 1) (gathered_table old) ≡ Some d → logged_note (work d.from).log d.ssn ≡ None
+  Waits work p = (d : Determinant) → found p ((work p).received + 1) (recovery_table (knowledge old)) ≡ Some d → logged_note (work d.from).log d.ssn ≡ None
 
   module _ (work : ℕ → MemberRecord) (replays : (q : ℕ) → q < old.config.members → Replays q (work q))
       (survivors : (q : ℕ) → q < old.config.members → IsUp (knowledge old) q → (work q).received ≡ length (receipts_at (map mark_of new) q))
@@ -199,7 +202,8 @@ module _ (next : Next) (old : GroupRecord) (sound : IsSound next old) (new : Lis
         (x, is ∙ (rw (e1, e2, e3) refl))
 
     -- a message whose sender has replayed all that comes before it is in the sender's log
-    sent-again : (q k to : ℕ) → q < old.config.members → Has (map mark_of new) (Send q k to) → IsSentAgain (map mark_of new) (λ m. (work m).received) q k to → (note : Note) × (logged_note (work q).log k ≡ Some note)
+    sent-again : (q k to : ℕ) → q < old.config.members → Has (map mark_of new) (Send q k to)
+        → IsSentAgain (map mark_of new) (λ m. (work m).received) q k to → (note : Note) × (logged_note (work q).log k ≡ Some note)
     sent-again q k to below has sent =
         let j = has.0 in
         let here = send-event j q k to (slice_get new j) refl (sym (slice_get-map mark_of new j) ∙ has.1) in
@@ -209,8 +213,10 @@ module _ (next : Next) (old : GroupRecord) (sound : IsSound next old) (new : Lis
         let few : length (receipts_at (map mark_of (take j new)) q) ≤ (work q).received = at-most old.config.members (map mark_of (take j new)) q (work q).received obeys (λ c there at_q.
         let before : there.0 < j = omega (arith, At-below (map mark_of (take j new)) there.0 (receipt_of c) there.1, length-map (take j new) mark_of, length-take j new) in
         sent c at_q (there.0, j, before, rw marks-at (At-front (map mark_of (take j new)) (map mark_of (drop j new)) there.0 (receipt_of c) there.1), has.1)) in
-        let logged = logged-by next old.config.members old.config.starts new (take j new) (drop (suc j) new) q k to (work q).received here.0 (cut-lawful next old sound new cut).0 cut-at (omega (arith, few, length-receipts_at (map mark_of (take j new)) q)) in
-        let log : (work q).log ≡ (after_notes next q old.config.members old.config.starts (take (work q).received (received_notes new q))).log = ap (λ (x : Progress). x.log) (replays q below).progress in
+        let logged = logged-by next old.config.members old.config.starts new (take j new) (drop (suc j) new) q k to (work q).received here.0
+            (cut-lawful next old sound new cut).0 cut-at (omega (arith, few, length-receipts_at (map mark_of (take j new)) q)) in
+        let log : (work q).log ≡ (after_notes next q old.config.members old.config.starts (take (work q).received (received_notes new q))).log =
+            ap (λ (x : Progress). x.log) (replays q below).progress in
         (logged.0, rw log logged.1)
 
     is-stuck : IsStuck (map mark_of new) (λ q. (work q).received)
@@ -230,5 +236,6 @@ module _ (next : Next) (old : GroupRecord) (sound : IsSound next old) (new : Lis
     -- where no member that is down can go on, each has replayed all its receipts of the cut
     pub all-replayed : (p : ℕ) → p < old.config.members → (work p).received ≡ length (receipts_at (map mark_of new) p)
     all-replayed p below =
-        let most = at-most old.config.members (map mark_of new) p (work p).received cut-obeys (λ d has to. subst (λ (x : ℕ). d.rsn ≤ (work x).received) to (never_stuck old.config.members (map mark_of new) (λ q. (work q).received) cut-obeys is-stuck d has)) in
+        let most = at-most old.config.members (map mark_of new) p (work p).received cut-obeys
+            (λ d has to. subst (λ (x : ℕ). d.rsn ≤ (work x).received) to (never_stuck old.config.members (map mark_of new) (λ q. (work q).received) cut-obeys is-stuck d has)) in
         omega (arith, most, (replays p below).within)

@@ -1,0 +1,228 @@
+-- A delivery keeps knowledge sound.
+use Rattle.std.proofs.Common.{◌≡◌, ℕ, arith, Bool, true, false, List, [], ◌∷◌, inl, inr, ◌⊎◌, refl, sym, subst, ap, ◌∙◌, zero, suc, Some, cond, map, drop, ◌&&◌, ◌==◌}
+use Rattle.std.specs.List.{Contains}
+use Rattle.std.specs.FinSet as set
+use Rattle.std.proofs.lemmas.Bool.{cases_eq}
+use Rattle.fbl_base.specs.declared.trace.Determinant.{Determinant}
+use Rattle.fbl_base.specs.declared.trace.Mark.{Mark}
+use Rattle.fbl_base.specs.Events.{At, member_of, send_of, determinant_of}
+use Rattle.fbl_base.specs.Precedence.{Has, Precedes}
+use Rattle.fbl_base.specs.Events.{receipt_of}
+use Rattle.std.specs.Ordering.{nat_cmp}
+use Rattle.std.proofs.lemmas.Option.{same_Some}
+use Rattle.std.proofs.lemmas.List.Elements.{Contains-append_cases}
+use Rattle.fbl_base.specs.Rules.{is_send_of, is_receipt_of}
+use Rattle.fbl_base.proofs.Gets.{At-front}
+use Rattle.fbl_base.proofs.PrecedenceLaws.{Has-last, Precedes-front}
+use Rattle.fbl_table.specs.declared.entry.Entry.{Entry}
+use Rattle.fbl_member.specs.Members.{Message}
+use Rattle.fbl_law.specs.Knowledge.{Includes, Knowledge, Store, in_table, in_message, in_checkpoint, owner, IsThere, Owes, table, send_mark, IsInFlight, IsUp, Names, Holds, IsHolder, IsTrueEntry, NamesCauses, IsSoundKnowledge}
+use Rattle.fbl_table.specs.Tables.{learned}
+use Rattle.fbl_law.specs.Steps.{IsDelivered, is_on, taken_off, between, determinant}
+use Rattle.fbl_law.specs.Laws.{DeliveryKeeps}
+use Rattle.fbl_law.proofs.Appended.{Has-append, Has-behind, disjoint, Precedes-within, Precedes-entered}
+use Rattle.fbl_law.proofs.Lists.{Contains-at, Contains-there, Contains-from_filter}
+use Rattle.fbl_law.proofs.Channels.{AreSent-matched, made-Has, channel-delivered}
+use Rattle.fbl_law.proofs.Numbered.{count-grown, added-later}
+use Rattle.fbl_law.proofs.Safe.{never_both, nobody_down_empty, recorded_holder, IsRecorded-held}
+use Rattle.fbl_law.proofs.Keeping.{KeepsKnowledge, IsSoundAt, NamesCauses-kept, IsTrueEntry-kept, sound_kept, sound_passed, truth_everywhere, closed_everywhere}
+use Rattle.fbl_law.proofs.Tables.{Includes-insert, Includes-insert_cases, Includes-only, Includes-union, Includes-left, Names-learned_kept, Names-learned_gained, Names-noted_kept, Names-noted, Contains-noted, Names-from_table, learned-keeps}
+
+-- what is left of a channel was in it
+pub taken_off-was : (v : Message) (q p : ℕ) (xs : List Message) (x : Message) → Contains (taken_off v q p xs) x → Contains xs x
+taken_off-was v q p xs x h = at (v.from == q && v.to == p) xs h where
+  at : (b : Bool) (ys : List Message) → Contains (cond b (drop 1 ys) ys) x → Contains ys x
+  at false ys g = g
+  at true [] g = g
+  at true (y ∷ ys) g = Contains-there y ys x g
+
+-- a receipt names its determinant
+receipt_names : (c d : Determinant) → receipt_of c ≡ receipt_of d → c ≡ d
+receipt_names c d same = same_Some c d (ap determinant_of same)
+
+module _ (n f : ℕ) (old new : Knowledge) (v : Message) (rsn : ℕ) (made : List Message) (s : IsDelivered n f old new v rsn made) (sound : IsSoundKnowledge n f old) where
+  abbrev own : Determinant
+  own = determinant v rsn
+
+  abbrev added : List Mark
+  added = receipt_of own ∷ map send_mark made
+
+  up : (m : ℕ) → IsUp new m
+  up m = rw s.down (set.contains-empty nat_cmp m)
+
+  was_up : (m : ℕ) → IsUp old m
+  was_up m = rw s.nobody_down (set.contains-empty nat_cmp m)
+
+  flies : IsInFlight old v
+  flies = Contains-at (old.channel v.from v.to) 0 v s.front
+
+  Names-delivered : (d : Determinant) (m : ℕ) → Names (table old m) d → Names (table new m) d
+  Names-delivered d m named =
+      elim (cases_eq m v.to) [
+        | inl same ↦ rw (same, s.receiver) (Names-noted_kept v.to _ own d (Names-learned_kept v.to (table old v.to) v.carried d (rw same at named)))
+        | inr other ↦ rw (s.others m other) named
+      ]
+
+  Has-added : (e : Mark) → Has added e → Has new.trace e
+  Has-added e there = rw s.trace (Has-behind old.trace added e there)
+
+  Has-cases : (e : Mark) → Has new.trace e → Has old.trace e ⊎ Has added e
+  Has-cases e there = Has-append old.trace added e (rw s.trace at there)
+
+  -- the events that were added
+  apart : (e : Mark) → Has added e → ¬ (Has old.trace e)
+  apart = disjoint n old.trace added (rw s.trace at s.rules)
+
+  held : (d : Determinant) (m : ℕ) → IsHolder old d m → Holds new d m
+  held d m holder = elim holder [ inl holds ↦ (up m, Names-delivered d m holds.1) | inr was ↦ never_both old.down m was.0 (was_up m) ]
+
+  keeps : KeepsKnowledge f old new
+  keeps = record {
+    down = nobody_down_empty f new s.down;
+    held = λ d m up_m. held d m;
+    receipts = λ d recorded there. (there.0, rw s.trace (At-front old.trace added there.0 (receipt_of d) there.1));
+    paths = λ there path. Precedes-within old.trace added apart there (rw s.trace at path);
+  }
+
+  -- what the receiver has now
+  gained : (d : Determinant) → Names v.carried d → Names (table new v.to) d
+  gained d named = rw s.receiver (Names-noted_kept v.to _ own d (Names-learned_gained v.to (table old v.to) v.carried d named))
+
+  noted : Names (table new v.to) own
+  noted = rw s.receiver (Names-noted v.to _ own)
+
+  -- the new table's entries are true
+  abbrev IsGood : Entry → Type 0
+  IsGood e = IsTrueEntry new e × Includes e.known v.to
+
+  still : (e : Entry) (m : ℕ) → Includes e.known m → IsTrueEntry old e → IsTrueEntry new e
+  still e m knows fact = IsTrueEntry-kept f old new keeps sound.truth sound.closed e (recorded_holder old e.det m (fact.1 m knows)) (IsRecorded-held new e.det m (held e.det m (fact.1 m knows))) fact
+
+  good_learned : (e : Entry) → Contains (learned v.to (table old v.to) v.carried) e → IsGood e
+  good_learned =
+      learned-keeps IsGood
+      (λ x e q r same. ((q.0.0, λ m h. elim (Includes-union x.known e.known m h) [ inl here ↦ q.0.1 m here | inr there ↦ rw same (r.0.1 m there) ]), Includes-left x.known e.known v.to q.1))
+      v.to (table old v.to) v.carried
+      (λ x h. let fact = sound.truth (in_table v.to) x (was_up v.to) h in (still x v.to fact.1 fact.0, fact.1))
+      (λ e h. let fact = sound.truth (in_message v) e flies h in let now = still e v.from fact.1 fact.0 in (
+        (now.0, λ m k. elim (Includes-insert_cases e.known v.to m k) [ inl self ↦ rw self (inl (up v.to, gained e.det (e, h, refl))) | inr was ↦ now.1 m was ]),
+        Includes-insert e.known v.to,
+      ))
+
+  good_own : IsGood (record { det = own; known = set.insert set.empty v.to })
+  good_own = ((Has-added (receipt_of own) (0, refl), λ m h. rw (Includes-only v.to m h) (inl (up v.to, noted))), Includes-insert set.empty v.to)
+
+  added_cases : (e : Mark) → Has added e → (receipt_of own ≡ e) ⊎ ((x : Message) × Contains made x × (send_mark x ≡ e))
+  added_cases e h = at_place h.0 h.1
+    where
+      at_place : (i : ℕ) → At added i e → (receipt_of own ≡ e) ⊎ ((x : Message) × Contains made x × (send_mark x ≡ e))
+      at_place zero is = inl cc
+      at_place (suc i) is = inr (made-Has made e (i, is))
+
+  abbrev IsOurs : Mark → Type 0
+  IsOurs e = (member_of e ≡ v.to) × ((a : Mark) → send_of e ≡ Some a → send_mark v ≡ a)
+
+  ours : (e : Mark) → Has added e → (member_of e ≡ v.to) × ((a : Mark) → send_of e ≡ Some a → send_mark v ≡ a)
+  ours e h = elim (added_cases e h) [
+    | inl is ↦ subst IsOurs is (refl, λ a h. cc)
+    | inr is ↦ subst IsOurs is.2 ((s.messages is.0 is.1).0, λ a h. absurd cc)
+  ]
+
+  -- the one receipt that was added is the one delivered
+  is_own : (d : Determinant) → Has added (receipt_of d) → own ≡ d
+  is_own d h = elim (added_cases (receipt_of d) h) [ inl same ↦ receipt_names own d same | inr is ↦ absurd (let no : send_mark is.0 ≡ receipt_of d = is.2 in cc) ]
+
+  -- the receiver's table names the causes of what it or the message named the causes of
+  caught : (es : List Entry) → ((d : Determinant) → Names es d → Names (table new v.to) d) → (b : Mark) → Has old.trace b → NamesCauses f old es b → NamesCauses f new (table new v.to) b
+  caught es more b there causes d before = elim (NamesCauses-kept f old new keeps es b there causes d before) [ inl named ↦ inl (more d named) | inr stable ↦ inr stable ]
+
+  had_all : (b : Mark) → Has old.trace b → NamesCauses f old (table old v.to) b → NamesCauses f new (table new v.to) b
+  had_all = caught (table old v.to) (λ d. Names-delivered d v.to)
+
+  gained_all : (b : Mark) → Has old.trace b → NamesCauses f old v.carried b → NamesCauses f new (table new v.to) b
+  gained_all = caught v.carried gained
+
+  -- and of the events added
+  mine : (b : Mark) → Has added b → NamesCauses f new (table new v.to) b
+  mine b new_one d before =
+      elim (Precedes-entered old.trace added apart v.to (send_mark v) ours new_one (rw s.trace at before)) [
+        | inl late ↦ inl (subst (λ (c : Determinant). Names (table new v.to) c) (is_own d late) noted)
+        | inr entered ↦
+            let whole : Precedes new.trace (receipt_of d) entered.0 = rw s.trace (Precedes-front old.trace added entered.1) in
+            elim entered.2 [
+              | inl event ↦ had_all entered.0 (Has-last entered.1) (sound.closed.events (in_table v.to) entered.0 (was_up v.to) event) d whole
+              | inr first ↦ gained_all entered.0 (Has-last entered.1) (sound.closed.events (in_message v) entered.0 flies first) d whole
+            ]
+      ]
+
+  good_receiver : IsSoundAt f new (in_table v.to)
+  good_receiver = record {
+    truth = λ e among. elim (Contains-noted v.to (learned v.to (table old v.to) v.carried) own e (rw s.receiver at among)) [
+      | inl of_old ↦ good_learned e of_old
+      | inr last ↦ subst IsGood last good_own
+    ];
+    events = λ b at_to d before. elim (Has-cases b (Has-last before)) [
+      | inl old_one ↦ had_all b old_one (sound.closed.events (in_table v.to) b (was_up v.to) at_to) d before
+      | inr new_one ↦ mine b new_one d before
+    ];
+    named = λ c named d before. elim (Has-cases (receipt_of c) (Has-last before)) [
+      | inr new_one ↦ mine (receipt_of c) new_one d before
+      | inl old_one ↦ elim (Names-from_table v.to (table old v.to) v.carried own c (rw s.receiver at named)) [
+        | inl had_it ↦ had_all (receipt_of c) old_one (sound.closed.named (in_table v.to) c (was_up v.to) had_it) d before
+        | inr (inl carried) ↦ gained_all (receipt_of c) old_one (sound.closed.named (in_message v) c flies carried) d before
+        | inr (inr same) ↦ mine (receipt_of c) (0, ap (λ (x : Determinant). Some (receipt_of x)) same) d before
+      ]
+    ];
+  }
+
+  -- no other store owes the causes of an event that was added
+  still_owes : (k : Store) → IsThere old k → ¬ (k ≡ in_table v.to) → (b : Mark) → Has new.trace b → Owes old k b → Has old.trace b × Owes old k b
+  still_owes k there other b has owes = elim (Has-cases b has) [ inl was ↦ (was, owes) | inr fresh ↦ absurd (none k there other b fresh owes) ] where
+    none : (k : Store) → IsThere old k → ¬ (k ≡ in_table v.to) → (b : Mark) → Has added b → ¬ (Owes old k b)
+    none (in_table m) there other b fresh at_m = other (ap in_table (sym at_m ∙ (ours b fresh).0))
+    none (in_message x) there other b fresh is = apart b fresh (subst (Has old.trace) is (AreSent-matched f old sound.channels sound.down x there))
+    none (in_checkpoint m) there other b fresh reached = added-later n old added (rw s.trace at s.rules) sound.checkpoints b fresh (rw reached.0 reached.1)
+
+  good : (k : Store) → IsThere new k → IsSoundAt f new k
+  good (in_table m) there = elim (cases_eq m v.to) [
+    | inl same ↦ rw same good_receiver
+    | inr other ↦ sound_kept f old new keeps sound.truth sound.closed (in_table m) (in_table m) there (record {
+      there = was_up m;
+      owner = refl;
+      entries = s.others m other;
+      owes = still_owes (in_table m) (was_up m) (λ same. other (ap owner same));
+    })
+  ]
+  good (in_message x) there = elim (Contains-append_cases (taken_off v x.from x.to (old.channel x.from x.to)) (between x.from x.to made) x (rw (s.channels x.from x.to) at there)) [
+    | inl before ↦
+        let was = taken_off-was v x.from x.to (old.channel x.from x.to) x before in
+        sound_kept f old new keeps sound.truth sound.closed (in_message x) (in_message x) there
+            (record { there = was; owner = refl; entries = refl; owes = still_owes (in_message x) was (λ same. cc) })
+    | inr after ↦
+        let is = s.messages x (Contains-from_filter (is_on x.from x.to) made x after) in
+        sound_passed f new x (rw is.0 good_receiver) (rw is.0 is.1)
+  ]
+  good (in_checkpoint m) there =
+      sound_kept f old new keeps sound.truth sound.closed (in_checkpoint m) (in_checkpoint m) tt (record {
+        there = tt;
+        owner = refl;
+        entries = rw s.checkpoints refl;
+        owes = λ b has owes. still_owes (in_checkpoint m) tt (λ same. cc) b has (rw s.checkpoints at owes);
+      })
+
+  IsSoundKnowledge-delivered : IsSoundKnowledge n f new
+  IsSoundKnowledge-delivered = record {
+    rules = s.rules;
+    truth = truth_everywhere f new good;
+    closed = closed_everywhere f new good;
+    channels = λ q p up_q up_p. rw (s.channels q p, s.trace) (channel-delivered n old.trace v rsn made (old.channel q p) q p (rw s.trace at s.rules) (sound.channels q p (was_up q) (was_up p)));
+    down = keeps.down;
+    checkpoints = λ m. record {
+      receipts = rw (s.checkpoints, s.trace) (omega (arith, (sound.checkpoints m).receipts, count-grown (is_receipt_of m) old.trace added));
+      sends = rw (s.checkpoints, s.trace) (omega (arith, (sound.checkpoints m).sends, count-grown (is_send_of m) old.trace added));
+      table = λ d up_m named. Names-delivered d m ((sound.checkpoints m).table d (was_up m) (rw s.checkpoints at named));
+    };
+  }
+
+pub delivery_keeps : DeliveryKeeps
+delivery_keeps = IsSoundKnowledge-delivered
