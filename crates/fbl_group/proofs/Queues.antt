@@ -12,7 +12,7 @@ use Rattle.fbl_base.specs.Fold.{step_events}
 use Rattle.fbl_table.specs.declared.entry.Entry.{Entry}
 use Rattle.fbl_member.specs.Members.{Message, messages_from}
 use Rattle.fbl_law.specs.Steps.{between, taken_off}
-use Rattle.fbl_law.specs.Groups.{HasChannels, channel_in, sum_below}
+use Rattle.fbl_law.specs.Groups.{HasChannels, channel_in}
 use Rattle.fbl_group.specs.declared.channels.Channel.{Channel}
 use Rattle.fbl_group.specs.Channels.{queued, queued_rows, rooms, room_rows, first_message, with_sent, without_front, taken_and_sent, send_of_message}
 
@@ -324,11 +324,6 @@ settled_trace t0 t1 t2 made me before rsn from ssn carried sends first then made
     then ∙ ap (λ (xs : List Event). xs ++ map send_of_message made) first ∙ append_assoc t0 (Receipt me rsn from ssn ∷ []) (map send_of_message made) ∙ ap (λ (xs : List Event). t0 ++ Receipt me rsn from ssn ∷ xs) (ap (λ (xs : List Message). map send_of_message xs) made_is ∙ sends-messages me before carried sends)
 
 -- ---- steps of the loops
-
--- a sum with a summand that is not 0 is not 0
-pub some-summed : (f : ℕ → ℕ) (i more : ℕ) → 0 < f i → 0 < sum_below (suc i + more) f
-some-summed f i zero some = (let same : suc i + 0 ≡ suc i = omega arith in rw same omega (arith, some))
-some-summed f i (suc more) some = (let same : suc i + suc more ≡ suc (suc i + more) = omega arith in rw same omega (arith, some-summed f i more some))
 
 -- what fits all fits the first
 pub first-fits : (P : Message → Type 0) (all rest : List Message) (w : Message) → all ≡ w ∷ rest → All P all → P w

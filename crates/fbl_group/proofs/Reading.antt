@@ -1,19 +1,24 @@
 -- How large the parts of a sound group are.
-use Rattle.std.proofs.Common.{◌≡◌, ℕ, ◌≤◌, ◌==◌, not, Bool, List, length, map, inl, inr, ap, arith}
+use Rattle.std.proofs.Common.{◌≡◌, ℕ, ◌+◌, ◌-◌, ◌*◌, ◌≤◌, ◌==◌, not, Bool, List, [], ◌∷◌, length, map, inl, inr, refl, ap, arith}
+use Rattle.std.specs.Prelude.{sum_by}
 use Rattle.std.specs.List.{filter_map, list_any}
+use Rattle.std.specs.FinSet as set
 use Rattle.std.proofs.lemmas.List.{length-map}
+use Rattle.std.proofs.lemmas.List.Sums.{sum_by-cons}
 use Rattle.fbl_base.proofs.Sifted.{length-left, length-filter_map}
 use Rattle.fbl_base.specs.declared.trace.Mark.{Mark}
-use Rattle.fbl_base.specs.declared.trace.Mark.TheVariants.{Send}
-use Rattle.fbl_base.specs.Events.{determinant_of}
+use Rattle.fbl_base.specs.declared.trace.Mark.TheVariants.{Send, Receipt}
+use Rattle.fbl_base.specs.Events.{determinant_of, mark_of}
 use Rattle.fbl_base.specs.Rules.{in_flight, sent_on, taken_on}
 use Rattle.fbl_base.specs.Fold.{Next}
 use Rattle.fbl_member.specs.Carried.{IsOnce}
-use Rattle.fbl_law.specs.Knowledge.{send_mark, MatchesTrace}
-use Rattle.fbl_law.specs.Groups.{GroupRecord, member, channel, marks, knowledge}
+use Rattle.fbl_law.specs.Knowledge.{send_mark, IsUp, MatchesTrace}
+use Rattle.fbl_law.specs.Groups.{GroupRecord, member, channel, marks, knowledge, receipts, messages_in_flight, sum_below}
 use Rattle.fbl_law.specs.Sound.{IsSound}
 use Rattle.fbl_law.proofs.Safe.{down_or_up}
-use Rattle.fbl_law.proofs.GroupFacts.{trace_fits}
+use Rattle.fbl_law.proofs.GroupFacts.{all_up, trace_fits}
+use Rattle.fbl_law.proofs.Resending.{sum_below-agree}
+use Rattle.fbl_law.proofs.WeightKept.{weight_in, weight_on, into, out, flow}
 use Rattle.fbl_law.proofs.DumpLaws.{table_fits}
 
 in_flight-fits : (t : List Mark) (q p : ℕ) → length (in_flight t q p) ≤ length t
@@ -22,7 +27,48 @@ in_flight-fits t q p =
     let untaken : ℕ → Bool = (λ ssn. not (list_any (λ taken. taken == ssn) (filter_map (taken_on q p) t))) in
     omega (arith, length-left untaken sent, length-filter_map (sent_on q p) t)
 
+-- each message weighs one, so that the weight is their number
+abbrev one : ℕ → ℕ → ℕ
+one q ssn = 1
+
+weighs-length : (q : ℕ) (ssns : List ℕ) → sum_by (one q) ssns ≡ length ssns
+weighs-length q [] = refl
+weighs-length q (s ∷ ssns) = omega (arith, sum_by-cons (one q) s ssns, weighs-length q ssns)
+
+taken-count : (n : ℕ) (t : List Mark) → sum_by (into n one) t ≡ length (receipts t)
+taken-count n [] = refl
+taken-count n (Send q s p ∷ t) = omega (arith, sum_by-cons (into n one) (Send q s p) t, taken-count n t)
+taken-count n (Receipt p k q s ∷ t) = omega (arith, sum_by-cons (into n one) (Receipt p k q s) t, taken-count n t)
+
+sent-count : (n : ℕ) (t : List Mark) → sum_by (out n one) t + length (receipts t) ≡ length t
+sent-count n [] = refl
+sent-count n (Send q s p ∷ t) = omega (arith, sum_by-cons (out n one) (Send q s p) t, sent-count n t)
+sent-count n (Receipt p k q s ∷ t) = omega (arith, sum_by-cons (out n one) (Receipt p k q s) t, sent-count n t)
+
 module _ (next : Next) (r : GroupRecord) (sound : IsSound next r) where
+  -- what was sent and not taken, by the trace
+  unreceived : weight_on r.config.members one (marks r) + 2 * length (receipts (marks r)) ≡ length r.trace
+  unreceived =
+      let n = r.config.members in
+      omega (arith, flow n one (marks r) sound.lawful.well_formed, taken-count n (marks r), sent-count n (marks r), length-map r.trace mark_of)
+
+  pub received-twice : 2 * (r.receipts_ever - r.undone_ever) ≤ length r.trace
+  received-twice = omega (arith, unreceived, sound.counted)
+
+  -- while nobody is down that is in flight
+  pub unreceived-fly : set.len r.down ≡ 0 → length r.trace - 2 * (r.receipts_ever - r.undone_ever) ≡ messages_in_flight r
+  unreceived-fly nobody =
+      let n = r.config.members in
+      let up : (m : ℕ) → IsUp (knowledge r) m = all_up next r sound (set.empty_of_len r.down nobody) in
+      let cell : (q p : ℕ) → length (channel r q p) ≡ weight_in n one (marks r) q p = λ q p.
+          let matches : MatchesTrace (knowledge r) q p = sound.causes.channels q p (up q) (up p) in
+          let same : length (map send_mark (channel r q p)) ≡ length (map (λ ssn. Send q ssn p) (in_flight (marks r) q p)) = ap length matches in
+          omega (arith, same, length-map (channel r q p) send_mark, length-map (in_flight (marks r) q p) (λ ssn. Send q ssn p),
+              weighs-length q (in_flight (marks r) q p)) in
+      let all = sum_below-agree n (λ q. sum_below n (λ p. length (channel r q p))) (λ q. sum_below n (weight_in n one (marks r) q))
+          (λ q below. sum_below-agree n (λ p. length (channel r q p)) (weight_in n one (marks r) q) (λ p below_p. cell q p)) in
+      omega (arith, all, unreceived, sound.counted)
+
   -- a channel has at most as many messages as the trace may have events
   pub channel_fits : (q p : ℕ) → length (channel r q p) ≤ 8192
   channel_fits q p = elim (down_or_up r.down q) [

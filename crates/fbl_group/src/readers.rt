@@ -11,7 +11,7 @@ ghost use Rattle.fbl_law.specs.StepLaws.{weight_held, weight_flying};
 ghost use Rattle.fbl_law.specs.Promises.{HoldsEachReceipt};
 ghost use Rattle.fbl_group.specs.Readers.{is_quiet as is_quiet_now};
 
-use crate::channels::{channel_between, count_messages, has_message, sum_values};
+use crate::channels::{channel_between, count_messages, sum_values};
 use crate::group::Group;
 use fbl_base::{Behaviour, Config, Event, Member, MemberSet};
 use fbl_member::MemberRec;
@@ -127,14 +127,27 @@ impl<B: Behaviour, A: Allocator + Copy> Group<B, A> {
     pub fn is_quiet(&self) -> bool
         ensures { result ≡ is_quiet_now self.now }
     {
-        !has_message(&self.channels, self.config.members()) && self.down.count() == 0
+        self.down.count() == 0 && self.unreceived() == 0
     }
 
     /// How many messages are in all channels.
     pub fn messages_in_flight(&self) -> usize
         ensures { result ≡ messages_in_flight_of self.now }
     {
-        count_messages(&self.channels, self.config.members())
+        if self.down.count() == 0 {
+            self.unreceived()
+        } else {
+            count_messages(&self.channels, self.config.members())
+        }
+    }
+
+    /// How many sends of the trace have no receipt there. While nobody is down, these messages are what is in flight, so that
+    /// no channel is looked at.
+    fn unreceived(&self) -> usize
+        ensures { set.len self.now.down ≡ 0 → result ≡ messages_in_flight_of self.now }
+    {
+        let receipts = (self.receipts_ever - self.undone_ever) as usize;
+        self.trace.len() - 2 * receipts
     }
 
     /// What the messages in flight hold, on all channels: the sum of their values.

@@ -1,7 +1,5 @@
-use Rattle.std.proofs.Common.{◌≡◌, false, true, arith, ap, sym, ◌∙◌}
+use Rattle.std.proofs.Common.{◌≡◌, arith, ap, sym, ◌∙◌}
 use Rattle.fbl_base.specs.Events.{determinant_of, mark_of}
-use Rattle.fbl_law.specs.Groups.{is_recorded_among}
-use Rattle.fbl_group.specs.Strikes.{unrecorded_among}
 use Rattle.fbl_group.proofs.Unrecorded.{one_more, recorded, no_receipt}
 use Rattle.fbl_group.proofs.strike.unrecorded.Goals as goal
 use Rattle.fbl_group.proofs.strike.unrecorded.Goals.{in-Some+then-not-is_recorded_among+in_ok-push, in-Some+else-not-is_recorded_among, in_default}
