@@ -17,7 +17,7 @@ use Rattle.fbl_law.specs.Groups.{GroupRecord, member, channel, marks, knowledge,
 use Rattle.fbl_law.specs.Sound.{IsSound}
 use Rattle.fbl_law.proofs.Safe.{down_or_up}
 use Rattle.fbl_law.proofs.GroupFacts.{all_up, trace_fits}
-use Rattle.fbl_law.proofs.Resending.{sum_below-agree}
+use Rattle.fbl_law.proofs.ChannelCounts.{sum_below-agree}
 use Rattle.fbl_law.proofs.WeightKept.{weight_in, weight_on, into, out, flow}
 use Rattle.fbl_law.proofs.DumpLaws.{table_fits}
 
