@@ -17,17 +17,15 @@ use Rattle.fbl_base.specs.Events.{At, mark_of, member_of}
 use Rattle.fbl_base.specs.Precedence.{Has, Earlier}
 use Rattle.fbl_base.specs.Rules.{WellFormed}
 use Rattle.fbl_base.specs.Events.{receipt_of}
-use Rattle.fbl_base.specs.Fold.{Next, Action, took, sent, action_of, actions_of, notes_of, note_of, responses, start_of, starts_of, Lawful}
-use Rattle.fbl_base.proofs.Gets.{At-filter, filter_map-agree, At-front, At-below, slice_get-take}
+use Rattle.fbl_base.specs.Fold.{Next, Action, took, sent, action_of, actions_of, notes_of, responses, start_of, starts_of, Lawful}
+use Rattle.fbl_base.proofs.Gets.{filter_map-agree, At-front, At-below, slice_get-take}
 use Rattle.fbl_base.proofs.PlacesAndEvents.{one_place}
-use Rattle.fbl_base.proofs.RulesLaws.{sent-before}
 use Rattle.fbl_base.proofs.InFlightLaws.{filter_all}
 use Rattle.fbl_base.proofs.LawfulLaws.{filter_map-shorter, receipts-noted, notes_of-sent, notes_of-append, Lawful-begun}
-use Rattle.fbl_law.proofs.Lists.{At-append, At-seam, filter-passes}
+use Rattle.fbl_law.proofs.Lists.{At-append, At-seam}
 use Rattle.fbl_law.proofs.Appended.{Has-append}
 use Rattle.fbl_law.proofs.CutWellFormed.{KeepsCauses, WellFormed-kept, marks-filter}
-use Rattle.fbl_law.proofs.CutNotes.{note-left}
-use Rattle.fbl_law.proofs.Notes.{noted-sent, send-mark, one-send}
+use Rattle.fbl_law.proofs.CutNotes.{note-same}
 
 -- an action, and whether it is kept
 abbrev Flagged : Type 0
@@ -238,26 +236,11 @@ module _ (n : ℕ) (keep : Mark → Bool) (t : List Event) (obeys : WellFormed n
   orderly : Orderly true (flagged t)
   orderly = orderly_from true [] t refl (λ yes' d to has. absurd (let here : At [] has.0 (receipt_of d) = has.1 in cc), λ no'. absurd cc)
 
-  -- the notes of kept receipts stay
-  note_stays : (i to rsn from ssn : ℕ) → slice_get t i ≡ Some (Receipt to rsn from ssn) → keep (mark.Receipt to rsn from ssn) ≡ true
-      → note_of (filter keeps t) from ssn ≡ note_of t from ssn
-  note_stays i to rsn from ssn here kept' =
-      let at_mark : At M i (mark.Receipt to rsn from ssn) = slice_get-map mark_of t i ∙ (rw here) in
-      let sent' = sent-before n M obeys i to rsn from ssn at_mark in
-      let send_kept : keep (mark.Send from ssn to) ≡ true = causes (mark.Send from ssn to) (mark.Receipt to rsn from ssn) kept' ((sent'.0, i, sent'.1, sent'.2, at_mark), inr refl) in
-      let noted = receipts-noted n t obeys i to rsn from ssn here in
-      let sent = noted-sent t from ssn noted.0 noted.1 in
-      let same : to ≡ sent.1 = one-send n M obeys from ssn to sent.1 (sent'.0, sent'.2) (sent.0, send-mark t sent.0 from ssn sent.1 noted.0 sent.2) in
-      note-left n keep t obeys causes sent.0 from ssn sent.1 noted.0 sent.2 (ap (λ x. keep (mark.Send from ssn x)) (sym same) ∙ send_kept) ∙ sym noted.1
-
   same_actions : filter_map (action_of (filter keeps t) p) (filter keeps t) ≡ filter_map (action_of t p) (filter keeps t)
   same_actions = filter_map-agree (action_of (filter keeps t) p) (action_of t p) (filter keeps t) agree where
     agree : (i : ℕ) (e : Event) → slice_get (filter keeps t) i ≡ Some e → action_of (filter keeps t) p e ≡ action_of t p e
     agree i (Send q k to x) here = refl
-    agree i (Receipt to r q k) here =
-        let was = At-filter keeps t i (Receipt to r q k) here in
-        let e : note_of (filter keeps t) q k ≡ note_of t q k = note_stays was.0 to r q k was.1 (filter-passes keeps t i (Receipt to r q k) here) in
-        rw e refl
+    agree i (Receipt to r q k) here = (let e = note-same n keep t obeys causes i to r q k here in rw e refl)
 
   pub responds_left : (next : Next) (starts : List Start) → actions_of t p ≡ map sent (starts_of p starts) ++ responses next p n 0 (notes_of (actions_of t p))
       → actions_of (filter keeps t) p ≡ map sent (starts_of p starts) ++ responses next p n 0 (notes_of (actions_of (filter keeps t) p))
