@@ -80,7 +80,7 @@ notes_of-responses next p n state (note ∷ notes) =
     let sends = (next p n state note).sends.items in
     let rest = responses next p n (next p n state note).state notes in
     ap (λ (ys : List Note). note ∷ ys) (notes_of-append (map sent sends) rest ∙ ap (λ (ys : List Note). ys ++ notes_of rest) (notes_of-sent sends)
-        ∙ notes_of-responses next p n (next p n state note).state notes)
+    ∙ notes_of-responses next p n (next p n state note).state notes)
 
 -- so a member's kept actions are those of a run
 responds_kept : (next : Next) (p n : ℕ) (sends : List (ℕ × Note)) (notes : List Note) (fs : List Flagged) → Orderly true fs
@@ -90,14 +90,14 @@ responds_kept next p n sends notes fs o is =
     let some = responses_kept next p n 0 notes r.0 r.2 r.1 in
     let all : kept fs ≡ map sent sends ++ responses next p n 0 some.0 = r.3 ∙ ap (λ (ys : List Action). map sent sends ++ ys) some.1 in
     let taken : notes_of (kept fs) ≡ some.0 = ap notes_of all ∙ notes_of-append (map sent sends) (responses next p n 0 some.0)
-        ∙ ap (λ (ys : List Note). ys ++ notes_of (responses next p n 0 some.0)) (notes_of-sent sends) ∙ notes_of-responses next p n 0 some.0 in
+    ∙ ap (λ (ys : List Note). ys ++ notes_of (responses next p n 0 some.0)) (notes_of-sent sends) ∙ notes_of-responses next p n 0 some.0 in
     rw taken all
 
 -- a send is kept where each receipt of its member that comes before it is
 abbrev pub KeepsResponses : (Mark → Bool) → List Mark → Type 0
 KeepsResponses keep t =
     (e : Mark) → Has t e → ((d : Determinant) → ¬ (e ≡ receipt_of d))
-        → ((d : Determinant) → d.to ≡ member_of e → Earlier t (receipt_of d) e → keep (receipt_of d) ≡ true) → keep e ≡ true
+    → ((d : Determinant) → d.to ≡ member_of e → Earlier t (receipt_of d) e → keep (receipt_of d) ≡ true) → keep e ≡ true
 
 only : (x y : Mark) → Has (x ∷ []) y → x ≡ y
 only x y h = at h.0 h.1 where
@@ -157,8 +157,13 @@ module _ (n : ℕ) (keep : Mark → Bool) (t : List Event) (obeys : WellFormed n
 
   earlier_of : (u : List Event) (e : Event) (rest : List Event) → t ≡ u ++ e ∷ rest → (x : Mark) → Has (map mark_of u) x → Earlier M x (mark_of e)
   earlier_of u e rest is x h =
-      rw (split u e rest is) (h.0, length (map mark_of u), At-below (map mark_of u) h.0 x h.1,
-          At-front (map mark_of u) (mark_of e ∷ map mark_of rest) h.0 x h.1, At-seam (map mark_of u) (mark_of e) (map mark_of rest))
+      rw (split u e rest is) (
+        h.0,
+        length (map mark_of u),
+        At-below (map mark_of u) h.0 x h.1,
+        At-front (map mark_of u) (mark_of e ∷ map mark_of rest) h.0 x h.1,
+        At-seam (map mark_of u) (mark_of e) (map mark_of rest),
+      )
 
   earlier_back : (u : List Event) (e : Event) (rest : List Event) → t ≡ u ++ e ∷ rest → (x : Mark) → Earlier M x (mark_of e) → Has (map mark_of u) x
   earlier_back u e rest is x h =

@@ -76,5 +76,5 @@ module _ (n : ℕ) (keep : Mark → Bool) (t : List Event) (obeys : WellFormed n
     pub last_taken-stays : (q : ℕ) → last_taken (map mark_of left) q m ≡ last_taken (map mark_of t) q m
     last_taken-stays q =
         let same : filter_map (taken_on q m) (filter keep (map mark_of t)) ≡ filter_map (taken_on q m) (map mark_of t) =
-            map-kept keep (taken_on q m) (map mark_of t) (λ e y there is. all e there (taken_at q m y e is)) in
+        map-kept keep (taken_on q m) (map mark_of t) (λ e y there is. all e there (taken_at q m y e is)) in
         rw (marks-filter keep t, same) refl
