@@ -146,7 +146,8 @@ module _ (next : Next) (old : GroupRecord) (sound : IsSound next old) (new : Lis
 
   -- the next replay of a member: the gathered tables find its next receipt, and the sender's log has the message
   pub replayed-next : (p : ℕ) (m : MemberRecord) (d : Determinant) (w : MemberRecord) (note : Note) → Replays p m
-      → found p (m.received + 1) (recovery_table (knowledge old)) ≡ Some d → Replays d.from w → logged_note w.log d.ssn ≡ Some note → Replays p (replayed_by next p old.config.members m d note)
+      → found p (m.received + 1) (recovery_table (knowledge old)) ≡ Some d → Replays d.from w → logged_note w.log d.ssn ≡ Some note
+      → Replays p (replayed_by next p old.config.members m d note)
   replayed-next p m d w note replayed is sender named =
       replayed-step next old.config.members old.config.starts new p m d note cut-obeys replayed (found-receipt p m.received d is) (replayed-noted d.from w d.ssn note sender named)
 

@@ -219,7 +219,8 @@ module _ (next : Next) (old : GroupRecord) (sound : IsSound next old) where
           let trace : new.trace ≡ recovered_trace old = step.trace in
           let is : member new m ≡ record (slice_index_or rebuilt m blank) { table = recovery_table (knowledge old) } = step.rebuilt m below down in
           replayed-fold next new m is-lawful.well_formed
-          (rw (config, trace, is) (replayed-table next old.config.members old (recovered_trace old) m (slice_index_or rebuilt m blank) (recovery_table (knowledge old)) (replaying.replayed m below down)))
+          (rw (config, trace, is)
+          (replayed-table next old.config.members old (recovered_trace old) m (slice_index_or rebuilt m blank) (recovery_table (knowledge old)) (replaying.replayed m below down)))
           (rw (trace, is) (rebuilt-received m below down))
 
       fold-all : (m : ℕ) → m < old.config.members → IsFold next new m
