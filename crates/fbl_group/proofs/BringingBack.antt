@@ -36,7 +36,7 @@ counted-receipts [] = refl
 counted-receipts (e ∷ trace) = sum_by-cons (λ x. cond (is_some (determinant_of (mark_of x))) 1 0) e trace ∙ at e (counted-receipts trace) where
   at : (x : Event) → count_by (λ y. is_some (determinant_of (mark_of y))) trace ≡ length (receipts (map mark_of trace))
       → cond (is_some (determinant_of (mark_of x))) 1 0 + count_by (λ y. is_some (determinant_of (mark_of y))) trace
-          ≡ length (cons_option (determinant_of (mark_of x)) (receipts (map mark_of trace)))
+      ≡ length (cons_option (determinant_of (mark_of x)) (receipts (map mark_of trace)))
   at (event.Send from ssn to note) ih = omega (arith, ih)
   at (event.Receipt to rsn from ssn) ih = omega (arith, ih)
 
@@ -127,7 +127,7 @@ module _ (next : Next) (old : GroupRecord) (sound : IsSound next old) where
       counted : messages_in old.config.members again ≡ messages_at old.down new
       counted =
           sum_below-agree old.config.members (λ q. sum_below old.config.members (λ p. length (channel_in again q p)))
-              (λ q. sum_below old.config.members (λ p. cond (set.contains old.down q || set.contains old.down p) (length (channel new q p)) 0)) row
+          (λ q. sum_below old.config.members (λ p. cond (set.contains old.down q || set.contains old.down p) (length (channel new q p)) 0)) row
           ∙ ap (λ n. sum_below n (λ q. sum_below n (λ p. cond (set.contains old.down q || set.contains old.down p) (length (channel new q p)) 0))) (sym (ap (λ (c : Settings). c.members) config))
         where
           one : (q p : ℕ) → q < old.config.members → p < old.config.members → (b : Bool) → (set.contains old.down q || set.contains old.down p) ≡ b
@@ -231,7 +231,7 @@ module _ (next : Next) {old now : GroupRecord} {rebuilt : List MemberRecord} (so
             (same : records ≡ rebuilt) (each : AreSentAgain now records again)
             (put : IsPutBack s rebuilt old.members new.members) (replaced : AreReplaced n old.down (channel_in again) old.channels new.channels) (config : new.config ≡ old.config)
             (trace : new.trace ≡ rest) (checkpoints : new.checkpoints ≡ old.checkpoints) (down : new.down ≡ set.empty)
-                (receipts_ever : new.receipts_ever ≡ old.receipts_ever) (undone_ever : new.undone_ever ≡ old.undone_ever + undone) where
+            (receipts_ever : new.receipts_ever ≡ old.receipts_ever) (undone_ever : new.undone_ever ≡ old.undone_ever + undone) where
           members : IsPutBack old.down rebuilt old.members new.members
           members = subst (λ (d : Members). IsPutBack d rebuilt old.members new.members) same-down put
 

@@ -28,10 +28,10 @@ read_at ms i d m below read = read ∙ read_any ms i d blank below
 -- the table of one member more
 pub gathered-step : (ms : List MemberRecord) (i : ℕ) (before after : List Entry) (m : MemberRecord) → i < length ms → m ≡ slice_index_or ms i blank
     → before ≡ gathered_all [] (map (λ (x : MemberRecord). x.table) (take i ms)) → after ≡ gathered before m.table
-        → after ≡ gathered_all [] (map (λ (x : MemberRecord). x.table) (take (i + 1) ms))
+    → after ≡ gathered_all [] (map (λ (x : MemberRecord). x.table) (take (i + 1) ms))
 gathered-step ms i before after m below read was is =
     is ∙ ap (λ (t : List Entry). gathered t m.table) was
-        ∙ ap (λ (x : MemberRecord). gathered (gathered_all [] (map (λ (y : MemberRecord). y.table) (take i ms))) x.table) read ∙ sym (gathered_all-more ms i below)
+    ∙ ap (λ (x : MemberRecord). gathered (gathered_all [] (map (λ (y : MemberRecord). y.table) (take i ms))) x.table) read ∙ sym (gathered_all-more ms i below)
 
 -- some tables, and then others
 gathered_all-then : (t : List Entry) (xs ys : List (List Entry)) → gathered_all t (xs ++ ys) ≡ gathered_all (gathered_all t xs) ys
@@ -43,10 +43,10 @@ pub gathered-end : (r : GroupRecord) (i n : ℕ) (before saved after : List Entr
     → saved ≡ gathered_all before (saved_tables r.down r.checkpoints n) → after ≡ marked r.down saved → after ≡ recovery_table (knowledge r)
 gathered-end r i n before saved after all size was adds is =
     let first : before ≡ gathered_all [] (map (λ (x : MemberRecord). x.table) r.members) = was
-        ∙ ap (λ (ms : List MemberRecord). gathered_all [] (map (λ (x : MemberRecord). x.table) ms)) (take_all i r.members all) in
+    ∙ ap (λ (ms : List MemberRecord). gathered_all [] (map (λ (x : MemberRecord). x.table) ms)) (take_all i r.members all) in
     is ∙ ap (marked r.down) (adds ∙ ap (λ (t : List Entry). gathered_all t (saved_tables r.down r.checkpoints n)) first
-        ∙ ap (λ k. gathered_all (gathered_all [] (map (λ (x : MemberRecord). x.table) r.members)) (saved_tables r.down r.checkpoints k)) (sym size)
-        ∙ sym (gathered_all-then [] (map (λ (x : MemberRecord). x.table) r.members) (saved_tables r.down r.checkpoints (length r.checkpoints))))
+    ∙ ap (λ k. gathered_all (gathered_all [] (map (λ (x : MemberRecord). x.table) r.members)) (saved_tables r.down r.checkpoints k)) (sym size)
+    ∙ sym (gathered_all-then [] (map (λ (x : MemberRecord). x.table) r.members) (saved_tables r.down r.checkpoints (length r.checkpoints))))
 
 -- the table of one checkpoint more
 pub saved-step : (s : Members) (ms : List MemberRecord) (i x place : ℕ) (first before after : List Entry) (m : MemberRecord) → x ≡ i → place ≡ i
@@ -57,7 +57,7 @@ saved-step s ms i x place first before after m same is_place below read down was
     let it : m ≡ slice_index_or ms i blank = read_at ms place m m (omega (arith, below, is_place)) read ∙ ap (λ k. slice_index_or ms k blank) is_place in
     let e : i + 1 ≡ suc i = omega arith in
     rw (e, here) (is ∙ ap (λ (t : List Entry). gathered t m.table) was
-        ∙ ap (λ (y : MemberRecord). gathered (gathered_all first (saved_tables s ms i)) y.table) it ∙ sym (gathered_all-push first (saved_tables s ms i) (slice_index_or ms i blank).table))
+    ∙ ap (λ (y : MemberRecord). gathered (gathered_all first (saved_tables s ms i)) y.table) it ∙ sym (gathered_all-push first (saved_tables s ms i) (slice_index_or ms i blank).table))
 
 pub saved-skip : (s : Members) (ms : List MemberRecord) (i x : ℕ) (first before : List Entry) → x ≡ i → set.contains s x ≡ false
     → before ≡ gathered_all first (saved_tables s ms i) → before ≡ gathered_all first (saved_tables s ms (i + 1))
@@ -140,16 +140,17 @@ module _ (next : Next) (r : GroupRecord) (sound : IsSound next r) where
               sends =
                   subst (λ (k : ℕ). length x.log + length (next p k x.state note).sends.items ≤ 8192) (sym all)
                   (subst (λ (y : MemberRecord). length y.log + length (next p r.config.members y.state note).sends.items ≤ 8192)
-                      (sym (is-record here)) (replaying-room next r sound rebuilt p d note replaying (sound.down p down) down is-found (sym logged ∙ named)));
+                  (sym (is-record here)) (replaying-room next r sound rebuilt p d note replaying (sound.down p down) down is-found (sym logged ∙ named)));
             }
 
             pub replays-one : {after : MemberRecord} → after ≡ replayed_by next p n x d note → Tries next r p rebuilt (slice_set rebuilt place after) true
             replays-one {after = after} is_after =
                 subst (λ (k : ℕ). Tries next r p rebuilt (slice_set rebuilt k after) true) (sym is_place)
                 (subst (λ (y : MemberRecord). Tries next r p rebuilt (slice_set rebuilt p y) true)
-                    (sym (is_after ∙ ap (λ (k : ℕ). replayed_by next p k x d note) all ∙ ap (λ (y : MemberRecord). replayed_by next p r.config.members y d note) (is-record here)))
-                (replaying-step next r sound rebuilt p d note replaying (sound.down p down) down is-found (sym logged ∙ named),
-                    replayed_in-step next r sound rebuilt p d note replaying (sound.down p down) down))
+                (sym (is_after ∙ ap (λ (k : ℕ). replayed_by next p k x d note) all ∙ ap (λ (y : MemberRecord). replayed_by next p r.config.members y d note) (is-record here))) (
+                  replaying-step next r sound rebuilt p d note replaying (sound.down p down) down is-found (sym logged ∙ named),
+                  replayed_in-step next r sound rebuilt p d note replaying (sound.down p down) down,
+                ))
 
   -- a try keeps what is so of the replay
   pub tried-replaying : (p : ℕ) (before after : List MemberRecord) (b : Bool) → IsReplaying next r before → Tries next r p before after b → IsReplaying next r after
@@ -168,9 +169,11 @@ module _ (next : Next) (r : GroupRecord) (sound : IsSound next r) where
   round-waits i k first before after moved true is_k fails so_far tried = cc
   round-waits i k first before after true false is_k fails so_far tried =
       (subst (IsReplaying next r) (sym tried.0) so_far.0, (let e : replayed_in r after ≡ replayed_in r before = ap (replayed_in r) tried.0 in omega (arith, e, so_far.1)))
-  round-waits i k first before after false false is_k fails so_far tried =
-      (tried.0 ∙ so_far.0, below_more (λ p. IsDown (knowledge r) p → IsWaiting r first p) i so_far.1
-          (λ down. subst (IsWaiting r first) is_k (subst (λ (ms : List MemberRecord). IsWaiting r ms k) so_far.0 tried.1)))
+  round-waits i k first before after false false is_k fails so_far tried = (
+    tried.0 ∙ so_far.0,
+    below_more (λ p. IsDown (knowledge r) p → IsWaiting r first p) i so_far.1
+        (λ down. subst (IsWaiting r first) is_k (subst (λ (ms : List MemberRecord). IsWaiting r ms k) so_far.0 tried.1)),
+  )
 
   pub round-up : (i : ℕ) (first now : List MemberRecord) (moved : Bool) → Rounds next r i first now moved → set.contains r.down i ≡ false → Rounds next r (i + 1) first now moved
   round-up i first now true so_far up = so_far
@@ -198,7 +201,7 @@ module _ (next : Next) (r : GroupRecord) (sound : IsSound next r) where
     still-waits : (p : ℕ) → p < r.config.members → IsDown (knowledge r) p → IsWaiting r after p
     still-waits p below down d is =
         let was : found p ((slice_index_or before p blank).received + 1) (recovery_table (knowledge r)) ≡ Some d =
-            ap (λ (m : MemberRecord). found p (m.received + 1) (recovery_table (knowledge r))) (sym (given p below down)) ∙ is in
+        ap (λ (m : MemberRecord). found p (m.received + 1) (recovery_table (knowledge r))) (sym (given p below down)) ∙ is in
         let from = (replaying-next next r sound before p d replayed.replaying below down was).from in
         ap (λ (log : List Logged). logged_note log d.ssn) (same-log d.from from) ∙ replayed.waiting p below down d was
 

@@ -16,10 +16,10 @@ use fbl_base::{Behaviour, Member};
 use std::alloc::{AllocError, Allocator};
 
 impl<B: Behaviour, A: Allocator + Copy> Group<B, A> {
-    /// Keeps a copy of the member's record, in the place of its older checkpoint: its state, its counts, its log and its
-    /// table. What the checkpoint has recorded is never lost, and a recovery of the member replays only the receipts after
-    /// it. Strikes and recoveries leave it as it is. A member that has received nothing may be checkpointed. After a refusal
-    /// the older checkpoint stands, and nothing has changed.
+    /// Keeps a copy of the member's record, in the place of its older checkpoint: its state, its counts and its log, which
+    /// are the fold of the receipts that it has had, and its table. What the checkpoint has recorded is never lost, and a
+    /// recovery of the member replays only the receipts after it. Strikes and recoveries leave it as it is. A member that
+    /// has received nothing may be checkpointed. After a refusal the older checkpoint stands, and nothing has changed.
     pub fn checkpoint(&mut self, member: Member) -> Result<(), CheckpointRefusal>
         ensures taken { OnOk result ((checkpoint_refusal self.old member ≡ None) × IsCheckpoint self.old self.new member) }
         ensures fold { OnOk result (IsCheckpointFold B.next self.new member) }
@@ -33,8 +33,8 @@ impl<B: Behaviour, A: Allocator + Copy> Group<B, A> {
         }
     }
 
-    /// How many receipts the member's checkpoint has, 0 where none was taken. These receipts are always recorded. The member
-    /// is one of the group.
+    /// How many receipts the member's checkpoint has, 0 where none was taken. They are the member's first ones, the
+    /// checkpoint is at the fold of them, and they are always recorded. The member is one of the group.
     pub fn checkpoint_received(&self, member: Member) -> u32
         requires { member < self.now.config.members }
         ensures value { result ≡ (checkpoint_of self.now member).received }

@@ -42,7 +42,12 @@ sent_again-short f s work q p k short = at (set.contains s q || set.contains s p
   at true =
       let beyond = logged_beyond (work q).log p (last_from (work p) q) in
       let left = length-left (λ (l : Logged). l.to == p && nat_lt (last_from (work p) q) l.ssn) (work q).log in
-      omega (arith, short, left, length-map beyond (λ (x : ℕ × Note). let v : Message =
-          record { from = q; to = p; ssn = x.0; note = x.1; carried = piggybacked f (work q).table } in v),
-          length-map (filter (λ (l : Logged). l.to == p && nat_lt (last_from (work p) q) l.ssn) (work q).log) (λ (l : Logged). let x : ℕ × Note = (l.ssn, l.note) in x))
+      omega (
+        arith,
+        short,
+        left,
+        length-map beyond (λ (x : ℕ × Note). let v : Message =
+            record { from = q; to = p; ssn = x.0; note = x.1; carried = piggybacked f (work q).table } in v),
+        length-map (filter (λ (l : Logged). l.to == p && nat_lt (last_from (work p) q) l.ssn) (work q).log) (λ (l : Logged). let x : ℕ × Note = (l.ssn, l.note) in x),
+      )
   at false = omega arith

@@ -54,7 +54,7 @@ in_flight-made n u (x ∷ made) q p obeys =
     let rest = in_flight-made n (u ++ send_mark x ∷ []) made q p next in
     let one = in_flight-send n u (WellFormed-front n u (send_mark x ∷ []) front) x.from x.ssn x.to q p (MayFollow-last n u (send_mark x) front) in
     ap (λ (t : List Mark). in_flight t q p) (sym (append_assoc u (send_mark x ∷ []) (map send_mark made))) ∙ rest
-        ∙ ap (λ (ys : List ℕ). ys ++ filter_map (sent_on q p) (map send_mark made)) one
+    ∙ ap (λ (ys : List ℕ). ys ++ filter_map (sent_on q p) (map send_mark made)) one
     ∙ append_assoc (in_flight u q p) _ _ ∙ ap (λ (ys : List ℕ). in_flight u q p ++ ys) (joined (x.from == q && x.to == p))
   where
     joined : (b : Bool) → cond b (x.ssn ∷ []) [] ++ filter_map (sent_on q p) (map send_mark made) ≡ cons_option (cond b (Some x.ssn) None) (filter_map (sent_on q p) (map send_mark made))
@@ -88,11 +88,11 @@ channel-delivered n t v rsn made channel q p obeys was =
     let front : WellFormed n (t ++ R ∷ []) = WellFormed-front n (t ++ R ∷ []) (map send_mark made) next in
     let one = in_flight-receipt n t (WellFormed-front n t (R ∷ []) front) v.to rsn v.from v.ssn q p (MayFollow-last n t R front) in
     let all : in_flight (t ++ R ∷ map send_mark made) q p
-        ≡ cond (v.from == q && v.to == p) (drop 1 (in_flight t q p)) (in_flight t q p) ++ filter_map (sent_on q p) (map send_mark made) =
-        ap (λ (u : List Mark). in_flight u q p) (sym (append_assoc t (R ∷ []) (map send_mark made))) ∙ in_flight-made n (t ++ R ∷ []) made q p next
-        ∙ ap (λ (ys : List ℕ). ys ++ filter_map (sent_on q p) (map send_mark made)) one in
+    ≡ cond (v.from == q && v.to == p) (drop 1 (in_flight t q p)) (in_flight t q p) ++ filter_map (sent_on q p) (map send_mark made) =
+    ap (λ (u : List Mark). in_flight u q p) (sym (append_assoc t (R ∷ []) (map send_mark made))) ∙ in_flight-made n (t ++ R ∷ []) made q p next
+    ∙ ap (λ (ys : List ℕ). ys ++ filter_map (sent_on q p) (map send_mark made)) one in
     rw (all, map-append send_mark, map-append (λ ssn. Send q ssn p), messages_between made q p)
-        (ap (λ (ys : List Mark). ys ++ map (λ ssn. Send q ssn p) (filter_map (sent_on q p) (map send_mark made))) (old_part (v.from == q && v.to == p)))
+    (ap (λ (ys : List Mark). ys ++ map (λ ssn. Send q ssn p) (filter_map (sent_on q p) (map send_mark made))) (old_part (v.from == q && v.to == p)))
   where
     old_part : (b : Bool) → map send_mark (cond b (drop 1 channel) channel) ≡ map (λ ssn. Send q ssn p) (cond b (drop 1 (in_flight t q p)) (in_flight t q p))
     old_part true = sym (drop-map send_mark 1 channel) ∙ ap (λ (ys : List Mark). drop 1 ys) was ∙ drop-map (λ ssn. Send q ssn p) 1 (in_flight t q p)

@@ -41,8 +41,11 @@ fifo-one n t (Send q' s p') q p obeys may was =
         ∙ ap (λ (xs : List ℕ). xs ++ in_flight t q p) (sym (append-nil (filter_map (taken_on q p) t)))
         ∙ ap (λ (xs : List ℕ). (filter_map (taken_on q p) t ++ []) ++ xs) (sym (append-nil (in_flight t q p)))
 fifo-one n t (Receipt p' r q' s) q p obeys may was =
-    rw (in_flight-receipt n t obeys p' r q' s q p may, filter_map-append (sent_on q p) t (Receipt p' r q' s ∷ []),
-        filter_map-append (taken_on q p) t (Receipt p' r q' s ∷ [])) (at (q' == q) (p' == p) refl refl)
+    rw (
+      in_flight-receipt n t obeys p' r q' s q p may,
+      filter_map-append (sent_on q p) t (Receipt p' r q' s ∷ []),
+      filter_map-append (taken_on q p) t (Receipt p' r q' s ∷ []),
+    ) (at (q' == q) (p' == p) refl refl)
   where
     first : (xs : List ℕ) → slice_get xs 0 ≡ Some s → xs ≡ s ∷ drop 1 xs
     first [] h = absurd cc
@@ -55,7 +58,7 @@ fifo-one n t (Receipt p' r q' s) q p obeys may was =
         let e2 : p' ≡ p = grind (arith, nat_tests) in
         let front : slice_get (in_flight t q p) 0 ≡ Some s = rw (← e1, ← e2) may.5 in
         append-nil (filter_map (sent_on q p) t) ∙ was ∙ ap (λ (xs : List ℕ). filter_map (taken_on q p) t ++ xs) (first (in_flight t q p) front)
-            ∙ sym (append_assoc (filter_map (taken_on q p) t) (s ∷ []) (drop 1 (in_flight t q p)))
+        ∙ sym (append_assoc (filter_map (taken_on q p) t) (s ∷ []) (drop 1 (in_flight t q p)))
     at true false ea eb = append-nil (filter_map (sent_on q p) t) ∙ was ∙ ap (λ (xs : List ℕ). xs ++ in_flight t q p) (sym (append-nil (filter_map (taken_on q p) t)))
     at false b ea eb = append-nil (filter_map (sent_on q p) t) ∙ was ∙ ap (λ (xs : List ℕ). xs ++ in_flight t q p) (sym (append-nil (filter_map (taken_on q p) t)))
 
@@ -91,7 +94,7 @@ pub in_flight-beyond : (n : ℕ) (t : List Mark) (q p : ℕ) → WellFormed n t 
 in_flight-beyond n t q p obeys =
     let order = fifo n t q p obeys in
     ap (filter (λ x. nat_lt (last_taken t q p) x)) order
-        ∙ (beyond-last 0 (filter_map (taken_on q p) t) (in_flight t q p) (λ i x here. sent-positive n t q p i x obeys (rw order here)) (λ x y apart. sent-rises n t obeys q p x y (rw order apart)))
+    ∙ (beyond-last 0 (filter_map (taken_on q p) t) (in_flight t q p) (λ i x here. sent-positive n t q p i x obeys (rw order here)) (λ x y apart. sent-rises n t obeys q p x y (rw order apart)))
 
 -- the log's numbers beyond one
 beyond-sent : (t : List Event) (q p k : ℕ) → map (λ (s : ℕ × Note). s.0) (logged_beyond (filter_map (logged_of q) t) p k)
@@ -101,7 +104,7 @@ beyond-sent (event.Send q' s to x ∷ t) q p k = at (q' == q) (to == p) (nat_lt 
   at : (a b c : Bool) → (to == p) ≡ b → nat_lt k s ≡ c
       → map (λ (y : ℕ × Note). y.0) (logged_beyond (filter_map (logged_of q) t) p k) ≡ filter (λ y. nat_lt k y) (filter_map (sent_on q p) (map mark_of t))
       → map (λ (y : ℕ × Note). y.0) (logged_beyond (cons_option (cond a (Some (record { ssn = s; to = to; note = x })) None)
-          (filter_map (logged_of q) t)) p k) ≡ filter (λ y. nat_lt k y) (cons_option (cond (a && b) (Some s) None) (filter_map (sent_on q p) (map mark_of t)))
+      (filter_map (logged_of q) t)) p k) ≡ filter (λ y. nat_lt k y) (cons_option (cond (a && b) (Some s) None) (filter_map (sent_on q p) (map mark_of t)))
   at true true true eb ec ih = rw (eb, ec) (ap (λ (ys : List ℕ). s ∷ ys) ih)
   at true true false eb ec ih = rw (eb, ec) ih
   at true false c eb ec ih = rw eb ih
@@ -147,18 +150,18 @@ module _ (next : Next) (r : GroupRecord) (lawful : Lawful next r.config.members 
 
   message-at : (v : Message) → Contains (resent_to r.config.f q p (member r q) (member r p)) v
       → (i : ℕ) × (s : ℕ × Note) × (slice_get (logged_beyond (member r q).log p (last_from (member r p) q)) i ≡ Some s)
-          × (◌≡◌ {A = Message} (record { from = q; to = p; ssn = s.0; note = s.1; carried = piggybacked r.config.f (member r q).table }) v)
+      × (◌≡◌ {A = Message} (record { from = q; to = p; ssn = s.0; note = s.1; carried = piggybacked r.config.f (member r q).table }) v)
   message-at v among =
       let here = slice_get-get_or (resent_to r.config.f q p (member r q) (member r p)) among.0 v among.1 ∙ ap Some among.2 in
       let a = map-At (λ (s : ℕ × Note). record { from = q; to = p; ssn = s.0; note = s.1; carried = piggybacked r.config.f (member r q).table })
-          (logged_beyond (member r q).log p (last_from (member r p) q)) among.0 v here in
+      (logged_beyond (member r q).log p (last_from (member r p) q)) among.0 v here in
       (among.0, a.0, a.1, a.2)
 
   note-resent : (v : Message) → Contains (resent_to r.config.f q p (member r q) (member r p)) v → note_of r.trace v.from v.ssn ≡ Some v.note
   note-resent v among =
       let m = message-at v among in
       let there : slice_get (logged_beyond (filter_map (logged_of q) r.trace) p (last_from (member r p) q)) m.0 ≡ Some m.1 =
-          ap (λ (log : List Logged). slice_get (logged_beyond log p (last_from (member r p) q)) m.0) (sym the-log) ∙ m.2 in
+      ap (λ (log : List Logged). slice_get (logged_beyond log p (last_from (member r p) q)) m.0) (sym the-log) ∙ m.2 in
       let sent = logged_beyond-sent r.trace q p (last_from (member r p) q) m.0 m.1 there in
       let noted = sent-noted r.config.members r.trace lawful.well_formed sent.0 q m.1.0 sent.1 m.1.1 sent.2 in
       let from : q ≡ v.from = ap (λ (x : Message). x.from) m.3 in

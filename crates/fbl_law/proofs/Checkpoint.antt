@@ -28,8 +28,15 @@ module _ (n f : ℕ) (old new : Knowledge) (p : ℕ) (s : IsCheckpointed old new
   source (in_message v) flies = (in_message v, record { there = rw (s.channels v.from v.to) at flies; owner = refl; entries = refl; owes = λ b there owes. (rw s.trace at there, owes) })
   source (in_checkpoint m) there = elim (cases_eq m p) [
     | inl same ↦ (in_table p, record { there = was_up p; owner = same; entries = rw same s.table; owes = λ b there owes. (rw s.trace at there, owes.0 ∙ same) })
-    | inr other ↦ (in_checkpoint m, record { there = tt; owner = refl; entries = ap (λ (x : MemberRecord). x.table) (s.others m other);
-        owes = λ b there owes. (rw s.trace at there, (owes.0, rw (s.others m other) at owes.1)) })
+    | inr other ↦ (
+      in_checkpoint m,
+      record {
+        there = tt;
+        owner = refl;
+        entries = ap (λ (x : MemberRecord). x.table) (s.others m other);
+        owes = λ b there owes. (rw s.trace at there, (owes.0, rw (s.others m other) at owes.1));
+      },
+    )
   ]
 
   good : (k : Store) → IsThere new k → IsSoundAt f new k

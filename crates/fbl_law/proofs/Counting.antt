@@ -113,7 +113,7 @@ beyond-of past p (d ∷ ds) = at (d.to == p) (beyond past d) refl refl (beyond-o
   at : (a b : Bool) → (d.to == p) ≡ a → beyond past d ≡ b
       → filter (λ (x : Determinant). x.to == p) (filter (beyond past) ds) ≡ filter (λ (x : Determinant). nat_lt (past p) x.rsn) (filter (λ (x : Determinant). x.to == p) ds)
       → filter (λ (x : Determinant). x.to == p) (cond (beyond past d) (d ∷ filter (beyond past) ds) (filter (beyond past) ds))
-          ≡ filter (λ (x : Determinant). nat_lt (past p) x.rsn) (cond (d.to == p) (d ∷ filter (λ (x : Determinant). x.to == p) ds) (filter (λ (x : Determinant). x.to == p) ds))
+      ≡ filter (λ (x : Determinant). nat_lt (past p) x.rsn) (cond (d.to == p) (d ∷ filter (λ (x : Determinant). x.to == p) ds) (filter (λ (x : Determinant). x.to == p) ds))
   at true true ea eb ih = (let e = own ea ∙ eb in rw (eb, ea, e) (ap (λ (xs : List Determinant). d ∷ xs) ih))
   at true false ea eb ih = (let e = own ea ∙ eb in rw (eb, ea, e) ih)
   at false true ea eb ih = rw (eb, ea) ih
@@ -135,7 +135,7 @@ pub count_in-beyond : (s : Members) (past : ℕ → ℕ) (n m : ℕ) (t : List M
 count_in-beyond s past n m t within obeys =
     count_in-same s (λ p. length (receipts_at t p) - past p) (λ p. length (filter (λ (d : Determinant). d.to == p) (filter (beyond past) (receipts t)))) n
     (λ p below among. sym (ap length (beyond-of past p (receipts t))
-        ∙ beyond-numbered (past p) 0 (receipts_at t p) (λ j d here. omega (arith, receipts_at-number m t p j d obeys here)) ∙ omega arith))
+    ∙ beyond-numbered (past p) 0 (receipts_at t p) (λ j d here. omega (arith, receipts_at-number m t p j d obeys here)) ∙ omega arith))
     ∙ count_in-determinants s n (filter (beyond past) (receipts t)) within ∙ ap length (filter-both (is_of s) (beyond past) (receipts t))
 
 module _ (next : Next) (old : GroupRecord) (sound : IsSound next old) (new : List Event) (cut : IsEventCut (Stays (knowledge old)) old.trace new) where

@@ -105,7 +105,7 @@ module _ (next : Next) (old : GroupRecord) (sound : IsSound next old) (new : Lis
       at true is = rw is (same-test (nat_le k (length (work q).log)) (cut.0 (Send q k to))
           (λ within. send-left q k to may.0 there (omega (arith, may.3)) (grind (arith, nat_tests)))
           (λ kept. (let number = sent-number old.config.members (map mark_of new) obeys-cut q k to (kept-left (Send q k to) there kept) in
-              let count = log-sent q may.0 in let le : k ≤ length (work q).log = omega (arith, number, count) in grind (arith, nat_tests))))
+          let count = log-sent q may.0 in let le : k ≤ length (work q).log = omega (arith, number, count) in grind (arith, nat_tests))))
   agrees i (event.Receipt p r q k) here = at (set.contains old.down p) refl
     where
       there : Has (marks old) (Receipt p r q k)
@@ -119,10 +119,10 @@ module _ (next : Next) (old : GroupRecord) (sound : IsSound next old) (new : Lis
       at true is = rw is (same-test (nat_le r (work p).received) (cut.0 (Receipt p r q k))
           (λ within. receipt-left p r q k may.1 there (omega (arith, may.3)) (grind (arith, nat_tests)))
           (λ kept. (let number : r ≡ r - 1 + 1 = omega (arith, may.3) in
-              let place = Has-receipts_at old.config.members (map mark_of new) p (r - 1) (record { from = q; ssn = k; to = p; rsn = r }) obeys-cut
-              (kept-left (Receipt p r q k) there kept) refl number in
+          let place = Has-receipts_at old.config.members (map mark_of new) p (r - 1) (record { from = q; ssn = k; to = p; rsn = r }) obeys-cut
+          (kept-left (Receipt p r q k) there kept) refl number in
           let below = slice_get_within (receipts_at (map mark_of new) p) (r - 1) (record { from = q; ssn = k; to = p; rsn = r }) place in
-              let count = all p may.1 in let le : r ≤ (work p).received = omega (arith, below, count) in grind (arith, nat_tests))))
+          let count = all p may.1 in let le : r ≤ (work p).received = omega (arith, below, count) in grind (arith, nat_tests))))
 
   -- the events that stay by the members' counts are the cut
   pub stays_by-cut : filter (λ e. stays_by old.down work (mark_of e)) old.trace ≡ new

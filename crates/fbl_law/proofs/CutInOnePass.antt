@@ -135,7 +135,7 @@ module _ (L : Mark → Bool) where
   pass-filter n t u [] stopped obeys is state = refl
   pass-filter n t u (e ∷ rest) stopped obeys is state =
       at (set.contains stopped (member_of (mark_of e))) (L (mark_of e)) refl refl (pass-filter n t (u ++ e ∷ []) rest stopped obeys next)
-          (pass-filter n t (u ++ e ∷ []) rest (set.insert stopped (member_of (mark_of e))) obeys next)
+      (pass-filter n t (u ++ e ∷ []) rest (set.insert stopped (member_of (mark_of e))) obeys next)
     where
       M : List Mark
       M = map mark_of u
@@ -178,7 +178,7 @@ module _ (L : Mark → Bool) where
         by true eq =
             let same : member_of (mark_of e) ≡ m = eqb-true (member_of (mark_of e)) m eq in
             let here : set.contains (set.insert stopped (member_of (mark_of e))) m ≡ true =
-                ap (λ x. set.contains (set.insert stopped (member_of (mark_of e))) x) (sym same) ∙ contains-insert_same stopped (member_of (mark_of e)) in
+            ap (λ x. set.contains (set.insert stopped (member_of (mark_of e))) x) (sym same) ∙ contains-insert_same stopped (member_of (mark_of e)) in
             here ∙ sym (or_right (list_any (of_member m) M) true refl) ∙ sym (more m ∙ (rw (lost, eq) refl))
         by false eq =
             let other : m ≢ member_of (mark_of e) = (λ same. (let yes' : (member_of (mark_of e) == m) ≡ true = rw same (eqb-self (member_of (mark_of e))) in cc)) in
@@ -190,9 +190,9 @@ module _ (L : Mark → Bool) where
       at : (a b : Bool) → set.contains stopped (member_of (mark_of e)) ≡ a → L (mark_of e) ≡ b
           → (((m : ℕ) → set.contains stopped m ≡ list_any (of_member m) (map mark_of (u ++ e ∷ []))) → pass stopped rest ≡ filter (λ x. not (loses (map mark_of t) (mark_of x))) rest)
           → (((m : ℕ) → set.contains (set.insert stopped (member_of (mark_of e))) m ≡ list_any (of_member m) (map mark_of (u ++ e ∷ [])))
-              → pass (set.insert stopped (member_of (mark_of e))) rest ≡ filter (λ x. not (loses (map mark_of t) (mark_of x))) rest)
+          → pass (set.insert stopped (member_of (mark_of e))) rest ≡ filter (λ x. not (loses (map mark_of t) (mark_of x))) rest)
           → cond a (pass stopped rest) (cond b (pass (set.insert stopped (member_of (mark_of e))) rest) (e ∷ pass stopped rest))
-              ≡ cond (not (loses (map mark_of t) (mark_of e))) (e ∷ filter (λ x. not (loses (map mark_of t) (mark_of x))) rest) (filter (λ x. not (loses (map mark_of t) (mark_of x))) rest)
+          ≡ cond (not (loses (map mark_of t) (mark_of e))) (e ∷ filter (λ x. not (loses (map mark_of t) (mark_of x))) rest) (filter (λ x. not (loses (map mark_of t) (mark_of x))) rest)
       at true b ea eb same stops = (let gone : loses (map mark_of t) (mark_of e) ≡ true = told ∙ (rw ea refl) in rw gone (same (still ea)))
       at false true ea eb same stops = (let gone : loses (map mark_of t) (mark_of e) ≡ true = told ∙ (rw (ea, eb) refl) in rw gone (stops (stops-here eb)))
       at false false ea eb same stops = (let left : loses (map mark_of t) (mark_of e) ≡ false = told ∙ (rw (ea, eb) refl) in rw left (ap (λ (xs : List Event). e ∷ xs) (same (unlost eb))))
@@ -202,13 +202,13 @@ cut_from-pass : (s : Members) (held : List Entry) (stopped : Members) (t : List 
 cut_from-pass s held stopped [] = refl
 cut_from-pass s held stopped (e ∷ t) = at (set.contains stopped (member_of (mark_of e))) (stops_at s held (mark_of e))
     (cut_from-pass s held stopped t) (cut_from-pass s held (set.insert stopped (member_of (mark_of e))) t) where
-  at : (a b : Bool) → cut_from s held stopped t ≡ pass (stops_at s held) stopped t
-      → cut_from s held (set.insert stopped (member_of (mark_of e))) t ≡ pass (stops_at s held) (set.insert stopped (member_of (mark_of e))) t
-      → cond a (cut_from s held stopped t) (cond b (cut_from s held (set.insert stopped (member_of (mark_of e))) t) (e ∷ cut_from s held stopped t))
+      at : (a b : Bool) → cut_from s held stopped t ≡ pass (stops_at s held) stopped t
+          → cut_from s held (set.insert stopped (member_of (mark_of e))) t ≡ pass (stops_at s held) (set.insert stopped (member_of (mark_of e))) t
+          → cond a (cut_from s held stopped t) (cond b (cut_from s held (set.insert stopped (member_of (mark_of e))) t) (e ∷ cut_from s held stopped t))
           ≡ cond a (pass (stops_at s held) stopped t) (cond b (pass (stops_at s held) (set.insert stopped (member_of (mark_of e))) t) (e ∷ pass (stops_at s held) stopped t))
-  at true b same stops = same
-  at false true same stops = stops
-  at false false same stops = ap (λ (xs : List Event). e ∷ xs) same
+      at true b same stops = same
+      at false true same stops = stops
+      at false false same stops = ap (λ (xs : List Event). e ∷ xs) same
 
 module _ (next : Next) (old : GroupRecord) (sound : IsSound next old) where
   abbrev lost : Mark → Bool
@@ -243,22 +243,22 @@ module _ (next : Next) (old : GroupRecord) (sound : IsSound next old) where
           let d : set.contains old.down c.to ≡ true = ap (λ x. set.contains old.down x) at_e ∙ down in
           let l : lost (receipt_of c) ≡ true = rw (d, unheld) refl in
           let gone = found-loses lost (marks old) e (receipt_of c) place.0 place.1 place.2 place.3 place.4
-              (λ k less there. once old.config.members (marks old) e k place.1 sound.lawful.well_formed there place.4 less) l at_e in
+          (λ k less there. once old.config.members (marks old) e k place.1 sound.lawful.well_formed there place.4 less) l at_e in
           let kept' = not-true (loses lost (marks old) e) kept in
           cc
 
   stays-keep : (e : Mark) → Has (marks old) e → Stays (knowledge old) e → keep e ≡ true
   stays-keep e has stays = not_from_false (loses lost (marks old) e)
       (false_from_ne_true (loses lost (marks old) e) (λ gone. (let r = loses-found lost (marks old) e has gone in at r.0 r.1 r.2 r.3))) where
-    at : (c : Mark) → lost c ≡ true → member_of c ≡ member_of e → UpTo (marks old) c e → ⊥
-    at (Send q k to) is same up_to = cc
-    at (Receipt to r q k) is same up_to =
-        let parts = and_parts (set.contains old.down to) _ is in
-        let d : Determinant = record { from = q; ssn = k; to = to; rsn = r } in
-        let recorded = stays (ap (λ x. set.contains old.down x) (sym same) ∙ parts.0) d same up_to in
-        let held = recorded-held d recorded in
-        let not-held = not-true (is_held (recovery_table (knowledge old)) d) parts.1 in
-        cc
+        at : (c : Mark) → lost c ≡ true → member_of c ≡ member_of e → UpTo (marks old) c e → ⊥
+        at (Send q k to) is same up_to = cc
+        at (Receipt to r q k) is same up_to =
+            let parts = and_parts (set.contains old.down to) _ is in
+            let d : Determinant = record { from = q; ssn = k; to = to; rsn = r } in
+            let recorded = stays (ap (λ x. set.contains old.down x) (sym same) ∙ parts.0) d same up_to in
+            let held = recorded-held d recorded in
+            let not-held = not-true (is_held (recovery_table (knowledge old)) d) parts.1 in
+            cc
 
   -- the trace that recovery leaves, computed in one pass, is the cut
   pub recovered_trace-cut : IsEventCut (Stays (knowledge old)) old.trace (recovered_trace old)

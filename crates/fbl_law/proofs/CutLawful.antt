@@ -17,17 +17,15 @@ use Rattle.fbl_base.specs.Events.{At, mark_of, member_of}
 use Rattle.fbl_base.specs.Precedence.{Has, Earlier}
 use Rattle.fbl_base.specs.Rules.{WellFormed}
 use Rattle.fbl_base.specs.Events.{receipt_of}
-use Rattle.fbl_base.specs.Fold.{Next, Action, took, sent, action_of, actions_of, notes_of, note_of, responses, start_of, starts_of, Lawful}
-use Rattle.fbl_base.proofs.Gets.{At-filter, filter_map-agree, At-front, At-below, slice_get-take}
+use Rattle.fbl_base.specs.Fold.{Next, Action, took, sent, action_of, actions_of, notes_of, responses, start_of, starts_of, Lawful}
+use Rattle.fbl_base.proofs.Gets.{filter_map-agree, At-front, At-below, slice_get-take}
 use Rattle.fbl_base.proofs.PlacesAndEvents.{one_place}
-use Rattle.fbl_base.proofs.RulesLaws.{sent-before}
 use Rattle.fbl_base.proofs.InFlightLaws.{filter_all}
 use Rattle.fbl_base.proofs.LawfulLaws.{filter_map-shorter, receipts-noted, notes_of-sent, notes_of-append, Lawful-begun}
-use Rattle.fbl_law.proofs.Lists.{At-append, At-seam, filter-passes}
+use Rattle.fbl_law.proofs.Lists.{At-append, At-seam}
 use Rattle.fbl_law.proofs.Appended.{Has-append}
 use Rattle.fbl_law.proofs.CutWellFormed.{KeepsCauses, WellFormed-kept, marks-filter}
-use Rattle.fbl_law.proofs.CutNotes.{note-left}
-use Rattle.fbl_law.proofs.Notes.{noted-sent, send-mark, one-send}
+use Rattle.fbl_law.proofs.CutNotes.{note-same}
 
 -- an action, and whether it is kept
 abbrev Flagged : Type 0
@@ -82,7 +80,7 @@ notes_of-responses next p n state (note ∷ notes) =
     let sends = (next p n state note).sends.items in
     let rest = responses next p n (next p n state note).state notes in
     ap (λ (ys : List Note). note ∷ ys) (notes_of-append (map sent sends) rest ∙ ap (λ (ys : List Note). ys ++ notes_of rest) (notes_of-sent sends)
-        ∙ notes_of-responses next p n (next p n state note).state notes)
+    ∙ notes_of-responses next p n (next p n state note).state notes)
 
 -- so a member's kept actions are those of a run
 responds_kept : (next : Next) (p n : ℕ) (sends : List (ℕ × Note)) (notes : List Note) (fs : List Flagged) → Orderly true fs
@@ -92,14 +90,14 @@ responds_kept next p n sends notes fs o is =
     let some = responses_kept next p n 0 notes r.0 r.2 r.1 in
     let all : kept fs ≡ map sent sends ++ responses next p n 0 some.0 = r.3 ∙ ap (λ (ys : List Action). map sent sends ++ ys) some.1 in
     let taken : notes_of (kept fs) ≡ some.0 = ap notes_of all ∙ notes_of-append (map sent sends) (responses next p n 0 some.0)
-        ∙ ap (λ (ys : List Note). ys ++ notes_of (responses next p n 0 some.0)) (notes_of-sent sends) ∙ notes_of-responses next p n 0 some.0 in
+    ∙ ap (λ (ys : List Note). ys ++ notes_of (responses next p n 0 some.0)) (notes_of-sent sends) ∙ notes_of-responses next p n 0 some.0 in
     rw taken all
 
 -- a send is kept where each receipt of its member that comes before it is
 abbrev pub KeepsResponses : (Mark → Bool) → List Mark → Type 0
 KeepsResponses keep t =
     (e : Mark) → Has t e → ((d : Determinant) → ¬ (e ≡ receipt_of d))
-        → ((d : Determinant) → d.to ≡ member_of e → Earlier t (receipt_of d) e → keep (receipt_of d) ≡ true) → keep e ≡ true
+    → ((d : Determinant) → d.to ≡ member_of e → Earlier t (receipt_of d) e → keep (receipt_of d) ≡ true) → keep e ≡ true
 
 only : (x y : Mark) → Has (x ∷ []) y → x ≡ y
 only x y h = at h.0 h.1 where
@@ -159,8 +157,13 @@ module _ (n : ℕ) (keep : Mark → Bool) (t : List Event) (obeys : WellFormed n
 
   earlier_of : (u : List Event) (e : Event) (rest : List Event) → t ≡ u ++ e ∷ rest → (x : Mark) → Has (map mark_of u) x → Earlier M x (mark_of e)
   earlier_of u e rest is x h =
-      rw (split u e rest is) (h.0, length (map mark_of u), At-below (map mark_of u) h.0 x h.1,
-          At-front (map mark_of u) (mark_of e ∷ map mark_of rest) h.0 x h.1, At-seam (map mark_of u) (mark_of e) (map mark_of rest))
+      rw (split u e rest is) (
+        h.0,
+        length (map mark_of u),
+        At-below (map mark_of u) h.0 x h.1,
+        At-front (map mark_of u) (mark_of e ∷ map mark_of rest) h.0 x h.1,
+        At-seam (map mark_of u) (mark_of e) (map mark_of rest),
+      )
 
   earlier_back : (u : List Event) (e : Event) (rest : List Event) → t ≡ u ++ e ∷ rest → (x : Mark) → Earlier M x (mark_of e) → Has (map mark_of u) x
   earlier_back u e rest is x h =
@@ -238,26 +241,11 @@ module _ (n : ℕ) (keep : Mark → Bool) (t : List Event) (obeys : WellFormed n
   orderly : Orderly true (flagged t)
   orderly = orderly_from true [] t refl (λ yes' d to has. absurd (let here : At [] has.0 (receipt_of d) = has.1 in cc), λ no'. absurd cc)
 
-  -- the notes of kept receipts stay
-  note_stays : (i to rsn from ssn : ℕ) → slice_get t i ≡ Some (Receipt to rsn from ssn) → keep (mark.Receipt to rsn from ssn) ≡ true
-      → note_of (filter keeps t) from ssn ≡ note_of t from ssn
-  note_stays i to rsn from ssn here kept' =
-      let at_mark : At M i (mark.Receipt to rsn from ssn) = slice_get-map mark_of t i ∙ (rw here) in
-      let sent' = sent-before n M obeys i to rsn from ssn at_mark in
-      let send_kept : keep (mark.Send from ssn to) ≡ true = causes (mark.Send from ssn to) (mark.Receipt to rsn from ssn) kept' ((sent'.0, i, sent'.1, sent'.2, at_mark), inr refl) in
-      let noted = receipts-noted n t obeys i to rsn from ssn here in
-      let sent = noted-sent t from ssn noted.0 noted.1 in
-      let same : to ≡ sent.1 = one-send n M obeys from ssn to sent.1 (sent'.0, sent'.2) (sent.0, send-mark t sent.0 from ssn sent.1 noted.0 sent.2) in
-      note-left n keep t obeys causes sent.0 from ssn sent.1 noted.0 sent.2 (ap (λ x. keep (mark.Send from ssn x)) (sym same) ∙ send_kept) ∙ sym noted.1
-
   same_actions : filter_map (action_of (filter keeps t) p) (filter keeps t) ≡ filter_map (action_of t p) (filter keeps t)
   same_actions = filter_map-agree (action_of (filter keeps t) p) (action_of t p) (filter keeps t) agree where
     agree : (i : ℕ) (e : Event) → slice_get (filter keeps t) i ≡ Some e → action_of (filter keeps t) p e ≡ action_of t p e
     agree i (Send q k to x) here = refl
-    agree i (Receipt to r q k) here =
-        let was = At-filter keeps t i (Receipt to r q k) here in
-        let e : note_of (filter keeps t) q k ≡ note_of t q k = note_stays was.0 to r q k was.1 (filter-passes keeps t i (Receipt to r q k) here) in
-        rw e refl
+    agree i (Receipt to r q k) here = (let e = note-same n keep t obeys causes i to r q k here in rw e refl)
 
   pub responds_left : (next : Next) (starts : List Start) → actions_of t p ≡ map sent (starts_of p starts) ++ responses next p n 0 (notes_of (actions_of t p))
       → actions_of (filter keeps t) p ≡ map sent (starts_of p starts) ++ responses next p n 0 (notes_of (actions_of (filter keeps t) p))

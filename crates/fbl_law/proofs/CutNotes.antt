@@ -1,5 +1,5 @@
 -- What a cut keeps of notes and actions.
-use Rattle.std.proofs.Common.{◌≡◌, ℕ, ◌==◌, ◌⊎◌, inl, inr, Bool, true, false, List, map, Some, None, slice_get, refl, ◌∙◌, arith}
+use Rattle.std.proofs.Common.{◌≡◌, ℕ, ◌==◌, ◌⊎◌, inl, inr, Bool, true, false, List, map, Some, None, slice_get, refl, sym, ◌∙◌, arith}
 use Rattle.std.specs.List.{filter, filter_map}
 use Rattle.std.proofs.lemmas.Bool.Decides.{nat_tests}
 use Rattle.std.proofs.lemmas.Option.{slice_get-map}
@@ -33,6 +33,10 @@ module _ (n : ℕ) (keep : Mark → Bool) (t : List Event) (obeys : WellFormed n
       let was = At-filter (λ e. keep (mark_of e)) t sent.0 (Send q k sent.1 x) sent.2 in
       sent-noted n t obeys was.0 q k sent.1 x was.1
 
+  -- so the note of a receipt that is left is the one that it had
+  pub note-same : (i to r q k : ℕ) → slice_get left i ≡ Some (Receipt to r q k) → note_of left q k ≡ note_of t q k
+  note-same i to r q k here = let noted = receipts-noted n left left-obeys i to r q k here in noted.1 ∙ sym (note-was q k noted.0 noted.1)
+
   -- the note of a send that is kept is left
   pub note-left : (i q k to : ℕ) (x : Note) → slice_get t i ≡ Some (Send q k to x) → keep (mark.Send q k to) ≡ true → note_of left q k ≡ Some x
   note-left i q k to x here kept =
@@ -62,10 +66,7 @@ module _ (n : ℕ) (keep : Mark → Bool) (t : List Event) (obeys : WellFormed n
       at true is =
           let kept : keep (mark.Receipt to r q k) ≡ true = all (mark.Receipt to r q k) (Has-mark i (Receipt to r q k) here) (let same : to ≡ m = grind (arith, nat_tests) in same) in
           let place = filter-At (λ e. keep (mark_of e)) t i (Receipt to r q k) here kept in
-          let noted = receipts-noted n left left-obeys place.0 to r q k place.1 in
-          let was : note_of t q k ≡ Some noted.0 = note-was q k noted.0 noted.1 in
-          let now : note_of left q k ≡ Some noted.0 = noted.1 in
-          inl (kept, (rw (now, was) refl))
+          inl (kept, (let same = note-same place.0 to r q k place.1 in rw same refl))
       at false is = inr (rw is refl, rw is refl)
 
     -- the actions of a member whose events are all kept stay
@@ -75,5 +76,5 @@ module _ (n : ℕ) (keep : Mark → Bool) (t : List Event) (obeys : WellFormed n
     pub last_taken-stays : (q : ℕ) → last_taken (map mark_of left) q m ≡ last_taken (map mark_of t) q m
     last_taken-stays q =
         let same : filter_map (taken_on q m) (filter keep (map mark_of t)) ≡ filter_map (taken_on q m) (map mark_of t) =
-            map-kept keep (taken_on q m) (map mark_of t) (λ e y there is. all e there (taken_at q m y e is)) in
+        map-kept keep (taken_on q m) (map mark_of t) (λ e y there is. all e there (taken_at q m y e is)) in
         rw (marks-filter keep t, same) refl

@@ -143,7 +143,7 @@ module _ (n : ℕ) (keep : Mark → Bool) (u : List Mark) (obeys : WellFormed n 
       (may.0, may.1, may.2, omega (arith, may.3, count), omega (arith, may.4, length-left keep u))
   MayFollow-kept (Receipt to rsn from ssn) may causes =
       let count : receipts_of (filter keep u) to ≡ receipts_of u to =
-          count-kept keep (is_receipt_of to) u (of_member (is_receipt_of to) to (receipts_at to) (λ a h same. causes a h (inl same))) in (
+      count-kept keep (is_receipt_of to) u (of_member (is_receipt_of to) to (receipts_at to) (λ a h same. causes a h (inl same))) in (
         may.0,
         may.1,
         may.2,

@@ -197,7 +197,7 @@ module _ (n f : ℕ) (old new : Knowledge) (v : Message) (rsn : ℕ) (made : Lis
     | inl before ↦
         let was = taken_off-was v x.from x.to (old.channel x.from x.to) x before in
         sound_kept f old new keeps sound.truth sound.closed (in_message x) (in_message x) there
-            (record { there = was; owner = refl; entries = refl; owes = still_owes (in_message x) was (λ same. cc) })
+        (record { there = was; owner = refl; entries = refl; owes = still_owes (in_message x) was (λ same. cc) })
     | inr after ↦
         let is = s.messages x (Contains-from_filter (is_on x.from x.to) made x after) in
         sound_passed f new x (rw is.0 good_receiver) (rw is.0 is.1)

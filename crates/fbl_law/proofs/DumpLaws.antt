@@ -114,7 +114,7 @@ module _ (next : Next) (r : GroupRecord) (sound : IsSound next r) where
       let where_held = pairs_from-At 0 r.members i h at in
       let fits : length (held_pairs r) ≤ 8192 * length r.members =
       pairs_fit 0 r.members (λ j below. (let t = table_fits j (distinct j (omega (arith, below, sound.members))) in
-          omega (arith, t, filter_map-shorter determinant_of (marks r), trace_fits next r sound))) in
+      omega (arith, t, filter_map-shorter determinant_of (marks r), trace_fits next r sound))) in
       let below : i < length (held_pairs r) = At-below (held_pairs r) i h at in
       let few : length r.members ≤ 16 = omega (arith, sound.members, sound.config.members.1) in
       let holder : h.0 < r.config.members = omega (arith, where_held.1, where_held.2, sound.members) in

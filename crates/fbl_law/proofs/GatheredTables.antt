@@ -110,9 +110,12 @@ module _ (f : ℕ) (r : Knowledge) (empty : IsDownEmpty f r) where
   entries_gathered e among =
       let was = Contains-changed (mark r.down) (gathered_all [] sources) e among in
       let known = gathered_all-keeps IsKnown join_known [] sources (λ x h. absurd (Contains-none x h))
-          (λ t x h k. elim (Contains-append_cases (map (λ (m : MemberRecord). m.table) r.members) _ t h) [ inl one ↦ table_known t x one k | inr other ↦ saved_known t x other k ]) was.0 was.1 in
-      subst (IsGathered r) was.2 (known.0, (λ m down. Includes-right was.0.known r.down m down),
-          λ m h. elim (Includes-union was.0.known r.down m h) [ inl told ↦ inr (known.1 m told) | inr down ↦ inl down ])
+      (λ t x h k. elim (Contains-append_cases (map (λ (m : MemberRecord). m.table) r.members) _ t h) [ inl one ↦ table_known t x one k | inr other ↦ saved_known t x other k ]) was.0 was.1 in
+      subst (IsGathered r) was.2 (
+        known.0,
+        (λ m down. Includes-right was.0.known r.down m down),
+        λ m h. elim (Includes-union was.0.known r.down m h) [ inl told ↦ inr (known.1 m told) | inr down ↦ inl down ],
+      )
 
   source_gathered : (t : List Entry) (d : Determinant) → Contains sources t → Names t d → Names (recovery_table r) d
   source_gathered t d among named = Names-changed (mark r.down) (λ e. refl) (gathered_all [] sources) d (gathered_all-named [] sources t d among named)
@@ -131,7 +134,7 @@ module _ (f : ℕ) (r : Knowledge) (empty : IsDownEmpty f r) where
         | inl down ↦
             source_gathered (checkpoint r saved.0).table d
             (Contains-append_right (map (λ (m : MemberRecord). m.table) r.members) _ (checkpoint r saved.0).table
-                (Contains-saved r.down r.checkpoints (length r.checkpoints) saved.0 (named_record r.checkpoints saved.0 d saved.1) down))
+            (Contains-saved r.down r.checkpoints (length r.checkpoints) saved.0 (named_record r.checkpoints saved.0 d saved.1) down))
             saved.1
       ]
 
@@ -143,7 +146,7 @@ gathered_all-push table (u ∷ ts) t = gathered_all-push (gathered table u) ts t
 -- the table of one member more
 pub gathered_all-more : (members : List MemberRecord) (i : ℕ) → i < length members
     → gathered_all [] (map (λ (m : MemberRecord). m.table) (take (i + 1) members))
-        ≡ gathered (gathered_all [] (map (λ (m : MemberRecord). m.table) (take i members))) (slice_index_or members i blank).table
+    ≡ gathered (gathered_all [] (map (λ (m : MemberRecord). m.table) (take i members))) (slice_index_or members i blank).table
 gathered_all-more members i below =
     ap (gathered_all []) (map_more (λ (m : MemberRecord). m.table) members i blank below)
-        ∙ gathered_all-push [] (map (λ (m : MemberRecord). m.table) (take i members)) (slice_index_or members i blank).table
+    ∙ gathered_all-push [] (map (λ (m : MemberRecord). m.table) (take i members)) (slice_index_or members i blank).table

@@ -164,13 +164,13 @@ module _ (next : Next) (old new : GroupRecord) (v : Message) (well : SendsWell n
       let a : (v.from == v.from) ≡ true = grind (arith, nat_tests) in
       let b : (v.to == v.to) ≡ true = grind (arith, nat_tests) in
       ap (λ t. last_taken t v.from v.to) marks_split
-          ∙ last_taken-push (marks old) added_marks v.from v.to v.ssn (taken_now v.from v.to ∙ ap (λ c. cond (c && v.to == v.to) (v.ssn ∷ []) []) a ∙ ap (λ c. cond c (v.ssn ∷ []) []) b)
+      ∙ last_taken-push (marks old) added_marks v.from v.to v.ssn (taken_now v.from v.to ∙ ap (λ c. cond (c && v.to == v.to) (v.ssn ∷ []) []) a ∙ ap (λ c. cond c (v.ssn ∷ []) []) b)
 
   other_fold : (m : ℕ) → m < n → m ≢ v.to → IsFold next old m → IsFold next new m
   other_fold m below other f =
       let apart : (v.to == m) ≡ false = (let ne : v.to ≢ m = (λ e. other (sym e)) in grind (arith, nat_tests)) in
       let notes : received_notes new.trace m ≡ received_notes old.trace m = notes_now m
-          ∙ ap (λ b. received_notes old.trace m ++ cond b (v.note ∷ []) []) apart ∙ append-nil (received_notes old.trace m) in
+      ∙ ap (λ b. received_notes old.trace m ++ cond b (v.note ∷ []) []) apart ∙ append-nil (received_notes old.trace m) in
       record {
         progress = rw (other_now m other, s.config, notes) f.progress;
         places = rw (other_now m other) f.places;
@@ -221,7 +221,7 @@ module _ (next : Next) (old new : GroupRecord) (v : Message) (well : SendsWell n
   saved_grown m below =
       replayed-grown next n old.config.starts old.trace new.trace m (checkpoint old m) _ _ sound.lawful.well_formed
       (ap (λ t. receipts_at t m) marks_split ∙ ap (filter (λ (d : Determinant). d.to == m)) (filter_map-append determinant_of (marks old) added_marks)
-          ∙ filter-append (λ (d : Determinant). d.to == m) (receipts (marks old)) (receipts added_marks))
+      ∙ filter-append (λ (d : Determinant). d.to == m) (receipts (marks old)) (receipts added_marks))
       (notes_now m) (sound.saved m below)
 
   IsSound-delivered : IsSound next new

@@ -82,7 +82,7 @@ module _ (next : Next) (old new : GroupRecord) (step : IsRecovery next old new) 
               let was = sound.notes v stayed in
               let is : new.trace ≡ filter (λ e. step.trace.0 (mark_of e)) old.trace = step.trace.1 in
               rw is (note-stays old.config.members step.trace.0 old.trace sound.lawful.well_formed
-                  (cut-causes next old sound new.trace step.trace) v.from v.ssn v.note (cut-keeps_up next old sound new.trace step.trace v.from up) was)
+              (cut-causes next old sound new.trace step.trace) v.from v.ssn v.note (cut-keeps_up next old sound new.trace step.trace v.from up) was)
         ]
       ]
 

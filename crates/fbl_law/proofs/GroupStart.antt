@@ -169,7 +169,7 @@ module _ (next : Next) (config : Settings) (r : GroupRecord) (is : IsConfig conf
   starts_sent : (m : ℕ) → length (starts_of m config.starts) ≡ sends_of (map mark_of events) m
   starts_sent m =
       sym (length-numbered 0 (starts_of m config.starts))
-          ∙ ap (λ (notes : List Note). length (after_notes next m n config.starts notes).log) (sym (no_notes m)) ∙ log-length next n config.starts events m is_lawful
+      ∙ ap (λ (notes : List Note). length (after_notes next m n config.starts notes).log) (sym (no_notes m)) ∙ log-length next n config.starts events m is_lawful
 
   no_checkpoint : (m : ℕ) → ((checkpoint r m).table ≡ []) × ((checkpoint r m).received ≡ 0) × (length (checkpoint r m).log ≤ sends_of (map mark_of r.trace) m)
   no_checkpoint m = elim (cases_lt m n) [

@@ -101,5 +101,5 @@ module _ (f : ℕ) (old new : Knowledge) (keeps : KeepsKnowledge f old new) wher
           let was_named : Names (entries old was) c = rw same.entries at named in
           let fact = known was was_named.0 same.there was_named.1 in
           rw same.entries (NamesCauses-kept (entries old was) (receipt_of c)
-              (subst (λ (x : Determinant). Has old.trace (receipt_of x)) was_named.2 fact.0.0) (closed.named was c same.there was_named));
+          (subst (λ (x : Determinant). Has old.trace (receipt_of x)) was_named.2 fact.0.0) (closed.named was c same.there was_named));
     }

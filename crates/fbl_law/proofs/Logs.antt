@@ -62,12 +62,12 @@ log-fold next p n from (note ∷ notes) =
     let rest = sends_in (responses next p n (next p n from.state note).state notes) in
     let ih = log-fold next p n (advanced next p n from note) notes in
     let long : length (from.log ++ numbered (length from.log) items) ≡ length from.log + length items =
-        length-append from.log (numbered (length from.log) items) ∙ ap (λ x. length from.log + x) (length-numbered (length from.log) items) in
+    length-append from.log (numbered (length from.log) items) ∙ ap (λ x. length from.log + x) (length-numbered (length from.log) items) in
     let whole : sends_in (map sent items ++ responses next p n (next p n from.state note).state notes) ≡ items ++ rest =
-        sends_in-append (map sent items) _ ∙ ap (λ (xs : List (ℕ × Note)). xs ++ rest) (sends_in-sent items) in
+    sends_in-append (map sent items) _ ∙ ap (λ (xs : List (ℕ × Note)). xs ++ rest) (sends_in-sent items) in
     ih ∙ append_assoc from.log (numbered (length from.log) items) _
     ∙ ap (λ (xs : List Logged). from.log ++ xs) (ap (λ x. numbered (length from.log) items ++ numbered x rest) long
-        ∙ sym (numbered-append (length from.log) items rest) ∙ ap (λ (xs : List (ℕ × Note)). numbered (length from.log) xs) (sym whole))
+    ∙ sym (numbered-append (length from.log) items rest) ∙ ap (λ (xs : List (ℕ × Note)). numbered (length from.log) xs) (sym whole))
 
 pub received-fold : (next : Next) (p n : ℕ) (from : Progress) (notes : List Note) → (fold (advanced next p n) from notes).received ≡ from.received + length notes
 received-fold next p n from [] = omega arith
@@ -80,10 +80,10 @@ log-after next p n starts notes =
     let first = starts_of p starts in
     let rest = sends_in (responses next p n 0 notes) in
     let whole : sends_in (map sent first ++ responses next p n 0 notes) ≡ first ++ rest = sends_in-append (map sent first) _
-        ∙ ap (λ (xs : List (ℕ × Note)). xs ++ rest) (sends_in-sent first) in
+    ∙ ap (λ (xs : List (ℕ × Note)). xs ++ rest) (sends_in-sent first) in
     let seam : length (numbered 0 first) ≡ 0 + length first = length-numbered 0 first ∙ omega arith in
     log-fold next p n (begun p starts) notes ∙ ap (λ x. numbered 0 first ++ numbered x rest) seam ∙ sym (numbered-append 0 first rest)
-        ∙ ap (λ (xs : List (ℕ × Note)). numbered 0 xs) (sym whole)
+    ∙ ap (λ (xs : List (ℕ × Note)). numbered 0 xs) (sym whole)
 
 -- it has each number from 1 to its length
 pub log-has : (next : Next) (p n : ℕ) (starts : List Start) (notes : List Note) (ssn : ℕ) → 0 < ssn
@@ -135,14 +135,14 @@ log_from n p all u (Send q k to x ∷ rest) obeys =
     at : (b : Bool) → (q == p) ≡ b → k ≡ sends_of (map mark_of u) q + 1 → sends_of (map mark_of (u ++ Send q k to x ∷ [])) p ≡ sends_of (map mark_of u) p + cond (q == p) 1 0
         → numbered (sends_of (map mark_of (u ++ Send q k to x ∷ [])) p) S ≡ filter_map (logged_of p) rest
         → numbered (sends_of (map mark_of u) p) (sends_in (cons_option (cond b (Some (sent (to, x))) None) (filter_map (action_of all p) rest)))
-            ≡ cons_option (cond b (Some (record { ssn = k; to = to; note = x })) None) (filter_map (logged_of p) rest)
+        ≡ cons_option (cond b (Some (record { ssn = k; to = to; note = x })) None) (filter_map (logged_of p) rest)
     at true is number count ih =
         let same : q ≡ p = grind (arith, nat_tests) in
         let here : sends_of (map mark_of u) p + 1 ≡ k =
-            (let h : sends_of (map mark_of u) q ≡ sends_of (map mark_of u) p = ap (λ y. sends_of (map mark_of u) y) same in omega (arith, h, number)) in
+        (let h : sends_of (map mark_of u) q ≡ sends_of (map mark_of u) p = ap (λ y. sends_of (map mark_of u) y) same in omega (arith, h, number)) in
         let more : sends_of (map mark_of (u ++ Send q k to x ∷ [])) p ≡ sends_of (map mark_of u) p + 1 = count ∙ (rw is refl) in
         ap (λ (y : ℕ). record { ssn = y; to = to; note = x } ∷ numbered (sends_of (map mark_of u) p + 1) S) here
-            ∙ ap (λ (ys : List Logged). record { ssn = k; to = to; note = x } ∷ ys) (ap (λ y. numbered y S) (sym more) ∙ ih)
+        ∙ ap (λ (ys : List Logged). record { ssn = k; to = to; note = x } ∷ ys) (ap (λ y. numbered y S) (sym more) ∙ ih)
     at false is number count ih =
         let more : sends_of (map mark_of (u ++ Send q k to x ∷ [])) p ≡ sends_of (map mark_of u) p = count ∙ (rw is (omega arith)) in
         ap (λ y. numbered y S) (sym more) ∙ ih
@@ -154,7 +154,7 @@ log_from n p all u (Receipt to r q k ∷ rest) obeys =
     let ih = log_from n p all (u ++ Receipt to r q k ∷ []) rest (rw marks front) in
     let more : sends_of (map mark_of (u ++ Receipt to r q k ∷ [])) p ≡ sends_of M p = ap (λ (t : List Mark). sends_of t p) marks ∙ sends-step M e p ∙ omega arith in
     ap (λ (xs : List (ℕ × Note)). numbered (sends_of M p) xs) (takes (to == p) (note_of all q k) (filter_map (action_of all p) rest))
-        ∙ ap (λ y. numbered y (sends_in (filter_map (action_of all p) rest))) (sym more) ∙ ih
+    ∙ ap (λ y. numbered y (sends_in (filter_map (action_of all p) rest))) (sym more) ∙ ih
 
 -- in a lawful trace the log after all the member's notes has the member's sends
 pub log-sends : (next : Next) (n : ℕ) (starts : List Start) (t : List Event) (p : ℕ) → Lawful next n starts t
@@ -189,7 +189,7 @@ pub logged-noted : (next : Next) (n : ℕ) (starts : List Start) (t : List Event
 logged-noted next n starts t p k ssn note lawful named =
     let front = log-front next p n starts (received_notes t p) k in
     let whole : logged_note (after_notes next p n starts (received_notes t p)).log ssn ≡ Some note =
-        rw front.1 (logged_note-front (after_notes next p n starts (take k (received_notes t p))).log front.0 ssn note named) in
+    rw front.1 (logged_note-front (after_notes next p n starts (take k (received_notes t p))).log front.0 ssn note named) in
     sym (logged_note-trace t p ssn) ∙ ap (λ (xs : List Logged). logged_note xs ssn) (sym (log-sends next n starts t p lawful)) ∙ whole
 
 -- how many sends a member's actions have
@@ -202,7 +202,7 @@ sends-count all (Send q k to x ∷ u) p = rw (sum_by-cons (λ y. cond (is_send_o
   at false ih = omega (arith, ih)
 sends-count all (Receipt to r q k ∷ u) p =
     rw (sum_by-cons (λ y. cond (is_send_of p y) 1 0) (mark.Receipt to r q k) (map mark_of u))
-        (ap length (takes (to == p) (note_of all q k) (filter_map (action_of all p) u)) ∙ sends-count all u p ∙ omega arith)
+    (ap length (takes (to == p) (note_of all q k) (filter_map (action_of all p) u)) ∙ sends-count all u p ∙ omega arith)
 
 -- the log after all notes is as long as the member's sends are many
 pub log-length : (next : Next) (n : ℕ) (starts : List Start) (t : List Event) (p : ℕ) → Lawful next n starts t
@@ -242,7 +242,7 @@ notes-count all (Send q k to x ∷ u) p = rw (sum_by-cons (λ y. cond (is_receip
 notes-count all (Receipt to r q k ∷ u) p = rw (sum_by-cons (λ y. cond (is_receipt_of p y) 1 0) (mark.Receipt to r q k) (map mark_of u)) (at (to == p) (note_of all q k) (notes-count all u p)) where
   at : (b : Bool) (o : Option Note) → length (notes_of (filter_map (action_of all p) u)) ≤ receipts_of (map mark_of u) p
       → length (notes_of (cons_option (cond b (elim o as (λ x. Option Action) [ None ↦ None | Some note ↦ Some (took note) ]) None)
-          (filter_map (action_of all p) u))) ≤ cond b 1 0 + receipts_of (map mark_of u) p
+      (filter_map (action_of all p) u))) ≤ cond b 1 0 + receipts_of (map mark_of u) p
   at true None ih = omega (arith, ih)
   at true (Some note) ih = omega (arith, ih)
   at false o ih = omega (arith, ih)
@@ -260,7 +260,7 @@ logged-by next n starts t u rest p ssn to k x lawful is few =
     let front = filter_map (action_of t p) (u ++ Send p ssn to x ∷ []) in
     let back = filter_map (action_of t p) rest in
     let cut : actions_of t p ≡ front ++ back = ap (filter_map (action_of t p)) (is ∙ sym (append_assoc u (Send p ssn to x ∷ []) rest))
-        ∙ filter_map-append (action_of t p) (u ++ Send p ssn to x ∷ []) rest in
+    ∙ filter_map-append (action_of t p) (u ++ Send p ssn to x ∷ []) rest in
     let more : map mark_of (u ++ Send p ssn to x ∷ []) ≡ M ++ e ∷ [] = map-append mark_of u (Send p ssn to x ∷ []) in
     let self : (p == p) ≡ true = eqb-self p in
     let count : length (sends_in front) ≡ sends_of M p + 1 = sends-count t (u ++ Send p ssn to x ∷ []) p ∙ ap (λ (v : List Mark). sends_of v p) more ∙ sends-step M e p ∙ (rw self refl) in
@@ -270,4 +270,4 @@ logged-by next n starts t u rest p ssn to k x lawful is few =
     omega (arith, a, b, few)) in
     let enough = sends-by next p n 0 k (starts_of p starts) (received_notes t p) front back (sym cut ∙ lawful.responds p) taken in
     (rw (log-after next p n starts (take k (received_notes t p)))
-        (numbered-has 0 ssn (sends_in (map sent (starts_of p starts) ++ responses next p n 0 (take k (received_notes t p)))) (omega (arith, may.3)) (omega (arith, may.3, count, enough))))
+    (numbered-has 0 ssn (sends_in (map sent (starts_of p starts) ++ responses next p n 0 (take k (received_notes t p)))) (omega (arith, may.3)) (omega (arith, may.3, count, enough))))

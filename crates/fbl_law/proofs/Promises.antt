@@ -89,7 +89,7 @@ closed_records_first n f r rules truth closed c d there same before recorded =
       | inr (inr later) ↦
           let at_same : At r.trace there.0 (Receipt d.to c.rsn c.from c.ssn) = rw (← same) there.1 in
           let rises =
-              receipts_rise n r.trace found.0 there.0 d.to d.rsn c.rsn d.from d.ssn c.from c.ssn rules found.1 at_same later in
+          receipts_rise n r.trace found.0 there.0 d.to d.rsn c.rsn d.from d.ssn c.from c.ssn rules found.1 at_same later in
           absurd (omega (arith, rises, before))
     ]
 

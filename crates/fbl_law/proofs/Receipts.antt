@@ -84,14 +84,14 @@ notes-at all [] p noted = refl
 notes-at all (event.Send q k to x ∷ u) p noted = at (q == p) (notes-at all u p (λ i. noted (suc i))) where
   at : (b : Bool) → map (λ (y : Note). Some y) (notes_of (filter_map (action_of all p) u)) ≡ map (λ (d : Determinant). note_of all d.from d.ssn) (receipts_at (map mark_of u) p)
       → map (λ (y : Note). Some y) (notes_of (cons_option (cond b (Some (sent (to, x))) None) (filter_map (action_of all p) u)))
-          ≡ map (λ (d : Determinant). note_of all d.from d.ssn) (receipts_at (map mark_of u) p)
+      ≡ map (λ (d : Determinant). note_of all d.from d.ssn) (receipts_at (map mark_of u) p)
   at true ih = ih
   at false ih = ih
 notes-at all (event.Receipt to r q k ∷ u) p noted = at (to == p) refl (noted 0 to r q k refl) (notes-at all u p (λ i. noted (suc i))) where
   at : (b : Bool) → (to == p) ≡ b → (note : Note) × (note_of all q k ≡ Some note)
       → map (λ (y : Note). Some y) (notes_of (filter_map (action_of all p) u)) ≡ map (λ (d : Determinant). note_of all d.from d.ssn) (receipts_at (map mark_of u) p)
       → map (λ (y : Note). Some y) (notes_of (filter_map (action_of all p) (event.Receipt to r q k ∷ u)))
-          ≡ map (λ (d : Determinant). note_of all d.from d.ssn) (receipts_at (map mark_of (event.Receipt to r q k ∷ u)) p)
+      ≡ map (λ (d : Determinant). note_of all d.from d.ssn) (receipts_at (map mark_of (event.Receipt to r q k ∷ u)) p)
   at true is note ih = (let e = note.1 in rw (is, e) (ap (λ (ys : List (Option Note)). Some note.0 ∷ ys) ih))
   at false is note ih = rw is ih
 
@@ -103,14 +103,14 @@ received-notes n t p obeys = notes-at t t p (receipts-noted n t obeys)
 pub length-received_notes : (n : ℕ) (t : List Event) (p : ℕ) → WellFormed n (map mark_of t) → length (received_notes t p) ≡ length (receipts_at (map mark_of t) p)
 length-received_notes n t p obeys =
     sym (length-map (received_notes t p) (λ (x : Note). Some x)) ∙ ap length (received-notes n t p obeys)
-        ∙ length-map (receipts_at (map mark_of t) p) (λ (d : Determinant). note_of t d.from d.ssn)
+    ∙ length-map (receipts_at (map mark_of t) p) (λ (d : Determinant). note_of t d.from d.ssn)
 
 pub note-at : (n : ℕ) (t : List Event) (p j : ℕ) (d : Determinant) (x : Note) → WellFormed n (map mark_of t)
     → slice_get (receipts_at (map mark_of t) p) j ≡ Some d → note_of t d.from d.ssn ≡ Some x → slice_get (received_notes t p) j ≡ Some x
 note-at n t p j d x obeys here noted =
     at (slice_get (received_notes t p) j) refl
     (sym (slice_get-map (λ (y : Note). Some y) (received_notes t p) j) ∙ ap (λ (xs : List (Option Note)). slice_get xs j) (received-notes n t p obeys)
-        ∙ slice_get-map (λ (c : Determinant). note_of t c.from c.ssn) (receipts_at (map mark_of t) p) j ∙ (rw (here, noted) refl))
+    ∙ slice_get-map (λ (c : Determinant). note_of t c.from c.ssn) (receipts_at (map mark_of t) p) j ∙ (rw (here, noted) refl))
   where
     at : (o : Option Note) → slice_get (received_notes t p) j ≡ o → option_map (λ (y : Note). Some y) o ≡ Some (Some x) → slice_get (received_notes t p) j ≡ Some x
     at None is h = absurd cc
@@ -124,7 +124,7 @@ last-from q p z (Receipt to r q' k ∷ t) = at (q' == q) (to == p) refl (last-fr
   at : (a b : Bool) → (q' == q) ≡ a → fold (λ last ssn. ssn) z (filter_map (taken_on q p) t) ≡ fold (λ last (d : Determinant). cond (d.from == q) d.ssn last) z (receipts_at t p)
       → fold (λ last ssn. ssn) k (filter_map (taken_on q p) t) ≡ fold (λ last (d : Determinant). cond (d.from == q) d.ssn last) k (receipts_at t p)
       → fold (λ last ssn. ssn) z (cons_option (cond (a && b) (Some k) None) (filter_map (taken_on q p) t))
-          ≡ fold (λ last (d : Determinant). cond (d.from == q) d.ssn last) z (cond b (record { from = q'; ssn = k; to = to; rsn = r } ∷ receipts_at t p) (receipts_at t p))
+      ≡ fold (λ last (d : Determinant). cond (d.from == q) d.ssn last) z (cond b (record { from = q'; ssn = k; to = to; rsn = r } ∷ receipts_at t p) (receipts_at t p))
   at true true ea same next = rw (ea, fold) next
   at true false ea same next = same
   at false true ea same next = rw (ea, fold) same

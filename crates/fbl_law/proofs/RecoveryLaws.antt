@@ -44,7 +44,7 @@ cut-unique r a b first second = first.1 ∙ filter-agree (λ e. first.0 (mark_of
   agree i e here =
       let there : Has (marks r) (mark_of e) = (i, slice_get-map mark_of r.trace i ∙ (rw here refl)) in
       same-test (first.0 (mark_of e)) (second.0 (mark_of e)) (λ kept. (second.2 (mark_of e) there).1 ((first.2 (mark_of e) there).0 kept))
-          (λ kept. (first.2 (mark_of e) there).1 ((second.2 (mark_of e) there).0 kept))
+      (λ kept. (first.2 (mark_of e) there).1 ((second.2 (mark_of e) there).0 kept))
 
 pub cut_is_one : CutIsOne
 cut_is_one next old new step sound = cut-unique old new.trace (recovered_trace old) step.trace (recovered_trace-cut next old sound)

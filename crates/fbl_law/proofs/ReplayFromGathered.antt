@@ -111,7 +111,7 @@ module _ (next : Next) (old : GroupRecord) (sound : IsSound next old) (new : Lis
   recorded-cut d recorded =
       let was = recorded-Has d recorded in
       let stays = (stays_is_recorded old.config.members old.config.f (knowledge old) sound.causes (receipt_of d) was).1
-          (λ c before. IsRecorded-before old.config.f (knowledge old) sound.causes.closed c d recorded before) in
+      (λ c before. IsRecorded-before old.config.f (knowledge old) sound.causes.closed c d recorded before) in
       rw is-marks (Has-kept cut.0 (marks old) (receipt_of d) was ((cut.2 (receipt_of d) was).1 stays))
 
   -- the gathered tables name exactly what is recorded
@@ -146,7 +146,8 @@ module _ (next : Next) (old : GroupRecord) (sound : IsSound next old) (new : Lis
 
   -- the next replay of a member: the gathered tables find its next receipt, and the sender's log has the message
   pub replayed-next : (p : ℕ) (m : MemberRecord) (d : Determinant) (w : MemberRecord) (note : Note) → Replays p m
-      → found p (m.received + 1) (recovery_table (knowledge old)) ≡ Some d → Replays d.from w → logged_note w.log d.ssn ≡ Some note → Replays p (replayed_by next p old.config.members m d note)
+      → found p (m.received + 1) (recovery_table (knowledge old)) ≡ Some d → Replays d.from w → logged_note w.log d.ssn ≡ Some note
+      → Replays p (replayed_by next p old.config.members m d note)
   replayed-next p m d w note replayed is sender named =
       replayed-step next old.config.members old.config.starts new p m d note cut-obeys replayed (found-receipt p m.received d is) (replayed-noted d.from w d.ssn note sender named)
 
@@ -158,7 +159,7 @@ module _ (next : Next) (old : GroupRecord) (sound : IsSound next old) (new : Lis
   pub replays-log : (p : ℕ) (m : MemberRecord) → Replays p m → length m.log ≤ 8192
   replays-log p m replayed =
       let log : length m.log ≡ length (after_notes next p old.config.members old.config.starts (take m.received (received_notes new p))).log =
-          ap (λ (x : Progress). length x.log) replayed.progress in
+      ap (λ (x : Progress). length x.log) replayed.progress in
       omega (arith, log, log-short next old.config.members old.config.starts new p m.received (cut-lawful next old sound new cut).0, count_by-le-length (is_send_of p) (map mark_of new), cut-short)
 
   -- the next receipt that the gathered tables find is that of the member's next number, from another member
@@ -214,9 +215,9 @@ module _ (next : Next) (old : GroupRecord) (sound : IsSound next old) (new : Lis
         let before : there.0 < j = omega (arith, At-below (map mark_of (take j new)) there.0 (receipt_of c) there.1, length-map (take j new) mark_of, length-take j new) in
         sent c at_q (there.0, j, before, rw marks-at (At-front (map mark_of (take j new)) (map mark_of (drop j new)) there.0 (receipt_of c) there.1), has.1)) in
         let logged = logged-by next old.config.members old.config.starts new (take j new) (drop (suc j) new) q k to (work q).received here.0
-            (cut-lawful next old sound new cut).0 cut-at (omega (arith, few, length-receipts_at (map mark_of (take j new)) q)) in
+        (cut-lawful next old sound new cut).0 cut-at (omega (arith, few, length-receipts_at (map mark_of (take j new)) q)) in
         let log : (work q).log ≡ (after_notes next q old.config.members old.config.starts (take (work q).received (received_notes new q))).log =
-            ap (λ (x : Progress). x.log) (replays q below).progress in
+        ap (λ (x : Progress). x.log) (replays q below).progress in
         (logged.0, rw log logged.1)
 
     is-stuck : IsStuck (map mark_of new) (λ q. (work q).received)
@@ -237,5 +238,5 @@ module _ (next : Next) (old : GroupRecord) (sound : IsSound next old) (new : Lis
     pub all-replayed : (p : ℕ) → p < old.config.members → (work p).received ≡ length (receipts_at (map mark_of new) p)
     all-replayed p below =
         let most = at-most old.config.members (map mark_of new) p (work p).received cut-obeys
-            (λ d has to. subst (λ (x : ℕ). d.rsn ≤ (work x).received) to (never_stuck old.config.members (map mark_of new) (λ q. (work q).received) cut-obeys is-stuck d has)) in
+        (λ d has to. subst (λ (x : ℕ). d.rsn ≤ (work x).received) to (never_stuck old.config.members (map mark_of new) (λ q. (work q).received) cut-obeys is-stuck d has)) in
         omega (arith, most, (replays p below).within)

@@ -152,7 +152,7 @@ module _ (next : Next) (old : GroupRecord) (sound : IsSound next old) where
       let after = replayed_by next p old.config.members (slice_index_or rebuilt p blank) d note in
       let own = ap (λ (m : MemberRecord). m.received) (get_or-set_same rebuilt p after blank (omega (arith, replaying.size, below))) in
       count_in-step old.down (λ q. (slice_index_or rebuilt q blank).received - (checkpoint old q).received)
-          (λ q. (slice_index_or (slice_set rebuilt p after) q blank).received - (checkpoint old q).received) old.config.members p below down
+      (λ q. (slice_index_or (slice_set rebuilt p after) q blank).received - (checkpoint old q).received) old.config.members p below down
       (omega (arith, own, replaying.begun p below down))
       (λ q other. ap (λ (m : MemberRecord). m.received - (checkpoint old q).received) (get_or-set_other rebuilt p q after blank other))
 
@@ -160,7 +160,7 @@ module _ (next : Next) (old : GroupRecord) (sound : IsSound next old) where
   pub replayed_in-most : (rebuilt : List MemberRecord) → IsReplaying next old rebuilt → replayed_in old rebuilt ≤ length (filter (is_of old.down) (receipts (map mark_of (recovered_trace old))))
   replayed_in-most rebuilt replaying =
       let fewer = count_in-most old.down (λ p. (slice_index_or rebuilt p blank).received - (checkpoint old p).received)
-          (λ p. (slice_index_or rebuilt p blank).received) old.config.members (λ p below down. omega arith) in
+      (λ p. (slice_index_or rebuilt p blank).received) old.config.members (λ p below down. omega arith) in
       omega (arith, fewer, replayed-most next old sound (recovered_trace old) cut (λ p. slice_index_or rebuilt p blank) replaying.replayed)
 
   pub replayed_in-short : (rebuilt : List MemberRecord) → IsReplaying next old rebuilt → replayed_in old rebuilt ≤ 8192
@@ -219,7 +219,8 @@ module _ (next : Next) (old : GroupRecord) (sound : IsSound next old) where
           let trace : new.trace ≡ recovered_trace old = step.trace in
           let is : member new m ≡ record (slice_index_or rebuilt m blank) { table = recovery_table (knowledge old) } = step.rebuilt m below down in
           replayed-fold next new m is-lawful.well_formed
-          (rw (config, trace, is) (replayed-table next old.config.members old (recovered_trace old) m (slice_index_or rebuilt m blank) (recovery_table (knowledge old)) (replaying.replayed m below down)))
+          (rw (config, trace, is)
+          (replayed-table next old.config.members old (recovered_trace old) m (slice_index_or rebuilt m blank) (recovery_table (knowledge old)) (replaying.replayed m below down)))
           (rw (trace, is) (rebuilt-received m below down))
 
       fold-all : (m : ℕ) → m < old.config.members → IsFold next new m

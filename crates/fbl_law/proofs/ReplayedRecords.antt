@@ -52,7 +52,7 @@ replayed-step next n starts trace p m d note obeys replayed here noted = record 
   last = λ q below.
       at q below (d.from == q) refl
       ∙ sym (ap (λ (ds : List Determinant). last_among ds q) (take-next (receipts_at (map mark_of trace) p) m.received d here)
-          ∙ fold_push (λ last (x : Determinant). cond (x.from == q) x.ssn last) 0 (take m.received (receipts_at (map mark_of trace) p)) d);
+      ∙ fold_push (λ last (x : Determinant). cond (x.from == q) x.ssn last) 0 (take m.received (receipts_at (map mark_of trace) p)) d);
 }
   where
     at : (q : ℕ) → q < 16 → (b : Bool) → (d.from == q) ≡ b
@@ -68,7 +68,7 @@ replayed-step next n starts trace p m d note obeys replayed here noted = record 
 pub fold-received : (next : Next) (r : GroupRecord) (m : ℕ) → WellFormed r.config.members (marks r) → IsFold next r m → (member r m).received ≡ length (receipts_at (marks r) m)
 fold-received next r m obeys fold' =
     let count : (after_notes next m r.config.members r.config.starts (received_notes r.trace m)).received ≡ length (received_notes r.trace m) =
-        received-fold next m r.config.members (begun m r.config.starts) (received_notes r.trace m) ∙ omega arith in
+    received-fold next m r.config.members (begun m r.config.starts) (received_notes r.trace m) ∙ omega arith in
     ap (λ (x : Progress). x.received) fold'.progress ∙ count ∙ length-received_notes r.config.members r.trace m obeys
 
 pub fold-replayed : (next : Next) (r : GroupRecord) (m : ℕ) → WellFormed r.config.members (marks r) → IsFold next r m → IsReplayed next r.config.members r.config.starts r.trace m (member r m)

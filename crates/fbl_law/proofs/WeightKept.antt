@@ -104,18 +104,18 @@ module _ (n : ℕ) (w : ℕ → ℕ → ℕ) where
     more t (mark.Send q s p) obeys may ih =
         let e : Mark = mark.Send q s p in
         let cell : (a b : ℕ) → weight_in (t ++ e ∷ []) a b ≡ sum_by (w a) (in_flight t a b ++ cond (q == a && p == b) (s ∷ []) []) =
-            λ a b. ap (sum_by (w a)) (in_flight-send n t obeys q s p a b may) in
+        λ a b. ap (sum_by (w a)) (in_flight-send n t obeys q s p a b may) in
         let self_q = eqb-self q in
         let self_p = eqb-self p in
         let here : weight_in (t ++ e ∷ []) q p ≡ weight_in t q p + w q s = cell q p ∙ (rw (self_q, self_p) (sum_by_push (w q) (in_flight t q p) s)) in
         let others : (a b : ℕ) → (q == a && p == b) ≡ false → weight_in (t ++ e ∷ []) a b ≡ weight_in t a b = λ a b is. cell a b
-            ∙ (rw is (omega (arith, sum_by-append (w a) (in_flight t a b) []))) in
+        ∙ (rw is (omega (arith, sum_by-append (w a) (in_flight t a b) []))) in
         let grown = table-at n q p (w q s) (weight_in t) (weight_in (t ++ e ∷ [])) may.0 may.1 here others in
         omega (arith, grown, ih, sum_by_push into t e, sum_by_push out t e)
     more t (mark.Receipt p r q s) obeys may ih =
         let e : Mark = mark.Receipt p r q s in
         let cell : (a b : ℕ) → weight_in (t ++ e ∷ []) a b ≡ sum_by (w a) (cond (q == a && p == b) (drop 1 (in_flight t a b)) (in_flight t a b)) =
-            λ a b. ap (sum_by (w a)) (in_flight-receipt n t obeys p r q s a b may) in
+        λ a b. ap (sum_by (w a)) (in_flight-receipt n t obeys p r q s a b may) in
         let self_q = eqb-self q in
         let self_p = eqb-self p in
         let left : weight_in (t ++ e ∷ []) q p ≡ sum_by (w q) (drop 1 (in_flight t q p)) = cell q p ∙ (rw (self_q, self_p) refl) in
@@ -137,7 +137,7 @@ module _ (n : ℕ) (t : List Event) (g : Action → ℕ) (h : Mark → ℕ) wher
       let here = fits 0 (Send q s p x) refl in
       let self = eqb-self q in
       let own : sum_by g (filter_map (action_of t q) (Send q s p x ∷ v)) ≡ sum_by g (filter_map (action_of t q) v) + h (mark.Send q s p) =
-          rw self (omega (arith, sum_by-cons g (sent (p, x)) (filter_map (action_of t q) v), here.1)) in
+      rw self (omega (arith, sum_by-cons g (sent (p, x)) (filter_map (action_of t q) v), here.1)) in
       let others : (m : ℕ) → (q == m) ≡ false → sum_by g (filter_map (action_of t m) (Send q s p x ∷ v)) ≡ sum_by g (filter_map (action_of t m) v) = λ m is. rw is refl in
       let all = sum_below-at n q (h (mark.Send q s p)) (λ m. sum_by g (filter_map (action_of t m) v)) (λ m. sum_by g (filter_map (action_of t m) (Send q s p x ∷ v))) here.0 own others in
       omega (arith, all, by-member v (λ i e at. fits (suc i) e at), sum_by-cons h (mark.Send q s p) (map mark_of v))
@@ -146,7 +146,7 @@ module _ (n : ℕ) (t : List Event) (g : Action → ℕ) (h : Mark → ℕ) wher
       let self = eqb-self p in
       let note = here.1.1 in
       let own : sum_by g (filter_map (action_of t p) (Receipt p r q s ∷ v)) ≡ sum_by g (filter_map (action_of t p) v) + h (mark.Receipt p r q s) =
-          rw (self, note) (omega (arith, sum_by-cons g (took here.1.0) (filter_map (action_of t p) v), here.1.2)) in
+      rw (self, note) (omega (arith, sum_by-cons g (took here.1.0) (filter_map (action_of t p) v), here.1.2)) in
       let others : (m : ℕ) → (p == m) ≡ false → sum_by g (filter_map (action_of t m) (Receipt p r q s ∷ v)) ≡ sum_by g (filter_map (action_of t m) v) = λ m is. rw is refl in
       let all = sum_below-at n p (h (mark.Receipt p r q s)) (λ m. sum_by g (filter_map (action_of t m) v)) (λ m. sum_by g (filter_map (action_of t m) (Receipt p r q s ∷ v))) here.0 own others in
       omega (arith, all, by-member v (λ i e at. fits (suc i) e at), sum_by-cons h (mark.Receipt p r q s) (map mark_of v))
@@ -269,14 +269,14 @@ module _ (weight : Note → ℕ) where
           → sum_below n (λ m. mass m (reached m 0 (notes m))) + weight_on n w (map mark_of t) ≤ sum_below n (λ m. mass m 0) + sum_by (λ (s : Start). weight s.note) starts
       trace-makes-none law =
           let each = sum_below-most n (λ m. mass m (reached m 0 (notes m)) + replies m) (λ m. mass m 0 + sum_by weight (notes m))
-              (λ m below. member-makes-none law m 0 (notes m) below (at_first m below) (all-came next n P Q keeps starts t lawful at_first started m)) in
+          (λ m below. member-makes-none law m 0 (notes m) below (at_first m below) (all-came next n P Q keeps starts t lawful at_first started m)) in
           omega (arith, each, flows, sum_below-plus n (λ m. mass m (reached m 0 (notes m))) replies, sum_below-plus n (λ m. mass m 0) (λ m. sum_by weight (notes m)))
 
       pub trace-loses-none : StepLosesNone next n P Q mass weight
           → sum_below n (λ m. mass m 0) + sum_by (λ (s : Start). weight s.note) starts ≤ sum_below n (λ m. mass m (reached m 0 (notes m))) + weight_on n w (map mark_of t)
       trace-loses-none law =
           let each = sum_below-most n (λ m. mass m 0 + sum_by weight (notes m)) (λ m. mass m (reached m 0 (notes m)) + replies m)
-              (λ m below. member-loses-none law m 0 (notes m) below (at_first m below) (all-came next n P Q keeps starts t lawful at_first started m)) in
+          (λ m below. member-loses-none law m 0 (notes m) below (at_first m below) (all-came next n P Q keeps starts t lawful at_first started m)) in
           omega (arith, each, flows, sum_below-plus n (λ m. mass m (reached m 0 (notes m))) replies, sum_below-plus n (λ m. mass m 0) (λ m. sum_by weight (notes m)))
 
 module _ (next : Next) (r : GroupRecord) (P : ℕ → ℕ → Type 0) (Q : ℕ → ℕ → Note → Type 0) (mass : ℕ → ℕ → ℕ) (weight : Note → ℕ)
@@ -305,8 +305,13 @@ module _ (next : Next) (r : GroupRecord) (P : ℕ → ℕ → Type 0) (Q : ℕ �
       let rest : map send_mark xs ≡ map (λ ssn. mark.Send q ssn p) numbers = cc in
       let note : note_of r.trace q k ≡ Some v.note = rw (← number) (noted v (Contains-here v xs)) in
       let here : number_weight q k ≡ weight v.note = rw note refl in
-      omega (arith, here, queue-weighs q p xs numbers rest (λ u among. noted u (Contains-there v xs u among)),
-          sum_by-cons (λ (v : Message). weight v.note) v xs, sum_by-cons (number_weight q) k numbers)
+      omega (
+        arith,
+        here,
+        queue-weighs q p xs numbers rest (λ u among. noted u (Contains-there v xs u among)),
+        sum_by-cons (λ (v : Message). weight v.note) v xs,
+        sum_by-cons (number_weight q) k numbers,
+      )
 
   -- the channel between two members that are up weighs what the trace has in flight there
   channel-weighs : (q p : ℕ) → IsUp (knowledge r) q → IsUp (knowledge r) p → sum_by (λ (v : Message). weight v.note) (channel r q p) ≡ weight_in n number_weight (marks r) q p
@@ -358,21 +363,21 @@ module _ (next : Next) (r : GroupRecord) (P : ℕ → ℕ → Type 0) (Q : ℕ �
 none-flying : (weight : Note → ℕ) (r : GroupRecord) → messages_in_flight r ≡ 0 → weight_flying weight r ≡ 0
 none-flying weight r none = nothing-below r.config.members (λ q. sum_below r.config.members (weighs q))
     (λ q below_q. nothing-below r.config.members (weighs q) (λ p below_p. empty q p below_q below_p)) where
-  weighs : ℕ → ℕ → ℕ
-  weighs q p = sum_by (λ (v : Message). weight v.note) (channel r q p)
+      weighs : ℕ → ℕ → ℕ
+      weighs q p = sum_by (λ (v : Message). weight v.note) (channel r q p)
 
-  nothing-below : (n : ℕ) (f : ℕ → ℕ) → ((x : ℕ) → x < n → f x ≡ 0) → sum_below n f ≡ 0
-  nothing-below n f each = sum_below-agree n f (λ x. 0) each ∙ sum_below-none n
+      nothing-below : (n : ℕ) (f : ℕ → ℕ) → ((x : ℕ) → x < n → f x ≡ 0) → sum_below n f ≡ 0
+      nothing-below n f each = sum_below-agree n f (λ x. 0) each ∙ sum_below-none n
 
-  of_empty : (xs : List Message) → length xs ≡ 0 → sum_by (λ (v : Message). weight v.note) xs ≡ 0
-  of_empty [] is = refl
-  of_empty (v ∷ xs) is = absurd (omega arith)
+      of_empty : (xs : List Message) → length xs ≡ 0 → sum_by (λ (v : Message). weight v.note) xs ≡ 0
+      of_empty [] is = refl
+      of_empty (v ∷ xs) is = absurd (omega arith)
 
-  empty : (q p : ℕ) → q < r.config.members → p < r.config.members → weighs q p ≡ 0
-  empty q p below_q below_p =
-      let row = sum_below-part r.config.members q (λ q. sum_below r.config.members (λ p. length (channel r q p))) below_q in
-      let cell = sum_below-part r.config.members p (λ p. length (channel r q p)) below_p in
-      of_empty (channel r q p) (omega (arith, none, row, cell))
+      empty : (q p : ℕ) → q < r.config.members → p < r.config.members → weighs q p ≡ 0
+      empty q p below_q below_p =
+          let row = sum_below-part r.config.members q (λ q. sum_below r.config.members (λ p. length (channel r q p))) below_q in
+          let cell = sum_below-part r.config.members p (λ p. length (channel r q p)) below_p in
+          of_empty (channel r q p) (omega (arith, none, row, cell))
 
 module _ (next : Next) (r : GroupRecord) (P : ℕ → ℕ → Type 0) (Q : ℕ → ℕ → Note → Type 0) (mass : ℕ → ℕ → ℕ) (weight : Note → ℕ)
     (nothing : (me : ℕ) → mass me 0 ≡ 0) (sound : IsSound next r) (keeps : StepKeeps next r.config.members P Q) (first : HoldsFirst r.config P Q) where

@@ -111,8 +111,8 @@ pub record IsMadeAgain (r : GroupRecord) (q p : ℕ) : Type 0 where
   pub notes : (v : Message) → Contains (channel r q p) v → note_of r.trace v.from v.ssn ≡ Some v.note
   pub carried : (v : Message) → Contains (channel r q p) v → v.carried ≡ piggybacked r.config.f (member r q).table
 
--- after it nobody is down, survivors, the channels between them, the configuration, the counter of receipts and the
--- checkpoints stay, and the counter of undone receipts rises by as many as the trace has fewer
+-- what stays in a recovery: survivors, the channels between them, the configuration, the counter of receipts and the
+-- checkpoints; and nobody is down, and the counter of undone receipts rises by as many as the trace has fewer
 pub record IsBroughtBack (old new : GroupRecord) : Type 0 where
   pub nobody_down : new.down ≡ set.empty
   pub size : length new.members ≡ length old.members
@@ -124,10 +124,10 @@ pub record IsBroughtBack (old new : GroupRecord) : Type 0 where
   pub undone_ever : new.undone_ever + length (receipts (marks new)) ≡ old.undone_ever + length (receipts (marks old))
   pub checkpoints : new.checkpoints ≡ old.checkpoints
 
--- a recovery leads from old to new: the trace loses, for each member that was down, its first lost receipt and all its
--- later events; each member that was down is at the fold of its receipts that are left, with a table that gathers the
--- survivors' tables and those of the checkpoints of the members that were down and counts these as holders; and each
--- channel with such an end is made again
+-- a recovery leads from old to new: the rest stays (`IsBroughtBack`), survivors too; the trace loses, for each member that
+-- was down, its first lost receipt and all its later events; each member that was down is at the fold of its receipts that
+-- are left, with a table that gathers the survivors' tables and those of the checkpoints of the members that were down and
+-- counts these as holders; and each channel with such an end is made again
 pub record IsRecovery (next : Next) (old new : GroupRecord) : Type 0 where
   pub rest : IsBroughtBack old new
   pub trace : IsEventCut (Stays (knowledge old)) old.trace new.trace

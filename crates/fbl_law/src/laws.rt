@@ -8,7 +8,8 @@
 ghost use Rattle.fbl_law.specs.Laws.{ClosedIsHeld, ClosedHasNoOrphan, ClosedRecordsCauses, ClosedRecordsFirst, AnySurvivorsHold, DeliveryKeeps, StrikeKeeps, CheckpointKeeps, RecoveryKeeps, StaysIsRecorded, CutIsClosed, CutIsRecorded, RecoveryGainsHolders, CutIsLawful, NeverStuck, RunIsSound, RunIsHeld};
 
 /// Where tables name their causes, each receipt is stable or held by each up member that depends on it, so no up member is
-/// an orphan; what precedes a recorded receipt is recorded, and a member's recorded receipts are its first ones.
+/// an orphan; what precedes a recorded receipt is recorded, so that, where the trace is well formed and knowledge true, a
+/// member's recorded receipts are its first ones.
 pub fn closed_law()
     ensures held { ClosedIsHeld }
     ensures orphans { ClosedHasNoOrphan }
