@@ -9,7 +9,7 @@ use Rattle.fbl_base.specs.Events.{same_determinant}
 use Rattle.fbl_base.proofs.Recorded.{Decides-same_determinant}
 use Rattle.fbl_table.specs.declared.entry.Entry.{Entry}
 use Rattle.fbl_table.specs.Tables.{is_held, added, gathered}
-use Rattle.fbl_table.proofs.Indexing.{added-new}
+use Rattle.fbl_table.proofs.Adding.{added-new}
 
 apart-turned : (a b : Determinant) → same_determinant a b ≡ false → same_determinant b a ≡ false
 apart-turned a b apart = at (same_determinant b a) refl where

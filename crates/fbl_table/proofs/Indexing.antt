@@ -1,38 +1,39 @@
 -- The open places of a table.
-use Rattle.std.proofs.Common.{◌≡◌, ℕ, zero, suc, ◌+◌, ◌<◌, ◌≤◌, Bool, true, false, cond, ◌||◌, if◌then◌else◌, nat_le, List, [], ◌∷◌, ◌++◌, map, Option, Some, None, refl, sym, ap, ◌∙◌, arith, take, length, slice_get}
+use Rattle.std.proofs.Common.{◌≡◌, ℕ, zero, suc, ◌+◌, ◌<◌, ◌≤◌, Bool, true, false, cond, ◌||◌, if◌then◌else◌, nat_le, List, [], ◌∷◌, ◌++◌, Option, Some, None, refl, sym, ap, ◌∙◌, arith, take, length, slice_get, unwrap_or}
 use Rattle.std.proofs.lemmas.Bool.{false≢true}
 use Rattle.std.proofs.lemmas.Bool.Decides.{nat_tests}
-use Rattle.std.proofs.lemmas.List.{take_all}
+use Rattle.std.proofs.lemmas.List.{take_all, length-map, length_push, append-nil}
 use Rattle.std.proofs.lemmas.List.Elements.{filter-append, filter_map-append}
-use Rattle.std.specs.List.{filter, filter_map, cons_option}
+use Rattle.std.specs.List.{filter, filter_map}
 use Rattle.std.specs.Option.{option_map_or}
 use Rattle.std.specs.Ordering.{nat_cmp}
 use Rattle.std.specs.Cmp.{nat_cmp_total}
 use Rattle.std.specs.FinSet as set
 use Rattle.fbl_base.specs.Events.{same_determinant}
+use Rattle.fbl_base.proofs.Gets.{At-new}
 use Rattle.fbl_base.proofs.Sizes.{len-within}
 use Rattle.fbl_table.specs.declared.entry.Entry.{Entry}
-use Rattle.fbl_base.specs.declared.trace.Determinant.{Determinant}
-use Rattle.std.proofs.lemmas.List.{length-map, append-nil}
-use Rattle.fbl_table.specs.Tables.{is_open, piggybacked, marked, added, is_held, entry_of}
+use Rattle.fbl_table.specs.Tables.{is_open, piggybacked, marked, added, is_held}
 use Rattle.fbl_table.specs.Index.{places, open_at, Within, IsIndex}
-use Rattle.fbl_table.proofs.Adding.{take-next}
+use Rattle.fbl_table.proofs.Adding.{take-next, length-added_held}
 
 -- a filter that lets through less, after one that lets through more
-pub filter-twice : {X : Type 0} (p q : X → Bool) → ((x : X) → q x ≡ true → p x ≡ true) → (xs : List X) → filter q (filter p xs) ≡ filter q xs
+filter-twice : {X : Type 0} (p q : X → Bool) → ((x : X) → q x ≡ true → p x ≡ true) → (xs : List X) → filter q (filter p xs) ≡ filter q xs
 filter-twice p q less [] = refl
 filter-twice p q less (x ∷ xs) = at (filter-twice p q less xs) (p x) refl (q x) refl where
-  at : filter q (filter p xs) ≡ filter q xs → (a : Bool) → p x ≡ a → (b : Bool) → q x ≡ b → filter q (cond (p x) (x ∷ filter p xs) (filter p xs)) ≡ cond (q x) (x ∷ filter q xs) (filter q xs)
-  at more true pa b qb = ap (λ c. filter q (cond c (x ∷ filter p xs) (filter p xs))) pa ∙ ap (λ t. cond (q x) (x ∷ t) t) more
+  at : filter q (filter p xs) ≡ filter q xs → (a : Bool) → p x ≡ a → (b : Bool) → q x ≡ b
+      → filter q (cond (p x) (x ∷ filter p xs) (filter p xs)) ≡ cond (q x) (x ∷ filter q xs) (filter q xs)
+  at more true pa b qb = rw pa (ap (λ t. cond (q x) (x ∷ t) t) more)
   at more false pa true qb = absurd (false≢true (sym pa ∙ less x qb))
-  at more false pa false qb = ap (λ c. filter q (cond c (x ∷ filter p xs) (filter p xs))) pa ∙ more ∙ sym (ap (λ c. cond c (x ∷ filter q xs) (filter q xs)) qb)
+  at more false pa false qb = rw (pa, qb) more
 
-pub filter-weaker : {X : Type 0} (p q : X → Bool) → ((x : X) → q x ≡ true → p x ≡ true) → (xs ys : List X) → filter p xs ≡ filter p ys → filter q xs ≡ filter q ys
+filter-weaker : {X : Type 0} (p q : X → Bool) → ((x : X) → q x ≡ true → p x ≡ true) → (xs ys : List X)
+    → filter p xs ≡ filter p ys → filter q xs ≡ filter q ys
 filter-weaker p q less xs ys same = sym (filter-twice p q less xs) ∙ ap (filter q) same ∙ filter-twice p q less ys
 
 filter-agree : (p q : ℕ → Bool) (size : ℕ) → ((x : ℕ) → x < size → q x ≡ p x) → (xs : List ℕ) → Within size xs → filter q xs ≡ filter p xs
 filter-agree p q size same [] all = refl
-filter-agree p q size same (x ∷ xs) all = ap (λ c. cond c (x ∷ filter q xs) (filter q xs)) (same x all.0) ∙ ap (λ t. cond (p x) (x ∷ t) t) (filter-agree p q size same xs all.1)
+filter-agree p q size same (x ∷ xs) all = rw (same x all.0, filter-agree p q size same xs all.1) refl
 
 Within-more : (a b : ℕ) (xs : List ℕ) → a ≤ b → Within a xs → Within b xs
 Within-more a b [] le all = tt
@@ -55,61 +56,50 @@ Within-filter p size (x ∷ xs) all =
       | false ↦ Within-filter p size xs all.1
     ]
 
-front : (table : List Entry) (e : Entry) (i : ℕ) → i < length table → slice_get (table ++ e ∷ []) i ≡ slice_get table i
-front [] e i below = absurd (omega (arith, below))
-front (x ∷ table) e zero below = refl
-front (x ∷ table) e (suc i) below = front table e i (omega (arith, below))
+-- a new last entry changes nothing at the places before it
+open_at-push : (limit : ℕ) (table : List Entry) (e : Entry) (i : ℕ) → i < length table → open_at limit (table ++ e ∷ []) i ≡ open_at limit table i
+open_at-push limit [] e i below = absurd (omega (arith, below))
+open_at-push limit (x ∷ table) e zero below = refl
+open_at-push limit (x ∷ table) e (suc i) below = open_at-push limit table e i (omega (arith, below))
 
-length-push : (table : List Entry) (e : Entry) → length (table ++ e ∷ []) ≡ suc (length table)
-length-push [] e = refl
-length-push (x ∷ table) e = ap suc (length-push table e)
-
--- entries of which more is known now
-pub index-grown : (limit : ℕ) (old new : List Entry) (open_places : List ℕ) → length new ≡ length old → ((place : ℕ) → open_at limit new place ≡ true → open_at limit old place ≡ true) → IsIndex limit old open_places → IsIndex limit new open_places
-index-grown limit old new open_places same less index = record {
-  within = Within-more (length old) (length new) open_places (omega (arith, same)) index.within;
-  covers = filter-weaker (open_at limit old) (open_at limit new) less open_places (places (length old)) index.covers ∙ ap (λ n. filter (open_at limit new) (places n)) (sym same);
-}
+-- an index, with one place more to look at
+covers-push : (limit : ℕ) (table : List Entry) (e : Entry) (open_places : List ℕ) → IsIndex limit table open_places
+    → filter (open_at limit (table ++ e ∷ [])) (open_places ++ length table ∷ []) ≡ filter (open_at limit (table ++ e ∷ [])) (places (length (table ++ e ∷ [])))
+unfolding places
+covers-push limit table e open_places index =
+    let n = length table in
+    let q : ℕ → Bool = open_at limit (table ++ e ∷ []) in
+    let agree : (xs : List ℕ) → Within n xs → filter q xs ≡ filter (open_at limit table) xs = filter-agree (open_at limit table) q n (open_at-push limit table e) in
+    let before : filter q open_places ≡ filter q (places n) = agree open_places index.within ∙ index.covers ∙ sym (agree (places n) (Within-places n)) in
+    let size : suc n ≡ length (table ++ e ∷ []) = omega (arith, length_push table e) in
+    filter-append q open_places (n ∷ []) ∙ ap (λ t. t ++ filter q (n ∷ [])) before ∙ sym (filter-append q (places n) (n ∷ [])) ∙ ap (λ k. filter q (places k)) size
 
 -- a new last entry, whose place is open
-pub index-push : (limit : ℕ) (table : List Entry) (e : Entry) (open_places : List ℕ) → IsIndex limit table open_places → IsIndex limit (table ++ e ∷ []) (open_places ++ length table ∷ [])
-unfolding places
+pub index-push : (limit : ℕ) (table : List Entry) (e : Entry) (open_places : List ℕ) → IsIndex limit table open_places
+    → IsIndex limit (table ++ e ∷ []) (open_places ++ length table ∷ [])
 index-push limit table e open_places index =
-    let p : ℕ → Bool = open_at limit table in
-    let q : ℕ → Bool = open_at limit (table ++ e ∷ []) in
-    let n = length table in
-    let agrees : (x : ℕ) → x < n → q x ≡ p x = λ x below. ap (λ o. option_map_or (is_open limit) o false) (front table e x below) in
-    let before : filter q open_places ≡ filter q (places n) = filter-agree p q n agrees open_places index.within ∙ index.covers ∙ sym (filter-agree p q n agrees (places n) (Within-places n)) in
+    let more : length table < length (table ++ e ∷ []) = omega (arith, length_push table e) in
     record {
-      within = rw (length-push table e) (Within-push (suc n) open_places n (Within-more n (suc n) open_places (omega arith) index.within) (omega arith));
-      covers = filter-append q open_places (n ∷ []) ∙ ap (λ t. t ++ filter q (n ∷ [])) before ∙ sym (filter-append q (places n) (n ∷ [])) ∙ ap (λ k. filter q (places k)) (sym (length-push table e));
+      within = Within-push _ open_places (length table) (Within-more (length table) _ open_places (omega (arith, more)) index.within) more;
+      covers = covers-push limit table e open_places index;
     }
-
-last-at : (table : List Entry) (e : Entry) → slice_get (table ++ e ∷ []) (length table) ≡ Some e
-last-at [] e = refl
-last-at (x ∷ table) e = last-at table e
 
 -- a new last entry that is not open, whose place is left out
 pub index-push_closed : (limit : ℕ) (table : List Entry) (e : Entry) (open_places : List ℕ) → is_open limit e ≡ false
     → IsIndex limit table open_places → IsIndex limit (table ++ e ∷ []) open_places
-unfolding places
 index-push_closed limit table e open_places closed index =
-    let p : ℕ → Bool = open_at limit table in
     let q : ℕ → Bool = open_at limit (table ++ e ∷ []) in
-    let n = length table in
-    let agrees : (x : ℕ) → x < n → q x ≡ p x = λ x below. ap (λ o. option_map_or (is_open limit) o false) (front table e x below) in
-    let before : filter q open_places ≡ filter q (places n) =
-    filter-agree p q n agrees open_places index.within ∙ index.covers ∙ sym (filter-agree p q n agrees (places n) (Within-places n)) in
-    let none : filter q (n ∷ []) ≡ [] = ap (λ b. cond b (n ∷ []) []) (ap (λ o. option_map_or (is_open limit) o false) (last-at table e) ∙ closed) in
-    let same : filter q (places (suc n)) ≡ filter q (places n) =
-    filter-append q (places n) (n ∷ []) ∙ ap (λ t. filter q (places n) ++ t) none ∙ append-nil (filter q (places n)) in
+    let none : q (length table) ≡ false = ap (λ o. option_map_or (is_open limit) o false) (At-new table e) ∙ closed in
+    let same : filter q (open_places ++ length table ∷ []) ≡ filter q open_places =
+    filter-append q open_places (length table ∷ []) ∙ ap (λ b. filter q open_places ++ cond b (length table ∷ []) []) none ∙ append-nil _ in
     record {
-      within = rw (length-push table e) (Within-more n (suc n) open_places (omega arith) index.within);
-      covers = before ∙ sym same ∙ ap (λ k. filter q (places k)) (sym (length-push table e));
+      within = Within-more (length table) _ open_places (omega (arith, length_push table e)) index.within;
+      covers = sym same ∙ covers-push limit table e open_places index;
     }
 
 -- places of entries that are stable now are let go
-pub index-pruned : (limit : ℕ) (table : List Entry) (open_places : List ℕ) → IsIndex limit table open_places → IsIndex limit table (filter (open_at limit table) open_places)
+pub index-pruned : (limit : ℕ) (table : List Entry) (open_places : List ℕ) → IsIndex limit table open_places
+    → IsIndex limit table (filter (open_at limit table) open_places)
 index-pruned limit table open_places index = record {
   within = Within-filter (open_at limit table) (length table) open_places index.within;
   covers = filter-twice (open_at limit table) (open_at limit table) (λ x is. is) open_places ∙ index.covers;
@@ -119,43 +109,85 @@ pub index-none : (limit : ℕ) → IsIndex limit [] []
 unfolding places
 index-none limit = record { within = tt; covers = refl }
 
+-- entries of which more is known now
+index-grown : (limit : ℕ) (old new : List Entry) (open_places : List ℕ) → length new ≡ length old
+    → ((place : ℕ) → open_at limit new place ≡ true → open_at limit old place ≡ true) → IsIndex limit old open_places → IsIndex limit new open_places
+index-grown limit old new open_places same less index = record {
+  within = Within-more (length old) (length new) open_places (omega (arith, same)) index.within;
+  covers =
+      filter-weaker (open_at limit old) (open_at limit new) less open_places (places (length old)) index.covers
+      ∙ ap (λ n. filter (open_at limit new) (places n)) (sym same);
+}
+
+-- what is open is open of less that is known too
+open-less : (limit : ℕ) (a b : set.FinSet nat_cmp) → nat_le (set.len (set.union a b)) limit ≡ true → nat_le (set.len a) limit ≡ true
+open-less limit a b is =
+    let more = len-within (set.len a) a (set.union a b) refl (λ q has. set.contains-union nat_cmp_total a b q ∙ ap (λ c. c || set.contains b q) has) in
+    grind (arith, nat_tests)
+
+added-weaker : (limit : ℕ) (table : List Entry) (entry : Entry) → is_held table entry.det ≡ true
+    → (place : ℕ) → open_at limit (added table entry) place ≡ true → open_at limit table place ≡ true
+unfolding added
+added-weaker limit [] entry held place is = absurd (false≢true held)
+added-weaker limit (e ∷ table) entry held place is = at (added-weaker limit table entry) (same_determinant entry.det e.det) held place is where
+  at : (is_held table entry.det ≡ true → (place : ℕ) → open_at limit (added table entry) place ≡ true → open_at limit table place ≡ true)
+      → (b : Bool) → (b || is_held table entry.det) ≡ true
+      → (place : ℕ) → open_at limit (if b then record { det = e.det; known = set.union e.known entry.known } ∷ table else e ∷ added table entry) place ≡ true
+      → open_at limit (e ∷ table) place ≡ true
+  at more true held zero is = open-less limit e.known entry.known is
+  at more true held (suc place) is = is
+  at more false held zero is = is
+  at more false held (suc place) is = more held place is
+
+pub index-added_held : (limit : ℕ) (table : List Entry) (entry : Entry) (open_places : List ℕ) → is_held table entry.det ≡ true
+    → IsIndex limit table open_places → IsIndex limit (added table entry) open_places
+index-added_held limit table entry open_places held index =
+    index-grown limit table (added table entry) open_places (length-added_held table entry held) (added-weaker limit table entry held) index
+
+marked-weaker : (limit : ℕ) (members : set.FinSet nat_cmp) (table : List Entry) (place : ℕ)
+    → open_at limit (marked members table) place ≡ true → open_at limit table place ≡ true
+marked-weaker limit members [] place is = is
+marked-weaker limit members (e ∷ table) zero is = open-less limit e.known members is
+marked-weaker limit members (e ∷ table) (suc place) is = marked-weaker limit members table place is
+
+pub index-marked : (limit : ℕ) (members : set.FinSet nat_cmp) (table : List Entry) (open_places : List ℕ) → IsIndex limit table open_places
+    → IsIndex limit (marked members table) open_places
+index-marked limit members table open_places index =
+    index-grown limit table (marked members table) open_places (length-map table _) (marked-weaker limit members table) index
+
+-- the open entries at some places
+picked : (f : ℕ) (table : List Entry) (ps : List ℕ)
+    → piggybacked f (filter_map (slice_get table) ps) ≡ filter_map (slice_get table) (filter (open_at f table) ps)
+picked f table [] = refl
+picked f table (p ∷ ps) = at (slice_get table p) refl (picked f table ps) where
+  kept : (e : Entry) → slice_get table p ≡ Some e → (b : Bool) → is_open f e ≡ b
+      → piggybacked f (filter_map (slice_get table) ps) ≡ filter_map (slice_get table) (filter (open_at f table) ps)
+      → piggybacked f (e ∷ filter_map (slice_get table) ps) ≡ filter_map (slice_get table) (cond (is_open f e) (p ∷ filter (open_at f table) ps) (filter (open_at f table) ps))
+  kept e is true few more = rw (few, is) (ap (λ t. e ∷ t) more)
+  kept e is false many more = rw many more
+
+  at : (o : Option Entry) → slice_get table p ≡ o
+      → piggybacked f (filter_map (slice_get table) ps) ≡ filter_map (slice_get table) (filter (open_at f table) ps)
+      → piggybacked f (filter_map (slice_get table) (p ∷ ps)) ≡ filter_map (slice_get table) (filter (open_at f table) (p ∷ ps))
+  at None is more = rw is more
+  at (Some e) is more = rw is (kept e is (is_open f e) refl more)
+
 missing : (table : List Entry) (i : ℕ) → i < length table → slice_get table i ≡ None → ⊥
 missing [] i below none = omega (arith, below)
 missing (x ∷ table) zero below none = cc
 missing (x ∷ table) (suc i) below none = missing table i (omega (arith, below)) none
 
--- the open entries at some places
-picked : (f : ℕ) (table : List Entry) (ps : List ℕ) → piggybacked f (filter_map (slice_get table) ps) ≡ filter_map (slice_get table) (filter (open_at f table) ps)
-picked f table [] = refl
-picked f table (p ∷ ps) = at (picked f table ps) (slice_get table p) refl where
-  kept : piggybacked f (filter_map (slice_get table) ps) ≡ filter_map (slice_get table) (filter (open_at f table) ps) → {e : Entry} → slice_get table p ≡ Some e → (b : Bool) → is_open f e ≡ b → piggybacked f (e ∷ filter_map (slice_get table) ps) ≡ filter_map (slice_get table) (filter (open_at f table) (p ∷ ps))
-  kept more {e} is true b =
-      ap (λ c. cond c (e ∷ piggybacked f (filter_map (slice_get table) ps)) (piggybacked f (filter_map (slice_get table) ps))) b
-      ∙ ap (λ t. e ∷ t) more
-      ∙ sym (ap (λ o. cons_option o (filter_map (slice_get table) (filter (open_at f table) ps))) is)
-      ∙ sym (ap (λ c. filter_map (slice_get table) (cond c (p ∷ filter (open_at f table) ps) (filter (open_at f table) ps))) (ap (λ o. option_map_or (is_open f) o false) is ∙ b))
-  kept more {e} is false b =
-      ap (λ c. cond c (e ∷ piggybacked f (filter_map (slice_get table) ps)) (piggybacked f (filter_map (slice_get table) ps))) b
-      ∙ more
-      ∙ sym (ap (λ c. filter_map (slice_get table) (cond c (p ∷ filter (open_at f table) ps) (filter (open_at f table) ps))) (ap (λ o. option_map_or (is_open f) o false) is ∙ b))
-
-  at : piggybacked f (filter_map (slice_get table) ps) ≡ filter_map (slice_get table) (filter (open_at f table) ps) → (o : Option Entry) → slice_get table p ≡ o → piggybacked f (filter_map (slice_get table) (p ∷ ps)) ≡ filter_map (slice_get table) (filter (open_at f table) (p ∷ ps))
-  at more None is =
-      ap (λ o. piggybacked f (cons_option o (filter_map (slice_get table) ps))) is ∙ more
-      ∙ sym (ap (λ o. filter_map (slice_get table) (cond (option_map_or (is_open f) o false) (p ∷ filter (open_at f table) ps) (filter (open_at f table) ps))) is)
-  at more (Some e) is =
-      ap (λ o. piggybacked f (cons_option o (filter_map (slice_get table) ps))) is
-      ∙ kept more is (is_open f e) refl
-
 picked_places : (table : List Entry) (i : ℕ) → i ≤ length table → filter_map (slice_get table) (places i) ≡ take i table
 unfolding places
 picked_places table zero below = refl
 picked_places table (suc i) below =
-    filter_map-append (slice_get table) (places i) (i ∷ []) ∙ ap (λ t. t ++ filter_map (slice_get table) (i ∷ [])) (picked_places table i (omega (arith, below))) ∙ last (slice_get table i) refl
+    filter_map-append (slice_get table) (places i) (i ∷ [])
+    ∙ ap (λ t. t ++ filter_map (slice_get table) (i ∷ [])) (picked_places table i (omega (arith, below)))
+    ∙ last (slice_get table i) refl
   where
     last : (o : Option Entry) → slice_get table i ≡ o → take i table ++ filter_map (slice_get table) (i ∷ []) ≡ take (suc i) table
     last None is = absurd (missing table i (omega (arith, below)) is)
-    last (Some e) is = ap (λ o. take i table ++ cons_option o []) is ∙ sym (take-next table i e is) ∙ ap (λ k. take k table) (let e : i + 1 ≡ suc i = omega arith in e)
+    last (Some e) is = rw is (sym (take-next table i e is) ∙ ap (λ k. take k table) (let next : i + 1 ≡ suc i = omega arith in next))
 
 smaller : (f limit : ℕ) (table : List Entry) → f ≤ limit → (place : ℕ) → open_at f table place ≡ true → open_at limit table place ≡ true
 smaller f limit table le place is = at (slice_get table place) is where
@@ -164,73 +196,17 @@ smaller f limit table le place is = at (slice_get table place) is where
   at (Some e) h = (let k : nat_le (set.len e.known) limit ≡ true = grind (arith, nat_tests) in k)
 
 -- what the open entries pass on is what the table passes on
-pub index-piggybacked : (f limit : ℕ) (table : List Entry) (open_places : List ℕ) → f ≤ limit → IsIndex limit table open_places → piggybacked f (filter_map (slice_get table) open_places) ≡ piggybacked f table
+pub index-piggybacked : (f limit : ℕ) (table : List Entry) (open_places : List ℕ) → f ≤ limit → IsIndex limit table open_places
+    → piggybacked f (filter_map (slice_get table) open_places) ≡ piggybacked f table
 index-piggybacked f limit table open_places le index =
     let n = length table in
     picked f table open_places
-    ∙ ap (filter_map (slice_get table)) (filter-weaker (open_at limit table) (open_at f table) (smaller f limit table le) open_places (places n) index.covers)
+    ∙ ap (filter_map (slice_get table))
+    (filter-weaker (open_at limit table) (open_at f table) (smaller f limit table le) open_places (places n) index.covers)
     ∙ sym (picked f table (places n))
     ∙ ap (piggybacked f) (picked_places table n (omega arith) ∙ take_all n table (omega arith))
 
--- one more place
-pub picked-step : (f : ℕ) (table : List Entry) (ps : List ℕ) (i p : ℕ) → slice_get ps i ≡ Some p → piggybacked f (filter_map (slice_get table) (take (i + 1) ps)) ≡ piggybacked f (filter_map (slice_get table) (take i ps)) ++ piggybacked f (cons_option (slice_get table p) [])
-picked-step f table ps i p is =
-    ap (λ xs. piggybacked f (filter_map (slice_get table) xs)) (take-next ps i p is)
-    ∙ ap (piggybacked f) (filter_map-append (slice_get table) (take i ps) (p ∷ []))
-    ∙ filter-append (is_open f) (filter_map (slice_get table) (take i ps)) (cons_option (slice_get table p) [])
-
-length-added : (table : List Entry) (entry : Entry) → is_held table entry.det ≡ true → length (added table entry) ≡ length table
-unfolding added
-length-added [] entry held = absurd (false≢true held)
-length-added (e ∷ table) entry held = at (length-added table entry) (same_determinant entry.det e.det) refl where
-  at : (is_held table entry.det ≡ true → length (added table entry) ≡ length table) → (b : Bool) → same_determinant entry.det e.det ≡ b → length (added (e ∷ table) entry) ≡ suc (length table)
-  at more true is = ap (λ b. length (if b then record { det = e.det; known = set.union e.known entry.known } ∷ table else e ∷ added table entry)) is
-  at more false is = ap (λ b. length (if b then record { det = e.det; known = set.union e.known entry.known } ∷ table else e ∷ added table entry)) is ∙ ap suc (more (sym (ap (λ b. b || is_held table entry.det) is) ∙ held))
-
-len-union : (a b : set.FinSet nat_cmp) → set.len a ≤ set.len (set.union a b)
-len-union a b = len-within (set.len a) a (set.union a b) refl (λ q has. set.contains-union nat_cmp_total a b q ∙ ap (λ c. c || set.contains b q) has)
-
-added-weaker : (limit : ℕ) (table : List Entry) (entry : Entry) → is_held table entry.det ≡ true → (place : ℕ) → open_at limit (added table entry) place ≡ true → open_at limit table place ≡ true
-unfolding added
-added-weaker limit [] entry held place is = absurd (false≢true held)
-added-weaker limit (e ∷ table) entry held place is = at (added-weaker limit table entry) (same_determinant entry.det e.det) refl place is where
-  grown : nat_le (set.len (set.union e.known entry.known)) limit ≡ true → nat_le (set.len e.known) limit ≡ true
-  grown h = (let le = len-union e.known entry.known in grind (arith, nat_tests))
-
-  at : (is_held table entry.det ≡ true → (place : ℕ) → open_at limit (added table entry) place ≡ true → open_at limit table place ≡ true) → (b : Bool) → same_determinant entry.det e.det ≡ b → (place : ℕ) → open_at limit (if same_determinant entry.det e.det then record { det = e.det; known = set.union e.known entry.known } ∷ table else e ∷ added table entry) place ≡ true → open_at limit (e ∷ table) place ≡ true
-  at more true same zero h = grown (sym (ap (λ b. open_at limit (if b then record { det = e.det; known = set.union e.known entry.known } ∷ table else e ∷ added table entry) 0) same) ∙ h)
-  at more true same (suc place) h = sym (ap (λ b. open_at limit (if b then record { det = e.det; known = set.union e.known entry.known } ∷ table else e ∷ added table entry) (suc place)) same) ∙ h
-  at more false same zero h = sym (ap (λ b. open_at limit (if b then record { det = e.det; known = set.union e.known entry.known } ∷ table else e ∷ added table entry) 0) same) ∙ h
-  at more false same (suc place) h = more (sym (ap (λ b. b || is_held table entry.det) same) ∙ held) place (sym (ap (λ b. open_at limit (if b then record { det = e.det; known = set.union e.known entry.known } ∷ table else e ∷ added table entry) (suc place)) same) ∙ h)
-
-pub added-new : (table : List Entry) (entry : Entry) → is_held table entry.det ≡ false → added table entry ≡ table ++ entry ∷ []
-unfolding added
-added-new [] entry new = refl
-added-new (e ∷ table) entry new = at (added-new table entry) (same_determinant entry.det e.det) refl where
-  at : (is_held table entry.det ≡ false → added table entry ≡ table ++ entry ∷ []) → (b : Bool) → same_determinant entry.det e.det ≡ b → added (e ∷ table) entry ≡ e ∷ table ++ entry ∷ []
-  at more true is = absurd (false≢true (sym new ∙ ap (λ b. b || is_held table entry.det) is))
-  at more false is = ap (λ b. if b then record { det = e.det; known = set.union e.known entry.known } ∷ table else e ∷ added table entry) is ∙ ap (λ t. e ∷ t) (more (sym (ap (λ b. b || is_held table entry.det) is) ∙ new))
-
-pub index-added_held : (limit : ℕ) (table : List Entry) (entry : Entry) (open_places : List ℕ) → is_held table entry.det ≡ true → IsIndex limit table open_places → IsIndex limit (added table entry) open_places
-index-added_held limit table entry open_places held index = index-grown limit table (added table entry) open_places (length-added table entry held) (added-weaker limit table entry held) index
-
--- as the code has it
-pub held-index : (limit : ℕ) (es new : List (Determinant × set.FinSet nat_cmp)) (entry : Entry) (open_places : List ℕ) → is_held (map entry_of es) entry.det ≡ true → IsIndex limit (map entry_of es) open_places → map entry_of new ≡ added (map entry_of es) entry → IsIndex limit (map entry_of new) open_places
-held-index limit es new entry open_places held index is = rw is (index-added_held limit (map entry_of es) entry open_places held index)
-
--- one more entry looked at, by its place
-pub picked-entry : (f : ℕ) (table : List Entry) (ps : List ℕ) (i p : ℕ) (e : Entry) (b : Bool) → slice_get ps i ≡ Some p → Some e ≡ slice_get table p → is_open f e ≡ b → piggybacked f (filter_map (slice_get table) (take (i + 1) ps)) ≡ piggybacked f (filter_map (slice_get table) (take i ps)) ++ cond b (e ∷ []) []
-picked-entry f table ps i p e b at is fits =
-    picked-step f table ps i p at ∙ ap (λ o. piggybacked f (filter_map (slice_get table) (take i ps)) ++ piggybacked f (cons_option o [])) (sym is) ∙ ap (λ b. piggybacked f (filter_map (slice_get table) (take i ps)) ++ cond b (e ∷ []) []) fits
-
-pub picked-nothing : (f : ℕ) (table : List Entry) (ps : List ℕ) (i p : ℕ) → slice_get ps i ≡ Some p → None ≡ slice_get table p → piggybacked f (filter_map (slice_get table) (take (i + 1) ps)) ≡ piggybacked f (filter_map (slice_get table) (take i ps))
-picked-nothing f table ps i p at is =
-    picked-step f table ps i p at ∙ ap (λ o. piggybacked f (filter_map (slice_get table) (take i ps)) ++ piggybacked f (cons_option o [])) (sym is) ∙ append-nil _
-
-marked-weaker : (limit : ℕ) (members : set.FinSet nat_cmp) (table : List Entry) (place : ℕ) → open_at limit (marked members table) place ≡ true → open_at limit table place ≡ true
-marked-weaker limit members [] place h = h
-marked-weaker limit members (e ∷ table) zero h = (let le = len-union e.known members in let k : nat_le (set.len e.known) limit ≡ true = grind (arith, nat_tests) in k)
-marked-weaker limit members (e ∷ table) (suc place) h = marked-weaker limit members table place h
-
-pub index-marked : (limit : ℕ) (members : set.FinSet nat_cmp) (table : List Entry) (open_places : List ℕ) → IsIndex limit table open_places → IsIndex limit (marked members table) open_places
-index-marked limit members table open_places index = index-grown limit table (marked members table) open_places (length-map table (λ e. record { det = e.det; known = set.union e.known members })) (marked-weaker limit members table) index
+pub within-get : (size : ℕ) (ps : List ℕ) (i p : ℕ) → Within size ps → slice_get ps i ≡ Some p → p < size
+within-get size [] i p all is = cc
+within-get size (x ∷ ps) zero p all is = (let here : x ≡ p = ap (λ o. unwrap_or o p) is in omega (arith, here, all.0))
+within-get size (x ∷ ps) (suc i) p all is = within-get size ps i p all.1 is

@@ -1,9 +1,9 @@
--- How many entries are passed on.
-use Rattle.std.proofs.Common.{◌≡◌, ℕ, ◌+◌, ◌<◌, ◌≤◌, Bool, true, false, cond, List, [], ◌∷◌, ◌++◌, map, sym, ap, ◌∙◌, arith, take, drop, length, slice_get}
+-- How many entries are passed on, and that they are put into a list in turn.
+use Rattle.std.proofs.Common.{◌≡◌, ℕ, ◌+◌, ◌≤◌, Bool, true, false, cond, List, [], ◌∷◌, ◌++◌, map, Some, refl, sym, ap, ◌∙◌, arith, take, drop, length, slice_get}
 use Rattle.std.proofs.lemmas.List.{length-map, length-append, take-append-drop}
 use Rattle.std.proofs.Common.{append_assoc}
 use Rattle.std.proofs.lemmas.List.Elements.{filter-append, filter_map-append}
-use Rattle.std.specs.List.{filter_map}
+use Rattle.std.specs.List.{filter_map, cons_option}
 use Rattle.std.specs.FinSet as set
 use Rattle.fbl_base.specs.declared.trace.Determinant.{Determinant}
 use Rattle.fbl_base.specs.Events.{same_determinant}
@@ -11,6 +11,7 @@ use Rattle.fbl_base.proofs.Sifted.{length-left, length-filter_map}
 use Rattle.fbl_table.specs.declared.entry.Entry.{Entry}
 use Rattle.fbl_table.specs.Tables.{is_open, piggybacked, added, gathered, learned, noted, held_by}
 use Rattle.fbl_table.specs.Index.{IsIndex}
+use Rattle.fbl_table.proofs.Adding.{take-next}
 use Rattle.fbl_table.proofs.Indexing.{index-piggybacked}
 
 length-cond_most : {X : Type 0} (b : Bool) (x : X) (xs : List X) → length (cond b (x ∷ xs) xs) ≤ length xs + 1
@@ -21,7 +22,8 @@ length-cond_least : {X : Type 0} (b : Bool) (x : X) (xs : List X) → length xs 
 length-cond_least true x xs = omega arith
 length-cond_least false x xs = omega arith
 
-length-cond_more : {X : Type 0} (b : Bool) (x : X) (xs ys : List X) (k : ℕ) → length xs ≤ length ys + k → length (cond b (x ∷ xs) xs) ≤ length (cond b (x ∷ ys) ys) + k
+length-cond_more : {X : Type 0} (b : Bool) (x : X) (xs ys : List X) (k : ℕ) → length xs ≤ length ys + k
+    → length (cond b (x ∷ xs) xs) ≤ length (cond b (x ∷ ys) ys) + k
 length-cond_more true x xs ys k le = omega (arith, le)
 length-cond_more false x xs ys k le = le
 
@@ -29,53 +31,71 @@ length-cond_more false x xs ys k le = le
 open-added : (f : ℕ) (table : List Entry) (entry : Entry) → length (piggybacked f (added table entry)) ≤ length (piggybacked f table) + 1
 unfolding added
 open-added f [] entry = length-cond_most (is_open f entry) entry []
-open-added f (e ∷ table) entry = elim (same_determinant entry.det e.det) as (λ b. length (piggybacked f (cond b (record { det = e.det; known = set.union e.known entry.known } ∷ table) (e ∷ added table entry))) ≤ length (piggybacked f (e ∷ table)) + 1) [
-  | true ↦ omega (arith, length-cond_most (is_open f (record { det = e.det; known = set.union e.known entry.known })) (record { det = e.det; known = set.union e.known entry.known }) (piggybacked f table), length-cond_least (is_open f e) e (piggybacked f table))
-  | false ↦ length-cond_more (is_open f e) e (piggybacked f (added table entry)) (piggybacked f table) 1 (open-added f table entry)
-]
+open-added f (e ∷ table) entry =
+    let united : Entry = record { det = e.det; known = set.union e.known entry.known } in
+    let rest = piggybacked f table in
+    elim (same_determinant entry.det e.det)
+    as (λ b. length (piggybacked f (cond b (united ∷ table) (e ∷ added table entry))) ≤ length (piggybacked f (e ∷ table)) + 1) [
+      | true ↦ omega (arith, length-cond_most (is_open f united) united rest, length-cond_least (is_open f e) e rest)
+      | false ↦ length-cond_more (is_open f e) e (piggybacked f (added table entry)) rest 1 (open-added f table entry)
+    ]
 
 open-gathered : (f : ℕ) (table other : List Entry) → length (piggybacked f (gathered table other)) ≤ length (piggybacked f table) + length other
 open-gathered f table [] = omega arith
 open-gathered f table (e ∷ other) = omega (arith, open-added f table e, open-gathered f (added table e) other)
 
 -- what is learned and the member's own make no more than as many more to pass on
-pub open-receipt : (f me : ℕ) (table carried : List Entry) (d : Determinant) → length (piggybacked f (noted me (learned me table carried) d)) ≤ length (piggybacked f table) + length carried + 1
+pub open-receipt : (f me : ℕ) (table carried : List Entry) (d : Determinant)
+    → length (piggybacked f (noted me (learned me table carried) d)) ≤ length (piggybacked f table) + length carried + 1
 open-receipt f me table carried d =
-    let own : Entry = record { det = d; known = set.insert set.empty me } in
-    let split : length (piggybacked f (noted me (learned me table carried) d)) ≡ length (piggybacked f (learned me table carried)) + length (piggybacked f (own ∷ [])) = ap length (filter-append (is_open f) (learned me table carried) (own ∷ [])) ∙ length-append (piggybacked f (learned me table carried)) (piggybacked f (own ∷ [])) in
-    let one : length (piggybacked f (own ∷ [])) ≤ 1 = length-left (is_open f) (own ∷ []) in
-    let some : length (piggybacked f (learned me table carried)) ≤ length (piggybacked f table) + length (map (held_by me) carried) = open-gathered f table (map (held_by me) carried) in
-    omega (arith, split, one, some, length-map carried (held_by me))
+    let learns = learned me table carried in
+    let own : List Entry = record { det = d; known = set.insert set.empty me } ∷ [] in
+    let split = ap length (filter-append (is_open f) learns own) ∙ length-append (piggybacked f learns) (piggybacked f own) in
+    omega (arith, split, length-left (is_open f) own, open-gathered f table (map (held_by me) carried), length-map carried (held_by me))
 
 -- no more are passed on than there are open places
-pub open-within : (f limit : ℕ) (table : List Entry) (open_places : List ℕ) → f ≤ limit → IsIndex limit table open_places → length (piggybacked f table) ≤ length open_places
+pub open-within : (f limit : ℕ) (table : List Entry) (open_places : List ℕ) → f ≤ limit → IsIndex limit table open_places
+    → length (piggybacked f table) ≤ length open_places
 open-within f limit table open_places le index =
-    let same : length (piggybacked f (filter_map (slice_get table) open_places)) ≡ length (piggybacked f table) = ap length (index-piggybacked f limit table open_places le index) in
-    omega (arith, same, length-left (is_open f) (filter_map (slice_get table) open_places), length-filter_map (slice_get table) open_places)
+    let picked = filter_map (slice_get table) open_places in
+    let same : length (piggybacked f picked) ≡ length (piggybacked f table) = ap length (index-piggybacked f limit table open_places le index) in
+    omega (arith, same, length-left (is_open f) picked, length-filter_map (slice_get table) open_places)
 
--- those passed on of the first entries are no more than those of all
-pub first-open : (f : ℕ) (table : List Entry) (i : ℕ) → length (piggybacked f (take i table)) ≤ length (piggybacked f table)
-first-open f table i =
-    let whole : length (piggybacked f (take i table ++ drop i table)) ≡ length (piggybacked f (take i table)) + length (piggybacked f (drop i table)) = ap length (filter-append (is_open f) (take i table) (drop i table)) ∙ length-append (piggybacked f (take i table)) (piggybacked f (drop i table)) in
-    let same : length (piggybacked f (take i table ++ drop i table)) ≡ length (piggybacked f table) = ap (λ t. length (piggybacked f t)) (take-append-drop i table) in
-    omega (arith, whole, same)
+-- what is made of a list is made of its parts in turn
+abbrev IsByParts : {X Y : Type 0} → (List X → List Y) → Type 0
+IsByParts {X} make = (front back : List X) → make (front ++ back) ≡ make front ++ make back
 
--- the same of the entries at the first places
-pub first-picked : (f : ℕ) (table : List Entry) (ps : List ℕ) (i : ℕ) → length (piggybacked f (filter_map (slice_get table) (take i ps))) ≤ length (piggybacked f (filter_map (slice_get table) ps))
-first-picked f table ps i =
-    let front = filter_map (slice_get table) (take i ps) in
-    let back = filter_map (slice_get table) (drop i ps) in
-    let whole : length (piggybacked f (front ++ back)) ≡ length (piggybacked f front) + length (piggybacked f back) = ap length (filter-append (is_open f) front back) ∙ length-append (piggybacked f front) (piggybacked f back) in
-    let same : length (piggybacked f (front ++ back)) ≡ length (piggybacked f (filter_map (slice_get table) ps)) = ap (λ t. length (piggybacked f t)) (sym (filter_map-append (slice_get table) (take i ps) (drop i ps)) ∙ ap (filter_map (slice_get table)) (take-append-drop i ps)) in
-    omega (arith, whole, same)
+-- what is passed on of a table, and of its entries at some places
+pub piggybacked-parts : (f : ℕ) → IsByParts (piggybacked f)
+piggybacked-parts f front back = filter-append (is_open f) front back
 
--- an entry put at the end of what is passed on so far
-pub pushed : (old now next so_far more : List Entry) (e : Entry) → now ≡ old ++ so_far → more ≡ so_far ++ e ∷ [] → next ≡ now ++ e ∷ [] → next ≡ old ++ more
-pushed old now next so_far more e is last push = push ∙ ap (λ t. t ++ e ∷ []) is ∙ append_assoc old so_far (e ∷ []) ∙ ap (λ t. old ++ t) (sym last)
+pub picked-parts : (f : ℕ) (table : List Entry) → IsByParts (λ places. piggybacked f (filter_map (slice_get table) places))
+picked-parts f table front back =
+    ap (piggybacked f) (filter_map-append (slice_get table) front back)
+    ∙ filter-append (is_open f) (filter_map (slice_get table) front) (filter_map (slice_get table) back)
 
-pub pushed-length : (so_far more : List Entry) (e : Entry) → more ≡ so_far ++ e ∷ [] → length more ≡ length so_far + 1
-pushed-length so_far more e last = ap length last ∙ length-append so_far (e ∷ [])
+-- what is made of one more element, put at the end of what was made so far
+pub pushed : {X : Type 0} (make : List X → List Entry) → IsByParts make → (xs : List X) (i : ℕ) (x : X) → slice_get xs i ≡ Some x
+    → (old now next : List Entry) → now ≡ old ++ make (take i xs) → next ≡ now ++ make (x ∷ []) → next ≡ old ++ make (take (i + 1) xs)
+pushed make parts xs i x at old now next so_far push =
+    push
+    ∙ ap (λ t. t ++ make (x ∷ [])) so_far
+    ∙ append_assoc old (make (take i xs)) (make (x ∷ []))
+    ∙ ap (λ t. old ++ t) (sym (parts (take i xs) (x ∷ [])) ∙ ap make (sym (take-next xs i x at)))
 
--- room for one more, where one more of those that fit is passed on
-pub fits : (len capacity before : ℕ) (so_far more all : List Entry) (e : Entry) → more ≡ so_far ++ e ∷ [] → length more ≤ length all → before + length all ≤ capacity → len ≡ before + length so_far → len < capacity
-fits len capacity before so_far more all e last le room is = omega (arith, pushed-length so_far more e last, le, room, is)
+-- there is room for it, where there is room for what is made of all
+pub fits : {X : Type 0} (make : List X → List Entry) → IsByParts make → (xs : List X) (i : ℕ) (x : X) → slice_get xs i ≡ Some x
+    → (old now : List Entry) → now ≡ old ++ make (take i xs) → (room : ℕ) → length old + length (make xs) ≤ room
+    → length now + length (make (x ∷ [])) ≤ room
+fits make parts xs i x at old now so_far room enough =
+    let front = take (i + 1) xs in
+    let back = drop (i + 1) xs in
+    let whole : length (make xs) ≡ length (make front) + length (make back) =
+    ap (λ t. length (make t)) (sym (take-append-drop (i + 1) xs)) ∙ ap length (parts front back) ∙ length-append (make front) (make back) in
+    let more : now ++ make (x ∷ []) ≡ old ++ make front = pushed make parts xs i x at old now (now ++ make (x ∷ [])) so_far refl in
+    omega (arith, whole, enough, ap length more ∙ length-append old (make front), length-append now (make (x ∷ [])))
+
+-- the entry at one place
+pub picked-one : (f : ℕ) (table : List Entry) (p : ℕ) (e : Entry) → slice_get table p ≡ Some e
+    → piggybacked f (e ∷ []) ≡ piggybacked f (filter_map (slice_get table) (p ∷ []))
+picked-one f table p e at = sym (ap (λ o. piggybacked f (cons_option o [])) at)

@@ -1,0 +1,43 @@
+use Rattle.std.proofs.Common.{◌≡◌, ◌∙◌, ap, sym, arith, length}
+use Rattle.std.proofs.lemmas.List.{length-map, length_push}
+use Rattle.fbl_base.specs.Events.{same_determinant}
+use Rattle.indexmap.specs.IndexMap.{insert_entry}
+use Rattle.fbl_table.specs.Indexed.{entries_of}
+use Rattle.fbl_table.specs.Tables.{entry_of}
+use Rattle.fbl_table.proofs.Adding.{noted-insert}
+use Rattle.fbl_table.proofs.Indexing.{index-push, index-push_closed}
+use Rattle.fbl_table.proofs.indexed.IndexedEntries.add_new.Goals as goal
+
+pub returns-then-is_open-clause-entries : goal.returns-then-is_open-clause-entries
+returns-then-is_open-clause-entries g c =
+    let es = c.args.self.now.entries.entries in
+    let entries : c.insert.new.self.entries ≡ insert_entry same_determinant es c.args.entry.det c.args.entry.known = (rw c.unwrap.ensures at c.insert.ensures.entries) in
+    rw entries (noted-insert es c.args.entry.det c.args.entry.known c.requires.new)
+
+pub returns-else-is_open-clause-entries : goal.returns-else-is_open-clause-entries
+returns-else-is_open-clause-entries g c =
+    let es = c.args.self.now.entries.entries in
+    let entries : c.insert.new.self.entries ≡ insert_entry same_determinant es c.args.entry.det c.args.entry.known = (rw c.unwrap.ensures at c.insert.ensures.entries) in
+    rw entries (noted-insert es c.args.entry.det c.args.entry.known c.requires.new)
+
+pub returns-then-is_open-clause-kept : goal.returns-then-is_open-clause-kept
+returns-then-is_open-clause-kept g c =
+    let old = c.args.self.now in
+    let table = entries_of old in
+    let entries = returns-then-is_open-clause-entries g c in
+    let last : c.len-place.result ≡ length table = c.len-place.ensures.len ∙ sym (length-map old.entries.entries entry_of) in
+    record {
+      index = λ is. rw (entries, c.push_reserved.ensures.items, last) (index-push old.limit table c.args.entry old.open_places.items is);
+      room = omega (arith, ap length entries, length_push table c.args.entry, c.insert.ensures.spare, c.push_reserved.ensures.len, c.push_reserved.ensures.capacity);
+    }
+
+pub returns-else-is_open-clause-kept : goal.returns-else-is_open-clause-kept
+returns-else-is_open-clause-kept g c =
+    let old = c.args.self.now in
+    let table = entries_of old in
+    let entries = returns-else-is_open-clause-entries g c in
+    let closed = sym c.is_open.ensures ∙ c.if-is_open.false in
+    record {
+      index = λ is. rw entries (index-push_closed old.limit table c.args.entry old.open_places.items closed is);
+      room = omega (arith, ap length entries, length_push table c.args.entry, c.insert.ensures.spare);
+    }

@@ -1,0 +1,30 @@
+use Rattle.std.proofs.Common.{arith}
+use Rattle.fbl_table.specs.Indexed.{entries_of}
+use Rattle.fbl_table.specs.Tables.{lacks}
+use Rattle.fbl_table.proofs.Adding.{held-at, lacks-none, lacks-same, lacks-next, at_most_one}
+use Rattle.fbl_table.proofs.indexed.IndexedEntries.lacking_beyond.Goals as goal
+use Rattle.fbl_table.proofs.indexed.IndexedEntries.lacking_beyond.Goals.{in-Some, in-None}
+
+pub loop-place-init : goal.loop-place-init
+loop-place-init g c = record {
+  enough = omega (arith, lacks-none c.args.shared (entries_of c.args.self.now) (entries_of c.args.other.now) c.requires.len c.requires.same);
+  few = omega arith;
+}
+
+pub loop-place-preserved : goal.loop-place-preserved
+loop-place-preserved g c =
+    let table = entries_of c.args.self.now in
+    let other = entries_of c.args.other.now in
+    let i = c.loop-place.place in
+    let entry = c.entry_at-entry.result in
+    let at = c.entry_at-entry.ensures in
+    elim c.match-likely_place_of.branch [
+      | in-Some w ↦ record {
+        enough = omega (arith, lacks-same table other i entry at (held-at table entry.det w.in-Some.found w.in-Some.ensures), w.lacking-is, c.loop-place.invariant.enough);
+        few = omega (arith, w.lacking-is, c.loop-place.invariant.few);
+      }
+      | in-None w ↦ record {
+        enough = omega (arith, lacks-next table other i entry at, at_most_one (lacks table entry), w.lacking-is, c.loop-place.invariant.enough);
+        few = omega (arith, w.lacking-is, c.loop-place.invariant.few);
+      }
+    ]

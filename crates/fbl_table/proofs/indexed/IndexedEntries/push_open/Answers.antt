@@ -1,0 +1,58 @@
+use Rattle.std.proofs.Common.{◌≡◌, ◌<◌, ◌++◌, ◌∙◌, ℕ, List, Some, ap, arith, get_or, length, slice_get}
+use Rattle.std.proofs.lemmas.List.{take_all}
+use Rattle.std.proofs.lemmas.Option.{slice_get-get_or}
+use Rattle.std.specs.List.{filter_map}
+use Rattle.std.specs.Vec.{vec_capacity}
+use Rattle.fbl_table.specs.Indexed.{entries_of}
+use Rattle.fbl_table.specs.Tables.{piggybacked}
+use Rattle.fbl_table.proofs.Indexing.{within-get, index-piggybacked}
+use Rattle.fbl_table.proofs.Passing.{picked-parts, picked-one, pushed, fits}
+use Rattle.fbl_table.proofs.indexed.IndexedEntries.push_open.Goals as goal
+
+-- the place that is looked at
+place-at : (items places : List ℕ) (i : ℕ) → items ≡ places → i < length items → slice_get places i ≡ Some (get_or items i 0)
+place-at items places i is below = rw (← is) (slice_get-get_or items i 0 below)
+
+pub entry_at-requires : goal.entry_at-requires
+entry_at-requires g c =
+    let kept = c.args.self.now in
+    within-get _ kept.open_places.items c.loop-place.place-index _ c.requires.indexed.within
+    (place-at _ kept.open_places.items c.loop-place.place-index c.deref-place-items.ensures.value c.loop-place-test.true)
+
+pub push_if_open-requires : goal.push_if_open-requires
+push_if_open-requires g c =
+    let kept = c.args.self.now in
+    let table = entries_of kept in
+    let places = kept.open_places.items in
+    let i = c.loop-place.place-index in
+    let at = place-at _ places i c.deref-place-items.ensures.value c.loop-place-test.true in
+    let all = index-piggybacked c.args.f kept.limit table places c.requires.within c.requires.indexed in
+    let enough =
+    fits (λ ps. piggybacked c.args.f (filter_map (slice_get table) ps)) (picked-parts c.args.f table) places i _ at _ _
+    c.loop-place.invariant.so_far (vec_capacity c.args.carried.now) (omega (arith, ap length all, c.requires.room, c.args.carried.now.ok.0)) in
+    omega (arith, enough, ap length (picked-one c.args.f table _ c.entry_at.result c.entry_at.ensures), c.loop-place.invariant.room, c.loop-place.carried.ok.0)
+
+pub loop-place-preserved : goal.loop-place-preserved
+loop-place-preserved g c =
+    let kept = c.args.self.now in
+    let table = entries_of kept in
+    let places = kept.open_places.items in
+    let i = c.loop-place.place-index in
+    let at = place-at _ places i c.deref-place-items.ensures.value c.loop-place-test.true in
+    let one = picked-one c.args.f table _ c.entry_at.result c.entry_at.ensures in
+    record {
+      so_far =
+          pushed (λ ps. piggybacked c.args.f (filter_map (slice_get table) ps)) (picked-parts c.args.f table) places i _ at
+          _ _ _ c.loop-place.invariant.so_far (rw one at c.push_if_open.ensures.items);
+      room = c.push_if_open.ensures.room ∙ c.loop-place.invariant.room;
+    }
+
+pub returns : goal.returns
+returns g c =
+    let kept = c.args.self.now in
+    let table = entries_of kept in
+    let places = kept.open_places.items in
+    let whole = take_all c.loop-place.place-index places (omega (arith, c.loop-place-test.false, ap length c.deref-place-items.ensures.value)) in
+    c.loop-place.invariant.so_far
+    ∙ ap (λ ps. c.args.carried.now.items ++ piggybacked c.args.f (filter_map (slice_get table) ps)) whole
+    ∙ ap (λ t. c.args.carried.now.items ++ t) (index-piggybacked c.args.f kept.limit table places c.requires.within c.requires.indexed)

@@ -1,8 +1,0 @@
-use Rattle.fbl_table.proofs.Adding.{has-found, not_held-missing}
-use Rattle.fbl_table.proofs.table.place_by_hash.Goals as goal
-
-pub returns-clause-has : goal.returns-clause-has
-returns-clause-has g c = has-found c.args.entries.now.entries c.args.det.now c.get_index_of.result c.get_index_of.ensures.index
-
-pub returns-clause-none : goal.returns-clause-none
-returns-clause-none g c = not_held-missing c.args.entries.now.entries c.args.det.now c.get_index_of.result c.get_index_of.ensures.found

@@ -1,0 +1,449 @@
+//! A table's entries, with the places of those that few members are known to hold.
+
+ghost use Rattle.std.specs.Prelude.{◌≡◌, ℕ, ◌+◌, ◌^◌, ◌<◌, ◌≤◌, ◌++◌, [], ◌∷◌, take, length, count_by, OnOk, OnErr, IfOk, IfSome, IfNone, Some, true, false, slice_get, map, vec_len, vec_capacity};
+ghost use Rattle.std.specs.List.{IsDistinct};
+ghost use Rattle.fbl_base.specs.Events.{same_determinant};
+ghost use Rattle.fbl_table.specs.Index.{open_at};
+ghost use Rattle.fbl_table.specs.Indexed.{entries_of, IsIndexed, room, Keeps};
+ghost use Rattle.fbl_table.specs.Tables.{HasInPlace, is_held, lacks, has_at, learned, noted, piggybacked, gathered, marked, added, entry_of};
+
+use crate::entry::Entry;
+use crate::likely::LikelyPlaces;
+use fbl_base::{Determinant, Member, MemberSet};
+use indexmap::IndexMap;
+use std::alloc::{AllocError, Allocator};
+use std::hash::{BuildHasherDefault, FoldHasher};
+
+/// Each determinant with the members that are known to hold it.
+type Entries<A> = IndexMap<Determinant, MemberSet, BuildHasherDefault<FoldHasher>, A>;
+
+/// Entries in the order in which they came, no two of the same determinant, with the places of the open ones: those that at
+/// most `limit` members are known to hold.
+///
+/// What adds entries has room for them: `reserve` makes it.
+#[derive(Drop)]
+pub(crate) struct IndexedEntries<A: Allocator> {
+    entries: Entries<A>,
+    open_places: Vec<usize, A>,
+    likely_places: LikelyPlaces<A>,
+    limit: u8,
+}
+
+/// What became of an entry that was added.
+#[derive(Clone, Copy)]
+struct Added {
+    /// The place of its determinant.
+    place: usize,
+    /// Whether more than the limit's members are known to hold it now, where at most so many were before. It changes no
+    /// answer: without such an entry the open places need not be gone over.
+    closes: bool,
+}
+
+impl<A: Allocator + Copy> IndexedEntries<A> {
+    /// No entries. It takes no memory.
+    pub(crate) fn none(alloc: A, limit: u8) -> IndexedEntries<A>
+        ensures entries { entries_of result ≡ [] }
+        ensures indexed { IsIndexed result }
+    {
+        IndexedEntries {
+            entries: IndexMap::new(alloc),
+            open_places: Vec::new(alloc),
+            likely_places: LikelyPlaces::none(alloc),
+            limit,
+        }
+    }
+
+    /// The same entries with the same limit, in the same allocator's memory. `Err` comes only where there is no memory for
+    /// them.
+    pub(crate) fn copy(&self) -> Result<IndexedEntries<A>, AllocError>
+        requires { IsIndexed self.now }
+        ensures entries { IfOk result (λ copy. entries_of copy ≡ entries_of self.now) }
+        ensures indexed { IfOk result IsIndexed }
+    {
+        let mut open_places = Vec::new(*self.entries.allocator());
+        open_places.extend_from_slice(&self.open_places)?;
+        Ok(IndexedEntries {
+            entries: self.entries.clone()?,
+            open_places,
+            likely_places: self.likely_places.copy()?,
+            limit: self.limit,
+        })
+    }
+
+    /// Where the entries' memory comes from.
+    pub(crate) fn allocator(&self) -> A {
+        *self.entries.allocator()
+    }
+
+    /// An entry is open where at most so many members are known to hold it.
+    pub(crate) fn limit(&self) -> u8
+        ensures { result ≡ self.now.limit }
+    {
+        self.limit
+    }
+
+    /// How many entries there are.
+    pub(crate) fn len(&self) -> usize
+        ensures len { result ≡ length (entries_of self.now) }
+        ensures unique { IsDistinct same_determinant (map (λ e. e.det) (entries_of self.now)) }
+        ensures small { result < 2 ^ 63 }
+    {
+        self.entries.len()
+    }
+
+    /// The entry at the place, if there is one.
+    fn get(&self, place: usize) -> Option<Entry>
+        ensures { result ≡ slice_get (entries_of self.now) place }
+    {
+        get_entry(&self.entries, place)
+    }
+
+    /// The entry at this place, which is below `len`.
+    pub(crate) fn entry_at(&self, place: usize) -> Entry
+        requires { place < length (entries_of self.now) }
+        ensures { slice_get (entries_of self.now) place ≡ Some result }
+    {
+        self.get(place).unwrap()
+    }
+
+    /// Whether there is an entry of the determinant.
+    pub(crate) fn holds(&self, det: &Determinant) -> bool
+        ensures { result ≡ is_held (entries_of self.now) det.now }
+    {
+        self.entries.contains_key(det)
+    }
+
+    /// The place of the determinant's entry, if there is one. The likely places are looked at before the hash.
+    #[inline(always)]
+    pub(crate) fn place_of(&self, det: &Determinant, likely: usize) -> Option<usize>
+        ensures has { IfSome result (λ place. has_at (entries_of self.now) det.now place ≡ true) }
+        ensures none { IfNone result (is_held (entries_of self.now) det.now ≡ false) }
+    {
+        match self.likely_place_of(det, likely) {
+            Some(place) => Some(place),
+            None => self.place_by_hash(det),
+        }
+    }
+
+    /// The place of the determinant's entry, if it is the likely one or the one that was kept.
+    #[inline(always)]
+    fn likely_place_of(&self, det: &Determinant, likely: usize) -> Option<usize>
+        ensures { IfSome result (λ place. has_at (entries_of self.now) det.now place ≡ true) }
+    {
+        if self.is_at(det, likely) {
+            return Some(likely);
+        }
+        let kept = self.likely_places.place(det);
+        if self.is_at(det, kept) {
+            return Some(kept);
+        }
+        None
+    }
+
+    /// The place of the determinant's entry, if there is one.
+    #[inline(never)]
+    fn place_by_hash(&self, det: &Determinant) -> Option<usize>
+        ensures has { IfSome result (λ place. has_at (entries_of self.now) det.now place ≡ true) }
+        ensures none { IfNone result (is_held (entries_of self.now) det.now ≡ false) }
+    {
+        self.entries.get_index_of(det)
+    }
+
+    /// Whether the entry at the place is the determinant's.
+    fn is_at(&self, det: &Determinant, place: usize) -> bool
+        ensures { result ≡ has_at (entries_of self.now) det.now place }
+    {
+        match self.get(place) {
+            Some(entry) => *det == entry.det,
+            None => false,
+        }
+    }
+
+    /// Makes room for so many entries more.
+    pub(crate) fn reserve(&mut self, count: usize) -> Result<(), AllocError>
+        ensures entries { entries_of self.new ≡ entries_of self.old }
+        ensures kept { Keeps self.old self.new }
+        ensures ok { OnOk result (count ≤ room self.new) }
+    {
+        self.entries.reserve(count)?;
+        self.open_places.reserve(count)
+    }
+
+    /// Takes in what a message carried to the member.
+    pub(crate) fn learn(&mut self, me: Member, carried: &[Entry])
+        requires { length carried.now ≤ room self.old }
+        ensures entries { entries_of self.new ≡ learned me (entries_of self.old) carried.now }
+        ensures kept { Keeps self.old self.new }
+    {
+        let mut closed = false;
+        let mut likely = 0;
+        for entry in carried {
+            let known = entry.known.with(me);
+            let det = entry.det;
+            let added = self.add(Entry { det, known }, likely);
+            likely = added.place.saturating_add(1);
+            closed = closed || added.closes;
+        }
+        self.prune(closed);
+    }
+
+    /// Adds the member's own new determinant.
+    pub(crate) fn note_own(&mut self, me: Member, det: Determinant)
+        requires new { is_held (entries_of self.old) det ≡ false }
+        requires room { 0 < room self.old }
+        ensures entries { entries_of self.new ≡ noted me (entries_of self.old) det }
+        ensures kept { Keeps self.old self.new }
+    {
+        self.add_new(Entry {
+            det,
+            known: MemberSet::empty().with(me),
+        });
+    }
+
+    /// Takes in another table's entries. After `Err` there are the same entries.
+    pub(crate) fn gather(&mut self, other: &IndexedEntries<A>) -> Result<(), AllocError>
+        ensures gathered { OnOk result (entries_of self.new ≡ gathered (entries_of self.old) (entries_of other.now)) }
+        ensures unchanged { OnErr result (entries_of self.new ≡ entries_of self.old) }
+        ensures kept { Keeps self.old self.new }
+    {
+        let shared = self.shared_places(other);
+        let lacking = self.lacking_beyond(other, shared);
+        self.reserve(lacking)?;
+        let mut closed = self.unite_shared(other, shared);
+        let mut likely = shared;
+        for place in shared..other.len() {
+            let added = self.add(other.entry_at(place), likely);
+            likely = added.place.saturating_add(1);
+            closed = closed || added.closes;
+        }
+        self.prune(closed);
+        Ok(())
+    }
+
+    /// At how many places, from the first on, both have an entry of the same determinant.
+    fn shared_places(&self, other: &IndexedEntries<A>) -> usize
+        ensures len { result ≤ length (entries_of other.now) }
+        ensures same { HasInPlace result (entries_of self.now) (entries_of other.now) }
+    {
+        for place in 0..other.len() {
+            let entry = other.entry_at(place);
+            if !self.is_at(&entry.det, place) {
+                return place;
+            }
+        }
+        other.len()
+    }
+
+    /// How many of the other's determinants there may be no entry of: at least as many as there are. Of those at the first
+    /// places there are all. What is not at a likely place counts as lacking: to hash each new one here and once more when it
+    /// is added would cost more than the room.
+    fn lacking_beyond(&self, other: &IndexedEntries<A>, shared: usize) -> usize
+        requires len { shared ≤ length (entries_of other.now) }
+        requires same { HasInPlace shared (entries_of self.now) (entries_of other.now) }
+        ensures { count_by (lacks (entries_of self.now)) (entries_of other.now) ≤ result }
+    {
+        let mut lacking = 0;
+        let mut likely = shared;
+        for place in shared..other.len() {
+            let entry = other.entry_at(place);
+            match self.likely_place_of(&entry.det, likely) {
+                Some(found) => likely = found.saturating_add(1),
+                None => lacking += 1,
+            }
+        }
+        lacking
+    }
+
+    /// Unites what is known of the determinants at the first places with what another knows, which has the same ones there.
+    /// The answer is whether that closed an entry.
+    fn unite_shared(&mut self, other: &IndexedEntries<A>, shared: usize) -> bool
+        requires len { shared ≤ length (entries_of other.now) }
+        requires same { HasInPlace shared (entries_of self.old) (entries_of other.now) }
+        ensures entries { entries_of self.new ≡ gathered (entries_of self.old) (take shared (entries_of other.now)) }
+        ensures kept { Keeps self.old self.new }
+    {
+        let mut closed = false;
+        for place in 0..shared {
+            let closes = self.unite(other.entry_at(place), place);
+            closed = closed || closes;
+        }
+        closed
+    }
+
+    /// Adds what is known of the entry's determinant, with room where it is new. It is looked for at the likely place first.
+    #[inline(always)]
+    fn add(&mut self, entry: Entry, likely: usize) -> Added
+        requires { is_held (entries_of self.old) entry.det ≡ false → 0 < room self.old }
+        ensures entries { entries_of self.new ≡ added (entries_of self.old) entry }
+        ensures kept { Keeps self.old self.new }
+    {
+        match self.place_of(&entry.det, likely) {
+            Some(place) => {
+                let closes = self.unite(entry, place);
+                Added { place, closes }
+            }
+            None => {
+                let place = self.len();
+                self.add_new(entry);
+                Added {
+                    place,
+                    closes: false,
+                }
+            }
+        }
+    }
+
+    /// Unites what is known of the entry's determinant, which has an entry at the place, with what the entry knows, and
+    /// answers whether that closed it: whether more than `limit` members are known to hold it now, where at most so many were
+    /// before. It is written only where more is known.
+    #[inline(always)]
+    fn unite(&mut self, entry: Entry, place: usize) -> bool
+        requires { has_at (entries_of self.old) entry.det place ≡ true }
+        ensures entries { entries_of self.new ≡ added (entries_of self.old) entry }
+        ensures same { (det : Determinant) (at : ℕ) → has_at (entries_of self.new) det at ≡ has_at (entries_of self.old) det at }
+        ensures kept { Keeps self.old self.new }
+    {
+        // `len` says that no two of the determinants are the same
+        let _distinct = self.entries.len();
+        let before = self.entries[place];
+        if entry.known.without(before).count() == 0 {
+            return false;
+        }
+        let known = before.union(entry.known);
+        self.entries[place] = known;
+        is_closed_by(before, known, self.limit)
+    }
+
+    /// Adds an entry of a determinant that there is none of. Its place is open if at most `limit` members are known to hold
+    /// it.
+    #[inline(never)]
+    fn add_new(&mut self, entry: Entry)
+        requires new { is_held (entries_of self.old) entry.det ≡ false }
+        requires room { 0 < room self.old }
+        ensures entries { entries_of self.new ≡ entries_of self.old ++ entry ∷ [] }
+        ensures kept { Keeps self.old self.new }
+    {
+        let place = self.entries.len();
+        self.entries.insert(entry.det, entry.known).unwrap();
+        self.likely_places.keep(&entry.det, place);
+        if entry.is_open(self.limit) {
+            self.open_places.push_reserved(place);
+        }
+    }
+
+    /// Adds the members to those that are known to hold each determinant.
+    pub(crate) fn mark_all(&mut self, members: MemberSet)
+        ensures entries { entries_of self.new ≡ marked members (entries_of self.old) }
+        ensures kept { Keeps self.old self.new }
+    {
+        for place in 0..self.entries.len() {
+            let known = self.entries[place].union(members);
+            self.entries[place] = known;
+        }
+        self.prune(true);
+    }
+
+    /// Lets go of the places of entries that more than `limit` members are known to hold, where an entry was closed. Where none
+    /// was there is nothing to let go of, and no place is looked at.
+    fn prune(&mut self, closed: bool)
+        ensures entries { entries_of self.new ≡ entries_of self.old }
+        ensures kept { Keeps self.old self.new }
+    {
+        if closed {
+            let entries = &self.entries;
+            let limit = self.limit;
+            self.open_places
+                .retain(|place| is_open(entries, *place, limit));
+        }
+    }
+
+    /// A number of entries that those that at most `f` members are known to hold don't exceed.
+    pub(crate) fn at_most_open(&self, f: u8) -> usize
+        requires { IsIndexed self.now }
+        ensures enough { length (piggybacked f (entries_of self.now)) ≤ result }
+        ensures few { result ≤ length (entries_of self.now) }
+        ensures small { result < 2 ^ 63 }
+    {
+        if f > self.limit {
+            self.len()
+        } else {
+            self.open_places.len().min(self.len())
+        }
+    }
+
+    /// Puts the entries that at most `f` members are known to hold at the end of the list, which has room for them.
+    pub(crate) fn piggyback_into(&self, f: u8, carried: &mut Vec<Entry, A>)
+        requires indexed { IsIndexed self.now }
+        requires room { vec_len carried.old + length (piggybacked f (entries_of self.now)) ≤ vec_capacity carried.old }
+        ensures { carried.new.items ≡ carried.old.items ++ piggybacked f (entries_of self.now) }
+    {
+        if f > self.limit {
+            self.push_all(f, carried);
+        } else {
+            self.push_open(f, carried);
+        }
+    }
+
+    /// Does what `piggyback_into` does, over all entries.
+    fn push_all(&self, f: u8, carried: &mut Vec<Entry, A>)
+        requires { vec_len carried.old + length (piggybacked f (entries_of self.now)) ≤ vec_capacity carried.old }
+        ensures { carried.new.items ≡ carried.old.items ++ piggybacked f (entries_of self.now) }
+    {
+        for place in 0..self.len() {
+            push_if_open(carried, self.entry_at(place), f);
+        }
+    }
+
+    /// Does what `piggyback_into` does, over the entries at the open places.
+    fn push_open(&self, f: u8, carried: &mut Vec<Entry, A>)
+        requires indexed { IsIndexed self.now }
+        requires within { f ≤ self.now.limit }
+        requires room { vec_len carried.old + length (piggybacked f (entries_of self.now)) ≤ vec_capacity carried.old }
+        ensures { carried.new.items ≡ carried.old.items ++ piggybacked f (entries_of self.now) }
+    {
+        for place in &self.open_places {
+            push_if_open(carried, self.entry_at(*place), f);
+        }
+    }
+}
+
+/// Puts the entry at the end of the list, which has room for it, if at most `f` members are known to hold it.
+#[inline(always)]
+fn push_if_open<A: Allocator>(carried: &mut Vec<Entry, A>, entry: Entry, f: u8)
+    requires { vec_len carried.old + length (piggybacked f (entry ∷ [])) ≤ vec_capacity carried.old }
+    ensures items { carried.new.items ≡ carried.old.items ++ piggybacked f (entry ∷ []) }
+    ensures room { vec_capacity carried.new ≡ vec_capacity carried.old }
+{
+    if entry.is_open(f) {
+        carried.push_reserved(entry);
+    }
+}
+
+/// Whether more than `limit` members are known now, where at most so many were before.
+fn is_closed_by(before: MemberSet, now: MemberSet, limit: u8) -> bool {
+    let limit = u32::from(limit);
+    before.count() <= limit && limit < now.count()
+}
+
+/// Whether at most `limit` members are known to hold the determinant at the place.
+fn is_open<A: Allocator>(entries: &Entries<A>, place: usize, limit: u8) -> bool
+    ensures { result ≡ open_at limit (map entry_of entries.now.entries) place }
+{
+    match get_entry(entries, place) {
+        Some(entry) => entry.is_open(limit),
+        None => false,
+    }
+}
+
+/// The entry at the place, if there is one.
+fn get_entry<A: Allocator>(entries: &Entries<A>, place: usize) -> Option<Entry>
+    ensures { result ≡ slice_get (map entry_of entries.now.entries) place }
+{
+    match entries.get_index(place) {
+        Some((det, known)) => Some(Entry {
+            det: *det,
+            known: *known,
+        }),
+        None => None,
+    }
+}
