@@ -2,6 +2,7 @@
 
 use crate::circulate::Circulate;
 use crate::failure::Failure;
+use crate::load::beside_load;
 use crate::long_circulate::LongCirculate;
 use crate::ring::LIMIT;
 use crate::times::{TRIES, microseconds_since, print_rate};
@@ -13,7 +14,7 @@ use std::sync::Wait;
 use std::thread::Threads;
 use std::time::Instant;
 
-/// How many members the drained group has, and starts: one message at each channel to the next member.
+/// How many members the drained group has.
 const MEMBERS: u8 = 16;
 
 /// How many of them may be lost at once.
@@ -22,18 +23,25 @@ const LOST: u8 = 1;
 /// How many turns a worker has: more than it needs.
 const TURNS: u32 = 1_000_000;
 
-/// Times the drain of equal groups by 1, 2, 4 and 8 workers in threads, by a step that takes no time and by one that does.
+/// Times the drain of equal groups by 1, 2, 4 and 8 workers in threads, by a step that takes no time and by one that does;
+/// of groups with one message by 1 and 8; and of the first ones beside a load.
 pub fn time_workers<T: Threads + Wait + Sync>(
     rt: &HostRuntime,
     threads: &T,
 ) -> Result<(), Failure> {
-    for workers in [1, 2, 4, 8] {
-        time_drain::<Circulate, T>(rt, threads, "short step", workers)?;
-    }
-    for workers in [1, 2, 4, 8] {
-        time_drain::<LongCirculate, T>(rt, threads, "long step", workers)?;
-    }
-    Ok(())
+    time_drains::<Circulate, T>(rt, threads, "short step", MEMBERS, &[1, 2, 4, 8])?;
+    time_drains::<LongCirculate, T>(rt, threads, "long step", MEMBERS, &[1, 2, 4, 8])?;
+    time_drains::<Circulate, T>(rt, threads, "sparse drain", 1, &[1, 8])?;
+    beside_load(threads, || time_loaded_drains(rt, threads))
+}
+
+/// Times the drains that are timed beside a load.
+fn time_loaded_drains<T: Threads + Wait + Sync>(
+    rt: &HostRuntime,
+    threads: &T,
+) -> Result<(), Failure> {
+    time_drains::<Circulate, T>(rt, threads, "loaded drain short step", MEMBERS, &[1, 8])?;
+    time_drains::<LongCirculate, T>(rt, threads, "loaded drain long step", MEMBERS, &[1, 8])
 }
 
 /// What a drain did, which ends when the trace is full: each delivery makes two events.
@@ -43,10 +51,10 @@ struct Drain {
     full: bool,
 }
 
-/// A group in which each member has sent a message to the next.
-fn ring<B: Behaviour>(alloc: Global) -> Result<Group<B>, Failure> {
+/// A group in which each of the first so many members has sent a message to the next.
+fn ring<B: Behaviour>(alloc: Global, messages: u8) -> Result<Group<B>, Failure> {
     let mut starts = Vec::new(alloc);
-    for number in 0..MEMBERS {
+    for number in 0..messages {
         let from = Member::new(number).unwrap_or_default();
         let to = Member::new((number + 1) % MEMBERS).unwrap_or_default();
         let note = Note { value: 1, hops: 1 };
@@ -58,19 +66,34 @@ fn ring<B: Behaviour>(alloc: Global) -> Result<Group<B>, Failure> {
     Ok(Group::new(alloc, config)?)
 }
 
+/// Times the drains of groups with so many messages by each number of workers.
+fn time_drains<B: Behaviour + Send + Sync, T: Threads + Wait + Sync>(
+    rt: &HostRuntime,
+    threads: &T,
+    name: &str,
+    messages: u8,
+    numbers: &[u8],
+) -> Result<(), Failure> {
+    for workers in numbers {
+        time_drain::<B, T>(rt, threads, name, messages, *workers)?;
+    }
+    Ok(())
+}
+
 /// Times the drain by so many workers.
 fn time_drain<B: Behaviour + Send + Sync, T: Threads + Wait + Sync>(
     rt: &HostRuntime,
     threads: &T,
-    step: &str,
+    name: &str,
+    messages: u8,
     workers: u8,
 ) -> Result<(), Failure> {
-    let (mut least, drained) = try_drain::<B, T>(rt, threads, workers)?;
+    let (mut least, drained) = try_drain::<B, T>(rt, threads, messages, workers)?;
     for _ in 1..TRIES {
-        let (taken, _again) = try_drain::<B, T>(rt, threads, workers)?;
+        let (taken, _again) = try_drain::<B, T>(rt, threads, messages, workers)?;
         least = least.min(taken);
     }
-    let name = format!(in rt.alloc(); "{step} workers {workers}")?;
+    let name = format!(in rt.alloc(); "{name} workers {workers}")?;
     println!(rt;
         "{name}: delivered {} full {}",
         drained.receipts, drained.full
@@ -78,14 +101,15 @@ fn time_drain<B: Behaviour + Send + Sync, T: Threads + Wait + Sync>(
     print_rate(rt, &name, "deliveries", drained.receipts, least)
 }
 
-/// Drains a group, and answers how many microseconds it took and what was done.
+/// Drains a group with so many messages, and answers how many microseconds it took and what was done.
 fn try_drain<B: Behaviour + Send + Sync, T: Threads + Wait + Sync>(
     rt: &HostRuntime,
     threads: &T,
+    messages: u8,
     workers: u8,
 ) -> Result<(u128, Drain), Failure> {
     let alloc = rt.alloc();
-    let group = ring::<B>(alloc)?;
+    let group = ring::<B>(alloc, messages)?;
     let start = Instant::now(rt)?;
     let (group, drained) = drain(threads, alloc, group, &[], workers, TURNS, &NoGate);
     let taken = microseconds_since(rt, start)?;

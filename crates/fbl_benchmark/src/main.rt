@@ -7,6 +7,7 @@ mod claims;
 mod deliveries;
 mod drains;
 mod failure;
+mod load;
 mod long_circulate;
 mod recoveries;
 mod ring;

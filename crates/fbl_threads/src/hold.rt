@@ -1,40 +1,69 @@
 //! Short holds of a lock.
 
-use std::sync::atomic::{AtomicBool, Ordering};
+use crate::endings::Endings;
 use std::sync::{Mutex, MutexGuard, Wait};
 use std::thread;
 
-/// How often the lock is tried before the thread sleeps until it is woken.
-const TRIES: u32 = 16;
+/// How often other threads are let run between two tries of the lock, which takes about as long as a hold or two.
+const YIELDS: u32 = 16;
 
-/// How often other threads are let run after the first try.
-const FIRST_PAUSES: u32 = 16;
+/// How often the lock is tried with such pauses by a worker that others don't wait for.
+const IDLE_TRIES: u32 = 3;
 
-/// How often other threads are let run, at most, between two tries.
-const PAUSES: u32 = 4096;
+/// How often it sleeps then between two tries.
+const IDLE_NAPS: u32 = 8;
 
-/// Takes the lock. While another thread has it, this one lets other threads run and tries again, each time after a longer
-/// pause, and sleeps only after many tries. A hold takes a microsecond or two: to sleep and be woken costs more, the one who
-/// wakes too, and so do many tries, since each takes the lock's word away from the processor of the one that has it. Long
-/// pauses let one worker make several steps in a row, with what they read and write in its processor's cache. Once some
-/// worker has ended there are none, since what ended it mostly ends the others too.
-pub(crate) fn hold<'a, T, R: Wait>(
+/// How often the lock is tried by a worker that has claimed a member.
+const TRIES: u32 = 64;
+
+/// After how many of these tries too many workers want the lock.
+const FEW_TRIES: u32 = 4;
+
+/// Lets other threads run for a while.
+fn pause() {
+    for _yield in 0..YIELDS {
+        thread::yield_now();
+    }
+}
+
+/// Takes the lock for a worker that has claimed nobody. Nobody waits for it: so where the lock is taken it soon sleeps between
+/// its tries, each time longer, and leaves the lock to those that have work. The thread that gives the lock back need not
+/// wake it, which would cost more than a hold.
+pub(crate) fn hold_idle<'a, T, R: Wait>(
     rt: &R,
     lock: &'a Mutex<T>,
-    has_ended: &AtomicBool,
+    endings: &Endings,
 ) -> MutexGuard<'a, T> {
-    let mut pauses = FIRST_PAUSES;
-    for _try in 0..TRIES {
+    for _try in 0..IDLE_TRIES {
         if let Some(guard) = lock.try_lock() {
             return guard;
         }
-        for _pause in 0..pauses {
-            if has_ended.load(Ordering::SeqCst) {
-                break;
-            }
-            thread::yield_now();
+        pause();
+    }
+    for number in 0..IDLE_NAPS {
+        let seen = endings.count();
+        if let Some(guard) = lock.try_lock() {
+            return guard;
         }
-        pauses = PAUSES.min(pauses.saturating_mul(4));
+        if seen != 0 {
+            break;
+        }
+        endings.nap(rt, seen, number);
     }
     lock.lock(rt)
+}
+
+/// Takes the lock for a worker that has claimed a member, whose messages wait for it: so it tries again soon, and sleeps on the
+/// lock after many tries, until it is woken. Whether the lock was taken so often that too many workers want it.
+pub(crate) fn hold_claiming<'a, T, R: Wait>(
+    rt: &R,
+    lock: &'a Mutex<T>,
+) -> (MutexGuard<'a, T>, bool) {
+    for number in 0..TRIES {
+        if let Some(guard) = lock.try_lock() {
+            return (guard, FEW_TRIES <= number);
+        }
+        pause();
+    }
+    (lock.lock(rt), true)
 }
