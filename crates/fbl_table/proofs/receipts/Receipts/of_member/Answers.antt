@@ -7,7 +7,9 @@ pub loop-place-preserved : goal.loop-place-preserved
 loop-place-preserved g c =
     elim c.if-is_beyond.branch [
       | then-is_beyond+in_ok-put_first w ↦
-          rw w.places-is (by_number-put c.args.member c.args.count c.args.table.now c.loop-place.place c.entry_at-entry.result c.loop-place.places.items w.put_first.new.places.items c.entry_at-entry.ensures (sym c.is_beyond.ensures ∙ w.if-is_beyond.true) c.loop-place.invariant w.in_ok-put_first.ensures)
+          rw w.places-is (by_number-put c.args.member c.args.count c.args.table.now c.loop-place.place c.entry_at-entry.result
+              c.loop-place.places.items w.put_first.new.places.items c.entry_at-entry.ensures (sym c.is_beyond.ensures ∙ w.if-is_beyond.true) c.loop-place.invariant w.in_ok-put_first.ensures)
       | else-is_beyond w ↦
-          rw w.places-is (by_number-other c.args.member c.args.count c.args.table.now c.loop-place.place c.entry_at-entry.result c.loop-place.places.items c.entry_at-entry.ensures (sym c.is_beyond.ensures ∙ w.if-is_beyond.false) c.loop-place.invariant)
+          rw w.places-is (by_number-other c.args.member c.args.count c.args.table.now c.loop-place.place c.entry_at-entry.result
+              c.loop-place.places.items c.entry_at-entry.ensures (sym c.is_beyond.ensures ∙ w.if-is_beyond.false) c.loop-place.invariant)
     ]
