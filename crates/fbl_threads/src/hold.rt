@@ -10,8 +10,8 @@ const YIELDS: u32 = 16;
 /// How often the lock is tried with such pauses by a worker that others don't wait for.
 const IDLE_TRIES: u32 = 3;
 
-/// How often it sleeps then between two tries.
-const IDLE_NAPS: u32 = 8;
+/// How often it sleeps then between two tries, before it sleeps on the lock.
+const IDLE_NAPS: u32 = 1000;
 
 /// How often the lock is tried by a worker that has claimed a member.
 const TRIES: u32 = 64;
@@ -27,8 +27,8 @@ fn pause() {
 }
 
 /// Takes the lock for a worker that has claimed nobody. Nobody waits for it: so where the lock is taken it soon sleeps between
-/// its tries, each time longer, and leaves the lock to those that have work. The thread that gives the lock back need not
-/// wake it, which would cost more than a hold.
+/// its tries, each time longer, and leaves the lock to those that have work. A worker that sleeps on the lock has to be woken
+/// by the one that gives it back, and is then given the lock before those: that costs more than many holds.
 pub(crate) fn hold_idle<'a, T, R: Wait>(
     rt: &R,
     lock: &'a Mutex<T>,

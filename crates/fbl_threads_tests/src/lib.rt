@@ -10,6 +10,8 @@ mod gates;
 #[cfg(test)]
 mod memory;
 #[cfg(test)]
+mod patience;
+#[cfg(test)]
 mod refusals;
 #[cfg(test)]
 mod schedules;
