@@ -4,7 +4,8 @@ use Rattle.std.specs.Map.{lookup, values_of, keys_of}
 use Rattle.std.specs.Ordering.{nat_cmp}
 use Rattle.std.specs.Cmp.{nat_cmp_total}
 use Rattle.std.specs.Option.{option_or}
-use Rattle.std.proofs.lemmas.Bool.{cases_lt, false≢true}
+use Rattle.std.proofs.lemmas.Bool.{cases_lt, false≢true, or_from, or_left, or_parts, or_right}
+use Rattle.std.proofs.Math.Bool.{or_assoc, or_comm}
 use Rattle.std.specs.List.{find, AllByRecursion, IsDistinct}
 use Rattle.std.proofs.lemmas.List.Quantifiers.{position-Some}
 use Rattle.fbl_base.proofs.Recorded.{Decides-same_determinant}
@@ -36,25 +37,16 @@ held-lookup (e ∷ es) d =
 pub noted-insert : (es : Pairs) (d : Determinant) (known : set.FinSet nat_cmp) → is_held (map entry_of es) d ≡ false
     → map entry_of (insert_entry same_determinant es d known) ≡ map entry_of es ++ record { det = d; known = known } ∷ []
 noted-insert [] d known none = refl
-noted-insert (e ∷ es) d known none = at (noted-insert es d known) (same_determinant d e.0) none where
-  noted : Pairs → List Entry
-  noted es = map entry_of es ++ record { det = d; known = known } ∷ []
-
-  at : (is_held (map entry_of es) d ≡ false → map entry_of (insert_entry same_determinant es d known) ≡ noted es)
-      → (b : Bool) → (b || is_held (map entry_of es) d) ≡ false
-      → map entry_of (if b then (e.0, known) ∷ es else e ∷ insert_entry same_determinant es d known) ≡ noted (e ∷ es)
-  at more true none = absurd (false≢true (sym none))
-  at more false none = ap (λ t. entry_of e ∷ t) (more none)
+noted-insert (e ∷ es) d known none =
+    let parts = or_parts (same_determinant d e.0) (is_held (map entry_of es) d) none in
+    rw parts.0 (ap (λ t. entry_of e ∷ t) (noted-insert es d known parts.1))
 
 -- a determinant that has an entry at a place is held
 pub held-at : (table : List Entry) (d : Determinant) (i : ℕ) → has_at table d i ≡ true → is_held table d ≡ true
 held-at [] d zero has = absurd (false≢true has)
 held-at [] d (suc i) has = absurd (false≢true has)
-held-at (e ∷ table) d zero has = ap (λ b. b || is_held table d) has
-held-at (e ∷ table) d (suc i) has = at (same_determinant d e.det) (held-at table d i has) where
-  at : (b : Bool) → is_held table d ≡ true → (b || is_held table d) ≡ true
-  at true held = refl
-  at false held = held
+held-at (e ∷ table) d zero has = or_left _ _ has
+held-at (e ∷ table) d (suc i) has = or_right (same_determinant d e.det) _ (held-at table d i has)
 
 -- an answer of the determinant's place tells whether it is held
 pub some-held : (table : List Entry) (d : Determinant) (r : Option ℕ) → IfSome r (λ i. has_at table d i ≡ true) → IfNone r (is_held table d ≡ false)
@@ -250,11 +242,9 @@ keys-view (e ∷ es) = ap (λ t. e.0 ∷ t) (keys-view es)
 pub added-new : (table : List Entry) (entry : Entry) → is_held table entry.det ≡ false → added table entry ≡ table ++ entry ∷ []
 unfolding added
 added-new [] entry new = refl
-added-new (e ∷ table) entry new = at (added-new table entry) (same_determinant entry.det e.det) new where
-  at : (is_held table entry.det ≡ false → added table entry ≡ table ++ entry ∷ []) → (b : Bool) → (b || is_held table entry.det) ≡ false
-      → (if b then record { det = e.det; known = set.union e.known entry.known } ∷ table else e ∷ added table entry) ≡ e ∷ table ++ entry ∷ []
-  at more true new = absurd (false≢true (sym new))
-  at more false new = ap (λ t. e ∷ t) (more new)
+added-new (e ∷ table) entry new =
+    let parts = or_parts (same_determinant entry.det e.det) (is_held table entry.det) new in
+    rw parts.0 (ap (λ t. e ∷ t) (added-new table entry parts.1))
 
 -- a table gets longer by an entry that it lacks
 pub length-added : (table : List Entry) (entry : Entry) → length (added table entry) ≡ length table + cond (lacks table entry) 1 0
@@ -270,31 +260,25 @@ length-added (e ∷ table) entry = at (length-added table entry) (same_determina
 pub length-added_held : (table : List Entry) (entry : Entry) → is_held table entry.det ≡ true → length (added table entry) ≡ length table
 length-added_held table entry held = omega (arith, length-added table entry, ap {B = ℕ} (λ b. cond (not b) 1 0) held)
 
--- what was not held before, and is not the entry's, is not held afterwards
-not_held-added : (table : List Entry) (entry : Entry) (d : Determinant) → is_held table d ≡ false → same_determinant d entry.det ≡ false
-    → is_held (added table entry) d ≡ false
-unfolding added
-not_held-added [] entry d none other = ap (λ b. b || false) other
-not_held-added (e ∷ table) entry d none other =
-    at (λ rest. not_held-added table entry d rest other) (same_determinant entry.det e.det) (same_determinant d e.det) refl none
-  where
-    at : (is_held table d ≡ false → is_held (added table entry) d ≡ false) → (same here : Bool) → same_determinant d e.det ≡ here
-        → (here || is_held table d) ≡ false
-        → is_held (if same then record { det = e.det; known = set.union e.known entry.known } ∷ table else e ∷ added table entry) d ≡ false
-    at more same true is none = absurd (false≢true (sym none))
-    at more true false is none = rw is none
-    at more false false is none = rw is (more none)
+again : (a b : Bool) → (a || b) ≡ ((a || b) || a)
+again true b = refl
+again false b = sym (or_comm b false)
 
-held-added : (table : List Entry) (entry : Entry) (d : Determinant) → is_held table d ≡ true → is_held (added table entry) d ≡ true
+-- after an entry is added its determinant is held too
+held-added : (table : List Entry) (entry : Entry) (d : Determinant) → is_held (added table entry) d ≡ (is_held table d || same_determinant d entry.det)
 unfolding added
-held-added [] entry d held = absurd (false≢true held)
-held-added (e ∷ table) entry d held = at (held-added table entry d) (same_determinant entry.det e.det) (same_determinant d e.det) refl held where
-  at : (is_held table d ≡ true → is_held (added table entry) d ≡ true) → (same here : Bool) → same_determinant d e.det ≡ here
-      → (here || is_held table d) ≡ true
-      → is_held (if same then record { det = e.det; known = set.union e.known entry.known } ∷ table else e ∷ added table entry) d ≡ true
-  at more true here is held = rw is held
-  at more false true is held = rw is refl
-  at more false false is held = rw is (more held)
+held-added [] entry d = or_comm (same_determinant d entry.det) false
+held-added (e ∷ table) entry d = at (held-added table entry d) (same_determinant entry.det e.det) refl where
+  here : Bool
+  here = same_determinant d e.det
+
+  at : is_held (added table entry) d ≡ (is_held table d || same_determinant d entry.det) → (b : Bool) → same_determinant entry.det e.det ≡ b
+      → is_held (if b then record { det = e.det; known = set.union e.known entry.known } ∷ table else e ∷ added table entry) d
+      ≡ ((here || is_held table d) || same_determinant d entry.det)
+  at more true is =
+      let same : entry.det ≡ e.det = (Decides-same_determinant entry.det e.det).0 is in
+      rw same (again here (is_held table d))
+  at more false is = ap (λ b. here || b) more ∙ sym (or_assoc here (is_held table d) (same_determinant d entry.det))
 
 pub at_most_one : (b : Bool) → cond b 1 0 ≤ 1
 at_most_one true = omega arith
@@ -310,7 +294,7 @@ lacks-fewer table entry (e ∷ other) =
     counted t = sum_by-cons (λ x. cond (lacks t x) 1 0) e other
 
     here : (b : Bool) → is_held table e.det ≡ b → cond (lacks (added table entry) e) 1 0 ≤ cond (lacks table e) 1 0
-    here true held = rw (held, held-added table entry e.det held) (omega arith)
+    here true held = rw (held-added table entry e.det, held) (omega arith)
     here false none = rw none (at_most_one (lacks (added table entry) e))
 
 -- a table gets longer by no more than it lacks of what is gathered
@@ -355,16 +339,12 @@ lacks-none (suc k) table (x ∷ other) within same =
     ∙ lacks-same table (x ∷ other) k e at held
     ∙ lacks-none k table (x ∷ other) (omega (arith, within)) (λ place y below is. same place y (omega (arith, below)) is)
 
-not_held-gathered : (table other : List Entry) (d : Determinant) → is_held table d ≡ false → is_held other d ≡ false → is_held (gathered table other) d ≡ false
-not_held-gathered table [] d none others = none
-not_held-gathered table (e ∷ other) d none others =
-    at (same_determinant d e.det) refl others (λ apart. not_held-gathered (added table e) other d (not_held-added table e d none apart))
-  where
-    at : (here : Bool) → same_determinant d e.det ≡ here → (here || is_held other d) ≡ false
-        → (same_determinant d e.det ≡ false → is_held other d ≡ false → is_held (gathered (added table e) other) d ≡ false)
-        → is_held (gathered (added table e) other) d ≡ false
-    at true is others more = absurd (false≢true (sym others))
-    at false is others more = more is others
+held-gathered : (table other : List Entry) (d : Determinant) → is_held (gathered table other) d ≡ (is_held table d || is_held other d)
+held-gathered table [] d = sym (or_comm (is_held table d) false)
+held-gathered table (e ∷ other) d =
+    held-gathered (added table e) other d
+    ∙ ap (λ b. b || is_held other d) (held-added table e d)
+    ∙ or_assoc (is_held table d) (same_determinant d e.det) (is_held other d)
 
 held-carried : (me : ℕ) (carried : List Entry) (d : Determinant) → is_held (map (held_by me) carried) d ≡ is_held carried d
 held-carried me [] d = refl
@@ -373,4 +353,5 @@ held-carried me (e ∷ carried) d = ap (λ b. same_determinant d e.det || b) (he
 -- what was neither held nor carried is not held after what was carried is learned
 pub not_held-learned : (me : ℕ) (table carried : List Entry) (d : Determinant) → is_held table d ≡ false → is_held carried d ≡ false
     → is_held (learned me table carried) d ≡ false
-not_held-learned me table carried d none others = not_held-gathered table (map (held_by me) carried) d none (held-carried me carried d ∙ others)
+not_held-learned me table carried d none others =
+    held-gathered table (map (held_by me) carried) d ∙ or_from _ _ none (held-carried me carried d ∙ others)

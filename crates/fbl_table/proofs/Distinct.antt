@@ -21,11 +21,14 @@ apart-turned a b apart = at (same_determinant b a) refl where
 abbrev Apart : List Entry → List Entry → Type 0
 Apart first rest = AllByRecursion (λ (e : Entry). is_held first e.det ≡ false) rest
 
-apart-more : (first rest : List Entry) (e : Entry) → Apart first rest → AllByRecursion (λ d. same_determinant e.det d ≡ false) (map (λ (x : Entry). x.det) rest) → Apart (first ++ e ∷ []) rest
+apart-more : (first rest : List Entry) (e : Entry) → Apart first rest
+    → AllByRecursion (λ d. same_determinant e.det d ≡ false) (map (λ (x : Entry). x.det) rest) → Apart (first ++ e ∷ []) rest
 apart-more first [] e apart once = tt
 apart-more first (x ∷ rest) e apart once =
     let one : is_held (first ++ e ∷ []) x.det ≡ false =
-    list_any-append (λ (y : Entry). same_determinant x.det y.det) first (e ∷ []) ∙ ap (λ b. b || (same_determinant x.det e.det || false)) apart.0 ∙ ap (λ b. b || false) (apart-turned e.det x.det once.0) in
+    list_any-append (λ (y : Entry). same_determinant x.det y.det) first (e ∷ [])
+    ∙ ap (λ b. b || (same_determinant x.det e.det || false)) apart.0
+    ∙ ap (λ b. b || false) (apart-turned e.det x.det once.0) in
     (one, apart-more first rest e apart.1 once.1)
 
 added-apart : (first rest : List Entry) → Apart first rest → IsDistinct same_determinant (map (λ (e : Entry). e.det) rest) → fold added first rest ≡ first ++ rest
