@@ -49,8 +49,7 @@ held-at (e ∷ table) d zero has = or_left _ _ has
 held-at (e ∷ table) d (suc i) has = or_right (same_determinant d e.det) _ (held-at table d i has)
 
 -- an answer of the determinant's place tells whether it is held
-pub some-held : (table : List Entry) (d : Determinant) (r : Option ℕ) → IfSome r (λ i. has_at table d i ≡ true) → IfNone r (is_held table d ≡ false)
-    → is_some r ≡ is_held table d
+pub some-held : (table : List Entry) (d : Determinant) (r : Option ℕ) → IfSome r (λ i. has_at table d i ≡ true) → IfNone r (is_held table d ≡ false) → is_some r ≡ is_held table d
 some-held table d None at none = sym none
 some-held table d (Some i) at none = sym (held-at table d i at)
 
@@ -60,20 +59,17 @@ within-at [] d (suc i) has = absurd (false≢true has)
 within-at (e ∷ table) d zero has = omega arith
 within-at (e ∷ table) d (suc i) has = omega (arith, within-at table d i has)
 
-has-key : (es : Pairs) (d x : Determinant) (i : ℕ) → i < length (keys_of es) → same_determinant d (get_or (keys_of es) i x) ≡ true
-    → has_at (map entry_of es) d i ≡ true
+has-key : (es : Pairs) (d x : Determinant) (i : ℕ) → i < length (keys_of es) → same_determinant d (get_or (keys_of es) i x) ≡ true → has_at (map entry_of es) d i ≡ true
 has-key [] d x i below is = absurd (omega (arith, below))
 has-key (e ∷ es) d x zero below is = is
 has-key (e ∷ es) d x (suc i) below is = has-key es d x i (omega (arith, below)) is
 
 -- where the map finds the determinant
-pub has-found : (es : Pairs) (d : Determinant) (r : Option ℕ) → r ≡ position (same_determinant d) (keys_of es)
-    → IfSome r (λ i. has_at (map entry_of es) d i ≡ true)
+pub has-found : (es : Pairs) (d : Determinant) (r : Option ℕ) → r ≡ position (same_determinant d) (keys_of es) → IfSome r (λ i. has_at (map entry_of es) d i ≡ true)
 has-found es d None is = tt
 has-found es d (Some i) is = (let here = position-Some (same_determinant d) (keys_of es) i d (sym is) in has-key es d d i here.0 here.1)
 
-pub not_held-missing : (es : Pairs) (d : Determinant) (r : Option ℕ) → is_some r ≡ is_some (lookup (same_determinant d) es)
-    → IfNone r (is_held (map entry_of es) d ≡ false)
+pub not_held-missing : (es : Pairs) (d : Determinant) (r : Option ℕ) → is_some r ≡ is_some (lookup (same_determinant d) es) → IfNone r (is_held (map entry_of es) d ≡ false)
 not_held-missing es d None is = sym (held-lookup es d) ∙ sym is
 not_held-missing es d (Some i) is = tt
 
@@ -98,8 +94,7 @@ has-set (e ∷ es) (suc i) v d zero = refl
 has-set (e ∷ es) (suc i) v d (suc j) = has-set es i v d j
 
 -- what has the first entries of another table in place has the next one too
-pub in-place-next : (k : ℕ) (table other : List Entry) (e : Entry) → HasInPlace k table other → slice_get other k ≡ Some e → has_at table e.det k ≡ true
-    → HasInPlace (k + 1) table other
+pub in-place-next : (k : ℕ) (table other : List Entry) (e : Entry) → HasInPlace k table other → slice_get other k ≡ Some e → has_at table e.det k ≡ true → HasInPlace (k + 1) table other
 in-place-next k table other e before at has place x below is =
     elim (cases_lt place k) [
       | inl less ↦ before place x less is
@@ -111,8 +106,7 @@ in-place-next k table other e before at has place x below is =
 
 -- what is known at the determinant's place, united with more
 pub added-at : (es : Pairs) (entry : Entry) (i : ℕ) (v : set.FinSet nat_cmp) → IsDistinct same_determinant (keys_of es)
-    → has_at (map entry_of es) entry.det i ≡ true → slice_get (values_of es) i ≡ Some v
-    → map entry_of (set_value_at es i (set.union v entry.known)) ≡ added (map entry_of es) entry
+    → has_at (map entry_of es) entry.det i ≡ true → slice_get (values_of es) i ≡ Some v → map entry_of (set_value_at es i (set.union v entry.known)) ≡ added (map entry_of es) entry
 unfolding added IsDistinct
 added-at [] entry zero v once has is = absurd (false≢true has)
 added-at [] entry (suc i) v once has is = absurd (false≢true has)
@@ -134,9 +128,7 @@ nothing-more : (s t : set.FinSet nat_cmp) → set.len (set.difference t s) ≡ 0
 nothing-more s t none = same_from_contains (set.union s t) s (λ q. set.contains-union nat_cmp_total s t q ∙ at (set.contains s q) (set.contains t q) (lacks q)) where
   lacks : (q : ℕ) → (set.contains t q && not (set.contains s q)) ≡ false
   lacks q =
-      sym (set.contains-difference nat_cmp_total t s q)
-      ∙ ap (λ x. set.contains x q) (set.empty_of_len (set.difference t s) none)
-      ∙ set.contains-empty nat_cmp q
+      sym (set.contains-difference nat_cmp_total t s q) ∙ ap (λ x. set.contains x q) (set.empty_of_len (set.difference t s) none) ∙ set.contains-empty nat_cmp q
 
   at : (a b : Bool) → (b && not a) ≡ false → (a || b) ≡ a
   at true b none = refl
@@ -145,11 +137,9 @@ nothing-more s t none = same_from_contains (set.union s t) s (λ q. set.contains
 
 -- an entry that knows no more than what is known already
 pub added-nothing : (es : Pairs) (entry : Entry) (i : ℕ) (v : set.FinSet nat_cmp) → IsDistinct same_determinant (keys_of es)
-    → has_at (map entry_of es) entry.det i ≡ true → slice_get (values_of es) i ≡ Some v → set.len (set.difference entry.known v) ≡ 0
-    → map entry_of es ≡ added (map entry_of es) entry
+    → has_at (map entry_of es) entry.det i ≡ true → slice_get (values_of es) i ≡ Some v → set.len (set.difference entry.known v) ≡ 0 → map entry_of es ≡ added (map entry_of es) entry
 added-nothing es entry i v once has is none =
-    ap (map entry_of) (sym (same-value es i v is) ∙ ap (set_value_at es i) (sym (nothing-more v entry.known none)))
-    ∙ added-at es entry i v once has is
+    ap (map entry_of) (sym (same-value es i v is) ∙ ap (set_value_at es i) (sym (nothing-more v entry.known none))) ∙ added-at es entry i v once has is
 
 pub take-next : {X : Type 0} (xs : List X) (i : ℕ) (x : X) → slice_get xs i ≡ Some x → take (i + 1) xs ≡ take i xs ++ x ∷ []
 take-next xs i x is = take_more xs i x (slice_get_within xs i x is) ∙ ap (λ y. take i xs ++ y ∷ []) (get_or_from_slice_get xs i x x is)
@@ -158,30 +148,24 @@ pub greatest-step : (to : ℕ) (table : List Entry) (i : ℕ) (e : Entry) → sl
     → greatest_rsn to (take (i + 1) table) ≡ max (greatest_rsn to (take i table)) (rsn_of to e)
 greatest-step to table i e is = ap (greatest_rsn to) (take-next table i e is) ∙ fold_push (λ last x. max last (rsn_of to x)) 0 (take i table) e
 
-pub gather-step : (table other : List Entry) (i : ℕ) (e : Entry) → slice_get other i ≡ Some e
-    → gathered table (take (i + 1) other) ≡ added (gathered table (take i other)) e
+pub gather-step : (table other : List Entry) (i : ℕ) (e : Entry) → slice_get other i ≡ Some e → gathered table (take (i + 1) other) ≡ added (gathered table (take i other)) e
 gather-step table other i e is = ap (gathered table) (take-next other i e is) ∙ fold_push added table (take i other) e
 
 pub learn-step : (me : ℕ) (table carried : List Entry) (i : ℕ) (e : Entry) → slice_get carried i ≡ Some e
     → learned me table (take (i + 1) carried) ≡ added (learned me table (take i carried)) (held_by me e)
 learn-step me table carried i e is =
-    ap (learned me table) (take-next carried i e is)
-    ∙ ap (gathered table) (map-append (held_by me) (take i carried) (e ∷ []))
+    ap (learned me table) (take-next carried i e is) ∙ ap (gathered table) (map-append (held_by me) (take i carried) (e ∷ []))
     ∙ fold_push added table (map (held_by me) (take i carried)) (held_by me e)
 
 -- the search among the first places
-pub find-step : {X : Type 0} (p : X → Bool) (xs : List X) (i : ℕ) (x : X) → slice_get xs i ≡ Some x → find p (take i xs) ≡ None
-    → find p (take (i + 1) xs) ≡ cond (p x) (Some x) None
+pub find-step : {X : Type 0} (p : X → Bool) (xs : List X) (i : ℕ) (x : X) → slice_get xs i ≡ Some x → find p (take i xs) ≡ None → find p (take (i + 1) xs) ≡ cond (p x) (Some x) None
 find-step p xs i x is none =
     ap (find p) (take-next xs i x is) ∙ find-append p (take i xs) (x ∷ []) ∙ ap (λ o. option_or o (find p (x ∷ []))) none
 
-pub find-here : {X : Type 0} (p : X → Bool) (xs : List X) (i : ℕ) (x : X) → slice_get xs i ≡ Some x → find p (take i xs) ≡ None → p x ≡ true
-    → find p xs ≡ Some x
+pub find-here : {X : Type 0} (p : X → Bool) (xs : List X) (i : ℕ) (x : X) → slice_get xs i ≡ Some x → find p (take i xs) ≡ None → p x ≡ true → find p xs ≡ Some x
 find-here p xs i x is none passes =
     let first : find p (take (i + 1) xs) ≡ Some x = find-step p xs i x is none ∙ ap (λ b. cond b (Some x) None) passes in
-    ap (find p) (sym (take-append-drop (i + 1) xs))
-    ∙ find-append p (take (i + 1) xs) (drop (i + 1) xs)
-    ∙ ap (λ o. option_or o (find p (drop (i + 1) xs))) first
+    ap (find p) (sym (take-append-drop (i + 1) xs)) ∙ find-append p (take (i + 1) xs) (drop (i + 1) xs) ∙ ap (λ o. option_or o (find p (drop (i + 1) xs))) first
 
 pub item_at : {X : Type 0} (xs : List X) (i : ℕ) (x : X) → i < length xs → x ≡ get_or xs i x → slice_get xs i ≡ Some x
 item_at xs i x below is = slice_get-get_or xs i x below ∙ ap Some (sym is)
@@ -205,8 +189,7 @@ mark-all (suc i) members (e ∷ table) done =
     ap (λ t. record { det = e.det; known = set.union e.known members } ∷ t) (mark-all i members table (omega (arith, done)))
 
 mark-at : (i : ℕ) (members : set.FinSet nat_cmp) (table : List Entry) (es : Pairs) (v : set.FinSet nat_cmp)
-    → map entry_of es ≡ marked_first i members table → slice_get (values_of es) i ≡ Some v
-    → map entry_of (set_value_at es i (set.union v members)) ≡ marked_first (suc i) members table
+    → map entry_of es ≡ marked_first i members table → slice_get (values_of es) i ≡ Some v → map entry_of (set_value_at es i (set.union v members)) ≡ marked_first (suc i) members table
 unfolding marked_first
 mark-at zero members [] [] v same is = refl
 mark-at zero members [] (p ∷ es) v same is = cc
@@ -225,8 +208,7 @@ mark-at (suc i) members (e ∷ table) (p ∷ es) v same is =
     λ j. first j ∷ more j
 
 pub mark-step : (i : ℕ) (members : set.FinSet nat_cmp) (table : List Entry) (es : Pairs) (v : set.FinSet nat_cmp)
-    → map entry_of es ≡ marked_first i members table → slice_get (values_of es) i ≡ Some v
-    → map entry_of (set_value_at es i (set.union v members)) ≡ marked_first (i + 1) members table
+    → map entry_of es ≡ marked_first i members table → slice_get (values_of es) i ≡ Some v → map entry_of (set_value_at es i (set.union v members)) ≡ marked_first (i + 1) members table
 mark-step i members table es v same is = mark-at i members table es v same is ∙ ap (λ k. marked_first k members table) (let e : suc i ≡ i + 1 = omega arith in e)
 
 pub length-set_value_at : (es : Pairs) (i : ℕ) (v : set.FinSet nat_cmp) → length (set_value_at es i v) ≡ length es
@@ -273,8 +255,7 @@ held-added (e ∷ table) entry d = at (held-added table entry d) (same_determina
   here = same_determinant d e.det
 
   at : is_held (added table entry) d ≡ (is_held table d || same_determinant d entry.det) → (b : Bool) → same_determinant entry.det e.det ≡ b
-      → is_held (if b then record { det = e.det; known = set.union e.known entry.known } ∷ table else e ∷ added table entry) d
-      ≡ ((here || is_held table d) || same_determinant d entry.det)
+      → is_held (if b then record { det = e.det; known = set.union e.known entry.known } ∷ table else e ∷ added table entry) d ≡ ((here || is_held table d) || same_determinant d entry.det)
   at more true is =
       let same : entry.det ≡ e.det = (Decides-same_determinant entry.det e.det).0 is in
       rw same (again here (is_held table d))
@@ -335,23 +316,19 @@ lacks-none (suc k) table (x ∷ other) within same =
     let e = get_or (x ∷ other) k x in
     let at = slice_get-get_or (x ∷ other) k x (omega (arith, within)) in
     let held = held-at table e.det k (same k e (omega arith) at) in
-    ap (λ n. count_by (lacks table) (take n (x ∷ other))) next
-    ∙ lacks-same table (x ∷ other) k e at held
+    ap (λ n. count_by (lacks table) (take n (x ∷ other))) next ∙ lacks-same table (x ∷ other) k e at held
     ∙ lacks-none k table (x ∷ other) (omega (arith, within)) (λ place y below is. same place y (omega (arith, below)) is)
 
 held-gathered : (table other : List Entry) (d : Determinant) → is_held (gathered table other) d ≡ (is_held table d || is_held other d)
 held-gathered table [] d = sym (or_comm (is_held table d) false)
 held-gathered table (e ∷ other) d =
-    held-gathered (added table e) other d
-    ∙ ap (λ b. b || is_held other d) (held-added table e d)
-    ∙ or_assoc (is_held table d) (same_determinant d e.det) (is_held other d)
+    held-gathered (added table e) other d ∙ ap (λ b. b || is_held other d) (held-added table e d) ∙ or_assoc (is_held table d) (same_determinant d e.det) (is_held other d)
 
 held-carried : (me : ℕ) (carried : List Entry) (d : Determinant) → is_held (map (held_by me) carried) d ≡ is_held carried d
 held-carried me [] d = refl
 held-carried me (e ∷ carried) d = ap (λ b. same_determinant d e.det || b) (held-carried me carried d)
 
 -- what was neither held nor carried is not held after what was carried is learned
-pub not_held-learned : (me : ℕ) (table carried : List Entry) (d : Determinant) → is_held table d ≡ false → is_held carried d ≡ false
-    → is_held (learned me table carried) d ≡ false
+pub not_held-learned : (me : ℕ) (table carried : List Entry) (d : Determinant) → is_held table d ≡ false → is_held carried d ≡ false → is_held (learned me table carried) d ≡ false
 not_held-learned me table carried d none others =
     held-gathered table (map (held_by me) carried) d ∙ or_from _ _ none (held-carried me carried d ∙ others)

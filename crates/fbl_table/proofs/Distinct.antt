@@ -26,8 +26,7 @@ apart-more : (first rest : List Entry) (e : Entry) → Apart first rest
 apart-more first [] e apart once = tt
 apart-more first (x ∷ rest) e apart once =
     let one : is_held (first ++ e ∷ []) x.det ≡ false =
-    list_any-append (λ (y : Entry). same_determinant x.det y.det) first (e ∷ [])
-    ∙ ap (λ b. b || (same_determinant x.det e.det || false)) apart.0
+    list_any-append (λ (y : Entry). same_determinant x.det y.det) first (e ∷ []) ∙ ap (λ b. b || (same_determinant x.det e.det || false)) apart.0
     ∙ ap (λ b. b || false) (apart-turned e.det x.det once.0) in
     (one, apart-more first rest e apart.1 once.1)
 
@@ -35,8 +34,7 @@ added-apart : (first rest : List Entry) → Apart first rest → IsDistinct same
 unfolding IsDistinct
 added-apart first [] apart once = sym (append-nil first)
 added-apart first (e ∷ rest) apart once =
-    ap (λ (t : List Entry). fold added t rest) (added-new first e apart.0)
-    ∙ added-apart (first ++ e ∷ []) rest (apart-more first rest e apart.1 once.0) once.1
+    ap (λ (t : List Entry). fold added t rest) (added-new first e apart.0) ∙ added-apart (first ++ e ∷ []) rest (apart-more first rest e apart.1 once.0) once.1
     ∙ append_assoc first (e ∷ []) rest
 
 none-held : (rest : List Entry) → Apart [] rest

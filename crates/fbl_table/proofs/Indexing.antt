@@ -1,5 +1,5 @@
 -- The open places of a table.
-use Rattle.std.proofs.Common.{◌≡◌, ℕ, zero, suc, ◌+◌, ◌<◌, ◌≤◌, Bool, true, false, cond, ◌||◌, if◌then◌else◌, nat_le, List, [], ◌∷◌, ◌++◌, Option, Some, None, refl, sym, ap, ◌∙◌, arith, take, length, slice_get, unwrap_or}
+use Rattle.std.proofs.Common.{◌≡◌, ℕ, zero, suc, ◌+◌, ◌<◌, ◌≤◌, Bool, true, false, cond, ◌||◌, if◌then◌else◌, nat_le, List, [], ◌∷◌, ◌++◌, Option, Some, None, refl, sym, ap, ◌∙◌, arith, take, length, slice_get}
 use Rattle.std.proofs.lemmas.Bool.{false≢true}
 use Rattle.std.proofs.lemmas.Bool.Decides.{nat_tests}
 use Rattle.std.proofs.lemmas.List.{take_all, length-map, length_push, append-nil}
@@ -27,8 +27,7 @@ filter-twice p q less (x ∷ xs) = at (filter-twice p q less xs) (p x) refl (q x
   at more false pa true qb = absurd (false≢true (sym pa ∙ less x qb))
   at more false pa false qb = rw (pa, qb) more
 
-filter-weaker : {X : Type 0} (p q : X → Bool) → ((x : X) → q x ≡ true → p x ≡ true) → (xs ys : List X)
-    → filter p xs ≡ filter p ys → filter q xs ≡ filter q ys
+filter-weaker : {X : Type 0} (p q : X → Bool) → ((x : X) → q x ≡ true → p x ≡ true) → (xs ys : List X) → filter p xs ≡ filter p ys → filter q xs ≡ filter q ys
 filter-weaker p q less xs ys same = sym (filter-twice p q less xs) ∙ ap (filter q) same ∙ filter-twice p q less ys
 
 abbrev below : ℕ → ℕ → Type 0
@@ -67,8 +66,7 @@ covers-push limit table e open_places index =
     filter-append q open_places (n ∷ []) ∙ ap (λ t. t ++ filter q (n ∷ [])) before ∙ sym (filter-append q (places n) (n ∷ [])) ∙ ap (λ k. filter q (places k)) size
 
 -- a new last entry, whose place is open
-pub index-push : (limit : ℕ) (table : List Entry) (e : Entry) (open_places : List ℕ) → IsIndex limit table open_places
-    → IsIndex limit (table ++ e ∷ []) (open_places ++ length table ∷ [])
+pub index-push : (limit : ℕ) (table : List Entry) (e : Entry) (open_places : List ℕ) → IsIndex limit table open_places → IsIndex limit (table ++ e ∷ []) (open_places ++ length table ∷ [])
 index-push limit table e open_places index =
     let more : length table < length (table ++ e ∷ []) = omega (arith, length_push table e) in
     record {
@@ -90,8 +88,7 @@ index-push_closed limit table e open_places closed index =
     }
 
 -- places of entries that are stable now are let go
-pub index-pruned : (limit : ℕ) (table : List Entry) (open_places : List ℕ) → IsIndex limit table open_places
-    → IsIndex limit table (filter (open_at limit table) open_places)
+pub index-pruned : (limit : ℕ) (table : List Entry) (open_places : List ℕ) → IsIndex limit table open_places → IsIndex limit table (filter (open_at limit table) open_places)
 index-pruned limit table open_places index = record {
   within = All-filter (open_at limit table) (below (length table)) open_places index.within;
   covers = filter-twice (open_at limit table) (open_at limit table) (λ x is. is) open_places ∙ index.covers;
@@ -107,8 +104,7 @@ index-grown : (limit : ℕ) (old new : List Entry) (open_places : List ℕ) → 
 index-grown limit old new open_places same less index = record {
   within = below-more (length old) (length new) open_places (omega (arith, same)) index.within;
   covers =
-      filter-weaker (open_at limit old) (open_at limit new) less open_places (places (length old)) index.covers
-      ∙ ap (λ n. filter (open_at limit new) (places n)) (sym same);
+      filter-weaker (open_at limit old) (open_at limit new) less open_places (places (length old)) index.covers ∙ ap (λ n. filter (open_at limit new) (places n)) (sym same);
 }
 
 -- what is open is open of less that is known too
@@ -136,20 +132,17 @@ pub index-added_held : (limit : ℕ) (table : List Entry) (entry : Entry) (open_
 index-added_held limit table entry open_places held index =
     index-grown limit table (added table entry) open_places (length-added_held table entry held) (added-weaker limit table entry held) index
 
-marked-weaker : (limit : ℕ) (members : set.FinSet nat_cmp) (table : List Entry) (place : ℕ)
-    → open_at limit (marked members table) place ≡ true → open_at limit table place ≡ true
+marked-weaker : (limit : ℕ) (members : set.FinSet nat_cmp) (table : List Entry) (place : ℕ) → open_at limit (marked members table) place ≡ true → open_at limit table place ≡ true
 marked-weaker limit members [] place is = is
 marked-weaker limit members (e ∷ table) zero is = open-less limit e.known members is
 marked-weaker limit members (e ∷ table) (suc place) is = marked-weaker limit members table place is
 
-pub index-marked : (limit : ℕ) (members : set.FinSet nat_cmp) (table : List Entry) (open_places : List ℕ) → IsIndex limit table open_places
-    → IsIndex limit (marked members table) open_places
+pub index-marked : (limit : ℕ) (members : set.FinSet nat_cmp) (table : List Entry) (open_places : List ℕ) → IsIndex limit table open_places → IsIndex limit (marked members table) open_places
 index-marked limit members table open_places index =
     index-grown limit table (marked members table) open_places (length-map table _) (marked-weaker limit members table) index
 
 -- the open entries at some places
-picked : (f : ℕ) (table : List Entry) (ps : List ℕ)
-    → piggybacked f (filter_map (slice_get table) ps) ≡ filter_map (slice_get table) (filter (open_at f table) ps)
+picked : (f : ℕ) (table : List Entry) (ps : List ℕ) → piggybacked f (filter_map (slice_get table) ps) ≡ filter_map (slice_get table) (filter (open_at f table) ps)
 picked f table [] = refl
 picked f table (p ∷ ps) = at (slice_get table p) refl (picked f table ps) where
   kept : (e : Entry) → slice_get table p ≡ Some e → (b : Bool) → is_open f e ≡ b
@@ -158,8 +151,7 @@ picked f table (p ∷ ps) = at (slice_get table p) refl (picked f table ps) wher
   kept e is true few more = rw (few, is) (ap (λ t. e ∷ t) more)
   kept e is false many more = rw many more
 
-  at : (o : Option Entry) → slice_get table p ≡ o
-      → piggybacked f (filter_map (slice_get table) ps) ≡ filter_map (slice_get table) (filter (open_at f table) ps)
+  at : (o : Option Entry) → slice_get table p ≡ o → piggybacked f (filter_map (slice_get table) ps) ≡ filter_map (slice_get table) (filter (open_at f table) ps)
       → piggybacked f (filter_map (slice_get table) (p ∷ ps)) ≡ filter_map (slice_get table) (filter (open_at f table) (p ∷ ps))
   at None is more = rw is more
   at (Some e) is more = rw is (kept e is (is_open f e) refl more)
@@ -173,8 +165,7 @@ picked_places : (table : List Entry) (i : ℕ) → i ≤ length table → filter
 unfolding places
 picked_places table zero below = refl
 picked_places table (suc i) below =
-    filter_map-append (slice_get table) (places i) (i ∷ [])
-    ∙ ap (λ t. t ++ filter_map (slice_get table) (i ∷ [])) (picked_places table i (omega (arith, below)))
+    filter_map-append (slice_get table) (places i) (i ∷ []) ∙ ap (λ t. t ++ filter_map (slice_get table) (i ∷ [])) (picked_places table i (omega (arith, below)))
     ∙ last (slice_get table i) refl
   where
     last : (o : Option Entry) → slice_get table i ≡ o → take i table ++ filter_map (slice_get table) (i ∷ []) ≡ take (suc i) table
@@ -192,8 +183,6 @@ pub index-piggybacked : (f limit : ℕ) (table : List Entry) (open_places : List
     → piggybacked f (filter_map (slice_get table) open_places) ≡ piggybacked f table
 index-piggybacked f limit table open_places le index =
     let n = length table in
-    picked f table open_places
-    ∙ ap (filter_map (slice_get table))
-    (filter-weaker (open_at limit table) (open_at f table) (smaller f limit table le) open_places (places n) index.covers)
-    ∙ sym (picked f table (places n))
+    picked f table open_places ∙ ap (filter_map (slice_get table))
+    (filter-weaker (open_at limit table) (open_at f table) (smaller f limit table le) open_places (places n) index.covers) ∙ sym (picked f table (places n))
     ∙ ap (piggybacked f) (picked_places table n (omega arith) ∙ take_all n table (omega arith))

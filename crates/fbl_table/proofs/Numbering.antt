@@ -27,8 +27,7 @@ or-none (Some x) = refl
 found-more : (to rsn : ℕ) (table : List Entry) (i : ℕ) (e : Entry) → slice_get table i ≡ Some e
     → found to rsn (take (i + 1) table) ≡ option_or (found to rsn (take i table)) (cond (is_of_receipt to rsn e) (Some e.det) None)
 found-more to rsn table i e is =
-    ap (found to rsn) (take-next table i e is)
-    ∙ ap (option_map (λ (x : Entry). x.det)) (find-append (is_of_receipt to rsn) (take i table) (e ∷ []))
+    ap (found to rsn) (take-next table i e is) ∙ ap (option_map (λ (x : Entry). x.det)) (find-append (is_of_receipt to rsn) (take i table) (e ∷ []))
     ∙ map-or (λ (x : Entry). x.det) (find (is_of_receipt to rsn) (take i table)) (cond (is_of_receipt to rsn e) (Some e) None)
     ∙ ap (option_or (found to rsn (take i table))) (map-test (λ (x : Entry). x.det) (is_of_receipt to rsn e) e)
 
@@ -44,16 +43,14 @@ not-sought to count rsn e other more = at (is_of_receipt to rsn e) refl where
 pub by_number-other : (to count : ℕ) (table : List Entry) (i : ℕ) (e : Entry) (places : List (Option Determinant)) → slice_get table i ≡ Some e
     → ((e.det.to == to) && nat_lt count e.det.rsn) ≡ false → IsByNumber to count (take i table) places → IsByNumber to count (take (i + 1) table) places
 by_number-other to count table i e places is other so_far rsn = so_far rsn ∙ at (nat_lt count rsn) refl where
-  at : (b : Bool) → nat_lt count rsn ≡ b
-      → (if b then found to rsn (take i table) else None) ≡ (if b then found to rsn (take (i + 1) table) else None)
+  at : (b : Bool) → nat_lt count rsn ≡ b → (if b then found to rsn (take i table) else None) ≡ (if b then found to rsn (take (i + 1) table) else None)
   at true more = rw (found-more to rsn table i e is, not-sought to count rsn e other more) (sym (or-none (found to rsn (take i table))))
   at false few = refl
 
 -- an entry of one of the receipts that are looked for
 pub by_number-put : (to count : ℕ) (table : List Entry) (i : ℕ) (e : Entry) (before after : List (Option Determinant)) → slice_get table i ≡ Some e
     → ((e.det.to == to) && nat_lt count e.det.rsn) ≡ true → IsByNumber to count (take i table) before
-    → ((rsn : ℕ) → receipt_at after rsn ≡ option_or (receipt_at before rsn) (cond (e.det.rsn == rsn) (Some e.det) None))
-    → IsByNumber to count (take (i + 1) table) after
+    → ((rsn : ℕ) → receipt_at after rsn ≡ option_or (receipt_at before rsn) (cond (e.det.rsn == rsn) (Some e.det) None)) → IsByNumber to count (take (i + 1) table) after
 by_number-put to count table i e before after is own so_far put rsn =
     put rsn ∙ ap (λ o. option_or o here) (so_far rsn) ∙ at (nat_lt count rsn) refl (e.det.rsn == rsn) refl
   where

@@ -36,8 +36,7 @@ open-gathered f table [] = omega arith
 open-gathered f table (e ∷ other) = omega (arith, open-added f table e, open-gathered f (added table e) other)
 
 -- what is learned and the member's own make no more than as many more to pass on
-pub open-receipt : (f me : ℕ) (table carried : List Entry) (d : Determinant)
-    → length (piggybacked f (noted me (learned me table carried) d)) ≤ length (piggybacked f table) + length carried + 1
+pub open-receipt : (f me : ℕ) (table carried : List Entry) (d : Determinant) → length (piggybacked f (noted me (learned me table carried) d)) ≤ length (piggybacked f table) + length carried + 1
 open-receipt f me table carried d =
     let learns = learned me table carried in
     let own : List Entry = record { det = d; known = set.insert set.empty me } ∷ [] in
@@ -46,8 +45,7 @@ open-receipt f me table carried d =
     omega (arith, split, length-left (is_open f) own, more, length-filter (is_open f) learns, length-filter (is_open f) table, length-map carried (held_by me))
 
 -- no more are passed on than there are open places
-pub open-within : (f limit : ℕ) (table : List Entry) (open_places : List ℕ) → f ≤ limit → IsIndex limit table open_places
-    → length (piggybacked f table) ≤ length open_places
+pub open-within : (f limit : ℕ) (table : List Entry) (open_places : List ℕ) → f ≤ limit → IsIndex limit table open_places → length (piggybacked f table) ≤ length open_places
 open-within f limit table open_places le index =
     let picked = filter_map (slice_get table) open_places in
     let same : length (piggybacked f picked) ≡ length (piggybacked f table) = ap length (index-piggybacked f limit table open_places le index) in
@@ -63,22 +61,18 @@ piggybacked-parts f front back = filter-append (is_open f) front back
 
 pub picked-parts : (f : ℕ) (table : List Entry) → IsByParts (λ places. piggybacked f (filter_map (slice_get table) places))
 picked-parts f table front back =
-    ap (piggybacked f) (filter_map-append (slice_get table) front back)
-    ∙ filter-append (is_open f) (filter_map (slice_get table) front) (filter_map (slice_get table) back)
+    ap (piggybacked f) (filter_map-append (slice_get table) front back) ∙ filter-append (is_open f) (filter_map (slice_get table) front) (filter_map (slice_get table) back)
 
 -- what is made of one more element, put at the end of what was made so far
 pub pushed : {X : Type 0} (make : List X → List Entry) → IsByParts make → (xs : List X) (i : ℕ) (x : X) → slice_get xs i ≡ Some x
     → (old now next : List Entry) → now ≡ old ++ make (take i xs) → next ≡ now ++ make (x ∷ []) → next ≡ old ++ make (take (i + 1) xs)
 pushed make parts xs i x at old now next so_far push =
-    push
-    ∙ ap (λ t. t ++ make (x ∷ [])) so_far
-    ∙ append_assoc old (make (take i xs)) (make (x ∷ []))
+    push ∙ ap (λ t. t ++ make (x ∷ [])) so_far ∙ append_assoc old (make (take i xs)) (make (x ∷ []))
     ∙ ap (λ t. old ++ t) (sym (parts (take i xs) (x ∷ [])) ∙ ap make (sym (take-next xs i x at)))
 
 -- there is room for it, where there is room for what is made of all
 pub fits : {X : Type 0} (make : List X → List Entry) → IsByParts make → (xs : List X) (i : ℕ) (x : X) → slice_get xs i ≡ Some x
-    → (old now : List Entry) → now ≡ old ++ make (take i xs) → (room : ℕ) → length old + length (make xs) ≤ room
-    → length now + length (make (x ∷ [])) ≤ room
+    → (old now : List Entry) → now ≡ old ++ make (take i xs) → (room : ℕ) → length old + length (make xs) ≤ room → length now + length (make (x ∷ [])) ≤ room
 fits make parts xs i x at old now so_far room enough =
     let front = take (i + 1) xs in
     let back = drop (i + 1) xs in
@@ -88,6 +82,5 @@ fits make parts xs i x at old now so_far room enough =
     omega (arith, whole, enough, ap length more ∙ length-append old (make front), length-append now (make (x ∷ [])))
 
 -- the entry at one place
-pub picked-one : (f : ℕ) (table : List Entry) (p : ℕ) (e : Entry) → slice_get table p ≡ Some e
-    → piggybacked f (e ∷ []) ≡ piggybacked f (filter_map (slice_get table) (p ∷ []))
+pub picked-one : (f : ℕ) (table : List Entry) (p : ℕ) (e : Entry) → slice_get table p ≡ Some e → piggybacked f (e ∷ []) ≡ piggybacked f (filter_map (slice_get table) (p ∷ []))
 picked-one f table p e at = sym (ap (λ o. piggybacked f (cons_option o [])) at)

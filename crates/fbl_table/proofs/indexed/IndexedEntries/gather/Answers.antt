@@ -34,9 +34,7 @@ loop-place-preserved g c = record {
 
 pub returns-clause-gathered : goal.returns-clause-gathered
 returns-clause-gathered g c =
-    c.prune.ensures.entries
-    ∙ c.loop-place.invariant.so_far
-    ∙ ap (gathered (listed c.args.self.now))
+    c.prune.ensures.entries ∙ c.loop-place.invariant.so_far ∙ ap (gathered (listed c.args.self.now))
     (take_all c.loop-place.place (listed c.args.other.now) (omega (arith, c.loop-place-test.false, c.len-place-end.ensures.len)))
 
 pub returns-clause-kept : goal.returns-clause-kept

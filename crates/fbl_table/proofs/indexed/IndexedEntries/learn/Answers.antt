@@ -1,4 +1,4 @@
-use Rattle.std.proofs.Common.{sym, ap, arith, refl, take, length}
+use Rattle.std.proofs.Common.{sym, ap, arith, take, length}
 use Rattle.std.proofs.lemmas.List.{length-take-le}
 use Rattle.fbl_table.specs.Indexed.{listed}
 use Rattle.fbl_table.proofs.Adding.{learn-step, item_at, length-learned}

@@ -26,9 +26,7 @@ pub returns-clause-entries : goal.returns-clause-entries
 returns-clause-entries g c =
     let table = listed c.args.self.now in
     let shown = length-map c.args.self.now.entries.entries entry_of in
-    c.prune.ensures.entries
-    ∙ c.loop-place.invariant.so_far
-    ∙ mark-all c.loop-place.place c.args.members table (omega (arith, c.loop-place-test.false, c.len-place-end.ensures.len, shown))
+    c.prune.ensures.entries ∙ c.loop-place.invariant.so_far ∙ mark-all c.loop-place.place c.args.members table (omega (arith, c.loop-place-test.false, c.len-place-end.ensures.len, shown))
 
 pub returns-clause-kept : goal.returns-clause-kept
 returns-clause-kept g c =

@@ -55,6 +55,5 @@ returns g c =
     let table = listed kept in
     let places = kept.open_places.items in
     let whole = take_all c.loop-place.place-index places (omega (arith, c.loop-place-test.false, ap length c.deref-place-items.ensures.value)) in
-    c.loop-place.invariant.so_far
-    ∙ ap (λ ps. c.args.carried.now.items ++ piggybacked c.args.f (filter_map (slice_get table) ps)) whole
+    c.loop-place.invariant.so_far ∙ ap (λ ps. c.args.carried.now.items ++ piggybacked c.args.f (filter_map (slice_get table) ps)) whole
     ∙ ap (λ t. c.args.carried.now.items ++ t) (index-piggybacked c.args.f kept.limit table places c.requires.within c.requires.indexed)

@@ -6,7 +6,6 @@ use Rattle.fbl_table.specs.Indexed.{listed}
 use Rattle.fbl_table.specs.Tables.{entry_of, added}
 use Rattle.fbl_table.proofs.Adding.{added-at, added-nothing, has-set, held-at, within-at, length-added_held}
 use Rattle.fbl_table.proofs.Indexing.{index-added_held}
-use Rattle.fbl_table.proofs.Keeping.{keeps-same}
 use Rattle.fbl_table.proofs.indexed.IndexedEntries.unite.Goals as goal
 
 pub index-before-requires : goal.index-before-requires

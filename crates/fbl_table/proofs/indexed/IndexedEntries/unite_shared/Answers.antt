@@ -1,4 +1,4 @@
-use Rattle.std.proofs.Common.{◌∙◌, sym, refl}
+use Rattle.std.proofs.Common.{◌∙◌, sym}
 use Rattle.fbl_table.specs.Indexed.{listed}
 use Rattle.fbl_table.proofs.Adding.{gather-step}
 use Rattle.fbl_table.proofs.Keeping.{keeps-more}
