@@ -1,6 +1,7 @@
 //! One member's volatile record, and the messages in flight.
 #![tactic(auto)]
 
+mod buffers;
 mod carried;
 pub mod laws;
 mod member_rec;

@@ -1,18 +1,14 @@
 //! One member's volatile record: how it receives a message, and how it replays a receipt.
 
-ghost use Rattle.std.specs.Prelude.{◌≡◌, ℕ, ◌+◌, ◌<◌, ◌≤◌, ◌++◌, [], false, length, map, OnOk, OnErr, IfOk, IfSome, vec_len, vec_capacity};
-ghost use Rattle.std.specs.List.{All};
-ghost use Rattle.fbl_base.specs.Fold.{Logged};
+ghost use Rattle.std.specs.Prelude.{◌≡◌, ◌+◌, ◌<◌, ◌≤◌, false, length, OnOk, OnErr, IfOk};
 ghost use Rattle.fbl_table.specs.Tables.{is_held, piggybacked};
-ghost use Rattle.fbl_member.specs.Carried.{IsOnce};
 ghost use Rattle.fbl_member.specs.Kept.{IsKept};
-ghost use Rattle.fbl_member.specs.Rooms.{HasRoom};
 ghost use Rattle.fbl_member.specs.Members.{fresh, blank, last_from, next_determinant, received_by, replayed_by, messages_from, logged_note, logged_beyond};
 
-use crate::carried::Carried;
+use crate::buffers::Buffers;
 use crate::wire::Wire;
 use fbl_base::{Behaviour, Config, Determinant, Member, Note, Outcome};
-use fbl_table::{Entry, Table};
+use fbl_table::Table;
 use std::alloc::{AllocError, Allocator, Global};
 use std::marker::Model;
 
@@ -142,10 +138,10 @@ impl<A: Allocator + Copy> MemberRec<A> {
         let before = self.sent();
         let sends = outcome.sends.as_slice();
         let carried = wire.carried();
-        let room = self.table.room_to_piggyback(f, carried);
-        let lists = empty_lists(*self.log.allocator(), sends.len(), room)?;
-        let mut wires = Vec::with_capacity(*self.log.allocator(), sends.len())?;
+        let most = self.table.room_to_piggyback(f, carried);
+        let buffers = Buffers::for_messages(*self.log.allocator(), sends.len(), most)?;
         self.log.reserve(sends.len())?;
+
         let determinant = Determinant {
             from: wire.from(),
             ssn: wire.ssn(),
@@ -153,14 +149,11 @@ impl<A: Allocator + Copy> MemberRec<A> {
             rsn: self.received + 1,
         };
         self.table.learn_and_note(me, carried, determinant)?;
-        // `len` says that no two of the table's determinants are the same, as each message must carry them
-        let _distinct_entries = self.table.len();
-        put_wires(&mut wires, lists, me, before, sends, &self.table, f);
-        self.log.extend_from_slice(sends).unwrap();
         self.state = outcome.state;
         self.received += 1;
         self.last[wire.from().number() as usize] = wire.ssn();
-        Ok(wires)
+        self.log.extend_from_slice(sends).unwrap();
+        Ok(buffers.into_wires(me, before, sends, &self.table, f))
     }
 
     /// Takes the message of a receipt in again, by the receipt's determinant and the message's content: the step's
@@ -267,108 +260,5 @@ impl<A: Allocator + Copy> MemberRec<A> {
         ensures { result ≡ last_from self.now from }
     {
         self.last[from.number() as usize]
-    }
-}
-
-/// As many empty lists as this, each with this much room.
-fn empty_lists<A: Allocator + Copy>(
-    alloc: A,
-    count: usize,
-    room: usize,
-) -> Result<Vec<Vec<Entry, A>, A>, AllocError>
-    ensures len { IfOk result (λ lists. vec_len lists ≡ count) }
-    ensures room { IfOk result (λ lists. All (HasRoom room) lists.items) }
-{
-    let mut lists = Vec::with_capacity(alloc, count)?;
-    for _place in 0..count {
-        lists.push_reserved(Vec::with_capacity(alloc, room)?);
-    }
-    Ok(lists)
-}
-
-/// Makes the messages of a step's sends, numbered from one more than `before`, each with what the table passes on in
-/// one of the lists.
-fn put_wires<A: Allocator + Copy>(
-    wires: &mut Vec<Wire<A>, A>,
-    lists: Vec<Vec<Entry, A>, A>,
-    me: Member,
-    before: u32,
-    sends: &[(Member, Note)],
-    table: &Table<A>,
-    f: u8,
-)
-    requires once { IsOnce (piggybacked f table.now) }
-    requires none { wires.old.items ≡ [] }
-    requires no_len { vec_len wires.old ≡ 0 }
-    requires wires { length sends.now ≤ vec_capacity wires.old }
-    requires numbers { before + length sends.now ≤ 8192 }
-    requires lists { vec_len lists ≡ length sends.now }
-    requires room { All (HasRoom (length (piggybacked f table.now))) lists.items }
-    ensures { wires.new.items ≡ messages_from me before (piggybacked f table.now) sends.now }
-{
-    let mut lists = lists;
-    for place in 0..sends.len() {
-        let send = sends[place];
-        let number = before + place as u32 + 1;
-        let carried = next_carried(lists.take_last(), wires.last(), table, f, sends.len());
-        wires.push_reserved(Wire::new(me, send.0, number, send.1, carried));
-    }
-}
-
-/// What the next of so many messages of a step carries: the list of the one made before, if that can be shared, and else a
-/// list of what the table passes on.
-fn next_carried<A: Allocator + Copy>(
-    reserved: Vec<Entry, A>,
-    made: Option<&Wire<A>>,
-    table: &Table<A>,
-    f: u8,
-    messages: usize,
-) -> Carried<A>
-    requires made { IfSome made (λ wire. wire.now.carried ≡ piggybacked f table.now) }
-    requires room { HasRoom (length (piggybacked f table.now)) reserved }
-    ensures { result ≡ piggybacked f table.now }
-{
-    match made {
-        Some(wire) => match wire.share_carried() {
-            Some(carried) => carried,
-            None => carried_by(reserved, table, f, messages),
-        },
-        None => carried_by(reserved, table, f, messages),
-    }
-}
-
-/// What the table passes on, for so many messages. Where there is no memory for a list of it, or for sharing one, each
-/// message has its own list, for which room was taken.
-fn carried_by<A: Allocator + Copy>(
-    reserved: Vec<Entry, A>,
-    table: &Table<A>,
-    f: u8,
-    messages: usize,
-) -> Carried<A>
-    requires { HasRoom (length (piggybacked f table.now)) reserved }
-    ensures { result ≡ piggybacked f table.now }
-{
-    let entries = passed_on(reserved, table, f);
-    if messages > 1 {
-        Carried::for_several(entries)
-    } else {
-        Carried::own(entries)
-    }
-}
-
-/// What the table passes on, in a list that fits, or in the one for which room was taken where there is no memory for one that
-/// fits. How many of the carried entries are new shows only once the table has taken them in, and by then a lack of memory has
-/// no call to refuse: so the room is mostly much more than is needed.
-fn passed_on<A: Allocator + Copy>(reserved: Vec<Entry, A>, table: &Table<A>, f: u8) -> Vec<Entry, A>
-    requires { HasRoom (length (piggybacked f table.now)) reserved }
-    ensures { result.items ≡ piggybacked f table.now }
-{
-    match table.piggyback(f) {
-        Ok(entries) => entries,
-        Err(_) => {
-            let mut entries = reserved;
-            table.piggyback_into(f, &mut entries);
-            entries
-        }
     }
 }

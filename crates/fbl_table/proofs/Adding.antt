@@ -7,7 +7,8 @@ use Rattle.std.specs.Map.{lookup, values_of, keys_of}
 use Rattle.std.specs.Ordering.{nat_cmp}
 use Rattle.std.specs.Cmp.{nat_cmp_total}
 use Rattle.std.specs.Option.{option_or}
-use Rattle.std.proofs.lemmas.Bool.{cases_lt, false≢true}
+use Rattle.std.proofs.lemmas.Bool.{cases_lt, false≢true, or_from, or_left, or_parts, or_right}
+use Rattle.std.proofs.Math.Bool.{or_assoc, or_comm}
 use Rattle.std.specs.List.{find, AllByRecursion, IsDistinct}
 use Rattle.std.proofs.lemmas.List.Quantifiers.{position-Some}
 use Rattle.fbl_base.proofs.Recorded.{Decides-same_determinant}
@@ -39,29 +40,19 @@ held-lookup (e ∷ es) d =
 pub noted-insert : (es : Pairs) (d : Determinant) (known : set.FinSet nat_cmp) → is_held (map entry_of es) d ≡ false
     → map entry_of (insert_entry same_determinant es d known) ≡ map entry_of es ++ record { det = d; known = known } ∷ []
 noted-insert [] d known none = refl
-noted-insert (e ∷ es) d known none = at (noted-insert es d known) (same_determinant d e.0) none where
-  noted : Pairs → List Entry
-  noted es = map entry_of es ++ record { det = d; known = known } ∷ []
-
-  at : (is_held (map entry_of es) d ≡ false → map entry_of (insert_entry same_determinant es d known) ≡ noted es)
-      → (b : Bool) → (b || is_held (map entry_of es) d) ≡ false
-      → map entry_of (if b then (e.0, known) ∷ es else e ∷ insert_entry same_determinant es d known) ≡ noted (e ∷ es)
-  at more true none = absurd (false≢true (sym none))
-  at more false none = ap (λ t. entry_of e ∷ t) (more none)
+noted-insert (e ∷ es) d known none =
+    let parts = or_parts (same_determinant d e.0) (is_held (map entry_of es) d) none in
+    rw parts.0 (ap (λ t. entry_of e ∷ t) (noted-insert es d known parts.1))
 
 -- a determinant that has an entry at a place is held
 pub held-at : (table : List Entry) (d : Determinant) (i : ℕ) → has_at table d i ≡ true → is_held table d ≡ true
 held-at [] d zero has = absurd (false≢true has)
 held-at [] d (suc i) has = absurd (false≢true has)
-held-at (e ∷ table) d zero has = ap (λ b. b || is_held table d) has
-held-at (e ∷ table) d (suc i) has = at (same_determinant d e.det) (held-at table d i has) where
-  at : (b : Bool) → is_held table d ≡ true → (b || is_held table d) ≡ true
-  at true held = refl
-  at false held = held
+held-at (e ∷ table) d zero has = or_left _ _ has
+held-at (e ∷ table) d (suc i) has = or_right (same_determinant d e.det) _ (held-at table d i has)
 
 -- an answer of the determinant's place tells whether it is held
-pub some-held : (table : List Entry) (d : Determinant) (r : Option ℕ) → IfSome r (λ i. has_at table d i ≡ true) → IfNone r (is_held table d ≡ false)
-    → is_some r ≡ is_held table d
+pub some-held : (table : List Entry) (d : Determinant) (r : Option ℕ) → IfSome r (λ i. has_at table d i ≡ true) → IfNone r (is_held table d ≡ false) → is_some r ≡ is_held table d
 some-held table d None at none = sym none
 some-held table d (Some i) at none = sym (held-at table d i at)
 
@@ -71,20 +62,17 @@ within-at [] d (suc i) has = absurd (false≢true has)
 within-at (e ∷ table) d zero has = omega arith
 within-at (e ∷ table) d (suc i) has = omega (arith, within-at table d i has)
 
-has-key : (es : Pairs) (d x : Determinant) (i : ℕ) → i < length (keys_of es) → same_determinant d (get_or (keys_of es) i x) ≡ true
-    → has_at (map entry_of es) d i ≡ true
+has-key : (es : Pairs) (d x : Determinant) (i : ℕ) → i < length (keys_of es) → same_determinant d (get_or (keys_of es) i x) ≡ true → has_at (map entry_of es) d i ≡ true
 has-key [] d x i below is = absurd (omega (arith, below))
 has-key (e ∷ es) d x zero below is = is
 has-key (e ∷ es) d x (suc i) below is = has-key es d x i (omega (arith, below)) is
 
 -- where the map finds the determinant
-pub has-found : (es : Pairs) (d : Determinant) (r : Option ℕ) → r ≡ position (same_determinant d) (keys_of es)
-    → IfSome r (λ i. has_at (map entry_of es) d i ≡ true)
+pub has-found : (es : Pairs) (d : Determinant) (r : Option ℕ) → r ≡ position (same_determinant d) (keys_of es) → IfSome r (λ i. has_at (map entry_of es) d i ≡ true)
 has-found es d None is = tt
 has-found es d (Some i) is = (let here = position-Some (same_determinant d) (keys_of es) i d (sym is) in has-key es d d i here.0 here.1)
 
-pub not_held-missing : (es : Pairs) (d : Determinant) (r : Option ℕ) → is_some r ≡ is_some (lookup (same_determinant d) es)
-    → IfNone r (is_held (map entry_of es) d ≡ false)
+pub not_held-missing : (es : Pairs) (d : Determinant) (r : Option ℕ) → is_some r ≡ is_some (lookup (same_determinant d) es) → IfNone r (is_held (map entry_of es) d ≡ false)
 not_held-missing es d None is = sym (held-lookup es d) ∙ sym is
 not_held-missing es d (Some i) is = tt
 
@@ -109,8 +97,7 @@ has-set (e ∷ es) (suc i) v d zero = refl
 has-set (e ∷ es) (suc i) v d (suc j) = has-set es i v d j
 
 -- what has the first entries of another table in place has the next one too
-pub in-place-next : (k : ℕ) (table other : List Entry) (e : Entry) → HasInPlace k table other → slice_get other k ≡ Some e → has_at table e.det k ≡ true
-    → HasInPlace (k + 1) table other
+pub in-place-next : (k : ℕ) (table other : List Entry) (e : Entry) → HasInPlace k table other → slice_get other k ≡ Some e → has_at table e.det k ≡ true → HasInPlace (k + 1) table other
 in-place-next k table other e before at has place x below is =
     elim (cases_lt place k) [
       | inl less ↦ before place x less is
@@ -122,8 +109,7 @@ in-place-next k table other e before at has place x below is =
 
 -- what is known at the determinant's place, united with more
 pub added-at : (es : Pairs) (entry : Entry) (i : ℕ) (v : set.FinSet nat_cmp) → IsDistinct same_determinant (keys_of es)
-    → has_at (map entry_of es) entry.det i ≡ true → slice_get (values_of es) i ≡ Some v
-    → map entry_of (set_value_at es i (set.union v entry.known)) ≡ added (map entry_of es) entry
+    → has_at (map entry_of es) entry.det i ≡ true → slice_get (values_of es) i ≡ Some v → map entry_of (set_value_at es i (set.union v entry.known)) ≡ added (map entry_of es) entry
 unfolding added IsDistinct
 added-at [] entry zero v once has is = absurd (false≢true has)
 added-at [] entry (suc i) v once has is = absurd (false≢true has)
@@ -145,9 +131,7 @@ nothing-more : (s t : set.FinSet nat_cmp) → set.len (set.difference t s) ≡ 0
 nothing-more s t none = same_from_contains (set.union s t) s (λ q. set.contains-union nat_cmp_total s t q ∙ at (set.contains s q) (set.contains t q) (lacks q)) where
   lacks : (q : ℕ) → (set.contains t q && not (set.contains s q)) ≡ false
   lacks q =
-      sym (set.contains-difference nat_cmp_total t s q)
-      ∙ ap (λ x. set.contains x q) (set.empty_of_len (set.difference t s) none)
-      ∙ set.contains-empty nat_cmp q
+      sym (set.contains-difference nat_cmp_total t s q) ∙ ap (λ x. set.contains x q) (set.empty_of_len (set.difference t s) none) ∙ set.contains-empty nat_cmp q
 
   at : (a b : Bool) → (b && not a) ≡ false → (a || b) ≡ a
   at true b none = refl
@@ -156,11 +140,9 @@ nothing-more s t none = same_from_contains (set.union s t) s (λ q. set.contains
 
 -- an entry that knows no more than what is known already
 pub added-nothing : (es : Pairs) (entry : Entry) (i : ℕ) (v : set.FinSet nat_cmp) → IsDistinct same_determinant (keys_of es)
-    → has_at (map entry_of es) entry.det i ≡ true → slice_get (values_of es) i ≡ Some v → set.len (set.difference entry.known v) ≡ 0
-    → map entry_of es ≡ added (map entry_of es) entry
+    → has_at (map entry_of es) entry.det i ≡ true → slice_get (values_of es) i ≡ Some v → set.len (set.difference entry.known v) ≡ 0 → map entry_of es ≡ added (map entry_of es) entry
 added-nothing es entry i v once has is none =
-    ap (map entry_of) (sym (same-value es i v is) ∙ ap (set_value_at es i) (sym (nothing-more v entry.known none)))
-    ∙ added-at es entry i v once has is
+    ap (map entry_of) (sym (same-value es i v is) ∙ ap (set_value_at es i) (sym (nothing-more v entry.known none))) ∙ added-at es entry i v once has is
 
 pub take-next : {X : Type 0} (xs : List X) (i : ℕ) (x : X) → slice_get xs i ≡ Some x → take (i + 1) xs ≡ take i xs ++ x ∷ []
 take-next xs i x is = take_more xs i x (slice_get_within xs i x is) ∙ ap (λ y. take i xs ++ y ∷ []) (get_or_from_slice_get xs i x x is)
@@ -169,30 +151,24 @@ pub greatest-step : (to : ℕ) (table : List Entry) (i : ℕ) (e : Entry) → sl
     → greatest_rsn to (take (i + 1) table) ≡ max (greatest_rsn to (take i table)) (rsn_of to e)
 greatest-step to table i e is = ap (greatest_rsn to) (take-next table i e is) ∙ fold_push (λ last x. max last (rsn_of to x)) 0 (take i table) e
 
-pub gather-step : (table other : List Entry) (i : ℕ) (e : Entry) → slice_get other i ≡ Some e
-    → gathered table (take (i + 1) other) ≡ added (gathered table (take i other)) e
+pub gather-step : (table other : List Entry) (i : ℕ) (e : Entry) → slice_get other i ≡ Some e → gathered table (take (i + 1) other) ≡ added (gathered table (take i other)) e
 gather-step table other i e is = ap (gathered table) (take-next other i e is) ∙ fold_push added table (take i other) e
 
 pub learn-step : (me : ℕ) (table carried : List Entry) (i : ℕ) (e : Entry) → slice_get carried i ≡ Some e
     → learned me table (take (i + 1) carried) ≡ added (learned me table (take i carried)) (held_by me e)
 learn-step me table carried i e is =
-    ap (learned me table) (take-next carried i e is)
-    ∙ ap (gathered table) (map-append (held_by me) (take i carried) (e ∷ []))
+    ap (learned me table) (take-next carried i e is) ∙ ap (gathered table) (map-append (held_by me) (take i carried) (e ∷ []))
     ∙ fold_push added table (map (held_by me) (take i carried)) (held_by me e)
 
 -- the search among the first places
-pub find-step : {X : Type 0} (p : X → Bool) (xs : List X) (i : ℕ) (x : X) → slice_get xs i ≡ Some x → find p (take i xs) ≡ None
-    → find p (take (i + 1) xs) ≡ cond (p x) (Some x) None
+pub find-step : {X : Type 0} (p : X → Bool) (xs : List X) (i : ℕ) (x : X) → slice_get xs i ≡ Some x → find p (take i xs) ≡ None → find p (take (i + 1) xs) ≡ cond (p x) (Some x) None
 find-step p xs i x is none =
     ap (find p) (take-next xs i x is) ∙ find-append p (take i xs) (x ∷ []) ∙ ap (λ o. option_or o (find p (x ∷ []))) none
 
-pub find-here : {X : Type 0} (p : X → Bool) (xs : List X) (i : ℕ) (x : X) → slice_get xs i ≡ Some x → find p (take i xs) ≡ None → p x ≡ true
-    → find p xs ≡ Some x
+pub find-here : {X : Type 0} (p : X → Bool) (xs : List X) (i : ℕ) (x : X) → slice_get xs i ≡ Some x → find p (take i xs) ≡ None → p x ≡ true → find p xs ≡ Some x
 find-here p xs i x is none passes =
     let first : find p (take (i + 1) xs) ≡ Some x = find-step p xs i x is none ∙ ap (λ b. cond b (Some x) None) passes in
-    ap (find p) (sym (take-append-drop (i + 1) xs))
-    ∙ find-append p (take (i + 1) xs) (drop (i + 1) xs)
-    ∙ ap (λ o. option_or o (find p (drop (i + 1) xs))) first
+    ap (find p) (sym (take-append-drop (i + 1) xs)) ∙ find-append p (take (i + 1) xs) (drop (i + 1) xs) ∙ ap (λ o. option_or o (find p (drop (i + 1) xs))) first
 
 pub item_at : {X : Type 0} (xs : List X) (i : ℕ) (x : X) → i < length xs → x ≡ get_or xs i x → slice_get xs i ≡ Some x
 item_at xs i x below is = slice_get-get_or xs i x below ∙ ap Some (sym is)
@@ -216,8 +192,7 @@ mark-all (suc i) members (e ∷ table) done =
     ap (λ t. record { det = e.det; known = set.union e.known members } ∷ t) (mark-all i members table (omega (arith, done)))
 
 mark-at : (i : ℕ) (members : set.FinSet nat_cmp) (table : List Entry) (es : Pairs) (v : set.FinSet nat_cmp)
-    → map entry_of es ≡ marked_first i members table → slice_get (values_of es) i ≡ Some v
-    → map entry_of (set_value_at es i (set.union v members)) ≡ marked_first (suc i) members table
+    → map entry_of es ≡ marked_first i members table → slice_get (values_of es) i ≡ Some v → map entry_of (set_value_at es i (set.union v members)) ≡ marked_first (suc i) members table
 unfolding marked_first
 mark-at zero members [] [] v same is = refl
 mark-at zero members [] (p ∷ es) v same is = cc
@@ -236,8 +211,7 @@ mark-at (suc i) members (e ∷ table) (p ∷ es) v same is =
     λ j. first j ∷ more j
 
 pub mark-step : (i : ℕ) (members : set.FinSet nat_cmp) (table : List Entry) (es : Pairs) (v : set.FinSet nat_cmp)
-    → map entry_of es ≡ marked_first i members table → slice_get (values_of es) i ≡ Some v
-    → map entry_of (set_value_at es i (set.union v members)) ≡ marked_first (i + 1) members table
+    → map entry_of es ≡ marked_first i members table → slice_get (values_of es) i ≡ Some v → map entry_of (set_value_at es i (set.union v members)) ≡ marked_first (i + 1) members table
 mark-step i members table es v same is = mark-at i members table es v same is ∙ ap (λ k. marked_first k members table) (let e : suc i ≡ i + 1 = omega arith in e)
 
 pub length-set_value_at : (es : Pairs) (i : ℕ) (v : set.FinSet nat_cmp) → length (set_value_at es i v) ≡ length es
@@ -253,11 +227,9 @@ keys-view (e ∷ es) = ap (λ t. e.0 ∷ t) (keys-view es)
 pub added-new : (table : List Entry) (entry : Entry) → is_held table entry.det ≡ false → added table entry ≡ table ++ entry ∷ []
 unfolding added
 added-new [] entry new = refl
-added-new (e ∷ table) entry new = at (added-new table entry) (same_determinant entry.det e.det) new where
-  at : (is_held table entry.det ≡ false → added table entry ≡ table ++ entry ∷ []) → (b : Bool) → (b || is_held table entry.det) ≡ false
-      → (if b then record { det = e.det; known = set.union e.known entry.known } ∷ table else e ∷ added table entry) ≡ e ∷ table ++ entry ∷ []
-  at more true new = absurd (false≢true (sym new))
-  at more false new = ap (λ t. e ∷ t) (more new)
+added-new (e ∷ table) entry new =
+    let parts = or_parts (same_determinant entry.det e.det) (is_held table entry.det) new in
+    rw parts.0 (ap (λ t. e ∷ t) (added-new table entry parts.1))
 
 -- a table gets longer by an entry that it lacks
 pub length-added : (table : List Entry) (entry : Entry) → length (added table entry) ≡ length table + cond (lacks table entry) 1 0
@@ -273,31 +245,24 @@ length-added (e ∷ table) entry = at (length-added table entry) (same_determina
 pub length-added_held : (table : List Entry) (entry : Entry) → is_held table entry.det ≡ true → length (added table entry) ≡ length table
 length-added_held table entry held = omega (arith, length-added table entry, ap {B = ℕ} (λ b. cond (not b) 1 0) held)
 
--- what was not held before, and is not the entry's, is not held afterwards
-not_held-added : (table : List Entry) (entry : Entry) (d : Determinant) → is_held table d ≡ false → same_determinant d entry.det ≡ false
-    → is_held (added table entry) d ≡ false
-unfolding added
-not_held-added [] entry d none other = ap (λ b. b || false) other
-not_held-added (e ∷ table) entry d none other =
-    at (λ rest. not_held-added table entry d rest other) (same_determinant entry.det e.det) (same_determinant d e.det) refl none
-  where
-    at : (is_held table d ≡ false → is_held (added table entry) d ≡ false) → (same here : Bool) → same_determinant d e.det ≡ here
-        → (here || is_held table d) ≡ false
-        → is_held (if same then record { det = e.det; known = set.union e.known entry.known } ∷ table else e ∷ added table entry) d ≡ false
-    at more same true is none = absurd (false≢true (sym none))
-    at more true false is none = rw is none
-    at more false false is none = rw is (more none)
+again : (a b : Bool) → (a || b) ≡ ((a || b) || a)
+again true b = refl
+again false b = sym (or_comm b false)
 
-held-added : (table : List Entry) (entry : Entry) (d : Determinant) → is_held table d ≡ true → is_held (added table entry) d ≡ true
+-- after an entry is added its determinant is held too
+held-added : (table : List Entry) (entry : Entry) (d : Determinant) → is_held (added table entry) d ≡ (is_held table d || same_determinant d entry.det)
 unfolding added
-held-added [] entry d held = absurd (false≢true held)
-held-added (e ∷ table) entry d held = at (held-added table entry d) (same_determinant entry.det e.det) (same_determinant d e.det) refl held where
-  at : (is_held table d ≡ true → is_held (added table entry) d ≡ true) → (same here : Bool) → same_determinant d e.det ≡ here
-      → (here || is_held table d) ≡ true
-      → is_held (if same then record { det = e.det; known = set.union e.known entry.known } ∷ table else e ∷ added table entry) d ≡ true
-  at more true here is held = rw is held
-  at more false true is held = rw is refl
-  at more false false is held = rw is (more held)
+held-added [] entry d = or_comm (same_determinant d entry.det) false
+held-added (e ∷ table) entry d = at (held-added table entry d) (same_determinant entry.det e.det) refl where
+  here : Bool
+  here = same_determinant d e.det
+
+  at : is_held (added table entry) d ≡ (is_held table d || same_determinant d entry.det) → (b : Bool) → same_determinant entry.det e.det ≡ b
+      → is_held (if b then record { det = e.det; known = set.union e.known entry.known } ∷ table else e ∷ added table entry) d ≡ ((here || is_held table d) || same_determinant d entry.det)
+  at more true is =
+      let same : entry.det ≡ e.det = (Decides-same_determinant entry.det e.det).0 is in
+      rw same (again here (is_held table d))
+  at more false is = ap (λ b. here || b) more ∙ sym (or_assoc here (is_held table d) (same_determinant d entry.det))
 
 pub at_most_one : (b : Bool) → cond b 1 0 ≤ 1
 at_most_one true = omega arith
@@ -313,7 +278,7 @@ lacks-fewer table entry (e ∷ other) =
     counted t = sum_by-cons (λ x. cond (lacks t x) 1 0) e other
 
     here : (b : Bool) → is_held table e.det ≡ b → cond (lacks (added table entry) e) 1 0 ≤ cond (lacks table e) 1 0
-    here true held = rw (held, held-added table entry e.det held) (omega arith)
+    here true held = rw (held-added table entry e.det, held) (omega arith)
     here false none = rw none (at_most_one (lacks (added table entry) e))
 
 -- a table gets longer by no more than it lacks of what is gathered
@@ -354,26 +319,19 @@ lacks-none (suc k) table (x ∷ other) within same =
     let e = get_or (x ∷ other) k x in
     let at = slice_get-get_or (x ∷ other) k x (omega (arith, within)) in
     let held = held-at table e.det k (same k e (omega arith) at) in
-    ap (λ n. count_by (lacks table) (take n (x ∷ other))) next
-    ∙ lacks-same table (x ∷ other) k e at held
+    ap (λ n. count_by (lacks table) (take n (x ∷ other))) next ∙ lacks-same table (x ∷ other) k e at held
     ∙ lacks-none k table (x ∷ other) (omega (arith, within)) (λ place y below is. same place y (omega (arith, below)) is)
 
-not_held-gathered : (table other : List Entry) (d : Determinant) → is_held table d ≡ false → is_held other d ≡ false → is_held (gathered table other) d ≡ false
-not_held-gathered table [] d none others = none
-not_held-gathered table (e ∷ other) d none others =
-    at (same_determinant d e.det) refl others (λ apart. not_held-gathered (added table e) other d (not_held-added table e d none apart))
-  where
-    at : (here : Bool) → same_determinant d e.det ≡ here → (here || is_held other d) ≡ false
-        → (same_determinant d e.det ≡ false → is_held other d ≡ false → is_held (gathered (added table e) other) d ≡ false)
-        → is_held (gathered (added table e) other) d ≡ false
-    at true is others more = absurd (false≢true (sym others))
-    at false is others more = more is others
+held-gathered : (table other : List Entry) (d : Determinant) → is_held (gathered table other) d ≡ (is_held table d || is_held other d)
+held-gathered table [] d = sym (or_comm (is_held table d) false)
+held-gathered table (e ∷ other) d =
+    held-gathered (added table e) other d ∙ ap (λ b. b || is_held other d) (held-added table e d) ∙ or_assoc (is_held table d) (same_determinant d e.det) (is_held other d)
 
 held-carried : (me : ℕ) (carried : List Entry) (d : Determinant) → is_held (map (held_by me) carried) d ≡ is_held carried d
 held-carried me [] d = refl
 held-carried me (e ∷ carried) d = ap (λ b. same_determinant d e.det || b) (held-carried me carried d)
 
 -- what was neither held nor carried is not held after what was carried is learned
-pub not_held-learned : (me : ℕ) (table carried : List Entry) (d : Determinant) → is_held table d ≡ false → is_held carried d ≡ false
-    → is_held (learned me table carried) d ≡ false
-not_held-learned me table carried d none others = not_held-gathered table (map (held_by me) carried) d none (held-carried me carried d ∙ others)
+pub not_held-learned : (me : ℕ) (table carried : List Entry) (d : Determinant) → is_held table d ≡ false → is_held carried d ≡ false → is_held (learned me table carried) d ≡ false
+not_held-learned me table carried d none others =
+    held-gathered table (map (held_by me) carried) d ∙ or_from _ _ none (held-carried me carried d ∙ others)

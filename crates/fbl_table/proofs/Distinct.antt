@@ -27,15 +27,14 @@ apart-more first [] e apart once = tt
 apart-more first (x ∷ rest) e apart once =
     let one : is_held (first ++ e ∷ []) x.det ≡ false =
     list_any-append (λ (y : Entry). same_determinant x.det y.det) first (e ∷ []) ∙ ap (λ b. b || (same_determinant x.det e.det || false)) apart.0
-        ∙ ap (λ b. b || false) (apart-turned e.det x.det once.0) in
+    ∙ ap (λ b. b || false) (apart-turned e.det x.det once.0) in
     (one, apart-more first rest e apart.1 once.1)
 
 added-apart : (first rest : List Entry) → Apart first rest → IsDistinct same_determinant (map (λ (e : Entry). e.det) rest) → fold added first rest ≡ first ++ rest
 unfolding IsDistinct
 added-apart first [] apart once = sym (append-nil first)
 added-apart first (e ∷ rest) apart once =
-    ap (λ (t : List Entry). fold added t rest) (added-new first e apart.0)
-    ∙ added-apart (first ++ e ∷ []) rest (apart-more first rest e apart.1 once.0) once.1
+    ap (λ (t : List Entry). fold added t rest) (added-new first e apart.0) ∙ added-apart (first ++ e ∷ []) rest (apart-more first rest e apart.1 once.0) once.1
     ∙ append_assoc first (e ∷ []) rest
 
 none-held : (rest : List Entry) → Apart [] rest

@@ -1,13 +1,10 @@
 -- The open places of a table.
-use Rattle.std.proofs.Common.{
-  ◌≡◌, ℕ, zero, suc, ◌+◌, ◌<◌, ◌≤◌, Bool, true, false, cond, ◌||◌, if◌then◌else◌, nat_le, List, [], ◌∷◌, ◌++◌, Option, Some, None, refl,
-  sym, ap, ◌∙◌, arith, take, length, slice_get, unwrap_or,
-}
+use Rattle.std.proofs.Common.{◌≡◌, ℕ, zero, suc, ◌+◌, ◌<◌, ◌≤◌, Bool, true, false, cond, ◌||◌, if◌then◌else◌, nat_le, List, [], ◌∷◌, ◌++◌, Option, Some, None, refl, sym, ap, ◌∙◌, arith, take, length, slice_get}
 use Rattle.std.proofs.lemmas.Bool.{false≢true}
 use Rattle.std.proofs.lemmas.Bool.Decides.{nat_tests}
 use Rattle.std.proofs.lemmas.List.{take_all, length-map, length_push, append-nil}
-use Rattle.std.proofs.lemmas.List.Elements.{filter-append, filter_map-append}
-use Rattle.std.specs.List.{filter, filter_map}
+use Rattle.std.proofs.lemmas.List.Elements.{All-filter, All-head, All-nil, All-push, All-tail, All-weaker, filter-append, filter_map-append}
+use Rattle.std.specs.List.{All, filter, filter_map}
 use Rattle.std.specs.Option.{option_map_or}
 use Rattle.std.specs.Ordering.{nat_cmp}
 use Rattle.std.specs.Cmp.{nat_cmp_total}
@@ -17,7 +14,7 @@ use Rattle.fbl_base.proofs.Gets.{At-new}
 use Rattle.fbl_base.proofs.Sizes.{len-within}
 use Rattle.fbl_table.specs.declared.entry.Entry.{Entry}
 use Rattle.fbl_table.specs.Tables.{is_open, piggybacked, marked, added, is_held}
-use Rattle.fbl_table.specs.Index.{places, open_at, Within, IsIndex}
+use Rattle.fbl_table.specs.Index.{places, open_at, IsIndex}
 use Rattle.fbl_table.proofs.Adding.{take-next, length-added_held}
 
 -- a filter that lets through less, after one that lets through more
@@ -30,34 +27,25 @@ filter-twice p q less (x ∷ xs) = at (filter-twice p q less xs) (p x) refl (q x
   at more false pa true qb = absurd (false≢true (sym pa ∙ less x qb))
   at more false pa false qb = rw (pa, qb) more
 
-filter-weaker : {X : Type 0} (p q : X → Bool) → ((x : X) → q x ≡ true → p x ≡ true) → (xs ys : List X)
-    → filter p xs ≡ filter p ys → filter q xs ≡ filter q ys
+filter-weaker : {X : Type 0} (p q : X → Bool) → ((x : X) → q x ≡ true → p x ≡ true) → (xs ys : List X) → filter p xs ≡ filter p ys → filter q xs ≡ filter q ys
 filter-weaker p q less xs ys same = sym (filter-twice p q less xs) ∙ ap (filter q) same ∙ filter-twice p q less ys
 
-filter-agree : (p q : ℕ → Bool) (size : ℕ) → ((x : ℕ) → x < size → q x ≡ p x) → (xs : List ℕ) → Within size xs → filter q xs ≡ filter p xs
+abbrev below : ℕ → ℕ → Type 0
+below size place = place < size
+
+filter-agree : (p q : ℕ → Bool) (size : ℕ) → ((x : ℕ) → x < size → q x ≡ p x) → (xs : List ℕ) → All (below size) xs → filter q xs ≡ filter p xs
 filter-agree p q size same [] all = refl
-filter-agree p q size same (x ∷ xs) all = rw (same x all.0, filter-agree p q size same xs all.1) refl
+filter-agree p q size same (x ∷ xs) all =
+    let here : q x ≡ p x = same x (All-head (below size) x xs all) in
+    rw (here, filter-agree p q size same xs (All-tail (below size) x xs all)) refl
 
-Within-more : (a b : ℕ) (xs : List ℕ) → a ≤ b → Within a xs → Within b xs
-Within-more a b [] le all = tt
-Within-more a b (x ∷ xs) le all = (omega (arith, all.0, le), Within-more a b xs le all.1)
+below-more : (a b : ℕ) (xs : List ℕ) → a ≤ b → All (below a) xs → All (below b) xs
+below-more a b xs le all = All-weaker (below a) (below b) (λ x less. omega (arith, less, le)) xs all
 
-Within-push : (size : ℕ) (xs : List ℕ) (x : ℕ) → Within size xs → x < size → Within size (xs ++ x ∷ [])
-Within-push size [] x all below = (below, tt)
-Within-push size (y ∷ ys) x all below = (all.0, Within-push size ys x all.1 below)
-
-Within-places : (n : ℕ) → Within n (places n)
+below-places : (n : ℕ) → All (below n) (places n)
 unfolding places
-Within-places zero = tt
-Within-places (suc n) = Within-push (suc n) (places n) n (Within-more n (suc n) (places n) (omega arith) (Within-places n)) (omega arith)
-
-Within-filter : (p : ℕ → Bool) (size : ℕ) (xs : List ℕ) → Within size xs → Within size (filter p xs)
-Within-filter p size [] all = tt
-Within-filter p size (x ∷ xs) all =
-    elim (p x) as (λ b. Within size (cond b (x ∷ filter p xs) (filter p xs))) [
-      | true ↦ (all.0, Within-filter p size xs all.1)
-      | false ↦ Within-filter p size xs all.1
-    ]
+below-places zero = All-nil (below zero)
+below-places (suc n) = All-push (below (suc n)) (places n) n (below-more n (suc n) (places n) (omega arith) (below-places n)) (omega arith)
 
 -- a new last entry changes nothing at the places before it
 open_at-push : (limit : ℕ) (table : List Entry) (e : Entry) (i : ℕ) → i < length table → open_at limit (table ++ e ∷ []) i ≡ open_at limit table i
@@ -72,18 +60,17 @@ unfolding places
 covers-push limit table e open_places index =
     let n = length table in
     let q : ℕ → Bool = open_at limit (table ++ e ∷ []) in
-    let agree : (xs : List ℕ) → Within n xs → filter q xs ≡ filter (open_at limit table) xs = filter-agree (open_at limit table) q n (open_at-push limit table e) in
-    let before : filter q open_places ≡ filter q (places n) = agree open_places index.within ∙ index.covers ∙ sym (agree (places n) (Within-places n)) in
+    let agree : (xs : List ℕ) → All (below n) xs → filter q xs ≡ filter (open_at limit table) xs = filter-agree (open_at limit table) q n (open_at-push limit table e) in
+    let before : filter q open_places ≡ filter q (places n) = agree open_places index.within ∙ index.covers ∙ sym (agree (places n) (below-places n)) in
     let size : suc n ≡ length (table ++ e ∷ []) = omega (arith, length_push table e) in
     filter-append q open_places (n ∷ []) ∙ ap (λ t. t ++ filter q (n ∷ [])) before ∙ sym (filter-append q (places n) (n ∷ [])) ∙ ap (λ k. filter q (places k)) size
 
 -- a new last entry, whose place is open
-pub index-push : (limit : ℕ) (table : List Entry) (e : Entry) (open_places : List ℕ) → IsIndex limit table open_places
-    → IsIndex limit (table ++ e ∷ []) (open_places ++ length table ∷ [])
+pub index-push : (limit : ℕ) (table : List Entry) (e : Entry) (open_places : List ℕ) → IsIndex limit table open_places → IsIndex limit (table ++ e ∷ []) (open_places ++ length table ∷ [])
 index-push limit table e open_places index =
     let more : length table < length (table ++ e ∷ []) = omega (arith, length_push table e) in
     record {
-      within = Within-push _ open_places (length table) (Within-more (length table) _ open_places (omega (arith, more)) index.within) more;
+      within = All-push (below (length (table ++ e ∷ []))) open_places (length table) (below-more (length table) _ open_places (omega (arith, more)) index.within) more;
       covers = covers-push limit table e open_places index;
     }
 
@@ -96,30 +83,28 @@ index-push_closed limit table e open_places closed index =
     let same : filter q (open_places ++ length table ∷ []) ≡ filter q open_places =
     filter-append q open_places (length table ∷ []) ∙ ap (λ b. filter q open_places ++ cond b (length table ∷ []) []) none ∙ append-nil _ in
     record {
-      within = Within-more (length table) _ open_places (omega (arith, length_push table e)) index.within;
+      within = below-more (length table) _ open_places (omega (arith, length_push table e)) index.within;
       covers = sym same ∙ covers-push limit table e open_places index;
     }
 
 -- places of entries that are stable now are let go
-pub index-pruned : (limit : ℕ) (table : List Entry) (open_places : List ℕ) → IsIndex limit table open_places
-    → IsIndex limit table (filter (open_at limit table) open_places)
+pub index-pruned : (limit : ℕ) (table : List Entry) (open_places : List ℕ) → IsIndex limit table open_places → IsIndex limit table (filter (open_at limit table) open_places)
 index-pruned limit table open_places index = record {
-  within = Within-filter (open_at limit table) (length table) open_places index.within;
+  within = All-filter (open_at limit table) (below (length table)) open_places index.within;
   covers = filter-twice (open_at limit table) (open_at limit table) (λ x is. is) open_places ∙ index.covers;
 }
 
 pub index-none : (limit : ℕ) → IsIndex limit [] []
 unfolding places
-index-none limit = record { within = tt; covers = refl }
+index-none limit = record { within = All-nil (below zero); covers = refl }
 
 -- entries of which more is known now
 index-grown : (limit : ℕ) (old new : List Entry) (open_places : List ℕ) → length new ≡ length old
     → ((place : ℕ) → open_at limit new place ≡ true → open_at limit old place ≡ true) → IsIndex limit old open_places → IsIndex limit new open_places
 index-grown limit old new open_places same less index = record {
-  within = Within-more (length old) (length new) open_places (omega (arith, same)) index.within;
+  within = below-more (length old) (length new) open_places (omega (arith, same)) index.within;
   covers =
-      filter-weaker (open_at limit old) (open_at limit new) less open_places (places (length old)) index.covers
-      ∙ ap (λ n. filter (open_at limit new) (places n)) (sym same);
+      filter-weaker (open_at limit old) (open_at limit new) less open_places (places (length old)) index.covers ∙ ap (λ n. filter (open_at limit new) (places n)) (sym same);
 }
 
 -- what is open is open of less that is known too
@@ -147,20 +132,17 @@ pub index-added_held : (limit : ℕ) (table : List Entry) (entry : Entry) (open_
 index-added_held limit table entry open_places held index =
     index-grown limit table (added table entry) open_places (length-added_held table entry held) (added-weaker limit table entry held) index
 
-marked-weaker : (limit : ℕ) (members : set.FinSet nat_cmp) (table : List Entry) (place : ℕ)
-    → open_at limit (marked members table) place ≡ true → open_at limit table place ≡ true
+marked-weaker : (limit : ℕ) (members : set.FinSet nat_cmp) (table : List Entry) (place : ℕ) → open_at limit (marked members table) place ≡ true → open_at limit table place ≡ true
 marked-weaker limit members [] place is = is
 marked-weaker limit members (e ∷ table) zero is = open-less limit e.known members is
 marked-weaker limit members (e ∷ table) (suc place) is = marked-weaker limit members table place is
 
-pub index-marked : (limit : ℕ) (members : set.FinSet nat_cmp) (table : List Entry) (open_places : List ℕ) → IsIndex limit table open_places
-    → IsIndex limit (marked members table) open_places
+pub index-marked : (limit : ℕ) (members : set.FinSet nat_cmp) (table : List Entry) (open_places : List ℕ) → IsIndex limit table open_places → IsIndex limit (marked members table) open_places
 index-marked limit members table open_places index =
     index-grown limit table (marked members table) open_places (length-map table _) (marked-weaker limit members table) index
 
 -- the open entries at some places
-picked : (f : ℕ) (table : List Entry) (ps : List ℕ)
-    → piggybacked f (filter_map (slice_get table) ps) ≡ filter_map (slice_get table) (filter (open_at f table) ps)
+picked : (f : ℕ) (table : List Entry) (ps : List ℕ) → piggybacked f (filter_map (slice_get table) ps) ≡ filter_map (slice_get table) (filter (open_at f table) ps)
 picked f table [] = refl
 picked f table (p ∷ ps) = at (slice_get table p) refl (picked f table ps) where
   kept : (e : Entry) → slice_get table p ≡ Some e → (b : Bool) → is_open f e ≡ b
@@ -169,8 +151,7 @@ picked f table (p ∷ ps) = at (slice_get table p) refl (picked f table ps) wher
   kept e is true few more = rw (few, is) (ap (λ t. e ∷ t) more)
   kept e is false many more = rw many more
 
-  at : (o : Option Entry) → slice_get table p ≡ o
-      → piggybacked f (filter_map (slice_get table) ps) ≡ filter_map (slice_get table) (filter (open_at f table) ps)
+  at : (o : Option Entry) → slice_get table p ≡ o → piggybacked f (filter_map (slice_get table) ps) ≡ filter_map (slice_get table) (filter (open_at f table) ps)
       → piggybacked f (filter_map (slice_get table) (p ∷ ps)) ≡ filter_map (slice_get table) (filter (open_at f table) (p ∷ ps))
   at None is more = rw is more
   at (Some e) is more = rw is (kept e is (is_open f e) refl more)
@@ -184,8 +165,7 @@ picked_places : (table : List Entry) (i : ℕ) → i ≤ length table → filter
 unfolding places
 picked_places table zero below = refl
 picked_places table (suc i) below =
-    filter_map-append (slice_get table) (places i) (i ∷ [])
-    ∙ ap (λ t. t ++ filter_map (slice_get table) (i ∷ [])) (picked_places table i (omega (arith, below)))
+    filter_map-append (slice_get table) (places i) (i ∷ []) ∙ ap (λ t. t ++ filter_map (slice_get table) (i ∷ [])) (picked_places table i (omega (arith, below)))
     ∙ last (slice_get table i) refl
   where
     last : (o : Option Entry) → slice_get table i ≡ o → take i table ++ filter_map (slice_get table) (i ∷ []) ≡ take (suc i) table
@@ -203,13 +183,6 @@ pub index-piggybacked : (f limit : ℕ) (table : List Entry) (open_places : List
     → piggybacked f (filter_map (slice_get table) open_places) ≡ piggybacked f table
 index-piggybacked f limit table open_places le index =
     let n = length table in
-    picked f table open_places
-    ∙ ap (filter_map (slice_get table))
-    (filter-weaker (open_at limit table) (open_at f table) (smaller f limit table le) open_places (places n) index.covers)
-    ∙ sym (picked f table (places n))
+    picked f table open_places ∙ ap (filter_map (slice_get table))
+    (filter-weaker (open_at limit table) (open_at f table) (smaller f limit table le) open_places (places n) index.covers) ∙ sym (picked f table (places n))
     ∙ ap (piggybacked f) (picked_places table n (omega arith) ∙ take_all n table (omega arith))
-
-pub within-get : (size : ℕ) (ps : List ℕ) (i p : ℕ) → Within size ps → slice_get ps i ≡ Some p → p < size
-within-get size [] i p all is = cc
-within-get size (x ∷ ps) zero p all is = (let here : x ≡ p = ap (λ o. unwrap_or o p) is in omega (arith, here, all.0))
-within-get size (x ∷ ps) (suc i) p all is = within-get size ps i p all.1 is

@@ -1,7 +1,5 @@
 -- A member's receipts by their numbers, entry by entry.
-use Rattle.std.proofs.Common.{
-  if◌then◌else◌, ◌≡◌, ℕ, ◌+◌, ◌==◌, ◌&&◌, Bool, true, false, cond, List, [], ◌∷◌, Option, Some, None, refl, ap, ◌∙◌, sym, take, slice_get,
-}
+use Rattle.std.proofs.Common.{if◌then◌else◌, ◌≡◌, ℕ, ◌+◌, ◌==◌, ◌&&◌, Bool, true, false, cond, List, [], ◌∷◌, Option, Some, None, refl, ap, ◌∙◌, sym, take, slice_get}
 use Rattle.std.specs.Prelude.{nat_lt}
 use Rattle.std.specs.List.{find}
 use Rattle.std.proofs.lemmas.Bool.{and_parts, eqb-true, false≢true}
@@ -29,8 +27,7 @@ or-none (Some x) = refl
 found-more : (to rsn : ℕ) (table : List Entry) (i : ℕ) (e : Entry) → slice_get table i ≡ Some e
     → found to rsn (take (i + 1) table) ≡ option_or (found to rsn (take i table)) (cond (is_of_receipt to rsn e) (Some e.det) None)
 found-more to rsn table i e is =
-    ap (found to rsn) (take-next table i e is)
-    ∙ ap (option_map (λ (x : Entry). x.det)) (find-append (is_of_receipt to rsn) (take i table) (e ∷ []))
+    ap (found to rsn) (take-next table i e is) ∙ ap (option_map (λ (x : Entry). x.det)) (find-append (is_of_receipt to rsn) (take i table) (e ∷ []))
     ∙ map-or (λ (x : Entry). x.det) (find (is_of_receipt to rsn) (take i table)) (cond (is_of_receipt to rsn e) (Some e) None)
     ∙ ap (option_or (found to rsn (take i table))) (map-test (λ (x : Entry). x.det) (is_of_receipt to rsn e) e)
 
@@ -45,26 +42,27 @@ not-sought to count rsn e other more = at (is_of_receipt to rsn e) refl where
 
 pub by_number-other : (to count : ℕ) (table : List Entry) (i : ℕ) (e : Entry) (places : List (Option Determinant)) → slice_get table i ≡ Some e
     → ((e.det.to == to) && nat_lt count e.det.rsn) ≡ false → IsByNumber to count (take i table) places → IsByNumber to count (take (i + 1) table) places
-by_number-other to count table i e places is other so_far rsn = at (nat_lt count rsn) refl where
-  at : (b : Bool) → nat_lt count rsn ≡ b → receipt_at places rsn ≡ (if nat_lt count rsn then found to rsn (take (i + 1) table) else None)
-  at true more =
-      so_far rsn ∙ ap (λ o. if nat_lt count rsn then o else None)
-          (sym (found-more to rsn table i e is ∙ ap (λ b. option_or (found to rsn (take i table)) (cond b (Some e.det) None))
-          (not-sought to count rsn e other more) ∙ or-none (found to rsn (take i table))))
-  at false few = so_far rsn ∙ ap (λ b. if b then found to rsn (take i table) else None) few ∙ sym (ap (λ b. if b then found to rsn (take (i + 1) table) else None) few)
+by_number-other to count table i e places is other so_far rsn = so_far rsn ∙ at (nat_lt count rsn) refl where
+  at : (b : Bool) → nat_lt count rsn ≡ b → (if b then found to rsn (take i table) else None) ≡ (if b then found to rsn (take (i + 1) table) else None)
+  at true more = rw (found-more to rsn table i e is, not-sought to count rsn e other more) (sym (or-none (found to rsn (take i table))))
+  at false few = refl
 
 -- an entry of one of the receipts that are looked for
 pub by_number-put : (to count : ℕ) (table : List Entry) (i : ℕ) (e : Entry) (before after : List (Option Determinant)) → slice_get table i ≡ Some e
     → ((e.det.to == to) && nat_lt count e.det.rsn) ≡ true → IsByNumber to count (take i table) before
     → ((rsn : ℕ) → receipt_at after rsn ≡ option_or (receipt_at before rsn) (cond (e.det.rsn == rsn) (Some e.det) None)) → IsByNumber to count (take (i + 1) table) after
-by_number-put to count table i e before after is own so_far put rsn = at (and_parts (e.det.to == to) (nat_lt count e.det.rsn) own) (nat_lt count rsn) refl (e.det.rsn == rsn) refl where
-  at : ((e.det.to == to) ≡ true) × (nat_lt count e.det.rsn ≡ true) → (b : Bool) → nat_lt count rsn ≡ b → (n : Bool) → (e.det.rsn == rsn) ≡ n
-      → receipt_at after rsn ≡ (if nat_lt count rsn then found to rsn (take (i + 1) table) else None)
-  at parts true more n test =
-      put rsn ∙ ap (λ o. option_or o (cond (e.det.rsn == rsn) (Some e.det) None)) (so_far rsn ∙ ap (λ b. if b then found to rsn (take i table) else None) more)
-      ∙ sym (ap (λ b. if b then found to rsn (take (i + 1) table) else None) more ∙ found-more to rsn table i e is
-          ∙ ap (λ b. option_or (found to rsn (take i table)) (cond (b && (e.det.rsn == rsn)) (Some e.det) None)) parts.0)
-  at parts false few true test = absurd (false≢true (sym few ∙ ap (nat_lt count) (sym (eqb-true e.det.rsn rsn test)) ∙ parts.1))
-  at parts false few false test =
-      put rsn ∙ ap (λ b. option_or (receipt_at before rsn) (cond b (Some e.det) None)) test ∙ or-none (receipt_at before rsn) ∙ so_far rsn
-      ∙ ap (λ b. if b then found to rsn (take i table) else None) few ∙ sym (ap (λ b. if b then found to rsn (take (i + 1) table) else None) few)
+by_number-put to count table i e before after is own so_far put rsn =
+    put rsn ∙ ap (λ o. option_or o here) (so_far rsn) ∙ at (nat_lt count rsn) refl (e.det.rsn == rsn) refl
+  where
+    here : Option Determinant
+    here = cond (e.det.rsn == rsn) (Some e.det) None
+
+    parts : ((e.det.to == to) ≡ true) × (nat_lt count e.det.rsn ≡ true)
+    parts = and_parts (e.det.to == to) (nat_lt count e.det.rsn) own
+
+    at : (b : Bool) → nat_lt count rsn ≡ b → (same : Bool) → (e.det.rsn == rsn) ≡ same
+        → option_or (if b then found to rsn (take i table) else None) here ≡ (if b then found to rsn (take (i + 1) table) else None)
+    at true more same test =
+        sym (found-more to rsn table i e is ∙ ap (λ b. option_or (found to rsn (take i table)) (cond (b && (e.det.rsn == rsn)) (Some e.det) None)) parts.0)
+    at false few true test = absurd (false≢true (sym few ∙ ap (nat_lt count) (sym (eqb-true e.det.rsn rsn test)) ∙ parts.1))
+    at false few false test = ap (λ b. cond b (Some e.det) None) test

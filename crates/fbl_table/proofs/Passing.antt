@@ -1,9 +1,10 @@
 -- How many entries are passed on, and that they are put into a list in turn.
-use Rattle.std.proofs.Common.{◌≡◌, ℕ, ◌+◌, ◌≤◌, Bool, true, false, cond, List, [], ◌∷◌, ◌++◌, map, Some, refl, sym, ap, ◌∙◌, arith, take, drop, length, slice_get}
+use Rattle.std.proofs.Common.{◌≡◌, ℕ, ◌+◌, ◌≤◌, Bool, true, false, cond, List, [], ◌∷◌, ◌++◌, map, count_by, if◌then◌else◌, Some, refl, sym, ap, ◌∙◌, arith, take, drop, length, slice_get}
 use Rattle.std.proofs.lemmas.List.{length-map, length-append, take-append-drop}
 use Rattle.std.proofs.Common.{append_assoc}
 use Rattle.std.proofs.lemmas.List.Elements.{filter-append, filter_map-append}
 use Rattle.std.specs.List.{filter_map, cons_option}
+use Rattle.std.proofs.lemmas.List.Sums.{length-filter, sum_by-cons}
 use Rattle.std.specs.FinSet as set
 use Rattle.fbl_base.specs.declared.trace.Determinant.{Determinant}
 use Rattle.fbl_base.specs.Events.{same_determinant}
@@ -11,51 +12,40 @@ use Rattle.fbl_base.proofs.Sifted.{length-left, length-filter_map}
 use Rattle.fbl_table.specs.declared.entry.Entry.{Entry}
 use Rattle.fbl_table.specs.Tables.{is_open, piggybacked, added, gathered, learned, noted, held_by}
 use Rattle.fbl_table.specs.Index.{IsIndex}
-use Rattle.fbl_table.proofs.Adding.{take-next}
+use Rattle.fbl_table.proofs.Adding.{at_most_one, take-next}
 use Rattle.fbl_table.proofs.Indexing.{index-piggybacked}
 
-length-cond_most : {X : Type 0} (b : Bool) (x : X) (xs : List X) → length (cond b (x ∷ xs) xs) ≤ length xs + 1
-length-cond_most true x xs = omega arith
-length-cond_most false x xs = omega arith
-
-length-cond_least : {X : Type 0} (b : Bool) (x : X) (xs : List X) → length xs ≤ length (cond b (x ∷ xs) xs)
-length-cond_least true x xs = omega arith
-length-cond_least false x xs = omega arith
-
-length-cond_more : {X : Type 0} (b : Bool) (x : X) (xs ys : List X) (k : ℕ) → length xs ≤ length ys + k
-    → length (cond b (x ∷ xs) xs) ≤ length (cond b (x ∷ ys) ys) + k
-length-cond_more true x xs ys k le = omega (arith, le)
-length-cond_more false x xs ys k le = le
-
 -- an entry more makes at most one more to pass on
-open-added : (f : ℕ) (table : List Entry) (entry : Entry) → length (piggybacked f (added table entry)) ≤ length (piggybacked f table) + 1
+open-added : (f : ℕ) (table : List Entry) (entry : Entry) → count_by (is_open f) (added table entry) ≤ count_by (is_open f) table + 1
 unfolding added
-open-added f [] entry = length-cond_most (is_open f entry) entry []
-open-added f (e ∷ table) entry =
-    let united : Entry = record { det = e.det; known = set.union e.known entry.known } in
-    let rest = piggybacked f table in
-    elim (same_determinant entry.det e.det)
-    as (λ b. length (piggybacked f (cond b (united ∷ table) (e ∷ added table entry))) ≤ length (piggybacked f (e ∷ table)) + 1) [
-      | true ↦ omega (arith, length-cond_most (is_open f united) united rest, length-cond_least (is_open f e) e rest)
-      | false ↦ length-cond_more (is_open f e) e (piggybacked f (added table entry)) rest 1 (open-added f table entry)
-    ]
+open-added f [] entry = omega (arith, at_most_one (is_open f entry))
+open-added f (e ∷ table) entry = at (open-added f table entry) (same_determinant entry.det e.det) where
+  count : (x : Entry) (xs : List Entry) → count_by (is_open f) (x ∷ xs) ≡ cond (is_open f x) 1 0 + count_by (is_open f) xs
+  count = sum_by-cons (λ x. cond (is_open f x) 1 0)
 
-open-gathered : (f : ℕ) (table other : List Entry) → length (piggybacked f (gathered table other)) ≤ length (piggybacked f table) + length other
+  united : Entry
+  united = record { det = e.det; known = set.union e.known entry.known }
+
+  at : count_by (is_open f) (added table entry) ≤ count_by (is_open f) table + 1
+      → (b : Bool) → count_by (is_open f) (if b then united ∷ table else e ∷ added table entry) ≤ count_by (is_open f) (e ∷ table) + 1
+  at more true = omega (arith, count united table, count e table, at_most_one (is_open f united))
+  at more false = omega (arith, count e (added table entry), count e table, more)
+
+open-gathered : (f : ℕ) (table other : List Entry) → count_by (is_open f) (gathered table other) ≤ count_by (is_open f) table + length other
 open-gathered f table [] = omega arith
 open-gathered f table (e ∷ other) = omega (arith, open-added f table e, open-gathered f (added table e) other)
 
 -- what is learned and the member's own make no more than as many more to pass on
-pub open-receipt : (f me : ℕ) (table carried : List Entry) (d : Determinant)
-    → length (piggybacked f (noted me (learned me table carried) d)) ≤ length (piggybacked f table) + length carried + 1
+pub open-receipt : (f me : ℕ) (table carried : List Entry) (d : Determinant) → length (piggybacked f (noted me (learned me table carried) d)) ≤ length (piggybacked f table) + length carried + 1
 open-receipt f me table carried d =
     let learns = learned me table carried in
     let own : List Entry = record { det = d; known = set.insert set.empty me } ∷ [] in
     let split = ap length (filter-append (is_open f) learns own) ∙ length-append (piggybacked f learns) (piggybacked f own) in
-    omega (arith, split, length-left (is_open f) own, open-gathered f table (map (held_by me) carried), length-map carried (held_by me))
+    let more = open-gathered f table (map (held_by me) carried) in
+    omega (arith, split, length-left (is_open f) own, more, length-filter (is_open f) learns, length-filter (is_open f) table, length-map carried (held_by me))
 
 -- no more are passed on than there are open places
-pub open-within : (f limit : ℕ) (table : List Entry) (open_places : List ℕ) → f ≤ limit → IsIndex limit table open_places
-    → length (piggybacked f table) ≤ length open_places
+pub open-within : (f limit : ℕ) (table : List Entry) (open_places : List ℕ) → f ≤ limit → IsIndex limit table open_places → length (piggybacked f table) ≤ length open_places
 open-within f limit table open_places le index =
     let picked = filter_map (slice_get table) open_places in
     let same : length (piggybacked f picked) ≡ length (piggybacked f table) = ap length (index-piggybacked f limit table open_places le index) in
@@ -71,22 +61,18 @@ piggybacked-parts f front back = filter-append (is_open f) front back
 
 pub picked-parts : (f : ℕ) (table : List Entry) → IsByParts (λ places. piggybacked f (filter_map (slice_get table) places))
 picked-parts f table front back =
-    ap (piggybacked f) (filter_map-append (slice_get table) front back)
-    ∙ filter-append (is_open f) (filter_map (slice_get table) front) (filter_map (slice_get table) back)
+    ap (piggybacked f) (filter_map-append (slice_get table) front back) ∙ filter-append (is_open f) (filter_map (slice_get table) front) (filter_map (slice_get table) back)
 
 -- what is made of one more element, put at the end of what was made so far
 pub pushed : {X : Type 0} (make : List X → List Entry) → IsByParts make → (xs : List X) (i : ℕ) (x : X) → slice_get xs i ≡ Some x
     → (old now next : List Entry) → now ≡ old ++ make (take i xs) → next ≡ now ++ make (x ∷ []) → next ≡ old ++ make (take (i + 1) xs)
 pushed make parts xs i x at old now next so_far push =
-    push
-    ∙ ap (λ t. t ++ make (x ∷ [])) so_far
-    ∙ append_assoc old (make (take i xs)) (make (x ∷ []))
+    push ∙ ap (λ t. t ++ make (x ∷ [])) so_far ∙ append_assoc old (make (take i xs)) (make (x ∷ []))
     ∙ ap (λ t. old ++ t) (sym (parts (take i xs) (x ∷ [])) ∙ ap make (sym (take-next xs i x at)))
 
 -- there is room for it, where there is room for what is made of all
 pub fits : {X : Type 0} (make : List X → List Entry) → IsByParts make → (xs : List X) (i : ℕ) (x : X) → slice_get xs i ≡ Some x
-    → (old now : List Entry) → now ≡ old ++ make (take i xs) → (room : ℕ) → length old + length (make xs) ≤ room
-    → length now + length (make (x ∷ [])) ≤ room
+    → (old now : List Entry) → now ≡ old ++ make (take i xs) → (room : ℕ) → length old + length (make xs) ≤ room → length now + length (make (x ∷ [])) ≤ room
 fits make parts xs i x at old now so_far room enough =
     let front = take (i + 1) xs in
     let back = drop (i + 1) xs in
@@ -96,6 +82,5 @@ fits make parts xs i x at old now so_far room enough =
     omega (arith, whole, enough, ap length more ∙ length-append old (make front), length-append now (make (x ∷ [])))
 
 -- the entry at one place
-pub picked-one : (f : ℕ) (table : List Entry) (p : ℕ) (e : Entry) → slice_get table p ≡ Some e
-    → piggybacked f (e ∷ []) ≡ piggybacked f (filter_map (slice_get table) (p ∷ []))
+pub picked-one : (f : ℕ) (table : List Entry) (p : ℕ) (e : Entry) → slice_get table p ≡ Some e → piggybacked f (e ∷ []) ≡ piggybacked f (filter_map (slice_get table) (p ∷ []))
 picked-one f table p e at = sym (ap (λ o. piggybacked f (cons_option o [])) at)

@@ -1,7 +1,7 @@
 -- The places of a table that are looked at when a message is sent.
 use Rattle.std.specs.Prelude.{◌≡◌, ℕ, ◌<◌, Bool, false, List, [], ◌∷◌, ◌++◌, length, slice_get}
 use Rattle.std.proofs.Common.{zero, suc}
-use Rattle.std.specs.List.{filter}
+use Rattle.std.specs.List.{All, filter}
 use Rattle.std.specs.Option.{option_map_or}
 use Rattle.fbl_table.specs.declared.entry.Entry.{Entry}
 use Rattle.fbl_table.specs.Tables.{is_open}
@@ -15,12 +15,7 @@ places (suc n) = places n ++ n ∷ []
 abbrev pub open_at : ℕ → List Entry → ℕ → Bool
 open_at f table place = option_map_or (is_open f) (slice_get table place) false
 
--- places of a table of this length
-abbrev pub Within : ℕ → List ℕ → Type 0
-Within size [] = Unit {0}
-Within size (place ∷ rest) = (place < size) × Within size rest
-
 -- the open places are places of the table, and have each open entry's, in order
 pub record IsIndex (limit : ℕ) (table : List Entry) (open_places : List ℕ) : Type 0 where
-  pub within : Within (length table) open_places
+  pub within : All (λ place. place < length table) open_places
   pub covers : filter (open_at limit table) open_places ≡ filter (open_at limit table) (places (length table))

@@ -4,7 +4,7 @@ ghost use Rattle.std.specs.Prelude.{◌≡◌, ℕ, ◌+◌, ◌^◌, ◌<◌, �
 ghost use Rattle.std.specs.List.{IsDistinct};
 ghost use Rattle.fbl_base.specs.Events.{same_determinant};
 ghost use Rattle.fbl_table.specs.Index.{open_at};
-ghost use Rattle.fbl_table.specs.Indexed.{entries_of, IsIndexed, room, Keeps};
+ghost use Rattle.fbl_table.specs.Indexed.{listed, IsIndexed, room, KeepsIndex};
 ghost use Rattle.fbl_table.specs.Tables.{HasInPlace, is_held, lacks, has_at, learned, noted, piggybacked, gathered, marked, added, entry_of};
 
 use crate::entry::Entry;
@@ -42,7 +42,7 @@ struct Added {
 impl<A: Allocator + Copy> IndexedEntries<A> {
     /// No entries. It takes no memory.
     pub(crate) fn none(alloc: A, limit: u8) -> IndexedEntries<A>
-        ensures entries { entries_of result ≡ [] }
+        ensures entries { listed result ≡ [] }
         ensures indexed { IsIndexed result }
     {
         IndexedEntries {
@@ -57,7 +57,7 @@ impl<A: Allocator + Copy> IndexedEntries<A> {
     /// them.
     pub(crate) fn copy(&self) -> Result<IndexedEntries<A>, AllocError>
         requires { IsIndexed self.now }
-        ensures entries { IfOk result (λ copy. entries_of copy ≡ entries_of self.now) }
+        ensures entries { IfOk result (λ copy. listed copy ≡ listed self.now) }
         ensures indexed { IfOk result IsIndexed }
     {
         let mut open_places = Vec::new(*self.entries.allocator());
@@ -84,8 +84,8 @@ impl<A: Allocator + Copy> IndexedEntries<A> {
 
     /// How many entries there are.
     pub(crate) fn len(&self) -> usize
-        ensures len { result ≡ length (entries_of self.now) }
-        ensures unique { IsDistinct same_determinant (map (λ e. e.det) (entries_of self.now)) }
+        ensures len { result ≡ length (listed self.now) }
+        ensures unique { IsDistinct same_determinant (map (λ e. e.det) (listed self.now)) }
         ensures small { result < 2 ^ 63 }
     {
         self.entries.len()
@@ -93,22 +93,22 @@ impl<A: Allocator + Copy> IndexedEntries<A> {
 
     /// The entry at the place, if there is one.
     fn get(&self, place: usize) -> Option<Entry>
-        ensures { result ≡ slice_get (entries_of self.now) place }
+        ensures { result ≡ slice_get (listed self.now) place }
     {
         get_entry(&self.entries, place)
     }
 
     /// The entry at this place, which is below `len`.
     pub(crate) fn entry_at(&self, place: usize) -> Entry
-        requires { place < length (entries_of self.now) }
-        ensures { slice_get (entries_of self.now) place ≡ Some result }
+        requires { place < length (listed self.now) }
+        ensures { slice_get (listed self.now) place ≡ Some result }
     {
         self.get(place).unwrap()
     }
 
     /// Whether there is an entry of the determinant.
     pub(crate) fn holds(&self, det: &Determinant) -> bool
-        ensures { result ≡ is_held (entries_of self.now) det.now }
+        ensures { result ≡ is_held (listed self.now) det.now }
     {
         self.entries.contains_key(det)
     }
@@ -116,8 +116,8 @@ impl<A: Allocator + Copy> IndexedEntries<A> {
     /// The place of the determinant's entry, if there is one. The likely places are looked at before the hash.
     #[inline(always)]
     pub(crate) fn place_of(&self, det: &Determinant, likely: usize) -> Option<usize>
-        ensures has { IfSome result (λ place. has_at (entries_of self.now) det.now place ≡ true) }
-        ensures none { IfNone result (is_held (entries_of self.now) det.now ≡ false) }
+        ensures has { IfSome result (λ place. has_at (listed self.now) det.now place ≡ true) }
+        ensures none { IfNone result (is_held (listed self.now) det.now ≡ false) }
     {
         match self.likely_place_of(det, likely) {
             Some(place) => Some(place),
@@ -128,7 +128,7 @@ impl<A: Allocator + Copy> IndexedEntries<A> {
     /// The place of the determinant's entry, if it is the likely one or the one that was kept.
     #[inline(always)]
     fn likely_place_of(&self, det: &Determinant, likely: usize) -> Option<usize>
-        ensures { IfSome result (λ place. has_at (entries_of self.now) det.now place ≡ true) }
+        ensures { IfSome result (λ place. has_at (listed self.now) det.now place ≡ true) }
     {
         if self.is_at(det, likely) {
             return Some(likely);
@@ -143,15 +143,15 @@ impl<A: Allocator + Copy> IndexedEntries<A> {
     /// The place of the determinant's entry, if there is one.
     #[inline(never)]
     fn place_by_hash(&self, det: &Determinant) -> Option<usize>
-        ensures has { IfSome result (λ place. has_at (entries_of self.now) det.now place ≡ true) }
-        ensures none { IfNone result (is_held (entries_of self.now) det.now ≡ false) }
+        ensures has { IfSome result (λ place. has_at (listed self.now) det.now place ≡ true) }
+        ensures none { IfNone result (is_held (listed self.now) det.now ≡ false) }
     {
         self.entries.get_index_of(det)
     }
 
     /// Whether the entry at the place is the determinant's.
     fn is_at(&self, det: &Determinant, place: usize) -> bool
-        ensures { result ≡ has_at (entries_of self.now) det.now place }
+        ensures { result ≡ has_at (listed self.now) det.now place }
     {
         match self.get(place) {
             Some(entry) => *det == entry.det,
@@ -161,8 +161,8 @@ impl<A: Allocator + Copy> IndexedEntries<A> {
 
     /// Makes room for so many entries more.
     pub(crate) fn reserve(&mut self, count: usize) -> Result<(), AllocError>
-        ensures entries { entries_of self.new ≡ entries_of self.old }
-        ensures kept { Keeps self.old self.new }
+        ensures entries { listed self.new ≡ listed self.old }
+        ensures kept { KeepsIndex self.old self.new }
         ensures ok { OnOk result (count ≤ room self.new) }
     {
         self.entries.reserve(count)?;
@@ -172,8 +172,8 @@ impl<A: Allocator + Copy> IndexedEntries<A> {
     /// Takes in what a message carried to the member.
     pub(crate) fn learn(&mut self, me: Member, carried: &[Entry])
         requires { length carried.now ≤ room self.old }
-        ensures entries { entries_of self.new ≡ learned me (entries_of self.old) carried.now }
-        ensures kept { Keeps self.old self.new }
+        ensures entries { listed self.new ≡ learned me (listed self.old) carried.now }
+        ensures kept { KeepsIndex self.old self.new }
     {
         let mut closed = false;
         let mut likely = 0;
@@ -189,10 +189,10 @@ impl<A: Allocator + Copy> IndexedEntries<A> {
 
     /// Adds the member's own new determinant.
     pub(crate) fn note_own(&mut self, me: Member, det: Determinant)
-        requires new { is_held (entries_of self.old) det ≡ false }
+        requires new { is_held (listed self.old) det ≡ false }
         requires room { 0 < room self.old }
-        ensures entries { entries_of self.new ≡ noted me (entries_of self.old) det }
-        ensures kept { Keeps self.old self.new }
+        ensures entries { listed self.new ≡ noted me (listed self.old) det }
+        ensures kept { KeepsIndex self.old self.new }
     {
         self.add_new(Entry {
             det,
@@ -202,9 +202,9 @@ impl<A: Allocator + Copy> IndexedEntries<A> {
 
     /// Takes in another table's entries. After `Err` there are the same entries.
     pub(crate) fn gather(&mut self, other: &IndexedEntries<A>) -> Result<(), AllocError>
-        ensures gathered { OnOk result (entries_of self.new ≡ gathered (entries_of self.old) (entries_of other.now)) }
-        ensures unchanged { OnErr result (entries_of self.new ≡ entries_of self.old) }
-        ensures kept { Keeps self.old self.new }
+        ensures gathered { OnOk result (listed self.new ≡ gathered (listed self.old) (listed other.now)) }
+        ensures unchanged { OnErr result (listed self.new ≡ listed self.old) }
+        ensures kept { KeepsIndex self.old self.new }
     {
         let shared = self.shared_places(other);
         let lacking = self.lacking_beyond(other, shared);
@@ -222,8 +222,8 @@ impl<A: Allocator + Copy> IndexedEntries<A> {
 
     /// At how many places, from the first on, both have an entry of the same determinant.
     fn shared_places(&self, other: &IndexedEntries<A>) -> usize
-        ensures len { result ≤ length (entries_of other.now) }
-        ensures same { HasInPlace result (entries_of self.now) (entries_of other.now) }
+        ensures len { result ≤ length (listed other.now) }
+        ensures same { HasInPlace result (listed self.now) (listed other.now) }
     {
         for place in 0..other.len() {
             let entry = other.entry_at(place);
@@ -238,9 +238,9 @@ impl<A: Allocator + Copy> IndexedEntries<A> {
     /// places there are all. What is not at a likely place counts as lacking: to hash each new one here and once more when it
     /// is added would cost more than the room.
     fn lacking_beyond(&self, other: &IndexedEntries<A>, shared: usize) -> usize
-        requires len { shared ≤ length (entries_of other.now) }
-        requires same { HasInPlace shared (entries_of self.now) (entries_of other.now) }
-        ensures { count_by (lacks (entries_of self.now)) (entries_of other.now) ≤ result }
+        requires len { shared ≤ length (listed other.now) }
+        requires same { HasInPlace shared (listed self.now) (listed other.now) }
+        ensures { count_by (lacks (listed self.now)) (listed other.now) ≤ result }
     {
         let mut lacking = 0;
         let mut likely = shared;
@@ -257,10 +257,10 @@ impl<A: Allocator + Copy> IndexedEntries<A> {
     /// Unites what is known of the determinants at the first places with what another knows, which has the same ones there.
     /// The answer is whether that closed an entry.
     fn unite_shared(&mut self, other: &IndexedEntries<A>, shared: usize) -> bool
-        requires len { shared ≤ length (entries_of other.now) }
-        requires same { HasInPlace shared (entries_of self.old) (entries_of other.now) }
-        ensures entries { entries_of self.new ≡ gathered (entries_of self.old) (take shared (entries_of other.now)) }
-        ensures kept { Keeps self.old self.new }
+        requires len { shared ≤ length (listed other.now) }
+        requires same { HasInPlace shared (listed self.old) (listed other.now) }
+        ensures entries { listed self.new ≡ gathered (listed self.old) (take shared (listed other.now)) }
+        ensures kept { KeepsIndex self.old self.new }
     {
         let mut closed = false;
         for place in 0..shared {
@@ -273,9 +273,9 @@ impl<A: Allocator + Copy> IndexedEntries<A> {
     /// Adds what is known of the entry's determinant, with room where it is new. It is looked for at the likely place first.
     #[inline(always)]
     fn add(&mut self, entry: Entry, likely: usize) -> Added
-        requires { is_held (entries_of self.old) entry.det ≡ false → 0 < room self.old }
-        ensures entries { entries_of self.new ≡ added (entries_of self.old) entry }
-        ensures kept { Keeps self.old self.new }
+        requires { is_held (listed self.old) entry.det ≡ false → 0 < room self.old }
+        ensures entries { listed self.new ≡ added (listed self.old) entry }
+        ensures kept { KeepsIndex self.old self.new }
     {
         match self.place_of(&entry.det, likely) {
             Some(place) => {
@@ -298,10 +298,10 @@ impl<A: Allocator + Copy> IndexedEntries<A> {
     /// before. It is written only where more is known.
     #[inline(always)]
     fn unite(&mut self, entry: Entry, place: usize) -> bool
-        requires { has_at (entries_of self.old) entry.det place ≡ true }
-        ensures entries { entries_of self.new ≡ added (entries_of self.old) entry }
-        ensures same { (det : Determinant) (at : ℕ) → has_at (entries_of self.new) det at ≡ has_at (entries_of self.old) det at }
-        ensures kept { Keeps self.old self.new }
+        requires { has_at (listed self.old) entry.det place ≡ true }
+        ensures entries { listed self.new ≡ added (listed self.old) entry }
+        ensures same { (det : Determinant) (at : ℕ) → has_at (listed self.new) det at ≡ has_at (listed self.old) det at }
+        ensures kept { KeepsIndex self.old self.new }
     {
         // `len` says that no two of the determinants are the same
         let _distinct = self.entries.len();
@@ -318,10 +318,10 @@ impl<A: Allocator + Copy> IndexedEntries<A> {
     /// it.
     #[inline(never)]
     fn add_new(&mut self, entry: Entry)
-        requires new { is_held (entries_of self.old) entry.det ≡ false }
+        requires new { is_held (listed self.old) entry.det ≡ false }
         requires room { 0 < room self.old }
-        ensures entries { entries_of self.new ≡ entries_of self.old ++ entry ∷ [] }
-        ensures kept { Keeps self.old self.new }
+        ensures entries { listed self.new ≡ listed self.old ++ entry ∷ [] }
+        ensures kept { KeepsIndex self.old self.new }
     {
         let place = self.entries.len();
         self.entries.insert(entry.det, entry.known).unwrap();
@@ -333,8 +333,8 @@ impl<A: Allocator + Copy> IndexedEntries<A> {
 
     /// Adds the members to those that are known to hold each determinant.
     pub(crate) fn mark_all(&mut self, members: MemberSet)
-        ensures entries { entries_of self.new ≡ marked members (entries_of self.old) }
-        ensures kept { Keeps self.old self.new }
+        ensures entries { listed self.new ≡ marked members (listed self.old) }
+        ensures kept { KeepsIndex self.old self.new }
     {
         for place in 0..self.entries.len() {
             let known = self.entries[place].union(members);
@@ -346,8 +346,8 @@ impl<A: Allocator + Copy> IndexedEntries<A> {
     /// Lets go of the places of entries that more than `limit` members are known to hold, where an entry was closed. Where none
     /// was there is nothing to let go of, and no place is looked at.
     fn prune(&mut self, closed: bool)
-        ensures entries { entries_of self.new ≡ entries_of self.old }
-        ensures kept { Keeps self.old self.new }
+        ensures entries { listed self.new ≡ listed self.old }
+        ensures kept { KeepsIndex self.old self.new }
     {
         if closed {
             let entries = &self.entries;
@@ -360,8 +360,8 @@ impl<A: Allocator + Copy> IndexedEntries<A> {
     /// A number of entries that those that at most `f` members are known to hold don't exceed.
     pub(crate) fn at_most_open(&self, f: u8) -> usize
         requires { IsIndexed self.now }
-        ensures enough { length (piggybacked f (entries_of self.now)) ≤ result }
-        ensures few { result ≤ length (entries_of self.now) }
+        ensures enough { length (piggybacked f (listed self.now)) ≤ result }
+        ensures few { result ≤ length (listed self.now) }
         ensures small { result < 2 ^ 63 }
     {
         if f > self.limit {
@@ -374,8 +374,8 @@ impl<A: Allocator + Copy> IndexedEntries<A> {
     /// Puts the entries that at most `f` members are known to hold at the end of the list, which has room for them.
     pub(crate) fn piggyback_into(&self, f: u8, carried: &mut Vec<Entry, A>)
         requires indexed { IsIndexed self.now }
-        requires room { vec_len carried.old + length (piggybacked f (entries_of self.now)) ≤ vec_capacity carried.old }
-        ensures { carried.new.items ≡ carried.old.items ++ piggybacked f (entries_of self.now) }
+        requires room { vec_len carried.old + length (piggybacked f (listed self.now)) ≤ vec_capacity carried.old }
+        ensures { carried.new.items ≡ carried.old.items ++ piggybacked f (listed self.now) }
     {
         if f > self.limit {
             self.push_all(f, carried);
@@ -386,8 +386,8 @@ impl<A: Allocator + Copy> IndexedEntries<A> {
 
     /// Does what `piggyback_into` does, over all entries.
     fn push_all(&self, f: u8, carried: &mut Vec<Entry, A>)
-        requires { vec_len carried.old + length (piggybacked f (entries_of self.now)) ≤ vec_capacity carried.old }
-        ensures { carried.new.items ≡ carried.old.items ++ piggybacked f (entries_of self.now) }
+        requires { vec_len carried.old + length (piggybacked f (listed self.now)) ≤ vec_capacity carried.old }
+        ensures { carried.new.items ≡ carried.old.items ++ piggybacked f (listed self.now) }
     {
         for place in 0..self.len() {
             push_if_open(carried, self.entry_at(place), f);
@@ -398,8 +398,8 @@ impl<A: Allocator + Copy> IndexedEntries<A> {
     fn push_open(&self, f: u8, carried: &mut Vec<Entry, A>)
         requires indexed { IsIndexed self.now }
         requires within { f ≤ self.now.limit }
-        requires room { vec_len carried.old + length (piggybacked f (entries_of self.now)) ≤ vec_capacity carried.old }
-        ensures { carried.new.items ≡ carried.old.items ++ piggybacked f (entries_of self.now) }
+        requires room { vec_len carried.old + length (piggybacked f (listed self.now)) ≤ vec_capacity carried.old }
+        ensures { carried.new.items ≡ carried.old.items ++ piggybacked f (listed self.now) }
     {
         for place in &self.open_places {
             push_if_open(carried, self.entry_at(*place), f);

@@ -35,9 +35,9 @@ impl<A: Allocator> Model for Table<A> {
 
     ghost coded = { coded_list entry.the_row.coded };
 
-    ghost use Rattle.fbl_table.specs.Indexed.{entries_of, IsIndexed};
+    ghost use Rattle.fbl_table.specs.Indexed.{listed, IsIndexed};
 
-    ghost view = { λ t. entries_of t.entries };
+    ghost view = { λ t. listed t.entries };
 
     ghost invariant = { λ t. IsIndexed t.entries };
 }

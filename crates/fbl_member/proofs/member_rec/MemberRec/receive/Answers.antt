@@ -4,21 +4,26 @@ use Rattle.fbl_base.specs.declared.trace.Determinant.{Determinant}
 use Rattle.fbl_table.specs.Tables.{learned, noted, piggybacked}
 use Rattle.fbl_member.specs.Members.{table_after}
 use Rattle.fbl_member.specs.Rooms.{HasRoom}
-use Rattle.fbl_member.proofs.Once.{IsOnce-piggybacked}
 use Rattle.fbl_member.proofs.Logs.{stepped, bounded}
 use Rattle.fbl_member.proofs.member_rec.MemberRec.receive.Goals as goal
 
-pub put_wires-requires-clause-numbers : goal.put_wires-requires-clause-numbers
-put_wires-requires-clause-numbers g c =
+pub into_wires-requires-clause-numbers : goal.into_wires-requires-clause-numbers
+into_wires-requires-clause-numbers g c =
     let sends : length c.as_slice-sends.result.now ≡ length c.args.outcome.now.sends.items = ap length c.as_slice-sends.ensures.value in
     omega (arith, c.sent-before.ensures.value, sends, c.requires.sends)
 
-pub put_wires-requires-clause-room : goal.put_wires-requires-clause-room
-put_wires-requires-clause-room g c =
+pub into_wires-requires-clause-rooms : goal.into_wires-requires-clause-rooms
+into_wires-requires-clause-rooms g c =
     let own : Determinant = record { from = c.from.result; ssn = c.ssn.result; to = c.args.me; rsn = c.self.inside.received + 1 } in
-    let most : length (piggybacked c.args.f (noted c.args.me (learned c.args.me c.self.inside.table c.carried-carried.result.now) own)) ≤ c.room_to_piggyback-room.result = c.room_to_piggyback-room.ensures.enough c.args.me own in
-    let enough : length (piggybacked c.args.f c.learn_and_note.new.self) ≤ c.room_to_piggyback-room.result = rw c.in_ok-learn_and_note.ensures.ok most in
-    All-weaker (HasRoom c.room_to_piggyback-room.result) (HasRoom (length (piggybacked c.args.f c.learn_and_note.new.self))) (λ list h. (h.0, h.1, omega (arith, enough, h.2))) c.in_ok-lists.lists.items c.in_ok-lists.ensures.room
+    let after = c.learn_and_note.new.self in
+    let most = c.room_to_piggyback-most.result in
+    let enough : length (piggybacked c.args.f after) ≤ most = rw c.in_ok-learn_and_note.ensures.ok (c.room_to_piggyback-most.ensures.enough c.args.me own) in
+    let rooms = c.in_ok-buffers.ensures in
+    record {
+      wires = rooms.wires;
+      count = rooms.count;
+      lists = All-weaker (HasRoom most) (HasRoom (length (piggybacked c.args.f after))) (λ list h. (h.0, h.1, omega (arith, enough, h.2))) _ rooms.lists;
+    }
 
 pub invariant_of-self-2 : goal.invariant_of-self-2
 invariant_of-self-2 g c =
@@ -36,6 +41,3 @@ returns-clause-received g c =
     let sender : c.number.result ≡ v.from = c.number.ensures.value ∙ c.from-2.ensures in
     let table : c.learn_and_note.new.self ≡ table_after c.args.me c.args.self.now v = c.in_ok-learn_and_note.ensures.ok ∙ (λ j. noted c.args.me (learned c.args.me (c.self.view_is j).table (c.carried-carried.ensures.value j)) (record { from = c.from.ensures j; ssn = c.ssn.ensures j; to = c.args.me; rsn = (c.self.view_is j).received + 1 })) in
     rw c.ssn-2.ensures (stepped c.args.self.now c.self.inside.state c.self.inside.received c.number.result v.from v.ssn c.self.inside.last c.self.inside.log.items c.extend_from_slice.new.self.items c.self.inside.table c.learn_and_note.new.self _ c.args.outcome.now c.args.outcome.now c.self.view_is grown sender refl table)
-
-pub put_wires-requires-clause-once : goal.put_wires-requires-clause-once
-put_wires-requires-clause-once g c = IsOnce-piggybacked c.args.f c.learn_and_note.new.self c.len-distinct_entries.ensures.unique

@@ -1,7 +1,7 @@
 use Rattle.std.proofs.Common.{◌∙◌, sym}
-use Rattle.fbl_table.specs.Indexed.{entries_of}
+use Rattle.fbl_table.specs.Indexed.{listed}
 use Rattle.fbl_table.proofs.Adding.{added-new}
 use Rattle.fbl_table.proofs.indexed.IndexedEntries.add.Goals as goal
 
 pub returns-in-None-clause-entries : goal.returns-in-None-clause-entries
-returns-in-None-clause-entries g c = c.add_new.ensures.entries ∙ sym (added-new (entries_of c.args.self.now) c.args.entry c.in-None.ensures.none)
+returns-in-None-clause-entries g c = c.add_new.ensures.entries ∙ sym (added-new (listed c.args.self.now) c.args.entry c.in-None.ensures.none)

@@ -2,7 +2,7 @@ use Rattle.std.proofs.Common.{◌≡◌, ◌∙◌, ap, sym, arith, length}
 use Rattle.std.proofs.lemmas.List.{length-map, length_push}
 use Rattle.fbl_base.specs.Events.{same_determinant}
 use Rattle.indexmap.specs.IndexMap.{insert_entry}
-use Rattle.fbl_table.specs.Indexed.{entries_of}
+use Rattle.fbl_table.specs.Indexed.{listed}
 use Rattle.fbl_table.specs.Tables.{entry_of}
 use Rattle.fbl_table.proofs.Adding.{noted-insert}
 use Rattle.fbl_table.proofs.Indexing.{index-push, index-push_closed}
@@ -23,7 +23,7 @@ returns-else-is_open-clause-entries g c =
 pub returns-then-is_open-clause-kept : goal.returns-then-is_open-clause-kept
 returns-then-is_open-clause-kept g c =
     let old = c.args.self.now in
-    let table = entries_of old in
+    let table = listed old in
     let entries = returns-then-is_open-clause-entries g c in
     let last : c.len-place.result ≡ length table = c.len-place.ensures.len ∙ sym (length-map old.entries.entries entry_of) in
     record {
@@ -34,7 +34,7 @@ returns-then-is_open-clause-kept g c =
 pub returns-else-is_open-clause-kept : goal.returns-else-is_open-clause-kept
 returns-else-is_open-clause-kept g c =
     let old = c.args.self.now in
-    let table = entries_of old in
+    let table = listed old in
     let entries = returns-else-is_open-clause-entries g c in
     let closed = sym c.is_open.ensures ∙ c.if-is_open.false in
     record {

@@ -1,6 +1,6 @@
 use Rattle.std.proofs.Common.{◌≡◌, ◌∙◌, ap, sym, arith, take, length}
 use Rattle.std.proofs.lemmas.List.{take_all}
-use Rattle.fbl_table.specs.Indexed.{entries_of}
+use Rattle.fbl_table.specs.Indexed.{listed}
 use Rattle.fbl_table.specs.Tables.{is_held, gathered}
 use Rattle.fbl_table.proofs.Adding.{gather-step, length-gathering}
 use Rattle.fbl_table.proofs.Keeping.{keeps-more}
@@ -8,9 +8,9 @@ use Rattle.fbl_table.proofs.indexed.IndexedEntries.gather.Goals as goal
 
 pub loop-place-init : goal.loop-place-init
 loop-place-init g c =
-    let reserved : entries_of c.reserve.new.self ≡ entries_of c.args.self.now = c.reserve.ensures.entries in
+    let reserved : listed c.reserve.new.self ≡ listed c.args.self.now = c.reserve.ensures.entries in
     record {
-      so_far = c.unite_shared-closed.ensures.entries ∙ ap (λ t. gathered t (take c.shared_places-shared.result (entries_of c.args.other.now))) reserved;
+      so_far = c.unite_shared-closed.ensures.entries ∙ ap (λ t. gathered t (take c.shared_places-shared.result (listed c.args.other.now))) reserved;
       kept = keeps-more c.reserve.ensures.kept c.unite_shared-closed.ensures.kept;
       room = omega (arith, ap length reserved, c.in_ok-reserve.ensures.ok, c.lacking_beyond-lacking.ensures, c.unite_shared-closed.ensures.kept.room);
     }
@@ -20,24 +20,22 @@ add-added-requires g c none =
     let so_far = c.loop-place.invariant.so_far in
     let e = c.entry_at.result in
     let missing = sym (ap (λ t. is_held t e.det) so_far) ∙ none in
-    let shorter = length-gathering (entries_of c.args.self.now) (entries_of c.args.other.now) c.loop-place.place e c.entry_at.ensures missing in
+    let shorter = length-gathering (listed c.args.self.now) (listed c.args.other.now) c.loop-place.place e c.entry_at.ensures missing in
     omega (arith, ap length so_far, shorter, c.loop-place.invariant.room)
 
 pub loop-place-preserved : goal.loop-place-preserved
 loop-place-preserved g c = record {
   so_far =
       rw (c.add-added.ensures.entries, c.loop-place.invariant.so_far)
-      (sym (gather-step (entries_of c.args.self.now) (entries_of c.args.other.now) c.loop-place.place c.entry_at.result c.entry_at.ensures));
+      (sym (gather-step (listed c.args.self.now) (listed c.args.other.now) c.loop-place.place c.entry_at.result c.entry_at.ensures));
   kept = keeps-more c.loop-place.invariant.kept c.add-added.ensures.kept;
   room = omega (arith, c.loop-place.invariant.room, c.add-added.ensures.kept.room);
 }
 
 pub returns-clause-gathered : goal.returns-clause-gathered
 returns-clause-gathered g c =
-    c.prune.ensures.entries
-    ∙ c.loop-place.invariant.so_far
-    ∙ ap (gathered (entries_of c.args.self.now))
-    (take_all c.loop-place.place (entries_of c.args.other.now) (omega (arith, c.loop-place-test.false, c.len-place-end.ensures.len)))
+    c.prune.ensures.entries ∙ c.loop-place.invariant.so_far ∙ ap (gathered (listed c.args.self.now))
+    (take_all c.loop-place.place (listed c.args.other.now) (omega (arith, c.loop-place-test.false, c.len-place-end.ensures.len)))
 
 pub returns-clause-kept : goal.returns-clause-kept
 returns-clause-kept g c = keeps-more c.loop-place.invariant.kept c.prune.ensures.kept

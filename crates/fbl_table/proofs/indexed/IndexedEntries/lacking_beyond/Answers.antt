@@ -1,5 +1,5 @@
 use Rattle.std.proofs.Common.{arith}
-use Rattle.fbl_table.specs.Indexed.{entries_of}
+use Rattle.fbl_table.specs.Indexed.{listed}
 use Rattle.fbl_table.specs.Tables.{lacks}
 use Rattle.fbl_table.proofs.Adding.{held-at, lacks-none, lacks-same, lacks-next, at_most_one}
 use Rattle.fbl_table.proofs.indexed.IndexedEntries.lacking_beyond.Goals as goal
@@ -7,14 +7,14 @@ use Rattle.fbl_table.proofs.indexed.IndexedEntries.lacking_beyond.Goals.{in-Some
 
 pub loop-place-init : goal.loop-place-init
 loop-place-init g c = record {
-  enough = omega (arith, lacks-none c.args.shared (entries_of c.args.self.now) (entries_of c.args.other.now) c.requires.len c.requires.same);
+  enough = omega (arith, lacks-none c.args.shared (listed c.args.self.now) (listed c.args.other.now) c.requires.len c.requires.same);
   few = omega arith;
 }
 
 pub loop-place-preserved : goal.loop-place-preserved
 loop-place-preserved g c =
-    let table = entries_of c.args.self.now in
-    let other = entries_of c.args.other.now in
+    let table = listed c.args.self.now in
+    let other = listed c.args.other.now in
     let i = c.loop-place.place in
     let entry = c.entry_at-entry.result in
     let at = c.entry_at-entry.ensures in

@@ -1,18 +1,15 @@
-use Rattle.std.proofs.Common.{sym, ap, arith, refl, take, length}
+use Rattle.std.proofs.Common.{sym, ap, arith, take, length}
 use Rattle.std.proofs.lemmas.List.{length-take-le}
-use Rattle.fbl_table.specs.Indexed.{entries_of}
+use Rattle.fbl_table.specs.Indexed.{listed}
 use Rattle.fbl_table.proofs.Adding.{learn-step, item_at, length-learned}
-use Rattle.fbl_table.proofs.Keeping.{keeps-same, keeps-more}
+use Rattle.fbl_table.proofs.Keeping.{keeps-more}
 use Rattle.fbl_table.proofs.indexed.IndexedEntries.learn.Goals as goal
-
-pub loop-entry-init : goal.loop-entry-init
-loop-entry-init g c = record { so_far = refl; kept = keeps-same c.args.self.now }
 
 pub add-added-requires : goal.add-added-requires
 add-added-requires g c none =
     let i = c.loop-entry.entry-index in
     let longer = ap length c.loop-entry.invariant.so_far in
-    let at_most = length-learned c.args.me (entries_of c.args.self.now) (take i c.args.carried.now) in
+    let at_most = length-learned c.args.me (listed c.args.self.now) (take i c.args.carried.now) in
     omega (arith, c.requires, c.loop-entry.invariant.kept.room, longer, at_most, length-take-le i c.args.carried.now (omega (arith, c.loop-entry-test.true)))
 
 pub loop-entry-preserved : goal.loop-entry-preserved

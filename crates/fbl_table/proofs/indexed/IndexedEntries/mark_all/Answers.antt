@@ -1,6 +1,6 @@
 use Rattle.std.proofs.Common.{◌≡◌, ◌∙◌, sym, ap, refl, arith, length}
 use Rattle.std.proofs.lemmas.List.{length-map}
-use Rattle.fbl_table.specs.Indexed.{entries_of, Keeps}
+use Rattle.fbl_table.specs.Indexed.{listed, KeepsIndex}
 use Rattle.fbl_table.specs.Tables.{entry_of, marked}
 use Rattle.fbl_table.proofs.Adding.{mark-none, mark-all, mark-step, length-set_value_at}
 use Rattle.fbl_table.proofs.Indexing.{index-marked}
@@ -15,7 +15,7 @@ loop-place-preserved g c =
     let es = c.loop-place.self.entries.entries in
     let so_far = c.loop-place.invariant.so_far in
     record {
-      so_far = rw c.union-known.ensures (mark-step c.loop-place.place c.args.members (entries_of c.args.self.now) es c.index.result.now so_far c.index.ensures);
+      so_far = rw c.union-known.ensures (mark-step c.loop-place.place c.args.members (listed c.args.self.now) es c.index.result.now so_far c.index.ensures);
       limit = c.loop-place.invariant.limit;
       open_places = c.loop-place.invariant.open_places;
       spare = c.loop-place.invariant.spare;
@@ -24,19 +24,17 @@ loop-place-preserved g c =
 
 pub returns-clause-entries : goal.returns-clause-entries
 returns-clause-entries g c =
-    let table = entries_of c.args.self.now in
+    let table = listed c.args.self.now in
     let shown = length-map c.args.self.now.entries.entries entry_of in
-    c.prune.ensures.entries
-    ∙ c.loop-place.invariant.so_far
-    ∙ mark-all c.loop-place.place c.args.members table (omega (arith, c.loop-place-test.false, c.len-place-end.ensures.len, shown))
+    c.prune.ensures.entries ∙ c.loop-place.invariant.so_far ∙ mark-all c.loop-place.place c.args.members table (omega (arith, c.loop-place-test.false, c.len-place-end.ensures.len, shown))
 
 pub returns-clause-kept : goal.returns-clause-kept
 returns-clause-kept g c =
     let old = c.args.self.now in
-    let table = entries_of old in
-    let all : entries_of c.loop-place.self ≡ marked c.args.members table = sym c.prune.ensures.entries ∙ returns-clause-entries g c in
+    let table = listed old in
+    let all : listed c.loop-place.self ≡ marked c.args.members table = sym c.prune.ensures.entries ∙ returns-clause-entries g c in
     let same : length (marked c.args.members table) ≡ length table = length-map table _ in
-    let marks : Keeps old c.loop-place.self = record {
+    let marks : KeepsIndex old c.loop-place.self = record {
       index = λ is.
           rw (all, c.loop-place.invariant.limit, c.loop-place.invariant.open_places)
           (index-marked old.limit c.args.members table old.open_places.items is);

@@ -1,12 +1,12 @@
 use Rattle.std.proofs.Common.{◌≡◌, length}
 use Rattle.indexmap.specs.IndexMap.{spare}
-use Rattle.fbl_table.specs.Indexed.{entries_of}
+use Rattle.fbl_table.specs.Indexed.{listed}
 use Rattle.fbl_table.proofs.Adding.{marked_first}
 use Rattle.fbl_table.proofs.indexed.IndexedEntries.mark_all.Given as goal
 
 abbrev pub invariant-loop-place : goal.invariant-loop-place
 invariant-loop-place g l = record {
-  so_far : entries_of l.self ≡ marked_first l.place l.members (entries_of l.initial.self);
+  so_far : listed l.self ≡ marked_first l.place l.members (listed l.initial.self);
   limit : l.self.limit ≡ l.initial.self.limit;
   open_places : l.self.open_places ≡ l.initial.self.open_places;
   spare : spare l.self.entries ≡ spare l.initial.self.entries;

@@ -1,7 +1,7 @@
 use Rattle.std.proofs.Common.{◌≡◌, rules, arith}
 use Rattle.std.specs.List.{filter}
 use Rattle.std.proofs.lemmas.Fn.{filter_same}
-use Rattle.fbl_table.specs.Indexed.{entries_of}
+use Rattle.fbl_table.specs.Indexed.{listed}
 use Rattle.fbl_table.specs.Index.{open_at}
 use Rattle.fbl_table.proofs.Indexing.{index-pruned}
 use Rattle.fbl_table.proofs.indexed.IndexedEntries.prune.Goals as goal
@@ -9,7 +9,7 @@ use Rattle.fbl_table.proofs.indexed.IndexedEntries.prune.Goals as goal
 pub returns-then-closed-clause-kept : goal.returns-then-closed-clause-kept
 returns-then-closed-clause-kept g c =
     let old = c.args.self.now in
-    let table = entries_of old in
+    let table = listed old in
     let kept : c.retain.new.self.items ≡ filter (open_at old.limit table) old.open_places.items =
     filter_same _ _ _ (λ x b f' k. search rules) _ _ c.retain.ensures.filtered in
     record {

@@ -1,6 +1,6 @@
 use Rattle.std.proofs.Common.{arith, ◌∙◌}
 use Rattle.std.specs.Vec.{vec_capacity}
-use Rattle.fbl_table.specs.Indexed.{entries_of}
+use Rattle.fbl_table.specs.Indexed.{listed}
 use Rattle.fbl_table.specs.Tables.{piggybacked}
 use Rattle.fbl_table.proofs.Passing.{piggybacked-parts, pushed, fits}
 use Rattle.fbl_table.proofs.indexed.IndexedEntries.push_all.Goals as goal
@@ -8,7 +8,7 @@ use Rattle.fbl_table.proofs.indexed.IndexedEntries.push_all.Goals as goal
 pub push_if_open-requires : goal.push_if_open-requires
 push_if_open-requires g c =
     let f = c.args.f in
-    let table = entries_of c.args.self.now in
+    let table = listed c.args.self.now in
     let enough =
     fits (piggybacked f) (piggybacked-parts f) table c.loop-place.place c.entry_at.result c.entry_at.ensures _ _ c.loop-place.invariant.so_far
     (vec_capacity c.args.carried.now) (omega (arith, c.requires, c.args.carried.now.ok.0)) in
@@ -17,7 +17,7 @@ push_if_open-requires g c =
 pub loop-place-preserved : goal.loop-place-preserved
 loop-place-preserved g c =
     let f = c.args.f in
-    let table = entries_of c.args.self.now in
+    let table = listed c.args.self.now in
     record {
       so_far =
           pushed (piggybacked f) (piggybacked-parts f) table c.loop-place.place c.entry_at.result c.entry_at.ensures

@@ -1,11 +1,12 @@
 use Rattle.std.proofs.Common.{◌≡◌, ◌<◌, ◌++◌, ◌∙◌, ℕ, List, Some, ap, arith, get_or, length, slice_get}
 use Rattle.std.proofs.lemmas.List.{take_all}
+use Rattle.std.proofs.lemmas.List.Elements.{All-get_or}
 use Rattle.std.proofs.lemmas.Option.{slice_get-get_or}
 use Rattle.std.specs.List.{filter_map}
 use Rattle.std.specs.Vec.{vec_capacity}
-use Rattle.fbl_table.specs.Indexed.{entries_of}
+use Rattle.fbl_table.specs.Indexed.{listed}
 use Rattle.fbl_table.specs.Tables.{piggybacked}
-use Rattle.fbl_table.proofs.Indexing.{within-get, index-piggybacked}
+use Rattle.fbl_table.proofs.Indexing.{index-piggybacked}
 use Rattle.fbl_table.proofs.Passing.{picked-parts, picked-one, pushed, fits}
 use Rattle.fbl_table.proofs.indexed.IndexedEntries.push_open.Goals as goal
 
@@ -15,14 +16,15 @@ place-at items places i is below = rw (← is) (slice_get-get_or items i 0 below
 
 pub entry_at-requires : goal.entry_at-requires
 entry_at-requires g c =
-    let kept = c.args.self.now in
-    within-get _ kept.open_places.items c.loop-place.place-index _ c.requires.indexed.within
-    (place-at _ kept.open_places.items c.loop-place.place-index c.deref-place-items.ensures.value c.loop-place-test.true)
+    let places = c.args.self.now.open_places.items in
+    let table = listed c.args.self.now in
+    let below = rw c.deref-place-items.ensures.value at c.loop-place-test.true in
+    rw c.deref-place-items.ensures.value (All-get_or (λ place. place < length table) places c.loop-place.place-index 0 below c.requires.indexed.within)
 
 pub push_if_open-requires : goal.push_if_open-requires
 push_if_open-requires g c =
     let kept = c.args.self.now in
-    let table = entries_of kept in
+    let table = listed kept in
     let places = kept.open_places.items in
     let i = c.loop-place.place-index in
     let at = place-at _ places i c.deref-place-items.ensures.value c.loop-place-test.true in
@@ -35,7 +37,7 @@ push_if_open-requires g c =
 pub loop-place-preserved : goal.loop-place-preserved
 loop-place-preserved g c =
     let kept = c.args.self.now in
-    let table = entries_of kept in
+    let table = listed kept in
     let places = kept.open_places.items in
     let i = c.loop-place.place-index in
     let at = place-at _ places i c.deref-place-items.ensures.value c.loop-place-test.true in
@@ -50,9 +52,8 @@ loop-place-preserved g c =
 pub returns : goal.returns
 returns g c =
     let kept = c.args.self.now in
-    let table = entries_of kept in
+    let table = listed kept in
     let places = kept.open_places.items in
     let whole = take_all c.loop-place.place-index places (omega (arith, c.loop-place-test.false, ap length c.deref-place-items.ensures.value)) in
-    c.loop-place.invariant.so_far
-    ∙ ap (λ ps. c.args.carried.now.items ++ piggybacked c.args.f (filter_map (slice_get table) ps)) whole
+    c.loop-place.invariant.so_far ∙ ap (λ ps. c.args.carried.now.items ++ piggybacked c.args.f (filter_map (slice_get table) ps)) whole
     ∙ ap (λ t. c.args.carried.now.items ++ t) (index-piggybacked c.args.f kept.limit table places c.requires.within c.requires.indexed)

@@ -2,29 +2,25 @@ use Rattle.std.proofs.Common.{◌≡◌, ◌∙◌, sym, ap, arith, map, length}
 use Rattle.std.proofs.lemmas.List.{length-map}
 use Rattle.std.specs.FinSet as set
 use Rattle.indexmap.specs.IndexMap.{set_value_at}
-use Rattle.fbl_table.specs.Indexed.{entries_of}
+use Rattle.fbl_table.specs.Indexed.{listed}
 use Rattle.fbl_table.specs.Tables.{entry_of, added}
 use Rattle.fbl_table.proofs.Adding.{added-at, added-nothing, has-set, held-at, within-at, length-added_held}
 use Rattle.fbl_table.proofs.Indexing.{index-added_held}
-use Rattle.fbl_table.proofs.Keeping.{keeps-same}
 use Rattle.fbl_table.proofs.indexed.IndexedEntries.unite.Goals as goal
 
 pub index-before-requires : goal.index-before-requires
 index-before-requires g c =
-    omega (arith, within-at (entries_of c.args.self.now) c.args.entry.det c.args.place c.requires, length-map c.args.self.now.entries.entries entry_of)
+    omega (arith, within-at (listed c.args.self.now) c.args.entry.det c.args.place c.requires, length-map c.args.self.now.entries.entries entry_of)
 
 pub index_mut-requires : goal.index_mut-requires
 index_mut-requires g c =
-    omega (arith, within-at (entries_of c.args.self.now) c.args.entry.det c.args.place c.requires, length-map c.args.self.now.entries.entries entry_of)
+    omega (arith, within-at (listed c.args.self.now) c.args.entry.det c.args.place c.requires, length-map c.args.self.now.entries.entries entry_of)
 
 pub returns-then-count-eq0-clause-entries : goal.returns-then-count-eq0-clause-entries
 returns-then-count-eq0-clause-entries g c =
     let before = c.index-before.result.now in
     let none : set.len (set.difference c.args.entry.known before) ≡ 0 = rw c.without.ensures at (sym c.count.ensures ∙ c.if-count-eq0.true) in
     added-nothing c.args.self.now.entries.entries c.args.entry c.args.place before c.len-distinct.ensures.unique c.requires c.index-before.ensures none
-
-pub returns-then-count-eq0-clause-kept : goal.returns-then-count-eq0-clause-kept
-returns-then-count-eq0-clause-kept g c = keeps-same c.args.self.now
 
 pub returns-clause-entries : goal.returns-clause-entries
 returns-clause-entries g c =
@@ -37,7 +33,7 @@ returns-clause-same g c det at = has-set c.args.self.now.entries.entries c.args.
 pub returns-clause-kept : goal.returns-clause-kept
 returns-clause-kept g c =
     let old = c.args.self.now in
-    let table = entries_of old in
+    let table = listed old in
     let held = held-at table c.args.entry.det c.args.place c.requires in
     let united : map entry_of (set_value_at old.entries.entries c.args.place c.union-known.result) ≡ added table c.args.entry = returns-clause-entries g c in
     record {

@@ -1,11 +1,8 @@
-use Rattle.std.proofs.Common.{◌∙◌, sym, refl}
-use Rattle.fbl_table.specs.Indexed.{entries_of}
+use Rattle.std.proofs.Common.{◌∙◌, sym}
+use Rattle.fbl_table.specs.Indexed.{listed}
 use Rattle.fbl_table.proofs.Adding.{gather-step}
-use Rattle.fbl_table.proofs.Keeping.{keeps-same, keeps-more}
+use Rattle.fbl_table.proofs.Keeping.{keeps-more}
 use Rattle.fbl_table.proofs.indexed.IndexedEntries.unite_shared.Goals as goal
-
-pub loop-place-init : goal.loop-place-init
-loop-place-init g c = record { so_far = refl; same = c.requires.same; kept = keeps-same c.args.self.now }
 
 pub loop-place-preserved : goal.loop-place-preserved
 loop-place-preserved g c =
@@ -13,7 +10,7 @@ loop-place-preserved g c =
     record {
       so_far =
           rw (c.unite-closes.ensures.entries, c.loop-place.invariant.so_far)
-          (sym (gather-step _ (entries_of c.args.other.now) c.loop-place.place entry c.entry_at.ensures));
+          (sym (gather-step _ (listed c.args.other.now) c.loop-place.place entry c.entry_at.ensures));
       same = λ place e below at. c.unite-closes.ensures.same e.det place ∙ c.loop-place.invariant.same place e below at;
       kept = keeps-more c.loop-place.invariant.kept c.unite-closes.ensures.kept;
     }

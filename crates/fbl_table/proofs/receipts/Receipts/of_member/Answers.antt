@@ -5,11 +5,18 @@ use Rattle.fbl_table.proofs.receipts.Receipts.of_member.Goals.{then-is_beyond+in
 
 pub loop-place-preserved : goal.loop-place-preserved
 loop-place-preserved g c =
+    let table = c.args.table.now in
+    let i = c.loop-place.place in
+    let entry = c.entry_at-entry.result in
+    let at = c.entry_at-entry.ensures in
+    let places = c.loop-place.places.items in
+    let so_far = c.loop-place.invariant in
     elim c.if-is_beyond.branch [
       | then-is_beyond+in_ok-put_first w ↦
-          rw w.places-is (by_number-put c.args.member c.args.count c.args.table.now c.loop-place.place c.entry_at-entry.result
-              c.loop-place.places.items w.put_first.new.places.items c.entry_at-entry.ensures (sym c.is_beyond.ensures ∙ w.if-is_beyond.true) c.loop-place.invariant w.in_ok-put_first.ensures)
+          let own = sym c.is_beyond.ensures ∙ w.if-is_beyond.true in
+          let put = w.in_ok-put_first.ensures in
+          rw w.places-is (by_number-put c.args.member c.args.count table i entry places w.put_first.new.places.items at own so_far put)
       | else-is_beyond w ↦
-          rw w.places-is (by_number-other c.args.member c.args.count c.args.table.now c.loop-place.place c.entry_at-entry.result
-              c.loop-place.places.items c.entry_at-entry.ensures (sym c.is_beyond.ensures ∙ w.if-is_beyond.false) c.loop-place.invariant)
+          let other = sym c.is_beyond.ensures ∙ w.if-is_beyond.false in
+          rw w.places-is (by_number-other c.args.member c.args.count table i entry places at other so_far)
     ]

@@ -1,5 +1,5 @@
 use Rattle.std.proofs.Common.{ap, arith, length}
-use Rattle.fbl_table.specs.Indexed.{entries_of}
+use Rattle.fbl_table.specs.Indexed.{listed}
 use Rattle.fbl_table.proofs.Adding.{not_held-learned, length-learned}
 use Rattle.fbl_table.proofs.table.Table.learn_and_note.Goals as goal
 
@@ -11,5 +11,5 @@ note_own-requires-clause-new g c =
 pub note_own-requires-clause-room : goal.note_own-requires-clause-room
 note_own-requires-clause-room g c =
     let longer = ap length c.learn.ensures.entries in
-    let at_most = length-learned c.args.me (entries_of c.reserve.new.self) c.args.carried.now in
+    let at_most = length-learned c.args.me (listed c.reserve.new.self) c.args.carried.now in
     omega (arith, longer, at_most, c.in_ok-reserve.ensures.ok, c.learn.ensures.kept.room)

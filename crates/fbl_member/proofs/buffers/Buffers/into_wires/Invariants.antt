@@ -1,16 +1,16 @@
-use Rattle.std.proofs.Common.{◌≡◌, ◌+◌, take, length}
+use Rattle.std.proofs.Common.{◌≡◌, ◌+◌, ◌≤◌, take, length}
 use Rattle.std.specs.List.{All}
 use Rattle.std.specs.Vec.{vec_len, vec_capacity}
 use Rattle.fbl_table.specs.Tables.{piggybacked}
 use Rattle.fbl_member.specs.Members.{messages_from}
 use Rattle.fbl_member.specs.Rooms.{HasRoom}
-use Rattle.fbl_member.proofs.member_rec.put_wires.Given as goal
+use Rattle.fbl_member.proofs.buffers.Buffers.into_wires.Given as goal
 
 abbrev pub invariant-loop-place : goal.invariant-loop-place
 invariant-loop-place g l = record {
   so_far : l.wires.items ≡ messages_from l.me l.before (piggybacked l.f l.table) (take l.place l.sends);
   wires : vec_len l.wires ≡ l.place;
-  wires_room : vec_capacity l.wires ≡ vec_capacity l.initial.wires;
+  wires_room : length l.sends ≤ vec_capacity l.wires;
   left : vec_len l.lists + l.place ≡ length l.sends;
   room : All (HasRoom (length (piggybacked l.f l.table))) l.lists.items;
 }

@@ -1,0 +1,138 @@
+//! The memory for the messages of a step, which is taken before anything changes.
+
+ghost use Rattle.std.specs.Prelude.{◌≡◌, ◌+◌, ◌≤◌, length, IfOk, IfSome, vec_len};
+ghost use Rattle.std.specs.List.{All};
+ghost use Rattle.fbl_table.specs.Tables.{piggybacked};
+ghost use Rattle.fbl_member.specs.Members.{messages_from};
+ghost use Rattle.fbl_member.specs.Rooms.{HasRoom, HasRooms};
+
+use crate::carried::Carried;
+use crate::wire::Wire;
+use fbl_base::{Member, Note};
+use fbl_table::{Entry, Table};
+use std::alloc::{AllocError, Allocator};
+
+/// Room for the messages of a step, and a list for each with room for what it carries.
+#[derive(Drop)]
+pub(crate) struct Buffers<A: Allocator> {
+    wires: Vec<Wire<A>, A>,
+    lists: Vec<Vec<Entry, A>, A>,
+}
+
+impl<A: Allocator + Copy> Buffers<A> {
+    /// Room for so many messages, each with at most so many entries.
+    pub(crate) fn for_messages(
+        alloc: A,
+        messages: usize,
+        entries: usize,
+    ) -> Result<Buffers<A>, AllocError>
+        ensures { IfOk result (HasRooms messages entries) }
+    {
+        Ok(Buffers {
+            lists: empty_lists(alloc, messages, entries)?,
+            wires: Vec::with_capacity(alloc, messages)?,
+        })
+    }
+
+    /// Makes the messages of a step's sends, numbered from one more than `before`, each with what the table passes on.
+    pub(crate) fn into_wires(
+        self,
+        me: Member,
+        before: u32,
+        sends: &[(Member, Note)],
+        table: &Table<A>,
+        f: u8,
+    ) -> Vec<Wire<A>, A>
+        requires rooms { HasRooms (length sends.now) (length (piggybacked f table.now)) self }
+        requires numbers { before + length sends.now ≤ 8192 }
+        ensures { result.items ≡ messages_from me before (piggybacked f table.now) sends.now }
+    {
+        // `len` says that no two of the table's determinants are the same, as each message must carry them
+        let _distinct_entries = table.len();
+        let Buffers {
+            mut wires,
+            mut lists,
+        } = self;
+        for place in 0..sends.len() {
+            let send = sends[place];
+            let number = before + place as u32 + 1;
+            let carried = next_carried(lists.take_last(), wires.last(), table, f, sends.len());
+            wires.push_reserved(Wire::new(me, send.0, number, send.1, carried));
+        }
+        wires
+    }
+}
+
+/// As many empty lists as this, each with this much room.
+fn empty_lists<A: Allocator + Copy>(
+    alloc: A,
+    count: usize,
+    room: usize,
+) -> Result<Vec<Vec<Entry, A>, A>, AllocError>
+    ensures len { IfOk result (λ lists. vec_len lists ≡ count) }
+    ensures room { IfOk result (λ lists. All (HasRoom room) lists.items) }
+{
+    let mut lists = Vec::with_capacity(alloc, count)?;
+    for _place in 0..count {
+        lists.push_reserved(Vec::with_capacity(alloc, room)?);
+    }
+    Ok(lists)
+}
+
+/// What the next of so many messages of a step carries: the list of the one made before, if that can be shared, and else a
+/// list of what the table passes on.
+fn next_carried<A: Allocator + Copy>(
+    reserved: Vec<Entry, A>,
+    made: Option<&Wire<A>>,
+    table: &Table<A>,
+    f: u8,
+    messages: usize,
+) -> Carried<A>
+    requires made { IfSome made (λ wire. wire.now.carried ≡ piggybacked f table.now) }
+    requires room { HasRoom (length (piggybacked f table.now)) reserved }
+    ensures { result ≡ piggybacked f table.now }
+{
+    match made {
+        Some(wire) => match wire.share_carried() {
+            Some(carried) => carried,
+            None => carried_by(reserved, table, f, messages),
+        },
+        None => carried_by(reserved, table, f, messages),
+    }
+}
+
+/// What the table passes on, for so many messages. Where there is no memory for a list of it, or for sharing one, each
+/// message has its own list, for which room was taken.
+fn carried_by<A: Allocator + Copy>(
+    reserved: Vec<Entry, A>,
+    table: &Table<A>,
+    f: u8,
+    messages: usize,
+) -> Carried<A>
+    requires { HasRoom (length (piggybacked f table.now)) reserved }
+    ensures { result ≡ piggybacked f table.now }
+{
+    let entries = passed_on(reserved, table, f);
+    if messages > 1 {
+        Carried::for_several(entries)
+    } else {
+        Carried::own(entries)
+    }
+}
+
+/// What the table passes on, in a list that fits, or in the one for which room was taken where there is no memory for one that
+/// fits. How many of the carried entries are new shows only once the table has taken them in, and by then a lack of memory has
+/// no call to refuse: so the room is mostly much more than is needed.
+fn passed_on<A: Allocator + Copy>(reserved: Vec<Entry, A>, table: &Table<A>, f: u8) -> Vec<Entry, A>
+    requires { HasRoom (length (piggybacked f table.now)) reserved }
+    ensures { result.items ≡ piggybacked f table.now }
+{
+    match table.piggyback(f) {
+        Ok(entries) => entries,
+        Err(_) => {
+            let mut entries = reserved;
+            table.piggyback_into(f, &mut entries);
+            entries
+        }
+    }
+}
