@@ -3,7 +3,7 @@ use Rattle.fbl_law.specs.Groups.{GroupRecord}
 use Rattle.fbl_law.specs.GroupSteps.{IsStrike}
 use Rattle.fbl_law.proofs.Promises.{sound_has_no_orphan}
 use Rattle.std.specs.Prelude.{count_by}
-use Rattle.fbl_group.specs.Channels.{queued_rows}
+use Rattle.fbl_group.specs.Channels.{rows}
 use Rattle.fbl_group.specs.Strikes.{strike_refusal, is_lost_receipt_of}
 use Rattle.fbl_group.proofs.Promised.{survivors_hold, records_first, records_causes}
 use Rattle.fbl_group.proofs.Striking.{emptied-by, is_strike, is_sound, count-lost}
@@ -28,7 +28,7 @@ invariant_of-self g c =
 
 pub returns : goal.returns
 returns g c =
-    let new : GroupRecord = record { config = c.self.inside.config; members = c.blank_members.new.members.items; checkpoints = c.self.inside.checkpoints.items; channels = queued_rows c.drop_at.new.channels.items; trace = c.self.inside.trace.items; down = c.union-self-inside.result; receipts_ever = c.self.inside.receipts_ever; undone_ever = c.self.inside.undone_ever } in
+    let new : GroupRecord = record { config = c.self.inside.config; members = c.blank_members.new.members.items; checkpoints = c.self.inside.checkpoints.items; channels = rows c.drop_at.new.self; trace = c.self.inside.trace.items; down = c.union-self-inside.result; receipts_ever = c.self.inside.receipts_ever; undone_ever = c.self.inside.undone_ever } in
     let allowed = subst (λ (r : GroupRecord). strike_refusal r c.args.set ≡ None) (sym c.self.view_is) c.in_ok-allow_strike.ensures.allowed in
     let emptied = emptied-by c.members-2.ensures.value c.drop_at.ensures in
     let strike = is_strike g.B.Behaviour.next _ new c.args.set c.self.invariant allowed c.blank_members.ensures emptied c.union-self-inside.ensures refl refl refl refl refl in
