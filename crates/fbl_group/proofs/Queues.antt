@@ -1,5 +1,7 @@
 -- Channels as queues: the loops over them, and what is left of them by a send, a delivery, a strike and a recovery.
-use Rattle.std.proofs.Common.{IfSome, IfNone, IsSome, subst, ◌≡◌, ◌≢◌, ℕ, zero, suc, ◌+◌, ◌-◌, ◌<◌, ◌≤◌, ◌⊎◌, inl, inr, Bool, true, false, cond, ◌&&◌, ◌==◌, List, [], ◌∷◌, ◌++◌, length, map, drop, replicate, refl, sym, ap, ◌∙◌, arith, ◌||◌, Vec, Option, Some, None, slice_get, get_or, set, append_assoc, append-nil, below_more}
+use Rattle.std.proofs.Common.{IfSome, IfNone, IsSome, subst, ◌≡◌, ◌≢◌, ℕ, zero, suc, ◌+◌, ◌<◌, ◌≤◌, ◌⊎◌, inl, inr, Bool, true, false, cond, ◌&&◌}
+use Rattle.std.proofs.Common.{◌==◌, List, [], ◌∷◌, ◌++◌, length, map, drop, replicate, refl, sym, ap, ◌∙◌, arith, ◌||◌, Vec, Option, Some, None, slice_get, get_or, set}
+use Rattle.std.proofs.Common.{append_assoc, append-nil, below_more}
 use Rattle.std.specs.List.{All}
 use Rattle.std.specs.FinSet as set
 use Rattle.std.specs.Vec.{with_item}
@@ -15,7 +17,7 @@ use Rattle.fbl_member.specs.Members.{Message, messages_from}
 use Rattle.fbl_law.specs.Steps.{between, taken_off}
 use Rattle.fbl_law.specs.Knowledge.{Members}
 use Rattle.fbl_law.specs.Groups.{HasChannels, channel_in}
-use Rattle.fbl_group.specs.Channels.{first_message, each, with_at, with_sent, taken_and_sent, send_of_message, AreReplaced}
+use Rattle.fbl_group.specs.Channels.{first_message, each, with_at, with_sent, taken_and_sent, send_of_message}
 
 -- what is read at a place of a list is the same whatever stands past its end
 pub read_any : {X : Type 0} (xs : List X) (i : ℕ) (d e : X) → i < length xs → get_or xs i d ≡ get_or xs i e
@@ -52,14 +54,16 @@ made-none d Wanted = record { size = refl; each = λ m below. absurd (omega arit
 pub made-more : {X : Type 0} (d : X) (Wanted : ℕ → X → Type 0) (i : ℕ) (xs : List X) (x : X) → Made d Wanted i xs → Wanted i x → Made d Wanted (i + 1) (xs ++ x ∷ [])
 made-more d Wanted i xs x made wanted = record {
   size = longer xs ∙ ap (λ k. k + 1) made.size;
-  each = below_more (λ m. Wanted m (get_or (xs ++ x ∷ []) m d)) i (λ m less. rw (get_or_append_left xs (x ∷ []) d m (omega (arith, less, made.size))) (made.each m less)) (rw (get_or_push xs x d i made.size) wanted);
+  each = below_more (λ m. Wanted m (get_or (xs ++ x ∷ []) m d)) i (λ m less. rw (get_or_append_left xs (x ∷ []) d m (omega (arith, less, made.size))) (made.each m less))
+      (rw (get_or_push xs x d i made.size) wanted);
 }
   where
     longer : (ys : List _) → length (ys ++ x ∷ []) ≡ length ys + 1
     longer [] = refl
     longer (y ∷ ys) = (let rest = longer ys in omega (arith, rest))
 
-pub made-mapped : {X Y : Type 0} (f : X → Y) (d : Y) (Wanted : ℕ → Y → Type 0) (i : ℕ) (xs : List X) (x : X) → Made d Wanted i (map f xs) → Wanted i (f x) → Made d Wanted (i + 1) (map f (xs ++ x ∷ []))
+pub made-mapped : {X Y : Type 0} (f : X → Y) (d : Y) (Wanted : ℕ → Y → Type 0) (i : ℕ) (xs : List X) (x : X) → Made d Wanted i (map f xs) → Wanted i (f x)
+    → Made d Wanted (i + 1) (map f (xs ++ x ∷ []))
 made-mapped f d Wanted i xs x made wanted = rw (map-append f xs (x ∷ [])) (made-more d Wanted i (map f xs) (f x) made wanted)
 
 -- the elements below the place i are those wanted, and the others are as they were
@@ -68,10 +72,12 @@ pub record Turned {X : Type 0} (d : X) (Wanted : ℕ → X → Type 0) (i : ℕ)
   pub done : (m : ℕ) → m < i → Wanted m (get_or xs m d)
   pub rest : (m : ℕ) → i ≤ m → get_or xs m d ≡ get_or old m d
 
-pub turned-set : {X : Type 0} (d : X) (Wanted : ℕ → X → Type 0) (i place : ℕ) (old xs : List X) (x : X) → Turned d Wanted i old xs → place ≡ i → i < length old → Wanted i x → Turned d Wanted (i + 1) old (set xs place x)
+pub turned-set : {X : Type 0} (d : X) (Wanted : ℕ → X → Type 0) (i place : ℕ) (old xs : List X) (x : X) → Turned d Wanted i old xs → place ≡ i → i < length old → Wanted i x
+    → Turned d Wanted (i + 1) old (set xs place x)
 turned-set d Wanted i place old xs x turned same within wanted = record {
   size = length-set xs place x ∙ turned.size;
-  done = below_more (λ m. Wanted m (get_or (set xs place x) m d)) i (λ m less. rw (get_or-set_other xs place m x d (λ e. absurd (omega (arith, e, same, less)))) (turned.done m less)) (rw (same, get_or-set_same xs i x d (omega (arith, within, turned.size))) wanted);
+  done = below_more (λ m. Wanted m (get_or (set xs place x) m d)) i (λ m less. rw (get_or-set_other xs place m x d (λ e. absurd (omega (arith, e, same, less)))) (turned.done m less))
+      (rw (same, get_or-set_same xs i x d (omega (arith, within, turned.size))) wanted);
   rest = λ m past. get_or-set_other xs place m x d (λ e. absurd (omega (arith, e, same, past))) ∙ turned.rest m (omega (arith, past));
 }
 
@@ -145,47 +151,59 @@ module _ {X : Type 0} (d : X) (all : List (List X)) (a b : ℕ) (x : X) (below_a
 
 -- ---- what is seen of channels
 
+-- a channel that was found from q to p, in the row i at the place j: its messages, how much room is spare there, and what is seen of all channels once it is another
+pub record Found {A C : Type 0} (shown : C → List Message) (spare : C → ℕ) (all : List (Vec C A)) (i j q p : ℕ) (row : Vec C A) (one : C) : Type 0 where
+  pub messages : shown one ≡ get_or (get_or (each shown all) q []) p []
+  pub room : spare one ≡ get_or (get_or (each spare all) q []) p 0
+  pub in_room : (q < length (each spare all)) × (p < length (get_or (each spare all) q []))
+  pub changed : (f : List Message → List Message) (new : C) → shown new ≡ f (shown one)
+      → each shown (set all i (with_item row j new)) ≡ with_at (each shown all) q p (f (get_or (get_or (each shown all) q []) p []))
+  pub room_set : (new : C) → each spare (set all i (with_item row j new)) ≡ with_at (each spare all) q p (spare new)
+
 module _ {A C : Type 0} where
   -- whatever is seen of them, it stands at as many places
-  pub same-long : {X Y : Type 0} (seen : C → X) (shown : C → Y) (all : List (Vec C A)) (q : ℕ) → length (get_or (each seen all) q []) ≡ length (get_or (each shown all) q [])
+  same-long : {X Y : Type 0} (seen : C → X) (shown : C → Y) (all : List (Vec C A)) (q : ℕ) → length (get_or (each seen all) q []) ≡ length (get_or (each shown all) q [])
   same-long seen shown [] q = refl
   same-long seen shown (row ∷ all) zero = length-map row.items seen ∙ sym (length-map row.items shown)
   same-long seen shown (row ∷ all) (suc q) = same-long seen shown all q
 
-  -- a channel that is read, in its row
-  module _ {Y : Type 0} (shown : C → Y) (all : List (Vec C A)) {i j q p : ℕ} {row : Vec C A} (is_q : i ≡ q) (is_p : j ≡ p) (below_q : q < length (each shown all))
+  module _ (shown : C → List Message) (all : List (Vec C A)) {i j q p : ℕ} {row : Vec C A} (is_q : i ≡ q) (is_p : j ≡ p) (below_q : q < length (each shown all))
       (below_p : p < length (get_or (each shown all) q [])) (read_row : row ≡ get_or all i row) where
-    pub within : i < length all
-    within = omega (arith, is_q, below_q, length-map all (λ (r : Vec C A). map shown r.items))
-
     row-is : {X : Type 0} (seen : C → X) → map seen row.items ≡ get_or (each seen all) q []
     row-is seen =
-        ap (λ (r : Vec C A). map seen r.items) read_row ∙ sym (get_or-map (λ (r : Vec C A). map seen r.items) all i row [] within)
+        ap (λ (r : Vec C A). map seen r.items) read_row
+        ∙ sym (get_or-map (λ (r : Vec C A). map seen r.items) all i row [] (omega (arith, is_q, below_q, length-map all (λ (r : Vec C A). map shown r.items))))
         ∙ ap (λ k. get_or (each seen all) k []) is_q
 
+    -- the channel has a place in its row
     pub within_row : j < length row.items
-    within_row = omega (arith, is_p, below_p, length-map row.items shown, ap (λ (r : List Y). length r) (row-is shown))
+    within_row = omega (arith, is_p, below_p, length-map row.items shown, ap (λ (r : List (List Message)). length r) (row-is shown))
 
-    pub seen-below : {X : Type 0} (seen : C → X) → (q < length (each seen all)) × (p < length (get_or (each seen all) q []))
-    seen-below seen =
-        (omega (arith, below_q, length-map all (λ (r : Vec C A). map shown r.items), length-map all (λ (r : Vec C A). map seen r.items)), omega (arith, below_p, same-long seen shown all q))
-
-    module _ {one : C} (read : one ≡ get_or row.items j one) where
-      pub seen-at : {X : Type 0} (seen : C → X) (d : X) → seen one ≡ get_or (get_or (each seen all) q []) p d
-      seen-at seen d =
+    -- what is seen of the channel, and of all once it is another
+    module _ {one : C} (read : one ≡ get_or row.items j one) {X : Type 0} (seen : C → X) where
+      seen-at : (d : X) → seen one ≡ get_or (get_or (each seen all) q []) p d
+      seen-at d =
           ap seen read ∙ sym (get_or-map seen row.items j one d within_row) ∙ ap (λ r. get_or r j d) (row-is seen)
           ∙ ap (λ k. get_or (get_or (each seen all) q []) k d) is_p
 
-      -- and written
-      pub seen-set : {X : Type 0} (seen : C → X) (new : C) → each seen (set all i (with_item row j new)) ≡ with_at (each seen all) q p (seen new)
-      seen-set seen new =
+      seen-set : (new : C) → each seen (set all i (with_item row j new)) ≡ with_at (each seen all) q p (seen new)
+      seen-set new =
           map-set (λ (r : Vec C A). map seen r.items) all i (with_item row j new)
           ∙ ap (λ r. set (each seen all) i r) (map-set seen row.items j new ∙ ap (λ r. set r j (seen new)) (row-is seen))
           ∙ ap (λ k. set (each seen all) k (set (get_or (each seen all) q []) j (seen new))) is_q
           ∙ ap (λ k. set (each seen all) q (set (get_or (each seen all) q []) k (seen new))) is_p
 
-      pub seen-changed : (d : Y) (f : Y → Y) (new : C) → shown new ≡ f (shown one) → each shown (set all i (with_item row j new)) ≡ with_at (each shown all) q p (f (get_or (get_or (each shown all) q []) p d))
-      seen-changed d f new changed = seen-set shown new ∙ ap (λ y. with_at (each shown all) q p y) (changed ∙ ap f (seen-at shown d))
+    pub found : (spare : C → ℕ) {one : C} → one ≡ get_or row.items j one → Found shown spare all i j q p row one
+    found spare read = record {
+      messages = seen-at read shown [];
+      room = seen-at read spare 0;
+      in_room = (
+        omega (arith, below_q, length-map all (λ (r : Vec C A). map shown r.items), length-map all (λ (r : Vec C A). map spare r.items)),
+        omega (arith, below_p, same-long spare shown all q),
+      );
+      changed = λ f new is. seen-set read shown new ∙ ap (λ vs. with_at (each shown all) q p vs) (is ∙ ap f (seen-at read shown []));
+      room_set = seen-set read spare;
+    }
 
 -- channels that are none
 pub none-shape : (n : ℕ) (cs : List (List (List Message))) → cs ≡ replicate n (replicate n []) → HasChannels n cs
@@ -249,7 +267,8 @@ messages-from me before carried [] k d below = absurd (omega arith)
 messages-from me before carried (s ∷ sends) zero d below = refl
 messages-from me before carried (s ∷ sends) (suc k) d below = messages-from me (before + 1) carried sends k d (omega (arith, below))
 
-pub messages-to : (Fits : ℕ → Type 0) (me before : ℕ) (carried : List Entry) (sends : List (ℕ × Note)) → All (λ (s : ℕ × Note). Fits s.0) sends → All (λ (w : Message). Fits w.to) (messages_from me before carried sends)
+pub messages-to : (Fits : ℕ → Type 0) (me before : ℕ) (carried : List Entry) (sends : List (ℕ × Note)) → All (λ (s : ℕ × Note). Fits s.0) sends
+    → All (λ (w : Message). Fits w.to) (messages_from me before carried sends)
 messages-to Fits me before carried [] all k d below = absurd (omega arith)
 messages-to Fits me before carried (s ∷ sends) all zero d below = all 0 s (omega arith)
 messages-to Fits me before carried (s ∷ sends) all (suc k) d below = messages-to Fits me (before + 1) carried sends (λ j e less. all (suc j) e (omega (arith, less))) k d (omega (arith, below))
@@ -258,7 +277,8 @@ pub length-messages : (me before : ℕ) (carried : List Entry) (sends : List (�
 length-messages me before carried [] = refl
 length-messages me before carried (s ∷ sends) = ap suc (length-messages me (before + 1) carried sends)
 
-pub made-fits : (g : ℕ → ℕ) (me before : ℕ) (carried : List Entry) (sends given : List (ℕ × Note)) (made : List Message) → given ≡ sends → made ≡ messages_from me before carried sends → All (λ (s : ℕ × Note). length given ≤ g s.0) given → All (λ (w : Message). length made ≤ g w.to) made
+pub made-fits : (g : ℕ → ℕ) (me before : ℕ) (carried : List Entry) (sends given : List (ℕ × Note)) (made : List Message) → given ≡ sends
+    → made ≡ messages_from me before carried sends → All (λ (s : ℕ × Note). length given ≤ g s.0) given → All (λ (w : Message). length made ≤ g w.to) made
 made-fits g me before carried sends given made same is all k d below =
     let fits = messages-to (λ t. length given ≤ g t) me before carried sends (subst (λ (xs : List (ℕ × Note)). All (λ (s : ℕ × Note). length given ≤ g s.0) xs) same all) in
     let one = (subst (λ (ws : List Message). All (λ (w : Message). length given ≤ g w.to) ws) (sym is) fits) k d below in
@@ -292,7 +312,8 @@ module _ (n me : ℕ) (below : me < n) where
       at false = refl
 
 -- the front is off its channel, and the messages made are at the ends of theirs
-module _ (n : ℕ) (cs : List (List (List Message))) (v : Message) (from to : ℕ) (made : List Message) (shape : HasChannels n cs) (below_from : from < n) (below_to : to < n) (apart : from ≢ to) (of_sender : v.from ≡ from) (to_receiver : v.to ≡ to) (froms : All (λ (w : Message). w.from ≡ to) made) (tos : All (λ (w : Message). w.to < n) made) where
+module _ (n : ℕ) (cs : List (List (List Message))) (v : Message) (from to : ℕ) (made : List Message) (shape : HasChannels n cs) (below_from : from < n) (below_to : to < n) (apart : from ≢ to)
+    (of_sender : v.from ≡ from) (to_receiver : v.to ≡ to) (froms : All (λ (w : Message). w.from ≡ to) made) (tos : All (λ (w : Message). w.to < n) made) where
   abbrev taken : List (List (List Message))
   taken = with_at cs from to (drop 1 (channel_in cs from to))
 
@@ -306,14 +327,17 @@ module _ (n : ℕ) (cs : List (List (List Message))) (v : Message) (from to : �
   settled-shape = sent-shape n to below_to made taken taken-shape tos
 
   taken-in : (q p : ℕ) → channel_in taken q p ≡ taken_off v q p (channel_in cs q p)
-  taken-in q p = written-in n cs from to (drop 1 (channel_in cs from to)) shape below_from below_to q p ∙ at (from == q) (to == p) refl refl ∙ sym (ap (λ k. cond (k == q && v.to == p) (drop 1 (channel_in cs q p)) (channel_in cs q p)) of_sender ∙ ap (λ k. cond (from == q && k == p) (drop 1 (channel_in cs q p)) (channel_in cs q p)) to_receiver) where
-    at : (a b : Bool) → (from == q) ≡ a → (to == p) ≡ b → cond (a && b) (drop 1 (channel_in cs from to)) (channel_in cs q p) ≡ cond (a && b) (drop 1 (channel_in cs q p)) (channel_in cs q p)
-    at true true ea eb =
-        let sq : from ≡ q = grind (arith, nat_tests) in
-        let sp : to ≡ p = grind (arith, nat_tests) in
-        ap (λ k. drop 1 (channel_in cs k to)) sq ∙ ap (λ k. drop 1 (channel_in cs q k)) sp
-    at true false ea eb = refl
-    at false b ea eb = refl
+  taken-in q p = written-in n cs from to (drop 1 (channel_in cs from to)) shape below_from below_to q p ∙ at (from == q) (to == p) refl refl
+      ∙ sym (ap (λ k. cond (k == q && v.to == p) (drop 1 (channel_in cs q p)) (channel_in cs q p)) of_sender
+      ∙ ap (λ k. cond (from == q && k == p) (drop 1 (channel_in cs q p)) (channel_in cs q p)) to_receiver) where
+        at : (a b : Bool) → (from == q) ≡ a → (to == p) ≡ b → cond (a && b) (drop 1 (channel_in cs from to)) (channel_in cs q p) ≡ cond (a && b) (drop 1 (channel_in cs q p))
+            (channel_in cs q p)
+        at true true ea eb =
+            let sq : from ≡ q = grind (arith, nat_tests) in
+            let sp : to ≡ p = grind (arith, nat_tests) in
+            ap (λ k. drop 1 (channel_in cs k to)) sq ∙ ap (λ k. drop 1 (channel_in cs q k)) sp
+        at true false ea eb = refl
+        at false b ea eb = refl
 
   pub settled-in : (q p : ℕ) → channel_in settled q p ≡ taken_off v q p (channel_in cs q p) ++ between q p made
   settled-in q p = sent-in n to below_to made taken q p taken-shape froms tos ∙ ap (λ (c : List Message). c ++ between q p made) (taken-in q p)
@@ -321,12 +345,15 @@ module _ (n : ℕ) (cs : List (List (List Message))) (v : Message) (from to : �
 -- the messages of a step are its sends
 pub sends-messages : (me before : ℕ) (carried : List Entry) (sends : List (ℕ × Note)) → map send_of_message (messages_from me before carried sends) ≡ step_events me before sends
 sends-messages me before carried [] = refl
-sends-messages me before carried (s ∷ sends) = ap (λ es. send_of_message (record { from = me; to = s.0; ssn = before + 1; note = s.1; carried = carried }) ∷ es) (sends-messages me (before + 1) carried sends)
+sends-messages me before carried (s ∷ sends) = ap (λ es. send_of_message (record { from = me; to = s.0; ssn = before + 1; note = s.1; carried = carried }) ∷ es)
+    (sends-messages me (before + 1) carried sends)
 
 -- the trace after a receipt and the messages of its step
-pub settled_trace : (t0 t1 t2 : List Event) (made : List Message) (me before rsn from ssn : ℕ) (carried : List Entry) (sends : List (ℕ × Note)) → t1 ≡ t0 ++ Receipt me rsn from ssn ∷ [] → t2 ≡ t1 ++ map send_of_message made → made ≡ messages_from me before carried sends → t2 ≡ t0 ++ Receipt me rsn from ssn ∷ step_events me before sends
+pub settled_trace : (t0 t1 t2 : List Event) (made : List Message) (me before rsn from ssn : ℕ) (carried : List Entry) (sends : List (ℕ × Note)) → t1 ≡ t0 ++ Receipt me rsn from ssn ∷ []
+    → t2 ≡ t1 ++ map send_of_message made → made ≡ messages_from me before carried sends → t2 ≡ t0 ++ Receipt me rsn from ssn ∷ step_events me before sends
 settled_trace t0 t1 t2 made me before rsn from ssn carried sends first then made_is =
-    then ∙ ap (λ (xs : List Event). xs ++ map send_of_message made) first ∙ append_assoc t0 (Receipt me rsn from ssn ∷ []) (map send_of_message made) ∙ ap (λ (xs : List Event). t0 ++ Receipt me rsn from ssn ∷ xs) (ap (λ (xs : List Message). map send_of_message xs) made_is ∙ sends-messages me before carried sends)
+    then ∙ ap (λ (xs : List Event). xs ++ map send_of_message made) first ∙ append_assoc t0 (Receipt me rsn from ssn ∷ []) (map send_of_message made)
+    ∙ ap (λ (xs : List Event). t0 ++ Receipt me rsn from ssn ∷ xs) (ap (λ (xs : List Message). map send_of_message xs) made_is ∙ sends-messages me before carried sends)
 
 -- ---- steps of the loops
 
@@ -340,15 +367,18 @@ rest-fits P all rest w is fits = all-rest P w rest (subst (All P) is fits)
 -- the channels that the others need are there after a message went to its channel
 pub sent-places : (cs : List (List (List Message))) (from : ℕ) (w : Message) (rest : List Message) → from < length cs → w.to < length (get_or cs from [])
     → All (λ (v : Message). v.to < length (get_or cs from [])) rest
-    → (from < length (with_at cs from w.to (channel_in cs from w.to ++ w ∷ []))) × All (λ (v : Message). v.to < length (get_or (with_at cs from w.to (channel_in cs from w.to ++ w ∷ [])) from [])) rest
+    → (from < length (with_at cs from w.to (channel_in cs from w.to ++ w ∷ []))) × All
+    (λ (v : Message). v.to < length (get_or (with_at cs from w.to (channel_in cs from w.to ++ w ∷ [])) from [])) rest
 sent-places cs from w rest below_from below_to fits = (
   omega (arith, below_from, length-set cs from (set (get_or cs from []) w.to (channel_in cs from w.to ++ w ∷ []))),
   λ i d below. omega (arith, fits i d below, at-rows [] cs from w.to (channel_in cs from w.to ++ w ∷ []) below_from below_to from),
 )
 
 -- what there is room for after a message went where there is room for all of them
-pub room-left : (room : List (List ℕ)) (from left : ℕ) (w : Message) (rest : List Message) → from < length room → w.to < length (get_or room from []) → left + 1 ≡ get_or (get_or room from []) w.to 0
-    → All (λ (v : Message). suc (length rest) ≤ get_or (get_or room from []) v.to 0) (w ∷ rest) → All (λ (v : Message). length rest ≤ get_or (get_or (with_at room from w.to left) from []) v.to 0) rest
+pub room-left : (room : List (List ℕ)) (from left : ℕ) (w : Message) (rest : List Message) → from < length room → w.to < length (get_or room from [])
+    → left + 1 ≡ get_or (get_or room from []) w.to 0
+    → All (λ (v : Message). suc (length rest) ≤ get_or (get_or room from []) v.to 0) (w ∷ rest)
+    → All (λ (v : Message). length rest ≤ get_or (get_or (with_at room from w.to left) from []) v.to 0) rest
 room-left room from left w rest below_from below_to less fits i d below =
     let v : Message = get_or rest i d in
     at v (fits (suc i) d (omega (arith, below))) (at-in 0 room from w.to left below_from below_to from v.to) (from == from && w.to == v.to) refl
@@ -356,7 +386,8 @@ room-left room from left w rest below_from below_to less fits i d below =
     first : suc (length rest) ≤ get_or (get_or room from []) w.to 0
     first = fits 0 w (omega arith)
 
-    at : (v : Message) → suc (length rest) ≤ get_or (get_or room from []) v.to 0 → get_or (get_or (with_at room from w.to left) from []) v.to 0 ≡ cond (from == from && w.to == v.to) left (get_or (get_or room from []) v.to 0)
+    at : (v : Message) → suc (length rest) ≤ get_or (get_or room from []) v.to 0 → get_or (get_or (with_at room from w.to left) from []) v.to 0 ≡ cond (from == from && w.to == v.to) left
+        (get_or (get_or room from []) v.to 0)
         → (b : Bool) → (from == from && w.to == v.to) ≡ b → length rest ≤ get_or (get_or (with_at room from w.to left) from []) v.to 0
     at v fit read true is = (let now = read ∙ ap (λ c. cond c left (get_or (get_or room from []) v.to 0)) is in omega (arith, now, less, first))
     at v fit read false is = (let now = read ∙ ap (λ c. cond c left (get_or (get_or room from []) v.to 0)) is in omega (arith, now, fit))
@@ -390,13 +421,6 @@ pub record Replacing (n : ℕ) (s : Members) (by : ℕ → ℕ → List Message)
   pub rest : (q p : ℕ) → (i < q) ⊎ ((q ≡ i) × (j ≤ p)) → channel_in now q p ≡ channel_in old q p
 
 module _ (n : ℕ) (s : Members) (by : ℕ → ℕ → List Message) (old : List (List (List Message))) where
-  pub replacing-none : HasChannels n old → Replacing n s by old old 0 0
-  replacing-none shape = record { shape = shape; done = λ q p below_q below_p early. never_early q p early; rest = λ q p late. refl }
-    where
-      never_early : {P : Type 0} (q p : ℕ) → (q < 0) ⊎ ((q ≡ 0) × (p < 0)) → P
-      never_early q p (inl early) = absurd (omega (arith, early))
-      never_early q p (inr early) = absurd (omega (arith, early.1))
-
   pub replacing-set : (now : List (List (List Message))) (i j : ℕ) (x : List Message) → Replacing n s by old now i j → i < n → j < n
       → x ≡ cond (set.contains s i || set.contains s j) (by i j) (channel_in old i j) → Replacing n s by old (with_at now i j x) i (j + 1)
   replacing-set now i j x so_far below_i below_j is = record {
@@ -436,23 +460,3 @@ module _ (n : ℕ) (s : Members) (by : ℕ → ℕ → List Message) (old : List
       (at-same [] now i j (channel_in now i j) (in-channels n now i j so_far.shape below_i below_j).0 (in-channels n now i j so_far.shape below_i below_j).1 refl)
       (replacing-set now i j (channel_in now i j) so_far below_i below_j
       (so_far.rest i j (inr (refl, omega arith)) ∙ sym (ap (λ b. cond b (by i j) (channel_in old i j)) neither)))
-
-  -- a row more
-  pub replacing-row : (now : List (List (List Message))) (i j : ℕ) → Replacing n s by old now i j → n ≤ j → Replacing n s by old now (i + 1) 0
-  replacing-row now i j so_far all = record {
-    shape = so_far.shape;
-    done = λ q p below_q below_p early. so_far.done q p below_q below_p (earlier q p below_p early (cases_lt q i));
-    rest = λ q p late. so_far.rest q p (inl (later q p late));
-  }
-    where
-      earlier : (q p : ℕ) → p < n → (q < i + 1) ⊎ ((q ≡ i + 1) × (p < 0)) → (q < i) ⊎ (i ≤ q) → (q < i) ⊎ ((q ≡ i) × (p < j))
-      earlier q p below early (inl before) = inl before
-      earlier q p below (inl early) (inr past) = inr (omega (arith, early, past), omega (arith, below, all))
-      earlier q p below (inr early) (inr past) = absurd (omega (arith, early.1))
-
-      later : (q p : ℕ) → (i + 1 < q) ⊎ ((q ≡ i + 1) × (0 ≤ p)) → i < q
-      later q p (inl late) = omega (arith, late)
-      later q p (inr late) = omega (arith, late.0)
-
-  pub replaced : (now : List (List (List Message))) (i j : ℕ) → Replacing n s by old now i j → n ≤ i → AreReplaced n s by old now
-  replaced now i j so_far all = record { shape = so_far.shape; each = λ q p below_q below_p. so_far.done q p below_q below_p (inl (omega (arith, below_q, all))) }

@@ -11,6 +11,7 @@ ghost use Rattle.fbl_law.specs.StepLaws.{weight_held, weight_flying};
 ghost use Rattle.fbl_group.specs.Readers.{is_quiet as is_quiet_now, HoldsEachReceipt};
 
 use crate::group::Group;
+use crate::members::member_at;
 use fbl_base::{Behaviour, Config, Event, Member, MemberSet};
 use fbl_member::MemberRec;
 use fbl_table::Table;
@@ -44,7 +45,7 @@ impl<B: Behaviour, A: Allocator + Copy> Group<B, A> {
     {
         let mut sum = 0u128;
         for number in 0..self.config.members() {
-            sum += u128::from(self.state(Member::new(number).unwrap()));
+            sum += u128::from(self.state(member_at(number)));
         }
         sum
     }

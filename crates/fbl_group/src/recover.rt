@@ -13,8 +13,9 @@ ghost use Rattle.fbl_group.specs.Strikes.{lost_receipts};
 use crate::answers::Recovered;
 use crate::channels::{Channels, has_either};
 use crate::group::Group;
+use crate::members::member_at;
 use crate::refusals::RecoverRefusal;
-use fbl_base::{Behaviour, Event, Member, MemberSet};
+use fbl_base::{Behaviour, Event, MemberSet};
 use std::alloc::{AllocError, Allocator};
 use std::mem;
 
@@ -94,9 +95,9 @@ impl<A: Allocator> Channels<A> {
     {
         let mut again = again;
         for sender in 0..n {
-            let from = Member::new(sender).unwrap();
+            let from = member_at(sender);
             for receiver in 0..n {
-                let to = Member::new(receiver).unwrap();
+                let to = member_at(receiver);
                 if has_either(down, from, to) {
                     mem::swap(
                         &mut self.rows[usize::from(sender)][usize::from(receiver)],

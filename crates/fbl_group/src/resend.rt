@@ -10,6 +10,7 @@ ghost use Rattle.fbl_group.specs.Channels.{rows};
 
 use crate::channels::{Channel, Channels, has_either};
 use crate::group::Group;
+use crate::members::member_at;
 use fbl_base::{Behaviour, Member, Note};
 use fbl_member::{Carried, MemberRec, Wire};
 use fbl_table::Table;
@@ -25,7 +26,7 @@ impl<B: Behaviour, A: Allocator + Copy> Group<B, A> {
     {
         let mut rows = Vec::new(*self.members.allocator());
         for number in 0..self.config.members() {
-            let from = Member::new(number).unwrap();
+            let from = member_at(number);
             rows.push(self.resend_from(rebuilt, from)?)?;
         }
         Ok(Channels { rows })
@@ -45,7 +46,7 @@ impl<B: Behaviour, A: Allocator + Copy> Group<B, A> {
         let mut row = Vec::new(*self.members.allocator());
         let mut passed = None;
         for number in 0..self.config.members() {
-            let to = Member::new(number).unwrap();
+            let to = member_at(number);
             row.push(self.resend_on(rebuilt, from, to, &mut passed)?)?;
         }
         Ok(row)

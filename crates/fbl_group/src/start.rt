@@ -12,7 +12,8 @@ ghost use Rattle.fbl_law.specs.GroupSteps.{IsGroupStart, start_events, message_o
 
 use crate::channels::{Channels, empty_channels};
 use crate::group::Group;
-use fbl_base::{Behaviour, Config, Event, Member, MemberSet, Start};
+use crate::members::member_at;
+use fbl_base::{Behaviour, Config, Event, MemberSet, Start};
 use fbl_member::{Carried, MemberRec, Wire};
 use std::alloc::{AllocError, Allocator};
 use std::marker::PhantomData;
@@ -52,7 +53,7 @@ fn fresh_members<A: Allocator + Copy>(
 {
     let mut members = Vec::new(alloc);
     for number in 0..config.members() {
-        let member = Member::new(number).unwrap();
+        let member = member_at(number);
         members.push(MemberRec::fresh(alloc, config, member)?)?;
     }
     Ok(members)

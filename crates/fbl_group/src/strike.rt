@@ -13,8 +13,9 @@ ghost use Rattle.fbl_group.specs.Strikes.{strike_refusal, Strikes, IsBlanked, is
 use crate::answers::Struck;
 use crate::channels::{Channels, has_either};
 use crate::group::Group;
+use crate::members::member_at;
 use crate::refusals::StrikeRefusal;
-use fbl_base::{Behaviour, Determinant, Event, Member, MemberSet};
+use fbl_base::{Behaviour, Determinant, Event, MemberSet};
 use fbl_member::MemberRec;
 use std::alloc::{AllocError, Allocator};
 
@@ -217,7 +218,7 @@ fn blank_members<A: Allocator + Copy>(
 {
     let alloc = *members.allocator();
     for number in 0..n {
-        let member = Member::new(number).unwrap();
+        let member = member_at(number);
         if set.has(member) {
             make_blank(&mut members[usize::from(number)], alloc, f);
         }
@@ -239,9 +240,9 @@ impl<A: Allocator> Channels<A> {
         ensures { AreReplaced n set (λ q p. []) (rows self.old) (rows self.new) }
     {
         for sender in 0..n {
-            let from = Member::new(sender).unwrap();
+            let from = member_at(sender);
             for receiver in 0..n {
-                let to = Member::new(receiver).unwrap();
+                let to = member_at(receiver);
                 if has_either(set, from, to) {
                     self.rows[usize::from(sender)][usize::from(receiver)].clear();
                 }

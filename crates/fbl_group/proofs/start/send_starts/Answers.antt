@@ -1,5 +1,4 @@
-use Rattle.std.proofs.Common.{◌≡◌, ◌<◌, length, sym, ◌∙◌, arith, None, Some}
-use Rattle.std.specs.Prelude.{slice_index_or}
+use Rattle.std.proofs.Common.{◌≡◌, sym, ◌∙◌, arith, None, Some}
 use Rattle.fbl_law.specs.GroupSteps.{message_of}
 use Rattle.fbl_group.specs.Channels.{rows}
 use Rattle.fbl_group.proofs.Queues.{written-shape}

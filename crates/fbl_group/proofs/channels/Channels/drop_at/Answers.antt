@@ -1,10 +1,9 @@
-use Rattle.std.proofs.Common.{◌≡◌, ◌||◌, cond, [], sym, ap, ◌∙◌, arith}
-use Rattle.std.specs.VecDeque.{deque_items}
+use Rattle.std.proofs.Common.{◌≡◌, ◌||◌, ◌-◌, cond, [], sym, ap, ◌∙◌, arith}
+use Rattle.std.specs.VecDeque.{deque_items, deque_len, deque_capacity}
 use Rattle.std.specs.FinSet as set
 use Rattle.fbl_law.specs.Groups.{channel_in}
 use Rattle.fbl_group.specs.Channels.{rows}
-use Rattle.fbl_group.proofs.MemberNumbers.{numbered}
-use Rattle.fbl_group.proofs.Queues.{in-channels, replacing-kept, replacing-set, seen-changed, within_row}
+use Rattle.fbl_group.proofs.Queues.{found, in-channels, replacing-kept, replacing-set, within_row}
 use Rattle.fbl_group.proofs.channels.Channels.drop_at.Goals as goal
 use Rattle.fbl_group.proofs.channels.Channels.drop_at.Goals.{then-has_either, else-has_either}
 
@@ -18,17 +17,17 @@ pub loop-receiver-preserved : goal.loop-receiver-preserved
 loop-receiver-preserved g c =
     let q = c.loop-sender.sender in
     let p = c.loop-receiver.receiver in
-    let from = numbered c.new.result c.unwrap-from.result q c.new.ensures (omega (arith, c.loop-sender-test.true, c.requires.few)) c.unwrap-from.ensures in
-    let to = numbered c.new-in-loop-receiver.result c.unwrap-to.result p c.new-in-loop-receiver.ensures (omega (arith, c.loop-receiver-test.true, c.requires.few)) c.unwrap-to.ensures in
     let test : c.has_either.result ≡ (set.contains c.args.set q || set.contains c.args.set p) =
-    c.has_either.ensures ∙ ap (λ k. set.contains c.args.set k || set.contains c.args.set c.unwrap-to.result) from ∙ ap (λ k. set.contains c.args.set q || set.contains c.args.set k) to in
+    c.has_either.ensures ∙ ap (λ k. set.contains c.args.set k || set.contains c.args.set c.member_at-to.result) c.member_at-from.ensures
+    ∙ ap (λ k. set.contains c.args.set q || set.contains c.args.set k) c.member_at-to.ensures in
     let place = in-channels c.args.n (rows c.loop-receiver.self) q p c.loop-receiver.invariant.shape c.loop-sender-test.true c.loop-receiver-test.true in
     elim c.if-has_either.branch [
       | then-has_either w ↦
-          let cleared = seen-changed deque_items c.loop-receiver.self.rows.items w.from.ensures w.from-then-has_either.ensures place.0 place.1 w.index_mut.ensures.value
-          w.index_mut-then-has_either.ensures.value [] (λ vs. []) w.clear.new.self w.clear.ensures.items in
-          rw (w.self-is, cleared) (replacing-set c.args.n c.args.set (λ a b. []) (rows c.args.self.now) (rows c.loop-receiver.self) q p [] c.loop-receiver.invariant
-          c.loop-sender-test.true c.loop-receiver-test.true (sym (ap (λ b. cond b [] (channel_in (rows c.args.self.now) q p)) (sym test ∙ w.if-has_either.true))))
+          let channel = found deque_items c.loop-receiver.self.rows.items w.from.ensures w.from-then-has_either.ensures place.0 place.1 w.index_mut.ensures.value
+          (λ d. deque_capacity d - deque_len d) w.index_mut-then-has_either.ensures.value in
+          rw (w.self-is, channel.changed (λ vs. []) w.clear.new.self w.clear.ensures.items) (replacing-set c.args.n c.args.set (λ a b. []) (rows c.args.self.now)
+          (rows c.loop-receiver.self) q p [] c.loop-receiver.invariant c.loop-sender-test.true c.loop-receiver-test.true
+          (sym (ap (λ b. cond b [] (channel_in (rows c.args.self.now) q p)) (sym test ∙ w.if-has_either.true))))
       | else-has_either w ↦
           rw w.self-is (replacing-kept c.args.n c.args.set (λ a b. []) (rows c.args.self.now) (rows c.loop-receiver.self) q p c.loop-receiver.invariant
           c.loop-sender-test.true c.loop-receiver-test.true (sym test ∙ w.if-has_either.false))

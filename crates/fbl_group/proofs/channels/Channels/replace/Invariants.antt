@@ -1,4 +1,3 @@
-use Rattle.std.proofs.Common.{◌≡◌, []}
 use Rattle.fbl_law.specs.Groups.{channel_in}
 use Rattle.fbl_group.specs.Channels.{rows}
 use Rattle.fbl_group.proofs.Queues.{Replacing}

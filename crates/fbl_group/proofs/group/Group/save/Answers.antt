@@ -22,11 +22,24 @@ index_mut-requires g c =
 pub invariant_of-self : goal.invariant_of-self
 invariant_of-self g c =
     let allowed = subst (λ (r : GroupRecord). checkpoint_refusal r c.args.member ≡ None) (sym c.self.view_is) c.requires in
-    is_sound g.B.Behaviour.next _ c.self.invariant c.args.member allowed c.from-place.result (c.from-place.ensures ∙ c.number.ensures.value) c.in_ok-copy.copy c.index.result.now c.in_ok-copy.ensures c.index.ensures
+    is_sound g.B.Behaviour.next _ c.self.invariant c.args.member allowed c.from-place.result (c.from-place.ensures
+    ∙ c.number.ensures.value) c.in_ok-copy.copy c.index.result.now c.in_ok-copy.ensures c.index.ensures
 
 pub returns-clause-saved : goal.returns-clause-saved
 returns-clause-saved g c =
     let allowed = subst (λ (r : GroupRecord). checkpoint_refusal r c.args.member ≡ None) (sym c.self.view_is) c.requires in
-    let new : GroupRecord = record { config = c.self.inside.config; members = c.self.inside.members.items; checkpoints = slice_set c.self.inside.checkpoints.items c.from-place.result c.in_ok-copy.copy; channels = rows c.self.inside.channels; trace = c.self.inside.trace.items; down = c.self.inside.down; receipts_ever = c.self.inside.receipts_ever; undone_ever = c.self.inside.undone_ever } in
+    let new : GroupRecord = record {
+      config = c.self.inside.config;
+      members = c.self.inside.members.items;
+      checkpoints =
+          slice_set c.self.inside.checkpoints.items c.from-place.result c.in_ok-copy.copy;
+      channels = rows c.self.inside.channels;
+      trace = c.self.inside.trace.items;
+      down =
+          c.self.inside.down;
+      receipts_ever = c.self.inside.receipts_ever;
+      undone_ever = c.self.inside.undone_ever;
+    } in
     subst (λ (r : GroupRecord). IsCheckpoint r new c.args.member) c.self.view_is
-    (is_checkpoint g.B.Behaviour.next _ c.self.invariant c.args.member allowed c.from-place.result (c.from-place.ensures ∙ c.number.ensures.value) c.in_ok-copy.copy c.index.result.now c.in_ok-copy.ensures c.index.ensures)
+    (is_checkpoint g.B.Behaviour.next _ c.self.invariant c.args.member allowed c.from-place.result (c.from-place.ensures
+    ∙ c.number.ensures.value) c.in_ok-copy.copy c.index.result.now c.in_ok-copy.ensures c.index.ensures)

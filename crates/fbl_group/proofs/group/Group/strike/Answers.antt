@@ -24,16 +24,28 @@ returns-in_err-allow_strike-clause-causes g c = rw (← c.self.view_is) (records
 pub invariant_of-self : goal.invariant_of-self
 invariant_of-self g c =
     let allowed = subst (λ (r : GroupRecord). strike_refusal r c.args.set ≡ None) (sym c.self.view_is) c.in_ok-allow_strike.ensures.allowed in
-    is_sound g.B.Behaviour.next _ _ c.args.set c.self.invariant allowed c.blank_members.ensures (emptied-by c.members-2.ensures.value c.drop_at.ensures) c.union-self-inside.ensures refl refl refl refl refl
+    is_sound g.B.Behaviour.next _ _ c.args.set c.self.invariant allowed c.blank_members.ensures
+    (emptied-by c.members-2.ensures.value c.drop_at.ensures) c.union-self-inside.ensures refl refl refl refl refl
 
 pub returns : goal.returns
 returns g c =
-    let new : GroupRecord = record { config = c.self.inside.config; members = c.blank_members.new.members.items; checkpoints = c.self.inside.checkpoints.items; channels = rows c.drop_at.new.self; trace = c.self.inside.trace.items; down = c.union-self-inside.result; receipts_ever = c.self.inside.receipts_ever; undone_ever = c.self.inside.undone_ever } in
+    let new : GroupRecord = record {
+      config = c.self.inside.config;
+      members = c.blank_members.new.members.items;
+      checkpoints = c.self.inside.checkpoints.items;
+      channels =
+          rows c.drop_at.new.self;
+      trace = c.self.inside.trace.items;
+      down = c.union-self-inside.result;
+      receipts_ever = c.self.inside.receipts_ever;
+      undone_ever = c.self.inside.undone_ever;
+    } in
     let allowed = subst (λ (r : GroupRecord). strike_refusal r c.args.set ≡ None) (sym c.self.view_is) c.in_ok-allow_strike.ensures.allowed in
     let emptied = emptied-by c.members-2.ensures.value c.drop_at.ensures in
     let strike = is_strike g.B.Behaviour.next _ new c.args.set c.self.invariant allowed c.blank_members.ensures emptied c.union-self-inside.ensures refl refl refl refl refl in
     let sound = is_sound g.B.Behaviour.next _ new c.args.set c.self.invariant allowed c.blank_members.ensures emptied c.union-self-inside.ensures refl refl refl refl refl in
-    let lost : c.count_lost.result ≡ count_by (is_lost_receipt_of c.union-self-inside.result c.blank_members.new.members.items c.self.inside.checkpoints.items) c.self.inside.trace.items = rw (← c.deref.ensures.value, ← c.deref-2.ensures.value, ← c.deref-3.ensures.value) c.count_lost.ensures in
+    let lost : c.count_lost.result ≡ count_by (is_lost_receipt_of c.union-self-inside.result c.blank_members.new.members.items c.self.inside.checkpoints.items) c.self.inside.trace.items =
+    rw (← c.deref.ensures.value, ← c.deref-2.ensures.value, ← c.deref-3.ensures.value) c.count_lost.ensures in
     record {
       struck = (c.in_ok-allow_strike.ensures.allowed, (subst (λ (r : GroupRecord). IsStrike r new c.args.set) c.self.view_is strike, lost ∙ count-lost g.B.Behaviour.next new sound));
       refused = tt;
