@@ -8,7 +8,6 @@ pub mod Checkpointing
 pub mod Reading
 pub mod Starting
 pub mod Dumping
-pub mod MemberNumbers
 pub mod Again
 pub mod Recovering
 pub mod PuttingBack

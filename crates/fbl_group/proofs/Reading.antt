@@ -61,12 +61,17 @@ module _ (next : Next) (r : GroupRecord) (sound : IsSound next r) where
       let n = r.config.members in
       let up : (m : ℕ) → IsUp (knowledge r) m = all_up next r sound (set.empty_of_len r.down nobody) in
       let cell : (q p : ℕ) → length (channel r q p) ≡ weight_in n one (marks r) q p = λ q p.
-          let matches : MatchesTrace (knowledge r) q p = sound.causes.channels q p (up q) (up p) in
-          let same : length (map send_mark (channel r q p)) ≡ length (map (λ ssn. Send q ssn p) (in_flight (marks r) q p)) = ap length matches in
-          omega (arith, same, length-map (channel r q p) send_mark, length-map (in_flight (marks r) q p) (λ ssn. Send q ssn p),
-              weighs-length q (in_flight (marks r) q p)) in
+      let matches : MatchesTrace (knowledge r) q p = sound.causes.channels q p (up q) (up p) in
+      let same : length (map send_mark (channel r q p)) ≡ length (map (λ ssn. Send q ssn p) (in_flight (marks r) q p)) = ap length matches in
+      omega (
+        arith,
+        same,
+        length-map (channel r q p) send_mark,
+        length-map (in_flight (marks r) q p) (λ ssn. Send q ssn p),
+        weighs-length q (in_flight (marks r) q p),
+      ) in
       let all = sum_below-agree n (λ q. sum_below n (λ p. length (channel r q p))) (λ q. sum_below n (weight_in n one (marks r) q))
-          (λ q below. sum_below-agree n (λ p. length (channel r q p)) (weight_in n one (marks r) q) (λ p below_p. cell q p)) in
+      (λ q below. sum_below-agree n (λ p. length (channel r q p)) (weight_in n one (marks r) q) (λ p below_p. cell q p)) in
       omega (arith, all, unreceived, sound.counted)
 
   -- a channel has at most as many messages as the trace may have events

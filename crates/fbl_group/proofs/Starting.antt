@@ -1,5 +1,6 @@
 -- What a group is made of at its start.
-use Rattle.std.proofs.Common.{◌≡◌, ℕ, zero, suc, ◌+◌, ◌<◌, ◌==◌, Bool, true, false, cond, List, [], ◌∷◌, ◌++◌, length, map, take, drop, get_or, Option, Some, None, refl, sym, ap, ◌∙◌, arith, append_assoc, append-nil}
+use Rattle.std.proofs.Common.{◌≡◌, ℕ, zero, suc, ◌+◌, ◌<◌, ◌==◌, Bool, true, false, cond, List, [], ◌∷◌, ◌++◌, length, map, take, drop, get_or, Option, Some, None, refl}
+use Rattle.std.proofs.Common.{sym, ap, ◌∙◌, arith, append_assoc, append-nil}
 use Rattle.std.specs.Prelude.{slice_index, slice_index_or, slice_set, count_by}
 use Rattle.std.specs.List.{filter_map, cons_option, IsDistinct}
 use Rattle.std.proofs.lemmas.Bool.Decides.{nat_tests}
@@ -26,28 +27,33 @@ unfolding IsDistinct
 once-none = tt
 
 -- one more element under a map that drops some
-pub filter_map-more : {X Y : Type 0} (h : X → Option Y) (xs : List X) (i : ℕ) (x : X) → i < length xs → x ≡ get_or xs i x → filter_map h (take (suc i) xs) ≡ filter_map h (take i xs) ++ cons_option (h x) []
+pub filter_map-more : {X Y : Type 0} (h : X → Option Y) (xs : List X) (i : ℕ) (x : X) → i < length xs → x ≡ get_or xs i x
+    → filter_map h (take (suc i) xs) ≡ filter_map h (take i xs) ++ cons_option (h x) []
 filter_map-more h [] i x below at = absurd (omega arith)
 filter_map-more h (y ∷ xs) zero x below at = ap (λ z. cons_option (h z) []) (sym at)
 filter_map-more {Y = Y} h (y ∷ xs) (suc i) x below at = here (h y) (filter_map-more h xs i x (omega arith) at) where
-  here : (o : Option Y) → filter_map h (take (suc i) xs) ≡ filter_map h (take i xs) ++ cons_option (h x) [] → cons_option o (filter_map h (take (suc i) xs)) ≡ cons_option o (filter_map h (take i xs)) ++ cons_option (h x) []
+  here : (o : Option Y) → filter_map h (take (suc i) xs) ≡ filter_map h (take i xs) ++ cons_option (h x) []
+      → cons_option o (filter_map h (take (suc i) xs)) ≡ cons_option o (filter_map h (take i xs)) ++ cons_option (h x) []
   here None ih = ih
   here (Some z) ih = ap (λ zs. z ∷ zs) ih
 
 -- one more send of a start
-pub starts-more : (done : List Event) (ss : List Start) (i : ℕ) (s : Start) → i < length ss → s ≡ get_or ss i s → start_events (done ++ Send s.from (sends_of (map mark_of done) s.from + 1) s.to s.note ∷ []) (drop (suc i) ss) ≡ start_events done (drop i ss)
+pub starts-more : (done : List Event) (ss : List Start) (i : ℕ) (s : Start) → i < length ss → s ≡ get_or ss i s
+    → start_events (done ++ Send s.from (sends_of (map mark_of done) s.from + 1) s.to s.note ∷ []) (drop (suc i) ss) ≡ start_events done (drop i ss)
 starts-more done [] i s below at = absurd (omega arith)
 starts-more done (x ∷ ss) zero s below at = rw at refl
 starts-more done (x ∷ ss) (suc i) s below at = starts-more done ss i s (omega arith) at
 
 -- how many sends the events have, with one more
-sends-more : (done : List Event) (from ssn to : ℕ) (note : Note) (m : ℕ) → sends_of (map mark_of (done ++ Send from ssn to note ∷ [])) m ≡ sends_of (map mark_of done) m + cond (from == m) 1 0
+sends-more : (done : List Event) (from ssn to : ℕ) (note : Note) (m : ℕ) → sends_of (map mark_of (done ++ Send from ssn to note ∷ [])) m ≡ sends_of (map mark_of done) m + cond
+    (from == m) 1 0
 sends-more done from ssn to note m =
     ap (λ marks. count_by (is_send_of m) marks) (map-append mark_of done (Send from ssn to note ∷ []))
     ∙ sum_by-append (λ e. cond (is_send_of m e) 1 0) (map mark_of done) (mark.Send from ssn to ∷ []) ∙ ap (λ k. sends_of (map mark_of done) m + k) (omega arith)
 
 -- the counts of sends, with one more
-pub counts-more : (done : List Event) (sent : List ℕ) (from to : ℕ) (note : Note) → ((m : ℕ) → m < 16 → slice_index sent m ≡ sends_of (map mark_of done) m) → length sent ≡ 16 → from < 16 → (m : ℕ) → m < 16
+pub counts-more : (done : List Event) (sent : List ℕ) (from to : ℕ) (note : Note) → ((m : ℕ) → m < 16 → slice_index sent m ≡ sends_of (map mark_of done) m) → length sent ≡ 16
+    → from < 16 → (m : ℕ) → m < 16
     → slice_index (slice_set sent from (slice_index sent from + 1)) m ≡ sends_of (map mark_of (done ++ Send from (sends_of (map mark_of done) from + 1) to note ∷ [])) m
 counts-more done sent from to note counts places within m below = read sent from m _ (omega (arith, places, within)) ∙ at (from == m) refl ∙ sym (sends-more done from _ to note m) where
   read : (xs : List ℕ) (k j x : ℕ) → k < length xs → slice_index (slice_set xs k x) j ≡ cond (k == j) x (slice_index xs j)
@@ -64,29 +70,39 @@ counts-more done sent from to note counts places within m below = read sent from
   at false e = omega (arith, counts m below)
 
 -- the message of an event that obeys the rules goes from a member to a member
-pub event-ends : (n : ℕ) (events : List Event) (i : ℕ) (e : Event) (w : Message) → WellFormed n (map mark_of events) → i < length events → e ≡ get_or events i e → message_of e ≡ Some w → (w.from < n) × (w.to < n)
-event-ends n events i e w obeys below read is = at e is (obeys i (mark_of e) (slice_get-get_or (map mark_of events) i (mark_of e) (omega (arith, below, length-map events mark_of)) ∙ ap (λ m. Some m) (get_or-map mark_of events i e (mark_of e) below ∙ ap mark_of (sym read)))) where
-  at : (x : Event) → message_of x ≡ Some w → MayFollow n (take i (map mark_of events)) (mark_of x) → (w.from < n) × (w.to < n)
-  at (Send from ssn to note) is may =
-      let sender : from ≡ w.from = cc in
-      let receiver : to ≡ w.to = cc in
-      (omega (arith, sender, may.0), omega (arith, receiver, may.1))
-  at (Receipt to rsn from ssn) is may = absurd cc
+pub event-ends : (n : ℕ) (events : List Event) (i : ℕ) (e : Event) (w : Message) → WellFormed n (map mark_of events) → i < length events → e ≡ get_or events i e
+    → message_of e ≡ Some w → (w.from < n) × (w.to < n)
+event-ends n events i e w obeys below read is = at e is (obeys i (mark_of e) (slice_get-get_or (map mark_of events) i (mark_of e) (omega (arith, below, length-map events mark_of))
+    ∙ ap (λ m. Some m) (get_or-map mark_of events i e (mark_of e) below ∙ ap mark_of (sym read)))) where
+      at : (x : Event) → message_of x ≡ Some w → MayFollow n (take i (map mark_of events)) (mark_of x) → (w.from < n) × (w.to < n)
+      at (Send from ssn to note) is may =
+          let sender : from ≡ w.from = cc in
+          let receiver : to ≡ w.to = cc in
+          (omega (arith, sender, may.0), omega (arith, receiver, may.1))
+      at (Receipt to rsn from ssn) is may = absurd cc
 
 -- one event more: its message is at the end of its channel
-pub sent-more : (q p n : ℕ) (first before after : List (List (List Message))) (events : List Event) (i : ℕ) (e : Event) (w : Message) → HasChannels n before → w.from < n → w.to < n → i < length events → e ≡ get_or events i e → message_of e ≡ Some w
+pub sent-more : (q p n : ℕ) (first before after : List (List (List Message))) (events : List Event) (i : ℕ) (e : Event) (w : Message) → HasChannels n before → w.from < n → w.to < n
+    → i < length events → e ≡ get_or events i e → message_of e ≡ Some w
     → after ≡ slice_set before w.from (slice_set (slice_index_or before w.from []) w.to (channel_in before w.from w.to ++ w ∷ []))
-    → channel_in before q p ≡ channel_in first q p ++ between q p (filter_map message_of (take i events)) → channel_in after q p ≡ channel_in first q p ++ between q p (filter_map message_of (take (i + 1) events))
+    → channel_in before q p ≡ channel_in first q p ++ between q p (filter_map message_of (take i events))
+    → channel_in after q p ≡ channel_in first q p ++ between q p (filter_map message_of (take (i + 1) events))
 sent-more q p n first before after events i e w shape from to below read is put was =
     let next : i + 1 ≡ suc i = omega arith in
-    let more : filter_map message_of (take (i + 1) events) ≡ filter_map message_of (take i events) ++ w ∷ [] = ap (λ k. filter_map message_of (take k events)) next ∙ filter_map-more message_of events i e below read ∙ ap (λ (o : Option Message). filter_map message_of (take i events) ++ cons_option o []) is in
-    ap (λ (cs : List (List (List Message))). channel_in cs q p) put ∙ put-in n before w q p shape from to ∙ ap (λ (c : List Message). c ++ between q p (w ∷ [])) was ∙ append_assoc (channel_in first q p) (between q p (filter_map message_of (take i events))) (between q p (w ∷ []))
-    ∙ ap (λ (c : List Message). channel_in first q p ++ c) (sym (filter-append (is_on q p) (filter_map message_of (take i events)) (w ∷ [])) ∙ ap (λ (c : List Message). between q p c) (sym more))
+    let more : filter_map message_of (take (i + 1) events) ≡ filter_map message_of (take i events) ++ w ∷ [] = ap (λ k. filter_map message_of (take k events)) next
+    ∙ filter_map-more message_of events i e below read ∙ ap (λ (o : Option Message). filter_map message_of (take i events) ++ cons_option o []) is in
+    ap (λ (cs : List (List (List Message))). channel_in cs q p) put ∙ put-in n before w.from w q p refl shape from to ∙ ap (λ (c : List Message). c ++ between q p (w ∷ [])) was
+    ∙ append_assoc (channel_in first q p) (between q p (filter_map message_of (take i events))) (between q p (w ∷ []))
+    ∙ ap (λ (c : List Message). channel_in first q p ++ c) (sym (filter-append (is_on q p) (filter_map message_of (take i events)) (w ∷ []))
+    ∙ ap (λ (c : List Message). between q p c) (sym more))
 
 -- an event that sends nothing leaves the channels
 pub sent-none : (q p : ℕ) (first before : List (List (List Message))) (events : List Event) (i : ℕ) (e : Event) → i < length events → e ≡ get_or events i e → message_of e ≡ None
-    → channel_in before q p ≡ channel_in first q p ++ between q p (filter_map message_of (take i events)) → channel_in before q p ≡ channel_in first q p ++ between q p (filter_map message_of (take (i + 1) events))
+    → channel_in before q p ≡ channel_in first q p ++ between q p (filter_map message_of (take i events))
+    → channel_in before q p ≡ channel_in first q p ++ between q p (filter_map message_of (take (i + 1) events))
 sent-none q p first before events i e below read is was =
     let next : i + 1 ≡ suc i = omega arith in
-    let more : filter_map message_of (take (i + 1) events) ≡ filter_map message_of (take i events) = ap (λ k. filter_map message_of (take k events)) next ∙ filter_map-more message_of events i e below read ∙ ap (λ (o : Option Message). filter_map message_of (take i events) ++ cons_option o []) is ∙ append-nil (filter_map message_of (take i events)) in
+    let more : filter_map message_of (take (i + 1) events) ≡ filter_map message_of (take i events) = ap (λ k. filter_map message_of (take k events)) next
+    ∙ filter_map-more message_of events i e below read ∙ ap (λ (o : Option Message). filter_map message_of (take i events) ++ cons_option o []) is
+    ∙ append-nil (filter_map message_of (take i events)) in
     was ∙ ap (λ (c : List Message). channel_in first q p ++ between q p c) (sym more)

@@ -7,7 +7,6 @@ ghost use Rattle.fbl_group.specs.Deliveries.{Delivers, IsPlanned};
 ghost use Rattle.fbl_group.specs.Tickets.{has_no_room, take_refusal, IsTicket, commit_refusal, IsCommitRefusal, is_current as is_current_of};
 
 use crate::answers::Receipted;
-use crate::channels::front;
 use crate::group::Group;
 use crate::refusals::{CommitRefusal, TakeRefusal};
 use crate::ticket::{Done, Ticket};
@@ -30,7 +29,7 @@ impl<B: Behaviour, A: Allocator + Copy> Group<B, A> {
         if self.down.count() != 0 {
             return Err(TakeRefusal::Down);
         }
-        let Some(wire) = front(&self.channels, from, to) else {
+        let Some(wire) = self.channels.front(from, to) else {
             return Err(TakeRefusal::Empty);
         };
         let member = &self.members[usize::from(to.number())];
@@ -71,7 +70,7 @@ impl<B: Behaviour, A: Allocator + Copy> Group<B, A> {
         if self.config.members() != ticket.n {
             return Err(CommitRefusal::Stale);
         }
-        let Some(wire) = front(&self.channels, ticket.from, ticket.to) else {
+        let Some(wire) = self.channels.front(ticket.from, ticket.to) else {
             return Err(CommitRefusal::Stale);
         };
         let member = &self.members[usize::from(ticket.to.number())];

@@ -5,7 +5,6 @@ ghost use Rattle.fbl_group.specs.Channels.{front_message};
 ghost use Rattle.fbl_group.specs.Deliveries.{deliver_refusal, IsDeliverRefusal, IsPlanned, Delivers, Delivered, of_take as of_take_refusal, of_commit as of_commit_refusal};
 
 use crate::answers::Receipted;
-use crate::channels::{front, reserve_from, take_and_send};
 use crate::group::Group;
 use crate::refusals::{CommitRefusal, DeliverRefusal, TakeRefusal};
 use crate::ticket::{Done, run_step};
@@ -40,8 +39,8 @@ impl<B: Behaviour, A: Allocator + Copy> Group<B, A> {
         let from = done.ticket.from;
         let sends = done.outcome.sends.as_slice();
         self.trace.reserve(1 + sends.len())?;
-        reserve_from(&mut self.channels, to, sends)?;
-        let wire = front(&self.channels, from, to).unwrap();
+        self.channels.reserve_from(to, sends)?;
+        let wire = self.channels.front(from, to).unwrap();
         let ssn = wire.ssn();
         let carried = wire.carried().len() as u32;
         let n = self.config.members();
@@ -51,7 +50,7 @@ impl<B: Behaviour, A: Allocator + Copy> Group<B, A> {
         let rsn = member.received();
         self.trace
             .push_reserved(Event::Receipt { to, rsn, from, ssn });
-        take_and_send(&mut self.channels, from, to, made, &mut self.trace);
+        self.channels.take_and_send(from, to, made, &mut self.trace);
         self.receipts_ever += 1;
         Ok(Receipted {
             rsn,

@@ -15,6 +15,7 @@ ghost use Rattle.fbl_law.specs.Dumps.{pairs_of, pairs_from, dump_of, HasDistinct
 ghost use Rattle.fbl_group.specs.Readers.{IsDumpRefusal};
 
 use crate::group::Group;
+use crate::members::member_at;
 use crate::refusals::DumpGroupRefusal;
 use fbl_base::audit::Dump;
 use fbl_base::{Behaviour, Determinant, Event, Mark, Member, MemberSet, RawDump};
@@ -78,7 +79,7 @@ fn held_pairs<A: Allocator + Copy>(
 {
     let mut held = Vec::new(alloc);
     for place in 0..members.len() {
-        let holder = Member::new(place as u8).unwrap();
+        let holder = member_at(place as u8);
         push_pairs(&mut held, holder, members[place].table())?;
     }
     Ok(held)

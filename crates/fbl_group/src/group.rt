@@ -26,7 +26,7 @@ pub struct Group<B: Behaviour, A: Allocator = Global> {
 impl<B: Behaviour, A: Allocator> Model for Group<B, A> {
     ghost use Rattle.fbl_law.specs.Groups.{GroupRecord};
     ghost use Rattle.fbl_law.specs.Sound.{IsSound};
-    ghost use Rattle.fbl_group.specs.Channels.{queued_rows};
+    ghost use Rattle.fbl_group.specs.Channels.{rows};
 
     ghost Value = { GroupRecord };
 
@@ -40,7 +40,7 @@ impl<B: Behaviour, A: Allocator> Model for Group<B, A> {
 
     ghost coded = { Prim.hlevel (codes, content.the_row.coded, entry.the_row.coded, start.the_row.coded, event.the_row.coded, set.code {R = nat_cmp} coded_ℕ) };
 
-    ghost view = { λ g. record { config = g.config; members = g.members.items; checkpoints = g.checkpoints.items; channels = queued_rows g.channels.items; trace = g.trace.items; down = g.down; receipts_ever = g.receipts_ever; undone_ever = g.undone_ever } };
+    ghost view = { λ g. record { config = g.config; members = g.members.items; checkpoints = g.checkpoints.items; channels = rows g.channels; trace = g.trace.items; down = g.down; receipts_ever = g.receipts_ever; undone_ever = g.undone_ever } };
 
-    ghost invariant = { λ g. IsSound B.next (record { config = g.config; members = g.members.items; checkpoints = g.checkpoints.items; channels = queued_rows g.channels.items; trace = g.trace.items; down = g.down; receipts_ever = g.receipts_ever; undone_ever = g.undone_ever }) };
+    ghost invariant = { λ g. IsSound B.next (record { config = g.config; members = g.members.items; checkpoints = g.checkpoints.items; channels = rows g.channels; trace = g.trace.items; down = g.down; receipts_ever = g.receipts_ever; undone_ever = g.undone_ever }) };
 }

@@ -9,6 +9,7 @@ mod crash;
 mod deliver;
 mod dump;
 mod group;
+mod members;
 mod readers;
 mod rebuilt;
 mod recover;

@@ -11,8 +11,8 @@ ghost use Rattle.fbl_law.specs.StepLaws.{weight_held, weight_flying};
 ghost use Rattle.fbl_law.specs.Promises.{HoldsEachReceipt};
 ghost use Rattle.fbl_group.specs.Readers.{is_quiet as is_quiet_now};
 
-use crate::channels::{channel_between, count_messages, sum_values};
 use crate::group::Group;
+use crate::members::member_at;
 use fbl_base::{Behaviour, Config, Event, Member, MemberSet};
 use fbl_member::MemberRec;
 use fbl_table::Table;
@@ -46,7 +46,7 @@ impl<B: Behaviour, A: Allocator + Copy> Group<B, A> {
     {
         let mut sum = 0u128;
         for number in 0..self.config.members() {
-            sum += u128::from(self.state(Member::new(number).unwrap()));
+            sum += u128::from(self.state(member_at(number)));
         }
         sum
     }
@@ -89,7 +89,7 @@ impl<B: Behaviour, A: Allocator + Copy> Group<B, A> {
         requires to { to < self.now.config.members }
         ensures { result ≡ length (channel_of self.now from to) }
     {
-        channel_between(&self.channels, from, to).wires.len() as u32
+        self.channels.between(from, to).len() as u32
     }
 
     /// What happened, in order: the starts' sends, and then the receipts and sends that no recovery has undone.
@@ -137,7 +137,7 @@ impl<B: Behaviour, A: Allocator + Copy> Group<B, A> {
         if self.down.count() == 0 {
             self.unreceived()
         } else {
-            count_messages(&self.channels, self.config.members())
+            self.channels.count_messages(self.config.members())
         }
     }
 
@@ -154,7 +154,7 @@ impl<B: Behaviour, A: Allocator + Copy> Group<B, A> {
     pub fn value_in_flight(&self) -> u64
         ensures { result ≡ weight_flying (λ note. note.value) self.now }
     {
-        sum_values(&self.channels, self.config.members())
+        self.channels.sum_values(self.config.members())
     }
 
     /// How many receipts were ever made, also those that recoveries have undone. It never falls.

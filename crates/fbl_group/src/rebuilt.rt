@@ -8,6 +8,7 @@ ghost use Rattle.fbl_member.specs.Members.{blank};
 ghost use Rattle.fbl_law.specs.Replaying.{stays_by, count_in};
 ghost use Rattle.fbl_group.specs.Rebuilding.{IsPutBack};
 
+use crate::members::member_at;
 use fbl_base::{Event, Member, MemberSet};
 use fbl_member::MemberRec;
 use std::alloc::Allocator;
@@ -29,7 +30,7 @@ impl<A: Allocator + Copy> Rebuilt<A> {
     {
         let mut replayed = 0;
         for number in 0..n {
-            replayed += self.replayed_by(checkpoints, Member::new(number).unwrap());
+            replayed += self.replayed_by(checkpoints, member_at(number));
         }
         replayed
     }
@@ -96,7 +97,7 @@ impl<A: Allocator + Copy> Rebuilt<A> {
         let Rebuilt { down, mut records } = self;
         for number in 0..n {
             let place = usize::from(number);
-            if down.has(Member::new(number).unwrap()) {
+            if down.has(member_at(number)) {
                 mem::swap(&mut members[place], &mut records[place]);
             }
         }

@@ -1,20 +1,21 @@
 //! Recovery of the members that are down.
 
-ghost use Rattle.std.specs.Prelude.{◌≡◌, ℕ, ◌<◌, ◌≤◌, ◌||◌, [], if◌then◌else◌, length, map, slice_index_or, IfOk, IfErr, OnErr, OnOk, vec_len};
+ghost use Rattle.std.specs.Prelude.{◌≡◌, ℕ, ◌<◌, ◌≤◌, length, map, IfOk, IfErr, OnErr, OnOk};
 ghost use Rattle.std.specs.Option.{is_some};
 ghost use Rattle.std.specs.FinSet as set;
 ghost use Rattle.fbl_base.specs.Events.{mark_of, determinant_of};
 ghost use Rattle.fbl_law.specs.Groups.{HasChannels, channel_in, knowledge, receipts};
 ghost use Rattle.fbl_law.specs.Promises.{GainsHolders, LeavesRecorded, RecordsFirst};
-ghost use Rattle.fbl_group.specs.Channels.{queued, queued_rows, AreReplaced};
+ghost use Rattle.fbl_group.specs.Channels.{rows, AreReplaced};
 ghost use Rattle.fbl_group.specs.Recoveries.{Recovers, IsRecoverRefusal};
 ghost use Rattle.fbl_group.specs.Strikes.{lost_receipts};
 
 use crate::answers::Recovered;
-use crate::channels::{Channels, Outgoing, count_messages, has_either};
+use crate::channels::{Channels, has_either};
 use crate::group::Group;
+use crate::members::member_at;
 use crate::refusals::RecoverRefusal;
-use fbl_base::{Behaviour, Event, Member, MemberSet};
+use fbl_base::{Behaviour, Event, MemberSet};
 use std::alloc::{AllocError, Allocator};
 use std::mem;
 
@@ -52,12 +53,12 @@ impl<B: Behaviour, A: Allocator + Copy> Group<B, A> {
         let again = self.resend(rebuilt.records.as_slice())?;
         let n = self.config.members();
         let replayed = rebuilt.replayed(self.checkpoints.as_slice(), n);
-        let resent = count_messages(&again, n) as u32;
+        let resent = again.count_messages(n) as u32;
         let before = count_receipts(self.trace.as_slice());
         rebuilt.cut(&mut self.trace);
         let undone = before - count_receipts(self.trace.as_slice());
         rebuilt.put_back(&mut self.members, n);
-        replace_channels(&mut self.channels, again, self.down, n);
+        self.channels.replace(again, self.down, n);
         self.down = MemberSet::empty();
         self.undone_ever += u64::from(undone);
         Ok(Recovered {
@@ -84,44 +85,26 @@ fn is_receipt(event: Event) -> bool
     event.mark().determinant().is_some()
 }
 
-/// Puts the channels that were made again in the places of those with an end that is down, of `n` members.
-fn replace_channels<A: Allocator>(
-    channels: &mut Channels<A>,
-    again: Channels<A>,
-    down: MemberSet,
-    n: u8,
-)
-    requires shape { HasChannels n (queued_rows channels.old.items) }
-    requires again { HasChannels n (queued_rows again.items) }
-    requires few { n ≤ 16 }
-    ensures { AreReplaced n down (channel_in (queued_rows again.items)) (queued_rows channels.old.items) (queued_rows channels.new.items) }
-{
-    let mut again = again;
-    for number in 0..n {
-        let from = Member::new(number).unwrap();
-        let place = usize::from(number);
-        replace_outgoing(&mut channels[place], &mut again[place], down, from, n);
-    }
-}
-
-/// Puts those of the member's channels that were made again in the places of those with an end that is down.
-fn replace_outgoing<A: Allocator>(
-    outgoing: &mut Outgoing<A>,
-    again: &mut Outgoing<A>,
-    down: MemberSet,
-    from: Member,
-    n: u8,
-)
-    requires outgoing { vec_len outgoing.old ≡ n }
-    requires again { vec_len again.old ≡ n }
-    requires few { n ≤ 16 }
-    ensures size { length (queued outgoing.new.items) ≡ n }
-    ensures each { (p : ℕ) → p < n → slice_index_or (queued outgoing.new.items) p [] ≡ (if set.contains down from || set.contains down p then slice_index_or (queued again.old.items) p [] else slice_index_or (queued outgoing.old.items) p []) }
-{
-    for number in 0..n {
-        let place = usize::from(number);
-        if has_either(down, from, Member::new(number).unwrap()) {
-            mem::swap(&mut outgoing[place], &mut again[place]);
+impl<A: Allocator> Channels<A> {
+    /// Puts the channels that were made again in the places of those with an end that is down, of `n` members.
+    fn replace(&mut self, again: Channels<A>, down: MemberSet, n: u8)
+        requires shape { HasChannels n (rows self.old) }
+        requires again { HasChannels n (rows again) }
+        requires few { n ≤ 16 }
+        ensures { AreReplaced n down (channel_in (rows again)) (rows self.old) (rows self.new) }
+    {
+        let mut again = again;
+        for sender in 0..n {
+            let from = member_at(sender);
+            for receiver in 0..n {
+                let to = member_at(receiver);
+                if has_either(down, from, to) {
+                    mem::swap(
+                        &mut self.rows[usize::from(sender)][usize::from(receiver)],
+                        &mut again.rows[usize::from(sender)][usize::from(receiver)],
+                    );
+                }
+            }
         }
     }
 }

@@ -11,6 +11,7 @@ ghost use Rattle.fbl_law.specs.Replaying.{working, IsReplaying};
 ghost use Rattle.fbl_group.specs.Rebuilding.{AreByNumber, IsGathered, Tries, Rounds, HasReplayed, IsReady};
 
 use crate::group::Group;
+use crate::members::member_at;
 use crate::rebuilt::Rebuilt;
 use fbl_base::{Behaviour, Determinant, Member, Note};
 use fbl_member::MemberRec;
@@ -82,7 +83,7 @@ impl<B: Behaviour, A: Allocator + Copy> Group<B, A> {
         ensures { OnOk result (gathered.new ≡ gathered_all gathered.old (saved_tables self.now.down self.now.checkpoints self.now.config.members)) }
     {
         for number in 0..self.config.members() {
-            if self.down.has(Member::new(number).unwrap()) {
+            if self.down.has(member_at(number)) {
                 gathered.gather(self.checkpoints[usize::from(number)].table())?;
             }
         }
@@ -96,7 +97,7 @@ impl<B: Behaviour, A: Allocator + Copy> Group<B, A> {
     {
         let mut receipts = Vec::new(*self.members.allocator());
         for number in 0..self.config.members() {
-            let member = Member::new(number).unwrap();
+            let member = member_at(number);
             receipts.push(self.number_receipts_of(member, gathered)?)?;
         }
         Ok(receipts)
@@ -126,7 +127,7 @@ impl<B: Behaviour, A: Allocator + Copy> Group<B, A> {
     {
         let mut rebuilt = Vec::new(*self.members.allocator());
         for number in 0..self.config.members() {
-            let member = Member::new(number).unwrap();
+            let member = member_at(number);
             rebuilt.push(self.begin_one(member)?)?;
         }
         Ok(rebuilt)
@@ -158,7 +159,7 @@ impl<B: Behaviour, A: Allocator + Copy> Group<B, A> {
     {
         let mut moved = false;
         for number in 0..self.config.members() {
-            let member = Member::new(number).unwrap();
+            let member = member_at(number);
             if self.down.has(member) {
                 if self.replay_next(gathered, member, rebuilt)? {
                     moved = true;
@@ -233,7 +234,7 @@ impl<B: Behaviour, A: Allocator + Copy> Group<B, A> {
     {
         let mut gathered = gathered;
         for number in 0..self.config.members() {
-            let member = Member::new(number).unwrap();
+            let member = member_at(number);
             if self.down.has(member) {
                 let table = self.table_for(member, &mut gathered)?;
                 rebuilt[usize::from(number)].set_table(table);
@@ -261,7 +262,7 @@ impl<B: Behaviour, A: Allocator + Copy> Group<B, A> {
     {
         let down = self.down();
         for number in member.number() + 1..self.config.members() {
-            if down.has(Member::new(number).unwrap()) {
+            if down.has(member_at(number)) {
                 return false;
             }
         }

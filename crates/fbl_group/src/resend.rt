@@ -1,14 +1,16 @@
 //! Messages that are sent again: those of the members that were down, and those that these have not received.
 
-ghost use Rattle.std.specs.Prelude.{◌≡◌, ℕ, ◌<◌, ◌++◌, [], length, slice_index_or, IfOk, IfSome, OnOk};
+ghost use Rattle.std.specs.Prelude.{◌≡◌, ℕ, ◌<◌, ◌++◌, [], length, map, slice_index_or, vec_len, IfOk, IfSome, OnOk};
+ghost use Rattle.std.specs.VecDeque.{deque_items};
 ghost use Rattle.fbl_table.specs.Tables.{piggybacked};
 ghost use Rattle.fbl_member.specs.Carried.{IsOnce};
 ghost use Rattle.fbl_law.specs.Groups.{HasChannels, channel_in};
 ghost use Rattle.fbl_law.specs.Replaying.{working, resent, resent_to, sent_again};
-ghost use Rattle.fbl_group.specs.Channels.{queued, queued_rows};
+ghost use Rattle.fbl_group.specs.Channels.{rows};
 
-use crate::channels::{Channel, Channels, Outgoing, has_either};
+use crate::channels::{Channel, Channels, has_either};
 use crate::group::Group;
+use crate::members::member_at;
 use fbl_base::{Behaviour, Member, Note};
 use fbl_member::{Carried, MemberRec, Wire};
 use fbl_table::Table;
@@ -19,31 +21,35 @@ impl<B: Behaviour, A: Allocator + Copy> Group<B, A> {
     /// The channels made again: on each with an end that is down what its sender sends again, and nothing on the others.
     pub(crate) fn resend(&self, rebuilt: &[MemberRec<A>]) -> Result<Channels<A>, AllocError>
         requires { length rebuilt.now ≡ self.now.config.members }
-        ensures shape { IfOk result (λ again. HasChannels self.now.config.members (queued_rows again.items)) }
-        ensures each { IfOk result (λ again. (q p : ℕ) → q < self.now.config.members → p < self.now.config.members → channel_in (queued_rows again.items) q p ≡ sent_again self.now.config.f self.now.down (working self.now rebuilt.now) q p) }
+        ensures shape { IfOk result (λ again. HasChannels self.now.config.members (rows again)) }
+        ensures each { IfOk result (λ again. (q p : ℕ) → q < self.now.config.members → p < self.now.config.members → channel_in (rows again) q p ≡ sent_again self.now.config.f self.now.down (working self.now rebuilt.now) q p) }
     {
-        let mut again = Vec::new(*self.members.allocator());
+        let mut rows = Vec::new(*self.members.allocator());
         for number in 0..self.config.members() {
-            let from = Member::new(number).unwrap();
-            again.push(self.resend_from(rebuilt, from)?)?;
+            let from = member_at(number);
+            rows.push(self.resend_from(rebuilt, from)?)?;
         }
-        Ok(again)
+        Ok(Channels { rows })
     }
 
     /// The member's channels made again.
-    fn resend_from(&self, rebuilt: &[MemberRec<A>], from: Member) -> Result<Outgoing<A>, AllocError>
+    fn resend_from(
+        &self,
+        rebuilt: &[MemberRec<A>],
+        from: Member,
+    ) -> Result<Vec<Channel<A>, A>, AllocError>
         requires size { length rebuilt.now ≡ self.now.config.members }
         requires from { from < self.now.config.members }
-        ensures size { IfOk result (λ outgoing. length (queued outgoing.items) ≡ self.now.config.members) }
-        ensures each { IfOk result (λ outgoing. (p : ℕ) → p < self.now.config.members → slice_index_or (queued outgoing.items) p [] ≡ sent_again self.now.config.f self.now.down (working self.now rebuilt.now) from p) }
+        ensures size { IfOk result (λ row. vec_len row ≡ self.now.config.members) }
+        ensures each { IfOk result (λ row. (p : ℕ) → p < self.now.config.members → slice_index_or (map deque_items row.items) p [] ≡ sent_again self.now.config.f self.now.down (working self.now rebuilt.now) from p) }
     {
-        let mut outgoing = Vec::new(*self.members.allocator());
+        let mut row = Vec::new(*self.members.allocator());
         let mut passed = None;
         for number in 0..self.config.members() {
-            let to = Member::new(number).unwrap();
-            outgoing.push(self.resend_on(rebuilt, from, to, &mut passed)?)?;
+            let to = member_at(number);
+            row.push(self.resend_on(rebuilt, from, to, &mut passed)?)?;
         }
-        Ok(outgoing)
+        Ok(row)
     }
 
     /// The channel from one member to another made again, where one of the two is down. What the sender passes on is lent once
@@ -60,13 +66,13 @@ impl<B: Behaviour, A: Allocator + Copy> Group<B, A> {
         requires to { to < self.now.config.members }
         requires passed { IfSome passed.old (λ carried. carried ≡ piggybacked self.now.config.f (working self.now rebuilt.now from).table) }
         ensures passed { IfSome passed.new (λ carried. carried ≡ piggybacked self.now.config.f (working self.now rebuilt.now from).table) }
-        ensures made { IfOk result (λ channel. channel.wires.items ≡ sent_again self.now.config.f self.now.down (working self.now rebuilt.now) from to) }
+        ensures made { IfOk result (λ channel. channel.items ≡ sent_again self.now.config.f self.now.down (working self.now rebuilt.now) from to) }
     {
         let mut wires = VecDeque::new(*self.members.allocator());
         if has_either(self.down, from, to) {
             self.resend_to(rebuilt, from, to, passed, &mut wires)?;
         }
-        Ok(Channel { wires })
+        Ok(wires)
     }
 
     /// Puts in the messages of the sender's log beyond the last one that the receiver has had.

@@ -7,12 +7,13 @@ ghost use Rattle.fbl_base.specs.Events.{mark_of};
 ghost use Rattle.fbl_base.specs.Rules.{WellFormed};
 ghost use Rattle.fbl_law.specs.Steps.{between};
 ghost use Rattle.fbl_law.specs.Groups.{HasChannels, channel_in};
-ghost use Rattle.fbl_group.specs.Channels.{queued_rows};
+ghost use Rattle.fbl_group.specs.Channels.{rows};
 ghost use Rattle.fbl_law.specs.GroupSteps.{IsGroupStart, start_events, message_of};
 
-use crate::channels::{Channels, empty_channels, send};
+use crate::channels::{Channels, empty_channels};
 use crate::group::Group;
-use fbl_base::{Behaviour, Config, Event, Member, MemberSet, Start};
+use crate::members::member_at;
+use fbl_base::{Behaviour, Config, Event, MemberSet, Start};
 use fbl_member::{Carried, MemberRec, Wire};
 use std::alloc::{AllocError, Allocator};
 use std::marker::PhantomData;
@@ -52,7 +53,7 @@ fn fresh_members<A: Allocator + Copy>(
 {
     let mut members = Vec::new(alloc);
     for number in 0..config.members() {
-        let member = Member::new(number).unwrap();
+        let member = member_at(number);
         members.push(MemberRec::fresh(alloc, config, member)?)?;
     }
     Ok(members)
@@ -86,14 +87,14 @@ fn send_starts<A: Allocator + Copy>(
     channels: &mut Channels<A>,
     n: u8,
 ) -> Result<(), AllocError>
-    requires shape { HasChannels n (queued_rows channels.old.items) }
+    requires shape { HasChannels n (rows channels.old) }
     requires rules { WellFormed n (map mark_of events.now) }
-    ensures shape { OnOk result (HasChannels n (queued_rows channels.new.items)) }
-    ensures sent { OnOk result ((q p : ℕ) → channel_in (queued_rows channels.new.items) q p ≡ channel_in (queued_rows channels.old.items) q p ++ between q p (filter_map message_of events.now)) }
+    ensures shape { OnOk result (HasChannels n (rows channels.new)) }
+    ensures sent { OnOk result ((q p : ℕ) → channel_in (rows channels.new) q p ≡ channel_in (rows channels.old) q p ++ between q p (filter_map message_of events.now)) }
 {
     for event in events {
         if let Some(wire) = message(alloc, *event) {
-            send(&mut channels[usize::from(wire.from().number())], wire)?;
+            channels.send(wire)?;
         }
     }
     Ok(())

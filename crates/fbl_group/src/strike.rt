@@ -1,21 +1,21 @@
 //! Strikes.
 
-ghost use Rattle.std.specs.Prelude.{◌≡◌, ℕ, ◌<◌, ◌≤◌, ◌||◌, [], if◌then◌else◌, IfOk, IfErr, OnOk, OnErr, None, Some, length, slice_index_or, vec_len, count_by};
+ghost use Rattle.std.specs.Prelude.{◌≡◌, ℕ, ◌<◌, ◌≤◌, [], IfOk, IfErr, OnOk, OnErr, None, Some, length, vec_len, count_by};
 ghost use Rattle.std.specs.List.{list_any};
-ghost use Rattle.std.specs.FinSet as sets;
 ghost use Rattle.fbl_table.specs.Tables.{is_held};
 ghost use Rattle.fbl_member.specs.Members.{blank};
 ghost use Rattle.fbl_law.specs.Knowledge.{IsOrphan};
 ghost use Rattle.fbl_law.specs.Promises.{SurvivorsHold, RecordsFirst, RecordsCauses};
 ghost use Rattle.fbl_law.specs.Groups.{HasChannels, is_recorded_among as is_recorded_among_of, knowledge};
-ghost use Rattle.fbl_group.specs.Channels.{queued, queued_rows, AreReplaced};
+ghost use Rattle.fbl_group.specs.Channels.{rows, AreReplaced};
 ghost use Rattle.fbl_group.specs.Strikes.{strike_refusal, Strikes, IsBlanked, is_lost_receipt_of, lost_receipts, unrecorded_among};
 
 use crate::answers::Struck;
-use crate::channels::{Channels, Outgoing, has_either};
+use crate::channels::{Channels, has_either};
 use crate::group::Group;
+use crate::members::member_at;
 use crate::refusals::StrikeRefusal;
-use fbl_base::{Behaviour, Determinant, Event, Member, MemberSet};
+use fbl_base::{Behaviour, Determinant, Event, MemberSet};
 use fbl_member::MemberRec;
 use std::alloc::{AllocError, Allocator};
 
@@ -40,7 +40,7 @@ impl<B: Behaviour, A: Allocator + Copy> Group<B, A> {
             self.config.members(),
             self.config.f(),
         );
-        drop_at(&mut self.channels, set, self.config.members());
+        self.channels.drop_at(set, self.config.members());
         self.down = self.down.union(set);
         // Each receipt of a member that is up is held, so that those of members that are down are counted alone.
         Ok(Struck {
@@ -218,7 +218,7 @@ fn blank_members<A: Allocator + Copy>(
 {
     let alloc = *members.allocator();
     for number in 0..n {
-        let member = Member::new(number).unwrap();
+        let member = member_at(number);
         if set.has(member) {
             make_blank(&mut members[usize::from(number)], alloc, f);
         }
@@ -232,29 +232,21 @@ fn make_blank<A: Allocator + Copy>(member: &mut MemberRec<A>, alloc: A, f: u8)
     *member = MemberRec::blank(alloc, f);
 }
 
-/// Drops the messages in flight with an end among the members named, of `n`.
-fn drop_at<A: Allocator>(channels: &mut Channels<A>, set: MemberSet, n: u8)
-    requires shape { HasChannels n (queued_rows channels.old.items) }
-    requires few { n ≤ 16 }
-    ensures { AreReplaced n set (λ q p. []) (queued_rows channels.old.items) (queued_rows channels.new.items) }
-{
-    for number in 0..n {
-        let from = Member::new(number).unwrap();
-        drop_from(&mut channels[usize::from(number)], set, from, n);
-    }
-}
-
-/// Drops the messages in flight from the member, where it or the receiver is one of those named.
-fn drop_from<A: Allocator>(outgoing: &mut Outgoing<A>, set: MemberSet, from: Member, n: u8)
-    requires size { vec_len outgoing.old ≡ n }
-    requires few { n ≤ 16 }
-    ensures size { length (queued outgoing.new.items) ≡ n }
-    ensures each { (p : ℕ) → p < n → slice_index_or (queued outgoing.new.items) p [] ≡ (if sets.contains set from || sets.contains set p then [] else slice_index_or (queued outgoing.old.items) p []) }
-{
-    for number in 0..n {
-        let to = Member::new(number).unwrap();
-        if has_either(set, from, to) {
-            outgoing[usize::from(number)].wires.clear();
+impl<A: Allocator> Channels<A> {
+    /// Drops the messages in flight with an end among the members named, of `n`.
+    fn drop_at(&mut self, set: MemberSet, n: u8)
+        requires shape { HasChannels n (rows self.old) }
+        requires few { n ≤ 16 }
+        ensures { AreReplaced n set (λ q p. []) (rows self.old) (rows self.new) }
+    {
+        for sender in 0..n {
+            let from = member_at(sender);
+            for receiver in 0..n {
+                let to = member_at(receiver);
+                if has_either(set, from, to) {
+                    self.rows[usize::from(sender)][usize::from(receiver)].clear();
+                }
+            }
         }
     }
 }

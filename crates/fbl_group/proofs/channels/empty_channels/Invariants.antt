@@ -1,6 +1,7 @@
 use Rattle.std.proofs.Common.{◌≡◌, [], replicate}
-use Rattle.fbl_group.specs.Channels.{queued_rows}
+use Rattle.std.specs.VecDeque.{deque_items}
+use Rattle.fbl_group.specs.Channels.{each}
 use Rattle.fbl_group.proofs.channels.empty_channels.Given as goal
 
 abbrev pub invariant-loop-number : goal.invariant-loop-number
-invariant-loop-number g l = queued_rows l.channels.items ≡ replicate l._number (replicate l.n [])
+invariant-loop-number g l = each deque_items l.rows.items ≡ replicate l._number (replicate l.n [])

@@ -3,11 +3,11 @@ use Rattle.std.specs.List.{filter_map}
 use Rattle.fbl_law.specs.GroupSteps.{message_of}
 use Rattle.fbl_law.specs.Steps.{between}
 use Rattle.fbl_law.specs.Groups.{HasChannels, channel_in}
-use Rattle.fbl_group.specs.Channels.{queued_rows}
+use Rattle.fbl_group.specs.Channels.{rows}
 use Rattle.fbl_group.proofs.start.send_starts.Given as goal
 
 abbrev pub invariant-loop-event : goal.invariant-loop-event
 invariant-loop-event g l = record {
-  shape : HasChannels l.n (queued_rows l.channels.items);
-  sent : (q p : ℕ) → channel_in (queued_rows l.channels.items) q p ≡ channel_in (queued_rows l.fn.channels.items) q p ++ between q p (filter_map message_of (take l.event-index l.events));
+  shape : HasChannels l.n (rows l.channels);
+  sent : (q p : ℕ) → channel_in (rows l.channels) q p ≡ channel_in (rows l.fn.channels) q p ++ between q p (filter_map message_of (take l.event-index l.events));
 }

@@ -8,7 +8,7 @@ use Rattle.fbl_law.specs.Steps.{between}
 use Rattle.fbl_law.specs.Groups.{HasChannels}
 use Rattle.fbl_law.specs.GroupSteps.{IsGroupStart, start_events, message_of}
 use Rattle.fbl_law.proofs.GroupStart.{starts-obey, group_start_is_sound}
-use Rattle.fbl_group.specs.Channels.{queued_rows}
+use Rattle.fbl_group.specs.Channels.{rows}
 use Rattle.fbl_group.proofs.Queues.{none-shape, none-in}
 use Rattle.fbl_group.proofs.group.Group.new.Given.{Over}
 use Rattle.fbl_group.proofs.group.Group.new.Goals as goal
@@ -16,7 +16,8 @@ use Rattle.fbl_group.proofs.group.Group.new.Goals.{After-empty}
 
 pub send_starts-requires-clause-shape : goal.send_starts-requires-clause-shape
 send_starts-requires-clause-shape g c =
-    subst (λ k. HasChannels k (queued_rows c.in_ok-channels.channels.items)) (c.members.ensures.value ∙ sym c.members-2.ensures.value) (none-shape c.members.result (queued_rows c.in_ok-channels.channels.items) c.in_ok-channels.ensures)
+    subst (λ k. HasChannels k (rows c.in_ok-channels.channels)) (c.members.ensures.value
+    ∙ sym c.members-2.ensures.value) (none-shape c.members.result (rows c.in_ok-channels.channels) c.in_ok-channels.ensures)
 
 pub send_starts-requires-clause-rules : goal.send_starts-requires-clause-rules
 send_starts-requires-clause-rules g c =
@@ -24,12 +25,23 @@ send_starts-requires-clause-rules g c =
     rw (c.deref.ensures.value, c.in_ok-trace.ensures, c.starts.ensures, c.members-2.ensures.value) (starts-obey c.args.config rules)
 
 -- the group is the start
-made : (g : Over) (c : After-empty g) → IsGroupStart c.args.config (record { config = c.args.config; members = c.in_ok-members.members.items; checkpoints = c.in_ok-checkpoints.checkpoints.items; channels = queued_rows c.send_starts.new.channels.items; trace = c.in_ok-trace.trace.items; down = c.empty.result; receipts_ever = 0; undone_ever = 0 })
+made : (g : Over) (c : After-empty g) → IsGroupStart c.args.config (record {
+  config = c.args.config;
+  members = c.in_ok-members.members.items;
+  checkpoints =
+      c.in_ok-checkpoints.checkpoints.items;
+  channels = rows c.send_starts.new.channels;
+  trace = c.in_ok-trace.trace.items;
+  down = c.empty.result;
+  receipts_ever = 0;
+  undone_ever = 0;
+})
 made g c = record {
   parameters = refl;
   trace = c.in_ok-trace.ensures ∙ ap (λ (ss : List Start). start_events [] ss) c.starts.ensures;
-  shape = subst (λ k. HasChannels k (queued_rows c.send_starts.new.channels.items)) c.members-2.ensures.value c.in_ok-send_starts.ensures.shape;
-  channels = λ q p. c.in_ok-send_starts.ensures.sent q p ∙ ap (λ (vs : List Message). vs ++ between q p (filter_map message_of c.deref.result.now)) (none-in c.members.result (queued_rows c.in_ok-channels.channels.items) q p c.in_ok-channels.ensures) ∙ ap (λ (es : List Event). between q p (filter_map message_of es)) c.deref.ensures.value;
+  shape = subst (λ k. HasChannels k (rows c.send_starts.new.channels)) c.members-2.ensures.value c.in_ok-send_starts.ensures.shape;
+  channels = λ q p. c.in_ok-send_starts.ensures.sent q p ∙ ap (λ (vs : List Message). vs ++ between q p (filter_map message_of c.deref.result.now))
+      (none-in c.members.result (rows c.in_ok-channels.channels) q p c.in_ok-channels.ensures) ∙ ap (λ (es : List Event). between q p (filter_map message_of es)) c.deref.ensures.value;
   size = c.in_ok-members.ensures.size;
   members = c.in_ok-members.ensures.fresh;
   checkpoints = c.in_ok-checkpoints.ensures.size;

@@ -1,23 +1,34 @@
-use Rattle.std.proofs.Common.{◌≡◌, ℕ, ◌<◌, [], length, ap, ◌∙◌, arith}
+use Rattle.std.specs.VecDeque.{deque_items}
+use Rattle.std.proofs.Common.{◌≡◌, ℕ, ◌<◌, [], List, length, map, sym, ap, ◌∙◌, arith}
+use Rattle.std.proofs.lemmas.List.{length-map}
 use Rattle.std.specs.Prelude.{slice_index_or}
 use Rattle.fbl_law.specs.Groups.{GroupRecord}
 use Rattle.fbl_law.specs.Replaying.{working, sent_again}
-use Rattle.fbl_group.proofs.MemberNumbers.{numbered, is-made}
-use Rattle.fbl_group.proofs.Queues.{made-row}
+use Rattle.fbl_member.specs.Members.{Message}
+use Rattle.fbl_group.proofs.Queues.{made-mapped}
 use Rattle.fbl_group.proofs.group.Group.resend.Goals as goal
-
-pub unwrap-from-requires : goal.unwrap-from-requires
-unwrap-from-requires g c = is-made c.new.result c.loop-number.number c.new.ensures (let rules = c.members-number-end.ensures.rules in omega (arith, c.loop-number-test.true, c.members-number-end.ensures.value, rules.members.1))
 
 pub loop-number-preserved : goal.loop-number-preserved
 loop-number-preserved g c =
-    let member : c.unwrap-from.result ≡ c.loop-number.number = numbered c.new.result c.unwrap-from.result c.loop-number.number c.new.ensures (let rules = c.members-number-end.ensures.rules in omega (arith, c.loop-number-test.true, c.members-number-end.ensures.value, rules.members.1)) c.unwrap-from.ensures in
-    rw c.in_ok-push.ensures.items (made-row (λ q row. (length row ≡ c.args.self.now.config.members) × ((p : ℕ) → p < c.args.self.now.config.members → slice_index_or row p [] ≡ sent_again c.args.self.now.config.f c.args.self.now.down (working c.args.self.now c.args.rebuilt.now) q p)) c.loop-number.number c.loop-number.again.items c.in_ok-resend_from.field-0 c.loop-number.invariant
-    (c.in_ok-resend_from.ensures.size, λ p below. c.in_ok-resend_from.ensures.each p below ∙ ap (λ k. sent_again c.args.self.now.config.f c.args.self.now.down (working c.args.self.now c.args.rebuilt.now) k p) member))
+    let member = c.member_at-from.ensures in
+    rw c.in_ok-push.ensures.items (made-mapped (λ row. map deque_items row.items) [] (λ q (row : List (List Message)). (length row ≡ c.args.self.now.config.members) × ((p : ℕ)
+    → p < c.args.self.now.config.members → slice_index_or row p [] ≡ sent_again c.args.self.now.config.f c.args.self.now.down (working c.args.self.now c.args.rebuilt.now) q p))
+    c.loop-number.number c.loop-number.rows.items c.in_ok-resend_from.field-0 c.loop-number.invariant (
+      length-map c.in_ok-resend_from.field-0.items deque_items ∙ sym c.in_ok-resend_from.field-0.ok.0 ∙ c.in_ok-resend_from.ensures.size,
+      λ p below. c.in_ok-resend_from.ensures.each p below
+          ∙ ap (λ k. sent_again c.args.self.now.config.f c.args.self.now.down (working c.args.self.now c.args.rebuilt.now) k p) member,
+    ))
 
 pub returns : goal.returns
 returns g c =
-    let same : c.loop-number.number ≡ c.args.self.now.config.members = omega (arith, c.members-number-end.ensures.value, ap (λ (r : GroupRecord). r.config.members) c.self.view_is, c.loop-number-test.false, c.loop-number.auto.number-end) in
+    let same : c.loop-number.number ≡ c.args.self.now.config.members = omega (
+      arith,
+      c.members-number-end.ensures.value,
+      ap
+          (λ (r : GroupRecord). r.config.members) c.self.view_is,
+      c.loop-number-test.false,
+      c.loop-number.auto.number-end,
+    ) in
     record {
       shape = record {
         senders = c.loop-number.invariant.size ∙ same;

@@ -1,9 +1,11 @@
+use Rattle.fbl_group.specs.Channels.{each}
+use Rattle.std.specs.VecDeque.{deque_items}
 use Rattle.std.proofs.Common.{◌≡◌, ℕ, ◌<◌, [], length}
 use Rattle.std.specs.Prelude.{slice_index_or}
 use Rattle.fbl_law.specs.Replaying.{working, sent_again}
-use Rattle.fbl_group.specs.Channels.{queued_rows}
 use Rattle.fbl_group.proofs.Queues.{Made}
 use Rattle.fbl_group.proofs.group.Group.resend.Given as goal
 
 abbrev pub invariant-loop-number : goal.invariant-loop-number
-invariant-loop-number g l = Made [] (λ q row. (length row ≡ l.self.config.members) × ((p : ℕ) → p < l.self.config.members → slice_index_or row p [] ≡ sent_again l.self.config.f l.self.down (working l.self l.rebuilt) q p)) l.number (queued_rows l.again.items)
+invariant-loop-number g l = Made [] (λ q row. (length row ≡ l.self.config.members) × ((p : ℕ) → p < l.self.config.members
+    → slice_index_or row p [] ≡ sent_again l.self.config.f l.self.down (working l.self l.rebuilt) q p)) l.number (each deque_items l.rows.items)

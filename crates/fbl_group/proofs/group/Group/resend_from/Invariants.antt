@@ -1,12 +1,12 @@
-use Rattle.std.proofs.Common.{◌≡◌, [], IfSome}
+use Rattle.std.specs.VecDeque.{deque_items}
+use Rattle.std.proofs.Common.{◌≡◌, [], map, IfSome}
 use Rattle.fbl_table.specs.Tables.{piggybacked}
 use Rattle.fbl_law.specs.Replaying.{working, sent_again}
-use Rattle.fbl_group.specs.Channels.{queued}
 use Rattle.fbl_group.proofs.Queues.{Made}
 use Rattle.fbl_group.proofs.group.Group.resend_from.Given as goal
 
 abbrev pub invariant-loop-number : goal.invariant-loop-number
 invariant-loop-number g l = record {
-  made : Made [] (λ p c. c ≡ sent_again l.self.config.f l.self.down (working l.self l.rebuilt) l.from p) l.number (queued l.outgoing.items);
+  made : Made [] (λ p c. c ≡ sent_again l.self.config.f l.self.down (working l.self l.rebuilt) l.from p) l.number (map deque_items l.row.items);
   passed : IfSome l.passed (λ carried. carried ≡ piggybacked l.self.config.f (working l.self l.rebuilt l.from).table);
 }

@@ -3,7 +3,7 @@ use Rattle.std.specs.Prelude.{slice_set}
 use Rattle.fbl_law.specs.Groups.{GroupRecord}
 use Rattle.fbl_law.specs.GroupSteps.{IsCheckpoint}
 use Rattle.fbl_group.specs.Checkpoints.{checkpoint_refusal}
-use Rattle.fbl_group.specs.Channels.{queued_rows}
+use Rattle.fbl_group.specs.Channels.{rows}
 use Rattle.fbl_group.proofs.Checkpointing.{may_checkpoint, is_checkpoint, is_sound, is_fold}
 use Rattle.fbl_group.proofs.group.Group.save.Goals as goal
 
@@ -32,7 +32,7 @@ returns-clause-saved g c =
       config = c.self.inside.config;
       members = c.self.inside.members.items;
       checkpoints = slice_set c.self.inside.checkpoints.items c.from-place.result c.in_ok-copy.copy;
-      channels = queued_rows c.self.inside.channels.items;
+      channels = rows c.self.inside.channels;
       trace = c.self.inside.trace.items;
       down = c.self.inside.down;
       receipts_ever = c.self.inside.receipts_ever;

@@ -20,23 +20,28 @@ unwrap-wire-requires g c =
 
 pub overflow_cast-carried : goal.overflow_cast-carried
 overflow_cast-carried g c =
-    let wire = planning.front_is g.B.Behaviour.next g.met.B.Behaviour.sends_allowed c.self.invariant c.self.view_is c.requires c.reserve_from.ensures.same (front-read _ c.front.result c.unwrap-wire.result c.unwrap-wire.ensures c.front.ensures.some) in
+    let wire = planning.front_is g.B.Behaviour.next g.met.B.Behaviour.sends_allowed c.self.invariant c.self.view_is c.requires c.reserve_from.ensures.same
+    (front-read _ c.front.result c.unwrap-wire.result c.unwrap-wire.ensures c.front.ensures.some) in
     planning.few_carried g.B.Behaviour.next g.met.B.Behaviour.sends_allowed c.self.invariant c.self.view_is c.requires wire c.carried.ensures.value c.carried.ensures.once
 
 pub receive-requires : goal.receive-requires
 receive-requires g c =
-    let wire = planning.front_is g.B.Behaviour.next g.met.B.Behaviour.sends_allowed c.self.invariant c.self.view_is c.requires c.reserve_from.ensures.same (front-read _ c.front.result c.unwrap-wire.result c.unwrap-wire.ensures c.front.ensures.some) in
-    let member = planning.member_is g.B.Behaviour.next g.met.B.Behaviour.sends_allowed c.self.invariant c.self.view_is c.requires (c.from.ensures ∙ c.number.ensures.value) c.index_mut-member.ensures.value in
+    let wire = planning.front_is g.B.Behaviour.next g.met.B.Behaviour.sends_allowed c.self.invariant c.self.view_is c.requires c.reserve_from.ensures.same
+    (front-read _ c.front.result c.unwrap-wire.result c.unwrap-wire.ensures c.front.ensures.some) in
+    let member = planning.member_is g.B.Behaviour.next g.met.B.Behaviour.sends_allowed c.self.invariant c.self.view_is c.requires (c.from.ensures
+    ∙ c.number.ensures.value) c.index_mut-member.ensures.value in
     let reads = planning.reads g.B.Behaviour.next g.met.B.Behaviour.sends_allowed c.self.invariant c.self.view_is c.requires wire member c.members-n.ensures.value in
     search (rules, reads)
 
 pub invariant_of-self-in_err-made : goal.invariant_of-self-in_err-made
 invariant_of-self-in_err-made g c =
-    subst (IsSound g.B.Behaviour.next) (sym (planning.stays g.B.Behaviour.next g.met.B.Behaviour.sends_allowed c.self.invariant c.self.view_is c.requires c.reserve_from.ensures.same (c.from.ensures ∙ c.number.ensures.value) c.in_err-made.ensures.unchanged c.index_mut-member.ensures.value c.reserve.ensures.items)) c.self.invariant
+    subst (IsSound g.B.Behaviour.next) (sym (planning.stays g.B.Behaviour.next g.met.B.Behaviour.sends_allowed c.self.invariant c.self.view_is c.requires c.reserve_from.ensures.same (c.from.ensures
+    ∙ c.number.ensures.value) c.in_err-made.ensures.unchanged c.index_mut-member.ensures.value c.reserve.ensures.items)) c.self.invariant
 
 pub returns-in_err-made-clause-unchanged : goal.returns-in_err-made-clause-unchanged
 returns-in_err-made-clause-unchanged g c =
-    on_err c.from_residual-in_err-made.result (planning.stays g.B.Behaviour.next g.met.B.Behaviour.sends_allowed c.self.invariant c.self.view_is c.requires c.reserve_from.ensures.same (c.from.ensures ∙ c.number.ensures.value) c.in_err-made.ensures.unchanged c.index_mut-member.ensures.value c.reserve.ensures.items ∙ c.self.view_is)
+    on_err c.from_residual-in_err-made.result (planning.stays g.B.Behaviour.next g.met.B.Behaviour.sends_allowed c.self.invariant c.self.view_is c.requires c.reserve_from.ensures.same (c.from.ensures
+    ∙ c.number.ensures.value) c.in_err-made.ensures.unchanged c.index_mut-member.ensures.value c.reserve.ensures.items ∙ c.self.view_is)
 
 pub take_and_send-requires-clause-channel : goal.take_and_send-requires-clause-channel
 take_and_send-requires-clause-channel g c =
@@ -52,7 +57,8 @@ take_and_send-requires-clause-receivers g c =
 
 pub take_and_send-requires-clause-room : goal.take_and_send-requires-clause-room
 take_and_send-requires-clause-room g c =
-    made-fits (λ k. room_in c.reserve_from.new.channels.items c.args.done.now.ticket.to k) c.args.done.now.ticket.to _ _ c.args.done.now.outcome.sends.items c.as_slice-sends.result.now c.in_ok-made.made.items c.as_slice-sends.ensures.value c.in_ok-made.ensures.sent c.in_ok-reserve_from.ensures.room
+    made-fits (λ k. room_in c.reserve_from.new.self c.args.done.now.ticket.to k) c.args.done.now.ticket.to _ _ c.args.done.now.outcome.sends.items c.as_slice-sends.result.now c.in_ok-made.made.items
+    c.as_slice-sends.ensures.value c.in_ok-made.ensures.sent c.in_ok-reserve_from.ensures.room
 
 pub take_and_send-requires-clause-trace : goal.take_and_send-requires-clause-trace
 take_and_send-requires-clause-trace g c =
@@ -70,12 +76,20 @@ overflow_add-self g c =
 
 pub invariant_of-self-2 : goal.invariant_of-self-2
 invariant_of-self-2 g c =
-    let wire = planning.front_is g.B.Behaviour.next g.met.B.Behaviour.sends_allowed c.self.invariant c.self.view_is c.requires c.reserve_from.ensures.same (front-read _ c.front.result c.unwrap-wire.result c.unwrap-wire.ensures c.front.ensures.some) in
-    let member = planning.member_is g.B.Behaviour.next g.met.B.Behaviour.sends_allowed c.self.invariant c.self.view_is c.requires (c.from.ensures ∙ c.number.ensures.value) c.index_mut-member.ensures.value in
-    planning.is_sound g.B.Behaviour.next g.met.B.Behaviour.sends_allowed c.self.invariant c.self.view_is c.requires wire member c.reserve_from.ensures.same (c.from.ensures ∙ c.number.ensures.value) c.in_ok-made.ensures.received c.in_ok-made.ensures.sent c.f-f.ensures c.ssn-ssn.ensures c.received-rsn.ensures.value c.reserve.ensures.items c.push_reserved.ensures.items c.take_and_send.ensures.trace c.take_and_send.ensures.channels
+    let wire = planning.front_is g.B.Behaviour.next g.met.B.Behaviour.sends_allowed c.self.invariant c.self.view_is c.requires c.reserve_from.ensures.same
+    (front-read _ c.front.result c.unwrap-wire.result c.unwrap-wire.ensures c.front.ensures.some) in
+    let member = planning.member_is g.B.Behaviour.next g.met.B.Behaviour.sends_allowed c.self.invariant c.self.view_is c.requires (c.from.ensures
+    ∙ c.number.ensures.value) c.index_mut-member.ensures.value in
+    planning.is_sound g.B.Behaviour.next g.met.B.Behaviour.sends_allowed c.self.invariant c.self.view_is c.requires wire member c.reserve_from.ensures.same (c.from.ensures
+    ∙ c.number.ensures.value) c.in_ok-made.ensures.received c.in_ok-made.ensures.sent c.f-f.ensures c.ssn-ssn.ensures c.received-rsn.ensures.value c.reserve.ensures.items
+    c.push_reserved.ensures.items c.take_and_send.ensures.trace c.take_and_send.ensures.channels
 
 pub returns-clause-delivered : goal.returns-clause-delivered
 returns-clause-delivered g c =
-    let wire = planning.front_is g.B.Behaviour.next g.met.B.Behaviour.sends_allowed c.self.invariant c.self.view_is c.requires c.reserve_from.ensures.same (front-read _ c.front.result c.unwrap-wire.result c.unwrap-wire.ensures c.front.ensures.some) in
-    let member = planning.member_is g.B.Behaviour.next g.met.B.Behaviour.sends_allowed c.self.invariant c.self.view_is c.requires (c.from.ensures ∙ c.number.ensures.value) c.index_mut-member.ensures.value in
-    planning.is_delivered g.B.Behaviour.next g.met.B.Behaviour.sends_allowed c.self.invariant c.self.view_is c.requires wire member c.reserve_from.ensures.same (c.from.ensures ∙ c.number.ensures.value) c.in_ok-made.ensures.received c.in_ok-made.ensures.sent c.f-f.ensures c.ssn-ssn.ensures c.received-rsn.ensures.value c.reserve.ensures.items c.push_reserved.ensures.items c.take_and_send.ensures.trace c.take_and_send.ensures.channels c.carried.ensures.value
+    let wire = planning.front_is g.B.Behaviour.next g.met.B.Behaviour.sends_allowed c.self.invariant c.self.view_is c.requires c.reserve_from.ensures.same
+    (front-read _ c.front.result c.unwrap-wire.result c.unwrap-wire.ensures c.front.ensures.some) in
+    let member = planning.member_is g.B.Behaviour.next g.met.B.Behaviour.sends_allowed c.self.invariant c.self.view_is c.requires (c.from.ensures
+    ∙ c.number.ensures.value) c.index_mut-member.ensures.value in
+    planning.is_delivered g.B.Behaviour.next g.met.B.Behaviour.sends_allowed c.self.invariant c.self.view_is c.requires wire member c.reserve_from.ensures.same (c.from.ensures
+    ∙ c.number.ensures.value) c.in_ok-made.ensures.received c.in_ok-made.ensures.sent c.f-f.ensures c.ssn-ssn.ensures c.received-rsn.ensures.value c.reserve.ensures.items
+    c.push_reserved.ensures.items c.take_and_send.ensures.trace c.take_and_send.ensures.channels c.carried.ensures.value

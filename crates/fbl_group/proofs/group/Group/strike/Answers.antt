@@ -3,7 +3,7 @@ use Rattle.fbl_law.specs.Groups.{GroupRecord}
 use Rattle.fbl_law.specs.GroupSteps.{IsStrike}
 use Rattle.fbl_law.proofs.Promises.{sound_has_no_orphan, sound_records_first}
 use Rattle.std.specs.Prelude.{count_by}
-use Rattle.fbl_group.specs.Channels.{queued_rows}
+use Rattle.fbl_group.specs.Channels.{rows}
 use Rattle.fbl_group.specs.Strikes.{strike_refusal, is_lost_receipt_of}
 use Rattle.fbl_group.proofs.Promised.{survivors_hold, records_causes}
 use Rattle.fbl_group.proofs.Striking.{emptied-by, is_strike, is_sound, count-lost}
@@ -33,7 +33,7 @@ returns g c =
       config = c.self.inside.config;
       members = c.blank_members.new.members.items;
       checkpoints = c.self.inside.checkpoints.items;
-      channels = queued_rows c.drop_at.new.channels.items;
+      channels = rows c.drop_at.new.self;
       trace = c.self.inside.trace.items;
       down = c.union-self-inside.result;
       receipts_ever = c.self.inside.receipts_ever;

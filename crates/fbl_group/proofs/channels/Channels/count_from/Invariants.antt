@@ -1,0 +1,10 @@
+use Rattle.std.proofs.Common.{◌≡◌, ◌≤◌, ◌*◌, length}
+use Rattle.fbl_law.specs.Groups.{channel_in, sum_below}
+use Rattle.fbl_group.specs.Channels.{rows}
+use Rattle.fbl_group.proofs.channels.Channels.count_from.Given as goal
+
+abbrev pub invariant-loop-number : goal.invariant-loop-number
+invariant-loop-number g l = record {
+  counted : l.count ≡ sum_below l.number (λ p. length (channel_in (rows l.self) l.from p));
+  bound : l.count ≤ l.number * 8192;
+}

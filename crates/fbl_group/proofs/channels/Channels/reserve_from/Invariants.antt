@@ -1,0 +1,11 @@
+use Rattle.std.proofs.Common.{◌≡◌, ℕ, ◌<◌, ◌≤◌, length}
+use Rattle.std.specs.Prelude.{slice_index_or}
+use Rattle.fbl_base.specs.declared.trace.Note.{Note}
+use Rattle.fbl_group.specs.Channels.{rows, room_in}
+use Rattle.fbl_group.proofs.channels.Channels.reserve_from.Given as goal
+
+abbrev pub invariant-loop-send : goal.invariant-loop-send
+invariant-loop-send g l = record {
+  same : rows l.self ≡ rows l.initial.self;
+  room : (i : ℕ) (d : ℕ × Note) → i < l.send-index → length l.sends ≤ room_in l.self l.from (slice_index_or l.sends i d).0;
+}

@@ -1,0 +1,6 @@
+use Rattle.std.proofs.Common.{◌≡◌, [], map, replicate}
+use Rattle.std.specs.VecDeque.{deque_items}
+use Rattle.fbl_group.proofs.channels.empty_row.Given as goal
+
+abbrev pub invariant-loop-number : goal.invariant-loop-number
+invariant-loop-number g l = map deque_items l.row.items ≡ replicate l._number []
