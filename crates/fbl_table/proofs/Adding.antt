@@ -1,18 +1,15 @@
 -- Tables as a map has them, and what adding an entry does to them.
-use Rattle.std.proofs.Common.{
-  inl, inr, subst, not, count_by, ◌≡◌, ℕ, zero, suc, ◌+◌, ◌<◌, ◌≤◌, Bool, true, false, cond, ◌||◌, ◌&&◌, if◌then◌else◌, List, [], ◌∷◌,
-  ◌++◌, map, Option, Some, None, is_some, unwrap_or, max, refl, sym, ap, ◌∙◌, arith, take, drop, length, slice_get, get_or, position, IfSome, IfNone,
-}
+use Rattle.std.proofs.Common.{not, count_by, ◌≡◌, ℕ, zero, suc, ◌+◌, ◌<◌, ◌≤◌, Bool, true, false, cond, ◌||◌, ◌&&◌, if◌then◌else◌, List, [], ◌∷◌, ◌++◌, map, Option, Some, None, is_some, unwrap_or, max, refl, sym, ap, ◌∙◌, arith, take, drop, length, slice_get, get_or, position, IfSome, IfNone}
 use Rattle.std.specs.Map.{lookup, values_of, keys_of}
 use Rattle.std.specs.Ordering.{nat_cmp}
 use Rattle.std.specs.Cmp.{nat_cmp_total}
 use Rattle.std.specs.Option.{option_or}
-use Rattle.std.proofs.lemmas.Bool.{cases_lt, false≢true, or_from, or_left, or_parts, or_right}
+use Rattle.std.proofs.lemmas.Bool.{false≢true, or_from, or_left, or_parts, or_right}
 use Rattle.std.proofs.Math.Bool.{or_assoc, or_comm}
 use Rattle.std.specs.List.{find, AllByRecursion, IsDistinct}
 use Rattle.std.proofs.lemmas.List.Quantifiers.{position-Some}
 use Rattle.fbl_base.proofs.Recorded.{Decides-same_determinant}
-use Rattle.std.proofs.lemmas.List.{take_more, take-append-drop, map-append, length-map}
+use Rattle.std.proofs.lemmas.List.{append-nil, drop_all, take_all, take_more, take-append-drop, map-append, length-map}
 use Rattle.std.proofs.lemmas.List.Folds.{find-append}
 use Rattle.std.proofs.lemmas.List.Sums.{fold_push, count_by-le-length, sum_by-cons, sum_by_more, sum_by-take-le}
 use Rattle.std.proofs.lemmas.Option.{slice_get_within, get_or_from_slice_get, slice_get-get_or}
@@ -37,12 +34,16 @@ held-lookup (e ∷ es) d =
       | false ↦ held-lookup es d
     ]
 
-pub noted-insert : (es : Pairs) (d : Determinant) (known : set.FinSet nat_cmp) → is_held (map entry_of es) d ≡ false
+noted-insert : (es : Pairs) (d : Determinant) (known : set.FinSet nat_cmp) → is_held (map entry_of es) d ≡ false
     → map entry_of (insert_entry same_determinant es d known) ≡ map entry_of es ++ record { det = d; known = known } ∷ []
 noted-insert [] d known none = refl
 noted-insert (e ∷ es) d known none =
     let parts = or_parts (same_determinant d e.0) (is_held (map entry_of es) d) none in
     rw parts.0 (ap (λ t. entry_of e ∷ t) (noted-insert es d known parts.1))
+
+pub inserted : (es new : Pairs) (entry : Entry) → is_held (map entry_of es) entry.det ≡ false
+    → new ≡ insert_entry same_determinant es entry.det entry.known → map entry_of new ≡ map entry_of es ++ entry ∷ []
+inserted es new entry none is = rw is (noted-insert es entry.det entry.known none)
 
 -- a determinant that has an entry at a place is held
 pub held-at : (table : List Entry) (d : Determinant) (i : ℕ) → has_at table d i ≡ true → is_held table d ≡ true
@@ -56,11 +57,11 @@ pub some-held : (table : List Entry) (d : Determinant) (r : Option ℕ) → IfSo
 some-held table d None at none = sym none
 some-held table d (Some i) at none = sym (held-at table d i at)
 
-pub within-at : (table : List Entry) (d : Determinant) (i : ℕ) → has_at table d i ≡ true → i < length table
+pub within-at : (es : Pairs) (d : Determinant) (i : ℕ) → has_at (map entry_of es) d i ≡ true → i < length es
 within-at [] d zero has = absurd (false≢true has)
 within-at [] d (suc i) has = absurd (false≢true has)
-within-at (e ∷ table) d zero has = omega arith
-within-at (e ∷ table) d (suc i) has = omega (arith, within-at table d i has)
+within-at (e ∷ es) d zero has = omega arith
+within-at (e ∷ es) d (suc i) has = omega (arith, within-at es d i has)
 
 has-key : (es : Pairs) (d x : Determinant) (i : ℕ) → i < length (keys_of es) → same_determinant d (get_or (keys_of es) i x) ≡ true → has_at (map entry_of es) d i ≡ true
 has-key [] d x i below is = absurd (omega (arith, below))
@@ -76,16 +77,17 @@ pub not_held-missing : (es : Pairs) (d : Determinant) (r : Option ℕ) → is_so
 not_held-missing es d None is = sym (held-lookup es d) ∙ sym is
 not_held-missing es d (Some i) is = tt
 
+pub apart-turned : (a b : Determinant) → same_determinant a b ≡ false → same_determinant b a ≡ false
+apart-turned a b apart = at (same_determinant b a) refl where
+  at : (c : Bool) → same_determinant b a ≡ c → same_determinant b a ≡ false
+  at true is = absurd (false≢true (sym apart ∙ (Decides-same_determinant a b).1 (sym ((Decides-same_determinant b a).0 is))))
+  at false is = is
+
 apart-at : (es : Pairs) (k d : Determinant) (i : ℕ) → AllByRecursion (λ y. same_determinant k y ≡ false) (keys_of es) → has_at (map entry_of es) d i ≡ true
     → same_determinant d k ≡ false
 apart-at [] k d zero all has = absurd (false≢true has)
 apart-at [] k d (suc i) all has = absurd (false≢true has)
-apart-at (e ∷ es) k d zero all has = at (same_determinant d k) refl where
-  at : (b : Bool) → same_determinant d k ≡ b → same_determinant d k ≡ false
-  at true is =
-      let other : k ≡ e.0 = sym ((Decides-same_determinant d k).0 is) ∙ (Decides-same_determinant d e.0).0 has in
-      absurd (false≢true (sym all.0 ∙ (Decides-same_determinant k e.0).1 other))
-  at false is = is
+apart-at (e ∷ es) k d zero all has = rw ((Decides-same_determinant d e.0).0 has) (apart-turned k e.0 all.0)
 apart-at (e ∷ es) k d (suc i) all has = apart-at es k d i all.1 has
 
 -- which determinant stands at a place goes by no value
@@ -95,17 +97,6 @@ has-set (e ∷ es) zero v d zero = refl
 has-set (e ∷ es) zero v d (suc j) = refl
 has-set (e ∷ es) (suc i) v d zero = refl
 has-set (e ∷ es) (suc i) v d (suc j) = has-set es i v d j
-
--- what has the first entries of another table in place has the next one too
-pub in-place-next : (k : ℕ) (table other : List Entry) (e : Entry) → HasInPlace k table other → slice_get other k ≡ Some e → has_at table e.det k ≡ true → HasInPlace (k + 1) table other
-in-place-next k table other e before at has place x below is =
-    elim (cases_lt place k) [
-      | inl less ↦ before place x less is
-      | inr more ↦
-          let here : place ≡ k = omega (arith, below, more) in
-          let same : e ≡ x = ap (λ o. unwrap_or o e) (sym at ∙ ap (slice_get other) (sym here) ∙ is) in
-          subst (λ p. has_at table x.det p ≡ true) (sym here) (subst (λ (y : Entry). has_at table y.det k ≡ true) same has)
-    ]
 
 -- what is known at the determinant's place, united with more
 pub added-at : (es : Pairs) (entry : Entry) (i : ℕ) (v : set.FinSet nat_cmp) → IsDistinct same_determinant (keys_of es)
@@ -174,26 +165,14 @@ pub item_at : {X : Type 0} (xs : List X) (i : ℕ) (x : X) → i < length xs →
 item_at xs i x below is = slice_get-get_or xs i x below ∙ ap Some (sym is)
 
 -- the first `i` entries marked
-unfoldable pub marked_first : ℕ → set.FinSet nat_cmp → List Entry → List Entry
-marked_first zero members table = table
-marked_first (suc i) members [] = []
-marked_first (suc i) members (e ∷ table) = record { det = e.det; known = set.union e.known members } ∷ marked_first i members table
-
-pub mark-none : (members : set.FinSet nat_cmp) (table : List Entry) → marked_first 0 members table ≡ table
-unfolding marked_first
-mark-none members table = refl
+abbrev pub marked_first : ℕ → set.FinSet nat_cmp → List Entry → List Entry
+marked_first i members table = marked members (take i table) ++ drop i table
 
 pub mark-all : (i : ℕ) (members : set.FinSet nat_cmp) (table : List Entry) → length table ≤ i → marked_first i members table ≡ marked members table
-unfolding marked_first
-mark-all zero members [] done = refl
-mark-all zero members (e ∷ table) done = absurd (omega (arith, done))
-mark-all (suc i) members [] done = refl
-mark-all (suc i) members (e ∷ table) done =
-    ap (λ t. record { det = e.det; known = set.union e.known members } ∷ t) (mark-all i members table (omega (arith, done)))
+mark-all i members table done = rw (take_all i table done, drop_all i table done) (append-nil (marked members table))
 
 mark-at : (i : ℕ) (members : set.FinSet nat_cmp) (table : List Entry) (es : Pairs) (v : set.FinSet nat_cmp)
     → map entry_of es ≡ marked_first i members table → slice_get (values_of es) i ≡ Some v → map entry_of (set_value_at es i (set.union v members)) ≡ marked_first (suc i) members table
-unfolding marked_first
 mark-at zero members [] [] v same is = refl
 mark-at zero members [] (p ∷ es) v same is = cc
 mark-at zero members (e ∷ table) [] v same is = cc

@@ -1,21 +1,12 @@
 -- A table's entries added in turn to none give the table.
-use Rattle.std.proofs.Common.{◌≡◌, Bool, true, false, ◌||◌, List, [], ◌∷◌, ◌++◌, map, refl, sym, ap, ◌∙◌}
+use Rattle.std.proofs.Common.{◌≡◌, false, ◌||◌, List, [], ◌∷◌, ◌++◌, map, refl, sym, ap, ◌∙◌}
 use Rattle.std.proofs.lemmas.List.{append-nil, append_assoc}
-use Rattle.std.proofs.lemmas.Bool.{false≢true}
 use Rattle.std.proofs.lemmas.List.Folds.{list_any-append}
 use Rattle.std.specs.List.{fold, AllByRecursion, IsDistinct}
-use Rattle.fbl_base.specs.declared.trace.Determinant.{Determinant}
 use Rattle.fbl_base.specs.Events.{same_determinant}
-use Rattle.fbl_base.proofs.Recorded.{Decides-same_determinant}
 use Rattle.fbl_table.specs.declared.entry.Entry.{Entry}
 use Rattle.fbl_table.specs.Tables.{is_held, added, gathered}
-use Rattle.fbl_table.proofs.Adding.{added-new}
-
-apart-turned : (a b : Determinant) → same_determinant a b ≡ false → same_determinant b a ≡ false
-apart-turned a b apart = at (same_determinant b a) refl where
-  at : (c : Bool) → same_determinant b a ≡ c → same_determinant b a ≡ false
-  at true is = absurd (false≢true (sym apart ∙ (Decides-same_determinant a b).1 (sym ((Decides-same_determinant b a).0 is))))
-  at false is = is
+use Rattle.fbl_table.proofs.Adding.{added-new, apart-turned}
 
 -- none of the rest is held by the first entries
 abbrev Apart : List Entry → List Entry → Type 0

@@ -1,8 +1,9 @@
 -- The open places of a table.
-use Rattle.std.proofs.Common.{◌≡◌, ℕ, zero, suc, ◌+◌, ◌<◌, ◌≤◌, Bool, true, false, cond, ◌||◌, if◌then◌else◌, nat_le, List, [], ◌∷◌, ◌++◌, Option, Some, None, refl, sym, ap, ◌∙◌, arith, take, length, slice_get}
+use Rattle.std.proofs.Common.{◌≡◌, ◌⊎◌, inl, inr, get_or, ℕ, zero, suc, ◌+◌, ◌<◌, ◌≤◌, Bool, true, false, cond, ◌||◌, if◌then◌else◌, nat_le, List, [], ◌∷◌, ◌++◌, Option, Some, None, refl, sym, ap, ◌∙◌, arith, take, length, slice_get}
 use Rattle.std.proofs.lemmas.Bool.{false≢true}
 use Rattle.std.proofs.lemmas.Bool.Decides.{nat_tests}
 use Rattle.std.proofs.lemmas.List.{take_all, length-map, length_push, append-nil}
+use Rattle.std.proofs.lemmas.Option.{slice_get_cases}
 use Rattle.std.proofs.lemmas.List.Elements.{All-filter, All-head, All-nil, All-push, All-tail, All-weaker, filter-append, filter_map-append}
 use Rattle.std.specs.List.{All, filter, filter_map}
 use Rattle.std.specs.Option.{option_map_or}
@@ -30,22 +31,22 @@ filter-twice p q less (x ∷ xs) = at (filter-twice p q less xs) (p x) refl (q x
 filter-weaker : {X : Type 0} (p q : X → Bool) → ((x : X) → q x ≡ true → p x ≡ true) → (xs ys : List X) → filter p xs ≡ filter p ys → filter q xs ≡ filter q ys
 filter-weaker p q less xs ys same = sym (filter-twice p q less xs) ∙ ap (filter q) same ∙ filter-twice p q less ys
 
-abbrev below : ℕ → ℕ → Type 0
-below size place = place < size
+abbrev IsBelow : ℕ → ℕ → Type 0
+IsBelow size place = place < size
 
-filter-agree : (p q : ℕ → Bool) (size : ℕ) → ((x : ℕ) → x < size → q x ≡ p x) → (xs : List ℕ) → All (below size) xs → filter q xs ≡ filter p xs
+filter-agree : (p q : ℕ → Bool) (size : ℕ) → ((x : ℕ) → x < size → q x ≡ p x) → (xs : List ℕ) → All (IsBelow size) xs → filter q xs ≡ filter p xs
 filter-agree p q size same [] all = refl
 filter-agree p q size same (x ∷ xs) all =
-    let here : q x ≡ p x = same x (All-head (below size) x xs all) in
-    rw (here, filter-agree p q size same xs (All-tail (below size) x xs all)) refl
+    let here : q x ≡ p x = same x (All-head (IsBelow size) x xs all) in
+    rw (here, filter-agree p q size same xs (All-tail (IsBelow size) x xs all)) refl
 
-below-more : (a b : ℕ) (xs : List ℕ) → a ≤ b → All (below a) xs → All (below b) xs
-below-more a b xs le all = All-weaker (below a) (below b) (λ x less. omega (arith, less, le)) xs all
+below-more : (a b : ℕ) (xs : List ℕ) → a ≤ b → All (IsBelow a) xs → All (IsBelow b) xs
+below-more a b xs le all = All-weaker (IsBelow a) (IsBelow b) (λ x less. omega (arith, less, le)) xs all
 
-below-places : (n : ℕ) → All (below n) (places n)
+below-places : (n : ℕ) → All (IsBelow n) (places n)
 unfolding places
-below-places zero = All-nil (below zero)
-below-places (suc n) = All-push (below (suc n)) (places n) n (below-more n (suc n) (places n) (omega arith) (below-places n)) (omega arith)
+below-places zero = All-nil (IsBelow zero)
+below-places (suc n) = All-push (IsBelow (suc n)) (places n) n (below-more n (suc n) (places n) (omega arith) (below-places n)) (omega arith)
 
 -- a new last entry changes nothing at the places before it
 open_at-push : (limit : ℕ) (table : List Entry) (e : Entry) (i : ℕ) → i < length table → open_at limit (table ++ e ∷ []) i ≡ open_at limit table i
@@ -60,7 +61,7 @@ unfolding places
 covers-push limit table e open_places index =
     let n = length table in
     let q : ℕ → Bool = open_at limit (table ++ e ∷ []) in
-    let agree : (xs : List ℕ) → All (below n) xs → filter q xs ≡ filter (open_at limit table) xs = filter-agree (open_at limit table) q n (open_at-push limit table e) in
+    let agree : (xs : List ℕ) → All (IsBelow n) xs → filter q xs ≡ filter (open_at limit table) xs = filter-agree (open_at limit table) q n (open_at-push limit table e) in
     let before : filter q open_places ≡ filter q (places n) = agree open_places index.within ∙ index.covers ∙ sym (agree (places n) (below-places n)) in
     let size : suc n ≡ length (table ++ e ∷ []) = omega (arith, length_push table e) in
     filter-append q open_places (n ∷ []) ∙ ap (λ t. t ++ filter q (n ∷ [])) before ∙ sym (filter-append q (places n) (n ∷ [])) ∙ ap (λ k. filter q (places k)) size
@@ -70,7 +71,7 @@ pub index-push : (limit : ℕ) (table : List Entry) (e : Entry) (open_places : L
 index-push limit table e open_places index =
     let more : length table < length (table ++ e ∷ []) = omega (arith, length_push table e) in
     record {
-      within = All-push (below (length (table ++ e ∷ []))) open_places (length table) (below-more (length table) _ open_places (omega (arith, more)) index.within) more;
+      within = All-push (IsBelow (length (table ++ e ∷ []))) open_places (length table) (below-more (length table) _ open_places (omega (arith, more)) index.within) more;
       covers = covers-push limit table e open_places index;
     }
 
@@ -90,13 +91,13 @@ index-push_closed limit table e open_places closed index =
 -- places of entries that are stable now are let go
 pub index-pruned : (limit : ℕ) (table : List Entry) (open_places : List ℕ) → IsIndex limit table open_places → IsIndex limit table (filter (open_at limit table) open_places)
 index-pruned limit table open_places index = record {
-  within = All-filter (open_at limit table) (below (length table)) open_places index.within;
+  within = All-filter (open_at limit table) (IsBelow (length table)) open_places index.within;
   covers = filter-twice (open_at limit table) (open_at limit table) (λ x is. is) open_places ∙ index.covers;
 }
 
 pub index-none : (limit : ℕ) → IsIndex limit [] []
 unfolding places
-index-none limit = record { within = All-nil (below zero); covers = refl }
+index-none limit = record { within = All-nil (IsBelow zero); covers = refl }
 
 -- entries of which more is known now
 index-grown : (limit : ℕ) (old new : List Entry) (open_places : List ℕ) → length new ≡ length old
@@ -156,21 +157,17 @@ picked f table (p ∷ ps) = at (slice_get table p) refl (picked f table ps) wher
   at None is more = rw is more
   at (Some e) is more = rw is (kept e is (is_open f e) refl more)
 
-missing : (table : List Entry) (i : ℕ) → i < length table → slice_get table i ≡ None → ⊥
-missing [] i below none = omega (arith, below)
-missing (x ∷ table) zero below none = cc
-missing (x ∷ table) (suc i) below none = missing table i (omega (arith, below)) none
-
 picked_places : (table : List Entry) (i : ℕ) → i ≤ length table → filter_map (slice_get table) (places i) ≡ take i table
 unfolding places
 picked_places table zero below = refl
 picked_places table (suc i) below =
     filter_map-append (slice_get table) (places i) (i ∷ []) ∙ ap (λ t. t ++ filter_map (slice_get table) (i ∷ [])) (picked_places table i (omega (arith, below)))
-    ∙ last (slice_get table i) refl
+    ∙ last (slice_get_cases table i).1
   where
-    last : (o : Option Entry) → slice_get table i ≡ o → take i table ++ filter_map (slice_get table) (i ∷ []) ≡ take (suc i) table
-    last None is = absurd (missing table i (omega (arith, below)) is)
-    last (Some e) is = rw is (sym (take-next table i e is) ∙ ap (λ k. take k table) (let next : i + 1 ≡ suc i = omega arith in next))
+    last : ((e : Entry) × (i < length table) × (slice_get table i ≡ Some e) × (get_or table i e ≡ e)) ⊎ ((length table ≤ i) × (slice_get table i ≡ None))
+        → take i table ++ filter_map (slice_get table) (i ∷ []) ≡ take (suc i) table
+    last (inl (e, within, here, same)) = rw here (sym (take-next table i e here) ∙ ap (λ k. take k table) (let next : i + 1 ≡ suc i = omega arith in next))
+    last (inr past) = absurd (omega (arith, below, past.0))
 
 smaller : (f limit : ℕ) (table : List Entry) → f ≤ limit → (place : ℕ) → open_at f table place ≡ true → open_at limit table place ≡ true
 smaller f limit table le place is = at (slice_get table place) is where

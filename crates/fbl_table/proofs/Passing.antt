@@ -55,10 +55,7 @@ open-within f limit table open_places le index =
 abbrev IsByParts : {X Y : Type 0} → (List X → List Y) → Type 0
 IsByParts {X} make = (front back : List X) → make (front ++ back) ≡ make front ++ make back
 
--- what is passed on of a table, and of its entries at some places
-pub piggybacked-parts : (f : ℕ) → IsByParts (piggybacked f)
-piggybacked-parts f front back = filter-append (is_open f) front back
-
+-- what is passed on of a table's entries at some places
 pub picked-parts : (f : ℕ) (table : List Entry) → IsByParts (λ places. piggybacked f (filter_map (slice_get table) places))
 picked-parts f table front back =
     ap (piggybacked f) (filter_map-append (slice_get table) front back) ∙ filter-append (is_open f) (filter_map (slice_get table) front) (filter_map (slice_get table) back)

@@ -1,24 +1,18 @@
 use Rattle.std.proofs.Common.{◌≡◌, ◌∙◌, ap, sym, arith, length}
 use Rattle.std.proofs.lemmas.List.{length-map, length_push}
-use Rattle.fbl_base.specs.Events.{same_determinant}
-use Rattle.indexmap.specs.IndexMap.{insert_entry}
 use Rattle.fbl_table.specs.Indexed.{listed}
 use Rattle.fbl_table.specs.Tables.{entry_of}
-use Rattle.fbl_table.proofs.Adding.{noted-insert}
+use Rattle.fbl_table.proofs.Adding.{inserted}
 use Rattle.fbl_table.proofs.Indexing.{index-push, index-push_closed}
 use Rattle.fbl_table.proofs.indexed.IndexedEntries.add_new.Goals as goal
 
 pub returns-then-is_open-clause-entries : goal.returns-then-is_open-clause-entries
 returns-then-is_open-clause-entries g c =
-    let es = c.args.self.now.entries.entries in
-    let entries : c.insert.new.self.entries ≡ insert_entry same_determinant es c.args.entry.det c.args.entry.known = (rw c.unwrap.ensures at c.insert.ensures.entries) in
-    rw entries (noted-insert es c.args.entry.det c.args.entry.known c.requires.new)
+    inserted c.args.self.now.entries.entries c.insert.new.self.entries c.args.entry c.requires.new (rw c.unwrap.ensures at c.insert.ensures.entries)
 
 pub returns-else-is_open-clause-entries : goal.returns-else-is_open-clause-entries
 returns-else-is_open-clause-entries g c =
-    let es = c.args.self.now.entries.entries in
-    let entries : c.insert.new.self.entries ≡ insert_entry same_determinant es c.args.entry.det c.args.entry.known = (rw c.unwrap.ensures at c.insert.ensures.entries) in
-    rw entries (noted-insert es c.args.entry.det c.args.entry.known c.requires.new)
+    inserted c.args.self.now.entries.entries c.insert.new.self.entries c.args.entry c.requires.new (rw c.unwrap.ensures at c.insert.ensures.entries)
 
 pub returns-then-is_open-clause-kept : goal.returns-then-is_open-clause-kept
 returns-then-is_open-clause-kept g c =

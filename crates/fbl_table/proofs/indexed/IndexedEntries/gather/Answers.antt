@@ -17,11 +17,10 @@ loop-place-init g c =
 
 pub add-added-requires : goal.add-added-requires
 add-added-requires g c none =
-    let so_far = c.loop-place.invariant.so_far in
     let e = c.entry_at.result in
-    let missing = sym (ap (λ t. is_held t e.det) so_far) ∙ none in
+    let missing = sym (ap (λ t. is_held t e.det) c.loop-place.invariant.so_far) ∙ none in
     let shorter = length-gathering (listed c.args.self.now) (listed c.args.other.now) c.loop-place.place e c.entry_at.ensures missing in
-    omega (arith, ap length so_far, shorter, c.loop-place.invariant.room)
+    omega (arith, ap length c.loop-place.invariant.so_far, shorter, c.loop-place.invariant.room)
 
 pub loop-place-preserved : goal.loop-place-preserved
 loop-place-preserved g c = record {

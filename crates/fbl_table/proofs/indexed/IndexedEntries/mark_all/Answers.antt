@@ -2,20 +2,21 @@ use Rattle.std.proofs.Common.{◌≡◌, ◌∙◌, sym, ap, refl, arith, length
 use Rattle.std.proofs.lemmas.List.{length-map}
 use Rattle.fbl_table.specs.Indexed.{listed, KeepsIndex}
 use Rattle.fbl_table.specs.Tables.{entry_of, marked}
-use Rattle.fbl_table.proofs.Adding.{mark-none, mark-all, mark-step, length-set_value_at}
+use Rattle.fbl_table.proofs.Adding.{mark-all, mark-step, length-set_value_at}
 use Rattle.fbl_table.proofs.Indexing.{index-marked}
 use Rattle.fbl_table.proofs.Keeping.{keeps-more}
 use Rattle.fbl_table.proofs.indexed.IndexedEntries.mark_all.Goals as goal
 
 pub loop-place-init : goal.loop-place-init
-loop-place-init g c = record { so_far = sym (mark-none c.args.members _); limit = refl; open_places = refl; spare = refl; size = sym c.len-place-end.ensures.len }
+loop-place-init g c = record { so_far = refl; limit = refl; open_places = refl; spare = refl; size = sym c.len-place-end.ensures.len }
 
 pub loop-place-preserved : goal.loop-place-preserved
 loop-place-preserved g c =
     let es = c.loop-place.self.entries.entries in
-    let so_far = c.loop-place.invariant.so_far in
     record {
-      so_far = rw c.union-known.ensures (mark-step c.loop-place.place c.args.members (listed c.args.self.now) es c.index.result.now so_far c.index.ensures);
+      so_far =
+          rw c.union-known.ensures
+          (mark-step c.loop-place.place c.args.members (listed c.args.self.now) es c.index.result.now c.loop-place.invariant.so_far c.index.ensures);
       limit = c.loop-place.invariant.limit;
       open_places = c.loop-place.invariant.open_places;
       spare = c.loop-place.invariant.spare;
@@ -24,9 +25,9 @@ loop-place-preserved g c =
 
 pub returns-clause-entries : goal.returns-clause-entries
 returns-clause-entries g c =
-    let table = listed c.args.self.now in
     let shown = length-map c.args.self.now.entries.entries entry_of in
-    c.prune.ensures.entries ∙ c.loop-place.invariant.so_far ∙ mark-all c.loop-place.place c.args.members table (omega (arith, c.loop-place-test.false, c.len-place-end.ensures.len, shown))
+    c.prune.ensures.entries ∙ c.loop-place.invariant.so_far
+    ∙ mark-all c.loop-place.place c.args.members (listed c.args.self.now) (omega (arith, c.loop-place-test.false, c.len-place-end.ensures.len, shown))
 
 pub returns-clause-kept : goal.returns-clause-kept
 returns-clause-kept g c =

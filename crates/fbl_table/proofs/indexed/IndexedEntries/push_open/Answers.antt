@@ -36,9 +36,8 @@ push_if_open-requires g c =
 
 pub loop-place-preserved : goal.loop-place-preserved
 loop-place-preserved g c =
-    let kept = c.args.self.now in
-    let table = listed kept in
-    let places = kept.open_places.items in
+    let table = listed c.args.self.now in
+    let places = c.args.self.now.open_places.items in
     let i = c.loop-place.place-index in
     let at = place-at _ places i c.deref-place-items.ensures.value c.loop-place-test.true in
     let one = picked-one c.args.f table _ c.entry_at.result c.entry_at.ensures in

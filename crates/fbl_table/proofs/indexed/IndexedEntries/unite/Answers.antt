@@ -1,5 +1,4 @@
 use Rattle.std.proofs.Common.{◌≡◌, ◌∙◌, sym, ap, arith, map, length}
-use Rattle.std.proofs.lemmas.List.{length-map}
 use Rattle.std.specs.FinSet as set
 use Rattle.indexmap.specs.IndexMap.{set_value_at}
 use Rattle.fbl_table.specs.Indexed.{listed}
@@ -9,12 +8,10 @@ use Rattle.fbl_table.proofs.Indexing.{index-added_held}
 use Rattle.fbl_table.proofs.indexed.IndexedEntries.unite.Goals as goal
 
 pub index-before-requires : goal.index-before-requires
-index-before-requires g c =
-    omega (arith, within-at (listed c.args.self.now) c.args.entry.det c.args.place c.requires, length-map c.args.self.now.entries.entries entry_of)
+index-before-requires g c = within-at c.args.self.now.entries.entries c.args.entry.det c.args.place c.requires
 
 pub index_mut-requires : goal.index_mut-requires
-index_mut-requires g c =
-    omega (arith, within-at (listed c.args.self.now) c.args.entry.det c.args.place c.requires, length-map c.args.self.now.entries.entries entry_of)
+index_mut-requires g c = within-at c.args.self.now.entries.entries c.args.entry.det c.args.place c.requires
 
 pub returns-then-count-eq0-clause-entries : goal.returns-then-count-eq0-clause-entries
 returns-then-count-eq0-clause-entries g c =

@@ -10,13 +10,11 @@ loop-place-preserved g c =
     let entry = c.entry_at-entry.result in
     let at = c.entry_at-entry.ensures in
     let places = c.loop-place.places.items in
-    let so_far = c.loop-place.invariant in
     elim c.if-is_beyond.branch [
       | then-is_beyond+in_ok-put_first w ↦
           let own = sym c.is_beyond.ensures ∙ w.if-is_beyond.true in
-          let put = w.in_ok-put_first.ensures in
-          rw w.places-is (by_number-put c.args.member c.args.count table i entry places w.put_first.new.places.items at own so_far put)
+          rw w.places-is (by_number-put c.args.member c.args.count table i entry places w.put_first.new.places.items at own c.loop-place.invariant w.in_ok-put_first.ensures)
       | else-is_beyond w ↦
           let other = sym c.is_beyond.ensures ∙ w.if-is_beyond.false in
-          rw w.places-is (by_number-other c.args.member c.args.count table i entry places at other so_far)
+          rw w.places-is (by_number-other c.args.member c.args.count table i entry places at other c.loop-place.invariant)
     ]
