@@ -1,8 +1,6 @@
 -- Which receipts are unsafe, and that the run is safe where none is.
-use Rattle.std.proofs.Common.{
-  ℕ, Bool, true, false, ◌≡◌, ◌<◌, ◌≤◌, ◌+◌, ◌==◌, ◌&&◌, ◌||◌, ◌↔◌, inl, inr, List, [], ◌∷◌, ◌++◌, length, take, map, Option,
-  Some, None, refl, sym, ap, ◌∙◌, arith, get_or, max, append-nil, cond, not, zero, suc, slice_get,
-}
+use Rattle.std.proofs.Common.{ℕ, Bool, true, false, ◌≡◌, ◌<◌, ◌≤◌, ◌+◌, ◌==◌, ◌&&◌, ◌||◌, ◌↔◌, inl, inr, List, [], ◌∷◌, ◌++◌, length, take}
+use Rattle.std.proofs.Common.{map, Option, Some, None, refl, sym, ap, ◌∙◌, arith, get_or, max, append-nil, cond, not, zero, suc, slice_get}
 use Rattle.std.specs.List.{Contains, filter, filter_map, list_any}
 use Rattle.std.specs.Cmp.{nat_cmp_total}
 use Rattle.std.specs.FinSet as set
@@ -42,7 +40,7 @@ any_holder d holder [] = refl
 any_holder d holder (x ∷ xs) = by_test (same_determinant x.1 d) (any_holder d holder xs) where
   by_test : (b : Bool) → list_any (λ y. y == holder) (map (λ (h : ℕ × Determinant). h.0) (filter (λ h. same_determinant h.1 d) xs)) ≡ list_any (is_pair d holder) xs
       → list_any (λ y. y == holder) (map (λ (h : ℕ × Determinant). h.0)
-          (cond b (x ∷ filter (λ h. same_determinant h.1 d) xs) (filter (λ h. same_determinant h.1 d) xs))) ≡ ((b && (x.0 == holder)) || list_any (is_pair d holder) xs)
+      (cond b (x ∷ filter (λ h. same_determinant h.1 d) xs) (filter (λ h. same_determinant h.1 d) xs))) ≡ ((b && (x.0 == holder)) || list_any (is_pair d holder) xs)
   by_test true rest = ap (λ r. (x.0 == holder) || r) rest
   by_test false rest = rest
 

@@ -1,8 +1,7 @@
 -- A pass from the end of a trace finds who depends on each event.
-use Rattle.std.proofs.Common.{
-  ℕ, Bool, true, false, ◌≡◌, ◌≢◌, ◌<◌, ◌≤◌, ◌+◌, ◌⊎◌, ◌↔◌, inl, inr, List, length, Some, None, refl, sym, ap, ◌∙◌, arith, get_or,
-  set as set_at, get_or-set_same, get_or-set_other, length-set, length-append, ◌-◌, ◌++◌, [], ◌∷◌, cond, replicate, ◌==◌, Decides,
-}
+use Rattle.std.proofs.Common.{ℕ, Bool, true, false, ◌≡◌, ◌≢◌, ◌<◌, ◌≤◌, ◌+◌, ◌⊎◌, ◌↔◌, inl, inr, List, length, Some, None, refl, sym, ap, ◌∙◌}
+use Rattle.std.proofs.Common.{arith, get_or, set as set_at, get_or-set_same, get_or-set_other, length-set, length-append, ◌-◌, ◌++◌, [], ◌∷◌, cond, replicate, ◌==◌}
+use Rattle.std.proofs.Common.{Decides}
 use Rattle.std.proofs.lemmas.Bool.Decides.{Decides-and, Decides-eqb}
 use Rattle.std.proofs.lemmas.Bool.{false≢true, cases_eq, or_cases, or_left, or_right}
 use Rattle.std.specs.Cmp.{nat_cmp_total}
@@ -146,7 +145,7 @@ module _ (t : List Mark) (i : ℕ) (by_member : List Members) (by_message : Mess
         → (DependsOnLater t (λ b. member_of b ≡ m) i q ↔ DependsOnLater t (λ b. member_of b ≡ m) (i + 1) q ⊎ ((member_of e ≡ m) × Depends t q i))
         → ((set.contains (get_or by_member m set.empty) q ≡ true) ↔ DependsOnLater t (λ b. member_of b ≡ m) (i + 1) q)
         → (set.contains (get_or (set_at by_member (member_of e) (set.union (get_or by_member (member_of e) set.empty) found)) m set.empty) q ≡ true) ↔
-            DependsOnLater t (λ b. member_of b ≡ m) i q
+        DependsOnLater t (λ b. member_of b ≡ m) i q
     at_place (inl is) more later =
         let room : member_of e < length by_member = omega (arith, below, knows.room) in
         let both = contains-both (get_or by_member (member_of e) set.empty) found q in
@@ -182,7 +181,7 @@ module _ (t : List Mark) (i : ℕ) (by_member : List Members) (by_message : Mess
 
     at_message : (b : Bool) → same_message taken m ≡ b
         → (DependsOnLater t (λ b. send_of b ≡ Some (Send m.from m.ssn m.to)) i q ↔ DependsOnLater t (λ b. send_of b ≡ Some (Send m.from m.ssn m.to))
-            (i + 1) q ⊎ ((send_of e ≡ Some (Send m.from m.ssn m.to)) × Depends t q i))
+        (i + 1) q ⊎ ((send_of e ≡ Some (Send m.from m.ssn m.to)) × Depends t q i))
         → ((set.contains (by_message m) q ≡ true) ↔ DependsOnLater t (λ b. send_of b ≡ Some (Send m.from m.ssn m.to)) (i + 1) q)
         → (set.contains (cond b (set.union (by_message taken) found) (by_message m)) q ≡ true) ↔ DependsOnLater t (λ b. send_of b ≡ Some (Send m.from m.ssn m.to)) i q
     at_message true is more later =

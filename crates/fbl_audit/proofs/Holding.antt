@@ -1,8 +1,6 @@
 -- How the index of holders is made.
-use Rattle.std.proofs.Common.{
-  ℕ, ◌+◌, ◌<◌, ◌≡◌, Bool, true, false, cond, List, [], ◌∷◌, ◌++◌, length, take, get_or, map, Option, Some, unwrap_or, refl, sym, ap, ◌∙◌,
-  append-nil,
-}
+use Rattle.std.proofs.Common.{ℕ, ◌+◌, ◌<◌, ◌≡◌, Bool, true, false, cond, List, [], ◌∷◌, ◌++◌, length, take, get_or, map, Option, Some, unwrap_or, refl, sym, ap}
+use Rattle.std.proofs.Common.{◌∙◌, append-nil}
 use Rattle.std.specs.List.{filter}
 use Rattle.std.specs.Ordering.{nat_cmp}
 use Rattle.std.specs.Cmp.{nat_cmp_total}
@@ -27,8 +25,8 @@ held_more old xs i x d members after within is was now new = at_key (same_determ
       → held_by d (take (i + 1) xs) ≡ set.from_list (map (λ h. h.0) (filter (λ h. same_determinant h.1 d) (take i xs)) ++ map (λ h. h.0) (cond b (x ∷ []) []))
   more b e =
       ap (λ l. set.from_list (map (λ h. h.0) l)) (filter_more (λ h. same_determinant h.1 d) xs i x within
-          ∙ ap (λ y. filter (λ h. same_determinant h.1 d) (take i xs) ++ cond (same_determinant y.1 d) (y ∷ []) []) (sym is)
-          ∙ ap (λ c. filter (λ h. same_determinant h.1 d) (take i xs) ++ cond c (x ∷ []) []) e)
+      ∙ ap (λ y. filter (λ h. same_determinant h.1 d) (take i xs) ++ cond (same_determinant y.1 d) (y ∷ []) []) (sym is)
+      ∙ ap (λ c. filter (λ h. same_determinant h.1 d) (take i xs) ++ cond c (x ∷ []) []) e)
       ∙ ap set.from_list (map-append (λ h. h.0) (filter (λ h. same_determinant h.1 d) (take i xs)) (cond b (x ∷ []) []))
 
   at_key : (b : Bool) → same_determinant x.1 d ≡ b → unwrap_or after set.empty ≡ held_by d (take (i + 1) xs)

@@ -1,9 +1,7 @@
 -- A search from the first event on finds a path to each member that depends on an event.
-use Rattle.std.proofs.Common.{
-  ℕ, zero, suc, Bool, true, false, ◌≡◌, ◌≢◌, ◌<◌, ◌+◌, ◌-◌, ◌⊎◌, inl, inr, List, [], ◌∷◌, ◌++◌, length, Option, Some, None,
-  option_and_then, refl, sym, ap, ◌∙◌, arith, get_or, get_or-set_same, get_or-set_other, length-set, length-append, replicate, reverse, slice_get,
-  cond,
-}
+use Rattle.std.proofs.Common.{ℕ, zero, suc, Bool, true, false, ◌≡◌, ◌≢◌, ◌<◌, ◌+◌, ◌-◌, ◌⊎◌, inl, inr, List, [], ◌∷◌, ◌++◌, length, Option, Some}
+use Rattle.std.proofs.Common.{None, option_and_then, refl, sym, ap, ◌∙◌, arith, get_or, get_or-set_same, get_or-set_other, length-set, length-append, replicate, reverse, slice_get}
+use Rattle.std.proofs.Common.{cond}
 use Rattle.std.specs.Option.{is_some, option_or}
 use Rattle.std.proofs.lemmas.Bool.{false≢true, cases_eq}
 use Rattle.std.proofs.lemmas.List.{reverse-append}

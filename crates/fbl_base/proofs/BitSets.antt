@@ -1,8 +1,6 @@
 -- Operations on bits as operations on sets.
-use Rattle.std.proofs.Common.{
-  ◌≡◌, ◌≢◌, ℕ, zero, suc, ◌+◌, ◌-◌, ◌*◌, ◌/◌, ◌%◌, ◌^◌, ◌<◌, ◌≤◌, true, false, ◌||◌, ◌&&◌, not, cond, max, min, refl, sym,
-  ap, ◌∙◌, arith, eqb, inl, inr, ◌⊎◌, ◌↔◌, count_by, bit_and, bit_or, w16,
-}
+use Rattle.std.proofs.Common.{◌≡◌, ◌≢◌, ℕ, zero, suc, ◌+◌, ◌-◌, ◌*◌, ◌/◌, ◌%◌, ◌^◌, ◌<◌, ◌≤◌, true, false, ◌||◌, ◌&&◌, not, cond, max}
+use Rattle.std.proofs.Common.{min, refl, sym, ap, ◌∙◌, arith, eqb, inl, inr, ◌⊎◌, ◌↔◌, count_by, bit_and, bit_or, w16}
 use Rattle.std.proofs.lemmas.Bool.{cases_lt, cases_eq}
 use Rattle.std.proofs.lemmas.Bool.Decides.{nat_tests}
 use Rattle.std.proofs.lemmas.List.Sums.{sum_by-cons}
@@ -33,23 +31,33 @@ has-bits b q within = ap (λ x. eqb x 1) (shr_and_one b q) ∙ sym (contains-set
 
 pub union-bits : (a b : ℕ) → a < 65536 → b < 65536 → set_of (bit_or a b) ≡ set.union (set_of a) (set_of b)
 union-bits a b wa wb = same_from_contains _ _
-    (λ q. rw (set.contains-union nat_cmp_total, contains-set_of (bit_or a b) q (or_lt 16 a b wa wb), contains-set_of a q wa, contains-set_of b q wb,
-    bit_at_or a b q) (at_most (bit_at a q) (bit_at b q) (bit_at-lt a q) (bit_at-lt b q)))
+    (λ q. rw (
+      set.contains-union nat_cmp_total,
+      contains-set_of (bit_or a b) q (or_lt 16 a b wa wb),
+      contains-set_of a q wa,
+      contains-set_of b q wb,
+      bit_at_or a b q,
+    ) (at_most (bit_at a q) (bit_at b q) (bit_at-lt a q) (bit_at-lt b q)))
 
 pub difference-bits : (a b : ℕ) → a < 65536 → b < 65536 → set_of (bit_and a (65535 - b)) ≡ set.difference (set_of a) (set_of b)
 difference-bits a b wa wb = same_from_contains _ _
-    (λ q. rw (set.contains-difference nat_cmp_total, contains-set_of (bit_and a (65535 - b)) q (omega (arith, wa, and_le_l a (65535 - b))),
-    contains-set_of a q wa, contains-set_of b q wb, bit_at_and a (65535 - b) q) (at q (cases_lt q 16))) where
-  at : (q : ℕ) → (q < 16) ⊎ (16 ≤ q) → eqb (min (bit_at a q) (bit_at (65535 - b) q)) 1 ≡ (eqb (bit_at a q) 1 && not (eqb (bit_at b q) 1))
-  at q (inl below) = rw (bit_at_not w16 b q wb below) (and_not (bit_at a q) (bit_at b q) (bit_at-lt a q) (bit_at-lt b q))
-  at q (inr past) = rw (bit_at_above a 16 q wa past) (zero_min (bit_at (65535 - b) q))
+    (λ q. rw (
+      set.contains-difference nat_cmp_total,
+      contains-set_of (bit_and a (65535 - b)) q (omega (arith, wa, and_le_l a (65535 - b))),
+      contains-set_of a q wa,
+      contains-set_of b q wb,
+      bit_at_and a (65535 - b) q,
+    ) (at q (cases_lt q 16))) where
+      at : (q : ℕ) → (q < 16) ⊎ (16 ≤ q) → eqb (min (bit_at a q) (bit_at (65535 - b) q)) 1 ≡ (eqb (bit_at a q) 1 && not (eqb (bit_at b q) 1))
+      at q (inl below) = rw (bit_at_not w16 b q wb below) (and_not (bit_at a q) (bit_at b q) (bit_at-lt a q) (bit_at-lt b q))
+      at q (inr past) = rw (bit_at_above a 16 q wa past) (zero_min (bit_at (65535 - b) q))
 
 pub insert-bits : (b m : ℕ) → b < 65536 → m < 16 → set_of (bit_or b (1 * 2 ^ m % 65536)) ≡ set.insert (set_of b) m
 insert-bits b m wb wm = same_from_contains _ _
     (λ q. contains-set_of (bit_or b (1 * 2 ^ m % 65536)) q (or_lt 16 b (1 * 2 ^ m % 65536) wb (mod-lt (1 * 2 ^ m) (let z : 0 < 65536 = omega arith in z))) ∙ at q (cases_eq q m)) where
-  at : (q : ℕ) → (q ≡ m) ⊎ (q ≢ m) → eqb (bit_at (bit_or b (1 * 2 ^ m % 65536)) q) 1 ≡ set.contains (set.insert (set_of b) m) q
-  at q (inl is) = rw is (ap (λ x. eqb x 1) (bit_at_set_same w16 b m wm) ∙ sym (contains-insert_same _ m))
-  at q (inr ne) = ap (λ x. eqb x 1) (bit_at_set_other w16 b m wm q ne) ∙ sym (contains-set_of b q wb) ∙ sym (contains-insert_other _ m q ne)
+      at : (q : ℕ) → (q ≡ m) ⊎ (q ≢ m) → eqb (bit_at (bit_or b (1 * 2 ^ m % 65536)) q) 1 ≡ set.contains (set.insert (set_of b) m) q
+      at q (inl is) = rw is (ap (λ x. eqb x 1) (bit_at_set_same w16 b m wm) ∙ sym (contains-insert_same _ m))
+      at q (inr ne) = ap (λ x. eqb x 1) (bit_at_set_other w16 b m wm q ne) ∙ sym (contains-set_of b q wb) ∙ sym (contains-insert_other _ m q ne)
 
 ones-none : ones 0 ≡ 0
 unfolding ones ones_in

@@ -1,9 +1,7 @@
 -- What is counted, after one more event.
-use Rattle.std.proofs.Common.{
-  ℕ, Bool, true, false, cond, ◌≡◌, ◌≢◌, ◌<◌, ◌≤◌, ◌+◌, ◌*◌, ◌==◌, ◌&&◌, ◌⊎◌, ◌↔◌, inl, inr, List, [], ◌∷◌, ◌++◌,
-  length, take, drop, Option, Some, None, slice_get, MatchOption, subst, refl, sym, ap, ◌∙◌, arith, get_or, set as set_at, get_or-set_same,
-  get_or-set_other, length-set, length-take,
-}
+use Rattle.std.proofs.Common.{ℕ, Bool, true, false, cond, ◌≡◌, ◌≢◌, ◌<◌, ◌≤◌, ◌+◌, ◌*◌, ◌==◌, ◌&&◌, ◌⊎◌, ◌↔◌, inl, inr, List, []}
+use Rattle.std.proofs.Common.{◌∷◌, ◌++◌, length, take, drop, Option, Some, None, slice_get, MatchOption, subst, refl, sym, ap, ◌∙◌, arith, get_or, set as set_at}
+use Rattle.std.proofs.Common.{get_or-set_same, get_or-set_other, length-set, length-take}
 use Rattle.std.proofs.lemmas.Bool.{cases_eq, eq-eqb, ne_eqb}
 use Rattle.std.proofs.lemmas.List.{take_more, append-nil, get_or_read}
 use Rattle.std.proofs.lemmas.Option.{slice_get-get_or}
@@ -96,9 +94,9 @@ counted_send n t c d q s p most obeys counted may is_sends is_receipts is_channe
       receipts = λ x below. rw is_receipts (omega (arith, counted.receipts x below, receipts-step t (Send q s p) x));
       channels = λ x y below_x below_y.
           rw is_channels (channel_set c.channels.items q p x y _ (in_flight t x y) _ (omega (arith, counted.channels_length)) below_p below_y
-              (counted.channels x y below_x below_y) (in_flight-send n t obeys q s p x y may
-              ∙ cond_append (q == x && p == y) (in_flight t x y) (s ∷ []) ∙ cond_at q p x y (in_flight t) (λ z. z ++ s ∷ [])
-              ∙ ap (λ z. cond (q == x && p == y) (z ++ s ∷ []) (in_flight t x y)) (sym was)));
+          (counted.channels x y below_x below_y) (in_flight-send n t obeys q s p x y may
+          ∙ cond_append (q == x && p == y) (in_flight t x y) (s ∷ []) ∙ cond_at q p x y (in_flight t) (λ z. z ++ s ∷ [])
+          ∙ ap (λ z. cond (q == x && p == y) (z ++ s ∷ []) (in_flight t x y)) (sym was)));
       sends_length = rw (is_sends, length-set) counted.sends_length;
       receipts_length = rw is_receipts counted.receipts_length;
       channels_length = rw (is_channels, length-set) counted.channels_length;
@@ -118,8 +116,8 @@ counted_receipt n t c d p r q s most obeys counted may is_sends is_receipts is_c
           (may.3 ∙ ap (λ z. z + 1) (sym (counted.receipts p below_p))) (counted.receipts x below) (receipts-step t (Receipt p r q s) x));
       channels = λ x y below_x below_y.
           rw is_channels (channel_set c.channels.items q p x y _ (in_flight t x y) _ (omega (arith, counted.channels_length)) below_p below_y
-              (counted.channels x y below_x below_y) (in_flight-receipt n t obeys p r q s x y may ∙ cond_at q p x y (in_flight t) (λ z. drop 1 z)
-              ∙ ap (λ z. cond (q == x && p == y) (drop 1 z) (in_flight t x y)) (sym was)));
+          (counted.channels x y below_x below_y) (in_flight-receipt n t obeys p r q s x y may ∙ cond_at q p x y (in_flight t) (λ z. drop 1 z)
+          ∙ ap (λ z. cond (q == x && p == y) (drop 1 z) (in_flight t x y)) (sym was)));
       sends_length = rw is_sends counted.sends_length;
       receipts_length = rw (is_receipts, length-set) counted.receipts_length;
       channels_length = rw (is_channels, length-set) counted.channels_length;

@@ -1,8 +1,6 @@
 -- What is in flight after one more event.
-use Rattle.std.proofs.Common.{
-  ◌==◌, ◌&&◌, not, ◌||◌, ℕ, suc, Bool, true, false, cond, ◌≡◌, ◌≢◌, ◌<◌, ◌≤◌, List, [], ◌∷◌, ◌++◌, take, drop, Some, None, refl, ap,
-  ◌∙◌, arith, slice_get,
-}
+use Rattle.std.proofs.Common.{◌==◌, ◌&&◌, not, ◌||◌, ℕ, suc, Bool, true, false, cond, ◌≡◌, ◌≢◌, ◌<◌, ◌≤◌, List, [], ◌∷◌, ◌++◌, take, drop, Some}
+use Rattle.std.proofs.Common.{None, refl, ap, ◌∙◌, arith, slice_get}
 use Rattle.std.specs.List.{filter, filter_map, list_any, cons_option}
 use Rattle.std.proofs.lemmas.Bool.Decides.{nat_tests}
 use Rattle.std.proofs.lemmas.List.{append-nil}

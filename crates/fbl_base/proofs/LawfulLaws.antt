@@ -1,8 +1,6 @@
 -- A delivery keeps a trace lawful.
-use Rattle.std.proofs.Common.{
-  ◌≡◌, ◌≢◌, ℕ, zero, suc, ◌+◌, ◌<◌, ◌≤◌, ◌==◌, ◌&&◌, ◌⊎◌, inl, inr, Bool, true, false, cond, List, [], ◌∷◌, ◌++◌, length, take,
-  map, Option, Some, None, subst, slice_get, refl, sym, ap, ◌∙◌, arith, append_assoc, length-append, length-take,
-}
+use Rattle.std.proofs.Common.{◌≡◌, ◌≢◌, ℕ, zero, suc, ◌+◌, ◌<◌, ◌≤◌, ◌==◌, ◌&&◌, ◌⊎◌, inl, inr, Bool, true, false, cond, List, [], ◌∷◌}
+use Rattle.std.proofs.Common.{◌++◌, length, take, map, Option, Some, None, subst, slice_get, refl, sym, ap, ◌∙◌, arith, append_assoc, length-append, length-take}
 use Rattle.std.specs.List.{filter_map, cons_option, fold, All}
 use Rattle.std.proofs.lemmas.Bool.Decides.{nat_tests}
 use Rattle.std.proofs.lemmas.List.{append-nil, take-append-le, map-append, length-map}
@@ -60,7 +58,7 @@ sends_obey n p before u (s ∷ sends) obeys member count allowed room =
     let self : (p == p) ≡ true = eqb-self p in
     let more : before + 1 ≡ sends_of (u ++ e ∷ []) p = rw (sum_by-append (λ y. cond (is_send_of p y) 1 0) u (e ∷ []), self) (omega (arith, count)) in
     (rw append_assoc at (sends_obey n p (before + 1) (u ++ e ∷ []) sends (WellFormed-push n u e obeys may) member more
-        (All-tail (λ (x : ℕ × Note). (x.0 < n) × (x.0 ≢ p)) s sends allowed) (omega (arith, room, length-append u (e ∷ [])))))
+    (All-tail (λ (x : ℕ × Note). (x.0 < n) × (x.0 ≢ p)) s sends allowed) (omega (arith, room, length-append u (e ∷ [])))))
 
 -- what a member does stays the same as the trace grows, where each receipt's note is known
 actions-front : (t s u : List Event) (m : ℕ) →
@@ -132,11 +130,11 @@ responds_more next n starts t new p note sends answer m more was is (inl some) =
     let old = actions_of t m in
     let tail : List Action = took note ∷ map sent sends in
     let answer_m : sends ≡ (next m n (fold (λ state x. (next m n state x).state) 0 (notes_of (actions_of t m))) note).sends.items =
-        subst (λ (x : ℕ). sends ≡ (next x n (fold (λ state y. (next x n state y).state) 0 (notes_of (actions_of t x))) note).sends.items) some.0 answer in
+    subst (λ (x : ℕ). sends ≡ (next x n (fold (λ state y. (next x n state y).state) 0 (notes_of (actions_of t x))) note).sends.items) some.0 answer in
     let whole : actions_of (t ++ new) m ≡ old ++ tail = is ∙ ap (λ xs. old ++ xs) some.1 in
     let notes : notes_of (actions_of (t ++ new) m) ≡ notes_of old ++ note ∷ [] = ap notes_of whole ∙ notes_of-append old tail ∙ ap (λ xs. notes_of old ++ note ∷ xs) (notes_of-sent sends) in
     let replies : responses next m n 0 (notes_of (actions_of (t ++ new) m)) ≡ responses next m n 0 (notes_of old) ++ tail =
-        ap (λ xs. responses next m n 0 xs) notes ∙ responses-push next m n 0 (notes_of old) note ∙ ap (λ xs. responses next m n 0 (notes_of old) ++ (took note ∷ map sent xs)) (sym answer_m) in
+    ap (λ xs. responses next m n 0 xs) notes ∙ responses-push next m n 0 (notes_of old) note ∙ ap (λ xs. responses next m n 0 (notes_of old) ++ (took note ∷ map sent xs)) (sym answer_m) in
     whole ∙ ap (λ xs. xs ++ tail) was ∙ append_assoc (map sent (starts_of m starts)) (responses next m n 0 (notes_of old)) tail ∙ ap (λ xs. map sent (starts_of m starts) ++ xs) (sym replies)
 
 -- a delivery keeps a trace lawful

@@ -1,8 +1,6 @@
 -- The first events of orphans that depend on a lost receipt.
-use Rattle.std.proofs.Common.{
-  ℕ, [], ◌+◌, ◌<◌, ◌≡◌, ◌≢◌, ◌⊎◌, inl, inr, Bool, true, false, cond, not, ◌||◌, ◌&&◌, List, length, take, Option, Some, None, refl, sym, ap,
-  ◌∙◌, subst, get_or, set as set_at, get_or-set_same, get_or-set_other, ltb,
-}
+use Rattle.std.proofs.Common.{ℕ, [], ◌+◌, ◌<◌, ◌≡◌, ◌≢◌, ◌⊎◌, inl, inr, Bool, true, false, cond, not, ◌||◌, ◌&&◌, List, length, take, Option, Some, None}
+use Rattle.std.proofs.Common.{refl, sym, ap, ◌∙◌, subst, get_or, set as set_at, get_or-set_same, get_or-set_other, ltb}
 use Rattle.std.proofs.lemmas.Bool.{false≢true, cases_eq}
 use Rattle.std.specs.Cmp.{nat_cmp_total}
 use Rattle.std.specs.Ordering.{nat_cmp}
@@ -28,7 +26,7 @@ reached_other : (e : Mark) (lost : Bool) (reached : set.FinSet nat_cmp) (clean :
 reached_other (Send from ssn to) lost reached clean q ne = refl
 reached_other (Receipt to rsn from ssn) lost reached clean q ne =
     elim (lost || ltb (get_or clean from 0) ssn) as
-        (λ b. set.contains (cond b (set.insert reached to) reached) q ≡ set.contains reached q) [ true ↦ contains-insert_other reached to q ne | false ↦ refl ]
+    (λ b. set.contains (cond b (set.insert reached to) reached) q ≡ set.contains reached q) [ true ↦ contains-insert_other reached to q ne | false ↦ refl ]
 
 -- nor makes it an orphan of another
 pub orphan_other : (e : Mark) (lost : Bool) (strike reached : set.FinSet nat_cmp) (clean : List ℕ) (q : ℕ) → q ≢ member_of e
@@ -58,8 +56,8 @@ module _ (dump : Parts) (i : ℕ) (reached reached' : set.FinSet nat_cmp) (clean
 pub no_start : (dump : Parts) (clean : List ℕ) → Tracks (IsLost dump) [] set.empty clean → (q : ℕ) (start : Option ℕ) → start ≡ None → StartsBy dump 0 q start
 no_start dump clean tracks q start is =
     let none : ¬ (IsOrphan (first_events 0 dump) q) =
-        λ o. false≢true (sym (set.contains-difference nat_cmp_total set.empty dump.strike q
-        ∙ ap (λ b. b && not (set.contains dump.strike q)) (set.contains-empty nat_cmp q)) ∙ (Tracks-orphans (first_events 0 dump) set.empty clean tracks q).1 o) in
+    λ o. false≢true (sym (set.contains-difference nat_cmp_total set.empty dump.strike q
+    ∙ ap (λ b. b && not (set.contains dump.strike q)) (set.contains-empty nat_cmp q)) ∙ (Tracks-orphans (first_events 0 dump) set.empty clean tracks q).1 o) in
     subst (StartsBy dump 0 q) (sym is) none
 
 module _ (dump : Parts) (i : ℕ) (reached reached' : set.FinSet nat_cmp) (clean clean' : List ℕ)

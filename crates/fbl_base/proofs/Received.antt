@@ -1,8 +1,6 @@
 -- Which determinants receipts have.
-use Rattle.std.proofs.Common.{
-  drop, ℕ, ◌+◌, ◌<◌, ◌≤◌, ◌≡◌, Bool, true, cond, ◌||◌, List, [], ◌∷◌, length, take, get_or, Some, None, refl, sym, ap, ◌∙◌, arith, Decides,
-  length-take,
-}
+use Rattle.std.proofs.Common.{drop, ℕ, ◌+◌, ◌<◌, ◌≤◌, ◌≡◌, Bool, true, cond, ◌||◌, List, [], ◌∷◌, length, take, get_or, Some, None, refl, sym, ap, ◌∙◌}
+use Rattle.std.proofs.Common.{arith, Decides, length-take}
 use Rattle.std.specs.List.{list_any, filter_map, cons_option}
 use Rattle.std.proofs.lemmas.List.{take_more, take-append-drop, take-append-le}
 use Rattle.std.proofs.lemmas.List.Folds.{list_any-append, Any-from_list_any, list_any-from_Any}
@@ -28,7 +26,7 @@ pub received_more : (events : List Mark) (i : ℕ) (e : Mark) (key d : Determina
     → determinant_of e ≡ Some key → before ≡ is_received (take i events) d → after ≡ cond (same_determinant key d) true before → after ≡ is_received (take (i + 1) events) d
 received_more events i e key d before after below is some was now =
     now ∙ or_cond (same_determinant key d) before ∙ ap (λ b. b || same_determinant key d) was
-        ∙ (rw (more events i e d below is, some) (ap (λ b. is_received (take i events) d || b) (or_false (same_determinant key d))))
+    ∙ (rw (more events i e d below is, some) (ap (λ b. is_received (take i events) d || b) (or_false (same_determinant key d))))
 
 -- one more send
 pub received_same : (events : List Mark) (i : ℕ) (e : Mark) (d : Determinant) (before : Bool) → i < length events → e ≡ get_or events i e
@@ -53,7 +51,7 @@ Decides-is_received events d = (has, received) where
   received has' =
       let a = filter_map-At determinant_of events has'.0 (receipt_of d) d has'.1 refl in
       list_any-from_Any (λ x. same_determinant x d) (filter_map determinant_of events)
-          (a.0, d, At-below _ a.0 d a.1, get_or_from_slice_get (filter_map determinant_of events) a.0 d d a.1, (Decides-same_determinant d d).1 refl)
+      (a.0, d, At-below _ a.0 d a.1, get_or_from_slice_get (filter_map determinant_of events) a.0 d d a.1, (Decides-same_determinant d d).1 refl)
 
 -- the front of a trace whose places obey the rules
 pub WellFormed-below : (n : ℕ) (t : List Mark) (i : ℕ) → ((j : ℕ) → j < i → ObeysAt n t j) → WellFormed n (take i t)

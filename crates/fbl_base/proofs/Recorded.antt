@@ -1,7 +1,6 @@
 -- Which determinants are recorded.
-use Rattle.std.proofs.Common.{
-  ℕ, ◌+◌, ◌<◌, ◌≡◌, ◌==◌, Bool, true, false, not, cond, ◌&&◌, ◌||◌, List, length, take, get_or, refl, sym, ap, ◌∙◌, arith, Decides, ◌↔◌,
-}
+use Rattle.std.proofs.Common.{ℕ, ◌+◌, ◌<◌, ◌≡◌, ◌==◌, Bool, true, false, not, cond, ◌&&◌, ◌||◌, List, length, take, get_or, refl, sym, ap, ◌∙◌, arith}
+use Rattle.std.proofs.Common.{Decides, ◌↔◌}
 use Rattle.std.specs.List.{list_any}
 use Rattle.std.specs.Ordering.{nat_cmp}
 use Rattle.std.specs.FinSet as set
@@ -55,7 +54,7 @@ both_true false b h = cc
 pub Decides-same_determinant : (a b : Determinant) → Decides (same_determinant a b) (a ≡ b)
 Decides-same_determinant a b =
     let sent = Decides-and (a.from == b.from) _ (Decides-eqb a.from b.from)
-        (Decides-and (a.ssn == b.ssn) _ (Decides-eqb a.ssn b.ssn) (Decides-and (a.to == b.to) _ (Decides-eqb a.to b.to) (Decides-eqb a.rsn b.rsn))) in (
+    (Decides-and (a.ssn == b.ssn) _ (Decides-eqb a.ssn b.ssn) (Decides-and (a.to == b.to) _ (Decides-eqb a.to b.to) (Decides-eqb a.rsn b.rsn))) in (
       λ h. (let e = sent.0 h in λ i. record { from = e.0 i; ssn = e.1.0 i; to = e.1.1.0 i; rsn = e.1.1.1 i }),
       λ e. sent.1 (ap (λ (d : Determinant). d.from) e, (ap (λ (d : Determinant). d.ssn) e, (ap (λ (d : Determinant). d.to) e, ap (λ (d : Determinant). d.rsn) e))),
     )
@@ -77,8 +76,10 @@ Decides-is_lost dump recorded is (Send from ssn to) = (λ h. cc, λ x. absurd x)
 Decides-is_lost dump recorded is (Receipt to rsn from ssn) =
     let d : Determinant = record { from = from; ssn = ssn; to = to; rsn = rsn } in
     let decides = Decides-is_held_outside dump d in
-    rw (is d) (λ h r. absurd (false≢true (sym (not-true (is_held_outside dump d) h) ∙ decides.1 r)),
-        λ lost. not_from_false (is_held_outside dump d) (false_from_ne_true (is_held_outside dump d) (λ h. lost (decides.0 h))))
+    rw (is d) (
+      λ h r. absurd (false≢true (sym (not-true (is_held_outside dump d) h) ∙ decides.1 r)),
+      λ lost. not_from_false (is_held_outside dump d) (false_from_ne_true (is_held_outside dump d) (λ h. lost (decides.0 h))),
+    )
 
 both_not : (a b : Bool) → ((a && not b) ≡ true) ↔ ((a ≡ true) × (b ≡ false))
 both_not true true = (λ h. cc, λ h. sym h.1)

@@ -1,8 +1,6 @@
 -- Laws of the rules of events.
-use Rattle.std.proofs.Common.{
-  ◌+◌, ◌==◌, ◌&&◌, not, None, ℕ, zero, suc, Bool, true, cond, ◌≡◌, ◌<◌, inl, inr, List, [], ◌∷◌, ◌++◌, length, take, drop, Some, refl, ap,
-  ◌∙◌, arith, count_by, slice_get,
-}
+use Rattle.std.proofs.Common.{◌+◌, ◌==◌, ◌&&◌, not, None, ℕ, zero, suc, Bool, true, cond, ◌≡◌, ◌<◌, inl, inr, List, [], ◌∷◌, ◌++◌, length, take, drop, Some}
+use Rattle.std.proofs.Common.{refl, ap, ◌∙◌, arith, count_by, slice_get}
 use Rattle.std.proofs.lemmas.Bool.{and_parts, eqb-true}
 use Rattle.std.proofs.lemmas.Bool.Decides.{nat_tests}
 use Rattle.std.proofs.lemmas.Option.{cond_some}

@@ -1,8 +1,6 @@
 -- How many members sets have.
-use Rattle.std.proofs.Common.{
-  ℕ, zero, suc, ◌+◌, ◌-◌, ◌<◌, ◌≤◌, ◌≡◌, ◌≢◌, Bool, true, false, cond, not, ◌&&◌, ◌||◌, List, [], ◌∷◌, refl, sym, ap, ◌∙◌,
-  arith, eqb,
-}
+use Rattle.std.proofs.Common.{ℕ, zero, suc, ◌+◌, ◌-◌, ◌<◌, ◌≤◌, ◌≡◌, ◌≢◌, Bool, true, false, cond, not, ◌&&◌, ◌||◌, List, [], ◌∷◌, refl, sym}
+use Rattle.std.proofs.Common.{ap, ◌∙◌, arith, eqb}
 use Rattle.std.proofs.lemmas.Bool.Decides.{nat_tests}
 use Rattle.std.proofs.lemmas.Bool.{false≢true, eq-eqb, and_parts, not-true}
 use Rattle.std.specs.List.{list_any}
@@ -68,7 +66,7 @@ some_outside s t more = at (set.len (set.difference s t)) refl where
   at : (n : ℕ) → set.len (set.difference s t) ≡ n → (k : ℕ) × (set.contains s k ≡ true) × (set.contains t k ≡ false)
   at zero none =
       let empty : (q : ℕ) → (set.contains s q && not (set.contains t q)) ≡ false = λ q. sym (set.contains-difference nat_cmp_total s t q)
-          ∙ ap (λ x. set.contains x q) (set.empty_of_len (set.difference s t) none) ∙ set.contains-empty nat_cmp q in
+      ∙ ap (λ x. set.contains x q) (set.empty_of_len (set.difference s t) none) ∙ set.contains-empty nat_cmp q in
       absurd (omega (arith, more, len-within (set.len s) s t refl (λ q h. lacks (set.contains s q) (set.contains t q) (empty q) h)))
   at (suc n) some =
       let k = some_member (set.difference s t) (omega (arith, some)) in

@@ -1,8 +1,6 @@
 -- How the index of messages is made.
-use Rattle.std.proofs.Common.{
-  ℕ, ◌+◌, ◌<◌, ◌≡◌, ◌==◌, Bool, true, false, cond, List, [], ◌∷◌, ◌++◌, length, length-take, take, get_or, Option, Some, None, Decides, refl, sym,
-  ap, ◌∙◌, arith,
-}
+use Rattle.std.proofs.Common.{ℕ, ◌+◌, ◌<◌, ◌≡◌, ◌==◌, Bool, true, false, cond, List, [], ◌∷◌, ◌++◌, length, length-take, take, get_or, Option, Some, None}
+use Rattle.std.proofs.Common.{Decides, refl, sym, ap, ◌∙◌, arith}
 use Rattle.std.specs.Option.{option_or, is_some}
 use Rattle.std.specs.List.{position_from}
 use Rattle.std.proofs.lemmas.List.{take_more}
@@ -29,10 +27,10 @@ position_push : {X : Type 0} (p : X → Bool) (k : ℕ) (xs : List X) (x : X) �
 position_push p k [] x = ap (λ n. cond (p x) (Some n) None) (let e : k ≡ k + 0 = omega arith in e)
 position_push p k (y ∷ ys) x = at_first (p y)
     (position_push p (k + 1) ys x ∙ ap (λ n. option_or (position_from p (k + 1) ys) (cond (p x) (Some n) None)) (let e : k + 1 + length ys ≡ k + length (y ∷ ys) = omega arith in e)) where
-  at_first : (b : Bool) → position_from p (k + 1) (ys ++ x ∷ []) ≡ option_or (position_from p (k + 1) ys) (cond (p x) (Some (k + length (y ∷ ys))) None)
-      → cond b (Some k) (position_from p (k + 1) (ys ++ x ∷ [])) ≡ option_or (cond b (Some k) (position_from p (k + 1) ys)) (cond (p x) (Some (k + length (y ∷ ys))) None)
-  at_first true later = refl
-  at_first false later = later
+      at_first : (b : Bool) → position_from p (k + 1) (ys ++ x ∷ []) ≡ option_or (position_from p (k + 1) ys) (cond (p x) (Some (k + length (y ∷ ys))) None)
+          → cond b (Some k) (position_from p (k + 1) (ys ++ x ∷ [])) ≡ option_or (cond b (Some k) (position_from p (k + 1) ys)) (cond (p x) (Some (k + length (y ∷ ys))) None)
+      at_first true later = refl
+      at_first false later = later
 
 place_more : (events : List Mark) (i : ℕ) (e : Mark) (m : Message) → i < length events → e ≡ get_or events i e
     → receipt_place (take (i + 1) events) m ≡ option_or (receipt_place (take i events) m) (cond (takes m e) (Some i) None)

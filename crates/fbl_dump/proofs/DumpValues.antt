@@ -1,8 +1,6 @@
 -- The values of a dump, and how they are read back.
-use Rattle.std.proofs.Common.{
-  ◌≡◌, ℕ, ◌+◌, ◌<◌, ◌≤◌, ◌⊎◌, List, [], ◌∷◌, ◌++◌, map, take, get_or, length, suc, zero, refl, sym, ap, subst, ◌∙◌, arith, Bool, true,
-  false, ◌&&◌, cond, Option, Some, None, option_map, Ok, nat_cmp, nat_eq, inl, inr, eq-eqb, nat_le, ◌||◌,
-}
+use Rattle.std.proofs.Common.{◌≡◌, ℕ, ◌+◌, ◌<◌, ◌≤◌, ◌⊎◌, List, [], ◌∷◌, ◌++◌, map, take, get_or, length, suc, zero, refl, sym, ap, subst, ◌∙◌}
+use Rattle.std.proofs.Common.{arith, Bool, true, false, ◌&&◌, cond, Option, Some, None, option_map, Ok, nat_cmp, nat_eq, inl, inr, eq-eqb, nat_le, ◌||◌}
 use Rattle.std.proofs.Math.Bool.{or-true}
 use Rattle.std.proofs.lemmas.List.{take_more, map_push}
 use Rattle.std.proofs.lemmas.List.Elements.{All-push}

@@ -1,8 +1,6 @@
 -- A newline behind a text changes nothing of what JSON reads in it.
-use Rattle.std.proofs.Common.{
-  ◌≡◌, ℕ, ◌+◌, ◌-◌, ◌≤◌, Bool, true, false, cond, ◌&&◌, ◌||◌, ◌==◌, nat_lt, List, [], ◌∷◌, ◌++◌, length, take, drop, Option, Some,
-  None, option_map, option_and_then, refl, ap, ◌∙◌, arith, length-append, IsUtf8, nat_eq, suc,
-}
+use Rattle.std.proofs.Common.{◌≡◌, ℕ, ◌+◌, ◌-◌, ◌≤◌, Bool, true, false, cond, ◌&&◌, ◌||◌, ◌==◌, nat_lt, List, [], ◌∷◌, ◌++◌, length, take, drop}
+use Rattle.std.proofs.Common.{Option, Some, None, option_map, option_and_then, refl, ap, ◌∙◌, arith, length-append, IsUtf8, nat_eq, suc}
 use Rattle.std.proofs.Math.Bool.{and-false}
 use Rattle.std.proofs.lemmas.List.{take-append-le, drop-append-le}
 use Rattle.std.proofs.lemmas.Str.{IsUtf8-append}
@@ -10,10 +8,8 @@ use Rattle.std.specs.Char.{encode_utf8, is_ascii_digit}
 use Rattle.std.specs.List.{prefix_len, starts_with}
 use Rattle.json.specs.Ascii.{false_text, null_text, true_text}
 use Rattle.json.specs.Json.{if_last, value}
-use Rattle.json.specs.Lex.{
-  Class, Lexeme, Mode, between, backslash, class, in_escape, in_string, in_word, lex, lex_byte, fresh, operator, operator_lexeme, other, punctuate,
-  quote, space, string_token, token,
-}
+use Rattle.json.specs.Lex.{Class, Lexeme, Mode, between, backslash, class, in_escape, in_string, in_word, lex, lex_byte, fresh, operator, operator_lexeme, other, punctuate, quote, space}
+use Rattle.json.specs.Lex.{string_token, token}
 use Rattle.json.specs.Text.{Within, after_backslash, after_high, after_u, code_unit, content, is_high_surrogate, is_low_surrogate, plain, prepend, short_escape, surrogate_pair}
 use Rattle.json.specs.Token.{bad, boolean, null, number}
 use Rattle.json.specs.Word.{after_digits, after_exponent, after_fraction, after_minus, after_number, after_sign, after_whole, ends_word, head, literal, number_before, word}

@@ -1,8 +1,6 @@
 -- How the paths from a receipt to its orphans are gathered, and reasons told.
-use Rattle.std.proofs.Common.{
-  ℕ, true, false, ◌≡◌, ◌<◌, ◌≤◌, ◌+◌, inl, inr, List, [], ◌∷◌, ◌++◌, length, map, take, Some, slice_get, refl, sym, ap, ◌∙◌, arith, get_or,
-  length-append,
-}
+use Rattle.std.proofs.Common.{ℕ, true, false, ◌≡◌, ◌<◌, ◌≤◌, ◌+◌, inl, inr, List, [], ◌∷◌, ◌++◌, length, map, take, Some, slice_get, refl, sym, ap, ◌∙◌}
+use Rattle.std.proofs.Common.{arith, get_or, length-append}
 use Rattle.std.proofs.lemmas.Bool.{false≢true, cases_eq}
 use Rattle.std.proofs.lemmas.List.{map-append, take_more}
 use Rattle.std.specs.FinSet as set

@@ -28,7 +28,8 @@ below_test : (m n : ℕ) → m < n → nat_lt m n ≡ true
 below_test m n below = grind (arith, nat_tests)
 
 -- a step that there is room for is planned
-module _ (next : Next) (r : GroupRecord) (p q : ℕ) (below_p : p < r.config.members) (below_q : q < r.config.members) (nobody : set.len r.down ≡ 0) (v : Message) (outcome : Outcome) (sound : IsSound next r) (at : front r q p ≡ Some v) (step : outcome ≡ next p r.config.members (member r p).state v.note) where
+module _ (next : Next) (r : GroupRecord) (p q : ℕ) (below_p : p < r.config.members) (below_q : q < r.config.members) (nobody : set.len r.down ≡ 0)
+    (v : Message) (outcome : Outcome) (sound : IsSound next r) (at : front r q p ≡ Some v) (step : outcome ≡ next p r.config.members (member r p).state v.note) where
   ends : (v.from ≡ q) × (v.to ≡ p)
   ends = (let flies = front_flight next r sound q p v at in (flies.1, flies.2))
 
@@ -56,7 +57,8 @@ take_at_front r p q below_p below_q nobody =
     let d : (set.len r.down == 0) ≡ true = eqb-same (set.len r.down) 0 nobody in
     rw (a, b, d) refl
 
-module _ {r now : GroupRecord} (view : r ≡ now) {p q n a b : ℕ} (all : n ≡ r.config.members) (is_p : a ≡ p) (less_p : a < n) (is_q : b ≡ q) (less_q : b < n) (nobody : set.len r.down ≡ 0) where
+module _ {r now : GroupRecord} (view : r ≡ now) {p q n a b : ℕ} (all : n ≡ r.config.members) (is_p : a ≡ p) (less_p : a < n) (is_q : b ≡ q)
+    (less_q : b < n) (nobody : set.len r.down ≡ 0) where
   below_p : p < r.config.members
   below_p = omega (arith, all, is_p, less_p)
 
@@ -72,9 +74,17 @@ module _ {r now : GroupRecord} (view : r ≡ now) {p q n a b : ℕ} (all : n ≡
     of_receiver = read ∙ ap (λ k. get_or r.members k x) is_place ∙ read_any r.members p x _ (omega (arith, below_p, sound.members))
 
     pub few_received : {received : ℕ} → received ≡ x.received → Fits w32 (received + 1)
-    few_received is = omega (arith, is, ap (λ (m : MemberRecord). m.received) of_receiver, receipts_fit next r sound p below_p (all_up next r sound (set.empty_of_len r.down nobody) p), sound.room, sound.config.limit.1)
+    few_received is = omega (
+      arith,
+      is,
+      ap (λ (m : MemberRecord). m.received) of_receiver,
+      receipts_fit next r sound p below_p (all_up next r sound (set.empty_of_len r.down nobody) p),
+      sound.room,
+      sound.config.limit.1,
+    )
 
-    pub is_taken : (v : Message) (t : Ticket) → front r q p ≡ Some v → t.n ≡ n → t.to ≡ p → t.from ≡ q → t.state ≡ x.state → t.rsn ≡ x.received + 1 → t.ssn ≡ v.ssn → t.note ≡ v.note → (take_refusal now p q ≡ None) × ((w : Message) × (front now q p ≡ Some w) × IsTicket now w t)
+    pub is_taken : (v : Message) (t : Ticket) → front r q p ≡ Some v → t.n ≡ n → t.to ≡ p → t.from ≡ q → t.state ≡ x.state → t.rsn ≡ x.received + 1
+        → t.ssn ≡ v.ssn → t.note ≡ v.note → (take_refusal now p q ≡ None) × ((w : Message) × (front now q p ≡ Some w) × IsTicket now w t)
     is_taken v t at size to from state rsn ssn note =
         let flies = front_flight next r sound q p v at in
         let ticket : IsTicket r v t = record {
@@ -94,7 +104,8 @@ current_parts m v t all = parts (m.state == t.state) (m.received + 1 == t.rsn) (
   same : (a b : Note) → a.value ≡ b.value → a.hops ≡ b.hops → a ≡ b
   same a b e1 e2 i = record { value = e1 i; hops = e2 i }
 
-  parts : (a b c d e : Bool) → (m.state == t.state) ≡ a → (v.note.value == t.note.value) ≡ d → (v.note.hops == t.note.hops) ≡ e → (a && (b && (c && (d && e)))) ≡ true → (m.state ≡ t.state) × (v.note ≡ t.note)
+  parts : (a b c d e : Bool) → (m.state == t.state) ≡ a → (v.note.value == t.note.value) ≡ d → (v.note.hops == t.note.hops) ≡ e
+      → (a && (b && (c && (d && e)))) ≡ true → (m.state ≡ t.state) × (v.note ≡ t.note)
   parts true true true true true ea ed ee h = (grind (arith, nat_tests), same v.note t.note (grind (arith, nat_tests)) (grind (arith, nat_tests)))
   parts true true true true false ea ed ee h = cc
   parts true true true false e ea ed ee h = cc
@@ -125,18 +136,22 @@ module _ (next : Next) {r now : GroupRecord} (view : r ≡ now) (t : Ticket) (no
     -- what is read at the receiver's place tells whether the ticket is current
     module _ (sound : IsSound next r) {place : ℕ} {x : MemberRecord} {told : Bool} (is_place : place ≡ t.to) (read : x ≡ get_or r.members place x) (told_is : told ≡ is_current x w t) where
       tells : told ≡ is_current (member r t.to) w t
-      tells = told_is ∙ ap (λ (y : MemberRecord). is_current y w t) (read ∙ ap (λ k. get_or r.members k x) is_place ∙ read_any r.members t.to x _ (omega (arith, t.ends.0, size, sound.members)))
+      tells = told_is ∙ ap (λ (y : MemberRecord). is_current y w t)
+          (read ∙ ap (λ k. get_or r.members k x) is_place ∙ read_any r.members t.to x _ (omega (arith, t.ends.0, size, sound.members)))
 
       pub is_stale : told ≡ false → commit_refusal next now t ≡ Some commit.Stale
       is_stale off = commit_decided tells ∙ ap (λ (b : Bool). cond (not b) (Some commit.Stale) (cond (is_full r sends) (Some commit.Full) None)) off
 
       -- and whether there is room for its step
-      module _ {outcome : Outcome} {limit len given : ℕ} {full : Bool} (step : outcome ≡ next t.to t.n t.state t.note) (current : told ≡ true) (limit_is : limit ≡ r.config.limit) (len_is : len ≡ length r.trace) (given_is : given ≡ length outcome.sends.items) (full_is : full ≡ has_no_room limit len r.receipts_ever given) where
+      module _ {outcome : Outcome} {limit len given : ℕ} {full : Bool} (step : outcome ≡ next t.to t.n t.state t.note) (current : told ≡ true)
+          (limit_is : limit ≡ r.config.limit) (len_is : len ≡ length r.trace) (given_is : given ≡ length outcome.sends.items)
+          (full_is : full ≡ has_no_room limit len r.receipts_ever given) where
         asked : is_full r (length outcome.sends.items) ≡ full
         asked = rw (← limit_is, ← len_is, ← given_is) (sym full_is)
 
         full_decides : commit_refusal next now t ≡ cond full (Some commit.Full) None
-        full_decides = room_decides tells current ∙ ap (λ (o : Outcome). cond (is_full r (length o.sends.items)) (Some commit.Full) None) (sym step) ∙ ap (λ (b : Bool). cond b (Some commit.Full) None) asked
+        full_decides = room_decides tells current ∙ ap (λ (o : Outcome). cond (is_full r (length o.sends.items)) (Some commit.Full) None) (sym step)
+            ∙ ap (λ (b : Bool). cond b (Some commit.Full) None) asked
 
         pub is_commit_full : full ≡ true → commit_refusal next now t ≡ Some commit.Full
         is_commit_full is = full_decides ∙ ap (λ (b : Bool). cond b (Some commit.Full) None) is
@@ -149,7 +164,8 @@ module _ (next : Next) {r now : GroupRecord} (view : r ≡ now) (t : Ticket) (no
             (full_decides ∙ ap (λ (b : Bool). cond b (Some commit.Full) None) room, subst (λ (y : GroupRecord). IsPlanned next y t.from t.to outcome) view planned)
 
 -- a step whose ticket was just taken is refused only for want of room or of memory
-module _ (next : Next) (r : GroupRecord) (p q : ℕ) (v : Message) (t : Ticket) (may : take_refusal r p q ≡ None) (at : front r q p ≡ Some v) (is : IsTicket r v t) (to : t.to ≡ p) (from : t.from ≡ q) where
+module _ (next : Next) (r : GroupRecord) (p q : ℕ) (v : Message) (t : Ticket) (may : take_refusal r p q ≡ None) (at : front r q p ≡ Some v)
+    (is : IsTicket r v t) (to : t.to ≡ p) (from : t.from ≡ q) where
   abbrev full : Bool
   full = is_full r (length (step_of next r v).sends.items)
 
@@ -167,10 +183,17 @@ module _ (next : Next) (r : GroupRecord) (p q : ℕ) (v : Message) (t : Ticket) 
   current =
       let state : (member r t.to).state ≡ t.state = ap (λ k. (member r k).state) is.to ∙ sym is.state in
       let rsn : (member r t.to).received + 1 ≡ t.rsn = ap (λ k. (member r k).received + 1) is.to ∙ sym is.rsn in
-      rw (eqb-same (member r t.to).state t.state state, eqb-same ((member r t.to).received + 1) t.rsn rsn, eqb-same v.ssn t.ssn (sym is.ssn), eqb-same v.note.value t.note.value (ap (λ (n : Note). n.value) (sym is.note)), eqb-same v.note.hops t.note.hops (ap (λ (n : Note). n.hops) (sym is.note))) refl
+      rw (
+        eqb-same (member r t.to).state t.state state,
+        eqb-same ((member r t.to).received + 1) t.rsn rsn,
+        eqb-same v.ssn t.ssn (sym is.ssn),
+        eqb-same v.note.value t.note.value (ap (λ (n : Note). n.value) (sym is.note)),
+        eqb-same v.note.hops t.note.hops (ap (λ (n : Note). n.hops) (sym is.note)),
+      ) refl
 
   same_step : next t.to t.n t.state t.note ≡ step_of next r v
-  same_step = ap (λ k. next k t.n t.state t.note) is.to ∙ ap (λ k. next v.to k t.state t.note) is.n ∙ ap (λ k. next v.to r.config.members k t.note) is.state ∙ ap (λ (n : Note). next v.to r.config.members (member r v.to).state n) is.note
+  same_step = ap (λ k. next k t.n t.state t.note) is.to ∙ ap (λ k. next v.to k t.state t.note) is.n
+      ∙ ap (λ k. next v.to r.config.members k t.note) is.state ∙ ap (λ (n : Note). next v.to r.config.members (member r v.to).state n) is.note
 
   commit_is : commit_refusal next r t ≡ cond full (Some commit.Full) None
   commit_is = room_decides next {r = r} refl t nobody (sym is.n) here (sym current) refl ∙ ap (λ (o : Outcome). cond (is_full r (length o.sends.items)) (Some commit.Full) None) same_step
@@ -179,16 +202,17 @@ module _ (next : Next) (r : GroupRecord) (p q : ℕ) (v : Message) (t : Ticket) 
   deliver_is = ap (take_or_room next r (front r q p)) may ∙ ap (room_refusal next r) at
 
   refused_as : (refusal : CommitRefusal) → IsCommitRefusal (commit_refusal next r t) refusal → IsDeliverRefusal (deliver_refusal next r p q) (of_commit refusal)
-  refused_as refusal refused = subst (λ (o : Option DeliverRefusal). IsDeliverRefusal o (of_commit refusal)) (sym deliver_is) (decide full refusal (subst (λ (o : Option CommitRefusal). IsCommitRefusal o refusal) commit_is refused)) where
-    decide : (b : Bool) (x : CommitRefusal) → IsCommitRefusal (cond b (Some commit.Full) None) x → IsDeliverRefusal (cond b (Some deliver.Full) None) (of_commit x)
-    decide true commit.Memory is = cc
-    decide true commit.Full is = refl
-    decide true commit.Down is = cc
-    decide true commit.Stale is = cc
-    decide false commit.Memory is = refl
-    decide false commit.Full is = cc
-    decide false commit.Down is = cc
-    decide false commit.Stale is = cc
+  refused_as refusal refused = subst (λ (o : Option DeliverRefusal). IsDeliverRefusal o (of_commit refusal)) (sym deliver_is)
+      (decide full refusal (subst (λ (o : Option CommitRefusal). IsCommitRefusal o refusal) commit_is refused)) where
+        decide : (b : Bool) (x : CommitRefusal) → IsCommitRefusal (cond b (Some commit.Full) None) x → IsDeliverRefusal (cond b (Some deliver.Full) None) (of_commit x)
+        decide true commit.Memory is = cc
+        decide true commit.Full is = refl
+        decide true commit.Down is = cc
+        decide true commit.Stale is = cc
+        decide false commit.Memory is = refl
+        decide false commit.Full is = cc
+        decide false commit.Down is = cc
+        decide false commit.Stale is = cc
 
   delivered_as : commit_refusal next r t ≡ None → deliver_refusal next r p q ≡ None
   delivered_as none = deliver_is ∙ decide full (sym commit_is ∙ none) where
@@ -197,15 +221,18 @@ module _ (next : Next) (r : GroupRecord) (p q : ℕ) (v : Message) (t : Ticket) 
     decide false is = refl
 
 -- so the commit of the step that was made of it answers for the delivery
-module _ (next : Next) (r : GroupRecord) (p q : ℕ) (t : Ticket) (taken : (take_refusal r p q ≡ None) × ((v : Message) × (front r q p ≡ Some v) × IsTicket r v t)) (ends : (t.to ≡ p) × (t.from ≡ q)) (made : Ticket) (same : made ≡ t) where
+module _ (next : Next) (r : GroupRecord) (p q : ℕ) (t : Ticket)
+    (taken : (take_refusal r p q ≡ None) × ((v : Message) × (front r q p ≡ Some v) × IsTicket r v t)) (ends : (t.to ≡ p) × (t.from ≡ q)) (made : Ticket) (same : made ≡ t) where
   pub commit_refused : (refusal : CommitRefusal) → IsCommitRefusal (commit_refusal next r made) refusal → IsDeliverRefusal (deliver_refusal next r p q) (of_commit refusal)
   commit_refused refusal refused =
       refused_as next r p q taken.1.0 t taken.0 taken.1.1 taken.1.2 ends.0 ends.1 refusal (subst (λ (u : Ticket). IsCommitRefusal (commit_refusal next r u) refusal) same refused)
 
-  pub delivers : (new : GroupRecord) (answer : Receipted) → (commit_refusal next r made ≡ None) × Delivers next r new made.to made.from answer → (deliver_refusal next r p q ≡ None) × Delivers next r new p q answer
+  pub delivers : (new : GroupRecord) (answer : Receipted) → (commit_refusal next r made ≡ None) × Delivers next r new made.to made.from answer
+      → (deliver_refusal next r p q ≡ None) × Delivers next r new p q answer
   delivers new answer done = (
     delivered_as next r p q taken.1.0 t taken.0 taken.1.1 taken.1.2 ends.0 ends.1 (subst (λ (u : Ticket). commit_refusal next r u ≡ None) same done.0),
-    subst (λ (k : ℕ). Delivers next r new k q answer) ends.0 (subst (λ (k : ℕ). Delivers next r new t.to k answer) ends.1 (subst (λ (u : Ticket). Delivers next r new u.to u.from answer) same done.1)),
+    subst (λ (k : ℕ). Delivers next r new k q answer) ends.0
+        (subst (λ (k : ℕ). Delivers next r new t.to k answer) ends.1 (subst (λ (u : Ticket). Delivers next r new u.to u.from answer) same done.1)),
   )
 
 -- a delivery is refused as its ticket is

@@ -23,10 +23,12 @@ pub pairs_of-more : (m : ℕ) (entries : List Entry) (i : ℕ) (e : Entry) → s
 pairs_of-more m entries i e at = ap (λ es. pairs_of m es) (take-more entries i e at) ∙ map-append (λ (x : Entry). (m, x.det)) (take i entries) (e ∷ [])
 
 -- one more member
-pub pairs_from-more : (ms : List MemberRecord) (i : ℕ) (x : MemberRecord) → i < length ms → x ≡ get_or ms i x → pairs_from 0 (take (suc i) ms) ≡ pairs_from 0 (take i ms) ++ pairs_of i x.table
+pub pairs_from-more : (ms : List MemberRecord) (i : ℕ) (x : MemberRecord) → i < length ms → x ≡ get_or ms i x
+    → pairs_from 0 (take (suc i) ms) ≡ pairs_from 0 (take i ms) ++ pairs_of i x.table
 pairs_from-more ms i x below at =
     let place : 0 + length (take i ms) ≡ i = omega (arith, length-take-le i ms (omega arith)) in
     ap (λ xs. pairs_from 0 xs) (take-more ms i x (get-at ms i x blank below at).0) ∙ (rw place at (pairs_from-push 0 (take i ms) x))
 
-pub distinct-more : (ms : List MemberRecord) (i : ℕ) (x : MemberRecord) → i < length ms → x ≡ get_or ms i x → ((m : ℕ) → m < i → IsOnce (slice_index_or ms m blank).table) → IsOnce x.table → (m : ℕ) → m < i + 1 → IsOnce (slice_index_or ms m blank).table
+pub distinct-more : (ms : List MemberRecord) (i : ℕ) (x : MemberRecord) → i < length ms → x ≡ get_or ms i x
+    → ((m : ℕ) → m < i → IsOnce (slice_index_or ms m blank).table) → IsOnce x.table → (m : ℕ) → m < i + 1 → IsOnce (slice_index_or ms m blank).table
 distinct-more ms i x below at so_far once = below_more (λ m. IsOnce (slice_index_or ms m blank).table) i so_far (rw (get-at ms i x blank below at).1 once)

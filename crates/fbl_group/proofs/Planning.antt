@@ -1,5 +1,6 @@
 -- What is known of a delivery that is planned.
-use Rattle.std.proofs.Common.{Some, None, ◌≡◌, ◌≢◌, ℕ, suc, ◌+◌, ◌<◌, ◌≤◌, Bool, true, false, ◌||◌, ◌==◌, List, [], ◌∷◌, ◌++◌, length, map, refl, sym, subst, ap, ◌∙◌, arith, get_or, length-append, Fits, w32}
+use Rattle.std.proofs.Common.{Some, None, ◌≡◌, ◌≢◌, ℕ, suc, ◌+◌, ◌<◌, ◌≤◌, Bool, true, false, ◌||◌, ◌==◌, List, [], ◌∷◌, ◌++◌, length, map}
+use Rattle.std.proofs.Common.{refl, sym, subst, ap, ◌∙◌, arith, get_or, length-append, Fits, w32}
 use Rattle.std.specs.Prelude.{slice_get, slice_set, nat_lt}
 use Rattle.std.specs.List.{All}
 use Rattle.std.proofs.lemmas.Bool.Decides.{nat_tests}
@@ -36,7 +37,8 @@ has_room limit len ever sends room = both (nat_lt limit (len + 1 + sends)) (ever
   both true b ea eb h = cc
 
 -- parts of a record that are written with what they were
-same_parts : (r : GroupRecord) (members : List MemberRecord) (channels : List (List (List Message))) (trace : List Event) → members ≡ r.members → channels ≡ r.channels → trace ≡ r.trace → record r { members = members; channels = channels; trace = trace } ≡ r
+same_parts : (r : GroupRecord) (members : List MemberRecord) (channels : List (List (List Message))) (trace : List Event) → members ≡ r.members
+    → channels ≡ r.channels → trace ≡ r.trace → record r { members = members; channels = channels; trace = trace } ≡ r
 same_parts r members channels trace e1 e2 e3 i = record r { members = e1 i; channels = e2 i; trace = e3 i }
 
 -- what the receiver's step asks of the message that is read at the front, and of the record at the receiver's place
@@ -98,7 +100,8 @@ module _ (next : Next) {r now : GroupRecord} {q p : ℕ} {outcome : Outcome} (we
   -- of channels that are still the group's: there is a front, what is read there is the message, and receivers are members
   module _ {cs : List (List (List Message))} (same : cs ≡ r.channels) where
     -- where memory ran out, all is as it was
-    pub stays : {place : ℕ} {x before : MemberRecord} {trace : List Event} → place ≡ p → x ≡ before → before ≡ get_or r.members place before → trace ≡ r.trace → record r { members = slice_set r.members place x; channels = cs; trace = trace } ≡ r
+    pub stays : {place : ℕ} {x before : MemberRecord} {trace : List Event} → place ≡ p → x ≡ before → before ≡ get_or r.members place before
+        → trace ≡ r.trace → record r { members = slice_set r.members place x; channels = cs; trace = trace } ≡ r
     stays {place = place} {x = x} {before = before} {trace = trace} is unchanged read kept =
         same_parts r _ cs trace (set-same r.members place x before (omega (arith, is, plan.to_member, sound.members)) (unchanged ∙ read)) same kept
 
@@ -115,10 +118,13 @@ module _ (next : Next) {r now : GroupRecord} {q p : ℕ} {outcome : Outcome} (we
     front_is {w = w} read = sym (first-is (channel_in cs q p) w read) ∙ ap (λ (x : List (List (List Message))). first_message (channel_in x q p)) same
 
     pub receivers_in : {given : List (ℕ × Note)} → given ≡ outcome.sends.items → All (λ (s : ℕ × Note). s.0 < length (get_or cs p [])) given
-    receivers_in is = subst (λ (xs : List (ℕ × Note)). All (λ (s : ℕ × Note). s.0 < length (get_or cs p [])) xs) (sym is) (λ k d below. (let one = receivers k d below in omega (arith, one, rows p plan.to_member)))
+    receivers_in is = subst (λ (xs : List (ℕ × Note)). All (λ (s : ℕ × Note). s.0 < length (get_or cs p [])) xs) (sym is)
+        (λ k d below. (let one = receivers k d below in omega (arith, one, rows p plan.to_member)))
 
-    pub sent_in : {made : List Message} (before : ℕ) (carried : List Entry) → made ≡ messages_from p before carried outcome.sends.items → All (λ (w : Message). w.to < length (get_or cs p [])) made
-    sent_in before carried is = subst (λ (ws : List Message). All (λ (w : Message). w.to < length (get_or cs p [])) ws) (sym is) (messages-to (λ k. k < length (get_or cs p [])) p before carried outcome.sends.items (receivers_in {given = outcome.sends.items} refl))
+    pub sent_in : {made : List Message} (before : ℕ) (carried : List Entry) → made ≡ messages_from p before carried outcome.sends.items
+        → All (λ (w : Message). w.to < length (get_or cs p [])) made
+    sent_in before carried is = subst (λ (ws : List Message). All (λ (w : Message). w.to < length (get_or cs p [])) ws) (sym is)
+        (messages-to (λ k. k < length (get_or cs p [])) p before carried outcome.sends.items (receivers_in {given = outcome.sends.items} refl))
 
   -- what is read at the front is the message
   module _ {w : Message} (is_v : w ≡ v) where
@@ -145,19 +151,25 @@ module _ (next : Next) {r now : GroupRecord} {q p : ℕ} {outcome : Outcome} (we
             let last : last_from x w.from ≡ last_from m q = ap (λ (y : MemberRecord). last_from y w.from) is_m ∙ ap (λ k. last_from m k) from_it in
             omega (arith, last, ap (λ (u : Message). u.ssn) is_v, front_is_later next r sound q p v plan.first);
         not_held =
-            ap (λ (y : MemberRecord). is_held y.table (next_determinant p y w.from w.ssn)) is_m ∙ ap (λ k. is_held m.table (next_determinant p m k w.ssn)) from_it ∙ ap (λ (u : Message). is_held m.table (next_determinant p m q u.ssn)) is_v
+            ap (λ (y : MemberRecord). is_held y.table (next_determinant p y w.from w.ssn)) is_m
+            ∙ ap (λ k. is_held m.table (next_determinant p m k w.ssn)) from_it ∙ ap (λ (u : Message). is_held m.table (next_determinant p m q u.ssn)) is_v
             ∙ new_not_held next r sound p _ (receipt_is_new next r sound p q v.ssn plan.to_member up);
         not_carried =
-            ap (λ k. is_held w.carried (next_determinant p x k w.ssn)) from_it ∙ ap (λ (u : Message). is_held u.carried (next_determinant p x q u.ssn)) is_v ∙ ap (λ (y : MemberRecord). is_held v.carried (next_determinant p y q v.ssn)) is_m
+            ap (λ k. is_held w.carried (next_determinant p x k w.ssn)) from_it
+            ∙ ap (λ (u : Message). is_held u.carried (next_determinant p x q u.ssn)) is_v ∙ ap (λ (y : MemberRecord). is_held v.carried (next_determinant p y q v.ssn)) is_m
             ∙ new_not_carried next r sound v _ flies (receipt_is_new next r sound p q v.ssn plan.to_member up);
-        step = step ∙ sym (ap (λ k. next p k x.state w.note) is ∙ ap (λ (y : MemberRecord). next p r.config.members y.state w.note) is_m ∙ ap (λ (u : Message). next p r.config.members m.state u.note) is_v);
+        step = step ∙ sym (ap (λ k. next p k x.state w.note) is ∙ ap (λ (y : MemberRecord). next p r.config.members y.state w.note) is_m
+            ∙ ap (λ (u : Message). next p r.config.members m.state u.note) is_v);
         receipts = omega (arith, ap (λ (y : MemberRecord). y.received) is_m, receipts_fit next r sound p plan.to_member up, room.0, sound.config.limit.1);
         sends = omega (arith, ap (λ (y : MemberRecord). length y.log) is_m, sends_fit next r sound p plan.to_member up, room.0, sound.config.limit.1);
       }
 
       -- the record after the delivery, from what each step of it made
-      module _ {cs after_rows : List (List (List Message))} {place f ssn rsn : ℕ} {after : MemberRecord} {made : List Message} {reserved pushed trace : List Event} (same : cs ≡ r.channels) (at_place : place ≡ p) (received : after ≡ received_by p x w outcome) (sent : made ≡ messages_from p (length x.log) (piggybacked f after.table) outcome.sends.items) (f_is : f ≡ r.config.f) (ssn_is : ssn ≡ w.ssn) (rsn_is : rsn ≡ after.received)
-          (kept : reserved ≡ r.trace) (receipt : pushed ≡ reserved ++ Receipt p rsn q ssn ∷ []) (sends : trace ≡ pushed ++ map send_of_message made) (moved : after_rows ≡ taken_and_sent cs q p made) where
+      module _ {cs after_rows : List (List (List Message))} {place f ssn rsn : ℕ} {after : MemberRecord} {made : List Message}
+          {reserved pushed trace : List Event} (same : cs ≡ r.channels) (at_place : place ≡ p) (received : after ≡ received_by p x w outcome)
+          (sent : made ≡ messages_from p (length x.log) (piggybacked f after.table) outcome.sends.items) (f_is : f ≡ r.config.f) (ssn_is : ssn ≡ w.ssn) (rsn_is : rsn ≡ after.received)
+          (kept : reserved ≡ r.trace) (receipt : pushed ≡ reserved ++ Receipt p rsn q ssn ∷ []) (sends : trace ≡ pushed ++ map send_of_message made)
+          (moved : after_rows ≡ taken_and_sent cs q p made) where
         abbrev new : GroupRecord
         new = record r { members = slice_set r.members place after; channels = after_rows; trace = trace; receipts_ever = r.receipts_ever + 1 }
 
@@ -167,7 +179,8 @@ module _ (next : Next) {r now : GroupRecord} {q p : ℕ} {outcome : Outcome} (we
         made_is : made ≡ messages_from p (length m.log) (piggybacked r.config.f (table_after p m v)) outcome.sends.items
         made_is =
             sent ∙ ap (λ (y : MemberRecord). messages_from p (length y.log) (piggybacked f after.table) outcome.sends.items) is_m
-            ∙ ap (λ k. messages_from p (length m.log) (piggybacked k after.table) outcome.sends.items) f_is ∙ ap (λ (y : MemberRecord). messages_from p (length m.log) (piggybacked r.config.f y.table) outcome.sends.items) receives
+            ∙ ap (λ k. messages_from p (length m.log) (piggybacked k after.table) outcome.sends.items) f_is
+            ∙ ap (λ (y : MemberRecord). messages_from p (length m.log) (piggybacked r.config.f y.table) outcome.sends.items) receives
 
         made_next : messages_from p (length m.log) (piggybacked r.config.f (table_after p m v)) outcome.sends.items ≡ made_by next r v
         made_next =
@@ -184,11 +197,13 @@ module _ (next : Next) {r now : GroupRecord} {q p : ℕ} {outcome : Outcome} (we
         moves = moved ∙ ap (λ (y : List (List (List Message))). taken_and_sent y q p made) same
 
         shape : HasChannels r.config.members after_rows
-        shape = subst (λ (y : List (List (List Message))). HasChannels r.config.members y) (sym moves) (settled-shape r.config.members r.channels v q p made sound.shape plan.from_member plan.to_member apart of_sender to_receiver froms tos)
+        shape = subst (λ (y : List (List (List Message))). HasChannels r.config.members y) (sym moves)
+            (settled-shape r.config.members r.channels v q p made sound.shape plan.from_member plan.to_member apart of_sender to_receiver froms tos)
 
         channels : (a b : ℕ) → channel new a b ≡ taken_off v a b (channel r a b) ++ between a b (made_by next r v)
         channels a b =
-            ap (λ (y : List (List (List Message))). channel_in y a b) moves ∙ settled-in r.config.members r.channels v q p made sound.shape plan.from_member plan.to_member apart of_sender to_receiver froms tos a b
+            ap (λ (y : List (List (List Message))). channel_in y a b) moves
+            ∙ settled-in r.config.members r.channels v q p made sound.shape plan.from_member plan.to_member apart of_sender to_receiver froms tos a b
             ∙ ap (λ (ws : List Message). taken_off v a b (channel r a b) ++ between a b ws) (made_is ∙ made_next)
 
         rsn_next : rsn ≡ m.received + 1
@@ -197,7 +212,8 @@ module _ (next : Next) {r now : GroupRecord} {q p : ℕ} {outcome : Outcome} (we
         events : trace ≡ r.trace ++ Receipt p (m.received + 1) q v.ssn ∷ step_events p (length m.log) outcome.sends.items
         events =
             settled_trace r.trace pushed trace made p (length m.log) rsn q ssn _ outcome.sends.items (receipt ∙ ap (λ (es : List Event). es ++ Receipt p rsn q ssn ∷ []) kept) sends made_is
-            ∙ ap (λ k. r.trace ++ Receipt p k q ssn ∷ step_events p (length m.log) outcome.sends.items) rsn_next ∙ ap (λ k. r.trace ++ Receipt p (m.received + 1) q k ∷ step_events p (length m.log) outcome.sends.items) (ssn_is ∙ ap (λ (u : Message). u.ssn) is_v)
+            ∙ ap (λ k. r.trace ++ Receipt p k q ssn ∷ step_events p (length m.log) outcome.sends.items) rsn_next
+            ∙ ap (λ k. r.trace ++ Receipt p (m.received + 1) q k ∷ step_events p (length m.log) outcome.sends.items) (ssn_is ∙ ap (λ (u : Message). u.ssn) is_v)
 
         trace_is : trace ≡ r.trace ++ delivery_events next r v
         trace_is =
@@ -206,7 +222,9 @@ module _ (next : Next) {r now : GroupRecord} {q p : ℕ} {outcome : Outcome} (we
             ∙ ap (λ k. r.trace ++ Receipt v.to ((member r v.to).received + 1) k v.ssn ∷ step_events v.to (length (member r v.to).log) (step_of next r v).sends.items) (sym of_sender)
 
         longer : length trace ≡ length r.trace + 1 + length outcome.sends.items
-        longer = ap length trace_is ∙ length-append r.trace (delivery_events next r v) ∙ ap (λ (k : ℕ). length r.trace + suc k) (length-step_events v.to (length (member r v.to).log) (step_of next r v).sends.items ∙ ap (λ (o : Outcome). length o.sends.items) (sym plan.step)) ∙ omega arith
+        longer = ap length trace_is ∙ length-append r.trace (delivery_events next r v)
+            ∙ ap (λ (k : ℕ). length r.trace + suc k) (length-step_events v.to (length (member r v.to).log) (step_of next r v).sends.items
+            ∙ ap (λ (o : Outcome). length o.sends.items) (sym plan.step)) ∙ omega arith
 
         is_delivery : IsDelivery next r new v
         is_delivery = record {
@@ -233,9 +251,10 @@ module _ (next : Next) {r now : GroupRecord} {q p : ℕ} {outcome : Outcome} (we
 
         -- what the delivery answers
         pub is_delivered : {carried : List Entry} → carried ≡ w.carried → Delivered next now new (front_message now q p) (record { rsn = rsn; carried = length carried; state = outcome.state })
-        is_delivered {carried = carried} is = subst (λ (old : GroupRecord). Delivered next old new (front_message old q p) (record { rsn = rsn; carried = length carried; state = outcome.state })) view (record {
-          delivery = is_delivery;
-          rsn = rsn_next ∙ ap (λ k. (member r k).received + 1) (sym to_receiver);
-          carried = ap length (is ∙ ap (λ (u : Message). u.carried) is_v);
-          state = ap (λ (o : Outcome). o.state) plan.step;
-        })
+        is_delivered {carried = carried} is = subst (λ (old : GroupRecord).
+            Delivered next old new (front_message old q p) (record { rsn = rsn; carried = length carried; state = outcome.state })) view (record {
+              delivery = is_delivery;
+              rsn = rsn_next ∙ ap (λ k. (member r k).received + 1) (sym to_receiver);
+              carried = ap length (is ∙ ap (λ (u : Message). u.carried) is_v);
+              state = ap (λ (o : Outcome). o.state) plan.step;
+            })

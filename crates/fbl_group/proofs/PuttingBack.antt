@@ -20,12 +20,15 @@ pub record Putting (down : Members) (given old : List MemberRecord) (i : ℕ) (m
   pub left : Turned blank (λ m x. Unit {0}) i given rebuilt
 
 module _ (down : Members) (given old : List MemberRecord) where
-  pub put-down : (i place : ℕ) (members rebuilt : List MemberRecord) (x y : MemberRecord) → Putting down given old i members rebuilt → place ≡ i → i < length old → i < length given → set.contains down i ≡ true → x ≡ get_or rebuilt place x
+  pub put-down : (i place : ℕ) (members rebuilt : List MemberRecord) (x y : MemberRecord) → Putting down given old i members rebuilt → place ≡ i
+      → i < length old → i < length given → set.contains down i ≡ true → x ≡ get_or rebuilt place x
       → Putting down given old (i + 1) (slice_set members place x) (slice_set rebuilt place y)
   put-down i place members rebuilt x y so_far is_place below within is read =
-      let was : x ≡ slice_index_or given i blank = read_at rebuilt place x x (omega (arith, so_far.left.size, within, is_place)) read ∙ ap (λ k. slice_index_or rebuilt k blank) is_place ∙ so_far.left.rest i (omega arith) in
+      let was : x ≡ slice_index_or given i blank = read_at rebuilt place x x (omega (arith, so_far.left.size, within, is_place)) read
+      ∙ ap (λ k. slice_index_or rebuilt k blank) is_place ∙ so_far.left.rest i (omega arith) in
       record {
-        turned = turned-set blank (IsPut down given old) i place old members x so_far.turned is_place below (was ∙ sym (ap (λ b. cond b (slice_index_or given i blank) (slice_index_or old i blank)) is));
+        turned = turned-set blank (IsPut down given old) i place old members x so_far.turned is_place below
+            (was ∙ sym (ap (λ b. cond b (slice_index_or given i blank) (slice_index_or old i blank)) is));
         left = turned-set blank (λ m z. Unit {0}) i place given rebuilt y so_far.left is_place within tt;
       }
 
@@ -47,7 +50,8 @@ module _ (down : Members) (given old : List MemberRecord) where
       at m up (inr past) = so_far.turned.rest m past
 
 -- the count of one member more
-pub counted-more : (s : Members) (count : ℕ → ℕ) (i x before one : ℕ) → x ≡ i → before ≡ count_in s count i → before ≤ i * 8192 → one ≡ cond (set.contains s x) (count x) 0 → one ≤ 8192
+pub counted-more : (s : Members) (count : ℕ → ℕ) (i x before one : ℕ) → x ≡ i → before ≡ count_in s count i → before ≤ i * 8192
+    → one ≡ cond (set.contains s x) (count x) 0 → one ≤ 8192
     → (before + one ≡ count_in s count (i + 1)) × (before + one ≤ (i + 1) * 8192)
 counted-more s count i x before one same was few is most = (
   let e : i + 1 ≡ suc i = omega arith in

@@ -1,5 +1,6 @@
 -- When a strike is refused, and what it leaves.
-use Rattle.std.proofs.Common.{subst, ◌≡◌, ◌≢◌, ℕ, suc, ◌+◌, ◌<◌, ◌≤◌, ◌==◌, ◌&&◌, ◌||◌, not, Bool, true, false, cond, List, [], ◌∷◌, length, map, inl, inr, ◌⊎◌, Option, Some, None, refl, sym, ap, ◌∙◌, arith, slice_get}
+use Rattle.std.proofs.Common.{subst, ◌≡◌, ◌≢◌, ℕ, suc, ◌+◌, ◌<◌, ◌≤◌, ◌==◌, ◌&&◌, ◌||◌, not, Bool, true, false, cond, List, [], ◌∷◌, length}
+use Rattle.std.proofs.Common.{map, inl, inr, ◌⊎◌, Option, Some, None, refl, sym, ap, ◌∙◌, arith, slice_get}
 use Rattle.std.specs.Prelude.{nat_lt, count_by, slice_index_or}
 use Rattle.std.specs.List.{filter, list_any, list_all, cons_option}
 use Rattle.std.specs.Ordering.{nat_cmp, eq_by_cmp}
@@ -47,7 +48,8 @@ all_below n (k ∷ ks) below =
 below_all : (n : ℕ) (ks : List ℕ) → list_all (λ m. nat_lt m n) ks ≡ true → (q : ℕ) → list_any (eq_by_cmp nat_cmp q) ks ≡ true → q < n
 below_all n [] all q among = cc
 below_all n (k ∷ ks) all q among = at (nat_lt k n) (eq_by_cmp nat_cmp q k) refl refl all among (below_all n ks) where
-  at : (a b : Bool) → nat_lt k n ≡ a → eq_by_cmp nat_cmp q k ≡ b → (a && list_all (λ m. nat_lt m n) ks) ≡ true → (b || list_any (eq_by_cmp nat_cmp q) ks) ≡ true → (list_all (λ m. nat_lt m n) ks ≡ true → (q : ℕ) → list_any (eq_by_cmp nat_cmp q) ks ≡ true → q < n) → q < n
+  at : (a b : Bool) → nat_lt k n ≡ a → eq_by_cmp nat_cmp q k ≡ b → (a && list_all (λ m. nat_lt m n) ks) ≡ true
+      → (b || list_any (eq_by_cmp nat_cmp q) ks) ≡ true → (list_all (λ m. nat_lt m n) ks ≡ true → (q : ℕ) → list_any (eq_by_cmp nat_cmp q) ks ≡ true → q < n) → q < n
   at false b ea eb all among rest = cc
   at true true ea eb all among rest =
       let same : (q == k) ≡ true = sym (unsigned_tied q k) ∙ eb in
@@ -117,7 +119,10 @@ may_strike r struck allowed = at (is_within struck r.config.members) (sets.len s
 pub emptied-by : {n k : ℕ} {s : Members} {old new : List (List (List Message))} → n ≡ k → AreReplaced n s (λ q p. []) old new → AreReplaced k s (λ q p. []) old new
 emptied-by {s = s} {old = old} {new = new} same emptied = subst (λ m. AreReplaced m s (λ q p. []) old new) same emptied
 
-module _ (next : Next) (old new : GroupRecord) (struck : Members) (sound : IsSound next old) (allowed : strike_refusal old struck ≡ None) (blanked : IsBlanked struck old.members new.members) (channels : AreReplaced old.config.members struck (λ q p. []) old.channels new.channels) (down : new.down ≡ sets.union old.down struck) (trace : new.trace ≡ old.trace) (checkpoints : new.checkpoints ≡ old.checkpoints) (config : new.config ≡ old.config) (receipts_ever : new.receipts_ever ≡ old.receipts_ever) (undone_ever : new.undone_ever ≡ old.undone_ever) where
+module _ (next : Next) (old new : GroupRecord) (struck : Members) (sound : IsSound next old) (allowed : strike_refusal old struck ≡ None)
+    (blanked : IsBlanked struck old.members new.members) (channels : AreReplaced old.config.members struck (λ q p. []) old.channels new.channels)
+    (down : new.down ≡ sets.union old.down struck) (trace : new.trace ≡ old.trace) (checkpoints : new.checkpoints ≡ old.checkpoints)
+    (config : new.config ≡ old.config) (receipts_ever : new.receipts_ever ≡ old.receipts_ever) (undone_ever : new.undone_ever ≡ old.undone_ever) where
   may : MayStrike old struck
   may = may_strike old struck allowed
 
@@ -148,9 +153,11 @@ module _ (next : Next) (old new : GroupRecord) (struck : Members) (sound : IsSou
     nothing false c is = sym is
 
     outside : (old.config.members ≤ q) ⊎ (old.config.members ≤ p) → channel new q p ≡ cond (sets.contains struck q || sets.contains struck p) [] (channel old q p)
-    outside out = channel-outside old.config.members new.channels q p channels.shape out ∙ nothing (sets.contains struck q || sets.contains struck p) (channel old q p) (channel-outside old.config.members old.channels q p sound.shape out)
+    outside out = channel-outside old.config.members new.channels q p channels.shape out
+        ∙ nothing (sets.contains struck q || sets.contains struck p) (channel old q p) (channel-outside old.config.members old.channels q p sound.shape out)
 
-    at : (q < old.config.members) ⊎ (old.config.members ≤ q) → (p < old.config.members) ⊎ (old.config.members ≤ p) → channel new q p ≡ cond (sets.contains struck q || sets.contains struck p) [] (channel old q p)
+    at : (q < old.config.members) ⊎ (old.config.members ≤ q) → (p < old.config.members) ⊎ (old.config.members ≤ p)
+        → channel new q p ≡ cond (sets.contains struck q || sets.contains struck p) [] (channel old q p)
     at (inl below_q) (inl below_p) = channels.each q p below_q below_p
     at (inl below_q) (inr past) = outside (inr past)
     at (inr past) within = outside (inl past)
@@ -237,7 +244,8 @@ count-unrecorded r = counted r.trace where
     at (event.Send from ssn to note) ih = omega (arith, ih)
     at (event.Receipt to rsn from ssn) ih = here (unrecorded (record { from = from; ssn = ssn; to = to; rsn = rsn })) ih where
       here : (b : Bool) → count_by (is_unrecorded r) events ≡ length (filter unrecorded (receipts (map mark_of events)))
-          → cond b 1 0 + count_by (is_unrecorded r) events ≡ length (cond b (record { from = from; ssn = ssn; to = to; rsn = rsn } ∷ filter unrecorded (receipts (map mark_of events))) (filter unrecorded (receipts (map mark_of events))))
+          → cond b 1 0 + count_by (is_unrecorded r) events
+          ≡ length (cond b (record { from = from; ssn = ssn; to = to; rsn = rsn } ∷ filter unrecorded (receipts (map mark_of events))) (filter unrecorded (receipts (map mark_of events))))
       here true ih = omega (arith, ih)
       here false ih = omega (arith, ih)
 

@@ -1,8 +1,6 @@
 -- The first place of a list at which a shape is missing.
-use Rattle.std.proofs.Common.{
-  ◌≡◌, ℕ, ◌+◌, ◌<◌, List, [], ◌∷◌, ◌++◌, append_assoc, refl, option_and_then, map, get_or, length, sym, ap, ◌∙◌, suc, subst, drop, drop-cons,
-  add-one, below_more, arith, Bool, true, false, Option, Some, None, slice_get, option_map,
-}
+use Rattle.std.proofs.Common.{◌≡◌, ℕ, ◌+◌, ◌<◌, List, [], ◌∷◌, ◌++◌, append_assoc, refl, option_and_then, map, get_or, length, sym, ap, ◌∙◌, suc, subst, drop}
+use Rattle.std.proofs.Common.{drop-cons, add-one, below_more, arith, Bool, true, false, Option, Some, None, slice_get, option_map}
 use Rattle.std.specs.Prelude.{is_some}
 use Rattle.serde_json.specs.Data.{Data}
 use Rattle.fbl_input.specs.Shapes.{all_shaped}
@@ -30,12 +28,12 @@ module _ {V A : Type 0} (view : V → Data) (shape : Data → Option A) where
   -- what is read of the items so far and of those that are left, with one more read
   pub read_more : (list : List V) (i : ℕ) (v : V) (a : A) (front : List A) (all : Option (List A)) → i < length list → v ≡ get_or list i v → Some a ≡ shape (view v)
       → option_map (λ rest. front ++ rest) (all_shaped shape (map view (drop i list))) ≡ all
-          → option_map (λ rest. (front ++ a ∷ []) ++ rest) (all_shaped shape (map view (drop (i + 1) list))) ≡ all
+      → option_map (λ rest. (front ++ a ∷ []) ++ rest) (all_shaped shape (map view (drop (i + 1) list))) ≡ all
   read_more list i v a front all within is given h =
       let here : drop i list ≡ v ∷ drop (i + 1) list = rw add-one (drop-cons list i v within ∙ ap (λ x. x ∷ drop (suc i) list) (sym is)) in
       moved (all_shaped shape (map view (drop (i + 1) list)))
-          ∙ ap (λ found. option_map (λ r. front ++ r) (step (map view (drop (i + 1) list)) found)) given
-          ∙ ap (λ l. option_map (λ r. front ++ r) (all_shaped shape (map view l))) (sym here) ∙ h
+      ∙ ap (λ found. option_map (λ r. front ++ r) (step (map view (drop (i + 1) list)) found)) given
+      ∙ ap (λ l. option_map (λ r. front ++ r) (all_shaped shape (map view l))) (sym here) ∙ h
     where
       step : List Data → Option A → Option (List A)
       step ds found = option_and_then (λ x. option_map (λ rest. x ∷ rest) (all_shaped shape ds)) found

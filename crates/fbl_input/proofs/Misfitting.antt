@@ -1,8 +1,6 @@
 -- Faults of keys and of the items of lists.
-use Rattle.std.proofs.Common.{
-  ◌≡◌, ◌≢◌, ℕ, ◌<◌, List, length, map, get_or, refl, sym, ap, ◌∙◌, subst, Bool, true, false, Option, Some, None, option_and_then, slice_get, Result,
-  Ok, Err,
-}
+use Rattle.std.proofs.Common.{◌≡◌, ◌≢◌, ℕ, ◌<◌, List, length, map, get_or, refl, sym, ap, ◌∙◌, subst, Bool, true, false, Option, Some, None, option_and_then}
+use Rattle.std.proofs.Common.{slice_get, Result, Ok, Err}
 use Rattle.std.specs.Prelude.{is_some}
 use Rattle.std.specs.Result.{IsErrAnd}
 use Rattle.serde_json.specs.Data.{Data}
@@ -41,7 +39,7 @@ gives_fault seen (Err e) x asked is h = let P : InputFault → Type 0 = λ f. Fa
 -- the first item of another shape is the fault's
 pub misfit_item : {A : Type 0} (kind : InputKind) (key : Key) (shape : Data → Option A) (d : Data) (list : List Value) (place : ℕ) (v : Value) (e : InputFault)
     → ((x : Data) → is_item key x ≡ is_some (shape x)) → map view list ≡ items_at key d → place < length list → v ≡ get_or list place v
-        → IsFirstOther shape (map view list) place → IsBadItem key place (view v) e → IsMisfit kind d e
+    → IsFirstOther shape (map view list) place → IsBadItem key place (view v) e → IsMisfit kind d e
 misfit_item kind key shape d list place v inputs.Memory same items within is first h = tt
 misfit_item kind key shape d list place v (inputs.BadItem k p found) same items within is first h =
     let at : slice_get (map view list) place ≡ Some (view v) = seen_at view shape list place v within is in

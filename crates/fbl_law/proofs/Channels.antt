@@ -1,8 +1,6 @@
 -- Channels and the trace.
-use Rattle.std.proofs.Common.{
-  option_map, ◌≡◌, ℕ, ◌==◌, ◌&&◌, not, Bool, true, false, cond, List, [], ◌∷◌, ◌++◌, map, drop, arith, refl, sym, ap, ◌∙◌, Some, None,
-  append_assoc,
-}
+use Rattle.std.proofs.Common.{option_map, ◌≡◌, ℕ, ◌==◌, ◌&&◌, not, Bool, true, false, cond, List, [], ◌∷◌, ◌++◌, map, drop, arith, refl, sym, ap, ◌∙◌, Some}
+use Rattle.std.proofs.Common.{None, append_assoc}
 use Rattle.std.specs.List.{Contains, filter_map, list_any, cons_option}
 use Rattle.std.proofs.lemmas.Bool.Decides.{nat_tests}
 use Rattle.std.proofs.lemmas.List.{drop-map, append-nil, map-append}

@@ -1,8 +1,6 @@
 -- What is left of a lawful trace is lawful.
-use Rattle.std.proofs.Common.{
-  ◌≡◌, ℕ, zero, suc, ◌<◌, ◌≤◌, ◌==◌, inl, inr, Bool, true, false, cond, List, [], ◌∷◌, ◌++◌, length, take, drop, map, Option, Some, None,
-  option_map, slice_get, refl, sym, ap, ◌∙◌, arith, append_assoc, length-take,
-}
+use Rattle.std.proofs.Common.{◌≡◌, ℕ, zero, suc, ◌<◌, ◌≤◌, ◌==◌, inl, inr, Bool, true, false, cond, List, [], ◌∷◌, ◌++◌, length, take, drop, map, Option}
+use Rattle.std.proofs.Common.{Some, None, option_map, slice_get, refl, sym, ap, ◌∙◌, arith, append_assoc, length-take}
 use Rattle.std.specs.List.{filter, filter_map, cons_option}
 use Rattle.std.proofs.lemmas.Bool.{false_from_ne_true}
 use Rattle.std.proofs.lemmas.Bool.Decides.{nat_tests}

@@ -1,8 +1,6 @@
 -- What a cut of a well-formed trace leaves is well formed.
-use Rattle.std.proofs.Common.{
-  map, ◌≡◌, ℕ, zero, suc, ◌<◌, ◌==◌, not, Bool, true, false, cond, List, [], ◌∷◌, ◌++◌, length, take, inl, inr, ◌⊎◌, arith, refl, ap, ◌∙◌,
-  Option, Some, None, slice_get, count_by,
-}
+use Rattle.std.proofs.Common.{map, ◌≡◌, ℕ, zero, suc, ◌<◌, ◌==◌, not, Bool, true, false, cond, List, [], ◌∷◌, ◌++◌, length, take, inl, inr, ◌⊎◌, arith, refl}
+use Rattle.std.proofs.Common.{ap, ◌∙◌, Option, Some, None, slice_get, count_by}
 use Rattle.std.specs.List.{filter, filter_map, list_any}
 use Rattle.std.proofs.lemmas.Bool.Decides.{nat_tests}
 use Rattle.std.proofs.lemmas.List.{append-nil}

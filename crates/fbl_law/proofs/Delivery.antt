@@ -16,10 +16,8 @@ use Rattle.fbl_base.proofs.Gets.{At-front}
 use Rattle.fbl_base.proofs.PrecedenceLaws.{Has-last, Precedes-front}
 use Rattle.fbl_table.specs.declared.entry.Entry.{Entry}
 use Rattle.fbl_member.specs.Members.{Message}
-use Rattle.fbl_law.specs.Knowledge.{
-  Includes, Knowledge, Store, in_table, in_message, in_checkpoint, owner, IsThere, Owes, table, send_mark, IsInFlight, IsUp, Names, Holds, IsHolder,
-  IsTrueEntry, NamesCauses, IsSoundKnowledge,
-}
+use Rattle.fbl_law.specs.Knowledge.{Includes, Knowledge, Store, in_table, in_message, in_checkpoint, owner, IsThere, Owes, table, send_mark, IsInFlight, IsUp, Names, Holds, IsHolder}
+use Rattle.fbl_law.specs.Knowledge.{IsTrueEntry, NamesCauses, IsSoundKnowledge}
 use Rattle.fbl_table.specs.Tables.{learned}
 use Rattle.fbl_law.specs.Steps.{IsDelivered, is_on, taken_off, between, determinant}
 use Rattle.fbl_law.specs.Laws.{DeliveryKeeps}
@@ -29,10 +27,8 @@ use Rattle.fbl_law.proofs.Channels.{AreSent-matched, made-Has, channel-delivered
 use Rattle.fbl_law.proofs.Numbered.{count-grown, added-later}
 use Rattle.fbl_law.proofs.Safe.{never_both, nobody_down_empty, recorded_holder, IsRecorded-held}
 use Rattle.fbl_law.proofs.Keeping.{KeepsKnowledge, IsSoundAt, NamesCauses-kept, IsTrueEntry-kept, sound_kept, sound_passed, truth_everywhere, closed_everywhere}
-use Rattle.fbl_law.proofs.Tables.{
-  Includes-insert, Includes-insert_cases, Includes-only, Includes-union, Includes-left, Names-learned_kept, Names-learned_gained, Names-noted_kept,
-  Names-noted, Contains-noted, Names-from_table, learned-keeps,
-}
+use Rattle.fbl_law.proofs.Tables.{Includes-insert, Includes-insert_cases, Includes-only, Includes-union, Includes-left, Names-learned_kept, Names-learned_gained, Names-noted_kept}
+use Rattle.fbl_law.proofs.Tables.{Names-noted, Contains-noted, Names-from_table, learned-keeps}
 
 -- what is left of a channel was in it
 pub taken_off-was : (v : Message) (q p : ℕ) (xs : List Message) (x : Message) → Contains (taken_off v q p xs) x → Contains xs x

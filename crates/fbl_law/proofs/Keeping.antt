@@ -10,10 +10,8 @@ use Rattle.fbl_base.proofs.Sizes.{some_outside}
 use Rattle.fbl_table.specs.declared.entry.Entry.{Entry}
 use Rattle.fbl_table.specs.Tables.{piggybacked}
 use Rattle.fbl_member.specs.Members.{Message}
-use Rattle.fbl_law.specs.Knowledge.{
-  Includes, Knowledge, Store, in_table, in_message, in_checkpoint, owner, entries, table, IsThere, Owes, IsUp, Names, Holds, IsRecorded, IsHolder,
-  IsStable, IsTrueEntry, KnowsTruth, NamesCauses, IsClosed, IsDownEmpty,
-}
+use Rattle.fbl_law.specs.Knowledge.{Includes, Knowledge, Store, in_table, in_message, in_checkpoint, owner, entries, table, IsThere, Owes, IsUp, Names, Holds, IsRecorded, IsHolder, IsStable}
+use Rattle.fbl_law.specs.Knowledge.{IsTrueEntry, KnowsTruth, NamesCauses, IsClosed, IsDownEmpty}
 use Rattle.fbl_law.proofs.Safe.{down_or_up, up_at_ends, IsRecorded-held, IsRecorded-saved, recorded_holder}
 use Rattle.fbl_law.proofs.Tables.{Contains-piggybacked, passed_or_known}
 

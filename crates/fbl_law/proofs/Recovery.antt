@@ -15,10 +15,8 @@ use Rattle.fbl_base.specs.Events.{receipt_of}
 use Rattle.fbl_base.proofs.PrecedenceLaws.{Has-filter, Precedes-filter, Has-first}
 use Rattle.fbl_table.specs.declared.entry.Entry.{Entry}
 use Rattle.fbl_member.specs.Members.{Message}
-use Rattle.fbl_law.specs.Knowledge.{
-  Includes, Knowledge, Store, in_table, in_message, in_checkpoint, IsThere, table, IsInFlight, IsDown, IsUp, Names, Holds, IsRecorded, IsHolder,
-  IsClosed, MatchesTrace, checkpoint, IsBeforeCheckpoint, IsSoundKnowledge, NamesCauses,
-}
+use Rattle.fbl_law.specs.Knowledge.{Includes, Knowledge, Store, in_table, in_message, in_checkpoint, IsThere, table, IsInFlight, IsDown, IsUp, Names, Holds, IsRecorded, IsHolder, IsClosed}
+use Rattle.fbl_law.specs.Knowledge.{MatchesTrace, checkpoint, IsBeforeCheckpoint, IsSoundKnowledge, NamesCauses}
 use Rattle.fbl_law.specs.Steps.{Stays, UpTo, IsRecovered}
 use Rattle.fbl_law.proofs.CutWellFormed.{Has-kept, kept-Has, KeepsCauses, Has-before, WellFormed-kept, map-kept, taken_at}
 use Rattle.fbl_law.proofs.Appended.{Earlier-joined}

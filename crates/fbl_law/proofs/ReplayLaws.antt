@@ -1,8 +1,6 @@
 -- From the replay of the members that are down to a recovery.
-use Rattle.std.proofs.Common.{
-  ◌≡◌, ℕ, ◌+◌, ◌-◌, ◌<◌, ◌≤◌, ◌||◌, not, nat_le, ◌⊎◌, inl, inr, Bool, [], true, false, List, length, map, Some, refl, sym, subst, ap,
-  ◌∙◌, arith,
-}
+use Rattle.std.proofs.Common.{◌≡◌, ℕ, ◌+◌, ◌-◌, ◌<◌, ◌≤◌, ◌||◌, not, nat_le, ◌⊎◌, inl, inr, Bool, [], true, false, List, length, map, Some, refl, sym}
+use Rattle.std.proofs.Common.{subst, ap, ◌∙◌, arith}
 use Rattle.std.specs.Prelude.{slice_set, slice_index_or}
 use Rattle.std.specs.List.{filter}
 use Rattle.std.specs.FinSet as set

@@ -1,8 +1,6 @@
 -- What the step keeps of a weight, the group keeps.
-use Rattle.std.proofs.Common.{
-  ◌≡◌, ◌≢◌, ℕ, zero, suc, ◌+◌, ◌<◌, ◌≤◌, ◌==◌, ◌&&◌, Bool, true, false, cond, List, [], ◌∷◌, ◌++◌, inl, inr, drop, map, Option, Some,
-  None, length, slice_get, subst, refl, sym, ap, ◌∙◌, arith,
-}
+use Rattle.std.proofs.Common.{◌≡◌, ◌≢◌, ℕ, zero, suc, ◌+◌, ◌<◌, ◌≤◌, ◌==◌, ◌&&◌, Bool, true, false, cond, List, [], ◌∷◌, ◌++◌, inl, inr, drop}
+use Rattle.std.proofs.Common.{map, Option, Some, None, length, slice_get, subst, refl, sym, ap, ◌∙◌, arith}
 use Rattle.std.specs.Prelude.{sum_by}
 use Rattle.std.specs.List.{All, Contains, filter_map, fold}
 use Rattle.std.specs.FinSet as set
@@ -24,10 +22,8 @@ use Rattle.fbl_base.proofs.LawfulLaws.{receipts-noted}
 use Rattle.fbl_base.proofs.RulesLaws.{WellFormed-keeps, eqb-self}
 use Rattle.fbl_member.specs.Members.{Message, MemberRecord}
 use Rattle.fbl_law.specs.Knowledge.{send_mark, IsInFlight, IsUp, IsDown}
-use Rattle.fbl_law.specs.StepLaws.{
-  StepKeeps, HoldsFirst, StepMakesNone, StepLosesNone, StepConserves, weight_held, weight_flying, weight_of_starts, weight_at_first, WeighsNoMore,
-  WeighsNoLess, WeighsTheSame,
-}
+use Rattle.fbl_law.specs.StepLaws.{StepKeeps, HoldsFirst, StepMakesNone, StepLosesNone, StepConserves, weight_held, weight_flying, weight_of_starts, weight_at_first, WeighsNoMore}
+use Rattle.fbl_law.specs.StepLaws.{WeighsNoLess, WeighsTheSame}
 use Rattle.fbl_law.specs.Groups.{GroupRecord, member, channel, marks, knowledge, messages_in_flight, sum_below}
 use Rattle.fbl_law.specs.Sound.{IsSound, received_notes}
 use Rattle.fbl_law.proofs.GroupFacts.{all_up, channel_ends, same_channel}

@@ -1,5 +1,6 @@
 -- Logs of sends, which are numbered from 1.
-use Rattle.std.proofs.Common.{◌≡◌, ℕ, zero, suc, ◌+◌, ◌<◌, ◌≤◌, ◌==◌, ◌&&◌, nat_lt, Bool, true, false, cond, if◌then◌else◌, List, [], ◌∷◌, ◌++◌, map, Option, Some, None, refl, sym, ap, ◌∙◌, arith, take, length, slice_get, slice_set, unwrap_or, IfSome, Bor}
+use Rattle.std.proofs.Common.{◌≡◌, ℕ, zero, suc, ◌+◌, ◌<◌, ◌≤◌, ◌==◌, ◌&&◌, nat_lt, Bool, true, false, cond, if◌then◌else◌, List, [], ◌∷◌, ◌++◌}
+use Rattle.std.proofs.Common.{map, Option, Some, None, refl, sym, ap, ◌∙◌, arith, take, length, slice_get, slice_set, unwrap_or, IfSome, Bor}
 use Rattle.std.proofs.lemmas.Bool.Decides.{nat_tests}
 use Rattle.std.proofs.lemmas.List.{length-append, map-append, length-take-le}
 use Rattle.std.proofs.lemmas.List.Elements.{filter-append, filter_map-append}
@@ -24,7 +25,8 @@ length-numbered before (s ∷ sends) = ap suc (length-numbered (before + 1) send
 pub numbered-append : (before : ℕ) (xs ys : List (ℕ × Note)) → numbered before (xs ++ ys) ≡ numbered before xs ++ numbered (before + length xs) ys
 numbered-append before [] ys = ap (λ k. numbered k ys) (let e : before ≡ before + 0 = omega arith in e)
 numbered-append before (x ∷ xs) ys =
-    ap (λ l. record { ssn = before + 1; to = x.0; note = x.1 } ∷ l) (numbered-append (before + 1) xs ys ∙ ap (λ k. numbered (before + 1) xs ++ numbered k ys) (let e : before + 1 + length xs ≡ before + suc (length xs) = omega arith in e))
+    ap (λ l. record { ssn = before + 1; to = x.0; note = x.1 } ∷ l)
+    (numbered-append (before + 1) xs ys ∙ ap (λ k. numbered (before + 1) xs ++ numbered k ys) (let e : before + 1 + length xs ≡ before + suc (length xs) = omega arith in e))
 
 sends-numbered : (before : ℕ) (sends : List (ℕ × Note)) → map without_number (numbered before sends) ≡ sends
 sends-numbered before [] = refl
@@ -39,25 +41,35 @@ pub numbered-more : (log sends : List (ℕ × Note)) → numbered 0 (log ++ send
 numbered-more log sends = numbered-append 0 log sends ∙ ap (λ k. numbered 0 log ++ numbered k sends) (let e : 0 + length log ≡ length (numbered 0 log) = omega (arith, length-numbered 0 log) in e)
 
 -- one more message
-pub messages-step : (me before : ℕ) (carried : List Entry) (sends : List (ℕ × Note)) (s : ℕ × Note) → messages_from me before carried (sends ++ s ∷ []) ≡ messages_from me before carried sends ++ record { from = me; to = s.0; ssn = before + length sends + 1; note = s.1; carried = carried } ∷ []
+pub messages-step : (me before : ℕ) (carried : List Entry) (sends : List (ℕ × Note)) (s : ℕ × Note)
+    → messages_from me before carried (sends ++ s ∷ [])
+    ≡ messages_from me before carried sends ++ record { from = me; to = s.0; ssn = before + length sends + 1; note = s.1; carried = carried } ∷ []
 messages-step me before carried [] s = ap (λ k. record { from = me; to = s.0; ssn = k; note = s.1; carried = carried } ∷ []) (let e : before + 1 ≡ before + 0 + 1 = omega arith in e)
 messages-step me before carried (x ∷ sends) s =
-    ap (λ l. record { from = me; to = x.0; ssn = before + 1; note = x.1; carried = carried } ∷ l) (messages-step me (before + 1) carried sends s ∙ ap (λ k. messages_from me (before + 1) carried sends ++ record { from = me; to = s.0; ssn = k; note = s.1; carried = carried } ∷ []) (let e : before + 1 + length sends + 1 ≡ before + suc (length sends) + 1 = omega arith in e))
+    ap (λ l. record { from = me; to = x.0; ssn = before + 1; note = x.1; carried = carried } ∷ l)
+    (messages-step me (before + 1) carried sends s
+    ∙ ap (λ k. messages_from me (before + 1) carried sends ++ record { from = me; to = s.0; ssn = k; note = s.1; carried = carried } ∷ [])
+    (let e : before + 1 + length sends + 1 ≡ before + suc (length sends) + 1 = omega arith in e))
 
-pub messages-next : (me before : ℕ) (carried : List Entry) (sends : List (ℕ × Note)) (i : ℕ) (s : ℕ × Note) → slice_get sends i ≡ Some s → i < length sends → messages_from me before carried (take (i + 1) sends) ≡ messages_from me before carried (take i sends) ++ record { from = me; to = s.0; ssn = before + i + 1; note = s.1; carried = carried } ∷ []
+pub messages-next : (me before : ℕ) (carried : List Entry) (sends : List (ℕ × Note)) (i : ℕ) (s : ℕ × Note) → slice_get sends i ≡ Some s
+    → i < length sends → messages_from me before carried (take (i + 1) sends)
+    ≡ messages_from me before carried (take i sends) ++ record { from = me; to = s.0; ssn = before + i + 1; note = s.1; carried = carried } ∷ []
 messages-next me before carried sends i s at below =
     ap (messages_from me before carried) (take-next sends i s at)
     ∙ messages-step me before carried (take i sends) s
-    ∙ ap (λ k. messages_from me before carried (take i sends) ++ record { from = me; to = s.0; ssn = before + k + 1; note = s.1; carried = carried } ∷ []) (length-take-le i sends (omega (arith, below)))
+    ∙ ap (λ k. messages_from me before carried (take i sends)
+    ++ record { from = me; to = s.0; ssn = before + k + 1; note = s.1; carried = carried } ∷ []) (length-take-le i sends (omega (arith, below)))
 
-messages-carried : (me before : ℕ) (carried : List Entry) (sends : List (ℕ × Note)) (i : ℕ) (m : Message) → slice_get (messages_from me before carried sends) i ≡ Some m → m.carried ≡ carried
+messages-carried : (me before : ℕ) (carried : List Entry) (sends : List (ℕ × Note)) (i : ℕ) (m : Message)
+    → slice_get (messages_from me before carried sends) i ≡ Some m → m.carried ≡ carried
 messages-carried me before carried [] zero m is = cc
 messages-carried me before carried [] (suc i) m is = cc
 messages-carried me before carried (s ∷ sends) zero m is = sym (ap (λ o. (unwrap_or o m).carried) is)
 messages-carried me before carried (s ∷ sends) (suc i) m is = messages-carried me (before + 1) carried sends i m is
 
 -- what a message that was made carries
-pub made-carried : (me before : ℕ) (carried : List Entry) (sends : List (ℕ × Note)) (messages : List Message) (i : ℕ) (made : Option (Bor Message)) → messages ≡ messages_from me before carried sends → option_copied made ≡ slice_get messages i → IfSome made (λ wire. wire.now.carried ≡ carried)
+pub made-carried : (me before : ℕ) (carried : List Entry) (sends : List (ℕ × Note)) (messages : List Message) (i : ℕ) (made : Option (Bor Message))
+    → messages ≡ messages_from me before carried sends → option_copied made ≡ slice_get messages i → IfSome made (λ wire. wire.now.carried ≡ carried)
 made-carried me before carried sends messages i None are at = tt
 made-carried me before carried sends messages i (Some wire) are at = messages-carried me before carried sends i wire.now (sym (ap (λ l. slice_get l i) are) ∙ sym at)
 
@@ -65,7 +77,8 @@ pub few_starts : (me : ℕ) (starts : List Start) → length (starts_of me start
 few_starts me starts = length-filter_map (λ s. if s.from == me then Some (s.to, s.note) else None) starts
 
 -- one more start
-pub starts-step : (me : ℕ) (starts : List Start) (i : ℕ) (s : Start) (b : Bool) → slice_get starts i ≡ Some s → (s.from == me) ≡ b → starts_of me (take (i + 1) starts) ≡ starts_of me (take i starts) ++ cond b ((s.to, s.note) ∷ []) []
+pub starts-step : (me : ℕ) (starts : List Start) (i : ℕ) (s : Start) (b : Bool) → slice_get starts i ≡ Some s → (s.from == me) ≡ b
+    → starts_of me (take (i + 1) starts) ≡ starts_of me (take i starts) ++ cond b ((s.to, s.note) ∷ []) []
 starts-step me starts i s b at is =
     ap (starts_of me) (take-next starts i s at)
     ∙ filter_map-append (λ x. if x.from == me then Some (x.to, x.note) else None) (take i starts) (s ∷ [])
@@ -97,14 +110,16 @@ noted-none before (s ∷ log) ssn le =
     ∙ noted-none (before + 1) log ssn (omega (arith, le))
 
 -- one more send looked at
-pub beyond-step : (log : List (ℕ × Note)) (to ssn i : ℕ) (s : ℕ × Note) (b : Bool) → slice_get log i ≡ Some s → i < length log → (s.0 == to && nat_lt ssn (i + 1)) ≡ b → logged_beyond (numbered 0 (take (i + 1) log)) to ssn ≡ logged_beyond (numbered 0 (take i log)) to ssn ++ cond b ((i + 1, s.1) ∷ []) []
+pub beyond-step : (log : List (ℕ × Note)) (to ssn i : ℕ) (s : ℕ × Note) (b : Bool) → slice_get log i ≡ Some s → i < length log
+    → (s.0 == to && nat_lt ssn (i + 1)) ≡ b → logged_beyond (numbered 0 (take (i + 1) log)) to ssn ≡ logged_beyond (numbered 0 (take i log)) to ssn ++ cond b ((i + 1, s.1) ∷ []) []
 beyond-step log to ssn i s b at below is =
     let front = numbered 0 (take i log) in
     let e : 0 + length (take i log) + 1 ≡ i + 1 = omega (arith, length-take-le i log (omega (arith, below))) in
     ap (λ l. logged_beyond (numbered 0 l) to ssn) (take-next log i s at)
     ∙ ap (λ l. logged_beyond l to ssn) (numbered-append 0 (take i log) (s ∷ []) ∙ ap (λ k. front ++ record { ssn = k; to = s.0; note = s.1 } ∷ []) e)
     ∙ ap (map {B = ℕ × Note} (λ (l : Logged). (l.ssn, l.note))) (filter-append (λ l. l.to == to && nat_lt ssn l.ssn) front (record { ssn = i + 1; to = s.0; note = s.1 } ∷ []))
-    ∙ map-append {B = ℕ × Note} (λ (l : Logged). (l.ssn, l.note)) (filter (λ l. l.to == to && nat_lt ssn l.ssn) front) (filter (λ l. l.to == to && nat_lt ssn l.ssn) (record { ssn = i + 1; to = s.0; note = s.1 } ∷ []))
+    ∙ map-append {B = ℕ × Note} (λ (l : Logged). (l.ssn, l.note)) (filter (λ l. l.to == to && nat_lt ssn l.ssn) front)
+    (filter (λ l. l.to == to && nat_lt ssn l.ssn) (record { ssn = i + 1; to = s.0; note = s.1 } ∷ []))
     ∙ ap (λ l. logged_beyond front to ssn ++ l) (own (s.0 == to && nat_lt ssn (i + 1)) b is) where
       own : (a b : Bool) → a ≡ b → map {B = ℕ × Note} (λ (l : Logged). (l.ssn, l.note)) (cond a (record { ssn = i + 1; to = s.0; note = s.1 } ∷ []) []) ≡ cond b ((i + 1, s.1) ∷ []) []
       own true true e = refl
@@ -122,14 +137,21 @@ kept m log lasts receipts sends is = record {
 }
 
 -- one receipt of the fold, where the log has the step's sends at its end
-pub stepped : (m : MemberRecord) (state received q from ssn : ℕ) (last : List ℕ) (log after : List (ℕ × Note)) (table now then_table : List Entry) (outcome next : Outcome) → record { state = state; received = received; last = last; log = numbered 0 log; table = table } ≡ m → after ≡ log ++ outcome.sends.items → q ≡ from → outcome ≡ next → now ≡ then_table → record { state = outcome.state; received = received + 1; last = slice_set last q ssn; log = numbered 0 after; table = now } ≡ record (advanced_by m from ssn next) { table = then_table }
+pub stepped : (m : MemberRecord) (state received q from ssn : ℕ) (last : List ℕ) (log after : List (ℕ × Note)) (table now then_table : List Entry)
+    (outcome next : Outcome) → record { state = state; received = received; last = last; log = numbered 0 log; table = table } ≡ m
+    → after ≡ log ++ outcome.sends.items → q ≡ from → outcome ≡ next → now ≡ then_table
+    → record { state = outcome.state; received = received + 1; last = slice_set last q ssn; log = numbered 0 after; table = now } ≡ record (advanced_by m from ssn next) { table = then_table }
 stepped m state received q from ssn last log after table now then_table outcome next is grown sender step tables =
     let logs : numbered 0 after ≡ numbered 0 log ++ numbered (length (numbered 0 log)) outcome.sends.items = ap (numbered 0) grown ∙ numbered-more log outcome.sends.items in
-    let here : record { state = outcome.state; received = received + 1; last = slice_set last q ssn; log = numbered 0 after; table = now } ≡ record (advanced_by (record { state = state; received = received; last = last; log = numbered 0 log; table = table }) q ssn outcome) { table = now } = (λ j. record { state = outcome.state; received = received + 1; last = slice_set last q ssn; log = logs j; table = now }) in
+    let here : record { state = outcome.state; received = received + 1; last = slice_set last q ssn; log = numbered 0 after; table = now }
+    ≡ record (advanced_by (record { state = state; received = received; last = last; log = numbered 0 log; table = table }) q ssn outcome)
+    { table = now } = (λ j. record { state = outcome.state; received = received + 1; last = slice_set last q ssn; log = logs j; table = now }) in
     here ∙ (λ j. record (advanced_by (is j) (sender j) ssn (step j)) { table = tables j })
 
 -- what one receipt leaves within bounds
-pub bounded : (m : MemberRecord) (state received q ssn : ℕ) (last : List ℕ) (log after sends : List (ℕ × Note)) (table : List Entry) (k : ℕ) → record { state = state; received = received; last = last; log = numbered 0 log; table = table } ≡ m → length last ≡ 16 → m.received < 8192 → after ≡ log ++ sends → length sends ≡ k → length m.log + k ≤ 8192 → (length (slice_set last q ssn) ≡ 16) × (received + 1 ≤ 8192) × (length after ≤ 8192)
+pub bounded : (m : MemberRecord) (state received q ssn : ℕ) (last : List ℕ) (log after sends : List (ℕ × Note)) (table : List Entry) (k : ℕ)
+    → record { state = state; received = received; last = last; log = numbered 0 log; table = table } ≡ m → length last ≡ 16 → m.received < 8192
+    → after ≡ log ++ sends → length sends ≡ k → length m.log + k ≤ 8192 → (length (slice_set last q ssn) ≡ 16) × (received + 1 ≤ 8192) × (length after ≤ 8192)
 bounded m state received q ssn last log after sends table k is lasts receipts grown some room =
     let counted : received ≡ m.received = ap (λ r. r.received) is in
     let logged : length (numbered 0 log) ≡ length m.log = ap (λ r. length r.log) is in

@@ -32,7 +32,7 @@ of_value e v rest h = by_number (option_and_then as_u64 (as_number v)) h
   where
     by_number : (u : Option ℕ) → ¬ (or_fault e (option_and_then (λ n. cond (nat_le 0 n && nat_le n 4294967295) (Some n) None) u) ≡ Ok 2)
         → (or_fault e (option_and_then version_from (option_and_then (λ n. cond (nat_le 0 n && nat_le n 4294967295) (Some n) None) u)) >>= rest)
-            ≡ (or_fault e (option_and_then (λ n. cond (nat_le 1 n && nat_le n 1) (Some n) None) u) >>= λ _. rest First)
+        ≡ (or_fault e (option_and_then (λ n. cond (nat_le 1 n && nat_le n 1) (Some n) None) u) >>= λ _. rest First)
     by_number None h = refl
     by_number (Some zero) h = refl
     by_number (Some (suc zero)) h = refl

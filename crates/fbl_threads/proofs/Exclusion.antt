@@ -1,8 +1,6 @@
 -- Each step of the claims keeps their rule, and the rule says what a step does to the words.
-use Rattle.std.proofs.Common.{
-  ◌≡◌, ◌≢◌, ◌<◌, ℕ, zero, suc, ◌⊎◌, inl, inr, ⊎_elim, List, [], ◌∷◌, ◌++◌, Option, Some, None, cond, eqb, get_or, set, sym, refl, ap,
-  ◌∙◌, subst, arith, length-set, eq-eqb, ne_eqb, Bool, get_or-set_same, get_or-set_other,
-}
+use Rattle.std.proofs.Common.{◌≡◌, ◌≢◌, ◌<◌, ℕ, zero, suc, ◌⊎◌, inl, inr, ⊎_elim, List, [], ◌∷◌, ◌++◌, Option, Some, None, cond, eqb, get_or, set, sym}
+use Rattle.std.proofs.Common.{refl, ap, ◌∙◌, subst, arith, length-set, eq-eqb, ne_eqb, Bool, get_or-set_same, get_or-set_other}
 use Rattle.std.proofs.lemmas.List.{set-get_or, ext_get_or}
 use mathlib.Core.Logic.{dite}
 use mathlib.Core.Option.{some, some-injective, some-ne-none}
@@ -58,7 +56,7 @@ splits n id v s rule at =
     let same : set s.views id v ≡ s.views = set_again s.views id v at in
     let P : List (Option ℕ) → Type 0 = λ views. IsExclusive n (record { words = s.words; homes = s.homes; views = views ++ None ∷ [] }) in
     let old : (pass member : ℕ) → ViewHolds (s.views ++ None ∷ []) pass member
-        → ViewHolds s.views pass member = λ pass member held. ⊎_elim (λ h. h) (λ e. absurd (no_member member e)) (at_snoc s.views None (Some member) pass held) in
+    → ViewHolds s.views pass member = λ pass member held. ⊎_elim (λ h. h) (λ e. absurd (no_member member e)) (at_snoc s.views None (Some member) pass held) in
     subst P (sym same) (record {
       a_word_each = rule.a_word_each;
       of_the_group = λ pass member held. rule.of_the_group pass member (old pass member held);
@@ -101,7 +99,7 @@ placed n i id word v w s rule below at not_v not_w here = record {
       (λ ne.
       let Q : ℕ → Type 0 = λ k. Fits k (set s.views id w) member in
       subst Q (sym (get_or-set_other s.words i member word 0 ne))
-          (moves_else (get_or s.words member 0) s.views id v w member at (not_v member ne) (not_w member ne) (rule.free_or_claimed member low)));
+      (moves_else (get_or s.words member 0) s.views id v w member at (not_v member ne) (not_w member ne) (rule.free_or_claimed member low)));
 }
 
 -- the first pass to find 0 holds the member, and no other one does
@@ -203,12 +201,12 @@ one_word n i id word v w old new rule rule' below at is not_v not_w here =
     ext_get_or 0 new.words (set old.words i word) (rule'.a_word_each ∙ sym (length-set old.words i word ∙ rule.a_word_each))
     (λ member low. dite (ℕ_discrete member i)
     (λ e. ap (λ m. get_or new.words m 0) e ∙ (here
-        ∙ (sym (get_or-set_same old.words i word 0 (let l = rule.a_word_each in omega arith)) ∙ ap (λ m. get_or (set old.words i word) m 0) (sym e))))
+    ∙ (sym (get_or-set_same old.words i word 0 (let l = rule.a_word_each in omega arith)) ∙ ap (λ m. get_or (set old.words i word) m 0) (sym e))))
     (λ ne.
     let P : List (Option ℕ) → Type 0 = λ views. (pass : ℕ) → ViewHolds old.views pass member → ViewHolds views pass member in
     let Q : List (Option ℕ) → Type 0 = λ views. (pass : ℕ) → ViewHolds views pass member → ViewHolds old.views pass member in
     same_word n old new member rule rule' (let l = rule'.a_word_each in omega arith)
-        (subst P (sym is) (stays_held old.views id v w member at (not_v member ne))) (subst Q (sym is) (was_held old.views id w member (not_w member ne)))
+    (subst P (sym is) (stays_held old.views id v w member at (not_v member ne))) (subst Q (sym is) (was_held old.views id w member (not_w member ne)))
     ∙ sym (get_or-set_other old.words i member word 0 ne)))
 
 says : (n : ℕ) (old new : St) (pass : ℕ) (before after : Option ℕ) → IsExclusive n old → IsExclusive n new → get_elem? old.views pass ≡ some before
@@ -221,7 +219,7 @@ says n old new pass None (Some p) rule rule' at is =
     let none : (other : ℕ) → ¬ (ViewHolds old.views other p) = λ other was. dite (ℕ_discrete other pass)
     (λ e. no_member p (some-injective None (Some p) (sym at ∙ (ap (λ k. get_elem? old.views k) (sym e) ∙ was))))
     (λ ne. let Q : List (Option ℕ) → Type 0 = λ views. ViewHolds views other p in
-        ne (one_holder n new p other pass rule' (subst Q (sym is) (set_else old.views pass other (Some p) ne ∙ was)) held)) in (
+    ne (one_holder n new p other pass rule' (subst Q (sym is) (set_else old.views pass other (Some p) ne ∙ was)) held)) in (
       free_word n old p rule low none,
       one_word n p pass 1 None (Some p) old new rule rule' low at is (λ member ne. no_member member) (λ member ne e. ne (sym (one_member p member e))) (held_word n new p pass rule' held),
     )
@@ -241,7 +239,7 @@ grows n old new rule rule' is =
     same_words n old new rule rule'
     (λ member pass held. let P : List (Option ℕ) → Type 0 = λ views. ViewHolds views pass member in subst P (sym is) (at_longer old.views (None ∷ []) pass (Some member) held))
     (λ member pass held. let P : List (Option ℕ) → Type 0 = λ views. ViewHolds views pass member in
-        ⊎_elim (λ h. h) (λ e. absurd (no_member member e)) (at_snoc old.views None (Some member) pass (subst P is held)))
+    ⊎_elim (λ h. h) (λ e. absurd (no_member member e)) (at_snoc old.views None (Some member) pass (subst P is held)))
 
 pub words_follow_views : WordsFollowViews
 words_follow_views n old new rule rule' = ((λ pass before after. says n old new pass before after rule rule'), grows n old new rule rule')

@@ -1,8 +1,6 @@
 -- What the parser of command lines makes of the program's command lines.
-use Rattle.std.proofs.Common.{
-  ◌≡◌, ℕ, zero, suc, ◌+◌, ◌<◌, ◌&&◌, Bool, true, false, List, [], ◌∷◌, ◌++◌, Option, Some, None, option_map, Result, Ok, Err, IfErr, refl, sym, ap,
-  ◌∙◌, arith, codes, decimal, drop, subst, unwrap_or,
-}
+use Rattle.std.proofs.Common.{◌≡◌, ℕ, zero, suc, ◌+◌, ◌<◌, ◌&&◌, Bool, true, false, List, [], ◌∷◌, ◌++◌, Option, Some, None, option_map, Result, Ok, Err, IfErr}
+use Rattle.std.proofs.Common.{refl, sym, ap, ◌∙◌, arith, codes, decimal, drop, subst, unwrap_or}
 use Rattle.std.proofs.lemmas.Fmt.{decimal_digit, parse-decimal}
 use Rattle.std.specs.Prelude.{Box}
 use Rattle.std.specs.Box.{box_value}
@@ -19,10 +17,8 @@ use Rattle.clap.specs.declared.parser.matches.ArgMatches.TheViews.{out-ArgMatche
 use Rattle.clap.specs.declared.parser.matches.SubCommand.{SubCommand}
 use Rattle.clap.proofs.OnLiterals.{clap_on_literals}
 use Rattle.fblrun.specs.declared.Order.{Order}
-use Rattle.fblrun.specs.CommandLines.{
-  IsCommandLine, is_audit, is_check, is_draw, is_play, is_show, is_show_workers, is_workers, IsOrderAt, IsOrderOf, audit_line, check_line, draw_line,
-  flag_text, play_line, program, show_line, with_explain, with_strict,
-}
+use Rattle.fblrun.specs.CommandLines.{IsCommandLine, is_audit, is_check, is_draw, is_play, is_show, is_show_workers, is_workers, IsOrderAt, IsOrderOf, audit_line, check_line, draw_line}
+use Rattle.fblrun.specs.CommandLines.{flag_text, play_line, program, show_line, with_explain, with_strict}
 use Rattle.fblrun.specs.Orders.{IsWorkerCount}
 
 -- the subcommand that the words behind the program's name give, with what was found of it

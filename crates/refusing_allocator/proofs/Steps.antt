@@ -1,10 +1,8 @@
 -- The names that the walks of the allocator's two methods share.
 pub use Rattle.std.proofs.Common.{◌≡◌, Bool, true, false, List, [], ◌∷◌, Ok, Err, refl, w64}
 pub use Rattle.std.proofs.raw_atomic.Walks.{proved}
-pub use Rattle.std.proofs.alloc.Calls.{
-  Al, seen, token, Takes, at_takes, Answered, Takes-goes, Takes-gives, answers, Gives, at_gives, Gives-goes, Gives-Gives, Answer, answer_val,
-  Answer-typed, Answer-Ok, Answer-err,
-}
+pub use Rattle.std.proofs.alloc.Calls.{Al, seen, token, Takes, at_takes, Answered, Takes-goes, Takes-gives, answers, Gives, at_gives, Gives-goes, Gives-Gives, Answer, answer_val}
+pub use Rattle.std.proofs.alloc.Calls.{Answer-typed, Answer-Ok, Answer-err}
 pub use base.Logic.{fst∗, never}
 pub use base.Fml.{ftrue, fsep, flft}
 pub use mir.Syntax.{Fn}
@@ -15,10 +13,8 @@ pub use prog.Wp.{Env, WpFn}
 pub use contract.BorrowLft.{◌⊑◌, ⊑_trans}
 pub use contract.Monad.{fact}
 pub use contract.Running.{tables}
-pub use types.Kit.{
-  ‵, raw, prop, ◌⊛◌, some, later, given, at_ret, ◌$◌, ◌∵◌, !, qed, done, move, keep, group, use0, use1, use2, split, split3, join, fsplit, fjoin,
-  feq_i, learn, pick, await, regoal, suffices, Sq,
-}
+pub use types.Kit.{‵, raw, prop, ◌⊛◌, some, later, given, at_ret, ◌$◌, ◌∵◌, !, qed, done, move, keep, group, use0, use1, use2, split, split3, join, fsplit, fjoin, feq_i}
+pub use types.Kit.{learn, pick, await, regoal, suffices, Sq}
 pub use types.Run.{enter, of_opd, lit, unit_lit, addr, stop, fld, no_more, and_then, first, branches, skips, exec, returns, returns_within}
 pub use types.Part.{agg}
 pub use types.ByLocal.{alloc_all, pass_all, free_all, look_at, get, through, sets, lands_as, env}

@@ -41,4 +41,4 @@ returns-clause-agreed c reaches quiet m below =
     let r = c.args.group.now in
     let held = c.none_lost.ensures.settled quiet.1 quiet.0 in
     counted r.config m (member r m).state (each-one r.config.members (λ k. has_greatest r.config k (member r k).state)
-        (λ k. counts-once r.config k (member r k).state) (omega (arith, reaches, held)) m below)
+    (λ k. counts-once r.config k (member r k).state) (omega (arith, reaches, held)) m below)

@@ -16,4 +16,4 @@ pub returns-in-Err : goal.returns-in-Err
 returns-in-Err g c =
     let known = g.W.Write.contents c.args.writer.now in
     ended _ (λ input. ReadsAndAnswersTask c.args.order.task input known known) (Err c.in-Err.fault) _ c.end-in-Err.ensures
-        (unread c.args.order.task _ _ _ c.in-Err.ensures.faults c.in-Err.ensures.long)
+    (unread c.args.order.task _ _ _ c.in-Err.ensures.faults c.in-Err.ensures.long)

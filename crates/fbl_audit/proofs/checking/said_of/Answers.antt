@@ -10,7 +10,7 @@ returns-then-count-most c =
     let strike : c.union-strike.result ≡ least_of dump c.args.determinant = rw (← c.requires.holders, ← c.strike.ensures) c.union-strike.ensures in
     let orphans : c.without-orphans.result ≡ set.difference c.args.dependents (least_of dump c.args.determinant) = c.without-orphans.ensures ∙ ap (set.difference c.args.dependents) strike in
     let most : c.max-most.result ≡ max dump.f (set.len dump.strike) = c.max-most.ensures
-        ∙ ap (λ x. max x c.count.result) (c.from.ensures ∙ c.f.ensures) ∙ ap (max dump.f) (c.count.ensures ∙ ap set.len c.strike-2.ensures) in
+    ∙ ap (λ x. max x c.count.result) (c.from.ensures ∙ c.f.ensures) ∙ ap (max dump.f) (c.count.ensures ∙ ap set.len c.strike-2.ensures) in
     let size : c.count-2.result ≡ set.len (least_of dump c.args.determinant) = c.count-2.ensures ∙ ap set.len strike in
     none_unsafe dump c.requires.rules c.args.determinant c.args.dependents c.requires.dependents (λ found. elim c.then-count-most.branch [
       | then-count-most-via-then-count-most w ↦ omega (arith, w.if-count-most.true, most, size, found.0)
@@ -25,8 +25,8 @@ returns c =
     let strike : c.union-strike.result ≡ least_of dump c.args.determinant = rw (← c.requires.holders, ← c.strike.ensures) c.union-strike.ensures in
     let orphans : c.without-orphans.result ≡ set.difference c.args.dependents (least_of dump c.args.determinant) = c.without-orphans.ensures ∙ ap (set.difference c.args.dependents) strike in
     let most : c.max-most.result ≡ max dump.f (set.len dump.strike) = c.max-most.ensures
-        ∙ ap (λ x. max x c.count.result) (c.from.ensures ∙ c.f.ensures) ∙ ap (max dump.f) (c.count.ensures ∙ ap set.len c.strike-2.ensures) in
+    ∙ ap (λ x. max x c.count.result) (c.from.ensures ∙ c.f.ensures) ∙ ap (max dump.f) (c.count.ensures ∙ ap set.len c.strike-2.ensures) in
     let size : c.count-2.result ≡ set.len (least_of dump c.args.determinant) = c.count-2.ensures ∙ ap set.len strike in
     let some : c.count-else-count-most.result ≡ set.len (set.difference c.args.dependents (least_of dump c.args.determinant)) = c.count-else-count-most.ensures ∙ ap set.len orphans in
     said_right dump c.requires.rules c.args.determinant c.args.dependents c.requires.dependents _
-        (λ i. record { determinant = c.args.determinant; strike = strike i; orphans = orphans i }) (omega (arith, c.if-count-most.false, most, size)) (omega (arith, some, c.if-count-eq0.false))
+    (λ i. record { determinant = c.args.determinant; strike = strike i; orphans = orphans i }) (omega (arith, c.if-count-most.false, most, size)) (omega (arith, some, c.if-count-eq0.false))

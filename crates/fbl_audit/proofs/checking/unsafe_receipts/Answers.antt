@@ -16,7 +16,7 @@ said_of-requires-clause-dependents c =
     let obeys : WellFormed c.args.dump.now.members t = rw events c.events-event-items.ensures.rules.events in
     let found : AreDependents t c.in_ok-dependents.dependents = rw events c.in_ok-dependents.ensures in
     rw (← events, c.at.ensures) (dependents_of_receipt c.args.dump.now.members t c.in_ok-dependents.dependents c.loop-place.place c.event-item.result
-        c.in-Some.determinant obeys found (omega arith) c.event-item.is (sym c.in-Some.ensures))
+    c.in-Some.determinant obeys found (omega arith) c.event-item.is (sym c.in-Some.ensures))
 
 pub loop-place-preserved : goal.loop-place-preserved
 loop-place-preserved c =
@@ -35,11 +35,11 @@ loop-place-preserved c =
 pub returns-clause-said : goal.returns-clause-said
 returns-clause-said c =
     let all : filter_map determinant_of (take c.loop-place.place c.events-event-items.result.now) ≡ receipts_of_dump c.args.dump.now =
-        ap (filter_map determinant_of) (take_all c.loop-place.place c.events-event-items.result.now (omega arith) ∙ c.events-event-items.ensures.events) in
+    ap (filter_map determinant_of) (take_all c.loop-place.place c.events-event-items.result.now (omega arith) ∙ c.events-event-items.ensures.events) in
     rw (← all) c.loop-place.invariant
 
 pub returns-clause-safe : goal.returns-clause-safe
 returns-clause-safe c =
     let all : filter_map determinant_of (take c.loop-place.place c.events-event-items.result.now) ≡ receipts_of_dump c.args.dump.now =
-        ap (filter_map determinant_of) (take_all c.loop-place.place c.events-event-items.result.now (omega arith) ∙ c.events-event-items.ensures.events) in
+    ap (filter_map determinant_of) (take_all c.loop-place.place c.events-event-items.result.now (omega arith) ∙ c.events-event-items.ensures.events) in
     says_safe c.args.dump.now c.loop-place.unsafe_receipts.items (rw (← all) c.loop-place.invariant)

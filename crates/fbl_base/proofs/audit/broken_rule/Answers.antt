@@ -6,9 +6,12 @@ use Rattle.fbl_base.proofs.audit.broken_rule.Goals as goal
 pub returns-then-not-contains : goal.returns-then-not-contains
 returns-then-not-contains g c =
     let d = c.args.pair.now.1 in
-    let received = Decides-is_received c.args.raw.now.events.items d in
-    (omega arith, omega (arith, c.number.ensures.value), c.receipt.ensures,
-        rw c.receipt.ensures (λ has. false≢true (sym c.if-not-contains.true ∙ c.contains.ensures ∙ c.requires d ∙ received.1 has)))
+    let received = Decides-is_received c.args.raw.now.events.items d in (
+      omega arith,
+      omega (arith, c.number.ensures.value),
+      c.receipt.ensures,
+      rw c.receipt.ensures (λ has. false≢true (sym c.if-not-contains.true ∙ c.contains.ensures ∙ c.requires d ∙ received.1 has)),
+    )
 
 pub returns : goal.returns
 returns g c =

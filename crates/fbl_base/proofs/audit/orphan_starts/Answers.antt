@@ -7,15 +7,14 @@ use Rattle.fbl_base.proofs.Recorded.{Decides-is_lost}
 use Rattle.fbl_base.proofs.Gets.{get_or-same}
 use Rattle.fbl_base.proofs.ReachLaws.{Tracks, Tracks-none, Tracks-more, unreached_sends_after-length}
 use Rattle.fbl_base.proofs.audit.orphan_starts.Goals as goal
-use Rattle.fbl_base.proofs.audit.orphan_starts.Goals.{
-  then-has_orphan+then-not-was_orphan, else-has_orphan, else-has_orphan-via-then-has_orphan+else-not-was_orphan, else-has_orphan-via-else-has_orphan,
-}
+use Rattle.fbl_base.proofs.audit.orphan_starts.Goals.{then-has_orphan+then-not-was_orphan, else-has_orphan, else-has_orphan-via-then-has_orphan+else-not-was_orphan}
+use Rattle.fbl_base.proofs.audit.orphan_starts.Goals.{else-has_orphan-via-else-has_orphan}
 use Rattle.std.proofs.lemmas.Bool.{false≢true}
 
 pub loop-place-init : goal.loop-place-init
 loop-place-init g c =
     let tracks : Tracks (IsLost c.args.dump.now) [] c.new-reach.result.reached c.new-reach.result.unreached_sends =
-        rw c.new-reach.ensures.reached (Tracks-none (IsLost c.args.dump.now) c.new-reach.result.unreached_sends (λ q. rw c.new-reach.ensures.unreached_sends (get_or-same {X = ℕ} 16 q 0))) in
+    rw c.new-reach.ensures.reached (Tracks-none (IsLost c.args.dump.now) c.new-reach.result.unreached_sends (λ q. rw c.new-reach.ensures.unreached_sends (get_or-same {X = ℕ} 16 q 0))) in
     record {
       tracks = tracks;
       room = rw c.new-reach.ensures.unreached_sends;
@@ -32,9 +31,9 @@ loop-place-preserved g c =
     let obeys : WellFormed dump.members items = rw c.events-mark-items.ensures.events rules.events in
     let tracks : Tracks (IsLost dump) (take (i + 1) items) c.follow.new.self.reached c.follow.new.self.unreached_sends =
     rw (c.follow.ensures.reached, c.follow.ensures.unreached_sends)
-        (Tracks-more dump.members (IsLost dump) (λ q s p x. x) items obeys c.loop-place.reach.reached c.loop-place.reach.unreached_sends i
-        c.mark-item.result c.is_lost-lost.result c.loop-place.invariant.tracks (omega (arith, c.loop-place.invariant.room, rules.members.1))
-        (omega arith) c.mark-item.is (rw c.is_lost-lost.ensures (Decides-is_lost dump c.in_ok-recorded.recorded.keys c.in_ok-recorded.ensures c.mark-item.result))) in
+    (Tracks-more dump.members (IsLost dump) (λ q s p x. x) items obeys c.loop-place.reach.reached c.loop-place.reach.unreached_sends i
+    c.mark-item.result c.is_lost-lost.result c.loop-place.invariant.tracks (omega (arith, c.loop-place.invariant.room, rules.members.1))
+    (omega arith) c.mark-item.is (rw c.is_lost-lost.ensures (Decides-is_lost dump c.in_ok-recorded.recorded.keys c.in_ok-recorded.ensures c.mark-item.result))) in
     let is : items ≡ dump.events = c.events-mark-items.ensures.events in
     let lost = c.is_lost-lost.result in
     let event = c.mark-item.result in
@@ -55,13 +54,13 @@ loop-place-preserved g c =
       starts = elim c.if-has_orphan.branch [
         | then-has_orphan+then-not-was_orphan w ↦
             rw (w.starts-is, w.number.ensures.value) (starts_set dump i before.reached after.reached before.unreached_sends after.unreached_sends
-                (rw is at c.loop-place.invariant.tracks) (rw is at tracks) c.loop-place.starts c.loop-place.invariant.starts member other
-                (rw (← is) (omega arith)) (omega (arith, w.number.ensures.bound, w.number.ensures.value, c.loop-place.invariant.slots))
-                (sym was ∙ w.if-not-was_orphan.true) (sym now ∙ w.if-has_orphan.true))
+            (rw is at c.loop-place.invariant.tracks) (rw is at tracks) c.loop-place.starts c.loop-place.invariant.starts member other
+            (rw (← is) (omega arith)) (omega (arith, w.number.ensures.bound, w.number.ensures.value, c.loop-place.invariant.slots))
+            (sym was ∙ w.if-not-was_orphan.true) (sym now ∙ w.if-has_orphan.true))
         | else-has_orphan w ↦ rw w.starts-is (starts_kept dump i before.reached after.reached before.unreached_sends after.unreached_sends
             (rw is at c.loop-place.invariant.tracks) (rw is at tracks) c.loop-place.starts c.loop-place.invariant.starts member other (elim w.else-has_orphan.branch [
-          | else-has_orphan-via-then-has_orphan+else-not-was_orphan w' ↦ λ h. sym was ∙ w'.if-not-was_orphan.false
-          | else-has_orphan-via-else-has_orphan w' ↦ λ h. absurd (false≢true (sym w'.if-has_orphan.false ∙ now ∙ h))
-        ]))
+              | else-has_orphan-via-then-has_orphan+else-not-was_orphan w' ↦ λ h. sym was ∙ w'.if-not-was_orphan.false
+              | else-has_orphan-via-else-has_orphan w' ↦ λ h. absurd (false≢true (sym w'.if-has_orphan.false ∙ now ∙ h))
+            ]))
       ];
     }

@@ -9,7 +9,7 @@ loop-event-preserved g c d =
       | in-Some+in_ok-insert w ↦
           let u = w.in_ok-insert.ensures.updates.0 d in
           received_more c.args.events.now c.loop-event.event-index c.event-item.result w.in-Some.determinant d _ _ (omega arith) c.event-item.is
-              (sym w.in-Some.ensures) (c.loop-event.invariant d) (rw w.receipts-is u)
+          (sym w.in-Some.ensures) (c.loop-event.invariant d) (rw w.receipts-is u)
       | in_default w ↦
           rw w.receipts-is (received_same c.args.events.now c.loop-event.event-index c.event-item.result d _ (omega arith) c.event-item.is (sym w.in_default.ensures) (c.loop-event.invariant d))
     ]

@@ -9,8 +9,8 @@ loop-holder-preserved g c d =
       | then-not-has+in_ok-insert w ↦
           let u = w.in_ok-insert.ensures.updates.0 d in
           recorded_kept c.args.dump.now.strike c.held-holder-items.result.now c.loop-holder.holder-index c.loop-holder-item.result d _ _
-              (omega arith) c.loop-holder-item.is (rw (← c.strike-strike.ensures) (sym c.has.ensures ∙ w.if-not-has.true)) (c.loop-holder.invariant d) (rw w.recorded-is u)
+          (omega arith) c.loop-holder-item.is (rw (← c.strike-strike.ensures) (sym c.has.ensures ∙ w.if-not-has.true)) (c.loop-holder.invariant d) (rw w.recorded-is u)
       | else-not-has w ↦
           rw w.recorded-is (recorded_skipped c.args.dump.now.strike c.held-holder-items.result.now c.loop-holder.holder-index
-              c.loop-holder-item.result d _ (omega arith) c.loop-holder-item.is (rw (← c.strike-strike.ensures) (sym c.has.ensures ∙ w.if-not-has.false)) (c.loop-holder.invariant d))
+          c.loop-holder-item.result d _ (omega arith) c.loop-holder-item.is (rw (← c.strike-strike.ensures) (sym c.has.ensures ∙ w.if-not-has.false)) (c.loop-holder.invariant d))
     ]

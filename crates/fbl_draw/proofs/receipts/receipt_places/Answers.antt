@@ -16,7 +16,7 @@ loop-place-preserved c =
     elim c.match-message_taken.branch [
       | in-Some+then-not-contains_key+in_ok-insert w ↦
           rw w.places-is (new_message old events i e within c.index-events-place.is c.loop-place.invariant w.in-Some.message (sym w.in-Some.ensures)
-              (sym w.contains_key.ensures ∙ w.if-not-contains_key.true) (λ m. hash_map.get same_message w.insert.new.self m) w.in_ok-insert.ensures.updates.0)
+          (sym w.contains_key.ensures ∙ w.if-not-contains_key.true) (λ m. hash_map.get same_message w.insert.new.self m) w.in_ok-insert.ensures.updates.0)
       | in-Some+else-not-contains_key w ↦ rw w.places-is
           (old_message old events i e within c.index-events-place.is c.loop-place.invariant w.in-Some.message (sym w.in-Some.ensures) (sym w.contains_key.ensures ∙ w.if-not-contains_key.false))
       | in_default w ↦ rw w.places-is (no_message old events i e within c.index-events-place.is c.loop-place.invariant (sym w.in_default.ensures))

@@ -21,5 +21,5 @@ returns-clause-reads_back c =
     let E : List Mark → Type 0 = All (λ x. event_shape (event_data x) ≡ Some x) in
     let H : List (ℕ × Determinant) → Type 0 = All (λ x. pair_shape (pair_data x) ≡ Some x) in
     IfOk-weaker c.object_value.result _ _ (λ v is.
-        parts_read c.args.dump.now c.events.ensures.rules (subst E c.events.ensures.events c.in_ok-events.ensures.reads_back) (subst H c.held.ensures c.in_ok-held.ensures.reads_back)
+    parts_read c.args.dump.now c.events.ensures.rules (subst E c.events.ensures.events c.in_ok-events.ensures.reads_back) (subst H c.held.ensures c.in_ok-held.ensures.reads_back)
     (rw c.strike.ensures at c.in_ok-strike.ensures.reads_back)) c.object_value.ensures

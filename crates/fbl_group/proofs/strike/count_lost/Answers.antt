@@ -10,7 +10,11 @@ loop-event-preserved g c =
     ap (is_lost_receipt_of c.args.down c.args.members.now c.args.checkpoints.now) (sym c.event-item.is) ∙ sym c.is_lost_receipt.ensures in
     elim c.if-is_lost_receipt.branch [
       | then-is_lost_receipt w ↦
-          rw (w.lost-is, c.loop-event.invariant) (sym (count_by_more_yes (is_lost_receipt_of c.args.down c.args.members.now c.args.checkpoints.now) c.args.trace.now c.loop-event.event-index c.event-item.result (omega (arith, c.loop-event-test.true)) (tested ∙ w.if-is_lost_receipt.true)))
+          rw (w.lost-is, c.loop-event.invariant) (sym (count_by_more_yes
+          (is_lost_receipt_of c.args.down c.args.members.now c.args.checkpoints.now) c.args.trace.now c.loop-event.event-index c.event-item.result
+          (omega (arith, c.loop-event-test.true)) (tested ∙ w.if-is_lost_receipt.true)))
       | else-is_lost_receipt w ↦
-          rw (w.lost-is, c.loop-event.invariant) (sym (count_by_more_no (is_lost_receipt_of c.args.down c.args.members.now c.args.checkpoints.now) c.args.trace.now c.loop-event.event-index c.event-item.result (omega (arith, c.loop-event-test.true)) (tested ∙ w.if-is_lost_receipt.false)))
+          rw (w.lost-is, c.loop-event.invariant) (sym (count_by_more_no
+          (is_lost_receipt_of c.args.down c.args.members.now c.args.checkpoints.now) c.args.trace.now c.loop-event.event-index c.event-item.result
+          (omega (arith, c.loop-event-test.true)) (tested ∙ w.if-is_lost_receipt.false)))
     ]

@@ -1,7 +1,5 @@
-use Rattle.std.proofs.Common.{
-  ◌≡◌, ℕ, ◌+◌, ◌<◌, List, [], ◌∷◌, ◌++◌, map, drop, length, suc, refl, sym, ap, ◌∙◌, append_assoc, drop-cons, add-one, Option, Some, None,
-  option_map, option_and_then,
-}
+use Rattle.std.proofs.Common.{◌≡◌, ℕ, ◌+◌, ◌<◌, List, [], ◌∷◌, ◌++◌, map, drop, length, suc, refl, sym, ap, ◌∙◌, append_assoc, drop-cons, add-one, Option}
+use Rattle.std.proofs.Common.{Some, None, option_map, option_and_then}
 use Rattle.std.specs.Cmp.{nat_cmp_total}
 use Rattle.std.specs.FinSet as set
 use Rattle.serde_json.specs.Data.{Data}
@@ -19,7 +17,7 @@ next : (front : List ℕ) (m : ℕ) (d : Data) (ds : List Data) (all : Option (L
     → option_map (λ r. front ++ r) (all_shaped member_shape (d ∷ ds)) ≡ all → option_map (λ r. (front ++ m ∷ []) ++ r) (all_shaped member_shape ds) ≡ all
 next front m d ds all shape h =
     moved front m (all_shaped member_shape ds) ∙ ap
-        (λ (found : Option ℕ). option_map (λ r. front ++ r) (option_and_then (λ a. option_map (λ r. a ∷ r) (all_shaped member_shape ds)) found)) (sym shape) ∙ h
+    (λ (found : Option ℕ). option_map (λ r. front ++ r) (option_and_then (λ a. option_map (λ r. a ∷ r) (all_shaped member_shape ds)) found)) (sym shape) ∙ h
 
 pub loop-place-preserved : goal.loop-place-preserved
 loop-place-preserved c =

@@ -11,5 +11,5 @@ pub returns-in-Err-clause-misfit : goal.returns-in-Err-clause-misfit
 returns-in-Err-clause-misfit g c =
     let first = rw c.in-Err.is at c.in_ok-all.ensures.place in
     misfit_item c.args.kind c.args.key g.S.Shape.shape
-        (view c.args.value.now) c.in_ok-list.list.now c.in-Err.place c.index-list-place.result c.bad_item.result c.requires c.in_ok-list.ensures.items
-        (rw length-map at first.0) c.index-list-place.is first c.bad_item.ensures
+    (view c.args.value.now) c.in_ok-list.list.now c.in-Err.place c.index-list-place.result c.bad_item.result c.requires c.in_ok-list.ensures.items
+    (rw length-map at first.0) c.index-list-place.is first c.bad_item.ensures

@@ -7,4 +7,4 @@ pub returns : goal.returns
 returns g c =
     let totals = c.in_ok-totals.totals in
     IfOk-weaker c.report_text.result _ _ (λ text h.
-        (totals, c.in_ok-totals.ensures, h ∙ ap (λ statuses. report_lines statuses totals) (c.as_slice.ensures.value ∙ c.in_ok-statuses.ensures))) c.report_text.ensures
+    (totals, c.in_ok-totals.ensures, h ∙ ap (λ statuses. report_lines statuses totals) (c.as_slice.ensures.value ∙ c.in_ok-statuses.ensures))) c.report_text.ensures

@@ -10,7 +10,7 @@ pub returns-in-Ok-clause-plays : goal.returns-in-Ok-clause-plays
 returns-in-Ok-clause-plays g c =
     let s = outline c.in-Ok.script in
     plays_script c.args.workers _ s _ _ _ c.in-Ok.ensures.script
-        (told_plays g.O.Observer.hears_before g.O.Observer.hears_after (next_of s.behaviour) c.args.workers s.config s.commands _ _ _ _ _ c.play_script.ensures)
+    (told_plays g.O.Observer.hears_before g.O.Observer.hears_after (next_of s.behaviour) c.args.workers s.config s.commands _ _ _ _ _ c.play_script.ensures)
 
 pub returns-in-Ok-clause-tells : goal.returns-in-Ok-clause-tells
 returns-in-Ok-clause-tells g c = inl (outline c.in-Ok.script, c.in-Ok.ensures.script, c.play_script.ensures)

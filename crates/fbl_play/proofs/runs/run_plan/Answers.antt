@@ -23,7 +23,7 @@ returns g c =
     let P : List Strike → Type 0 = λ plan. Drains g.B.Behaviour.next c.args.workers plan c.args.group c.drain-group.result.0 answer in
     let drained = subst P c.strikes-strikes.ensures c.drain-group.ensures in
     let account : IsRunAccount c.args.plan.now c.args.group.receipts_ever c.args.group.undone_ever c.drain-group.result.0 answer
-        c.account_of-account.result = rw (← c.receipts_ever-ever.ensures, ← c.undone_ever-undone.ensures) c.account_of-account.ensures in
+    c.account_of-account.result = rw (← c.receipts_ever-ever.ensures, ← c.undone_ever-undone.ensures) c.account_of-account.ensures in
     let A : Account → Type 0 = λ a. IsRunAccount c.args.plan.now c.args.group.receipts_ever c.args.group.undone_ever c.drain-group.result.0 answer a in
     joined c.answer_with.result _ _ _ c.answer_with.ensures.text c.answer_with.ensures.account (λ told is same. (
       answer,

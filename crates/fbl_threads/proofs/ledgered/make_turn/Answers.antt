@@ -13,18 +13,24 @@ pub returns-in-Down : goal.returns-in-Down
 returns-in-Down g c = record { turn = was_late c.in-Down.is c.in-Err.ensures.refused c.in-Err.ensures.unchanged }
 
 pub returns-in_default-planned : goal.returns-in_default-planned
-returns-in_default-planned g c = record { turn =
-    committed (c.in_default.ensures.delivered.0, (c.in_default.field-0, c.in_default.ensures.delivered.1)) c.add.ensures
-    (ap (struck_at c.args.plan.now) (sym c.receipts_ever-ever.ensures) ∙ sym c.planned.ensures ∙ c.in_default-planned.is) }
+returns-in_default-planned g c = record {
+  turn =
+      committed (c.in_default.ensures.delivered.0, (c.in_default.field-0, c.in_default.ensures.delivered.1)) c.add.ensures
+      (ap (struck_at c.args.plan.now) (sym c.receipts_ever-ever.ensures) ∙ sym c.planned.ensures ∙ c.in_default-planned.is);
+}
 
 pub returns-in-Ok : goal.returns-in-Ok
 returns-in-Ok g c =
     let at = ap (struck_at c.args.plan.now) (sym c.receipts_ever-ever.ensures) ∙ sym c.planned.ensures ∙ c.in-Some.is in
-    record { turn = crashed (c.in_default.ensures.delivered.0, (c.in_default.field-0, c.in_default.ensures.delivered.1)) at c.in-Ok.ensures.crashed.0
-        c.in-Ok.ensures.crashed.1 c.in-Ok.ensures.holders c.from-undone.result c.from-undone.ensures c.add.ensures c.add-in-Ok.ensures }
+    record {
+      turn = crashed (c.in_default.ensures.delivered.0, (c.in_default.field-0, c.in_default.ensures.delivered.1)) at c.in-Ok.ensures.crashed.0
+          c.in-Ok.ensures.crashed.1 c.in-Ok.ensures.holders c.from-undone.result c.from-undone.ensures c.add.ensures c.add-in-Ok.ensures;
+    }
 
 pub returns-in-Err-crash : goal.returns-in-Err-crash
 returns-in-Err-crash g c =
     let at = ap (struck_at c.args.plan.now) (sym c.receipts_ever-ever.ensures) ∙ sym c.planned.ensures ∙ c.in-Some.is in
-    record { turn = left_down (c.in_default.ensures.delivered.0, (c.in_default.field-0, c.in_default.ensures.delivered.1)) at c.in-Err-crash.refusal
-        (c.requires.plan) c.in-Err-crash.ensures.refused c.add.ensures }
+    record {
+      turn = left_down (c.in_default.ensures.delivered.0, (c.in_default.field-0, c.in_default.ensures.delivered.1)) at c.in-Err-crash.refusal
+          (c.requires.plan) c.in-Err-crash.ensures.refused c.add.ensures;
+    }

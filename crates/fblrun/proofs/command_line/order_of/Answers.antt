@@ -5,7 +5,7 @@ use Rattle.fblrun.proofs.command_line.order_of.Goals as goal
 pub returns-in_err-matches-clause-refused : goal.returns-in_err-matches-clause-refused
 returns-in_err-matches-clause-refused c =
     refused (map string_bytes c.args.words.now) c.in_err-matches.field-0.0 c.from_residual-in_err-matches.result
-        c.from_residual-in_err-matches.ensures.1 (λ line. c.in_err-matches.ensures.passes (taken _ (map string_bytes c.args.words.now) c.in_ok-command.ensures line))
+    c.from_residual-in_err-matches.ensures.1 (λ line. c.in_err-matches.ensures.passes (taken _ (map string_bytes c.args.words.now) c.in_ok-command.ensures line))
 
 pub returns-in-Some-clause-given : goal.returns-in-Some-clause-given
 returns-in-Some-clause-given c =

@@ -1,12 +1,11 @@
 -- It asks the gate, and then either answers `Err` or hands on what the inner allocator answers. Assumes `Logic`.
-use Rattle.refusing_allocator.proofs.Steps.{
-  Val, token, ◌≡◌, Bool, true, false, [], ◌∷◌, Ok, Err, refl, w64, proved, Al, seen, Takes, at_takes, Answered, Takes-goes, Takes-gives, answers,
-  Answer, answer_val, Answer-typed, Answer-Ok, Answer-err, ftrue, flft, Fn, inst_fn, vbool, size, align, capped, ◌⊑◌, ⊑_trans, fact, tables, ‵, raw,
-  ◌⊛◌, some, later, given, at_ret, ◌$◌, ◌∵◌, !, qed, done, move, keep, use0, use1, use2, split, join, fsplit, fjoin, learn, pick, await, suffices,
-  enter, lit, addr, stop, fld, no_more, and_then, first, branches, skips, exec, returns, returns_within, agg, alloc_all, pass_all, free_all, look_at,
-  get, through, sets, lands_as, env, usize, yes, uint_vals, uint_Tells, owns, block_ptr, shr_vals, plain, types_at, heard, nothing, calls_at, Ended,
-  framed, Stays, stay_dropped, walk_of, ends_at, Goes-dropped, after, Env, hidden_shr, Sq, prop,
-}
+use Rattle.refusing_allocator.proofs.Steps.{Val, token, ◌≡◌, Bool, true, false, [], ◌∷◌, Ok, Err, refl, w64, proved, Al, seen, Takes, at_takes, Answered, Takes-goes, Takes-gives}
+use Rattle.refusing_allocator.proofs.Steps.{answers, Answer, answer_val, Answer-typed, Answer-Ok, Answer-err, ftrue, flft, Fn, inst_fn, vbool, size, align, capped, ◌⊑◌, ⊑_trans}
+use Rattle.refusing_allocator.proofs.Steps.{fact, tables, ‵, raw, ◌⊛◌, some, later, given, at_ret, ◌$◌, ◌∵◌, !, qed, done, move, keep, use0, use1, use2, split, join}
+use Rattle.refusing_allocator.proofs.Steps.{fsplit, fjoin, learn, pick, await, suffices, enter, lit, addr, stop, fld, no_more, and_then, first, branches, skips, exec, returns}
+use Rattle.refusing_allocator.proofs.Steps.{returns_within, agg, alloc_all, pass_all, free_all, look_at, get, through, sets, lands_as, env, usize, yes, uint_vals, uint_Tells, owns}
+use Rattle.refusing_allocator.proofs.Steps.{block_ptr, shr_vals, plain, types_at, heard, nothing, calls_at, Ended, framed, Stays, stay_dropped, walk_of, ends_at, Goes-dropped, after, Env}
+use Rattle.refusing_allocator.proofs.Steps.{hidden_shr, Sq, prop}
 use Rattle.refusing_allocator.proofs.Asks.{Asks, asked, asks, told}
 use Rattle.refusing_allocator.proofs.Gate.refuses_next.Met as gate_met
 use Rattle.std.specs.Allocator.{block_if_ok}
@@ -60,7 +59,7 @@ allocate_spec 𝓤 𝓛 𝓜 𝓡 wired Y L g d drops met _ =
     sets ! (addr ! (through ! refl (fld ! refl (stop !)))) refl (tt, tt) $
     use2 𝓛 (raw ((Asks 𝓛 𝓜.mem 𝓡.returns).pre w)) (asks 𝓛 𝓜.mem 𝓡.returns κ q r.now.gate gate_at) $
     calls_at ! calls (Asks 𝓛 𝓜.mem 𝓡.returns) (gate_met.met 𝓤 𝓛 𝓜 𝓡 (code.calls-refusing_allocator::Gate::refuses_next 𝓡.env wired)) w
-        (and_then ! (get ! refl) (no_more !)) (λ u.
+    (and_then ! (get ! refl) (no_more !)) (λ u.
     use1 𝓛 (later (some (λ (b : Bool). given (u ≡ vbool b) (‵ (flft κ q))))) (told 𝓛 𝓜.mem 𝓡.returns κ q r.now.gate gate_at u) $ await ! tt $ pick ! (λ b. learn ! (λ is_b.
     lands_as ! is_b refl (tt, tt) $
     -- [the token of κ; the inner allocator; the other token]
@@ -72,7 +71,7 @@ allocate_spec 𝓤 𝓛 𝓜 𝓡 wired Y L g d drops met _ =
     (λ served. skips ! $ exec ! 𝓣.C 𝓣.Λ En (after 3 (here Z).body) (at_ret En (W.post y)) $
     sets ! (addr ! (through ! refl (fld ! refl (stop !)))) refl (tt, tt) $ move ! (1 ∷ 0 ∷ []) $
     use2 𝓛 (raw ((Takes Z 𝓛 𝓜.mem 𝓡.returns).pre z))
-        (Takes-goes Z 𝓛 𝓜.mem 𝓡.returns κ q inner_at h (⊑_trans κ ρ Y.lives bounds.0 lives) n m τ given_sizes.0 given_sizes.1 fits_n fits_m) $
+    (Takes-goes Z 𝓛 𝓜.mem 𝓡.returns κ q inner_at h (⊑_trans κ ρ Y.lives bounds.0 lives) n m τ given_sizes.0 given_sizes.1 fits_n fits_m) $
     calls_at ! calls (Takes Z 𝓛 𝓜.mem 𝓡.returns) (met.allocate drops) z (and_then ! (get ! refl) (and_then ! (get ! refl) (and_then ! (get ! refl) (no_more !)))) (λ v.
     use1 𝓛 (later (raw (Answered Z 𝓛 𝓜.mem 𝓡.returns h τ v) ⊛ ‵ (flft κ q))) (Takes-gives Z 𝓛 𝓜.mem 𝓡.returns κ q inner_at h n m τ v) $ await ! tt $ split ! $
     -- [what was answered; the token of κ; the other token]

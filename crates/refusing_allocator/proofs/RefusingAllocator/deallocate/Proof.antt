@@ -1,12 +1,10 @@
 -- It gives the block back to the inner allocator, and asks no gate. Assumes `Logic`.
-use Rattle.refusing_allocator.proofs.Steps.{
-  ◌≡◌, List, [], ◌∷◌, refl, w64, proved, Al, seen, token, Gives, at_gives, Gives-goes, Gives-Gives, fst∗, never, ftrue, fsep, flft, sem, Fn, inst_fn,
-  Val, vunit, size, align, capped, ◌⊑◌, ⊑_trans, fact, tables, ‵, raw, prop, ◌⊛◌, later, given, ◌$◌, ◌∵◌, !, qed, done, move, keep, group, use1,
-  split, split3, join, fsplit, fjoin, feq_i, learn, await, regoal, suffices, enter, of_opd, unit_lit, addr, stop, fld, no_more, and_then, returns,
-  alloc_all, pass_all, free_all, look_at, get, through, sets, lands_as, usize, RawPtr, yes, uint_vals, uint_Tells, owns, flat, Ptr, block_ptr,
-  null_ptr, room_for, in_a_block, rawptr_vals, rawptr_Tells, shr_vals, plain, types_at, heard, nothing, calls_at, Ended, framed, Stays, stay_dropped,
-  walk_of, ends_at, Goes-dropped, WpFn, hidden_shr,
-}
+use Rattle.refusing_allocator.proofs.Steps.{◌≡◌, List, [], ◌∷◌, refl, w64, proved, Al, seen, token, Gives, at_gives, Gives-goes, Gives-Gives, fst∗, never, ftrue, fsep, flft}
+use Rattle.refusing_allocator.proofs.Steps.{sem, Fn, inst_fn, Val, vunit, size, align, capped, ◌⊑◌, ⊑_trans, fact, tables, ‵, raw, prop, ◌⊛◌, later, given, ◌$◌}
+use Rattle.refusing_allocator.proofs.Steps.{◌∵◌, !, qed, done, move, keep, group, use1, split, split3, join, fsplit, fjoin, feq_i, learn, await, regoal, suffices, enter, of_opd}
+use Rattle.refusing_allocator.proofs.Steps.{unit_lit, addr, stop, fld, no_more, and_then, returns, alloc_all, pass_all, free_all, look_at, get, through, sets, lands_as, usize, RawPtr, yes}
+use Rattle.refusing_allocator.proofs.Steps.{uint_vals, uint_Tells, owns, flat, Ptr, block_ptr, null_ptr, room_for, in_a_block, rawptr_vals, rawptr_Tells, shr_vals, plain, types_at, heard}
+use Rattle.refusing_allocator.proofs.Steps.{nothing, calls_at, Ended, framed, Stays, stay_dropped, walk_of, ends_at, Goes-dropped, WpFn, hidden_shr}
 use Rattle.refusing_allocator.proofs.Parts.{over, receiver, inner_of, gate_of, parts}
 use Rattle.refusing_allocator.specs.contracts.Gate as gate
 use Rattle.refusing_allocator.specs.contracts.RefusingAllocator.deallocate as F
@@ -44,7 +42,7 @@ deallocate_spec 𝓤 𝓛 𝓜 𝓡 wired Y L g d drops met _ =
     let Rest = ‵ (flft ρ qs.1.0) ⊛ ‵ ftrue in
     let Block = λ (p : Ptr). fsep (room_for τ p) (token Z h τ p) in
     qed 𝓛 (((‵ (flft κ q) ⊛ Rest) ⊛ ‵ (owns (types_at (method Z).signature.params κs) a (y a.1.0).0.4)) ∷
-        (raw (fact 𝓤 (ρ ⊑ Y.lives)) ⊛ raw (fact 𝓤 Given) ⊛ ‵ (Block a.1.0)) ∷ []) ∵
+    (raw (fact 𝓤 (ρ ⊑ Y.lives)) ⊛ raw (fact 𝓤 Given) ⊛ ‵ (Block a.1.0)) ∷ []) ∵
     move ! (1 ∷ []) $ split3 ! $ heard ! (ρ ⊑ Y.lives) (λ lives. heard ! Given (λ given_sizes. move ! (1 ∷ []) $
     split ! $ split ! $ move ! (2 ∷ []) $ fsplit ! $ fsplit ! $ move ! (1 ∷ []) $
     use1 𝓛 (‵ (seen Z κ inner_at h) ⊛ ‵ (hidden_shr gate.the_row κ r.now.gate gate_at.0 gate_at.1)) (parts Z 𝓛 κ r.ref_ptr r.now) $ split ! $ keep ! (6 ∷ 0 ∷ 4 ∷ 5 ∷ []) $
@@ -55,9 +53,9 @@ deallocate_spec 𝓤 𝓛 𝓜 𝓡 wired Y L g d drops met _ =
     enter ! _ _ _ _ _ $ alloc_all ! (λ l. pass_all ! refl ((tt, tt), ((tt, tt), ((tt, record { fits = fits_n }), ((tt, record { fits = fits_m }), tt)))) $
     sets ! (addr ! (through ! refl (fld ! refl (stop !)))) refl (tt, tt) $
     fsplit ! $ group ! 4 $ use1 𝓛 (raw ((Gives Z 𝓛 𝓜.mem 𝓡.returns).pre z))
-        (Gives-goes Z 𝓛 𝓜.mem 𝓡.returns κ q inner_at h (⊑_trans κ ρ Y.lives bounds.0 lives) b o n m τ given_sizes.0 given_sizes.1 fits_n fits_m) $
+    (Gives-goes Z 𝓛 𝓜.mem 𝓡.returns κ q inner_at h (⊑_trans κ ρ Y.lives bounds.0 lives) b o n m τ given_sizes.0 given_sizes.1 fits_n fits_m) $
     calls_at ! (framed 𝓤 𝓛.H 𝓜 𝓣) (Gives Z 𝓛 𝓜.mem 𝓡.returns) (met.deallocate drops) z
-        (and_then ! (get ! refl) (and_then ! (get ! refl) (and_then ! (get ! refl) (and_then ! (get ! refl) (no_more !))))) (λ v.
+    (and_then ! (get ! refl) (and_then ! (get ! refl) (and_then ! (get ! refl) (and_then ! (get ! refl) (no_more !))))) (λ v.
     use1 𝓛 (later (given (v ≡ vunit) (‵ (flft κ q)))) (Gives-Gives Z 𝓛 𝓜.mem 𝓡.returns κ q inner_at h b o n m τ v) $ await ! tt $ learn ! (λ is_unit.
     -- [the token of κ; the other token]
     lands_as ! is_unit refl (tt, tt) $ sets ! (of_opd ! (unit_lit !)) refl (tt, tt) $ returns ! (look_at ! 0 refl) $ free_all ! refl $

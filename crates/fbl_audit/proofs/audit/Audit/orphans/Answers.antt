@@ -25,7 +25,7 @@ loop-place-preserved c =
           rw (w.reached-is, w.union-reached.ensures, w.at.ensures) (AreReached-more dump p e c.loop-place.reached _ at lost (λ q. found.members p q (rw (← events) within)) c.loop-place.invariant)
       | in-Some+else-is_lost w ↦
           rw w.reached-is (AreReached-same dump p e c.loop-place.reached at
-              (is_kept dump e w.in-Some.determinant (sym w.in-Some.ensures) (sym w.is_lost.ensures ∙ w.if-is_lost.false)) c.loop-place.invariant)
+          (is_kept dump e w.in-Some.determinant (sym w.in-Some.ensures) (sym w.is_lost.ensures ∙ w.if-is_lost.false)) c.loop-place.invariant)
       | in_default w ↦ rw w.reached-is (AreReached-same dump p e c.loop-place.reached at (send_is_kept dump e (sym w.in_default.ensures)) c.loop-place.invariant)
     ]
 

@@ -17,9 +17,9 @@ loop-place-preserved c =
     let rules = c.events-events.ensures.rules in
     let obeys : WellFormed c.args.dump.now.members t = rw c.events-events.ensures.events rules.events in
     let within = member_within c.args.dump.now.members t (c.loop-place.place - 1) c.index-events-place.result obeys rules.members.1
-        (omega (arith, c.loop-place.invariant.count, c.loop-place-test.true)) c.index-events-place.is in
+    (omega (arith, c.loop-place.invariant.count, c.loop-place-test.true)) c.index-events-place.is in
     rw c.in_ok-push.ensures.items (Seen-more t c.loop-place.place _ _ _ _ c.loop-place.from_the_end.items c.index-events-place.result
-        c.dependents-members.result c.loop-place.invariant c.loop-place-test.true c.index-events-place.is within c.dependents-members.ensures c.in_ok-add.ensures.members c.in_ok-add.ensures.messages)
+    c.dependents-members.result c.loop-place.invariant c.loop-place-test.true c.index-events-place.is within c.dependents-members.ensures c.in_ok-add.ensures.members c.in_ok-add.ensures.messages)
 
 pub returns : goal.returns
 returns c = rw (← c.events-events.ensures.events)

@@ -13,7 +13,9 @@ returns-clause-recorded g c d there to below =
     let n : c.self.inside.config.members ≡ c.args.self.now.config.members = ap (λ (r : GroupRecord). r.config.members) c.self.view_is in
     let place : c.from.result ≡ c.args.member = c.from.ensures ∙ c.number.ensures.value in
     let within : c.from.result < length c.self.inside.checkpoints.items = omega (arith, c.requires, n, place, c.self.invariant.checkpoints) in
-    let read : c.index.result.now ≡ slice_index_or c.self.inside.checkpoints.items c.from.result blank = read_at c.self.inside.checkpoints.items c.from.result c.index.result.now c.index.result.now within c.index.ensures in
+    let read : c.index.result.now ≡ slice_index_or c.self.inside.checkpoints.items c.from.result blank =
+    read_at c.self.inside.checkpoints.items c.from.result c.index.result.now c.index.result.now within c.index.ensures in
     let value : c.received.result ≡ (checkpoint c.args.self.now c.args.member).received =
-    c.received.ensures.value ∙ ap (λ (m : MemberRecord). m.received) read ∙ ap (λ k. (slice_index_or c.self.inside.checkpoints.items k blank).received) place ∙ ap (λ (r : GroupRecord). (checkpoint r c.args.member).received) c.self.view_is in
+    c.received.ensures.value ∙ ap (λ (m : MemberRecord). m.received) read
+    ∙ ap (λ k. (slice_index_or c.self.inside.checkpoints.items k blank).received) place ∙ ap (λ (r : GroupRecord). (checkpoint r c.args.member).received) c.self.view_is in
     (checkpoint_is_recorded g.B.Behaviour.next c.args.self.now c.args.member sound c.requires).1 d there to (omega (arith, below, value))

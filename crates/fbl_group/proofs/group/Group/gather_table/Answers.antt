@@ -19,6 +19,7 @@ pub returns-clause-table : goal.returns-clause-table
 returns-clause-table g c =
     let items : c.deref-record-items.result.now ≡ c.args.self.now.members = c.deref-record-items.ensures.value ∙ ap (λ (r : GroupRecord). r.members) c.self.view_is in
     let sound = subst (IsSound g.B.Behaviour.next) c.self.view_is c.self.invariant in
-    gathered-end c.args.self.now c.loop-record.record-index c.args.self.now.config.members c.loop-record.gathered c.gather_saved.new.gathered c.mark_all.new.self (omega (arith, c.loop-record-test.false, ap length items)) sound.checkpoints
+    gathered-end c.args.self.now c.loop-record.record-index c.args.self.now.config.members c.loop-record.gathered c.gather_saved.new.gathered
+    c.mark_all.new.self (omega (arith, c.loop-record-test.false, ap length items)) sound.checkpoints
     (c.loop-record.invariant ∙ ap (λ (ms : List MemberRecord). gathered_all [] (map (λ (m : MemberRecord). m.table) (take c.loop-record.record-index ms))) items)
     c.in_ok-gather_saved.ensures (c.mark_all.ensures ∙ ap (λ (r : GroupRecord). marked r.down c.gather_saved.new.gathered) c.self.view_is)

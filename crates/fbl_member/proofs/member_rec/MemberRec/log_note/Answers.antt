@@ -16,7 +16,8 @@ returns-then-place-log g c =
     let number : 0 + (c.args.ssn - 1) + 1 ≡ c.args.ssn = omega (arith, c.if-ssn-eq0.false) in
     let below : c.args.ssn - 1 < length log = rw (ap length c.as_slice-log.ensures.value) at c.if-place-log.true in
     let at : slice_get log (c.args.ssn - 1) ≡ Some (get_or log (c.args.ssn - 1) c.index-log-place.result) = slice_get-get_or log (c.args.ssn - 1) c.index-log-place.result below in
-    rw (← c.self.view_is, c.as_slice-log.ensures.value) (ap (option_map {T = ℕ × Note} {U = Note} (λ s. s.1)) (sym at) ∙ sym (noted-at 0 log (c.args.ssn - 1)) ∙ ap (logged_note (numbered 0 log)) number)
+    rw (← c.self.view_is, c.as_slice-log.ensures.value)
+    (ap (option_map {T = ℕ × Note} {U = Note} (λ s. s.1)) (sym at) ∙ sym (noted-at 0 log (c.args.ssn - 1)) ∙ ap (logged_note (numbered 0 log)) number)
 
 pub returns-else-place-log : goal.returns-else-place-log
 returns-else-place-log g c =

@@ -28,7 +28,8 @@ loop-place-preserved g c =
     let test : c.eq.result ≡ (s.0 == c.args.to) = c.eq.ensures in
     elim c.if-eq.branch [
       | then-eq+then-ssn-number+in_ok-push w ↦
-          rw (w.beyond-is, w.in_ok-push.ensures.items, c.loop-place.invariant) (sym (beyond-step log c.args.to c.args.ssn i s true at below (chosen (s.0 == c.args.to) c.args.ssn (i + 1) (sym test ∙ w.if-eq.true) w.if-ssn-number.true)))
+          rw (w.beyond-is, w.in_ok-push.ensures.items, c.loop-place.invariant)
+          (sym (beyond-step log c.args.to c.args.ssn i s true at below (chosen (s.0 == c.args.to) c.args.ssn (i + 1) (sym test ∙ w.if-eq.true) w.if-ssn-number.true)))
       | else-eq w ↦
           let skipped : (s.0 == c.args.to && nat_lt c.args.ssn (i + 1)) ≡ false = elim w.else-eq.branch [
             | else-eq-via-then-eq+else-ssn-number w' ↦ late (s.0 == c.args.to) c.args.ssn (i + 1) w'.if-ssn-number.false
