@@ -5,8 +5,11 @@ use Rattle.std.specs.Prelude.{slice_index_or}
 use Rattle.fbl_law.specs.Groups.{GroupRecord}
 use Rattle.fbl_law.specs.Replaying.{working, sent_again}
 use Rattle.fbl_member.specs.Members.{Message}
-use Rattle.fbl_group.proofs.Queues.{made-mapped}
+use Rattle.fbl_group.proofs.Queues.{made-mapped, made-none}
 use Rattle.fbl_group.proofs.group.Group.resend.Goals as goal
+
+pub loop-number-init : goal.loop-number-init
+loop-number-init g c = rw c.new-rows.ensures.items (made-none _ _)
 
 pub loop-number-preserved : goal.loop-number-preserved
 loop-number-preserved g c =
