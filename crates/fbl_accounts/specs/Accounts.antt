@@ -3,7 +3,7 @@ use Rattle.std.specs.Prelude.{◌≢◌, ℕ, ◌+◌, ◌-◌, ◌/◌, ◌%◌
 use Rattle.std.proofs.Common.{arith}
 use Rattle.std.proofs.lemmas.Bool.Decides.{nat_tests}
 use Rattle.fbl_base.specs.Configs.{Settings, MembersAllowed}
-use Rattle.fbl_base.specs.Steps.{SendsAllowed, onward, another_member}
+use Rattle.fbl_base.specs.Steps.{SendsAllowed, onward}
 use Rattle.fbl_law.specs.StepLaws.{AnyState, AnyNote, StepConserves, weight_of_starts}
 use Rattle.fbl_base.specs.declared.trace.Note.{Note}
 use Rattle.fbl_base.specs.declared.outcome.Outcome.{Outcome}
@@ -17,8 +17,12 @@ account_step me n state note =
     if nat_lt balance (2 ^ 64) then onward (balance - amount) ((me + 1) % n) amount note.hops
     else onward state ((me + 1) % n) note.value (max note.hops 1)
 
+-- the next account is another one
+elsewhere : (me n : ℕ) → 2 ≤ n → me < n → (me + 1) % n ≢ me
+elsewhere me n least member = grind (arith, nat_tests)
+
 pub account_sends_allowed : (me n state : ℕ) (note : Note) → 2 ≤ n → me < n → SendsAllowed me n (account_step me n state note)
-account_sends_allowed me n state note least member = (grind (arith, another_member me n 1), grind arith)
+account_sends_allowed me n state note least member = (grind (arith, elsewhere me n), grind arith)
 
 -- what the openings brought
 abbrev pub opened : Settings → ℕ

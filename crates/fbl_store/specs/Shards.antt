@@ -3,7 +3,7 @@ use Rattle.std.specs.Prelude.{◌≡◌, ◌≢◌, ℕ, ◌+◌, ◌%◌, ◌<�
 use Rattle.std.proofs.Common.{arith}
 use Rattle.std.proofs.lemmas.Bool.Decides.{nat_tests}
 use Rattle.fbl_base.specs.Configs.{Settings}
-use Rattle.fbl_base.specs.Steps.{SendsAllowed, onward, another_member}
+use Rattle.fbl_base.specs.Steps.{SendsAllowed, onward}
 use Rattle.fbl_base.specs.declared.trace.Note.{Note}
 use Rattle.fbl_base.specs.declared.outcome.Outcome.{Outcome}
 use Rattle.fbl_law.specs.StepLaws.{weight_of_starts}
@@ -36,8 +36,12 @@ HoldsItsOwn c me state = (key : ℕ) → key < 8 → owner c.members key ≢ me 
 abbrev pub amount_brought : Settings → ℕ
 amount_brought c = weight_of_starts brought c
 
+-- the next member is another one
+elsewhere : (me n : ℕ) → 2 ≤ n → me < n → (me + 1) % n ≢ me
+elsewhere me n least member = grind (arith, nat_tests)
+
 pub shard_sends_allowed : (me n state : ℕ) (note : Note) → 2 ≤ n → me < n → SendsAllowed me n (shard_step me n state note)
 shard_sends_allowed me n state note least member = at (command_of note.value) where
   at : (read : Option Command) → SendsAllowed me n (answer me n state note read)
-  at (Some command) = (grind (arith, nat_tests, another_member me n 1), grind (arith, nat_tests))
+  at (Some command) = (grind (arith, nat_tests, elsewhere me n), grind (arith, nat_tests))
   at None = (grind arith, grind arith)
