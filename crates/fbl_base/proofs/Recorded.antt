@@ -54,9 +54,9 @@ both_true false b h = cc
 pub Decides-same_determinant : (a b : Determinant) → Decides (same_determinant a b) (a ≡ b)
 Decides-same_determinant a b =
     let sent = Decides-and (a.from == b.from) _ (Decides-eqb a.from b.from)
-    (Decides-and (a.ssn == b.ssn) _ (Decides-eqb a.ssn b.ssn) (Decides-and (a.to == b.to) _ (Decides-eqb a.to b.to) (Decides-eqb a.rsn b.rsn))) in (
-      λ h. (let e = sent.0 h in λ i. record { from = e.0 i; ssn = e.1.0 i; to = e.1.1.0 i; rsn = e.1.1.1 i }),
-      λ e. sent.1 (ap (λ (d : Determinant). d.from) e, (ap (λ (d : Determinant). d.ssn) e, (ap (λ (d : Determinant). d.to) e, ap (λ (d : Determinant). d.rsn) e))),
+    (Decides-and (a.to == b.to) _ (Decides-eqb a.to b.to) (Decides-and (a.ssn == b.ssn) _ (Decides-eqb a.ssn b.ssn) (Decides-eqb a.rsn b.rsn))) in (
+      λ h. (let e = sent.0 h in λ i. record { from = e.0 i; to = e.1.0 i; ssn = e.1.1.0 i; rsn = e.1.1.1 i }),
+      λ e. sent.1 (ap (λ (d : Determinant). d.from) e, (ap (λ (d : Determinant). d.to) e, (ap (λ (d : Determinant). d.ssn) e, ap (λ (d : Determinant). d.rsn) e))),
     )
 
 pub Decides-is_held_outside : (dump : Parts) (d : Determinant) → Decides (is_held_outside dump d) (IsHeldOutside dump d)

@@ -43,7 +43,7 @@ receipt_of d = Receipt d.to d.rsn d.from d.ssn
 
 -- whether two determinants are equal
 abbrev pub same_determinant : Determinant → Determinant → Bool
-same_determinant a b = (a.from == b.from) && ((a.ssn == b.ssn) && ((a.to == b.to) && (a.rsn == b.rsn)))
+same_determinant a b = (a.from == b.from) && ((a.to == b.to) && ((a.ssn == b.ssn) && (a.rsn == b.rsn)))
 
 -- the send whose message the event takes, if it is a receipt
 abbrev pub send_of : Mark → Option Mark

@@ -1,13 +1,15 @@
 -- The open places of a table.
 use Rattle.std.proofs.Common.{◌≡◌, ◌⊎◌, inl, inr, get_or, ℕ, zero, suc, ◌+◌, ◌<◌, ◌≤◌, Bool, true, false, cond, ◌||◌, if◌then◌else◌, nat_le, List, []}
-use Rattle.std.proofs.Common.{◌∷◌, ◌++◌, Option, Some, None, refl, sym, ap, ◌∙◌, arith, take, length, slice_get}
+use Rattle.std.proofs.Common.{◌∷◌, ◌++◌, map, Option, Some, None, unwrap_or, refl, sym, ap, ◌∙◌, arith, take, length, slice_get}
 use Rattle.std.proofs.lemmas.Bool.{false≢true}
 use Rattle.std.proofs.lemmas.Bool.Decides.{nat_tests}
 use Rattle.std.proofs.lemmas.List.{take_all, length-map, length_push, append-nil}
 use Rattle.std.proofs.lemmas.Option.{slice_get_cases}
-use Rattle.std.proofs.lemmas.List.Elements.{All-filter, All-head, All-nil, All-push, All-tail, All-weaker, filter-append, filter_map-append}
+use Rattle.std.proofs.lemmas.List.Elements.{All-filter, All-head, All-nil, All-push, All-tail, All-weaker, filter-append, filter_map-append, filter_passes}
 use Rattle.std.specs.List.{All, filter, filter_map}
 use Rattle.std.specs.Option.{option_map_or}
+use Rattle.std.specs.Map.{values_of}
+use Rattle.indexmap.specs.Layout.{set_value_at}
 use Rattle.std.specs.Ordering.{nat_cmp}
 use Rattle.std.specs.Cmp.{nat_cmp_total}
 use Rattle.std.specs.FinSet as set
@@ -15,9 +17,9 @@ use Rattle.fbl_base.specs.Events.{same_determinant}
 use Rattle.fbl_base.proofs.Gets.{At-new}
 use Rattle.fbl_base.proofs.Sizes.{len-within}
 use Rattle.fbl_table.specs.declared.entry.Entry.{Entry}
-use Rattle.fbl_table.specs.Tables.{is_open, piggybacked, marked, added, is_held}
-use Rattle.fbl_table.specs.Index.{places, open_at, IsIndex}
-use Rattle.fbl_table.proofs.Adding.{take-next, length-added_held}
+use Rattle.fbl_table.specs.Tables.{is_open, piggybacked, marked, added, is_held, entry_of}
+use Rattle.fbl_table.specs.Index.{places, open_at, IsIndex, AreOpen}
+use Rattle.fbl_table.proofs.Adding.{Pairs, take-next, length-added_held}
 
 -- a filter that lets through less, after one that lets through more
 filter-twice : {X : Type 0} (p q : X → Bool) → ((x : X) → q x ≡ true → p x ≡ true) → (xs : List X) → filter q (filter p xs) ≡ filter q xs
@@ -89,12 +91,29 @@ index-push_closed limit table e open_places closed index =
       covers = sym same ∙ covers-push limit table e open_places index;
     }
 
+-- a place that is open stays so when an entry comes last
+open_at-more : (limit : ℕ) (table : List Entry) (e : Entry) (i : ℕ) → open_at limit table i ≡ true → open_at limit (table ++ e ∷ []) i ≡ true
+open_at-more limit [] e i is = absurd (false≢true is)
+open_at-more limit (x ∷ table) e zero is = is
+open_at-more limit (x ∷ table) e (suc i) is = open_at-more limit table e i is
+
+pub open-more : (limit : ℕ) (table : List Entry) (e : Entry) (ps : List ℕ) → AreOpen limit table ps → AreOpen limit (table ++ e ∷ []) ps
+open-more limit table e ps = All-weaker _ _ (open_at-more limit table e) ps
+
+pub open-push : (limit : ℕ) (table : List Entry) (e : Entry) (ps : List ℕ) → is_open limit e ≡ true → AreOpen limit table ps
+    → AreOpen limit (table ++ e ∷ []) (ps ++ length table ∷ [])
+open-push limit table e ps is all =
+    All-push (λ x. open_at limit (table ++ e ∷ []) x ≡ true) ps (length table) (open-more limit table e ps all) (ap (λ o. option_map_or (is_open limit) o false) (At-new table e) ∙ is)
+
 -- places of entries that are stable now are let go
 pub index-pruned : (limit : ℕ) (table : List Entry) (open_places : List ℕ) → IsIndex limit table open_places → IsIndex limit table (filter (open_at limit table) open_places)
 index-pruned limit table open_places index = record {
   within = All-filter (open_at limit table) (IsBelow (length table)) open_places index.within;
   covers = filter-twice (open_at limit table) (open_at limit table) (λ x is. is) open_places ∙ index.covers;
 }
+
+pub open-pruned : (limit : ℕ) (table : List Entry) (ps : List ℕ) → AreOpen limit table (filter (open_at limit table) ps)
+open-pruned limit table ps = filter_passes (open_at limit table) ps
 
 pub index-none : (limit : ℕ) → IsIndex limit [] []
 unfolding places
@@ -170,17 +189,36 @@ picked_places table (suc i) below =
     last (inl (e, within, here, same)) = rw here (sym (take-next table i e here) ∙ ap (λ k. take k table) (let next : i + 1 ≡ suc i = omega arith in next))
     last (inr past) = absurd (omega (arith, below, past.0))
 
-smaller : (f limit : ℕ) (table : List Entry) → f ≤ limit → (place : ℕ) → open_at f table place ≡ true → open_at limit table place ≡ true
-smaller f limit table le place is = at (slice_get table place) is where
-  at : (o : Option Entry) → option_map_or (is_open f) o false ≡ true → option_map_or (is_open limit) o false ≡ true
-  at None h = h
-  at (Some e) h = (let k : nat_le (set.len e.known) limit ≡ true = grind (arith, nat_tests) in k)
+-- a test that each element passes keeps them all
+filter-passed : {X : Type 0} (p : X → Bool) (xs : List X) → All (λ x. p x ≡ true) xs → filter p xs ≡ xs
+filter-passed p [] all = refl
+filter-passed p (x ∷ xs) all =
+    let P : _ → Type 0 = λ y. p y ≡ true in
+    rw (All-head P x xs all, filter-passed p xs (All-tail P x xs all)) refl
 
--- what the open entries pass on is what the table passes on
-pub index-piggybacked : (f limit : ℕ) (table : List Entry) (open_places : List ℕ) → f ≤ limit → IsIndex limit table open_places
-    → piggybacked f (filter_map (slice_get table) open_places) ≡ piggybacked f table
-index-piggybacked f limit table open_places le index =
+-- the entries at the open places among those of an index are what the table passes on
+pub index-piggybacked : (limit : ℕ) (table : List Entry) (ps : List ℕ) → IsIndex limit table ps
+    → filter_map (slice_get table) (filter (open_at limit table) ps) ≡ piggybacked limit table
+index-piggybacked limit table ps index =
     let n = length table in
-    picked f table open_places ∙ ap (filter_map (slice_get table))
-    (filter-weaker (open_at limit table) (open_at f table) (smaller f limit table le) open_places (places n) index.covers) ∙ sym (picked f table (places n))
-    ∙ ap (piggybacked f) (picked_places table n (omega arith) ∙ take_all n table (omega arith))
+    ap (filter_map (slice_get table)) index.covers ∙ sym (picked limit table (places n))
+    ∙ ap (piggybacked limit) (picked_places table n (omega arith) ∙ take_all n table (omega arith))
+
+-- where all of them are open, the entries at the places are
+pub open-piggybacked : (limit : ℕ) (table : List Entry) (ps : List ℕ) → IsIndex limit table ps → AreOpen limit table ps
+    → filter_map (slice_get table) ps ≡ piggybacked limit table
+open-piggybacked limit table ps index all =
+    ap (filter_map (slice_get table)) (sym (filter-passed (open_at limit table) ps all)) ∙ index-piggybacked limit table ps index
+
+-- the places of open entries stay so where at one more members are known that close nothing
+pub open-set : (limit : ℕ) (es : Pairs) (i : ℕ) (v w : set.FinSet nat_cmp) → slice_get (values_of es) i ≡ Some v
+    → (nat_le (set.len v) limit ≡ true → nat_le (set.len w) limit ≡ true)
+    → (ps : List ℕ) → AreOpen limit (map entry_of es) ps → AreOpen limit (map entry_of (set_value_at es i w)) ps
+open-set limit es i v w is stays ps = All-weaker _ _ (at es i is) ps where
+  at : (es : Pairs) (i : ℕ) → slice_get (values_of es) i ≡ Some v → (place : ℕ)
+      → open_at limit (map entry_of es) place ≡ true → open_at limit (map entry_of (set_value_at es i w)) place ≡ true
+  at [] i is place opens = opens
+  at (e ∷ es) zero is zero opens = stays (rw (sym (ap (λ o. unwrap_or o v) is)) opens)
+  at (e ∷ es) zero is (suc place) opens = opens
+  at (e ∷ es) (suc i) is zero opens = opens
+  at (e ∷ es) (suc i) is (suc place) opens = at es i is place opens

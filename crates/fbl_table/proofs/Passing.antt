@@ -3,8 +3,8 @@ use Rattle.std.proofs.Common.{◌≡◌, ℕ, ◌+◌, ◌≤◌, Bool, true, fa
 use Rattle.std.proofs.Common.{arith, take, drop, length, slice_get}
 use Rattle.std.proofs.lemmas.List.{length-map, length-append, take-append-drop}
 use Rattle.std.proofs.Common.{append_assoc}
-use Rattle.std.proofs.lemmas.List.Elements.{filter-append, filter_map-append}
-use Rattle.std.specs.List.{filter_map, cons_option}
+use Rattle.std.proofs.lemmas.List.Elements.{filter-append}
+use Rattle.std.specs.List.{filter, filter_map, cons_option}
 use Rattle.std.proofs.lemmas.List.Sums.{length-filter, sum_by-cons}
 use Rattle.std.specs.FinSet as set
 use Rattle.fbl_base.specs.declared.trace.Determinant.{Determinant}
@@ -12,7 +12,7 @@ use Rattle.fbl_base.specs.Events.{same_determinant}
 use Rattle.fbl_base.proofs.Sifted.{length-left, length-filter_map}
 use Rattle.fbl_table.specs.declared.entry.Entry.{Entry}
 use Rattle.fbl_table.specs.Tables.{is_open, piggybacked, added, gathered, learned, noted, held_by}
-use Rattle.fbl_table.specs.Index.{IsIndex}
+use Rattle.fbl_table.specs.Index.{open_at, IsIndex}
 use Rattle.fbl_table.proofs.Adding.{at_most_one, take-next}
 use Rattle.fbl_table.proofs.Indexing.{index-piggybacked}
 
@@ -46,20 +46,14 @@ open-receipt f me table carried d =
     omega (arith, split, length-left (is_open f) own, more, length-filter (is_open f) learns, length-filter (is_open f) table, length-map carried (held_by me))
 
 -- no more are passed on than there are open places
-pub open-within : (f limit : ℕ) (table : List Entry) (open_places : List ℕ) → f ≤ limit → IsIndex limit table open_places → length (piggybacked f table) ≤ length open_places
-open-within f limit table open_places le index =
-    let picked = filter_map (slice_get table) open_places in
-    let same : length (piggybacked f picked) ≡ length (piggybacked f table) = ap length (index-piggybacked f limit table open_places le index) in
-    omega (arith, same, length-left (is_open f) picked, length-filter_map (slice_get table) open_places)
+pub open-within : (limit : ℕ) (table : List Entry) (ps : List ℕ) → IsIndex limit table ps → length (piggybacked limit table) ≤ length ps
+open-within limit table ps index =
+    let picked = filter (open_at limit table) ps in
+    omega (arith, sym (ap length (index-piggybacked limit table ps index)), length-filter_map (slice_get table) picked, length-left (open_at limit table) ps)
 
 -- what is made of a list is made of its parts in turn
 abbrev IsByParts : {X Y : Type 0} → (List X → List Y) → Type 0
 IsByParts {X} make = (front back : List X) → make (front ++ back) ≡ make front ++ make back
-
--- what is passed on of a table's entries at some places
-pub picked-parts : (f : ℕ) (table : List Entry) → IsByParts (λ places. piggybacked f (filter_map (slice_get table) places))
-picked-parts f table front back =
-    ap (piggybacked f) (filter_map-append (slice_get table) front back) ∙ filter-append (is_open f) (filter_map (slice_get table) front) (filter_map (slice_get table) back)
 
 -- what is made of one more element, put at the end of what was made so far
 pub pushed : {X : Type 0} (make : List X → List Entry) → IsByParts make → (xs : List X) (i : ℕ) (x : X) → slice_get xs i ≡ Some x
@@ -80,5 +74,5 @@ fits make parts xs i x at old now so_far room enough =
     omega (arith, whole, enough, ap length more ∙ length-append old (make front), length-append now (make (x ∷ [])))
 
 -- the entry at one place
-pub picked-one : (f : ℕ) (table : List Entry) (p : ℕ) (e : Entry) → slice_get table p ≡ Some e → piggybacked f (e ∷ []) ≡ piggybacked f (filter_map (slice_get table) (p ∷ []))
-picked-one f table p e at = sym (ap (λ o. piggybacked f (cons_option o [])) at)
+pub picked-one : (table : List Entry) (p : ℕ) (e : Entry) → slice_get table p ≡ Some e → e ∷ [] ≡ filter_map (slice_get table) (p ∷ [])
+picked-one table p e at = sym (ap (λ o. cons_option o []) at)

@@ -1,5 +1,5 @@
 -- The places of a table that are looked at when a message is sent.
-use Rattle.std.specs.Prelude.{◌≡◌, ℕ, ◌<◌, Bool, false, List, [], ◌∷◌, ◌++◌, length, slice_get}
+use Rattle.std.specs.Prelude.{◌≡◌, ℕ, ◌<◌, Bool, true, false, List, [], ◌∷◌, ◌++◌, length, slice_get}
 use Rattle.std.proofs.Common.{zero, suc}
 use Rattle.std.specs.List.{All, filter}
 use Rattle.std.specs.Option.{option_map_or}
@@ -19,3 +19,7 @@ open_at f table place = option_map_or (is_open f) (slice_get table place) false
 pub record IsIndex (limit : ℕ) (table : List Entry) (open_places : List ℕ) : Type 0 where
   pub within : All (λ place. place < length table) open_places
   pub covers : filter (open_at limit table) open_places ≡ filter (open_at limit table) (places (length table))
+
+-- each of the places is that of an open entry
+abbrev pub AreOpen : ℕ → List Entry → List ℕ → Type 0
+AreOpen f table = All (λ place. open_at f table place ≡ true)

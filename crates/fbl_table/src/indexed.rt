@@ -1,6 +1,7 @@
 //! A table's entries, with the places of those that few members are known to hold.
 
-ghost use Rattle.std.specs.Prelude.{◌≡◌, ℕ, ◌+◌, ◌^◌, ◌<◌, ◌≤◌, ◌++◌, [], ◌∷◌, take, length, count_by, OnOk, OnErr, IfOk, IfSome, IfNone, Some, true, false, slice_get, map, vec_len, vec_capacity};
+ghost use Rattle.std.specs.Prelude.{◌≡◌, ℕ, ◌+◌, ◌^◌, ◌<◌, ◌≤◌, ◌++◌, [], ◌∷◌, take, length, count_by, OnOk, OnErr, IfOk, IfSome, IfNone, Some, true, false, nat_le, slice_get, map, vec_len, vec_capacity};
+ghost use Rattle.std.specs.FinSet as set;
 ghost use Rattle.std.specs.List.{IsDistinct};
 ghost use Rattle.fbl_base.specs.Events.{same_determinant};
 ghost use Rattle.fbl_table.specs.Index.{open_at};
@@ -25,18 +26,10 @@ type Entries<A> = IndexMap<Determinant, MemberSet, BuildHasherDefault<FoldHasher
 pub(crate) struct IndexedEntries<A: Allocator> {
     entries: Entries<A>,
     open_places: Vec<usize, A>,
+    /// Whether an entry may have closed since the open places were last gone over. While none has, each of them is open.
+    stale: bool,
     likely_places: LikelyPlaces<A>,
     limit: u8,
-}
-
-/// What became of an entry that was added.
-#[derive(Clone, Copy)]
-struct Added {
-    /// The place of its determinant.
-    place: usize,
-    /// Whether more than the limit's members are known to hold it now, where at most so many were before. It changes no
-    /// answer: without such an entry the open places need not be gone over.
-    closes: bool,
 }
 
 impl<A: Allocator + Copy> IndexedEntries<A> {
@@ -48,6 +41,7 @@ impl<A: Allocator + Copy> IndexedEntries<A> {
         IndexedEntries {
             entries: IndexMap::new(alloc),
             open_places: Vec::new(alloc),
+            stale: false,
             likely_places: LikelyPlaces::none(alloc),
             limit,
         }
@@ -65,6 +59,7 @@ impl<A: Allocator + Copy> IndexedEntries<A> {
         Ok(IndexedEntries {
             entries: self.entries.clone()?,
             open_places,
+            stale: self.stale,
             likely_places: self.likely_places.copy()?,
             limit: self.limit,
         })
@@ -175,16 +170,13 @@ impl<A: Allocator + Copy> IndexedEntries<A> {
         ensures entries { listed self.new ≡ learned me (listed self.old) carried.now }
         ensures kept { KeepsIndex self.old self.new }
     {
-        let mut closed = false;
         let mut likely = 0;
         for entry in carried {
             let known = entry.known.with(me);
             let det = entry.det;
-            let added = self.add(Entry { det, known }, likely);
-            likely = added.place.saturating_add(1);
-            closed = closed || added.closes;
+            likely = self.add(Entry { det, known }, likely).saturating_add(1);
         }
-        self.prune(closed);
+        self.prune();
     }
 
     /// Adds the member's own new determinant.
@@ -209,14 +201,12 @@ impl<A: Allocator + Copy> IndexedEntries<A> {
         let shared = self.shared_places(other);
         let lacking = self.lacking_beyond(other, shared);
         self.reserve(lacking)?;
-        let mut closed = self.unite_shared(other, shared);
+        self.unite_shared(other, shared);
         let mut likely = shared;
         for place in shared..other.len() {
-            let added = self.add(other.entry_at(place), likely);
-            likely = added.place.saturating_add(1);
-            closed = closed || added.closes;
+            likely = self.add(other.entry_at(place), likely).saturating_add(1);
         }
-        self.prune(closed);
+        self.prune();
         Ok(())
     }
 
@@ -255,49 +245,42 @@ impl<A: Allocator + Copy> IndexedEntries<A> {
     }
 
     /// Unites what is known of the determinants at the first places with what another knows, which has the same ones there.
-    /// The answer is whether that closed an entry.
-    fn unite_shared(&mut self, other: &IndexedEntries<A>, shared: usize) -> bool
+    fn unite_shared(&mut self, other: &IndexedEntries<A>, shared: usize)
         requires len { shared ≤ length (listed other.now) }
         requires same { HasInPlace shared (listed self.old) (listed other.now) }
         ensures entries { listed self.new ≡ gathered (listed self.old) (take shared (listed other.now)) }
         ensures kept { KeepsIndex self.old self.new }
     {
-        let mut closed = false;
         for place in 0..shared {
-            let closes = self.unite(other.entry_at(place), place);
-            closed = closed || closes;
+            self.unite(other.entry_at(place), place);
         }
-        closed
     }
 
-    /// Adds what is known of the entry's determinant, with room where it is new. It is looked for at the likely place first.
+    /// Adds what is known of the entry's determinant, with room where it is new, and answers the determinant's place. It is
+    /// looked for at the likely place first.
     #[inline(always)]
-    fn add(&mut self, entry: Entry, likely: usize) -> Added
+    fn add(&mut self, entry: Entry, likely: usize) -> usize
         requires { is_held (listed self.old) entry.det ≡ false → 0 < room self.old }
         ensures entries { listed self.new ≡ added (listed self.old) entry }
         ensures kept { KeepsIndex self.old self.new }
     {
         match self.place_of(&entry.det, likely) {
             Some(place) => {
-                let closes = self.unite(entry, place);
-                Added { place, closes }
+                self.unite(entry, place);
+                place
             }
             None => {
                 let place = self.len();
                 self.add_new(entry);
-                Added {
-                    place,
-                    closes: false,
-                }
+                place
             }
         }
     }
 
-    /// Unites what is known of the entry's determinant, which has an entry at the place, with what the entry knows, and
-    /// answers whether that closed it: whether more than `limit` members are known to hold it now, where at most so many were
-    /// before. It is written only where more is known.
+    /// Unites what is known of the entry's determinant, which has an entry at the place, with what the entry knows. It is
+    /// written only where more is known.
     #[inline(always)]
-    fn unite(&mut self, entry: Entry, place: usize) -> bool
+    fn unite(&mut self, entry: Entry, place: usize)
         requires { has_at (listed self.old) entry.det place ≡ true }
         ensures entries { listed self.new ≡ added (listed self.old) entry }
         ensures same { (det : Determinant) (at : ℕ) → has_at (listed self.new) det at ≡ has_at (listed self.old) det at }
@@ -307,11 +290,11 @@ impl<A: Allocator + Copy> IndexedEntries<A> {
         let _distinct = self.entries.len();
         let before = self.entries[place];
         if entry.known.without(before).count() == 0 {
-            return false;
+            return;
         }
         let known = before.union(entry.known);
         self.entries[place] = known;
-        is_closed_by(before, known, self.limit)
+        self.stale |= closes(before, known, self.limit);
     }
 
     /// Adds an entry of a determinant that there is none of. Its place is open if at most `limit` members are known to hold
@@ -340,20 +323,22 @@ impl<A: Allocator + Copy> IndexedEntries<A> {
             let known = self.entries[place].union(members);
             self.entries[place] = known;
         }
-        self.prune(true);
+        self.stale = true;
+        self.prune();
     }
 
-    /// Lets go of the places of entries that more than `limit` members are known to hold, where an entry was closed. Where none
-    /// was there is nothing to let go of, and no place is looked at.
-    fn prune(&mut self, closed: bool)
+    /// Lets go of the places of entries that more than `limit` members are known to hold. Where none has closed there is none,
+    /// and no place is looked at.
+    fn prune(&mut self)
         ensures entries { listed self.new ≡ listed self.old }
         ensures kept { KeepsIndex self.old self.new }
     {
-        if closed {
+        if self.stale {
             let entries = &self.entries;
             let limit = self.limit;
             self.open_places
                 .retain(|place| is_open(entries, *place, limit));
+            self.stale = false;
         }
     }
 
@@ -364,10 +349,10 @@ impl<A: Allocator + Copy> IndexedEntries<A> {
         ensures few { result ≤ length (listed self.now) }
         ensures small { result < 2 ^ 63 }
     {
-        if f > self.limit {
-            self.len()
-        } else {
+        if f == self.limit {
             self.open_places.len().min(self.len())
+        } else {
+            self.len()
         }
     }
 
@@ -377,10 +362,10 @@ impl<A: Allocator + Copy> IndexedEntries<A> {
         requires room { vec_len carried.old + length (piggybacked f (listed self.now)) ≤ vec_capacity carried.old }
         ensures { carried.new.items ≡ carried.old.items ++ piggybacked f (listed self.now) }
     {
-        if f > self.limit {
-            self.push_all(f, carried);
+        if f == self.limit && !self.stale {
+            self.push_open(carried);
         } else {
-            self.push_open(f, carried);
+            self.push_all(f, carried);
         }
     }
 
@@ -394,21 +379,20 @@ impl<A: Allocator + Copy> IndexedEntries<A> {
         }
     }
 
-    /// Does what `piggyback_into` does, over the entries at the open places.
-    fn push_open(&self, f: u8, carried: &mut Vec<Entry, A>)
+    /// Does what `piggyback_into` does for `limit`: the entries at the open places are those that it puts there.
+    fn push_open(&self, carried: &mut Vec<Entry, A>)
         requires indexed { IsIndexed self.now }
-        requires within { f ≤ self.now.limit }
-        requires room { vec_len carried.old + length (piggybacked f (listed self.now)) ≤ vec_capacity carried.old }
-        ensures { carried.new.items ≡ carried.old.items ++ piggybacked f (listed self.now) }
+        requires exact { self.now.stale ≡ false }
+        requires room { vec_len carried.old + length (piggybacked self.now.limit (listed self.now)) ≤ vec_capacity carried.old }
+        ensures { carried.new.items ≡ carried.old.items ++ piggybacked self.now.limit (listed self.now) }
     {
         for place in &self.open_places {
-            push_if_open(carried, self.entry_at(*place), f);
+            carried.push_reserved(self.entry_at(*place));
         }
     }
 }
 
 /// Puts the entry at the end of the list, which has room for it, if at most `f` members are known to hold it.
-#[inline(always)]
 fn push_if_open<A: Allocator>(carried: &mut Vec<Entry, A>, entry: Entry, f: u8)
     requires { vec_len carried.old + length (piggybacked f (entry ∷ [])) ≤ vec_capacity carried.old }
     ensures items { carried.new.items ≡ carried.old.items ++ piggybacked f (entry ∷ []) }
@@ -420,7 +404,9 @@ fn push_if_open<A: Allocator>(carried: &mut Vec<Entry, A>, entry: Entry, f: u8)
 }
 
 /// Whether more than `limit` members are known now, where at most so many were before.
-fn is_closed_by(before: MemberSet, now: MemberSet, limit: u8) -> bool {
+fn closes(before: MemberSet, now: MemberSet, limit: u8) -> bool
+    ensures { result ≡ false → nat_le (set.len before) limit ≡ true → nat_le (set.len now) limit ≡ true }
+{
     let limit = u32::from(limit);
     before.count() <= limit && limit < now.count()
 }

@@ -42,7 +42,7 @@ impl<A: Allocator> LikelyPlaces<A> {
         }
     }
 
-    /// KeepsIndex the place of the determinant's entry, if there is memory for that.
+    /// Keeps the place of the determinant's entry, if there is memory for that.
     pub(crate) fn keep(&mut self, det: &Determinant, place: usize)
     where
         A: Copy,
@@ -54,7 +54,7 @@ impl<A: Allocator> LikelyPlaces<A> {
         }
     }
 
-    /// KeepsIndex the place, or doesn't where there is no memory for it.
+    /// Keeps the place, or doesn't where there is no memory for it.
     fn try_keep(&mut self, det: &Determinant, place: u32) -> Result<(), AllocError>
     where
         A: Copy,

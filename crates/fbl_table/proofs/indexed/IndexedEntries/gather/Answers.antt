@@ -10,13 +10,13 @@ pub loop-place-init : goal.loop-place-init
 loop-place-init g c =
     let reserved : listed c.reserve.new.self ≡ listed c.args.self.now = c.reserve.ensures.entries in
     record {
-      so_far = c.unite_shared-closed.ensures.entries ∙ ap (λ t. gathered t (take c.shared_places-shared.result (listed c.args.other.now))) reserved;
-      kept = keeps-more c.reserve.ensures.kept c.unite_shared-closed.ensures.kept;
-      room = omega (arith, ap length reserved, c.in_ok-reserve.ensures.ok, c.lacking_beyond-lacking.ensures, c.unite_shared-closed.ensures.kept.room);
+      so_far = c.unite_shared.ensures.entries ∙ ap (λ t. gathered t (take c.shared_places-shared.result (listed c.args.other.now))) reserved;
+      kept = keeps-more c.reserve.ensures.kept c.unite_shared.ensures.kept;
+      room = omega (arith, ap length reserved, c.in_ok-reserve.ensures.ok, c.lacking_beyond-lacking.ensures, c.unite_shared.ensures.kept.room);
     }
 
-pub add-added-requires : goal.add-added-requires
-add-added-requires g c none =
+pub add-requires : goal.add-requires
+add-requires g c none =
     let e = c.entry_at.result in
     let missing = sym (ap (λ t. is_held t e.det) c.loop-place.invariant.so_far) ∙ none in
     let shorter = length-gathering (listed c.args.self.now) (listed c.args.other.now) c.loop-place.place e c.entry_at.ensures missing in
@@ -25,10 +25,10 @@ add-added-requires g c none =
 pub loop-place-preserved : goal.loop-place-preserved
 loop-place-preserved g c = record {
   so_far =
-      rw (c.add-added.ensures.entries, c.loop-place.invariant.so_far)
+      rw (c.add.ensures.entries, c.loop-place.invariant.so_far)
       (sym (gather-step (listed c.args.self.now) (listed c.args.other.now) c.loop-place.place c.entry_at.result c.entry_at.ensures));
-  kept = keeps-more c.loop-place.invariant.kept c.add-added.ensures.kept;
-  room = omega (arith, c.loop-place.invariant.room, c.add-added.ensures.kept.room);
+  kept = keeps-more c.loop-place.invariant.kept c.add.ensures.kept;
+  room = omega (arith, c.loop-place.invariant.room, c.add.ensures.kept.room);
 }
 
 pub returns-clause-gathered : goal.returns-clause-gathered

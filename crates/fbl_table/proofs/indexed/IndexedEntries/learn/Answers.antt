@@ -5,8 +5,8 @@ use Rattle.fbl_table.proofs.Adding.{learn-step, item_at, length-learned}
 use Rattle.fbl_table.proofs.Keeping.{keeps-more}
 use Rattle.fbl_table.proofs.indexed.IndexedEntries.learn.Goals as goal
 
-pub add-added-requires : goal.add-added-requires
-add-added-requires g c none =
+pub add-requires : goal.add-requires
+add-requires g c none =
     let i = c.loop-entry.entry-index in
     let longer = ap length c.loop-entry.invariant.so_far in
     let at_most = length-learned c.args.me (listed c.args.self.now) (take i c.args.carried.now) in
@@ -18,8 +18,8 @@ loop-entry-preserved g c =
     let e = c.entry-item.result in
     let at = item_at c.args.carried.now i e (omega (arith, c.loop-entry-test.true)) c.entry-item.is in
     record {
-      so_far = rw (c.add-added.ensures.entries, c.loop-entry.invariant.so_far, c.with-known.ensures) (sym (learn-step c.args.me _ c.args.carried.now i e at));
-      kept = keeps-more c.loop-entry.invariant.kept c.add-added.ensures.kept;
+      so_far = rw (c.add.ensures.entries, c.loop-entry.invariant.so_far, c.with-known.ensures) (sym (learn-step c.args.me _ c.args.carried.now i e at));
+      kept = keeps-more c.loop-entry.invariant.kept c.add.ensures.kept;
     }
 
 pub returns-clause-kept : goal.returns-clause-kept

@@ -1,5 +1,6 @@
-use Rattle.std.proofs.Common.{◌≡◌, ◌∙◌, sym, ap, refl, arith, length}
+use Rattle.std.proofs.Common.{◌≡◌, ◌∙◌, sym, ap, refl, arith, length, true}
 use Rattle.std.proofs.lemmas.List.{length-map}
+use Rattle.std.proofs.lemmas.Bool.{false≢true}
 use Rattle.fbl_table.specs.Indexed.{listed, KeepsIndex}
 use Rattle.fbl_table.specs.Tables.{entry_of, marked}
 use Rattle.fbl_table.proofs.Adding.{mark-all, mark-step, length-set_value_at}
@@ -35,10 +36,13 @@ returns-clause-kept g c =
     let table = listed old in
     let all : listed c.loop-place.self ≡ marked c.args.members table = sym c.prune.ensures.entries ∙ returns-clause-entries g c in
     let same : length (marked c.args.members table) ≡ length table = length-map table _ in
-    let marks : KeepsIndex old c.loop-place.self = record {
-      index = λ is.
-          rw (all, c.loop-place.invariant.limit, c.loop-place.invariant.open_places)
-          (index-marked old.limit c.args.members table old.open_places.items is);
+    let marks : KeepsIndex old (record c.loop-place.self { stale = true }) = record {
+      index = λ is. record {
+        index =
+            rw (all, c.loop-place.invariant.limit, c.loop-place.invariant.open_places)
+            (index-marked old.limit c.args.members table old.open_places.items is.index);
+        exact = λ fresh. absurd (false≢true (sym fresh));
+      };
       room = rw (c.loop-place.invariant.spare, c.loop-place.invariant.open_places) (omega (arith, ap length all ∙ same));
     } in
     keeps-more marks c.prune.ensures.kept

@@ -1,13 +1,13 @@
-use Rattle.std.proofs.Common.{◌≡◌, ◌<◌, ◌++◌, ◌∙◌, ℕ, List, Some, ap, arith, get_or, length, slice_get}
+use Rattle.std.proofs.Common.{◌≡◌, ◌<◌, ◌++◌, ◌∙◌, ℕ, List, Some, ap, arith, get_or, length, slice_get, sym}
 use Rattle.std.proofs.lemmas.List.{take_all}
-use Rattle.std.proofs.lemmas.List.Elements.{All-get_or}
+use Rattle.std.proofs.lemmas.List.Elements.{All-get_or, filter_map-append}
 use Rattle.std.proofs.lemmas.Option.{slice_get-get_or}
 use Rattle.std.specs.List.{filter_map}
 use Rattle.std.specs.Vec.{vec_capacity}
 use Rattle.fbl_table.specs.Indexed.{listed}
 use Rattle.fbl_table.specs.Tables.{piggybacked}
-use Rattle.fbl_table.proofs.Indexing.{index-piggybacked}
-use Rattle.fbl_table.proofs.Passing.{picked-parts, picked-one, pushed, fits}
+use Rattle.fbl_table.proofs.Indexing.{open-piggybacked}
+use Rattle.fbl_table.proofs.Passing.{picked-one, pushed, fits}
 use Rattle.fbl_table.proofs.indexed.IndexedEntries.push_open.Goals as goal
 
 -- the place that is looked at
@@ -19,20 +19,20 @@ entry_at-requires g c =
     let places = c.args.self.now.open_places.items in
     let table = listed c.args.self.now in
     let below = rw c.deref-place-items.ensures.value at c.loop-place-test.true in
-    rw c.deref-place-items.ensures.value (All-get_or (λ place. place < length table) places c.loop-place.place-index 0 below c.requires.indexed.within)
+    rw c.deref-place-items.ensures.value (All-get_or (λ place. place < length table) places c.loop-place.place-index 0 below c.requires.indexed.index.within)
 
-pub push_if_open-requires : goal.push_if_open-requires
-push_if_open-requires g c =
+pub push_reserved-requires : goal.push_reserved-requires
+push_reserved-requires g c =
     let kept = c.args.self.now in
     let table = listed kept in
     let places = kept.open_places.items in
     let i = c.loop-place.place-index in
     let at = place-at _ places i c.deref-place-items.ensures.value c.loop-place-test.true in
-    let all = index-piggybacked c.args.f kept.limit table places c.requires.within c.requires.indexed in
+    let all = open-piggybacked kept.limit table places c.requires.indexed.index (c.requires.indexed.exact c.requires.exact) in
     let enough =
-    fits (λ ps. piggybacked c.args.f (filter_map (slice_get table) ps)) (picked-parts c.args.f table) places i _ at _ _
+    fits (filter_map (slice_get table)) (filter_map-append (slice_get table)) places i _ at _ _
     c.loop-place.invariant.so_far (vec_capacity c.args.carried.now) (omega (arith, ap length all, c.requires.room, c.args.carried.now.ok.0)) in
-    omega (arith, enough, ap length (picked-one c.args.f table _ c.entry_at.result c.entry_at.ensures), c.loop-place.invariant.room, c.loop-place.carried.ok.0)
+    omega (arith, enough, ap length (picked-one table _ c.entry_at.result c.entry_at.ensures), c.loop-place.invariant.room, c.loop-place.carried.ok.0)
 
 pub loop-place-preserved : goal.loop-place-preserved
 loop-place-preserved g c =
@@ -40,12 +40,12 @@ loop-place-preserved g c =
     let places = c.args.self.now.open_places.items in
     let i = c.loop-place.place-index in
     let at = place-at _ places i c.deref-place-items.ensures.value c.loop-place-test.true in
-    let one = picked-one c.args.f table _ c.entry_at.result c.entry_at.ensures in
+    let one = picked-one table _ c.entry_at.result c.entry_at.ensures in
     record {
       so_far =
-          pushed (λ ps. piggybacked c.args.f (filter_map (slice_get table) ps)) (picked-parts c.args.f table) places i _ at
-          _ _ _ c.loop-place.invariant.so_far (rw one at c.push_if_open.ensures.items);
-      room = c.push_if_open.ensures.room ∙ c.loop-place.invariant.room;
+          pushed (filter_map (slice_get table)) (filter_map-append (slice_get table)) places i _ at
+          _ _ _ c.loop-place.invariant.so_far (rw one at c.push_reserved.ensures.items);
+      room = c.push_reserved.ensures.capacity ∙ c.loop-place.invariant.room;
     }
 
 pub returns : goal.returns
@@ -54,5 +54,5 @@ returns g c =
     let table = listed kept in
     let places = kept.open_places.items in
     let whole = take_all c.loop-place.place-index places (omega (arith, c.loop-place-test.false, ap length c.deref-place-items.ensures.value)) in
-    c.loop-place.invariant.so_far ∙ ap (λ ps. c.args.carried.now.items ++ piggybacked c.args.f (filter_map (slice_get table) ps)) whole
-    ∙ ap (λ t. c.args.carried.now.items ++ t) (index-piggybacked c.args.f kept.limit table places c.requires.within c.requires.indexed)
+    c.loop-place.invariant.so_far ∙ ap (λ ps. c.args.carried.now.items ++ filter_map (slice_get table) ps) whole
+    ∙ ap (λ t. c.args.carried.now.items ++ t) (open-piggybacked kept.limit table places c.requires.indexed.index (c.requires.indexed.exact c.requires.exact))

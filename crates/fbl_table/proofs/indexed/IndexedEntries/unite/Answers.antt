@@ -1,10 +1,11 @@
 use Rattle.std.proofs.Common.{◌≡◌, ◌∙◌, sym, ap, arith, map, length}
+use Rattle.std.proofs.lemmas.Bool.{or_parts}
 use Rattle.std.specs.FinSet as set
 use Rattle.indexmap.specs.IndexMap.{set_value_at}
 use Rattle.fbl_table.specs.Indexed.{listed}
 use Rattle.fbl_table.specs.Tables.{entry_of, added}
 use Rattle.fbl_table.proofs.Adding.{added-at, added-nothing, has-set, held-at, within-at, length-added_held}
-use Rattle.fbl_table.proofs.Indexing.{index-added_held}
+use Rattle.fbl_table.proofs.Indexing.{index-added_held, open-set}
 use Rattle.fbl_table.proofs.indexed.IndexedEntries.unite.Goals as goal
 
 pub index-before-requires : goal.index-before-requires
@@ -31,9 +32,15 @@ pub returns-clause-kept : goal.returns-clause-kept
 returns-clause-kept g c =
     let old = c.args.self.now in
     let table = listed old in
+    let before = c.index-before.result.now in
     let held = held-at table c.args.entry.det c.args.place c.requires in
     let united : map entry_of (set_value_at old.entries.entries c.args.place c.union-known.result) ≡ added table c.args.entry = returns-clause-entries g c in
     record {
-      index = λ is. rw united (index-added_held old.limit table c.args.entry old.open_places.items held is);
+      index = λ is. record {
+        index = rw united (index-added_held old.limit table c.args.entry old.open_places.items held is.index);
+        exact = λ fresh.
+            let kept = or_parts old.stale c.closes.result fresh in
+            open-set old.limit old.entries.entries c.args.place before (c.union-known.result) c.index-before.ensures (c.closes.ensures kept.1) old.open_places.items (is.exact kept.0);
+      };
       room = omega (arith, ap length united, length-added_held table c.args.entry held);
     }

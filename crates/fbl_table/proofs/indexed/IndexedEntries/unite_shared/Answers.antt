@@ -9,8 +9,8 @@ loop-place-preserved g c =
     let entry = c.entry_at.result in
     record {
       so_far =
-          rw (c.unite-closes.ensures.entries, c.loop-place.invariant.so_far)
+          rw (c.unite.ensures.entries, c.loop-place.invariant.so_far)
           (sym (gather-step _ (listed c.args.other.now) c.loop-place.place entry c.entry_at.ensures));
-      same = λ place e below at. c.unite-closes.ensures.same e.det place ∙ c.loop-place.invariant.same place e below at;
-      kept = keeps-more c.loop-place.invariant.kept c.unite-closes.ensures.kept;
+      same = λ place e below at. c.unite.ensures.same e.det place ∙ c.loop-place.invariant.same place e below at;
+      kept = keeps-more c.loop-place.invariant.kept c.unite.ensures.kept;
     }
