@@ -58,6 +58,11 @@ pub some-held : (table : List Entry) (d : Determinant) (r : Option ℕ) → IfSo
 some-held table d None at none = sym none
 some-held table d (Some i) at none = sym (held-at table d i at)
 
+-- where there is an answer, it is held
+pub some-found : (table : List Entry) (d : Determinant) (r : Option ℕ) → IfSome r (λ i. has_at table d i ≡ true) → is_some r ≡ true → is_held table d ≡ true
+some-found table d None at some = absurd (false≢true some)
+some-found table d (Some i) at some = held-at table d i at
+
 pub within-at : (es : Pairs) (d : Determinant) (i : ℕ) → has_at (map entry_of es) d i ≡ true → i < length es
 within-at [] d zero has = absurd (false≢true has)
 within-at [] d (suc i) has = absurd (false≢true has)

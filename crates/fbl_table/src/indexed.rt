@@ -105,34 +105,32 @@ impl<A: Allocator + Copy> IndexedEntries<A> {
     pub(crate) fn holds(&self, det: &Determinant) -> bool
         ensures { result ≡ is_held (listed self.now) det.now }
     {
-        self.entries.contains_key(det)
+        self.place_of(det).is_some()
     }
 
-    /// The place of the determinant's entry, if there is one. The likely places are looked at before the hash.
+    /// The place of the determinant's entry, if there is one. The likely place is looked at before the hash.
     #[inline(always)]
-    pub(crate) fn place_of(&self, det: &Determinant, likely: usize) -> Option<usize>
+    fn place_of(&self, det: &Determinant) -> Option<usize>
         ensures has { IfSome result (λ place. has_at (listed self.now) det.now place ≡ true) }
         ensures none { IfNone result (is_held (listed self.now) det.now ≡ false) }
     {
-        match self.likely_place_of(det, likely) {
+        match self.likely_place_of(det) {
             Some(place) => Some(place),
             None => self.place_by_hash(det),
         }
     }
 
-    /// The place of the determinant's entry, if it is the likely one or the one that was kept.
+    /// The place of the determinant's entry, if it is the likely one.
     #[inline(always)]
-    fn likely_place_of(&self, det: &Determinant, likely: usize) -> Option<usize>
+    fn likely_place_of(&self, det: &Determinant) -> Option<usize>
         ensures { IfSome result (λ place. has_at (listed self.now) det.now place ≡ true) }
     {
+        let likely = self.likely_places.place(det);
         if self.is_at(det, likely) {
-            return Some(likely);
+            Some(likely)
+        } else {
+            None
         }
-        let kept = self.likely_places.place(det);
-        if self.is_at(det, kept) {
-            return Some(kept);
-        }
-        None
     }
 
     /// The place of the determinant's entry, if there is one.
@@ -170,11 +168,8 @@ impl<A: Allocator + Copy> IndexedEntries<A> {
         ensures entries { listed self.new ≡ learned me (listed self.old) carried.now }
         ensures kept { KeepsIndex self.old self.new }
     {
-        let mut likely = 0;
         for entry in carried {
-            let known = entry.known.with(me);
-            let det = entry.det;
-            likely = self.add(Entry { det, known }, likely).saturating_add(1);
+            self.add(&entry.det, entry.known.with(me));
         }
         self.prune();
     }
@@ -202,9 +197,9 @@ impl<A: Allocator + Copy> IndexedEntries<A> {
         let lacking = self.lacking_beyond(other, shared);
         self.reserve(lacking)?;
         self.unite_shared(other, shared);
-        let mut likely = shared;
         for place in shared..other.len() {
-            likely = self.add(other.entry_at(place), likely).saturating_add(1);
+            let entry = other.entry_at(place);
+            self.add(&entry.det, entry.known);
         }
         self.prune();
         Ok(())
@@ -225,7 +220,7 @@ impl<A: Allocator + Copy> IndexedEntries<A> {
     }
 
     /// How many of the other's determinants there may be no entry of: at least as many as there are. Of those at the first
-    /// places there are all. What is not at a likely place counts as lacking: to hash each new one here and once more when it
+    /// places there are all. What is not at its likely place counts as lacking: to hash each new one here and once more when it
     /// is added would cost more than the room.
     fn lacking_beyond(&self, other: &IndexedEntries<A>, shared: usize) -> usize
         requires len { shared ≤ length (listed other.now) }
@@ -233,12 +228,10 @@ impl<A: Allocator + Copy> IndexedEntries<A> {
         ensures { count_by (lacks (listed self.now)) (listed other.now) ≤ result }
     {
         let mut lacking = 0;
-        let mut likely = shared;
         for place in shared..other.len() {
             let entry = other.entry_at(place);
-            match self.likely_place_of(&entry.det, likely) {
-                Some(found) => likely = found.saturating_add(1),
-                None => lacking += 1,
+            if self.likely_place_of(&entry.det).is_none() {
+                lacking += 1;
             }
         }
         lacking
@@ -252,49 +245,42 @@ impl<A: Allocator + Copy> IndexedEntries<A> {
         ensures kept { KeepsIndex self.old self.new }
     {
         for place in 0..shared {
-            self.unite(other.entry_at(place), place);
+            let entry = other.entry_at(place);
+            self.unite(&entry.det, entry.known, place);
         }
     }
 
-    /// Adds what is known of the entry's determinant, with room where it is new, and answers the determinant's place. It is
-    /// looked for at the likely place first.
+    /// Adds what is known of the determinant, with room where it is new.
     #[inline(always)]
-    fn add(&mut self, entry: Entry, likely: usize) -> usize
-        requires { is_held (listed self.old) entry.det ≡ false → 0 < room self.old }
-        ensures entries { listed self.new ≡ added (listed self.old) entry }
+    fn add(&mut self, det: &Determinant, known: MemberSet)
+        requires { is_held (listed self.old) det.now ≡ false → 0 < room self.old }
+        ensures entries { listed self.new ≡ added (listed self.old) (record { det = det.now; known = known }) }
         ensures kept { KeepsIndex self.old self.new }
     {
-        match self.place_of(&entry.det, likely) {
-            Some(place) => {
-                self.unite(entry, place);
-                place
-            }
-            None => {
-                let place = self.len();
-                self.add_new(entry);
-                place
-            }
+        match self.place_of(det) {
+            Some(place) => self.unite(det, known, place),
+            None => self.add_new(Entry { det: *det, known }),
         }
     }
 
-    /// Unites what is known of the entry's determinant, which has an entry at the place, with what the entry knows. It is
-    /// written only where more is known.
+    /// Unites what is known of the determinant, which has an entry at the place, with this. It is written only where more is
+    /// known.
     #[inline(always)]
-    fn unite(&mut self, entry: Entry, place: usize)
-        requires { has_at (listed self.old) entry.det place ≡ true }
-        ensures entries { listed self.new ≡ added (listed self.old) entry }
-        ensures same { (det : Determinant) (at : ℕ) → has_at (listed self.new) det at ≡ has_at (listed self.old) det at }
+    fn unite(&mut self, det: &Determinant, known: MemberSet, place: usize)
+        requires { has_at (listed self.old) det.now place ≡ true }
+        ensures entries { listed self.new ≡ added (listed self.old) (record { det = det.now; known = known }) }
+        ensures same { (d : Determinant) (at : ℕ) → has_at (listed self.new) d at ≡ has_at (listed self.old) d at }
         ensures kept { KeepsIndex self.old self.new }
     {
         // `len` says that no two of the determinants are the same
         let _distinct = self.entries.len();
         let before = self.entries[place];
-        if entry.known.without(before).count() == 0 {
+        if known.without(before).count() == 0 {
             return;
         }
-        let known = before.union(entry.known);
-        self.entries[place] = known;
-        self.stale |= closes(before, known, self.limit);
+        let united = before.union(known);
+        self.entries[place] = united;
+        self.stale |= closes(before, united, self.limit);
     }
 
     /// Adds an entry of a determinant that there is none of. Its place is open if at most `limit` members are known to hold

@@ -3,9 +3,8 @@
 
 ghost use Rattle.std.specs.Prelude.{◌≡◌, ℕ, ◌+◌, ◌^◌, ◌<◌, ◌≤◌, ◌++◌, [], length, OnOk, OnErr, IfOk, IfSome, Some, true, false, slice_get, map, vec_len, vec_capacity};
 ghost use Rattle.std.specs.List.{IsDistinct};
-ghost use Rattle.std.specs.Option.{is_some};
 ghost use Rattle.fbl_base.specs.Events.{same_determinant};
-ghost use Rattle.fbl_table.specs.Tables.{is_held, has_at, found, greatest_rsn, learned, noted, piggybacked, gathered, marked};
+ghost use Rattle.fbl_table.specs.Tables.{is_held, found, greatest_rsn, learned, noted, piggybacked, gathered, marked};
 
 use crate::entry::Entry;
 use crate::indexed::IndexedEntries;
@@ -75,15 +74,6 @@ impl<A: Allocator + Copy> Table<A> {
         ensures { result ≡ is_held self.now det.now }
     {
         self.entries.holds(det)
-    }
-
-    /// The place of the determinant's entry, if there is one. The entry at the likely place is looked at first, and where it
-    /// is the determinant's nothing is hashed: which place is given changes no answer.
-    pub fn place_of(&self, det: &Determinant, likely: usize) -> Option<usize>
-        ensures held { is_some result ≡ is_held self.now det.now }
-        ensures at { IfSome result (λ place. has_at self.now det.now place ≡ true) }
-    {
-        self.entries.place_of(det, likely)
     }
 
     /// The entry at this place, which is below `len`. Places count from 0.

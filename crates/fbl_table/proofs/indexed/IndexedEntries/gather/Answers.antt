@@ -17,16 +17,16 @@ loop-place-init g c =
 
 pub add-requires : goal.add-requires
 add-requires g c none =
-    let e = c.entry_at.result in
+    let e = c.entry_at-entry.result in
     let missing = sym (ap (λ t. is_held t e.det) c.loop-place.invariant.so_far) ∙ none in
-    let shorter = length-gathering (listed c.args.self.now) (listed c.args.other.now) c.loop-place.place e c.entry_at.ensures missing in
+    let shorter = length-gathering (listed c.args.self.now) (listed c.args.other.now) c.loop-place.place e c.entry_at-entry.ensures missing in
     omega (arith, ap length c.loop-place.invariant.so_far, shorter, c.loop-place.invariant.room)
 
 pub loop-place-preserved : goal.loop-place-preserved
 loop-place-preserved g c = record {
   so_far =
       rw (c.add.ensures.entries, c.loop-place.invariant.so_far)
-      (sym (gather-step (listed c.args.self.now) (listed c.args.other.now) c.loop-place.place c.entry_at.result c.entry_at.ensures));
+      (sym (gather-step (listed c.args.self.now) (listed c.args.other.now) c.loop-place.place c.entry_at-entry.result c.entry_at-entry.ensures));
   kept = keeps-more c.loop-place.invariant.kept c.add.ensures.kept;
   room = omega (arith, c.loop-place.invariant.room, c.add.ensures.kept.room);
 }

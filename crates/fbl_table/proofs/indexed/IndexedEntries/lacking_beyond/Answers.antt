@@ -1,9 +1,9 @@
-use Rattle.std.proofs.Common.{arith}
+use Rattle.std.proofs.Common.{◌∙◌, ap, arith, not}
 use Rattle.fbl_table.specs.Indexed.{listed}
 use Rattle.fbl_table.specs.Tables.{lacks}
-use Rattle.fbl_table.proofs.Adding.{held-at, lacks-none, lacks-same, lacks-next, at_most_one}
+use Rattle.fbl_table.proofs.Adding.{some-found, lacks-none, lacks-same, lacks-next, at_most_one}
 use Rattle.fbl_table.proofs.indexed.IndexedEntries.lacking_beyond.Goals as goal
-use Rattle.fbl_table.proofs.indexed.IndexedEntries.lacking_beyond.Goals.{in-Some, in-None}
+use Rattle.fbl_table.proofs.indexed.IndexedEntries.lacking_beyond.Goals.{then-is_none, else-is_none}
 
 pub loop-place-init : goal.loop-place-init
 loop-place-init g c = record {
@@ -18,13 +18,15 @@ loop-place-preserved g c =
     let i = c.loop-place.place in
     let entry = c.entry_at-entry.result in
     let at = c.entry_at-entry.ensures in
-    elim c.match-likely_place_of.branch [
-      | in-Some w ↦ record {
-        enough = omega (arith, lacks-same table other i entry at (held-at table entry.det w.in-Some.found w.in-Some.ensures), w.lacking-is, c.loop-place.invariant.enough);
+    elim c.if-is_none.branch [
+      | then-is_none w ↦ record {
+        enough = omega (arith, lacks-next table other i entry at, at_most_one (lacks table entry), w.lacking-is, c.loop-place.invariant.enough);
         few = omega (arith, w.lacking-is, c.loop-place.invariant.few);
       }
-      | in-None w ↦ record {
-        enough = omega (arith, lacks-next table other i entry at, at_most_one (lacks table entry), w.lacking-is, c.loop-place.invariant.enough);
+      | else-is_none w ↦ record {
+        enough =
+            let found = some-found table entry.det c.likely_place_of.result c.likely_place_of.ensures (c.is_none.ensures ∙ ap not w.if-is_none.false) in
+            omega (arith, lacks-same table other i entry at found, w.lacking-is, c.loop-place.invariant.enough);
         few = omega (arith, w.lacking-is, c.loop-place.invariant.few);
       }
     ]

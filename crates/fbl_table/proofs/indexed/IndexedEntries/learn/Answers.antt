@@ -18,7 +18,7 @@ loop-entry-preserved g c =
     let e = c.entry-item.result in
     let at = item_at c.args.carried.now i e (omega (arith, c.loop-entry-test.true)) c.entry-item.is in
     record {
-      so_far = rw (c.add.ensures.entries, c.loop-entry.invariant.so_far, c.with-known.ensures) (sym (learn-step c.args.me _ c.args.carried.now i e at));
+      so_far = rw (c.add.ensures.entries, c.loop-entry.invariant.so_far, c.with.ensures) (sym (learn-step c.args.me _ c.args.carried.now i e at));
       kept = keeps-more c.loop-entry.invariant.kept c.add.ensures.kept;
     }
 
