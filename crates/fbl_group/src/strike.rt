@@ -75,36 +75,6 @@ impl<B: Behaviour, A: Allocator + Copy> Group<B, A> {
     }
 }
 
-/// Where the next determinant may stand in one of several tables: as far behind the last one found as that was behind the one
-/// before it, since members mostly take turns. It changes no answer.
-#[derive(Clone, Copy, Default)]
-struct LikelyRecord {
-    record: usize,
-    last: usize,
-    next: usize,
-}
-
-impl LikelyRecord {
-    /// Where the next may stand once a determinant was found at this place.
-    fn after(self, place: usize) -> LikelyRecord {
-        LikelyRecord {
-            record: self.record,
-            last: place,
-            next: place.saturating_add(place.saturating_sub(self.last)),
-        }
-    }
-
-    /// Where the next may stand once none was found in this record's table, of so many.
-    fn elsewhere(self, records: usize) -> LikelyRecord {
-        let next = self.record.saturating_add(1);
-        LikelyRecord {
-            record: if next < records { next } else { 0 },
-            last: 0,
-            next: 0,
-        }
-    }
-}
-
 /// How many of the events are receipts of members of the set whose determinant no member's table and no checkpoint's
 /// table holds.
 fn count_lost<A: Allocator + Copy>(
@@ -117,7 +87,7 @@ fn count_lost<A: Allocator + Copy>(
     ensures { result ≡ count_by (is_lost_receipt_of down members.now checkpoints.now) trace.now }
 {
     let mut lost = 0;
-    let mut likely = LikelyRecord::default();
+    let mut likely = 0;
     for event in trace {
         if is_lost_receipt(down, members, checkpoints, *event, &mut likely) {
             lost += 1;
@@ -164,7 +134,7 @@ fn is_lost_receipt<A: Allocator + Copy>(
     members: &[MemberRec<A>],
     checkpoints: &[MemberRec<A>],
     event: Event,
-    likely: &mut LikelyRecord,
+    likely: &mut usize,
 ) -> bool
     ensures { result ≡ is_lost_receipt_of down members.now checkpoints.now event }
 {
@@ -178,22 +148,23 @@ fn is_lost_receipt<A: Allocator + Copy>(
     }
 }
 
-/// Whether the table of some of these records holds the determinant. The likely record's is looked at first.
+/// Whether the table of some of these records holds the determinant. The likely record's is looked at first, and where it does
+/// not hold the determinant, that of the next one is the next time: that changes no answer.
 fn is_likely_held<A: Allocator + Copy>(
     records: &[MemberRec<A>],
     determinant: &Determinant,
-    likely: &mut LikelyRecord,
+    likely: &mut usize,
 ) -> bool
     ensures { result ≡ list_any (λ m. is_held m.table determinant.now) records.now }
 {
-    if let Some(record) = records.get(likely.record) {
-        if let Some(place) = record.table().place_of(determinant, likely.next) {
-            *likely = likely.after(place);
-            return true;
+    match records.get(*likely) {
+        Some(record) if record.table().holds(determinant) => true,
+        _ => {
+            let next = likely.saturating_add(1);
+            *likely = if next < records.len() { next } else { 0 };
+            is_held_in(records, determinant)
         }
     }
-    *likely = likely.elsewhere(records.len());
-    is_held_in(records, determinant)
 }
 
 /// Whether the table of some of these records holds the determinant.

@@ -120,19 +120,14 @@ fn carried_by<A: Allocator + Copy>(
     }
 }
 
-/// What the table passes on, in a list that fits, or in the one for which room was taken where there is no memory for one that
-/// fits. How many of the carried entries are new shows only once the table has taken them in, and by then a lack of memory has
-/// no call to refuse: so the room is mostly much more than is needed.
+/// What the table passes on, in the list for which room was taken. How many of the carried entries are new shows only once the
+/// table has taken them in, so that the room is mostly much more than is needed: the rest is given back.
 fn passed_on<A: Allocator + Copy>(reserved: Vec<Entry, A>, table: &Table<A>, f: u8) -> Vec<Entry, A>
     requires { HasRoom (length (piggybacked f table.now)) reserved }
     ensures { result.items ≡ piggybacked f table.now }
 {
-    match table.piggyback(f) {
-        Ok(entries) => entries,
-        Err(_) => {
-            let mut entries = reserved;
-            table.piggyback_into(f, &mut entries);
-            entries
-        }
-    }
+    let mut entries = reserved;
+    table.piggyback_into(f, &mut entries);
+    entries.shrink_to_fit();
+    entries
 }
