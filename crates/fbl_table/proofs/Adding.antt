@@ -7,7 +7,7 @@ use Rattle.std.specs.Cmp.{nat_cmp_total}
 use Rattle.std.specs.Option.{option_or}
 use Rattle.std.proofs.lemmas.Bool.{false≢true, or_from, or_left, or_parts, or_right}
 use Rattle.std.proofs.Math.Bool.{or_assoc, or_comm}
-use Rattle.std.specs.List.{find, AllByRecursion, IsDistinct}
+use Rattle.std.specs.List.{find, position_or_len, AllByRecursion, IsDistinct}
 use Rattle.std.proofs.lemmas.List.Quantifiers.{position-Some}
 use Rattle.fbl_base.proofs.Recorded.{Decides-same_determinant}
 use Rattle.std.proofs.lemmas.List.{append-nil, drop_all, take_all, take_more, take-append-drop, map-append, length-map}
@@ -79,9 +79,9 @@ pub has-found : (es : Pairs) (d : Determinant) (r : Option ℕ) → r ≡ positi
 has-found es d None is = tt
 has-found es d (Some i) is = (let here = position-Some (same_determinant d) (keys_of es) i d (sym is) in has-key es d d i here.0 here.1)
 
-pub not_held-missing : (es : Pairs) (d : Determinant) (r : Option ℕ) → is_some r ≡ is_some (lookup (same_determinant d) es) → IfNone r (is_held (map entry_of es) d ≡ false)
-not_held-missing es d None is = sym (held-lookup es d) ∙ sym is
-not_held-missing es d (Some i) is = tt
+pub not_found-missing : (es : Pairs) (d : Determinant) (r : Option ℕ) → is_some r ≡ is_some (lookup (same_determinant d) es) → IfNone r (is_held (map entry_of es) d ≡ false)
+not_found-missing es d None is = sym (held-lookup es d) ∙ sym is
+not_found-missing es d (Some i) is = tt
 
 pub apart-turned : (a b : Determinant) → same_determinant a b ≡ false → same_determinant b a ≡ false
 apart-turned a b apart = at (same_determinant b a) refl where
@@ -122,6 +122,40 @@ same-value [] zero v is = refl
 same-value [] (suc i) v is = refl
 same-value (e ∷ es) zero v is = (let value : v ≡ e.1 = sym (ap (λ o. unwrap_or o v) is) in λ j. (e.0, value j) ∷ es)
 same-value (e ∷ es) (suc i) v is = ap (λ t. e ∷ t) (same-value es i v is)
+
+-- where the determinant stands, or would stand next
+abbrev pub place_in : Pairs → Determinant → ℕ
+place_in es d = position_or_len (same_determinant d) (keys_of es)
+
+-- the determinant has the value v at its place, and what is written there is written over what was inserted
+abbrev IsReplaced : Pairs → Determinant → set.FinSet nat_cmp → set.FinSet nat_cmp → set.FinSet nat_cmp → Type 0
+IsReplaced es d v k w =
+    (has_at (map entry_of es) d (place_in es d) ≡ true) × (slice_get (values_of es) (place_in es d) ≡ Some v)
+    × (set_value_at (insert_entry same_determinant es d k) (place_in es d) w ≡ set_value_at es (place_in es d) w)
+
+pub replaced : (es : Pairs) (d : Determinant) (v k w : set.FinSet nat_cmp) → lookup (same_determinant d) es ≡ Some v → IsReplaced es d v k w
+replaced [] d v k w is = cc
+replaced (e ∷ es) d v k w is = at (same_determinant d e.0) refl is (replaced es d v k w) where
+  at : (b : Bool) → same_determinant d e.0 ≡ b → cond b (Some e.1) (lookup (same_determinant d) es) ≡ Some v
+      → (lookup (same_determinant d) es ≡ Some v → IsReplaced es d v k w) → IsReplaced (e ∷ es) d v k w
+  at true b is more = rw b (b, is, refl)
+  at false b is more =
+      let r = more is in
+      let next : 1 + place_in es d ≡ suc (place_in es d) = omega arith in
+      rw (b, next) (r.0, r.1, ap (λ t. e ∷ t) r.2)
+
+-- a determinant that stands nowhere would stand last
+pub place-missing : (es : Pairs) (d : Determinant) → lookup (same_determinant d) es ≡ None → place_in es d ≡ length es
+place-missing [] d none = refl
+place-missing (e ∷ es) d none = at (same_determinant d e.0) refl none (place-missing es d) where
+  at : (b : Bool) → same_determinant d e.0 ≡ b → cond b (Some e.1) (lookup (same_determinant d) es) ≡ None
+      → (lookup (same_determinant d) es ≡ None → place_in es d ≡ length es) → place_in (e ∷ es) d ≡ suc (length es)
+  at true b none more = cc
+  at false b none more = rw b (omega (arith, more none))
+
+-- and is not held
+pub not_held-missing : (es : Pairs) (d : Determinant) → lookup (same_determinant d) es ≡ None → is_held (map entry_of es) d ≡ false
+not_held-missing es d none = sym (held-lookup es d) ∙ ap is_some none
 
 -- a union with a set that has nothing more
 nothing-more : (s t : set.FinSet nat_cmp) → set.len (set.difference t s) ≡ 0 → set.union s t ≡ s
@@ -271,10 +305,6 @@ pub length-gathered : (table other : List Entry) → length (gathered table othe
 length-gathered table [] = omega arith
 length-gathered table (e ∷ other) =
     omega (arith, length-added table e, sum_by-cons (λ x. cond (lacks table x) 1 0) e other, lacks-fewer table e other, length-gathered (added table e) other)
-
-pub length-learned : (me : ℕ) (table carried : List Entry) → length (learned me table carried) ≤ length table + length carried
-length-learned me table carried =
-    omega (arith, length-gathered table (map (held_by me) carried), count_by-le-length (lacks table) (map (held_by me) carried), length-map carried (held_by me))
 
 -- while an entry is still lacking, the table is not yet as long as it gets
 pub length-gathering : (table other : List Entry) (i : ℕ) (e : Entry) → slice_get other i ≡ Some e → is_held (gathered table (take i other)) e.det ≡ false

@@ -166,7 +166,8 @@ impl<A: Allocator + Copy> IndexedEntries<A> {
     pub(crate) fn learn(&mut self, me: Member, carried: &[Entry])
         requires { length carried.now ≤ room self.old }
         ensures entries { listed self.new ≡ learned me (listed self.old) carried.now }
-        ensures kept { KeepsIndex self.old self.new }
+        ensures indexed { IsIndexed self.old → IsIndexed self.new }
+        ensures room { room self.old ≤ room self.new + length carried.now }
     {
         for entry in carried {
             self.add(&entry.det, entry.known.with(me));
@@ -179,9 +180,9 @@ impl<A: Allocator + Copy> IndexedEntries<A> {
         requires new { is_held (listed self.old) det ≡ false }
         requires room { 0 < room self.old }
         ensures entries { listed self.new ≡ noted me (listed self.old) det }
-        ensures kept { KeepsIndex self.old self.new }
+        ensures indexed { IsIndexed self.old → IsIndexed self.new }
     {
-        self.add_new(Entry {
+        self.add_by_hash(Entry {
             det,
             known: MemberSet::empty().with(me),
         });
@@ -198,8 +199,7 @@ impl<A: Allocator + Copy> IndexedEntries<A> {
         self.reserve(lacking)?;
         self.unite_shared(other, shared);
         for place in shared..other.len() {
-            let entry = other.entry_at(place);
-            self.add(&entry.det, entry.known);
+            self.add_or_unite(other.entry_at(place));
         }
         self.prune();
         Ok(())
@@ -250,16 +250,29 @@ impl<A: Allocator + Copy> IndexedEntries<A> {
         }
     }
 
-    /// Adds what is known of the determinant, with room where it is new.
+    /// Adds what is known of the determinant, with room for one entry more.
     #[inline(always)]
     fn add(&mut self, det: &Determinant, known: MemberSet)
-        requires { is_held (listed self.old) det.now ≡ false → 0 < room self.old }
+        requires { 0 < room self.old }
         ensures entries { listed self.new ≡ added (listed self.old) (record { det = det.now; known = known }) }
+        ensures indexed { IsIndexed self.old → IsIndexed self.new }
+        ensures room { room self.old ≤ room self.new + 1 }
+    {
+        match self.likely_place_of(det) {
+            Some(place) => self.unite(det, known, place),
+            None => self.add_by_hash(Entry { det: *det, known }),
+        }
+    }
+
+    /// Adds the entry, with room where its determinant is new. No room is taken where it is not.
+    fn add_or_unite(&mut self, entry: Entry)
+        requires { is_held (listed self.old) entry.det ≡ false → 0 < room self.old }
+        ensures entries { listed self.new ≡ added (listed self.old) entry }
         ensures kept { KeepsIndex self.old self.new }
     {
-        match self.place_of(det) {
-            Some(place) => self.unite(det, known, place),
-            None => self.add_new(Entry { det: *det, known }),
+        match self.place_of(&entry.det) {
+            Some(place) => self.unite(&entry.det, entry.known, place),
+            None => self.add_by_hash(entry),
         }
     }
 
@@ -283,20 +296,29 @@ impl<A: Allocator + Copy> IndexedEntries<A> {
         self.stale |= closes(before, united, self.limit);
     }
 
-    /// Adds an entry of a determinant that there is none of. Its place is open if at most `limit` members are known to hold
-    /// it.
+    /// Adds the entry, with room for one more. Its determinant is looked for by its hash, once.
     #[inline(never)]
-    fn add_new(&mut self, entry: Entry)
-        requires new { is_held (listed self.old) entry.det ≡ false }
-        requires room { 0 < room self.old }
-        ensures entries { listed self.new ≡ listed self.old ++ entry ∷ [] }
-        ensures kept { KeepsIndex self.old self.new }
+    fn add_by_hash(&mut self, entry: Entry)
+        requires { 0 < room self.old }
+        ensures entries { listed self.new ≡ added (listed self.old) entry }
+        ensures indexed { IsIndexed self.old → IsIndexed self.new }
+        ensures room { room self.old ≤ room self.new + 1 }
     {
-        let place = self.entries.len();
-        self.entries.insert(entry.det, entry.known).unwrap();
-        self.likely_places.keep(&entry.det, place);
-        if entry.is_open(self.limit) {
-            self.open_places.push_reserved(place);
+        // `len` says that no two of the determinants are the same
+        let _distinct = self.entries.len();
+        let (place, before) = self.entries.insert_full(entry.det, entry.known).unwrap();
+        match before {
+            Some(before) => {
+                let united = before.union(entry.known);
+                self.entries[place] = united;
+                self.stale |= closes(before, united, self.limit);
+            }
+            None => {
+                self.likely_places.keep(&entry.det, place);
+                if entry.is_open(self.limit) {
+                    self.open_places.push_reserved(place);
+                }
+            }
         }
     }
 

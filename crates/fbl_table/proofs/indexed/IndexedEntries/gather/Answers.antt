@@ -15,20 +15,20 @@ loop-place-init g c =
       room = omega (arith, ap length reserved, c.in_ok-reserve.ensures.ok, c.lacking_beyond-lacking.ensures, c.unite_shared.ensures.kept.room);
     }
 
-pub add-requires : goal.add-requires
-add-requires g c none =
-    let e = c.entry_at-entry.result in
+pub add_or_unite-requires : goal.add_or_unite-requires
+add_or_unite-requires g c none =
+    let e = c.entry_at.result in
     let missing = sym (ap (λ t. is_held t e.det) c.loop-place.invariant.so_far) ∙ none in
-    let shorter = length-gathering (listed c.args.self.now) (listed c.args.other.now) c.loop-place.place e c.entry_at-entry.ensures missing in
+    let shorter = length-gathering (listed c.args.self.now) (listed c.args.other.now) c.loop-place.place e c.entry_at.ensures missing in
     omega (arith, ap length c.loop-place.invariant.so_far, shorter, c.loop-place.invariant.room)
 
 pub loop-place-preserved : goal.loop-place-preserved
 loop-place-preserved g c = record {
   so_far =
-      rw (c.add.ensures.entries, c.loop-place.invariant.so_far)
-      (sym (gather-step (listed c.args.self.now) (listed c.args.other.now) c.loop-place.place c.entry_at-entry.result c.entry_at-entry.ensures));
-  kept = keeps-more c.loop-place.invariant.kept c.add.ensures.kept;
-  room = omega (arith, c.loop-place.invariant.room, c.add.ensures.kept.room);
+      rw (c.add_or_unite.ensures.entries, c.loop-place.invariant.so_far)
+      (sym (gather-step (listed c.args.self.now) (listed c.args.other.now) c.loop-place.place c.entry_at.result c.entry_at.ensures));
+  kept = keeps-more c.loop-place.invariant.kept c.add_or_unite.ensures.kept;
+  room = omega (arith, c.loop-place.invariant.room, c.add_or_unite.ensures.kept.room);
 }
 
 pub returns-clause-gathered : goal.returns-clause-gathered

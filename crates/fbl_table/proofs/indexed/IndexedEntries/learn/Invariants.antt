@@ -1,10 +1,11 @@
-use Rattle.std.proofs.Common.{◌≡◌, take}
-use Rattle.fbl_table.specs.Indexed.{listed, KeepsIndex}
+use Rattle.std.proofs.Common.{◌≡◌, ◌+◌, ◌≤◌, take}
+use Rattle.fbl_table.specs.Indexed.{listed, room, IsIndexed}
 use Rattle.fbl_table.specs.Tables.{learned}
 use Rattle.fbl_table.proofs.indexed.IndexedEntries.learn.Given as goal
 
 abbrev pub invariant-loop-entry : goal.invariant-loop-entry
 invariant-loop-entry g l = record {
   so_far : listed l.self ≡ learned l.me (listed l.initial.self) (take l.entry-index l.carried);
-  kept : KeepsIndex l.initial.self l.self;
+  indexed : IsIndexed l.initial.self → IsIndexed l.self;
+  room : room l.initial.self ≤ room l.self + l.entry-index;
 }
