@@ -5,12 +5,11 @@ use Rattle.std.specs.FinSet as set
 use Rattle.fbl_base.specs.declared.trace.Determinant.{Determinant}
 use Rattle.fbl_base.specs.Configs.{Settings}
 use Rattle.fbl_base.specs.Fold.{Next}
-use Rattle.fbl_base.specs.MemberSets.{AllBelow}
+use Rattle.fbl_base.specs.MemberSets.{AllBelow, Members}
 use Rattle.fbl_base.specs.Steps.{relay_step, mix_step}
 use Rattle.fbl_law.specs.Dumps.{dump_of}
-use Rattle.fbl_law.specs.Groups.{GroupRecord, checkpoint}
+use Rattle.fbl_law.specs.Groups.{GroupRecord, member_checkpoint}
 use Rattle.fbl_law.specs.GroupSteps.{IsCheckpoint, IsGroupStart}
-use Rattle.fbl_law.specs.Knowledge.{Members}
 use Rattle.fbl_law.specs.Sound.{IsSound}
 use Rattle.fbl_group.specs.declared.answers.Receipted.{Receipted}
 use Rattle.fbl_group.specs.declared.answers.Recovered.{Recovered}
@@ -22,7 +21,7 @@ use Rattle.fbl_group.specs.declared.refusals.RecoverRefusal.TheVariants.{NotDown
 use Rattle.fbl_group.specs.declared.refusals.DumpGroupRefusal.TheVariants.{BadStrike}
 use Rattle.fbl_group.specs.Checkpoints.{checkpoint_refusal}
 use Rattle.fbl_group.specs.Deliveries.{deliver_refusal, Delivers}
-use Rattle.fbl_group.specs.Names.{checkpoint_name, deliver_name, dump_name, recover_name, strike_name}
+use Rattle.fbl_group.specs.Names.{checkpoint_name, deliver_name, dump_group_name, recover_name, strike_name}
 use Rattle.fbl_group.specs.Recoveries.{Recovers}
 use Rattle.fbl_explain.specs.declared.account.Account.{Account}
 use Rattle.fbl_explain.specs.declared.account.Account.TheVariants.{Done, Lost, Undone}
@@ -102,16 +101,16 @@ RecoverStep next old new text account = RefusedRecovery old new text account ⊎
 abbrev pub IsDumpText : GroupRecord → Members → List ℕ → Account → Type 0
 IsDumpText r strike text account =
     (AllBelow strike r.config.members × (text ≡ dump_line (dump_of r strike)) × (account ≡ Done))
-    ⊎ (¬ (AllBelow strike r.config.members) × (text ≡ refused_line (codes "dump") (dump_name BadStrike)) × IsRefusal r account)
+    ⊎ (¬ (AllBelow strike r.config.members) × (text ≡ refused_line (codes "dump") (dump_group_name BadStrike)) × IsRefusal r account)
 
 abbrev pub DumpStep : GroupRecord → Members → GroupRecord → List ℕ → Account → Type 0
 DumpStep old strike new text account = (new ≡ old) × IsDumpText old strike text account
 
 -- a checkpoint, by its first refusal: a refused one changes nothing
 abbrev pub CheckpointBy : Option CheckpointRefusal → GroupRecord → ℕ → GroupRecord → List ℕ → Account → Type 0
-CheckpointBy None old p new text account = IsCheckpoint old new p × (text ≡ checkpoint_line p (checkpoint new p).received) × (account ≡ Done)
+CheckpointBy None old p new text account = IsCheckpoint old new p × (text ≡ checkpoint_line p (member_checkpoint new p).received) × (account ≡ Done)
 CheckpointBy (Some refusal) old p new text account =
-    (new ≡ old) × (text ≡ refused_line (codes "checkpoint") (checkpoint_name refusal)) × IsRefusal old account
+    (new ≡ old) × (text ≡ refused_line (codes "member_checkpoint") (checkpoint_name refusal)) × IsRefusal old account
 
 abbrev pub CheckpointStep : GroupRecord → ℕ → GroupRecord → List ℕ → Account → Type 0
 CheckpointStep old p new text account = CheckpointBy (checkpoint_refusal old p) old p new text account

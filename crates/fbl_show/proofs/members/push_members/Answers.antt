@@ -3,7 +3,7 @@ use Rattle.std.specs.List.{flat_map, range_with_len}
 use Rattle.std.proofs.lemmas.List.{append_assoc, take_all}
 use Rattle.std.proofs.lemmas.List.FromFn.{length-range_with_len}
 use Rattle.fbl_shapes.specs.declared.shape.Shape.{Shape}
-use Rattle.fbl_show.specs.Members.{member_shapes}
+use Rattle.fbl_show.specs.Members.{history_member_shapes}
 use Rattle.fbl_show.proofs.Steps.{rows_more}
 use Rattle.fbl_show.proofs.members.push_members.Goals as goal
 use Rattle.fbl_show.proofs.members.push_members.Goals.{in-Some+in_ok-push_member, in_default}
@@ -12,7 +12,7 @@ pub loop-number-preserved : goal.loop-number-preserved
 loop-number-preserved c =
     let n = c.args.members in
     let number = c.loop-number.number in
-    let f : ℕ → List Shape = member_shapes c.args.columns.now in
+    let f : ℕ → List Shape = history_member_shapes c.args.columns.now in
     let within : number < n = omega arith in
     elim c.match-new.branch [
       | in-Some+in_ok-push_member w ↦
@@ -28,4 +28,4 @@ pub returns : goal.returns
 returns c =
     let n = c.args.members in
     c.loop-number.invariant
-    ∙ ap (λ ks. c.args.shapes.now.items ++ flat_map (member_shapes c.args.columns.now) ks) (take_all c.loop-number.number (range_with_len 0 n) (omega (arith, length-range_with_len 0 n)))
+    ∙ ap (λ ks. c.args.shapes.now.items ++ flat_map (history_member_shapes c.args.columns.now) ks) (take_all c.loop-number.number (range_with_len 0 n) (omega (arith, length-range_with_len 0 n)))
