@@ -1,5 +1,5 @@
 -- What is drawn of a receipt: of which kind it is by who holds it, and which message it takes.
-use Rattle.std.specs.Prelude.{ℕ, ◌≡◌, Bool, false, not, ◌==◌, ◌&&◌, nat_lt, List, Option, Some, None, if◌then◌else◌}
+use Rattle.std.specs.Prelude.{ℕ, ◌≡◌, Bool, not, nat_lt, List, Option, Some, None, if◌then◌else◌}
 use Rattle.std.specs.HashMap as hash_map
 use Rattle.std.specs.List.{position_from}
 use Rattle.std.specs.FinSet as set

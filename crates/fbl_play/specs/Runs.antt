@@ -130,18 +130,18 @@ Step next workers old (commands.Checkpoint p) new text account = CheckpointStep 
 
 -- the commands may lead from old to new, one after another, print the text and have these accounts; each record that a command
 -- leaves is sound
-abbrev pub Run : Next → ℕ → GroupRecord → List Command → GroupRecord → List ℕ → List Account → Type 0
-Run next workers old [] new text [] = (new ≡ old) × (text ≡ [])
-Run next workers old (c ∷ cs) new text (account ∷ accounts) =
+abbrev pub CommandRun : Next → ℕ → GroupRecord → List Command → GroupRecord → List ℕ → List Account → Type 0
+CommandRun next workers old [] new text [] = (new ≡ old) × (text ≡ [])
+CommandRun next workers old (c ∷ cs) new text (account ∷ accounts) =
     (mid : GroupRecord) × (first : List ℕ) × (rest : List ℕ) × Step next workers old c mid first account × IsSound next mid
-    × Run next workers mid cs new rest accounts × (text ≡ first ++ rest)
-Run next workers old _ new text _ = ⊥
+    × CommandRun next workers mid cs new rest accounts × (text ≡ first ++ rest)
+CommandRun next workers old _ new text _ = ⊥
 
 -- some run of the commands, from a new group of this config, prints the text and has these accounts; each record of the run is
 -- sound, so that each state that is printed is the fold of the member's receipts in the trace
 abbrev pub IsTextOf : Next → ℕ → Settings → List Command → List ℕ → List Account → Type 0
 IsTextOf next workers config commands text accounts =
-    (start : GroupRecord) × (end : GroupRecord) × IsGroupStart config start × IsSound next start × Run next workers start commands end text accounts
+    (start : GroupRecord) × (end : GroupRecord) × IsGroupStart config start × IsSound next start × CommandRun next workers start commands end text accounts
 
 -- ---- what a play of the commands leaves in the writer
 

@@ -1,12 +1,11 @@
--- One column more: of members' lines, of messages that were sent or received, and of members.
+-- One column more: of members' lines, and of messages that were sent or received.
 use Rattle.std.proofs.Common.{ℕ, suc, ◌+◌, ◌<◌, ◌≡◌, ◌||◌, not, Bool, true, false, cond, List, [], ◌∷◌, ◌++◌, length, take, drop, get_or, Option, Some, None}
 use Rattle.std.proofs.Common.{refl, sym, ap, ◌∙◌, arith}
 use Rattle.std.specs.Bool.{beq}
 use Rattle.std.specs.Cmp.{booleans_Decides}
-use Rattle.std.specs.List.{flat_map, fold, range_with_len}
-use Rattle.std.proofs.lemmas.List.{append_assoc, at_drop_more, flat_map_more, take_more}
+use Rattle.std.specs.List.{fold}
+use Rattle.std.proofs.lemmas.List.{append_assoc, at_drop_more, take_more}
 use Rattle.std.proofs.lemmas.List.Folds.{list_any-append}
-use Rattle.std.proofs.lemmas.List.FromFn.{get_or-range_with_len, length-range_with_len}
 use Rattle.std.proofs.lemmas.List.Sums.{fold_push}
 use Rattle.fbl_base.specs.Events.{same_message, is_message}
 use Rattle.fbl_base.proofs.Recorded.{or_cond, or_false}
@@ -17,13 +16,6 @@ use Rattle.fbl_base.specs.declared.trace.MessageName.{MessageName}
 use Rattle.fbl_show.specs.Members.{differs, is_down, is_down_after, line_kind, line_part, line_to, turns}
 use Rattle.fbl_show.specs.Messages.{arrow_from, has_standing_receipt, stub_where, taken_by_column}
 use Rattle.fbl_show.specs.Places.{drawn, last_before}
-
--- one more number
-pub rows_more : (f : ℕ → List Shape) (n i : ℕ) → i < n → flat_map f (take i (range_with_len 0 n)) ++ f i ≡ flat_map f (take (i + 1) (range_with_len 0 n))
-rows_more f n i lt =
-    let r : List ℕ = range_with_len 0 n in
-    let at : get_or r i 0 ≡ i = omega (arith, get_or-range_with_len 0 n i 0 lt) in
-    ap (λ k. flat_map f (take i r) ++ f k) (sym at) ∙ flat_map_more f [] (take i r) (get_or r i 0) ∙ ap (flat_map f) (sym (take_more r i 0 (omega (arith, length-range_with_len 0 n))))
 
 -- the last place before the next one
 pub last_more : (test : ℕ → Bool) (i : ℕ) → last_before test (i + 1) ≡ cond (test i) (Some i) (last_before test i)

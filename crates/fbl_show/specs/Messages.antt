@@ -1,7 +1,7 @@
 -- The arrows of messages, from where they are sent to where they are received.
-use Rattle.std.specs.Prelude.{ℕ, Bool, true, false, ◌==◌, ◌&&◌, List, [], ◌∷◌, Option, Some, None, slice_get}
+use Rattle.std.specs.Prelude.{ℕ, Bool, true, false, List, [], ◌∷◌, Option, Some, None, slice_get}
 use Rattle.std.specs.List.{list_any}
-use Rattle.fbl_base.specs.Events.{same_message, is_message}
+use Rattle.fbl_base.specs.Events.{is_message}
 use Rattle.fbl_history.specs.declared.column.Column.{Column}
 use Rattle.fbl_history.specs.declared.column.Column.TheVariants as columns
 use Rattle.fbl_shapes.specs.declared.shape.ArrowKind.{ArrowKind}

@@ -1,4 +1,4 @@
-use Rattle.std.proofs.Common.{◌≡◌, ◌<◌, ℕ, true, false, Option, Some, None, arith, ap, sym, ◌∙◌}
+use Rattle.std.proofs.Common.{◌≡◌, true, false, arith, ap, sym, ◌∙◌}
 use Rattle.std.specs.FinSet as set
 use Rattle.fbl_base.proofs.Numbers.{is_number}
 use Rattle.fbl_base.specs.Audit.{IsDump}

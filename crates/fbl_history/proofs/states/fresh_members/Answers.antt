@@ -1,4 +1,4 @@
-use Rattle.std.proofs.Common.{◌≡◌, ℕ, ◌<◌, Option, Some, None, sym, ap, ◌∙◌, arith}
+use Rattle.std.proofs.Common.{◌≡◌, ℕ, ap, ◌∙◌, arith}
 use Rattle.fbl_base.proofs.Numbers.{is_number}
 use Rattle.fbl_base.specs.Configs.{Settings}
 use Rattle.fbl_member.specs.Members.{MemberRecord, blank, fresh}

@@ -1,10 +1,10 @@
 use Rattle.std.proofs.Common.{◌≡◌, ℕ, ◌<◌, List, ◌++◌, ap, ◌∙◌, arith}
 use Rattle.std.specs.List.{flat_map, range_with_len}
-use Rattle.std.proofs.lemmas.List.{append_assoc, take_all}
+use Rattle.std.proofs.lemmas.List.{take_all}
 use Rattle.std.proofs.lemmas.List.FromFn.{length-range_with_len}
+use Rattle.fbl_base.proofs.Numbers.{rows_more}
 use Rattle.fbl_shapes.specs.declared.shape.Shape.{Shape}
 use Rattle.fbl_show.specs.Members.{history_member_shapes}
-use Rattle.fbl_show.proofs.Steps.{rows_more}
 use Rattle.fbl_show.proofs.members.push_members.Goals as goal
 use Rattle.fbl_show.proofs.members.push_members.Goals.{in-Some+in_ok-push_member, in_default}
 
@@ -19,7 +19,7 @@ loop-number-preserved c =
           let same : w.in-Some.member ≡ number = w.in-Some.ensures.1 in
           rw w.shapes-is (
           w.in_ok-push_member.ensures ∙ ap (λ k. c.loop-number.shapes.items ++ f k) same ∙ ap (λ s. s ++ f number) c.loop-number.invariant
-          ∙ append_assoc c.args.shapes.now.items _ (f number) ∙ ap (λ s. c.args.shapes.now.items ++ s) (rows_more f n number within)
+          ∙ rows_more f c.args.shapes.now.items n number within
           )
       | in_default w ↦ absurd (w.in_default.ensures (omega arith))
     ]
