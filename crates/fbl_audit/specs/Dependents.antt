@@ -9,7 +9,7 @@ use Rattle.fbl_base.specs.Places.{DependsOnPlace}
 use Rattle.fbl_audit.specs.declared.dependents.Message.{Message}
 use Rattle.fbl_audit.specs.declared.dependents.Dependents.{Dependents}
 
--- whether two messages are the same
+-- whether two messages, each with its receiver, are the same
 abbrev pub same_addressed_message : Message → Message → Bool
 same_addressed_message a b = a.from == b.from && (a.ssn == b.ssn && a.to == b.to)
 

@@ -196,7 +196,8 @@ module _ (next : Next) (old : GroupRecord) (sound : IsSound next old) where
     -- as many are replayed as the trace has of the members that are down, beyond those of their checkpoints
     pub replayed_in-all : replayed_in old rebuilt ≡ length (filter (is_replayed old) (receipts (map mark_of (recovered_trace old))))
     replayed_in-all =
-        count_in-same old.down (λ p. (slice_index_or rebuilt p blank).received - (member_checkpoint old p).received) (λ p. (working old rebuilt p).received - (member_checkpoint old p).received) old.config.members
+        count_in-same old.down (λ p. (slice_index_or rebuilt p blank).received - (member_checkpoint old p).received)
+        (λ p. (working old rebuilt p).received - (member_checkpoint old p).received) old.config.members
         (λ p below down. ap (λ (m : MemberRecord). m.received - (member_checkpoint old p).received) (sym (working-down rebuilt p down)))
         ∙ replayed-count next old sound (recovered_trace old) cut (working old rebuilt) (λ p. (member_checkpoint old p).received) working-received
 

@@ -51,7 +51,8 @@ CutIsOne =
 abbrev pub ReplayBegins : Type 0
 ReplayBegins =
     (next : Next) (old : GroupRecord) (rebuilt : List MemberRecord)
-    → IsSound next old → length rebuilt ≡ old.config.members → ((p : ℕ) → p < old.config.members → IsDown (knowledge old) p → slice_index_or rebuilt p blank ≡ member_checkpoint old p)
+    → IsSound next old → length rebuilt ≡ old.config.members
+    → ((p : ℕ) → p < old.config.members → IsDown (knowledge old) p → slice_index_or rebuilt p blank ≡ member_checkpoint old p)
     → IsReplaying next old rebuilt
 
 -- a receipt that the gathered tables find is the member's next one, and its replay, with the note that the sender's log

@@ -90,7 +90,7 @@ pub(crate) fn look() -> &'static str
 }
 
 /// What the marks mean.
-#[tactic(auto, unfolding(crate::specs::Pictures::entries))]
+#[tactic(auto, unfolding(crate::specs::Pictures::drawn_legend))]
 pub(crate) fn entries(legend: Legend) -> &'static str
     ensures { result.now ≡ drawn_legend legend }
 {

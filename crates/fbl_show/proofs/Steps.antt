@@ -22,7 +22,8 @@ pub last_more : (test : ℕ → Bool) (i : ℕ) → last_before test (i + 1) ≡
 last_more test i = let e : i + 1 ≡ suc i = omega arith in ap (last_before test) e
 
 -- what is drawn is the same where the places at which messages were sent are
-pub arrow_same : (sent sent' : MessageName → Option ℕ) (place : ℕ) (column : Column) → ((m : MessageName) → sent m ≡ sent' m) → arrow_from sent place column ≡ arrow_from sent' place column
+pub arrow_same : (sent sent' : MessageName → Option ℕ) (place : ℕ) (column : Column) → ((m : MessageName) → sent m ≡ sent' m)
+    → arrow_from sent place column ≡ arrow_from sent' place column
 arrow_same sent sent' place column same = (λ i. arrow_from (λ m. same m i) place column)
 
 pub stub_same : (received received' : MessageName → Bool) (place : ℕ) (column : Column) → ((m : MessageName) → received m ≡ received' m)
