@@ -110,7 +110,7 @@ DumpStep old strike new text account = (new ≡ old) × IsDumpText old strike te
 abbrev pub CheckpointBy : Option CheckpointRefusal → GroupRecord → ℕ → GroupRecord → List ℕ → Account → Type 0
 CheckpointBy None old p new text account = IsCheckpoint old new p × (text ≡ checkpoint_line p (member_checkpoint new p).received) × (account ≡ Done)
 CheckpointBy (Some refusal) old p new text account =
-    (new ≡ old) × (text ≡ refused_line (codes "member_checkpoint") (checkpoint_name refusal)) × IsRefusal old account
+    (new ≡ old) × (text ≡ refused_line (codes "checkpoint") (checkpoint_name refusal)) × IsRefusal old account
 
 abbrev pub CheckpointStep : GroupRecord → ℕ → GroupRecord → List ℕ → Account → Type 0
 CheckpointStep old p new text account = CheckpointBy (checkpoint_refusal old p) old p new text account
