@@ -4,19 +4,19 @@ use Rattle.std.proofs.lemmas.Bool.{false≢true, cases_eq, not-true}
 use Rattle.std.proofs.lemmas.Bool.Decides.{nat_tests}
 use Rattle.std.specs.Cmp.{nat_cmp_total}
 use Rattle.std.specs.FinSet as set
+use Rattle.fbl_base.specs.MemberSets.{Members}
 use Rattle.fbl_base.specs.declared.trace.Determinant.{Determinant}
 use Rattle.fbl_base.specs.declared.trace.Mark.{Mark}
 use Rattle.fbl_base.specs.declared.trace.Mark.TheVariants.{Send, Receipt}
-use Rattle.fbl_base.specs.Audit.{Parts, IsHeldOutside, IsLost, IsOrphan, is_held_outside}
+use Rattle.fbl_base.specs.Audit.{Parts, IsHeldOutside, IsLost, IsDumpOrphan, is_held_outside}
 use Rattle.fbl_base.specs.Events.{At, determinant_of}
-use Rattle.fbl_base.specs.Places as places
+use Rattle.fbl_base.specs.Places.{DependsOnPlace}
 use Rattle.fbl_base.specs.Rules.{WellFormed}
 use Rattle.fbl_base.proofs.Gets.{At-below}
 use Rattle.fbl_base.proofs.PlacesAndEvents.{depends-from_places, places-from_depends}
 use Rattle.fbl_base.proofs.PrecedenceLaws.{Has-first}
 use Rattle.fbl_base.proofs.Recorded.{Decides-is_held_outside}
 use Rattle.fbl_base.proofs.Sizes.{len-remove_one, some_member}
-use Rattle.fbl_audit.specs.Dependents.{Members}
 use Rattle.fbl_audit.specs.Holders.{holders_of}
 use Rattle.fbl_audit.proofs.Checks.{both_not, holds}
 use Rattle.fbl_audit.proofs.Following.{contains-both, same_event}
@@ -47,7 +47,7 @@ lost_test dump d = by_test (is_held_outside dump d) refl where
 
 -- the member depends on a lost receipt among the first p events
 abbrev pub IsReached : Parts → ℕ → ℕ → Type 0
-IsReached dump p q = (k : ℕ) × (e : Mark) × (k < p) × At dump.events k e × IsLost dump e × places.Depends dump.events q k
+IsReached dump p q = (k : ℕ) × (e : Mark) × (k < p) × At dump.events k e × IsLost dump e × DependsOnPlace dump.events q k
 
 -- the members in the set are those that depend on a lost receipt among the first p events
 abbrev pub AreReached : Parts → ℕ → Members → Type 0
@@ -68,7 +68,7 @@ AreReached-same dump p e reached at kept are q = (
 
 -- a lost receipt, on which these members depend
 pub AreReached-more : (dump : Parts) (p : ℕ) (e : Mark) (reached members : Members) → At dump.events p e → IsLost dump e
-    → ((q : ℕ) → (set.contains members q ≡ true) ↔ places.Depends dump.events q p)
+    → ((q : ℕ) → (set.contains members q ≡ true) ↔ DependsOnPlace dump.events q p)
     → AreReached dump p reached → AreReached dump (p + 1) (set.union reached members)
 AreReached-more dump p e reached members at lost right are q = (
   λ h. elim ((contains-both reached members q).0 h) [
@@ -103,7 +103,7 @@ send_is_kept dump (Receipt to rsn from ssn) is lost = cc
 
 -- at the end, those outside the strike set are the orphans
 pub AreReached-orphans : (dump : Parts) (reached : Members) → WellFormed dump.members dump.events → AreReached dump (length dump.events) reached → (q : ℕ)
-    → (set.contains (set.difference reached dump.strike) q ≡ true) ↔ IsOrphan dump q
+    → (set.contains (set.difference reached dump.strike) q ≡ true) ↔ IsDumpOrphan dump q
 AreReached-orphans dump reached obeys are q =
     let is = both_not (set.contains reached q) (set.contains dump.strike q) in
     rw (set.contains-difference nat_cmp_total) (

@@ -2,7 +2,7 @@
 use Rattle.std.proofs.Common.{ℕ, ◌≡◌, false, refl}
 use Rattle.std.specs.FinSet as set
 use Rattle.fbl_base.specs.declared.trace.Mark.{Mark}
-use Rattle.fbl_base.specs.Audit.{Parts, IsLost, IsOrphan}
+use Rattle.fbl_base.specs.Audit.{Parts, IsLost, IsDumpOrphan}
 use Rattle.fbl_base.specs.Events.{At}
 use Rattle.fbl_base.specs.Rules.{WellFormed}
 use Rattle.fbl_base.proofs.PlacesAndEvents.{depends-from_places, places-from_depends}
@@ -15,11 +15,11 @@ pub cause_lost : (dump : Parts) (q i : ℕ) (e : Mark) → At dump.events i e �
 cause_lost dump q i e at cause = (let same : cause.0 ≡ e = same_event dump.events i i cause.0 e refl cause.1 at in rw same at cause.2)
 
 -- a member that is left and has a cause is an orphan
-pub cause_orphan : (dump : Parts) (q i : ℕ) → set.contains dump.strike q ≡ false → IsCause dump q i → IsOrphan dump q
+pub cause_orphan : (dump : Parts) (q i : ℕ) → set.contains dump.strike q ≡ false → IsCause dump q i → IsDumpOrphan dump q
 cause_orphan dump q i left cause = (left, (cause.0, cause.2, depends-from_places dump.events q i cause.0 cause.1 cause.3))
 
 -- without a cause it is none
-pub no_cause : (dump : Parts) (q : ℕ) → WellFormed dump.members dump.events → ((i : ℕ) → ¬ (IsCause dump q i)) → ¬ (IsOrphan dump q)
+pub no_cause : (dump : Parts) (q : ℕ) → WellFormed dump.members dump.events → ((i : ℕ) → ¬ (IsCause dump q i)) → ¬ (IsDumpOrphan dump q)
 no_cause dump q obeys none orphan =
     let e : Mark = orphan.1.0 in
     let has = Has-first orphan.1.2.1 in

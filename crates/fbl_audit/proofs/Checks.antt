@@ -9,6 +9,7 @@ use Rattle.std.proofs.lemmas.Option.{slice_get_read}
 use Rattle.std.proofs.lemmas.List.Elements.{filter_map-append}
 use Rattle.std.proofs.lemmas.List.Folds.{Any-from_list_any, list_any-from_Any}
 use Rattle.std.proofs.lemmas.Bool.{false≢true}
+use Rattle.fbl_base.specs.MemberSets.{Members}
 use Rattle.fbl_base.specs.declared.trace.Determinant.{Determinant}
 use Rattle.fbl_base.specs.declared.trace.Mark.{Mark}
 use Rattle.fbl_base.specs.declared.trace.Mark.TheVariants.{Send, Receipt}
@@ -24,7 +25,7 @@ use Rattle.fbl_base.proofs.Sizes.{len-remove_one, len-within, some_member}
 use Rattle.fbl_audit.specs.declared.checking.UnsafeReceipt.{UnsafeReceipt}
 use Rattle.fbl_audit.specs.Checking.{IsLeftOrphan, IsSafe, IsSaidOf, IsUnsafe, LosesReceipt, MayBeLost, SaysUnsafe, receipts_of_dump, struck_by}
 use Rattle.fbl_audit.specs.declared.dependents.Dependents.{Dependents}
-use Rattle.fbl_audit.specs.Dependents.{AreDependents, Members, dependents_at}
+use Rattle.fbl_audit.specs.Dependents.{AreDependents, dependents_at}
 use Rattle.fbl_base.specs.Rules.{WellFormed}
 use Rattle.fbl_audit.specs.Holders.{holders_of}
 use Rattle.fbl_audit.proofs.Following.{contains-both}

@@ -13,25 +13,25 @@ use Rattle.fbl_base.specs.declared.trace.Mark.{Mark}
 use Rattle.fbl_base.specs.declared.trace.Mark.TheVariants.{Send, Receipt}
 use Rattle.fbl_base.specs.Events.{At, member_of, send_of}
 use Rattle.fbl_base.specs.Rules.{WellFormed}
-use Rattle.fbl_base.specs.Places.{Leads, Precedes, Depends, itself, step}
-use Rattle.fbl_base.specs.MemberSets.{contains-insert_same, contains-insert_other}
+use Rattle.fbl_base.specs.Places.{PlaceLeads, PlacePrecedes, DependsOnPlace, same_place, place_step}
+use Rattle.fbl_base.specs.MemberSets.{contains-insert_same, contains-insert_other, Members}
 use Rattle.fbl_base.proofs.Gets.{At-below, get_or-same}
 use Rattle.fbl_base.proofs.PlacesLaws.{Precedes-joined}
 use Rattle.fbl_audit.specs.declared.dependents.Message.{Message}
 use Rattle.fbl_audit.specs.declared.dependents.Dependents.{Dependents}
-use Rattle.fbl_audit.specs.Dependents.{AreDependents, Members, dependents_by, known_after, message_of, same_message}
+use Rattle.fbl_audit.specs.Dependents.{AreDependents, dependents_by, known_after, message_taken_by, same_addressed_message}
 
 -- a path is empty, or begins with a step
-first_step : {t : List Mark} {i k : ℕ} → Precedes t i k → (i ≡ k) ⊎ ((j : ℕ) × Leads t i j × Precedes t j k)
-first_step (itself h) = inl refl
-first_step (step {j} {k} p l) = elim (first_step p) [
-  | inl same ↦ inr (k, (rw same l), itself l.4)
-  | inr more ↦ inr (more.0, more.1, step more.2 l)
+first_step : {t : List Mark} {i k : ℕ} → PlacePrecedes t i k → (i ≡ k) ⊎ ((j : ℕ) × PlaceLeads t i j × PlacePrecedes t j k)
+first_step (same_place h) = inl refl
+first_step (place_step {j} {k} p l) = elim (first_step p) [
+  | inl same ↦ inr (k, (rw same l), same_place l.4)
+  | inr more ↦ inr (more.0, more.1, place_step more.2 l)
 ]
 
 -- the member depends on some event at place i or later of which P holds
 abbrev pub DependsOnLater : List Mark → (Mark → Type 0) → ℕ → ℕ → Type 0
-DependsOnLater t P i member = (j : ℕ) × (b : Mark) × (i ≤ j) × At t j b × P b × Depends t member j
+DependsOnLater t P i member = (j : ℕ) × (b : Mark) × (i ≤ j) × At t j b × P b × DependsOnPlace t member j
 
 -- one place has one event
 pub same_event : (t : List Mark) (i j : ℕ) (a b : Mark) → i ≡ j → At t i a → At t j b → a ≡ b
@@ -39,7 +39,7 @@ same_event t i j a b here at_i at_j = (let e : Some a ≡ Some b = sym at_i ∙ 
 
 -- the events from i on: those after it, and it
 later_more : (t : List Mark) (P : Mark → Type 0) (i member : ℕ) (e : Mark) → At t i e
-    → DependsOnLater t P i member ↔ DependsOnLater t P (i + 1) member ⊎ (P e × Depends t member i)
+    → DependsOnLater t P i member ↔ DependsOnLater t P (i + 1) member ⊎ (P e × DependsOnPlace t member i)
 later_more t P i member e at = (
   λ d. elim (cases_eq d.0 i) [
     | inl here ↦ inr ((let same : d.1 ≡ e = same_event t d.0 i d.1 e here d.3 at in (rw same at d.4)), (rw here at d.5))
@@ -54,28 +54,28 @@ later_more t P i member e at = (
 -- who depends on the event at i: its member, and who depends on a later event of the member or on a later receipt of what the
 -- event sends
 depends_here : (t : List Mark) (i member : ℕ) (e : Mark) → At t i e
-    → Depends t member i ↔ (member_of e ≡ member) ⊎ DependsOnLater t (λ b. member_of b ≡ member_of e) (i + 1) member ⊎ DependsOnLater t (λ b. send_of b ≡ Some e) (i + 1) member
+    → DependsOnPlace t member i ↔ (member_of e ≡ member) ⊎ DependsOnLater t (λ b. member_of b ≡ member_of e) (i + 1) member ⊎ DependsOnLater t (λ b. send_of b ≡ Some e) (i + 1) member
 depends_here t i member e at = (
   λ d. elim (first_step d.2) [
     | inl here ↦ inl ((let same : e ≡ d.1 = same_event t i d.0 e d.1 here at d.3 in (rw same d.4)))
     | inr s ↦
         let from : s.1.0 ≡ e = same_event t i i s.1.0 e refl s.1.3 at in
-        let after : Depends t member s.0 = (d.0, d.1, s.2, d.3, d.4) in
+        let after : DependsOnPlace t member s.0 = (d.0, d.1, s.2, d.3, d.4) in
         inr (elim s.1.5 [
           | inl own ↦ inl (s.0, s.1.1, omega (arith, s.1.2), s.1.4, sym own ∙ ap member_of from, after)
           | inr sends ↦ inr (s.0, s.1.1, omega (arith, s.1.2), s.1.4, sends ∙ ap Some from, after)
         ])
   ],
   elim [
-    | inl own ↦ (i, e, itself at, at, own)
+    | inl own ↦ (i, e, same_place at, at, own)
     | inr later ↦ elim later [
       | inl d ↦ joined d.0 (e, d.1, omega (arith, d.2), at, d.3, inl (sym d.4)) d.5
       | inr d ↦ joined d.0 (e, d.1, omega (arith, d.2), at, d.3, inr d.4) d.5
     ]
   ],
 ) where
-  joined : (j : ℕ) → Leads t i j → Depends t member j → Depends t member i
-  joined j leads d = (d.0, d.1, Precedes-joined (step (itself at) leads) d.2, d.3, d.4)
+  joined : (j : ℕ) → PlaceLeads t i j → DependsOnPlace t member j → DependsOnPlace t member i
+  joined j leads d = (d.0, d.1, Precedes-joined (place_step (same_place at) leads) d.2, d.3, d.4)
 
 -- the pass knows who depends on an event at place i or later: of each member, and of each message that is received
 pub record Knows (t : List Mark) (i : ℕ) (by_member : List Members) (by_message : Message → Members) : Type 0 where
@@ -100,7 +100,7 @@ no_receipt_sent to rsn from ssn (Receipt to' rsn' from' ssn') h = cc
 
 -- what the pass answers of the event at i, by what it knows of those behind
 pub dependents_right : (t : List Mark) (i : ℕ) (by_member : List Members) (by_message : Message → Members) (e : Mark)
-    → At t i e → member_of e < 16 → Knows t (i + 1) by_member by_message → (q : ℕ) → (set.contains (dependents_by by_member by_message e) q ≡ true) ↔ Depends t q i
+    → At t i e → member_of e < 16 → Knows t (i + 1) by_member by_message → (q : ℕ) → (set.contains (dependents_by by_member by_message e) q ≡ true) ↔ DependsOnPlace t q i
 dependents_right t i by_member by_message (Send from ssn to) at below knows q =
     let here = depends_here t i q (Send from ssn to) at in
     let both = contains-both (set.insert (get_or by_member from set.empty) from) (by_message (record { from = from; ssn = ssn; to = to })) q in
@@ -127,7 +127,7 @@ dependents_right t i by_member by_message (Receipt to rsn from ssn) at below kno
       ]),
     )
 
-pub Decides-same_message : (a b : Message) → Decides (same_message a b) (a ≡ b)
+pub Decides-same_message : (a b : Message) → Decides (same_addressed_message a b) (a ≡ b)
 Decides-same_message a b =
     let all = Decides-and (a.from == b.from) _ (Decides-eqb a.from b.from) (Decides-and (a.ssn == b.ssn) _ (Decides-eqb a.ssn b.ssn) (Decides-eqb a.to b.to)) in (
       λ h. (let e = all.0 h in λ i. record { from = e.0 i; ssn = e.1.0 i; to = e.1.1 i }),
@@ -136,13 +136,13 @@ Decides-same_message a b =
 
 -- who depends on the event takes its place among those that depend on later ones
 module _ (t : List Mark) (i : ℕ) (by_member : List Members) (by_message : Message → Members) (e : Mark) (at : At t i e)
-    (knows : Knows t (i + 1) by_member by_message) (found : Members) (right : (q : ℕ) → (set.contains found q ≡ true) ↔ Depends t q i) where
+    (knows : Knows t (i + 1) by_member by_message) (found : Members) (right : (q : ℕ) → (set.contains found q ≡ true) ↔ DependsOnPlace t q i) where
   members_more : member_of e < 16 → (m q : ℕ) → m < 16
       → (set.contains (get_or (set_at by_member (member_of e) (set.union (get_or by_member (member_of e) set.empty) found)) m set.empty) q ≡ true) ↔
       DependsOnLater t (λ b. member_of b ≡ m) i q
   members_more below m q within = at_place (cases_eq m (member_of e)) (later_more t (λ b. member_of b ≡ m) i q e at) (knows.members m q within) where
     at_place : (m ≡ member_of e) ⊎ (m ≢ member_of e)
-        → (DependsOnLater t (λ b. member_of b ≡ m) i q ↔ DependsOnLater t (λ b. member_of b ≡ m) (i + 1) q ⊎ ((member_of e ≡ m) × Depends t q i))
+        → (DependsOnLater t (λ b. member_of b ≡ m) i q ↔ DependsOnLater t (λ b. member_of b ≡ m) (i + 1) q ⊎ ((member_of e ≡ m) × DependsOnPlace t q i))
         → ((set.contains (get_or by_member m set.empty) q ≡ true) ↔ DependsOnLater t (λ b. member_of b ≡ m) (i + 1) q)
         → (set.contains (get_or (set_at by_member (member_of e) (set.union (get_or by_member (member_of e) set.empty) found)) m set.empty) q ≡ true) ↔
         DependsOnLater t (λ b. member_of b ≡ m) i q
@@ -162,26 +162,26 @@ module _ (t : List Mark) (i : ℕ) (by_member : List Members) (by_message : Mess
         )
 
   -- an event that takes no message
-  messages_kept : message_of e ≡ None → (m : Message) (q : ℕ) → (set.contains (by_message m) q ≡ true) ↔ DependsOnLater t (λ b. send_of b ≡ Some (Send m.from m.ssn m.to)) i q
+  messages_kept : message_taken_by e ≡ None → (m : Message) (q : ℕ) → (set.contains (by_message m) q ≡ true) ↔ DependsOnLater t (λ b. send_of b ≡ Some (Send m.from m.ssn m.to)) i q
   messages_kept none m q =
       let more = later_more t (λ b. send_of b ≡ Some (Send m.from m.ssn m.to)) i q e at in
       let later = knows.messages m q in
       (λ h. more.1 (inl (later.0 h)), λ d. elim (more.0 d) [ inl x ↦ later.1 x | inr x ↦ absurd (takes_none e m none x.0) ])
     where
-      takes_none : (b : Mark) (m : Message) → message_of b ≡ None → send_of b ≡ Some (Send m.from m.ssn m.to) → ⊥
+      takes_none : (b : Mark) (m : Message) → message_taken_by b ≡ None → send_of b ≡ Some (Send m.from m.ssn m.to) → ⊥
       takes_none (Send from ssn to) m none h = cc
       takes_none (Receipt to rsn from ssn) m none h = cc
 
   -- a receipt
   messages_more : (taken : Message) → send_of e ≡ Some (Send taken.from taken.ssn taken.to) → (m : Message) (q : ℕ)
       → (set.contains (known_after by_message (Some taken) found m) q ≡ true) ↔ DependsOnLater t (λ b. send_of b ≡ Some (Send m.from m.ssn m.to)) i q
-  messages_more taken takes m q = at_message (same_message taken m) refl (later_more t (λ b. send_of b ≡ Some (Send m.from m.ssn m.to)) i q e at) (knows.messages m q) where
+  messages_more taken takes m q = at_message (same_addressed_message taken m) refl (later_more t (λ b. send_of b ≡ Some (Send m.from m.ssn m.to)) i q e at) (knows.messages m q) where
     same_send : (a b : Message) → Some (Send a.from a.ssn a.to) ≡ Some (Send b.from b.ssn b.to) → a ≡ b
     same_send a b h = (let e1 : a.from ≡ b.from = cc in let e2 : a.ssn ≡ b.ssn = cc in let e3 : a.to ≡ b.to = cc in λ j. record { from = e1 j; ssn = e2 j; to = e3 j })
 
-    at_message : (b : Bool) → same_message taken m ≡ b
+    at_message : (b : Bool) → same_addressed_message taken m ≡ b
         → (DependsOnLater t (λ b. send_of b ≡ Some (Send m.from m.ssn m.to)) i q ↔ DependsOnLater t (λ b. send_of b ≡ Some (Send m.from m.ssn m.to))
-        (i + 1) q ⊎ ((send_of e ≡ Some (Send m.from m.ssn m.to)) × Depends t q i))
+        (i + 1) q ⊎ ((send_of e ≡ Some (Send m.from m.ssn m.to)) × DependsOnPlace t q i))
         → ((set.contains (by_message m) q ≡ true) ↔ DependsOnLater t (λ b. send_of b ≡ Some (Send m.from m.ssn m.to)) (i + 1) q)
         → (set.contains (cond b (set.union (by_message taken) found) (by_message m)) q ≡ true) ↔ DependsOnLater t (λ b. send_of b ≡ Some (Send m.from m.ssn m.to)) i q
     at_message true is more later =
@@ -199,15 +199,15 @@ module _ (t : List Mark) (i : ℕ) (by_member : List Members) (by_message : Mess
     )
 
   -- what is known with the event
-  pub Knows-more : member_of e < 16 → Knows t i (set_at by_member (member_of e) (set.union (get_or by_member (member_of e) set.empty) found)) (known_after by_message (message_of e) found)
+  pub Knows-more : member_of e < 16 → Knows t i (set_at by_member (member_of e) (set.union (get_or by_member (member_of e) set.empty) found)) (known_after by_message (message_taken_by e) found)
   Knows-more below = record {
     room = length-set by_member (member_of e) _ ∙ knows.room;
     members = members_more below;
     messages = by_event e refl;
   } where
     by_event : (b : Mark) → b ≡ e → (m : Message) (q : ℕ)
-        → (set.contains (known_after by_message (message_of b) found m) q ≡ true) ↔ DependsOnLater t (λ b. send_of b ≡ Some (Send m.from m.ssn m.to)) i q
-    by_event (Send from ssn to) is m q = messages_kept (ap message_of (sym is)) m q
+        → (set.contains (known_after by_message (message_taken_by b) found m) q ≡ true) ↔ DependsOnLater t (λ b. send_of b ≡ Some (Send m.from m.ssn m.to)) i q
+    by_event (Send from ssn to) is m q = messages_kept (ap message_taken_by (sym is)) m q
     by_event (Receipt to rsn from ssn) is m q = messages_more (record { from = from; ssn = ssn; to = to }) (ap send_of (sym is)) m q
 
 -- nothing is known behind the last event
@@ -225,7 +225,7 @@ Knows-none t by_member by_message members messages = record {
 pub record Seen (t : List Mark) (p : ℕ) (by_member : List Members) (by_message : Message → Members) (from_the_end : List Members) : Type 0 where
   pub knows : Knows t p by_member by_message
   pub count : length from_the_end + p ≡ length t
-  pub found : (i q : ℕ) → p ≤ i → i < length t → (set.contains (get_or from_the_end (length t - 1 - i) set.empty) q ≡ true) ↔ Depends t q i
+  pub found : (i q : ℕ) → p ≤ i → i < length t → (set.contains (get_or from_the_end (length t - 1 - i) set.empty) q ≡ true) ↔ DependsOnPlace t q i
 
 Knows-at : (t : List Mark) (p i : ℕ) (by_member : List Members) (by_message : Message → Members) → p ≡ i → Knows t p by_member by_message → Knows t i by_member by_message
 Knows-at t p i by_member by_message same knows = (rw same at knows)
@@ -244,20 +244,20 @@ pub Seen-more : (t : List Mark) (p : ℕ) (by_member by_member' : List Members) 
     → Seen t p by_member by_message from_the_end → 0 < p → e ≡ get_or t (p - 1) e → member_of e < 16
     → members ≡ dependents_by by_member by_message e
     → by_member' ≡ set_at by_member (member_of e) (set.union (get_or by_member (member_of e) set.empty) members)
-    → ((m : Message) → by_message' m ≡ known_after by_message (message_of e) members m)
+    → ((m : Message) → by_message' m ≡ known_after by_message (message_taken_by e) members m)
     → Seen t (p - 1) by_member' by_message' (from_the_end ++ members ∷ [])
 Seen-more t p by_member by_member' by_message by_message' from_the_end e members seen some is below are own taken =
     let at : At t (p - 1) e = slice_get_read t (length t) (p - 1) e refl (omega (arith, seen.count, some)) is in
     let behind : Knows t (p - 1 + 1) by_member by_message = Knows-at t p (p - 1 + 1) by_member by_message (omega (arith, some)) seen.knows in
-    let right : (q : ℕ) → (set.contains members q ≡ true) ↔ Depends t q (p - 1) = λ q. (rw are (dependents_right t (p - 1) by_member by_message e at below behind q)) in
+    let right : (q : ℕ) → (set.contains members q ≡ true) ↔ DependsOnPlace t q (p - 1) = λ q. (rw are (dependents_right t (p - 1) by_member by_message e at below behind q)) in
     record {
       knows = Knows-as t (p - 1) _ by_member' _ by_message' own taken (Knows-more t (p - 1) by_member by_message e at behind members right below);
       count = rw (length-append from_the_end (members ∷ [])) (omega (arith, seen.count, some));
       found = λ i q from within. by_place right i q from within (cases_eq i (p - 1));
     }
   where
-    by_place : ((q : ℕ) → (set.contains members q ≡ true) ↔ Depends t q (p - 1)) → (i q : ℕ) → p - 1 ≤ i → i < length t → (i ≡ p - 1) ⊎ (i ≢ p - 1)
-        → (set.contains (get_or (from_the_end ++ members ∷ []) (length t - 1 - i) set.empty) q ≡ true) ↔ Depends t q i
+    by_place : ((q : ℕ) → (set.contains members q ≡ true) ↔ DependsOnPlace t q (p - 1)) → (i q : ℕ) → p - 1 ≤ i → i < length t → (i ≡ p - 1) ⊎ (i ≢ p - 1)
+        → (set.contains (get_or (from_the_end ++ members ∷ []) (length t - 1 - i) set.empty) q ≡ true) ↔ DependsOnPlace t q i
     by_place right i q from within (inl here) =
         let last : length from_the_end ≡ length t - 1 - i = omega (arith, seen.count, here, some) in
         (rw (get_or_push from_the_end members set.empty (length t - 1 - i) last, here) (right q))

@@ -2,6 +2,7 @@
 use Rattle.std.proofs.Common.{ℕ, Bool, true, false, ◌≡◌, ◌<◌, ◌≤◌, ◌⊎◌, inl, inr, refl, sym, ap, ◌∙◌, arith, nat_cmp, nat_lt}
 use Rattle.std.specs.FinSet as set
 use Rattle.std.proofs.lemmas.Bool.{false≢true, ltb-false, ltb-true}
+use Rattle.fbl_base.specs.MemberSets.{Members}
 use Rattle.fbl_base.specs.declared.trace.Determinant.{Determinant}
 use Rattle.fbl_base.specs.declared.trace.Mark.{Mark}
 use Rattle.fbl_base.specs.declared.trace.Mark.TheVariants.{Send, Receipt}
@@ -11,7 +12,6 @@ use Rattle.fbl_base.specs.Precedence.{Depends, Has}
 use Rattle.fbl_base.proofs.PrecedenceLaws.{Has-first}
 use Rattle.fbl_base.proofs.Sizes.{len-within}
 use Rattle.fbl_audit.specs.Checking.{IsSafe, MayBeLost, struck_by}
-use Rattle.fbl_audit.specs.Dependents.{Members}
 use Rattle.fbl_audit.specs.Holders.{holders_of}
 use Rattle.fbl_audit.specs.Laws.{HasAlwaysNoOrphans, SafeLaw}
 use Rattle.fbl_audit.proofs.Checks.{least_loses, least_may, least_of, loses_all}

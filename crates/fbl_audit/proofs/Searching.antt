@@ -9,21 +9,21 @@ use Rattle.std.proofs.lemmas.Option.{slice_get_read}
 use Rattle.fbl_base.specs.declared.trace.Mark.{Mark}
 use Rattle.fbl_base.specs.declared.trace.Mark.TheVariants.{Send, Receipt}
 use Rattle.fbl_base.specs.Events.{At, member_of, send_of}
-use Rattle.fbl_base.specs.Places.{Leads, Precedes, Depends, itself, step}
+use Rattle.fbl_base.specs.Places.{PlaceLeads, PlacePrecedes, DependsOnPlace, same_place, place_step}
 use Rattle.fbl_base.proofs.Gets.{At-below, At-push, get_or-same}
 use Rattle.fbl_audit.specs.declared.dependents.Message.{Message}
-use Rattle.fbl_audit.specs.Dependents.{message_of, same_message}
+use Rattle.fbl_audit.specs.Dependents.{message_taken_by, same_addressed_message}
 use Rattle.fbl_audit.specs.Paths.{ArePaths, IsBefore, IsEndBy, IsPath, IsSentBy, Origin, end_after, message_sent_by, place_before, sent_after}
 use Rattle.fbl_audit.proofs.Following.{Decides-same_message, same_event}
 
 -- a path is empty, or ends with a step
-last_step : {t : List Mark} {i p : ℕ} → Precedes t i p → (p ≡ i) ⊎ ((j : ℕ) × Precedes t i j × Leads t j p)
-last_step (itself h) = inl refl
-last_step (step {j} q l) = inr (j, q, l)
+last_step : {t : List Mark} {i p : ℕ} → PlacePrecedes t i p → (p ≡ i) ⊎ ((j : ℕ) × PlacePrecedes t i j × PlaceLeads t j p)
+last_step (same_place h) = inl refl
+last_step (place_step {j} q l) = inr (j, q, l)
 
-pub Precedes-has : {t : List Mark} {i p : ℕ} → Precedes t i p → (e : Mark) × At t p e
-Precedes-has (itself {a} h) = (a, h)
-Precedes-has (step q l) = (l.1, l.4)
+pub Precedes-has : {t : List Mark} {i p : ℕ} → PlacePrecedes t i p → (e : Mark) × At t p e
+Precedes-has (same_place {a} h) = (a, h)
+Precedes-has (place_step q l) = (l.1, l.4)
 
 -- what a search knows of the first p events: of each member and of each message
 pub record Knows (t : List Mark) (i p : ℕ) (ends : List (Option ℕ)) (sends : Message → Option ℕ) : Type 0 where
@@ -35,10 +35,10 @@ pub record Knows (t : List Mark) (i p : ℕ) (ends : List (Option ℕ)) (sends :
 pub before_right : (t : List Mark) (i p : ℕ) (ends : List (Option ℕ)) (sends : Message → Option ℕ) (e : Mark) → At t p e → member_of e < 16
     → Knows t i p ends sends → IsBefore t i p (place_before ends sends e)
 before_right t i p ends sends e at below knows = by_member (get_or ends (member_of e) None) (knows.members (member_of e) below) where
-  no_own : IsEndBy t i p (member_of e) None → (j : ℕ) → Precedes t i j → (l : Leads t j p) → member_of l.0 ≡ member_of l.1 → ⊥
+  no_own : IsEndBy t i p (member_of e) None → (j : ℕ) → PlacePrecedes t i j → (l : PlaceLeads t j p) → member_of l.0 ≡ member_of l.1 → ⊥
   no_own none j q l own = none j l.0 l.2 l.3 (own ∙ ap member_of (same_event t p p l.1 e refl l.4 at)) q
 
-  by_message : IsEndBy t i p (member_of e) None → (e' : Mark) → e' ≡ e → IsBefore t i p (option_and_then sends (message_of e'))
+  by_message : IsEndBy t i p (member_of e) None → (e' : Mark) → e' ≡ e → IsBefore t i p (option_and_then sends (message_taken_by e'))
   by_message none (Send from ssn to) is = λ pr. elim (last_step pr) [
     | inl here ↦ here
     | inr s ↦ elim s.2.5 [
@@ -66,7 +66,7 @@ before_right t i p ends sends e at below knows = by_member (get_or ends (member_
       ]
     ]
 
-  by_member : (o : Option ℕ) → IsEndBy t i p (member_of e) o → IsBefore t i p (option_or o (option_and_then sends (message_of e)))
+  by_member : (o : Option ℕ) → IsEndBy t i p (member_of e) o → IsBefore t i p (option_or o (option_and_then sends (message_taken_by e)))
   by_member (Some k) found = (let b = found.1.own in ((b.0, e, found.0, b.1, at, inl b.2), found.1.depends))
   by_member None none = by_message none e refl
 
@@ -74,7 +74,7 @@ before_right t i p ends sends e at below knows = by_member (get_or ends (member_
 
 -- a path comes to the event
 pub Knows-more : (t : List Mark) (i p : ℕ) (ends ends' : List (Option ℕ)) (sends sends' : Message → Option ℕ) (e : Mark) → At t p e → member_of e < 16
-    → Precedes t i p → Knows t i p ends sends
+    → PlacePrecedes t i p → Knows t i p ends sends
     → ends' ≡ end_after ends p e → ((m : Message) → sends' m ≡ sent_after sends (message_sent_by e) p m) → Knows t i (p + 1) ends' sends'
 Knows-more t i p ends ends' sends sends' e at below pr knows ends_are sends_are = record {
   room = rw ends_are (length-set ends (member_of e) _ ∙ knows.room);
@@ -108,8 +108,8 @@ Knows-more t i p ends ends' sends sends' e at below pr knows ends_are sends_are 
 
   at_message : (m : Message) (e' : Mark) → e' ≡ e → (o : Option ℕ) → sends m ≡ o → IsSentBy t i p m o → IsSentBy t i (p + 1) m (sent_after sends (message_sent_by e') p m)
   at_message m (Receipt to rsn from ssn) is o old sent = rw old (kept m (λ h. (let no : Receipt to rsn from ssn ≡ Send m.from m.ssn m.to = is ∙ h in cc)) o sent)
-  at_message m (Send from ssn to) is o old sent = by_test (same_message (record { from = from; ssn = ssn; to = to }) m) refl where
-    by_test : (b : Bool) → same_message (record { from = from; ssn = ssn; to = to }) m ≡ b → IsSentBy t i (p + 1) m (cond b (Some p) (sends m))
+  at_message m (Send from ssn to) is o old sent = by_test (same_addressed_message (record { from = from; ssn = ssn; to = to }) m) refl where
+    by_test : (b : Bool) → same_addressed_message (record { from = from; ssn = ssn; to = to }) m ≡ b → IsSentBy t i (p + 1) m (cond b (Some p) (sends m))
     by_test true test =
         let same : record { from = from; ssn = ssn; to = to } ≡ m = (Decides-same_message (record { from = from; ssn = ssn; to = to }) m).0 test in
         let here : e ≡ Send m.from m.ssn m.to = sym is ∙ ap (λ (x : Message). Send x.from x.ssn x.to) same in
@@ -123,7 +123,7 @@ Knows-more t i p ends ends' sends sends' e at below pr knows ends_are sends_are 
         )) o sent)
 
 -- no path comes to the event
-pub Knows-same : (t : List Mark) (i p : ℕ) (ends : List (Option ℕ)) (sends : Message → Option ℕ) → ¬ (Precedes t i p) → Knows t i p ends sends → Knows t i (p + 1) ends sends
+pub Knows-same : (t : List Mark) (i p : ℕ) (ends : List (Option ℕ)) (sends : Message → Option ℕ) → ¬ (PlacePrecedes t i p) → Knows t i p ends sends → Knows t i (p + 1) ends sends
 Knows-same t i p ends sends none_comes knows = record {
   room = knows.room;
   members = λ m within. at_member m (get_or ends m None) (knows.members m within);
@@ -169,12 +169,12 @@ Before-more t i p earlier o count before here k o' at = elim (At-push earlier o 
 ]
 
 -- a path comes to what a place leads to, and to the first event itself
-pub comes : (t : List Mark) (i p : ℕ) (e : Mark) (o : Option ℕ) → At t p e → IsBefore t i p o → ((k : ℕ) × (o ≡ Some k)) ⊎ (p ≡ i) → Precedes t i p
-comes t i p e o at before (inl some) = (let b : Leads t some.0 p × Precedes t i some.0 = rw some.1 at before in step b.1 b.0)
-comes t i p e o at before (inr is) = rw (← is) (itself at)
+pub comes : (t : List Mark) (i p : ℕ) (e : Mark) (o : Option ℕ) → At t p e → IsBefore t i p o → ((k : ℕ) × (o ≡ Some k)) ⊎ (p ≡ i) → PlacePrecedes t i p
+comes t i p e o at before (inl some) = (let b : PlaceLeads t some.0 p × PlacePrecedes t i some.0 = rw some.1 at before in place_step b.1 b.0)
+comes t i p e o at before (inr is) = rw (← is) (same_place at)
 
 pub Seen-more : (t : List Mark) (i p : ℕ) (ends ends' : List (Option ℕ)) (sends sends' : Message → Option ℕ) (earlier : List (Option ℕ)) (e : Mark) (o : Option ℕ)
-    → Seen t i p ends sends earlier → At t p e → member_of e < 16 → IsBefore t i p o → Precedes t i p → ends' ≡ end_after ends p e
+    → Seen t i p ends sends earlier → At t p e → member_of e < 16 → IsBefore t i p o → PlacePrecedes t i p → ends' ≡ end_after ends p e
     → ((m : Message) → sends' m ≡ sent_after sends (message_sent_by e) p m)
     → Seen t i (p + 1) ends' sends' (earlier ++ o ∷ [])
 Seen-more t i p ends ends' sends sends' earlier e o seen at below here pr ends_are sends_are = record {
@@ -214,13 +214,13 @@ none_of (Some k) h = cc
 pub IsPath-one : (t : List Mark) (j : ℕ) → IsPath t j j (j ∷ [])
 IsPath-one t j = record { begins = refl; steps = λ k a b at_k at_next. absurd (omega (arith, At-below (j ∷ []) (k + 1) b at_next)); ends = refl }
 
-pub IsPath-more : (t : List Mark) (i k j : ℕ) (path : List ℕ) → Leads t i k → IsPath t k j path → IsPath t i j (i ∷ path)
+pub IsPath-more : (t : List Mark) (i k j : ℕ) (path : List ℕ) → PlaceLeads t i k → IsPath t k j path → IsPath t i j (i ∷ path)
 IsPath-more t i k j path leads is = record {
   begins = refl;
   steps = steps_more;
   ends = last_more path is.begins is.ends;
 } where
-  steps_more : (n a b : ℕ) → slice_get (i ∷ path) n ≡ Some a → slice_get (i ∷ path) (n + 1) ≡ Some b → Leads t a b
+  steps_more : (n a b : ℕ) → slice_get (i ∷ path) n ≡ Some a → slice_get (i ∷ path) (n + 1) ≡ Some b → PlaceLeads t a b
   steps_more zero a b at_n at_next =
       let first : i ≡ a = cc in
       let next : slice_get path 0 ≡ Some b = at_next in
@@ -233,24 +233,24 @@ IsPath-more t i k j path leads is = record {
   last_more (x ∷ path) begins ends = (rw (let e : length (i ∷ x ∷ path) - 1 ≡ suc (length (x ∷ path) - 1) = omega arith in e) ends)
 
 -- one more step back
-pub IsPath-back : (t : List Mark) (i k j : ℕ) (path path' : List ℕ) → Leads t i k → IsPath t k j (reverse path) → path' ≡ path ++ i ∷ [] → IsPath t i j (reverse path')
+pub IsPath-back : (t : List Mark) (i k j : ℕ) (path path' : List ℕ) → PlaceLeads t i k → IsPath t k j (reverse path) → path' ≡ path ++ i ∷ [] → IsPath t i j (reverse path')
 IsPath-back t i k j path path' leads is more = rw (more, reverse-append path (i ∷ [])) (IsPath-more t i k j (reverse path) leads is)
 
 -- what the list has of a place that a path comes to
-At-place : (origin : Origin) (earlier ends : List (Option ℕ)) → ArePaths origin earlier ends → (p : ℕ) (o : Option ℕ) → Precedes origin.events origin.place p
+At-place : (origin : Origin) (earlier ends : List (Option ℕ)) → ArePaths origin earlier ends → (p : ℕ) (o : Option ℕ) → PlacePrecedes origin.events origin.place p
     → o ≡ get_or earlier p o → slice_get earlier p ≡ Some o
 At-place origin earlier ends are p o comes is =
     let has = Precedes-has comes in
     slice_get_read earlier (length earlier) p o refl (omega (arith, are.count, At-below origin.events p has.0 has.1)) is
 
-pub before_at : (origin : Origin) (earlier ends : List (Option ℕ)) → ArePaths origin earlier ends → (p : ℕ) (o : Option ℕ) → Precedes origin.events origin.place p
+pub before_at : (origin : Origin) (earlier ends : List (Option ℕ)) → ArePaths origin earlier ends → (p : ℕ) (o : Option ℕ) → PlacePrecedes origin.events origin.place p
     → o ≡ get_or earlier p o → IsBefore origin.events origin.place p o
 before_at origin earlier ends are p o comes is = are.before p o (At-place origin earlier ends are p o comes is)
 
 -- where nothing leads on to it, a path begins
-pub begins_here : (t : List Mark) (i p : ℕ) (o : Option ℕ) → o ≡ None → IsBefore t i p o → Precedes t i p → p ≡ i
+pub begins_here : (t : List Mark) (i p : ℕ) (o : Option ℕ) → o ≡ None → IsBefore t i p o → PlacePrecedes t i p → p ≡ i
 begins_here t i p o none before comes = (let at_none : IsBefore t i p None = rw none at before in at_none comes)
 
 -- nobody depends on the event where no path comes to the member
-pub none_depends : (t : List Mark) (i member : ℕ) → IsEndBy t i (length t) member None → ¬ (Depends t member i)
+pub none_depends : (t : List Mark) (i member : ℕ) → IsEndBy t i (length t) member None → ¬ (DependsOnPlace t member i)
 none_depends t i member none d = none d.0 d.1 (At-below t d.0 d.1 d.3) d.3 d.4 d.2

@@ -3,11 +3,10 @@ use Rattle.std.specs.Prelude.{ℕ, ◌≡◌, ◌≤◌, ◌↔◌, ◌⊎◌, t
 use Rattle.std.specs.List.{filter_map}
 use Rattle.std.specs.FinSet as set
 use Rattle.fbl_base.specs.declared.trace.Determinant.{Determinant}
-use Rattle.fbl_base.specs.Audit.{Parts, IsHeldOutside, IsOrphan}
+use Rattle.fbl_base.specs.Audit.{Parts, IsHeldOutside, IsDumpOrphan}
 use Rattle.fbl_base.specs.Events.{determinant_of, receipt_of}
-use Rattle.fbl_base.specs.MemberSets.{AllBelow}
+use Rattle.fbl_base.specs.MemberSets.{AllBelow, Members}
 use Rattle.fbl_base.specs.Precedence.{Depends}
-use Rattle.fbl_audit.specs.Dependents.{Members}
 use Rattle.fbl_audit.specs.declared.checking.UnsafeReceipt.{UnsafeReceipt}
 
 -- the members may be lost: they are of the group, those of the strike set are among them, and they are at most f, or as many
@@ -23,7 +22,7 @@ struck_by members dump = record dump { strike = members }
 
 -- whichever members may be lost, the audit finds no orphan
 abbrev pub IsSafe : Parts → Type 0
-IsSafe dump = (members : Members) → MayBeLost dump members → (q : ℕ) → ¬ (IsOrphan (struck_by members dump) q)
+IsSafe dump = (members : Members) → MayBeLost dump members → (q : ℕ) → ¬ (IsDumpOrphan (struck_by members dump) q)
 
 -- the loss of the members loses the receipt with the determinant: nobody outside them holds it
 abbrev pub LosesReceipt : Parts → Members → Determinant → Type 0

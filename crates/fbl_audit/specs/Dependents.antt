@@ -1,35 +1,31 @@
 -- Who depends on each event of a trace.
 use Rattle.std.specs.Prelude.{ℕ, ◌≡◌, ◌<◌, ◌-◌, ◌↔◌, ◌==◌, ◌&&◌, Bool, true, List, length, slice_index_or, Option, Some, None, unwrap_or, if◌then◌else◌}
-use Rattle.std.specs.Ordering.{nat_cmp}
 use Rattle.std.specs.FinSet as set
 use Rattle.std.specs.HashMap as hash_map
+use Rattle.fbl_base.specs.MemberSets.{Members}
 use Rattle.fbl_base.specs.declared.trace.Mark.{Mark}
 use Rattle.fbl_base.specs.declared.trace.Mark.TheVariants.{Send, Receipt}
-use Rattle.fbl_base.specs.Places.{Depends}
+use Rattle.fbl_base.specs.Places.{DependsOnPlace}
 use Rattle.fbl_audit.specs.declared.dependents.Message.{Message}
 use Rattle.fbl_audit.specs.declared.dependents.Dependents.{Dependents}
 
--- sets of members
-abbrev pub Members : Type 0
-Members = set.FinSet nat_cmp
-
--- whether two messages are the same
-abbrev pub same_message : Message → Message → Bool
-same_message a b = a.from == b.from && (a.ssn == b.ssn && a.to == b.to)
+-- whether two messages, each with its receiver, are the same
+abbrev pub same_addressed_message : Message → Message → Bool
+same_addressed_message a b = a.from == b.from && (a.ssn == b.ssn && a.to == b.to)
 
 -- the message that the event takes, if it is a receipt
-abbrev pub message_of : Mark → Option Message
-message_of (Send from ssn to) = None
-message_of (Receipt to rsn from ssn) = Some (record { from = from; ssn = ssn; to = to })
+abbrev pub message_taken_by : Mark → Option Message
+message_taken_by (Send from ssn to) = None
+message_taken_by (Receipt to rsn from ssn) = Some (record { from = from; ssn = ssn; to = to })
 
 -- what a map has for a message, nobody where it has none
 abbrev pub known_of : {S : Type 0} → hash_map.HashMap Message Members S → Message → Members
-known_of map message = unwrap_or (hash_map.get same_message map message) set.empty
+known_of map message = unwrap_or (hash_map.get same_addressed_message map message) set.empty
 
 -- what is known of messages after an event that takes this one, if it is a receipt, and on which these members depend
 abbrev pub known_after : (Message → Members) → Option Message → Members → Message → Members
 known_after known None members message = known message
-known_after known (Some taken) members message = if same_message taken message then set.union (known taken) members else known message
+known_after known (Some taken) members message = if same_addressed_message taken message then set.union (known taken) members else known message
 
 -- the members that depend on an event: its own, those that depend on a later event of it, and those that depend on a
 -- receipt of the message, if it sends one
@@ -45,4 +41,4 @@ dependents_at found place = slice_index_or found.from_the_end.items (length foun
 -- of each event, those are found that depend on it
 pub record AreDependents (trace : List Mark) (found : Dependents) : Type 0 where
   pub places : length found.from_the_end.items ≡ length trace
-  pub members : (i q : ℕ) → i < length trace → (set.contains (dependents_at found i) q ≡ true) ↔ Depends trace q i
+  pub members : (i q : ℕ) → i < length trace → (set.contains (dependents_at found i) q ≡ true) ↔ DependsOnPlace trace q i

@@ -5,9 +5,9 @@ use Rattle.fbl_base.specs.declared.trace.Mark.{Mark}
 use Rattle.fbl_base.specs.declared.trace.Mark.TheVariants.{Send, Receipt}
 use Rattle.fbl_base.specs.Audit.{Parts, IsLost}
 use Rattle.fbl_base.specs.Events.{At, member_of}
-use Rattle.fbl_base.specs.Places.{Depends, Leads, Precedes}
+use Rattle.fbl_base.specs.Places.{DependsOnPlace, PlaceLeads, PlacePrecedes}
 use Rattle.fbl_audit.specs.declared.dependents.Message.{Message}
-use Rattle.fbl_audit.specs.Dependents.{message_of, same_message}
+use Rattle.fbl_audit.specs.Dependents.{message_taken_by, same_addressed_message}
 
 -- a place of a trace, where paths begin
 pub record Origin : Type 0 where
@@ -18,14 +18,14 @@ pub record Origin : Type 0 where
 -- send to its receipt
 pub record IsPath (trace : List Mark) (i j : ℕ) (path : List ℕ) : Type 0 where
   pub begins : slice_get path 0 ≡ Some i
-  pub steps : (k a b : ℕ) → slice_get path k ≡ Some a → slice_get path (k + 1) ≡ Some b → Leads trace a b
+  pub steps : (k a b : ℕ) → slice_get path k ≡ Some a → slice_get path (k + 1) ≡ Some b → PlaceLeads trace a b
   pub ends : slice_get path (length path - 1) ≡ Some j
 
 -- j is the place of the member's first event that the event at i precedes
 pub record IsFirstDependent (trace : List Mark) (i member j : ℕ) : Type 0 where
   pub own : (b : Mark) × At trace j b × (member_of b ≡ member)
-  pub depends : Precedes trace i j
-  pub first : (k : ℕ) (b : Mark) → k < j → At trace k b → member_of b ≡ member → ¬ (Precedes trace i k)
+  pub depends : PlacePrecedes trace i j
+  pub first : (k : ℕ) (b : Mark) → k < j → At trace k b → member_of b ≡ member → ¬ (PlacePrecedes trace i k)
 
 -- a path from where paths begin to the first event of the member that depends on it
 abbrev pub IsPathTo : Origin → ℕ → List ℕ → Type 0
@@ -35,7 +35,7 @@ IsPathTo origin member path = (j : ℕ) × IsFirstDependent origin.events origin
 
 -- the place has a lost receipt on which the member depends
 abbrev pub IsCause : Parts → ℕ → ℕ → Type 0
-IsCause dump member i = (e : Mark) × At dump.events i e × IsLost dump e × Depends dump.events member i
+IsCause dump member i = (e : Mark) × At dump.events i e × IsLost dump e × DependsOnPlace dump.events member i
 
 -- the place is the first one of those
 abbrev pub IsFirstCause : Parts → ℕ → ℕ → Type 0
@@ -54,7 +54,7 @@ message_sent_by (Receipt to rsn from ssn) = None
 
 -- the place from which a path comes to the event, where these are the members' first ones that one comes to, and these the sends
 abbrev pub place_before : List (Option ℕ) → (Message → Option ℕ) → Mark → Option ℕ
-place_before ends sends event = option_or (slice_index_or ends (member_of event) None) (option_and_then sends (message_of event))
+place_before ends sends event = option_or (slice_index_or ends (member_of event) None) (option_and_then sends (message_taken_by event))
 
 -- the members' first events, with one more at this place
 abbrev pub end_after : List (Option ℕ) → ℕ → Mark → List (Option ℕ)
@@ -63,23 +63,23 @@ end_after ends place event = slice_set ends (member_of event) (option_or (slice_
 -- the places of sends, with one more at this place, if this message is sent there
 abbrev pub sent_after : (Message → Option ℕ) → Option Message → ℕ → Message → Option ℕ
 sent_after sends None place m = sends m
-sent_after sends (Some message) place m = if same_message message m then Some place else sends m
+sent_after sends (Some message) place m = if same_addressed_message message m then Some place else sends m
 
 -- the place leads to the one at p, and the event at i precedes it; where there is none, the event at i precedes that at p only as
 -- the same
 abbrev pub IsBefore : List Mark → ℕ → ℕ → Option ℕ → Type 0
-IsBefore trace i p None = Precedes trace i p → p ≡ i
-IsBefore trace i p (Some k) = Leads trace k p × Precedes trace i k
+IsBefore trace i p None = PlacePrecedes trace i p → p ≡ i
+IsBefore trace i p (Some k) = PlaceLeads trace k p × PlacePrecedes trace i k
 
 -- among the first p events the member's first one that the event at i precedes is here, or there is none
 abbrev pub IsEndBy : List Mark → ℕ → ℕ → ℕ → Option ℕ → Type 0
-IsEndBy trace i p member None = (k : ℕ) (b : Mark) → k < p → At trace k b → member_of b ≡ member → ¬ (Precedes trace i k)
+IsEndBy trace i p member None = (k : ℕ) (b : Mark) → k < p → At trace k b → member_of b ≡ member → ¬ (PlacePrecedes trace i k)
 IsEndBy trace i p member (Some j) = (j < p) × IsFirstDependent trace i member j
 
 -- among the first p events the send of the message is here, if the event at i precedes it, or there is none
 abbrev pub IsSentBy : List Mark → ℕ → ℕ → Message → Option ℕ → Type 0
-IsSentBy trace i p m None = (k : ℕ) → k < p → At trace k (Send m.from m.ssn m.to) → ¬ (Precedes trace i k)
-IsSentBy trace i p m (Some j) = (j < p) × At trace j (Send m.from m.ssn m.to) × Precedes trace i j
+IsSentBy trace i p m None = (k : ℕ) → k < p → At trace k (Send m.from m.ssn m.to) → ¬ (PlacePrecedes trace i k)
+IsSentBy trace i p m (Some j) = (j < p) × At trace j (Send m.from m.ssn m.to) × PlacePrecedes trace i j
 
 -- of each event it is known from where a path comes to it, and of each member to which of its events one comes
 pub record ArePaths (origin : Origin) (earlier : List (Option ℕ)) (ends : List (Option ℕ)) : Type 0 where

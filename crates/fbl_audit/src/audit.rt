@@ -2,7 +2,7 @@
 
 ghost use Rattle.std.specs.Prelude.{◌≡◌, ◌<◌, ◌↔◌, ℕ, true, not, length, IfNone, IfOk, IfSome, IsTrue, MatchOption};
 ghost use Rattle.std.specs.FinSet as set;
-ghost use Rattle.fbl_base.specs.Audit.{IsDump, IsOrphan, is_held_outside, lost_determinants};
+ghost use Rattle.fbl_base.specs.Audit.{IsDump, IsDumpOrphan, is_held_outside, lost_determinants};
 ghost use Rattle.fbl_audit.specs.Holders.{holders_of};
 ghost use Rattle.fbl_audit.specs.Paths.{IsCause, IsFirstCause, IsOrphanPath};
 
@@ -100,7 +100,7 @@ impl<'a> Audit<'a> {
 
     /// The members outside the strike set that depend on a lost receipt.
     pub fn orphans(&self) -> MemberSet
-        ensures { (q : ℕ) → (set.contains result q ≡ true) ↔ IsOrphan self.now q }
+        ensures { (q : ℕ) → (set.contains result q ≡ true) ↔ IsDumpOrphan self.now q }
     {
         let dump = self.dump;
         let mut reached = MemberSet::empty();
@@ -147,8 +147,8 @@ impl<'a> Audit<'a> {
         alloc: Global,
         member: Member,
     ) -> Result<Option<Vec<usize>>, AllocError>
-        ensures paths { IfOk result (λ found. IfSome found (λ path. IsOrphan self.now member × IsOrphanPath self.now member path.items)) }
-        ensures to_all { IfOk result (λ found. IfNone found (¬ (IsOrphan self.now member))) }
+        ensures paths { IfOk result (λ found. IfSome found (λ path. IsDumpOrphan self.now member × IsOrphanPath self.now member path.items)) }
+        ensures to_all { IfOk result (λ found. IfNone found (¬ (IsDumpOrphan self.now member))) }
     {
         if self.dump.strike().has(member) {
             return Ok(None);

@@ -4,7 +4,7 @@ ghost use Rattle.std.specs.Prelude.{◌≡◌, ◌<◌, IfOk, None, length, repl
 ghost use Rattle.std.specs.FinSet as set;
 ghost use Rattle.std.specs.HashMap as hash_map;
 ghost use Rattle.fbl_base.specs.Events.{member_of};
-ghost use Rattle.fbl_audit.specs.Dependents.{AreDependents, dependents_at, dependents_by, known_after, known_of, message_of, same_message};
+ghost use Rattle.fbl_audit.specs.Dependents.{AreDependents, dependents_at, dependents_by, known_after, known_of, message_taken_by, same_addressed_message};
 
 use fbl_base::audit::Dump;
 use fbl_base::{Mark, Member, MemberSet};
@@ -35,7 +35,7 @@ fn found_by(by_message: &ByMessage, message: &Message) -> MemberSet
 
 /// The message that the event takes, if it is a receipt.
 pub(crate) fn message_taken(event: &Mark) -> Option<Message>
-    ensures { result ≡ message_of event.now }
+    ensures { result ≡ message_taken_by event.now }
 {
     match *event {
         Mark::Send { .. } => None,
@@ -55,7 +55,7 @@ struct Later {
 impl Later {
     fn new(alloc: Global) -> Later
         ensures members { result.by_member ≡ replicate 16 set.empty }
-        ensures messages { (m : _) → hash_map.get same_message result.by_message m ≡ None }
+        ensures messages { (m : _) → hash_map.get same_addressed_message result.by_message m ≡ None }
     {
         Later {
             by_member: [MemberSet::empty(); 16],
@@ -79,7 +79,7 @@ impl Later {
     /// Takes the event in, on which these members depend.
     fn add(&mut self, event: &Mark, members: MemberSet) -> Result<(), AllocError>
         ensures members { self.new.by_member ≡ slice_set self.old.by_member (member_of event.now) (set.union (slice_index_or self.old.by_member (member_of event.now) set.empty) members) }
-        ensures messages { IfOk result (λ _. (m : _) → known_of self.new.by_message m ≡ known_after (known_of self.old.by_message) (message_of event.now) members m) }
+        ensures messages { IfOk result (λ _. (m : _) → known_of self.new.by_message m ≡ known_after (known_of self.old.by_message) (message_taken_by event.now) members m) }
     {
         let number = event.member().number() as usize;
         self.by_member[number] = self.by_member[number].union(members);

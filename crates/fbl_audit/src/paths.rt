@@ -3,8 +3,8 @@
 ghost use Rattle.std.specs.Prelude.{◌≡◌, ◌<◌, ℕ, Option, Some, None, IfOk, IfSome, IfNone, length, replicate, slice_get, slice_index_or, slice_set};
 ghost use Rattle.std.specs.HashMap as hash_map;
 ghost use Rattle.fbl_base.specs.Events.{member_of};
-ghost use Rattle.fbl_base.specs.Places.{Depends};
-ghost use Rattle.fbl_audit.specs.Dependents.{message_of, same_message};
+ghost use Rattle.fbl_base.specs.Places.{DependsOnPlace};
+ghost use Rattle.fbl_audit.specs.Dependents.{message_taken_by, same_addressed_message};
 ghost use Rattle.fbl_audit.specs.Paths.{IsPathTo, end_after, message_sent_by, place_before, sent_after};
 
 use crate::dependents::{Message, message_taken};
@@ -39,7 +39,7 @@ struct Search {
 impl Search {
     fn new(alloc: Global) -> Search
         ensures ends { result.ends ≡ replicate 16 None }
-        ensures sends { (m : _) → hash_map.get same_message result.sends m ≡ None }
+        ensures sends { (m : _) → hash_map.get same_addressed_message result.sends m ≡ None }
     {
         Search {
             ends: [None; 16],
@@ -50,7 +50,7 @@ impl Search {
     /// The place from which a path comes to the event behind those: the first one of the same member, or else that of the send
     /// whose message the event takes.
     fn before(&self, event: &Mark) -> Option<usize>
-        ensures { result ≡ place_before self.now.ends (λ m. hash_map.get same_message self.now.sends m) event.now }
+        ensures { result ≡ place_before self.now.ends (λ m. hash_map.get same_addressed_message self.now.sends m) event.now }
     {
         if let Some(place) = self.ends[event.member().number() as usize] {
             return Some(place);
@@ -64,7 +64,7 @@ impl Search {
     /// Takes the event at this place in, to which a path comes.
     fn add(&mut self, place: usize, event: &Mark) -> Result<(), AllocError>
         ensures ends { self.new.ends ≡ end_after self.old.ends place event.now }
-        ensures sends { IfOk result (λ _. (m : _) → hash_map.get same_message self.new.sends m ≡ sent_after (λ m. hash_map.get same_message self.old.sends m) (message_sent_by event.now) place m) }
+        ensures sends { IfOk result (λ _. (m : _) → hash_map.get same_addressed_message self.new.sends m ≡ sent_after (λ m. hash_map.get same_addressed_message self.old.sends m) (message_sent_by event.now) place m) }
     {
         let number = event.member().number() as usize;
         if self.ends[number].is_none() {
@@ -129,7 +129,7 @@ impl<'a> Paths<'a> {
     /// no memory for the places.
     pub fn to(&self, alloc: Global, member: Member) -> Result<Option<Vec<usize>>, AllocError>
         ensures paths { IfOk result (λ found. IfSome found (λ path. IsPathTo self.now member path.items)) }
-        ensures to_all { IfOk result (λ found. IfNone found (¬ (Depends self.now.events member self.now.place))) }
+        ensures to_all { IfOk result (λ found. IfNone found (¬ (DependsOnPlace self.now.events member self.now.place))) }
     {
         let Some(end) = self.ends[member.number() as usize] else {
             return Ok(None);

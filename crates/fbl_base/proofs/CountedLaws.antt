@@ -11,7 +11,7 @@ use Rattle.fbl_base.specs.declared.rules.Counts.{Counts}
 use Rattle.fbl_base.specs.Events.{At, destination_of, source_of}
 use Rattle.fbl_base.specs.Rules.{sends_of, receipts_of, in_flight, MayFollow, ObeysAt, WellFormed}
 use Rattle.fbl_base.specs.Counted.{Counted, CountsEvent, first_by, next_by}
-use Rattle.fbl_base.specs.Breaches.{Breaks, BreaksAt, BreaksEvent, Fits, first_in_flight, next_number}
+use Rattle.fbl_base.specs.Breaches.{Breaks, BreaksAt, BreaksEvent, FitsEvent, first_in_flight, next_number}
 use Rattle.fbl_base.specs.declared.fault.EventRule.{EventRule}
 use Rattle.fbl_base.specs.declared.fault.EventRule.TheVariants as rules
 use Rattle.fbl_base.proofs.InFlightLaws.{in_flight-send, in_flight-receipt}
@@ -25,7 +25,7 @@ module _ {A : Type 0} (n : ℕ) (t : List Mark) (c : Counts A) (most : n ≤ 16)
   first_counted : (e : Mark) → source_of e < 16 → destination_of e < 16 → first_by c e ≡ first_in_flight t e
   first_counted e below_q below_p = ap (λ xs. slice_get xs 0) (counted.channels (source_of e) (destination_of e) below_q below_p)
 
-  may : (e : Mark) → Fits n e (next_number t e) (first_in_flight t e) → MayFollow n t e
+  may : (e : Mark) → FitsEvent n e (next_number t e) (first_in_flight t e) → MayFollow n t e
   may (Send q s p) h = (h.0.0, h.0.1, h.0.2, h.1, few)
   may (Receipt p r q s) h = (h.0.0, h.0.1, h.0.2, h.1, few, h.2)
 
@@ -39,9 +39,9 @@ module _ {A : Type 0} (n : ℕ) (t : List Mark) (c : Counts A) (most : n ≤ 16)
 
   -- what the counts say of an event is what the trace says
   pub verdict : (e : Mark) (next : ℕ) (first : Option ℕ) (found : Option EventRule) → source_of e < 16 → destination_of e < 16 → next ≡ next_by c e → first ≡ first_by c e
-      → MatchOption found (Fits n e next first) (Breaks n e next first) → MatchOption found (MayFollow n t e) (BreaksEvent n t e)
+      → MatchOption found (FitsEvent n e next first) (Breaks n e next first) → MatchOption found (MayFollow n t e) (BreaksEvent n t e)
   verdict e next first found q p is_next is_first h = by_found found (rw (← next_counted e q p, ← first_counted e q p, ← is_next, ← is_first) h) where
-    by_found : (found : Option EventRule) → MatchOption found (Fits n e (next_number t e) (first_in_flight t e))
+    by_found : (found : Option EventRule) → MatchOption found (FitsEvent n e (next_number t e) (first_in_flight t e))
         (Breaks n e (next_number t e) (first_in_flight t e)) → MatchOption found (MayFollow n t e) (BreaksEvent n t e)
     by_found None h = may e h
     by_found (Some rule) h = breaks e rule h
@@ -136,7 +136,7 @@ one_more events place e within is = take_more events place e within ∙ ap (λ x
 pub verdict_at : {A : Type 0} (n : ℕ) (events : List Mark) (place : ℕ) (e : Mark) (c : Counts A) (next : ℕ) (first : Option ℕ)
     (found : Option EventRule) → n ≤ 16 → place < length events → place < 8192 → Counted (take place events) c → e ≡ get_or events place e
     → source_of e < 16 → destination_of e < 16 → next ≡ next_by c e → first ≡ first_by c e
-    → MatchOption found (Fits n e next first) (Breaks n e next first) → MatchOption found (ObeysAt n events place) (BreaksAt n events place)
+    → MatchOption found (FitsEvent n e next first) (Breaks n e next first) → MatchOption found (ObeysAt n events place) (BreaksAt n events place)
 verdict_at n events place e c next first found most within few counted is below_q below_p is_next is_first h =
     by_found found (verdict n (take place events) c most (few_before events place few) counted e next first found below_q below_p is_next is_first h)
   where

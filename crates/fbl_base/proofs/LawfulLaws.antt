@@ -1,12 +1,13 @@
 -- A delivery keeps a trace lawful.
 use Rattle.std.proofs.Common.{◌≡◌, ◌≢◌, ℕ, zero, suc, ◌+◌, ◌<◌, ◌≤◌, ◌==◌, ◌&&◌, ◌⊎◌, inl, inr, Bool, true, false, cond, List, [], ◌∷◌}
-use Rattle.std.proofs.Common.{◌++◌, length, take, map, Option, Some, None, subst, slice_get, refl, sym, ap, ◌∙◌, arith, append_assoc, length-append, length-take}
-use Rattle.std.specs.List.{filter_map, cons_option, fold, All}
+use Rattle.std.proofs.Common.{◌++◌, length, take, map, Some, subst, slice_get, refl, sym, ap, ◌∙◌, arith, append_assoc, length-append, length-take}
+use Rattle.std.specs.List.{filter_map, fold, All}
 use Rattle.std.proofs.lemmas.Bool.Decides.{nat_tests}
 use Rattle.std.proofs.lemmas.List.{append-nil, take-append-le, map-append, length-map}
 use Rattle.std.proofs.lemmas.List.Sums.{sum_by-append}
 use Rattle.std.proofs.lemmas.List.Elements.{filter_map-append, All-head, All-tail}
 use Rattle.std.proofs.lemmas.Option.{slice_get-map}
+use Rattle.fbl_base.proofs.Sifted.{length-filter_map}
 use Rattle.fbl_base.specs.declared.trace.Note.{Note}
 use Rattle.fbl_base.specs.declared.trace.Start.{Start}
 use Rattle.fbl_base.specs.declared.trace.Event.{Event}
@@ -157,14 +158,7 @@ Lawful-deliver next n starts t p rsn q s note sends lawful may noted answer allo
           (actions-append t new m (receipts-noted n t lawful.well_formed)) (added (t ++ new) p rsn q s before note sends m (note_of-front t new q s note noted));
     }
 
-pub filter_map-shorter : {X Y : Type 0} (f : X → Option Y) (xs : List X) → length (filter_map f xs) ≤ length xs
-filter_map-shorter f [] = omega arith
-filter_map-shorter f (x ∷ xs) = at (f x) (filter_map-shorter f xs) where
-  at : (o : Option _) → length (filter_map f xs) ≤ length xs → length (cons_option o (filter_map f xs)) ≤ length (x ∷ xs)
-  at None h = omega (arith, h)
-  at (Some y) h = omega (arith, h)
-
 -- a lawful trace has at least its starts
 pub Lawful-begun : (next : Next) (n : ℕ) (starts : List Start) (t : List Event) → Lawful next n starts t → length starts ≤ length t
 Lawful-begun next n starts t lawful =
-    omega (arith, ap length lawful.starts_first, filter_map-shorter start_of (take (length starts) t), length-take (length starts) t)
+    omega (arith, ap length lawful.starts_first, length-filter_map start_of (take (length starts) t), length-take (length starts) t)

@@ -11,6 +11,7 @@ pub mod InFlightLaws
 pub mod CountedLaws
 pub mod Received
 pub mod Sizes
+pub mod Numbers
 pub mod PlacesAndEvents
 pub mod LawfulLaws
 pub mod BitSets

@@ -7,7 +7,7 @@ use Rattle.std.specs.Ordering.{nat_cmp}
 use Rattle.std.specs.FinSet as set
 use Rattle.fbl_base.specs.declared.trace.Mark.{Mark}
 use Rattle.fbl_base.specs.declared.trace.Mark.TheVariants.{Send, Receipt}
-use Rattle.fbl_base.specs.Audit.{Parts, IsLost, IsOrphan, first_events}
+use Rattle.fbl_base.specs.Audit.{Parts, IsLost, IsDumpOrphan, first_events}
 use Rattle.fbl_base.specs.Events.{member_of}
 use Rattle.fbl_base.specs.MemberSets.{contains-insert_other}
 use Rattle.fbl_base.specs.Reach.{reached_after}
@@ -16,9 +16,9 @@ use Rattle.fbl_base.proofs.Recorded.{Tracks-orphans}
 
 -- what `IsOrphanStart` says, as far as the first events tell
 abbrev pub StartsBy : Parts → ℕ → ℕ → Option ℕ → Type 0
-StartsBy dump n member None = ¬ (IsOrphan (first_events n dump) member)
+StartsBy dump n member None = ¬ (IsDumpOrphan (first_events n dump) member)
 StartsBy dump n member (Some place) =
-    (place < length dump.events) × ¬ (IsOrphan (first_events place dump) member) × IsOrphan (first_events (place + 1) dump) member
+    (place < length dump.events) × ¬ (IsDumpOrphan (first_events place dump) member) × IsDumpOrphan (first_events (place + 1) dump) member
 
 -- an event reaches no member but its own
 reached_other : (e : Mark) (lost : Bool) (reached : set.FinSet nat_cmp) (clean : List ℕ) (q : ℕ) → q ≢ member_of e
@@ -55,7 +55,7 @@ module _ (dump : Parts) (i : ℕ) (reached reached' : set.FinSet nat_cmp) (clean
 -- before the first event there is none
 pub no_start : (dump : Parts) (clean : List ℕ) → Tracks (IsLost dump) [] set.empty clean → (q : ℕ) (start : Option ℕ) → start ≡ None → StartsBy dump 0 q start
 no_start dump clean tracks q start is =
-    let none : ¬ (IsOrphan (first_events 0 dump) q) =
+    let none : ¬ (IsDumpOrphan (first_events 0 dump) q) =
     λ o. false≢true (sym (set.contains-difference nat_cmp_total set.empty dump.strike q
     ∙ ap (λ b. b && not (set.contains dump.strike q)) (set.contains-empty nat_cmp q)) ∙ (Tracks-orphans (first_events 0 dump) set.empty clean tracks q).1 o) in
     subst (StartsBy dump 0 q) (sym is) none

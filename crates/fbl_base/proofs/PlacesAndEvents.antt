@@ -5,7 +5,7 @@ use Rattle.fbl_base.specs.declared.trace.Mark.{Mark}
 use Rattle.fbl_base.specs.Events.{At}
 use Rattle.fbl_base.specs.Precedence.{Precedes, Depends, itself, step}
 use Rattle.fbl_base.specs.Rules.{WellFormed}
-use Rattle.fbl_base.specs.Places as places
+use Rattle.fbl_base.specs.Places.{DependsOnPlace, PlacePrecedes, place_step, same_place}
 use Rattle.fbl_base.proofs.Gets.{slice_get-take}
 use Rattle.fbl_base.proofs.PrecedenceLaws.{Has-last}
 use Rattle.fbl_base.proofs.RulesLaws.{MayFollow-new, WellFormed-take}
@@ -20,24 +20,24 @@ one_place n t obeys e i j at_i at_j = elim (cases_order i j) [
   not_before : (x y : ℕ) → At t x e → At t y e → x < y → ⊥
   not_before x y at_x at_y below = MayFollow-new n (take y t) e (WellFormed-take n y t obeys) (obeys y e at_y) (x, slice_get-take t y x e below at_x)
 
-pub events-from_places : (t : List Mark) (i j : ℕ) (a b : Mark) → At t i a → At t j b → places.Precedes t i j → Precedes t a b
-events-from_places t i j a b at_a at_b (places.itself h) = (let e : a ≡ b = cc in rw (← e) (itself (i, at_a)))
-events-from_places t i j a b at_a at_b (places.step {j = k} {k = m} p l) =
+pub events-from_places : (t : List Mark) (i j : ℕ) (a b : Mark) → At t i a → At t j b → PlacePrecedes t i j → Precedes t a b
+events-from_places t i j a b at_a at_b (same_place h) = (let e : a ≡ b = cc in rw (← e) (itself (i, at_a)))
+events-from_places t i j a b at_a at_b (place_step {j = k} {k = m} p l) =
     let last : l.1 ≡ b = cc in
     let first = events-from_places t i k a l.0 at_a l.3 p in
     (rw last at (step first ((k, m, l.2, l.3, l.4), l.5)))
 
-pub places-from_events : (n : ℕ) (t : List Mark) → WellFormed n t → (i : ℕ) (a : Mark) → At t i a → (j : ℕ) (b : Mark) → At t j b → Precedes t a b → places.Precedes t i j
-places-from_events n t obeys i a at_a j b at_b (itself h) = (let e = one_place n t obeys a i j at_a at_b in rw (← e) (places.itself at_a))
+pub places-from_events : (n : ℕ) (t : List Mark) → WellFormed n t → (i : ℕ) (a : Mark) → At t i a → (j : ℕ) (b : Mark) → At t j b → Precedes t a b → PlacePrecedes t i j
+places-from_events n t obeys i a at_a j b at_b (itself h) = (let e = one_place n t obeys a i j at_a at_b in rw (← e) (same_place at_a))
 places-from_events n t obeys i a at_a j b at_b (step {b = c} {c = d} p l) =
     let first = places-from_events n t obeys i a at_a l.0.0 c l.0.3 p in
     let e = one_place n t obeys b l.0.1 j l.0.4 at_b in
-    (rw e at (places.step first (c, b, l.0.2, l.0.3, l.0.4, l.1)))
+    (rw e at (place_step first (c, b, l.0.2, l.0.3, l.0.4, l.1)))
 
-pub depends-from_places : (t : List Mark) (member i : ℕ) (a : Mark) → At t i a → places.Depends t member i → Depends t member a
+pub depends-from_places : (t : List Mark) (member i : ℕ) (a : Mark) → At t i a → DependsOnPlace t member i → Depends t member a
 depends-from_places t member i a at_a d = (d.1, events-from_places t i d.0 a d.1 at_a d.3 d.2, d.4)
 
-pub places-from_depends : (n : ℕ) (t : List Mark) → WellFormed n t → (member i : ℕ) (a : Mark) → At t i a → Depends t member a → places.Depends t member i
+pub places-from_depends : (n : ℕ) (t : List Mark) → WellFormed n t → (member i : ℕ) (a : Mark) → At t i a → Depends t member a → DependsOnPlace t member i
 places-from_depends n t obeys member i a at_a d =
     let stands = Has-last d.1 in
     (stands.0, d.0, places-from_events n t obeys i a at_a stands.0 d.0 stands.1 d.1, stands.1, d.2)

@@ -11,7 +11,7 @@ use Rattle.std.proofs.lemmas.Bool.{false≢true, not-true, not_from_false, false
 use Rattle.fbl_base.specs.declared.trace.Mark.{Mark}
 use Rattle.fbl_base.specs.declared.trace.Mark.TheVariants.{Send, Receipt}
 use Rattle.fbl_base.specs.Reach.{is_lost_test}
-use Rattle.fbl_base.specs.Audit.{Parts, is_held_outside, IsHeldOutside, IsLost, IsOrphan}
+use Rattle.fbl_base.specs.Audit.{Parts, is_held_outside, IsHeldOutside, IsLost, IsDumpOrphan}
 use Rattle.fbl_base.specs.Events.{same_determinant}
 use Rattle.fbl_base.proofs.ReachLaws.{Tracks}
 use Rattle.std.specs.Cmp.{nat_cmp_total}
@@ -88,7 +88,7 @@ both_not false b = (λ h. cc, λ h. h.0)
 
 -- at the end of the pass, the members reached outside the strike set are the orphans
 pub Tracks-orphans : (dump : Parts) (reached : set.FinSet nat_cmp) (clean : List ℕ) → Tracks (IsLost dump) dump.events reached clean → (q : ℕ)
-    → (set.contains (set.difference reached dump.strike) q ≡ true) ↔ IsOrphan dump q
+    → (set.contains (set.difference reached dump.strike) q ≡ true) ↔ IsDumpOrphan dump q
 Tracks-orphans dump reached clean tracks q =
     let is = both_not (set.contains reached q) (set.contains dump.strike q) in
     rw (set.contains-difference nat_cmp_total) (λ h. (let b = is.0 h in (b.1, (tracks.members q).0 b.0)), λ o. is.1 ((tracks.members q).1 o.1, o.0))

@@ -41,8 +41,8 @@ IsLost dump (Send from ssn to) = ⊥
 IsLost dump (Receipt to rsn from ssn) = ¬ (IsHeldOutside dump (record { from = from; ssn = ssn; to = to; rsn = rsn }))
 
 -- the member is outside the strike set and depends on a lost receipt
-abbrev pub IsOrphan : Parts → ℕ → Type 0
-IsOrphan dump member =
+abbrev pub IsDumpOrphan : Parts → ℕ → Type 0
+IsDumpOrphan dump member =
     (set.contains dump.strike member ≡ false) × ((e : Mark) × IsLost dump e × Depends dump.events member e)
 
 -- the dump with so many of its events, the first ones
@@ -52,9 +52,9 @@ first_events n dump = record dump { events = take n dump.events }
 -- the member is no orphan; or the place is that of its first event that depends on a lost receipt: by the events before
 -- it the member would be no orphan, and with it the member is one
 abbrev pub IsOrphanStart : Parts → ℕ → Option ℕ → Type 0
-IsOrphanStart dump member None = ¬ (IsOrphan dump member)
+IsOrphanStart dump member None = ¬ (IsDumpOrphan dump member)
 IsOrphanStart dump member (Some place) =
-    (place < length dump.events) × ¬ (IsOrphan (first_events place dump) member) × IsOrphan (first_events (place + 1) dump) member
+    (place < length dump.events) × ¬ (IsDumpOrphan (first_events place dump) member) × IsDumpOrphan (first_events (place + 1) dump) member
 
 -- what a list has for a member, if it has anything
 abbrev pub orphan_start_in : List (Option ℕ) → ℕ → Option ℕ

@@ -18,9 +18,9 @@ unfoldable pub set_of : ℕ → set.FinSet nat_cmp
 set_of b = flagged 0 (digits 16 b)
 
 -- the number with a 1 at the places of the set, of n digits from place k on
-unfoldable pub number_of : ℕ → ℕ → set.FinSet nat_cmp → ℕ
-number_of zero k s = 0
-number_of (suc n) k s = cond (set.contains s k) 1 0 + 2 * number_of n (suc k) s
+unfoldable pub bits_of : ℕ → ℕ → set.FinSet nat_cmp → ℕ
+bits_of zero k s = 0
+bits_of (suc n) k s = cond (set.contains s k) 1 0 + 2 * bits_of n (suc k) s
 
 pub length-digits : (n b : ℕ) → length (digits n b) ≡ n
 unfolding digits
@@ -51,13 +51,13 @@ parity b = at (b % 2) (omega arith) where
   at (suc zero) below = refl
   at (suc (suc r)) below = absurd (omega (arith, below))
 
-number_of-same : (n k b : ℕ) (s : set.FinSet nat_cmp) → b < 2 ^ n → ((j : ℕ) → j < n → set.contains s (j + k) ≡ eqb (bit_at b j) 1) → number_of n k s ≡ b
-unfolding number_of
-number_of-same zero k b s below same = omega (arith, below)
-number_of-same (suc n) k b s below same =
+bits_of-same : (n k b : ℕ) (s : set.FinSet nat_cmp) → b < 2 ^ n → ((j : ℕ) → j < n → set.contains s (j + k) ≡ eqb (bit_at b j) 1) → bits_of n k s ≡ b
+unfolding bits_of
+bits_of-same zero k b s below same = omega (arith, below)
+bits_of-same (suc n) k b s below same =
     let first : set.contains s k ≡ eqb (b % 2) 1 = (rw (let e : 0 + k ≡ k = omega arith in e) at (same 0 (omega arith))) ∙ ap (λ x. eqb x 1) (bit_at_lowest b) in
-    let rest : number_of n (suc k) s ≡ b / 2 = number_of-same n (suc k) (b / 2) s (omega (arith, below)) (λ j lt. (rw (let e : j + suc k ≡ suc j + k = omega arith in e) (same (suc j) (omega (arith, lt)) ∙ ap (λ x. eqb x 1) (bit_at-suc b j)))) in
+    let rest : bits_of n (suc k) s ≡ b / 2 = bits_of-same n (suc k) (b / 2) s (omega (arith, below)) (λ j lt. (rw (let e : j + suc k ≡ suc j + k = omega arith in e) (same (suc j) (omega (arith, lt)) ∙ ap (λ x. eqb x 1) (bit_at-suc b j)))) in
     rw (first, rest, parity b) omega arith
 
-pub number_of-set_of : (b : ℕ) → b < 65536 → number_of 16 0 (set_of b) ≡ b
-number_of-set_of b within = number_of-same 16 0 b (set_of b) within (λ j lt. rw (let e : j + 0 ≡ j = omega arith in e) (contains-set_of b j within))
+pub bits_of-set_of : (b : ℕ) → b < 65536 → bits_of 16 0 (set_of b) ≡ b
+bits_of-set_of b within = bits_of-same 16 0 b (set_of b) within (λ j lt. rw (let e : j + 0 ≡ j = omega arith in e) (contains-set_of b j within))

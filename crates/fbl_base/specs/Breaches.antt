@@ -99,8 +99,8 @@ TakesMessage (Send from ssn to) first = Unit {0}
 TakesMessage (Receipt to rsn from ssn) first = first ≡ Some ssn
 
 -- the event breaks no rule in a group of n, where its number has to be `next` and a receipt's message the first in flight
-abbrev pub Fits : ℕ → Mark → ℕ → Option ℕ → Type 0
-Fits n e next first = AreEndsAllowed n e × (number_of e ≡ next) × TakesMessage e first
+abbrev pub FitsEvent : ℕ → Mark → ℕ → Option ℕ → Type 0
+FitsEvent n e next first = AreEndsAllowed n e × (number_of e ≡ next) × TakesMessage e first
 
 -- the event breaks this rule in a group of n, where its number has to be `next` and a receipt's message the first in flight
 abbrev pub Breaks : ℕ → Mark → ℕ → Option ℕ → EventRule → Type 0

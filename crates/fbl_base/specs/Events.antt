@@ -1,9 +1,10 @@
 -- The events of a trace. A determinant names a receipt, by the message's source and send sequence number and by the
 -- destination and its receive sequence number (Alvisi and Marzullo 1998).
-use Rattle.std.specs.Prelude.{ℕ, Bool, ◌==◌, ◌&&◌, Option, Some, None, List, slice_get, ◌≡◌}
+use Rattle.std.specs.Prelude.{ℕ, Bool, false, ◌==◌, ◌&&◌, Option, Some, None, List, slice_get, ◌≡◌}
 use Rattle.fbl_base.specs.declared.trace.Event.{Event}
 use Rattle.fbl_base.specs.declared.trace.Event.TheVariants as event
 use Rattle.fbl_base.specs.declared.trace.Determinant.{Determinant}
+use Rattle.fbl_base.specs.declared.trace.MessageName.{MessageName}
 use Rattle.fbl_base.specs.declared.trace.Mark.{Mark}
 use Rattle.fbl_base.specs.declared.trace.Mark.TheVariants.{Send, Receipt}
 
@@ -44,6 +45,15 @@ receipt_of d = Receipt d.to d.rsn d.from d.ssn
 -- whether two determinants are equal
 abbrev pub same_determinant : Determinant → Determinant → Bool
 same_determinant a b = (a.from == b.from) && ((a.to == b.to) && ((a.ssn == b.ssn) && (a.rsn == b.rsn)))
+
+-- whether two messages are the same
+abbrev pub same_message : MessageName → MessageName → Bool
+same_message a b = a.from == b.from && a.ssn == b.ssn
+
+-- whether there is a message here, and it is this one
+abbrev pub is_message : MessageName → Option MessageName → Bool
+is_message message None = false
+is_message message (Some other) = same_message other message
 
 -- the send whose message the event takes, if it is a receipt
 abbrev pub send_of : Mark → Option Mark

@@ -10,7 +10,7 @@ use Rattle.fbl_base.specs.declared.trace.Mark.TheVariants.{Send, Receipt}
 use Rattle.fbl_base.specs.Events.{At, mark_of, member_of}
 use Rattle.fbl_base.specs.Rules.{sends_of, MayFollow, WellFormed}
 use Rattle.fbl_base.specs.Precedence.{Has, Precedes, Depends}
-use Rattle.fbl_base.specs.Places as places
+use Rattle.fbl_base.specs.Places.{DependsOnPlace, PlacePrecedes}
 use Rattle.fbl_base.specs.Fold.{Next, Lawful, actions_of, notes_of, note_of, state_after, step_events}
 
 -- what precedes an appended receipt, which the trace did not have: itself, what its member depended on, and what precedes
@@ -34,14 +34,14 @@ abbrev pub PlacesLaw : Type 0
 PlacesLaw =
     (n : ℕ) (t : List Mark) → WellFormed n t
     → (i j : ℕ) (a b : Mark) → At t i a → At t j b
-    → Precedes t a b ↔ places.Precedes t i j
+    → Precedes t a b ↔ PlacePrecedes t i j
 
 -- on a well-formed trace a member depends on an event exactly where it depends on the event's place
 abbrev pub DependsOnPlacesLaw : Type 0
 DependsOnPlacesLaw =
     (n : ℕ) (t : List Mark) → WellFormed n t
     → (member i : ℕ) (a : Mark) → At t i a
-    → Depends t member a ↔ places.Depends t member i
+    → Depends t member a ↔ DependsOnPlace t member i
 
 -- a delivery keeps a trace lawful: the receipt may come next, what follows it are the sends that the behaviour answers to
 -- the message's note at the receiver's state, numbered on from the receiver's earlier sends, and there is room

@@ -8,6 +8,10 @@ use Rattle.std.specs.List.{filter, range_with_len}
 use Rattle.std.specs.Cmp.{unsigned_tied, nat_cmp_total}
 use Rattle.std.specs.FinSet as set
 
+-- a set of members
+abbrev pub Members : Type 0
+Members = set.FinSet nat_cmp
+
 -- the places, from k on, at which a flag is set
 unfoldable pub flagged : ℕ → List Bool → set.FinSet nat_cmp
 flagged k [] = set.empty

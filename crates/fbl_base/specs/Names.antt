@@ -5,19 +5,19 @@ use Rattle.fbl_base.specs.declared.config.ConfigRefusal.TheVariants as config
 use Rattle.fbl_base.specs.declared.refusal.DumpRefusal.{DumpRefusal}
 use Rattle.fbl_base.specs.declared.refusal.DumpRefusal.TheVariants as dump
 
-abbrev pub config_name : ConfigRefusal → List ℕ
-config_name config.BadMembers = codes "BadMembers"
-config_name config.BadF = codes "BadF"
-config_name config.BadLimit = codes "BadLimit"
-config_name config.TooManyStarts = codes "TooManyStarts"
-config_name (config.BadStart place) = codes "BadStart"
-config_name config.LimitBelowStarts = codes "LimitBelowStarts"
-config_name config.Memory = codes "Memory"
+abbrev pub config_refusal_name : ConfigRefusal → List ℕ
+config_refusal_name config.BadMembers = codes "BadMembers"
+config_refusal_name config.BadF = codes "BadF"
+config_refusal_name config.BadLimit = codes "BadLimit"
+config_refusal_name config.TooManyStarts = codes "TooManyStarts"
+config_refusal_name (config.BadStart place) = codes "BadStart"
+config_refusal_name config.LimitBelowStarts = codes "LimitBelowStarts"
+config_refusal_name config.Memory = codes "Memory"
 
-abbrev pub dump_name : DumpRefusal → List ℕ
-dump_name dump.BadMembers = codes "BadMembers"
-dump_name dump.BadF = codes "BadF"
-dump_name (dump.BadEvent place) = codes "BadEvent"
-dump_name (dump.BadHeld place) = codes "BadHeld"
-dump_name dump.BadStrike = codes "BadStrike"
-dump_name dump.Memory = codes "Memory"
+abbrev pub dump_refusal_name : DumpRefusal → List ℕ
+dump_refusal_name dump.BadMembers = codes "BadMembers"
+dump_refusal_name dump.BadF = codes "BadF"
+dump_refusal_name (dump.BadEvent place) = codes "BadEvent"
+dump_refusal_name (dump.BadHeld place) = codes "BadHeld"
+dump_refusal_name dump.BadStrike = codes "BadStrike"
+dump_refusal_name dump.Memory = codes "Memory"

@@ -7,7 +7,7 @@
 
 ghost use Rattle.std.specs.Prelude.{◌≡◌, ◌<◌, ◌≤◌, ◌↔◌, ℕ, true, IfOk, IfErr, IfSome, MatchOption, replicate, length, IsTrue};
 ghost use Rattle.std.specs.FinSet as set;
-ghost use Rattle.fbl_base.specs.Audit.{HeldAt, IsDump, IsFirstBreach, IsLost, IsOrphan, IsOrphanStart, RefusesDump, is_held_outside, lost_determinants, orphan_start_in};
+ghost use Rattle.fbl_base.specs.Audit.{HeldAt, IsDump, IsFirstBreach, IsLost, IsDumpOrphan, IsOrphanStart, RefusesDump, is_held_outside, lost_determinants, orphan_start_in};
 ghost use Rattle.fbl_base.specs.Breaches.{BreaksPair, FitsPair, IsEventFault, IsOfDump, IsPairFault, dump_refusal};
 ghost use Rattle.fbl_base.specs.Events.{same_determinant};
 ghost use Rattle.std.specs.HashSet as hash_set;
@@ -211,7 +211,7 @@ fn is_lost<A: Allocator>(recorded: &DeterminantSet<A>, event: Mark) -> bool
 /// holds. The time taken is linear in the events and the held pairs, on every dump, whether or not a group made it.
 /// `Err` comes only where there is no memory for an index of the held determinants.
 pub fn orphans<A: Allocator + Copy>(alloc: A, dump: &Dump<A>) -> Result<MemberSet, AllocError>
-    ensures { IfOk result (λ s. (q : ℕ) → (set.contains s q ≡ true) ↔ IsOrphan dump.now q) }
+    ensures { IfOk result (λ s. (q : ℕ) → (set.contains s q ≡ true) ↔ IsDumpOrphan dump.now q) }
 {
     let recorded = recorded_determinants(alloc, dump)?;
     let mut reach = Reach::new();

@@ -33,11 +33,11 @@ pub enum ConfigRefusal {
 }
 
 impl ConfigRefusal {
-    ghost use Rattle.fbl_base.specs.Names.{config_name};
+    ghost use Rattle.fbl_base.specs.Names.{config_refusal_name};
 
     /// The refusal's word, as it is printed before its place.
     pub fn name(self) -> &'static str
-        ensures { result.now ≡ config_name self }
+        ensures { result.now ≡ config_refusal_name self }
     {
         match self {
             ConfigRefusal::BadMembers => "BadMembers",

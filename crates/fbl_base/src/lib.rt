@@ -29,4 +29,4 @@ pub use plan::{first_bad_entry, plan_fault};
 pub use raw_dump::RawDump;
 pub use refusal::DumpRefusal;
 pub use strike::Strike;
-pub use trace::{Determinant, Event, Mark, Note, Start};
+pub use trace::{Determinant, Event, Mark, MessageName, Note, Start};

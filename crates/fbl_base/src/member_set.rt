@@ -20,7 +20,7 @@ impl Model for MemberSet {
     ghost use Rattle.std.specs.Ordering.{nat_cmp};
     ghost use Rattle.std.specs.Coded.{coded_ℕ};
     ghost use Rattle.std.specs.FinSet as set;
-    ghost use Rattle.fbl_base.specs.Bits.{set_of, number_of, number_of-set_of};
+    ghost use Rattle.fbl_base.specs.Bits.{set_of, bits_of, bits_of-set_of};
 
     ghost Value = { set.FinSet nat_cmp };
 
@@ -30,9 +30,9 @@ impl Model for MemberSet {
 
     ghost invariant = { λ s. s.bits < 65536 };
 
-    ghost inverse = { λ s. record { bits = number_of 16 0 s } };
+    ghost inverse = { λ s. record { bits = bits_of 16 0 s } };
 
-    ghost inverse_ok = { λ s h i. record { bits = number_of-set_of s.bits h i } };
+    ghost inverse_ok = { λ s h i. record { bits = bits_of-set_of s.bits h i } };
 }
 
 impl MemberSet {

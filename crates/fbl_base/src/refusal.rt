@@ -24,11 +24,11 @@ pub enum DumpRefusal {
 }
 
 impl DumpRefusal {
-    ghost use Rattle.fbl_base.specs.Names.{dump_name};
+    ghost use Rattle.fbl_base.specs.Names.{dump_refusal_name};
 
     /// The refusal's word, as it is printed before its place.
     pub fn name(self) -> &'static str
-        ensures { result.now ≡ dump_name self }
+        ensures { result.now ≡ dump_refusal_name self }
     {
         match self {
             DumpRefusal::BadMembers => "BadMembers",

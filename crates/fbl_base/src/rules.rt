@@ -2,7 +2,7 @@
 //! channel.
 
 ghost use Rattle.std.specs.Prelude.{◌≡◌, ◌<◌, ◌≤◌, ◌+◌, ◌*◌, ◌++◌, ◌∷◌, [], ℕ, IfNone, IfOk, OnOk, MatchOption, length, take, drop, slice_get, slice_index, vec_len};
-ghost use Rattle.fbl_base.specs.Breaches.{Breaks, BreaksAt, Fits};
+ghost use Rattle.fbl_base.specs.Breaches.{Breaks, BreaksAt, FitsEvent};
 ghost use Rattle.fbl_base.specs.Events.{destination_of, source_of};
 ghost use Rattle.fbl_base.specs.Counted.{Counted, CountsEvent, first_by, next_by};
 ghost use Rattle.fbl_base.specs.Rules.{ObeysAt, WellFormed};
@@ -148,7 +148,7 @@ impl<A: Allocator + Copy> Counts<A> {
 /// The first rule that an event breaks in a group of `n`, where its number has to be `next`, and `first` is the first message
 /// in flight on its channel.
 fn broken_rule(n: u8, event: &Mark, next: u32, first: Option<u32>) -> Option<EventRule>
-    ensures { MatchOption result (Fits n event.now next first) (Breaks n event.now next first) }
+    ensures { MatchOption result (FitsEvent n event.now next first) (Breaks n event.now next first) }
 {
     let from = event.source();
     let to = event.destination();

@@ -4,13 +4,14 @@ use Rattle.std.proofs.Common.{Decides, refl, sym, ap, ◌∙◌, arith}
 use Rattle.std.specs.Option.{option_or, is_some}
 use Rattle.std.specs.List.{position_from}
 use Rattle.std.proofs.lemmas.List.{take_more}
+use Rattle.fbl_base.specs.Events.{same_message, is_message}
 use Rattle.fbl_base.specs.declared.trace.Mark.{Mark}
 use Rattle.fbl_base.proofs.Recorded.{both_true, eqb_same}
 use Rattle.fbl_base.proofs.RulesLaws.{eqb-self}
-use Rattle.fbl_draw.specs.declared.receipts.Message.{Message}
-use Rattle.fbl_draw.specs.Receipts.{is_message, receipt_place, same_message, taken_by, takes}
+use Rattle.fbl_base.specs.declared.trace.MessageName.{MessageName}
+use Rattle.fbl_draw.specs.Receipts.{receipt_place, taken_by, takes}
 
-pub Decides-same_message : (a b : Message) → Decides (same_message a b) (a ≡ b)
+pub Decides-same_message : (a b : MessageName) → Decides (same_message a b) (a ≡ b)
 Decides-same_message a b = (same, is) where
   same : same_message a b ≡ true → a ≡ b
   same h =
@@ -32,7 +33,7 @@ position_push p k (y ∷ ys) x = at_first (p y)
       at_first true later = refl
       at_first false later = later
 
-place_more : (events : List Mark) (i : ℕ) (e : Mark) (m : Message) → i < length events → e ≡ get_or events i e
+place_more : (events : List Mark) (i : ℕ) (e : Mark) (m : MessageName) → i < length events → e ≡ get_or events i e
     → receipt_place (take (i + 1) events) m ≡ option_or (receipt_place (take i events) m) (cond (takes m e) (Some i) None)
 place_more events i e m within is =
     ap (λ l. receipt_place l m) (take_more events i e within ∙ ap (λ x. take i events ++ x ∷ []) (sym is))
@@ -51,21 +52,21 @@ is_none : {X : Type 0} (o : Option X) → is_some o ≡ false → o ≡ None
 is_none None h = refl
 is_none (Some x) h = cc
 
-module _ (old : Message → Option ℕ) (events : List Mark) (i : ℕ) (e : Mark) (within : i < length events) (is : e ≡ get_or events i e)
-    (was : (m : Message) → old m ≡ receipt_place (take i events) m) where
+module _ (old : MessageName → Option ℕ) (events : List Mark) (i : ℕ) (e : Mark) (within : i < length events) (is : e ≡ get_or events i e)
+    (was : (m : MessageName) → old m ≡ receipt_place (take i events) m) where
   -- where a message is received, by the event too
-  more : (m : Message) (taken : Option Message) → taken_by e ≡ taken → option_or (old m) (cond (is_message m taken) (Some i) None) ≡ receipt_place (take (i + 1) events) m
+  more : (m : MessageName) (taken : Option MessageName) → taken_by e ≡ taken → option_or (old m) (cond (is_message m taken) (Some i) None) ≡ receipt_place (take (i + 1) events) m
   more m taken takes' =
       ap (λ o. option_or o (cond (is_message m taken) (Some i) None)) (was m)
       ∙ ap (λ t. option_or (receipt_place (take i events) m) (cond (is_message m t) (Some i) None)) (sym takes')
       ∙ sym (place_more events i e m within is)
 
   -- the event takes no message
-  pub no_message : taken_by e ≡ None → (m : Message) → old m ≡ receipt_place (take (i + 1) events) m
+  pub no_message : taken_by e ≡ None → (m : MessageName) → old m ≡ receipt_place (take (i + 1) events) m
   no_message none m = or_none (old m) ∙ more m None none
 
   -- the event takes a message that has its place already
-  pub old_message : (taken : Message) → taken_by e ≡ Some taken → is_some (old taken) ≡ true → (m : Message) → old m ≡ receipt_place (take (i + 1) events) m
+  pub old_message : (taken : MessageName) → taken_by e ≡ Some taken → is_some (old taken) ≡ true → (m : MessageName) → old m ≡ receipt_place (take (i + 1) events) m
   old_message taken some there m = at_key (same_message taken m) refl ∙ more m (Some taken) some where
     at_key : (b : Bool) → same_message taken m ≡ b → old m ≡ option_or (old m) (cond (same_message taken m) (Some i) None)
     at_key true key =
@@ -74,8 +75,8 @@ module _ (old : Message → Option ℕ) (events : List Mark) (i : ℕ) (e : Mark
     at_key false key = or_none (old m) ∙ ap (λ c. option_or (old m) (cond c (Some i) None)) (sym key)
 
   -- the event takes a message that has no place yet
-  pub new_message : (taken : Message) → taken_by e ≡ Some taken → is_some (old taken) ≡ false → (after : Message → Option ℕ)
-      → ((m : Message) → after m ≡ cond (same_message taken m) (Some i) (old m)) → (m : Message) → after m ≡ receipt_place (take (i + 1) events) m
+  pub new_message : (taken : MessageName) → taken_by e ≡ Some taken → is_some (old taken) ≡ false → (after : MessageName → Option ℕ)
+      → ((m : MessageName) → after m ≡ cond (same_message taken m) (Some i) (old m)) → (m : MessageName) → after m ≡ receipt_place (take (i + 1) events) m
   new_message taken some absent after put m = put m ∙ at_key (same_message taken m) refl ∙ more m (Some taken) some where
     at_key : (b : Bool) → same_message taken m ≡ b → cond (same_message taken m) (Some i) (old m) ≡ option_or (old m) (cond (same_message taken m) (Some i) None)
     at_key true key =

@@ -1,33 +1,13 @@
 -- The shapes of members, one after another.
-use Rattle.std.proofs.Common.{ℕ, ◌+◌, ◌<◌, ◌≡◌, List, ◌++◌, Bool, Option, Some, None, Vec, Global, inl, inr, length, slice_get, take, get_or, sym, ap, ◌∙◌, arith}
-use Rattle.std.specs.List.{flat_map, range_with_len}
-use Rattle.std.specs.Option.{SomeIff}
-use Rattle.std.proofs.lemmas.List.{flat_map_more, take_more}
-use Rattle.std.proofs.lemmas.List.FromFn.{get_or-range_with_len, length-range_with_len}
+use Rattle.std.proofs.Common.{ℕ, ◌<◌, ◌≡◌, List, Bool, Option, Some, Vec, Global, inl, inr, length, slice_get, arith}
 use Rattle.std.proofs.lemmas.Option.{slice_get_cases}
 use Rattle.fbl_base.specs.Audit.{Parts}
-use Rattle.fbl_draw.specs.Members.{member_shapes}
+use Rattle.fbl_draw.specs.Members.{dump_member_shapes}
 use Rattle.fbl_draw.specs.Paths.{IsPathDrawn, places_in}
 
--- one more number
-pub rows_more : {X : Type 0} (f : ℕ → List X) (before : List X) (n i : ℕ) → i < n
-    → (before ++ flat_map f (take i (range_with_len 0 n))) ++ f i ≡ before ++ flat_map f (take (i + 1) (range_with_len 0 n))
-rows_more f before n i lt =
-    let r : List ℕ = range_with_len 0 n in
-    let at : get_or r i 0 ≡ i = omega (arith, get_or-range_with_len 0 n i 0 lt) in
-    let more = take_more r i 0 (omega (arith, length-range_with_len 0 n)) in
-    ap (λ k. (before ++ flat_map f (take i r)) ++ f k) (sym at)
-    ∙ flat_map_more f before (take i r) (get_or r i 0)
-    ∙ ap (λ l. before ++ flat_map f l) (sym more)
-
 pub row_same : (columns columns' m m' : ℕ) (struck struck' : Bool) (start start' : Option ℕ) → columns ≡ columns' → m ≡ m' → struck ≡ struck' → start ≡ start'
-    → member_shapes columns m struck start ≡ member_shapes columns' m' struck' start'
-row_same columns columns' m m' struck struck' start start' c e s p = (λ i. member_shapes (c i) (e i) (s i) (p i))
-
--- the member that there is with a number
-pub is_number : (o : Option ℕ) (x n : ℕ) → SomeIff o (n < 16) n → o ≡ Some x → x ≡ n
-is_number None x n iff is = cc
-is_number (Some y) x n iff is = (let e : y ≡ x = cc in sym e ∙ iff.1)
+    → dump_member_shapes columns m struck start ≡ dump_member_shapes columns' m' struck' start'
+row_same columns columns' m m' struck struck' start start' c e s p = (λ i. dump_member_shapes (c i) (e i) (s i) (p i))
 
 -- what holds of each path of a list holds of what the list has for each member
 pub each_path : (dump : Parts) (paths : List (Vec ℕ Global)) → length paths ≡ 16

@@ -10,26 +10,26 @@ use Rattle.fbl_shapes.specs.declared.shape.Shape.{Shape}
 use Rattle.fbl_shapes.specs.declared.shape.Shape.TheVariants as shape
 use Rattle.fbl_draw.specs.Receipts.{kind_of, receipt_place}
 
--- the mark of an event: that of a receipt tells of which kind it is, and who holds it
-abbrev pub mark : Parts → ℕ → Mark → Shape
-mark dump place (Send from ssn to) = shape.Send place from ssn to false
-mark dump place (Receipt to rsn from ssn) =
+-- the shape of an event: that of a receipt tells of which kind it is, and who holds it
+abbrev pub shape_of_event : Parts → ℕ → Mark → Shape
+shape_of_event dump place (Send from ssn to) = shape.Send place from ssn to false
+shape_of_event dump place (Receipt to rsn from ssn) =
     let d : Determinant = record { from = from; ssn = ssn; to = to; rsn = rsn } in
     shape.Held place to rsn from ssn (kind_of dump d) (holders_of dump d)
 
--- the marks of events, the first of which is at this place
-abbrev pub marks : Parts → ℕ → List Mark → List Shape
-marks dump place [] = []
-marks dump place (e ∷ es) = mark dump place e ∷ marks dump (place + 1) es
+-- the shapes of events, the first of which is at this place
+abbrev pub shapes_of_events : Parts → ℕ → List Mark → List Shape
+shapes_of_events dump place [] = []
+shapes_of_events dump place (e ∷ es) = shape_of_event dump place e ∷ shapes_of_events dump (place + 1) es
 
 -- the arrow of a message that is received at a place, or that of one in flight
-abbrev pub arrow : ℕ → ℕ → ℕ → Option ℕ → Shape
-arrow place from to (Some end) = shape.Arrow from place to end Message
-arrow place from to None = shape.InFlight from place to
+abbrev pub message_arrow : ℕ → ℕ → ℕ → Option ℕ → Shape
+message_arrow place from to (Some end) = shape.Arrow from place to end Message
+message_arrow place from to None = shape.InFlight from place to
 
 -- the arrow of an event of the trace, if it is a send
 abbrev pub event_arrow : List Mark → ℕ → Mark → List Shape
-event_arrow trace place (Send from ssn to) = arrow place from to (receipt_place trace (record { from = from; ssn = ssn })) ∷ []
+event_arrow trace place (Send from ssn to) = message_arrow place from to (receipt_place trace (record { from = from; ssn = ssn })) ∷ []
 event_arrow trace place (Receipt to rsn from ssn) = []
 
 -- the arrows of events of the trace, the first of which is at this place

@@ -12,10 +12,10 @@ use Rattle.fbl_shapes.specs.declared.shape.Status.TheVariants.{Struck, Orphan, U
 use Rattle.fbl_shapes.specs.Names.{names}
 
 -- whether a member is struck, and else whether it is an orphan from some place on
-abbrev pub status_of : Bool → Option ℕ → Status
-status_of true start = Struck
-status_of false (Some place) = Orphan
-status_of false None = Up
+abbrev pub dump_status : Bool → Option ℕ → Status
+dump_status true start = Struck
+dump_status false (Some place) = Orphan
+dump_status false None = Up
 
 -- a struck member is down
 abbrev pub line_kind_of : Bool → LineKind
@@ -28,13 +28,13 @@ orphan_line columns member None = []
 orphan_line columns member (Some place) = Line member (Some place) columns line_kind.Orphan ∷ []
 
 -- a member's label, its number again in a wide picture, and its line, which goes by all columns
-abbrev pub member_shapes : ℕ → ℕ → Bool → Option ℕ → List Shape
-member_shapes columns member struck start =
-    Label member (Some (status_of struck start)) ∷ [] ++ names columns member ++ Line member None columns (line_kind_of struck) ∷ [] ++ orphan_line columns member start
+abbrev pub dump_member_shapes : ℕ → ℕ → Bool → Option ℕ → List Shape
+dump_member_shapes columns member struck start =
+    Label member (Some (dump_status struck start)) ∷ [] ++ names columns member ++ Line member None columns (line_kind_of struck) ∷ [] ++ orphan_line columns member start
 
 -- the shapes of one member of a dump, where each orphan starts at a place
 abbrev pub shapes_of_member : Parts → List (Option ℕ) → ℕ → List Shape
-shapes_of_member dump starts member = member_shapes (length dump.events) member (set.contains dump.strike member) (orphan_start_in starts member)
+shapes_of_member dump starts member = dump_member_shapes (length dump.events) member (set.contains dump.strike member) (orphan_start_in starts member)
 
 -- the shapes of the members of a dump, in their order
 abbrev pub members_drawn : Parts → List (Option ℕ) → List Shape

@@ -2,7 +2,7 @@
 use Rattle.std.specs.Prelude.{ℕ, ◌≡◌, ◌==◌, ◌⊎◌, List, [], ◌∷◌, ◌++◌, Option, Some, None, slice_get, Vec, if◌then◌else◌}
 use Rattle.std.specs.List.{flat_map, range_with_len}
 use Rattle.fbl_base.specs.declared.trace.Mark.{Mark}
-use Rattle.fbl_base.specs.Audit.{Parts, IsOrphan}
+use Rattle.fbl_base.specs.Audit.{Parts, IsDumpOrphan}
 use Rattle.fbl_base.specs.Events.{member_of}
 use Rattle.fbl_audit.specs.Paths.{IsOrphanPath}
 use Rattle.fbl_shapes.specs.declared.shape.ArrowKind.TheVariants as arrow_kind
@@ -29,7 +29,7 @@ path_shapes events (start ∷ end ∷ places) = step_between (slice_get events s
 
 -- the places of a path from a lost receipt to the member, if it is an orphan, and else none
 abbrev pub IsPathDrawn : Parts → ℕ → List ℕ → Type 0
-IsPathDrawn dump member path = (¬ (IsOrphan dump member) × (path ≡ [])) ⊎ (IsOrphan dump member × IsOrphanPath dump member path)
+IsPathDrawn dump member path = (¬ (IsDumpOrphan dump member) × (path ≡ [])) ⊎ (IsDumpOrphan dump member × IsOrphanPath dump member path)
 
 -- the places that a list of paths has for a member, if it has any
 abbrev pub places_of : {A : Type 0} → Option (Vec ℕ A) → List ℕ

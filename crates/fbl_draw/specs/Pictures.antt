@@ -2,13 +2,13 @@
 use Rattle.std.specs.Prelude.{ℕ, ◌≡◌, ◌<◌, ◌↔◌, List, [], ◌∷◌, ◌++◌, length, Option, true, codes, decimal}
 use Rattle.std.specs.Ordering.{nat_cmp}
 use Rattle.std.specs.FinSet as set
-use Rattle.fbl_base.specs.Audit.{Parts, IsOrphan, IsOrphanStart, lost_determinants, orphan_start_in}
+use Rattle.fbl_base.specs.Audit.{Parts, IsDumpOrphan, IsOrphanStart, lost_determinants, orphan_start_in}
 use Rattle.fbl_lines.specs.Sets.{set_words}
 use Rattle.fbl_shapes.specs.declared.shape.Legend.TheVariants.{Dump}
 use Rattle.fbl_shapes.specs.declared.shape.Shape.{Shape}
 use Rattle.fbl_shapes.specs.Marks.{joined}
 use Rattle.fbl_shapes.specs.Pictures.{picture}
-use Rattle.fbl_draw.specs.Events.{arrows, marks}
+use Rattle.fbl_draw.specs.Events.{arrows, shapes_of_events}
 use Rattle.fbl_draw.specs.Members.{members_drawn}
 use Rattle.fbl_draw.specs.Paths.{IsPathDrawn, paths_drawn}
 
@@ -18,13 +18,13 @@ title dump lost orphans =
     joined (decimal dump.members ∷ codes " members, f " ∷ decimal dump.f ∷ codes ", " ∷ decimal (length dump.events) ∷ codes " events: struck " ∷ set_words dump.strike ∷ codes ", lost " ∷ decimal lost ∷ codes ", orphans " ∷ set_words orphans ∷ [])
 
 -- the members' lines, the arrows, over them the paths and over these the marks
-unfoldable pub shapes_of : Parts → List (Option ℕ) → (ℕ → List ℕ) → List Shape
-shapes_of dump starts paths = members_drawn dump starts ++ arrows dump.events 0 dump.events ++ paths_drawn dump paths ++ marks dump 0 dump.events
+unfoldable pub dump_shapes : Parts → List (Option ℕ) → (ℕ → List ℕ) → List Shape
+dump_shapes dump starts paths = members_drawn dump starts ++ arrows dump.events 0 dump.events ++ paths_drawn dump paths ++ shapes_of_events dump 0 dump.events
 
 -- the text is the picture of the dump, with its orphans, where they start, and a path to each of them
 abbrev pub IsPicture : Parts → List ℕ → Type 0
 IsPicture dump text =
-    (orphans : set.FinSet nat_cmp) × ((q : ℕ) → (set.contains orphans q ≡ true) ↔ IsOrphan dump q)
+    (orphans : set.FinSet nat_cmp) × ((q : ℕ) → (set.contains orphans q ≡ true) ↔ IsDumpOrphan dump q)
     × (starts : List (Option ℕ)) × ((q : ℕ) → q < 16 → IsOrphanStart dump q (orphan_start_in starts q))
     × (paths : ℕ → List ℕ) × ((q : ℕ) → q < 16 → IsPathDrawn dump q (paths q))
-    × (text ≡ picture (title dump (length (lost_determinants dump)) orphans) dump.members (length dump.events) Dump (shapes_of dump starts paths))
+    × (text ≡ picture (title dump (length (lost_determinants dump)) orphans) dump.members (length dump.events) Dump (dump_shapes dump starts paths))

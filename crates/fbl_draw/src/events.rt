@@ -1,7 +1,7 @@
 //! The marks of events and the arrows of messages.
 
 ghost use Rattle.std.specs.Prelude.{◌≡◌, ◌++◌, OnOk};
-ghost use Rattle.fbl_draw.specs.Events.{arrow as arrow_of, arrows, event_arrow, mark as mark_of, marks};
+ghost use Rattle.fbl_draw.specs.Events.{message_arrow, arrows, event_arrow, shape_of_event, shapes_of_events};
 ghost use Rattle.fbl_draw.specs.Receipts.{IsPlacesOf};
 
 use crate::receipts::{ReceiptPlaces, place_of, receipt_kind, receipt_places};
@@ -13,7 +13,7 @@ use std::alloc::{AllocError, Global};
 
 /// The mark of an event of the dump.
 fn mark(audit: &Audit, place: usize, event: Mark) -> Shape
-    ensures { result ≡ mark_of audit.now place event }
+    ensures { result ≡ shape_of_event audit.now place event }
 {
     match event {
         Mark::Send { from, ssn, to } => Shape::Send {
@@ -40,7 +40,7 @@ fn mark(audit: &Audit, place: usize, event: Mark) -> Shape
 
 /// Adds the marks of all events.
 pub(crate) fn push_marks(shapes: &mut Vec<Shape>, audit: &Audit) -> Result<(), AllocError>
-    ensures { OnOk result (shapes.new.items ≡ shapes.old.items ++ marks audit.now 0 audit.now.events) }
+    ensures { OnOk result (shapes.new.items ≡ shapes.old.items ++ shapes_of_events audit.now 0 audit.now.events) }
 {
     let events = audit.dump().events();
     for place in 0..events.len() {
@@ -51,7 +51,7 @@ pub(crate) fn push_marks(shapes: &mut Vec<Shape>, audit: &Audit) -> Result<(), A
 
 /// The arrow of a message that is sent at a place, and is received at another or is in flight.
 fn arrow(place: usize, from: Member, to: Member, end: Option<usize>) -> Shape
-    ensures { result ≡ arrow_of place from to end }
+    ensures { result ≡ message_arrow place from to end }
 {
     match end {
         Some(end) => Shape::Arrow {

@@ -2,7 +2,7 @@
 
 ghost use Rattle.std.specs.Prelude.{◌≡◌, ◌<◌, ◌++◌, ℕ, OnOk, length};
 ghost use Rattle.fbl_base.specs.Audit.{orphan_start_in};
-ghost use Rattle.fbl_draw.specs.Members.{line_kind_of, member_shapes, members_drawn, status_of};
+ghost use Rattle.fbl_draw.specs.Members.{line_kind_of, dump_member_shapes, members_drawn, dump_status};
 
 use fbl_base::Member;
 use fbl_base::audit::Dump;
@@ -11,7 +11,7 @@ use std::alloc::AllocError;
 
 /// Whether a member is struck, and else whether it is an orphan.
 fn status(is_struck: bool, start: Option<usize>) -> Status
-    ensures { result ≡ status_of is_struck start }
+    ensures { result ≡ dump_status is_struck start }
 {
     match start {
         _ if is_struck => Status::Struck,
@@ -39,7 +39,7 @@ fn push_member(
     is_struck: bool,
     start: Option<usize>,
 ) -> Result<(), AllocError>
-    ensures { OnOk result (shapes.new.items ≡ shapes.old.items ++ member_shapes columns member is_struck start) }
+    ensures { OnOk result (shapes.new.items ≡ shapes.old.items ++ dump_member_shapes columns member is_struck start) }
 {
     shapes.push(Shape::Label {
         member,

@@ -2,7 +2,7 @@
 
 ghost use Rattle.std.specs.Prelude.{◌≡◌, ◌<◌, ℕ, IfOk, length, string_bytes};
 ghost use Rattle.fbl_draw.specs.Paths.{places_in};
-ghost use Rattle.fbl_draw.specs.Pictures.{IsPicture, shapes_of, title};
+ghost use Rattle.fbl_draw.specs.Pictures.{IsPicture, dump_shapes, title};
 
 use crate::events::{push_arrows, push_marks};
 use crate::members::push_members;
@@ -34,7 +34,7 @@ fn title_text(
 }
 
 /// The shapes of a dump, by where its orphans start and by the paths to them.
-#[tactic(auto, unfolding(crate::specs::Pictures::shapes_of))]
+#[tactic(auto, unfolding(crate::specs::Pictures::dump_shapes))]
 fn shapes(
     alloc: Global,
     audit: &Audit,
@@ -43,7 +43,7 @@ fn shapes(
 ) -> Result<Vec<Shape>, AllocError>
     requires starts { length starts.now ≡ 16 }
     requires paths { length paths.now ≡ 16 }
-    ensures { IfOk result (λ shapes. shapes.items ≡ shapes_of audit.now starts.now (places_in paths.now)) }
+    ensures { IfOk result (λ shapes. shapes.items ≡ dump_shapes audit.now starts.now (places_in paths.now)) }
 {
     let dump = audit.dump();
     let mut shapes = Vec::new(alloc);

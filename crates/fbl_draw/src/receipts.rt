@@ -2,26 +2,19 @@
 
 ghost use Rattle.std.specs.Prelude.{◌≡◌, IfOk};
 ghost use Rattle.std.specs.HashMap as hash_map;
-ghost use Rattle.fbl_draw.specs.Receipts.{IsPlacesOf, kind_of, same_message, taken_by};
+ghost use Rattle.fbl_base.specs.Events.{same_message};
+ghost use Rattle.fbl_draw.specs.Receipts.{IsPlacesOf, kind_of, taken_by};
 
 use fbl_audit::Audit;
 use fbl_base::audit::Dump;
-use fbl_base::{Determinant, Mark, Member};
+use fbl_base::{Determinant, Mark, Member, MessageName};
 use fbl_shapes::Kind;
 use std::alloc::{AllocError, Global};
 use std::collections::HashMap;
 use std::hash::{BuildHasherDefault, FoldHasher};
 
-/// What names a message.
-#[derive(Clone, Copy, PartialEq, Eq, Hash, Debug)]
-pub(crate) struct Message {
-    from: Member,
-    /// Which of the sender's sends it is.
-    ssn: u32,
-}
-
 /// For each message that is received, the place of its receipt.
-pub(crate) type ReceiptPlaces = HashMap<Message, usize, BuildHasherDefault<FoldHasher>>;
+pub(crate) type ReceiptPlaces = HashMap<MessageName, usize, BuildHasherDefault<FoldHasher>>;
 
 /// The kind of the receipt with the determinant.
 pub(crate) fn receipt_kind(audit: &Audit, determinant: &Determinant) -> Kind
@@ -39,12 +32,12 @@ pub(crate) fn receipt_kind(audit: &Audit, determinant: &Determinant) -> Kind
 }
 
 /// The message that a receipt takes.
-fn message_taken(event: Mark) -> Option<Message>
+fn message_taken(event: Mark) -> Option<MessageName>
     ensures { result ≡ taken_by event }
 {
     match event {
         Mark::Send { .. } => None,
-        Mark::Receipt { from, ssn, .. } => Some(Message { from, ssn }),
+        Mark::Receipt { from, ssn, .. } => Some(MessageName { from, ssn }),
     }
 }
 
@@ -68,6 +61,6 @@ pub(crate) fn receipt_places(alloc: Global, dump: &Dump) -> Result<ReceiptPlaces
 pub(crate) fn place_of(places: &ReceiptPlaces, from: Member, ssn: u32) -> Option<usize>
     ensures { result ≡ hash_map.get same_message places.now (record { from = from; ssn = ssn }) }
 {
-    let message = Message { from, ssn };
+    let message = MessageName { from, ssn };
     places.get(&message).copied()
 }

@@ -9,7 +9,7 @@ use Rattle.fbl_input.specs.Shapes.{longest, ◌>>=◌}
 use Rattle.fbl_input.proofs.Bytes.{keeps_itself}
 use Rattle.fbl_input.proofs.Inputs.{too_long}
 use Rattle.fbl_dump.specs.Dumps.{parts_of_data, parts_of_input, IsDumpOf, IsDumpFault}
-use Rattle.fbl_dump.specs.Answering.{AnswersDump, Answers, ReadsAndAnswers, TextAlone}
+use Rattle.fbl_dump.specs.Answering.{AnswersDump, AnswersBytes, ReadsAndAnswers, TextAlone}
 
 -- an input that is too long is no dump
 long_input : (input : List ℕ) → longest < length input → parts_of_input input ≡ Err faults.TooLong
@@ -18,7 +18,7 @@ long_input input h = ap (λ v. v >>= parts_of_data) (too_long input h)
 module _ {A : Type 0} (IsRight : Parts → A → List ℕ → Type 0) where
   -- an answer about the dump is one about the input
   pub answers_dump : (input : List ℕ) (dump : Parts) (before after : Option (List ℕ)) (r : Result A RunFault) → IsDumpOf input dump
-      → AnswersDump IsRight dump before after r → Answers IsRight input before after r
+      → AnswersDump IsRight dump before after r → AnswersBytes IsRight input before after r
   answers_dump input dump before after (Ok x) is h = (dump, is, h)
   answers_dump input dump before after (Err faults.Write) is h = (dump, is, h)
   answers_dump input dump before after (Err faults.Memory) is h = h
@@ -26,7 +26,7 @@ module _ {A : Type 0} (IsRight : Parts → A → List ℕ → Type 0) where
   answers_dump input dump before after (Err f) is h = absurd h
 
   -- a fault of the input as a dump, with nothing written
-  pub answers_fault : (input : List ℕ) (before : Option (List ℕ)) (f : RunFault) → IsDumpFault input f → Answers IsRight input before before (Err f)
+  pub answers_fault : (input : List ℕ) (before : Option (List ℕ)) (f : RunFault) → IsDumpFault input f → AnswersBytes IsRight input before before (Err f)
   answers_fault input before faults.Write is = absurd is
   answers_fault input before faults.Read is = absurd is
   answers_fault input before faults.Memory is = keeps_itself before
@@ -34,9 +34,9 @@ module _ {A : Type 0} (IsRight : Parts → A → List ℕ → Type 0) where
 
   -- what is known of an input that was read whole
   pub answers_whole : (known : Option (List ℕ)) (bytes : List ℕ) (before after : Option (List ℕ)) (r : Result A RunFault)
-      → IfSome known (λ input. bytes ≡ input) → Answers IsRight bytes before after r → IfSome known (λ input. ReadsAndAnswers IsRight input before after r)
+      → IfSome known (λ input. bytes ≡ input) → AnswersBytes IsRight bytes before after r → IfSome known (λ input. ReadsAndAnswers IsRight input before after r)
   answers_whole None bytes before after r e h = tt
-  answers_whole (Some input) bytes before after r e h = let P : List ℕ → Type 0 = λ w. Answers IsRight w before after r in inr (subst P e h)
+  answers_whole (Some input) bytes before after r e h = let P : List ℕ → Type 0 = λ w. AnswersBytes IsRight w before after r in inr (subst P e h)
 
   -- a reading that failed, with nothing written
   pub answers_unread : (known before : Option (List ℕ)) (f : RunFault) → (f ≡ faults.Read) ⊎ (f ≡ faults.TooLong) ⊎ (f ≡ faults.Memory)

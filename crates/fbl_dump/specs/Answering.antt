@@ -26,14 +26,14 @@ abbrev pub AnswersInput : {A : Type 0} → (Parts → A → List ℕ → Type 0)
 AnswersInput IsRight input before after result = (dump : Parts) × IsDumpOf input dump × AnswersDump IsRight dump before after result
 
 -- what an answer about the bytes leaves in the writer
-abbrev pub Answers : {A : Type 0} → (Parts → A → List ℕ → Type 0) → List ℕ → Option (List ℕ) → Option (List ℕ) → Result A RunFault → Type 0
-Answers IsRight input before after (Ok x) = AnswersInput IsRight input before after (Ok x)
-Answers IsRight input before after (Err faults.Write) = AnswersInput IsRight input before after (Err faults.Write)
+abbrev pub AnswersBytes : {A : Type 0} → (Parts → A → List ℕ → Type 0) → List ℕ → Option (List ℕ) → Option (List ℕ) → Result A RunFault → Type 0
+AnswersBytes IsRight input before after (Ok x) = AnswersInput IsRight input before after (Ok x)
+AnswersBytes IsRight input before after (Err faults.Write) = AnswersInput IsRight input before after (Err faults.Write)
 -- memory may run out for any input, and then nothing is written
-Answers IsRight input before after (Err faults.Memory) = Keeps before after
+AnswersBytes IsRight input before after (Err faults.Memory) = Keeps before after
 -- any other fault is the input's first as a dump; so a failed read is none
-Answers IsRight input before after (Err e) = IsDumpFault input e × Keeps before after
+AnswersBytes IsRight input before after (Err e) = IsDumpFault input e × Keeps before after
 
 -- what an answer about what a reader has leaves in the writer: a read may fail, and else it is one about the bytes
 abbrev pub ReadsAndAnswers : {A : Type 0} → (Parts → A → List ℕ → Type 0) → List ℕ → Option (List ℕ) → Option (List ℕ) → Result A RunFault → Type 0
-ReadsAndAnswers IsRight input before after result = FailsToRead before after result ⊎ Answers IsRight input before after result
+ReadsAndAnswers IsRight input before after result = FailsToRead before after result ⊎ AnswersBytes IsRight input before after result

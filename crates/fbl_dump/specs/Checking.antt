@@ -6,7 +6,7 @@ use Rattle.fbl_audit.specs.Checking.{IsSafe, SaysUnsafe, receipts_of_dump}
 use Rattle.fbl_audit.specs.declared.checking.UnsafeReceipt.{UnsafeReceipt}
 use Rattle.fbl_lines.specs.Lines.{safe_line, unsafe_line}
 use Rattle.fbl_input.specs.declared.fault.RunFault.{RunFault}
-use Rattle.fbl_dump.specs.Answering.{Answers, AnswersDump, ReadsAndAnswers}
+use Rattle.fbl_dump.specs.Answering.{AnswersBytes, AnswersDump, ReadsAndAnswers}
 use Rattle.fbl_dump.specs.declared.checking.Verdict.{Verdict}
 use Rattle.fbl_dump.specs.declared.checking.Verdict.TheVariants.{Safe, Unsafe}
 
@@ -38,7 +38,7 @@ ChecksDump = AnswersDump IsChecked
 
 -- what a check of the bytes leaves in the writer; its faults are those of an audit
 abbrev pub Checks : List ℕ → Option (List ℕ) → Option (List ℕ) → Result Verdict RunFault → Type 0
-Checks = Answers IsChecked
+Checks = AnswersBytes IsChecked
 
 -- what a check of what a reader has leaves in the writer: a read may fail, and else it is a check of the bytes
 abbrev pub ReadsAndChecks : List ℕ → Option (List ℕ) → Option (List ℕ) → Result Verdict RunFault → Type 0

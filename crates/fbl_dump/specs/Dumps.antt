@@ -14,7 +14,7 @@ pub use Rattle.fbl_input.specs.Items.{dump_keys, event_from, event_shape, pair_f
 use Rattle.fbl_input.specs.declared.input_fault.InputFault.{InputFault}
 use Rattle.fbl_input.specs.declared.input_fault.InputKind.TheVariants as kinds
 use Rattle.fbl_input.specs.Misfits.{IsMisfit, IsOfParts}
-use Rattle.fbl_input.specs.Faults.{IsFirstFault, IsRefused}
+use Rattle.fbl_input.specs.Faults.{IsFirstFault, IsReadRefused}
 use Rattle.fbl_input.specs.Shapes.{◌>>=◌, or_fault, number_within, count_shape, member_shape, as_list, is_text, list_of, set_shape, field, has_other_key, value_of_input}
 
 -- the parts of a dump that a value gives, or its first fault
@@ -46,7 +46,7 @@ IsDumpFault input = IsFirstFault (parts_of_input input) (λ _ _. ⊥) RefusesDum
 
 -- the dump breaks a rule, or memory ran out
 abbrev pub IsDumpRefused : Parts → RunFault → Type 0
-IsDumpRefused dump = IsRefused (λ _. ⊥) (RefusesDump dump)
+IsDumpRefused dump = IsReadRefused (λ _. ⊥) (RefusesDump dump)
 
 -- what the fault says of the input is so: of the value that it is, and of the parts that it has
 abbrev pub IsDumpMisfit : List ℕ → InputFault → Type 0

@@ -4,19 +4,19 @@ use Rattle.std.proofs.Common.{arith, get_or, length-append}
 use Rattle.std.proofs.lemmas.Bool.{false≢true, cases_eq}
 use Rattle.std.proofs.lemmas.List.{map-append, take_more}
 use Rattle.std.specs.FinSet as set
+use Rattle.fbl_base.specs.MemberSets.{Members}
 use Rattle.fbl_base.specs.declared.trace.Determinant.{Determinant}
 use Rattle.fbl_base.specs.declared.trace.Mark.{Mark}
 use Rattle.fbl_base.specs.declared.trace.Mark.TheVariants.{Send, Receipt}
 use Rattle.fbl_base.specs.Audit.{Parts}
 use Rattle.fbl_base.specs.Events.{At, determinant_of, member_of, receipt_of}
-use Rattle.fbl_base.specs.Places as places
+use Rattle.fbl_base.specs.Places.{DependsOnPlace}
 use Rattle.fbl_base.specs.Precedence.{Has}
 use Rattle.fbl_base.specs.Rules.{WellFormed}
 use Rattle.fbl_base.proofs.Gets.{At-below, At-front, At-new, At-push}
 use Rattle.fbl_base.proofs.PlacesAndEvents.{depends-from_places, places-from_depends}
 use Rattle.fbl_base.proofs.PrecedenceLaws.{Has-first, Has-last}
 use Rattle.fbl_audit.specs.Checking.{IsLeftOrphan}
-use Rattle.fbl_audit.specs.Dependents.{Members}
 use Rattle.fbl_audit.specs.Paths.{IsPathTo}
 use Rattle.fbl_explain.specs.declared.why.LossReason.{LossReason}
 use Rattle.fbl_explain.specs.declared.why.OrphanPath.{OrphanPath}
@@ -99,7 +99,7 @@ left_by_path dump d members i q path at out found =
     (out, depends-from_places dump.events q i (receipt_of d) at (found.0, own.0, found.1.depends, own.1, own.2))
 
 pub not_left : (dump : Parts) (d : Determinant) (members : Members) (i q : ℕ) → WellFormed dump.members dump.events → At dump.events i (receipt_of d)
-    → ¬ (places.Depends dump.events q i) → ¬ (IsLeftOrphan dump members d q)
+    → ¬ (DependsOnPlace dump.events q i) → ¬ (IsLeftOrphan dump members d q)
 not_left dump d members i q obeys at none left = none (places-from_depends dump.members dump.events obeys q i (receipt_of d) at left.1)
 
 pub struck_not_left : (dump : Parts) (d : Determinant) (members : Members) (q : ℕ) → set.contains members q ≡ true → ¬ (IsLeftOrphan dump members d q)

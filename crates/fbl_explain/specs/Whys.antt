@@ -1,11 +1,11 @@
 -- Why receipts are lost, or could be.
 use Rattle.std.specs.Prelude.{ℕ, ◌≡◌, ◌<◌, List, length, map, Some, slice_get}
+use Rattle.fbl_base.specs.MemberSets.{Members}
 use Rattle.fbl_base.specs.declared.trace.Determinant.{Determinant}
 use Rattle.fbl_base.specs.Audit.{Parts, lost_determinants}
 use Rattle.fbl_base.specs.Events.{At, receipt_of}
 use Rattle.fbl_audit.specs.declared.checking.UnsafeReceipt.{UnsafeReceipt}
 use Rattle.fbl_audit.specs.Checking.{IsLeftOrphan, SaysUnsafe, receipts_of_dump}
-use Rattle.fbl_audit.specs.Dependents.{Members}
 use Rattle.fbl_audit.specs.Holders.{holders_of}
 use Rattle.fbl_audit.specs.Paths.{IsPathTo}
 use Rattle.fbl_explain.specs.declared.why.LossReason.{LossReason}

@@ -9,13 +9,14 @@ use Rattle.std.specs.Ordering.{nat_cmp}
 use Rattle.std.specs.FinSet as set
 use Rattle.std.proofs.lemmas.Bool.{cases_lt}
 use Rattle.std.proofs.lemmas.List.Sums.{sum_by-cons}
+use Rattle.fbl_base.specs.MemberSets.{Members}
 use Rattle.fbl_base.specs.Configs.{Settings}
 use Rattle.fbl_base.specs.declared.trace.Event.{Event}
 use Rattle.fbl_base.specs.declared.trace.Event.TheVariants as event
 use Rattle.fbl_base.specs.Events.{mark_of, determinant_of}
 use Rattle.fbl_base.specs.Fold.{Next}
 use Rattle.fbl_member.specs.Members.{Message, MemberRecord, blank}
-use Rattle.fbl_law.specs.Knowledge.{Members, IsUp, IsDown}
+use Rattle.fbl_law.specs.Knowledge.{IsUp, IsDown}
 use Rattle.fbl_law.specs.Groups.{GroupRecord, channel_in, channel, sum_below, messages_in, member, knowledge, marks, receipts}
 use Rattle.fbl_law.specs.Sound.{IsSound}
 use Rattle.fbl_law.specs.GroupSteps.{IsRecovery}

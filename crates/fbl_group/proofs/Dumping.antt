@@ -1,17 +1,13 @@
 -- The parts of a dump.
-use Rattle.std.proofs.Common.{◌≡◌, ℕ, zero, suc, ◌+◌, ◌<◌, List, [], ◌∷◌, ◌++◌, length, take, get_or, Some, slice_get, refl, sym, ap, ◌∙◌, arith, below_more}
+use Rattle.std.proofs.Common.{◌≡◌, ℕ, zero, suc, ◌+◌, ◌<◌, List, [], ◌∷◌, ◌++◌, length, take, get_or, Some, slice_get, sym, ap, ◌∙◌, arith, below_more}
 use Rattle.std.specs.Prelude.{slice_index_or}
 use Rattle.std.proofs.lemmas.List.{map-append, length-take-le}
+use Rattle.fbl_base.proofs.Gets.{take-more}
 use Rattle.fbl_table.specs.declared.entry.Entry.{Entry}
 use Rattle.fbl_member.specs.Carried.{IsOnce}
 use Rattle.fbl_member.specs.Members.{MemberRecord, blank}
 use Rattle.fbl_law.specs.Dumps.{pairs_of, pairs_from}
 use Rattle.fbl_law.proofs.DumpLaws.{pairs_from-push}
-
-take-more : {X : Type 0} (xs : List X) (i : ℕ) (x : X) → slice_get xs i ≡ Some x → take (suc i) xs ≡ take i xs ++ x ∷ []
-take-more [] i x at = cc
-take-more (y ∷ xs) zero x at = (let e : y ≡ x = cc in rw e refl)
-take-more (y ∷ xs) (suc i) x at = ap (λ ys. y ∷ ys) (take-more xs i x at)
 
 get-at : {X : Type 0} (xs : List X) (i : ℕ) (x d : X) → i < length xs → x ≡ get_or xs i x → (slice_get xs i ≡ Some x) × (slice_index_or xs i d ≡ x)
 get-at [] i x d below at = absurd (omega arith)

@@ -2,9 +2,9 @@
 use Rattle.std.proofs.Common.{◌≡◌, ℕ, ◌+◌, ◌<◌, ◌≤◌, true, false, List, length, ap, ◌∙◌, arith}
 use Rattle.std.specs.Prelude.{slice_index_or, slice_set}
 use Rattle.std.specs.FinSet as set
+use Rattle.fbl_base.specs.MemberSets.{Members}
 use Rattle.fbl_table.specs.declared.entry.Entry.{Entry}
 use Rattle.fbl_member.specs.Members.{MemberRecord, blank}
-use Rattle.fbl_law.specs.Knowledge.{Members}
 use Rattle.fbl_group.proofs.Queues.{Turned, turned-set, turned-kept}
 use Rattle.fbl_group.proofs.Recovering.{read_at}
 

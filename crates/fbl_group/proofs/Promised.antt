@@ -1,8 +1,9 @@
 -- What strikes and recoveries promise.
 use Rattle.std.proofs.Common.{◌≡◌, ℕ, length, inl, inr, sym, subst, arith}
+use Rattle.fbl_base.specs.MemberSets.{Members}
 use Rattle.fbl_base.specs.Fold.{Next}
 use Rattle.fbl_member.specs.Members.{MemberRecord}
-use Rattle.fbl_law.specs.Knowledge.{IsUp, Names, table, Members}
+use Rattle.fbl_law.specs.Knowledge.{IsUp, Names, table}
 use Rattle.fbl_law.specs.Groups.{GroupRecord, knowledge}
 use Rattle.fbl_law.specs.Promises.{SurvivorsHold, RecordsCauses, LeavesRecorded, GainsHolders, KeepsHolders}
 use Rattle.fbl_law.specs.Sound.{IsSound}

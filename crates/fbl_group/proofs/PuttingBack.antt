@@ -3,8 +3,8 @@ use Rattle.std.proofs.Common.{◌≡◌, ℕ, suc, ◌+◌, ◌*◌, ◌<◌, �
 use Rattle.std.specs.Prelude.{slice_index_or, slice_set}
 use Rattle.std.specs.FinSet as set
 use Rattle.std.proofs.lemmas.Bool.{cases_lt}
+use Rattle.fbl_base.specs.MemberSets.{Members}
 use Rattle.fbl_member.specs.Members.{MemberRecord, blank}
-use Rattle.fbl_law.specs.Knowledge.{Members}
 use Rattle.fbl_law.specs.Replaying.{count_in}
 use Rattle.fbl_group.specs.Rebuilding.{IsPutBack}
 use Rattle.fbl_group.proofs.Queues.{Turned, turned-set, turned-kept}

@@ -5,6 +5,7 @@ use Rattle.std.specs.Prelude.{slice_index_or, slice_set}
 use Rattle.std.specs.FinSet as set
 use Rattle.std.proofs.lemmas.Bool.Decides.{nat_tests}
 use Rattle.std.proofs.lemmas.List.{append-nil, take_all}
+use Rattle.fbl_base.specs.MemberSets.{Members}
 use Rattle.fbl_base.specs.declared.trace.Determinant.{Determinant}
 use Rattle.fbl_base.specs.declared.trace.Note.{Note}
 use Rattle.fbl_base.specs.Fold.{Next, Logged}
@@ -12,9 +13,9 @@ use Rattle.fbl_table.specs.declared.entry.Entry.{Entry}
 use Rattle.fbl_table.specs.Tables.{found, gathered, marked}
 use Rattle.fbl_table.specs.Receipts.{receipt_at}
 use Rattle.fbl_member.specs.Members.{MemberRecord, blank, logged_note, replayed_by}
-use Rattle.fbl_law.specs.Knowledge.{Members, IsDown}
+use Rattle.fbl_law.specs.Knowledge.{IsDown}
 use Rattle.fbl_law.specs.Steps.{gathered_all, saved_tables, recovery_table}
-use Rattle.fbl_law.specs.Groups.{GroupRecord, checkpoint, knowledge}
+use Rattle.fbl_law.specs.Groups.{GroupRecord, member_checkpoint, knowledge}
 use Rattle.fbl_law.specs.Sound.{IsSound}
 use Rattle.fbl_law.specs.Replaying.{IsNextReplay, working, IsReplaying, IsWaiting, replayed_in}
 use Rattle.fbl_law.proofs.GatheredTables.{gathered_all-more, gathered_all-push}
@@ -79,7 +80,7 @@ pub record MayReplay (next : Next) (n p : ℕ) (d : Determinant) (note : Note) (
 
 module _ (next : Next) (r : GroupRecord) (sound : IsSound next r) where
   pub begun : (rebuilt : List MemberRecord) (i : ℕ) → i ≡ r.config.members → length rebuilt ≡ i
-      → ((p : ℕ) → p < i → set.contains r.down p ≡ true → slice_index_or rebuilt p blank ≡ record (checkpoint r p) { table = [] }) → IsReplaying next r rebuilt
+      → ((p : ℕ) → p < i → set.contains r.down p ≡ true → slice_index_or rebuilt p blank ≡ record (member_checkpoint r p) { table = [] }) → IsReplaying next r rebuilt
   begun rebuilt i all size each =
       replaying-tables next r sound r.checkpoints rebuilt [] (replaying-start next r sound r.checkpoints sound.checkpoints (λ p below down. refl)) (size ∙ all ∙ sym sound.checkpoints)
       (λ p below down. each p (omega (arith, all, below)) down)
@@ -99,7 +100,7 @@ module _ (next : Next) (r : GroupRecord) (sound : IsSound next r) where
       is-received = is_rsn ∙ ap (λ (x : MemberRecord). x.received) (is-record read)
 
       -- the next receipt is beyond the checkpoint
-      is-beyond : nat_lt (checkpoint r p).received (rsn + 1) ≡ true
+      is-beyond : nat_lt (member_checkpoint r p).received (rsn + 1) ≡ true
       is-beyond = (let begun_at = replaying.begun p (sound.down p down) down in grind (arith, nat_tests, begun_at, is-received))
 
       is-looked-up : answer ≡ found p ((slice_index_or rebuilt p blank).received + 1) (recovery_table (knowledge r))

@@ -18,7 +18,7 @@ use Rattle.fbl_base.specs.Rules.{is_send_of, sends_of, MayFollow, WellFormed}
 use Rattle.fbl_member.specs.Members.{Message}
 use Rattle.fbl_law.specs.Steps.{is_on, between}
 use Rattle.fbl_law.specs.Groups.{HasChannels, channel_in}
-use Rattle.fbl_law.specs.GroupSteps.{start_events, message_of}
+use Rattle.fbl_law.specs.GroupSteps.{start_events, message_of_send}
 use Rattle.fbl_group.proofs.Queues.{put-in}
 
 -- no two entries of none are equal
@@ -71,10 +71,10 @@ counts-more done sent from to note counts places within m below = read sent from
 
 -- the message of an event that obeys the rules goes from a member to a member
 pub event-ends : (n : ℕ) (events : List Event) (i : ℕ) (e : Event) (w : Message) → WellFormed n (map mark_of events) → i < length events → e ≡ get_or events i e
-    → message_of e ≡ Some w → (w.from < n) × (w.to < n)
+    → message_of_send e ≡ Some w → (w.from < n) × (w.to < n)
 event-ends n events i e w obeys below read is = at e is (obeys i (mark_of e) (slice_get-get_or (map mark_of events) i (mark_of e) (omega (arith, below, length-map events mark_of))
     ∙ ap (λ m. Some m) (get_or-map mark_of events i e (mark_of e) below ∙ ap mark_of (sym read)))) where
-      at : (x : Event) → message_of x ≡ Some w → MayFollow n (take i (map mark_of events)) (mark_of x) → (w.from < n) × (w.to < n)
+      at : (x : Event) → message_of_send x ≡ Some w → MayFollow n (take i (map mark_of events)) (mark_of x) → (w.from < n) × (w.to < n)
       at (Send from ssn to note) is may =
           let sender : from ≡ w.from = cc in
           let receiver : to ≡ w.to = cc in
@@ -83,26 +83,26 @@ event-ends n events i e w obeys below read is = at e is (obeys i (mark_of e) (sl
 
 -- one event more: its message is at the end of its channel
 pub sent-more : (q p n : ℕ) (first before after : List (List (List Message))) (events : List Event) (i : ℕ) (e : Event) (w : Message) → HasChannels n before → w.from < n → w.to < n
-    → i < length events → e ≡ get_or events i e → message_of e ≡ Some w
+    → i < length events → e ≡ get_or events i e → message_of_send e ≡ Some w
     → after ≡ slice_set before w.from (slice_set (slice_index_or before w.from []) w.to (channel_in before w.from w.to ++ w ∷ []))
-    → channel_in before q p ≡ channel_in first q p ++ between q p (filter_map message_of (take i events))
-    → channel_in after q p ≡ channel_in first q p ++ between q p (filter_map message_of (take (i + 1) events))
+    → channel_in before q p ≡ channel_in first q p ++ between q p (filter_map message_of_send (take i events))
+    → channel_in after q p ≡ channel_in first q p ++ between q p (filter_map message_of_send (take (i + 1) events))
 sent-more q p n first before after events i e w shape from to below read is put was =
     let next : i + 1 ≡ suc i = omega arith in
-    let more : filter_map message_of (take (i + 1) events) ≡ filter_map message_of (take i events) ++ w ∷ [] = ap (λ k. filter_map message_of (take k events)) next
-    ∙ filter_map-more message_of events i e below read ∙ ap (λ (o : Option Message). filter_map message_of (take i events) ++ cons_option o []) is in
+    let more : filter_map message_of_send (take (i + 1) events) ≡ filter_map message_of_send (take i events) ++ w ∷ [] = ap (λ k. filter_map message_of_send (take k events)) next
+    ∙ filter_map-more message_of_send events i e below read ∙ ap (λ (o : Option Message). filter_map message_of_send (take i events) ++ cons_option o []) is in
     ap (λ (cs : List (List (List Message))). channel_in cs q p) put ∙ put-in n before w.from w q p refl shape from to ∙ ap (λ (c : List Message). c ++ between q p (w ∷ [])) was
-    ∙ append_assoc (channel_in first q p) (between q p (filter_map message_of (take i events))) (between q p (w ∷ []))
-    ∙ ap (λ (c : List Message). channel_in first q p ++ c) (sym (filter-append (is_on q p) (filter_map message_of (take i events)) (w ∷ []))
+    ∙ append_assoc (channel_in first q p) (between q p (filter_map message_of_send (take i events))) (between q p (w ∷ []))
+    ∙ ap (λ (c : List Message). channel_in first q p ++ c) (sym (filter-append (is_on q p) (filter_map message_of_send (take i events)) (w ∷ []))
     ∙ ap (λ (c : List Message). between q p c) (sym more))
 
 -- an event that sends nothing leaves the channels
-pub sent-none : (q p : ℕ) (first before : List (List (List Message))) (events : List Event) (i : ℕ) (e : Event) → i < length events → e ≡ get_or events i e → message_of e ≡ None
-    → channel_in before q p ≡ channel_in first q p ++ between q p (filter_map message_of (take i events))
-    → channel_in before q p ≡ channel_in first q p ++ between q p (filter_map message_of (take (i + 1) events))
+pub sent-none : (q p : ℕ) (first before : List (List (List Message))) (events : List Event) (i : ℕ) (e : Event) → i < length events → e ≡ get_or events i e → message_of_send e ≡ None
+    → channel_in before q p ≡ channel_in first q p ++ between q p (filter_map message_of_send (take i events))
+    → channel_in before q p ≡ channel_in first q p ++ between q p (filter_map message_of_send (take (i + 1) events))
 sent-none q p first before events i e below read is was =
     let next : i + 1 ≡ suc i = omega arith in
-    let more : filter_map message_of (take (i + 1) events) ≡ filter_map message_of (take i events) = ap (λ k. filter_map message_of (take k events)) next
-    ∙ filter_map-more message_of events i e below read ∙ ap (λ (o : Option Message). filter_map message_of (take i events) ++ cons_option o []) is
-    ∙ append-nil (filter_map message_of (take i events)) in
+    let more : filter_map message_of_send (take (i + 1) events) ≡ filter_map message_of_send (take i events) = ap (λ k. filter_map message_of_send (take k events)) next
+    ∙ filter_map-more message_of_send events i e below read ∙ ap (λ (o : Option Message). filter_map message_of_send (take i events) ++ cons_option o []) is
+    ∙ append-nil (filter_map message_of_send (take i events)) in
     was ∙ ap (λ (c : List Message). channel_in first q p ++ between q p c) (sym more)

@@ -16,11 +16,11 @@ use Rattle.fbl_base.specs.declared.trace.Event.{Event}
 use Rattle.fbl_base.specs.declared.trace.Event.TheVariants as event
 use Rattle.fbl_base.specs.Events.{determinant_of, mark_of, receipt_of}
 use Rattle.fbl_base.specs.Precedence.{Has, itself}
-use Rattle.fbl_base.specs.MemberSets.{AllBelow}
+use Rattle.fbl_base.specs.MemberSets.{AllBelow, Members}
 use Rattle.fbl_base.specs.Fold.{Next}
 use Rattle.fbl_base.proofs.RulesLaws.{eqb-self}
 use Rattle.fbl_member.specs.Members.{Message, MemberRecord, blank}
-use Rattle.fbl_law.specs.Knowledge.{Members, IsUp, IsDown, IsOrphan}
+use Rattle.fbl_law.specs.Knowledge.{IsUp, IsDown, IsOrphan}
 use Rattle.fbl_law.specs.Groups.{GroupRecord, channel, marks, knowledge, receipts, is_recorded}
 use Rattle.fbl_law.specs.Sound.{IsSound}
 use Rattle.fbl_law.specs.GroupSteps.{IsStrike}

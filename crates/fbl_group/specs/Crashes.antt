@@ -1,7 +1,7 @@
 -- A crash: a strike and the recovery from it.
 use Rattle.std.specs.Prelude.{◌≡◌, Some, None}
+use Rattle.fbl_base.specs.MemberSets.{Members}
 use Rattle.fbl_base.specs.Fold.{Next}
-use Rattle.fbl_law.specs.Knowledge.{Members}
 use Rattle.fbl_law.specs.Groups.{GroupRecord}
 use Rattle.fbl_group.specs.declared.answers.Struck.{Struck}
 use Rattle.fbl_group.specs.declared.answers.Recovered.{Recovered}

@@ -55,6 +55,6 @@ crash_name crash.Nobody = codes "Nobody"
 crash_name crash.TooMany = codes "TooMany"
 crash_name crash.Memory = codes "Memory"
 
-abbrev pub dump_name : DumpGroupRefusal → List ℕ
-dump_name dump.BadStrike = codes "BadStrike"
-dump_name dump.Memory = codes "Memory"
+abbrev pub dump_group_name : DumpGroupRefusal → List ℕ
+dump_group_name dump.BadStrike = codes "BadStrike"
+dump_group_name dump.Memory = codes "Memory"

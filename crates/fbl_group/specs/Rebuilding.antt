@@ -1,20 +1,21 @@
 -- What a recovery makes before it changes the group: records that are rebuilt by replay, in rounds.
 use Rattle.std.specs.Prelude.{◌≡◌, ℕ, ◌+◌, ◌<◌, Bool, true, false, List, [], length, Option, slice_index_or}
 use Rattle.std.specs.FinSet as set
+use Rattle.fbl_base.specs.MemberSets.{Members}
 use Rattle.fbl_base.specs.declared.trace.Determinant.{Determinant}
 use Rattle.fbl_base.specs.Fold.{Next}
 use Rattle.fbl_table.specs.declared.entry.Entry.{Entry}
 use Rattle.fbl_table.specs.Receipts.{IsByNumber}
 use Rattle.fbl_member.specs.Members.{MemberRecord, blank}
-use Rattle.fbl_law.specs.Knowledge.{Members, IsDown}
+use Rattle.fbl_law.specs.Knowledge.{IsDown}
 use Rattle.fbl_law.specs.Steps.{recovery_table}
-use Rattle.fbl_law.specs.Groups.{GroupRecord, checkpoint, knowledge}
+use Rattle.fbl_law.specs.Groups.{GroupRecord, member_checkpoint, knowledge}
 use Rattle.fbl_law.specs.Replaying.{IsReplaying, IsWaiting, replayed_in}
 
 -- of each member that is down, the receipts beyond its checkpoint that the gathered table has, by their numbers
 pub record AreByNumber (r : GroupRecord) (receipts : List (List (Option Determinant))) : Type 0 where
   pub size : length receipts ≡ r.config.members
-  pub each : (p : ℕ) → p < r.config.members → IsDown (knowledge r) p → IsByNumber p (checkpoint r p).received (recovery_table (knowledge r)) (slice_index_or receipts p [])
+  pub each : (p : ℕ) → p < r.config.members → IsDown (knowledge r) p → IsByNumber p (member_checkpoint r p).received (recovery_table (knowledge r)) (slice_index_or receipts p [])
 
 -- the gathered table, with these receipts
 pub record IsGathered (r : GroupRecord) (held : List Entry) (numbered : List (List (Option Determinant))) : Type 0 where

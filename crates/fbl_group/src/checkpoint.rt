@@ -5,7 +5,7 @@ ghost use Rattle.fbl_base.specs.declared.trace.Determinant.{Determinant};
 ghost use Rattle.fbl_base.specs.Events.{receipt_of};
 ghost use Rattle.fbl_base.specs.Precedence.{Has};
 ghost use Rattle.fbl_law.specs.Knowledge.{IsRecorded};
-ghost use Rattle.fbl_law.specs.Groups.{checkpoint as checkpoint_of, knowledge, marks};
+ghost use Rattle.fbl_law.specs.Groups.{member_checkpoint, knowledge, marks};
 ghost use Rattle.fbl_law.specs.GroupSteps.{IsCheckpoint};
 ghost use Rattle.fbl_law.specs.Sound.{IsCheckpointFold};
 ghost use Rattle.fbl_group.specs.Checkpoints.{checkpoint_refusal, IsCheckpointRefusal};
@@ -37,7 +37,7 @@ impl<B: Behaviour, A: Allocator + Copy> Group<B, A> {
     /// checkpoint is at the fold of them, and they are always recorded. The member is one of the group.
     pub fn checkpoint_received(&self, member: Member) -> u32
         requires { member < self.now.config.members }
-        ensures value { result ≡ (checkpoint_of self.now member).received }
+        ensures value { result ≡ (member_checkpoint self.now member).received }
         ensures fold { IsCheckpointFold B.next self.now member }
         ensures recorded { (d : Determinant) → Has (marks self.now) (receipt_of d) → d.to ≡ member → d.rsn ≤ result → IsRecorded (knowledge self.now) d }
     {

@@ -2,7 +2,7 @@
 
 ghost use Rattle.std.specs.Prelude.{◌≡◌, ℕ, ◌<◌, ◌≤◌, ◌++◌, IfOk, IfErr, OnOk, length, map, slice_index_or};
 ghost use Rattle.std.specs.FinSet as set;
-ghost use Rattle.fbl_base.specs.Audit.{IsOrphan};
+ghost use Rattle.fbl_base.specs.Audit.{IsDumpOrphan};
 ghost use Rattle.fbl_base.specs.DumpParts.{parts_of};
 ghost use Rattle.fbl_base.specs.Events.{mark_of};
 ghost use Rattle.fbl_base.specs.MemberSets.{AllBelow};
@@ -30,7 +30,7 @@ impl<B: Behaviour, A: Allocator + Copy> Group<B, A> {
     pub fn dump(&self, strike: MemberSet) -> Result<Dump<A>, DumpGroupRefusal>
         ensures dumped { IfOk result (λ dump. AllBelow strike self.now.config.members × (dump ≡ dump_of self.now strike)) }
         ensures refused { IfErr result (IsDumpRefusal self.now strike) }
-        ensures no_orphan { ((q : ℕ) → IsDown (knowledge self.now) q → Includes strike q) → set.len strike ≤ self.now.config.f → IfOk result (λ dump. (m : ℕ) → ¬ (IsOrphan dump m)) }
+        ensures no_orphan { ((q : ℕ) → IsDown (knowledge self.now) q → Includes strike q) → set.len strike ≤ self.now.config.f → IfOk result (λ dump. (m : ℕ) → ¬ (IsDumpOrphan dump m)) }
     {
         if !strike.within(self.config.members()) {
             return Err(DumpGroupRefusal::BadStrike);

@@ -214,11 +214,11 @@ pub enum DumpGroupRefusal {
 }
 
 impl DumpGroupRefusal {
-    ghost use Rattle.fbl_group.specs.Names.{dump_name};
+    ghost use Rattle.fbl_group.specs.Names.{dump_group_name};
 
     /// The refusal's word, as it is printed.
     pub fn name(self) -> &'static str
-        ensures { result.now ≡ dump_name self }
+        ensures { result.now ≡ dump_group_name self }
     {
         match self {
             DumpGroupRefusal::BadStrike => "BadStrike",

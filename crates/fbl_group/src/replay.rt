@@ -4,7 +4,7 @@ ghost use Rattle.std.specs.Prelude.{◌≡◌, ℕ, ◌<◌, [], true, false, le
 ghost use Rattle.std.specs.FinSet as set;
 ghost use Rattle.fbl_table.specs.Receipts.{receipt_at, IsByNumber};
 ghost use Rattle.fbl_member.specs.Members.{logged_note};
-ghost use Rattle.fbl_law.specs.Groups.{checkpoint as checkpoint_of, knowledge};
+ghost use Rattle.fbl_law.specs.Groups.{member_checkpoint, knowledge};
 ghost use Rattle.fbl_law.specs.Steps.{gathered_all, saved_tables, recovery_table};
 ghost use Rattle.fbl_law.specs.Sound.{IsSound};
 ghost use Rattle.fbl_law.specs.Replaying.{working, IsReplaying};
@@ -110,7 +110,7 @@ impl<B: Behaviour, A: Allocator + Copy> Group<B, A> {
         member: Member,
         gathered: &Table<A>,
     ) -> Result<Receipts<A>, AllocError>
-        ensures { set.contains self.now.down member ≡ true → IfOk result (IsByNumber member (checkpoint_of self.now member).received gathered.now) }
+        ensures { set.contains self.now.down member ≡ true → IfOk result (IsByNumber member (member_checkpoint self.now member).received gathered.now) }
     {
         let alloc = *self.members.allocator();
         if self.down.has(member) {
@@ -135,7 +135,7 @@ impl<B: Behaviour, A: Allocator + Copy> Group<B, A> {
 
     /// A member that is down begins at its checkpoint, without the table, for which it gets the gathered one in the end.
     fn begin_one(&self, member: Member) -> Result<MemberRec<A>, AllocError>
-        ensures { set.contains self.now.down member ≡ true → IfOk result (λ begun. begun ≡ record (checkpoint_of self.now member) { table = [] }) }
+        ensures { set.contains self.now.down member ≡ true → IfOk result (λ begun. begun ≡ record (member_checkpoint self.now member) { table = [] }) }
     {
         let alloc = *self.members.allocator();
         let f = self.config.f();

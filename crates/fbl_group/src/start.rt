@@ -8,7 +8,7 @@ ghost use Rattle.fbl_base.specs.Rules.{WellFormed};
 ghost use Rattle.fbl_law.specs.Steps.{between};
 ghost use Rattle.fbl_law.specs.Groups.{HasChannels, channel_in};
 ghost use Rattle.fbl_group.specs.Channels.{rows};
-ghost use Rattle.fbl_law.specs.GroupSteps.{IsGroupStart, start_events, message_of};
+ghost use Rattle.fbl_law.specs.GroupSteps.{IsGroupStart, start_events, message_of_send};
 
 use crate::channels::{Channels, empty_channels};
 use crate::group::Group;
@@ -90,7 +90,7 @@ fn send_starts<A: Allocator + Copy>(
     requires shape { HasChannels n (rows channels.old) }
     requires rules { WellFormed n (map mark_of events.now) }
     ensures shape { OnOk result (HasChannels n (rows channels.new)) }
-    ensures sent { OnOk result ((q p : ℕ) → channel_in (rows channels.new) q p ≡ channel_in (rows channels.old) q p ++ between q p (filter_map message_of events.now)) }
+    ensures sent { OnOk result ((q p : ℕ) → channel_in (rows channels.new) q p ≡ channel_in (rows channels.old) q p ++ between q p (filter_map message_of_send events.now)) }
 {
     for event in events {
         if let Some(wire) = message(alloc, *event) {
@@ -102,7 +102,7 @@ fn send_starts<A: Allocator + Copy>(
 
 /// The message of a send. It carries nothing.
 fn message<A: Allocator + Copy>(alloc: A, event: Event) -> Option<Wire<A>>
-    ensures { result ≡ message_of event }
+    ensures { result ≡ message_of_send event }
 {
     match event {
         Event::Send {

@@ -1,26 +1,23 @@
 -- A history that goes on to some of its standing events.
-use Rattle.std.proofs.Common.{◌≡◌, ℕ, zero, suc, ◌==◌, ◌||◌, Bool, true, false, cond, List, [], ◌∷◌, map, Some, refl, sym, ap, ◌∙◌, arith}
+use Rattle.std.proofs.Common.{◌≡◌, ℕ, zero, suc, ◌||◌, Bool, true, false, cond, List, [], ◌∷◌, map, Some, refl, sym, ap, ◌∙◌, arith}
 use Rattle.std.specs.Prelude.{slice_get}
 use Rattle.std.specs.List.{filter, list_any}
-use Rattle.std.proofs.lemmas.Bool.Decides.{nat_tests}
+use Rattle.fbl_base.proofs.RulesLaws.{eqb-self}
 use Rattle.fbl_law.proofs.Lists.{filter-At}
 use Rattle.fbl_history.specs.declared.column.Column.{Column}
 use Rattle.fbl_history.specs.declared.column.Column.TheVariants.{Send, Receipt, Strike, Recovery, Checkpoint}
 use Rattle.fbl_history.specs.Columns.{is_standing, crossed, same_standing, standing, is_next, column_then, trace_then, go_on, crossed_without, HasEachOnce}
 use Rattle.fbl_history.proofs.Crossing.{then-kept, then-crossed, then-left, then-past, same-is, next-is}
 
-equal-self : (x : ℕ) → (x == x) ≡ true
-equal-self x = grind (arith, nat_tests)
-
 -- a standing event is the same as itself
 same-self : (column : Column) → is_standing column ≡ true → same_standing column column ≡ true
-same-self (Send q k p false) stands = (let e1 = equal-self q in let e2 = equal-self k in let e3 = equal-self p in rw (e1, e2, e3) refl)
+same-self (Send q k p false) stands = (let e1 = eqb-self q in let e2 = eqb-self k in let e3 = eqb-self p in rw (e1, e2, e3) refl)
 same-self (Receipt p r q k s false) stands =
-    let e1 = equal-self p in
-    let e2 = equal-self r in
-    let e3 = equal-self q in
-    let e4 = equal-self k in
-    let e5 = equal-self s in
+    let e1 = eqb-self p in
+    let e2 = eqb-self r in
+    let e3 = eqb-self q in
+    let e4 = eqb-self k in
+    let e5 = eqb-self s in
     rw (e1, e2, e3, e4, e5) refl
 same-self (Send q k p true) stands = absurd cc
 same-self (Receipt p r q k s true) stands = absurd cc

@@ -1,6 +1,6 @@
 -- Members that replay a trace come to its states.
-use Rattle.std.proofs.Common.{◌≡◌, ◌≢◌, ℕ, zero, suc, ◌+◌, ◌<◌, ◌≤◌, ◌==◌, Bool, true, false, cond, List, []}
-use Rattle.std.proofs.Common.{◌∷◌, ◌++◌, length, length-append, take, drop, map, get_or, Option, Some, slice_get, refl, sym, ap, ◌∙◌, arith}
+use Rattle.std.proofs.Common.{◌≡◌, ◌≢◌, ℕ, suc, ◌+◌, ◌<◌, ◌≤◌, ◌==◌, Bool, true, false, cond, List}
+use Rattle.std.proofs.Common.{length, length-append, take, drop, map, get_or, Option, Some, slice_get, refl, sym, ap, ◌∙◌, arith}
 use Rattle.std.specs.Prelude.{slice_set, slice_index_or}
 use Rattle.std.proofs.lemmas.Bool.Decides.{nat_tests}
 use Rattle.std.proofs.lemmas.List.{take-map, take-take, take-append-drop, length-set, get_or-set_same, get_or-set_other, get_or_default, length-map}
@@ -16,19 +16,20 @@ use Rattle.fbl_base.specs.Events.{At, mark_of}
 use Rattle.fbl_base.specs.Rules.{is_receipt_of, is_send_of, receipts_of, MayFollow}
 use Rattle.fbl_base.specs.Fold.{Next, Progress, after_notes, note_of, numbered}
 use Rattle.fbl_base.proofs.FoldLaws.{after_notes-state}
-use Rattle.fbl_base.proofs.Gets.{map-At}
+use Rattle.fbl_base.proofs.Gets.{map-At, split-at}
 use Rattle.fbl_base.proofs.RulesLaws.{receipts-step, sent-before}
+use Rattle.fbl_table.proofs.Adding.{take-next}
 use Rattle.fbl_member.specs.Members.{MemberRecord, blank, fresh, logged_note, replayed_by}
+use Rattle.fbl_member.proofs.Logs.{length-numbered}
 use Rattle.fbl_law.specs.Groups.{GroupRecord, marks}
 use Rattle.fbl_law.specs.Sound.{received_notes, IsReplayed, IsSound}
 use Rattle.std.specs.FinSet as set
 use Rattle.std.specs.List.{filter, range_with_len}
-use Rattle.fbl_base.specs.MemberSets.{member_list}
-use Rattle.fbl_law.specs.Knowledge.{Members}
+use Rattle.fbl_base.specs.MemberSets.{member_list, Members}
 use Rattle.fbl_law.proofs.Lists.{filter-passes, some-at}
-use Rattle.fbl_law.proofs.Logs.{logged-by, logged-noted, log-short, length-numbered}
+use Rattle.fbl_law.proofs.Logs.{logged-by, logged-noted, log-short}
 use Rattle.fbl_law.proofs.Receipts.{Has-receipts_at}
-use Rattle.fbl_law.proofs.ReplayedRecords.{take-next, replayed-fresh, replayed-step}
+use Rattle.fbl_law.proofs.ReplayedRecords.{replayed-fresh, replayed-step}
 use Rattle.fbl_history.specs.Replays.{HaveReplayed}
 use Rattle.fbl_history.specs.Traces.{state_after_receipt}
 
@@ -43,12 +44,6 @@ count-earlier t i j m before =
     let whole = sum_by-append (λ y. cond (is_receipt_of m y) 1 0) (take j (take i t)) (drop j (take i t)) in
     let same = ap (λ (u : List Mark). receipts_of u m) (take-append-drop j (take i t)) in
     omega (arith, whole, same, ap (λ (u : List Mark). receipts_of u m) front)
-
--- a list, cut at a place
-split-at : {X : Type 0} (xs : List X) (i : ℕ) (x : X) → slice_get xs i ≡ Some x → xs ≡ take i xs ++ x ∷ drop (suc i) xs
-split-at [] i x here = absurd cc
-split-at (y ∷ xs) zero x here = (let same : y ≡ x = cc in ap (λ z. z ∷ xs) same)
-split-at (y ∷ xs) (suc i) x here = ap (λ zs. y ∷ zs) (split-at xs i x here)
 
 -- the event of a send
 send-at : (t : List Event) (j q k to : ℕ) → At (map mark_of t) j (Send q k to) → (x : Note) × (slice_get t j ≡ Some (event.Send q k to x))

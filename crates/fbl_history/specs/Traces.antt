@@ -3,9 +3,8 @@ use Rattle.std.specs.Prelude.{◌≡◌, ℕ, ◌-◌, false, List, [], ◌∷�
 use Rattle.fbl_base.specs.declared.trace.Event.{Event}
 use Rattle.fbl_base.specs.declared.trace.Event.TheVariants as event
 use Rattle.fbl_base.specs.Fold.{Next, state_after}
-use Rattle.fbl_base.specs.MemberSets.{member_list}
-use Rattle.fbl_law.specs.Groups.{GroupRecord, member, checkpoint}
-use Rattle.fbl_law.specs.Knowledge.{Members}
+use Rattle.fbl_base.specs.MemberSets.{member_list, Members}
+use Rattle.fbl_law.specs.Groups.{GroupRecord, member, member_checkpoint}
 use Rattle.fbl_law.specs.Sound.{received_notes}
 use Rattle.fbl_history.specs.declared.column.Column.{Column}
 use Rattle.fbl_history.specs.declared.column.Column.TheVariants.{Send, Receipt, Recovery}
@@ -27,7 +26,7 @@ trace_columns next r = map (event_column next r.config.members r.trace) r.trace
 
 -- how many receipts the member has beyond its checkpoint
 abbrev pub replay_of : GroupRecord → ℕ → Replay
-replay_of r m = record { member = m; receipts = (member r m).received - (checkpoint r m).received }
+replay_of r m = record { member = m; receipts = (member r m).received - (member_checkpoint r m).received }
 
 -- the replays of these members in a recovery that left the group like this, in member order
 abbrev pub replays_of : GroupRecord → Members → List Replay

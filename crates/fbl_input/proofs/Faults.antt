@@ -4,10 +4,10 @@ use Rattle.fbl_base.specs.declared.config.ConfigRefusal.{ConfigRefusal}
 use Rattle.fbl_base.specs.declared.refusal.DumpRefusal.{DumpRefusal}
 use Rattle.fbl_input.specs.declared.fault.RunFault.{RunFault}
 use Rattle.fbl_input.specs.declared.fault.RunFault.TheVariants as faults
-use Rattle.fbl_input.specs.Faults.{IsFirstFault, IsRefused}
+use Rattle.fbl_input.specs.Faults.{IsFirstFault, IsReadRefused}
 
 pub refused : {A : Type 0} (asked : Result A RunFault) (RefusesConfig : A → ConfigRefusal → Type 0) (RefusesDump : A → DumpRefusal → Type 0) (a : A)
-    (e : RunFault) → asked ≡ Ok a → IsRefused (RefusesConfig a) (RefusesDump a) e → IsFirstFault asked RefusesConfig RefusesDump e
+    (e : RunFault) → asked ≡ Ok a → IsReadRefused (RefusesConfig a) (RefusesDump a) e → IsFirstFault asked RefusesConfig RefusesDump e
 refused asked RefusesConfig RefusesDump a faults.Memory is h = tt
 refused asked RefusesConfig RefusesDump a (faults.Config e) is h = (a, is, h)
 refused asked RefusesConfig RefusesDump a (faults.Dump e) is h = (a, is, h)

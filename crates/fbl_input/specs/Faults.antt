@@ -19,21 +19,21 @@ dump_fault dump.Memory = faults.Memory
 dump_fault e = faults.Dump e
 
 -- what was read is refused by its configuration or as a dump, or memory ran out
-abbrev pub IsRefused : (ConfigRefusal → Type 0) → (DumpRefusal → Type 0) → RunFault → Type 0
-IsRefused RefusesConfig RefusesDump faults.Memory = Unit {0}
-IsRefused RefusesConfig RefusesDump (faults.Config config.Memory) = ⊥
-IsRefused RefusesConfig RefusesDump (faults.Config e) = RefusesConfig e
-IsRefused RefusesConfig RefusesDump (faults.Dump dump.Memory) = ⊥
-IsRefused RefusesConfig RefusesDump (faults.Dump e) = RefusesDump e
-IsRefused RefusesConfig RefusesDump e = ⊥
+abbrev pub IsReadRefused : (ConfigRefusal → Type 0) → (DumpRefusal → Type 0) → RunFault → Type 0
+IsReadRefused RefusesConfig RefusesDump faults.Memory = Unit {0}
+IsReadRefused RefusesConfig RefusesDump (faults.Config config.Memory) = ⊥
+IsReadRefused RefusesConfig RefusesDump (faults.Config e) = RefusesConfig e
+IsReadRefused RefusesConfig RefusesDump (faults.Dump dump.Memory) = ⊥
+IsReadRefused RefusesConfig RefusesDump (faults.Dump e) = RefusesDump e
+IsReadRefused RefusesConfig RefusesDump e = ⊥
 
 -- the fault is the first of an input that is asked for this, and is refused by these; memory may run out for any input
 abbrev pub IsFirstFault : {A : Type 0} → Result A RunFault → (A → ConfigRefusal → Type 0) → (A → DumpRefusal → Type 0) → RunFault → Type 0
 IsFirstFault asked RefusesConfig RefusesDump faults.Memory = Unit {0}
 IsFirstFault asked RefusesConfig RefusesDump faults.Read = ⊥
 IsFirstFault asked RefusesConfig RefusesDump faults.Write = ⊥
-IsFirstFault {A} asked RefusesConfig RefusesDump (faults.Config e) = (a : A) × (asked ≡ Ok a) × IsRefused (RefusesConfig a) (RefusesDump a) (faults.Config e)
-IsFirstFault {A} asked RefusesConfig RefusesDump (faults.Dump e) = (a : A) × (asked ≡ Ok a) × IsRefused (RefusesConfig a) (RefusesDump a) (faults.Dump e)
+IsFirstFault {A} asked RefusesConfig RefusesDump (faults.Config e) = (a : A) × (asked ≡ Ok a) × IsReadRefused (RefusesConfig a) (RefusesDump a) (faults.Config e)
+IsFirstFault {A} asked RefusesConfig RefusesDump (faults.Dump e) = (a : A) × (asked ≡ Ok a) × IsReadRefused (RefusesConfig a) (RefusesDump a) (faults.Dump e)
 IsFirstFault asked RefusesConfig RefusesDump e = asked ≡ Err e
 
 -- a read failed, and nothing was written

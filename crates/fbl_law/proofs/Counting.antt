@@ -10,18 +10,16 @@ use Rattle.fbl_base.specs.declared.trace.Determinant.{Determinant}
 use Rattle.fbl_base.specs.declared.trace.Event.{Event}
 use Rattle.fbl_base.specs.declared.trace.Mark.{Mark}
 use Rattle.fbl_base.specs.Events.{mark_of, determinant_of}
-use Rattle.fbl_base.specs.MemberSets.{AllBelow}
+use Rattle.fbl_base.specs.MemberSets.{AllBelow, Members}
 use Rattle.fbl_base.specs.Rules.{WellFormed}
 use Rattle.fbl_base.specs.Fold.{Next}
-use Rattle.fbl_base.proofs.LawfulLaws.{filter_map-shorter}
 use Rattle.fbl_member.specs.Members.{MemberRecord}
-use Rattle.fbl_law.specs.Knowledge.{Members}
 use Rattle.fbl_law.specs.Steps.{Stays, IsEventCut}
 use Rattle.fbl_law.specs.Groups.{GroupRecord, knowledge, receipts}
 use Rattle.fbl_law.specs.Sound.{receipts_at, IsReplayed, IsSound}
 use Rattle.fbl_law.specs.Replaying.{count_in}
 use Rattle.fbl_law.proofs.GroupRecovery.{cut-lawful}
-use Rattle.fbl_base.proofs.Sifted.{length-left}
+use Rattle.fbl_base.proofs.Sifted.{length-left, length-filter_map}
 use Rattle.fbl_law.proofs.Receipts.{receipts_at-number}
 
 -- counts that are no more on the set
@@ -148,7 +146,7 @@ module _ (next : Next) (old : GroupRecord) (sound : IsSound next old) (new : Lis
   to-replay-short =
       let left : length new ≤ length old.trace = (let e = cut.1 in rw e (length-left (λ x. cut.0 (mark_of x)) old.trace)) in
       let some = length-left (is_of old.down) (receipts (map mark_of new)) in
-      omega (arith, left, some, filter_map-shorter determinant_of (map mark_of new), length-map new mark_of)
+      omega (arith, left, some, length-filter_map determinant_of (map mark_of new), length-map new mark_of)
 
   -- so far they have replayed no more than that
   pub replayed-most : (work : ℕ → MemberRecord)

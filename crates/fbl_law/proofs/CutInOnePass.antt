@@ -12,7 +12,7 @@ use Rattle.fbl_base.specs.declared.trace.Event.{Event}
 use Rattle.fbl_base.specs.declared.trace.Mark.{Mark}
 use Rattle.fbl_base.specs.declared.trace.Mark.TheVariants.{Send, Receipt}
 use Rattle.fbl_base.specs.Events.{At, mark_of, member_of, receipt_of}
-use Rattle.fbl_base.specs.MemberSets.{contains-insert_same, contains-insert_other}
+use Rattle.fbl_base.specs.MemberSets.{contains-insert_same, contains-insert_other, Members}
 use Rattle.fbl_base.specs.Precedence.{Has}
 use Rattle.fbl_base.specs.Rules.{WellFormed}
 use Rattle.fbl_base.specs.Fold.{Next}
@@ -21,7 +21,7 @@ use Rattle.fbl_base.proofs.Recorded.{or_false}
 use Rattle.fbl_base.proofs.RulesLaws.{eqb-self}
 use Rattle.fbl_table.specs.declared.entry.Entry.{Entry}
 use Rattle.fbl_table.specs.Tables.{is_held}
-use Rattle.fbl_law.specs.Knowledge.{Members, IsRecorded}
+use Rattle.fbl_law.specs.Knowledge.{IsRecorded}
 use Rattle.fbl_law.specs.Steps.{UpTo, Stays, IsEventCut, recovery_table}
 use Rattle.fbl_law.specs.Groups.{GroupRecord, marks, knowledge}
 use Rattle.fbl_law.specs.Sound.{IsSound}

@@ -7,6 +7,7 @@ use Rattle.std.proofs.lemmas.Bool.Decides.{nat_tests}
 use Rattle.std.proofs.lemmas.List.{take-append-le, take-append-drop, take-take, map-append}
 use Rattle.std.proofs.lemmas.List.Elements.{filter-append}
 use Rattle.std.proofs.lemmas.Option.{slice_get-map}
+use Rattle.fbl_base.proofs.Sifted.{length-filter_map}
 use Rattle.fbl_base.specs.declared.trace.Note.{Note}
 use Rattle.fbl_base.specs.declared.trace.Start.{Start}
 use Rattle.fbl_base.specs.declared.trace.Determinant.{Determinant}
@@ -22,7 +23,7 @@ use Rattle.fbl_base.specs.Fold.{Next, Action, took, sent, action_of, actions_of,
 use Rattle.fbl_base.proofs.Gets.{filter_map-agree, At-front, At-below, slice_get-take}
 use Rattle.fbl_base.proofs.PlacesAndEvents.{one_place}
 use Rattle.fbl_base.proofs.InFlightLaws.{filter_all}
-use Rattle.fbl_base.proofs.LawfulLaws.{filter_map-shorter, receipts-noted, notes_of-sent, notes_of-append, Lawful-begun}
+use Rattle.fbl_base.proofs.LawfulLaws.{receipts-noted, notes_of-sent, notes_of-append, Lawful-begun}
 use Rattle.fbl_law.proofs.Lists.{At-append, At-seam}
 use Rattle.fbl_law.proofs.Appended.{Has-append}
 use Rattle.fbl_law.proofs.CutWellFormed.{KeepsCauses, WellFormed-kept, marks-filter}
@@ -259,7 +260,7 @@ all_sends : (xs : List Event) → length xs ≤ length (filter_map start_of xs) 
 all_sends [] whole i to r q k here = cc
 all_sends (Send q' k' to' x ∷ xs) whole zero to r q k here = cc
 all_sends (Send q' k' to' x ∷ xs) whole (suc i) to r q k here = all_sends xs (omega (arith, whole)) i to r q k here
-all_sends (Receipt to' r' q' k' ∷ xs) whole i to r q k here = omega (arith, whole, filter_map-shorter start_of xs)
+all_sends (Receipt to' r' q' k' ∷ xs) whole i to r q k here = omega (arith, whole, length-filter_map start_of xs)
 
 module _ (next : Next) (n : ℕ) (starts : List Start) (keep : Mark → Bool) (t : List Event) (lawful : Lawful next n starts t)
     (causes : KeepsCauses keep (map mark_of t)) (follow : KeepsResponses keep (map mark_of t)) where

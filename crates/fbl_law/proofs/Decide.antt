@@ -8,11 +8,11 @@ use Rattle.fbl_base.specs.Events.{same_determinant}
 use Rattle.fbl_base.proofs.Recorded.{Decides-same_determinant}
 use Rattle.fbl_base.proofs.Sizes.{len-remove_one, some_member, len-within}
 use Rattle.fbl_table.specs.declared.entry.Entry.{Entry}
-use Rattle.fbl_law.specs.Knowledge.{in_table, Members, Includes, Knowledge, table, checkpoint, IsUp, Names, Holds, IsRecorded, IsHolder, IsStable, IsClosed, IsAlwaysHeld}
+use Rattle.fbl_law.specs.Knowledge.{in_table, Includes, Knowledge, table, checkpoint, IsUp, Names, Holds, IsRecorded, IsHolder, IsStable, IsClosed, IsAlwaysHeld}
 use Rattle.fbl_law.proofs.Lists.{Contains-here, Contains-there, Contains-cons_cases, Contains-none}
 use Rattle.fbl_law.proofs.Safe.{down_or_up, never_both}
 use Rattle.fbl_law.proofs.Tables.{Includes-insert, Includes-insert_cases, Includes-union, Includes-left, Includes-right, named_record}
-use Rattle.fbl_base.specs.MemberSets.{contains-insert_other}
+use Rattle.fbl_base.specs.MemberSets.{contains-insert_other, Members}
 
 -- whether P holds is known
 abbrev Known : Type 0 → Type 0

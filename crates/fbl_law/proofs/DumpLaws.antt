@@ -8,6 +8,8 @@ use Rattle.std.proofs.lemmas.Bool.Decides.{same_from_decides}
 use Rattle.std.proofs.lemmas.List.{length-map}
 use Rattle.std.proofs.lemmas.List.Elements.{Contains-append_left, Contains-append_right}
 use Rattle.std.proofs.lemmas.Map.Made.{length-le_from_is_member, is_member-Decides}
+use Rattle.fbl_base.proofs.Sifted.{length-filter_map}
+use Rattle.fbl_base.specs.MemberSets.{Members}
 use Rattle.fbl_base.specs.declared.trace.Determinant.{Determinant}
 use Rattle.fbl_base.specs.declared.trace.Mark.{Mark}
 use Rattle.fbl_base.specs.declared.trace.Mark.TheVariants.{Send, Receipt}
@@ -16,11 +18,10 @@ use Rattle.fbl_base.specs.Precedence.{Has, Depends}
 use Rattle.fbl_base.specs.Fold.{Next}
 use Rattle.fbl_base.specs.Audit.{IsLost, HeldAt}
 use Rattle.fbl_base.proofs.Gets.{map-At, filter_map-At, At-below}
-use Rattle.fbl_base.proofs.LawfulLaws.{filter_map-shorter}
 use Rattle.fbl_base.proofs.Recorded.{Decides-same_determinant}
 use Rattle.fbl_table.specs.declared.entry.Entry.{Entry}
 use Rattle.fbl_member.specs.Members.{Message, MemberRecord, blank}
-use Rattle.fbl_law.specs.Knowledge.{Members, IsInFlight, Names}
+use Rattle.fbl_law.specs.Knowledge.{IsInFlight, Names}
 use Rattle.fbl_law.specs.Groups.{GroupRecord, member, marks, knowledge, receipts}
 use Rattle.fbl_law.specs.Sound.{IsSound}
 use Rattle.fbl_law.specs.Dumps.{pairs_of, pairs_from, held_pairs, dump_of, HasDistinctTables, DumpObeysRules, DumpHasNoOrphan}
@@ -108,14 +109,14 @@ module _ (next : Next) (r : GroupRecord) (sound : IsSound next r) where
 
   pub carried_fits : (v : Message) → IsInFlight (knowledge r) v → IsDistinct same_determinant (map (λ (e : Entry). e.det) v.carried) → length v.carried ≤ length r.trace
   carried_fits v flies distinct =
-      omega (arith, entries_fit v.carried distinct (λ d. carried_received next r sound v d flies), filter_map-shorter determinant_of (marks r), length-map r.trace mark_of)
+      omega (arith, entries_fit v.carried distinct (λ d. carried_received next r sound v d flies), length-filter_map determinant_of (marks r), length-map r.trace mark_of)
 
   held_at : HasDistinctTables r → (strike : Members) (i : ℕ) → HeldAt (dump_of r strike) i
   held_at distinct strike i h at =
       let where_held = pairs_from-At 0 r.members i h at in
       let fits : length (held_pairs r) ≤ 8192 * length r.members =
       pairs_fit 0 r.members (λ j below. (let t = table_fits j (distinct j (omega (arith, below, sound.members))) in
-      omega (arith, t, filter_map-shorter determinant_of (marks r), trace_fits next r sound))) in
+      omega (arith, t, length-filter_map determinant_of (marks r), trace_fits next r sound))) in
       let below : i < length (held_pairs r) = At-below (held_pairs r) i h at in
       let few : length r.members ≤ 16 = omega (arith, sound.members, sound.config.members.1) in
       let holder : h.0 < r.config.members = omega (arith, where_held.1, where_held.2, sound.members) in

@@ -7,10 +7,11 @@ use Rattle.std.proofs.lemmas.List.{get_or_default, map_more}
 use Rattle.std.proofs.lemmas.List.Elements.{Contains-get_or, Contains-append_cases, Contains-append_left, Contains-append_right}
 use Rattle.std.specs.List.{Contains}
 use Rattle.std.specs.FinSet as set
+use Rattle.fbl_base.specs.MemberSets.{Members}
 use Rattle.fbl_base.specs.declared.trace.Determinant.{Determinant}
 use Rattle.fbl_table.specs.declared.entry.Entry.{Entry}
 use Rattle.fbl_member.specs.Members.{MemberRecord, blank}
-use Rattle.fbl_law.specs.Knowledge.{Members, Includes, Names, Knowledge, table, checkpoint, IsDown, IsUp, IsRecorded, IsDownEmpty, IsCheckpointKept}
+use Rattle.fbl_law.specs.Knowledge.{Includes, Names, Knowledge, table, checkpoint, IsDown, IsUp, IsRecorded, IsDownEmpty, IsCheckpointKept}
 use Rattle.fbl_table.specs.Tables.{gathered}
 use Rattle.fbl_law.specs.Steps.{gathered_all, saved_tables, recovery_table}
 use Rattle.fbl_law.proofs.Lists.{Contains-changed, Contains-map, Contains-here, Contains-there, Contains-cons_cases, Contains-none}

@@ -11,7 +11,7 @@ use Rattle.fbl_base.specs.Precedence.{itself}
 use Rattle.fbl_member.specs.Members.{MemberRecord, blank}
 use Rattle.fbl_law.specs.Knowledge.{IsUp}
 use Rattle.fbl_law.specs.Steps.{IsCheckpointed}
-use Rattle.fbl_law.specs.Groups.{GroupRecord, member, checkpoint, knowledge}
+use Rattle.fbl_law.specs.Groups.{GroupRecord, member, member_checkpoint, knowledge}
 use Rattle.fbl_law.specs.Sound.{IsFold, IsReplayed, IsSound}
 use Rattle.fbl_law.specs.GroupSteps.{IsCheckpoint}
 use Rattle.fbl_law.specs.GroupLaws.{GroupCheckpointKeeps, CheckpointIsRecorded}
@@ -35,10 +35,10 @@ module _ (next : Next) (old new : GroupRecord) (p : ℕ) (s : IsCheckpoint old n
   up : (m : ℕ) → IsUp (knowledge old) m
   up m = rw s.nobody_down (sets.contains-empty nat_cmp m)
 
-  own : checkpoint now p ≡ member old p
+  own : member_checkpoint now p ≡ member old p
   own = get_or-set_same old.checkpoints p (member old p) blank (omega (arith, s.below, sound.checkpoints))
 
-  other : (m : ℕ) → m ≢ p → checkpoint now m ≡ checkpoint old m
+  other : (m : ℕ) → m ≢ p → member_checkpoint now m ≡ member_checkpoint old m
   other m apart = get_or-set_other old.checkpoints p m (member old p) blank apart
 
   is_checkpointed : IsCheckpointed (knowledge old) (knowledge now) p
@@ -54,7 +54,7 @@ module _ (next : Next) (old new : GroupRecord) (p : ℕ) (s : IsCheckpoint old n
     others = other;
   }
 
-  saved_now : (m : ℕ) → m < old.config.members → IsReplayed next old.config.members old.config.starts old.trace m (checkpoint now m)
+  saved_now : (m : ℕ) → m < old.config.members → IsReplayed next old.config.members old.config.starts old.trace m (member_checkpoint now m)
   saved_now m below = elim (cases_eq m p) [
     | inl same ↦ rw (same, own) (fold-replayed next old p sound.lawful.well_formed (sound.folds p s.below (up p)))
     | inr apart ↦ rw (other m apart) (sound.saved m below)

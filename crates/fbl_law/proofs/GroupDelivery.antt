@@ -24,7 +24,7 @@ use Rattle.fbl_table.specs.Tables.{piggybacked}
 use Rattle.fbl_member.specs.Members.{Message, MemberRecord, blank, progress_of, messages_from}
 use Rattle.fbl_law.specs.Knowledge.{send_mark, IsInFlight, IsUp}
 use Rattle.fbl_law.specs.Steps.{IsDelivered, is_on, between, taken_off}
-use Rattle.fbl_law.specs.Groups.{GroupRecord, member, checkpoint, channel, marks, knowledge, receipts}
+use Rattle.fbl_law.specs.Groups.{GroupRecord, member, member_checkpoint, channel, marks, knowledge, receipts}
 use Rattle.fbl_law.specs.Sound.{IsFold, IsReplayed, IsSound, received_notes, receipts_at, last_taken}
 use Rattle.fbl_law.specs.GroupSteps.{IsDelivery, step_of, receiver, made, delivery_events}
 use Rattle.fbl_law.specs.GroupLaws.{SendsWell, GroupDeliveryKeeps}
@@ -218,9 +218,9 @@ module _ (next : Next) (old new : GroupRecord) (v : Message) (well : SendsWell n
       ∙ length-append (receipts (marks old)) (receipts added_marks) ∙ ap (λ k. length (receipts (marks old)) + suc k) (ap length (no_receipts v.to (length was.log) sends))
 
   -- a checkpoint is at the fold of its receipts also where the trace has more
-  saved_grown : (m : ℕ) → m < n → IsReplayed next n old.config.starts new.trace m (checkpoint old m)
+  saved_grown : (m : ℕ) → m < n → IsReplayed next n old.config.starts new.trace m (member_checkpoint old m)
   saved_grown m below =
-      replayed-grown next n old.config.starts old.trace new.trace m (checkpoint old m) _ _ sound.lawful.well_formed
+      replayed-grown next n old.config.starts old.trace new.trace m (member_checkpoint old m) _ _ sound.lawful.well_formed
       (ap (λ t. receipts_at t m) marks_split ∙ ap (filter (λ (d : Determinant). d.to == m)) (filter_map-append determinant_of (marks old) added_marks)
       ∙ filter-append (λ (d : Determinant). d.to == m) (receipts (marks old)) (receipts added_marks))
       (notes_now m) (sound.saved m below)

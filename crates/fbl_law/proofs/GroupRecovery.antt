@@ -12,7 +12,7 @@ use Rattle.fbl_table.specs.Tables.{piggybacked}
 use Rattle.fbl_member.specs.Members.{Message, MemberRecord}
 use Rattle.fbl_law.specs.Knowledge.{IsInFlight, IsUp, IsDown}
 use Rattle.fbl_law.specs.Steps.{Stays, IsCut, IsEventCut, IsRecovered}
-use Rattle.fbl_law.specs.Groups.{GroupRecord, member, checkpoint, channel, marks, knowledge}
+use Rattle.fbl_law.specs.Groups.{GroupRecord, member, member_checkpoint, channel, marks, knowledge}
 use Rattle.fbl_law.specs.Sound.{IsFold, IsReplayed, IsSound}
 use Rattle.fbl_law.specs.GroupSteps.{IsRecovery}
 use Rattle.fbl_law.specs.GroupLaws.{GroupRecoveryKeeps}
@@ -90,11 +90,11 @@ module _ (next : Next) (old new : GroupRecord) (step : IsRecovery next old new) 
   folds-after m below = elim (down_or_up old.down m) [ inl down ↦ step.folds m below down | inr up ↦ fold-stays m up (sound.folds m below up) ]
 
   -- a checkpoint's receipts are recorded, so they stay
-  saved-after : (m : ℕ) → m < old.config.members → IsReplayed next old.config.members old.config.starts new.trace m (checkpoint new m)
+  saved-after : (m : ℕ) → m < old.config.members → IsReplayed next old.config.members old.config.starts new.trace m (member_checkpoint new m)
   saved-after m below =
       let is : new.trace ≡ filter (λ e. step.trace.0 (mark_of e)) old.trace = step.trace.1 in
       rw step.rest.checkpoints
-      (replayed-cut next old.config.members old.config.starts old.trace new.trace m (checkpoint old m) sound.lawful.well_formed (cut-lawful next old sound new.trace step.trace).0.well_formed
+      (replayed-cut next old.config.members old.config.starts old.trace new.trace m (member_checkpoint old m) sound.lawful.well_formed (cut-lawful next old sound new.trace step.trace).0.well_formed
       (λ q k x noted. note-was old.config.members step.trace.0 old.trace sound.lawful.well_formed (cut-causes next old sound new.trace step.trace) q k x (rw is at noted))
       (λ d there to within.
       (cut_is_recorded old.config.members old.config.f (knowledge old) (knowledge new) recovery-knowledge sound.causes d).1

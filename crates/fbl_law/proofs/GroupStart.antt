@@ -22,18 +22,19 @@ use Rattle.fbl_base.specs.Fold.{Next, Lawful, sent, action_of, actions_of, notes
 use Rattle.fbl_base.proofs.RulesLaws.{WellFormed-none, WellFormed-push}
 use Rattle.fbl_base.proofs.LawfulLaws.{notes_of-sent}
 use Rattle.fbl_member.specs.Members.{Message, MemberRecord, blank}
+use Rattle.fbl_member.proofs.Logs.{length-numbered}
 use Rattle.fbl_law.specs.Knowledge.{table, send_mark, IsUp, MatchesTrace}
 use Rattle.fbl_law.specs.Run.{IsStart, starts}
 use Rattle.fbl_law.specs.Steps.{is_on}
-use Rattle.fbl_law.specs.Groups.{GroupRecord, checkpoint, channel, knowledge, receipts}
+use Rattle.fbl_law.specs.Groups.{GroupRecord, member_checkpoint, channel, knowledge, receipts}
 use Rattle.fbl_law.specs.Sound.{IsFold, IsReplayed, IsSound, received_notes}
-use Rattle.fbl_law.specs.GroupSteps.{IsGroupStart, start_events, message_of}
+use Rattle.fbl_law.specs.GroupSteps.{IsGroupStart, start_events, message_of_send}
 use Rattle.fbl_law.specs.GroupLaws.{GroupStartIsSound}
 use Rattle.fbl_law.proofs.Lists.{Contains-cons_cases, Contains-from_filter, Contains-none}
 use Rattle.fbl_law.proofs.Safe.{never_both}
 use Rattle.fbl_law.proofs.Run.{run_is_sound}
 use Rattle.fbl_law.proofs.Notes.{sent-noted}
-use Rattle.fbl_law.proofs.Logs.{length-numbered, log-length}
+use Rattle.fbl_law.proofs.Logs.{log-length}
 use Rattle.fbl_law.proofs.ReplayedRecords.{replayed-fresh}
 use Rattle.fbl_law.proofs.Channels.{messages_between}
 
@@ -100,18 +101,18 @@ none_taken q p (Send from ssn to ∷ t) e = none_taken q p t e
 none_taken q p (Receipt to rsn from ssn ∷ t) e = cc
 
 -- the messages of the sends on a channel, by their marks
-marks_between : (q p : ℕ) (t : List Event) → map send_mark (filter (is_on q p) (filter_map message_of t)) ≡ map (λ ssn. Send q ssn p) (filter_map (sent_on q p) (map mark_of t))
-marks_between q p t = messages_between (filter_map message_of t) q p ∙ ap (map (λ ssn. Send q ssn p)) (sent t) where
-  sent : (u : List Event) → filter_map (sent_on q p) (map send_mark (filter_map message_of u)) ≡ filter_map (sent_on q p) (map mark_of u)
+marks_between : (q p : ℕ) (t : List Event) → map send_mark (filter (is_on q p) (filter_map message_of_send t)) ≡ map (λ ssn. Send q ssn p) (filter_map (sent_on q p) (map mark_of t))
+marks_between q p t = messages_between (filter_map message_of_send t) q p ∙ ap (map (λ ssn. Send q ssn p)) (sent t) where
+  sent : (u : List Event) → filter_map (sent_on q p) (map send_mark (filter_map message_of_send u)) ≡ filter_map (sent_on q p) (map mark_of u)
   sent [] = refl
   sent (event.Receipt to rsn from ssn ∷ u) = sent u
   sent (event.Send from ssn to note ∷ u) = ap (λ ys. cons_option (sent_on q p (Send from ssn to)) ys) (sent u)
 
 -- each message of the sends is sent, and carries nothing
-message_sent : (t : List Event) (v : Message) → Contains (filter_map message_of t) v → (v.carried ≡ []) × ((i : ℕ) × (slice_get t i ≡ Some (event.Send v.from v.ssn v.to v.note)))
+message_sent : (t : List Event) (v : Message) → Contains (filter_map message_of_send t) v → (v.carried ≡ []) × ((i : ℕ) × (slice_get t i ≡ Some (event.Send v.from v.ssn v.to v.note)))
 message_sent [] v among = absurd (Contains-none v among)
 message_sent (event.Receipt to rsn from ssn ∷ t) v among = let r = message_sent t v among in (r.0, (suc r.1.0, r.1.1))
-message_sent (event.Send from ssn to note ∷ t) v among = elim (Contains-cons_cases _ (filter_map message_of t) v among) [
+message_sent (event.Send from ssn to note ∷ t) v among = elim (Contains-cons_cases _ (filter_map message_of_send t) v among) [
   | inl first ↦ (sym (ap (λ (x : Message). x.carried) first), (0, ap (λ (x : Message). Some (event.Send x.from x.ssn x.to x.note)) first))
   | inr later ↦ let r = message_sent t v later in (r.0, (suc r.1.0, r.1.1))
 ]
@@ -172,7 +173,7 @@ module _ (next : Next) (config : Settings) (r : GroupRecord) (is : IsConfig conf
       sym (length-numbered 0 (starts_of m config.starts))
       ∙ ap (λ (notes : List Note). length (after_notes next m n config.starts notes).log) (sym (no_notes m)) ∙ log-length next n config.starts events m is_lawful
 
-  no_checkpoint : (m : ℕ) → ((checkpoint r m).table ≡ []) × ((checkpoint r m).received ≡ 0) × (length (checkpoint r m).log ≤ sends_of (map mark_of r.trace) m)
+  no_checkpoint : (m : ℕ) → ((member_checkpoint r m).table ≡ []) × ((member_checkpoint r m).received ≡ 0) × (length (member_checkpoint r m).log ≤ sends_of (map mark_of r.trace) m)
   no_checkpoint m = elim (cases_lt m n) [
     | inl below ↦ (
       ap (λ (x : MemberRecord). x.table) (s.saved m below),
@@ -185,7 +186,7 @@ module _ (next : Next) (config : Settings) (r : GroupRecord) (is : IsConfig conf
         )
   ]
 
-  saved_now : (m : ℕ) → m < n → IsReplayed next n config.starts r.trace m (checkpoint r m)
+  saved_now : (m : ℕ) → m < n → IsReplayed next n config.starts r.trace m (member_checkpoint r m)
   saved_now m below = rw (s.saved m below) (replayed-fresh next n config.starts r.trace m)
 
   matches : (q p : ℕ) → MatchesTrace (knowledge r) q p
@@ -195,8 +196,8 @@ module _ (next : Next) (config : Settings) (r : GroupRecord) (is : IsConfig conf
       ∙ none_dropped (filter_map (sent_on q p) (map mark_of events)) in
       rw (s.channels q p, s.trace, flying) (marks_between q p events)
 
-  among_starts : (v : Message) → Contains (channel r v.from v.to) v → Contains (filter_map message_of r.trace) v
-  among_starts v flies = Contains-from_filter (is_on v.from v.to) (filter_map message_of r.trace) v (rw (s.channels v.from v.to) at flies)
+  among_starts : (v : Message) → Contains (channel r v.from v.to) v → Contains (filter_map message_of_send r.trace) v
+  among_starts v flies = Contains-from_filter (is_on v.from v.to) (filter_map message_of_send r.trace) v (rw (s.channels v.from v.to) at flies)
 
   is_start : IsStart n (knowledge r)
   is_start = record {

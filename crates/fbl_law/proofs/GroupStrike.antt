@@ -5,13 +5,13 @@ use Rattle.std.specs.FinSet as sets
 use Rattle.std.proofs.lemmas.Bool.{or_cases, or_left, or_right}
 use Rattle.std.proofs.lemmas.List.{get_or_default}
 use Rattle.std.proofs.lemmas.List.Folds.{Any-from_list_any, list_any_at}
-use Rattle.fbl_base.specs.MemberSets.{AllBelow}
+use Rattle.fbl_base.specs.MemberSets.{AllBelow, Members}
 use Rattle.fbl_base.specs.Fold.{Next, note_of}
 use Rattle.fbl_table.specs.Tables.{is_held}
 use Rattle.fbl_member.specs.Members.{Message, MemberRecord, blank}
-use Rattle.fbl_law.specs.Knowledge.{Members, table, IsInFlight, IsUp, Names, IsRecorded}
+use Rattle.fbl_law.specs.Knowledge.{table, IsInFlight, IsUp, Names, IsRecorded}
 use Rattle.fbl_law.specs.Steps.{IsStruck}
-use Rattle.fbl_law.specs.Groups.{GroupRecord, member, checkpoint, channel, knowledge, is_recorded}
+use Rattle.fbl_law.specs.Groups.{GroupRecord, member, member_checkpoint, channel, knowledge, is_recorded}
 use Rattle.fbl_law.specs.Sound.{IsFold, IsSound}
 use Rattle.fbl_law.specs.GroupSteps.{IsStrike}
 use Rattle.fbl_law.specs.GroupLaws.{GroupStrikeKeeps, RecordedTest}
@@ -86,7 +86,7 @@ recorded_test next r d sound = (λ h. elim (or_cases _ _ h) [ inl member ↦ hel
     kept : list_any (λ (m : MemberRecord). is_held m.table d) r.checkpoints ≡ true → IsRecorded (knowledge r) d
     kept h =
         let some = some_record (λ (m : MemberRecord). is_held m.table d) r.checkpoints h in
-        IsRecorded-saved (knowledge r) d some.0 (Names-held (checkpoint r some.0).table d some.2)
+        IsRecorded-saved (knowledge r) d some.0 (Names-held (member_checkpoint r some.0).table d some.2)
 
     back : IsRecorded (knowledge r) d → is_recorded r d ≡ true
     back (inl held') =
@@ -94,4 +94,4 @@ recorded_test next r d sound = (λ h. elim (or_cases _ _ h) [ inl member ↦ hel
         or_left _ _ (list_any_at (λ (m : MemberRecord). is_held m.table d) r.members held'.0 blank (named_record r.members held'.0 d named) (held-Names (member r held'.0).table d named))
     back (inr saved) =
         or_right (list_any (λ (m : MemberRecord). is_held m.table d) r.members) _
-        (list_any_at (λ (m : MemberRecord). is_held m.table d) r.checkpoints saved.0 blank (named_record r.checkpoints saved.0 d saved.1) (held-Names (checkpoint r saved.0).table d saved.1))
+        (list_any_at (λ (m : MemberRecord). is_held m.table d) r.checkpoints saved.0 blank (named_record r.checkpoints saved.0 d saved.1) (held-Names (member_checkpoint r saved.0).table d saved.1))

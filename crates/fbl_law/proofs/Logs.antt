@@ -17,6 +17,7 @@ use Rattle.fbl_base.specs.Rules.{is_send_of, is_receipt_of, sends_of, receipts_o
 use Rattle.fbl_base.specs.Fold.{Next, Logged, Progress, Action, took, sent, numbered, starts_of, begun, advanced, after_notes, action_of, actions_of, notes_of, note_of, responses, Lawful}
 use Rattle.fbl_base.proofs.RulesLaws.{sends-step, WellFormed-front, MayFollow-last, eqb-self}
 use Rattle.fbl_member.specs.Members.{logged_note}
+use Rattle.fbl_member.proofs.Logs.{length-numbered, numbered-append}
 use Rattle.fbl_law.specs.Sound.{received_notes}
 
 -- the sends among a member's actions
@@ -33,16 +34,6 @@ sends_in-append (sent s ∷ xs) ys = ap (λ (zs : List (ℕ × Note)). s ∷ zs)
 pub sends_in-sent : (sends : List (ℕ × Note)) → sends_in (map sent sends) ≡ sends
 sends_in-sent [] = refl
 sends_in-sent (s ∷ sends) = ap (λ (zs : List (ℕ × Note)). s ∷ zs) (sends_in-sent sends)
-
-pub length-numbered : (before : ℕ) (sends : List (ℕ × Note)) → length (numbered before sends) ≡ length sends
-length-numbered before [] = refl
-length-numbered before (s ∷ sends) = ap suc (length-numbered (before + 1) sends)
-
-pub numbered-append : (before : ℕ) (xs ys : List (ℕ × Note)) → numbered before (xs ++ ys) ≡ numbered before xs ++ numbered (before + length xs) ys
-numbered-append before [] ys = (let e : before + 0 ≡ before = omega arith in rw e refl)
-numbered-append before (s ∷ xs) ys =
-    let e : before + suc (length xs) ≡ before + 1 + length xs = omega arith in
-    rw e (ap (λ (zs : List Logged). record { ssn = before + 1; to = s.0; note = s.1 } ∷ zs) (numbered-append (before + 1) xs ys))
 
 -- a log has each number from 1 to its length
 pub numbered-has : (before ssn : ℕ) (sends : List (ℕ × Note)) → before < ssn → ssn ≤ before + length sends → (note : Note) × (logged_note (numbered before sends) ssn ≡ Some note)

@@ -4,6 +4,7 @@ use Rattle.std.proofs.Common.{ap, Option, Some, None, slice_get, count_by}
 use Rattle.std.proofs.lemmas.Bool.{cases_lt}
 use Rattle.std.proofs.lemmas.Bool.Decides.{nat_tests}
 use Rattle.std.proofs.lemmas.List.Sums.{sum_by-append}
+use Rattle.fbl_base.proofs.Gets.{take-more}
 use Rattle.fbl_base.specs.declared.trace.Determinant.{Determinant}
 use Rattle.fbl_base.specs.declared.trace.Mark.{Mark}
 use Rattle.fbl_base.specs.declared.trace.Mark.TheVariants.{Send, Receipt}
@@ -20,11 +21,6 @@ take_end [] zero is = refl
 take_end [] (suc i) is = refl
 take_end (x ∷ xs) zero is = cc
 take_end (x ∷ xs) (suc i) is = ap (λ ys. x ∷ ys) (take_end xs i is)
-
-take_next : (xs : List Mark) (i : ℕ) (e : Mark) → slice_get xs i ≡ Some e → take (suc i) xs ≡ take i xs ++ e ∷ []
-take_next [] i e is = cc
-take_next (x ∷ xs) zero e is = (let same : x ≡ e = cc in rw same refl)
-take_next (x ∷ xs) (suc i) e is = ap (λ ys. x ∷ ys) (take_next xs i e is)
 
 module _ (n : ℕ) (t : List Mark) (done : ℕ → ℕ) (obeys : WellFormed n t) (stuck : IsStuck t done) where
   abbrev DoneBefore : ℕ → Type 0
@@ -51,7 +47,7 @@ module _ (n : ℕ) (t : List Mark) (done : ℕ → ℕ) (obeys : WellFormed n t)
 
       at : (o : Option Mark) → slice_get t i ≡ o → receipts_of (take i t) m ≤ done m → receipts_of (take (suc i) t) m ≤ done m
       at None is rest = rw (take_end t i is) rest
-      at (Some e) is rest = rw (take_next t i e is) (one e is rest)
+      at (Some e) is rest = rw (take-more t i e is) (one e is rest)
 
   done_at : (i : ℕ) (d : Determinant) → DoneBefore i → At t i (receipt_of d) → d.rsn ≤ done d.to
   done_at i d before here =

@@ -1,5 +1,5 @@
 -- How the members that are down replay what the survivors have recorded.
-use Rattle.std.proofs.Common.{◌≡◌, ℕ, zero, suc, ◌+◌, ◌<◌, ◌≤◌, ◌==◌, inl, inr, Bool, true, false, cond, List, [], ◌∷◌, ◌++◌, length, take, drop, map}
+use Rattle.std.proofs.Common.{◌≡◌, ℕ, suc, ◌+◌, ◌<◌, ◌≤◌, ◌==◌, inl, inr, Bool, true, false, cond, List, [], ◌∷◌, ◌++◌, length, take, drop, map}
 use Rattle.std.proofs.Common.{Option, Some, None, option_map, slice_get, refl, sym, subst, ap, ◌∙◌, arith, length-take, length-append}
 use Rattle.std.specs.List.{filter, find}
 use Rattle.std.proofs.lemmas.Bool.{cases_lt, and_parts, eqb-true}
@@ -17,12 +17,13 @@ use Rattle.fbl_base.specs.Events.{mark_of, receipt_of}
 use Rattle.fbl_base.specs.Precedence.{Has, itself}
 use Rattle.fbl_base.specs.Rules.{is_receipt_of, is_send_of, WellFormed}
 use Rattle.fbl_base.specs.Fold.{Next, Progress, numbered, after_notes, note_of}
-use Rattle.fbl_base.proofs.Gets.{At-front, At-below}
+use Rattle.fbl_base.proofs.Gets.{At-front, At-below, split-at}
 use Rattle.fbl_base.proofs.PrecedenceLaws.{Has-filter}
 use Rattle.fbl_base.proofs.RulesLaws.{sent-before, WellFormed-front}
 use Rattle.fbl_table.specs.declared.entry.Entry.{Entry}
 use Rattle.fbl_table.specs.Tables.{found, is_of_receipt}
 use Rattle.fbl_member.specs.Members.{MemberRecord, logged_note, replayed_by}
+use Rattle.fbl_member.proofs.Logs.{length-numbered}
 use Rattle.fbl_law.specs.Knowledge.{Names, IsUp, IsDown, IsRecorded}
 use Rattle.fbl_law.specs.Steps.{Stays, IsEventCut, recovery_table}
 use Rattle.fbl_law.specs.Groups.{GroupRecord, marks, knowledge}
@@ -37,7 +38,7 @@ use Rattle.fbl_law.proofs.CutStays.{stays_is_recorded}
 use Rattle.fbl_law.proofs.GatheredTables.{entries_gathered, recorded_gathered}
 use Rattle.fbl_law.proofs.NeverStuck.{never_stuck}
 use Rattle.fbl_law.proofs.GroupRecovery.{cut-lawful}
-use Rattle.fbl_law.proofs.Logs.{length-numbered, logged-noted, logged-by, log-short}
+use Rattle.fbl_law.proofs.Logs.{logged-noted, logged-by, log-short}
 use Rattle.fbl_law.proofs.Receipts.{receipts_at-number, receipts_at-Has, Has-receipts_at, length-receipts_at}
 use Rattle.fbl_law.proofs.ReplayedRecords.{replayed-step}
 
@@ -69,12 +70,6 @@ found-none p k (e ∷ table) d is named to rsn = at (is_of_receipt p k e) refl i
         cc
     | inr later ↦ rest g (named.0, later, named.2) to rsn
   ]
-
--- a list, cut at a place
-split-at : {X : Type 0} (xs : List X) (i : ℕ) (x : X) → slice_get xs i ≡ Some x → xs ≡ take i xs ++ x ∷ drop (suc i) xs
-split-at [] i x here = absurd cc
-split-at (y ∷ xs) zero x here = (let same : y ≡ x = cc in ap (λ z. z ∷ xs) same)
-split-at (y ∷ xs) (suc i) x here = ap (λ zs. y ∷ zs) (split-at xs i x here)
 
 -- where each receipt of a member is numbered at most k, it has at most k
 at-most : (n : ℕ) (t : List Mark) (p k : ℕ) → WellFormed n t → ((d : Determinant) → Has t (receipt_of d) → d.to ≡ p → d.rsn ≤ k) → length (receipts_at t p) ≤ k

@@ -6,6 +6,7 @@ use Rattle.std.specs.List.{filter}
 use Rattle.std.specs.FinSet as set
 use Rattle.std.proofs.lemmas.Bool.{cases_lt, cases_eq}
 use Rattle.std.proofs.lemmas.List.{length-set, get_or-set_same, get_or-set_other}
+use Rattle.fbl_base.specs.MemberSets.{Members}
 use Rattle.fbl_base.specs.declared.trace.Determinant.{Determinant}
 use Rattle.fbl_base.specs.declared.trace.Note.{Note}
 use Rattle.fbl_base.specs.declared.trace.Event.{Event}
@@ -16,9 +17,9 @@ use Rattle.fbl_base.specs.Fold.{Next, Lawful}
 use Rattle.fbl_table.specs.declared.entry.Entry.{Entry}
 use Rattle.fbl_table.specs.Tables.{found}
 use Rattle.fbl_member.specs.Members.{MemberRecord, blank, logged_note, replayed_by}
-use Rattle.fbl_law.specs.Knowledge.{Members, IsUp, IsDown}
+use Rattle.fbl_law.specs.Knowledge.{IsUp, IsDown}
 use Rattle.fbl_law.specs.Steps.{Stays, IsEventCut, recovery_table}
-use Rattle.fbl_law.specs.Groups.{GroupRecord, member, checkpoint, channel, knowledge, receipts}
+use Rattle.fbl_law.specs.Groups.{GroupRecord, member, member_checkpoint, channel, knowledge, receipts}
 use Rattle.fbl_law.specs.Sound.{receipts_at, IsReplayed, IsFold, IsSound}
 use Rattle.fbl_law.specs.GroupSteps.{IsRecovery, IsMadeAgain}
 use Rattle.fbl_law.specs.Replaying.{IsNextReplay, is_replayed, recovered_trace, stays_by, resent_to, working, IsReplaying, IsWaiting, replayed_in, IsRebuilt}
@@ -90,17 +91,17 @@ module _ (next : Next) (old : GroupRecord) (sound : IsSound next old) where
   working-all rebuilt q below up = ap (λ (m : MemberRecord). m.received) (working-up rebuilt q up) ∙ (survivor-replays q below up).1
 
   -- a checkpoint's receipts stay, so its replay is one of the trace that is left
-  pub checkpoint-replays : (p : ℕ) → p < old.config.members → Replays p (checkpoint old p)
+  pub checkpoint-replays : (p : ℕ) → p < old.config.members → Replays p (member_checkpoint old p)
   checkpoint-replays p below =
       let is : recovered_trace old ≡ filter (λ e. cut.0 (mark_of e)) old.trace = cut.1 in
-      replayed-cut next old.config.members old.config.starts old.trace (recovered_trace old) p (checkpoint old p) sound.lawful.well_formed lawful.well_formed
+      replayed-cut next old.config.members old.config.starts old.trace (recovered_trace old) p (member_checkpoint old p) sound.lawful.well_formed lawful.well_formed
       (λ q k x noted. note-was old.config.members cut.0 old.trace sound.lawful.well_formed (cut-causes next old sound (recovered_trace old) cut) q k x (rw is at noted))
       (λ d there to within. recorded-cut next old sound (recovered_trace old) cut d ((checkpoint_is_recorded next old p sound below).1 d there to within))
       (sound.saved p below)
 
   -- each member that is down begins at its checkpoint
   pub replaying-start : (rebuilt : List MemberRecord) → length rebuilt ≡ old.config.members
-      → ((p : ℕ) → p < old.config.members → IsDown (knowledge old) p → slice_index_or rebuilt p blank ≡ checkpoint old p) → IsReplaying next old rebuilt
+      → ((p : ℕ) → p < old.config.members → IsDown (knowledge old) p → slice_index_or rebuilt p blank ≡ member_checkpoint old p) → IsReplaying next old rebuilt
   replaying-start rebuilt size begins = record {
     size = size;
     replayed = λ p below down. subst (Replays p) (sym (begins p below down)) (checkpoint-replays p below);
@@ -152,15 +153,15 @@ module _ (next : Next) (old : GroupRecord) (sound : IsSound next old) where
   replayed_in-step rebuilt p d note replaying below down =
       let after = replayed_by next p old.config.members (slice_index_or rebuilt p blank) d note in
       let own = ap (λ (m : MemberRecord). m.received) (get_or-set_same rebuilt p after blank (omega (arith, replaying.size, below))) in
-      count_in-step old.down (λ q. (slice_index_or rebuilt q blank).received - (checkpoint old q).received)
-      (λ q. (slice_index_or (slice_set rebuilt p after) q blank).received - (checkpoint old q).received) old.config.members p below down
+      count_in-step old.down (λ q. (slice_index_or rebuilt q blank).received - (member_checkpoint old q).received)
+      (λ q. (slice_index_or (slice_set rebuilt p after) q blank).received - (member_checkpoint old q).received) old.config.members p below down
       (omega (arith, own, replaying.begun p below down))
-      (λ q other. ap (λ (m : MemberRecord). m.received - (checkpoint old q).received) (get_or-set_other rebuilt p q after blank other))
+      (λ q other. ap (λ (m : MemberRecord). m.received - (member_checkpoint old q).received) (get_or-set_other rebuilt p q after blank other))
 
   -- no more are replayed than the trace that recovery leaves has of the members that are down
   pub replayed_in-most : (rebuilt : List MemberRecord) → IsReplaying next old rebuilt → replayed_in old rebuilt ≤ length (filter (is_of old.down) (receipts (map mark_of (recovered_trace old))))
   replayed_in-most rebuilt replaying =
-      let fewer = count_in-most old.down (λ p. (slice_index_or rebuilt p blank).received - (checkpoint old p).received)
+      let fewer = count_in-most old.down (λ p. (slice_index_or rebuilt p blank).received - (member_checkpoint old p).received)
       (λ p. (slice_index_or rebuilt p blank).received) old.config.members (λ p below down. omega arith) in
       omega (arith, fewer, replayed-most next old sound (recovered_trace old) cut (λ p. slice_index_or rebuilt p blank) replaying.replayed)
 
@@ -195,9 +196,10 @@ module _ (next : Next) (old : GroupRecord) (sound : IsSound next old) where
     -- as many are replayed as the trace has of the members that are down, beyond those of their checkpoints
     pub replayed_in-all : replayed_in old rebuilt ≡ length (filter (is_replayed old) (receipts (map mark_of (recovered_trace old))))
     replayed_in-all =
-        count_in-same old.down (λ p. (slice_index_or rebuilt p blank).received - (checkpoint old p).received) (λ p. (working old rebuilt p).received - (checkpoint old p).received) old.config.members
-        (λ p below down. ap (λ (m : MemberRecord). m.received - (checkpoint old p).received) (sym (working-down rebuilt p down)))
-        ∙ replayed-count next old sound (recovered_trace old) cut (working old rebuilt) (λ p. (checkpoint old p).received) working-received
+        count_in-same old.down (λ p. (slice_index_or rebuilt p blank).received - (member_checkpoint old p).received)
+        (λ p. (working old rebuilt p).received - (member_checkpoint old p).received) old.config.members
+        (λ p below down. ap (λ (m : MemberRecord). m.received - (member_checkpoint old p).received) (sym (working-down rebuilt p down)))
+        ∙ replayed-count next old sound (recovered_trace old) cut (working old rebuilt) (λ p. (member_checkpoint old p).received) working-received
 
     -- the events that stay are those that the counts of the members that are down cover
     pub recovered_trace-counts : filter (λ e. stays_by old.down (working old rebuilt) (mark_of e)) old.trace ≡ recovered_trace old

@@ -3,9 +3,9 @@ use Rattle.std.proofs.Common.{◌≡◌, ◌≢◌, ℕ, zero, suc, ◌+◌, ◌
 use Rattle.std.proofs.Common.{take, map, get_or, Some, slice_get, refl, sym, ap, ◌∙◌, arith}
 use Rattle.std.specs.Prelude.{slice_set}
 use Rattle.std.proofs.lemmas.Bool.Decides.{nat_tests}
-use Rattle.std.proofs.lemmas.List.{take_more, take_all, take-append-le, length-set, length-replicate, get_or-replicate, get_or-set_same, get_or-set_other}
+use Rattle.std.proofs.lemmas.List.{take_all, take-append-le, length-set, length-replicate, get_or-replicate, get_or-set_same, get_or-set_other}
 use Rattle.std.proofs.lemmas.List.Sums.{fold_push}
-use Rattle.std.proofs.lemmas.Option.{slice_get_within, get_or_from_slice_get}
+use Rattle.std.proofs.lemmas.Option.{slice_get_within}
 use Rattle.fbl_base.specs.declared.trace.Determinant.{Determinant}
 use Rattle.fbl_base.specs.declared.trace.Note.{Note}
 use Rattle.fbl_base.specs.declared.trace.Start.{Start}
@@ -18,18 +18,13 @@ use Rattle.fbl_base.specs.Rules.{WellFormed}
 use Rattle.fbl_base.specs.Fold.{Next, Progress, advanced, begun, after_notes, note_of}
 use Rattle.fbl_base.proofs.FoldLaws.{after_notes-push}
 use Rattle.fbl_base.proofs.LawfulLaws.{receipts-noted}
+use Rattle.fbl_table.proofs.Adding.{take-next}
 use Rattle.fbl_member.specs.Members.{MemberRecord, fresh, replayed_by}
 use Rattle.fbl_law.specs.Groups.{GroupRecord, member, marks}
 use Rattle.fbl_law.specs.Sound.{received_notes, IsFold, receipts_at, last_among, IsReplayed}
 use Rattle.fbl_law.proofs.Lists.{some-at}
 use Rattle.fbl_law.proofs.Logs.{received-fold}
 use Rattle.fbl_law.proofs.Receipts.{receipts_at-number, receipts_at-Has, Has-receipts_at, length-received_notes, note-at, last_taken-among}
-
--- one element more from the front of a list
-pub take-next : {X : Type 0} (xs : List X) (k : ℕ) (x : X) → slice_get xs k ≡ Some x → take (k + 1) xs ≡ take k xs ++ x ∷ []
-take-next xs k x here =
-    let below = slice_get_within xs k x here in
-    take_more xs k x below ∙ ap (λ y. take k xs ++ y ∷ []) (get_or_from_slice_get xs k x x here)
 
 -- a fresh member has replayed nothing
 pub replayed-fresh : (next : Next) (n : ℕ) (starts : List Start) (trace : List Event) (p : ℕ) → IsReplayed next n starts trace p (fresh p starts)

@@ -4,12 +4,13 @@ use Rattle.std.specs.Ordering.{nat_cmp}
 use Rattle.std.specs.FinSet as set
 use Rattle.std.specs.List.{Contains}
 use Rattle.std.proofs.lemmas.Bool.{cases_Bool}
+use Rattle.fbl_base.specs.MemberSets.{Members}
 use Rattle.fbl_base.specs.declared.trace.Determinant.{Determinant}
 use Rattle.fbl_base.specs.declared.trace.Mark.{Mark}
 use Rattle.fbl_base.specs.Precedence.{Has, Precedes, Depends}
 use Rattle.fbl_base.specs.Events.{member_of, receipt_of}
 use Rattle.fbl_base.proofs.Sizes.{some_member}
-use Rattle.fbl_law.specs.Knowledge.{IsTrueEntry, in_table, in_checkpoint, IsHolder, Members, Includes, Knowledge, table, checkpoint, IsUp, IsDown, Names, Holds, IsRecorded, IsStable}
+use Rattle.fbl_law.specs.Knowledge.{IsTrueEntry, in_table, in_checkpoint, IsHolder, Includes, Knowledge, table, checkpoint, IsUp, IsDown, Names, Holds, IsRecorded, IsStable}
 use Rattle.fbl_law.specs.Knowledge.{KnowsTruth, IsBeforeCheckpoint, IsClosed, IsOrphan, IsDownEmpty}
 use Rattle.fbl_law.specs.Promises.{RecordsCauses}
 use Rattle.fbl_member.specs.Members.{Message}

@@ -1,7 +1,8 @@
 -- A strike keeps knowledge sound.
 use Rattle.std.proofs.Common.{ℕ, ◌≤◌, inl, inr, refl, sym, subst}
 use Rattle.std.specs.FinSet as set
-use Rattle.fbl_law.specs.Knowledge.{Members, Includes, Knowledge, Store, in_table, in_message, in_checkpoint, IsThere, IsDown, IsUp, IsSoundKnowledge}
+use Rattle.fbl_base.specs.MemberSets.{Members}
+use Rattle.fbl_law.specs.Knowledge.{Includes, Knowledge, Store, in_table, in_message, in_checkpoint, IsThere, IsDown, IsUp, IsSoundKnowledge}
 use Rattle.fbl_law.specs.Steps.{IsStruck}
 use Rattle.fbl_law.specs.Laws.{StrikeKeeps}
 use Rattle.fbl_law.proofs.Tables.{Includes-left}

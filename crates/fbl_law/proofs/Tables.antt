@@ -11,11 +11,11 @@ use Rattle.std.proofs.lemmas.List.{get_or_past}
 use Rattle.std.proofs.lemmas.List.Elements.{Contains-push, Contains-append_left, Contains-push_cases}
 use Rattle.fbl_base.specs.declared.trace.Determinant.{Determinant}
 use Rattle.fbl_base.specs.Events.{same_determinant}
-use Rattle.fbl_base.specs.MemberSets.{contains-insert_same, contains-insert_other}
+use Rattle.fbl_base.specs.MemberSets.{contains-insert_same, contains-insert_other, Members}
 use Rattle.fbl_base.proofs.Recorded.{Decides-same_determinant}
 use Rattle.fbl_table.specs.declared.entry.Entry.{Entry}
 use Rattle.fbl_member.specs.Members.{MemberRecord, blank}
-use Rattle.fbl_law.specs.Knowledge.{Members, Includes, Names}
+use Rattle.fbl_law.specs.Knowledge.{Includes, Names}
 use Rattle.fbl_table.specs.Tables.{added, held_by, gathered, learned, noted, piggybacked}
 use Rattle.fbl_law.proofs.Lists.{Contains-map, Contains-changed, Contains-here, Contains-there, Contains-cons_cases, Contains-none, Contains-filter, Contains-from_filter}
 

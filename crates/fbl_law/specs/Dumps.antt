@@ -4,12 +4,12 @@ use Rattle.std.specs.List.{IsDistinct}
 use Rattle.std.specs.FinSet as set
 use Rattle.fbl_base.specs.declared.trace.Determinant.{Determinant}
 use Rattle.fbl_base.specs.Events.{same_determinant}
-use Rattle.fbl_base.specs.MemberSets.{AllBelow}
+use Rattle.fbl_base.specs.MemberSets.{AllBelow, Members}
 use Rattle.fbl_base.specs.Fold.{Next}
-use Rattle.fbl_base.specs.Audit.{Parts, IsDump, IsOrphan}
+use Rattle.fbl_base.specs.Audit.{Parts, IsDump, IsDumpOrphan}
 use Rattle.fbl_table.specs.declared.entry.Entry.{Entry}
 use Rattle.fbl_member.specs.Members.{MemberRecord}
-use Rattle.fbl_law.specs.Knowledge.{Members, Includes, IsDown}
+use Rattle.fbl_law.specs.Knowledge.{Includes, IsDown}
 use Rattle.fbl_law.specs.Groups.{GroupRecord, member, marks, knowledge}
 use Rattle.fbl_law.specs.Sound.{IsSound}
 
@@ -46,4 +46,4 @@ abbrev pub DumpHasNoOrphan : Type 0
 DumpHasNoOrphan =
     (next : Next) (r : GroupRecord) (strike : Members) (m : ℕ)
     → IsSound next r → ((q : ℕ) → IsDown (knowledge r) q → Includes strike q) → set.len strike ≤ r.config.f
-    → ¬ (IsOrphan (dump_of r strike) m)
+    → ¬ (IsDumpOrphan (dump_of r strike) m)

@@ -5,13 +5,13 @@ use Rattle.fbl_base.specs.declared.trace.Determinant.{Determinant}
 use Rattle.fbl_base.specs.declared.trace.Note.{Note}
 use Rattle.fbl_base.specs.Configs.{Settings, IsConfig}
 use Rattle.fbl_base.specs.Events.{receipt_of}
-use Rattle.fbl_base.specs.MemberSets.{AllBelow}
+use Rattle.fbl_base.specs.MemberSets.{AllBelow, Members}
 use Rattle.fbl_base.specs.Precedence.{Has}
 use Rattle.fbl_base.specs.Fold.{Next}
 use Rattle.fbl_base.specs.Steps.{SendsAllowed}
 use Rattle.fbl_member.specs.Members.{Message}
-use Rattle.fbl_law.specs.Knowledge.{Members, IsRecorded}
-use Rattle.fbl_law.specs.Groups.{GroupRecord, checkpoint, marks, knowledge, is_recorded}
+use Rattle.fbl_law.specs.Knowledge.{IsRecorded}
+use Rattle.fbl_law.specs.Groups.{GroupRecord, member_checkpoint, marks, knowledge, is_recorded}
 use Rattle.fbl_law.specs.Sound.{receipts_at, IsSound}
 use Rattle.fbl_law.specs.GroupSteps.{IsGroupStart, IsDelivery, IsStrike, IsCheckpoint, IsRecovery}
 
@@ -61,5 +61,5 @@ abbrev pub CheckpointIsRecorded : Type 0
 CheckpointIsRecorded =
     (next : Next) (r : GroupRecord) (m : ℕ)
     → IsSound next r → m < r.config.members
-    → ((checkpoint r m).received ≤ length (receipts_at (marks r) m))
-    × ((d : Determinant) → Has (marks r) (receipt_of d) → d.to ≡ m → d.rsn ≤ (checkpoint r m).received → IsRecorded (knowledge r) d)
+    → ((member_checkpoint r m).received ≤ length (receipts_at (marks r) m))
+    × ((d : Determinant) → Has (marks r) (receipt_of d) → d.to ≡ m → d.rsn ≤ (member_checkpoint r m).received → IsRecorded (knowledge r) d)

@@ -2,6 +2,7 @@
 use Rattle.std.specs.Prelude.{◌≡◌, ℕ, ◌+◌, ◌<◌, ◌≤◌, ◌⊎◌, ◌++◌, ◌∷◌, List, [], length, map, Option, Some, None, slice_get, slice_set}
 use Rattle.std.specs.List.{Contains, filter_map}
 use Rattle.std.specs.FinSet as set
+use Rattle.fbl_base.specs.MemberSets.{Members}
 use Rattle.fbl_base.specs.declared.outcome.Outcome.{Outcome}
 use Rattle.fbl_base.specs.declared.trace.Event.{Event}
 use Rattle.fbl_base.specs.declared.trace.Event.TheVariants.{Send, Receipt}
@@ -12,9 +13,9 @@ use Rattle.fbl_base.specs.Rules.{sends_of}
 use Rattle.fbl_base.specs.Fold.{Next, note_of, step_events}
 use Rattle.fbl_table.specs.Tables.{piggybacked}
 use Rattle.fbl_member.specs.Members.{Message, MemberRecord, fresh, blank, received_by, messages_from}
-use Rattle.fbl_law.specs.Knowledge.{Members, IsUp, IsDown, MatchesTrace}
+use Rattle.fbl_law.specs.Knowledge.{IsUp, IsDown, MatchesTrace}
 use Rattle.fbl_law.specs.Steps.{Stays, IsEventCut, recovery_table, between, taken_off}
-use Rattle.fbl_law.specs.Groups.{GroupRecord, HasChannels, member, checkpoint, channel, marks, knowledge, receipts}
+use Rattle.fbl_law.specs.Groups.{GroupRecord, HasChannels, member, member_checkpoint, channel, marks, knowledge, receipts}
 use Rattle.fbl_law.specs.Sound.{IsFold}
 
 -- the events so far, and then the starts' sends in list order, each with its sender's next number
@@ -24,9 +25,9 @@ start_events done (s ∷ starts) =
     start_events (done ++ Send s.from (sends_of (map mark_of done) s.from + 1) s.to s.note ∷ []) starts
 
 -- the message of a send, which carries nothing
-abbrev pub message_of : Event → Option Message
-message_of (Send from ssn to note) = Some (record { from = from; to = to; ssn = ssn; note = note; carried = [] })
-message_of (Receipt to rsn from ssn) = None
+abbrev pub message_of_send : Event → Option Message
+message_of_send (Send from ssn to note) = Some (record { from = from; to = to; ssn = ssn; note = note; carried = [] })
+message_of_send (Receipt to rsn from ssn) = None
 
 -- a group in which nothing is received yet: its trace has the starts' sends, their messages are in their channels and
 -- carry nothing, each member and its checkpoint are fresh, nobody is down, and the counters are 0
@@ -34,11 +35,11 @@ pub record IsGroupStart (config : Settings) (new : GroupRecord) : Type 0 where
   pub parameters : new.config ≡ config
   pub trace : new.trace ≡ start_events [] config.starts
   pub shape : HasChannels config.members new.channels
-  pub channels : (q p : ℕ) → channel new q p ≡ between q p (filter_map message_of new.trace)
+  pub channels : (q p : ℕ) → channel new q p ≡ between q p (filter_map message_of_send new.trace)
   pub size : length new.members ≡ config.members
   pub members : (m : ℕ) → m < config.members → member new m ≡ fresh m config.starts
   pub checkpoints : length new.checkpoints ≡ config.members
-  pub saved : (m : ℕ) → m < config.members → checkpoint new m ≡ fresh m config.starts
+  pub saved : (m : ℕ) → m < config.members → member_checkpoint new m ≡ fresh m config.starts
   pub nobody_down : new.down ≡ set.empty
   pub receipts_ever : new.receipts_ever ≡ 0
   pub undone_ever : new.undone_ever ≡ 0

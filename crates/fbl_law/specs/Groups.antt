@@ -1,6 +1,7 @@
 -- A group's record as data.
 use Rattle.std.specs.Prelude.{◌≡◌, ℕ, zero, suc, ◌+◌, ◌<◌, List, [], length, map, slice_index_or, Bool, ◌||◌}
 use Rattle.std.specs.List.{filter_map, list_any}
+use Rattle.fbl_base.specs.MemberSets.{Members}
 use Rattle.fbl_base.specs.declared.trace.Determinant.{Determinant}
 use Rattle.fbl_base.specs.declared.trace.Event.{Event}
 use Rattle.fbl_base.specs.declared.trace.Mark.{Mark}
@@ -8,7 +9,7 @@ use Rattle.fbl_base.specs.Configs.{Settings}
 use Rattle.fbl_base.specs.Events.{determinant_of, mark_of}
 use Rattle.fbl_table.specs.Tables.{is_held}
 use Rattle.fbl_member.specs.Members.{Message, MemberRecord, blank}
-use Rattle.fbl_law.specs.Knowledge.{Members, Knowledge}
+use Rattle.fbl_law.specs.Knowledge.{Knowledge}
 
 -- a group: its parameters, its members' records and their checkpoints, its channels (for each sender those to each
 -- receiver, each with its messages in flight, first in, first out), its trace, who is down, and how many receipts were
@@ -28,8 +29,8 @@ abbrev pub member : GroupRecord → ℕ → MemberRecord
 member r m = slice_index_or r.members m blank
 
 -- the checkpoint of a member: its record as it was when it was last kept where no strike empties it
-abbrev pub checkpoint : GroupRecord → ℕ → MemberRecord
-checkpoint r m = slice_index_or r.checkpoints m blank
+abbrev pub member_checkpoint : GroupRecord → ℕ → MemberRecord
+member_checkpoint r m = slice_index_or r.checkpoints m blank
 
 -- there are channels from each of n members to each
 pub record HasChannels (n : ℕ) (channels : List (List (List Message))) : Type 0 where

@@ -3,8 +3,9 @@
 -- are down leaves no orphan, and the recorded receipts of each member are its first ones.
 use Rattle.std.specs.Prelude.{ℕ, ◌≤◌}
 use Rattle.std.specs.FinSet as set
+use Rattle.fbl_base.specs.MemberSets.{Members}
 use Rattle.fbl_base.specs.Fold.{Next}
-use Rattle.fbl_law.specs.Knowledge.{Members, Includes, IsDown, IsAlwaysHeld, IsOrphan}
+use Rattle.fbl_law.specs.Knowledge.{Includes, IsDown, IsAlwaysHeld, IsOrphan}
 use Rattle.fbl_law.specs.Promises.{HoldsEachReceipt, SurvivorsHold, RecordsFirst}
 use Rattle.fbl_law.specs.Groups.{GroupRecord, knowledge}
 use Rattle.fbl_law.specs.GroupSteps.{IsStrike}

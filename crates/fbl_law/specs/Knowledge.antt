@@ -5,8 +5,8 @@
 -- 34(3), 2002).
 use Rattle.std.specs.Prelude.{◌≡◌, ℕ, ◌<◌, ◌≤◌, ◌⊎◌, true, false, List, [], length, slice_index_or, map, ⊤}
 use Rattle.std.specs.List.{Contains}
-use Rattle.std.specs.Ordering.{nat_cmp}
 use Rattle.std.specs.FinSet as set
+use Rattle.fbl_base.specs.MemberSets.{Members}
 use Rattle.fbl_base.specs.declared.trace.Determinant.{Determinant}
 use Rattle.fbl_base.specs.declared.trace.Mark.{Mark}
 use Rattle.fbl_base.specs.declared.trace.Mark.TheVariants.{Send, Receipt}
@@ -16,10 +16,6 @@ use Rattle.fbl_base.specs.Rules.{WellFormed, in_flight, receipts_of, sends_of}
 use Rattle.fbl_base.specs.Events.{receipt_of}
 use Rattle.fbl_table.specs.declared.entry.Entry.{Entry}
 use Rattle.fbl_member.specs.Members.{Message, MemberRecord, blank}
-
--- a set of members
-abbrev pub Members : Type 0
-Members = set.FinSet nat_cmp
 
 -- the set has the member
 abbrev pub Includes : Members → ℕ → Type 0

@@ -1,6 +1,7 @@
 -- The laws, for the functions that state them.
 use Rattle.std.specs.Prelude.{◌≡◌, ℕ, ◌≤◌, ◌↔◌, List, map}
 use Rattle.std.specs.FinSet as set
+use Rattle.fbl_base.specs.MemberSets.{Members}
 use Rattle.fbl_base.specs.declared.trace.Determinant.{Determinant}
 use Rattle.fbl_base.specs.declared.trace.Mark.{Mark}
 use Rattle.fbl_base.specs.declared.trace.Event.{Event}
@@ -9,7 +10,7 @@ use Rattle.fbl_base.specs.Events.{mark_of}
 use Rattle.fbl_base.specs.Fold.{Next, Lawful}
 use Rattle.fbl_base.specs.Precedence.{Has, Precedes}
 use Rattle.fbl_base.specs.Events.{receipt_of}
-use Rattle.fbl_law.specs.Knowledge.{Members, Includes, Knowledge, IsDown, IsRecorded, KnowsTruth, IsClosed, IsAlwaysHeld, IsOrphan, IsSoundKnowledge}
+use Rattle.fbl_law.specs.Knowledge.{Includes, Knowledge, IsDown, IsRecorded, KnowsTruth, IsClosed, IsAlwaysHeld, IsOrphan, IsSoundKnowledge}
 use Rattle.fbl_law.specs.Promises.{SurvivorsHold, RecordsFirst, RecordsCauses, GainsHolders}
 use Rattle.fbl_member.specs.Members.{Message}
 use Rattle.fbl_law.specs.Steps.{IsDelivered, IsStruck, IsCheckpointed, IsRecovered, Stays, IsCut, IsEventCut}

@@ -5,11 +5,12 @@
 use Rattle.std.specs.Prelude.{◌≡◌, ℕ, ◌<◌, ◌≤◌, ◌⊎◌, ◌↔◌, true, false}
 use Rattle.std.specs.List.{filter}
 use Rattle.std.specs.FinSet as set
+use Rattle.fbl_base.specs.MemberSets.{Members}
 use Rattle.fbl_base.specs.declared.trace.Determinant.{Determinant}
 use Rattle.fbl_base.specs.Events.{receipt_of}
 use Rattle.fbl_base.specs.Precedence.{Has, Precedes, Depends}
 use Rattle.fbl_table.specs.Tables.{is_held}
-use Rattle.fbl_law.specs.Knowledge.{Members, Includes, Knowledge, table, Names, Holds, IsHolder, IsRecorded}
+use Rattle.fbl_law.specs.Knowledge.{Includes, Knowledge, table, Names, Holds, IsHolder, IsRecorded}
 use Rattle.fbl_law.specs.Groups.{GroupRecord, member, marks, knowledge, receipts, is_recorded}
 
 -- the member's table has the determinant

@@ -10,7 +10,7 @@ use Rattle.fbl_member.specs.Members.{MemberRecord, blank, logged_note, replayed_
 use Rattle.fbl_law.specs.Knowledge.{Holds, IsDown, IsRecorded}
 use Rattle.fbl_law.specs.Promises.{LeavesRecorded, GainsHolders}
 use Rattle.fbl_law.specs.Steps.{Stays, IsEventCut, recovery_table}
-use Rattle.fbl_law.specs.Groups.{GroupRecord, checkpoint, marks, knowledge, receipts, is_recorded}
+use Rattle.fbl_law.specs.Groups.{GroupRecord, member_checkpoint, marks, knowledge, receipts, is_recorded}
 use Rattle.fbl_law.specs.Sound.{receipts_at, IsSound}
 use Rattle.fbl_law.specs.GroupSteps.{IsRecovery}
 use Rattle.fbl_law.specs.Replaying.{recovered_trace, working, IsReplaying, IsWaiting, IsRebuilt}
@@ -51,7 +51,8 @@ CutIsOne =
 abbrev pub ReplayBegins : Type 0
 ReplayBegins =
     (next : Next) (old : GroupRecord) (rebuilt : List MemberRecord)
-    → IsSound next old → length rebuilt ≡ old.config.members → ((p : ℕ) → p < old.config.members → IsDown (knowledge old) p → slice_index_or rebuilt p blank ≡ checkpoint old p)
+    → IsSound next old → length rebuilt ≡ old.config.members
+    → ((p : ℕ) → p < old.config.members → IsDown (knowledge old) p → slice_index_or rebuilt p blank ≡ member_checkpoint old p)
     → IsReplaying next old rebuilt
 
 -- a receipt that the gathered tables find is the member's next one, and its replay, with the note that the sender's log

@@ -1,6 +1,7 @@
 -- Where a member that replays its receipts has come.
 use Rattle.std.specs.Prelude.{◌≡◌, ◌≢◌, ℕ, zero, suc, ◌+◌, ◌-◌, ◌<◌, ◌≤◌, ◌&&◌, ◌||◌, ◌⊎◌, not, nat_le, nat_lt, Bool, false, List, [], ◌∷◌, length, map, slice_index_or, Some, None, if◌then◌else◌}
 use Rattle.std.specs.FinSet as set
+use Rattle.fbl_base.specs.MemberSets.{Members}
 use Rattle.fbl_base.specs.declared.trace.Determinant.{Determinant}
 use Rattle.fbl_base.specs.declared.trace.Note.{Note}
 use Rattle.fbl_base.specs.declared.trace.Event.{Event}
@@ -11,9 +12,9 @@ use Rattle.fbl_base.specs.Fold.{Next}
 use Rattle.fbl_table.specs.declared.entry.Entry.{Entry}
 use Rattle.fbl_table.specs.Tables.{is_held, found, piggybacked}
 use Rattle.fbl_member.specs.Members.{Message, MemberRecord, last_from, blank, logged_note, logged_beyond}
-use Rattle.fbl_law.specs.Knowledge.{Members, IsDown}
+use Rattle.fbl_law.specs.Knowledge.{IsDown}
 use Rattle.fbl_law.specs.Steps.{recovery_table}
-use Rattle.fbl_law.specs.Groups.{GroupRecord, member, checkpoint, channel, knowledge}
+use Rattle.fbl_law.specs.Groups.{GroupRecord, member, member_checkpoint, channel, knowledge}
 use Rattle.fbl_law.specs.Sound.{IsReplayed}
 use Rattle.fbl_law.specs.GroupSteps.{IsBroughtBack}
 
@@ -32,7 +33,7 @@ count_in s count (suc n) = count_in s count n + (if set.contains s n then count 
 
 -- whether the receipt is one that a member that is down replays: one beyond those of its checkpoint
 abbrev pub is_replayed : GroupRecord → Determinant → Bool
-is_replayed r d = set.contains r.down d.to && nat_lt (checkpoint r d.to).received d.rsn
+is_replayed r d = set.contains r.down d.to && nat_lt (member_checkpoint r d.to).received d.rsn
 
 -- whether the event is a receipt, of a member of the set, whose determinant isn't in the table
 abbrev pub stops_at : Members → List Entry → Mark → Bool
@@ -77,7 +78,7 @@ working r rebuilt q = if set.contains r.down q then slice_index_or rebuilt q bla
 pub record IsReplaying (next : Next) (r : GroupRecord) (rebuilt : List MemberRecord) : Type 0 where
   pub size : length rebuilt ≡ r.config.members
   pub replayed : (p : ℕ) → p < r.config.members → IsDown (knowledge r) p → IsReplayed next r.config.members r.config.starts (recovered_trace r) p (slice_index_or rebuilt p blank)
-  pub begun : (p : ℕ) → p < r.config.members → IsDown (knowledge r) p → (checkpoint r p).received ≤ (slice_index_or rebuilt p blank).received
+  pub begun : (p : ℕ) → p < r.config.members → IsDown (knowledge r) p → (member_checkpoint r p).received ≤ (slice_index_or rebuilt p blank).received
 
 -- a member that is down waits for the message that it received next: the gathered tables find no such receipt, or the
 -- sender has not sent the message again
@@ -87,7 +88,7 @@ IsWaiting r rebuilt p =
 
 -- how many receipts were replayed: those that the members that are down have beyond their checkpoints
 abbrev pub replayed_in : GroupRecord → List MemberRecord → ℕ
-replayed_in r rebuilt = count_in r.down (λ p. (slice_index_or rebuilt p blank).received - (checkpoint r p).received) r.config.members
+replayed_in r rebuilt = count_in r.down (λ p. (slice_index_or rebuilt p blank).received - (member_checkpoint r p).received) r.config.members
 
 -- a group after the replay: the trace is cut, each member that was down has its rebuilt record with the gathered table, and
 -- each channel with such an end has what its sender sends again

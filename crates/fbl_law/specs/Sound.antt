@@ -13,7 +13,7 @@ use Rattle.fbl_base.specs.MemberSets.{AllBelow}
 use Rattle.fbl_base.specs.Rules.{taken_on}
 use Rattle.fbl_member.specs.Members.{Message, MemberRecord, progress_of, last_from, blank}
 use Rattle.fbl_law.specs.Knowledge.{IsInFlight, IsUp, IsDown, IsSoundKnowledge}
-use Rattle.fbl_law.specs.Groups.{GroupRecord, HasChannels, member, checkpoint, marks, knowledge, receipts}
+use Rattle.fbl_law.specs.Groups.{GroupRecord, HasChannels, member, member_checkpoint, marks, knowledge, receipts}
 
 -- the notes that the member received in the trace, in order
 abbrev pub received_notes : List Event → ℕ → List Note
@@ -47,7 +47,7 @@ pub record IsReplayed (next : Next) (n : ℕ) (starts : List Start) (trace : Lis
 
 -- the member's checkpoint is at the fold of its first receipts in the trace, as many as it has had
 abbrev pub IsCheckpointFold : Next → GroupRecord → ℕ → Type 0
-IsCheckpointFold next r m = IsReplayed next r.config.members r.config.starts r.trace m (checkpoint r m)
+IsCheckpointFold next r m = IsReplayed next r.config.members r.config.starts r.trace m (member_checkpoint r m)
 
 -- a group's record is sound: its parameters are allowed, each member has a record and a checkpoint, only members are
 -- down, its trace is lawful and within its limit, each up member is at the fold of its receipts and each down member is

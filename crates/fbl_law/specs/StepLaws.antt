@@ -10,7 +10,7 @@ use Rattle.fbl_base.specs.Configs.{Settings}
 use Rattle.fbl_base.specs.Fold.{Next}
 use Rattle.fbl_member.specs.Members.{Message}
 use Rattle.fbl_law.specs.Knowledge.{IsInFlight}
-use Rattle.fbl_law.specs.Groups.{GroupRecord, member, checkpoint, channel, knowledge, messages_in_flight, sum_below}
+use Rattle.fbl_law.specs.Groups.{GroupRecord, member, member_checkpoint, channel, knowledge, messages_in_flight, sum_below}
 
 -- each step of n members keeps the predicates: from a state with P, at a note with Q from some sender, the new state has P,
 -- and each send has Q, which is of a sender, a receiver and a note
@@ -41,7 +41,7 @@ any_first c = ((λ me member. tt), (λ place default within. tt))
 -- each send of the trace
 pub record HoldsOf (r : GroupRecord) (P : ℕ → ℕ → Type 0) (Q : ℕ → ℕ → Note → Type 0) : Type 0 where
   pub states : (m : ℕ) → m < r.config.members → P m (member r m).state
-  pub checkpoints : (m : ℕ) → m < r.config.members → P m (checkpoint r m).state
+  pub checkpoints : (m : ℕ) → m < r.config.members → P m (member_checkpoint r m).state
   pub flying : (v : Message) → IsInFlight (knowledge r) v → Q v.from v.to v.note
   pub sent : (i from ssn to : ℕ) (note : Note) → slice_get r.trace i ≡ Some (Send from ssn to note) → Q from to note
 

@@ -4,6 +4,7 @@
 use Rattle.std.specs.Prelude.{◌≡◌, ◌≢◌, ℕ, zero, suc, ◌⊎◌, ◌↔◌, ◌==◌, ◌&&◌, Bool, true, Some, List, [], ◌∷◌, ◌++◌, length, map, drop, slice_get, slice_index_or, if◌then◌else◌}
 use Rattle.std.specs.List.{Contains, filter}
 use Rattle.std.specs.FinSet as set
+use Rattle.fbl_base.specs.MemberSets.{Members}
 use Rattle.fbl_base.specs.declared.trace.Determinant.{Determinant}
 use Rattle.fbl_base.specs.declared.trace.Mark.{Mark}
 use Rattle.fbl_base.specs.declared.trace.Event.{Event}
@@ -11,7 +12,7 @@ use Rattle.fbl_base.specs.Events.{member_of, mark_of}
 use Rattle.fbl_base.specs.Precedence.{Has, Earlier}
 use Rattle.fbl_base.specs.Rules.{WellFormed, receipts_of, sends_of}
 use Rattle.fbl_base.specs.Events.{receipt_of}
-use Rattle.fbl_law.specs.Knowledge.{Members, Knowledge, table, send_mark, IsInFlight, IsDown, IsUp, IsRecorded, MatchesTrace, checkpoint}
+use Rattle.fbl_law.specs.Knowledge.{Knowledge, table, send_mark, IsInFlight, IsDown, IsUp, IsRecorded, MatchesTrace, checkpoint}
 use Rattle.fbl_table.specs.declared.entry.Entry.{Entry}
 use Rattle.fbl_table.specs.Tables.{learned, noted, piggybacked, gathered, marked}
 use Rattle.fbl_member.specs.Members.{Message, MemberRecord, blank}

@@ -10,10 +10,10 @@ abbrev pub after_commas : List ℕ → List ℕ
 after_commas ms = flat_map (λ m. codes "," ++ decimal m) ms
 
 -- the numbers with commas between, and `none` for no number
-abbrev pub listed : List ℕ → List ℕ
-listed [] = codes "none"
-listed (m ∷ ms) = decimal m ++ after_commas ms
+abbrev pub with_commas : List ℕ → List ℕ
+with_commas [] = codes "none"
+with_commas (m ∷ ms) = decimal m ++ after_commas ms
 
 -- the set as it is printed
 abbrev pub set_words : set.FinSet nat_cmp → List ℕ
-set_words s = listed (member_list s)
+set_words s = with_commas (member_list s)

@@ -1,5 +1,5 @@
 ghost use Rattle.std.specs.Prelude.{◌≡◌, ◌++◌, IfOk, OnOk, string_bytes};
-ghost use Rattle.fbl_lines.specs.Sets.{after_commas, listed, set_words};
+ghost use Rattle.fbl_lines.specs.Sets.{after_commas, with_commas, set_words};
 
 use fbl_base::{Member, MemberSet};
 use std::alloc::{AllocError, Global};
@@ -17,7 +17,7 @@ fn push_members(text: &mut String, members: &[Member]) -> Result<(), AllocError>
 
 /// The members with commas between.
 fn listed_text(alloc: Global, members: &[Member]) -> Result<String, AllocError>
-    ensures { IfOk result (λ text. string_bytes text ≡ listed members.now) }
+    ensures { IfOk result (λ text. string_bytes text ≡ with_commas members.now) }
 {
     match members {
         [] => String::from_str(alloc, "none"),

@@ -3,6 +3,7 @@ use Rattle.std.proofs.Common.{◌≡◌, ℕ, ◌<◌, ◌≤◌, ◌+◌, inl, 
 use Rattle.std.proofs.Common.{Result, Ok, Err}
 use Rattle.std.proofs.lemmas.List.{take_more, take_all}
 use Rattle.std.specs.Result.{IsErrAnd}
+use Rattle.fbl_base.specs.MemberSets.{Members}
 use Rattle.fbl_base.specs.Configs.{Settings}
 use Rattle.fbl_base.specs.Fold.{Next}
 use Rattle.fbl_explain.specs.declared.account.Account.{Account}
@@ -18,7 +19,6 @@ use Rattle.fbl_input.specs.declared.fault.RunFault.{RunFault}
 use Rattle.fbl_input.specs.declared.fault.RunFault.TheVariants as faults
 use Rattle.fbl_law.specs.Groups.{GroupRecord}
 use Rattle.fbl_law.specs.GroupSteps.{IsGroupStart}
-use Rattle.fbl_law.specs.Knowledge.{Members}
 use Rattle.fbl_law.specs.Sound.{IsSound}
 use Rattle.fbl_script.specs.declared.script.Command.{Command}
 use Rattle.fbl_script.specs.declared.script.Command.TheVariants as commands

@@ -11,12 +11,12 @@ use Rattle.fbl_law.specs.GroupSteps.{IsGroupStart}
 use Rattle.fbl_law.specs.Sound.{IsSound}
 use Rattle.fbl_script.specs.declared.script.Command.{Command}
 use Rattle.fbl_input.proofs.Bytes.{appends_more}
-use Rattle.fbl_play.specs.Runs.{Step, Run, IsCutAfter, IsWritten}
+use Rattle.fbl_play.specs.Runs.{Step, CommandRun, IsCutAfter, IsWritten}
 
 -- one more command
 pub run_more : (next : Next) (workers : ℕ) (start mid new : GroupRecord) (cs : List Command) (accounts : List Account) (c : Command) (account : Account) (text line : List ℕ)
-    → Run next workers start cs mid text accounts → Step next workers mid c new line account → IsSound next new
-    → Run next workers start (cs ++ c ∷ []) new (text ++ line) (accounts ++ account ∷ [])
+    → CommandRun next workers start cs mid text accounts → Step next workers mid c new line account → IsSound next new
+    → CommandRun next workers start (cs ++ c ∷ []) new (text ++ line) (accounts ++ account ∷ [])
 run_more next workers start mid new [] [] c account text line r s sound =
     let P : GroupRecord → Type 0 = λ g. Step next workers g c new line account in
     (new, line, [], subst P r.0 s, sound, (refl, refl), ap (λ w. w ++ line) r.1 ∙ sym (append-nil line))
@@ -38,16 +38,16 @@ pub record IsPlayed (next : Next) (workers : ℕ) (config : Settings) (cs : List
   pub text : List ℕ
   pub is_start : IsGroupStart config start
   pub sound : IsSound next start
-  pub run : Run next workers start (take place cs) now text accounts
+  pub run : CommandRun next workers start (take place cs) now text accounts
   pub written : Appends before after text
 
 module _ (next : Next) (workers : ℕ) (config : Settings) (mid new : GroupRecord) (cs : List Command) (i : ℕ) (d : Command) (accounts : List Account) (account : Account)
     (a b c : Option (List ℕ)) (line : List ℕ) (within : i < length cs) (p : IsPlayed next workers config cs i accounts mid a b) (is : d ≡ get_or cs i d)
     (step : Step next workers mid d new line account) (sound : IsSound next new) where
-  run_on : Run next workers p.start (take (i + 1) cs) new (p.text ++ line) (accounts ++ account ∷ [])
+  run_on : CommandRun next workers p.start (take (i + 1) cs) new (p.text ++ line) (accounts ++ account ∷ [])
   run_on =
       let S : Command → Type 0 = λ w. Step next workers mid w new line account in
-      let P : List Command → Type 0 = λ w. Run next workers p.start w new (p.text ++ line) (accounts ++ account ∷ []) in
+      let P : List Command → Type 0 = λ w. CommandRun next workers p.start w new (p.text ++ line) (accounts ++ account ∷ []) in
       subst P (sym (take_more cs i d within)) (run_more next workers p.start mid new (take i cs) accounts (get_or cs i d) account p.text line p.run (subst S is step) sound)
 
   -- one more command, and its line
@@ -89,5 +89,5 @@ play_none next workers config start cs known is sound =
 pub play_all : (next : Next) (workers : ℕ) (config : Settings) (end : GroupRecord) (cs : List Command) (i : ℕ) (accounts : List Account) (a b : Option (List ℕ)) → length cs ≤ i
     → IsPlayed next workers config cs i accounts end a b → IsWritten next workers config cs accounts a b
 play_all next workers config end cs i accounts a b h p =
-    let P : List Command → Type 0 = λ w. Run next workers p.start w end p.text accounts in
+    let P : List Command → Type 0 = λ w. CommandRun next workers p.start w end p.text accounts in
     (p.text, (p.start, end, p.is_start, p.sound, subst P (take_all _ _ h) p.run), p.written)

@@ -5,12 +5,11 @@ use Rattle.std.specs.FinSet as set
 use Rattle.fbl_base.specs.declared.trace.Determinant.{Determinant}
 use Rattle.fbl_base.specs.Configs.{Settings}
 use Rattle.fbl_base.specs.Fold.{Next}
-use Rattle.fbl_base.specs.MemberSets.{AllBelow}
+use Rattle.fbl_base.specs.MemberSets.{AllBelow, Members}
 use Rattle.fbl_base.specs.Steps.{relay_step, mix_step}
 use Rattle.fbl_law.specs.Dumps.{dump_of}
-use Rattle.fbl_law.specs.Groups.{GroupRecord, checkpoint}
+use Rattle.fbl_law.specs.Groups.{GroupRecord, member_checkpoint}
 use Rattle.fbl_law.specs.GroupSteps.{IsCheckpoint, IsGroupStart}
-use Rattle.fbl_law.specs.Knowledge.{Members}
 use Rattle.fbl_law.specs.Sound.{IsSound}
 use Rattle.fbl_group.specs.declared.answers.Receipted.{Receipted}
 use Rattle.fbl_group.specs.declared.answers.Recovered.{Recovered}
@@ -22,7 +21,7 @@ use Rattle.fbl_group.specs.declared.refusals.RecoverRefusal.TheVariants.{NotDown
 use Rattle.fbl_group.specs.declared.refusals.DumpGroupRefusal.TheVariants.{BadStrike}
 use Rattle.fbl_group.specs.Checkpoints.{checkpoint_refusal}
 use Rattle.fbl_group.specs.Deliveries.{deliver_refusal, Delivers}
-use Rattle.fbl_group.specs.Names.{checkpoint_name, deliver_name, dump_name, recover_name, strike_name}
+use Rattle.fbl_group.specs.Names.{checkpoint_name, deliver_name, dump_group_name, recover_name, strike_name}
 use Rattle.fbl_group.specs.Recoveries.{Recovers}
 use Rattle.fbl_explain.specs.declared.account.Account.{Account}
 use Rattle.fbl_explain.specs.declared.account.Account.TheVariants.{Done, Lost, Undone}
@@ -102,14 +101,14 @@ RecoverStep next old new text account = RefusedRecovery old new text account ⊎
 abbrev pub IsDumpText : GroupRecord → Members → List ℕ → Account → Type 0
 IsDumpText r strike text account =
     (AllBelow strike r.config.members × (text ≡ dump_line (dump_of r strike)) × (account ≡ Done))
-    ⊎ (¬ (AllBelow strike r.config.members) × (text ≡ refused_line (codes "dump") (dump_name BadStrike)) × IsRefusal r account)
+    ⊎ (¬ (AllBelow strike r.config.members) × (text ≡ refused_line (codes "dump") (dump_group_name BadStrike)) × IsRefusal r account)
 
 abbrev pub DumpStep : GroupRecord → Members → GroupRecord → List ℕ → Account → Type 0
 DumpStep old strike new text account = (new ≡ old) × IsDumpText old strike text account
 
 -- a checkpoint, by its first refusal: a refused one changes nothing
 abbrev pub CheckpointBy : Option CheckpointRefusal → GroupRecord → ℕ → GroupRecord → List ℕ → Account → Type 0
-CheckpointBy None old p new text account = IsCheckpoint old new p × (text ≡ checkpoint_line p (checkpoint new p).received) × (account ≡ Done)
+CheckpointBy None old p new text account = IsCheckpoint old new p × (text ≡ checkpoint_line p (member_checkpoint new p).received) × (account ≡ Done)
 CheckpointBy (Some refusal) old p new text account =
     (new ≡ old) × (text ≡ refused_line (codes "checkpoint") (checkpoint_name refusal)) × IsRefusal old account
 
@@ -131,18 +130,18 @@ Step next workers old (commands.Checkpoint p) new text account = CheckpointStep 
 
 -- the commands may lead from old to new, one after another, print the text and have these accounts; each record that a command
 -- leaves is sound
-abbrev pub Run : Next → ℕ → GroupRecord → List Command → GroupRecord → List ℕ → List Account → Type 0
-Run next workers old [] new text [] = (new ≡ old) × (text ≡ [])
-Run next workers old (c ∷ cs) new text (account ∷ accounts) =
+abbrev pub CommandRun : Next → ℕ → GroupRecord → List Command → GroupRecord → List ℕ → List Account → Type 0
+CommandRun next workers old [] new text [] = (new ≡ old) × (text ≡ [])
+CommandRun next workers old (c ∷ cs) new text (account ∷ accounts) =
     (mid : GroupRecord) × (first : List ℕ) × (rest : List ℕ) × Step next workers old c mid first account × IsSound next mid
-    × Run next workers mid cs new rest accounts × (text ≡ first ++ rest)
-Run next workers old _ new text _ = ⊥
+    × CommandRun next workers mid cs new rest accounts × (text ≡ first ++ rest)
+CommandRun next workers old _ new text _ = ⊥
 
 -- some run of the commands, from a new group of this config, prints the text and has these accounts; each record of the run is
 -- sound, so that each state that is printed is the fold of the member's receipts in the trace
 abbrev pub IsTextOf : Next → ℕ → Settings → List Command → List ℕ → List Account → Type 0
 IsTextOf next workers config commands text accounts =
-    (start : GroupRecord) × (end : GroupRecord) × IsGroupStart config start × IsSound next start × Run next workers start commands end text accounts
+    (start : GroupRecord) × (end : GroupRecord) × IsGroupStart config start × IsSound next start × CommandRun next workers start commands end text accounts
 
 -- ---- what a play of the commands leaves in the writer
 

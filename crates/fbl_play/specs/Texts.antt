@@ -1,7 +1,7 @@
 -- What is printed of a group.
 use Rattle.std.specs.Prelude.{◌≡◌, ℕ, zero, suc, ◌↔◌, true, List, [], ◌∷◌, ◌++◌, length, Option, Some, None, if◌then◌else◌}
 use Rattle.std.specs.FinSet as set
-use Rattle.fbl_base.specs.Audit.{IsOrphan, lost_determinants}
+use Rattle.fbl_base.specs.Audit.{IsDumpOrphan, lost_determinants}
 use Rattle.fbl_member.specs.Members.{MemberRecord}
 use Rattle.fbl_law.specs.Groups.{GroupRecord, member, messages_in_flight}
 use Rattle.fbl_law.specs.Dumps.{dump_of}
@@ -21,11 +21,11 @@ abbrev pub shown_states : GroupRecord → List (Option ℕ)
 shown_states r = per_member (shown_state r) r.config.members
 
 -- what a report says of a member
-abbrev pub status_of : MemberRecord → MemberStatus
-status_of m = record { state = m.state; received = m.received; sent = length m.log; held = length m.table }
+abbrev pub member_status : MemberRecord → MemberStatus
+member_status m = record { state = m.state; received = m.received; sent = length m.log; held = length m.table }
 
 abbrev pub shown_status : GroupRecord → ℕ → Option MemberStatus
-shown_status r m = if set.contains r.down m then None else Some (status_of (member r m))
+shown_status r m = if set.contains r.down m then None else Some (member_status (member r m))
 
 abbrev pub shown_statuses : GroupRecord → List (Option MemberStatus)
 shown_statuses r = per_member (shown_status r) r.config.members
@@ -35,4 +35,4 @@ pub record AreTotals (r : GroupRecord) (t : Totals) : Type 0 where
   pub flight : t.flight ≡ messages_in_flight r
   pub trace : t.trace ≡ length r.trace
   pub lost : t.lost ≡ length (lost_determinants (dump_of r r.down))
-  pub orphans : (q : ℕ) → (set.contains t.orphans q ≡ true) ↔ IsOrphan (dump_of r r.down) q
+  pub orphans : (q : ℕ) → (set.contains t.orphans q ≡ true) ↔ IsDumpOrphan (dump_of r r.down) q

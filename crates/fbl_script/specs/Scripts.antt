@@ -22,7 +22,7 @@ use Rattle.fbl_input.specs.declared.input_fault.InputFault.{InputFault}
 use Rattle.fbl_input.specs.declared.input_fault.InputKind.TheVariants as kinds
 use Rattle.fbl_input.specs.Misfits.{IsMisfit, IsOfSettings}
 pub use Rattle.fbl_input.specs.Items.{script_keys, start_from, start_shape}
-use Rattle.fbl_input.specs.Faults.{IsFirstFault, IsRefused}
+use Rattle.fbl_input.specs.Faults.{IsFirstFault, IsReadRefused}
 use Rattle.fbl_input.specs.Shapes.{◌>>=◌, or_fault, number_within, count_shape, member_shape, as_list, is_text, list_of, set_shape, name_of, field, field_or, has_other_key, value_of_input}
 
 -- what a script asks for
@@ -178,7 +178,7 @@ request_outline r = record { behaviour = r.behaviour; config = record { members 
 
 -- there is no such group, or memory ran out
 abbrev pub IsRequestRefused : Outline → RunFault → Type 0
-IsRequestRefused s = IsRefused (RefusesConfig s.config) (λ _. ⊥)
+IsRequestRefused s = IsReadRefused (RefusesConfig s.config) (λ _. ⊥)
 
 -- a list that was read after a front that was read before
 abbrev pub with_front : {A : Type 0} → List A → Result (List A) RunFault → Result (List A) RunFault

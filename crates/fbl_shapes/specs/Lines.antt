@@ -8,13 +8,13 @@ use Rattle.fbl_shapes.specs.Places.{left, towards, x, y}
 use Rattle.fbl_shapes.specs.Words.{arrow_class, line_class, status_words}
 
 -- a member's name at the left end of its line
-unfoldable pub label : ℕ → Option Status → List ℕ
-label member status =
+unfoldable pub drawn_label : ℕ → Option Status → List ℕ
+drawn_label member status =
     line (codes "<text x='16' y='" ∷ decimal (y member + 5) ∷ codes "'>member " ∷ decimal member ∷ status_words status ∷ codes "</text>" ∷ [])
 
 -- a member's number, above its line, before a column
-unfoldable pub name : ℕ → ℕ → List ℕ
-name column member =
+unfoldable pub drawn_name : ℕ → ℕ → List ℕ
+drawn_name column member =
     line (codes "<text class='name' x='" ∷ decimal (x column - 27) ∷ codes "' y='" ∷ decimal (y member - 22) ∷ codes "'>" ∷ decimal member ∷ codes "</text>" ∷ [])
 
 -- a straight line of a class, from one point to another
@@ -23,15 +23,15 @@ segment class x1 y1 x2 y2 =
     line (codes "<line class='" ∷ class ∷ codes "' x1='" ∷ decimal x1 ∷ codes "' y1='" ∷ decimal y1 ∷ codes "' x2='" ∷ decimal x2 ∷ codes "' y2='" ∷ decimal y2 ∷ codes "'/>" ∷ [])
 
 -- a part of a member's line, from the left end or a column to a column
-unfoldable pub member_line : ℕ → Option ℕ → ℕ → LineKind → List ℕ
-member_line member start end kind = segment (line_class kind) (left start) (y member) (x end) (y member)
+unfoldable pub drawn_line : ℕ → Option ℕ → ℕ → LineKind → List ℕ
+drawn_line member start end kind = segment (line_class kind) (left start) (y member) (x end) (y member)
 
 -- an arrow from a send to a receipt of its message
-unfoldable pub arrow : ℕ → ℕ → ℕ → ℕ → ArrowKind → List ℕ
-arrow from sent to received kind = segment (arrow_class kind) (x sent) (y from) (x received) (y to)
+unfoldable pub drawn_arrow : ℕ → ℕ → ℕ → ℕ → ArrowKind → List ℕ
+drawn_arrow from sent to received kind = segment (arrow_class kind) (x sent) (y from) (x received) (y to)
 
 -- a message in flight: a stub from its send on its receiver's side, and the receiver's number
-unfoldable pub in_flight : ℕ → ℕ → ℕ → List ℕ
-in_flight from sent to =
+unfoldable pub drawn_in_flight : ℕ → ℕ → ℕ → List ℕ
+drawn_in_flight from sent to =
     segment (codes "message in-flight") (x sent) (y from) (x sent + 18) (towards from to 20 20)
     ++ line (codes "<text class='at' x='" ∷ decimal (x sent + 26) ∷ codes "' y='" ∷ decimal (towards from to 32 22) ∷ codes "'>to " ∷ decimal to ∷ codes "</text>" ∷ [])

@@ -27,8 +27,8 @@ cross column member true =
     line (codes "<path class='crossed' d='M" ∷ decimal (x column - 9) ∷ codes " " ∷ decimal (y member + 9) ∷ codes "l18 -18'/>" ∷ [])
 
 -- a send: a circle on its sender's line, with its number above
-unfoldable pub send_mark : ℕ → ℕ → ℕ → ℕ → Bool → List ℕ
-send_mark column from ssn to undone =
+unfoldable pub drawn_send : ℕ → ℕ → ℕ → ℕ → Bool → List ℕ
+drawn_send column from ssn to undone =
     joined (codes "<circle class='send" ∷ undone_class undone ∷ codes "' cx='" ∷ decimal (x column) ∷ codes "' cy='" ∷ decimal (y from) ∷ codes "' r='5'><title>" ∷ [])
     ++ line (codes "member " ∷ decimal from ∷ codes " sends its message " ∷ decimal ssn ∷ codes " to " ∷ decimal to ∷ undone_words undone ∷ codes "</title></circle>" ∷ [])
     ++ cross column from undone
@@ -40,8 +40,8 @@ receipt_words to rsn from ssn =
     joined (codes "<title>member " ∷ decimal to ∷ codes " receipt " ∷ decimal rsn ∷ codes ": message " ∷ decimal ssn ∷ codes " of " ∷ decimal from ∷ [])
 
 -- a receipt of a history: a square on its receiver's line, with its number and the state after it below
-unfoldable pub receipt_mark : ℕ → ℕ → ℕ → ℕ → ℕ → ℕ → Bool → List ℕ
-receipt_mark column to rsn from ssn state undone =
+unfoldable pub drawn_receipt : ℕ → ℕ → ℕ → ℕ → ℕ → ℕ → Bool → List ℕ
+drawn_receipt column to rsn from ssn state undone =
     joined (codes "<rect class='receipt" ∷ undone_class undone ∷ codes "' x='" ∷ decimal (x column - 7) ∷ codes "' y='" ∷ decimal (y to - 7) ∷ codes "' width='14' height='14'>" ∷ [])
     ++ receipt_words to rsn from ssn
     ++ line (codes ", state " ∷ decimal state ∷ undone_words undone ∷ codes "</title></rect>" ∷ [])
@@ -50,32 +50,32 @@ receipt_mark column to rsn from ssn state undone =
 
 -- the outline of the mark of a receipt of a dump: a square where it is stable, a rhomb where it is recorded, and else two
 -- strokes, one across the other
-abbrev pub outline : Kind → List ℕ
-outline Stable = codes "m-7 -7h14v14h-14z"
-outline Recorded = codes "m-8 0l8 -8l8 8l-8 8z"
-outline Lost = codes "m-7 -7l14 14m0 -14l-14 14"
+abbrev pub drawn_outline : Kind → List ℕ
+drawn_outline Stable = codes "m-7 -7h14v14h-14z"
+drawn_outline Recorded = codes "m-8 0l8 -8l8 8l-8 8z"
+drawn_outline Lost = codes "m-7 -7l14 14m0 -14l-14 14"
 
 -- a receipt of a dump: its outline on its receiver's line, with its number below
-unfoldable pub held_mark : ℕ → ℕ → ℕ → ℕ → ℕ → Kind → set.FinSet nat_cmp → List ℕ
-held_mark column to rsn from ssn kind holders =
-    joined (codes "<path class='" ∷ kind_class kind ∷ codes "' d='M" ∷ decimal (x column) ∷ codes " " ∷ decimal (y to) ∷ outline kind ∷ codes "'>" ∷ [])
+unfoldable pub drawn_held_receipt : ℕ → ℕ → ℕ → ℕ → ℕ → Kind → set.FinSet nat_cmp → List ℕ
+drawn_held_receipt column to rsn from ssn kind holders =
+    joined (codes "<path class='" ∷ kind_class kind ∷ codes "' d='M" ∷ decimal (x column) ∷ codes " " ∷ decimal (y to) ∷ drawn_outline kind ∷ codes "'>" ∷ [])
     ++ receipt_words to rsn from ssn
     ++ line (codes ", held by " ∷ set_words holders ∷ codes "</title></path>" ∷ [])
     ++ number (x column) (y to + 22) false (decimal rsn)
 
 -- a strike: a bolt on the line of a member that it strikes
-unfoldable pub strike_mark : ℕ → ℕ → List ℕ
-strike_mark column member =
+unfoldable pub drawn_strike : ℕ → ℕ → List ℕ
+drawn_strike column member =
     line (codes "<path class='strike' d='M" ∷ decimal (x column + 3) ∷ codes " " ∷ decimal (y member - 13) ∷ codes "l-10 14h6l-3 12l11 -16h-7z'><title>member " ∷ decimal member ∷ codes " is struck</title></path>" ∷ [])
 
 -- a recovery: a triangle on the line of a member that it brings back, with how many receipts were replayed below
-unfoldable pub recovery_mark : ℕ → ℕ → ℕ → List ℕ
-recovery_mark column member receipts =
+unfoldable pub drawn_recovery : ℕ → ℕ → ℕ → List ℕ
+drawn_recovery column member receipts =
     joined (codes "<path class='recovery' d='M" ∷ decimal (x column) ∷ codes " " ∷ decimal (y member - 9) ∷ codes "l9 16h-18z'><title>member " ∷ decimal member ∷ codes " is recovered, " ∷ [])
     ++ line (decimal receipts ∷ codes " " ∷ receipts_word receipts ∷ codes " replayed</title></path>" ∷ [])
     ++ number (x column) (y member + 24) false (joined (codes "replays " ∷ decimal receipts ∷ []))
 
 -- a checkpoint: a bar across its member's line
-unfoldable pub checkpoint_mark : ℕ → ℕ → List ℕ
-checkpoint_mark column member =
+unfoldable pub drawn_checkpoint : ℕ → ℕ → List ℕ
+drawn_checkpoint column member =
     line (codes "<rect class='checkpoint' x='" ∷ decimal (x column - 2) ∷ codes "' y='" ∷ decimal (y member - 10) ∷ codes "' width='5' height='20'><title>checkpoint of member " ∷ decimal member ∷ codes "</title></rect>" ∷ [])

@@ -7,23 +7,23 @@ use Rattle.fbl_shapes.specs.declared.shape.Legend.{Legend}
 use Rattle.fbl_shapes.specs.declared.shape.Legend.TheVariants as legend
 use Rattle.fbl_shapes.specs.declared.shape.Shape.{Shape}
 use Rattle.fbl_shapes.specs.declared.shape.Shape.TheVariants.{Label, Name, Line, Arrow, InFlight, Send, Receipt, Held, Strike, Recovery, Checkpoint}
-use Rattle.fbl_shapes.specs.Lines.{arrow, in_flight, label, member_line, name}
-use Rattle.fbl_shapes.specs.Marks.{checkpoint_mark, held_mark, receipt_mark, recovery_mark, send_mark, strike_mark}
+use Rattle.fbl_shapes.specs.Lines.{drawn_arrow, drawn_in_flight, drawn_label, drawn_line, drawn_name}
+use Rattle.fbl_shapes.specs.Marks.{drawn_checkpoint, drawn_held_receipt, drawn_receipt, drawn_recovery, drawn_send, drawn_strike}
 use Rattle.fbl_shapes.specs.Places.{height, width, y}
 
 -- the text of a shape
 abbrev pub text_of : Shape → List ℕ
-text_of (Label member status) = label member status
-text_of (Name column member) = name column member
-text_of (Line member start end kind) = member_line member start end kind
-text_of (Arrow from sent to received kind) = arrow from sent to received kind
-text_of (InFlight from sent to) = in_flight from sent to
-text_of (Send column from ssn to undone) = send_mark column from ssn to undone
-text_of (Receipt column to rsn from ssn state undone) = receipt_mark column to rsn from ssn state undone
-text_of (Held column to rsn from ssn kind holders) = held_mark column to rsn from ssn kind holders
-text_of (Strike column member) = strike_mark column member
-text_of (Recovery column member receipts) = recovery_mark column member receipts
-text_of (Checkpoint column member) = checkpoint_mark column member
+text_of (Label member status) = drawn_label member status
+text_of (Name column member) = drawn_name column member
+text_of (Line member start end kind) = drawn_line member start end kind
+text_of (Arrow from sent to received kind) = drawn_arrow from sent to received kind
+text_of (InFlight from sent to) = drawn_in_flight from sent to
+text_of (Send column from ssn to undone) = drawn_send column from ssn to undone
+text_of (Receipt column to rsn from ssn state undone) = drawn_receipt column to rsn from ssn state undone
+text_of (Held column to rsn from ssn kind holders) = drawn_held_receipt column to rsn from ssn kind holders
+text_of (Strike column member) = drawn_strike column member
+text_of (Recovery column member receipts) = drawn_recovery column member receipts
+text_of (Checkpoint column member) = drawn_checkpoint column member
 
 -- how each kind of shape is drawn, in light and in dark: the style, and the tips of arrows
 unfoldable pub look : List ℕ
@@ -35,23 +35,23 @@ opening width height =
     line (codes "<svg class='fbl' xmlns='http://www.w3.org/2000/svg' viewBox='0 0 " ∷ decimal width ∷ codes " " ∷ decimal height ∷ codes "' width='" ∷ decimal width ∷ codes "' height='" ∷ decimal height ∷ codes "' role='img'>" ∷ [])
 
 -- the title for those who can't see the picture, its look, its background and its heading
-unfoldable pub heading : List ℕ → ℕ → ℕ → List ℕ
-heading title width height =
+unfoldable pub drawn_heading : List ℕ → ℕ → ℕ → List ℕ
+drawn_heading title width height =
     line (codes "<title>" ∷ title ∷ codes "</title>" ∷ [])
     ++ look
     ++ line (codes "<rect class='back' width='" ∷ decimal width ∷ codes "' height='" ∷ decimal height ∷ codes "'/>" ∷ [])
     ++ line (codes "<text class='head' x='16' y='28'>" ∷ title ∷ codes "</text>" ∷ [])
 
 -- what the marks mean
-unfoldable pub entries : Legend → List ℕ
-entries legend.History = HISTORY_LEGEND.now
-entries legend.Dump = DUMP_LEGEND.now
+unfoldable pub drawn_legend : Legend → List ℕ
+drawn_legend legend.History = HISTORY_LEGEND.now
+drawn_legend legend.Dump = DUMP_LEGEND.now
 
 -- the legend, below the members' lines, and the end of the picture
 unfoldable pub ending : ℕ → Legend → List ℕ
 ending members legend =
     line (codes "<g transform='translate(0 " ∷ decimal (y members + 14) ∷ codes ")'>" ∷ [])
-    ++ entries legend
+    ++ drawn_legend legend
     ++ line (codes "</g>" ∷ [])
     ++ line (codes "</svg>" ∷ [])
 
@@ -64,4 +64,4 @@ unfoldable pub picture : List ℕ → ℕ → ℕ → Legend → List Shape → 
 picture title members columns legend shapes =
     let wide = width columns in
     let high = height members legend in
-    opening wide high ++ heading title wide high ++ texts_of shapes ++ ending members legend
+    opening wide high ++ drawn_heading title wide high ++ texts_of shapes ++ ending members legend

@@ -1,7 +1,7 @@
 //! The texts of labels, of lines and of arrows.
 
 ghost use Rattle.std.specs.Prelude.{◌≡◌, IfOk, string_bytes};
-ghost use Rattle.fbl_shapes.specs.Lines.{arrow, in_flight, label, member_line, name, segment};
+ghost use Rattle.fbl_shapes.specs.Lines.{drawn_arrow, drawn_in_flight, drawn_label, drawn_line, drawn_name, segment};
 
 use crate::places::{left, towards, x, y};
 use crate::shape::{ArrowKind, LineKind, Status};
@@ -10,13 +10,13 @@ use fbl_base::Member;
 use std::alloc::{AllocError, Global};
 
 /// The text of a member's name.
-#[tactic(auto, unfolding(crate::specs::Lines::label))]
+#[tactic(auto, unfolding(crate::specs::Lines::drawn_label))]
 pub(crate) fn label_text(
     alloc: Global,
     member: Member,
     status: Option<Status>,
 ) -> Result<String, AllocError>
-    ensures { IfOk result (λ text. string_bytes text ≡ label member status) }
+    ensures { IfOk result (λ text. string_bytes text ≡ drawn_label member status) }
 {
     let member = member.number();
     let y = y(member) + 5;
@@ -25,9 +25,9 @@ pub(crate) fn label_text(
 }
 
 /// The text of a member's number before a column.
-#[tactic(auto, unfolding(crate::specs::Lines::name))]
+#[tactic(auto, unfolding(crate::specs::Lines::drawn_name))]
 pub(crate) fn name_text(alloc: Global, column: usize, member: Member) -> Result<String, AllocError>
-    ensures { IfOk result (λ text. string_bytes text ≡ name column member) }
+    ensures { IfOk result (λ text. string_bytes text ≡ drawn_name column member) }
 {
     let member = member.number();
     let x = x(column) - 27;
@@ -52,7 +52,7 @@ fn segment_text(alloc: Global, class: &str, start: Point, end: Point) -> Result<
 }
 
 /// The text of a part of a member's line.
-#[tactic(auto, unfolding(crate::specs::Lines::member_line))]
+#[tactic(auto, unfolding(crate::specs::Lines::drawn_line))]
 pub(crate) fn line_text(
     alloc: Global,
     member: Member,
@@ -60,7 +60,7 @@ pub(crate) fn line_text(
     end: usize,
     kind: LineKind,
 ) -> Result<String, AllocError>
-    ensures { IfOk result (λ text. string_bytes text ≡ member_line member start end kind) }
+    ensures { IfOk result (λ text. string_bytes text ≡ drawn_line member start end kind) }
 {
     let y = y(member.number());
     let start = Point { x: left(start), y };
@@ -69,7 +69,7 @@ pub(crate) fn line_text(
 }
 
 /// The text of an arrow from a send to a receipt.
-#[tactic(auto, unfolding(crate::specs::Lines::arrow))]
+#[tactic(auto, unfolding(crate::specs::Lines::drawn_arrow))]
 pub(crate) fn arrow_text(
     alloc: Global,
     from: Member,
@@ -78,7 +78,7 @@ pub(crate) fn arrow_text(
     received: usize,
     kind: ArrowKind,
 ) -> Result<String, AllocError>
-    ensures { IfOk result (λ text. string_bytes text ≡ arrow from sent to received kind) }
+    ensures { IfOk result (λ text. string_bytes text ≡ drawn_arrow from sent to received kind) }
 {
     let start = Point {
         x: x(sent),
@@ -92,14 +92,14 @@ pub(crate) fn arrow_text(
 }
 
 /// The text of a message in flight.
-#[tactic(auto, unfolding(crate::specs::Lines::in_flight))]
+#[tactic(auto, unfolding(crate::specs::Lines::drawn_in_flight))]
 pub(crate) fn in_flight_text(
     alloc: Global,
     from: Member,
     sent: usize,
     to: Member,
 ) -> Result<String, AllocError>
-    ensures { IfOk result (λ text. string_bytes text ≡ in_flight from sent to) }
+    ensures { IfOk result (λ text. string_bytes text ≡ drawn_in_flight from sent to) }
 {
     let start = Point {
         x: x(sent),

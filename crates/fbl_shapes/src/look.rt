@@ -1,7 +1,7 @@
 //! How pictures look, and their legends. Each of these texts stands here alone: definitions name it.
 
 ghost use Rattle.std.specs.Prelude.{◌≡◌};
-ghost use Rattle.fbl_shapes.specs.Pictures.{entries as entries_of, look as look_of};
+ghost use Rattle.fbl_shapes.specs.Pictures.{drawn_legend, look as look_of};
 
 use crate::shape::Legend;
 
@@ -90,9 +90,9 @@ pub(crate) fn look() -> &'static str
 }
 
 /// What the marks mean.
-#[tactic(auto, unfolding(crate::specs::Pictures::entries))]
+#[tactic(auto, unfolding(crate::specs::Pictures::drawn_legend))]
 pub(crate) fn entries(legend: Legend) -> &'static str
-    ensures { result.now ≡ entries_of legend }
+    ensures { result.now ≡ drawn_legend legend }
 {
     match legend {
         Legend::History => HISTORY_LEGEND,

@@ -1,7 +1,7 @@
 //! The texts of marks.
 
 ghost use Rattle.std.specs.Prelude.{◌≡◌, IfOk, string_bytes};
-ghost use Rattle.fbl_shapes.specs.Marks.{checkpoint_mark, cross, held_mark, number, receipt_mark, receipt_words, recovery_mark, send_mark, strike_mark};
+ghost use Rattle.fbl_shapes.specs.Marks.{drawn_checkpoint, cross, drawn_held_receipt, number, drawn_receipt, receipt_words, drawn_recovery, drawn_send, drawn_strike};
 
 use crate::places::{x, y};
 use crate::shape::Kind;
@@ -44,7 +44,7 @@ fn cross_text(
 }
 
 /// The text of a send.
-#[tactic(auto, unfolding(crate::specs::Marks::send_mark))]
+#[tactic(auto, unfolding(crate::specs::Marks::drawn_send))]
 pub(crate) fn send_text(
     alloc: Global,
     column: usize,
@@ -53,7 +53,7 @@ pub(crate) fn send_text(
     to: Member,
     undone: bool,
 ) -> Result<String, AllocError>
-    ensures { IfOk result (λ text. string_bytes text ≡ send_mark column from ssn to undone) }
+    ensures { IfOk result (λ text. string_bytes text ≡ drawn_send column from ssn to undone) }
 {
     let sender = from.number();
     let receiver = to.number();
@@ -89,7 +89,7 @@ fn receipt_title_text(alloc: Global, determinant: &Determinant) -> Result<String
 }
 
 /// The text of a receipt of a history.
-#[tactic(auto, unfolding(crate::specs::Marks::receipt_mark))]
+#[tactic(auto, unfolding(crate::specs::Marks::drawn_receipt))]
 pub(crate) fn receipt_text(
     alloc: Global,
     column: usize,
@@ -97,7 +97,7 @@ pub(crate) fn receipt_text(
     state: u64,
     undone: bool,
 ) -> Result<String, AllocError>
-    ensures { IfOk result (λ text. string_bytes text ≡ receipt_mark column determinant.now.to determinant.now.rsn determinant.now.from determinant.now.ssn state undone) }
+    ensures { IfOk result (λ text. string_bytes text ≡ drawn_receipt column determinant.now.to determinant.now.rsn determinant.now.from determinant.now.ssn state undone) }
 {
     let rsn = determinant.rsn;
     let x = x(column);
@@ -121,7 +121,7 @@ pub(crate) fn receipt_text(
 }
 
 /// The text of a receipt of a dump.
-#[tactic(auto, unfolding(crate::specs::Marks::held_mark))]
+#[tactic(auto, unfolding(crate::specs::Marks::drawn_held_receipt))]
 pub(crate) fn held_text(
     alloc: Global,
     column: usize,
@@ -129,7 +129,7 @@ pub(crate) fn held_text(
     kind: Kind,
     holders: MemberSet,
 ) -> Result<String, AllocError>
-    ensures { IfOk result (λ text. string_bytes text ≡ held_mark column determinant.now.to determinant.now.rsn determinant.now.from determinant.now.ssn kind holders) }
+    ensures { IfOk result (λ text. string_bytes text ≡ drawn_held_receipt column determinant.now.to determinant.now.rsn determinant.now.from determinant.now.ssn kind holders) }
 {
     let rsn = determinant.rsn;
     let x = x(column);
@@ -148,13 +148,13 @@ pub(crate) fn held_text(
 }
 
 /// The text of a strike.
-#[tactic(auto, unfolding(crate::specs::Marks::strike_mark))]
+#[tactic(auto, unfolding(crate::specs::Marks::drawn_strike))]
 pub(crate) fn strike_text(
     alloc: Global,
     column: usize,
     member: Member,
 ) -> Result<String, AllocError>
-    ensures { IfOk result (λ text. string_bytes text ≡ strike_mark column member) }
+    ensures { IfOk result (λ text. string_bytes text ≡ drawn_strike column member) }
 {
     let member = member.number();
     let x = x(column) + 3;
@@ -165,14 +165,14 @@ pub(crate) fn strike_text(
 }
 
 /// The text of a recovery.
-#[tactic(auto, unfolding(crate::specs::Marks::recovery_mark))]
+#[tactic(auto, unfolding(crate::specs::Marks::drawn_recovery))]
 pub(crate) fn recovery_text(
     alloc: Global,
     column: usize,
     member: Member,
     receipts: u32,
 ) -> Result<String, AllocError>
-    ensures { IfOk result (λ text. string_bytes text ≡ recovery_mark column member receipts) }
+    ensures { IfOk result (λ text. string_bytes text ≡ drawn_recovery column member receipts) }
 {
     let member = member.number();
     let x = x(column);
@@ -190,13 +190,13 @@ pub(crate) fn recovery_text(
 }
 
 /// The text of a checkpoint.
-#[tactic(auto, unfolding(crate::specs::Marks::checkpoint_mark))]
+#[tactic(auto, unfolding(crate::specs::Marks::drawn_checkpoint))]
 pub(crate) fn checkpoint_text(
     alloc: Global,
     column: usize,
     member: Member,
 ) -> Result<String, AllocError>
-    ensures { IfOk result (λ text. string_bytes text ≡ checkpoint_mark column member) }
+    ensures { IfOk result (λ text. string_bytes text ≡ drawn_checkpoint column member) }
 {
     let member = member.number();
     let x = x(column) - 2;

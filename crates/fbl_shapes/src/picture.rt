@@ -1,7 +1,7 @@
 //! Pictures: a frame with a heading and a legend, and in it the texts of shapes.
 
 ghost use Rattle.std.specs.Prelude.{◌≡◌, ◌++◌, IfOk, OnOk, string_bytes};
-ghost use Rattle.fbl_shapes.specs.Pictures.{ending, heading, opening, picture, text_of, texts_of};
+ghost use Rattle.fbl_shapes.specs.Pictures.{ending, drawn_heading, opening, picture, text_of, texts_of};
 
 use crate::lines::{arrow_text, in_flight_text, label_text, line_text, name_text};
 use crate::look::{entries, look};
@@ -97,9 +97,9 @@ fn opening_text(alloc: Global, width: u128, height: u32) -> Result<String, Alloc
 }
 
 /// The title, the look, the background and the heading.
-#[tactic(auto, unfolding(crate::specs::Pictures::heading))]
+#[tactic(auto, unfolding(crate::specs::Pictures::drawn_heading))]
 fn heading_text(alloc: Global, title: &str, width: u128, height: u32) -> Result<String, AllocError>
-    ensures { IfOk result (λ text. string_bytes text ≡ heading title.now width height) }
+    ensures { IfOk result (λ text. string_bytes text ≡ drawn_heading title.now width height) }
 {
     let mut text = format!(in alloc; "<title>{title}</title>\n")?;
     text.push_str(look())?;

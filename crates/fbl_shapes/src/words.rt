@@ -1,7 +1,7 @@
 //! The words of shapes: what their classes and titles say.
 
 ghost use Rattle.std.specs.Prelude.{◌≡◌};
-ghost use Rattle.fbl_shapes.specs.Marks.{outline as outline_of};
+ghost use Rattle.fbl_shapes.specs.Marks.{drawn_outline};
 ghost use Rattle.fbl_shapes.specs.Words.{arrow_class, gone_class as gone_class_of, kind_class, line_class, receipts_word as receipts_word_of, status_words as status_words_of, undone_class as undone_class_of, undone_words as undone_words_of};
 
 use crate::shape::{ArrowKind, Kind, LineKind, Status};
@@ -59,7 +59,7 @@ impl Kind {
 
     /// The outline of its mark, from the point at which it stands.
     pub(crate) fn outline(self) -> &'static str
-        ensures { result.now ≡ outline_of self }
+        ensures { result.now ≡ drawn_outline self }
     {
         match self {
             Kind::Stable => "m-7 -7h14v14h-14z",

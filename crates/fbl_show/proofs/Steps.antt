@@ -1,38 +1,32 @@
--- One column more: of members' lines, of messages that were sent or received, and of members.
+-- One column more: of members' lines, and of messages that were sent or received.
 use Rattle.std.proofs.Common.{ℕ, suc, ◌+◌, ◌<◌, ◌≡◌, ◌||◌, not, Bool, true, false, cond, List, [], ◌∷◌, ◌++◌, length, take, drop, get_or, Option, Some, None}
 use Rattle.std.proofs.Common.{refl, sym, ap, ◌∙◌, arith}
 use Rattle.std.specs.Bool.{beq}
 use Rattle.std.specs.Cmp.{booleans_Decides}
-use Rattle.std.specs.List.{flat_map, fold, range_with_len}
-use Rattle.std.proofs.lemmas.List.{append_assoc, at_drop_more, flat_map_more, take_more}
+use Rattle.std.specs.List.{fold}
+use Rattle.std.proofs.lemmas.List.{append_assoc, at_drop_more, take_more}
 use Rattle.std.proofs.lemmas.List.Folds.{list_any-append}
-use Rattle.std.proofs.lemmas.List.FromFn.{get_or-range_with_len, length-range_with_len}
 use Rattle.std.proofs.lemmas.List.Sums.{fold_push}
+use Rattle.fbl_base.specs.Events.{same_message, is_message}
 use Rattle.fbl_base.proofs.Recorded.{or_cond, or_false}
 use Rattle.fbl_history.specs.declared.column.Column.{Column}
 use Rattle.fbl_shapes.specs.declared.shape.Shape.{Shape}
 use Rattle.fbl_shapes.specs.declared.shape.Shape.TheVariants.{Line}
-use Rattle.fbl_show.specs.declared.messages.Message.{Message}
+use Rattle.fbl_base.specs.declared.trace.MessageName.{MessageName}
 use Rattle.fbl_show.specs.Members.{differs, is_down, is_down_after, line_kind, line_part, line_to, turns}
-use Rattle.fbl_show.specs.Messages.{arrow_from, is_message, is_received, same_message, stub_where, taken_by}
+use Rattle.fbl_show.specs.Messages.{arrow_from, has_standing_receipt, stub_where, taken_by_column}
 use Rattle.fbl_show.specs.Places.{drawn, last_before}
-
--- one more number
-pub rows_more : (f : ℕ → List Shape) (n i : ℕ) → i < n → flat_map f (take i (range_with_len 0 n)) ++ f i ≡ flat_map f (take (i + 1) (range_with_len 0 n))
-rows_more f n i lt =
-    let r : List ℕ = range_with_len 0 n in
-    let at : get_or r i 0 ≡ i = omega (arith, get_or-range_with_len 0 n i 0 lt) in
-    ap (λ k. flat_map f (take i r) ++ f k) (sym at) ∙ flat_map_more f [] (take i r) (get_or r i 0) ∙ ap (flat_map f) (sym (take_more r i 0 (omega (arith, length-range_with_len 0 n))))
 
 -- the last place before the next one
 pub last_more : (test : ℕ → Bool) (i : ℕ) → last_before test (i + 1) ≡ cond (test i) (Some i) (last_before test i)
 last_more test i = let e : i + 1 ≡ suc i = omega arith in ap (last_before test) e
 
 -- what is drawn is the same where the places at which messages were sent are
-pub arrow_same : (sent sent' : Message → Option ℕ) (place : ℕ) (column : Column) → ((m : Message) → sent m ≡ sent' m) → arrow_from sent place column ≡ arrow_from sent' place column
+pub arrow_same : (sent sent' : MessageName → Option ℕ) (place : ℕ) (column : Column) → ((m : MessageName) → sent m ≡ sent' m)
+    → arrow_from sent place column ≡ arrow_from sent' place column
 arrow_same sent sent' place column same = (λ i. arrow_from (λ m. same m i) place column)
 
-pub stub_same : (received received' : Message → Bool) (place : ℕ) (column : Column) → ((m : Message) → received m ≡ received' m)
+pub stub_same : (received received' : MessageName → Bool) (place : ℕ) (column : Column) → ((m : MessageName) → received m ≡ received' m)
     → stub_where received place column ≡ stub_where received' place column
 stub_same received received' place column same = (λ i. stub_where (λ m. same m i) place column)
 
@@ -46,23 +40,23 @@ module _ (columns : List Column) (i : ℕ) (c : Column) (within : i < length col
   drawn_more draw = at_drop_more (drawn draw i) columns i c within ∙ ap (λ x. draw i x ++ drawn draw (i + 1) (drop (i + 1) columns)) (sym is)
 
   -- whether a message is received behind it
-  pub received_more : (m : Message) → is_received (take (i + 1) columns) m ≡ (is_received (take i columns) m || is_message m (taken_by c))
+  pub received_more : (m : MessageName) → has_standing_receipt (take (i + 1) columns) m ≡ (has_standing_receipt (take i columns) m || is_message m (taken_by_column c))
   received_more m =
-      ap (λ l. is_received l m) before_more ∙ list_any-append (λ column. is_message m (taken_by column)) (take i columns) (c ∷ [])
-      ∙ ap (λ b. is_received (take i columns) m || b) (sym (or_false (is_message m (taken_by c))))
+      ap (λ l. has_standing_receipt l m) before_more ∙ list_any-append (λ column. is_message m (taken_by_column column)) (take i columns) (c ∷ [])
+      ∙ ap (λ b. has_standing_receipt (take i columns) m || b) (sym (or_false (is_message m (taken_by_column c))))
 
   -- the messages that are received behind it, where a set has those received before it
-  module _ (old : Message → Bool) (was : (m : Message) → old m ≡ is_received (take i columns) m) where
-    pub added : (taken : Message) → taken_by c ≡ Some taken → (new : Message → Bool)
-        → ((m : Message) → new m ≡ cond (same_message taken m) true (old m)) → (m : Message) → new m ≡ is_received (take (i + 1) columns) m
+  module _ (old : MessageName → Bool) (was : (m : MessageName) → old m ≡ has_standing_receipt (take i columns) m) where
+    pub added : (taken : MessageName) → taken_by_column c ≡ Some taken → (new : MessageName → Bool)
+        → ((m : MessageName) → new m ≡ cond (same_message taken m) true (old m)) → (m : MessageName) → new m ≡ has_standing_receipt (take (i + 1) columns) m
     added taken some new put m =
         put m ∙ or_cond (same_message taken m) (old m)
         ∙ (λ j. was m j || is_message m (sym some j))
         ∙ sym (received_more m)
 
-    pub not_added : taken_by c ≡ None → (m : Message) → old m ≡ is_received (take (i + 1) columns) m
+    pub not_added : taken_by_column c ≡ None → (m : MessageName) → old m ≡ has_standing_receipt (take (i + 1) columns) m
     not_added none m =
-        was m ∙ or_false (is_received (take i columns) m) ∙ ap (λ t. is_received (take i columns) m || is_message m t) (sym none) ∙ sym (received_more m)
+        was m ∙ or_false (has_standing_receipt (take i columns) m) ∙ ap (λ t. has_standing_receipt (take i columns) m || is_message m t) (sym none) ∙ sym (received_more m)
 
   module _ (m : ℕ) (down after : Bool) (was : down ≡ is_down columns m i) (then : after ≡ is_down_after m down c) where
     -- whether the member is down behind it

@@ -8,9 +8,9 @@ use Rattle.fbl_shapes.specs.Pictures.{picture}
 use Rattle.fbl_shapes.specs.declared.shape.Legend.TheVariants as legends
 use Rattle.fbl_shapes.specs.declared.shape.Shape.{Shape}
 use Rattle.fbl_shapes.specs.Words.{receipts_word}
-use Rattle.fbl_show.specs.Marks.{mark}
+use Rattle.fbl_show.specs.Marks.{column_marks}
 use Rattle.fbl_show.specs.Members.{members_shapes}
-use Rattle.fbl_show.specs.Messages.{arrow, stub}
+use Rattle.fbl_show.specs.Messages.{receipt_arrow, stub}
 use Rattle.fbl_show.specs.Places.{drawn}
 
 -- ---- the heading
@@ -24,8 +24,8 @@ is_undone_receipt (columns.Receipt to rsn from ssn state undone) = undone
 is_undone_receipt _ = false
 
 -- the numbers of the group, the behaviour, how many receipts were ever made, and how many of them were undone
-abbrev pub heading : ℕ → ℕ → List ℕ → List Column → List ℕ
-heading members f behaviour columns =
+abbrev pub history_title : ℕ → ℕ → List ℕ → List Column → List ℕ
+history_title members f behaviour columns =
     let made = count_by is_receipt columns in
     joined (decimal members ∷ codes " members, f " ∷ decimal f ∷ codes ", " ∷ behaviour ∷ codes ": "
     ∷ decimal made ∷ codes " " ∷ receipts_word made ∷ codes " made, " ∷ decimal (count_by is_undone_receipt columns) ∷ codes " undone" ∷ [])
@@ -33,11 +33,11 @@ heading members f behaviour columns =
 -- ---- the whole
 
 -- the members' lines, the arrows and the messages in flight, and over them the marks
-unfoldable pub shapes_of : ℕ → List Column → List Shape
-shapes_of members columns =
-    members_shapes members columns ++ drawn (arrow columns) 0 columns ++ drawn (stub columns) 0 columns ++ drawn mark 0 columns
+unfoldable pub history_shapes : ℕ → List Column → List Shape
+history_shapes members columns =
+    members_shapes members columns ++ drawn (receipt_arrow columns) 0 columns ++ drawn (stub columns) 0 columns ++ drawn column_marks 0 columns
 
 -- the picture of a history of a group of so many members, of whom f may be lost at once, under a behaviour of this name
 abbrev pub history_picture : ℕ → ℕ → List ℕ → List Column → List ℕ
 history_picture members f behaviour columns =
-    picture (heading members f behaviour columns) members (length columns) legends.History (shapes_of members columns)
+    picture (history_title members f behaviour columns) members (length columns) legends.History (history_shapes members columns)

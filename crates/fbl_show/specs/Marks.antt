@@ -15,9 +15,9 @@ recovery_mark place replay = shapes.Recovery place replay.member replay.receipts
 
 -- the marks of a column: one of an event or a checkpoint, one for each member that is struck, and one for each that is
 -- brought back
-abbrev pub mark : ℕ → Column → List Shape
-mark place (columns.Send from ssn to undone) = shapes.Send place from ssn to undone ∷ []
-mark place (columns.Receipt to rsn from ssn state undone) = shapes.Receipt place to rsn from ssn state undone ∷ []
-mark place (columns.Strike struck) = map (strike_mark place) (member_list struck)
-mark place (columns.Recovery replays) = map (recovery_mark place) replays.items
-mark place (columns.Checkpoint member) = shapes.Checkpoint place member ∷ []
+abbrev pub column_marks : ℕ → Column → List Shape
+column_marks place (columns.Send from ssn to undone) = shapes.Send place from ssn to undone ∷ []
+column_marks place (columns.Receipt to rsn from ssn state undone) = shapes.Receipt place to rsn from ssn state undone ∷ []
+column_marks place (columns.Strike struck) = map (strike_mark place) (member_list struck)
+column_marks place (columns.Recovery replays) = map (recovery_mark place) replays.items
+column_marks place (columns.Checkpoint member) = shapes.Checkpoint place member ∷ []

@@ -50,8 +50,8 @@ abbrev pub line_part : List Column → ℕ → ℕ → Column → List Shape
 line_part columns member place _ = if turns columns member place then line_to columns member place ∷ [] else []
 
 -- what is drawn of a member: its name, its number again, and its line in parts, of which the last goes to the end
-abbrev pub member_shapes : List Column → ℕ → List Shape
-member_shapes columns member =
+abbrev pub history_member_shapes : List Column → ℕ → List Shape
+history_member_shapes columns member =
     shapes.Label member None ∷ []
     ++ names (length columns) member
     ++ drawn (line_part columns member) 0 columns
@@ -59,4 +59,4 @@ member_shapes columns member =
 
 -- the same of each member
 abbrev pub members_shapes : ℕ → List Column → List Shape
-members_shapes members columns = flat_map (member_shapes columns) (range_with_len 0 members)
+members_shapes members columns = flat_map (history_member_shapes columns) (range_with_len 0 members)

@@ -2,7 +2,7 @@
 
 ghost use Rattle.std.specs.Prelude.{◌≡◌, ◌++◌, OnOk, map};
 ghost use Rattle.fbl_base.specs.MemberSets.{member_list};
-ghost use Rattle.fbl_show.specs.Marks.{mark, strike_mark, recovery_mark};
+ghost use Rattle.fbl_show.specs.Marks.{column_marks, strike_mark, recovery_mark};
 ghost use Rattle.fbl_show.specs.Places.{drawn};
 
 use fbl_base::MemberSet;
@@ -50,7 +50,7 @@ fn push_mark(
     place: usize,
     column: &Column,
 ) -> Result<(), AllocError>
-    ensures { OnOk result (shapes.new.items ≡ shapes.old.items ++ mark place column.now) }
+    ensures { OnOk result (shapes.new.items ≡ shapes.old.items ++ column_marks place column.now) }
 {
     match column {
         Column::Send {
@@ -105,7 +105,7 @@ pub(crate) fn push_marks(
     alloc: Global,
     columns: &[Column],
 ) -> Result<(), AllocError>
-    ensures { OnOk result (shapes.new.items ≡ shapes.old.items ++ drawn mark 0 columns.now) }
+    ensures { OnOk result (shapes.new.items ≡ shapes.old.items ++ drawn column_marks 0 columns.now) }
 {
     for (place, column) in columns.iter().enumerate() {
         push_mark(shapes, alloc, place, column)?;

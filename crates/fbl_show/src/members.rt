@@ -1,7 +1,7 @@
 //! The lines of the members.
 
 ghost use Rattle.std.specs.Prelude.{◌≡◌, ◌++◌, ◌≤◌, OnOk, length, ◌∷◌, []};
-ghost use Rattle.fbl_show.specs.Members.{is_back, is_down_after, line_kind, line_part, line_to, member_shapes, members_shapes};
+ghost use Rattle.fbl_show.specs.Members.{is_back, is_down_after, line_kind, line_part, line_to, history_member_shapes, members_shapes};
 ghost use Rattle.fbl_show.specs.Places.{drawn};
 
 use fbl_base::Member;
@@ -75,7 +75,7 @@ fn push_member(
     member: Member,
     columns: &[Column],
 ) -> Result<(), AllocError>
-    ensures { OnOk result (shapes.new.items ≡ shapes.old.items ++ member_shapes columns.now member) }
+    ensures { OnOk result (shapes.new.items ≡ shapes.old.items ++ history_member_shapes columns.now member) }
 {
     shapes.push(Shape::Label {
         member,

@@ -3,36 +3,29 @@
 ghost use Rattle.std.specs.Prelude.{◌≡◌, ◌++◌, ◌+◌, ◌<◌, IfOk, OnOk, length, slice_get, Some};
 ghost use Rattle.std.specs.HashMap as hash_map;
 ghost use Rattle.std.specs.HashSet as hash_set;
-ghost use Rattle.fbl_show.specs.Messages.{arrow, arrow_between, arrow_from, arrow_kind, is_received, same_message, sent_before, sent_by, stub, stub_unless, stub_where, taken_by};
+ghost use Rattle.fbl_base.specs.Events.{same_message};
+ghost use Rattle.fbl_show.specs.Messages.{receipt_arrow, arrow_between, arrow_from, arrow_kind, has_standing_receipt, sent_before, sent_by_column, stub, stub_unless, stub_where, taken_by_column};
 ghost use Rattle.fbl_show.specs.Places.{drawn};
 
-use fbl_base::Member;
+use fbl_base::{Member, MessageName};
 use fbl_history::Column;
 use fbl_shapes::{ArrowKind, Shape};
 use std::alloc::{AllocError, Global};
 use std::collections::{HashMap, HashSet};
 use std::hash::{BuildHasherDefault, FoldHasher};
 
-/// What names a message.
-#[derive(Clone, Copy, PartialEq, Eq, Hash, Debug)]
-pub(crate) struct Message {
-    from: Member,
-    /// Which of the sender's sends it is.
-    ssn: u32,
-}
-
 /// For each message that was sent, the place of the last column that sends it.
-type SendPlaces = HashMap<Message, usize, BuildHasherDefault<FoldHasher>>;
+type SendPlaces = HashMap<MessageName, usize, BuildHasherDefault<FoldHasher>>;
 
 /// The messages of which a receipt stands.
-type Received = HashSet<Message, BuildHasherDefault<FoldHasher>>;
+type Received = HashSet<MessageName, BuildHasherDefault<FoldHasher>>;
 
 /// The message that a column sends, undone or not.
-fn message_sent(column: &Column) -> Option<Message>
-    ensures { result ≡ sent_by column.now }
+fn message_sent(column: &Column) -> Option<MessageName>
+    ensures { result ≡ sent_by_column column.now }
 {
     match column {
-        Column::Send { from, ssn, .. } => Some(Message {
+        Column::Send { from, ssn, .. } => Some(MessageName {
             from: *from,
             ssn: *ssn,
         }),
@@ -41,8 +34,8 @@ fn message_sent(column: &Column) -> Option<Message>
 }
 
 /// The message that a column receives, if the receipt stands.
-fn message_taken(column: &Column) -> Option<Message>
-    ensures { result ≡ taken_by column.now }
+fn message_taken(column: &Column) -> Option<MessageName>
+    ensures { result ≡ taken_by_column column.now }
 {
     match column {
         Column::Receipt {
@@ -50,7 +43,7 @@ fn message_taken(column: &Column) -> Option<Message>
             ssn,
             undone: false,
             ..
-        } => Some(Message {
+        } => Some(MessageName {
             from: *from,
             ssn: *ssn,
         }),
@@ -73,7 +66,7 @@ fn kind_of_arrow(undone: bool) -> ArrowKind
 fn place_of(places: &SendPlaces, from: Member, ssn: u32) -> Option<usize>
     ensures { result ≡ hash_map.get same_message places.now (record { from = from; ssn = ssn }) }
 {
-    let message = Message { from, ssn };
+    let message = MessageName { from, ssn };
     places.get(&message).copied()
 }
 
@@ -127,8 +120,8 @@ fn push_arrow(
 /// Notes that the message of the column at this place, if it is a send, was sent there.
 fn note_send(places: &mut SendPlaces, columns: &[Column], place: usize) -> Result<(), AllocError>
     requires within { place < length columns.now }
-    requires before { (m : Message) → hash_map.get same_message places.old m ≡ sent_before columns.now place m }
-    ensures { OnOk result ((m : Message) → hash_map.get same_message places.new m ≡ sent_before columns.now (place + 1) m) }
+    requires before { (m : MessageName) → hash_map.get same_message places.old m ≡ sent_before columns.now place m }
+    ensures { OnOk result ((m : MessageName) → hash_map.get same_message places.new m ≡ sent_before columns.now (place + 1) m) }
 {
     if let Some(message) = message_sent(&columns[place]) {
         places.insert(message, place)?;
@@ -142,7 +135,7 @@ pub(crate) fn push_arrows(
     alloc: Global,
     columns: &[Column],
 ) -> Result<(), AllocError>
-    ensures { OnOk result (shapes.new.items ≡ shapes.old.items ++ drawn (arrow columns.now) 0 columns.now) }
+    ensures { OnOk result (shapes.new.items ≡ shapes.old.items ++ drawn (receipt_arrow columns.now) 0 columns.now) }
 {
     let mut places = HashMap::new(alloc);
     for (place, column) in columns.iter().enumerate() {
@@ -154,7 +147,7 @@ pub(crate) fn push_arrows(
 
 /// The messages that receipts that stand have taken.
 fn received_in(alloc: Global, columns: &[Column]) -> Result<Received, AllocError>
-    ensures { IfOk result (λ received. (m : Message) → hash_set.contains same_message received m ≡ is_received columns.now m) }
+    ensures { IfOk result (λ received. (m : MessageName) → hash_set.contains same_message received m ≡ has_standing_receipt columns.now m) }
 {
     let mut received = HashSet::new(alloc);
     for column in columns {
@@ -169,7 +162,7 @@ fn received_in(alloc: Global, columns: &[Column]) -> Result<Received, AllocError
 fn is_taken(received: &Received, from: Member, ssn: u32) -> bool
     ensures { result ≡ hash_set.contains same_message received.now (record { from = from; ssn = ssn }) }
 {
-    let message = Message { from, ssn };
+    let message = MessageName { from, ssn };
     received.contains(&message)
 }
 

@@ -1,7 +1,7 @@
 //! The whole picture.
 
 ghost use Rattle.std.specs.Prelude.{◌≡◌, ◌≤◌, IfOk, count_by, string_bytes};
-ghost use Rattle.fbl_show.specs.HistoryPictures.{heading, history_picture, is_receipt, is_undone_receipt, shapes_of};
+ghost use Rattle.fbl_show.specs.HistoryPictures.{history_title, history_picture, is_receipt, is_undone_receipt, history_shapes};
 ghost use Rattle.fbl_shapes.specs.Words.{receipts_word};
 
 use crate::marks::push_marks;
@@ -46,7 +46,7 @@ fn heading_text(
     behaviour: &str,
     columns: &[Column],
 ) -> Result<String, AllocError>
-    ensures { IfOk result (λ text. string_bytes text ≡ heading members f behaviour.now columns.now) }
+    ensures { IfOk result (λ text. string_bytes text ≡ history_title members f behaviour.now columns.now) }
 {
     let made = receipts_made(columns);
     let undone = receipts_undone(columns);
@@ -55,10 +55,10 @@ fn heading_text(
 }
 
 /// What is drawn of a history of so many members.
-#[tactic(auto, unfolding(crate::specs::HistoryPictures::shapes_of))]
+#[tactic(auto, unfolding(crate::specs::HistoryPictures::history_shapes))]
 fn shapes_in(alloc: Global, members: u8, columns: &[Column]) -> Result<Vec<Shape>, AllocError>
     requires { members ≤ 16 }
-    ensures { IfOk result (λ shapes. shapes.items ≡ shapes_of members columns.now) }
+    ensures { IfOk result (λ shapes. shapes.items ≡ history_shapes members columns.now) }
 {
     let mut shapes = Vec::new(alloc);
     push_members(&mut shapes, members, columns)?;

@@ -12,7 +12,7 @@ use Rattle.fbl_base.specs.Steps.{onward}
 use Rattle.fbl_base.specs.declared.outcome.Outcome.{Outcome}
 use Rattle.fbl_law.specs.StepLaws.{AnyNote, HoldsFirst, StepKeeps, StepMakesNone}
 use Rattle.fbl_store.specs.Commands.{amount_in, amount_of, applied, brought, changed, command_of, value_at, values}
-use Rattle.fbl_store.specs.Shards.{HoldsItsOwn, answer, owner, shard_step, silent_at}
+use Rattle.fbl_store.specs.Shards.{HoldsItsOwn, answer, key_owner, shard_step, silent_at}
 use Rattle.fbl_store.specs.declared.command.Command.{Command}
 use Rattle.fbl_store.specs.declared.command.Change.{Change}
 use Rattle.fbl_store.specs.declared.command.Change.TheVariants.{Put, Add}
@@ -82,15 +82,15 @@ pub shard_keeps : (c : Settings) → IsConfig c → StepKeeps shard_step c.membe
 shard_keeps c config me from state note member own any = (at (command_of note.value) refl, λ i default within. tt) where
   at : (read : Option Command) → command_of note.value ≡ read → HoldsItsOwn c me (answer me c.members state note read).state
   at None is = own
-  at (Some command) is = here (owner c.members command.key == me) refl where
+  at (Some command) is = here (key_owner c.members command.key == me) refl where
     passed : Outcome
     passed = onward state ((me + 1) % c.members) note.value note.hops
 
-    here : (its : Bool) → (owner c.members command.key == me) ≡ its → HoldsItsOwn c me (cond its (silent_at (applied command state)) passed).state
+    here : (its : Bool) → (key_owner c.members command.key == me) ≡ its → HoldsItsOwn c me (cond its (silent_at (applied command state)) passed).state
     here false is-not = own
     here true its = λ key within other.
         value-kept command state key (spelled-fits note.value command is)
-        (λ same. other (ap (owner c.members) same ∙ eqb-true (owner c.members command.key) me its))
+        (λ same. other (ap (key_owner c.members) same ∙ eqb-true (key_owner c.members command.key) me its))
         ∙ own key within other
 
 -- no more is added to a value than the amount
@@ -101,7 +101,7 @@ shard_makes_none c config me from state note member own any = at (command_of not
 
   at : (read : Option Command) → command_of note.value ≡ read → weight (answer me c.members state note read) ≤ sum (values state) + amount_in read
   at None is = omega arith
-  at (Some command) is = here (owner c.members command.key == me) (note.hops == 0) where
+  at (Some command) is = here (key_owner c.members command.key == me) (note.hops == 0) where
     passed : Bool → Outcome
     passed last =
         record { state = state; sends = record { items = cond last [] (((me + 1) % c.members, record { value = note.value; hops = note.hops - 1 }) ∷ []) } }

@@ -15,13 +15,13 @@ abbrev pub silent_at : ℕ → Outcome
 silent_at state = record { state = state; sends = record { items = [] } }
 
 -- the member that owns a key
-abbrev pub owner : ℕ → ℕ → ℕ
-owner n key = key % n
+abbrev pub key_owner : ℕ → ℕ → ℕ
+key_owner n key = key % n
 
 -- the owner applies a command to its key, another member passes it on to the next if hops are left, and what spells no command
 -- is dropped
 abbrev pub answer : ℕ → ℕ → ℕ → Note → Option Command → Outcome
-answer me n state note (Some command) = if owner n command.key == me then silent_at (applied command state) else onward state ((me + 1) % n) note.value note.hops
+answer me n state note (Some command) = if key_owner n command.key == me then silent_at (applied command state) else onward state ((me + 1) % n) note.value note.hops
 answer me n state note None = silent_at state
 
 -- what a shard does with the command that a note spells
@@ -30,7 +30,7 @@ shard_step me n state note = answer me n state note (command_of note.value)
 
 -- a state has values only of keys that its member owns
 abbrev pub HoldsItsOwn : Settings → ℕ → ℕ → Type 0
-HoldsItsOwn c me state = (key : ℕ) → key < 8 → owner c.members key ≢ me → value_at state key ≡ 0
+HoldsItsOwn c me state = (key : ℕ) → key < 8 → key_owner c.members key ≢ me → value_at state key ≡ 0
 
 -- the amounts that the starts bring, in all
 abbrev pub amount_brought : Settings → ℕ

@@ -6,7 +6,7 @@
 ghost use Rattle.std.specs.Prelude.{◌≡◌, ℕ, ◌<◌, ◌≤◌, ◌==◌, if◌then◌else◌};
 ghost use Rattle.fbl_law.specs.Groups.{member as record_of};
 ghost use Rattle.fbl_store.specs.Commands.{amount_of, brought, value_at};
-ghost use Rattle.fbl_store.specs.Shards.{amount_brought, owner};
+ghost use Rattle.fbl_store.specs.Shards.{amount_brought, key_owner};
 
 mod command;
 mod shard;
@@ -34,7 +34,7 @@ fn asking(from: Member, to: Member, key: u8, change: Change) -> Start
 /// The value of a key: its owner has it, and another member has none. It is no more than the starts bring.
 fn look_up(group: &Group<Shard>, key: u8) -> u8
     requires { key < 8 }
-    ensures value { (m : ℕ) → m < group.now.config.members → value_at (record_of group.now m).state key ≡ (if m == owner group.now.config.members key then result else 0) }
+    ensures value { (m : ℕ) → m < group.now.config.members → value_at (record_of group.now m).state key ≡ (if m == key_owner group.now.config.members key then result else 0) }
     ensures most { result ≤ amount_brought group.now.config }
 {
     group.kept();

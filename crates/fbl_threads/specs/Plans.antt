@@ -2,7 +2,7 @@
 use Rattle.std.specs.Prelude.{◌==◌, ℕ, Bool, Option, option_map, List}
 use Rattle.std.specs.List.{list_any, find}
 use Rattle.std.specs.FinSet as set
-use Rattle.fbl_law.specs.Knowledge.{Members}
+use Rattle.fbl_base.specs.MemberSets.{Members}
 use Rattle.fbl_base.specs.declared.strike.Strike.{Strike}
 
 -- the set that the plan strikes at this number of receipts, if any

@@ -16,10 +16,10 @@ use Rattle.clap.specs.declared.parser.matches.ArgMatches.{ArgMatches}
 use Rattle.clap.specs.declared.parser.matches.ArgMatches.TheViews.{out-ArgMatches, out-SubCommand}
 use Rattle.clap.specs.declared.parser.matches.SubCommand.{SubCommand}
 use Rattle.clap.proofs.OnLiterals.{clap_on_literals}
+use Rattle.fbl_base.specs.Configs.{WorkersAllowed}
 use Rattle.fblrun.specs.declared.Order.{Order}
 use Rattle.fblrun.specs.CommandLines.{IsCommandLine, is_audit, is_check, is_draw, is_play, is_show, is_show_workers, is_workers, IsOrderAt, IsOrderOf, audit_line, check_line, draw_line}
 use Rattle.fblrun.specs.CommandLines.{flag_text, play_line, program, show_line, with_explain, with_strict}
-use Rattle.fblrun.specs.Orders.{IsWorkerCount}
 
 -- the subcommand that the words behind the program's name give, with what was found of it
 abbrev named : List Text → Option (Text × List Row)
@@ -73,7 +73,7 @@ unfolding clap_on_literals
 show_gives = elim [ true ↦ (refl, refl) | false ↦ (refl, refl) ]
 
 -- a fact of each number of workers
-by_count : (P : ℕ → Type 0) → P 1 → P 2 → P 3 → P 4 → P 5 → P 6 → P 7 → P 8 → (n : ℕ) → IsWorkerCount n → P n
+by_count : (P : ℕ → Type 0) → P 1 → P 2 → P 3 → P 4 → P 5 → P 6 → P 7 → P 8 → (n : ℕ) → WorkersAllowed n → P n
 by_count P a b c d e f g h zero is = absurd (omega (arith, is.0))
 by_count P a b c d e f g h (suc zero) is = a
 by_count P a b c d e f g h (suc (suc zero)) is = b
@@ -94,22 +94,22 @@ WordGives s e word = PlayGives (with_word word play_line) word s e
 abbrev ShowGives : Bool → Text → Type 0
 ShowGives e word = Gives (with_word word show_line) (codes "show") (Some word) None e
 
-digit_gives : (s e : Bool) (n : ℕ) → IsWorkerCount n → WordGives s e ((48 + n) ∷ [])
+digit_gives : (s e : Bool) (n : ℕ) → WorkersAllowed n → WordGives s e ((48 + n) ∷ [])
 unfolding clap_on_literals
 digit_gives true true = by_count (λ n. WordGives true true ((48 + n) ∷ [])) (refl, refl) (refl, refl) (refl, refl) (refl, refl) (refl, refl) (refl, refl) (refl, refl) (refl, refl)
 digit_gives true false = by_count (λ n. WordGives true false ((48 + n) ∷ [])) (refl, refl) (refl, refl) (refl, refl) (refl, refl) (refl, refl) (refl, refl) (refl, refl) (refl, refl)
 digit_gives false true = by_count (λ n. WordGives false true ((48 + n) ∷ [])) (refl, refl) (refl, refl) (refl, refl) (refl, refl) (refl, refl) (refl, refl) (refl, refl) (refl, refl)
 digit_gives false false = by_count (λ n. WordGives false false ((48 + n) ∷ [])) (refl, refl) (refl, refl) (refl, refl) (refl, refl) (refl, refl) (refl, refl) (refl, refl) (refl, refl)
 
-workers_gives : (s e : Bool) (n : ℕ) → IsWorkerCount n → WordGives s e (decimal n)
+workers_gives : (s e : Bool) (n : ℕ) → WorkersAllowed n → WordGives s e (decimal n)
 workers_gives s e n is = subst (WordGives s e) (sym (decimal_digit n (omega (arith, is.1)))) (digit_gives s e n is)
 
-digit_shows : (e : Bool) (n : ℕ) → IsWorkerCount n → ShowGives e ((48 + n) ∷ [])
+digit_shows : (e : Bool) (n : ℕ) → WorkersAllowed n → ShowGives e ((48 + n) ∷ [])
 unfolding clap_on_literals
 digit_shows true = by_count (λ n. ShowGives true ((48 + n) ∷ [])) (refl, refl) (refl, refl) (refl, refl) (refl, refl) (refl, refl) (refl, refl) (refl, refl) (refl, refl)
 digit_shows false = by_count (λ n. ShowGives false ((48 + n) ∷ [])) (refl, refl) (refl, refl) (refl, refl) (refl, refl) (refl, refl) (refl, refl) (refl, refl) (refl, refl)
 
-show_workers_gives : (e : Bool) (n : ℕ) → IsWorkerCount n → ShowGives e (decimal n)
+show_workers_gives : (e : Bool) (n : ℕ) → WorkersAllowed n → ShowGives e (decimal n)
 show_workers_gives e n is = subst (ShowGives e) (sym (decimal_digit n (omega (arith, is.1)))) (digit_shows e n is)
 
 -- ---- refusals

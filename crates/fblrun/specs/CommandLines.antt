@@ -4,9 +4,9 @@ use Rattle.clap.specs.Simple.{on_top}
 use Rattle.clap.specs.Words.{App, Row, Rule, Text, new_app, new_rule, one_of, with_rule, with_subcommand}
 use Rattle.clap.specs.declared.builder.ArgAction.TheVariants.{Set, SetTrue}
 use Rattle.clap.specs.declared.builder.value_parser.ValueParser.TheVariants as parsers
+use Rattle.fbl_base.specs.Configs.{WorkersAllowed}
 use Rattle.fblrun.specs.declared.Order.{Order}
 use Rattle.fblrun.specs.declared.Task.TheVariants.{Play, Show, Audit, Check, Draw}
-use Rattle.fblrun.specs.Orders.{IsWorkerCount}
 
 -- ---- what the parser of command lines is told
 
@@ -88,9 +88,9 @@ pub data IsCommandLine (words : List Text) : Type 0 where
   is_check : IsLine words check_line → IsCommandLine words
   is_draw : IsLine words draw_line → IsCommandLine words
   is_play : (strict : Bool) → IsLine words (with_strict strict play_line) → IsCommandLine words
-  is_workers : (strict : Bool) (n : ℕ) → IsWorkerCount n → IsLine words (with_strict strict (with_workers n play_line)) → IsCommandLine words
+  is_workers : (strict : Bool) (n : ℕ) → WorkersAllowed n → IsLine words (with_strict strict (with_workers n play_line)) → IsCommandLine words
   is_show : IsLine words show_line → IsCommandLine words
-  is_show_workers : (n : ℕ) → IsWorkerCount n → IsLine words (with_workers n show_line) → IsCommandLine words
+  is_show_workers : (n : ℕ) → WorkersAllowed n → IsLine words (with_workers n show_line) → IsCommandLine words
 
 -- the order is that of the words, if they are one of these: where no number of workers is said there are 2
 pub record IsOrderOf (words : List Text) (order : Order) : Type 0 where
@@ -99,10 +99,10 @@ pub record IsOrderOf (words : List Text) (order : Order) : Type 0 where
   pub draw : (explain : Bool) → drop 1 words ≡ with_explain explain draw_line → order ≡ record { task = Draw; explain = explain }
   pub play : (strict explain : Bool) → drop 1 words ≡ with_explain explain (with_strict strict play_line)
       → order ≡ record { task = Play 2 strict; explain = explain }
-  pub workers : (strict explain : Bool) (n : ℕ) → IsWorkerCount n → drop 1 words ≡ with_explain explain (with_strict strict (with_workers n play_line))
+  pub workers : (strict explain : Bool) (n : ℕ) → WorkersAllowed n → drop 1 words ≡ with_explain explain (with_strict strict (with_workers n play_line))
       → order ≡ record { task = Play n strict; explain = explain }
   pub show : (explain : Bool) → drop 1 words ≡ with_explain explain show_line → order ≡ record { task = Show 2; explain = explain }
-  pub show_workers : (explain : Bool) (n : ℕ) → IsWorkerCount n → drop 1 words ≡ with_explain explain (with_workers n show_line)
+  pub show_workers : (explain : Bool) (n : ℕ) → WorkersAllowed n → drop 1 words ≡ with_explain explain (with_workers n show_line)
       → order ≡ record { task = Show n; explain = explain }
 
 -- ---- what a subcommand's arguments say

@@ -1,7 +1,8 @@
 -- What the program leaves in its writer, and its exit status, by the order that it is given.
-use Rattle.std.specs.Prelude.{◌≡◌, ℕ, ◌≤◌, ◌⊎◌, ◌&&◌, not, Bool, true, false, List, Option, Result, Ok, Err}
+use Rattle.std.specs.Prelude.{◌≡◌, ℕ, ◌⊎◌, ◌&&◌, not, Bool, true, false, List, Option, Result, Ok, Err}
 use Rattle.std.specs.List.{list_any}
 use Rattle.std.specs.Io.KnownBytes.{Keeps}
+use Rattle.fbl_base.specs.Configs.{WorkersAllowed}
 use Rattle.fbl_input.specs.declared.fault.RunFault.{RunFault}
 use Rattle.fbl_input.specs.Faults.{FailsToRead}
 use Rattle.fbl_draw.specs.Drawing.{Draws}
@@ -17,10 +18,6 @@ use Rattle.fblrun.specs.declared.Task.{Task}
 use Rattle.fblrun.specs.declared.Task.TheVariants.{Play, Show, Audit, Check, Draw}
 use Rattle.fblrun.specs.Showing.{Shows}
 use Rattle.fblrun.specs.Statuses.{status_after}
-
--- so many workers can make a run
-abbrev pub IsWorkerCount : ℕ → Type 0
-IsWorkerCount workers = (1 ≤ workers) × (workers ≤ 8)
 
 -- this holds of the answer, and the exit status is that of the answer
 abbrev pub EndsAfter : (Result Bool RunFault → Type 0) → ℕ → Type 0
@@ -47,8 +44,8 @@ ChecksWell input before after (Err e) = Checks input before after (Err e)
 
 -- the task can be done
 abbrev pub CanBeDone : Task → Type 0
-CanBeDone (Play workers strict) = IsWorkerCount workers
-CanBeDone (Show workers) = IsWorkerCount workers
+CanBeDone (Play workers strict) = WorkersAllowed workers
+CanBeDone (Show workers) = WorkersAllowed workers
 CanBeDone _ = Unit {0}
 
 -- what is left in the writer where the task is answered so over these bytes
@@ -66,7 +63,7 @@ ReadsAndAnswersTask task input before after result = FailsToRead before after re
 -- so many workers do a task; where there can't be so many, the command line has a fault, and nothing is written
 abbrev pub IsDoneBy : ℕ → (ℕ → Type 0) → Option (List ℕ) → Option (List ℕ) → ℕ → Type 0
 IsDoneBy workers Ends before after status =
-    (IsWorkerCount workers × Ends status) ⊎ (¬ (IsWorkerCount workers) × (status ≡ 2) × Keeps before after)
+    (WorkersAllowed workers × Ends status) ⊎ (¬ (WorkersAllowed workers) × (status ≡ 2) × Keeps before after)
 
 -- what is left in the writer, and the exit status, where the task is done over an input
 abbrev pub Does : Task → List ℕ → Option (List ℕ) → Option (List ℕ) → ℕ → Type 0

@@ -2,9 +2,10 @@
 #![tactic(auto)]
 
 ghost use Rattle.std.specs.Prelude.{◌≡◌, ◌&&◌, not, IfSome};
-ghost use Rattle.fblrun.specs.Orders.{AnswersTask, CanBeDone, ChecksWell, EndsAfter, IsWellDone, IsWorkerCount, Obeys, PlaysWell, ReadsAndAnswersTask};
+ghost use Rattle.fbl_base.specs.Configs.{WorkersAllowed};
+ghost use Rattle.fblrun.specs.Orders.{AnswersTask, CanBeDone, ChecksWell, EndsAfter, IsWellDone, Obeys, PlaysWell, ReadsAndAnswersTask};
 ghost use Rattle.fblrun.specs.Showing.{Shows};
-ghost use Rattle.fblrun.specs.Statuses.{status_after as status_after_result, status_of as status_of_fault};
+ghost use Rattle.fblrun.specs.Statuses.{status_after as status_after_result, fault_status};
 
 mod command_line;
 mod showing;
@@ -73,7 +74,7 @@ struct Order {
 
 /// The exit status of a fault.
 fn status_of(fault: &RunFault) -> u8
-    ensures { result ≡ status_of_fault fault.now }
+    ensures { result ≡ fault_status fault.now }
 {
     match fault {
         RunFault::Read | RunFault::Write => CHANNEL_FAULT,
@@ -165,7 +166,7 @@ fn play_well<T: Eprint + Threads + Wait + Sync, W: Write>(
     input: &[u8],
     writer: &mut W,
 ) -> Result<bool, RunFault>
-    requires { IsWorkerCount workers }
+    requires { WorkersAllowed workers }
     ensures { PlaysWell workers strict input.now (W.contents writer.old) (W.contents writer.new) result }
 {
     let mut teller = Teller::new(rt, explain);
@@ -184,7 +185,7 @@ fn show_all<T: Eprint + Threads + Wait + Sync, W: Write>(
     input: &[u8],
     writer: &mut W,
 ) -> Result<(), RunFault>
-    requires { IsWorkerCount workers }
+    requires { WorkersAllowed workers }
     ensures { Shows workers input.now (W.contents writer.old) (W.contents writer.new) result }
 {
     let mut teller = Teller::new(rt, explain);

@@ -2,7 +2,7 @@ use Rattle.std.proofs.Common.{◌≡◌, ℕ, zero, suc, ◌<◌, ◌≤◌, ◌
 use Rattle.std.proofs.lemmas.Bool.{cases_lt}
 use Rattle.std.proofs.lemmas.Bool.Decides.{nat_tests}
 use Rattle.fbl_base.specs.Configs.{Settings}
-use Rattle.fbl_law.specs.Groups.{member, checkpoint, sum_below}
+use Rattle.fbl_law.specs.Groups.{member, member_checkpoint, sum_below}
 use Rattle.fbl_election.specs.Elections.{greatest, has_greatest, brought-most, taken-most}
 use Rattle.fbl_election.proofs.elected.Goals as goal
 
@@ -31,7 +31,7 @@ returns-clause-most c =
     let held = c.kept.ensures in
     record {
       states = λ m below. taken-most r.config m (member r m).state (held.states m below);
-      checkpoints = λ m below. taken-most r.config m (checkpoint r m).state (held.checkpoints m below);
+      checkpoints = λ m below. taken-most r.config m (member_checkpoint r m).state (held.checkpoints m below);
       flying = λ v flies. brought-most r.config v.note.value (held.flying v flies).0;
       sent = λ i from ssn to note at. brought-most r.config note.value (held.sent i from ssn to note at).0;
     }

@@ -3,9 +3,10 @@ use Rattle.std.specs.List.{flat_map, range_with_len}
 use Rattle.std.specs.FinSet as set
 use Rattle.std.proofs.lemmas.List.{take_all}
 use Rattle.std.proofs.lemmas.List.FromFn.{length-range_with_len}
+use Rattle.fbl_base.proofs.Numbers.{rows_more}
 use Rattle.fbl_shapes.specs.declared.shape.Shape.{Shape}
 use Rattle.fbl_draw.specs.Members.{shapes_of_member}
-use Rattle.fbl_draw.proofs.Rows.{row_same, rows_more}
+use Rattle.fbl_draw.proofs.Rows.{row_same}
 use Rattle.fbl_draw.proofs.members.push_members.Goals as goal
 use Rattle.fbl_draw.proofs.members.push_members.Goals.{in-Some+in_ok-push_member, in_default}
 

@@ -1,7 +1,7 @@
 use Rattle.std.proofs.Common.{◌≡◌, ◌+◌, inl, inr, length-append, sym, ap, ◌∙◌}
+use Rattle.fbl_base.proofs.Numbers.{is_number}
 use Rattle.fbl_base.proofs.Gets.{At-push}
 use Rattle.fbl_draw.specs.Paths.{IsPathDrawn}
-use Rattle.fbl_draw.proofs.Rows.{is_number}
 use Rattle.fbl_draw.proofs.paths.paths_of.Goals as goal
 
 pub loop-number-preserved : goal.loop-number-preserved

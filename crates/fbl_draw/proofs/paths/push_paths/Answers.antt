@@ -2,9 +2,9 @@ use Rattle.std.proofs.Common.{ℕ, ◌<◌, List, ◌++◌, ap, ◌∙◌, arith
 use Rattle.std.specs.List.{flat_map, range_with_len}
 use Rattle.std.proofs.lemmas.List.{take_all}
 use Rattle.std.proofs.lemmas.List.FromFn.{length-range_with_len}
+use Rattle.fbl_base.proofs.Numbers.{rows_more}
 use Rattle.fbl_shapes.specs.declared.shape.Shape.{Shape}
 use Rattle.fbl_draw.specs.Paths.{path_shapes, places_in}
-use Rattle.fbl_draw.proofs.Rows.{rows_more}
 use Rattle.fbl_draw.proofs.paths.push_paths.Goals as goal
 
 pub loop-number-preserved : goal.loop-number-preserved

@@ -4,7 +4,7 @@ use Rattle.fbl_base.specs.Audit.{lost_determinants}
 use Rattle.fbl_shapes.specs.declared.shape.Legend.TheVariants.{Dump}
 use Rattle.fbl_shapes.specs.Pictures.{picture}
 use Rattle.fbl_draw.specs.Paths.{IsPathDrawn, places_in}
-use Rattle.fbl_draw.specs.Pictures.{shapes_of, title}
+use Rattle.fbl_draw.specs.Pictures.{dump_shapes, title}
 use Rattle.fbl_draw.proofs.Rows.{each_path}
 use Rattle.fbl_draw.proofs.picture.dump_picture.Goals as goal
 
@@ -23,8 +23,8 @@ returns c =
     let heading : c.as_str.result.now ≡ title dump (length (lost_determinants dump)) orphans = c.as_str.ensures.value ∙ c.in_ok-title.ensures ∙ ap (λ n. title dump n orphans) lost in
     let members : c.members.result ≡ dump.members = c.members.ensures in
     let columns : length c.events-columns.result.now ≡ length dump.events = ap length c.events-columns.ensures.events in
-    let made : c.in_ok-shapes.shapes.items ≡ shapes_of dump starts (places_in c.as_slice.result.now) = (rw is at c.in_ok-shapes.ensures) in
-    let shapes : c.as_slice-2.result.now ≡ shapes_of dump starts paths = c.as_slice-2.ensures.value ∙ made ∙ ap (λ l. shapes_of dump starts (places_in l)) c.as_slice.ensures.value in
+    let made : c.in_ok-shapes.shapes.items ≡ dump_shapes dump starts (places_in c.as_slice.result.now) = (rw is at c.in_ok-shapes.ensures) in
+    let shapes : c.as_slice-2.result.now ≡ dump_shapes dump starts paths = c.as_slice-2.ensures.value ∙ made ∙ ap (λ l. dump_shapes dump starts (places_in l)) c.as_slice.ensures.value in
     IfOk-weaker c.picture_text.result _ _ (λ text drawn_text. (
       orphans,
       (rw is at c.orphans.ensures),

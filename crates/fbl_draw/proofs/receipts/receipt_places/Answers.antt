@@ -1,7 +1,7 @@
-use Rattle.fbl_draw.specs.declared.receipts.Message.{Message}
+use Rattle.fbl_base.specs.Events.{same_message}
+use Rattle.fbl_base.specs.declared.trace.MessageName.{MessageName}
 use Rattle.std.proofs.Common.{ℕ, Option, ◌<◌, ◌∙◌, sym, arith, length}
 use Rattle.std.specs.HashMap as hash_map
-use Rattle.fbl_draw.specs.Receipts.{same_message}
 use Rattle.fbl_draw.proofs.Indexing.{no_message, old_message, new_message}
 use Rattle.fbl_draw.proofs.receipts.receipt_places.Goals as goal
 use Rattle.fbl_draw.proofs.receipts.receipt_places.Goals.{in-Some+then-not-contains_key+in_ok-insert, in-Some+else-not-contains_key, in_default}
@@ -11,7 +11,7 @@ loop-place-preserved c =
     let events = c.events-events.result.now in
     let i = c.loop-place.place in
     let e = c.index-events-place.result in
-    let old : Message → Option ℕ = λ m. hash_map.get same_message c.loop-place.places m in
+    let old : MessageName → Option ℕ = λ m. hash_map.get same_message c.loop-place.places m in
     let within : i < length events = omega arith in
     elim c.match-message_taken.branch [
       | in-Some+then-not-contains_key+in_ok-insert w ↦

@@ -1,9 +1,9 @@
-use Rattle.std.proofs.Common.{◌≡◌, ◌<◌, ℕ, true, false, Option, Some, None, arith, ap, sym, ◌∙◌}
+use Rattle.std.proofs.Common.{◌≡◌, true, false, arith, ap, sym, ◌∙◌}
 use Rattle.std.specs.FinSet as set
-use Rattle.std.specs.Option.{SomeIff}
+use Rattle.fbl_base.proofs.Numbers.{is_number}
 use Rattle.fbl_base.specs.Audit.{IsDump}
 use Rattle.fbl_base.specs.Events.{At, receipt_of}
-use Rattle.fbl_base.specs.Places.{Depends}
+use Rattle.fbl_base.specs.Places.{DependsOnPlace}
 use Rattle.fbl_base.specs.Precedence.{Has}
 use Rattle.fbl_base.proofs.Gets.{At-below}
 use Rattle.fbl_audit.specs.Checking.{IsLeftOrphan}
@@ -21,10 +21,6 @@ pub of-requires : goal.of-requires
 of-requires c =
     let at : At c.args.dump.now.events c.in-Some.place (receipt_of c.args.determinant.now) = rw c.events.ensures.events at c.in-Some.ensures in
     At-below c.args.dump.now.events c.in-Some.place (receipt_of c.args.determinant.now) at
-
-is_number : (o : Option ℕ) (x n : ℕ) → SomeIff o (n < 16) n → o ≡ Some x → x ≡ n
-is_number None x n iff is = cc
-is_number (Some y) x n iff is = (let e : y ≡ x = cc in sym e ∙ iff.1)
 
 pub loop-number-init : goal.loop-number-init
 loop-number-init c = rw c.new-orphans.ensures.items (PathsBy-none c.args.dump.now c.args.determinant.now c.args.strike)
@@ -48,7 +44,7 @@ loop-number-preserved c =
           let more = PathsBy-more dump d strike n c.loop-number.orphans.items _ orphan left (i, at, found) c.loop-number.invariant in
           rw (w.orphans-is, w.in_ok-push.ensures.items) more
       | then-not-has+in_ok-places+in_default-2 w ↦
-          let none : ¬ (Depends dump.events n i) = rw (w.in_default-2.is, orphan, origin) at w.in_ok-places.ensures.to_all in
+          let none : ¬ (DependsOnPlace dump.events n i) = rw (w.in_default-2.is, orphan, origin) at w.in_ok-places.ensures.to_all in
           rw w.orphans-is (PathsBy-same dump d strike n c.loop-number.orphans.items (not_left dump d strike i n rules.events at none) c.loop-number.invariant)
       | else-not-has w ↦
           let struck : set.contains strike n ≡ true = ap (set.contains strike) (sym orphan) ∙ sym c.has.ensures ∙ w.if-not-has.false in

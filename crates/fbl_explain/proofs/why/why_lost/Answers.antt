@@ -1,8 +1,8 @@
 use Rattle.std.proofs.Common.{◌≡◌, take, arith, ap, ◌∙◌}
 use Rattle.std.proofs.lemmas.List.{take_all}
+use Rattle.fbl_base.specs.MemberSets.{Members}
 use Rattle.fbl_base.specs.declared.trace.Determinant.{Determinant}
 use Rattle.fbl_base.specs.Audit.{lost_determinants}
-use Rattle.fbl_audit.specs.Dependents.{Members}
 use Rattle.fbl_explain.specs.Whys.{IsReasonOf}
 use Rattle.fbl_explain.proofs.Whys.{TellsOf-more, TellsOf-none}
 use Rattle.fbl_explain.proofs.why.why_lost.Goals as goal

@@ -1,5 +1,5 @@
 use Rattle.std.proofs.Common.{◌≡◌, sym, ◌∙◌, arith, None, Some}
-use Rattle.fbl_law.specs.GroupSteps.{message_of}
+use Rattle.fbl_law.specs.GroupSteps.{message_of_send}
 use Rattle.fbl_group.specs.Channels.{rows}
 use Rattle.fbl_group.proofs.Queues.{written-shape}
 use Rattle.fbl_group.proofs.Starting.{event-ends, sent-more, sent-none}
@@ -22,7 +22,7 @@ pub loop-event-preserved : goal.loop-event-preserved
 loop-event-preserved g c =
     elim c.match-message.branch [
       | in-Some+in_ok-send w ↦
-          let is : message_of c.event-item.result ≡ Some w.in-Some.wire = sym c.message.ensures ∙ w.in-Some.is in
+          let is : message_of_send c.event-item.result ≡ Some w.in-Some.wire = sym c.message.ensures ∙ w.in-Some.is in
           let ends = event-ends c.args.n c.args.events.now c.loop-event.event-index c.event-item.result w.in-Some.wire c.requires.rules c.loop-event-test.true c.event-item.is is in
           let put = w.in_ok-send.ensures in
           rw w.channels-is (record {
@@ -31,7 +31,7 @@ loop-event-preserved g c =
                 w.in-Some.wire c.loop-event.invariant.shape ends.0 ends.1 c.loop-event-test.true c.event-item.is is put (c.loop-event.invariant.sent q p);
           })
       | in_default w ↦
-          let is : message_of c.event-item.result ≡ None = sym c.message.ensures ∙ w.in_default.is in
+          let is : message_of_send c.event-item.result ≡ None = sym c.message.ensures ∙ w.in_default.is in
           rw w.channels-is (record {
             shape = c.loop-event.invariant.shape;
             sent = λ q p. sent-none q p (rows c.args.channels.now) (rows c.loop-event.channels) c.args.events.now c.loop-event.event-index c.event-item.result c.loop-event-test.true

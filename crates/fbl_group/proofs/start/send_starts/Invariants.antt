@@ -1,6 +1,6 @@
 use Rattle.std.proofs.Common.{◌≡◌, ℕ, ◌++◌, take}
 use Rattle.std.specs.List.{filter_map}
-use Rattle.fbl_law.specs.GroupSteps.{message_of}
+use Rattle.fbl_law.specs.GroupSteps.{message_of_send}
 use Rattle.fbl_law.specs.Steps.{between}
 use Rattle.fbl_law.specs.Groups.{HasChannels, channel_in}
 use Rattle.fbl_group.specs.Channels.{rows}
@@ -9,5 +9,5 @@ use Rattle.fbl_group.proofs.start.send_starts.Given as goal
 abbrev pub invariant-loop-event : goal.invariant-loop-event
 invariant-loop-event g l = record {
   shape : HasChannels l.n (rows l.channels);
-  sent : (q p : ℕ) → channel_in (rows l.channels) q p ≡ channel_in (rows l.fn.channels) q p ++ between q p (filter_map message_of (take l.event-index l.events));
+  sent : (q p : ℕ) → channel_in (rows l.channels) q p ≡ channel_in (rows l.fn.channels) q p ++ between q p (filter_map message_of_send (take l.event-index l.events));
 }

@@ -1,21 +1,15 @@
-use Rattle.std.proofs.Common.{◌≡◌, ℕ, ◌<◌, Option, Some, None, sym, ap, ◌∙◌, arith}
-use Rattle.std.specs.Option.{SomeIff}
+use Rattle.std.proofs.Common.{◌≡◌, ℕ, ap, ◌∙◌, arith}
+use Rattle.fbl_base.proofs.Numbers.{is_number}
 use Rattle.fbl_base.specs.Configs.{Settings}
 use Rattle.fbl_member.specs.Members.{MemberRecord, blank, fresh}
 use Rattle.fbl_group.proofs.Queues.{made-more}
 use Rattle.fbl_history.proofs.Following.{fresh-replayed}
 use Rattle.fbl_history.proofs.states.fresh_members.Goals as goal
 
--- the member made of a number below sixteen has that number
-is_number : (o : Option ℕ) (x k : ℕ) → SomeIff o (k < 16) k → k < 16 → o ≡ Some x → x ≡ k
-is_number None x k made below is = absurd (made below)
-is_number (Some y) x k made below is = (let e : y ≡ x = cc in sym e ∙ made.1)
-
 pub loop-number-preserved : goal.loop-number-preserved
 loop-number-preserved g c =
     let member : c.unwrap-member.result ≡ c.loop-number.number =
-    is_number c.new.result _ c.loop-number.number c.new.ensures
-    (omega (arith, c.loop-number-test.true, c.members-number-end.ensures.rules.members.1)) c.unwrap-member.ensures in
+    is_number c.new.result _ c.loop-number.number c.new.ensures c.unwrap-member.ensures in
     let is : c.in_ok-fresh.field-0 ≡ fresh c.loop-number.number c.args.group.now.config.starts =
     c.in_ok-fresh.ensures ∙ ap (λ (x : Settings). fresh c.unwrap-member.result x.starts) c.config-config.ensures
     ∙ ap (λ (m : ℕ). fresh m c.args.group.now.config.starts) member in

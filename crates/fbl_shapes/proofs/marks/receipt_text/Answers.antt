@@ -1,8 +1,8 @@
-use Rattle.fbl_shapes.specs.Marks.{receipt_mark}
+use Rattle.fbl_shapes.specs.Marks.{drawn_receipt}
 use Rattle.fbl_shapes.proofs.marks.receipt_text.Goals as goal
 
 pub returns : goal.returns
-unfolding receipt_mark
+unfolding drawn_receipt
 returns c =
     rw (c.in_ok-push_str-3.ensures.bytes, c.in_ok-push_str-2.ensures.bytes, c.in_ok-write.ensures.bytes, c.in_ok-push_str.ensures.bytes) (
     rw (c.in_ok-text.ensures.ok, c.as_str.ensures.value, c.in_ok-title.ensures, c.as_str-2.ensures.value, c.in_ok-cross.ensures, c.as_str-4.ensures.value, c.in_ok-number.ensures) (

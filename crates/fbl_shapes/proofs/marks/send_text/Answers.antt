@@ -1,8 +1,8 @@
-use Rattle.fbl_shapes.specs.Marks.{send_mark}
+use Rattle.fbl_shapes.specs.Marks.{drawn_send}
 use Rattle.fbl_shapes.proofs.marks.send_text.Goals as goal
 
 pub returns : goal.returns
-unfolding send_mark
+unfolding drawn_send
 returns c =
     rw (c.in_ok-push_str-2.ensures.bytes, c.in_ok-push_str.ensures.bytes, c.in_ok-write.ensures.bytes, c.in_ok-text.ensures.ok) (
     rw (c.as_str.ensures.value, c.in_ok-cross.ensures, c.as_str-3.ensures.value, c.in_ok-number.ensures, c.as_str-2.ensures.value, c.in_ok-words.ensures.ok) (

@@ -1,7 +1,7 @@
 use Rattle.std.proofs.Common.{◌≡◌, ◌++◌, drop}
-use Rattle.fbl_show.specs.Marks.{mark}
+use Rattle.fbl_show.specs.Marks.{column_marks}
 use Rattle.fbl_show.specs.Places.{drawn}
 use Rattle.fbl_show.proofs.marks.push_marks.Given as goal
 
 abbrev pub invariant-loop-place : goal.invariant-loop-place
-invariant-loop-place l = l.shapes.items ++ drawn mark l.place (drop l.place l.columns) ≡ l.initial.shapes.items ++ drawn mark 0 l.columns
+invariant-loop-place l = l.shapes.items ++ drawn column_marks l.place (drop l.place l.columns) ≡ l.initial.shapes.items ++ drawn column_marks 0 l.columns

@@ -1,7 +1,7 @@
 use Rattle.std.proofs.Common.{◌≡◌, None, inl, inr, length, refl, arith, sym, ◌∙◌}
 use Rattle.std.proofs.lemmas.Option.{slice_get_read}
 use Rattle.fbl_base.specs.Events.{At}
-use Rattle.fbl_base.specs.Places.{Precedes}
+use Rattle.fbl_base.specs.Places.{PlacePrecedes}
 use Rattle.fbl_base.specs.Rules.{WellFormed}
 use Rattle.fbl_audit.specs.Paths.{IsBefore}
 use Rattle.fbl_audit.proofs.Following.{member_within}
@@ -23,7 +23,7 @@ loop-later-preserved c =
     let here : IsBefore t i p o = rw c.before-before.ensures (before_right t i p _ _ e at within c.loop-later.invariant.knows) in
     elim c.if-is_some.branch [
       | then-is_some+in_ok-add w ↦
-          let pr : Precedes t i p = comes t i p e o at here (elim w.then-is_some.branch [
+          let pr : PlacePrecedes t i p = comes t i p e o at here (elim w.then-is_some.branch [
             | then-is_some-via-then-is_some w' ↦ inl (some_of o (sym c.is_some.ensures ∙ w'.if-is_some.true))
             | then-is_some-via-else-is_some+then-later-place w' ↦ inr w'.if-later-place.true
           ]) in

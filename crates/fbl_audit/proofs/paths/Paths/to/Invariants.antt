@@ -1,11 +1,11 @@
 use Rattle.std.proofs.Common.{reverse}
-use Rattle.fbl_base.specs.Places.{Precedes}
+use Rattle.fbl_base.specs.Places.{PlacePrecedes}
 use Rattle.fbl_audit.specs.Paths.{IsPath}
 use Rattle.fbl_audit.proofs.paths.Paths.to.Given as goal
 
 abbrev pub invariant-loop-before : goal.invariant-loop-before
 invariant-loop-before l = record {
-  depends : Precedes l.self.events l.self.place l.place;
+  depends : PlacePrecedes l.self.events l.self.place l.place;
   path : IsPath l.self.events l.place l.end (reverse l.path.items);
 }
 

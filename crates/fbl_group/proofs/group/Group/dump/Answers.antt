@@ -1,5 +1,5 @@
 use Rattle.std.proofs.Common.{◌≡◌, ℕ, sym, subst, ap, ◌∙◌}
-use Rattle.fbl_base.specs.Audit.{Parts, IsDump, IsOrphan}
+use Rattle.fbl_base.specs.Audit.{Parts, IsDump, IsDumpOrphan}
 use Rattle.fbl_base.specs.MemberSets.{AllBelow}
 use Rattle.fbl_law.specs.Groups.{GroupRecord}
 use Rattle.fbl_law.specs.Sound.{IsSound}
@@ -19,4 +19,4 @@ pub returns-in-Ok-clause-no_orphan : goal.returns-in-Ok-clause-no_orphan
 returns-in-Ok-clause-no_orphan g c covers few m =
     let sound : IsSound g.B.Behaviour.next c.args.self.now = rw (← c.self.view_is) c.self.invariant in
     let none = dump_has_no_orphan g.B.Behaviour.next c.args.self.now c.args.strike m sound covers few in
-    subst (λ (d : Parts). ¬ (IsOrphan d m)) (sym (c.lawful.ensures ∙ c.in-Ok.ensures.parts)) none
+    subst (λ (d : Parts). ¬ (IsDumpOrphan d m)) (sym (c.lawful.ensures ∙ c.in-Ok.ensures.parts)) none

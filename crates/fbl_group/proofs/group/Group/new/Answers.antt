@@ -6,7 +6,7 @@ use Rattle.fbl_base.specs.declared.trace.Start.{Start}
 use Rattle.fbl_member.specs.Members.{Message}
 use Rattle.fbl_law.specs.Steps.{between}
 use Rattle.fbl_law.specs.Groups.{HasChannels}
-use Rattle.fbl_law.specs.GroupSteps.{IsGroupStart, start_events, message_of}
+use Rattle.fbl_law.specs.GroupSteps.{IsGroupStart, start_events, message_of_send}
 use Rattle.fbl_law.proofs.GroupStart.{starts-obey, group_start_is_sound}
 use Rattle.fbl_group.specs.Channels.{rows}
 use Rattle.fbl_group.proofs.Queues.{none-shape, none-in}
@@ -40,8 +40,8 @@ made g c = record {
   parameters = refl;
   trace = c.in_ok-trace.ensures ∙ ap (λ (ss : List Start). start_events [] ss) c.starts.ensures;
   shape = subst (λ k. HasChannels k (rows c.send_starts.new.channels)) c.members-2.ensures.value c.in_ok-send_starts.ensures.shape;
-  channels = λ q p. c.in_ok-send_starts.ensures.sent q p ∙ ap (λ (vs : List Message). vs ++ between q p (filter_map message_of c.deref.result.now))
-      (none-in c.members.result (rows c.in_ok-channels.channels) q p c.in_ok-channels.ensures) ∙ ap (λ (es : List Event). between q p (filter_map message_of es)) c.deref.ensures.value;
+  channels = λ q p. c.in_ok-send_starts.ensures.sent q p ∙ ap (λ (vs : List Message). vs ++ between q p (filter_map message_of_send c.deref.result.now))
+      (none-in c.members.result (rows c.in_ok-channels.channels) q p c.in_ok-channels.ensures) ∙ ap (λ (es : List Event). between q p (filter_map message_of_send es)) c.deref.ensures.value;
   size = c.in_ok-members.ensures.size;
   members = c.in_ok-members.ensures.fresh;
   checkpoints = c.in_ok-checkpoints.ensures.size;
