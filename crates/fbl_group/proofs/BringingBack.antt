@@ -209,10 +209,10 @@ module _ (next : Next) {old now : GroupRecord} {rebuilt : List MemberRecord} (so
     short-rest is = omega (arith, ap length (is ∙ cut-left), few-left next old sound rebuilt ready)
 
     -- its receipts, counted before and after
-    module _ {before after : ℕ} {first last : List Event} (counts_first : before ≡ length (receipts (map mark_of first)))
-        (is_first : first ≡ old.trace) (counts_last : after ≡ length (receipts (map mark_of last))) (is_last : last ≡ rest) where
-      first-counted : before ≡ length (receipts (map mark_of old.trace))
-      first-counted = counts_first ∙ ap (λ (es : List Event). length (receipts (map mark_of es))) is_first
+    module _ {before after : ℕ} {last : List Event} (counts_first : before ≡ length (receipts (marks now)))
+        (counts_last : after ≡ length (receipts (map mark_of last))) (is_last : last ≡ rest) where
+      first-counted : before ≡ length (receipts (marks old))
+      first-counted = counts_first ∙ ap (λ (r : GroupRecord). length (receipts (marks r))) (sym view)
 
       last-counted : after ≡ length (receipts (map mark_of (left next old sound rebuilt ready)))
       last-counted = counts_last ∙ ap (λ (es : List Event). length (receipts (map mark_of es))) (is_last ∙ cut-left)

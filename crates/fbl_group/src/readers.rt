@@ -4,7 +4,7 @@ ghost use Rattle.std.specs.Prelude.{◌≡◌, ℕ, ◌<◌, ◌≤◌, ◌+◌,
 ghost use Rattle.fbl_base.specs.MemberSets.{AllBelow};
 ghost use Rattle.fbl_base.specs.Fold.{state_after};
 ghost use Rattle.fbl_law.specs.Knowledge.{IsOrphan, IsUp, IsDown};
-ghost use Rattle.fbl_law.specs.Groups.{channel as channel_of, messages_in_flight as messages_in_flight_of, knowledge, member as record_of};
+ghost use Rattle.fbl_law.specs.Groups.{channel as channel_of, messages_in_flight as messages_in_flight_of, knowledge, marks, member as record_of, receipts};
 ghost use Rattle.std.specs.FinSet as set;
 ghost use Rattle.fbl_law.specs.Sound.{IsSound, received_notes};
 ghost use Rattle.fbl_law.specs.StepLaws.{weight_held, weight_flying};
@@ -137,7 +137,7 @@ impl<B: Behaviour, A: Allocator + Copy> Group<B, A> {
         if self.down.count() == 0 {
             self.unreceived()
         } else {
-            self.channels.count_messages(self.config.members())
+            self.channels.contents(self.config.members()).messages
         }
     }
 
@@ -146,15 +146,21 @@ impl<B: Behaviour, A: Allocator + Copy> Group<B, A> {
     fn unreceived(&self) -> usize
         ensures { set.len self.now.down ≡ 0 → result ≡ messages_in_flight_of self.now }
     {
-        let receipts = (self.receipts_ever - self.undone_ever) as usize;
-        self.trace.len() - 2 * receipts
+        self.trace.len() - 2 * self.receipt_count() as usize
+    }
+
+    /// How many receipts the trace has: those ever made but those undone.
+    pub(crate) fn receipt_count(&self) -> u32
+        ensures { result ≡ length (receipts (marks self.now)) }
+    {
+        (self.receipts_ever - self.undone_ever) as u32
     }
 
     /// What the messages in flight hold, on all channels: the sum of their values.
     pub fn value_in_flight(&self) -> u64
         ensures { result ≡ weight_flying (λ note. note.value) self.now }
     {
-        self.channels.sum_values(self.config.members())
+        self.channels.contents(self.config.members()).value
     }
 
     /// How many receipts were ever made, also those that recoveries have undone. It never falls.

@@ -53,8 +53,8 @@ impl<B: Behaviour, A: Allocator + Copy> Group<B, A> {
         let again = self.resend(rebuilt.records.as_slice())?;
         let n = self.config.members();
         let replayed = rebuilt.replayed(self.checkpoints.as_slice(), n);
-        let resent = again.count_messages(n) as u32;
-        let before = count_receipts(self.trace.as_slice());
+        let resent = again.contents(n).messages as u32;
+        let before = self.receipt_count();
         rebuilt.cut(&mut self.trace);
         let undone = before - count_receipts(self.trace.as_slice());
         rebuilt.put_back(&mut self.members, n);

@@ -1,0 +1,12 @@
+use Rattle.std.proofs.Common.{◌≡◌, ◌≤◌, ◌*◌, length}
+use Rattle.fbl_law.specs.Groups.{channel_in, sum_below}
+use Rattle.fbl_group.specs.Channels.{rows, value_of}
+use Rattle.fbl_group.proofs.channels.Channels.contents.Given as goal
+
+abbrev pub invariant-loop-number : goal.invariant-loop-number
+invariant-loop-number g l = record {
+  counted : l.messages ≡ sum_below l.number (λ q. sum_below l.n (λ p. length (channel_in (rows l.self) q p)));
+  few : l.messages ≤ l.number * 131072;
+  summed : l.value ≡ sum_below l.number (λ q. sum_below l.n (λ p. value_of (channel_in (rows l.self) q p)));
+  small : l.value ≤ l.number * 562949953290240;
+}

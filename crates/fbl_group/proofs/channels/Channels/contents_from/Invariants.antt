@@ -1,0 +1,12 @@
+use Rattle.std.proofs.Common.{◌≡◌, ◌≤◌, ◌*◌, length}
+use Rattle.fbl_law.specs.Groups.{channel_in, sum_below}
+use Rattle.fbl_group.specs.Channels.{rows, value_of}
+use Rattle.fbl_group.proofs.channels.Channels.contents_from.Given as goal
+
+abbrev pub invariant-loop-number : goal.invariant-loop-number
+invariant-loop-number g l = record {
+  counted : l.messages ≡ sum_below l.number (λ p. length (channel_in (rows l.self) l.from p));
+  few : l.messages ≤ l.number * 8192;
+  summed : l.value ≡ sum_below l.number (λ p. value_of (channel_in (rows l.self) l.from p));
+  small : l.value ≤ l.number * 35184372080640;
+}
