@@ -1,6 +1,6 @@
 //! Scripts that lack something.
 
-/// Inputs that are no script from the start, those that lack a key, and one that lacks none, with the fault that each has, or `none`.
+/// Inputs that are no script from the start, those that lack a key, and one that lacks none, each with its fault or `none`.
 pub const INCOMPLETE_SCRIPTS: [(&str, &str); 12] = [
     ("", "not json"),
     ("{\"version\":01}", "not json"),
