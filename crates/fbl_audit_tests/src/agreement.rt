@@ -1,9 +1,10 @@
 //! The check of every small dump says of each set of members that may be lost what the audit of the dump with that set says.
 
-use crate::traces::{member, traces_of};
+use crate::traces::traces_of;
 use fbl_audit::{UnsafeReceipt, unsafe_receipts};
 use fbl_base::audit::{Dump, check_dump, orphans};
 use fbl_base::{Determinant, Mark, Member, MemberSet, RawDump};
+use fbl_fixtures::member;
 use std::alloc::{AllocError, Global};
 use std::test::Fail;
 

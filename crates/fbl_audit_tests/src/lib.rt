@@ -1,7 +1,14 @@
-//! Tests of the check of recorded runs. They stand apart from the crate that they test, so that it is proved once.
+//! Tests of audits: of dumps, of the check of recorded runs beside them, and of the paths to orphans. They stand apart from the
+//! crates that they test, so that these are proved once.
 #![tactic(auto)]
 
 #[cfg(test)]
 mod agreement;
 #[cfg(test)]
+mod audits;
+#[cfg(test)]
+mod paths;
+#[cfg(test)]
 mod traces;
+#[cfg(test)]
+mod want_of_memory;

@@ -1,13 +1,9 @@
 //! All small traces.
 
 use fbl_base::{Mark, Member};
+use fbl_fixtures::member;
 use std::alloc::{AllocError, Global};
 use std::test::Fail;
-
-/// The member with this number.
-pub(crate) fn member(number: u8) -> Result<Member, Fail> {
-    Ok(Member::new(number).ok_or("no such member")?)
-}
 
 /// How many messages the member has sent, and how many it has received.
 fn counts_of(trace: &[Mark], member: Member) -> (u32, u32) {

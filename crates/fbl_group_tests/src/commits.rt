@@ -3,9 +3,10 @@
 use crate::facts::Fact::{Ever, Has, InFlight, Length, Trace};
 use crate::facts::Happening::{Received, Sent};
 use crate::memory::play;
-use crate::setting::{ROUND, Setting, TWICE, member};
+use crate::setting::{ROUND, Setting, TWICE};
 use crate::steps::Step::{Commit, Crash, Deliver, Recover, Show, Strike, Take};
 use fbl_base::Relay;
+use fbl_fixtures::member;
 use fbl_group::{CommitRefusal, Done, Group, TakeRefusal, run_step};
 use std::alloc::Global;
 use std::test::Fail;

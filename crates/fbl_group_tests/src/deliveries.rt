@@ -3,9 +3,10 @@
 use crate::facts::Fact::{AllHave, Down, Ever, Flight, Holds, InFlight, Length, Trace};
 use crate::facts::Happening::{Received, Sent};
 use crate::memory::play;
-use crate::setting::{MEETING, ROUND, Setting, start};
+use crate::setting::{MEETING, ROUND, Setting};
 use crate::steps::Step::{Deliver, Show};
 use fbl_base::{Mix, Relay};
+use fbl_fixtures::start;
 use fbl_group::{DeliverRefusal, Group};
 use std::test::Fail;
 

@@ -2,9 +2,9 @@
 
 ghost use Rattle.std.specs.Prelude.{◌<◌, IfSome};
 
-use crate::setting::{determinant, member, set};
 use fbl_base::audit::{lost, orphans};
 use fbl_base::{Behaviour, Determinant, Event, Member, Note};
+use fbl_fixtures::{determinant, member, set};
 use fbl_group::Group;
 use fbl_table::{Entry, Table};
 use std::alloc::{Allocator, Global};

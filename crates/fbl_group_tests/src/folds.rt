@@ -2,9 +2,10 @@
 //! one: what comes back is the fold of the receipts that the trace still has.
 
 use crate::facts::{checkpoint_received, reading};
-use crate::setting::{ROUND, Setting, member};
+use crate::setting::{ROUND, Setting};
 use fbl_base::audit::{lost, orphans};
 use fbl_base::{Behaviour, Determinant, Event, Member, MemberSet, Mix, Note, Relay};
+use fbl_fixtures::member;
 use fbl_group::Group;
 use std::alloc::Global;
 use std::process::Abort;

@@ -1,10 +1,9 @@
 //! What groups are made of, and the worked settings that several tests begin with.
 
-ghost use Rattle.std.specs.Prelude.{◌≡◌, IfOk};
-
 use crate::steps::Step::{self, Checkpoint, Deliver};
 use crate::steps::make_all;
-use fbl_base::{Behaviour, Config, Determinant, Member, MemberSet, Note, Start};
+use fbl_base::{Behaviour, Config};
+use fbl_fixtures::start;
 use fbl_group::Group;
 use std::alloc::Allocator;
 use std::test::Fail;
@@ -101,35 +100,4 @@ impl Setting<'_> {
         }
         Ok(Config::new(alloc, self.n, self.f, self.limit, &starts).map_err(|_| "refused")?)
     }
-}
-
-pub(crate) fn member(number: u8) -> Result<Member, Fail>
-    ensures { IfOk result (λ m. m ≡ number) }
-{
-    Ok(Member::new(number).ok_or("no such member")?)
-}
-
-pub(crate) fn set(members: &[u8]) -> Result<MemberSet, Fail> {
-    let mut set = MemberSet::empty();
-    for number in members {
-        set = set.with(member(*number)?);
-    }
-    Ok(set)
-}
-
-pub(crate) fn start(from: u8, to: u8, value: u32, hops: u8) -> Result<Start, Fail> {
-    let note = Note { value, hops };
-    let (from, to) = (member(from)?, member(to)?);
-    Ok(Start { from, to, note })
-}
-
-/// The determinant of a receipt, from its sender, send number, receiver and receipt number.
-pub(crate) fn determinant(parts: (u8, u32, u8, u32)) -> Result<Determinant, Fail> {
-    let (from, to) = (member(parts.0)?, member(parts.2)?);
-    Ok(Determinant {
-        from,
-        ssn: parts.1,
-        to,
-        rsn: parts.3,
-    })
 }

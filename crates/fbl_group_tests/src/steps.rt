@@ -1,8 +1,8 @@
 //! Calls that change a group, with the answers that are expected of them.
 
 use crate::facts::{Fact, checkpoint_received};
-use crate::setting::{member, set};
 use fbl_base::Behaviour;
+use fbl_fixtures::{member, set};
 use fbl_group::{
     CheckpointRefusal, CommitRefusal, CrashRefusal, DeliverRefusal, Done, DumpGroupRefusal, Group,
     Receipted, RecoverRefusal, Recovered, StrikeRefusal, TakeRefusal, run_step,

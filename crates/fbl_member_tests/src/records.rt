@@ -1,7 +1,7 @@
 ghost use Rattle.std.specs.Prelude.{◌≡◌, ◌<◌, IfOk};
 
-use crate::fixtures::{Refusal, first_receipt, member, own_table};
 use fbl_base::{Behaviour, Config, Determinant, Member, MemberSet, Mix, Note, Relay, Start};
+use fbl_fixtures::{Refusal, first_receipt, member};
 use fbl_member::{Carried, MemberRec, Wire};
 use fbl_table::{Entry, Table};
 use refusing_allocator::Refusing;
@@ -206,7 +206,9 @@ fn a_replayed_member_is_given_a_table(rt: HostRuntime) -> Result<(), Fail> {
     let det = first_receipt(first, second);
     let mut member_record = MemberRec::blank(rt.alloc(), 1);
     replay::<Mix, _>(&mut member_record, second, &det, Note { value: 4, hops: 1 })?;
-    member_record.set_table(own_table(rt.alloc(), second, det)?);
+    let mut table = Table::new(rt.alloc());
+    table.note_own(second, det)?;
+    member_record.set_table(table);
     assert!(rt; member_record.state() == 5 && member_record.table().holds(&det));
     Ok(())
 }

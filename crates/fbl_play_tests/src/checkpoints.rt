@@ -1,6 +1,6 @@
 //! Scripts of version 2, in which members are checkpointed.
 
-use crate::setting::prints;
+use crate::plays::prints;
 use fbl_play::play_bytes;
 use std::test::Fail;
 

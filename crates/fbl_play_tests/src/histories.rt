@@ -1,6 +1,6 @@
 //! Histories of scripts, column for column.
 
-use crate::setting::{member, set};
+use fbl_fixtures::{member, set};
 use fbl_history::{Column, Replay};
 use fbl_play::history_of_bytes;
 use std::alloc::Global;

@@ -1,11 +1,35 @@
 //! Scripts with the texts that they print, and readers and writers that stumble.
 
-use crate::scripts::INPUTS;
-use crate::setting::prints;
-use crate::unsteady::{FailedWrite, Page, UnsteadyReader, UnsteadyWriter};
+ghost use Rattle.std.specs.Prelude.{◌≤◌};
+
+use fbl_fixtures::{FailedWrite, INCOMPLETE_SCRIPTS, Page, UnsteadyReader, UnsteadyWriter};
 use fbl_input::{Key, RunFault};
 use fbl_play::{play, play_bytes};
+use std::alloc::Global;
+use std::process::Abort;
+use std::sync::Wait;
 use std::test::Fail;
+use std::thread::Threads;
+
+/// The script prints this text, with so many workers.
+pub(crate) fn prints<T: Abort + Threads + Wait + Sync>(
+    rt: &T,
+    alloc: Global,
+    script: &str,
+    text: &str,
+    workers: u8,
+) -> Result<(), Fail>
+    requires { (1 ≤ workers) × (workers ≤ 8) }
+{
+    let mut input = script.as_bytes();
+    let mut out = Vec::new(alloc);
+    play(rt, alloc, &mut input, &mut out, workers)?;
+    assert!(rt;
+        out.as_slice() == text.as_bytes(),
+        "{workers} workers: {script}"
+    );
+    Ok(())
+}
 
 const MESSAGE_AND_ANSWER: (&str, &str) = (
     "{\"version\":1,\"members\":2,\"f\":1,\"behaviour\":\"mix\",\"start\":[[0,1,4,1]],\"commands\":[[\"deliver\",1,0],[\"deliver\",0,1],[\"report\"]]}",
@@ -146,7 +170,7 @@ fn tells_the_fault_of_bytes_that_are_no_script(rt: HostRuntime) {
 
 #[test]
 fn writes_nothing_for_an_input_that_is_no_script(rt: HostRuntime) -> Result<(), Fail> {
-    for (input, told) in INPUTS {
+    for (input, told) in INCOMPLETE_SCRIPTS {
         let mut out = Vec::new(rt.alloc());
         match play_bytes(&rt, rt.alloc(), input.as_bytes(), &mut out, 2) {
             Ok(()) => assert!(rt; told == "none"),

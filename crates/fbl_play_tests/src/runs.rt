@@ -1,6 +1,6 @@
 //! Scripts in which workers deliver. What they print is the same with each number of workers.
 
-use crate::setting::prints;
+use crate::plays::prints;
 use std::test::Fail;
 
 const CRASHES_IN_THREE_PLACES: (&str, &str) = (

@@ -2,7 +2,7 @@
 
 ghost use Rattle.std.specs.Prelude.{◌≡◌, true};
 
-use crate::fixtures::member;
+use fbl_fixtures::member;
 use fbl_threads::{Claim, ClaimRefusal, Claims};
 use refusing_allocator::Refusing;
 use std::test::Fail;

@@ -1,8 +1,7 @@
-//! Members, plans and groups.
+//! Plans and groups.
 
-ghost use Rattle.std.specs.Prelude.{◌≡◌, IfOk};
-
-use fbl_base::{Config, ConfigRefusal, Member, MemberSet, Note, Relay, Start, Strike};
+use fbl_base::{Config, ConfigRefusal, Member, Relay, Start, Strike};
+use fbl_fixtures::{start, strike};
 use fbl_group::Group;
 use fbl_threads::{DrainRefusal, Drained, NoGate, drain};
 use std::alloc::Global;
@@ -13,28 +12,6 @@ use std::thread::Threads;
 /// More turns than a worker of these tests ever needs.
 pub(crate) const TURNS: u32 = 1_000_000;
 
-pub(crate) fn member(number: u8) -> Result<Member, Fail>
-    ensures { IfOk result (λ m. m ≡ number) }
-{
-    Ok(Member::new(number).ok_or("no such member")?)
-}
-
-pub(crate) fn set(numbers: &[u8]) -> Result<MemberSet, Fail> {
-    let mut set = MemberSet::empty();
-    for number in numbers {
-        set = set.with(member(*number)?);
-    }
-    Ok(set)
-}
-
-/// An entry of a plan.
-pub(crate) fn strike(at: u64, numbers: &[u8]) -> Result<Strike, Fail> {
-    Ok(Strike {
-        at,
-        set: set(numbers)?,
-    })
-}
-
 /// A plan of these entries.
 pub(crate) fn plan(alloc: Global, entries: &[(u64, &[u8])]) -> Result<Vec<Strike>, Fail> {
     let mut plan = Vec::new(alloc);
@@ -42,15 +19,6 @@ pub(crate) fn plan(alloc: Global, entries: &[(u64, &[u8])]) -> Result<Vec<Strike
         plan.push(strike(*at, numbers)?)?;
     }
     Ok(plan)
-}
-
-/// A message that is sent at the start: from whom, to whom, its value and its hops.
-pub(crate) fn start(from: u8, to: u8, value: u32, hops: u8) -> Result<Start, Fail> {
-    Ok(Start {
-        from: member(from)?,
-        to: member(to)?,
-        note: Note { value, hops },
-    })
 }
 
 /// A group of members that pass each message on.

@@ -2,8 +2,9 @@
 
 ghost use Rattle.std.specs.Prelude.{◌≡◌, ◌<◌};
 
-use crate::fixtures::{STATES_OF_TWELVE, drain_by, group, has_states, starts_of_twelve, strike};
+use crate::fixtures::{STATES_OF_TWELVE, drain_by, group, has_states, starts_of_twelve};
 use fbl_base::{Config, Event, Member, MemberSet, Relay, Start};
+use fbl_fixtures::strike;
 use fbl_group::Group;
 use fbl_table::Entry;
 use fbl_threads::{DrainRefusal, Drained};

@@ -1,7 +1,8 @@
 //! A worker that finds nothing while another makes a long step.
 
-use crate::fixtures::{group, has_counts, has_states, start};
+use crate::fixtures::{group, has_counts, has_states};
 use fbl_base::Member;
+use fbl_fixtures::start;
 use fbl_threads::{Gate, drain};
 use std::sync::atomic::{AtomicBool, AtomicU64, Ordering};
 use std::test::Fail;

@@ -1,7 +1,8 @@
 //! Why a group is not drained.
 
-use crate::fixtures::{drain_by, plan, set, strike, twelve_receipts};
+use crate::fixtures::{drain_by, plan, twelve_receipts};
 use fbl_base::{Event, MemberSet, Relay, Strike};
+use fbl_fixtures::{set, strike};
 use fbl_group::Group;
 use fbl_threads::DrainRefusal;
 use std::alloc::Global;

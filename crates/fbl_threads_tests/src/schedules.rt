@@ -1,10 +1,10 @@
 //! Drains whose end is the same for every schedule.
 
 use crate::fixtures::{
-    STATES_OF_TWELVE, drain_by, group, has_counts, has_states, set, start, strike, total,
-    twelve_receipts,
+    STATES_OF_TWELVE, drain_by, group, has_counts, has_states, total, twelve_receipts,
 };
 use fbl_base::{Relay, Start, Strike};
+use fbl_fixtures::{set, start, strike};
 use fbl_group::{Group, Recovered};
 use fbl_threads::{Drained, NoGate, drain};
 use std::alloc::Global;

@@ -1,7 +1,8 @@
 //! A group under a lock, each call of it in a hold of its own.
 
-use crate::fixtures::{TURNS, group, member, set, start};
+use crate::fixtures::{TURNS, group};
 use fbl_base::{Note, Relay, Start};
+use fbl_fixtures::{member, set, start};
 use fbl_group::{
     CommitRefusal, CrashRefusal, DeliverRefusal, Done, Receipted, RecoverRefusal, Recovered,
     StrikeRefusal, Struck, run_step,

@@ -1,10 +1,10 @@
 //! Paths from one event to the members that depend on it.
 
-use crate::definitions::{dump_of, receipt, round_events, send};
-use crate::fixtures::member;
+use crate::audits::{dump_of, receipt, round_events, send};
 use fbl_audit::Paths;
 use fbl_base::audit::check_dump;
 use fbl_base::{Mark, MemberSet};
+use fbl_fixtures::member;
 use std::alloc::Global;
 use std::test::Fail;
 

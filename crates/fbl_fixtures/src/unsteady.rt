@@ -7,7 +7,7 @@ use std::io::{self, ErrorKind, Read, Write};
 
 /// Gives at most `most` bytes a read, is interrupted first, and fails at one read.
 #[derive(Drop)]
-pub(crate) struct UnsteadyReader<'a> {
+pub struct UnsteadyReader<'a> {
     pub rest: &'a [u8],
     pub most: usize,
     pub interruptions: u32,
@@ -17,7 +17,7 @@ pub(crate) struct UnsteadyReader<'a> {
 
 impl<'a> UnsteadyReader<'a> {
     /// No read is interrupted.
-    pub(crate) fn new(rest: &'a [u8], most: usize, fails_at: u32) -> UnsteadyReader<'a> {
+    pub fn new(rest: &'a [u8], most: usize, fails_at: u32) -> UnsteadyReader<'a> {
         UnsteadyReader {
             rest,
             most,
@@ -47,7 +47,7 @@ impl Read for UnsteadyReader<'_> {
 
 /// What a write does where it fails.
 #[derive(Clone, Copy, PartialEq, Eq, Debug)]
-pub(crate) enum FailedWrite {
+pub enum FailedWrite {
     Error,
     Interruption,
     NoByte,
@@ -55,7 +55,7 @@ pub(crate) enum FailedWrite {
 
 /// Takes at most `most` bytes a write, and fails at one write.
 #[derive(Drop)]
-pub(crate) struct UnsteadyWriter {
+pub struct UnsteadyWriter {
     pub held: Vec<u8>,
     pub most: usize,
     pub writes: u32,
@@ -64,12 +64,7 @@ pub(crate) struct UnsteadyWriter {
 }
 
 impl UnsteadyWriter {
-    pub(crate) fn new(
-        alloc: Global,
-        most: usize,
-        fails_at: u32,
-        failure: FailedWrite,
-    ) -> UnsteadyWriter {
+    pub fn new(alloc: Global, most: usize, fails_at: u32, failure: FailedWrite) -> UnsteadyWriter {
         UnsteadyWriter {
             held: Vec::new(alloc),
             most,
@@ -102,14 +97,14 @@ impl Write for UnsteadyWriter {
 
 /// A writer that takes no memory, and at most 8192 bytes.
 #[derive(Drop)]
-pub(crate) struct Page {
+pub struct Page {
     pub held: [u8; 8192],
     pub len: usize,
     ghost within: { len ≤ 8192 },
 }
 
 impl Page {
-    pub(crate) fn new() -> Page {
+    pub fn new() -> Page {
         Page {
             held: [0; 8192],
             len: 0,

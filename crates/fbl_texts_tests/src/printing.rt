@@ -1,5 +1,5 @@
-use crate::setting::{member, set};
-use fbl_base::{Determinant, MemberSet};
+use fbl_base::MemberSet;
+use fbl_fixtures::{determinant, member, set};
 use fbl_lines::{
     MemberStatus, RunEnd, Totals, audit_text, deliver_text, recover_text, refused_at_text,
     refused_text, report_text, run_text, set_text, states_text, strike_text,
@@ -114,16 +114,11 @@ fn prints_runs(rt: HostRuntime) -> Result<(), Fail> {
     Ok(())
 }
 
-fn determinant(from: u8, ssn: u32, to: u8, rsn: u32) -> Result<Determinant, Fail> {
-    let (from, to) = (member(from)?, member(to)?);
-    Ok(Determinant { from, ssn, to, rsn })
-}
-
 #[test]
 fn prints_an_audit(rt: HostRuntime) -> Result<(), Fail> {
     let lost = [
-        determinant(0, 1, 1, 1)?,
-        determinant(2, 10, 0, 4_294_967_295)?,
+        determinant((0, 1, 1, 1))?,
+        determinant((2, 10, 0, 4_294_967_295))?,
     ];
     let text = audit_text(rt.alloc(), &lost, set(&[0, 2])?)?;
     is_text(

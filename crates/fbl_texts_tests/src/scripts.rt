@@ -1,5 +1,5 @@
-use crate::setting::{member, set};
-use fbl_base::{MemberSet, Note, Start, Strike};
+use fbl_base::{MemberSet, Start, Strike};
+use fbl_fixtures::{INCOMPLETE_SCRIPTS, set, start, strike};
 use fbl_input::{Key, RunFault, put, read_input};
 use fbl_script::{BehaviourName, Command, Script, script_of_bytes};
 use std::alloc::{AllocError, Global};
@@ -166,37 +166,9 @@ fn tells_the_first_of_two_faults(rt: HostRuntime) -> Result<(), Fail> {
     Ok(())
 }
 
-/// Inputs that are no script from the start, and those that lack a key.
-pub(crate) const INPUTS: [(&str, &str); 12] = [
-    ("", "not json"),
-    ("{\"version\":01}", "not json"),
-    ("[]", "not an object"),
-    ("1", "not an object"),
-    ("{}", "bad field version"),
-    (r#"{"version":1}"#, "bad field members"),
-    (r#"{"version":1,"members":2}"#, "bad field f"),
-    (r#"{"version":1,"members":2,"f":1}"#, "bad field behaviour"),
-    (
-        r#"{"version":1,"members":2,"f":1,"behaviour":"mix"}"#,
-        "bad field start",
-    ),
-    (
-        r#"{"version":1,"members":2,"f":1,"behaviour":"mix","start":[]}"#,
-        "bad field commands",
-    ),
-    (
-        r#"{"version":1,"members":2,"f":1,"behaviour":"mix","start":[],"commands":{}}"#,
-        "bad field commands",
-    ),
-    (
-        r#"{"version":1,"members":2,"f":1,"behaviour":"relay","start":[],"commands":[]}"#,
-        "none",
-    ),
-];
-
 #[test]
 fn names_the_first_key_that_is_missing(rt: HostRuntime) -> Result<(), Fail> {
-    for (input, fault) in INPUTS {
+    for (input, fault) in INCOMPLETE_SCRIPTS {
         has_fault(&rt, rt.alloc(), input.as_bytes(), fault)?;
     }
     has_fault(&rt, rt.alloc(), &[b'"', 0xff, b'"'], "not json")?;
@@ -306,12 +278,6 @@ fn each_command(alloc: Global, head: &str) -> Result<Script, Fail> {
     read_script(alloc, [head, "[0,1,5,6],[2,3,7,3]", EACH, r#","limit":40"#])
 }
 
-fn start(from: u8, to: u8, value: u32, hops: u8) -> Result<Start, Fail> {
-    let note = Note { value, hops };
-    let (from, to) = (member(from)?, member(to)?);
-    Ok(Start { from, to, note })
-}
-
 /// Whether the script asks for this group.
 fn has_parameters(script: &Script, starts: &[Start]) -> bool {
     let config = &script.config;
@@ -359,16 +325,7 @@ fn is_each_command(
 
 #[test]
 fn reads_each_command(rt: HostRuntime) -> Result<(), Fail> {
-    let planned = [
-        Strike {
-            at: 7,
-            set: set(&[0, 3])?,
-        },
-        Strike {
-            at: 9,
-            set: set(&[1])?,
-        },
-    ];
+    let planned = [strike(7, &[0, 3])?, strike(9, &[1])?];
     let (struck, dumped) = (set(&[1, 2])?, set(&[])?);
     for head in EACH_VERSION {
         let script = each_command(rt.alloc(), head)?;

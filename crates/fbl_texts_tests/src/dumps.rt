@@ -1,5 +1,5 @@
-use crate::unsteady::{FailedWrite, Page, UnsteadyReader, UnsteadyWriter};
 use fbl_dump::{audit, audit_bytes, dump_of_bytes, dump_text};
+use fbl_fixtures::{FailedWrite, Page, UnsteadyReader, UnsteadyWriter};
 use fbl_input::{Key, RunFault};
 use std::alloc::{AllocError, Global};
 use std::io::{self, Read};

@@ -1,7 +1,7 @@
 ghost use Rattle.std.specs.Prelude.{◌≡◌, ◌≤◌, IfOk};
 
-use crate::fixtures::{Refusal, first_receipt, member, own_table, set};
 use fbl_base::{Determinant, Member, MemberSet};
+use fbl_fixtures::{Refusal, first_receipt, member, set};
 use fbl_table::{Entry, Receipts, Table};
 use refusing_allocator::Refusing;
 use std::alloc::{AllocError, Allocator, Global};
@@ -15,6 +15,13 @@ fn table_of<A: Allocator + Copy>(
 ) -> Result<Table<A>, AllocError> {
     let mut table = Table::new(alloc);
     table.learn(me, entries)?;
+    Ok(table)
+}
+
+/// A table with the member's own receipt alone.
+fn own_table(alloc: Global, me: Member, det: Determinant) -> Result<Table, AllocError> {
+    let mut table = Table::new(alloc);
+    table.note_own(me, det)?;
     Ok(table)
 }
 

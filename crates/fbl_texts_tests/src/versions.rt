@@ -1,8 +1,8 @@
 //! Scripts of version 1 and of version 2, and the lines of checkpoints.
 
 use crate::scripts::{has_script_fault, read_script};
-use crate::setting::{member, set};
 use fbl_base::MemberSet;
+use fbl_fixtures::{member, set};
 use fbl_lines::{checkpoint_text, refused_text};
 use fbl_script::Command;
 use std::alloc::Global;

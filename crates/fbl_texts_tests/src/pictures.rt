@@ -1,6 +1,6 @@
 use crate::dumps::{LINE, LOST, audited};
-use crate::unsteady::{FailedWrite, Page, UnsteadyReader, UnsteadyWriter};
 use fbl_draw::{draw, draw_bytes};
+use fbl_fixtures::{FailedWrite, Page, UnsteadyReader, UnsteadyWriter};
 use fbl_input::RunFault;
 use std::alloc::Global;
 use std::process::Abort;

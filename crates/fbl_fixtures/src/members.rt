@@ -1,0 +1,58 @@
+//! Members by their numbers, and what is made of them.
+
+ghost use Rattle.std.specs.Prelude.{◌≡◌, IfOk};
+
+use fbl_base::{Determinant, Member, MemberSet, Note, Start, Strike};
+use std::test::Fail;
+
+/// The member with this number.
+pub fn member(number: u8) -> Result<Member, Fail>
+    ensures { IfOk result (λ m. m ≡ number) }
+{
+    Ok(Member::new(number).ok_or("no such member")?)
+}
+
+/// The set of the members with these numbers.
+pub fn set(numbers: &[u8]) -> Result<MemberSet, Fail> {
+    let mut set = MemberSet::empty();
+    for number in numbers {
+        set = set.with(member(*number)?);
+    }
+    Ok(set)
+}
+
+/// A message that is sent at the start: from whom, to whom, its value and its hops.
+pub fn start(from: u8, to: u8, value: u32, hops: u8) -> Result<Start, Fail> {
+    let note = Note { value, hops };
+    let (from, to) = (member(from)?, member(to)?);
+    Ok(Start { from, to, note })
+}
+
+/// A strike of these members at this count.
+pub fn strike(at: u64, numbers: &[u8]) -> Result<Strike, Fail> {
+    let set = set(numbers)?;
+    Ok(Strike { at, set })
+}
+
+/// The determinant of a receipt, from its sender, send number, receiver and receipt number.
+pub fn determinant(parts: (u8, u32, u8, u32)) -> Result<Determinant, Fail> {
+    let (from, to) = (member(parts.0)?, member(parts.2)?);
+    Ok(Determinant {
+        from,
+        ssn: parts.1,
+        to,
+        rsn: parts.3,
+    })
+}
+
+/// The receipt of the sender's first message, which is the receiver's first.
+pub fn first_receipt(from: Member, to: Member) -> Determinant
+    ensures { result ≡ record { from = from; ssn = 1; to = to; rsn = 1 } }
+{
+    Determinant {
+        from,
+        ssn: 1,
+        to,
+        rsn: 1,
+    }
+}
