@@ -92,8 +92,7 @@ fn gathered(
     Ok(table)
 }
 
-/// Whether the receiver's first receipt is found in the table, and no other of its sender and receiver. It stands first,
-/// wherever it is said to be likely.
+/// Whether the receiver's first receipt is found in the table, and no other of its sender and receiver.
 fn finds_alone(table: &Table, det: Determinant) -> bool {
     let (from, to) = (det.from, det.to);
     let other = first_receipt(to, from);
@@ -103,9 +102,6 @@ fn finds_alone(table: &Table, det: Determinant) -> bool {
         && table.find(to, 2) == None
         && table.holds(&det)
         && !table.holds(&other)
-        && table.place_of(&det, 0) == Some(0)
-        && table.place_of(&det, usize::MAX) == Some(0)
-        && table.place_of(&other, 0) == None
 }
 
 /// Whether the receiver's first receipt is found by its number, unless only those beyond it are asked for, and no other of
