@@ -1,28 +1,29 @@
 //! Short holds of a lock.
 
 use crate::endings::Endings;
+use std::hint;
 use std::sync::{Mutex, MutexGuard, Wait};
-use std::thread;
 
-/// How often other threads are let run between two tries of the lock, which takes about as long as a hold or two.
-const YIELDS: u32 = 16;
+/// How often a worker spins between two tries of the lock, which takes as long as a few holds.
+const SPINS: u32 = 600;
 
 /// How often the lock is tried with such pauses by a worker that others don't wait for.
-const IDLE_TRIES: u32 = 3;
+const IDLE_TRIES: u32 = 6;
 
 /// How often it sleeps then between two tries, before it sleeps on the lock.
 const IDLE_NAPS: u32 = 1000;
 
 /// How often the lock is tried by a worker that has claimed a member.
-const TRIES: u32 = 64;
+const TRIES: u32 = 128;
 
 /// After how many of these tries too many workers want the lock.
-const FEW_TRIES: u32 = 4;
+const FEW_TRIES: u32 = 8;
 
-/// Lets other threads run for a while.
+/// Lets the lock alone for a while. The processor is kept: where every one has another load, who gives it away gets it back after
+/// milliseconds.
 fn pause() {
-    for _yield in 0..YIELDS {
-        thread::yield_now();
+    for _spin in 0..SPINS {
+        hint::spin_loop();
     }
 }
 
