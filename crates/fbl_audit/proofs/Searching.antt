@@ -9,7 +9,7 @@ use Rattle.std.proofs.lemmas.Option.{slice_get_read}
 use Rattle.fbl_base.specs.declared.trace.Mark.{Mark}
 use Rattle.fbl_base.specs.declared.trace.Mark.TheVariants.{Send, Receipt}
 use Rattle.fbl_base.specs.Events.{At, member_of, send_of}
-use Rattle.fbl_base.specs.Places.{PlaceLeads, PlacePrecedes, DependsOnPlace, same_place, place_step}
+use Rattle.fbl_base.specs.Places.{PlaceLeads, PlacePrecedes, same_place, place_step}
 use Rattle.fbl_base.proofs.Gets.{At-below, At-push, get_or-same}
 use Rattle.fbl_audit.specs.declared.dependents.Message.{Message}
 use Rattle.fbl_audit.specs.Dependents.{message_taken_by, same_addressed_message}
@@ -211,9 +211,6 @@ none_of (Some k) h = cc
 
 -- ---- walking back
 
-pub IsPath-one : (t : List Mark) (j : ℕ) → IsPath t j j (j ∷ [])
-IsPath-one t j = record { begins = refl; steps = λ k a b at_k at_next. absurd (omega (arith, At-below (j ∷ []) (k + 1) b at_next)); ends = refl }
-
 pub IsPath-more : (t : List Mark) (i k j : ℕ) (path : List ℕ) → PlaceLeads t i k → IsPath t k j path → IsPath t i j (i ∷ path)
 IsPath-more t i k j path leads is = record {
   begins = refl;
@@ -250,7 +247,3 @@ before_at origin earlier ends are p o comes is = are.before p o (At-place origin
 -- where nothing leads on to it, a path begins
 pub begins_here : (t : List Mark) (i p : ℕ) (o : Option ℕ) → o ≡ None → IsBefore t i p o → PlacePrecedes t i p → p ≡ i
 begins_here t i p o none before comes = (let at_none : IsBefore t i p None = rw none at before in at_none comes)
-
--- nobody depends on the event where no path comes to the member
-pub none_depends : (t : List Mark) (i member : ℕ) → IsEndBy t i (length t) member None → ¬ (DependsOnPlace t member i)
-none_depends t i member none d = none d.0 d.1 (At-below t d.0 d.1 d.3) d.3 d.4 d.2

@@ -3,7 +3,7 @@ use Rattle.std.proofs.Common.{ℕ, Bool, true, false, cond, ◌≡◌, ◌≢◌
 use Rattle.std.proofs.Common.{◌∷◌, ◌++◌, length, take, drop, Option, Some, None, slice_get, MatchOption, subst, refl, sym, ap, ◌∙◌, arith, get_or, set as set_at}
 use Rattle.std.proofs.Common.{get_or-set_same, get_or-set_other, length-set, length-take}
 use Rattle.std.proofs.lemmas.Bool.{cases_eq, eq-eqb, ne_eqb}
-use Rattle.std.proofs.lemmas.List.{take_more, append-nil, get_or_read}
+use Rattle.std.proofs.lemmas.List.{take_more, append-nil}
 use Rattle.std.proofs.lemmas.Option.{slice_get-get_or}
 use Rattle.fbl_base.specs.declared.trace.Mark.{Mark}
 use Rattle.fbl_base.specs.declared.trace.Mark.TheVariants.{Send, Receipt}
@@ -158,12 +158,6 @@ admitted n events place e c after most within few obeys counted is obeyed counts
     by_kind : (e : Mark) → MayFollow n (take place events) e → CountsEvent e c after → Counted (take place events ++ e ∷ []) after
     by_kind (Send q s p) m k = counted_send n (take place events) c after q s p most obeys counted m k.0 k.1 k.2
     by_kind (Receipt p r q s) m k = counted_receipt n (take place events) c after p r q s most obeys counted m k.0 k.1 k.2
-
-pub channel_written : (f : List ℕ → List ℕ) (xs : List (List ℕ)) (i j : ℕ) (old new : List ℕ) → i ≡ j → i < length xs → old ≡ get_or xs i old
-    → new ≡ f old → set_at xs i new ≡ set_at xs j (f (get_or xs j []))
-channel_written f xs i j old new same within was is =
-    let read : old ≡ get_or xs i [] = get_or_read xs i old within was [] in
-    rw (is, ← same, ← read)
 
 -- a rule was found, or none
 module _ (P : Type 0) (Q : EventRule → Type 0) where

@@ -1,4 +1,3 @@
-pub mod Faults
 pub mod Newlines
 pub mod DumpValues
 pub mod DumpTexts

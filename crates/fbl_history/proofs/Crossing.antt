@@ -1,8 +1,6 @@
 -- How a history goes on to a trace.
-use Rattle.std.proofs.Common.{◌≡◌, ℕ, ◌+◌, ◌<◌, ◌≤◌, ◌==◌, ◌&&◌, ◌⊎◌, inl, inr, Bool, true, false}
-use Rattle.std.proofs.Common.{List, [], ◌∷◌, ◌++◌, length, take, drop, get_or, refl, sym, ap, ◌∙◌, arith, append_assoc}
-use Rattle.std.specs.Prelude.{slice_set}
-use Rattle.std.proofs.lemmas.List.{drop_more, drop_all, drop-drop, drop-set-lt, take_more_set}
+use Rattle.std.proofs.Common.{◌≡◌, ◌==◌, ◌&&◌, ◌⊎◌, inl, inr, Bool, true, false}
+use Rattle.std.proofs.Common.{List, [], ◌∷◌, drop, refl, sym, ap, ◌∙◌}
 use Rattle.fbl_base.proofs.Recorded.{both_true, eqb_same}
 use Rattle.fbl_history.specs.declared.column.Column.{Column}
 use Rattle.fbl_history.specs.declared.column.Column.TheVariants.{Send, Receipt, Strike, Recovery, Checkpoint}
@@ -25,28 +23,6 @@ then-left column rest stands = rw stands refl
 
 pub then-past : (column : Column) (rest : List Column) → is_next column rest ≡ false → trace_then column rest ≡ rest
 then-past column rest is = rw is refl
-
-module _ (trace : List Column) (k : ℕ) (column : Column) where
-  -- whether the column is of the event at a place
-  pub next-there : (event : Column) → k < length trace → event ≡ get_or trace k event → is_next column (drop k trace) ≡ same_standing column event
-  next-there event below is = rw (drop_more trace k event below) (ap (same_standing column) (sym is))
-
-  pub next-none : length trace ≤ k → is_next column (drop k trace) ≡ false
-  next-none past = rw (drop_all k trace past) refl
-
-  pub trace-taken : is_next column (drop k trace) ≡ true → drop (k + 1) trace ≡ trace_then column (drop k trace)
-  trace-taken is = rw is (sym (drop-drop 1 k trace))
-
--- one more column has been gone over
-pub cross-step : (whole now trace : List Column) (i : ℕ) (column new : Column) (rest later : List Column) → i < length now → column ≡ get_or now i column
-    → go_on whole trace ≡ take i now ++ go_on (drop i now) rest → new ≡ column_then column rest → later ≡ trace_then column rest
-    → go_on whole trace ≡ take (i + 1) (slice_set now i new) ++ go_on (drop (i + 1) (slice_set now i new)) later
-cross-step whole now trace i column new rest later below is before this left =
-    let front : take (i + 1) (slice_set now i new) ≡ take i now ++ new ∷ [] = take_more_set now i new below in
-    let back : drop (i + 1) (slice_set now i new) ≡ drop (i + 1) now = drop-set-lt (i + 1) now i new (omega arith) in
-    let at : drop i now ≡ column ∷ drop (i + 1) now = drop_more now i column below ∙ ap (λ x. x ∷ drop (i + 1) now) (sym is) in
-    before ∙ ap (λ xs. take i now ++ go_on xs rest) at
-    ∙ (rw (front, back, append_assoc, this, left) refl)
 
 -- ---- laws
 

@@ -14,17 +14,12 @@ use Rattle.fbl_shapes.specs.declared.shape.Shape.{Shape}
 use Rattle.fbl_shapes.specs.declared.shape.Shape.TheVariants.{Line}
 use Rattle.fbl_base.specs.declared.trace.MessageName.{MessageName}
 use Rattle.fbl_show.specs.Members.{differs, is_down, is_down_after, line_kind, line_part, line_to, turns}
-use Rattle.fbl_show.specs.Messages.{arrow_from, has_standing_receipt, stub_where, taken_by_column}
+use Rattle.fbl_show.specs.Messages.{has_standing_receipt, stub_where, taken_by_column}
 use Rattle.fbl_show.specs.Places.{drawn, last_before}
 
 -- the last place before the next one
 pub last_more : (test : ℕ → Bool) (i : ℕ) → last_before test (i + 1) ≡ cond (test i) (Some i) (last_before test i)
 last_more test i = let e : i + 1 ≡ suc i = omega arith in ap (last_before test) e
-
--- what is drawn is the same where the places at which messages were sent are
-pub arrow_same : (sent sent' : MessageName → Option ℕ) (place : ℕ) (column : Column) → ((m : MessageName) → sent m ≡ sent' m)
-    → arrow_from sent place column ≡ arrow_from sent' place column
-arrow_same sent sent' place column same = (λ i. arrow_from (λ m. same m i) place column)
 
 pub stub_same : (received received' : MessageName → Bool) (place : ℕ) (column : Column) → ((m : MessageName) → received m ≡ received' m)
     → stub_where received place column ≡ stub_where received' place column

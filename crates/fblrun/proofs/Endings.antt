@@ -1,6 +1,6 @@
 -- The exit status of an answer, the answer where nothing could be read, and whether a play was refused something.
 use Rattle.std.proofs.Common.{◌≡◌, ℕ, ◌<◌, ◌⊎◌, ◌||◌, ◌&&◌, not, Bool, true, false, List, [], ◌∷◌, Option, Some, None, Result, Ok, Err, IfSome, length, inl}
-use Rattle.std.proofs.Common.{inr, subst, refl, sym, ap, ◌∙◌}
+use Rattle.std.proofs.Common.{inr, subst, refl, ap, ◌∙◌}
 use Rattle.std.specs.List.{list_any}
 use Rattle.fbl_input.specs.declared.fault.RunFault.{RunFault}
 use Rattle.fbl_input.specs.declared.fault.RunFault.TheVariants as faults
@@ -20,7 +20,7 @@ use Rattle.fbl_play.proofs.Playing.{plays_unread}
 use Rattle.fbl_script.specs.declared.script.Command.{Command}
 use Rattle.fblrun.specs.declared.Task.{Task}
 use Rattle.fblrun.specs.declared.Task.TheVariants.{Play, Show, Audit, Check, Draw}
-use Rattle.fblrun.specs.Orders.{EndsAfter, IsWellDone, PlaysWell, ReadsAndAnswersTask}
+use Rattle.fblrun.specs.Orders.{EndsAfter, PlaysWell, ReadsAndAnswersTask}
 use Rattle.fblrun.specs.Showing.{Shows}
 use Rattle.fblrun.specs.Statuses.{status_after}
 use Rattle.fblrun.proofs.Showings.{shows_unread}
@@ -82,9 +82,3 @@ module _ {O : Type 0} (has : O → Bool) where
       let kept : has new ≡ list_any is_refusal accounts = keeps_refusals s.commands accounts old new told ∙ ap (λ b. b || list_any is_refusal accounts) fresh in
       (s, accounts, is, written, ap (λ b. not (strict && b)) kept)
   plays_well workers strict input before after old new fresh (inr (fault, is, other, keeps, same)) = absurd (cc)
-
--- what is known of an answer is known of it with all well
-pub well_done_as : (Answers : Result (Unit {0}) RunFault → Type 0) (done : Result (Unit {0}) RunFault) (r : Result Bool RunFault)
-    → IsWellDone (λ answer. answer ≡ done) r → Answers done → IsWellDone Answers r
-well_done_as Answers done (Ok is_well) is answered = (subst Answers (sym is.0) answered, is.1)
-well_done_as Answers done (Err e) is answered = subst Answers (sym is) answered
