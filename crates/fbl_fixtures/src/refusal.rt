@@ -1,5 +1,7 @@
 //! What becomes of a call that is refused memory.
 
+ghost use Rattle.std.specs.Prelude.{◌≤◌};
+
 /// What became of a call whose request for memory with some number was refused.
 #[derive(Clone, Copy)]
 pub enum Refusal {
@@ -20,6 +22,18 @@ impl Refusal {
             (true, true) => Refusal::Borne,
             (true, false) if kept => Refusal::Kept,
             _ => Refusal::Broken,
+        }
+    }
+
+    /// Where the requests of a call are refused in turn, and this became of it at the one with this number: how many there are,
+    /// if this ends the count. It is 0 where the call was broken.
+    pub fn count_at(self, request: u64) -> Option<u64>
+        requires { 1 ≤ request }
+    {
+        match self {
+            Refusal::Kept | Refusal::Borne => None,
+            Refusal::NotAsked => Some(request - 1),
+            Refusal::Broken => Some(0),
         }
     }
 }

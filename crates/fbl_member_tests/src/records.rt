@@ -372,10 +372,8 @@ fn refuse_each(alloc: Global, call: Call, first: Member, second: Member) -> Resu
     requires { second < 3 }
 {
     for request in 1..u64::MAX {
-        match refuse(alloc, call, first, second, request)? {
-            Refusal::Kept | Refusal::Borne => {}
-            Refusal::NotAsked => return Ok(request - 1),
-            Refusal::Broken => return Ok(0),
+        if let Some(count) = refuse(alloc, call, first, second, request)?.count_at(request) {
+            return Ok(count);
         }
     }
     Ok(0)

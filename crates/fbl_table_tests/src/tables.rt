@@ -254,10 +254,8 @@ fn refuse(alloc: Global, call: Call, scene: &Scene, request: u64) -> Result<Refu
 /// Refuses each request of the call in turn, and answers how many there were, or 0 where a refused one was not kept to.
 fn refuse_each(alloc: Global, call: Call, scene: &Scene) -> Result<u64, AllocError> {
     for request in 1..u64::MAX {
-        match refuse(alloc, call, scene, request)? {
-            Refusal::Kept | Refusal::Borne => {}
-            Refusal::NotAsked => return Ok(request - 1),
-            Refusal::Broken => return Ok(0),
+        if let Some(count) = refuse(alloc, call, scene, request)?.count_at(request) {
+            return Ok(count);
         }
     }
     Ok(0)

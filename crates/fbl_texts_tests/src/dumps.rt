@@ -48,19 +48,25 @@ fn dump(
     )
 }
 
+/// The text that was written, or that of the fault, before which nothing may be written.
+pub(crate) fn text_of(
+    alloc: Global,
+    done: Result<(), RunFault>,
+    written: Vec<u8>,
+) -> Result<String, Fail> {
+    match done {
+        Ok(()) => Ok(String::from_utf8(written)?),
+        Err(_) if !written.is_empty() => Err("written before a fault")?,
+        Err(fault) => Ok(fault.to_string(alloc)?),
+    }
+}
+
 /// What the audit writes, or its fault's text.
 pub(crate) fn audited(alloc: Global, input: &[u8]) -> Result<String, Fail> {
     let mut reader = input;
-    let mut held = Vec::new(alloc);
-    match audit(alloc, &mut reader, &mut held) {
-        Ok(()) => Ok(String::from_utf8(held)?),
-        Err(fault) => {
-            if !held.is_empty() {
-                return Err("written before a fault")?;
-            }
-            Ok(fault.to_string(alloc)?)
-        }
-    }
+    let mut written = Vec::new(alloc);
+    let done = audit(alloc, &mut reader, &mut written);
+    text_of(alloc, done, written)
 }
 
 /// The audit of the input says so.

@@ -1,4 +1,4 @@
-use crate::dumps::{LINE, LOST, audited};
+use crate::dumps::{LINE, LOST, audited, text_of};
 use fbl_draw::{draw, draw_bytes};
 use fbl_fixtures::{FailedWrite, Page, UnsteadyReader, UnsteadyWriter};
 use fbl_input::RunFault;
@@ -9,16 +9,9 @@ use std::test::Fail;
 /// What the drawing writes, or its fault's text.
 fn drawn(alloc: Global, input: &[u8]) -> Result<String, Fail> {
     let mut reader = input;
-    let mut held = Vec::new(alloc);
-    match draw(alloc, &mut reader, &mut held) {
-        Ok(()) => Ok(String::from_utf8(held)?),
-        Err(fault) => {
-            if !held.is_empty() {
-                return Err("written before a fault")?;
-            }
-            Ok(fault.to_string(alloc)?)
-        }
-    }
+    let mut written = Vec::new(alloc);
+    let done = draw(alloc, &mut reader, &mut written);
+    text_of(alloc, done, written)
 }
 
 /// How many lines of the text begin so.
