@@ -1,7 +1,7 @@
 -- A member's receipts in a trace, in order.
-use Rattle.std.proofs.Common.{◌≡◌, ℕ, zero, suc, ◌+◌, ◌==◌, ◌&&◌, Bool, true, false, cond, List, [], ◌∷◌, ◌++◌, length, map, Option, Some, None, option_map}
+use Rattle.std.proofs.Common.{◌≡◌, ℕ, zero, suc, ◌+◌, ◌==◌, Bool, true, false, cond, List, [], ◌∷◌, ◌++◌, length, map, Option, Some, None, option_map}
 use Rattle.std.proofs.Common.{slice_get, refl, sym, ap, ◌∙◌, arith, append_assoc}
-use Rattle.std.specs.List.{filter_map, cons_option, fold}
+use Rattle.std.specs.List.{filter_map, fold}
 use Rattle.std.proofs.lemmas.Bool.Decides.{nat_tests}
 use Rattle.std.proofs.lemmas.List.{length-map}
 use Rattle.std.proofs.lemmas.List.Sums.{sum_by-cons}
@@ -15,7 +15,7 @@ use Rattle.fbl_base.specs.declared.trace.Mark.TheVariants.{Send, Receipt}
 use Rattle.fbl_base.specs.Events.{mark_of, determinant_of, receipt_of}
 use Rattle.fbl_base.specs.Precedence.{Has}
 use Rattle.fbl_base.specs.Rules.{is_receipt_of, receipts_of, taken_on, WellFormed}
-use Rattle.fbl_base.specs.Fold.{sent, action_of, notes_of, note_of}
+use Rattle.fbl_base.specs.Fold.{action_of, notes_of, note_of}
 use Rattle.fbl_base.proofs.Gets.{filter_map-At, At-filter, At-filter_map}
 use Rattle.fbl_base.proofs.RulesLaws.{receipts-step, WellFormed-front, MayFollow-last}
 use Rattle.fbl_base.proofs.LawfulLaws.{receipts-noted}
@@ -36,14 +36,9 @@ receipts-from n p u (Receipt to r q k ∷ rest) obeys j d here =
     at : (b : Bool) → (to == p) ≡ b → r ≡ receipts_of u to + 1 → receipts_of (u ++ Receipt to r q k ∷ []) p ≡ receipts_of u p + cond (to == p) 1 0
         → (j : ℕ) → slice_get (cond b (record { from = q; ssn = k; to = to; rsn = r } ∷ receipts_at rest p) (receipts_at rest p)) j ≡ Some d
         → ((j : ℕ) (d : Determinant) → slice_get (receipts_at rest p) j ≡ Some d → d.rsn ≡ receipts_of (u ++ Receipt to r q k ∷ []) p + j + 1) → d.rsn ≡ receipts_of u p + j + 1
-    at true is number more zero g ih =
-        let same : to ≡ p = grind (arith, nat_tests) in
-        let e : ◌≡◌ {A = Determinant} (record { from = q; ssn = k; to = to; rsn = r }) d = cc in
-        let rsn : r ≡ d.rsn = ap (λ (x : Determinant). x.rsn) e in
-        let count : receipts_of u to ≡ receipts_of u p = ap (λ x. receipts_of u x) same in
-        omega (arith, rsn, number, count)
-    at true is number more (suc j) g ih = (let one : receipts_of (u ++ Receipt to r q k ∷ []) p ≡ receipts_of u p + 1 = more ∙ (rw is refl) in omega (arith, ih j d g, one))
-    at false is number more j g ih = (let none : receipts_of (u ++ Receipt to r q k ∷ []) p ≡ receipts_of u p = more ∙ (rw is (omega arith)) in omega (arith, ih j d g, none))
+    at true is number more zero g ih = grind (arith, nat_tests)
+    at true is number more (suc j) g ih = grind (arith, ih j d g)
+    at false is number more j g ih = grind (arith, ih j d g)
 
 -- a member's receipts are numbered from 1
 pub receipts_at-number : (n : ℕ) (t : List Mark) (p j : ℕ) (d : Determinant) → WellFormed n t → slice_get (receipts_at t p) j ≡ Some d → d.rsn ≡ j + 1
@@ -71,30 +66,15 @@ Has-receipts_at n t p j d obeys has to number =
 -- how many they are
 pub length-receipts_at : (t : List Mark) (p : ℕ) → length (receipts_at t p) ≡ receipts_of t p
 length-receipts_at [] p = refl
-length-receipts_at (Send q k to ∷ t) p = length-receipts_at t p ∙ (rw (sum_by-cons (λ y. cond (is_receipt_of p y) 1 0) (Send q k to) t) (omega arith))
-length-receipts_at (Receipt to r q k ∷ t) p = rw (sum_by-cons (λ y. cond (is_receipt_of p y) 1 0) (Receipt to r q k) t) (at (to == p) (length-receipts_at t p)) where
-  at : (b : Bool) → length (receipts_at t p) ≡ receipts_of t p
-      → length (cond b (record { from = q; ssn = k; to = to; rsn = r } ∷ receipts_at t p) (receipts_at t p)) ≡ cond b 1 0 + receipts_of t p
-  at true ih = omega (arith, ih)
-  at false ih = omega (arith, ih)
+length-receipts_at (Send q k to ∷ t) p = grind (arith, sum_by-cons, length-receipts_at t p)
+length-receipts_at (Receipt to r q k ∷ t) p = grind (arith, sum_by-cons (λ y. cond (is_receipt_of p y) 1 0) (Receipt to r q k) t, length-receipts_at t p)
 
 -- their notes
 notes-at : (all u : List Event) (p : ℕ) → ((i to rsn from ssn : ℕ) → slice_get u i ≡ Some (event.Receipt to rsn from ssn) → (note : Note) × (note_of all from ssn ≡ Some note))
     → map (λ (x : Note). Some x) (notes_of (filter_map (action_of all p) u)) ≡ map (λ (d : Determinant). note_of all d.from d.ssn) (receipts_at (map mark_of u) p)
 notes-at all [] p noted = refl
-notes-at all (event.Send q k to x ∷ u) p noted = at (q == p) (notes-at all u p (λ i. noted (suc i))) where
-  at : (b : Bool) → map (λ (y : Note). Some y) (notes_of (filter_map (action_of all p) u)) ≡ map (λ (d : Determinant). note_of all d.from d.ssn) (receipts_at (map mark_of u) p)
-      → map (λ (y : Note). Some y) (notes_of (cons_option (cond b (Some (sent (to, x))) None) (filter_map (action_of all p) u)))
-      ≡ map (λ (d : Determinant). note_of all d.from d.ssn) (receipts_at (map mark_of u) p)
-  at true ih = ih
-  at false ih = ih
-notes-at all (event.Receipt to r q k ∷ u) p noted = at (to == p) refl (noted 0 to r q k refl) (notes-at all u p (λ i. noted (suc i))) where
-  at : (b : Bool) → (to == p) ≡ b → (note : Note) × (note_of all q k ≡ Some note)
-      → map (λ (y : Note). Some y) (notes_of (filter_map (action_of all p) u)) ≡ map (λ (d : Determinant). note_of all d.from d.ssn) (receipts_at (map mark_of u) p)
-      → map (λ (y : Note). Some y) (notes_of (filter_map (action_of all p) (event.Receipt to r q k ∷ u)))
-      ≡ map (λ (d : Determinant). note_of all d.from d.ssn) (receipts_at (map mark_of (event.Receipt to r q k ∷ u)) p)
-  at true is note ih = (let e = note.1 in rw (is, e) (ap (λ (ys : List (Option Note)). Some note.0 ∷ ys) ih))
-  at false is note ih = rw is ih
+notes-at all (event.Send q k to x ∷ u) p noted = grind (arith, notes-at all u p (λ i. noted (suc i)))
+notes-at all (event.Receipt to r q k ∷ u) p noted = (let note = (noted 0 to r q k refl).1 in grind (arith, note, notes-at all u p (λ i. noted (suc i))))
 
 -- in a trace that obeys the rules a member's notes are those of its receipts
 pub received-notes : (n : ℕ) (t : List Event) (p : ℕ) → WellFormed n (map mark_of t)
@@ -121,15 +101,7 @@ note-at n t p j d x obeys here noted =
 last-from : (q p z : ℕ) (t : List Mark) → fold (λ last ssn. ssn) z (filter_map (taken_on q p) t) ≡ fold (λ last (d : Determinant). cond (d.from == q) d.ssn last) z (receipts_at t p)
 last-from q p z [] = refl
 last-from q p z (Send q' k to ∷ t) = last-from q p z t
-last-from q p z (Receipt to r q' k ∷ t) = at (q' == q) (to == p) refl (last-from q p z t) (last-from q p k t) where
-  at : (a b : Bool) → (q' == q) ≡ a → fold (λ last ssn. ssn) z (filter_map (taken_on q p) t) ≡ fold (λ last (d : Determinant). cond (d.from == q) d.ssn last) z (receipts_at t p)
-      → fold (λ last ssn. ssn) k (filter_map (taken_on q p) t) ≡ fold (λ last (d : Determinant). cond (d.from == q) d.ssn last) k (receipts_at t p)
-      → fold (λ last ssn. ssn) z (cons_option (cond (a && b) (Some k) None) (filter_map (taken_on q p) t))
-      ≡ fold (λ last (d : Determinant). cond (d.from == q) d.ssn last) z (cond b (record { from = q'; ssn = k; to = to; rsn = r } ∷ receipts_at t p) (receipts_at t p))
-  at true true ea same next = rw (ea, fold) next
-  at true false ea same next = same
-  at false true ea same next = rw (ea, fold) same
-  at false false ea same next = same
+last-from q p z (Receipt to r q' k ∷ t) = grind (arith, last-from q p z t, last-from q p k t)
 
 pub last_taken-among : (t : List Mark) (q p : ℕ) → last_taken t q p ≡ last_among (receipts_at t p) q
 last_taken-among t q p = last-from q p 0 t
