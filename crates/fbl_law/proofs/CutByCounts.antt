@@ -33,7 +33,7 @@ use Rattle.fbl_law.proofs.Receipts.{receipts_at-number, receipts_at-Has, Has-rec
 -- tests that agree at each place keep the same
 pub filter-agree : {X : Type 0} (p q : X → Bool) (xs : List X) → ((i : ℕ) (x : X) → slice_get xs i ≡ Some x → p x ≡ q x) → filter p xs ≡ filter q xs
 filter-agree p q [] agree = refl
-filter-agree {X} p q (x ∷ xs) agree = (let e : p x ≡ q x = agree 0 x refl in let ih : filter p xs ≡ filter q xs = filter-agree p q xs (λ i. agree (suc i)) in rw (e, ih) refl)
+filter-agree p q (x ∷ xs) agree = rw (agree 0 x refl, filter-agree p q xs (λ i. agree (suc i)))
 
 pub same-test : (a b : Bool) → (a ≡ true → b ≡ true) → (b ≡ true → a ≡ true) → a ≡ b
 same-test a b f g = same_from_decides {P = b ≡ true} a b (f, g) (λ h. h, λ h. h)

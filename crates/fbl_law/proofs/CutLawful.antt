@@ -48,7 +48,7 @@ Orderly alive ((b, took note) ∷ fs) = (b ≡ true → alive ≡ true) × Order
 none_kept : (fs : List Flagged) → Orderly false fs → kept fs ≡ []
 none_kept [] o = refl
 none_kept ((b, sent s) ∷ fs) o = rw o.0 (none_kept fs o.1)
-none_kept ((true, took note) ∷ fs) o = absurd (let bad = o.0 refl in cc)
+none_kept ((true, took note) ∷ fs) o = absurd (grind (arith, o.0 refl))
 none_kept ((false, took note) ∷ fs) o = none_kept fs o.1
 
 -- sends that come next are kept
@@ -56,7 +56,7 @@ sends_kept : (fs : List Flagged) (sends : List (ℕ × Note)) (rest : List Actio
     → (gs : List Flagged) × (flags gs ≡ rest) × Orderly true gs × (kept fs ≡ map sent sends ++ kept gs)
 sends_kept fs [] rest o is = (fs, is, o, refl)
 sends_kept [] (s ∷ sends) rest o is = absurd cc
-sends_kept ((b, took note) ∷ fs) (s ∷ sends) rest o is = absurd (let bad : took note ≡ sent s = cc in cc)
+sends_kept ((b, took note) ∷ fs) (s ∷ sends) rest o is = absurd cc
 sends_kept ((b, sent x) ∷ fs) (s ∷ sends) rest o is =
     let same : sent x ≡ sent s = cc in
     let r = sends_kept fs sends rest o.1 (cc) in
@@ -68,7 +68,7 @@ responses_kept : (next : Next) (p n state : ℕ) (notes : List Note) (fs : List 
 responses_kept next p n state [] [] o is = ([], refl)
 responses_kept next p n state [] (x ∷ fs) o is = absurd cc
 responses_kept next p n state (note ∷ notes) [] o is = absurd cc
-responses_kept next p n state (note ∷ notes) ((b, sent s) ∷ fs) o is = absurd (let bad : sent s ≡ took note = cc in cc)
+responses_kept next p n state (note ∷ notes) ((b, sent s) ∷ fs) o is = absurd cc
 responses_kept next p n state (note ∷ notes) ((false, took x) ∷ fs) o is = ([], none_kept fs o.1)
 responses_kept next p n state (note ∷ notes) ((true, took x) ∷ fs) o is =
     let same : took x ≡ took note = cc in
@@ -79,10 +79,7 @@ responses_kept next p n state (note ∷ notes) ((true, took x) ∷ fs) o is =
 notes_of-responses : (next : Next) (p n state : ℕ) (notes : List Note) → notes_of (responses next p n state notes) ≡ notes
 notes_of-responses next p n state [] = refl
 notes_of-responses next p n state (note ∷ notes) =
-    let sends = (next p n state note).sends.items in
-    let rest = responses next p n (next p n state note).state notes in
-    ap (λ (ys : List Note). note ∷ ys) (notes_of-append (map sent sends) rest ∙ ap (λ (ys : List Note). ys ++ notes_of rest) (notes_of-sent sends)
-    ∙ notes_of-responses next p n (next p n state note).state notes)
+    simp (notes_of-append, notes_of-sent) (ap (λ (ys : List Note). note ∷ ys) (notes_of-responses next p n (next p n state note).state notes))
 
 -- so a member's kept actions are those of a run
 responds_kept : (next : Next) (p n : ℕ) (sends : List (ℕ × Note)) (notes : List Note) (fs : List Flagged) → Orderly true fs
@@ -91,8 +88,7 @@ responds_kept next p n sends notes fs o is =
     let r = sends_kept fs sends (responses next p n 0 notes) o is in
     let some = responses_kept next p n 0 notes r.0 r.2 r.1 in
     let all : kept fs ≡ map sent sends ++ responses next p n 0 some.0 = r.3 ∙ ap (λ (ys : List Action). map sent sends ++ ys) some.1 in
-    let taken : notes_of (kept fs) ≡ some.0 = ap notes_of all ∙ notes_of-append (map sent sends) (responses next p n 0 some.0)
-    ∙ ap (λ (ys : List Note). ys ++ notes_of (responses next p n 0 some.0)) (notes_of-sent sends) ∙ notes_of-responses next p n 0 some.0 in
+    let taken : notes_of (kept fs) ≡ some.0 = ap notes_of all ∙ simp (notes_of-append, notes_of-sent, notes_of-responses) in
     rw taken all
 
 -- a send is kept where each receipt of its member that comes before it is
@@ -129,21 +125,11 @@ module _ (n : ℕ) (keep : Mark → Bool) (t : List Event) (obeys : WellFormed n
 
   flags-flagged : (u : List Event) → flags (flagged u) ≡ filter_map (action_of t p) u
   flags-flagged [] = refl
-  flags-flagged (e ∷ u) = at (action_of t p e) (flags-flagged u) where
-    at : (o : Option Action) → flags (flagged u) ≡ filter_map (action_of t p) u
-        → flags (cons_option (option_map (λ (a : Action). (keeps e, a)) o) (flagged u)) ≡ cons_option o (filter_map (action_of t p) u)
-    at None ih = ih
-    at (Some a) ih = ap (λ (ys : List Action). a ∷ ys) ih
+  flags-flagged (e ∷ u) = grind (arith, flags-flagged u)
 
   kept-flagged : (u : List Event) → kept (flagged u) ≡ filter_map (action_of t p) (filter keeps u)
   kept-flagged [] = refl
-  kept-flagged (e ∷ u) = at (action_of t p e) (keeps e) refl refl (kept-flagged u) where
-    at : (o : Option Action) (b : Bool) → action_of t p e ≡ o → keeps e ≡ b → kept (flagged u) ≡ filter_map (action_of t p) (filter keeps u)
-        → kept (cons_option (option_map (λ (a : Action). (keeps e, a)) (action_of t p e)) (flagged u)) ≡ filter_map (action_of t p) (cond (keeps e) (e ∷ filter keeps u) (filter keeps u))
-    at None true eo eb ih = rw (eb, eo) ih
-    at None false eo eb ih = rw (eb, eo) ih
-    at (Some a) true eo eb ih = rw (eb, eo) (ap (λ (ys : List Action). a ∷ ys) ih)
-    at (Some a) false eo eb ih = rw (eb, eo) ih
+  kept-flagged (e ∷ u) = grind (arith, kept-flagged u)
 
   -- the state of a member after the events u: whether its receipts so far are kept
   abbrev Alive : Bool → List Event → Type 0
