@@ -48,10 +48,7 @@ found-named p k [] d is = absurd cc
 found-named p k (e ∷ table) d is = at (is_of_receipt p k e) refl is (found-named p k table d) where
   at : (b : Bool) → is_of_receipt p k e ≡ b → option_map (λ (x : Entry). x.det) (cond b (Some e) (find (is_of_receipt p k) table)) ≡ Some d
       → (found p k table ≡ Some d → Names table d × (d.to ≡ p) × (d.rsn ≡ k)) → Names (e ∷ table) d × (d.to ≡ p) × (d.rsn ≡ k)
-  at true yes' g rest =
-      let same : e.det ≡ d = cc in
-      let parts = and_parts (e.det.to == p) (e.det.rsn == k) yes' in
-      ((e, Contains-here e table, same), ap (λ (x : Determinant). x.to) (sym same) ∙ eqb-true e.det.to p parts.0, ap (λ (x : Determinant). x.rsn) (sym same) ∙ eqb-true e.det.rsn k parts.1)
+  at true yes' g rest = ((e, Contains-here e table, cc), grind (arith, nat_tests), grind (arith, nat_tests))
   at false no' g rest = (let r = rest g in ((r.0.0, Contains-there e table r.0.0 r.0.1, r.0.2), r.1, r.2))
 
 -- where it finds none, no entry is of that receipt
@@ -62,12 +59,7 @@ found-none p k (e ∷ table) d is named to rsn = at (is_of_receipt p k e) refl i
       → (found p k table ≡ None → Names table d → d.to ≡ p → d.rsn ≡ k → ⊥) → ⊥
   at true yes' g rest = cc
   at false no' g rest = elim (Contains-cons_cases e table named.0 named.1) [
-    | inl first ↦
-        let det : e.det ≡ d = ap (λ (x : Entry). x.det) first ∙ named.2 in
-        let t : e.det.to ≡ p = ap (λ (x : Determinant). x.to) det ∙ to in
-        let r : e.det.rsn ≡ k = ap (λ (x : Determinant). x.rsn) det ∙ rsn in
-        let yes' : is_of_receipt p k e ≡ true = (let a : (e.det.to == p) ≡ true = grind (arith, nat_tests) in let b : (e.det.rsn == k) ≡ true = grind (arith, nat_tests) in rw (a, b) refl) in
-        cc
+    | inl first ↦ let det : e.det ≡ d = ap (λ (x : Entry). x.det) first ∙ named.2 in grind (arith, nat_tests, no', ap (λ (x : Determinant). x.to) det, ap (λ (x : Determinant). x.rsn) det)
     | inr later ↦ rest g (named.0, later, named.2) to rsn
   ]
 
@@ -192,11 +184,7 @@ module _ (next : Next) (old : GroupRecord) (sound : IsSound next old) (new : Lis
     send-event : (j q k to : ℕ) (o : Option Event) → slice_get new j ≡ o → option_map mark_of o ≡ Some (Send q k to) → (x : Note) × (slice_get new j ≡ Some (event.Send q k to x))
     send-event j q k to None is h = absurd cc
     send-event j q k to (Some (event.Receipt p r q' k')) is h = absurd cc
-    send-event j q k to (Some (event.Send q' k' to' x)) is h =
-        let e1 : q' ≡ q = cc in
-        let e2 : k' ≡ k = cc in
-        let e3 : to' ≡ to = cc in
-        (x, is ∙ (rw (e1, e2, e3) refl))
+    send-event j q k to (Some (event.Send q' k' to' x)) is h = (x, cc)
 
     -- a message whose sender has replayed all that comes before it is in the sender's log
     sent-again : (q k to : ℕ) → q < old.config.members → Has (map mark_of new) (Send q k to)

@@ -2,6 +2,7 @@
 use Rattle.std.proofs.Common.{◌≡◌, ◌≢◌, ℕ, zero, suc, ◌<◌, ◌≤◌, length-append, ◌==◌, Bool, true, false, cond, List, [], ◌∷◌, ◌++◌, length}
 use Rattle.std.proofs.Common.{take, map, get_or, Some, slice_get, refl, sym, ap, ◌∙◌, arith}
 use Rattle.std.specs.Prelude.{slice_set}
+use Rattle.std.proofs.lemmas.Bool.{eqb-true}
 use Rattle.std.proofs.lemmas.Bool.Decides.{nat_tests}
 use Rattle.std.proofs.lemmas.List.{take_all, take-append-le, length-set, length-replicate, get_or-replicate, get_or-set_same, get_or-set_other}
 use Rattle.std.proofs.lemmas.List.Sums.{fold_push}
@@ -54,11 +55,9 @@ replayed-step next n starts trace p m d note obeys replayed here noted = record 
     at : (q : ℕ) → q < 16 → (b : Bool) → (d.from == q) ≡ b
         → get_or (slice_set m.last d.from d.ssn) q 0 ≡ cond (d.from == q) d.ssn (last_among (take m.received (receipts_at (map mark_of trace) p)) q)
     at q below true is =
-        let same : d.from ≡ q = grind (arith, nat_tests) in
+        let same = eqb-true d.from q is in
         rw (is, ← same) (get_or-set_same m.last d.from d.ssn 0 (omega (arith, replayed.places, same, below)))
-    at q below false is =
-        let other : q ≢ d.from = grind (arith, nat_tests) in
-        rw is (get_or-set_other m.last d.from q d.ssn 0 other ∙ replayed.last q below)
+    at q below false is = rw is (get_or-set_other m.last d.from q d.ssn 0 (grind (arith, nat_tests)) ∙ replayed.last q below)
 
 -- a member at the fold of its receipts has replayed them all
 pub fold-received : (next : Next) (r : GroupRecord) (m : ℕ) → WellFormed r.config.members (marks r) → IsFold next r m → (member r m).received ≡ length (receipts_at (marks r) m)
@@ -97,12 +96,7 @@ replayed-fold next r m obeys replayed count =
 receipt-event : (t : List Event) (i to rsn from ssn : ℕ) → slice_get (map mark_of t) i ≡ Some (Receipt to rsn from ssn) → slice_get t i ≡ Some (event.Receipt to rsn from ssn)
 receipt-event [] i to rsn from ssn here = absurd cc
 receipt-event (event.Send q k p x ∷ t) zero to rsn from ssn here = absurd cc
-receipt-event (event.Receipt p r q k ∷ t) zero to rsn from ssn here =
-    let e1 : p ≡ to = cc in
-    let e2 : r ≡ rsn = cc in
-    let e3 : q ≡ from = cc in
-    let e4 : k ≡ ssn = cc in
-    rw (e1, e2, e3, e4) refl
+receipt-event (event.Receipt p r q k ∷ t) zero to rsn from ssn here = cc
 receipt-event (e ∷ t) (suc i) to rsn from ssn here = receipt-event t i to rsn from ssn here
 
 -- lists that agree on their first elements
@@ -112,9 +106,9 @@ take-agree zero xs ys within agree = (omega arith, refl)
 take-agree (suc k) [] ys within agree = absurd (omega arith)
 take-agree (suc k) (x ∷ xs) [] within agree = (let e = agree 0 x (omega arith) refl in cc)
 take-agree (suc k) (x ∷ xs) (y ∷ ys) within agree =
-    let first : y ≡ x = (let e = agree 0 x (omega arith) refl in cc) in
+    let first = agree 0 x (omega arith) refl in
     let rest = take-agree k xs ys (omega arith) (λ j z below at. agree (suc j) z (omega arith) at) in
-    (omega (arith, rest.0), (rw first (ap (λ zs. x ∷ zs) rest.1)))
+    (omega (arith, rest.0), cc)
 
 -- a member that has replayed its first receipts of a trace has replayed them of another trace that has the same
 replayed-same : (next : Next) (n : ℕ) (starts : List Start) (old new : List Event) (p : ℕ) (m : MemberRecord)

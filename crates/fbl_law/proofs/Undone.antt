@@ -1,5 +1,5 @@
 -- The receipts that a recovery undoes.
-use Rattle.std.proofs.Common.{◌≡◌, ℕ, suc, ◌+◌, not, Bool, true, false, cond, List, [], ◌∷◌, length, map, Option, Some, None, slice_get, refl, sym, ap, ◌∙◌}
+use Rattle.std.proofs.Common.{arith, ◌≡◌, ℕ, suc, ◌+◌, not, Bool, true, false, cond, List, [], ◌∷◌, length, map, Option, Some, None, slice_get, refl, sym, ap, ◌∙◌}
 use Rattle.std.specs.List.{filter, filter_map, cons_option}
 use Rattle.std.proofs.lemmas.List.Filters.{length-filter_both}
 use Rattle.fbl_base.specs.declared.trace.Determinant.{Determinant}
@@ -21,13 +21,9 @@ use Rattle.fbl_law.proofs.ReplayFromGathered.{cut-recorded, recorded-cut}
 filter_map-after : {X Y : Type 0} (K : X → Bool) (R : Y → Bool) (g : X → Option Y) (xs : List X)
     → ((i : ℕ) (x : X) (y : Y) → slice_get xs i ≡ Some x → g x ≡ Some y → K x ≡ R y) → filter_map g (filter K xs) ≡ filter R (filter_map g xs)
 filter_map-after K R g [] agree = refl
-filter_map-after {X} {Y} K R g (x ∷ xs) agree = at (g x) refl (K x) refl (λ y. agree 0 x y refl) (filter_map-after K R g xs (λ i. agree (suc i))) where
-  at : (o : Option Y) → g x ≡ o → (b : Bool) → K x ≡ b → ((y : Y) → g x ≡ Some y → K x ≡ R y) → filter_map g (filter K xs) ≡ filter R (filter_map g xs)
-      → filter_map g (cond (K x) (x ∷ filter K xs) (filter K xs)) ≡ filter R (cons_option o (filter_map g xs))
-  at None eo true eb same ih = rw (eb, eo) ih
-  at None eo false eb same ih = rw eb ih
-  at (Some y) eo true eb same ih = (let r : R y ≡ true = sym (same y eo) ∙ eb in rw (eb, eo, r) (ap (λ ys. y ∷ ys) ih))
-  at (Some y) eo false eb same ih = (let r : R y ≡ false = sym (same y eo) ∙ eb in rw (eb, r) ih)
+filter_map-after {X} {Y} K R g (x ∷ xs) agree =
+    let here : (y : Y) → g x ≡ Some y → K x ≡ R y = λ y. agree 0 x y refl in
+    grind (arith, here, filter_map-after K R g xs (λ i. agree (suc i)))
 
 module _ (next : Next) (old : GroupRecord) (sound : IsSound next old) (new : List Event) (cut : IsEventCut (Stays (knowledge old)) old.trace new) where
   is-cut : map mark_of new ≡ filter cut.0 (marks old)
