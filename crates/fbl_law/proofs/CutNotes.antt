@@ -1,5 +1,5 @@
 -- What a cut keeps of notes and actions.
-use Rattle.std.proofs.Common.{◌≡◌, ℕ, ◌==◌, ◌⊎◌, inl, inr, Bool, true, false, List, map, Some, None, slice_get, refl, sym, ◌∙◌, arith}
+use Rattle.std.proofs.Common.{◌≡◌, ℕ, ◌⊎◌, inl, inr, Bool, true, List, map, Some, None, slice_get, refl, sym, ◌∙◌}
 use Rattle.std.specs.List.{filter, filter_map}
 use Rattle.std.proofs.lemmas.Bool.{cases_eq, ne_eqb}
 use Rattle.std.proofs.lemmas.Option.{slice_get-map}

@@ -1,5 +1,5 @@
 -- The numbers of a member's events in a trace.
-use Rattle.std.proofs.Common.{◌-◌, ◌≡◌, ℕ, zero, suc, ◌+◌, ◌<◌, ◌≤◌, Bool, true, false, cond, List, [], ◌∷◌, ◌++◌, take, count_by, refl, ap, ◌∙◌, arith}
+use Rattle.std.proofs.Common.{◌-◌, ◌≡◌, ℕ, zero, suc, ◌+◌, ◌<◌, ◌≤◌, Bool, true, false, cond, List, [], ◌∷◌, ◌++◌, take, count_by, refl, arith}
 use Rattle.std.proofs.lemmas.Bool.Decides.{nat_tests}
 use Rattle.std.proofs.Math.Seq.{take-append-add}
 use Rattle.std.proofs.lemmas.List.Sums.{sum_by-append, sum_by-cons}
@@ -13,7 +13,6 @@ use Rattle.fbl_law.specs.Knowledge.{Knowledge, IsBeforeCheckpoint, IsCheckpointK
 use Rattle.fbl_law.specs.Sound.{receipts_at}
 use Rattle.fbl_law.proofs.Lists.{At-behind, some-at}
 use Rattle.fbl_law.proofs.Receipts.{receipts_at-number, receipts_at-Has, length-receipts_at}
-
 
 -- the elements that pass a test, counted from the front
 counted-at : (p : Mark → Bool) (t : List Mark) (k : ℕ) → k < count_by p t → (i : ℕ) × (e : Mark) × At t i e × (p e ≡ true) × (count_by p (take i t) ≡ k)

@@ -1,6 +1,6 @@
 -- The receipts that a recovery undoes.
-use Rattle.std.proofs.Common.{arith, ◌≡◌, ℕ, suc, ◌+◌, not, Bool, true, false, cond, List, [], ◌∷◌, length, map, Option, Some, None, slice_get, refl, sym, ap, ◌∙◌}
-use Rattle.std.specs.List.{filter, filter_map, cons_option}
+use Rattle.std.proofs.Common.{arith, ◌≡◌, ℕ, suc, ◌+◌, not, Bool, List, [], ◌∷◌, length, map, Option, Some, slice_get, refl, ap, ◌∙◌}
+use Rattle.std.specs.List.{filter, filter_map}
 use Rattle.std.proofs.lemmas.List.Filters.{length-filter_both}
 use Rattle.fbl_base.specs.declared.trace.Determinant.{Determinant}
 use Rattle.fbl_base.specs.declared.trace.Event.{Event}
