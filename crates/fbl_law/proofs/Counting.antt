@@ -19,7 +19,7 @@ use Rattle.fbl_law.specs.Steps.{Stays, IsEventCut}
 use Rattle.fbl_law.specs.Groups.{GroupRecord, knowledge, receipts}
 use Rattle.fbl_law.specs.Sound.{receipts_at, IsReplayed, IsSound}
 use Rattle.fbl_law.specs.Replaying.{count_in}
-use Rattle.fbl_law.proofs.GroupRecovery.{cut-lawful}
+use Rattle.fbl_law.proofs.GroupRecovery.{cut-obeys, cut-shorter}
 use Rattle.fbl_base.proofs.Sifted.{length-left, length-filter_map}
 use Rattle.fbl_law.proofs.Receipts.{receipts_at-number}
 use Rattle.fbl_law.proofs.Safe.{down_or_up}
@@ -108,9 +108,8 @@ module _ (next : Next) (old : GroupRecord) (sound : IsSound next old) (new : Lis
 
   pub to-replay-short : length (filter (is_of old.down) (receipts (map mark_of new))) ≤ length old.trace
   to-replay-short =
-      let left : length new ≤ length old.trace = (let e = cut.1 in rw e (length-left (λ x. cut.0 (mark_of x)) old.trace)) in
       let some = length-left (is_of old.down) (receipts (map mark_of new)) in
-      omega (arith, left, some, length-filter_map determinant_of (map mark_of new), length-map new mark_of)
+      omega (arith, cut-shorter next old sound new cut, some, length-filter_map determinant_of (map mark_of new), length-map new mark_of)
 
   -- so far they have replayed no more than that
   pub replayed-most : (work : ℕ → MemberRecord)
@@ -125,4 +124,4 @@ module _ (next : Next) (old : GroupRecord) (sound : IsSound next old) (new : Lis
       → count_in old.down (λ p. (work p).received - past p) old.config.members ≡ length (filter (λ d. set.contains old.down d.to && nat_lt (past d.to) d.rsn) (receipts (map mark_of new)))
   replayed-count work past all =
       count_in-same old.down (λ p. (work p).received - past p) (λ p. length (receipts_at (map mark_of new) p) - past p) old.config.members (λ p below down. ap (λ k. k - past p) (all p below))
-      ∙ count_in-beyond old.down past old.config.members old.config.members (map mark_of new) sound.down (cut-lawful next old sound new cut).0.well_formed
+      ∙ count_in-beyond old.down past old.config.members old.config.members (map mark_of new) sound.down (cut-obeys next old sound new cut)

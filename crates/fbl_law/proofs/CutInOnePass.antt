@@ -29,7 +29,7 @@ use Rattle.fbl_law.specs.Replaying.{stops_at, cut_from, recovered_trace}
 use Rattle.fbl_law.proofs.GroupFacts.{Names-held, held-Names}
 use Rattle.fbl_law.proofs.Appended.{once}
 use Rattle.fbl_law.proofs.Lists.{At-seam}
-use Rattle.fbl_law.proofs.GatheredTables.{entries_gathered, recorded_gathered}
+use Rattle.fbl_law.proofs.GatheredTables.{gathered_recorded, recorded_gathered}
 
 same_mark : Mark → Mark → Bool
 same_mark (Send q k to) (Send q' k' to') = (q == q') && ((k == k') && (to == to'))
@@ -158,17 +158,10 @@ module _ (next : Next) (old : GroupRecord) (sound : IsSound next old) where
   recorded-held d recorded = held-Names (recovery_table (knowledge old)) d (recorded_gathered old.config.f (knowledge old) sound.causes.down sound.causes.checkpoints d recorded)
 
   held-recorded : (d : Determinant) → is_held (recovery_table (knowledge old)) d ≡ true → IsRecorded (knowledge old) d
-  held-recorded d held =
-      let named = Names-held (recovery_table (knowledge old)) d held in
-      let told = (entries_gathered old.config.f (knowledge old) sound.causes.down named.0 named.1).0 in
-      rw named.2 at told
-
-  is-held : (d : Determinant) (b : Bool) → is_held (recovery_table (knowledge old)) d ≡ b → (b ≡ false → IsRecorded (knowledge old) d) → IsRecorded (knowledge old) d
-  is-held d true is otherwise = held-recorded d is
-  is-held d false is otherwise = otherwise refl
+  held-recorded d held = gathered_recorded old.config.f (knowledge old) sound.causes.down d (Names-held (recovery_table (knowledge old)) d held)
 
   keep-stays : (e : Mark) → Has (marks old) e → keep e ≡ true → Stays (knowledge old) e
-  keep-stays e has kept down c at_e up_to = is-held c (is_held (recovery_table (knowledge old)) c) refl (λ none. absurd (lose none))
+  keep-stays e has kept down c at_e up_to = elim (cases_Bool (is_held (recovery_table (knowledge old)) c)) [ inl held ↦ held-recorded c held | inr unheld ↦ absurd (lose unheld) ]
     where
       at-place : UpTo (marks old) (receipt_of c) e → (i : ℕ) × (j : ℕ) × (i ≤ j) × At (marks old) i (receipt_of c) × At (marks old) j e
       at-place (inl same) = (has.0, has.0, omega arith, (rw same has.1), has.1)

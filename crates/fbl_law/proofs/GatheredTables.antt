@@ -119,6 +119,9 @@ module _ (f : ℕ) (r : Knowledge) (empty : IsDownEmpty f r) where
         λ m h. elim (Includes-union was.0.known r.down m h) [ inl told ↦ inr (known.1 m told) | inr down ↦ inl down ],
       )
 
+  pub gathered_recorded : (d : Determinant) → Names (recovery_table r) d → IsRecorded r d
+  gathered_recorded d named = subst (λ (c : Determinant). IsRecorded r c) named.2 (entries_gathered named.0 named.1).0
+
   source_gathered : (t : List Entry) (d : Determinant) → Contains sources t → Names t d → Names (recovery_table r) d
   source_gathered t d among named = Names-changed (mark r.down) (λ e. refl) (gathered_all [] sources) d (gathered_all-named [] sources t d among named)
 

@@ -7,6 +7,7 @@ use Rattle.fbl_base.specs.declared.trace.Event.{Event}
 use Rattle.fbl_base.specs.declared.trace.Mark.{Mark}
 use Rattle.fbl_base.specs.Events.{mark_of, member_of, receipt_of}
 use Rattle.fbl_base.specs.Precedence.{Has, itself, step}
+use Rattle.fbl_base.specs.Rules.{WellFormed}
 use Rattle.fbl_base.specs.Fold.{Next, Lawful, note_of}
 use Rattle.fbl_table.specs.Tables.{piggybacked}
 use Rattle.fbl_member.specs.Members.{Message, MemberRecord}
@@ -18,7 +19,8 @@ use Rattle.fbl_law.specs.GroupSteps.{IsRecovery}
 use Rattle.fbl_law.specs.GroupLaws.{GroupRecoveryKeeps}
 use Rattle.fbl_law.proofs.Safe.{down_or_up, never_both, IsRecorded-reached}
 use Rattle.fbl_base.proofs.Sifted.{length-left}
-use Rattle.fbl_law.proofs.CutWellFormed.{KeepsCauses}
+use Rattle.fbl_base.proofs.PrecedenceLaws.{Has-filter}
+use Rattle.fbl_law.proofs.CutWellFormed.{KeepsCauses, Has-kept, kept-Has, marks-filter}
 use Rattle.fbl_law.proofs.CutStays.{cut_is_lawful, stays_is_recorded}
 use Rattle.fbl_law.proofs.Recovery.{recovery_keeps, cut_is_recorded}
 use Rattle.fbl_law.proofs.ReplayedRecords.{replayed-cut}
@@ -38,6 +40,22 @@ module _ (next : Next) (old : GroupRecord) (sound : IsSound next old) (new : Lis
 
   pub cut-lawful : Lawful next old.config.members old.config.starts new × IsCut (Stays (knowledge old)) (marks old) (map mark_of new)
   cut-lawful = cut_is_lawful next old.config.members old.config.f old.config.starts (knowledge old) old.trace new sound.causes refl cut sound.lawful
+
+  pub cut-obeys : WellFormed old.config.members (map mark_of new)
+  cut-obeys = cut-lawful.0.well_formed
+
+  pub cut-marks : map mark_of new ≡ filter cut.0 (marks old)
+  cut-marks = rw cut.1 (marks-filter cut.0 old.trace)
+
+  pub cut-shorter : length new ≤ length old.trace
+  cut-shorter = rw cut.1 (length-left (λ e. cut.0 (mark_of e)) old.trace)
+
+  -- the events that are left are those that are kept
+  pub cut-was : (e : Mark) → Has (map mark_of new) e → Has (marks old) e × (cut.0 e ≡ true)
+  cut-was e there = let left = rw cut-marks at there in (Has-filter cut.0 (marks old) e left, kept-Has cut.0 (marks old) e left)
+
+  pub cut-left : (e : Mark) → Has (marks old) e → cut.0 e ≡ true → Has (map mark_of new) e
+  cut-left e there kept = rw cut-marks (Has-kept cut.0 (marks old) e there kept)
 
   -- a survivor stays at the fold of its receipts
   pub fold-survives : (r : GroupRecord) (m : ℕ) → IsUp (knowledge old) m → r.trace ≡ new → r.config ≡ old.config → member r m ≡ member old m → IsFold next old m → IsFold next r m
@@ -104,9 +122,6 @@ module _ (next : Next) (old new : GroupRecord) (step : IsRecovery next old new) 
   nobody : (m : ℕ) → IsUp (knowledge new) m
   nobody m = rw step.rest.nobody_down (set.contains-empty nat_cmp m)
 
-  shorter : length new.trace ≤ length old.trace
-  shorter = (let is : new.trace ≡ filter (λ e. step.trace.0 (mark_of e)) old.trace = step.trace.1 in rw is (length-left (λ e. step.trace.0 (mark_of e)) old.trace))
-
   pub recovery-keeps : IsSound next new
   recovery-keeps =
       let config : new.config ≡ old.config = step.rest.config in
@@ -117,7 +132,7 @@ module _ (next : Next) (old new : GroupRecord) (step : IsRecovery next old new) 
         saved = λ m below. rw config (saved-after m (rw config at below));
         down = λ m down. never_both new.down m down (nobody m);
         lawful = rw config (cut-lawful next old sound new.trace step.trace).0;
-        room = rw config (omega (arith, shorter, sound.room));
+        room = rw config (omega (arith, cut-shorter next old sound new.trace step.trace, sound.room));
         causes = rw config (recovery_keeps old.config.members old.config.f (knowledge old) (knowledge new) recovery-knowledge sound.causes);
         folds = λ m below up. folds-after m (rw config at below);
         blanks = λ m below down. never_both new.down m down (nobody m);

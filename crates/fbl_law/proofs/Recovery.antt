@@ -1,5 +1,5 @@
 -- A recovery keeps knowledge sound.
-use Rattle.std.proofs.Common.{◌≡◌, ℕ, zero, suc, ◌≤◌, length, arith, ◌↔◌, Bool, true, inl, inr, ◌⊎◌, refl, sym, subst, ap, ◌∙◌, Some}
+use Rattle.std.proofs.Common.{◌≡◌, ℕ, zero, suc, ◌≤◌, length, arith, ◌↔◌, Bool, true, inl, inr, ◌⊎◌, refl, sym, ap, ◌∙◌, Some}
 use Rattle.std.specs.List.{Contains, filter}
 use Rattle.std.specs.Ordering.{nat_cmp}
 use Rattle.std.specs.FinSet as set
@@ -20,7 +20,7 @@ use Rattle.fbl_law.specs.Knowledge.{MatchesTrace, checkpoint, IsBeforeCheckpoint
 use Rattle.fbl_law.specs.Steps.{Stays, UpTo, IsRecovered}
 use Rattle.fbl_law.proofs.CutWellFormed.{Has-kept, kept-Has, KeepsCauses, Has-before, WellFormed-kept, map-kept, taken_at}
 use Rattle.fbl_law.proofs.Appended.{Earlier-joined}
-use Rattle.fbl_law.proofs.GatheredTables.{IsGathered, entries_gathered, recorded_gathered}
+use Rattle.fbl_law.proofs.GatheredTables.{IsGathered, entries_gathered, gathered_recorded, recorded_gathered}
 use Rattle.fbl_law.proofs.Numbered.{receipt-there, send-there, receipt-number}
 use Rattle.fbl_law.proofs.Safe.{down_or_up, never_both, nobody_down_empty, IsRecorded-depended, IsRecorded-before, IsRecorded-saved, IsRecorded-reached, Has-recorded}
 use Rattle.fbl_law.specs.Laws.{RecoveryKeeps, CutIsClosed, CutIsRecorded, RecoveryGainsHolders}
@@ -134,7 +134,7 @@ module _ (n f : ℕ) (old new : Knowledge) (s : IsRecovered f old new) (sound : 
   holders_same d m = (
     λ holds. elim (down_or_up old.down m) [
       | inr up ↦ inl (up, rw (s.tables m up) at holds.1)
-      | inl down ↦ inr (down, subst (λ (c : Determinant). IsRecorded old c) holds.1.2 (entries m holds.1.0 down holds.1.1).0)
+      | inl down ↦ inr (down, gathered_recorded f old sound.down d (rw (s.gathered m down) at holds.1))
     ],
     Holds-recovered d m,
   )

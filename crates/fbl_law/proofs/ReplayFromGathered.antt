@@ -1,7 +1,7 @@
 -- How the members that are down replay what the survivors have recorded.
 use Rattle.std.proofs.Common.{◌≡◌, ℕ, suc, ◌+◌, ◌<◌, ◌≤◌, inl, inr, Bool, true, false, cond, List, [], ◌∷◌, ◌++◌, length, take, drop, map}
 use Rattle.std.proofs.Common.{Option, Some, None, option_map, slice_get, refl, sym, subst, ap, ◌∙◌, arith, length-take, length-append}
-use Rattle.std.specs.List.{filter, find}
+use Rattle.std.specs.List.{find}
 use Rattle.std.proofs.lemmas.Bool.{cases_lt}
 use Rattle.std.proofs.lemmas.Bool.Decides.{nat_tests}
 use Rattle.std.proofs.lemmas.List.{take-append-drop, map-append, length-map}
@@ -18,7 +18,6 @@ use Rattle.fbl_base.specs.Precedence.{Has, itself}
 use Rattle.fbl_base.specs.Rules.{is_receipt_of, is_send_of, WellFormed}
 use Rattle.fbl_base.specs.Fold.{Next, Progress, numbered, after_notes, note_of}
 use Rattle.fbl_base.proofs.Gets.{At-front, At-below, split-at}
-use Rattle.fbl_base.proofs.PrecedenceLaws.{Has-filter}
 use Rattle.fbl_base.proofs.RulesLaws.{sent-before, WellFormed-front}
 use Rattle.fbl_table.specs.declared.entry.Entry.{Entry}
 use Rattle.fbl_table.specs.Tables.{found, is_of_receipt}
@@ -26,18 +25,16 @@ use Rattle.fbl_member.specs.Members.{MemberRecord, logged_note, replayed_by}
 use Rattle.fbl_member.proofs.Logs.{length-numbered}
 use Rattle.fbl_law.specs.Knowledge.{Names, IsUp, IsDown, IsRecorded}
 use Rattle.fbl_law.specs.Steps.{Stays, IsEventCut, recovery_table}
-use Rattle.fbl_law.specs.Groups.{GroupRecord, marks, knowledge}
+use Rattle.fbl_law.specs.Groups.{GroupRecord, knowledge}
 use Rattle.fbl_law.specs.Sound.{received_notes, receipts_at, IsReplayed, IsSound}
 use Rattle.fbl_law.specs.Stuck.{IsSentAgain, IsStuck}
 use Rattle.fbl_law.specs.Replaying.{IsNextReplay}
-use Rattle.fbl_base.proofs.Sifted.{length-left}
 use Rattle.fbl_law.proofs.Lists.{some-at, Contains-here, Contains-there, Contains-cons_cases, Contains-none}
 use Rattle.fbl_law.proofs.Safe.{down_or_up, IsRecorded-before, Has-recorded}
-use Rattle.fbl_law.proofs.CutWellFormed.{marks-filter, Has-kept, kept-Has}
 use Rattle.fbl_law.proofs.CutStays.{stays_is_recorded}
-use Rattle.fbl_law.proofs.GatheredTables.{entries_gathered, recorded_gathered}
+use Rattle.fbl_law.proofs.GatheredTables.{gathered_recorded, recorded_gathered}
 use Rattle.fbl_law.proofs.NeverStuck.{never_stuck}
-use Rattle.fbl_law.proofs.GroupRecovery.{cut-lawful}
+use Rattle.fbl_law.proofs.GroupRecovery.{cut-lawful, cut-obeys, cut-shorter, cut-was, cut-left}
 use Rattle.fbl_law.proofs.Logs.{logged-noted, logged-by, log-short}
 use Rattle.fbl_law.proofs.Receipts.{receipts_at-number, receipts_at-Has, Has-receipts_at, length-receipts_at}
 use Rattle.fbl_law.proofs.ReplayedRecords.{replayed-step}
@@ -59,7 +56,9 @@ found-none p k (e ∷ table) d is named to rsn = at (is_of_receipt p k e) refl i
       → (found p k table ≡ None → Names table d → d.to ≡ p → d.rsn ≡ k → ⊥) → ⊥
   at true yes' g rest = cc
   at false no' g rest = elim (Contains-cons_cases e table named.0 named.1) [
-    | inl first ↦ let det : e.det ≡ d = ap (λ (x : Entry). x.det) first ∙ named.2 in grind (arith, nat_tests, no', ap (λ (x : Determinant). x.to) det, ap (λ (x : Determinant). x.rsn) det)
+    | inl first ↦
+        let det : e.det ≡ d = ap (λ (x : Entry). x.det) first ∙ named.2 in
+        grind (arith, nat_tests, no', ap (λ (x : Determinant). x.to) det, ap (λ (x : Determinant). x.rsn) det)
     | inr later ↦ rest g (named.0, later, named.2) to rsn
   ]
 
@@ -78,42 +77,27 @@ module _ (next : Next) (old : GroupRecord) (sound : IsSound next old) (new : Lis
   abbrev pub Replays : ℕ → MemberRecord → Type 0
   Replays p m = IsReplayed next old.config.members old.config.starts new p m
 
-  pub cut-obeys : WellFormed old.config.members (map mark_of new)
-  cut-obeys = (cut-lawful next old sound new cut).0.well_formed
-
-  is-marks : map mark_of new ≡ filter cut.0 (marks old)
-  is-marks = (let e = cut.1 in rw e (marks-filter cut.0 old.trace))
+  obeys : WellFormed old.config.members (map mark_of new)
+  obeys = cut-obeys next old sound new cut
 
   -- a receipt is in the cut exactly where it is recorded
   pub cut-recorded : (d : Determinant) → Has (map mark_of new) (receipt_of d) → IsRecorded (knowledge old) d
   cut-recorded d there =
-      let left : Has (filter cut.0 (marks old)) (receipt_of d) = rw is-marks at there in
-      let was = Has-filter cut.0 (marks old) (receipt_of d) left in
-      let stays = (cut.2 (receipt_of d) was).0 (kept-Has cut.0 (marks old) (receipt_of d) left) in
-      (stays_is_recorded old.config.members old.config.f (knowledge old) sound.causes (receipt_of d) was).0 stays d (itself was)
-
-  pub recorded-Has : (d : Determinant) → IsRecorded (knowledge old) d → Has (marks old) (receipt_of d)
-  recorded-Has d recorded = Has-recorded (knowledge old) sound.causes.truth d recorded
+      let was = cut-was next old sound new cut (receipt_of d) there in
+      (stays_is_recorded old.config.members old.config.f (knowledge old) sound.causes (receipt_of d) was.0).0 ((cut.2 (receipt_of d) was.0).0 was.1) d (itself was.0)
 
   pub recorded-cut : (d : Determinant) → IsRecorded (knowledge old) d → Has (map mark_of new) (receipt_of d)
   recorded-cut d recorded =
-      let was = recorded-Has d recorded in
+      let was = Has-recorded (knowledge old) sound.causes.truth d recorded in
       let stays = (stays_is_recorded old.config.members old.config.f (knowledge old) sound.causes (receipt_of d) was).1
       (λ c before. IsRecorded-before old.config.f (knowledge old) sound.causes.closed c d recorded before) in
-      rw is-marks (Has-kept cut.0 (marks old) (receipt_of d) was ((cut.2 (receipt_of d) was).1 stays))
-
-  -- the gathered tables name exactly what is recorded
-  pub gathering-recorded : (d : Determinant) → Names (recovery_table (knowledge old)) d → IsRecorded (knowledge old) d
-  gathering-recorded d named = subst (λ (c : Determinant). IsRecorded (knowledge old) c) named.2 (entries_gathered old.config.f (knowledge old) sound.causes.down named.0 named.1).0
-
-  pub recorded-gathering : (d : Determinant) → IsRecorded (knowledge old) d → Names (recovery_table (knowledge old)) d
-  recorded-gathering d recorded = recorded_gathered old.config.f (knowledge old) sound.causes.down sound.causes.checkpoints d recorded
+      cut-left next old sound new cut (receipt_of d) was ((cut.2 (receipt_of d) was).1 stays)
 
   -- what the gathered tables find of a member is its receipt in the cut with that number
   pub found-receipt : (p k : ℕ) (d : Determinant) → found p (k + 1) (recovery_table (knowledge old)) ≡ Some d → slice_get (receipts_at (map mark_of new) p) k ≡ Some d
   found-receipt p k d is =
       let named = found-named p (k + 1) (recovery_table (knowledge old)) d is in
-      Has-receipts_at old.config.members (map mark_of new) p k d cut-obeys (recorded-cut d (gathering-recorded d named.0)) named.1 named.2
+      Has-receipts_at old.config.members (map mark_of new) p k d obeys (recorded-cut d (gathered_recorded old.config.f (knowledge old) sound.causes.down d named.0)) named.1 named.2
 
   -- and they find each receipt of the cut
   pub found-all : (p k : ℕ) (d : Determinant) → slice_get (receipts_at (map mark_of new) p) k ≡ Some d → found p (k + 1) (recovery_table (knowledge old)) ≡ Some d
@@ -122,8 +106,9 @@ module _ (next : Next) (old : GroupRecord) (sound : IsSound next old) (new : Lis
     has = receipts_at-Has (map mark_of new) p k d here
 
     at : (o : Option Determinant) → found p (k + 1) (recovery_table (knowledge old)) ≡ o → found p (k + 1) (recovery_table (knowledge old)) ≡ Some d
-    at None is = absurd (found-none p (k + 1) (recovery_table (knowledge old)) d is (recorded-gathering d (cut-recorded d has.0)) has.1
-        (receipts_at-number old.config.members (map mark_of new) p k d cut-obeys here))
+    at None is =
+        let named = recorded_gathered old.config.f (knowledge old) sound.causes.down sound.causes.checkpoints d (cut-recorded d has.0) in
+        absurd (found-none p (k + 1) (recovery_table (knowledge old)) d is named has.1 (receipts_at-number old.config.members (map mark_of new) p k d obeys here))
     at (Some c) is = (let there = found-receipt p k c is in is ∙ sym there ∙ here)
 
   -- a note that a replaying member's log names is the note of that message in the cut
@@ -137,12 +122,10 @@ module _ (next : Next) (old : GroupRecord) (sound : IsSound next old) (new : Lis
       → found p (m.received + 1) (recovery_table (knowledge old)) ≡ Some d → Replays d.from w → logged_note w.log d.ssn ≡ Some note
       → Replays p (replayed_by next p old.config.members m d note)
   replayed-next p m d w note replayed is sender named =
-      replayed-step next old.config.members old.config.starts new p m d note cut-obeys replayed (found-receipt p m.received d is) (replayed-noted d.from w d.ssn note sender named)
+      replayed-step next old.config.members old.config.starts new p m d note obeys replayed (found-receipt p m.received d is) (replayed-noted d.from w d.ssn note sender named)
 
   cut-short : length (map mark_of new) ≤ 8192
-  cut-short =
-      let left : length new ≤ length old.trace = (let e = cut.1 in rw e (length-left (λ x. cut.0 (mark_of x)) old.trace)) in
-      omega (arith, left, sound.room, sound.config.limit.1, length-map new mark_of)
+  cut-short = omega (arith, cut-shorter next old sound new cut, sound.room, sound.config.limit.1, length-map new mark_of)
 
   pub replays-log : (p : ℕ) (m : MemberRecord) → Replays p m → length m.log ≤ 8192
   replays-log p m replayed =
@@ -155,11 +138,11 @@ module _ (next : Next) (old : GroupRecord) (sound : IsSound next old) (new : Lis
   found-next p m d replayed is =
       let here = found-receipt p m.received d is in
       let has = receipts_at-Has (map mark_of new) p m.received d here in
-      let may = cut-obeys has.0.0 (receipt_of d) has.0.1 in
+      let may = obeys has.0.0 (receipt_of d) has.0.1 in
       let below = slice_get_within (receipts_at (map mark_of new) p) m.received d here in
       record {
         to = has.1;
-        rsn = receipts_at-number old.config.members (map mark_of new) p m.received d cut-obeys here;
+        rsn = receipts_at-number old.config.members (map mark_of new) p m.received d obeys here;
         from = may.0;
         other = λ same. may.2 (same ∙ sym has.1);
         room = omega (arith, below, length-receipts_at (map mark_of new) p, count_by-le-length (is_receipt_of p) (map mark_of new), cut-short);
@@ -194,8 +177,8 @@ module _ (next : Next) (old : GroupRecord) (sound : IsSound next old) (new : Lis
         let here = send-event j q k to (slice_get new j) refl (sym (slice_get-map mark_of new j) ∙ has.1) in
         let cut-at = split-at new j (event.Send q k to here.0) here.1 in
         let marks-at : map mark_of new ≡ map mark_of (take j new) ++ map mark_of (drop j new) = ap (map mark_of) (sym (take-append-drop j new)) ∙ map-append mark_of (take j new) (drop j new) in
-        let obeys : WellFormed old.config.members (map mark_of (take j new)) = WellFormed-front old.config.members (map mark_of (take j new)) (map mark_of (drop j new)) (rw marks-at at cut-obeys) in
-        let few : length (receipts_at (map mark_of (take j new)) q) ≤ (work q).received = at-most old.config.members (map mark_of (take j new)) q (work q).received obeys (λ c there at_q.
+        let front = WellFormed-front old.config.members (map mark_of (take j new)) (map mark_of (drop j new)) (rw marks-at at obeys) in
+        let few : length (receipts_at (map mark_of (take j new)) q) ≤ (work q).received = at-most old.config.members (map mark_of (take j new)) q (work q).received front (λ c there at_q.
         let before : there.0 < j = omega (arith, At-below (map mark_of (take j new)) there.0 (receipt_of c) there.1, length-map (take j new) mark_of, length-take j new) in
         sent c at_q (there.0, j, before, rw marks-at (At-front (map mark_of (take j new)) (map mark_of (drop j new)) there.0 (receipt_of c) there.1), has.1)) in
         let logged = logged-by next old.config.members old.config.starts new (take j new) (drop (suc j) new) q k to (work q).received here.0
@@ -206,13 +189,13 @@ module _ (next : Next) (old : GroupRecord) (sound : IsSound next old) (new : Lis
 
     is-stuck : IsStuck (map mark_of new) (λ q. (work q).received)
     is-stuck d has number sent =
-        let may = cut-obeys has.0 (receipt_of d) has.1 in
-        let here = Has-receipts_at old.config.members (map mark_of new) d.to (work d.to).received d cut-obeys has refl number in
+        let may = obeys has.0 (receipt_of d) has.1 in
+        let here = Has-receipts_at old.config.members (map mark_of new) d.to (work d.to).received d obeys has refl number in
         elim (down_or_up old.down d.to) [
           | inr up ↦ (let within = slice_get_within (receipts_at (map mark_of new) d.to) (work d.to).received d here in omega (arith, within, survivors d.to may.1 up))
           | inl down ↦
               let none = waiting d.to may.1 down d (found-all d.to (work d.to).received d here) in
-              let front = sent-before old.config.members (map mark_of new) cut-obeys has.0 d.to d.rsn d.from d.ssn has.1 in
+              let front = sent-before old.config.members (map mark_of new) obeys has.0 d.to d.rsn d.from d.ssn has.1 in
               let some = sent-again d.from d.ssn d.to may.0 (front.0, front.2) sent in
               let some-is = some.1 in
               cc
@@ -221,6 +204,6 @@ module _ (next : Next) (old : GroupRecord) (sound : IsSound next old) (new : Lis
     -- where no member that is down can go on, each has replayed all its receipts of the cut
     pub all-replayed : (p : ℕ) → p < old.config.members → (work p).received ≡ length (receipts_at (map mark_of new) p)
     all-replayed p below =
-        let most = at-most old.config.members (map mark_of new) p (work p).received cut-obeys
-        (λ d has to. subst (λ (x : ℕ). d.rsn ≤ (work x).received) to (never_stuck old.config.members (map mark_of new) (λ q. (work q).received) cut-obeys is-stuck d has)) in
+        let most = at-most old.config.members (map mark_of new) p (work p).received obeys
+        (λ d has to. subst (λ (x : ℕ). d.rsn ≤ (work x).received) to (never_stuck old.config.members (map mark_of new) (λ q. (work q).received) obeys is-stuck d has)) in
         omega (arith, most, (replays p below).within)

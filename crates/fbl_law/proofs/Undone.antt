@@ -11,7 +11,7 @@ use Rattle.fbl_base.specs.Fold.{Next}
 use Rattle.fbl_law.specs.Steps.{Stays, IsEventCut}
 use Rattle.fbl_law.specs.Groups.{GroupRecord, marks, knowledge, receipts, is_recorded}
 use Rattle.fbl_law.specs.Sound.{IsSound}
-use Rattle.fbl_law.proofs.CutWellFormed.{marks-filter, Has-kept, kept-Has}
+use Rattle.fbl_law.proofs.GroupRecovery.{cut-marks, cut-was, cut-left}
 use Rattle.fbl_law.proofs.GroupStrike.{recorded_test}
 use Rattle.fbl_base.proofs.Received.{is_receipt}
 use Rattle.fbl_law.proofs.CutByCounts.{same-test}
@@ -26,20 +26,17 @@ filter_map-after {X} {Y} K R g (x ∷ xs) agree =
     grind (arith, here, filter_map-after K R g xs (λ i. agree (suc i)))
 
 module _ (next : Next) (old : GroupRecord) (sound : IsSound next old) (new : List Event) (cut : IsEventCut (Stays (knowledge old)) old.trace new) where
-  is-cut : map mark_of new ≡ filter cut.0 (marks old)
-  is-cut = (let e = cut.1 in rw e (marks-filter cut.0 old.trace))
-
   kept-recorded : (i : ℕ) (e : Mark) (d : Determinant) → slice_get (marks old) i ≡ Some e → determinant_of e ≡ Some d → cut.0 e ≡ is_recorded old d
   kept-recorded i e d here is =
       let receipt = is_receipt e d is in
       let there : Has (marks old) (receipt_of d) = (i, here ∙ ap Some receipt) in
       ap cut.0 receipt ∙ same-test (cut.0 (receipt_of d)) (is_recorded old d)
-      (λ kept. (recorded_test next old d sound).1 (cut-recorded next old sound new cut d (rw is-cut (Has-kept cut.0 (marks old) (receipt_of d) there kept))))
-      (λ recorded. kept-Has cut.0 (marks old) (receipt_of d) (rw is-cut at (recorded-cut next old sound new cut d ((recorded_test next old d sound).0 recorded))))
+      (λ kept. (recorded_test next old d sound).1 (cut-recorded next old sound new cut d (cut-left next old sound new cut (receipt_of d) there kept)))
+      (λ recorded. (cut-was next old sound new cut (receipt_of d) (recorded-cut next old sound new cut d ((recorded_test next old d sound).0 recorded))).1)
 
   -- the receipts of the cut are those that are recorded
   pub cut-receipts : receipts (map mark_of new) ≡ filter (is_recorded old) (receipts (marks old))
-  cut-receipts = ap receipts is-cut ∙ filter_map-after cut.0 (is_recorded old) determinant_of (marks old) kept-recorded
+  cut-receipts = ap receipts (cut-marks next old sound new cut) ∙ filter_map-after cut.0 (is_recorded old) determinant_of (marks old) kept-recorded
 
   -- so the receipts that the trace loses are those that aren't
   pub cut-undone : length (receipts (map mark_of new)) + length (filter (λ d. not (is_recorded old d)) (receipts (marks old))) ≡ length (receipts (marks old))
