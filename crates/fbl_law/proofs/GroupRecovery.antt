@@ -11,7 +11,7 @@ use Rattle.fbl_base.specs.Rules.{WellFormed}
 use Rattle.fbl_base.specs.Fold.{Next, Lawful, note_of}
 use Rattle.fbl_table.specs.Tables.{piggybacked}
 use Rattle.fbl_member.specs.Members.{Message, MemberRecord}
-use Rattle.fbl_law.specs.Knowledge.{IsInFlight, IsUp, IsDown}
+use Rattle.fbl_law.specs.Knowledge.{IsInFlight, IsUp}
 use Rattle.fbl_law.specs.Steps.{Stays, IsCut, IsEventCut, IsRecovered}
 use Rattle.fbl_law.specs.Groups.{GroupRecord, member, member_checkpoint, channel, marks, knowledge}
 use Rattle.fbl_law.specs.Sound.{IsFold, IsReplayed, IsSound}
@@ -69,20 +69,17 @@ module _ (next : Next) (old : GroupRecord) (sound : IsSound next old) (new : Lis
       }
 
 module _ (next : Next) (old new : GroupRecord) (step : IsRecovery next old new) (sound : IsSound next old) where
-  down-member : (m : ℕ) → IsDown (knowledge old) m → m < old.config.members
-  down-member m down = sound.down m down
-
   -- the tables' part of the recovery
   pub recovery-knowledge : IsRecovered old.config.f (knowledge old) (knowledge new)
   recovery-knowledge = record {
     nobody_down = step.rest.nobody_down;
     trace = (cut-lawful next old sound new.trace step.trace).1;
     tables = λ m up. ap (λ (x : MemberRecord). x.table) (step.rest.survivors m up);
-    gathered = λ m down. step.gathered m (down-member m down) down;
+    gathered = λ m down. step.gathered m (sound.down m down) down;
     channels = step.rest.channels;
     rebuilt = λ q p down. (step.made_again q p down).sends;
     checkpoints = step.rest.checkpoints;
-    messages = λ v flies down. (step.made_again v.from v.to down).carried v flies ∙ ap (λ c. piggybacked c (member new v.from).table) (let e = step.rest.config in rw e refl);
+    messages = λ v flies down. (step.made_again v.from v.to down).carried v flies ∙ ap (λ c. piggybacked c (member new v.from).table) (rw step.rest.config refl);
   }
 
   fold-stays : (m : ℕ) → IsUp (knowledge old) m → IsFold next old m → IsFold next new m
@@ -98,8 +95,7 @@ module _ (next : Next) (old new : GroupRecord) (step : IsRecovery next old new) 
           | inr up_to ↦
               let stayed : Contains (channel old v.from v.to) v = rw (step.rest.channels v.from v.to up up_to) at on in
               let was = sound.notes v stayed in
-              let is : new.trace ≡ filter (λ e. step.trace.0 (mark_of e)) old.trace = step.trace.1 in
-              rw is (note-stays old.config.members step.trace.0 old.trace sound.lawful.well_formed
+              rw step.trace.1 (note-stays old.config.members step.trace.0 old.trace sound.lawful.well_formed
               (cut-causes next old sound new.trace step.trace) v.from v.ssn v.note (cut-keeps_up next old sound new.trace step.trace v.from up) was)
         ]
       ]
@@ -110,10 +106,9 @@ module _ (next : Next) (old new : GroupRecord) (step : IsRecovery next old new) 
   -- a checkpoint's receipts are recorded, so they stay
   saved-after : (m : ℕ) → m < old.config.members → IsReplayed next old.config.members old.config.starts new.trace m (member_checkpoint new m)
   saved-after m below =
-      let is : new.trace ≡ filter (λ e. step.trace.0 (mark_of e)) old.trace = step.trace.1 in
       rw step.rest.checkpoints
       (replayed-cut next old.config.members old.config.starts old.trace new.trace m (member_checkpoint old m) sound.lawful.well_formed (cut-lawful next old sound new.trace step.trace).0.well_formed
-      (λ q k x noted. note-was old.config.members step.trace.0 old.trace sound.lawful.well_formed (cut-causes next old sound new.trace step.trace) q k x (rw is at noted))
+      (λ q k x noted. note-was old.config.members step.trace.0 old.trace sound.lawful.well_formed (cut-causes next old sound new.trace step.trace) q k x (rw step.trace.1 at noted))
       (λ d there to within.
       (cut_is_recorded old.config.members old.config.f (knowledge old) (knowledge new) recovery-knowledge sound.causes d).1
       (there, IsRecorded-reached old.config.f (knowledge old) sound.causes.closed d (receipt_of d) (rw to within) (itself there)))
@@ -124,19 +119,18 @@ module _ (next : Next) (old new : GroupRecord) (step : IsRecovery next old new) 
 
   pub recovery-keeps : IsSound next new
   recovery-keeps =
-      let config : new.config ≡ old.config = step.rest.config in
       record {
-        config = rw config sound.config;
-        members = rw config (step.rest.size ∙ sound.members);
-        checkpoints = rw config (ap length step.rest.checkpoints ∙ sound.checkpoints);
-        saved = λ m below. rw config (saved-after m (rw config at below));
+        config = rw step.rest.config sound.config;
+        members = rw step.rest.config (step.rest.size ∙ sound.members);
+        checkpoints = rw step.rest.config (ap length step.rest.checkpoints ∙ sound.checkpoints);
+        saved = λ m below. rw step.rest.config (saved-after m (rw step.rest.config at below));
         down = λ m down. never_both new.down m down (nobody m);
-        lawful = rw config (cut-lawful next old sound new.trace step.trace).0;
-        room = rw config (omega (arith, cut-shorter next old sound new.trace step.trace, sound.room));
-        causes = rw config (recovery_keeps old.config.members old.config.f (knowledge old) (knowledge new) recovery-knowledge sound.causes);
-        folds = λ m below up. folds-after m (rw config at below);
+        lawful = rw step.rest.config (cut-lawful next old sound new.trace step.trace).0;
+        room = rw step.rest.config (omega (arith, cut-shorter next old sound new.trace step.trace, sound.room));
+        causes = rw step.rest.config (recovery_keeps old.config.members old.config.f (knowledge old) (knowledge new) recovery-knowledge sound.causes);
+        folds = λ m below up. folds-after m (rw step.rest.config at below);
         blanks = λ m below down. never_both new.down m down (nobody m);
-        shape = rw config step.rest.shape;
+        shape = rw step.rest.config step.rest.shape;
         notes = note-flies;
         counted = omega (arith, step.rest.undone_ever, sound.counted, step.rest.receipts_ever);
       }

@@ -1,5 +1,5 @@
 -- From the replay of the members that are down to a recovery.
-use Rattle.std.proofs.Common.{◌≡◌, ℕ, ◌+◌, ◌-◌, ◌<◌, ◌≤◌, ◌||◌, not, nat_le, ◌⊎◌, inl, inr, Bool, [], true, false, List, length, map, Some, refl, sym}
+use Rattle.std.proofs.Common.{◌≡◌, ℕ, ◌+◌, ◌-◌, ◌<◌, ◌≤◌, ◌⊎◌, inl, inr, [], true, List, length, map, Some, refl, sym}
 use Rattle.std.proofs.Common.{subst, ap, ◌∙◌, arith}
 use Rattle.std.specs.Prelude.{slice_set, slice_index_or}
 use Rattle.std.specs.List.{filter}
@@ -22,7 +22,7 @@ use Rattle.fbl_law.specs.Steps.{Stays, IsEventCut, recovery_table}
 use Rattle.fbl_law.specs.Groups.{GroupRecord, member, member_checkpoint, channel, knowledge, receipts}
 use Rattle.fbl_law.specs.Sound.{receipts_at, IsReplayed, IsFold, IsSound}
 use Rattle.fbl_law.specs.GroupSteps.{IsRecovery, IsMadeAgain}
-use Rattle.fbl_law.specs.Replaying.{IsNextReplay, is_replayed, recovered_trace, stays_by, resent_to, working, IsReplaying, IsWaiting, replayed_in, IsRebuilt}
+use Rattle.fbl_law.specs.Replaying.{IsNextReplay, is_replayed, recovered_trace, stays_by, working, IsReplaying, IsWaiting, replayed_in, IsRebuilt}
 use Rattle.fbl_law.specs.RecoveryLaws.{ReplayBegins, ReplayIsRight, ReplayEnds, RebuiltIsRecovered}
 use Rattle.fbl_law.proofs.Safe.{down_or_up}
 use Rattle.fbl_law.proofs.CutNotes.{note-was}
@@ -47,14 +47,8 @@ with-table m t is = ap (λ (x : List Entry). record m { table = x }) is
 
 -- what stays depends on the members of the set alone
 pub stays_by-agree : (s : Members) (a b : ℕ → MemberRecord) → ((p : ℕ) → set.contains s p ≡ true → a p ≡ b p) → (e : Mark) → stays_by s a e ≡ stays_by s b e
-stays_by-agree s a b agree (Send from ssn to) = at (set.contains s from) refl where
-  at : (c : Bool) → set.contains s from ≡ c → (not c || nat_le ssn (length (a from).log)) ≡ (not c || nat_le ssn (length (b from).log))
-  at true is = ap (λ (m : MemberRecord). nat_le ssn (length m.log)) (agree from is)
-  at false is = refl
-stays_by-agree s a b agree (Receipt to rsn from ssn) = at (set.contains s to) refl where
-  at : (c : Bool) → set.contains s to ≡ c → (not c || nat_le rsn (a to).received) ≡ (not c || nat_le rsn (b to).received)
-  at true is = ap (λ (m : MemberRecord). nat_le rsn m.received) (agree to is)
-  at false is = refl
+stays_by-agree s a b agree (Send from ssn to) = elim (down_or_up s from) [ inl down ↦ rw (agree from down) refl | inr up ↦ rw up refl ]
+stays_by-agree s a b agree (Receipt to rsn from ssn) = elim (down_or_up s to) [ inl down ↦ rw (agree to down) refl | inr up ↦ rw up refl ]
 
 module _ (next : Next) (old : GroupRecord) (sound : IsSound next old) where
   abbrev cut : IsEventCut (Stays (knowledge old)) old.trace (recovered_trace old)
@@ -93,9 +87,8 @@ module _ (next : Next) (old : GroupRecord) (sound : IsSound next old) where
   -- a checkpoint's receipts stay, so its replay is one of the trace that is left
   pub checkpoint-replays : (p : ℕ) → p < old.config.members → Replays p (member_checkpoint old p)
   checkpoint-replays p below =
-      let is : recovered_trace old ≡ filter (λ e. cut.0 (mark_of e)) old.trace = cut.1 in
       replayed-cut next old.config.members old.config.starts old.trace (recovered_trace old) p (member_checkpoint old p) sound.lawful.well_formed lawful.well_formed
-      (λ q k x noted. note-was old.config.members cut.0 old.trace sound.lawful.well_formed (cut-causes next old sound (recovered_trace old) cut) q k x (rw is at noted))
+      (λ q k x noted. note-was old.config.members cut.0 old.trace sound.lawful.well_formed (cut-causes next old sound (recovered_trace old) cut) q k x (rw cut.1 at noted))
       (λ d there to within. recorded-cut next old sound (recovered_trace old) cut d ((checkpoint_is_recorded next old p sound below).1 d there to within))
       (sound.saved p below)
 
@@ -214,17 +207,14 @@ module _ (next : Next) (old : GroupRecord) (sound : IsSound next old) where
     -- so a group with these records, and with channels made again, is the group recovered
     module _ (new : GroupRecord) (step : IsRebuilt old new rebuilt) where
       is-lawful : Lawful next new.config.members new.config.starts new.trace
-      is-lawful = (let config : new.config ≡ old.config = step.rest.config in let trace : new.trace ≡ recovered_trace old = step.trace in rw (config, trace) lawful)
+      is-lawful = rw (step.rest.config, step.trace) lawful
 
       rebuilt-fold : (m : ℕ) → m < old.config.members → IsDown (knowledge old) m → IsFold next new m
       rebuilt-fold m below down =
-          let config : new.config ≡ old.config = step.rest.config in
-          let trace : new.trace ≡ recovered_trace old = step.trace in
-          let is : member new m ≡ record (slice_index_or rebuilt m blank) { table = recovery_table (knowledge old) } = step.rebuilt m below down in
           replayed-fold next new m is-lawful.well_formed
-          (rw (config, trace, is)
+          (rw (step.rest.config, step.trace, step.rebuilt m below down)
           (replayed-table next old.config.members old (recovered_trace old) m (slice_index_or rebuilt m blank) (recovery_table (knowledge old)) (replaying.replayed m below down)))
-          (rw (trace, is) (rebuilt-received m below down))
+          (rw (step.trace, step.rebuilt m below down) (rebuilt-received m below down))
 
       fold-all : (m : ℕ) → m < old.config.members → IsFold next new m
       fold-all m below = elim (down_or_up old.down m) [
@@ -237,19 +227,19 @@ module _ (next : Next) (old : GroupRecord) (sound : IsSound next old) where
 
       made : (q p : ℕ) → IsDown (knowledge old) q ⊎ IsDown (knowledge old) p → IsMadeAgain new q p
       made q p down = elim (cases_lt q old.config.members) [
-        | inr past ↦ made-again-outside new q p is-lawful.well_formed (inl (let config : new.config ≡ old.config = step.rest.config in rw config past)) (outside q p (inl past))
+        | inr past ↦ made-again-outside new q p is-lawful.well_formed (inl (rw step.rest.config past)) (outside q p (inl past))
         | inl below_q ↦ elim (cases_lt p old.config.members) [
-          | inr past ↦ made-again-outside new q p is-lawful.well_formed (inr (let config : new.config ≡ old.config = step.rest.config in rw config past)) (outside q p (inr past))
+          | inr past ↦ made-again-outside new q p is-lawful.well_formed (inr (rw step.rest.config past)) (outside q p (inr past))
           | inl below_p ↦
               made-again next new is-lawful q p (fold-all q below_q) (fold-all p below_p) (omega (arith, below_q, sound.config.members.1))
-              (step.resent q p down below_q below_p ∙ ap (λ f. resent_to f q p (member new q) (member new p)) (let config : new.config ≡ old.config = step.rest.config in rw config refl))
+              (step.resent q p down below_q below_p ∙ rw step.rest.config refl)
         ]
       ]
 
       pub recovery-made : IsRecovery next old new
       recovery-made = record {
         rest = step.rest;
-        trace = (let trace : new.trace ≡ recovered_trace old = step.trace in rw trace cut);
+        trace = rw step.trace cut;
         folds = rebuilt-fold;
         gathered = λ m below down. ap (λ (x : MemberRecord). x.table) (step.rebuilt m below down);
         made_again = made;

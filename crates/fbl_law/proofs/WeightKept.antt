@@ -1,6 +1,6 @@
 -- What the step keeps of a weight, the group keeps.
-use Rattle.std.proofs.Common.{◌≡◌, ◌≢◌, ℕ, zero, suc, ◌+◌, ◌<◌, ◌≤◌, ◌==◌, ◌&&◌, Bool, true, false, cond, List, [], ◌∷◌, ◌++◌, inl, inr, drop}
-use Rattle.std.proofs.Common.{map, Option, Some, None, length, slice_get, subst, refl, sym, ap, ◌∙◌, arith}
+use Rattle.std.proofs.Common.{◌≡◌, ℕ, zero, suc, ◌+◌, ◌<◌, ◌≤◌, ◌==◌, ◌&&◌, false, cond, List, [], ◌∷◌, ◌++◌, inl, inr, drop}
+use Rattle.std.proofs.Common.{map, Option, Some, None, length, slice_get, refl, sym, ap, ◌∙◌, arith}
 use Rattle.std.specs.Prelude.{sum_by}
 use Rattle.std.specs.List.{All, Contains, filter_map, fold}
 use Rattle.std.specs.FinSet as set
@@ -245,6 +245,10 @@ module _ (weight : Note → ℕ) where
           → sum_below n (λ m. mass m 0) + sum_by (λ (s : Start). weight s.note) starts ≤ sum_below n (λ m. mass m (reached m 0 (notes m))) + weight_on n w (map mark_of t)
       trace-loses-none = trace-related (λ a b. b ≤ a) (λ a b is. omega arith) (λ a b c d x y first second is. omega arith)
 
+-- what the channel from q to p weighs
+abbrev channel_weight : (Note → ℕ) → GroupRecord → ℕ → ℕ → ℕ
+channel_weight weight r q p = sum_by (λ (v : Message). weight v.note) (channel r q p)
+
 module _ (next : Next) (r : GroupRecord) (P : ℕ → ℕ → Type 0) (Q : ℕ → ℕ → Note → Type 0) (mass : ℕ → ℕ → ℕ) (weight : Note → ℕ)
     (sound : IsSound next r) (keeps : StepKeeps next r.config.members P Q) (first : HoldsFirst r.config P Q) where
   abbrev n : ℕ
@@ -269,8 +273,7 @@ module _ (next : Next) (r : GroupRecord) (P : ℕ → ℕ → Type 0) (Q : ℕ �
   queue-weighs q p (v ∷ xs) (k ∷ numbers) same noted =
       let number : v.ssn ≡ k = cc in
       let rest : map send_mark xs ≡ map (λ ssn. mark.Send q ssn p) numbers = cc in
-      let note : note_of r.trace q k ≡ Some v.note = rw (← number) (noted v (Contains-here v xs)) in
-      let here : number_weight q k ≡ weight v.note = rw note refl in
+      let here : number_weight q k ≡ weight v.note = rw (← number, noted v (Contains-here v xs)) refl in
       omega (
         arith,
         here,
@@ -280,7 +283,7 @@ module _ (next : Next) (r : GroupRecord) (P : ℕ → ℕ → Type 0) (Q : ℕ �
       )
 
   -- the channel between two members that are up weighs what the trace has in flight there
-  channel-weighs : (q p : ℕ) → IsUp (knowledge r) q → IsUp (knowledge r) p → sum_by (λ (v : Message). weight v.note) (channel r q p) ≡ weight_in n number_weight (marks r) q p
+  channel-weighs : (q p : ℕ) → IsUp (knowledge r) q → IsUp (knowledge r) p → channel_weight weight r q p ≡ weight_in n number_weight (marks r) q p
   channel-weighs q p up_q up_p = queue-weighs q p (channel r q p) (in_flight (marks r) q p) (sound.causes.channels q p up_q up_p) noted where
     noted : (v : Message) → Contains (channel r q p) v → note_of r.trace q v.ssn ≡ Some v.note
     noted v among =
@@ -299,14 +302,14 @@ module _ (next : Next) (r : GroupRecord) (P : ℕ → ℕ → Type 0) (Q : ℕ �
             omega (arith, ap (mass m) e, light m down (reached weight next n P Q keeps mass m 0 (received_notes r.trace m))))
         | inr up ↦ omega (arith, up-weighs m below up)
       ]) in
-      let queues = sum_below-most n (λ q. sum_below n (λ p. sum_by (λ (v : Message). weight v.note) (channel r q p))) (λ q. sum_below n (weight_in n number_weight (marks r) q))
-      (λ q below_q. sum_below-most n (λ p. sum_by (λ (v : Message). weight v.note) (channel r q p)) (weight_in n number_weight (marks r) q) (λ p below_p. cell q p)) in
+      let queues = sum_below-most n (λ q. sum_below n (channel_weight weight r q)) (λ q. sum_below n (weight_in n number_weight (marks r) q))
+      (λ q below_q. sum_below-most n (channel_weight weight r q) (weight_in n number_weight (marks r) q) (λ p below_p. cell q p)) in
       omega (arith, whole, states, queues)
     where
-      gone : (q p : ℕ) → channel r q p ≡ [] → sum_by (λ (v : Message). weight v.note) (channel r q p) ≤ weight_in n number_weight (marks r) q p
+      gone : (q p : ℕ) → channel r q p ≡ [] → channel_weight weight r q p ≤ weight_in n number_weight (marks r) q p
       gone q p none = omega (arith, ap (sum_by (λ (v : Message). weight v.note)) none)
 
-      cell : (q p : ℕ) → sum_by (λ (v : Message). weight v.note) (channel r q p) ≤ weight_in n number_weight (marks r) q p
+      cell : (q p : ℕ) → channel_weight weight r q p ≤ weight_in n number_weight (marks r) q p
       cell q p = elim (down_or_up r.down q) [
         | inl down ↦ gone q p (sound.causes.down.channels q p (inl down))
         | inr up ↦ elim (down_or_up r.down p) [
@@ -321,17 +324,14 @@ module _ (next : Next) (r : GroupRecord) (P : ℕ → ℕ → Type 0) (Q : ℕ �
       let whole = trace-loses-none weight next n P Q keeps mass r.config.starts r.trace sound.lawful (λ i s here. (sound.config.starts i s here).0) first.0 first.1 law in
       let up = all_up next r sound nobody in
       let states = sum_below-agree n (λ m. mass m (member r m).state) by_trace (λ m below. up-weighs m below (up m)) in
-      let queues = sum_below-agree n (λ q. sum_below n (λ p. sum_by (λ (v : Message). weight v.note) (channel r q p))) (λ q. sum_below n (weight_in n number_weight (marks r) q))
-      (λ q below_q. sum_below-agree n (λ p. sum_by (λ (v : Message). weight v.note) (channel r q p)) (weight_in n number_weight (marks r) q) (λ p below_p. channel-weighs q p (up q) (up p))) in
+      let queues = sum_below-agree n (λ q. sum_below n (channel_weight weight r q)) (λ q. sum_below n (weight_in n number_weight (marks r) q))
+      (λ q below_q. sum_below-agree n (channel_weight weight r q) (weight_in n number_weight (marks r) q) (λ p below_p. channel-weighs q p (up q) (up p))) in
       omega (arith, whole, states, queues)
 
 -- where nothing is in flight, that weighs nothing
 none-flying : (weight : Note → ℕ) (r : GroupRecord) → messages_in_flight r ≡ 0 → weight_flying weight r ≡ 0
-none-flying weight r none = nothing-below r.config.members (λ q. sum_below r.config.members (weighs q))
-    (λ q below_q. nothing-below r.config.members (weighs q) (λ p below_p. empty q p below_q below_p)) where
-      weighs : ℕ → ℕ → ℕ
-      weighs q p = sum_by (λ (v : Message). weight v.note) (channel r q p)
-
+none-flying weight r none = nothing-below r.config.members (λ q. sum_below r.config.members (channel_weight weight r q))
+    (λ q below_q. nothing-below r.config.members (channel_weight weight r q) (λ p below_p. empty q p below_q below_p)) where
       nothing-below : (n : ℕ) (f : ℕ → ℕ) → ((x : ℕ) → x < n → f x ≡ 0) → sum_below n f ≡ 0
       nothing-below n f each = sum_below-agree n f (λ x. 0) each ∙ sum_below-none n
 
@@ -339,7 +339,7 @@ none-flying weight r none = nothing-below r.config.members (λ q. sum_below r.co
       of_empty [] is = refl
       of_empty (v ∷ xs) is = absurd (omega arith)
 
-      empty : (q p : ℕ) → q < r.config.members → p < r.config.members → weighs q p ≡ 0
+      empty : (q p : ℕ) → q < r.config.members → p < r.config.members → channel_weight weight r q p ≡ 0
       empty q p below_q below_p =
           let row = sum_below-part r.config.members q (λ q. sum_below r.config.members (λ p. length (channel r q p))) below_q in
           let cell = sum_below-part r.config.members p (λ p. length (channel r q p)) below_p in
