@@ -5,7 +5,6 @@ use Rattle.std.specs.List.{filter}
 use Rattle.std.specs.FinSet as set
 use Rattle.std.proofs.lemmas.Bool.Decides.{same_from_decides, nat_tests}
 use Rattle.std.proofs.lemmas.List.{take_all}
-use Rattle.std.proofs.lemmas.Option.{slice_get-map}
 use Rattle.fbl_base.specs.declared.trace.Determinant.{Determinant}
 use Rattle.fbl_base.specs.declared.trace.Note.{Note}
 use Rattle.fbl_base.specs.declared.trace.Event.{Event}
@@ -25,7 +24,7 @@ use Rattle.fbl_law.specs.Replaying.{stays_by}
 use Rattle.fbl_law.proofs.Lists.{some-at}
 use Rattle.fbl_law.proofs.GroupRecovery.{cut-lawful, cut-keeps_up, cut-obeys, cut-was, cut-left}
 use Rattle.fbl_law.proofs.Logs.{log-has, log-length, logged-noted}
-use Rattle.fbl_law.proofs.Notes.{noted-sent, one-send, send-mark}
+use Rattle.fbl_law.proofs.Notes.{noted-sent, one-send, mark-at}
 use Rattle.fbl_law.proofs.Numbered.{receipt-number}
 use Rattle.fbl_law.proofs.Receipts.{receipts_at-number, receipts_at-Has, Has-receipts_at, length-receipts_at, length-received_notes}
 
@@ -64,7 +63,7 @@ module _ (next : Next) (old : GroupRecord) (sound : IsSound next old) (new : Lis
       let some = log-has next q old.config.members old.config.starts notes k above (omega (arith, within, ap length log)) in
       let noted = logged-noted next old.config.members old.config.starts new q (work q).received k some.0 lawful some.1 in
       let sent = noted-sent new q k some.0 noted in
-      let left = was (Send q k sent.1) (sent.0, send-mark new sent.0 q k sent.1 some.0 sent.2) in
+      let left = was (Send q k sent.1) (sent.0, mark-at new sent.0 (event.Send q k sent.1 some.0) sent.2) in
       let same = one-send old.config.members (marks old) sound.lawful.well_formed q k sent.1 to left.0 there in
       rw same at left.1
 
@@ -84,7 +83,7 @@ module _ (next : Next) (old : GroupRecord) (sound : IsSound next old) (new : Lis
   agrees i (event.Send q k to x) here = at (set.contains old.down q) refl
     where
       there : Has (marks old) (Send q k to)
-      there = (i, send-mark old.trace i q k to x here)
+      there = (i, mark-at old.trace i (event.Send q k to x) here)
 
       may : MayFollow old.config.members (take i (marks old)) (Send q k to)
       may = sound.lawful.well_formed i (Send q k to) there.1
@@ -98,7 +97,7 @@ module _ (next : Next) (old : GroupRecord) (sound : IsSound next old) (new : Lis
   agrees i (event.Receipt p r q k) here = at (set.contains old.down p) refl
     where
       there : Has (marks old) (Receipt p r q k)
-      there = (i, slice_get-map mark_of old.trace i ∙ (rw here refl))
+      there = (i, mark-at old.trace i (event.Receipt p r q k) here)
 
       may : MayFollow old.config.members (take i (marks old)) (Receipt p r q k)
       may = sound.lawful.well_formed i (Receipt p r q k) there.1

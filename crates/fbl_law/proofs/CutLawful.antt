@@ -6,7 +6,6 @@ use Rattle.std.proofs.lemmas.Bool.{false_from_ne_true}
 use Rattle.std.proofs.lemmas.Bool.Decides.{nat_tests}
 use Rattle.std.proofs.lemmas.List.{take-append-le, take-append-drop, take-take, map-append}
 use Rattle.std.proofs.lemmas.List.Elements.{filter-append}
-use Rattle.std.proofs.lemmas.Option.{slice_get-map}
 use Rattle.fbl_base.proofs.Sifted.{length-filter_map}
 use Rattle.fbl_base.specs.declared.trace.Note.{Note}
 use Rattle.fbl_base.specs.declared.trace.Start.{Start}
@@ -28,6 +27,7 @@ use Rattle.fbl_law.proofs.Lists.{At-append, At-seam}
 use Rattle.fbl_law.proofs.Appended.{Has-append}
 use Rattle.fbl_law.proofs.CutWellFormed.{KeepsCauses, WellFormed-kept, marks-filter}
 use Rattle.fbl_law.proofs.CutNotes.{note-same}
+use Rattle.fbl_law.proofs.Notes.{mark-at, receipt-at}
 
 -- an action, and whether it is kept
 abbrev Flagged : Type 0
@@ -264,20 +264,17 @@ module _ (next : Next) (n : ℕ) (starts : List Start) (keep : Mark → Bool) (t
   starts_kept i (Send q k to x) here = follow (mark.Send q k to) (i, at_mark) (λ d h. cc) (λ d to' earlier. absurd (before d earlier))
     where
       at_mark : At (map mark_of t) i (mark.Send q k to)
-      at_mark = slice_get-map mark_of t i ∙ (let e : slice_get t i ≡ Some (Send q k to x) = in_trace i (Send q k to x) here in rw e refl)
+      at_mark = mark-at t i (Send q k to x) (in_trace i (Send q k to x) here)
 
       within : i < length starts
       within = (let below = At-below first i (Send q k to x) here in omega (arith, below, length-take (length starts) t))
 
-      receipt_at : (d : Determinant) (j : ℕ) (o : Option Event) → j < length starts → slice_get t j ≡ o → option_map mark_of o ≡ Some (receipt_of d) → ⊥
-      receipt_at d j None below is h = cc
-      receipt_at d j (Some (Send q' k' to' x')) below is h = cc
-      receipt_at d j (Some (Receipt to' r' q' k')) below is h = no_receipt_first j to' r' q' k' (slice_get-take t (length starts) j (Receipt to' r' q' k') below is)
-
       before : (d : Determinant) → Earlier (map mark_of t) (receipt_of d) (mark.Send q k to) → ⊥
       before d earlier =
           let same = one_place n (map mark_of t) lawful.well_formed (mark.Send q k to) i earlier.1 at_mark earlier.4 in
-          receipt_at d earlier.0 (slice_get t earlier.0) (omega (arith, earlier.2, same, within)) refl (sym (slice_get-map mark_of t earlier.0) ∙ earlier.3)
+          let here = receipt-at t earlier.0 d.to d.rsn d.from d.ssn earlier.3 in
+          no_receipt_first earlier.0 d.to d.rsn d.from d.ssn
+          (slice_get-take t (length starts) earlier.0 (Receipt d.to d.rsn d.from d.ssn) (omega (arith, earlier.2, same, within)) here)
 
   abbrev keeps_event : Event → Bool
   keeps_event e = keep (mark_of e)

@@ -2,7 +2,6 @@
 use Rattle.std.proofs.Common.{◌≡◌, ℕ, ◌⊎◌, inl, inr, Bool, true, List, map, Some, None, slice_get, refl, sym, ◌∙◌}
 use Rattle.std.specs.List.{filter, filter_map}
 use Rattle.std.proofs.lemmas.Bool.{cases_eq, ne_eqb}
-use Rattle.std.proofs.lemmas.Option.{slice_get-map}
 use Rattle.fbl_base.specs.declared.trace.Note.{Note}
 use Rattle.fbl_base.specs.declared.trace.Event.{Event}
 use Rattle.fbl_base.specs.declared.trace.Event.TheVariants.{Send, Receipt}
@@ -17,7 +16,7 @@ use Rattle.fbl_base.proofs.LawfulLaws.{receipts-noted}
 use Rattle.fbl_law.specs.Sound.{last_taken}
 use Rattle.fbl_law.proofs.Lists.{filter-At, filter_map-kept}
 use Rattle.fbl_law.proofs.CutWellFormed.{marks-filter, KeepsCauses, WellFormed-kept, map-kept, taken_at}
-use Rattle.fbl_law.proofs.Notes.{noted-sent, sent-noted}
+use Rattle.fbl_law.proofs.Notes.{noted-sent, sent-noted, mark-at}
 
 module _ (n : ℕ) (keep : Mark → Bool) (t : List Event) (obeys : WellFormed n (map mark_of t)) (causes : KeepsCauses keep (map mark_of t)) where
   abbrev left : List Event
@@ -47,11 +46,11 @@ module _ (n : ℕ) (keep : Mark → Bool) (t : List Event) (obeys : WellFormed n
   pub note-stays : (q k : ℕ) (x : Note) → ((e : Mark) → Has (map mark_of t) e → member_of e ≡ q → keep e ≡ true) → note_of t q k ≡ Some x → note_of left q k ≡ Some x
   note-stays q k x all is =
       let sent = noted-sent t q k x is in
-      note-left sent.0 q k sent.1 x sent.2 (all (mark.Send q k sent.1) (sent.0, slice_get-map mark_of t sent.0 ∙ (let h = sent.2 in rw h refl)) refl)
+      note-left sent.0 q k sent.1 x sent.2 (all (mark.Send q k sent.1) (sent.0, mark-at t sent.0 (Send q k sent.1 x) sent.2) refl)
 
   module _ (m : ℕ) (all : (e : Mark) → Has (map mark_of t) e → member_of e ≡ m → keep e ≡ true) where
     Has-mark : (i : ℕ) (e : Event) → slice_get t i ≡ Some e → Has (map mark_of t) (mark_of e)
-    Has-mark i e here = (i, slice_get-map mark_of t i ∙ (rw here refl))
+    Has-mark i e here = (i, mark-at t i e here)
 
     each-action : (i : ℕ) (e : Event) → slice_get t i ≡ Some e
         → ((keep (mark_of e) ≡ true) × (action_of left m e ≡ action_of t m e)) ⊎ ((action_of left m e ≡ None) × (action_of t m e ≡ None))

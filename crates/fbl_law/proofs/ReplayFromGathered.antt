@@ -6,7 +6,7 @@ use Rattle.std.proofs.lemmas.Bool.{cases_lt}
 use Rattle.std.proofs.lemmas.Bool.Decides.{nat_tests}
 use Rattle.std.proofs.lemmas.List.{take-append-drop, map-append, length-map}
 use Rattle.std.proofs.lemmas.List.Sums.{count_by-le-length}
-use Rattle.std.proofs.lemmas.Option.{slice_get_within, slice_get-map}
+use Rattle.std.proofs.lemmas.Option.{slice_get_within}
 use Rattle.fbl_base.specs.declared.trace.Determinant.{Determinant}
 use Rattle.fbl_base.specs.declared.trace.Note.{Note}
 use Rattle.fbl_base.specs.declared.trace.Event.{Event}
@@ -34,6 +34,7 @@ use Rattle.fbl_law.proofs.Safe.{down_or_up, IsRecorded-before, Has-recorded}
 use Rattle.fbl_law.proofs.CutStays.{stays_is_recorded}
 use Rattle.fbl_law.proofs.GatheredTables.{gathered_recorded, recorded_gathered}
 use Rattle.fbl_law.proofs.NeverStuck.{never_stuck}
+use Rattle.fbl_law.proofs.Notes.{send-at}
 use Rattle.fbl_law.proofs.GroupRecovery.{cut-lawful, cut-obeys, cut-shorter, cut-was, cut-left}
 use Rattle.fbl_law.proofs.Logs.{logged-noted, logged-by, log-short}
 use Rattle.fbl_law.proofs.Receipts.{receipts_at-number, receipts_at-Has, Has-receipts_at, length-receipts_at}
@@ -164,17 +165,12 @@ module _ (next : Next) (old : GroupRecord) (sound : IsSound next old) (new : Lis
   module _ (work : ℕ → MemberRecord) (replays : (q : ℕ) → q < old.config.members → Replays q (work q))
       (survivors : (q : ℕ) → q < old.config.members → IsUp (knowledge old) q → (work q).received ≡ length (receipts_at (map mark_of new) q))
       (waiting : (p : ℕ) → p < old.config.members → IsDown (knowledge old) p → Waits work p) where
-    send-event : (j q k to : ℕ) (o : Option Event) → slice_get new j ≡ o → option_map mark_of o ≡ Some (Send q k to) → (x : Note) × (slice_get new j ≡ Some (event.Send q k to x))
-    send-event j q k to None is h = absurd cc
-    send-event j q k to (Some (event.Receipt p r q' k')) is h = absurd cc
-    send-event j q k to (Some (event.Send q' k' to' x)) is h = (x, cc)
-
     -- a message whose sender has replayed all that comes before it is in the sender's log
     sent-again : (q k to : ℕ) → q < old.config.members → Has (map mark_of new) (Send q k to)
         → IsSentAgain (map mark_of new) (λ m. (work m).received) q k to → (note : Note) × (logged_note (work q).log k ≡ Some note)
     sent-again q k to below has sent =
         let j = has.0 in
-        let here = send-event j q k to (slice_get new j) refl (sym (slice_get-map mark_of new j) ∙ has.1) in
+        let here = send-at new j q k to has.1 in
         let cut-at = split-at new j (event.Send q k to here.0) here.1 in
         let marks-at : map mark_of new ≡ map mark_of (take j new) ++ map mark_of (drop j new) = ap (map mark_of) (sym (take-append-drop j new)) ∙ map-append mark_of (take j new) (drop j new) in
         let front = WellFormed-front old.config.members (map mark_of (take j new)) (map mark_of (drop j new)) (rw marks-at at obeys) in

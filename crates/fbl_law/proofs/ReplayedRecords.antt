@@ -11,8 +11,6 @@ use Rattle.fbl_base.specs.declared.trace.Determinant.{Determinant}
 use Rattle.fbl_base.specs.declared.trace.Note.{Note}
 use Rattle.fbl_base.specs.declared.trace.Start.{Start}
 use Rattle.fbl_base.specs.declared.trace.Event.{Event}
-use Rattle.fbl_base.specs.declared.trace.Event.TheVariants as event
-use Rattle.fbl_base.specs.declared.trace.Mark.TheVariants.{Receipt}
 use Rattle.fbl_base.specs.Events.{mark_of, receipt_of}
 use Rattle.fbl_base.specs.Precedence.{Has}
 use Rattle.fbl_base.specs.Rules.{WellFormed}
@@ -25,6 +23,7 @@ use Rattle.fbl_law.specs.Groups.{GroupRecord, member, marks}
 use Rattle.fbl_law.specs.Sound.{received_notes, IsFold, receipts_at, last_among, IsReplayed}
 use Rattle.fbl_law.proofs.Lists.{some-at}
 use Rattle.fbl_law.proofs.Logs.{received-fold}
+use Rattle.fbl_law.proofs.Notes.{receipt-at}
 use Rattle.fbl_law.proofs.Receipts.{receipts_at-number, receipts_at-Has, Has-receipts_at, length-received_notes, note-at, last_taken-among}
 
 -- a fresh member has replayed nothing
@@ -92,13 +91,6 @@ replayed-fold next r m obeys replayed count =
       last = λ q below. replayed.last q below ∙ ap (λ (ds : List Determinant). last_among ds q) all_receipts ∙ sym (last_taken-among (marks r) q m);
     }
 
--- the receipt at a place of the marks is one of the events
-receipt-event : (t : List Event) (i to rsn from ssn : ℕ) → slice_get (map mark_of t) i ≡ Some (Receipt to rsn from ssn) → slice_get t i ≡ Some (event.Receipt to rsn from ssn)
-receipt-event [] i to rsn from ssn here = absurd cc
-receipt-event (event.Send q k p x ∷ t) zero to rsn from ssn here = absurd cc
-receipt-event (event.Receipt p r q k ∷ t) zero to rsn from ssn here = cc
-receipt-event (e ∷ t) (suc i) to rsn from ssn here = receipt-event t i to rsn from ssn here
-
 -- lists that agree on their first elements
 take-agree : {X : Type 0} (k : ℕ) (xs ys : List X) → k ≤ length xs → ((j : ℕ) (x : X) → j < k → slice_get xs j ≡ Some x → slice_get ys j ≡ Some x)
     → (k ≤ length ys) × (take k xs ≡ take k ys)
@@ -145,7 +137,7 @@ replayed-cut next n starts old new p m obeys_old obeys_new note-was stays replay
         let d = receipt.0 in
         let left = there j d below receipt.1 in
         let has = receipts_at-Has (map mark_of new) p j d left in
-        let event = receipt-event new has.0.0 d.to d.rsn d.from d.ssn has.0.1 in
+        let event = receipt-at new has.0.0 d.to d.rsn d.from d.ssn has.0.1 in
         let note = receipts-noted n new obeys_new has.0.0 d.to d.rsn d.from d.ssn event in
         let now = note-at n new p j d note.0 obeys_new left note.1 in
         let before = note-at n old p j d note.0 obeys_old receipt.1 (note-was d.from d.ssn note.0 note.1) in

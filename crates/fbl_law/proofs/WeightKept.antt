@@ -30,8 +30,8 @@ use Rattle.fbl_law.specs.Sound.{IsSound, received_notes}
 use Rattle.fbl_law.proofs.GroupFacts.{all_up, channel_ends, same_channel}
 use Rattle.fbl_law.proofs.Lists.{Contains-here, Contains-there}
 use Rattle.fbl_law.proofs.Safe.{down_or_up}
-use Rattle.fbl_law.proofs.KeptByStep.{Came, all-came, receipt-mark}
-use Rattle.fbl_law.proofs.Notes.{sent-noted, send-mark}
+use Rattle.fbl_law.proofs.KeptByStep.{Came, all-came}
+use Rattle.fbl_law.proofs.Notes.{sent-noted, mark-at}
 use Rattle.fbl_law.proofs.ChannelCounts.{sum_below-agree}
 
 -- sums over members
@@ -194,10 +194,10 @@ module _ (weight : Note → ℕ) where
       acts-weigh g h sends takes = shared n (action_of t) g (λ e. h (mark_of e)) t each ∙ sum_by-marks h t where
         each : (i : ℕ) (e : Event) → slice_get t i ≡ Some e → IsShared n (action_of t) g (λ e. h (mark_of e)) e
         each i (Send q s p x) here =
-            let may = lawful.well_formed i (mark.Send q s p) (send-mark t i q s p x here) in
+            let may = lawful.well_formed i (mark.Send q s p) (mark-at t i (Send q s p x) here) in
             (q, may.0, sent (p, x), rw (eqb-self q) refl, sends q s p x (sent-noted n t lawful.well_formed i q s p x here), λ m other. rw other refl)
         each i (Receipt p r q s) here =
-            let may = lawful.well_formed i (mark.Receipt p r q s) (receipt-mark t i p r q s here) in
+            let may = lawful.well_formed i (mark.Receipt p r q s) (mark-at t i (Receipt p r q s) here) in
             let noted = receipts-noted n t lawful.well_formed i p r q s here in
             (p, may.1, took noted.0, rw (eqb-self p, noted.1) refl, takes p r q s noted.0 noted.1, λ m other. rw other refl)
 
