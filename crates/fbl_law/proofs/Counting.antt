@@ -71,9 +71,6 @@ count_in-determinants s n (d ∷ ds) within =
     others : (q : ℕ) → q ≢ d.to → new q ≡ old q
     others q other = grind (arith, nat_tests)
 
-pub count_in-receipts : (s : Members) (n : ℕ) (t : List Mark) → AllBelow s n → count_in s (λ p. length (receipts_at t p)) n ≡ length (filter (is_of s) (receipts t))
-count_in-receipts s n t within = count_in-determinants s n (receipts t) within
-
 -- the receipts of a member beyond a number of them
 abbrev beyond : (ℕ → ℕ) → Determinant → Bool
 beyond past d = nat_lt (past d.to) d.rsn
@@ -104,7 +101,7 @@ count_in-beyond s past n m t within obeys =
 module _ (next : Next) (old : GroupRecord) (sound : IsSound next old) (new : List Event) (cut : IsEventCut (Stays (knowledge old)) old.trace new) where
   -- what the members that are down replay, in all
   pub to-replay : count_in old.down (λ p. length (receipts_at (map mark_of new) p)) old.config.members ≡ length (filter (is_of old.down) (receipts (map mark_of new)))
-  to-replay = count_in-receipts old.down old.config.members (map mark_of new) sound.down
+  to-replay = count_in-determinants old.down old.config.members (receipts (map mark_of new)) sound.down
 
   pub to-replay-short : length (filter (is_of old.down) (receipts (map mark_of new))) ≤ length old.trace
   to-replay-short =

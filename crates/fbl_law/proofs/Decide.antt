@@ -1,8 +1,8 @@
 -- A closed record always has each receipt held.
-use Rattle.std.proofs.Common.{◌≡◌, ℕ, zero, suc, ◌<◌, Bool, true, false, List, [], ◌∷◌, length, inl, inr, ◌⊎◌, arith, refl, subst, ap, ◌∙◌}
+use Rattle.std.proofs.Common.{◌≡◌, ℕ, zero, suc, ◌<◌, false, List, [], ◌∷◌, length, inl, inr, ◌⊎◌, arith, refl, subst, ap, ◌∙◌}
 use Rattle.std.specs.Ordering.{nat_cmp}
 use Rattle.std.specs.FinSet as set
-use Rattle.std.proofs.lemmas.Bool.{cases_lt, cases_eq}
+use Rattle.std.proofs.lemmas.Bool.{cases_lt, cases_eq, cases_Bool}
 use Rattle.fbl_base.specs.declared.trace.Determinant.{Determinant}
 use Rattle.fbl_base.specs.Events.{same_determinant}
 use Rattle.fbl_base.proofs.Recorded.{Decides-same_determinant}
@@ -24,10 +24,10 @@ Known-and P Q (inl p) (inr q) = inr (λ h. q h.1)
 Known-and P Q (inr p) q = inr (λ h. p h.0)
 
 Known-same : (a b : Determinant) → Known (a ≡ b)
-Known-same a b = at (same_determinant a b) refl where
-  at : (v : Bool) → same_determinant a b ≡ v → Known (a ≡ b)
-  at true is = inl ((Decides-same_determinant a b).0 is)
-  at false is = inr (λ same. let yes' = (Decides-same_determinant a b).1 same in cc)
+Known-same a b = elim (cases_Bool (same_determinant a b)) [
+  | inl is ↦ inl ((Decides-same_determinant a b).0 is)
+  | inr is ↦ inr (λ same. let told = (Decides-same_determinant a b).1 same in cc)
+]
 
 Known-names : (xs : List Entry) (d : Determinant) → Known (Names xs d)
 Known-names [] d = inr (λ h. Contains-none h.0 h.1)
@@ -45,7 +45,7 @@ Includes-insert_other s k m h = elim (cases_eq m k) [ inl same ↦ rw same (Incl
 
 -- the set of the members below n at which P holds
 set_of : (n : ℕ) (P : ℕ → Type 0) → ((m : ℕ) → Known (P m)) → (s : Members) × ((m : ℕ) → Includes s m → P m) × ((m : ℕ) → m < n → P m → Includes s m)
-set_of zero P decide = (set.empty, λ m h. absurd (let none : set.contains set.empty m ≡ false = set.contains-empty nat_cmp m in cc), λ m below p. absurd (omega arith))
+set_of zero P decide = (set.empty, λ m h. never_both set.empty m h (set.contains-empty nat_cmp m), λ m below p. absurd (omega arith))
 set_of (suc n) P decide =
     let rest = set_of n P decide in
     elim (decide n) [

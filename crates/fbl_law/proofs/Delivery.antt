@@ -8,7 +8,6 @@ use Rattle.fbl_base.specs.declared.trace.Mark.{Mark}
 use Rattle.fbl_base.specs.Events.{At, member_of, send_of, determinant_of}
 use Rattle.fbl_base.specs.Precedence.{Has, Precedes}
 use Rattle.fbl_base.specs.Events.{receipt_of}
-use Rattle.std.specs.Ordering.{nat_cmp}
 use Rattle.std.proofs.lemmas.Option.{same_Some}
 use Rattle.std.proofs.lemmas.List.Elements.{Contains-append_cases}
 use Rattle.fbl_base.specs.Rules.{is_send_of, is_receipt_of}
@@ -25,7 +24,7 @@ use Rattle.fbl_law.proofs.Appended.{Has-append, Has-behind, disjoint, Precedes-w
 use Rattle.fbl_law.proofs.Lists.{Contains-at, Contains-there, Contains-from_filter}
 use Rattle.fbl_law.proofs.Channels.{AreSent-matched, made-Has, channel-delivered}
 use Rattle.fbl_law.proofs.Numbered.{count-grown, added-later}
-use Rattle.fbl_law.proofs.Safe.{never_both, nobody_down_empty, recorded_holder, IsRecorded-held}
+use Rattle.fbl_law.proofs.Safe.{never_both, nobody_down_empty, up_if_none, recorded_holder, IsRecorded-held}
 use Rattle.fbl_law.proofs.Keeping.{KeepsKnowledge, IsSoundAt, NamesCauses-kept, IsTrueEntry-kept, sound_kept, sound_passed, truth_everywhere, closed_everywhere}
 use Rattle.fbl_law.proofs.Tables.{Includes-insert, Includes-insert_cases, Includes-only, Includes-union, Includes-left, Names-learned_kept, Names-learned_gained, Names-noted_kept}
 use Rattle.fbl_law.proofs.Tables.{Names-noted, Contains-noted, Names-from_table, learned-keeps}
@@ -50,10 +49,10 @@ module _ (n f : ℕ) (old new : Knowledge) (v : Message) (rsn : ℕ) (made : Lis
   added = receipt_of own ∷ map send_mark made
 
   up : (m : ℕ) → IsUp new m
-  up m = rw s.down (set.contains-empty nat_cmp m)
+  up = up_if_none s.down
 
   was_up : (m : ℕ) → IsUp old m
-  was_up m = rw s.nobody_down (set.contains-empty nat_cmp m)
+  was_up = up_if_none s.nobody_down
 
   flies : IsInFlight old v
   flies = Contains-at (old.channel v.from v.to) 0 v s.front

@@ -1,8 +1,6 @@
 -- A recovery keeps a group sound.
 use Rattle.std.proofs.Common.{◌≡◌, ℕ, ◌<◌, ◌≤◌, inl, inr, true, List, length, map, Some, refl, sym, ap, ◌∙◌, arith}
 use Rattle.std.specs.List.{Contains, filter}
-use Rattle.std.specs.Ordering.{nat_cmp}
-use Rattle.std.specs.FinSet as set
 use Rattle.fbl_base.specs.declared.trace.Event.{Event}
 use Rattle.fbl_base.specs.declared.trace.Mark.{Mark}
 use Rattle.fbl_base.specs.Events.{mark_of, member_of, receipt_of}
@@ -17,7 +15,7 @@ use Rattle.fbl_law.specs.Groups.{GroupRecord, member, member_checkpoint, channel
 use Rattle.fbl_law.specs.Sound.{IsFold, IsReplayed, IsSound}
 use Rattle.fbl_law.specs.GroupSteps.{IsRecovery}
 use Rattle.fbl_law.specs.GroupLaws.{GroupRecoveryKeeps}
-use Rattle.fbl_law.proofs.Safe.{down_or_up, never_both, IsRecorded-reached}
+use Rattle.fbl_law.proofs.Safe.{down_or_up, never_both, up_if_none, IsRecorded-reached}
 use Rattle.fbl_base.proofs.Sifted.{length-left}
 use Rattle.fbl_base.proofs.PrecedenceLaws.{Has-filter}
 use Rattle.fbl_law.proofs.CutWellFormed.{KeepsCauses, Has-kept, kept-Has, marks-filter}
@@ -115,7 +113,7 @@ module _ (next : Next) (old new : GroupRecord) (step : IsRecovery next old new) 
       (sound.saved m below))
 
   nobody : (m : ℕ) → IsUp (knowledge new) m
-  nobody m = rw step.rest.nobody_down (set.contains-empty nat_cmp m)
+  nobody = up_if_none step.rest.nobody_down
 
   pub recovery-keeps : IsSound next new
   recovery-keeps =

@@ -2,8 +2,6 @@
 use Rattle.std.proofs.Common.{◌≡◌, ℕ, suc, ◌+◌, ◌<◌, ◌≤◌, ◌==◌, not, List, [], ◌∷◌, ◌++◌, length, map, inl, inr, Option}
 use Rattle.std.proofs.Common.{Some, None, slice_get, refl, sym, ap, ◌∙◌, arith, append_assoc, append-nil, length-append, if◌then◌else◌}
 use Rattle.std.specs.List.{Contains, filter, filter_map, cons_option, list_any}
-use Rattle.std.specs.Ordering.{nat_cmp}
-use Rattle.std.specs.FinSet as sets
 use Rattle.std.proofs.lemmas.Bool.{cases_lt}
 use Rattle.std.proofs.lemmas.List.{length-map, map-append, take_all, get_or_past, get_or-replicate}
 use Rattle.std.proofs.lemmas.List.Elements.{filter_map-append}
@@ -33,7 +31,7 @@ use Rattle.fbl_law.specs.Sound.{IsFold, IsReplayed, IsSound, received_notes}
 use Rattle.fbl_law.specs.GroupSteps.{IsGroupStart, start_events, message_of_send}
 use Rattle.fbl_law.specs.GroupLaws.{GroupStartIsSound}
 use Rattle.fbl_law.proofs.Lists.{Contains-cons_cases, Contains-from_filter, Contains-none}
-use Rattle.fbl_law.proofs.Safe.{never_both}
+use Rattle.fbl_law.proofs.Safe.{never_both, up_if_none}
 use Rattle.fbl_law.proofs.Run.{run_is_sound}
 use Rattle.fbl_law.proofs.Notes.{sent-noted}
 use Rattle.fbl_law.proofs.Logs.{log-length}
@@ -119,7 +117,7 @@ module _ (next : Next) (config : Settings) (r : GroupRecord) (is : IsConfig conf
   events = start_events [] config.starts
 
   up : (m : ℕ) → IsUp (knowledge r) m
-  up m = rw s.nobody_down (sets.contains-empty nat_cmp m)
+  up = up_if_none s.nobody_down
 
   obeys : WellFormed n (map mark_of events)
   obeys = starts-obey config is

@@ -136,11 +136,8 @@ logged-noted next n starts t p k ssn note lawful named =
 -- how many sends a member's actions have
 sends-count : (all u : List Event) (p : ℕ) → length (sends_in (filter_map (action_of all p) u)) ≡ sends_of (map mark_of u) p
 sends-count all [] p = refl
-sends-count all (e ∷ u) p = rw (sum_by-cons (λ y. cond (is_send_of p y) 1 0) (mark_of e) (map mark_of u)) (at e (sends-count all u p)) where
-  at : (e : Event) → length (sends_in (filter_map (action_of all p) u)) ≡ sends_of (map mark_of u) p
-      → length (sends_in (filter_map (action_of all p) (e ∷ u))) ≡ cond (is_send_of p (mark_of e)) 1 0 + sends_of (map mark_of u) p
-  at (Send q k to x) ih = grind (arith, ih)
-  at (Receipt to r q k) ih = grind (arith, ih)
+sends-count all (Send q k to x ∷ u) p = grind (arith, sum_by-cons (λ y. cond (is_send_of p y) 1 0) (mark.Send q k to) (map mark_of u), sends-count all u p)
+sends-count all (Receipt to r q k ∷ u) p = grind (arith, sum_by-cons (λ y. cond (is_send_of p y) 1 0) (mark.Receipt to r q k) (map mark_of u), sends-count all u p)
 
 -- the log after all notes is as long as the member's sends are many
 pub log-length : (next : Next) (n : ℕ) (starts : List Start) (t : List Event) (p : ℕ) → Lawful next n starts t
@@ -171,11 +168,8 @@ sends-by next p n state k (s ∷ sends) notes (sent s' ∷ xs) ys is few = omega
 -- at most how many notes a member's actions have
 notes-count : (all u : List Event) (p : ℕ) → length (notes_of (filter_map (action_of all p) u)) ≤ receipts_of (map mark_of u) p
 notes-count all [] p = omega arith
-notes-count all (e ∷ u) p = rw (sum_by-cons (λ y. cond (is_receipt_of p y) 1 0) (mark_of e) (map mark_of u)) (at e (notes-count all u p)) where
-  at : (e : Event) → length (notes_of (filter_map (action_of all p) u)) ≤ receipts_of (map mark_of u) p
-      → length (notes_of (filter_map (action_of all p) (e ∷ u))) ≤ cond (is_receipt_of p (mark_of e)) 1 0 + receipts_of (map mark_of u) p
-  at (Send q k to x) ih = grind (arith, ih)
-  at (Receipt to r q k) ih = grind (arith, ih)
+notes-count all (Send q k to x ∷ u) p = grind (arith, sum_by-cons (λ y. cond (is_receipt_of p y) 1 0) (mark.Send q k to) (map mark_of u), notes-count all u p)
+notes-count all (Receipt to r q k ∷ u) p = grind (arith, sum_by-cons (λ y. cond (is_receipt_of p y) 1 0) (mark.Receipt to r q k) (map mark_of u), notes-count all u p)
 
 -- a send that comes after at most k of the member's receipts is in the log after the first k notes
 pub logged-by : (next : Next) (n : ℕ) (starts : List Start) (t u rest : List Event) (p ssn to k : ℕ) (x : Note) → Lawful next n starts t

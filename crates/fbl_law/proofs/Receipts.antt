@@ -1,5 +1,5 @@
 -- A member's receipts in a trace, in order.
-use Rattle.std.proofs.Common.{◌≡◌, ℕ, zero, suc, ◌+◌, ◌==◌, Bool, true, false, cond, List, [], ◌∷◌, ◌++◌, length, map, Option, Some, None, option_map}
+use Rattle.std.proofs.Common.{◌≡◌, ℕ, zero, suc, ◌+◌, ◌==◌, Bool, true, false, cond, List, [], ◌∷◌, ◌++◌, length, map, Option, Some, option_map}
 use Rattle.std.proofs.Common.{slice_get, refl, sym, ap, ◌∙◌, arith, append_assoc}
 use Rattle.std.specs.List.{filter_map, fold}
 use Rattle.std.proofs.lemmas.Bool.Decides.{nat_tests}
@@ -89,13 +89,10 @@ length-received_notes n t p obeys =
 pub note-at : (n : ℕ) (t : List Event) (p j : ℕ) (d : Determinant) (x : Note) → WellFormed n (map mark_of t)
     → slice_get (receipts_at (map mark_of t) p) j ≡ Some d → note_of t d.from d.ssn ≡ Some x → slice_get (received_notes t p) j ≡ Some x
 note-at n t p j d x obeys here noted =
-    at (slice_get (received_notes t p) j) refl
-    (sym (slice_get-map (λ (y : Note). Some y) (received_notes t p) j) ∙ ap (λ (xs : List (Option Note)). slice_get xs j) (received-notes n t p obeys)
-    ∙ slice_get-map (λ (c : Determinant). note_of t c.from c.ssn) (receipts_at (map mark_of t) p) j ∙ (rw (here, noted) refl))
-  where
-    at : (o : Option Note) → slice_get (received_notes t p) j ≡ o → option_map (λ (y : Note). Some y) o ≡ Some (Some x) → slice_get (received_notes t p) j ≡ Some x
-    at None is h = absurd cc
-    at (Some y) is h = (let same : y ≡ x = cc in is ∙ ap Some same)
+    let same : option_map (λ (y : Note). Some y) (slice_get (received_notes t p) j) ≡ Some (Some x) =
+    sym (slice_get-map (λ (y : Note). Some y) (received_notes t p) j) ∙ ap (λ (xs : List (Option Note)). slice_get xs j) (received-notes n t p obeys)
+    ∙ slice_get-map (λ (c : Determinant). note_of t c.from c.ssn) (receipts_at (map mark_of t) p) j ∙ (rw (here, noted) refl) in
+    grind (arith, same)
 
 -- the last message from q that the member's receipts take
 last-from : (q p z : ℕ) (t : List Mark) → fold (λ last ssn. ssn) z (filter_map (taken_on q p) t) ≡ fold (λ last (d : Determinant). cond (d.from == q) d.ssn last) z (receipts_at t p)

@@ -1,8 +1,6 @@
 -- A recovery keeps knowledge sound.
 use Rattle.std.proofs.Common.{◌≡◌, ℕ, zero, suc, ◌≤◌, length, arith, ◌↔◌, Bool, true, inl, inr, ◌⊎◌, refl, sym, ap, ◌∙◌, Some}
 use Rattle.std.specs.List.{Contains, filter}
-use Rattle.std.specs.Ordering.{nat_cmp}
-use Rattle.std.specs.FinSet as set
 use Rattle.fbl_base.specs.declared.trace.Determinant.{Determinant}
 use Rattle.fbl_base.specs.declared.trace.Mark.{Mark}
 use Rattle.fbl_base.specs.declared.trace.Mark.TheVariants.{Send, Receipt}
@@ -22,7 +20,7 @@ use Rattle.fbl_law.proofs.CutWellFormed.{Has-kept, kept-Has, KeepsCauses, Has-be
 use Rattle.fbl_law.proofs.Appended.{Earlier-joined}
 use Rattle.fbl_law.proofs.GatheredTables.{IsGathered, entries_gathered, gathered_recorded, recorded_gathered}
 use Rattle.fbl_law.proofs.Numbered.{receipt-there, send-there, receipt-number}
-use Rattle.fbl_law.proofs.Safe.{down_or_up, never_both, nobody_down_empty, IsRecorded-depended, IsRecorded-before, IsRecorded-saved, IsRecorded-reached, Has-recorded}
+use Rattle.fbl_law.proofs.Safe.{down_or_up, never_both, nobody_down_empty, up_if_none, IsRecorded-depended, IsRecorded-before, IsRecorded-saved, IsRecorded-reached, Has-recorded}
 use Rattle.fbl_law.specs.Laws.{RecoveryKeeps, CutIsClosed, CutIsRecorded, RecoveryGainsHolders}
 use Rattle.fbl_law.proofs.Keeping.{KeepsKnowledge, IsSoundAt, sound_kept, sound_passed, truth_everywhere, closed_everywhere}
 
@@ -83,7 +81,7 @@ module _ (n f : ℕ) (old new : Knowledge) (s : IsRecovered f old new) (sound : 
   entries m e down among = entries_gathered f old sound.down e (rw (s.gathered m down) at among)
 
   up_now : (m : ℕ) → IsUp new m
-  up_now m = rw s.nobody_down (set.contains-empty nat_cmp m)
+  up_now = up_if_none s.nobody_down
 
   stays : (e : Mark) → Has old.trace e → keep e ≡ true → Stays old e
   stays e there kept = (s.trace.2 e there).0 kept
