@@ -2,7 +2,7 @@
 use Rattle.std.proofs.Common.{◌≡◌, ℕ, zero, suc, ◌<◌, ◌≤◌, ◌==◌, inl, inr, Bool, true, false, cond, List, [], ◌∷◌, ◌++◌, length, take, drop, map, Option}
 use Rattle.std.proofs.Common.{Some, None, option_map, slice_get, refl, sym, ap, ◌∙◌, arith, append_assoc, length-take}
 use Rattle.std.specs.List.{filter, filter_map, cons_option}
-use Rattle.std.proofs.lemmas.Bool.{false_from_ne_true}
+use Rattle.std.proofs.lemmas.Bool.{cases_eq, eq-eqb, ne_eqb, false_from_ne_true}
 use Rattle.std.proofs.lemmas.Bool.Decides.{nat_tests}
 use Rattle.std.proofs.lemmas.List.{take-append-le, take-append-drop, take-take, map-append}
 use Rattle.std.proofs.lemmas.List.Elements.{filter-append}
@@ -137,34 +137,37 @@ module _ (n : ℕ) (keep : Mark → Bool) (t : List Event) (obeys : WellFormed n
       (b ≡ true → (d : Determinant) → d.to ≡ p → Has (map mark_of u) (receipt_of d) → keep (receipt_of d) ≡ true)
       × (b ≡ false → (x : Mark) × Has (map mark_of u) x × (member_of x ≡ p) × (keep x ≡ false))
 
-  split : (u : List Event) (e : Event) (rest : List Event) → t ≡ u ++ e ∷ rest → M ≡ map mark_of u ++ mark_of e ∷ map mark_of rest
-  split u e rest is = ap (map mark_of) is ∙ map-append mark_of u (e ∷ rest)
+  -- an event of the trace, after the events u
+  module _ (u : List Event) (e : Event) (rest : List Event) (is : t ≡ u ++ e ∷ rest) where
+    split : M ≡ map mark_of u ++ mark_of e ∷ map mark_of rest
+    split = ap (map mark_of) is ∙ map-append mark_of u (e ∷ rest)
 
-  Has-all : (u : List Event) (e : Event) (rest : List Event) → t ≡ u ++ e ∷ rest → Has M (mark_of e)
-  Has-all u e rest is = (length (map mark_of u), rw (split u e rest is) (At-seam (map mark_of u) (mark_of e) (map mark_of rest)))
+    here : At M (length (map mark_of u)) (mark_of e)
+    here = rw split (At-seam (map mark_of u) (mark_of e) (map mark_of rest))
 
-  earlier_of : (u : List Event) (e : Event) (rest : List Event) → t ≡ u ++ e ∷ rest → (x : Mark) → Has (map mark_of u) x → Earlier M x (mark_of e)
-  earlier_of u e rest is x h =
-      rw (split u e rest is) (
-        h.0,
-        length (map mark_of u),
-        At-below (map mark_of u) h.0 x h.1,
-        At-front (map mark_of u) (mark_of e ∷ map mark_of rest) h.0 x h.1,
-        At-seam (map mark_of u) (mark_of e) (map mark_of rest),
-      )
+    earlier_of : (x : Mark) → Has (map mark_of u) x → Earlier M x (mark_of e)
+    earlier_of x h = (h.0, length (map mark_of u), At-below (map mark_of u) h.0 x h.1, rw split (At-front (map mark_of u) (mark_of e ∷ map mark_of rest) h.0 x h.1), here)
 
-  earlier_back : (u : List Event) (e : Event) (rest : List Event) → t ≡ u ++ e ∷ rest → (x : Mark) → Earlier M x (mark_of e) → Has (map mark_of u) x
-  earlier_back u e rest is x h =
-      let here : At M (length (map mark_of u)) (mark_of e) = rw (split u e rest is) (At-seam (map mark_of u) (mark_of e) (map mark_of rest)) in
-      let there : At (map mark_of u ++ mark_of e ∷ map mark_of rest) h.0 x = rw (split u e rest is) at h.3 in
-      let same = one_place n M obeys (mark_of e) (length (map mark_of u)) h.1 here h.4 in
-      elim (At-append (map mark_of u) (mark_of e ∷ map mark_of rest) h.0 x there) [ inl old ↦ (h.0, old) | inr new ↦ absurd (omega (arith, h.2, same, new.1)) ]
+    earlier_back : (x : Mark) → Earlier M x (mark_of e) → Has (map mark_of u) x
+    earlier_back x h =
+        let same = one_place n M obeys (mark_of e) (length (map mark_of u)) h.1 here h.4 in
+        elim (At-append (map mark_of u) (mark_of e ∷ map mark_of rest) h.0 x (rw split at h.3)) [ inl old ↦ (h.0, old) | inr new ↦ absurd (omega (arith, h.2, same, new.1)) ]
 
-  -- where an earlier event of the member isn't kept, none is
-  dead : (u : List Event) (e : Event) (rest : List Event) → t ≡ u ++ e ∷ rest → member_of (mark_of e) ≡ p → Alive false u → keeps e ≡ false
-  dead u e rest is at_p state =
-      let gone = state.1 refl in
-      false_from_ne_true (keeps e) (λ yes'. let before = causes gone.0 (mark_of e) yes' (earlier_of u e rest is gone.0 gone.1, inl (gone.2 ∙ sym at_p)) in let not_kept = gone.3 in cc)
+    -- where an earlier event of the member isn't kept, none is
+    dead : member_of (mark_of e) ≡ p → Alive false u → keeps e ≡ false
+    dead at_p state =
+        let gone = state.1 refl in
+        false_from_ne_true (keeps e) (λ yes'. let before = causes gone.0 (mark_of e) yes' (earlier_of gone.0 gone.1, inl (gone.2 ∙ sym at_p)) in let not_kept = gone.3 in cc)
+
+    -- a send of the member is kept where the receipts so far are
+    send_flag : (b : Bool) → member_of (mark_of e) ≡ p → ((d : Determinant) → ¬ (mark_of e ≡ receipt_of d)) → Alive b u → keeps e ≡ b
+    send_flag true at_p no_receipt state =
+        follow (mark_of e) (length (map mark_of u), here) no_receipt (λ d to earlier. state.0 refl d (to ∙ at_p) (earlier_back (receipt_of d) earlier))
+    send_flag false at_p no_receipt state = dead at_p state
+
+    receipt_flag : (b : Bool) → member_of (mark_of e) ≡ p → Alive b u → keeps e ≡ true → b ≡ true
+    receipt_flag true at_p state yes' = refl
+    receipt_flag false at_p state yes' = absurd (let no' = dead at_p state in cc)
 
   -- one more event that isn't a receipt of the member
   same_state : (b : Bool) (u : List Event) (e : Event) → ((d : Determinant) → d.to ≡ p → ¬ (mark_of e ≡ receipt_of d)) → Alive b u → Alive b (u ++ e ∷ [])
@@ -186,45 +189,25 @@ module _ (n : ℕ) (keep : Mark → Bool) (t : List Event) (obeys : WellFormed n
     λ no'. (mark_of e, last u e, at_p, no'),
   )
 
-  -- a send of the member is kept where the receipts so far are
-  send_flag : (b : Bool) (u : List Event) (e : Event) (rest : List Event) → t ≡ u ++ e ∷ rest → member_of (mark_of e) ≡ p
-      → ((d : Determinant) → ¬ (mark_of e ≡ receipt_of d)) → Alive b u → keeps e ≡ b
-  send_flag true u e rest is at_p no_receipt state =
-      follow (mark_of e) (Has-all u e rest is) no_receipt (λ d to earlier. state.0 refl d (to ∙ at_p) (earlier_back u e rest is (receipt_of d) earlier))
-  send_flag false u e rest is at_p no_receipt state = dead u e rest is at_p state
-
-  receipt_flag : (b : Bool) (u : List Event) (e : Event) (rest : List Event) → t ≡ u ++ e ∷ rest → member_of (mark_of e) ≡ p → Alive b u → keeps e ≡ true → b ≡ true
-  receipt_flag true u e rest is at_p state yes' = refl
-  receipt_flag false u e rest is at_p state yes' = (let no' = dead u e rest is at_p state in absurd cc)
-
   orderly_from : (b : Bool) (u rest : List Event) → t ≡ u ++ rest → Alive b u → Orderly b (flagged rest)
   orderly_from b u [] is state = tt
-  orderly_from b u (Send q k to x ∷ rest) is state = at (q == p) refl (orderly_from b (u ++ Send q k to x ∷ []) rest (is ∙ sym (append_assoc u (Send q k to x ∷ []) rest)))
-    where
-      at : (c : Bool) → (q == p) ≡ c → (Alive b (u ++ Send q k to x ∷ []) → Orderly b (flagged rest))
-          → Orderly b (cons_option (option_map (λ (a : Action). (keep (mark.Send q k to), a)) (cond c (Some (sent (to, x))) None)) (flagged rest))
-      at true ec more =
-          let at_p : q ≡ p = grind (arith, nat_tests) in
-          (send_flag b u (Send q k to x) rest is at_p (λ d h. cc) state, more (same_state b u (Send q k to x) (λ d to' h. cc) state))
-      at false ec more = more (same_state b u (Send q k to x) (λ d to' h. cc) state)
-  orderly_from b u (Receipt to r q k ∷ rest) is state = at (to == p) refl (λ c. orderly_from c (u ++ Receipt to r q k ∷ []) rest (is ∙ sym (append_assoc u (Receipt to r q k ∷ []) rest)))
-    where
-      at : (c : Bool) → (to == p) ≡ c → ((v : Bool) → Alive v (u ++ Receipt to r q k ∷ []) → Orderly v (flagged rest))
-          → Orderly b (cons_option (option_map (λ (a : Action). (keep (mark.Receipt to r q k), a)) (action_of t p (Receipt to r q k))) (flagged rest))
-      at true ec more =
-          let at_p : to ≡ p = grind (arith, nat_tests) in
-          let here : slice_get t (length u) ≡ Some (Receipt to r q k) = rw is (At-seam u (Receipt to r q k) rest) in
-          let noted = receipts-noted n t obeys (length u) to r q k here in
-          let alive = receipt_flag b u (Receipt to r q k) rest is at_p state in
-          rw (ec, noted.1) (alive, more (keep (mark.Receipt to r q k)) (next_state b u (Receipt to r q k) at_p alive state))
-      at false ec more = rw ec (more b (same_state b u (Receipt to r q k) elsewhere state))
-        where
-          elsewhere : (d : Determinant) → d.to ≡ p → ¬ (mark.Receipt to r q k ≡ receipt_of d)
-          elsewhere d at_p same =
-              let e1 : to ≡ d.to = cc in
-              let e2 : to ≡ p = e1 ∙ at_p in
-              let e3 : (to == p) ≡ true = grind (arith, nat_tests) in
-              cc
+  orderly_from b u (Send q k to x ∷ rest) is state =
+      let more = orderly_from b (u ++ Send q k to x ∷ []) rest (is ∙ sym (append_assoc u (Send q k to x ∷ []) rest)) (same_state b u (Send q k to x) (λ d to' h. cc) state) in
+      elim (cases_eq q p) [
+        | inl own ↦ rw (eq-eqb q p own) (send_flag u (Send q k to x) rest is b own (λ d h. cc) state, more)
+        | inr other ↦ rw (ne_eqb q p other) more
+      ]
+  orderly_from b u (Receipt to r q k ∷ rest) is state =
+      let next = is ∙ sym (append_assoc u (Receipt to r q k ∷ []) rest) in
+      elim (cases_eq to p) [
+        | inl own ↦
+            let noted = receipts-noted n t obeys (length u) to r q k (rw is (At-seam u (Receipt to r q k) rest)) in
+            let alive = receipt_flag u (Receipt to r q k) rest is b own state in
+            rw (eq-eqb to p own, noted.1)
+            (alive, orderly_from (keep (mark.Receipt to r q k)) (u ++ Receipt to r q k ∷ []) rest next (next_state b u (Receipt to r q k) own alive state))
+        | inr other ↦
+            rw (ne_eqb to p other) (orderly_from b (u ++ Receipt to r q k ∷ []) rest next (same_state b u (Receipt to r q k) (λ d at_p same. other (cc)) state))
+      ]
 
   orderly : Orderly true (flagged t)
   orderly = orderly_from true [] t refl (λ yes' d to has. absurd (let here : At [] has.0 (receipt_of d) = has.1 in cc), λ no'. absurd cc)
