@@ -4,7 +4,6 @@ use Rattle.std.proofs.Common.{refl, sym, ap, ◌∙◌, arith}
 use Rattle.std.specs.List.{filter}
 use Rattle.std.specs.FinSet as set
 use Rattle.std.proofs.lemmas.Bool.Decides.{same_from_decides, nat_tests}
-use Rattle.std.proofs.lemmas.List.{take_all}
 use Rattle.fbl_base.specs.declared.trace.Determinant.{Determinant}
 use Rattle.fbl_base.specs.declared.trace.Note.{Note}
 use Rattle.fbl_base.specs.declared.trace.Event.{Event}
@@ -26,7 +25,8 @@ use Rattle.fbl_law.proofs.GroupRecovery.{cut-lawful, cut-keeps_up, cut-obeys, cu
 use Rattle.fbl_law.proofs.Logs.{log-has, log-length, logged-noted}
 use Rattle.fbl_law.proofs.Notes.{noted-sent, one-send, mark-at}
 use Rattle.fbl_law.proofs.Numbered.{receipt-number}
-use Rattle.fbl_law.proofs.Receipts.{receipts_at-number, receipts_at-Has, Has-receipts_at, length-receipts_at, length-received_notes}
+use Rattle.fbl_law.proofs.ReplayedRecords.{all-taken}
+use Rattle.fbl_law.proofs.Receipts.{receipts_at-number, receipts_at-Has, Has-receipts_at, length-receipts_at}
 
 -- tests that agree at each place keep the same
 pub filter-agree : {X : Type 0} (p q : X → Bool) (xs : List X) → ((i : ℕ) (x : X) → slice_get xs i ≡ Some x → p x ≡ q x) → filter p xs ≡ filter q xs
@@ -46,7 +46,7 @@ module _ (next : Next) (old : GroupRecord) (sound : IsSound next old) (new : Lis
   was = cut-was next old sound new cut
 
   whole : (p : ℕ) → p < old.config.members → take (work p).received (received_notes new p) ≡ received_notes new p
-  whole p below = take_all (work p).received (received_notes new p) (omega (arith, all p below, length-received_notes old.config.members new p obeys))
+  whole p below = (all-taken old.config.members new p (work p).received obeys (all p below)).0
 
   the-log : (p : ℕ) → p < old.config.members → (work p).log ≡ (after_notes next p old.config.members old.config.starts (received_notes new p)).log
   the-log p below = ap (λ (x : Progress). x.log) (replays p below).progress ∙ ap (λ (xs : List Note). (after_notes next p old.config.members old.config.starts xs).log) (whole p below)

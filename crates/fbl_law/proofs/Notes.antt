@@ -1,6 +1,6 @@
 -- The notes of a trace's messages.
-use Rattle.std.proofs.Common.{◌≡◌, ℕ, suc, ◌<◌, ◌==◌, ◌&&◌, inl, inr, Bool, true, false, cond, List, [], ◌∷◌, take, map, Some, slice_get, refl, ap, ◌∙◌, arith}
-use Rattle.std.proofs.lemmas.Bool.{cases_order}
+use Rattle.std.proofs.Common.{◌≡◌, ℕ, suc, ◌<◌, ◌==◌, ◌&&◌, inl, inr, List, [], ◌∷◌, take, map, Some, slice_get, refl, ap, ◌∙◌, arith}
+use Rattle.std.proofs.lemmas.Bool.{cases_Bool, cases_order}
 use Rattle.std.proofs.lemmas.Bool.Decides.{nat_tests}
 use Rattle.std.proofs.lemmas.List.{take-take}
 use Rattle.std.proofs.lemmas.Option.{slice_get-map}
@@ -20,13 +20,10 @@ use Rattle.fbl_base.proofs.LawfulLaws.{sent-note}
 -- a note that the trace names was sent
 pub noted-sent : (t : List Event) (q k : ℕ) (x : Note) → note_of t q k ≡ Some x → (i : ℕ) × (to : ℕ) × (slice_get t i ≡ Some (Send q k to x))
 noted-sent [] q k x is = absurd cc
-noted-sent (Send q' k' to' x' ∷ t) q k x is = at (q' == q) (k' == k) refl refl is (noted-sent t q k x) where
-  at : (a b : Bool) → (q' == q) ≡ a → (k' == k) ≡ b → cond (a && b) (Some x') (note_of t q k) ≡ Some x
-      → (note_of t q k ≡ Some x → (i : ℕ) × (to : ℕ) × (slice_get t i ≡ Some (Send q k to x)))
-      → (i : ℕ) × (to : ℕ) × (slice_get (Send q' k' to' x' ∷ t) i ≡ Some (Send q k to x))
-  at true true ea eb g rest = (0, to', grind (arith, nat_tests))
-  at true false ea eb g rest = (let r = rest g in (suc r.0, r.1, r.2))
-  at false b ea eb g rest = (let r = rest g in (suc r.0, r.1, r.2))
+noted-sent (Send q' k' to' x' ∷ t) q k x is = elim (cases_Bool (q' == q && k' == k)) [
+  | inl own ↦ (0, to', grind (arith, nat_tests))
+  | inr other ↦ let r = noted-sent t q k x (rw other at is) in (suc r.0, r.1, r.2)
+]
 noted-sent (Receipt to' r q' k' ∷ t) q k x is = let r = noted-sent t q k x is in (suc r.0, r.1, r.2)
 
 -- the sends of a member have different numbers

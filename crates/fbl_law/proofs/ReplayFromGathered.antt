@@ -1,8 +1,7 @@
 -- How the members that are down replay what the survivors have recorded.
-use Rattle.std.proofs.Common.{◌≡◌, ℕ, suc, ◌+◌, ◌<◌, ◌≤◌, inl, inr, Bool, true, false, cond, List, [], ◌∷◌, ◌++◌, length, take, drop, map}
-use Rattle.std.proofs.Common.{Option, Some, None, option_map, slice_get, refl, sym, subst, ap, ◌∙◌, arith, length-take, length-append}
-use Rattle.std.specs.List.{find}
-use Rattle.std.proofs.lemmas.Bool.{cases_lt}
+use Rattle.std.proofs.Common.{◌≡◌, ℕ, suc, ◌+◌, ◌<◌, ◌≤◌, inl, inr, List, [], ◌∷◌, ◌++◌, length, take, drop, map}
+use Rattle.std.proofs.Common.{Option, Some, None, slice_get, refl, sym, subst, ap, ◌∙◌, arith, length-take, length-append}
+use Rattle.std.proofs.lemmas.Bool.{cases_Bool, cases_lt}
 use Rattle.std.proofs.lemmas.Bool.Decides.{nat_tests}
 use Rattle.std.proofs.lemmas.List.{take-append-drop, map-append, length-map}
 use Rattle.std.proofs.lemmas.List.Sums.{count_by-le-length}
@@ -43,25 +42,23 @@ use Rattle.fbl_law.proofs.ReplayedRecords.{replayed-step}
 -- what a table finds is one of its entries' determinants, of that receipt
 pub found-named : (p k : ℕ) (table : List Entry) (d : Determinant) → found p k table ≡ Some d → Names table d × (d.to ≡ p) × (d.rsn ≡ k)
 found-named p k [] d is = absurd cc
-found-named p k (e ∷ table) d is = at (is_of_receipt p k e) refl is (found-named p k table d) where
-  at : (b : Bool) → is_of_receipt p k e ≡ b → option_map (λ (x : Entry). x.det) (cond b (Some e) (find (is_of_receipt p k) table)) ≡ Some d
-      → (found p k table ≡ Some d → Names table d × (d.to ≡ p) × (d.rsn ≡ k)) → Names (e ∷ table) d × (d.to ≡ p) × (d.rsn ≡ k)
-  at true yes' g rest = ((e, Contains-here e table, cc), grind (arith, nat_tests), grind (arith, nat_tests))
-  at false no' g rest = (let r = rest g in ((r.0.0, Contains-there e table r.0.0 r.0.1, r.0.2), r.1, r.2))
+found-named p k (e ∷ table) d is = elim (cases_Bool (is_of_receipt p k e)) [
+  | inl own ↦ ((e, Contains-here e table, grind arith), grind (arith, nat_tests), grind (arith, nat_tests))
+  | inr other ↦ let r = found-named p k table d (rw other at is) in ((r.0.0, Contains-there e table r.0.0 r.0.1, r.0.2), r.1, r.2)
+]
 
 -- where it finds none, no entry is of that receipt
 pub found-none : (p k : ℕ) (table : List Entry) (d : Determinant) → found p k table ≡ None → Names table d → d.to ≡ p → d.rsn ≡ k → ⊥
 found-none p k [] d is named to rsn = Contains-none named.0 named.1
-found-none p k (e ∷ table) d is named to rsn = at (is_of_receipt p k e) refl is (found-none p k table d) where
-  at : (b : Bool) → is_of_receipt p k e ≡ b → option_map (λ (x : Entry). x.det) (cond b (Some e) (find (is_of_receipt p k) table)) ≡ None
-      → (found p k table ≡ None → Names table d → d.to ≡ p → d.rsn ≡ k → ⊥) → ⊥
-  at true yes' g rest = cc
-  at false no' g rest = elim (Contains-cons_cases e table named.0 named.1) [
+found-none p k (e ∷ table) d is named to rsn = elim (cases_Bool (is_of_receipt p k e)) [
+  | inl own ↦ (let some = rw own at is in cc)
+  | inr other ↦ elim (Contains-cons_cases e table named.0 named.1) [
     | inl first ↦
         let det : e.det ≡ d = ap (λ (x : Entry). x.det) first ∙ named.2 in
-        grind (arith, nat_tests, no', ap (λ (x : Determinant). x.to) det, ap (λ (x : Determinant). x.rsn) det)
-    | inr later ↦ rest g (named.0, later, named.2) to rsn
+        grind (arith, nat_tests, ap (λ (x : Determinant). x.to) det, ap (λ (x : Determinant). x.rsn) det)
+    | inr later ↦ found-none p k table d (rw other at is) (named.0, later, named.2) to rsn
   ]
+]
 
 -- where each receipt of a member is numbered at most k, it has at most k
 at-most : (n : ℕ) (t : List Mark) (p k : ℕ) → WellFormed n t → ((d : Determinant) → Has t (receipt_of d) → d.to ≡ p → d.rsn ≤ k) → length (receipts_at t p) ≤ k

@@ -1,6 +1,6 @@
 -- From the replay of the members that are down to a recovery.
-use Rattle.std.proofs.Common.{◌≡◌, ℕ, ◌+◌, ◌-◌, ◌<◌, ◌≤◌, ◌⊎◌, inl, inr, [], true, List, length, map, Some, refl, sym}
-use Rattle.std.proofs.Common.{subst, ap, ◌∙◌, arith}
+use Rattle.std.proofs.Common.{◌≡◌, ℕ, ◌+◌, ◌-◌, ◌<◌, ◌≤◌, ◌⊎◌, inl, inr, [], true, List, length, map, Some, refl}
+use Rattle.std.proofs.Common.{ap, ◌∙◌, arith}
 use Rattle.std.specs.Prelude.{slice_set, slice_index_or}
 use Rattle.std.specs.List.{filter}
 use Rattle.std.specs.FinSet as set
@@ -68,21 +68,15 @@ module _ (next : Next) (old : GroupRecord) (sound : IsSound next old) where
       let fold : IsFold next r q = fold-survives next old sound (recovered_trace old) cut r q up refl refl refl (sound.folds q below up) in
       (fold-replayed next r q lawful.well_formed fold, fold-received next r q lawful.well_formed fold)
 
-  working-down : (rebuilt : List MemberRecord) (q : ℕ) → IsDown (knowledge old) q → working old rebuilt q ≡ slice_index_or rebuilt q blank
-  working-down rebuilt q down = rw down refl
-
-  working-up : (rebuilt : List MemberRecord) (q : ℕ) → IsUp (knowledge old) q → working old rebuilt q ≡ member old q
-  working-up rebuilt q up = rw up refl
-
   pub working-replays : (rebuilt : List MemberRecord) → IsReplaying next old rebuilt → (q : ℕ) → q < old.config.members → Replays q (working old rebuilt q)
   working-replays rebuilt replaying q below = elim (down_or_up old.down q) [
-    | inl down ↦ subst (Replays q) (sym (working-down rebuilt q down)) (replaying.replayed q below down)
-    | inr up ↦ subst (Replays q) (sym (working-up rebuilt q up)) (survivor-replays q below up).0
+    | inl down ↦ rw down (replaying.replayed q below down)
+    | inr up ↦ rw up (survivor-replays q below up).0
   ]
 
   working-all : (rebuilt : List MemberRecord) (q : ℕ) → q < old.config.members → IsUp (knowledge old) q
       → (working old rebuilt q).received ≡ length (receipts_at (map mark_of (recovered_trace old)) q)
-  working-all rebuilt q below up = ap (λ (m : MemberRecord). m.received) (working-up rebuilt q up) ∙ (survivor-replays q below up).1
+  working-all rebuilt q below up = rw up (survivor-replays q below up).1
 
   -- a checkpoint's receipts stay, so its replay is one of the trace that is left
   pub checkpoint-replays : (p : ℕ) → p < old.config.members → Replays p (member_checkpoint old p)
@@ -97,8 +91,8 @@ module _ (next : Next) (old : GroupRecord) (sound : IsSound next old) where
       → ((p : ℕ) → p < old.config.members → IsDown (knowledge old) p → slice_index_or rebuilt p blank ≡ member_checkpoint old p) → IsReplaying next old rebuilt
   replaying-start rebuilt size begins = record {
     size = size;
-    replayed = λ p below down. subst (Replays p) (sym (begins p below down)) (checkpoint-replays p below);
-    begun = λ p below down. (let e = ap (λ (m : MemberRecord). m.received) (begins p below down) in omega (arith, e));
+    replayed = λ p below down. rw (begins p below down) (checkpoint-replays p below);
+    begun = λ p below down. rw (begins p below down) (omega arith);
   }
 
   -- what the gathered tables find is the next receipt
@@ -121,12 +115,12 @@ module _ (next : Next) (old : GroupRecord) (sound : IsSound next old) where
   replaying-step rebuilt p d note replaying below down is named = record {
     size = length-set rebuilt p after ∙ replaying.size;
     replayed = λ q below_q down_q. elim (cases_eq q p) [
-      | inl same ↦ rw same (subst (Replays p) (sym own) there)
-      | inr other ↦ subst (Replays q) (sym (get_or-set_other rebuilt p q after blank other)) (replaying.replayed q below_q down_q)
+      | inl same ↦ rw (same, own) there
+      | inr other ↦ rw (get_or-set_other rebuilt p q after blank other) (replaying.replayed q below_q down_q)
     ];
     begun = λ q below_q down_q. elim (cases_eq q p) [
-      | inl same ↦ rw same (let e = ap (λ (m : MemberRecord). m.received) own in omega (arith, e, replaying.begun p below down))
-      | inr other ↦ (let e = ap (λ (m : MemberRecord). m.received) (get_or-set_other rebuilt p q after blank other) in omega (arith, e, replaying.begun q below_q down_q))
+      | inl same ↦ rw (same, own) (omega (arith, replaying.begun p below down))
+      | inr other ↦ rw (get_or-set_other rebuilt p q after blank other) (replaying.begun q below_q down_q)
     ];
   }
     where
@@ -170,9 +164,9 @@ module _ (next : Next) (old : GroupRecord) (sound : IsSound next old) where
       → ((p : ℕ) → p < old.config.members → IsDown (knowledge old) p → slice_index_or given p blank ≡ record (slice_index_or rebuilt p blank) { table = t }) → IsReplaying next old given
   replaying-tables rebuilt given t replaying size same = record {
     size = size ∙ replaying.size;
-    replayed = λ p below down. subst (Replays p) (sym (same p below down))
+    replayed = λ p below down. rw (same p below down)
         (replayed-table next old.config.members old (recovered_trace old) p (slice_index_or rebuilt p blank) t (replaying.replayed p below down));
-    begun = λ p below down. (let e = ap (λ (m : MemberRecord). m.received) (same p below down) in omega (arith, e, replaying.begun p below down));
+    begun = λ p below down. rw (same p below down) (replaying.begun p below down);
   }
 
   -- where each member that is down waits, all is replayed
@@ -180,18 +174,18 @@ module _ (next : Next) (old : GroupRecord) (sound : IsSound next old) where
     pub working-received : (q : ℕ) → q < old.config.members → (working old rebuilt q).received ≡ length (receipts_at (map mark_of (recovered_trace old)) q)
     working-received =
         all-replayed next old sound (recovered_trace old) cut (working old rebuilt) (working-replays rebuilt replaying) (working-all rebuilt)
-        (λ p below down d is. waiting p below down d (rw (working-down rebuilt p down) at is))
+        (λ p below down d is. waiting p below down d (rw down at is))
 
     pub rebuilt-received : (p : ℕ) → p < old.config.members → IsDown (knowledge old) p
         → (slice_index_or rebuilt p blank).received ≡ length (receipts_at (map mark_of (recovered_trace old)) p)
-    rebuilt-received p below down = ap (λ (m : MemberRecord). m.received) (sym (working-down rebuilt p down)) ∙ working-received p below
+    rebuilt-received p below down = rw down at (working-received p below)
 
     -- as many are replayed as the trace has of the members that are down, beyond those of their checkpoints
     pub replayed_in-all : replayed_in old rebuilt ≡ length (filter (is_replayed old) (receipts (map mark_of (recovered_trace old))))
     replayed_in-all =
         count_in-same old.down (λ p. (slice_index_or rebuilt p blank).received - (member_checkpoint old p).received)
         (λ p. (working old rebuilt p).received - (member_checkpoint old p).received) old.config.members
-        (λ p below down. ap (λ (m : MemberRecord). m.received - (member_checkpoint old p).received) (sym (working-down rebuilt p down)))
+        (λ p below down. rw down refl)
         ∙ replayed-count next old sound (recovered_trace old) cut (working old rebuilt) (λ p. (member_checkpoint old p).received) working-received
 
     -- the events that stay are those that the counts of the members that are down cover
@@ -201,7 +195,7 @@ module _ (next : Next) (old : GroupRecord) (sound : IsSound next old) where
     pub recovered_trace-rebuilt : filter (λ e. stays_by old.down (λ p. slice_index_or rebuilt p blank) (mark_of e)) old.trace ≡ recovered_trace old
     recovered_trace-rebuilt =
         filter-agree (λ e. stays_by old.down (λ p. slice_index_or rebuilt p blank) (mark_of e)) (λ e. stays_by old.down (working old rebuilt) (mark_of e)) old.trace
-        (λ i e here. stays_by-agree old.down (λ p. slice_index_or rebuilt p blank) (working old rebuilt) (λ p down. sym (working-down rebuilt p down)) (mark_of e))
+        (λ i e here. stays_by-agree old.down (λ p. slice_index_or rebuilt p blank) (working old rebuilt) (λ p down. rw down refl) (mark_of e))
         ∙ recovered_trace-counts
 
     -- so a group with these records, and with channels made again, is the group recovered

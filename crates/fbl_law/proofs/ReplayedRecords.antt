@@ -65,30 +65,32 @@ fold-received next r m obeys fold' =
     received-fold next m r.config.members (begun m r.config.starts) (received_notes r.trace m) ∙ omega arith in
     ap (λ (x : Progress). x.received) fold'.progress ∙ count ∙ length-received_notes r.config.members r.trace m obeys
 
+-- a member with as many receipts as the trace has of it has them all
+pub all-taken : (n : ℕ) (t : List Event) (p k : ℕ) → WellFormed n (map mark_of t) → k ≡ length (receipts_at (map mark_of t) p)
+    → (take k (received_notes t p) ≡ received_notes t p) × (take k (receipts_at (map mark_of t) p) ≡ receipts_at (map mark_of t) p)
+all-taken n t p k obeys count =
+    (take_all k (received_notes t p) (omega (arith, length-received_notes n t p obeys)), take_all k (receipts_at (map mark_of t) p) (omega arith))
+
 pub fold-replayed : (next : Next) (r : GroupRecord) (m : ℕ) → WellFormed r.config.members (marks r) → IsFold next r m → IsReplayed next r.config.members r.config.starts r.trace m (member r m)
 fold-replayed next r m obeys fold' =
     let count = fold-received next r m obeys fold' in
-    let notes = length-received_notes r.config.members r.trace m obeys in
-    let all_notes : take (member r m).received (received_notes r.trace m) ≡ received_notes r.trace m = take_all (member r m).received (received_notes r.trace m) (omega (arith, count, notes)) in
-    let all_receipts : take (member r m).received (receipts_at (marks r) m) ≡ receipts_at (marks r) m = take_all (member r m).received (receipts_at (marks r) m) (omega (arith, count)) in
+    let all = all-taken r.config.members r.trace m (member r m).received obeys count in
     record {
       within = omega (arith, count);
-      progress = fold'.progress ∙ ap (λ (xs : List Note). after_notes next m r.config.members r.config.starts xs) (sym all_notes);
+      progress = rw all.0 fold'.progress;
       places = fold'.places;
-      last = λ q below. fold'.last q below ∙ last_taken-among (marks r) q m ∙ ap (λ (ds : List Determinant). last_among ds q) (sym all_receipts);
+      last = λ q below. rw all.1 (fold'.last q below ∙ last_taken-among (marks r) q m);
     }
 
 -- and the other way round
 pub replayed-fold : (next : Next) (r : GroupRecord) (m : ℕ) → WellFormed r.config.members (marks r)
     → IsReplayed next r.config.members r.config.starts r.trace m (member r m) → (member r m).received ≡ length (receipts_at (marks r) m) → IsFold next r m
 replayed-fold next r m obeys replayed count =
-    let notes = length-received_notes r.config.members r.trace m obeys in
-    let all_notes : take (member r m).received (received_notes r.trace m) ≡ received_notes r.trace m = take_all (member r m).received (received_notes r.trace m) (omega (arith, count, notes)) in
-    let all_receipts : take (member r m).received (receipts_at (marks r) m) ≡ receipts_at (marks r) m = take_all (member r m).received (receipts_at (marks r) m) (omega (arith, count)) in
+    let all = all-taken r.config.members r.trace m (member r m).received obeys count in
     record {
-      progress = replayed.progress ∙ ap (λ (xs : List Note). after_notes next m r.config.members r.config.starts xs) all_notes;
+      progress = rw all.0 at replayed.progress;
       places = replayed.places;
-      last = λ q below. replayed.last q below ∙ ap (λ (ds : List Determinant). last_among ds q) all_receipts ∙ sym (last_taken-among (marks r) q m);
+      last = λ q below. rw all.1 at (replayed.last q below) ∙ sym (last_taken-among (marks r) q m);
     }
 
 -- lists that agree on their first elements
