@@ -9,11 +9,12 @@ use Rattle.fbl_base.specs.declared.trace.Mark.TheVariants.{Send, Receipt}
 use Rattle.fbl_base.specs.Precedence.{Has}
 use Rattle.fbl_base.specs.Rules.{sent_on, taken_on, in_flight, WellFormed}
 use Rattle.fbl_base.proofs.Gets.{map-At, At-filter, At-filter_map}
-use Rattle.fbl_base.proofs.RulesLaws.{is_sent, WellFormed-front, MayFollow-last}
+use Rattle.fbl_base.proofs.RulesLaws.{is_sent, WellFormed-front}
 use Rattle.fbl_base.proofs.InFlightLaws.{in_flight-send, in_flight-receipt}
 use Rattle.fbl_member.specs.Members.{Message}
 use Rattle.fbl_law.specs.Knowledge.{Knowledge, send_mark, IsInFlight, IsUp, MatchesTrace, IsDownEmpty}
 use Rattle.fbl_law.specs.Steps.{between, taken_off}
+use Rattle.fbl_law.proofs.Appended.{MayFollow-seam}
 use Rattle.fbl_law.proofs.Lists.{Contains-at, Contains-place}
 use Rattle.fbl_law.proofs.Safe.{up_at_ends}
 use Rattle.std.proofs.lemmas.Option.{slice_get-map}
@@ -51,9 +52,8 @@ in_flight-made : (n : ℕ) (u : List Mark) (made : List Message) (q p : ℕ) →
 in_flight-made n u [] q p obeys = simp append-nil
 in_flight-made n u (x ∷ made) q p obeys =
     let next : WellFormed n ((u ++ send_mark x ∷ []) ++ map send_mark made) = rw append_assoc obeys in
-    let front : WellFormed n (u ++ send_mark x ∷ []) = WellFormed-front n (u ++ send_mark x ∷ []) (map send_mark made) next in
     let rest = in_flight-made n (u ++ send_mark x ∷ []) made q p next in
-    let one = in_flight-send n u (WellFormed-front n u (send_mark x ∷ []) front) x.from x.ssn x.to q p (MayFollow-last n u (send_mark x) front) in
+    let one = in_flight-send n u (WellFormed-front n u _ obeys) x.from x.ssn x.to q p (MayFollow-seam n u (send_mark x) (map send_mark made) obeys) in
     let joined : cond (x.from == q && x.to == p) (x.ssn ∷ []) [] ++ filter_map (sent_on q p) (map send_mark made) ≡ filter_map (sent_on q p) (map send_mark (x ∷ made)) = grind arith in
     rw append_assoc at rest ∙ rw one (append_assoc (in_flight u q p) _ _ ∙ ap (λ (ys : List ℕ). in_flight u q p ++ ys) joined)
 
@@ -69,8 +69,7 @@ pub channel-delivered : (n : ℕ) (t : List Mark) (v : Message) (rsn : ℕ) (mad
 channel-delivered n t v rsn made channel q p obeys was =
     let R : Mark = Receipt v.to rsn v.from v.ssn in
     let next : WellFormed n ((t ++ R ∷ []) ++ map send_mark made) = rw append_assoc obeys in
-    let front : WellFormed n (t ++ R ∷ []) = WellFormed-front n (t ++ R ∷ []) (map send_mark made) next in
-    let one = in_flight-receipt n t (WellFormed-front n t (R ∷ []) front) v.to rsn v.from v.ssn q p (MayFollow-last n t R front) in
+    let one = in_flight-receipt n t (WellFormed-front n t _ obeys) v.to rsn v.from v.ssn q p (MayFollow-seam n t R (map send_mark made) obeys) in
     let all = rw append_assoc at (in_flight-made n (t ++ R ∷ []) made q p next) in
     rw (all, one, map-append send_mark, map-append (λ ssn. Send q ssn p), messages_between made q p)
     (ap (λ (ys : List Mark). ys ++ map (λ ssn. Send q ssn p) (filter_map (sent_on q p) (map send_mark made))) (old_part (v.from == q && v.to == p)))

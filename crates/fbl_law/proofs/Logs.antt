@@ -1,5 +1,5 @@
 -- What the log of a fold has.
-use Rattle.std.proofs.Common.{◌≡◌, ℕ, zero, suc, ◌+◌, ◌<◌, ◌≤◌, ◌==◌, true, cond, List, [], ◌∷◌, ◌++◌, length, take, drop, map}
+use Rattle.std.proofs.Common.{◌≡◌, ℕ, zero, suc, ◌+◌, ◌<◌, ◌≤◌, ◌==◌, cond, List, [], ◌∷◌, ◌++◌, length, take, drop, map}
 use Rattle.std.proofs.Common.{Option, Some, None, refl, sym, ap, ◌∙◌, arith, append_assoc, length-append, inl, inr}
 use Rattle.std.specs.List.{filter_map, fold}
 use Rattle.std.proofs.Math.Nat.{zero-add}
@@ -7,20 +7,20 @@ use Rattle.std.proofs.lemmas.Bool.{cases_eq}
 use Rattle.std.proofs.lemmas.Bool.Decides.{nat_tests}
 use Rattle.std.proofs.lemmas.List.{append-nil, map-append, take-append-drop}
 use Rattle.std.proofs.lemmas.List.Elements.{filter_map-append}
-use Rattle.std.proofs.lemmas.List.Sums.{fold-append, sum_by-append, sum_by-cons}
+use Rattle.std.proofs.lemmas.List.Sums.{fold-append, sum_by-cons}
 use Rattle.fbl_base.specs.declared.trace.Note.{Note}
 use Rattle.fbl_base.specs.declared.trace.Start.{Start}
 use Rattle.fbl_base.specs.declared.trace.Event.{Event}
 use Rattle.fbl_base.specs.declared.trace.Event.TheVariants.{Send, Receipt}
-use Rattle.fbl_base.specs.declared.trace.Mark.{Mark}
 use Rattle.fbl_base.specs.declared.trace.Mark.TheVariants as mark
 use Rattle.fbl_base.specs.Events.{mark_of}
 use Rattle.fbl_base.specs.Rules.{is_send_of, is_receipt_of, sends_of, receipts_of, WellFormed}
 use Rattle.fbl_base.specs.Fold.{Next, Logged, Progress, Action, took, sent, numbered, starts_of, begun, advanced, after_notes, action_of, actions_of, notes_of, note_of, responses, Lawful}
-use Rattle.fbl_base.proofs.RulesLaws.{sends-step, WellFormed-front, MayFollow-last, eqb-self}
+use Rattle.fbl_base.proofs.RulesLaws.{sends-step, receipts-step, eqb-self}
 use Rattle.fbl_member.specs.Members.{logged_note}
 use Rattle.fbl_member.proofs.Logs.{length-numbered, numbered-append}
 use Rattle.fbl_law.specs.Sound.{received_notes}
+use Rattle.fbl_law.proofs.Appended.{MayFollow-seam}
 
 -- the sends among a member's actions
 abbrev pub sends_in : List Action → List (ℕ × Note)
@@ -63,13 +63,15 @@ pub log-after : (next : Next) (p n : ℕ) (starts : List Start) (notes : List No
 log-after next p n starts notes =
     log-fold next p n (begun p starts) notes ∙ simp (zero-add, length-numbered, sends_in-append, sends_in-sent, numbered-append)
 
+length-log : (next : Next) (p n : ℕ) (starts : List Start) (notes : List Note)
+    → length (after_notes next p n starts notes).log ≡ length (sends_in (map sent (starts_of p starts) ++ responses next p n 0 notes))
+length-log next p n starts notes = ap length (log-after next p n starts notes) ∙ length-numbered 0 _
+
 -- it has each number from 1 to its length
 pub log-has : (next : Next) (p n : ℕ) (starts : List Start) (notes : List Note) (ssn : ℕ) → 0 < ssn
     → ssn ≤ length (after_notes next p n starts notes).log → (note : Note) × (logged_note (after_notes next p n starts notes).log ssn ≡ Some note)
 log-has next p n starts notes ssn above within =
-    let sends = sends_in (map sent (starts_of p starts) ++ responses next p n 0 notes) in
-    let long : length (after_notes next p n starts notes).log ≡ length sends = ap length (log-after next p n starts notes) ∙ length-numbered 0 sends in
-    (rw (log-after next p n starts notes) (numbered-has 0 ssn sends above (omega (arith, within, long))))
+    rw (log-after next p n starts notes) (numbered-has 0 ssn _ above (omega (arith, within, length-log next p n starts notes)))
 
 -- the log after the first notes is a front of the log after all
 pub log-front : (next : Next) (p n : ℕ) (starts : List Start) (notes : List Note) (k : ℕ)
@@ -87,25 +89,21 @@ abbrev pub logged_of : ℕ → Event → Option Logged
 logged_of p (Send from ssn to note) = cond (from == p) (Some (record { ssn = ssn; to = to; note = note })) None
 logged_of p (Receipt to rsn from ssn) = None
 
+-- one event more
+sends-grown : (u : List Event) (e : Event) (p : ℕ) → sends_of (map mark_of (u ++ e ∷ [])) p ≡ sends_of (map mark_of u) p + cond (is_send_of p (mark_of e)) 1 0
+sends-grown u e p = rw (map-append mark_of u (e ∷ [])) (sends-step (map mark_of u) (mark_of e) p)
+
 -- the sends of the rest of a trace that obeys the rules, numbered on
 log_from : (n p : ℕ) (all u rest : List Event) → WellFormed n (map mark_of u ++ map mark_of rest)
     → numbered (sends_of (map mark_of u) p) (sends_in (filter_map (action_of all p) rest)) ≡ filter_map (logged_of p) rest
 log_from n p all u [] obeys = refl
 log_from n p all u (Send q k to x ∷ rest) obeys =
-    let M = map mark_of u in
-    let e : Mark = mark.Send q k to in
-    let front : WellFormed n ((M ++ e ∷ []) ++ map mark_of rest) = rw append_assoc obeys in
-    let may = MayFollow-last n M e (WellFormed-front n (M ++ e ∷ []) (map mark_of rest) front) in
-    let marks : map mark_of (u ++ Send q k to x ∷ []) ≡ M ++ e ∷ [] = map-append mark_of u (Send q k to x ∷ []) in
-    let ih = log_from n p all (u ++ Send q k to x ∷ []) rest (rw marks front) in
-    grind (arith, nat_tests, may.3, ap (λ (t : List Mark). sends_of t p) marks ∙ sends-step M e p, ih)
+    let may = MayFollow-seam n (map mark_of u) (mark.Send q k to) (map mark_of rest) obeys in
+    let ih = log_from n p all (u ++ Send q k to x ∷ []) rest (rw (map-append, append_assoc) obeys) in
+    grind (arith, nat_tests, may.3, sends-grown u (Send q k to x) p, ih)
 log_from n p all u (Receipt to r q k ∷ rest) obeys =
-    let M = map mark_of u in
-    let e : Mark = mark.Receipt to r q k in
-    let front : WellFormed n ((M ++ e ∷ []) ++ map mark_of rest) = rw append_assoc obeys in
-    let marks : map mark_of (u ++ Receipt to r q k ∷ []) ≡ M ++ e ∷ [] = map-append mark_of u (Receipt to r q k ∷ []) in
-    let ih = log_from n p all (u ++ Receipt to r q k ∷ []) rest (rw marks front) in
-    grind (arith, ap (λ (t : List Mark). sends_of t p) marks ∙ sends-step M e p, ih)
+    let ih = log_from n p all (u ++ Receipt to r q k ∷ []) rest (rw (map-append, append_assoc) obeys) in
+    grind (arith, sends-grown u (Receipt to r q k) p, ih)
 
 -- in a lawful trace the log after all the member's notes has the member's sends
 pub log-sends : (next : Next) (n : ℕ) (starts : List Start) (t : List Event) (p : ℕ) → Lawful next n starts t
@@ -143,7 +141,7 @@ sends-count all (Receipt to r q k ∷ u) p = grind (arith, sum_by-cons (λ y. co
 pub log-length : (next : Next) (n : ℕ) (starts : List Start) (t : List Event) (p : ℕ) → Lawful next n starts t
     → length (after_notes next p n starts (received_notes t p)).log ≡ sends_of (map mark_of t) p
 log-length next n starts t p lawful =
-    ap length (log-after next p n starts (received_notes t p)) ∙ length-numbered 0 _ ∙ ap (λ (xs : List Action). length (sends_in xs)) (sym (lawful.responds p)) ∙ sends-count t t p
+    length-log next p n starts (received_notes t p) ∙ ap (λ (xs : List Action). length (sends_in xs)) (sym (lawful.responds p)) ∙ sends-count t t p
 
 -- that after the first notes is no longer
 pub log-short : (next : Next) (n : ℕ) (starts : List Start) (t : List Event) (p k : ℕ) → Lawful next n starts t
@@ -176,22 +174,14 @@ pub logged-by : (next : Next) (n : ℕ) (starts : List Start) (t u rest : List E
     → t ≡ u ++ Send p ssn to x ∷ rest → receipts_of (map mark_of u) p ≤ k
     → (note : Note) × (logged_note (after_notes next p n starts (take k (received_notes t p))).log ssn ≡ Some note)
 logged-by next n starts t u rest p ssn to k x lawful is few =
-    let e : Mark = mark.Send p ssn to in
-    let M = map mark_of u in
-    let marks : map mark_of t ≡ M ++ e ∷ map mark_of rest = ap (map mark_of) is ∙ map-append mark_of u (Send p ssn to x ∷ rest) in
-    let obeys : WellFormed n ((M ++ e ∷ []) ++ map mark_of rest) = (let g : WellFormed n (M ++ e ∷ map mark_of rest) = rw marks at lawful.well_formed in rw append_assoc g) in
-    let may = MayFollow-last n M e (WellFormed-front n (M ++ e ∷ []) (map mark_of rest) obeys) in
-    let front = filter_map (action_of t p) (u ++ Send p ssn to x ∷ []) in
+    let so_far : List Event = u ++ Send p ssn to x ∷ [] in
+    let may = MayFollow-seam n (map mark_of u) (mark.Send p ssn to) (map mark_of rest) (rw (is, map-append) at lawful.well_formed) in
+    let front = filter_map (action_of t p) so_far in
     let back = filter_map (action_of t p) rest in
-    let cut : actions_of t p ≡ front ++ back = ap (filter_map (action_of t p)) (is ∙ sym (append_assoc u (Send p ssn to x ∷ []) rest))
-    ∙ filter_map-append (action_of t p) (u ++ Send p ssn to x ∷ []) rest in
-    let more : map mark_of (u ++ Send p ssn to x ∷ []) ≡ M ++ e ∷ [] = map-append mark_of u (Send p ssn to x ∷ []) in
-    let self : (p == p) ≡ true = eqb-self p in
-    let count : length (sends_in front) ≡ sends_of M p + 1 = sends-count t (u ++ Send p ssn to x ∷ []) p ∙ ap (λ (v : List Mark). sends_of v p) more ∙ sends-step M e p ∙ (rw self refl) in
-    let taken : length (notes_of front) ≤ k =
-    (let a = notes-count t (u ++ Send p ssn to x ∷ []) p in
-    let b = ap (λ (v : List Mark). receipts_of v p) more ∙ sum_by-append (λ y. cond (is_receipt_of p y) 1 0) M (e ∷ []) in
-    omega (arith, a, b, few)) in
+    let cut : actions_of t p ≡ front ++ back = ap (filter_map (action_of t p)) (is ∙ sym (append_assoc u (Send p ssn to x ∷ []) rest)) ∙ filter_map-append (action_of t p) so_far rest in
+    let count : length (sends_in front) ≡ sends_of (map mark_of u) p + 1 = sends-count t so_far p ∙ sends-grown u (Send p ssn to x) p ∙ rw (eqb-self p) refl in
+    let received : receipts_of (map mark_of so_far) p ≡ receipts_of (map mark_of u) p + 0 =
+    rw (map-append mark_of u (Send p ssn to x ∷ [])) (receipts-step (map mark_of u) (mark.Send p ssn to) p) in
+    let taken : length (notes_of front) ≤ k = omega (arith, notes-count t so_far p, received, few) in
     let enough = sends-by next p n 0 k (starts_of p starts) (received_notes t p) front back (sym cut ∙ lawful.responds p) taken in
-    (rw (log-after next p n starts (take k (received_notes t p)))
-    (numbered-has 0 ssn (sends_in (map sent (starts_of p starts) ++ responses next p n 0 (take k (received_notes t p)))) (omega (arith, may.3)) (omega (arith, may.3, count, enough))))
+    log-has next p n starts (take k (received_notes t p)) ssn (omega (arith, may.3)) (omega (arith, may.3, count, enough, length-log next p n starts (take k (received_notes t p))))

@@ -17,9 +17,10 @@ use Rattle.fbl_base.specs.Precedence.{Has}
 use Rattle.fbl_base.specs.Rules.{is_receipt_of, receipts_of, taken_on, WellFormed}
 use Rattle.fbl_base.specs.Fold.{action_of, notes_of, note_of}
 use Rattle.fbl_base.proofs.Gets.{filter_map-At, At-filter, At-filter_map}
-use Rattle.fbl_base.proofs.RulesLaws.{receipts-step, WellFormed-front, MayFollow-last}
+use Rattle.fbl_base.proofs.RulesLaws.{receipts-step}
 use Rattle.fbl_base.proofs.LawfulLaws.{receipts-noted}
 use Rattle.fbl_law.specs.Sound.{received_notes, last_taken, receipts_at, last_among}
+use Rattle.fbl_law.proofs.Appended.{MayFollow-seam}
 use Rattle.fbl_law.proofs.Lists.{filter-At, filter-passes}
 use Rattle.fbl_base.proofs.Received.{is_receipt}
 
@@ -29,9 +30,8 @@ receipts-from n p u (Send q k to ∷ rest) obeys j d here =
     let ih = receipts-from n p (u ++ Send q k to ∷ []) rest (rw append_assoc obeys) j d here in
     omega (arith, ih, receipts-step u (Send q k to) p)
 receipts-from n p u (Receipt to r q k ∷ rest) obeys j d here =
-    let front : WellFormed n ((u ++ Receipt to r q k ∷ []) ++ rest) = rw append_assoc obeys in
-    let may = MayFollow-last n u (Receipt to r q k) (WellFormed-front n (u ++ Receipt to r q k ∷ []) rest front) in
-    at (to == p) refl may.3 (receipts-step u (Receipt to r q k) p) j here (receipts-from n p (u ++ Receipt to r q k ∷ []) rest front)
+    let may = MayFollow-seam n u (Receipt to r q k) rest obeys in
+    at (to == p) refl may.3 (receipts-step u (Receipt to r q k) p) j here (receipts-from n p (u ++ Receipt to r q k ∷ []) rest (rw append_assoc obeys))
   where
     at : (b : Bool) → (to == p) ≡ b → r ≡ receipts_of u to + 1 → receipts_of (u ++ Receipt to r q k ∷ []) p ≡ receipts_of u p + cond (to == p) 1 0
         → (j : ℕ) → slice_get (cond b (record { from = q; ssn = k; to = to; rsn = r } ∷ receipts_at rest p) (receipts_at rest p)) j ≡ Some d
