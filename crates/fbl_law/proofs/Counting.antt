@@ -98,7 +98,7 @@ count_in-beyond s past n m t within obeys =
     ∙ beyond-numbered (past p) 0 (receipts_at t p) (λ j d here. omega (arith, receipts_at-number m t p j d obeys here)) ∙ omega arith))
     ∙ count_in-determinants s n (filter (beyond past) (receipts t)) within ∙ ap length (filter-both (is_of s) (beyond past) (receipts t))
 
-module _ (next : Next) (old : GroupRecord) (sound : IsSound next old) (new : List Event) (cut : IsEventCut (Stays (knowledge old)) old.trace new) where
+module _ {next : Next} {old : GroupRecord} (sound : IsSound next old) {new : List Event} (cut : IsEventCut (Stays (knowledge old)) old.trace new) where
   -- what the members that are down replay, in all
   pub to-replay : count_in old.down (λ p. length (receipts_at (map mark_of new) p)) old.config.members ≡ length (filter (is_of old.down) (receipts (map mark_of new)))
   to-replay = count_in-determinants old.down old.config.members (receipts (map mark_of new)) sound.down
@@ -106,7 +106,7 @@ module _ (next : Next) (old : GroupRecord) (sound : IsSound next old) (new : Lis
   pub to-replay-short : length (filter (is_of old.down) (receipts (map mark_of new))) ≤ length old.trace
   to-replay-short =
       let some = length-left (is_of old.down) (receipts (map mark_of new)) in
-      omega (arith, cut-shorter next old sound new cut, some, length-filter_map determinant_of (map mark_of new), length-map new mark_of)
+      omega (arith, cut-shorter sound cut, some, length-filter_map determinant_of (map mark_of new), length-map new mark_of)
 
   -- so far they have replayed no more than that
   pub replayed-most : (work : ℕ → MemberRecord)
@@ -121,4 +121,4 @@ module _ (next : Next) (old : GroupRecord) (sound : IsSound next old) (new : Lis
       → count_in old.down (λ p. (work p).received - past p) old.config.members ≡ length (filter (λ d. set.contains old.down d.to && nat_lt (past d.to) d.rsn) (receipts (map mark_of new)))
   replayed-count work past all =
       count_in-same old.down (λ p. (work p).received - past p) (λ p. length (receipts_at (map mark_of new) p) - past p) old.config.members (λ p below down. ap (λ k. k - past p) (all p below))
-      ∙ count_in-beyond old.down past old.config.members old.config.members (map mark_of new) sound.down (cut-obeys next old sound new cut)
+      ∙ count_in-beyond old.down past old.config.members old.config.members (map mark_of new) sound.down (cut-obeys sound cut)

@@ -40,10 +40,10 @@ module _ (next : Next) (old : GroupRecord) (sound : IsSound next old) (new : Lis
     (replays : (p : ℕ) → p < old.config.members → IsReplayed next old.config.members old.config.starts new p (work p))
     (all : (p : ℕ) → p < old.config.members → (work p).received ≡ length (receipts_at (map mark_of new) p)) where
   obeys : WellFormed old.config.members (map mark_of new)
-  obeys = cut-obeys next old sound new cut
+  obeys = cut-obeys sound cut
 
   was : (e : Mark) → Has (map mark_of new) e → Has (marks old) e × (cut.0 e ≡ true)
-  was = cut-was next old sound new cut
+  was = cut-was sound cut
 
   whole : (p : ℕ) → p < old.config.members → take (work p).received (received_notes new p) ≡ received_notes new p
   whole p below = (all-taken old.config.members new p (work p).received obeys (all p below)).0
@@ -53,11 +53,11 @@ module _ (next : Next) (old : GroupRecord) (sound : IsSound next old) (new : Lis
 
   -- the log of each member has its sends in the cut
   pub log-sent : (p : ℕ) → p < old.config.members → length (work p).log ≡ sends_of (map mark_of new) p
-  log-sent p below = ap length (the-log p below) ∙ log-length next old.config.members old.config.starts new p (cut-lawful next old sound new cut).0
+  log-sent p below = ap length (the-log p below) ∙ log-length next old.config.members old.config.starts new p (cut-lawful sound cut).0
 
   send-left : (q k to : ℕ) → q < old.config.members → Has (marks old) (Send q k to) → 0 < k → k ≤ length (work q).log → cut.0 (Send q k to) ≡ true
   send-left q k to below there above within =
-      let lawful = (cut-lawful next old sound new cut).0 in
+      let lawful = (cut-lawful sound cut).0 in
       let notes = take (work q).received (received_notes new q) in
       let log : (work q).log ≡ (after_notes next q old.config.members old.config.starts notes).log = ap (λ (x : Progress). x.log) (replays q below).progress in
       let some = log-has next q old.config.members old.config.starts notes k above (omega (arith, within, ap length log)) in
@@ -89,10 +89,10 @@ module _ (next : Next) (old : GroupRecord) (sound : IsSound next old) (new : Lis
       may = sound.lawful.well_formed i (Send q k to) there.1
 
       at : (b : Bool) → set.contains old.down q ≡ b → (not (set.contains old.down q) || nat_le k (length (work q).log)) ≡ cut.0 (Send q k to)
-      at false is = rw is (sym (cut-keeps_up next old sound new cut q is (Send q k to) there refl))
+      at false is = rw is (sym (cut-keeps_up sound cut q is (Send q k to) there refl))
       at true is = rw is (same-test (nat_le k (length (work q).log)) (cut.0 (Send q k to))
           (λ within. send-left q k to may.0 there (omega (arith, may.3)) (grind (arith, nat_tests)))
-          (λ kept. let number = sent-number old.config.members (map mark_of new) obeys q k to (cut-left next old sound new cut (Send q k to) there kept) in
+          (λ kept. let number = sent-number old.config.members (map mark_of new) obeys q k to (cut-left sound cut (Send q k to) there kept) in
           grind (arith, nat_tests, number, log-sent q may.0)))
   agrees i (event.Receipt p r q k) here = at (set.contains old.down p) refl
     where
@@ -103,10 +103,10 @@ module _ (next : Next) (old : GroupRecord) (sound : IsSound next old) (new : Lis
       may = sound.lawful.well_formed i (Receipt p r q k) there.1
 
       at : (b : Bool) → set.contains old.down p ≡ b → (not (set.contains old.down p) || nat_le r (work p).received) ≡ cut.0 (Receipt p r q k)
-      at false is = rw is (sym (cut-keeps_up next old sound new cut p is (Receipt p r q k) there refl))
+      at false is = rw is (sym (cut-keeps_up sound cut p is (Receipt p r q k) there refl))
       at true is = rw is (same-test (nat_le r (work p).received) (cut.0 (Receipt p r q k))
           (λ within. receipt-left p r q k may.1 there (omega (arith, may.3)) (grind (arith, nat_tests)))
-          (λ kept. let number = receipt-number old.config.members (map mark_of new) p r q k obeys (cut-left next old sound new cut (Receipt p r q k) there kept) in
+          (λ kept. let number = receipt-number old.config.members (map mark_of new) p r q k obeys (cut-left sound cut (Receipt p r q k) there kept) in
           grind (arith, nat_tests, number, length-receipts_at (map mark_of new) p, all p may.1)))
 
   -- the events that stay by the members' counts are the cut

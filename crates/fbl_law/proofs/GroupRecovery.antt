@@ -25,7 +25,7 @@ use Rattle.fbl_law.proofs.ReplayedRecords.{replayed-cut}
 use Rattle.fbl_law.proofs.CutNotes.{actions-stay, last_taken-stays, note-stays, note-was}
 
 -- a cut of a sound group's trace keeps what leads to an event that stays, and the events of up members
-module _ (next : Next) (old : GroupRecord) (sound : IsSound next old) (new : List Event) (cut : IsEventCut (Stays (knowledge old)) old.trace new) where
+module _ {next : Next} {old : GroupRecord} (sound : IsSound next old) {new : List Event} (cut : IsEventCut (Stays (knowledge old)) old.trace new) where
   pub cut-causes : KeepsCauses cut.0 (marks old)
   cut-causes a b kept leads =
       let there_a : Has (marks old) a = (leads.0.0, leads.0.3) in
@@ -71,7 +71,7 @@ module _ (next : Next) (old new : GroupRecord) (step : IsRecovery next old new) 
   pub recovery-knowledge : IsRecovered old.config.f (knowledge old) (knowledge new)
   recovery-knowledge = record {
     nobody_down = step.rest.nobody_down;
-    trace = (cut-lawful next old sound new.trace step.trace).1;
+    trace = (cut-lawful sound step.trace).1;
     tables = λ m up. ap (λ (x : MemberRecord). x.table) (step.rest.survivors m up);
     gathered = λ m down. step.gathered m (sound.down m down) down;
     channels = step.rest.channels;
@@ -81,7 +81,7 @@ module _ (next : Next) (old new : GroupRecord) (step : IsRecovery next old new) 
   }
 
   fold-stays : (m : ℕ) → IsUp (knowledge old) m → IsFold next old m → IsFold next new m
-  fold-stays m up fold = fold-survives next old sound new.trace step.trace new m up refl step.rest.config (step.rest.survivors m up) fold
+  fold-stays m up fold = fold-survives sound step.trace new m up refl step.rest.config (step.rest.survivors m up) fold
 
   note-flies : (v : Message) → IsInFlight (knowledge new) v → note_of new.trace v.from v.ssn ≡ Some v.note
   note-flies v among =
@@ -94,7 +94,7 @@ module _ (next : Next) (old new : GroupRecord) (step : IsRecovery next old new) 
               let stayed : Contains (channel old v.from v.to) v = rw (step.rest.channels v.from v.to up up_to) at on in
               let was = sound.notes v stayed in
               rw step.trace.1 (note-stays old.config.members step.trace.0 old.trace sound.lawful.well_formed
-              (cut-causes next old sound new.trace step.trace) v.from v.ssn v.note (cut-keeps_up next old sound new.trace step.trace v.from up) was)
+              (cut-causes sound step.trace) v.from v.ssn v.note (cut-keeps_up sound step.trace v.from up) was)
         ]
       ]
 
@@ -105,8 +105,8 @@ module _ (next : Next) (old new : GroupRecord) (step : IsRecovery next old new) 
   saved-after : (m : ℕ) → m < old.config.members → IsReplayed next old.config.members old.config.starts new.trace m (member_checkpoint new m)
   saved-after m below =
       rw step.rest.checkpoints
-      (replayed-cut next old.config.members old.config.starts old.trace new.trace m (member_checkpoint old m) sound.lawful.well_formed (cut-lawful next old sound new.trace step.trace).0.well_formed
-      (λ q k x noted. note-was old.config.members step.trace.0 old.trace sound.lawful.well_formed (cut-causes next old sound new.trace step.trace) q k x (rw step.trace.1 at noted))
+      (replayed-cut next old.config.members old.config.starts old.trace new.trace m (member_checkpoint old m) sound.lawful.well_formed (cut-lawful sound step.trace).0.well_formed
+      (λ q k x noted. note-was old.config.members step.trace.0 old.trace sound.lawful.well_formed (cut-causes sound step.trace) q k x (rw step.trace.1 at noted))
       (λ d there to within.
       (cut_is_recorded old.config.members old.config.f (knowledge old) (knowledge new) recovery-knowledge sound.causes d).1
       (there, IsRecorded-reached old.config.f (knowledge old) sound.causes.closed d (receipt_of d) (rw to within) (itself there)))
@@ -123,8 +123,8 @@ module _ (next : Next) (old new : GroupRecord) (step : IsRecovery next old new) 
         checkpoints = rw step.rest.config (ap length step.rest.checkpoints ∙ sound.checkpoints);
         saved = λ m below. rw step.rest.config (saved-after m (rw step.rest.config at below));
         down = λ m down. never_both new.down m down (nobody m);
-        lawful = rw step.rest.config (cut-lawful next old sound new.trace step.trace).0;
-        room = rw step.rest.config (omega (arith, cut-shorter next old sound new.trace step.trace, sound.room));
+        lawful = rw step.rest.config (cut-lawful sound step.trace).0;
+        room = rw step.rest.config (omega (arith, cut-shorter sound step.trace, sound.room));
         causes = rw step.rest.config (recovery_keeps old.config.members old.config.f (knowledge old) (knowledge new) recovery-knowledge sound.causes);
         folds = λ m below up. folds-after m (rw step.rest.config at below);
         blanks = λ m below down. never_both new.down m down (nobody m);

@@ -70,18 +70,18 @@ at-most n t p k obeys all = elim (cases_lt k (length (receipts_at t p))) [
       absurd (omega (arith, all d.0 has.0 has.1, receipts_at-number n t p k d.0 obeys d.1))
 ]
 
-module _ (next : Next) (old : GroupRecord) (sound : IsSound next old) (new : List Event) (cut : IsEventCut (Stays (knowledge old)) old.trace new) where
+module _ {next : Next} {old : GroupRecord} (sound : IsSound next old) {new : List Event} (cut : IsEventCut (Stays (knowledge old)) old.trace new) where
   -- the member has come so far in its replay of the cut
   abbrev pub Replays : ℕ → MemberRecord → Type 0
   Replays p m = IsReplayed next old.config.members old.config.starts new p m
 
   obeys : WellFormed old.config.members (map mark_of new)
-  obeys = cut-obeys next old sound new cut
+  obeys = cut-obeys sound cut
 
   -- a receipt is in the cut exactly where it is recorded
   pub cut-recorded : (d : Determinant) → Has (map mark_of new) (receipt_of d) → IsRecorded (knowledge old) d
   cut-recorded d there =
-      let was = cut-was next old sound new cut (receipt_of d) there in
+      let was = cut-was sound cut (receipt_of d) there in
       (stays_is_recorded old.config.members old.config.f (knowledge old) sound.causes (receipt_of d) was.0).0 ((cut.2 (receipt_of d) was.0).0 was.1) d (itself was.0)
 
   pub recorded-cut : (d : Determinant) → IsRecorded (knowledge old) d → Has (map mark_of new) (receipt_of d)
@@ -89,7 +89,7 @@ module _ (next : Next) (old : GroupRecord) (sound : IsSound next old) (new : Lis
       let was = Has-recorded (knowledge old) sound.causes.truth d recorded in
       let stays = (stays_is_recorded old.config.members old.config.f (knowledge old) sound.causes (receipt_of d) was).1
       (λ c before. IsRecorded-before old.config.f (knowledge old) sound.causes.closed c d recorded before) in
-      cut-left next old sound new cut (receipt_of d) was ((cut.2 (receipt_of d) was).1 stays)
+      cut-left sound cut (receipt_of d) was ((cut.2 (receipt_of d) was).1 stays)
 
   -- what the gathered tables find of a member is its receipt in the cut with that number
   pub found-receipt : (p k : ℕ) (d : Determinant) → found p (k + 1) (recovery_table (knowledge old)) ≡ Some d → slice_get (receipts_at (map mark_of new) p) k ≡ Some d
@@ -113,7 +113,7 @@ module _ (next : Next) (old : GroupRecord) (sound : IsSound next old) (new : Lis
   pub replayed-noted : (q : ℕ) (w : MemberRecord) (ssn : ℕ) (note : Note) → Replays q w → logged_note w.log ssn ≡ Some note → note_of new q ssn ≡ Some note
   replayed-noted q w ssn note replayed named =
       let log : w.log ≡ (after_notes next q old.config.members old.config.starts (take w.received (received_notes new q))).log = ap (λ (x : Progress). x.log) replayed.progress in
-      logged-noted next old.config.members old.config.starts new q w.received ssn note (cut-lawful next old sound new cut).0 (rw log at named)
+      logged-noted next old.config.members old.config.starts new q w.received ssn note (cut-lawful sound cut).0 (rw log at named)
 
   -- the next replay of a member: the gathered tables find its next receipt, and the sender's log has the message
   pub replayed-next : (p : ℕ) (m : MemberRecord) (d : Determinant) (w : MemberRecord) (note : Note) → Replays p m
@@ -123,13 +123,13 @@ module _ (next : Next) (old : GroupRecord) (sound : IsSound next old) (new : Lis
       replayed-step next old.config.members old.config.starts new p m d note obeys replayed (found-receipt p m.received d is) (replayed-noted d.from w d.ssn note sender named)
 
   cut-short : length (map mark_of new) ≤ 8192
-  cut-short = omega (arith, cut-shorter next old sound new cut, sound.room, sound.config.limit.1, length-map new mark_of)
+  cut-short = omega (arith, cut-shorter sound cut, sound.room, sound.config.limit.1, length-map new mark_of)
 
   pub replays-log : (p : ℕ) (m : MemberRecord) → Replays p m → length m.log ≤ 8192
   replays-log p m replayed =
       let log : length m.log ≡ length (after_notes next p old.config.members old.config.starts (take m.received (received_notes new p))).log =
       ap (λ (x : Progress). length x.log) replayed.progress in
-      omega (arith, log, log-short next old.config.members old.config.starts new p m.received (cut-lawful next old sound new cut).0, count_by-le-length (is_send_of p) (map mark_of new), cut-short)
+      omega (arith, log, log-short next old.config.members old.config.starts new p m.received (cut-lawful sound cut).0, count_by-le-length (is_send_of p) (map mark_of new), cut-short)
 
   -- the next receipt that the gathered tables find is that of the member's next number, from another member
   pub found-next : (p : ℕ) (m : MemberRecord) (d : Determinant) → Replays p m → found p (m.received + 1) (recovery_table (knowledge old)) ≡ Some d → IsNextReplay old.config.members p m d
@@ -175,7 +175,7 @@ module _ (next : Next) (old : GroupRecord) (sound : IsSound next old) (new : Lis
         let before : there.0 < j = omega (arith, At-below (map mark_of (take j new)) there.0 (receipt_of c) there.1, length-map (take j new) mark_of, length-take j new) in
         sent c at_q (there.0, j, before, rw marks-at (At-front (map mark_of (take j new)) (map mark_of (drop j new)) there.0 (receipt_of c) there.1), has.1)) in
         let logged = logged-by next old.config.members old.config.starts new (take j new) (drop (suc j) new) q k to (work q).received here.0
-        (cut-lawful next old sound new cut).0 cut-at (omega (arith, few, length-receipts_at (map mark_of (take j new)) q)) in
+        (cut-lawful sound cut).0 cut-at (omega (arith, few, length-receipts_at (map mark_of (take j new)) q)) in
         let log : (work q).log ≡ (after_notes next q old.config.members old.config.starts (take (work q).received (received_notes new q))).log =
         ap (λ (x : Progress). x.log) (replays q below).progress in
         (logged.0, rw log logged.1)

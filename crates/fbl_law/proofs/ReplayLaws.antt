@@ -55,7 +55,7 @@ module _ (next : Next) (old : GroupRecord) (sound : IsSound next old) where
   cut = recovered_trace-cut next old sound
 
   abbrev lawful : Lawful next old.config.members old.config.starts (recovered_trace old)
-  lawful = (cut-lawful next old sound (recovered_trace old) cut).0
+  lawful = (cut-lawful sound cut).0
 
   abbrev Replays : ℕ → MemberRecord → Type 0
   Replays p m = IsReplayed next old.config.members old.config.starts (recovered_trace old) p m
@@ -65,7 +65,7 @@ module _ (next : Next) (old : GroupRecord) (sound : IsSound next old) where
       → Replays q (member old q) × ((member old q).received ≡ length (receipts_at (map mark_of (recovered_trace old)) q))
   survivor-replays q below up =
       let r : GroupRecord = record old { trace = recovered_trace old } in
-      let fold : IsFold next r q = fold-survives next old sound (recovered_trace old) cut r q up refl refl refl (sound.folds q below up) in
+      let fold : IsFold next r q = fold-survives sound cut r q up refl refl refl (sound.folds q below up) in
       (fold-replayed next r q lawful.well_formed fold, fold-received next r q lawful.well_formed fold)
 
   pub working-replays : (rebuilt : List MemberRecord) → IsReplaying next old rebuilt → (q : ℕ) → q < old.config.members → Replays q (working old rebuilt q)
@@ -82,8 +82,8 @@ module _ (next : Next) (old : GroupRecord) (sound : IsSound next old) where
   pub checkpoint-replays : (p : ℕ) → p < old.config.members → Replays p (member_checkpoint old p)
   checkpoint-replays p below =
       replayed-cut next old.config.members old.config.starts old.trace (recovered_trace old) p (member_checkpoint old p) sound.lawful.well_formed lawful.well_formed
-      (λ q k x noted. note-was old.config.members cut.0 old.trace sound.lawful.well_formed (cut-causes next old sound (recovered_trace old) cut) q k x (rw cut.1 at noted))
-      (λ d there to within. recorded-cut next old sound (recovered_trace old) cut d ((checkpoint_is_recorded next old p sound below).1 d there to within))
+      (λ q k x noted. note-was old.config.members cut.0 old.trace sound.lawful.well_formed (cut-causes sound cut) q k x (rw cut.1 at noted))
+      (λ d there to within. recorded-cut sound cut d ((checkpoint_is_recorded next old p sound below).1 d there to within))
       (sound.saved p below)
 
   -- each member that is down begins at its checkpoint
@@ -98,14 +98,14 @@ module _ (next : Next) (old : GroupRecord) (sound : IsSound next old) where
   -- what the gathered tables find is the next receipt
   pub replaying-next : (rebuilt : List MemberRecord) (p : ℕ) (d : Determinant) → IsReplaying next old rebuilt → p < old.config.members → IsDown (knowledge old) p
       → found p ((slice_index_or rebuilt p blank).received + 1) (recovery_table (knowledge old)) ≡ Some d → IsNextReplay old.config.members p (slice_index_or rebuilt p blank) d
-  replaying-next rebuilt p d replaying below down is = found-next next old sound (recovered_trace old) cut p (slice_index_or rebuilt p blank) d (replaying.replayed p below down) is
+  replaying-next rebuilt p d replaying below down is = found-next sound cut p (slice_index_or rebuilt p blank) d (replaying.replayed p below down) is
 
   -- its step's sends have room in the log
   pub replaying-room : (rebuilt : List MemberRecord) (p : ℕ) (d : Determinant) (note : Note) → IsReplaying next old rebuilt → p < old.config.members → IsDown (knowledge old) p
       → found p ((slice_index_or rebuilt p blank).received + 1) (recovery_table (knowledge old)) ≡ Some d → logged_note (working old rebuilt d.from).log d.ssn ≡ Some note
       → length (slice_index_or rebuilt p blank).log + length (next p old.config.members (slice_index_or rebuilt p blank).state note).sends.items ≤ 8192
   replaying-room rebuilt p d note replaying below down is named =
-      replay-room next old sound (recovered_trace old) cut p (slice_index_or rebuilt p blank) d (working old rebuilt d.from) note (replaying.replayed p below down) is
+      replay-room sound cut p (slice_index_or rebuilt p blank) d (working old rebuilt d.from) note (replaying.replayed p below down) is
       (working-replays rebuilt replaying d.from (replaying-next rebuilt p d replaying below down is).from) named
 
   -- its replay
@@ -128,7 +128,7 @@ module _ (next : Next) (old : GroupRecord) (sound : IsSound next old) where
       after = replayed_by next p old.config.members (slice_index_or rebuilt p blank) d note
 
       there : Replays p after
-      there = replayed-next next old sound (recovered_trace old) cut p (slice_index_or rebuilt p blank) d (working old rebuilt d.from) note (replaying.replayed p below down) is
+      there = replayed-next sound cut p (slice_index_or rebuilt p blank) d (working old rebuilt d.from) note (replaying.replayed p below down) is
           (working-replays rebuilt replaying d.from (replaying-next rebuilt p d replaying below down is).from) named
 
       own : slice_index_or (slice_set rebuilt p after) p blank ≡ after
@@ -150,14 +150,14 @@ module _ (next : Next) (old : GroupRecord) (sound : IsSound next old) where
   replayed_in-most rebuilt replaying =
       let fewer = count_in-most old.down (λ p. (slice_index_or rebuilt p blank).received - (member_checkpoint old p).received)
       (λ p. (slice_index_or rebuilt p blank).received) old.config.members (λ p below down. omega arith) in
-      omega (arith, fewer, replayed-most next old sound (recovered_trace old) cut (λ p. slice_index_or rebuilt p blank) replaying.replayed)
+      omega (arith, fewer, replayed-most sound cut (λ p. slice_index_or rebuilt p blank) replaying.replayed)
 
   pub replayed_in-short : (rebuilt : List MemberRecord) → IsReplaying next old rebuilt → replayed_in old rebuilt ≤ 8192
-  replayed_in-short rebuilt replaying = omega (arith, replayed_in-most rebuilt replaying, to-replay-short next old sound (recovered_trace old) cut, sound.room, sound.config.limit.1)
+  replayed_in-short rebuilt replaying = omega (arith, replayed_in-most rebuilt replaying, to-replay-short sound cut, sound.room, sound.config.limit.1)
 
   -- the logs stay within their bound
   pub working-log : (rebuilt : List MemberRecord) → IsReplaying next old rebuilt → (q : ℕ) → q < old.config.members → length (working old rebuilt q).log ≤ 8192
-  working-log rebuilt replaying q below = replays-log next old sound (recovered_trace old) cut q (working old rebuilt q) (working-replays rebuilt replaying q below)
+  working-log rebuilt replaying q below = replays-log sound cut q (working old rebuilt q) (working-replays rebuilt replaying q below)
 
   -- new tables change nothing of the replay
   pub replaying-tables : (rebuilt given : List MemberRecord) (t : List Entry) → IsReplaying next old rebuilt → length given ≡ length rebuilt
@@ -173,7 +173,7 @@ module _ (next : Next) (old : GroupRecord) (sound : IsSound next old) where
   module _ (rebuilt : List MemberRecord) (replaying : IsReplaying next old rebuilt) (waiting : (p : ℕ) → p < old.config.members → IsDown (knowledge old) p → IsWaiting old rebuilt p) where
     pub working-received : (q : ℕ) → q < old.config.members → (working old rebuilt q).received ≡ length (receipts_at (map mark_of (recovered_trace old)) q)
     working-received =
-        all-replayed next old sound (recovered_trace old) cut (working old rebuilt) (working-replays rebuilt replaying) (working-all rebuilt)
+        all-replayed sound cut (working old rebuilt) (working-replays rebuilt replaying) (working-all rebuilt)
         (λ p below down d is. waiting p below down d (rw down at is))
 
     pub rebuilt-received : (p : ℕ) → p < old.config.members → IsDown (knowledge old) p
@@ -186,7 +186,7 @@ module _ (next : Next) (old : GroupRecord) (sound : IsSound next old) where
         count_in-same old.down (λ p. (slice_index_or rebuilt p blank).received - (member_checkpoint old p).received)
         (λ p. (working old rebuilt p).received - (member_checkpoint old p).received) old.config.members
         (λ p below down. rw down refl)
-        ∙ replayed-count next old sound (recovered_trace old) cut (working old rebuilt) (λ p. (member_checkpoint old p).received) working-received
+        ∙ replayed-count sound cut (working old rebuilt) (λ p. (member_checkpoint old p).received) working-received
 
     -- the events that stay are those that the counts of the members that are down cover
     pub recovered_trace-counts : filter (λ e. stays_by old.down (working old rebuilt) (mark_of e)) old.trace ≡ recovered_trace old
@@ -213,7 +213,7 @@ module _ (next : Next) (old : GroupRecord) (sound : IsSound next old) where
       fold-all : (m : ℕ) → m < old.config.members → IsFold next new m
       fold-all m below = elim (down_or_up old.down m) [
         | inl down ↦ rebuilt-fold m below down
-        | inr up ↦ fold-survives next old sound (recovered_trace old) cut new m up step.trace step.rest.config (step.rest.survivors m up) (sound.folds m below up)
+        | inr up ↦ fold-survives sound cut new m up step.trace step.rest.config (step.rest.survivors m up) (sound.folds m below up)
       ]
 
       outside : (q p : ℕ) → (old.config.members ≤ q) ⊎ (old.config.members ≤ p) → channel new q p ≡ []

@@ -31,12 +31,12 @@ module _ (next : Next) (old : GroupRecord) (sound : IsSound next old) (new : Lis
       let receipt = is_receipt e d is in
       let there : Has (marks old) (receipt_of d) = (i, here ∙ ap Some receipt) in
       ap cut.0 receipt ∙ same-test (cut.0 (receipt_of d)) (is_recorded old d)
-      (λ kept. (recorded_test next old d sound).1 (cut-recorded next old sound new cut d (cut-left next old sound new cut (receipt_of d) there kept)))
-      (λ recorded. (cut-was next old sound new cut (receipt_of d) (recorded-cut next old sound new cut d ((recorded_test next old d sound).0 recorded))).1)
+      (λ kept. (recorded_test next old d sound).1 (cut-recorded sound cut d (cut-left sound cut (receipt_of d) there kept)))
+      (λ recorded. (cut-was sound cut (receipt_of d) (recorded-cut sound cut d ((recorded_test next old d sound).0 recorded))).1)
 
   -- the receipts of the cut are those that are recorded
   pub cut-receipts : receipts (map mark_of new) ≡ filter (is_recorded old) (receipts (marks old))
-  cut-receipts = ap receipts (cut-marks next old sound new cut) ∙ filter_map-after cut.0 (is_recorded old) determinant_of (marks old) kept-recorded
+  cut-receipts = ap receipts (cut-marks sound cut) ∙ filter_map-after cut.0 (is_recorded old) determinant_of (marks old) kept-recorded
 
   -- so the receipts that the trace loses are those that aren't
   pub cut-undone : length (receipts (map mark_of new)) + length (filter (λ d. not (is_recorded old d)) (receipts (marks old))) ≡ length (receipts (marks old))
