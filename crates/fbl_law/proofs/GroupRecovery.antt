@@ -1,37 +1,40 @@
 -- A recovery keeps a group sound.
-use Rattle.std.proofs.Common.{◌≡◌, ℕ, ◌<◌, ◌≤◌, inl, inr, true, List, length, map, Some, refl, sym, ap, ◌∙◌, arith}
+use Rattle.std.proofs.Common.{◌↔◌, ◌≡◌, ℕ, ◌<◌, ◌≤◌, inl, inr, true, List, length, map, Some, refl, sym, ap, ◌∙◌, arith}
 use Rattle.std.specs.List.{Contains, filter}
+use Rattle.fbl_base.specs.declared.trace.Determinant.{Determinant}
 use Rattle.fbl_base.specs.declared.trace.Event.{Event}
 use Rattle.fbl_base.specs.declared.trace.Mark.{Mark}
 use Rattle.fbl_base.specs.Events.{mark_of, member_of, receipt_of}
-use Rattle.fbl_base.specs.Precedence.{Has, itself, step}
+use Rattle.fbl_base.specs.Precedence.{Has, Precedes, itself, step}
 use Rattle.fbl_base.specs.Rules.{WellFormed}
 use Rattle.fbl_base.specs.Fold.{Next, Lawful, note_of}
 use Rattle.fbl_table.specs.Tables.{piggybacked}
 use Rattle.fbl_member.specs.Members.{Message, MemberRecord}
-use Rattle.fbl_law.specs.Knowledge.{IsInFlight, IsUp}
+use Rattle.fbl_law.specs.Knowledge.{IsInFlight, IsUp, IsRecorded}
 use Rattle.fbl_law.specs.Steps.{Stays, IsCut, IsEventCut, IsRecovered}
 use Rattle.fbl_law.specs.Groups.{GroupRecord, member, member_checkpoint, channel, marks, knowledge}
 use Rattle.fbl_law.specs.Sound.{IsFold, IsReplayed, IsSound}
 use Rattle.fbl_law.specs.GroupSteps.{IsRecovery}
 use Rattle.fbl_law.specs.GroupLaws.{GroupRecoveryKeeps}
-use Rattle.fbl_law.proofs.Safe.{down_or_up, never_both, up_if_none, IsRecorded-reached}
+use Rattle.fbl_law.proofs.Safe.{down_or_up, never_both, up_if_none, Has-recorded, IsRecorded-before, IsRecorded-reached}
 use Rattle.fbl_base.proofs.Sifted.{length-left}
 use Rattle.fbl_base.proofs.PrecedenceLaws.{Has-filter}
 use Rattle.fbl_law.proofs.CutWellFormed.{KeepsCauses, Has-kept, kept-Has, marks-filter}
 use Rattle.fbl_law.proofs.CutStays.{cut_is_lawful, stays_is_recorded}
-use Rattle.fbl_law.proofs.Recovery.{recovery_keeps, cut_is_recorded}
+use Rattle.fbl_law.proofs.Recovery.{recovery_keeps}
 use Rattle.fbl_law.proofs.ReplayedRecords.{replayed-cut}
 use Rattle.fbl_law.proofs.CutNotes.{actions-stay, last_taken-stays, note-stays, note-was}
 
 -- a cut of a sound group's trace keeps what leads to an event that stays, and the events of up members
 module _ {next : Next} {old : GroupRecord} (sound : IsSound next old) {new : List Event} (cut : IsEventCut (Stays (knowledge old)) old.trace new) where
+  -- an event is kept exactly where each receipt that precedes it is recorded
+  cut-keeps : (e : Mark) → Has (marks old) e → (cut.0 e ≡ true) ↔ ((c : Determinant) → Precedes (marks old) (receipt_of c) e → IsRecorded (knowledge old) c)
+  cut-keeps e there =
+      let stays = stays_is_recorded old.config.members old.config.f (knowledge old) sound.causes e there in
+      (λ kept. stays.0 ((cut.2 e there).0 kept), λ all. (cut.2 e there).1 (stays.1 all))
+
   pub cut-causes : KeepsCauses cut.0 (marks old)
-  cut-causes a b kept leads =
-      let there_a : Has (marks old) a = (leads.0.0, leads.0.3) in
-      let there_b : Has (marks old) b = (leads.0.1, leads.0.4) in
-      let all = (stays_is_recorded old.config.members old.config.f (knowledge old) sound.causes b there_b).0 ((cut.2 b there_b).0 kept) in
-      (cut.2 a there_a).1 ((stays_is_recorded old.config.members old.config.f (knowledge old) sound.causes a there_a).1 (λ c before. all c (step before leads)))
+  cut-causes a b kept leads = (cut-keeps a (leads.0.0, leads.0.3)).1 (λ c before. (cut-keeps b (leads.0.1, leads.0.4)).0 kept c (step before leads))
 
   pub cut-keeps_up : (m : ℕ) → IsUp (knowledge old) m → (e : Mark) → Has (marks old) e → member_of e ≡ m → cut.0 e ≡ true
   cut-keeps_up m up e there at_m = (cut.2 e there).1 (λ down. never_both old.down m (rw at_m at down) up)
@@ -54,6 +57,23 @@ module _ {next : Next} {old : GroupRecord} (sound : IsSound next old) {new : Lis
 
   pub cut-left : (e : Mark) → Has (marks old) e → cut.0 e ≡ true → Has (map mark_of new) e
   cut-left e there kept = rw cut-marks (Has-kept cut.0 (marks old) e there kept)
+
+  -- a receipt is left exactly where it is recorded
+  pub cut-recorded : (d : Determinant) → Has (map mark_of new) (receipt_of d) → IsRecorded (knowledge old) d
+  cut-recorded d there = let was = cut-was (receipt_of d) there in (cut-keeps (receipt_of d) was.0).0 was.1 d (itself was.0)
+
+  pub recorded-cut : (d : Determinant) → IsRecorded (knowledge old) d → Has (map mark_of new) (receipt_of d)
+  recorded-cut d recorded =
+      let was = Has-recorded (knowledge old) sound.causes.truth d recorded in
+      cut-left (receipt_of d) was ((cut-keeps (receipt_of d) was).1 (λ c. IsRecorded-before old.config.f (knowledge old) sound.causes.closed c d recorded))
+
+  -- a checkpoint's receipts are recorded, so they stay, and its replay is one of what is left
+  pub checkpoint-survives : (m : ℕ) → m < old.config.members → IsReplayed next old.config.members old.config.starts new m (member_checkpoint old m)
+  checkpoint-survives m below =
+      replayed-cut next old.config.members old.config.starts old.trace new m (member_checkpoint old m) sound.lawful.well_formed cut-obeys
+      (λ q k x noted. note-was old.config.members cut.0 old.trace sound.lawful.well_formed cut-causes q k x (rw cut.1 at noted))
+      (λ d there to within. recorded-cut d (IsRecorded-reached old.config.f (knowledge old) sound.causes.closed d (receipt_of d) (rw to within) (itself there)))
+      (sound.saved m below)
 
   -- a survivor stays at the fold of its receipts
   pub fold-survives : (r : GroupRecord) (m : ℕ) → IsUp (knowledge old) m → r.trace ≡ new → r.config ≡ old.config → member r m ≡ member old m → IsFold next old m → IsFold next r m
@@ -101,17 +121,6 @@ module _ (next : Next) (old new : GroupRecord) (step : IsRecovery next old new) 
   folds-after : (m : ℕ) → m < old.config.members → IsFold next new m
   folds-after m below = elim (down_or_up old.down m) [ inl down ↦ step.folds m below down | inr up ↦ fold-stays m up (sound.folds m below up) ]
 
-  -- a checkpoint's receipts are recorded, so they stay
-  saved-after : (m : ℕ) → m < old.config.members → IsReplayed next old.config.members old.config.starts new.trace m (member_checkpoint new m)
-  saved-after m below =
-      rw step.rest.checkpoints
-      (replayed-cut next old.config.members old.config.starts old.trace new.trace m (member_checkpoint old m) sound.lawful.well_formed (cut-lawful sound step.trace).0.well_formed
-      (λ q k x noted. note-was old.config.members step.trace.0 old.trace sound.lawful.well_formed (cut-causes sound step.trace) q k x (rw step.trace.1 at noted))
-      (λ d there to within.
-      (cut_is_recorded old.config.members old.config.f (knowledge old) (knowledge new) recovery-knowledge sound.causes d).1
-      (there, IsRecorded-reached old.config.f (knowledge old) sound.causes.closed d (receipt_of d) (rw to within) (itself there)))
-      (sound.saved m below))
-
   nobody : (m : ℕ) → IsUp (knowledge new) m
   nobody = up_if_none step.rest.nobody_down
 
@@ -121,7 +130,7 @@ module _ (next : Next) (old new : GroupRecord) (step : IsRecovery next old new) 
         config = rw step.rest.config sound.config;
         members = rw step.rest.config (step.rest.size ∙ sound.members);
         checkpoints = rw step.rest.config (ap length step.rest.checkpoints ∙ sound.checkpoints);
-        saved = λ m below. rw step.rest.config (saved-after m (rw step.rest.config at below));
+        saved = λ m below. rw (step.rest.config, step.rest.checkpoints) (checkpoint-survives sound step.trace m (rw step.rest.config at below));
         down = λ m down. never_both new.down m down (nobody m);
         lawful = rw step.rest.config (cut-lawful sound step.trace).0;
         room = rw step.rest.config (omega (arith, cut-shorter sound step.trace, sound.room));

@@ -13,7 +13,7 @@ use Rattle.fbl_base.specs.declared.trace.Event.TheVariants as event
 use Rattle.fbl_base.specs.declared.trace.Mark.{Mark}
 use Rattle.fbl_base.specs.declared.trace.Mark.TheVariants.{Send}
 use Rattle.fbl_base.specs.Events.{mark_of, receipt_of}
-use Rattle.fbl_base.specs.Precedence.{Has, itself}
+use Rattle.fbl_base.specs.Precedence.{Has}
 use Rattle.fbl_base.specs.Rules.{is_receipt_of, is_send_of, WellFormed}
 use Rattle.fbl_base.specs.Fold.{Next, Progress, numbered, after_notes, note_of}
 use Rattle.fbl_base.proofs.Gets.{At-front, At-below, split-at}
@@ -22,19 +22,18 @@ use Rattle.fbl_table.specs.declared.entry.Entry.{Entry}
 use Rattle.fbl_table.specs.Tables.{found, is_of_receipt}
 use Rattle.fbl_member.specs.Members.{MemberRecord, logged_note, replayed_by}
 use Rattle.fbl_member.proofs.Logs.{length-numbered}
-use Rattle.fbl_law.specs.Knowledge.{Names, IsUp, IsDown, IsRecorded}
+use Rattle.fbl_law.specs.Knowledge.{Names, IsUp, IsDown}
 use Rattle.fbl_law.specs.Steps.{Stays, IsEventCut, recovery_table}
 use Rattle.fbl_law.specs.Groups.{GroupRecord, knowledge}
 use Rattle.fbl_law.specs.Sound.{received_notes, receipts_at, IsReplayed, IsSound}
 use Rattle.fbl_law.specs.Stuck.{IsSentAgain, IsStuck}
 use Rattle.fbl_law.specs.Replaying.{IsNextReplay}
 use Rattle.fbl_law.proofs.Lists.{some-at, Contains-here, Contains-there, Contains-cons_cases, Contains-none}
-use Rattle.fbl_law.proofs.Safe.{down_or_up, IsRecorded-before, Has-recorded}
-use Rattle.fbl_law.proofs.CutStays.{stays_is_recorded}
+use Rattle.fbl_law.proofs.Safe.{down_or_up}
 use Rattle.fbl_law.proofs.GatheredTables.{gathered_recorded, recorded_gathered}
 use Rattle.fbl_law.proofs.NeverStuck.{never_stuck}
 use Rattle.fbl_law.proofs.Notes.{send-at}
-use Rattle.fbl_law.proofs.GroupRecovery.{cut-lawful, cut-obeys, cut-shorter, cut-was, cut-left}
+use Rattle.fbl_law.proofs.GroupRecovery.{cut-lawful, cut-obeys, cut-shorter, cut-recorded, recorded-cut}
 use Rattle.fbl_law.proofs.Logs.{logged-noted, logged-by, log-short}
 use Rattle.fbl_law.proofs.Receipts.{receipts_at-number, receipts_at-Has, Has-receipts_at, length-receipts_at}
 use Rattle.fbl_law.proofs.ReplayedRecords.{replayed-step}
@@ -78,24 +77,11 @@ module _ {next : Next} {old : GroupRecord} (sound : IsSound next old) {new : Lis
   obeys : WellFormed old.config.members (map mark_of new)
   obeys = cut-obeys sound cut
 
-  -- a receipt is in the cut exactly where it is recorded
-  pub cut-recorded : (d : Determinant) → Has (map mark_of new) (receipt_of d) → IsRecorded (knowledge old) d
-  cut-recorded d there =
-      let was = cut-was sound cut (receipt_of d) there in
-      (stays_is_recorded old.config.members old.config.f (knowledge old) sound.causes (receipt_of d) was.0).0 ((cut.2 (receipt_of d) was.0).0 was.1) d (itself was.0)
-
-  pub recorded-cut : (d : Determinant) → IsRecorded (knowledge old) d → Has (map mark_of new) (receipt_of d)
-  recorded-cut d recorded =
-      let was = Has-recorded (knowledge old) sound.causes.truth d recorded in
-      let stays = (stays_is_recorded old.config.members old.config.f (knowledge old) sound.causes (receipt_of d) was).1
-      (λ c before. IsRecorded-before old.config.f (knowledge old) sound.causes.closed c d recorded before) in
-      cut-left sound cut (receipt_of d) was ((cut.2 (receipt_of d) was).1 stays)
-
   -- what the gathered tables find of a member is its receipt in the cut with that number
   pub found-receipt : (p k : ℕ) (d : Determinant) → found p (k + 1) (recovery_table (knowledge old)) ≡ Some d → slice_get (receipts_at (map mark_of new) p) k ≡ Some d
   found-receipt p k d is =
       let named = found-named p (k + 1) (recovery_table (knowledge old)) d is in
-      Has-receipts_at old.config.members (map mark_of new) p k d obeys (recorded-cut d (gathered_recorded old.config.f (knowledge old) sound.causes.down d named.0)) named.1 named.2
+      Has-receipts_at old.config.members (map mark_of new) p k d obeys (recorded-cut sound cut d (gathered_recorded old.config.f (knowledge old) sound.causes.down d named.0)) named.1 named.2
 
   -- and they find each receipt of the cut
   pub found-all : (p k : ℕ) (d : Determinant) → slice_get (receipts_at (map mark_of new) p) k ≡ Some d → found p (k + 1) (recovery_table (knowledge old)) ≡ Some d
@@ -105,7 +91,7 @@ module _ {next : Next} {old : GroupRecord} (sound : IsSound next old) {new : Lis
 
     at : (o : Option Determinant) → found p (k + 1) (recovery_table (knowledge old)) ≡ o → found p (k + 1) (recovery_table (knowledge old)) ≡ Some d
     at None is =
-        let named = recorded_gathered old.config.f (knowledge old) sound.causes.down sound.causes.checkpoints d (cut-recorded d has.0) in
+        let named = recorded_gathered old.config.f (knowledge old) sound.causes.down sound.causes.checkpoints d (cut-recorded sound cut d has.0) in
         absurd (found-none p (k + 1) (recovery_table (knowledge old)) d is named has.1 (receipts_at-number old.config.members (map mark_of new) p k d obeys here))
     at (Some c) is = (let there = found-receipt p k c is in is ∙ sym there ∙ here)
 

@@ -25,11 +25,9 @@ use Rattle.fbl_law.specs.GroupSteps.{IsRecovery, IsMadeAgain}
 use Rattle.fbl_law.specs.Replaying.{IsNextReplay, is_replayed, recovered_trace, stays_by, working, IsReplaying, IsWaiting, replayed_in, IsRebuilt}
 use Rattle.fbl_law.specs.RecoveryLaws.{ReplayBegins, ReplayIsRight, ReplayEnds, RebuiltIsRecovered}
 use Rattle.fbl_law.proofs.Safe.{down_or_up}
-use Rattle.fbl_law.proofs.CutNotes.{note-was}
-use Rattle.fbl_law.proofs.GroupCheckpoint.{checkpoint_is_recorded}
-use Rattle.fbl_law.proofs.GroupRecovery.{cut-causes, cut-lawful, fold-survives}
-use Rattle.fbl_law.proofs.ReplayedRecords.{replayed-cut, fold-received, fold-replayed, replayed-fold}
-use Rattle.fbl_law.proofs.ReplayFromGathered.{recorded-cut, found-next, replay-room, replayed-next, replays-log, all-replayed}
+use Rattle.fbl_law.proofs.GroupRecovery.{cut-lawful, fold-survives, checkpoint-survives}
+use Rattle.fbl_law.proofs.ReplayedRecords.{fold-received, fold-replayed, replayed-fold}
+use Rattle.fbl_law.proofs.ReplayFromGathered.{found-next, replay-room, replayed-next, replays-log, all-replayed}
 use Rattle.fbl_law.proofs.Counting.{is_of, count_in-same, count_in-most, count_in-step, replayed-most, replayed-count, to-replay-short}
 use Rattle.fbl_law.proofs.CutInOnePass.{recovered_trace-cut}
 use Rattle.fbl_law.proofs.CutByCounts.{filter-agree, stays_by-cut}
@@ -78,20 +76,12 @@ module _ (next : Next) (old : GroupRecord) (sound : IsSound next old) where
       → (working old rebuilt q).received ≡ length (receipts_at (map mark_of (recovered_trace old)) q)
   working-all rebuilt q below up = rw up (survivor-replays q below up).1
 
-  -- a checkpoint's receipts stay, so its replay is one of the trace that is left
-  pub checkpoint-replays : (p : ℕ) → p < old.config.members → Replays p (member_checkpoint old p)
-  checkpoint-replays p below =
-      replayed-cut next old.config.members old.config.starts old.trace (recovered_trace old) p (member_checkpoint old p) sound.lawful.well_formed lawful.well_formed
-      (λ q k x noted. note-was old.config.members cut.0 old.trace sound.lawful.well_formed (cut-causes sound cut) q k x (rw cut.1 at noted))
-      (λ d there to within. recorded-cut sound cut d ((checkpoint_is_recorded next old p sound below).1 d there to within))
-      (sound.saved p below)
-
   -- each member that is down begins at its checkpoint
   pub replaying-start : (rebuilt : List MemberRecord) → length rebuilt ≡ old.config.members
       → ((p : ℕ) → p < old.config.members → IsDown (knowledge old) p → slice_index_or rebuilt p blank ≡ member_checkpoint old p) → IsReplaying next old rebuilt
   replaying-start rebuilt size begins = record {
     size = size;
-    replayed = λ p below down. rw (begins p below down) (checkpoint-replays p below);
+    replayed = λ p below down. rw (begins p below down) (checkpoint-survives sound cut p below);
     begun = λ p below down. rw (begins p below down) (omega arith);
   }
 

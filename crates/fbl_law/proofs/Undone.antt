@@ -11,11 +11,10 @@ use Rattle.fbl_base.specs.Fold.{Next}
 use Rattle.fbl_law.specs.Steps.{Stays, IsEventCut}
 use Rattle.fbl_law.specs.Groups.{GroupRecord, marks, knowledge, receipts, is_recorded}
 use Rattle.fbl_law.specs.Sound.{IsSound}
-use Rattle.fbl_law.proofs.GroupRecovery.{cut-marks, cut-was, cut-left}
+use Rattle.fbl_law.proofs.GroupRecovery.{cut-marks, cut-was, cut-left, cut-recorded, recorded-cut}
 use Rattle.fbl_law.proofs.GroupStrike.{recorded_test}
 use Rattle.fbl_base.proofs.Received.{is_receipt}
 use Rattle.fbl_law.proofs.CutByCounts.{same-test}
-use Rattle.fbl_law.proofs.ReplayFromGathered.{cut-recorded, recorded-cut}
 
 -- a filter before a map, and after it
 filter_map-after : {X Y : Type 0} (K : X → Bool) (R : Y → Bool) (g : X → Option Y) (xs : List X)
