@@ -14,8 +14,8 @@ use Rattle.fbl_base.specs.declared.trace.Mark.{Mark}
 use Rattle.fbl_base.specs.declared.trace.Mark.TheVariants.{Send, Receipt}
 use Rattle.fbl_base.specs.Events.{mark_of, determinant_of}
 use Rattle.fbl_base.specs.Rules.{taken_on, sends_of, MayFollow}
-use Rattle.fbl_base.specs.Fold.{Next, Progress, Lawful, after_notes, advanced, note_of, step_events}
-use Rattle.fbl_base.proofs.FoldLaws.{after_notes-push, after_notes-state}
+use Rattle.fbl_base.specs.Fold.{Next, Lawful, after_notes, advanced, note_of, step_events}
+use Rattle.fbl_base.proofs.FoldLaws.{after_notes-push}
 use Rattle.fbl_base.proofs.RulesLaws.{eqb-self}
 use Rattle.fbl_base.proofs.LawfulLaws.{Lawful-deliver, Lawful-begun, note_of-front, receipts-noted}
 use Rattle.fbl_table.specs.declared.entry.Entry.{Entry}
@@ -34,7 +34,7 @@ use Rattle.fbl_law.proofs.Grown.{received_notes-delivered}
 use Rattle.fbl_law.proofs.Notes.{sent-noted}
 use Rattle.fbl_law.proofs.InOrder.{last_taken-push, last_taken-same}
 use Rattle.fbl_law.proofs.ReplayedRecords.{replayed-grown}
-use Rattle.fbl_law.proofs.GroupFacts.{log_counted, front_flight, front_may_follow}
+use Rattle.fbl_law.proofs.GroupFacts.{up_state, log_counted, front_flight, front_may_follow}
 
 -- the events of a step are the sends of its messages
 marks_made : (p before : ℕ) (carried : List Entry) (sends : List (ℕ × Note)) → map mark_of (step_events p before sends) ≡ map send_mark (messages_from p before carried sends)
@@ -101,7 +101,7 @@ module _ (next : Next) (old new : GroupRecord) (v : Message) (well : SendsWell n
   fold_was = sound.folds v.to s.to_member (was_up v.to)
 
   answer : sends ≡ (next v.to n (fold (λ state x. (next v.to n state x).state) 0 (received_notes old.trace v.to)) v.note).sends.items
-  answer = ap (λ (k : ℕ). (next v.to n k v.note).sends.items) (ap (λ (p : Progress). p.state) fold_was.progress ∙ after_notes-state next v.to n old.config.starts (received_notes old.trace v.to))
+  answer = ap (λ (k : ℕ). (next v.to n k v.note).sends.items) (up_state next old sound v.to s.to_member (was_up v.to))
 
   before : length was.log ≡ sends_of (marks old) v.to
   before = log_counted next old sound v.to s.to_member (was_up v.to)

@@ -16,18 +16,17 @@ use Rattle.fbl_base.specs.declared.trace.Mark.{Mark}
 use Rattle.fbl_base.specs.declared.trace.Mark.TheVariants as mark
 use Rattle.fbl_base.specs.Events.{mark_of}
 use Rattle.fbl_base.specs.Rules.{WellFormed, MayFollow, in_flight}
-use Rattle.fbl_base.specs.Fold.{Next, Progress, Action, took, sent, Lawful, action_of, actions_of, notes_of, note_of, responses, starts_of}
-use Rattle.fbl_base.proofs.FoldLaws.{after_notes-state}
+use Rattle.fbl_base.specs.Fold.{Next, Action, took, sent, Lawful, action_of, actions_of, notes_of, note_of, responses, starts_of}
 use Rattle.fbl_base.proofs.InFlightLaws.{in_flight-send, in_flight-receipt}
 use Rattle.fbl_base.proofs.LawfulLaws.{receipts-noted}
 use Rattle.fbl_base.proofs.RulesLaws.{WellFormed-keeps, eqb-self}
-use Rattle.fbl_member.specs.Members.{Message, MemberRecord}
+use Rattle.fbl_member.specs.Members.{Message}
 use Rattle.fbl_law.specs.Knowledge.{send_mark, IsInFlight, IsUp, IsDown}
 use Rattle.fbl_law.specs.StepLaws.{StepKeeps, HoldsFirst, StepMakesNone, StepLosesNone, StepConserves, weight_after, weight_held, weight_flying, weight_of_starts, weight_at_first, WeighsNoMore}
 use Rattle.fbl_law.specs.StepLaws.{WeighsNoLess, WeighsTheSame}
 use Rattle.fbl_law.specs.Groups.{GroupRecord, member, channel, marks, knowledge, messages_in_flight, sum_below}
 use Rattle.fbl_law.specs.Sound.{IsSound, received_notes}
-use Rattle.fbl_law.proofs.GroupFacts.{all_up, channel_ends, same_channel}
+use Rattle.fbl_law.proofs.GroupFacts.{all_up, up_state, channel_ends, same_channel}
 use Rattle.fbl_law.proofs.Lists.{Contains-here, Contains-there}
 use Rattle.fbl_law.proofs.Safe.{down_or_up}
 use Rattle.fbl_law.proofs.KeptByStep.{Came, all-came}
@@ -262,7 +261,7 @@ module _ (next : Next) (r : GroupRecord) (P : ℕ → ℕ → Type 0) (Q : ℕ �
   number_weight q s = of_note weight (note_of r.trace q s)
 
   up-weighs : (m : ℕ) → m < r.config.members → IsUp (knowledge r) m → mass m (member r m).state ≡ by_trace m
-  up-weighs m below up = ap (mass m) (ap (λ (x : Progress). x.state) (sound.folds m below up).progress ∙ after_notes-state next m r.config.members r.config.starts (received_notes r.trace m))
+  up-weighs m below up = ap (mass m) (up_state next r sound m below up)
 
   queue-weighs : (q p : ℕ) (xs : List Message) (numbers : List ℕ) → map send_mark xs ≡ map (λ ssn. mark.Send q ssn p) numbers
       → ((v : Message) → Contains xs v → note_of r.trace q v.ssn ≡ Some v.note)
@@ -298,22 +297,18 @@ module _ (next : Next) (r : GroupRecord) (P : ℕ → ℕ → Type 0) (Q : ℕ �
   makes-none law light =
       let whole = trace-makes-none weight next n P Q keeps mass r.config.starts r.trace sound.lawful (λ i s here. (sound.config.starts i s here).0) first.0 first.1 law in
       let states = sum_below-most n (λ m. mass m (member r m).state) by_trace (λ m below. elim (down_or_up r.down m) [
-        | inl down ↦ (let e : (member r m).state ≡ 0 = ap (λ (x : MemberRecord). x.state) (sound.blanks m below down) in
-            omega (arith, ap (mass m) e, light m down (reached weight next n P Q keeps mass m 0 (received_notes r.trace m))))
+        | inl down ↦ rw (sound.blanks m below down) (light m down (reached weight next n P Q keeps mass m 0 (received_notes r.trace m)))
         | inr up ↦ omega (arith, up-weighs m below up)
       ]) in
       let queues = sum_below-most n (λ q. sum_below n (channel_weight weight r q)) (λ q. sum_below n (weight_in n number_weight (marks r) q))
       (λ q below_q. sum_below-most n (channel_weight weight r q) (weight_in n number_weight (marks r) q) (λ p below_p. cell q p)) in
       omega (arith, whole, states, queues)
     where
-      gone : (q p : ℕ) → channel r q p ≡ [] → channel_weight weight r q p ≤ weight_in n number_weight (marks r) q p
-      gone q p none = omega (arith, ap (sum_by (λ (v : Message). weight v.note)) none)
-
       cell : (q p : ℕ) → channel_weight weight r q p ≤ weight_in n number_weight (marks r) q p
       cell q p = elim (down_or_up r.down q) [
-        | inl down ↦ gone q p (sound.causes.down.channels q p (inl down))
+        | inl down ↦ rw (sound.causes.down.channels q p (inl down)) (omega arith)
         | inr up ↦ elim (down_or_up r.down p) [
-          | inl down ↦ gone q p (sound.causes.down.channels q p (inr down))
+          | inl down ↦ rw (sound.causes.down.channels q p (inr down)) (omega arith)
           | inr up_to ↦ omega (arith, channel-weighs q p up up_to)
         ]
       ]
