@@ -68,10 +68,6 @@ taken_at q p y (Receipt to rsn from ssn) h = (on_channel from to q p ssn y h).1
 
 -- an event that may follow a trace may follow what is left of it, where what leads to it is left
 module _ (n : ℕ) (keep : Mark → Bool) (u : List Mark) (obeys : WellFormed n u) where
-  of_member : (p : Mark → Bool) (m : ℕ) → ((e : Mark) → p e ≡ true → member_of e ≡ m) → ((e : Mark) → Has u e → member_of e ≡ m → keep e ≡ true)
-      → (e : Mark) → Has u e → p e ≡ true → keep e ≡ true
-  of_member p m at_m all e h yes' = all e h (at_m e yes')
-
   sends_at : (m : ℕ) (e : Mark) → is_send_of m e ≡ true → member_of e ≡ m
   sends_at m (Send from ssn to) h = grind (arith, nat_tests)
   sends_at m (Receipt to rsn from ssn) h = absurd cc
@@ -128,11 +124,10 @@ module _ (n : ℕ) (keep : Mark → Bool) (u : List Mark) (obeys : WellFormed n 
 
   MayFollow-kept : (e : Mark) → MayFollow n u e → ((a : Mark) → Has u a → (member_of a ≡ member_of e) ⊎ (send_of e ≡ Some a) → keep a ≡ true) → MayFollow n (filter keep u) e
   MayFollow-kept (Send from ssn to) may causes =
-      let count : sends_of (filter keep u) from ≡ sends_of u from = count-kept keep (is_send_of from) u (of_member (is_send_of from) from (sends_at from) (λ a h same. causes a h (inl same))) in
+      let count : sends_of (filter keep u) from ≡ sends_of u from = count-kept keep (is_send_of from) u (λ a h own. causes a h (inl (sends_at from a own))) in
       (may.0, may.1, may.2, omega (arith, may.3, count), omega (arith, may.4, length-left keep u))
   MayFollow-kept (Receipt to rsn from ssn) may causes =
-      let count : receipts_of (filter keep u) to ≡ receipts_of u to =
-      count-kept keep (is_receipt_of to) u (of_member (is_receipt_of to) to (receipts_at to) (λ a h same. causes a h (inl same))) in (
+      let count : receipts_of (filter keep u) to ≡ receipts_of u to = count-kept keep (is_receipt_of to) u (λ a h own. causes a h (inl (receipts_at to a own))) in (
         may.0,
         may.1,
         may.2,

@@ -5,7 +5,7 @@ use Rattle.fbl_base.specs.declared.trace.Determinant.{Determinant}
 use Rattle.fbl_base.specs.declared.trace.Event.{Event}
 use Rattle.fbl_base.specs.declared.trace.Mark.{Mark}
 use Rattle.fbl_base.specs.Events.{mark_of, member_of, receipt_of}
-use Rattle.fbl_base.specs.Precedence.{Has, Precedes, itself, step}
+use Rattle.fbl_base.specs.Precedence.{Has, Precedes, itself}
 use Rattle.fbl_base.specs.Rules.{WellFormed}
 use Rattle.fbl_base.specs.Fold.{Next, Lawful, note_of}
 use Rattle.fbl_table.specs.Tables.{piggybacked}
@@ -21,7 +21,7 @@ use Rattle.fbl_base.proofs.Sifted.{length-left}
 use Rattle.fbl_base.proofs.PrecedenceLaws.{Has-filter}
 use Rattle.fbl_law.proofs.CutWellFormed.{KeepsCauses, Has-kept, kept-Has, marks-filter}
 use Rattle.fbl_law.proofs.CutStays.{cut_is_lawful, stays_is_recorded}
-use Rattle.fbl_law.proofs.Recovery.{recovery_keeps}
+use Rattle.fbl_law.proofs.Recovery.{recovery_keeps, Stays-causes}
 use Rattle.fbl_law.proofs.ReplayedRecords.{replayed-cut}
 use Rattle.fbl_law.proofs.CutNotes.{actions-stay, last_taken-stays, note-stays, note-was}
 
@@ -34,7 +34,7 @@ module _ {next : Next} {old : GroupRecord} (sound : IsSound next old) {new : Lis
       (λ kept. stays.0 ((cut.2 e there).0 kept), λ all. (cut.2 e there).1 (stays.1 all))
 
   pub cut-causes : KeepsCauses cut.0 (marks old)
-  cut-causes a b kept leads = (cut-keeps a (leads.0.0, leads.0.3)).1 (λ c before. (cut-keeps b (leads.0.1, leads.0.4)).0 kept c (step before leads))
+  cut-causes = Stays-causes old.config.members old.config.f (knowledge old) sound.causes.rules sound.causes.closed cut.0 cut.2
 
   pub cut-keeps_up : (m : ℕ) → IsUp (knowledge old) m → (e : Mark) → Has (marks old) e → member_of e ≡ m → cut.0 e ≡ true
   cut-keeps_up m up e there at_m = (cut.2 e there).1 (λ down. never_both old.down m (rw at_m at down) up)

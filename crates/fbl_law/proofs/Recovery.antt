@@ -24,14 +24,10 @@ use Rattle.fbl_law.proofs.Safe.{down_or_up, never_both, nobody_down_empty, up_if
 use Rattle.fbl_law.specs.Laws.{RecoveryKeeps, CutIsClosed, CutIsRecorded, RecoveryGainsHolders}
 use Rattle.fbl_law.proofs.Keeping.{KeepsKnowledge, IsSoundAt, sound_kept, sound_passed, truth_everywhere, closed_everywhere}
 
--- an event is a receipt or is none
-receipt_or_send : (e : Mark) → ((d : Determinant) × (e ≡ receipt_of d)) ⊎ ((d : Determinant) → ¬ (e ≡ receipt_of d))
-receipt_or_send (Send from ssn to) = inr (λ d same. cc)
-receipt_or_send (Receipt to rsn from ssn) = inl (record { from = from; ssn = ssn; to = to; rsn = rsn }, refl)
-
-sends_nothing : (e b : Mark) → ((d : Determinant) → ¬ (e ≡ receipt_of d)) → ¬ (send_of e ≡ Some b)
-sends_nothing (Send from ssn to) b is_none h = cc
-sends_nothing (Receipt to rsn from ssn) b is_none h = is_none (record { from = from; ssn = ssn; to = to; rsn = rsn }) refl
+-- an event with a send of its own is a receipt
+receives : (e b : Mark) → send_of e ≡ Some b → (d : Determinant) × (e ≡ receipt_of d)
+receives (Send from ssn to) b h = absurd cc
+receives (Receipt to rsn from ssn) b h = (record { from = from; ssn = ssn; to = to; rsn = rsn }, refl)
 
 module _ (n f : ℕ) (old : Knowledge) (obeys : WellFormed n old.trace) (closed : IsClosed f old) where
   UpTo-later : (x a b : Mark) → UpTo old.trace x a → Earlier old.trace a b → UpTo old.trace x b
@@ -56,10 +52,9 @@ module _ (n f : ℕ) (old : Knowledge) (obeys : WellFormed n old.trace) (closed 
         | inr up ↦ IsRecorded-depended f old closed c (member_of e) up (e, step p l, refl)
         | inl down ↦ elim l.1 [
           | inl same ↦ recorded_before c (Stays-earlier b e stays l.0 same) p
-          | inr received ↦ elim (receipt_or_send e) [
-            | inl is ↦ IsRecorded-before f old closed c is.0 (stays down is.0 (ap member_of (sym is.1)) (inl (sym is.1))) (rw is.1 at (step p l))
-            | inr is_none ↦ absurd (sends_nothing e b is_none received)
-          ]
+          | inr received ↦
+              let is = receives e b received in
+              IsRecorded-before f old closed c is.0 (stays down is.0 (ap member_of (sym is.1)) (inl (sym is.1))) (rw is.1 at (step p l))
         ]
       ]
 
@@ -69,6 +64,10 @@ module _ (n f : ℕ) (old : Knowledge) (obeys : WellFormed n old.trace) (closed 
     where
       path : Precedes old.trace (receipt_of c) a
       path = elim up_to [ inl same ↦ rw same (itself (leads.0.0, leads.0.3)) | inr earlier ↦ step (itself (earlier.0, earlier.3)) (earlier, inl at_a) ]
+
+  -- so a cut that keeps the events that stay keeps what leads to them
+  pub Stays-causes : (keep : Mark → Bool) → ((e : Mark) → Has old.trace e → (keep e ≡ true) ↔ Stays old e) → KeepsCauses keep old.trace
+  Stays-causes keep tells a b kept leads = (tells a (leads.0.0, leads.0.3)).1 (Stays-leads a b ((tells b (leads.0.1, leads.0.4)).0 kept) leads)
 
 module _ (n f : ℕ) (old new : Knowledge) (s : IsRecovered f old new) (sound : IsSoundKnowledge n f old) where
   abbrev keep : Mark → Bool
@@ -87,7 +86,7 @@ module _ (n f : ℕ) (old new : Knowledge) (s : IsRecovered f old new) (sound : 
   stays e there kept = (s.trace.2 e there).0 kept
 
   causes : KeepsCauses keep old.trace
-  causes a b kept leads = (s.trace.2 a (leads.0.0, leads.0.3)).1 (Stays-leads n f old sound.rules sound.closed a b (stays b (leads.0.1, leads.0.4) kept) leads)
+  causes = Stays-causes n f old sound.rules sound.closed keep s.trace.2
 
   was : (e : Mark) → Has new.trace e → Has old.trace e × (keep e ≡ true)
   was e there =
