@@ -1,8 +1,7 @@
 -- The cut, by how far each member has come once all is replayed.
-use Rattle.std.proofs.Common.{◌≡◌, ℕ, suc, ◌-◌, ◌<◌, ◌≤◌, ◌||◌, not, nat_le, Bool, true, false, List, [], ◌∷◌, length, take, map, Some, slice_get}
-use Rattle.std.proofs.Common.{refl, sym, ap, ◌∙◌, arith}
+use Rattle.std.proofs.Common.{◌≡◌, ℕ, suc, ◌-◌, ◌<◌, ◌≤◌, nat_le, Bool, true, List, [], ◌∷◌, length, take, map, Some, slice_get}
+use Rattle.std.proofs.Common.{refl, sym, ap, ◌∙◌, arith, inl, inr}
 use Rattle.std.specs.List.{filter}
-use Rattle.std.specs.FinSet as set
 use Rattle.std.proofs.lemmas.Bool.Decides.{same_from_decides, nat_tests}
 use Rattle.fbl_base.specs.declared.trace.Determinant.{Determinant}
 use Rattle.fbl_base.specs.declared.trace.Note.{Note}
@@ -12,7 +11,7 @@ use Rattle.fbl_base.specs.declared.trace.Mark.{Mark}
 use Rattle.fbl_base.specs.declared.trace.Mark.TheVariants.{Send, Receipt}
 use Rattle.fbl_base.specs.Events.{mark_of, receipt_of}
 use Rattle.fbl_base.specs.Precedence.{Has}
-use Rattle.fbl_base.specs.Rules.{sends_of, MayFollow, WellFormed}
+use Rattle.fbl_base.specs.Rules.{sends_of, WellFormed}
 use Rattle.fbl_base.specs.Fold.{Next, Progress, after_notes}
 use Rattle.fbl_base.proofs.InFlightLaws.{sent-number}
 use Rattle.fbl_member.specs.Members.{MemberRecord}
@@ -26,6 +25,7 @@ use Rattle.fbl_law.proofs.Logs.{log-has, log-length, logged-noted}
 use Rattle.fbl_law.proofs.Notes.{noted-sent, one-send, mark-at}
 use Rattle.fbl_law.proofs.Numbered.{receipt-number}
 use Rattle.fbl_law.proofs.ReplayedRecords.{all-taken}
+use Rattle.fbl_law.proofs.Safe.{down_or_up}
 use Rattle.fbl_law.proofs.Receipts.{receipts_at-number, receipts_at-Has, Has-receipts_at, length-receipts_at}
 
 -- tests that agree at each place keep the same
@@ -80,34 +80,26 @@ module _ (next : Next) (old : GroupRecord) (sound : IsSound next old) (new : Lis
       rw same at left.1
 
   agrees : (i : ℕ) (e : Event) → slice_get old.trace i ≡ Some e → stays_by old.down work (mark_of e) ≡ cut.0 (mark_of e)
-  agrees i (event.Send q k to x) here = at (set.contains old.down q) refl
-    where
-      there : Has (marks old) (Send q k to)
-      there = (i, mark-at old.trace i (event.Send q k to x) here)
-
-      may : MayFollow old.config.members (take i (marks old)) (Send q k to)
-      may = sound.lawful.well_formed i (Send q k to) there.1
-
-      at : (b : Bool) → set.contains old.down q ≡ b → (not (set.contains old.down q) || nat_le k (length (work q).log)) ≡ cut.0 (Send q k to)
-      at false is = rw is (sym (cut-keeps_up sound cut q is (Send q k to) there refl))
-      at true is = rw is (same-test (nat_le k (length (work q).log)) (cut.0 (Send q k to))
-          (λ within. send-left q k to may.0 there (omega (arith, may.3)) (grind (arith, nat_tests)))
-          (λ kept. let number = sent-number old.config.members (map mark_of new) obeys q k to (cut-left sound cut (Send q k to) there kept) in
-          grind (arith, nat_tests, number, log-sent q may.0)))
-  agrees i (event.Receipt p r q k) here = at (set.contains old.down p) refl
-    where
-      there : Has (marks old) (Receipt p r q k)
-      there = (i, mark-at old.trace i (event.Receipt p r q k) here)
-
-      may : MayFollow old.config.members (take i (marks old)) (Receipt p r q k)
-      may = sound.lawful.well_formed i (Receipt p r q k) there.1
-
-      at : (b : Bool) → set.contains old.down p ≡ b → (not (set.contains old.down p) || nat_le r (work p).received) ≡ cut.0 (Receipt p r q k)
-      at false is = rw is (sym (cut-keeps_up sound cut p is (Receipt p r q k) there refl))
-      at true is = rw is (same-test (nat_le r (work p).received) (cut.0 (Receipt p r q k))
-          (λ within. receipt-left p r q k may.1 there (omega (arith, may.3)) (grind (arith, nat_tests)))
-          (λ kept. let number = receipt-number old.config.members (map mark_of new) p r q k obeys (cut-left sound cut (Receipt p r q k) there kept) in
-          grind (arith, nat_tests, number, length-receipts_at (map mark_of new) p, all p may.1)))
+  agrees i (event.Send q k to x) here =
+      let there : Has (marks old) (Send q k to) = (i, mark-at old.trace i (event.Send q k to x) here) in
+      let may = sound.lawful.well_formed i (Send q k to) there.1 in
+      elim (down_or_up old.down q) [
+        | inr up ↦ rw up (sym (cut-keeps_up sound cut q up (Send q k to) there refl))
+        | inl down ↦ rw down (same-test (nat_le k (length (work q).log)) (cut.0 (Send q k to))
+            (λ within. send-left q k to may.0 there (omega (arith, may.3)) (grind (arith, nat_tests)))
+            (λ kept. let number = sent-number old.config.members (map mark_of new) obeys q k to (cut-left sound cut (Send q k to) there kept) in
+            grind (arith, nat_tests, number, log-sent q may.0)))
+      ]
+  agrees i (event.Receipt p r q k) here =
+      let there : Has (marks old) (Receipt p r q k) = (i, mark-at old.trace i (event.Receipt p r q k) here) in
+      let may = sound.lawful.well_formed i (Receipt p r q k) there.1 in
+      elim (down_or_up old.down p) [
+        | inr up ↦ rw up (sym (cut-keeps_up sound cut p up (Receipt p r q k) there refl))
+        | inl down ↦ rw down (same-test (nat_le r (work p).received) (cut.0 (Receipt p r q k))
+            (λ within. receipt-left p r q k may.1 there (omega (arith, may.3)) (grind (arith, nat_tests)))
+            (λ kept. let number = receipt-number old.config.members (map mark_of new) p r q k obeys (cut-left sound cut (Receipt p r q k) there kept) in
+            grind (arith, nat_tests, number, length-receipts_at (map mark_of new) p, all p may.1)))
+      ]
 
   -- the events that stay by the members' counts are the cut
   pub stays_by-cut : filter (λ e. stays_by old.down work (mark_of e)) old.trace ≡ new

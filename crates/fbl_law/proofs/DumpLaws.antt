@@ -2,7 +2,6 @@
 use Rattle.std.proofs.Common.{◌≡◌, ℕ, zero, suc, ◌+◌, ◌*◌, ◌<◌, ◌≤◌, List, [], ◌∷◌, ◌++◌, length, map, inl, inr, Some, slice_get, get_or, refl, sym}
 use Rattle.std.proofs.Common.{subst, ap, arith, append_assoc, append-nil, length-append}
 use Rattle.std.specs.List.{Contains, IsDistinct}
-use Rattle.std.specs.Bool.{Decides}
 use Rattle.std.specs.Cmp.{IsEquivalence}
 use Rattle.std.proofs.Math.Nat.{add-zero, zero-add}
 use Rattle.std.proofs.lemmas.Bool.Decides.{same_from_decides}
@@ -69,11 +68,10 @@ held_pairs-Names r q d named = rw (zero-add q) at (pairs_from-Names 0 r.members 
 equivalence : IsEquivalence same_determinant
 equivalence = record {
   refl = λ x. (Decides-same_determinant x x).1 refl;
-  symm = λ x y. same_from_decides (same_determinant x y) (same_determinant y x) (Decides-same_determinant x y) (turned x y);
-  congr = λ x y z same. (let e : x ≡ y = (Decides-same_determinant x y).0 same in rw e refl);
-} where
-  turned : (x y : Determinant) → Decides (same_determinant y x) (x ≡ y)
-  turned x y = (λ is. sym ((Decides-same_determinant y x).0 is), λ same. (Decides-same_determinant y x).1 (sym same))
+  symm = λ x y. same_from_decides (same_determinant x y) (same_determinant y x) (Decides-same_determinant x y)
+      (λ is. sym ((Decides-same_determinant y x).0 is), λ same. (Decides-same_determinant y x).1 (sym same));
+  congr = λ x y z same. rw ((Decides-same_determinant x y).0 same) refl;
+}
 
 -- a receipt of the trace is among its receipts
 Contains-receipts : (t : List Mark) (d : Determinant) → Has t (receipt_of d) → Contains (receipts t) d

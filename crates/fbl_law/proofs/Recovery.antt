@@ -82,9 +82,6 @@ module _ (n f : ℕ) (old new : Knowledge) (s : IsRecovered f old new) (sound : 
   up_now : (m : ℕ) → IsUp new m
   up_now = up_if_none s.nobody_down
 
-  stays : (e : Mark) → Has old.trace e → keep e ≡ true → Stays old e
-  stays e there kept = (s.trace.2 e there).0 kept
-
   causes : KeepsCauses keep old.trace
   causes = Stays-causes n f old sound.rules sound.closed keep s.trace.2
 
@@ -108,7 +105,7 @@ module _ (n f : ℕ) (old new : Knowledge) (s : IsRecovered f old new) (sound : 
   recorded_left : (d : Determinant) → Has new.trace (receipt_of d) → IsRecorded old d
   recorded_left d there =
       let old_one = was (receipt_of d) there in
-      recorded_before n f old sound.rules sound.closed d (stays (receipt_of d) old_one.0 old_one.1) (itself old_one.0)
+      recorded_before n f old sound.rules sound.closed d ((s.trace.2 (receipt_of d) old_one.0).0 old_one.1) (itself old_one.0)
 
   -- an event stays where each receipt that precedes it is recorded
   left_if : (b : Mark) → Has old.trace b → ((c : Determinant) → Precedes old.trace (receipt_of c) b → IsRecorded old c) → Has new.trace b
