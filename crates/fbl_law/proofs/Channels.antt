@@ -54,7 +54,8 @@ in_flight-made n u (x ∷ made) q p obeys =
     let next : WellFormed n ((u ++ send_mark x ∷ []) ++ map send_mark made) = rw append_assoc obeys in
     let rest = in_flight-made n (u ++ send_mark x ∷ []) made q p next in
     let one = in_flight-send n u (WellFormed-front n u _ obeys) x.from x.ssn x.to q p (MayFollow-seam n u (send_mark x) (map send_mark made) obeys) in
-    let joined : cond (x.from == q && x.to == p) (x.ssn ∷ []) [] ++ filter_map (sent_on q p) (map send_mark made) ≡ filter_map (sent_on q p) (map send_mark (x ∷ made)) = grind arith in
+    let joined : cond (x.from == q && x.to == p) (x.ssn ∷ []) [] ++ filter_map (sent_on q p) (map send_mark made)
+    ≡ filter_map (sent_on q p) (map send_mark (x ∷ made)) = grind arith in
     rw append_assoc at rest ∙ rw one (append_assoc (in_flight u q p) _ _ ∙ ap (λ (ys : List ℕ). in_flight u q p ++ ys) joined)
 
 -- the messages made between two members, by their marks

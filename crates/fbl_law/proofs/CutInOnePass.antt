@@ -129,7 +129,8 @@ module _ (s : Members) (held : List Entry) where
       told : loses (stops_at s held) (map mark_of t) (mark_of e) ≡ (set.contains stopped (member_of (mark_of e)) || stops_at s held (mark_of e))
       told = rw (whole, state (member_of (mark_of e))) (loses-there (stops_at s held) M (map mark_of rest) (mark_of e) new)
 
-      more : (m : ℕ) → list_any (of_member (stops_at s held) m) (map mark_of (u ++ e ∷ [])) ≡ (set.contains stopped m || (stops_at s held (mark_of e) && (member_of (mark_of e) == m)))
+      more : (m : ℕ) → list_any (of_member (stops_at s held) m) (map mark_of (u ++ e ∷ []))
+          ≡ (set.contains stopped m || (stops_at s held (mark_of e) && (member_of (mark_of e) == m)))
       more m = rw (map-append mark_of u (e ∷ []), list_any-append, state m) grind arith
 
       still : set.contains stopped (member_of (mark_of e)) ≡ true → Stopped stopped (u ++ e ∷ [])
@@ -161,7 +162,8 @@ module _ (next : Next) (old : GroupRecord) (sound : IsSound next old) where
   held-recorded d held = gathered_recorded old.config.f (knowledge old) sound.causes.down d (Names-held (recovery_table (knowledge old)) d held)
 
   keep-stays : (e : Mark) → Has (marks old) e → keep e ≡ true → Stays (knowledge old) e
-  keep-stays e has kept down c at_e up_to = elim (cases_Bool (is_held (recovery_table (knowledge old)) c)) [ inl held ↦ held-recorded c held | inr unheld ↦ absurd (lose unheld) ]
+  keep-stays e has kept down c at_e up_to =
+      elim (cases_Bool (is_held (recovery_table (knowledge old)) c)) [ inl held ↦ held-recorded c held | inr unheld ↦ absurd (lose unheld) ]
     where
       at-place : UpTo (marks old) (receipt_of c) e → (i : ℕ) × (j : ℕ) × (i ≤ j) × At (marks old) i (receipt_of c) × At (marks old) j e
       at-place (inl same) = (has.0, has.0, omega arith, (rw same has.1), has.1)
@@ -194,6 +196,7 @@ module _ (next : Next) (old : GroupRecord) (sound : IsSound next old) where
   pub recovered_trace-cut : IsEventCut (Stays (knowledge old)) old.trace (recovered_trace old)
   recovered_trace-cut = (
     keep,
-    cut_from-filter old.down (recovery_table (knowledge old)) old.config.members old.trace [] old.trace set.empty sound.lawful.well_formed refl (λ m. set.contains-empty nat_cmp m),
+    cut_from-filter old.down (recovery_table (knowledge old)) old.config.members old.trace [] old.trace set.empty sound.lawful.well_formed refl
+        (λ m. set.contains-empty nat_cmp m),
     λ e has. (keep-stays e has, stays-keep e has),
   )

@@ -191,7 +191,8 @@ module _ (n : ℕ) (keep : Mark → Bool) (t : List Event) (obeys : WellFormed n
   orderly_from : (b : Bool) (u rest : List Event) → t ≡ u ++ rest → Alive b u → Orderly b (flagged rest)
   orderly_from b u [] is state = tt
   orderly_from b u (Send q k to x ∷ rest) is state =
-      let more = orderly_from b (u ++ Send q k to x ∷ []) rest (is ∙ sym (append_assoc u (Send q k to x ∷ []) rest)) (same_state b u (Send q k to x) (λ d to' h. cc) state) in
+      let next = is ∙ sym (append_assoc u (Send q k to x ∷ []) rest) in
+      let more = orderly_from b (u ++ Send q k to x ∷ []) rest next (same_state b u (Send q k to x) (λ d to' h. cc) state) in
       elim (cases_eq q p) [
         | inl own ↦ rw (eq-eqb q p own) (send_flag u (Send q k to x) rest is b own (λ d h. cc) state, more)
         | inr other ↦ rw (ne_eqb q p other) more

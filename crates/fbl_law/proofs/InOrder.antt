@@ -60,7 +60,8 @@ IsBeyond-push n t (Send a s b) q p obeys may beyond j x at =
 IsBeyond-push n t (Receipt b r a s) q p obeys may beyond j x at =
     on (a == q && b == p) refl (rw (in_flight-receipt n t obeys b r a s q p may) at at)
   where
-    on : (c : Bool) → (a == q && b == p) ≡ c → slice_get (cond c (drop 1 (in_flight t q p)) (in_flight t q p)) j ≡ Some x → last_taken (t ++ Receipt b r a s ∷ []) q p < x
+    on : (c : Bool) → (a == q && b == p) ≡ c → slice_get (cond c (drop 1 (in_flight t q p)) (in_flight t q p)) j ≡ Some x
+        → last_taken (t ++ Receipt b r a s ∷ []) q p < x
     on false is at' =
         let taken : filter_map (taken_on q p) (Receipt b r a s ∷ []) ≡ [] = rw is in
         omega (arith, last_taken-same t (Receipt b r a s ∷ []) q p taken, beyond j x at')

@@ -178,7 +178,8 @@ logged-by next n starts t u rest p ssn to k x lawful is few =
     let may = MayFollow-seam n (map mark_of u) (mark.Send p ssn to) (map mark_of rest) (rw (is, map-append) at lawful.well_formed) in
     let front = filter_map (action_of t p) so_far in
     let back = filter_map (action_of t p) rest in
-    let cut : actions_of t p ≡ front ++ back = ap (filter_map (action_of t p)) (is ∙ sym (append_assoc u (Send p ssn to x ∷ []) rest)) ∙ filter_map-append (action_of t p) so_far rest in
+    let cut : actions_of t p ≡ front ++ back = ap (filter_map (action_of t p)) (is ∙ sym (append_assoc u (Send p ssn to x ∷ []) rest))
+    ∙ filter_map-append (action_of t p) so_far rest in
     let count : length (sends_in front) ≡ sends_of (map mark_of u) p + 1 = sends-count t so_far p ∙ sends-grown u (Send p ssn to x) p ∙ rw (eqb-self p) refl in
     let received : receipts_of (map mark_of so_far) p ≡ receipts_of (map mark_of u) p + 0 =
     rw (map-append mark_of u (Send p ssn to x ∷ [])) (receipts-step (map mark_of u) (mark.Send p ssn to) p) in

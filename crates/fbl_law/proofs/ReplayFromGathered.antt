@@ -81,7 +81,8 @@ module _ {next : Next} {old : GroupRecord} (sound : IsSound next old) {new : Lis
   pub found-receipt : (p k : ℕ) (d : Determinant) → found p (k + 1) (recovery_table (knowledge old)) ≡ Some d → slice_get (receipts_at (map mark_of new) p) k ≡ Some d
   found-receipt p k d is =
       let named = found-named p (k + 1) (recovery_table (knowledge old)) d is in
-      Has-receipts_at old.config.members (map mark_of new) p k d obeys (recorded-cut sound cut d (gathered_recorded old.config.f (knowledge old) sound.causes.down d named.0)) named.1 named.2
+      let recorded = gathered_recorded old.config.f (knowledge old) sound.causes.down d named.0 in
+      Has-receipts_at old.config.members (map mark_of new) p k d obeys (recorded-cut sound cut d recorded) named.1 named.2
 
   -- and they find each receipt of the cut
   pub found-all : (p k : ℕ) (d : Determinant) → slice_get (receipts_at (map mark_of new) p) k ≡ Some d → found p (k + 1) (recovery_table (knowledge old)) ≡ Some d
@@ -115,7 +116,8 @@ module _ {next : Next} {old : GroupRecord} (sound : IsSound next old) {new : Lis
   replays-log p m replayed =
       let log : length m.log ≡ length (after_notes next p old.config.members old.config.starts (take m.received (received_notes new p))).log =
       ap (λ (x : Progress). length x.log) replayed.progress in
-      omega (arith, log, log-short next old.config.members old.config.starts new p m.received (cut-lawful sound cut).0, count_by-le-length (is_send_of p) (map mark_of new), cut-short)
+      let short = log-short next old.config.members old.config.starts new p m.received (cut-lawful sound cut).0 in
+      omega (arith, log, short, count_by-le-length (is_send_of p) (map mark_of new), cut-short)
 
   -- the next receipt that the gathered tables find is that of the member's next number, from another member
   pub found-next : (p : ℕ) (m : MemberRecord) (d : Determinant) → Replays p m → found p (m.received + 1) (recovery_table (knowledge old)) ≡ Some d → IsNextReplay old.config.members p m d
@@ -157,7 +159,8 @@ module _ {next : Next} {old : GroupRecord} (sound : IsSound next old) {new : Lis
         let cut-at = split-at new j (event.Send q k to here.0) here.1 in
         let marks-at : map mark_of new ≡ map mark_of (take j new) ++ map mark_of (drop j new) = ap (map mark_of) (sym (take-append-drop j new)) ∙ map-append mark_of (take j new) (drop j new) in
         let front = WellFormed-front old.config.members (map mark_of (take j new)) (map mark_of (drop j new)) (rw marks-at at obeys) in
-        let few : length (receipts_at (map mark_of (take j new)) q) ≤ (work q).received = at-most old.config.members (map mark_of (take j new)) q (work q).received front (λ c there at_q.
+        let few : length (receipts_at (map mark_of (take j new)) q) ≤ (work q).received =
+        at-most old.config.members (map mark_of (take j new)) q (work q).received front (λ c there at_q.
         let before : there.0 < j = omega (arith, At-below (map mark_of (take j new)) there.0 (receipt_of c) there.1, length-map (take j new) mark_of, length-take j new) in
         sent c at_q (there.0, j, before, rw marks-at (At-front (map mark_of (take j new)) (map mark_of (drop j new)) there.0 (receipt_of c) there.1), has.1)) in
         let logged = logged-by next old.config.members old.config.starts new (take j new) (drop (suc j) new) q k to (work q).received here.0

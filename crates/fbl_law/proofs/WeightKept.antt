@@ -127,7 +127,8 @@ module _ {X Y : Type 0} (n : ℕ) (part : ℕ → X → Option Y) (g : Y → ℕ
       let one = each 0 x refl in
       let own : sum_by g (filter_map (part one.0) (x ∷ xs)) ≡ sum_by g (filter_map (part one.0) xs) + h x =
       rw one.3 (omega (arith, sum_by-cons g one.2 (filter_map (part one.0) xs), one.4)) in
-      let all = sum_below-at n one.0 (h x) (λ m. sum_by g (filter_map (part m) xs)) (λ m. sum_by g (filter_map (part m) (x ∷ xs))) one.1 own (λ m other. rw (one.5 m other) refl) in
+      let all = sum_below-at n one.0 (h x) (λ m. sum_by g (filter_map (part m) xs)) (λ m. sum_by g (filter_map (part m) (x ∷ xs))) one.1 own
+      (λ m other. rw (one.5 m other) refl) in
       omega (arith, all, shared xs (λ i. each (suc i)), sum_by-cons h x xs)
 
 sum_by-marks : (h : Mark → ℕ) (t : List Event) → sum_by (λ e. h (mark_of e)) t ≡ sum_by h (map mark_of t)
@@ -189,7 +190,8 @@ module _ (weight : Note → ℕ) where
 
       -- what the members do weighs what the events do, where each send and each receipt does, with its note
       acts-weigh : (g : Action → ℕ) (h : Mark → ℕ) → ((q s p : ℕ) (x : Note) → note_of t q s ≡ Some x → g (sent (p, x)) ≡ h (mark.Send q s p))
-          → ((p r q s : ℕ) (x : Note) → note_of t q s ≡ Some x → g (took x) ≡ h (mark.Receipt p r q s)) → sum_below n (λ m. sum_by g (actions_of t m)) ≡ sum_by h (map mark_of t)
+          → ((p r q s : ℕ) (x : Note) → note_of t q s ≡ Some x → g (took x) ≡ h (mark.Receipt p r q s))
+          → sum_below n (λ m. sum_by g (actions_of t m)) ≡ sum_by h (map mark_of t)
       acts-weigh g h sends takes = shared n (action_of t) g (λ e. h (mark_of e)) t each ∙ sum_by-marks h t where
         each : (i : ℕ) (e : Event) → slice_get t i ≡ Some e → IsShared n (action_of t) g (λ e. h (mark_of e)) e
         each i (Send q s p x) here =
@@ -212,7 +214,8 @@ module _ (weight : Note → ℕ) where
 
       -- a relation of what is weighed after and before, as `≤` and its converse, that equal weights have and that their sums keep
       module _ (R : ℕ → ℕ → Type 0) (same : (a b : ℕ) → a ≡ b → R a b) (joined : (a b c d x y : ℕ) → R a b → R c d → x + b + d ≡ a + c + y → R x y)
-          (law : (me from state : ℕ) (note : Note) → me < n → P me state → Q from me note → R (weight_after next n mass weight me state note) (mass me state + weight note)) where
+          (law : (me from state : ℕ) (note : Note) → me < n → P me state → Q from me note
+          → R (weight_after next n mass weight me state note) (mass me state + weight note)) where
         sums-related : (k : ℕ) (a b : ℕ → ℕ) → ((x : ℕ) → x < k → R (a x) (b x)) → R (sum_below k a) (sum_below k b)
         sums-related zero a b each = same 0 0 refl
         sums-related (suc k) a b each = joined _ _ _ _ _ _ (sums-related k a b (λ x below. each x (omega arith))) (each k (omega arith)) (omega arith)
@@ -229,7 +232,8 @@ module _ (weight : Note → ℕ) where
             (omega (arith, sum_by-cons weight x received, sum_by-cons given (took x) (map sent after.sends.items ++ rest), given-sends after.sends.items rest))
 
         -- what the states and the channels weigh, and what they weighed at first
-        trace-related : R (sum_below n (λ m. mass m (reached m 0 (notes m))) + weight_on n w (map mark_of t)) (sum_below n (λ m. mass m 0) + sum_by (λ (s : Start). weight s.note) starts)
+        trace-related : R (sum_below n (λ m. mass m (reached m 0 (notes m))) + weight_on n w (map mark_of t))
+            (sum_below n (λ m. mass m 0) + sum_by (λ (s : Start). weight s.note) starts)
         trace-related =
             let each = sums-related n (λ m. mass m (reached m 0 (notes m)) + replies m) (λ m. mass m 0 + sum_by weight (notes m))
             (λ m below. member-related m 0 (notes m) below (at_first m below) (all-came next n P Q keeps starts t lawful at_first started m)) in
