@@ -13,10 +13,9 @@ use Rattle.fbl_base.specs.declared.trace.Event.{Event}
 use Rattle.fbl_base.specs.declared.trace.Event.TheVariants.{Send, Receipt}
 use Rattle.fbl_base.specs.declared.trace.Mark.{Mark}
 use Rattle.fbl_base.specs.declared.trace.Mark.TheVariants as mark
-use Rattle.fbl_base.specs.Events.{At, mark_of, member_of}
+use Rattle.fbl_base.specs.Events.{At, mark_of, member_of, receipt_of}
 use Rattle.fbl_base.specs.Precedence.{Has, Earlier}
 use Rattle.fbl_base.specs.Rules.{WellFormed}
-use Rattle.fbl_base.specs.Events.{receipt_of}
 use Rattle.fbl_base.specs.Fold.{Next, Action, took, sent, action_of, actions_of, notes_of, responses, start_of, starts_of, Lawful}
 use Rattle.fbl_base.proofs.Gets.{filter_map-agree, At-front, At-below, slice_get-take}
 use Rattle.fbl_base.proofs.PlacesAndEvents.{one_place}

@@ -2,9 +2,8 @@
 use Rattle.std.proofs.Common.{◌≡◌, ℕ, ◌↔◌, Bool, true, map, inl, inr, refl, sym, ap, ◌∙◌}
 use Rattle.std.specs.List.{filter}
 use Rattle.fbl_base.specs.declared.trace.Mark.{Mark}
-use Rattle.fbl_base.specs.Events.{mark_of}
+use Rattle.fbl_base.specs.Events.{mark_of, receipt_of}
 use Rattle.fbl_base.specs.Precedence.{Has, itself, step}
-use Rattle.fbl_base.specs.Events.{receipt_of}
 use Rattle.fbl_law.specs.Knowledge.{Knowledge, IsSoundKnowledge}
 use Rattle.fbl_law.specs.Steps.{Stays}
 use Rattle.fbl_law.specs.Laws.{CutIsLawful, StaysIsRecorded}

@@ -5,9 +5,8 @@ use Rattle.std.specs.FinSet as set
 use Rattle.std.proofs.lemmas.Bool.{cases_eq}
 use Rattle.fbl_base.specs.declared.trace.Determinant.{Determinant}
 use Rattle.fbl_base.specs.declared.trace.Mark.{Mark}
-use Rattle.fbl_base.specs.Events.{At, member_of, send_of, determinant_of}
+use Rattle.fbl_base.specs.Events.{At, member_of, send_of, determinant_of, receipt_of}
 use Rattle.fbl_base.specs.Precedence.{Has, Precedes}
-use Rattle.fbl_base.specs.Events.{receipt_of}
 use Rattle.std.proofs.lemmas.Option.{same_Some}
 use Rattle.std.proofs.lemmas.List.Elements.{Contains-append_cases}
 use Rattle.fbl_base.specs.Rules.{is_send_of, is_receipt_of}

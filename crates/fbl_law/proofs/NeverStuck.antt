@@ -1,15 +1,13 @@
 -- Replay never gets stuck.
-use Rattle.std.proofs.Common.{◌≡◌, ℕ, zero, suc, ◌<◌, ◌≤◌, List, [], ◌∷◌, ◌++◌, take, inl, inr, arith, refl, subst}
-use Rattle.std.proofs.Common.{ap, Option, Some, None, slice_get}
+use Rattle.std.proofs.Common.{◌≡◌, ℕ, zero, suc, ◌<◌, ◌≤◌, List, [], ◌∷◌, ◌++◌, take, inl, inr, arith, refl, subst, ap, Option, Some, None, slice_get}
 use Rattle.std.proofs.lemmas.Bool.{cases_lt, cases_eq}
 use Rattle.std.proofs.lemmas.Bool.Decides.{nat_tests}
 use Rattle.fbl_base.proofs.Gets.{take-more}
 use Rattle.fbl_base.specs.declared.trace.Determinant.{Determinant}
 use Rattle.fbl_base.specs.declared.trace.Mark.{Mark}
 use Rattle.fbl_base.specs.declared.trace.Mark.TheVariants.{Send, Receipt}
-use Rattle.fbl_base.specs.Events.{At}
+use Rattle.fbl_base.specs.Events.{At, receipt_of}
 use Rattle.fbl_base.specs.Rules.{receipts_of, WellFormed}
-use Rattle.fbl_base.specs.Events.{receipt_of}
 use Rattle.fbl_base.proofs.RulesLaws.{sent-before, receipts-step}
 use Rattle.fbl_law.specs.Laws.{NeverStuck}
 use Rattle.fbl_law.specs.Stuck.{IsSentAgain, IsStuck}

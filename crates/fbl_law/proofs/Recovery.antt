@@ -4,12 +4,11 @@ use Rattle.std.specs.List.{Contains, filter}
 use Rattle.fbl_base.specs.declared.trace.Determinant.{Determinant}
 use Rattle.fbl_base.specs.declared.trace.Mark.{Mark}
 use Rattle.fbl_base.specs.declared.trace.Mark.TheVariants.{Send, Receipt}
-use Rattle.fbl_base.specs.Events.{member_of, send_of}
+use Rattle.fbl_base.specs.Events.{member_of, send_of, receipt_of}
 use Rattle.fbl_base.specs.Precedence.{Has, Earlier, Leads, Precedes, itself, step}
 use Rattle.fbl_base.specs.Rules.{WellFormed, sent_on, taken_on, receipts_of, sends_of}
 use Rattle.fbl_base.proofs.RulesLaws.{is_sent}
 use Rattle.fbl_base.proofs.InFlightLaws.{sent-number}
-use Rattle.fbl_base.specs.Events.{receipt_of}
 use Rattle.fbl_base.proofs.PrecedenceLaws.{Has-filter, Precedes-filter, Has-first}
 use Rattle.fbl_table.specs.declared.entry.Entry.{Entry}
 use Rattle.fbl_member.specs.Members.{Message}
