@@ -17,7 +17,7 @@ use Rattle.fbl_base.specs.Events.{At, mark_of, member_of, receipt_of}
 use Rattle.fbl_base.specs.Precedence.{Has, Earlier}
 use Rattle.fbl_base.specs.Rules.{WellFormed}
 use Rattle.fbl_base.specs.Fold.{Next, Action, took, sent, action_of, actions_of, notes_of, responses, start_of, starts_of, Lawful}
-use Rattle.fbl_base.proofs.Gets.{filter_map-agree, At-front, At-below, slice_get-take}
+use Rattle.fbl_base.proofs.Gets.{filter_map-agree, At-front, At-below, slice_get-take, At-push}
 use Rattle.fbl_base.proofs.PlacesAndEvents.{one_place}
 use Rattle.fbl_base.proofs.InFlightLaws.{filter_all}
 use Rattle.fbl_base.proofs.LawfulLaws.{receipts-noted, notes_of-sent, notes_of-append, Lawful-begun}
@@ -96,10 +96,7 @@ KeepsResponses keep t =
     → ((d : Determinant) → d.to ≡ member_of e → Earlier t (receipt_of d) e → keep (receipt_of d) ≡ true) → keep e ≡ true
 
 only : (x y : Mark) → Has (x ∷ []) y → x ≡ y
-only x y h = at h.0 h.1 where
-  at : (i : ℕ) → At (x ∷ []) i y → x ≡ y
-  at zero here = cc
-  at (suc i) here = cc
+only x y h = elim (At-push [] x h.0 y h.1) [ inl none ↦ absurd cc | inr new ↦ new.1 ]
 
 last : (u : List Event) (e : Event) → Has (map mark_of (u ++ e ∷ [])) (mark_of e)
 last u e = rw map-append (length (map mark_of u), At-seam (map mark_of u) (mark_of e) [])

@@ -1,6 +1,6 @@
 -- A delivery keeps a group sound.
 use Rattle.std.proofs.Common.{◌≡◌, ◌≢◌, ℕ, suc, ◌+◌, ◌<◌, ◌≤◌, ◌==◌, ◌&&◌, false, cond, List, [], ◌∷◌, ◌++◌, length, map, inl, inr}
-use Rattle.std.proofs.Common.{Some, slice_get, get_or, refl, sym, ap, ◌∙◌, arith, append-nil, length-append}
+use Rattle.std.proofs.Common.{Some, slice_get, refl, sym, ap, ◌∙◌, arith, append-nil, length-append}
 use Rattle.std.specs.List.{Contains, filter, filter_map, fold}
 use Rattle.std.specs.FinSet as sets
 use Rattle.std.proofs.lemmas.Bool.{cases_eq, ne_eqb, and_right}
@@ -86,7 +86,7 @@ module _ (next : Next) (old new : GroupRecord) (v : Message) (well : SendsWell n
   flies = (front_flight next old sound v.from v.to v s.front).0
 
   longer : length new.trace ≡ length old.trace + suc (length sends)
-  longer = ap length s.trace ∙ length-append old.trace added ∙ ap (λ k. length old.trace + suc k) (length-step_events v.to (length was.log) sends)
+  longer = rw (s.trace, length-append old.trace added, length-step_events v.to (length was.log) sends) refl
 
   room : length old.trace + 1 + length sends ≤ 8192
   room = omega (arith, longer, s.room, sound.config.limit.1)
@@ -112,16 +112,21 @@ module _ (next : Next) (old new : GroupRecord) (v : Message) (well : SendsWell n
       (Lawful-deliver next n old.config.starts old.trace v.to (was.received + 1) v.from v.ssn v.note sends sound.lawful may noted answer
       (well v.to n was.state v.note sound.config.members.0 s.to_member).0 room (Lawful-begun next n old.config.starts old.trace sound.lawful))
 
+  abbrev added_marks : List Mark
+  added_marks = map mark_of added
+
+  marks_split : marks new ≡ marks old ++ added_marks
+  marks_split = rw s.trace (map-append mark_of old.trace added)
+
   marks_now : marks new ≡ marks old ++ Receipt v.to (was.received + 1) v.from v.ssn ∷ map send_mark (made next old v)
   marks_now =
-      ap (map mark_of) s.trace ∙ map-append mark_of old.trace added
-      ∙ ap (λ ms. marks old ++ Receipt v.to (was.received + 1) v.from v.ssn ∷ ms) (marks_made v.to (length was.log) (piggybacked old.config.f (receiver next old v).table) sends)
+      marks_split ∙ ap (λ ms. marks old ++ Receipt v.to (was.received + 1) v.from v.ssn ∷ ms) (marks_made v.to (length was.log) (piggybacked old.config.f (receiver next old v).table) sends)
 
   receiver_now : member new v.to ≡ receiver next old v
-  receiver_now = ap (λ ms. get_or ms v.to blank) s.members ∙ get_or-set_same old.members v.to (receiver next old v) blank (omega (arith, s.to_member, sound.members))
+  receiver_now = rw s.members (get_or-set_same old.members v.to (receiver next old v) blank (omega (arith, s.to_member, sound.members)))
 
   other_now : (m : ℕ) → m ≢ v.to → member new m ≡ member old m
-  other_now m other = ap (λ ms. get_or ms m blank) s.members ∙ get_or-set_other old.members v.to m (receiver next old v) blank other
+  other_now m other = rw s.members (get_or-set_other old.members v.to m (receiver next old v) blank other)
 
   pub is_delivered : IsDelivered n old.config.f (knowledge old) (knowledge new) v (was.received + 1) (made next old v)
   is_delivered = record {
@@ -141,25 +146,17 @@ module _ (next : Next) (old new : GroupRecord) (v : Message) (well : SendsWell n
 
   notes_now : (m : ℕ) → received_notes new.trace m ≡ received_notes old.trace m ++ cond (v.to == m) (v.note ∷ []) []
   notes_now m =
-      ap (λ t. received_notes t m) s.trace
-      ∙ received_notes-delivered old.trace v.to (was.received + 1) v.from v.ssn (length was.log) v.note sends m (receipts-noted n old.trace sound.lawful.well_formed) noted
-
-  abbrev added_marks : List Mark
-  added_marks = map mark_of added
-
-  marks_split : marks new ≡ marks old ++ added_marks
-  marks_split = ap (map mark_of) s.trace ∙ map-append mark_of old.trace added
+      rw s.trace
+      (received_notes-delivered old.trace v.to (was.received + 1) v.from v.ssn (length was.log) v.note sends m (receipts-noted n old.trace sound.lawful.well_formed) noted)
 
   taken_now : (q m : ℕ) → filter_map (taken_on q m) added_marks ≡ cond (v.from == q && v.to == m) (v.ssn ∷ []) []
   taken_now q m = rw (none_taken q m v.to (length was.log) sends) grind arith
 
   last_same : (q m : ℕ) → (v.from == q && v.to == m) ≡ false → last_taken (marks new) q m ≡ last_taken (marks old) q m
-  last_same q m off = ap (λ t. last_taken t q m) marks_split ∙ last_taken-same (marks old) added_marks q m (taken_now q m ∙ ap (λ b. cond b (v.ssn ∷ []) []) off)
+  last_same q m off = rw marks_split (last_taken-same (marks old) added_marks q m (taken_now q m ∙ rw off refl))
 
   last_now : last_taken (marks new) v.from v.to ≡ v.ssn
-  last_now =
-      ap (λ t. last_taken t v.from v.to) marks_split
-      ∙ last_taken-push (marks old) added_marks v.from v.to v.ssn (taken_now v.from v.to ∙ rw (eqb-self v.from, eqb-self v.to) refl)
+  last_now = rw marks_split (last_taken-push (marks old) added_marks v.from v.to v.ssn (taken_now v.from v.to ∙ rw (eqb-self v.from, eqb-self v.to) refl))
 
   other_fold : (m : ℕ) → m < n → m ≢ v.to → IsFold next old m → IsFold next new m
   other_fold m below other f =
@@ -204,9 +201,7 @@ module _ (next : Next) (old new : GroupRecord) (v : Message) (well : SendsWell n
       ]
 
   receipts_now : length (receipts (marks new)) ≡ length (receipts (marks old)) + 1
-  receipts_now =
-      ap (λ t. length (receipts t)) marks_split ∙ ap length (filter_map-append determinant_of (marks old) added_marks)
-      ∙ length-append (receipts (marks old)) (receipts added_marks) ∙ ap (λ k. length (receipts (marks old)) + suc k) (ap length (no_receipts v.to (length was.log) sends))
+  receipts_now = rw (marks_split, filter_map-append determinant_of (marks old) added_marks, length-append, no_receipts v.to (length was.log) sends) refl
 
   -- a checkpoint is at the fold of its receipts also where the trace has more
   saved_grown : (m : ℕ) → m < n → IsReplayed next n old.config.starts new.trace m (member_checkpoint old m)
@@ -219,8 +214,8 @@ module _ (next : Next) (old new : GroupRecord) (v : Message) (well : SendsWell n
   IsSound-delivered : IsSound next new
   IsSound-delivered = record {
     config = rw s.config sound.config;
-    members = ap length s.members ∙ length-set old.members v.to (receiver next old v) ∙ sound.members ∙ sym (ap (λ c. c.members) s.config);
-    checkpoints = ap length s.checkpoints ∙ sound.checkpoints ∙ sym (ap (λ c. c.members) s.config);
+    members = rw (s.members, s.config) (length-set old.members v.to (receiver next old v) ∙ sound.members);
+    checkpoints = rw (s.checkpoints, s.config) sound.checkpoints;
     saved = λ m below. rw (s.config, s.checkpoints) (saved_grown m (rw s.config at below));
     down = λ q down. never_both new.down q down (up_if_none nobody_down q);
     lawful = rw s.config is_lawful;

@@ -200,8 +200,8 @@ module _ (next : Next) (config : Settings) (r : GroupRecord) (is : IsConfig conf
   IsSound-started : IsSound next r
   IsSound-started = record {
     config = rw s.parameters is;
-    members = s.size ∙ sym (ap (λ (c : Settings). c.members) s.parameters);
-    checkpoints = s.checkpoints ∙ sym (ap (λ (c : Settings). c.members) s.parameters);
+    members = rw s.parameters s.size;
+    checkpoints = rw s.parameters s.checkpoints;
     saved = λ m below. rw s.parameters (saved_now m (rw s.parameters at below));
     down = λ q down. never_both r.down q down (up q);
     lawful = rw (s.parameters, s.trace) is_lawful;

@@ -1,5 +1,5 @@
 -- A strike keeps a group sound, and what the tables of a sound group say of recorded receipts.
-use Rattle.std.proofs.Common.{◌≡◌, ℕ, ◌≤◌, true, List, length, inl, inr, Some, get_or, refl, sym, ap, ◌∙◌}
+use Rattle.std.proofs.Common.{◌≡◌, ℕ, ◌≤◌, true, List, inl, inr, Some, get_or, refl, ap, ◌∙◌}
 use Rattle.std.specs.List.{Contains, list_any}
 use Rattle.std.specs.FinSet as sets
 use Rattle.std.proofs.lemmas.Bool.{or_cases, or_left, or_right}
@@ -52,8 +52,8 @@ module _ (next : Next) (old new : GroupRecord) (struck : Members) (s : IsStrike 
   IsSound-struck : AllBelow struck old.config.members → sets.len new.down ≤ old.config.f → IsSound next new
   IsSound-struck within few = record {
     config = rw s.config sound.config;
-    members = s.size ∙ sound.members ∙ sym (ap (λ c. c.members) s.config);
-    checkpoints = ap length s.checkpoints ∙ sound.checkpoints ∙ sym (ap (λ c. c.members) s.config);
+    members = rw s.config (s.size ∙ sound.members);
+    checkpoints = rw (s.checkpoints, s.config) sound.checkpoints;
     saved = λ m below. rw (s.config, s.trace, s.checkpoints) (sound.saved m (rw s.config at below));
     down = λ q down. rw s.config elim (Includes-union old.down struck q (rw s.down at down)) [ inl was ↦ sound.down q was | inr now ↦ within q now ];
     lawful = rw (s.config, s.trace) sound.lawful;

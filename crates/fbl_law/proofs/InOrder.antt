@@ -1,6 +1,6 @@
 -- Each channel is first in, first out: what is in flight was sent after all that was received on it.
 use Rattle.std.proofs.Common.{◌≡◌, ℕ, suc, ◌<◌, ◌≤◌, ◌==◌, ◌&&◌, Bool, true, false, cond, List, [], ◌∷◌, ◌++◌, drop, inl, inr, ◌⊎◌, Some, slice_get}
-use Rattle.std.proofs.Common.{refl, sym, ap, ◌∙◌, arith}
+use Rattle.std.proofs.Common.{refl, sym, ap, arith}
 use Rattle.std.specs.List.{filter_map, fold}
 use Rattle.std.proofs.lemmas.Bool.{and_parts, eqb-true}
 use Rattle.std.proofs.lemmas.List.{append-nil}
@@ -16,12 +16,10 @@ use Rattle.fbl_law.specs.Sound.{last_taken}
 
 -- a message that was received on a channel is the last one
 pub last_taken-push : (t u : List Mark) (q p : ℕ) (s : ℕ) → filter_map (taken_on q p) u ≡ s ∷ [] → last_taken (t ++ u) q p ≡ s
-last_taken-push t u q p s is = ap (λ (ks : List ℕ). fold (λ last ssn. ssn) 0 ks)
-    (filter_map-append (taken_on q p) t u ∙ ap (λ (ks : List ℕ). filter_map (taken_on q p) t ++ ks) is) ∙ fold_push (λ last ssn. ssn) 0 (filter_map (taken_on q p) t) s
+last_taken-push t u q p s is = rw (filter_map-append, is) (fold_push (λ last ssn. ssn) 0 (filter_map (taken_on q p) t) s)
 
 pub last_taken-same : (t u : List Mark) (q p : ℕ) → filter_map (taken_on q p) u ≡ [] → last_taken (t ++ u) q p ≡ last_taken t q p
-last_taken-same t u q p is = ap (λ (ks : List ℕ). fold (λ last ssn. ssn) 0 ks)
-    (filter_map-append (taken_on q p) t u ∙ ap (λ (ks : List ℕ). filter_map (taken_on q p) t ++ ks) is ∙ append-nil (filter_map (taken_on q p) t))
+last_taken-same t u q p is = rw (filter_map-append, is, append-nil) refl
 
 -- the last number of a list is one of its numbers, or there is none
 last_of : (a : ℕ) (ks : List ℕ) → (fold (λ last ssn. ssn) a ks ≡ a) ⊎ ((j : ℕ) × (slice_get ks j ≡ Some (fold (λ last ssn. ssn) a ks)))
