@@ -1,6 +1,6 @@
 -- Channels by their places, how many messages they have, and what is sent again.
 use Rattle.std.proofs.Common.{◌≡◌, ℕ, zero, suc, ◌<◌, ◌≤◌, ◌==◌, ◌&&◌, ◌||◌, nat_lt, ◌⊎◌, inl, inr, Bool, true, false, cond, List, [], length, get_or}
-use Rattle.std.proofs.Common.{refl, ap, ◌∙◌, arith}
+use Rattle.std.proofs.Common.{refl, ap, arith}
 use Rattle.std.specs.FinSet as set
 use Rattle.std.proofs.lemmas.Bool.{cases_lt}
 use Rattle.std.proofs.lemmas.List.{length-map, get_or_past}
@@ -29,9 +29,7 @@ sum_below-agree (suc n) a b agree = omega (arith, sum_below-agree n a b (λ x be
 
 -- what is sent again goes by the records of the two alone
 pub sent_again-agree : (f : ℕ) (s : Members) (a b : ℕ → MemberRecord) (q p : ℕ) → a q ≡ b q → a p ≡ b p → sent_again f s a q p ≡ sent_again f s b q p
-sent_again-agree f s a b q p from to =
-    ap (λ (m : MemberRecord). cond (set.contains s q || set.contains s p) (resent_to f q p m (a p)) []) from
-    ∙ ap (λ (m : MemberRecord). cond (set.contains s q || set.contains s p) (resent_to f q p (b q) m) []) to
+sent_again-agree f s a b q p from to = rw (from, to) refl
 
 -- it is little, where the log is short
 pub sent_again-short : (f : ℕ) (s : Members) (work : ℕ → MemberRecord) (q p k : ℕ) → length (work q).log ≤ k → length (sent_again f s work q p) ≤ k

@@ -4,7 +4,6 @@ use Rattle.std.proofs.Common.{refl, sym, ap, ◌∙◌, arith, inl, inr}
 use Rattle.std.specs.List.{filter}
 use Rattle.std.proofs.lemmas.Bool.Decides.{same_from_decides, nat_tests}
 use Rattle.fbl_base.specs.declared.trace.Determinant.{Determinant}
-use Rattle.fbl_base.specs.declared.trace.Note.{Note}
 use Rattle.fbl_base.specs.declared.trace.Event.{Event}
 use Rattle.fbl_base.specs.declared.trace.Event.TheVariants as event
 use Rattle.fbl_base.specs.declared.trace.Mark.{Mark}
@@ -49,7 +48,7 @@ module _ (next : Next) (old : GroupRecord) (sound : IsSound next old) (new : Lis
   whole p below = (all-taken old.config.members new p (work p).received obeys (all p below)).0
 
   the-log : (p : ℕ) → p < old.config.members → (work p).log ≡ (after_notes next p old.config.members old.config.starts (received_notes new p)).log
-  the-log p below = ap (λ (x : Progress). x.log) (replays p below).progress ∙ ap (λ (xs : List Note). (after_notes next p old.config.members old.config.starts xs).log) (whole p below)
+  the-log p below = rw (whole p below) at (ap (λ (x : Progress). x.log) (replays p below).progress)
 
   -- the log of each member has its sends in the cut
   pub log-sent : (p : ℕ) → p < old.config.members → length (work p).log ≡ sends_of (map mark_of new) p

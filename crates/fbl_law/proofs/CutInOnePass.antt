@@ -172,7 +172,7 @@ module _ (next : Next) (old : GroupRecord) (sound : IsSound next old) where
       lose : is_held (recovery_table (knowledge old)) c ≡ false → ⊥
       lose unheld =
           let place = at-place up_to in
-          let d : set.contains old.down c.to ≡ true = ap (λ x. set.contains old.down x) at_e ∙ down in
+          let d : set.contains old.down c.to ≡ true = rw at_e down in
           let l : lost (receipt_of c) ≡ true = rw (d, unheld) refl in
           let gone = found-loses lost (marks old) e (receipt_of c) place.0 place.1 place.2 place.3 place.4
           (λ k less there. once old.config.members (marks old) e k place.1 sound.lawful.well_formed there place.4 less) l at_e in
@@ -187,7 +187,7 @@ module _ (next : Next) (old : GroupRecord) (sound : IsSound next old) where
         at (Receipt to r q k) is same up_to =
             let parts = and_parts (set.contains old.down to) _ is in
             let d : Determinant = record { from = q; ssn = k; to = to; rsn = r } in
-            let recorded = stays (ap (λ x. set.contains old.down x) (sym same) ∙ parts.0) d same up_to in
+            let recorded = stays (rw (← same) parts.0) d same up_to in
             let held = recorded-held d recorded in
             let not-held = not-true (is_held (recovery_table (knowledge old)) d) parts.1 in
             cc

@@ -259,9 +259,7 @@ module _ (next : Next) (n : ℕ) (starts : List Start) (keep : Mark → Bool) (t
   keeps_event e = keep (mark_of e)
 
   begins : filter keeps_event t ≡ first ++ filter keeps_event (drop (length starts) t)
-  begins =
-      ap (filter keeps_event) (sym (take-append-drop (length starts) t)) ∙ filter-append keeps_event first (drop (length starts) t)
-      ∙ ap (λ (ys : List Event). ys ++ filter keeps_event (drop (length starts) t)) (filter_all keeps_event first starts_kept)
+  begins = rw (take-append-drop (length starts) t, filter_all keeps_event first starts_kept) at (filter-append keeps_event first (drop (length starts) t))
 
   same_first : take (length starts) (filter keeps_event t) ≡ first
   same_first =

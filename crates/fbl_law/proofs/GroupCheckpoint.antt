@@ -1,12 +1,12 @@
 -- What checkpoints of a group record, and that a checkpoint keeps a group sound.
-use Rattle.std.proofs.Common.{◌≡◌, ◌≢◌, ℕ, ◌<◌, length, inl, inr, refl, sym, ap, ◌∙◌, arith, subst}
+use Rattle.std.proofs.Common.{◌≡◌, ◌≢◌, ℕ, ◌<◌, inl, inr, refl, sym, ◌∙◌, arith, subst}
 use Rattle.std.specs.Prelude.{slice_set}
 use Rattle.std.proofs.lemmas.Bool.{cases_eq}
 use Rattle.std.proofs.lemmas.List.{length-set, get_or-set_same, get_or-set_other}
 use Rattle.fbl_base.specs.Events.{receipt_of}
 use Rattle.fbl_base.specs.Fold.{Next}
 use Rattle.fbl_base.specs.Precedence.{itself}
-use Rattle.fbl_member.specs.Members.{MemberRecord, blank}
+use Rattle.fbl_member.specs.Members.{blank}
 use Rattle.fbl_law.specs.Knowledge.{IsUp}
 use Rattle.fbl_law.specs.Steps.{IsCheckpointed}
 use Rattle.fbl_law.specs.Groups.{GroupRecord, member, member_checkpoint, knowledge}
@@ -46,9 +46,9 @@ module _ (next : Next) (old new : GroupRecord) (p : ℕ) (s : IsCheckpoint old n
     trace = refl;
     tables = λ m. refl;
     channels = λ q m. refl;
-    table = ap (λ (x : MemberRecord). x.table) own;
-    receipts = ap (λ (x : MemberRecord). x.received) own ∙ received_counted next old sound p s.below (up p);
-    sends = ap (λ (x : MemberRecord). length x.log) own ∙ log_counted next old sound p s.below (up p);
+    table = rw own refl;
+    receipts = rw own (received_counted next old sound p s.below (up p));
+    sends = rw own (log_counted next old sound p s.below (up p));
     others = other;
   }
 

@@ -8,7 +8,6 @@ use Rattle.fbl_base.specs.Events.{mark_of, member_of, receipt_of}
 use Rattle.fbl_base.specs.Precedence.{Has, Precedes, itself}
 use Rattle.fbl_base.specs.Rules.{WellFormed}
 use Rattle.fbl_base.specs.Fold.{Next, Lawful, note_of}
-use Rattle.fbl_table.specs.Tables.{piggybacked}
 use Rattle.fbl_member.specs.Members.{Message, MemberRecord}
 use Rattle.fbl_law.specs.Knowledge.{IsInFlight, IsUp, IsRecorded}
 use Rattle.fbl_law.specs.Steps.{Stays, IsCut, IsEventCut, IsRecovered}
@@ -97,7 +96,7 @@ module _ (next : Next) (old new : GroupRecord) (step : IsRecovery next old new) 
     channels = step.rest.channels;
     rebuilt = λ q p down. (step.made_again q p down).sends;
     checkpoints = step.rest.checkpoints;
-    messages = λ v flies down. (step.made_again v.from v.to down).carried v flies ∙ ap (λ c. piggybacked c (member new v.from).table) (rw step.rest.config refl);
+    messages = λ v flies down. rw step.rest.config at ((step.made_again v.from v.to down).carried v flies);
   }
 
   fold-stays : (m : ℕ) → IsUp (knowledge old) m → IsFold next old m → IsFold next new m

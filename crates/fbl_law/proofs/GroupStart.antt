@@ -16,7 +16,7 @@ use Rattle.fbl_base.specs.Configs.{Settings, IsConfig, StartAllowed}
 use Rattle.fbl_base.specs.Events.{mark_of, determinant_of, receipt_of}
 use Rattle.fbl_base.specs.Precedence.{Has}
 use Rattle.fbl_base.specs.Rules.{sent_on, taken_on, sends_of, WellFormed, MayFollow}
-use Rattle.fbl_base.specs.Fold.{Next, Lawful, sent, action_of, actions_of, notes_of, start_of, starts_of, responses, after_notes}
+use Rattle.fbl_base.specs.Fold.{Next, Lawful, sent, action_of, actions_of, notes_of, start_of, starts_of, after_notes}
 use Rattle.fbl_base.proofs.Gets.{filter_map-At}
 use Rattle.fbl_base.proofs.InFlightLaws.{filter_all}
 use Rattle.fbl_base.proofs.RulesLaws.{WellFormed-none, WellFormed-push}
@@ -134,8 +134,7 @@ module _ (next : Next) (config : Settings) (r : GroupRecord) (is : IsConfig conf
     starts_first =
         ap (filter_map start_of) (take_all (length config.starts) events (omega (arith, length-starts [] config.starts)))
         ∙ starts_given start_of (λ s. Some s) (λ s k. refl) [] config.starts ∙ filter_map-all config.starts;
-    responds = λ m. acted m ∙ sym (append-nil (map sent (starts_of m config.starts)))
-        ∙ ap (λ (notes : List Note). map sent (starts_of m config.starts) ++ responses next m n 0 notes) (sym (no_notes m));
+    responds = λ m. rw (no_notes m, append-nil) (acted m);
   }
 
   unreceived : receipts (map mark_of events) ≡ []

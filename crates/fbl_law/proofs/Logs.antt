@@ -109,7 +109,7 @@ log_from n p all u (Receipt to r q k ∷ rest) obeys =
 pub log-sends : (next : Next) (n : ℕ) (starts : List Start) (t : List Event) (p : ℕ) → Lawful next n starts t
     → (after_notes next p n starts (received_notes t p)).log ≡ filter_map (logged_of p) t
 log-sends next n starts t p lawful =
-    log-after next p n starts (received_notes t p) ∙ ap (λ (xs : List Action). numbered 0 (sends_in xs)) (sym (lawful.responds p)) ∙ log_from n p t [] t lawful.well_formed
+    rw (log-after next p n starts (received_notes t p), ← lawful.responds p) (log_from n p t [] t lawful.well_formed)
 
 -- the log of a trace's sends names the note of each
 pub logged_note-trace : (t : List Event) (p ssn : ℕ) → logged_note (filter_map (logged_of p) t) ssn ≡ note_of t p ssn
@@ -129,7 +129,7 @@ logged-noted next n starts t p k ssn note lawful named =
     let front = log-front next p n starts (received_notes t p) k in
     let whole : logged_note (after_notes next p n starts (received_notes t p)).log ssn ≡ Some note =
     rw front.1 (logged_note-front (after_notes next p n starts (take k (received_notes t p))).log front.0 ssn note named) in
-    sym (logged_note-trace t p ssn) ∙ ap (λ (xs : List Logged). logged_note xs ssn) (sym (log-sends next n starts t p lawful)) ∙ whole
+    rw (← logged_note-trace t p ssn, ← log-sends next n starts t p lawful) whole
 
 -- how many sends a member's actions have
 sends-count : (all u : List Event) (p : ℕ) → length (sends_in (filter_map (action_of all p) u)) ≡ sends_of (map mark_of u) p
@@ -141,7 +141,7 @@ sends-count all (Receipt to r q k ∷ u) p = grind (arith, sum_by-cons (λ y. co
 pub log-length : (next : Next) (n : ℕ) (starts : List Start) (t : List Event) (p : ℕ) → Lawful next n starts t
     → length (after_notes next p n starts (received_notes t p)).log ≡ sends_of (map mark_of t) p
 log-length next n starts t p lawful =
-    length-log next p n starts (received_notes t p) ∙ ap (λ (xs : List Action). length (sends_in xs)) (sym (lawful.responds p)) ∙ sends-count t t p
+    rw (length-log next p n starts (received_notes t p), ← lawful.responds p) (sends-count t t p)
 
 -- that after the first notes is no longer
 pub log-short : (next : Next) (n : ℕ) (starts : List Start) (t : List Event) (p k : ℕ) → Lawful next n starts t

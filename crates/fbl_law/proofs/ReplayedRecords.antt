@@ -112,9 +112,9 @@ replayed-same : (next : Next) (n : ℕ) (starts : List Start) (old new : List Ev
     → IsReplayed next n starts old p m → IsReplayed next n starts new p m
 replayed-same next n starts old new p m within receipts notes replayed = record {
   within = within;
-  progress = replayed.progress ∙ ap (λ (xs : List Note). after_notes next p n starts xs) notes;
+  progress = rw notes at replayed.progress;
   places = replayed.places;
-  last = λ q below. replayed.last q below ∙ ap (λ (ds : List Determinant). last_among ds q) receipts;
+  last = λ q below. rw receipts at (replayed.last q below);
 }
 
 -- so also where the other trace keeps its receipts so far, and no note is new
