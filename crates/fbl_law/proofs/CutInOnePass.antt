@@ -115,7 +115,7 @@ module _ (s : Members) (held : List Entry) where
       M = map mark_of u
 
       next : t ≡ (u ++ e ∷ []) ++ rest
-      next = is ∙ sym (append_assoc u (e ∷ []) rest)
+      next = rw append_assoc is
 
       whole : map mark_of t ≡ M ++ mark_of e ∷ map mark_of rest
       whole = ap (map mark_of) is ∙ map-append mark_of u (e ∷ rest)

@@ -187,22 +187,20 @@ module _ (n : ℕ) (keep : Mark → Bool) (t : List Event) (obeys : WellFormed n
   orderly_from : (b : Bool) (u rest : List Event) → t ≡ u ++ rest → Alive b u → Orderly b (flagged rest)
   orderly_from b u [] is state = tt
   orderly_from b u (Send q k to x ∷ rest) is state =
-      let next = is ∙ sym (append_assoc u (Send q k to x ∷ []) rest) in
-      let more = orderly_from b (u ++ Send q k to x ∷ []) rest next (same_state b u (Send q k to x) (λ d to' h. cc) state) in
+      let more = orderly_from b (u ++ Send q k to x ∷ []) rest (rw append_assoc is) (same_state b u (Send q k to x) (λ d to' h. cc) state) in
       elim (cases_eq q p) [
         | inl own ↦ rw (eq-eqb q p own) (send_flag u (Send q k to x) rest is b own (λ d h. cc) state, more)
         | inr other ↦ rw (ne_eqb q p other) more
       ]
   orderly_from b u (Receipt to r q k ∷ rest) is state =
-      let next = is ∙ sym (append_assoc u (Receipt to r q k ∷ []) rest) in
       elim (cases_eq to p) [
         | inl own ↦
             let noted = receipts-noted n t obeys (length u) to r q k (rw is (At-seam u (Receipt to r q k) rest)) in
             let alive = receipt_flag u (Receipt to r q k) rest is b own state in
             rw (eq-eqb to p own, noted.1)
-            (alive, orderly_from (keep (mark.Receipt to r q k)) (u ++ Receipt to r q k ∷ []) rest next (next_state b u (Receipt to r q k) own alive state))
+            (alive, orderly_from (keep (mark.Receipt to r q k)) (u ++ Receipt to r q k ∷ []) rest (rw append_assoc is) (next_state b u (Receipt to r q k) own alive state))
         | inr other ↦
-            rw (ne_eqb to p other) (orderly_from b (u ++ Receipt to r q k ∷ []) rest next (same_state b u (Receipt to r q k) (λ d at_p same. other (cc)) state))
+            rw (ne_eqb to p other) (orderly_from b (u ++ Receipt to r q k ∷ []) rest (rw append_assoc is) (same_state b u (Receipt to r q k) (λ d at_p same. other (cc)) state))
       ]
 
   orderly : Orderly true (flagged t)
