@@ -1,8 +1,8 @@
 -- A delivery keeps knowledge sound.
-use Rattle.std.proofs.Common.{◌≡◌, ℕ, arith, Bool, true, false, List, [], ◌∷◌, inl, inr, ◌⊎◌, refl, sym, subst, ap, ◌∙◌, zero, suc, Some, cond, map, drop, ◌&&◌, ◌==◌}
+use Rattle.std.proofs.Common.{◌≡◌, ℕ, arith, List, [], ◌∷◌, inl, inr, ◌⊎◌, refl, sym, subst, ap, ◌∙◌, zero, suc, Some, map, ◌&&◌, ◌==◌}
 use Rattle.std.specs.List.{Contains}
 use Rattle.std.specs.FinSet as set
-use Rattle.std.proofs.lemmas.Bool.{cases_eq}
+use Rattle.std.proofs.lemmas.Bool.{cases_eq, cases_Bool}
 use Rattle.fbl_base.specs.declared.trace.Determinant.{Determinant}
 use Rattle.fbl_base.specs.declared.trace.Mark.{Mark}
 use Rattle.fbl_base.specs.Events.{At, member_of, send_of, determinant_of, receipt_of}
@@ -30,11 +30,8 @@ use Rattle.fbl_law.proofs.Tables.{Names-noted, Contains-noted, Names-from_table,
 
 -- what is left of a channel was in it
 pub taken_off-was : (v : Message) (q p : ℕ) (xs : List Message) (x : Message) → Contains (taken_off v q p xs) x → Contains xs x
-taken_off-was v q p xs x h = at (v.from == q && v.to == p) xs h where
-  at : (b : Bool) (ys : List Message) → Contains (cond b (drop 1 ys) ys) x → Contains ys x
-  at false ys g = g
-  at true [] g = g
-  at true (y ∷ ys) g = Contains-there y ys x g
+taken_off-was v q p [] x h = elim (cases_Bool (v.from == q && v.to == p)) [ inl is ↦ rw is at h | inr is ↦ rw is at h ]
+taken_off-was v q p (y ∷ xs) x h = elim (cases_Bool (v.from == q && v.to == p)) [ inl is ↦ Contains-there y xs x (rw is at h) | inr is ↦ rw is at h ]
 
 -- a receipt names its determinant
 receipt_names : (c d : Determinant) → receipt_of c ≡ receipt_of d → c ≡ d
