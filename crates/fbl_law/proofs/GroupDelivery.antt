@@ -120,7 +120,8 @@ module _ (next : Next) (old new : GroupRecord) (v : Message) (well : SendsWell n
 
   marks_now : marks new ≡ marks old ++ Receipt v.to (was.received + 1) v.from v.ssn ∷ map send_mark (made next old v)
   marks_now =
-      marks_split ∙ ap (λ ms. marks old ++ Receipt v.to (was.received + 1) v.from v.ssn ∷ ms) (marks_made v.to (length was.log) (piggybacked old.config.f (receiver next old v).table) sends)
+      marks_split
+      ∙ ap (λ ms. marks old ++ Receipt v.to (was.received + 1) v.from v.ssn ∷ ms) (marks_made v.to (length was.log) (piggybacked old.config.f (receiver next old v).table) sends)
 
   receiver_now : member new v.to ≡ receiver next old v
   receiver_now = rw s.members (get_or-set_same old.members v.to (receiver next old v) blank (omega (arith, s.to_member, sound.members)))
