@@ -1,12 +1,17 @@
 -- Precedence where several events are appended.
-use Rattle.std.proofs.Common.{◌≡◌, ℕ, ◌<◌, List, ◌++◌, inl, inr, ◌⊎◌, arith, ◌∙◌, Some}
+use Rattle.std.proofs.Common.{append_assoc, ◌≡◌, ℕ, ◌<◌, List, [], ◌∷◌, ◌++◌, inl, inr, ◌⊎◌, arith, ◌∙◌, Some}
 use Rattle.fbl_base.specs.declared.trace.Mark.{Mark}
 use Rattle.fbl_base.specs.Events.{At, member_of, send_of}
 use Rattle.fbl_base.specs.Precedence.{Has, Earlier, Precedes, itself, step}
-use Rattle.fbl_base.specs.Rules.{WellFormed}
+use Rattle.fbl_base.specs.Rules.{MayFollow, WellFormed}
 use Rattle.fbl_base.proofs.Gets.{At-front, At-below}
 use Rattle.fbl_base.proofs.PlacesAndEvents.{one_place}
+use Rattle.fbl_base.proofs.RulesLaws.{WellFormed-front, MayFollow-last}
 use Rattle.fbl_law.proofs.Lists.{At-append, At-behind}
+
+-- each event of a trace that obeys the rules may follow those before it
+pub MayFollow-seam : (n : ℕ) (t : List Mark) (e : Mark) (rest : List Mark) → WellFormed n (t ++ e ∷ rest) → MayFollow n t e
+MayFollow-seam n t e rest obeys = MayFollow-last n t e (WellFormed-front n (t ++ e ∷ []) rest (rw append_assoc obeys))
 
 -- in a trace that obeys the rules no event stands at two places
 pub once : (n : ℕ) (t : List Mark) (e : Mark) (i j : ℕ) → WellFormed n t → At t i e → At t j e → ¬ (i < j)

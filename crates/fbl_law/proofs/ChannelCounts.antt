@@ -1,15 +1,12 @@
 -- Channels by their places, how many messages they have, and what is sent again.
 use Rattle.std.proofs.Common.{◌≡◌, ℕ, zero, suc, ◌<◌, ◌≤◌, ◌==◌, ◌&&◌, ◌||◌, nat_lt, ◌⊎◌, inl, inr, Bool, true, false, cond, List, [], length, get_or}
-use Rattle.std.proofs.Common.{refl, ap, ◌∙◌, arith}
-use Rattle.std.specs.List.{filter}
+use Rattle.std.proofs.Common.{refl, ap, arith}
 use Rattle.std.specs.FinSet as set
 use Rattle.std.proofs.lemmas.Bool.{cases_lt}
 use Rattle.std.proofs.lemmas.List.{length-map, get_or_past}
 use Rattle.fbl_base.specs.MemberSets.{Members}
-use Rattle.fbl_base.specs.declared.trace.Note.{Note}
 use Rattle.fbl_base.specs.Fold.{Logged}
-use Rattle.fbl_table.specs.Tables.{piggybacked}
-use Rattle.fbl_member.specs.Members.{Message, MemberRecord, last_from, logged_beyond}
+use Rattle.fbl_member.specs.Members.{Message, MemberRecord, last_from}
 use Rattle.fbl_law.specs.Groups.{HasChannels, channel_in, sum_below}
 use Rattle.fbl_law.specs.Replaying.{resent_to, sent_again}
 use Rattle.fbl_base.proofs.Sifted.{length-left}
@@ -32,23 +29,13 @@ sum_below-agree (suc n) a b agree = omega (arith, sum_below-agree n a b (λ x be
 
 -- what is sent again goes by the records of the two alone
 pub sent_again-agree : (f : ℕ) (s : Members) (a b : ℕ → MemberRecord) (q p : ℕ) → a q ≡ b q → a p ≡ b p → sent_again f s a q p ≡ sent_again f s b q p
-sent_again-agree f s a b q p from to =
-    ap (λ (m : MemberRecord). cond (set.contains s q || set.contains s p) (resent_to f q p m (a p)) []) from
-    ∙ ap (λ (m : MemberRecord). cond (set.contains s q || set.contains s p) (resent_to f q p (b q) m) []) to
+sent_again-agree f s a b q p from to = rw (from, to) refl
 
 -- it is little, where the log is short
 pub sent_again-short : (f : ℕ) (s : Members) (work : ℕ → MemberRecord) (q p k : ℕ) → length (work q).log ≤ k → length (sent_again f s work q p) ≤ k
 sent_again-short f s work q p k short = at (set.contains s q || set.contains s p) where
   at : (c : Bool) → length (cond c (resent_to f q p (work q) (work p)) []) ≤ k
   at true =
-      let beyond = logged_beyond (work q).log p (last_from (work p) q) in
       let left = length-left (λ (l : Logged). l.to == p && nat_lt (last_from (work p) q) l.ssn) (work q).log in
-      omega (
-        arith,
-        short,
-        left,
-        length-map beyond (λ (x : ℕ × Note). let v : Message =
-            record { from = q; to = p; ssn = x.0; note = x.1; carried = piggybacked f (work q).table } in v),
-        length-map (filter (λ (l : Logged). l.to == p && nat_lt (last_from (work p) q) l.ssn) (work q).log) (λ (l : Logged). let x : ℕ × Note = (l.ssn, l.note) in x),
-      )
+      simp length-map (omega (arith, short, left))
   at false = omega arith

@@ -1,7 +1,7 @@
 -- Channels and the trace.
 use Rattle.std.proofs.Common.{option_map, ◌≡◌, ℕ, ◌==◌, ◌&&◌, not, Bool, true, false, cond, List, [], ◌∷◌, ◌++◌, map, drop, arith, refl, sym, ap, ◌∙◌, Some}
-use Rattle.std.proofs.Common.{None, append_assoc}
-use Rattle.std.specs.List.{Contains, filter_map, list_any, cons_option}
+use Rattle.std.proofs.Common.{append_assoc}
+use Rattle.std.specs.List.{Contains, filter_map, list_any}
 use Rattle.std.proofs.lemmas.Bool.Decides.{nat_tests}
 use Rattle.std.proofs.lemmas.List.{drop-map, append-nil, map-append}
 use Rattle.fbl_base.specs.declared.trace.Mark.{Mark}
@@ -9,14 +9,15 @@ use Rattle.fbl_base.specs.declared.trace.Mark.TheVariants.{Send, Receipt}
 use Rattle.fbl_base.specs.Precedence.{Has}
 use Rattle.fbl_base.specs.Rules.{sent_on, taken_on, in_flight, WellFormed}
 use Rattle.fbl_base.proofs.Gets.{map-At, At-filter, At-filter_map}
-use Rattle.fbl_base.proofs.RulesLaws.{is_sent, WellFormed-front, MayFollow-last}
+use Rattle.fbl_base.proofs.RulesLaws.{is_sent, WellFormed-front}
 use Rattle.fbl_base.proofs.InFlightLaws.{in_flight-send, in_flight-receipt}
 use Rattle.fbl_member.specs.Members.{Message}
 use Rattle.fbl_law.specs.Knowledge.{Knowledge, send_mark, IsInFlight, IsUp, MatchesTrace, IsDownEmpty}
 use Rattle.fbl_law.specs.Steps.{between, taken_off}
-use Rattle.fbl_law.proofs.Lists.{Contains-at}
+use Rattle.fbl_law.proofs.Appended.{MayFollow-seam}
+use Rattle.fbl_law.proofs.Lists.{Contains-at, Contains-place}
 use Rattle.fbl_law.proofs.Safe.{up_at_ends}
-use Rattle.std.proofs.lemmas.Option.{slice_get-map, slice_get-get_or}
+use Rattle.std.proofs.lemmas.Option.{slice_get-map}
 
 -- each message in flight was sent
 abbrev pub AreSent : Knowledge → Type 0
@@ -24,7 +25,7 @@ AreSent r = (v : Message) → IsInFlight r v → Has r.trace (send_mark v)
 
 -- a message of a list is among its marks
 pub Has-made : (made : List Message) (v : Message) → Contains made v → Has (map send_mark made) (send_mark v)
-Has-made made v among = (among.0, slice_get-map send_mark made among.0 ∙ ap (option_map send_mark) (slice_get-get_or made among.0 v among.1 ∙ ap Some among.2))
+Has-made made v among = (among.0, slice_get-map send_mark made among.0 ∙ ap (option_map send_mark) (Contains-place made v among))
 
 pub made-Has : (made : List Message) (e : Mark) → Has (map send_mark made) e → (v : Message) × Contains made v × (send_mark v ≡ e)
 made-Has made e h = (let r = map-At send_mark made h.0 e h.1 in (r.0, Contains-at made h.0 r.0 r.1, r.2))
@@ -51,33 +52,16 @@ in_flight-made : (n : ℕ) (u : List Mark) (made : List Message) (q p : ℕ) →
 in_flight-made n u [] q p obeys = simp append-nil
 in_flight-made n u (x ∷ made) q p obeys =
     let next : WellFormed n ((u ++ send_mark x ∷ []) ++ map send_mark made) = rw append_assoc obeys in
-    let front : WellFormed n (u ++ send_mark x ∷ []) = WellFormed-front n (u ++ send_mark x ∷ []) (map send_mark made) next in
     let rest = in_flight-made n (u ++ send_mark x ∷ []) made q p next in
-    let one = in_flight-send n u (WellFormed-front n u (send_mark x ∷ []) front) x.from x.ssn x.to q p (MayFollow-last n u (send_mark x) front) in
-    ap (λ (t : List Mark). in_flight t q p) (sym (append_assoc u (send_mark x ∷ []) (map send_mark made))) ∙ rest
-    ∙ ap (λ (ys : List ℕ). ys ++ filter_map (sent_on q p) (map send_mark made)) one
-    ∙ append_assoc (in_flight u q p) _ _ ∙ ap (λ (ys : List ℕ). in_flight u q p ++ ys) (joined (x.from == q && x.to == p))
-  where
-    joined : (b : Bool) → cond b (x.ssn ∷ []) [] ++ filter_map (sent_on q p) (map send_mark made) ≡ cons_option (cond b (Some x.ssn) None) (filter_map (sent_on q p) (map send_mark made))
-    joined true = refl
-    joined false = refl
+    let one = in_flight-send n u (WellFormed-front n u _ obeys) x.from x.ssn x.to q p (MayFollow-seam n u (send_mark x) (map send_mark made) obeys) in
+    let joined : cond (x.from == q && x.to == p) (x.ssn ∷ []) [] ++ filter_map (sent_on q p) (map send_mark made)
+    ≡ filter_map (sent_on q p) (map send_mark (x ∷ made)) = grind arith in
+    rw append_assoc at rest ∙ rw one (append_assoc (in_flight u q p) _ _ ∙ ap (λ (ys : List ℕ). in_flight u q p ++ ys) joined)
 
 -- the messages made between two members, by their marks
 pub messages_between : (made : List Message) (q p : ℕ) → map send_mark (between q p made) ≡ map (λ ssn. Send q ssn p) (filter_map (sent_on q p) (map send_mark made))
 messages_between [] q p = refl
-messages_between (x ∷ made) q p = at (x.from == q) (x.to == p) refl refl (messages_between made q p)
-  where
-    at : (a b : Bool) → (x.from == q) ≡ a → (x.to == p) ≡ b
-        → map send_mark (between q p made) ≡ map (λ ssn. Send q ssn p) (filter_map (sent_on q p) (map send_mark made))
-        → map send_mark (cond (a && b) (x ∷ between q p made) (between q p made))
-        ≡ map (λ ssn. Send q ssn p) (cons_option (cond (a && b) (Some x.ssn) None) (filter_map (sent_on q p) (map send_mark made)))
-    at true true ea eb ih =
-        let e1 : x.from ≡ q = grind (arith, nat_tests) in
-        let e2 : x.to ≡ p = grind (arith, nat_tests) in
-        let here : send_mark x ≡ Send q x.ssn p = cc in
-        cc
-    at true false ea eb ih = ih
-    at false b ea eb ih = ih
+messages_between (x ∷ made) q p = grind (arith, nat_tests, messages_between made q p)
 
 -- a delivery keeps a channel that matches the trace so
 pub channel-delivered : (n : ℕ) (t : List Mark) (v : Message) (rsn : ℕ) (made channel : List Message) (q p : ℕ)
@@ -86,13 +70,9 @@ pub channel-delivered : (n : ℕ) (t : List Mark) (v : Message) (rsn : ℕ) (mad
 channel-delivered n t v rsn made channel q p obeys was =
     let R : Mark = Receipt v.to rsn v.from v.ssn in
     let next : WellFormed n ((t ++ R ∷ []) ++ map send_mark made) = rw append_assoc obeys in
-    let front : WellFormed n (t ++ R ∷ []) = WellFormed-front n (t ++ R ∷ []) (map send_mark made) next in
-    let one = in_flight-receipt n t (WellFormed-front n t (R ∷ []) front) v.to rsn v.from v.ssn q p (MayFollow-last n t R front) in
-    let all : in_flight (t ++ R ∷ map send_mark made) q p
-    ≡ cond (v.from == q && v.to == p) (drop 1 (in_flight t q p)) (in_flight t q p) ++ filter_map (sent_on q p) (map send_mark made) =
-    ap (λ (u : List Mark). in_flight u q p) (sym (append_assoc t (R ∷ []) (map send_mark made))) ∙ in_flight-made n (t ++ R ∷ []) made q p next
-    ∙ ap (λ (ys : List ℕ). ys ++ filter_map (sent_on q p) (map send_mark made)) one in
-    rw (all, map-append send_mark, map-append (λ ssn. Send q ssn p), messages_between made q p)
+    let one = in_flight-receipt n t (WellFormed-front n t _ obeys) v.to rsn v.from v.ssn q p (MayFollow-seam n t R (map send_mark made) obeys) in
+    let all = rw append_assoc at (in_flight-made n (t ++ R ∷ []) made q p next) in
+    rw (all, one, map-append send_mark, map-append (λ ssn. Send q ssn p), messages_between made q p)
     (ap (λ (ys : List Mark). ys ++ map (λ ssn. Send q ssn p) (filter_map (sent_on q p) (map send_mark made))) (old_part (v.from == q && v.to == p)))
   where
     old_part : (b : Bool) → map send_mark (cond b (drop 1 channel) channel) ≡ map (λ ssn. Send q ssn p) (cond b (drop 1 (in_flight t q p)) (in_flight t q p))

@@ -1,11 +1,11 @@
 -- Channels that are made again from their sender's log.
 use Rattle.std.proofs.Common.{◌≡◌, ℕ, suc, ◌<◌, ◌≤◌, ◌==◌, ◌&&◌, nat_lt, ◌⊎◌, inl, inr, Bool, true, false, cond, List, [], ◌∷◌, ◌++◌, drop, map}
-use Rattle.std.proofs.Common.{Some, None, slice_get, refl, sym, ap, ◌∙◌, arith, append_assoc}
+use Rattle.std.proofs.Common.{Some, None, slice_get, subst, refl, sym, ap, ◌∙◌, arith, append_assoc}
 use Rattle.std.specs.List.{Contains, filter, filter_map, cons_option, fold}
+use Rattle.std.proofs.lemmas.Bool.{and_parts, eqb-true}
 use Rattle.std.proofs.lemmas.Bool.Decides.{nat_tests}
 use Rattle.std.proofs.lemmas.List.{append-nil}
 use Rattle.std.proofs.lemmas.List.Elements.{filter_map-append}
-use Rattle.std.proofs.lemmas.Option.{slice_get-get_or}
 use Rattle.fbl_base.specs.declared.trace.Note.{Note}
 use Rattle.fbl_base.specs.declared.trace.Event.{Event}
 use Rattle.fbl_base.specs.declared.trace.Event.TheVariants as event
@@ -25,43 +25,40 @@ use Rattle.fbl_law.specs.Groups.{GroupRecord, member, channel, marks}
 use Rattle.fbl_law.specs.Sound.{last_taken, IsFold}
 use Rattle.fbl_law.specs.GroupSteps.{IsMadeAgain}
 use Rattle.fbl_law.specs.Replaying.{resent, resent_to}
-use Rattle.fbl_law.proofs.Lists.{Contains-none}
+use Rattle.fbl_law.proofs.Lists.{Contains-none, Contains-place}
 use Rattle.fbl_law.proofs.Logs.{logged_of, log-sends}
 use Rattle.fbl_law.proofs.Notes.{sent-noted}
+
+-- what was sent stays what was taken and then what is in flight, where one more is sent, and where the first one is taken
+one-sent : (sent taken flying more : List ℕ) → sent ≡ taken ++ flying → sent ++ more ≡ (taken ++ []) ++ (flying ++ more)
+one-sent sent taken flying more was = rw (was, append-nil, append_assoc)
+
+one-taken : (b : Bool) (s : ℕ) (sent taken flying : List ℕ) → sent ≡ taken ++ flying → (b ≡ true → slice_get flying 0 ≡ Some s)
+    → sent ++ [] ≡ (taken ++ cons_option (cond b (Some s) None) []) ++ cond b (drop 1 flying) flying
+one-taken false s sent taken flying was first = rw (was, append-nil (taken ++ flying), append-nil taken)
+one-taken true s sent taken [] was first = absurd (let none = first refl in cc)
+one-taken true s sent taken (x ∷ flying) was first =
+    let same : x ≡ s = (let one = first refl in cc) in
+    rw (was, append-nil, append_assoc, same)
 
 -- messages are taken in the order in which they were sent: what was sent is what was taken, and then what is in flight
 fifo-one : (n : ℕ) (t : List Mark) (e : Mark) (q p : ℕ) → WellFormed n t → MayFollow n t e → filter_map (sent_on q p) t ≡ filter_map (taken_on q p) t ++ in_flight t q p
     → filter_map (sent_on q p) (t ++ e ∷ []) ≡ filter_map (taken_on q p) (t ++ e ∷ []) ++ in_flight (t ++ e ∷ []) q p
 fifo-one n t (Send q' s p') q p obeys may was =
-    rw (in_flight-send n t obeys q' s p' q p may, filter_map-append (sent_on q p) t (Send q' s p' ∷ []), filter_map-append (taken_on q p) t (Send q' s p' ∷ [])) (at (q' == q && p' == p))
-  where
-    at : (b : Bool) → filter_map (sent_on q p) t ++ cons_option (cond b (Some s) None) [] ≡ (filter_map (taken_on q p) t ++ []) ++ (in_flight t q p ++ cond b (s ∷ []) [])
-    at true = ap (λ (xs : List ℕ). xs ++ s ∷ []) was ∙ append_assoc (filter_map (taken_on q p) t) (in_flight t q p) (s ∷ [])
-        ∙ ap (λ (xs : List ℕ). xs ++ (in_flight t q p ++ s ∷ [])) (sym (append-nil (filter_map (taken_on q p) t)))
-    at false = append-nil (filter_map (sent_on q p) t) ∙ was
-        ∙ ap (λ (xs : List ℕ). xs ++ in_flight t q p) (sym (append-nil (filter_map (taken_on q p) t)))
-        ∙ ap (λ (xs : List ℕ). (filter_map (taken_on q p) t ++ []) ++ xs) (sym (append-nil (in_flight t q p)))
+    let one : cons_option (cond (q' == q && p' == p) (Some s) None) [] ≡ cond (q' == q && p' == p) (s ∷ []) [] = grind arith in
+    rw (in_flight-send n t obeys q' s p' q p may, filter_map-append (sent_on q p) t (Send q' s p' ∷ []), filter_map-append (taken_on q p) t (Send q' s p' ∷ []), one)
+    (one-sent _ _ (in_flight t q p) _ was)
 fifo-one n t (Receipt p' r q' s) q p obeys may was =
     rw (
       in_flight-receipt n t obeys p' r q' s q p may,
       filter_map-append (sent_on q p) t (Receipt p' r q' s ∷ []),
       filter_map-append (taken_on q p) t (Receipt p' r q' s ∷ []),
-    ) (at (q' == q) (p' == p) refl refl)
+    ) (one-taken (q' == q && p' == p) s _ _ (in_flight t q p) was first)
   where
-    first : (xs : List ℕ) → slice_get xs 0 ≡ Some s → xs ≡ s ∷ drop 1 xs
-    first [] h = absurd cc
-    first (x ∷ xs) h = (let same : x ≡ s = cc in ap (λ y. y ∷ xs) same)
-
-    at : (a b : Bool) → (q' == q) ≡ a → (p' == p) ≡ b
-        → filter_map (sent_on q p) t ++ [] ≡ (filter_map (taken_on q p) t ++ cons_option (cond (a && b) (Some s) None) []) ++ cond (a && b) (drop 1 (in_flight t q p)) (in_flight t q p)
-    at true true ea eb =
-        let e1 : q' ≡ q = grind (arith, nat_tests) in
-        let e2 : p' ≡ p = grind (arith, nat_tests) in
-        let front : slice_get (in_flight t q p) 0 ≡ Some s = rw (← e1, ← e2) may.5 in
-        append-nil (filter_map (sent_on q p) t) ∙ was ∙ ap (λ (xs : List ℕ). filter_map (taken_on q p) t ++ xs) (first (in_flight t q p) front)
-        ∙ sym (append_assoc (filter_map (taken_on q p) t) (s ∷ []) (drop 1 (in_flight t q p)))
-    at true false ea eb = append-nil (filter_map (sent_on q p) t) ∙ was ∙ ap (λ (xs : List ℕ). xs ++ in_flight t q p) (sym (append-nil (filter_map (taken_on q p) t)))
-    at false b ea eb = append-nil (filter_map (sent_on q p) t) ∙ was ∙ ap (λ (xs : List ℕ). xs ++ in_flight t q p) (sym (append-nil (filter_map (taken_on q p) t)))
+    first : (q' == q && p' == p) ≡ true → slice_get (in_flight t q p) 0 ≡ Some s
+    first is =
+        let parts = and_parts (q' == q) (p' == p) is in
+        rw (← eqb-true q' q parts.0, ← eqb-true p' p parts.1) may.5
 
 pub fifo : (n : ℕ) (t : List Mark) (q p : ℕ) → WellFormed n t → filter_map (sent_on q p) t ≡ filter_map (taken_on q p) t ++ in_flight t q p
 fifo n t q p obeys = WellFormed-keeps n (λ u. filter_map (sent_on q p) u ≡ filter_map (taken_on q p) u ++ in_flight u q p) refl (λ u e. fifo-one n u e q p) t obeys
@@ -101,25 +98,11 @@ in_flight-beyond n t q p obeys =
 beyond-sent : (t : List Event) (q p k : ℕ) → map (λ (s : ℕ × Note). s.0) (logged_beyond (filter_map (logged_of q) t) p k)
     ≡ filter (λ x. nat_lt k x) (filter_map (sent_on q p) (map mark_of t))
 beyond-sent [] q p k = refl
-beyond-sent (event.Send q' s to x ∷ t) q p k = at (q' == q) (to == p) (nat_lt k s) refl refl (beyond-sent t q p k) where
-  at : (a b c : Bool) → (to == p) ≡ b → nat_lt k s ≡ c
-      → map (λ (y : ℕ × Note). y.0) (logged_beyond (filter_map (logged_of q) t) p k) ≡ filter (λ y. nat_lt k y) (filter_map (sent_on q p) (map mark_of t))
-      → map (λ (y : ℕ × Note). y.0) (logged_beyond (cons_option (cond a (Some (record { ssn = s; to = to; note = x })) None)
-      (filter_map (logged_of q) t)) p k) ≡ filter (λ y. nat_lt k y) (cons_option (cond (a && b) (Some s) None) (filter_map (sent_on q p) (map mark_of t)))
-  at true true true eb ec ih = rw (eb, ec) (ap (λ (ys : List ℕ). s ∷ ys) ih)
-  at true true false eb ec ih = rw (eb, ec) ih
-  at true false c eb ec ih = rw eb ih
-  at false b c eb ec ih = ih
+beyond-sent (event.Send q' s to x ∷ t) q p k = grind (arith, beyond-sent t q p k)
 beyond-sent (event.Receipt to r q' s ∷ t) q p k = beyond-sent t q p k
 
 logged-event : (q : ℕ) (e : Event) (l : Logged) → logged_of q e ≡ Some l → (to : ℕ) × (e ≡ event.Send q l.ssn to l.note)
-logged-event q (event.Send q' k to x) l is = at (q' == q) refl is where
-  at : (b : Bool) → (q' == q) ≡ b → cond b (Some (record { ssn = k; to = to; note = x })) None ≡ Some l → (to' : ℕ) × (event.Send q' k to x ≡ event.Send q l.ssn to' l.note)
-  at true eq h =
-      let same : q' ≡ q = grind (arith, nat_tests) in
-      let e : ◌≡◌ {A = Logged} (record { ssn = k; to = to; note = x }) l = cc in
-      (to, (rw (same, ← e) refl))
-  at false eq h = absurd cc
+logged-event q (event.Send q' k to x) l is = (to, grind (arith, nat_tests))
 logged-event q (event.Receipt to r q' k) l is = absurd cc
 
 -- what a member's log has beyond a number was sent with that note
@@ -153,7 +136,7 @@ module _ (next : Next) (r : GroupRecord) (lawful : Lawful next r.config.members 
       → (i : ℕ) × (s : ℕ × Note) × (slice_get (logged_beyond (member r q).log p (last_from (member r p) q)) i ≡ Some s)
       × (◌≡◌ {A = Message} (record { from = q; to = p; ssn = s.0; note = s.1; carried = piggybacked r.config.f (member r q).table }) v)
   message-at v among =
-      let here = slice_get-get_or (resent_to r.config.f q p (member r q) (member r p)) among.0 v among.1 ∙ ap Some among.2 in
+      let here = Contains-place (resent_to r.config.f q p (member r q) (member r p)) v among in
       let a = map-At (λ (s : ℕ × Note). record { from = q; to = p; ssn = s.0; note = s.1; carried = piggybacked r.config.f (member r q).table })
       (logged_beyond (member r q).log p (last_from (member r p) q)) among.0 v here in
       (among.0, a.0, a.1, a.2)
@@ -161,14 +144,9 @@ module _ (next : Next) (r : GroupRecord) (lawful : Lawful next r.config.members 
   note-resent : (v : Message) → Contains (resent_to r.config.f q p (member r q) (member r p)) v → note_of r.trace v.from v.ssn ≡ Some v.note
   note-resent v among =
       let m = message-at v among in
-      let there : slice_get (logged_beyond (filter_map (logged_of q) r.trace) p (last_from (member r p) q)) m.0 ≡ Some m.1 =
-      ap (λ (log : List Logged). slice_get (logged_beyond log p (last_from (member r p) q)) m.0) (sym the-log) ∙ m.2 in
-      let sent = logged_beyond-sent r.trace q p (last_from (member r p) q) m.0 m.1 there in
+      let sent = logged_beyond-sent r.trace q p (last_from (member r p) q) m.0 m.1 (rw the-log at m.2) in
       let noted = sent-noted r.config.members r.trace lawful.well_formed sent.0 q m.1.0 sent.1 m.1.1 sent.2 in
-      let from : q ≡ v.from = ap (λ (x : Message). x.from) m.3 in
-      let ssn : m.1.0 ≡ v.ssn = ap (λ (x : Message). x.ssn) m.3 in
-      let note : m.1.1 ≡ v.note = ap (λ (x : Message). x.note) m.3 in
-      ap (λ x. note_of r.trace x v.ssn) (sym from) ∙ ap (λ x. note_of r.trace q x) (sym ssn) ∙ noted ∙ ap Some note
+      subst (λ (x : Message). note_of r.trace x.from x.ssn ≡ Some x.note) m.3 noted
 
   -- a channel that has what the sender sends again is made again
   pub made-again : channel r q p ≡ resent_to r.config.f q p (member r q) (member r p) → IsMadeAgain r q p

@@ -1,18 +1,16 @@
 -- A checkpoint keeps knowledge sound.
 use Rattle.std.proofs.Common.{ℕ, inl, inr, refl, ap, ◌∙◌, arith}
-use Rattle.std.specs.FinSet as set
-use Rattle.std.specs.Ordering.{nat_cmp}
 use Rattle.std.proofs.lemmas.Bool.{cases_eq}
 use Rattle.fbl_member.specs.Members.{MemberRecord}
 use Rattle.fbl_law.specs.Knowledge.{Knowledge, Store, in_table, in_message, in_checkpoint, IsThere, IsUp, IsCheckpointKept, IsSoundKnowledge}
 use Rattle.fbl_law.specs.Steps.{IsCheckpointed}
 use Rattle.fbl_law.specs.Laws.{CheckpointKeeps}
-use Rattle.fbl_law.proofs.Safe.{never_both, nobody_down_empty}
+use Rattle.fbl_law.proofs.Safe.{never_both, nobody_down_empty, up_if_none}
 use Rattle.fbl_law.proofs.Keeping.{KeepsKnowledge, IsSameStore, IsSoundAt, sound_kept, truth_everywhere, closed_everywhere}
 
 module _ (n f : ℕ) (old new : Knowledge) (p : ℕ) (s : IsCheckpointed old new p) (sound : IsSoundKnowledge n f old) where
   was_up : (m : ℕ) → IsUp old m
-  was_up m = rw s.nobody_down (set.contains-empty nat_cmp m)
+  was_up = up_if_none s.nobody_down
 
   keeps : KeepsKnowledge f old new
   keeps = record {

@@ -1,12 +1,10 @@
 -- What is left of a lawful trace is lawful.
-use Rattle.std.proofs.Common.{◌≡◌, ℕ, zero, suc, ◌<◌, ◌≤◌, ◌==◌, inl, inr, Bool, true, false, cond, List, [], ◌∷◌, ◌++◌, length, take, drop, map, Option}
-use Rattle.std.proofs.Common.{Some, None, option_map, slice_get, refl, sym, ap, ◌∙◌, arith, append_assoc, length-take}
-use Rattle.std.specs.List.{filter, filter_map, cons_option}
-use Rattle.std.proofs.lemmas.Bool.{false_from_ne_true}
-use Rattle.std.proofs.lemmas.Bool.Decides.{nat_tests}
+use Rattle.std.proofs.Common.{◌≡◌, ℕ, zero, suc, ◌<◌, ◌≤◌, inl, inr, Bool, true, false, List, [], ◌∷◌, ◌++◌, length, take, drop, map, Option}
+use Rattle.std.proofs.Common.{Some, option_map, slice_get, refl, sym, ap, ◌∙◌, arith, append_assoc, length-take}
+use Rattle.std.specs.List.{filter, filter_map}
+use Rattle.std.proofs.lemmas.Bool.{cases_eq, eq-eqb, ne_eqb, false_from_ne_true}
 use Rattle.std.proofs.lemmas.List.{take-append-le, take-append-drop, take-take, map-append}
 use Rattle.std.proofs.lemmas.List.Elements.{filter-append}
-use Rattle.std.proofs.lemmas.Option.{slice_get-map}
 use Rattle.fbl_base.proofs.Sifted.{length-filter_map}
 use Rattle.fbl_base.specs.declared.trace.Note.{Note}
 use Rattle.fbl_base.specs.declared.trace.Start.{Start}
@@ -15,12 +13,11 @@ use Rattle.fbl_base.specs.declared.trace.Event.{Event}
 use Rattle.fbl_base.specs.declared.trace.Event.TheVariants.{Send, Receipt}
 use Rattle.fbl_base.specs.declared.trace.Mark.{Mark}
 use Rattle.fbl_base.specs.declared.trace.Mark.TheVariants as mark
-use Rattle.fbl_base.specs.Events.{At, mark_of, member_of}
+use Rattle.fbl_base.specs.Events.{At, mark_of, member_of, receipt_of}
 use Rattle.fbl_base.specs.Precedence.{Has, Earlier}
 use Rattle.fbl_base.specs.Rules.{WellFormed}
-use Rattle.fbl_base.specs.Events.{receipt_of}
 use Rattle.fbl_base.specs.Fold.{Next, Action, took, sent, action_of, actions_of, notes_of, responses, start_of, starts_of, Lawful}
-use Rattle.fbl_base.proofs.Gets.{filter_map-agree, At-front, At-below, slice_get-take}
+use Rattle.fbl_base.proofs.Gets.{filter_map-agree, At-front, At-below, slice_get-take, At-push}
 use Rattle.fbl_base.proofs.PlacesAndEvents.{one_place}
 use Rattle.fbl_base.proofs.InFlightLaws.{filter_all}
 use Rattle.fbl_base.proofs.LawfulLaws.{receipts-noted, notes_of-sent, notes_of-append, Lawful-begun}
@@ -28,6 +25,7 @@ use Rattle.fbl_law.proofs.Lists.{At-append, At-seam}
 use Rattle.fbl_law.proofs.Appended.{Has-append}
 use Rattle.fbl_law.proofs.CutWellFormed.{KeepsCauses, WellFormed-kept, marks-filter}
 use Rattle.fbl_law.proofs.CutNotes.{note-same}
+use Rattle.fbl_law.proofs.Notes.{mark-at, receipt-at}
 
 -- an action, and whether it is kept
 abbrev Flagged : Type 0
@@ -48,7 +46,7 @@ Orderly alive ((b, took note) ∷ fs) = (b ≡ true → alive ≡ true) × Order
 none_kept : (fs : List Flagged) → Orderly false fs → kept fs ≡ []
 none_kept [] o = refl
 none_kept ((b, sent s) ∷ fs) o = rw o.0 (none_kept fs o.1)
-none_kept ((true, took note) ∷ fs) o = absurd (let bad = o.0 refl in cc)
+none_kept ((true, took note) ∷ fs) o = absurd (grind (arith, o.0 refl))
 none_kept ((false, took note) ∷ fs) o = none_kept fs o.1
 
 -- sends that come next are kept
@@ -56,7 +54,7 @@ sends_kept : (fs : List Flagged) (sends : List (ℕ × Note)) (rest : List Actio
     → (gs : List Flagged) × (flags gs ≡ rest) × Orderly true gs × (kept fs ≡ map sent sends ++ kept gs)
 sends_kept fs [] rest o is = (fs, is, o, refl)
 sends_kept [] (s ∷ sends) rest o is = absurd cc
-sends_kept ((b, took note) ∷ fs) (s ∷ sends) rest o is = absurd (let bad : took note ≡ sent s = cc in cc)
+sends_kept ((b, took note) ∷ fs) (s ∷ sends) rest o is = absurd cc
 sends_kept ((b, sent x) ∷ fs) (s ∷ sends) rest o is =
     let same : sent x ≡ sent s = cc in
     let r = sends_kept fs sends rest o.1 (cc) in
@@ -68,7 +66,7 @@ responses_kept : (next : Next) (p n state : ℕ) (notes : List Note) (fs : List 
 responses_kept next p n state [] [] o is = ([], refl)
 responses_kept next p n state [] (x ∷ fs) o is = absurd cc
 responses_kept next p n state (note ∷ notes) [] o is = absurd cc
-responses_kept next p n state (note ∷ notes) ((b, sent s) ∷ fs) o is = absurd (let bad : sent s ≡ took note = cc in cc)
+responses_kept next p n state (note ∷ notes) ((b, sent s) ∷ fs) o is = absurd cc
 responses_kept next p n state (note ∷ notes) ((false, took x) ∷ fs) o is = ([], none_kept fs o.1)
 responses_kept next p n state (note ∷ notes) ((true, took x) ∷ fs) o is =
     let same : took x ≡ took note = cc in
@@ -79,10 +77,7 @@ responses_kept next p n state (note ∷ notes) ((true, took x) ∷ fs) o is =
 notes_of-responses : (next : Next) (p n state : ℕ) (notes : List Note) → notes_of (responses next p n state notes) ≡ notes
 notes_of-responses next p n state [] = refl
 notes_of-responses next p n state (note ∷ notes) =
-    let sends = (next p n state note).sends.items in
-    let rest = responses next p n (next p n state note).state notes in
-    ap (λ (ys : List Note). note ∷ ys) (notes_of-append (map sent sends) rest ∙ ap (λ (ys : List Note). ys ++ notes_of rest) (notes_of-sent sends)
-    ∙ notes_of-responses next p n (next p n state note).state notes)
+    simp (notes_of-append, notes_of-sent) (ap (λ (ys : List Note). note ∷ ys) (notes_of-responses next p n (next p n state note).state notes))
 
 -- so a member's kept actions are those of a run
 responds_kept : (next : Next) (p n : ℕ) (sends : List (ℕ × Note)) (notes : List Note) (fs : List Flagged) → Orderly true fs
@@ -91,8 +86,7 @@ responds_kept next p n sends notes fs o is =
     let r = sends_kept fs sends (responses next p n 0 notes) o is in
     let some = responses_kept next p n 0 notes r.0 r.2 r.1 in
     let all : kept fs ≡ map sent sends ++ responses next p n 0 some.0 = r.3 ∙ ap (λ (ys : List Action). map sent sends ++ ys) some.1 in
-    let taken : notes_of (kept fs) ≡ some.0 = ap notes_of all ∙ notes_of-append (map sent sends) (responses next p n 0 some.0)
-    ∙ ap (λ (ys : List Note). ys ++ notes_of (responses next p n 0 some.0)) (notes_of-sent sends) ∙ notes_of-responses next p n 0 some.0 in
+    let taken : notes_of (kept fs) ≡ some.0 = ap notes_of all ∙ simp (notes_of-append, notes_of-sent, notes_of-responses) in
     rw taken all
 
 -- a send is kept where each receipt of its member that comes before it is
@@ -102,10 +96,7 @@ KeepsResponses keep t =
     → ((d : Determinant) → d.to ≡ member_of e → Earlier t (receipt_of d) e → keep (receipt_of d) ≡ true) → keep e ≡ true
 
 only : (x y : Mark) → Has (x ∷ []) y → x ≡ y
-only x y h = at h.0 h.1 where
-  at : (i : ℕ) → At (x ∷ []) i y → x ≡ y
-  at zero here = cc
-  at (suc i) here = cc
+only x y h = elim (At-push [] x h.0 y h.1) [ inl none ↦ absurd cc | inr new ↦ new.1 ]
 
 last : (u : List Event) (e : Event) → Has (map mark_of (u ++ e ∷ [])) (mark_of e)
 last u e = rw map-append (length (map mark_of u), At-seam (map mark_of u) (mark_of e) [])
@@ -129,21 +120,11 @@ module _ (n : ℕ) (keep : Mark → Bool) (t : List Event) (obeys : WellFormed n
 
   flags-flagged : (u : List Event) → flags (flagged u) ≡ filter_map (action_of t p) u
   flags-flagged [] = refl
-  flags-flagged (e ∷ u) = at (action_of t p e) (flags-flagged u) where
-    at : (o : Option Action) → flags (flagged u) ≡ filter_map (action_of t p) u
-        → flags (cons_option (option_map (λ (a : Action). (keeps e, a)) o) (flagged u)) ≡ cons_option o (filter_map (action_of t p) u)
-    at None ih = ih
-    at (Some a) ih = ap (λ (ys : List Action). a ∷ ys) ih
+  flags-flagged (e ∷ u) = grind (arith, flags-flagged u)
 
   kept-flagged : (u : List Event) → kept (flagged u) ≡ filter_map (action_of t p) (filter keeps u)
   kept-flagged [] = refl
-  kept-flagged (e ∷ u) = at (action_of t p e) (keeps e) refl refl (kept-flagged u) where
-    at : (o : Option Action) (b : Bool) → action_of t p e ≡ o → keeps e ≡ b → kept (flagged u) ≡ filter_map (action_of t p) (filter keeps u)
-        → kept (cons_option (option_map (λ (a : Action). (keeps e, a)) (action_of t p e)) (flagged u)) ≡ filter_map (action_of t p) (cond (keeps e) (e ∷ filter keeps u) (filter keeps u))
-    at None true eo eb ih = rw (eb, eo) ih
-    at None false eo eb ih = rw (eb, eo) ih
-    at (Some a) true eo eb ih = rw (eb, eo) (ap (λ (ys : List Action). a ∷ ys) ih)
-    at (Some a) false eo eb ih = rw (eb, eo) ih
+  kept-flagged (e ∷ u) = grind (arith, kept-flagged u)
 
   -- the state of a member after the events u: whether its receipts so far are kept
   abbrev Alive : Bool → List Event → Type 0
@@ -151,34 +132,37 @@ module _ (n : ℕ) (keep : Mark → Bool) (t : List Event) (obeys : WellFormed n
       (b ≡ true → (d : Determinant) → d.to ≡ p → Has (map mark_of u) (receipt_of d) → keep (receipt_of d) ≡ true)
       × (b ≡ false → (x : Mark) × Has (map mark_of u) x × (member_of x ≡ p) × (keep x ≡ false))
 
-  split : (u : List Event) (e : Event) (rest : List Event) → t ≡ u ++ e ∷ rest → M ≡ map mark_of u ++ mark_of e ∷ map mark_of rest
-  split u e rest is = ap (map mark_of) is ∙ map-append mark_of u (e ∷ rest)
+  -- an event of the trace, after the events u
+  module _ (u : List Event) (e : Event) (rest : List Event) (is : t ≡ u ++ e ∷ rest) where
+    split : M ≡ map mark_of u ++ mark_of e ∷ map mark_of rest
+    split = ap (map mark_of) is ∙ map-append mark_of u (e ∷ rest)
 
-  Has-all : (u : List Event) (e : Event) (rest : List Event) → t ≡ u ++ e ∷ rest → Has M (mark_of e)
-  Has-all u e rest is = (length (map mark_of u), rw (split u e rest is) (At-seam (map mark_of u) (mark_of e) (map mark_of rest)))
+    here : At M (length (map mark_of u)) (mark_of e)
+    here = rw split (At-seam (map mark_of u) (mark_of e) (map mark_of rest))
 
-  earlier_of : (u : List Event) (e : Event) (rest : List Event) → t ≡ u ++ e ∷ rest → (x : Mark) → Has (map mark_of u) x → Earlier M x (mark_of e)
-  earlier_of u e rest is x h =
-      rw (split u e rest is) (
-        h.0,
-        length (map mark_of u),
-        At-below (map mark_of u) h.0 x h.1,
-        At-front (map mark_of u) (mark_of e ∷ map mark_of rest) h.0 x h.1,
-        At-seam (map mark_of u) (mark_of e) (map mark_of rest),
-      )
+    earlier_of : (x : Mark) → Has (map mark_of u) x → Earlier M x (mark_of e)
+    earlier_of x h = (h.0, length (map mark_of u), At-below (map mark_of u) h.0 x h.1, rw split (At-front (map mark_of u) (mark_of e ∷ map mark_of rest) h.0 x h.1), here)
 
-  earlier_back : (u : List Event) (e : Event) (rest : List Event) → t ≡ u ++ e ∷ rest → (x : Mark) → Earlier M x (mark_of e) → Has (map mark_of u) x
-  earlier_back u e rest is x h =
-      let here : At M (length (map mark_of u)) (mark_of e) = rw (split u e rest is) (At-seam (map mark_of u) (mark_of e) (map mark_of rest)) in
-      let there : At (map mark_of u ++ mark_of e ∷ map mark_of rest) h.0 x = rw (split u e rest is) at h.3 in
-      let same = one_place n M obeys (mark_of e) (length (map mark_of u)) h.1 here h.4 in
-      elim (At-append (map mark_of u) (mark_of e ∷ map mark_of rest) h.0 x there) [ inl old ↦ (h.0, old) | inr new ↦ absurd (omega (arith, h.2, same, new.1)) ]
+    earlier_back : (x : Mark) → Earlier M x (mark_of e) → Has (map mark_of u) x
+    earlier_back x h =
+        let same = one_place n M obeys (mark_of e) (length (map mark_of u)) h.1 here h.4 in
+        elim (At-append (map mark_of u) (mark_of e ∷ map mark_of rest) h.0 x (rw split at h.3)) [ inl old ↦ (h.0, old) | inr new ↦ absurd (omega (arith, h.2, same, new.1)) ]
 
-  -- where an earlier event of the member isn't kept, none is
-  dead : (u : List Event) (e : Event) (rest : List Event) → t ≡ u ++ e ∷ rest → member_of (mark_of e) ≡ p → Alive false u → keeps e ≡ false
-  dead u e rest is at_p state =
-      let gone = state.1 refl in
-      false_from_ne_true (keeps e) (λ yes'. let before = causes gone.0 (mark_of e) yes' (earlier_of u e rest is gone.0 gone.1, inl (gone.2 ∙ sym at_p)) in let not_kept = gone.3 in cc)
+    -- where an earlier event of the member isn't kept, none is
+    dead : member_of (mark_of e) ≡ p → Alive false u → keeps e ≡ false
+    dead at_p state =
+        let gone = state.1 refl in
+        false_from_ne_true (keeps e) (λ yes'. let before = causes gone.0 (mark_of e) yes' (earlier_of gone.0 gone.1, inl (gone.2 ∙ sym at_p)) in let not_kept = gone.3 in cc)
+
+    -- a send of the member is kept where the receipts so far are
+    send_flag : (b : Bool) → member_of (mark_of e) ≡ p → ((d : Determinant) → ¬ (mark_of e ≡ receipt_of d)) → Alive b u → keeps e ≡ b
+    send_flag true at_p no_receipt state =
+        follow (mark_of e) (length (map mark_of u), here) no_receipt (λ d to earlier. state.0 refl d (to ∙ at_p) (earlier_back (receipt_of d) earlier))
+    send_flag false at_p no_receipt state = dead at_p state
+
+    receipt_flag : (b : Bool) → member_of (mark_of e) ≡ p → Alive b u → keeps e ≡ true → b ≡ true
+    receipt_flag true at_p state yes' = refl
+    receipt_flag false at_p state yes' = absurd (let no' = dead at_p state in cc)
 
   -- one more event that isn't a receipt of the member
   same_state : (b : Bool) (u : List Event) (e : Event) → ((d : Determinant) → d.to ≡ p → ¬ (mark_of e ≡ receipt_of d)) → Alive b u → Alive b (u ++ e ∷ [])
@@ -200,45 +184,24 @@ module _ (n : ℕ) (keep : Mark → Bool) (t : List Event) (obeys : WellFormed n
     λ no'. (mark_of e, last u e, at_p, no'),
   )
 
-  -- a send of the member is kept where the receipts so far are
-  send_flag : (b : Bool) (u : List Event) (e : Event) (rest : List Event) → t ≡ u ++ e ∷ rest → member_of (mark_of e) ≡ p
-      → ((d : Determinant) → ¬ (mark_of e ≡ receipt_of d)) → Alive b u → keeps e ≡ b
-  send_flag true u e rest is at_p no_receipt state =
-      follow (mark_of e) (Has-all u e rest is) no_receipt (λ d to earlier. state.0 refl d (to ∙ at_p) (earlier_back u e rest is (receipt_of d) earlier))
-  send_flag false u e rest is at_p no_receipt state = dead u e rest is at_p state
-
-  receipt_flag : (b : Bool) (u : List Event) (e : Event) (rest : List Event) → t ≡ u ++ e ∷ rest → member_of (mark_of e) ≡ p → Alive b u → keeps e ≡ true → b ≡ true
-  receipt_flag true u e rest is at_p state yes' = refl
-  receipt_flag false u e rest is at_p state yes' = (let no' = dead u e rest is at_p state in absurd cc)
-
   orderly_from : (b : Bool) (u rest : List Event) → t ≡ u ++ rest → Alive b u → Orderly b (flagged rest)
   orderly_from b u [] is state = tt
-  orderly_from b u (Send q k to x ∷ rest) is state = at (q == p) refl (orderly_from b (u ++ Send q k to x ∷ []) rest (is ∙ sym (append_assoc u (Send q k to x ∷ []) rest)))
-    where
-      at : (c : Bool) → (q == p) ≡ c → (Alive b (u ++ Send q k to x ∷ []) → Orderly b (flagged rest))
-          → Orderly b (cons_option (option_map (λ (a : Action). (keep (mark.Send q k to), a)) (cond c (Some (sent (to, x))) None)) (flagged rest))
-      at true ec more =
-          let at_p : q ≡ p = grind (arith, nat_tests) in
-          (send_flag b u (Send q k to x) rest is at_p (λ d h. cc) state, more (same_state b u (Send q k to x) (λ d to' h. cc) state))
-      at false ec more = more (same_state b u (Send q k to x) (λ d to' h. cc) state)
-  orderly_from b u (Receipt to r q k ∷ rest) is state = at (to == p) refl (λ c. orderly_from c (u ++ Receipt to r q k ∷ []) rest (is ∙ sym (append_assoc u (Receipt to r q k ∷ []) rest)))
-    where
-      at : (c : Bool) → (to == p) ≡ c → ((v : Bool) → Alive v (u ++ Receipt to r q k ∷ []) → Orderly v (flagged rest))
-          → Orderly b (cons_option (option_map (λ (a : Action). (keep (mark.Receipt to r q k), a)) (action_of t p (Receipt to r q k))) (flagged rest))
-      at true ec more =
-          let at_p : to ≡ p = grind (arith, nat_tests) in
-          let here : slice_get t (length u) ≡ Some (Receipt to r q k) = rw is (At-seam u (Receipt to r q k) rest) in
-          let noted = receipts-noted n t obeys (length u) to r q k here in
-          let alive = receipt_flag b u (Receipt to r q k) rest is at_p state in
-          rw (ec, noted.1) (alive, more (keep (mark.Receipt to r q k)) (next_state b u (Receipt to r q k) at_p alive state))
-      at false ec more = rw ec (more b (same_state b u (Receipt to r q k) elsewhere state))
-        where
-          elsewhere : (d : Determinant) → d.to ≡ p → ¬ (mark.Receipt to r q k ≡ receipt_of d)
-          elsewhere d at_p same =
-              let e1 : to ≡ d.to = cc in
-              let e2 : to ≡ p = e1 ∙ at_p in
-              let e3 : (to == p) ≡ true = grind (arith, nat_tests) in
-              cc
+  orderly_from b u (Send q k to x ∷ rest) is state =
+      let more = orderly_from b (u ++ Send q k to x ∷ []) rest (rw append_assoc is) (same_state b u (Send q k to x) (λ d to' h. cc) state) in
+      elim (cases_eq q p) [
+        | inl own ↦ rw (eq-eqb q p own) (send_flag u (Send q k to x) rest is b own (λ d h. cc) state, more)
+        | inr other ↦ rw (ne_eqb q p other) more
+      ]
+  orderly_from b u (Receipt to r q k ∷ rest) is state =
+      elim (cases_eq to p) [
+        | inl own ↦
+            let noted = receipts-noted n t obeys (length u) to r q k (rw is (At-seam u (Receipt to r q k) rest)) in
+            let alive = receipt_flag u (Receipt to r q k) rest is b own state in
+            rw (eq-eqb to p own, noted.1)
+            (alive, orderly_from (keep (mark.Receipt to r q k)) (u ++ Receipt to r q k ∷ []) rest (rw append_assoc is) (next_state b u (Receipt to r q k) own alive state))
+        | inr other ↦
+            rw (ne_eqb to p other) (orderly_from b (u ++ Receipt to r q k ∷ []) rest (rw append_assoc is) (same_state b u (Receipt to r q k) (λ d at_p same. other (cc)) state))
+      ]
 
   orderly : Orderly true (flagged t)
   orderly = orderly_from true [] t refl (λ yes' d to has. absurd (let here : At [] has.0 (receipt_of d) = has.1 in cc), λ no'. absurd cc)
@@ -278,28 +241,23 @@ module _ (next : Next) (n : ℕ) (starts : List Start) (keep : Mark → Bool) (t
   starts_kept i (Send q k to x) here = follow (mark.Send q k to) (i, at_mark) (λ d h. cc) (λ d to' earlier. absurd (before d earlier))
     where
       at_mark : At (map mark_of t) i (mark.Send q k to)
-      at_mark = slice_get-map mark_of t i ∙ (let e : slice_get t i ≡ Some (Send q k to x) = in_trace i (Send q k to x) here in rw e refl)
+      at_mark = mark-at t i (Send q k to x) (in_trace i (Send q k to x) here)
 
       within : i < length starts
       within = (let below = At-below first i (Send q k to x) here in omega (arith, below, length-take (length starts) t))
 
-      receipt_at : (d : Determinant) (j : ℕ) (o : Option Event) → j < length starts → slice_get t j ≡ o → option_map mark_of o ≡ Some (receipt_of d) → ⊥
-      receipt_at d j None below is h = cc
-      receipt_at d j (Some (Send q' k' to' x')) below is h = cc
-      receipt_at d j (Some (Receipt to' r' q' k')) below is h = no_receipt_first j to' r' q' k' (slice_get-take t (length starts) j (Receipt to' r' q' k') below is)
-
       before : (d : Determinant) → Earlier (map mark_of t) (receipt_of d) (mark.Send q k to) → ⊥
       before d earlier =
           let same = one_place n (map mark_of t) lawful.well_formed (mark.Send q k to) i earlier.1 at_mark earlier.4 in
-          receipt_at d earlier.0 (slice_get t earlier.0) (omega (arith, earlier.2, same, within)) refl (sym (slice_get-map mark_of t earlier.0) ∙ earlier.3)
+          let here = receipt-at t earlier.0 d.to d.rsn d.from d.ssn earlier.3 in
+          no_receipt_first earlier.0 d.to d.rsn d.from d.ssn
+          (slice_get-take t (length starts) earlier.0 (Receipt d.to d.rsn d.from d.ssn) (omega (arith, earlier.2, same, within)) here)
 
   abbrev keeps_event : Event → Bool
   keeps_event e = keep (mark_of e)
 
   begins : filter keeps_event t ≡ first ++ filter keeps_event (drop (length starts) t)
-  begins =
-      ap (filter keeps_event) (sym (take-append-drop (length starts) t)) ∙ filter-append keeps_event first (drop (length starts) t)
-      ∙ ap (λ (ys : List Event). ys ++ filter keeps_event (drop (length starts) t)) (filter_all keeps_event first starts_kept)
+  begins = rw (take-append-drop (length starts) t, filter_all keeps_event first starts_kept) at (filter-append keeps_event first (drop (length starts) t))
 
   same_first : take (length starts) (filter keeps_event t) ≡ first
   same_first =

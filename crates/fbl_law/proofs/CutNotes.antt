@@ -1,8 +1,7 @@
 -- What a cut keeps of notes and actions.
-use Rattle.std.proofs.Common.{◌≡◌, ℕ, ◌==◌, ◌⊎◌, inl, inr, Bool, true, false, List, map, Some, None, slice_get, refl, sym, ◌∙◌, arith}
+use Rattle.std.proofs.Common.{◌≡◌, ℕ, ◌⊎◌, inl, inr, Bool, true, List, map, Some, None, slice_get, refl, sym, ◌∙◌}
 use Rattle.std.specs.List.{filter, filter_map}
-use Rattle.std.proofs.lemmas.Bool.Decides.{nat_tests}
-use Rattle.std.proofs.lemmas.Option.{slice_get-map}
+use Rattle.std.proofs.lemmas.Bool.{cases_eq, ne_eqb}
 use Rattle.fbl_base.specs.declared.trace.Note.{Note}
 use Rattle.fbl_base.specs.declared.trace.Event.{Event}
 use Rattle.fbl_base.specs.declared.trace.Event.TheVariants.{Send, Receipt}
@@ -17,7 +16,7 @@ use Rattle.fbl_base.proofs.LawfulLaws.{receipts-noted}
 use Rattle.fbl_law.specs.Sound.{last_taken}
 use Rattle.fbl_law.proofs.Lists.{filter-At, filter_map-kept}
 use Rattle.fbl_law.proofs.CutWellFormed.{marks-filter, KeepsCauses, WellFormed-kept, map-kept, taken_at}
-use Rattle.fbl_law.proofs.Notes.{noted-sent, sent-noted}
+use Rattle.fbl_law.proofs.Notes.{noted-sent, sent-noted, mark-at}
 
 module _ (n : ℕ) (keep : Mark → Bool) (t : List Event) (obeys : WellFormed n (map mark_of t)) (causes : KeepsCauses keep (map mark_of t)) where
   abbrev left : List Event
@@ -47,27 +46,25 @@ module _ (n : ℕ) (keep : Mark → Bool) (t : List Event) (obeys : WellFormed n
   pub note-stays : (q k : ℕ) (x : Note) → ((e : Mark) → Has (map mark_of t) e → member_of e ≡ q → keep e ≡ true) → note_of t q k ≡ Some x → note_of left q k ≡ Some x
   note-stays q k x all is =
       let sent = noted-sent t q k x is in
-      note-left sent.0 q k sent.1 x sent.2 (all (mark.Send q k sent.1) (sent.0, slice_get-map mark_of t sent.0 ∙ (let h = sent.2 in rw h refl)) refl)
+      note-left sent.0 q k sent.1 x sent.2 (all (mark.Send q k sent.1) (sent.0, mark-at t sent.0 (Send q k sent.1 x) sent.2) refl)
 
   module _ (m : ℕ) (all : (e : Mark) → Has (map mark_of t) e → member_of e ≡ m → keep e ≡ true) where
     Has-mark : (i : ℕ) (e : Event) → slice_get t i ≡ Some e → Has (map mark_of t) (mark_of e)
-    Has-mark i e here = (i, slice_get-map mark_of t i ∙ (rw here refl))
+    Has-mark i e here = (i, mark-at t i e here)
 
     each-action : (i : ℕ) (e : Event) → slice_get t i ≡ Some e
         → ((keep (mark_of e) ≡ true) × (action_of left m e ≡ action_of t m e)) ⊎ ((action_of left m e ≡ None) × (action_of t m e ≡ None))
-    each-action i (Send q k to x) here = at (q == m) refl where
-      at : (b : Bool) → (q == m) ≡ b → ((keep (mark.Send q k to) ≡ true) × (action_of left m (Send q k to x) ≡ action_of t m (Send q k to x)))
-          ⊎ ((action_of left m (Send q k to x) ≡ None) × (action_of t m (Send q k to x) ≡ None))
-      at true is = inl (all (mark.Send q k to) (Has-mark i (Send q k to x) here) (let same : q ≡ m = grind (arith, nat_tests) in same), refl)
-      at false is = inr (rw is refl, rw is refl)
-    each-action i (Receipt to r q k) here = at (to == m) refl where
-      at : (b : Bool) → (to == m) ≡ b → ((keep (mark.Receipt to r q k) ≡ true)
-          × (action_of left m (Receipt to r q k) ≡ action_of t m (Receipt to r q k))) ⊎ ((action_of left m (Receipt to r q k) ≡ None) × (action_of t m (Receipt to r q k) ≡ None))
-      at true is =
-          let kept : keep (mark.Receipt to r q k) ≡ true = all (mark.Receipt to r q k) (Has-mark i (Receipt to r q k) here) (let same : to ≡ m = grind (arith, nat_tests) in same) in
+    each-action i (Send q k to x) here = elim (cases_eq q m) [
+      | inl own ↦ inl (all (mark.Send q k to) (Has-mark i (Send q k to x) here) own, refl)
+      | inr other ↦ inr (rw (ne_eqb q m other) refl, rw (ne_eqb q m other) refl)
+    ]
+    each-action i (Receipt to r q k) here = elim (cases_eq to m) [
+      | inl own ↦
+          let kept = all (mark.Receipt to r q k) (Has-mark i (Receipt to r q k) here) own in
           let place = filter-At (λ e. keep (mark_of e)) t i (Receipt to r q k) here kept in
-          inl (kept, (let same = note-same place.0 to r q k place.1 in rw same refl))
-      at false is = inr (rw is refl, rw is refl)
+          inl (kept, rw (note-same place.0 to r q k place.1) refl)
+      | inr other ↦ inr (rw (ne_eqb to m other) refl, rw (ne_eqb to m other) refl)
+    ]
 
     -- the actions of a member whose events are all kept stay
     pub actions-stay : actions_of left m ≡ actions_of t m

@@ -1,6 +1,6 @@
 -- What a cut of a well-formed trace leaves is well formed.
 use Rattle.std.proofs.Common.{map, ◌≡◌, ℕ, zero, suc, ◌<◌, ◌==◌, not, Bool, true, false, cond, List, [], ◌∷◌, ◌++◌, length, take, inl, inr, ◌⊎◌, arith, refl}
-use Rattle.std.proofs.Common.{ap, ◌∙◌, Option, Some, None, slice_get, count_by}
+use Rattle.std.proofs.Common.{ap, ◌∙◌, Option, Some, slice_get, count_by}
 use Rattle.std.specs.List.{filter, filter_map, list_any}
 use Rattle.std.proofs.lemmas.Bool.Decides.{nat_tests}
 use Rattle.std.proofs.lemmas.List.{append-nil}
@@ -12,11 +12,11 @@ use Rattle.fbl_base.specs.declared.trace.Mark.TheVariants.{Send, Receipt}
 use Rattle.fbl_base.specs.Events.{mark_of, At, member_of, send_of}
 use Rattle.fbl_base.specs.Precedence.{Has, Leads, Precedes, itself, step}
 use Rattle.fbl_base.specs.Rules.{is_send_of, is_receipt_of, sends_of, receipts_of, sent_on, taken_on, in_flight, MayFollow, WellFormed}
-use Rattle.fbl_base.proofs.Gets.{filter_map-At, At-front, At-below, Apart, Apart-filter, Apart-filter_map, slice_get-take}
-use Rattle.fbl_base.proofs.RulesLaws.{WellFormed-keeps, on_channel, is_sent, WellFormed-none, WellFormed-push, WellFormed-take, in_flight-sent, eqb-self}
+use Rattle.fbl_base.proofs.Gets.{filter_map-At, At-front, At-below, Apart, Apart-later, Apart-filter, Apart-filter_map, slice_get-take}
+use Rattle.fbl_base.proofs.RulesLaws.{WellFormed-keeps, on_channel, is_sent, WellFormed-none, WellFormed-push, WellFormed-take, in_flight-sent}
 use Rattle.fbl_base.proofs.InFlightLaws.{sent-number, sent-rises}
 use Rattle.fbl_base.proofs.Sifted.{length-left}
-use Rattle.fbl_law.proofs.Lists.{At-seam, filter-At, filter-passes, filter_map-kept}
+use Rattle.fbl_law.proofs.Lists.{At-seam, filter-At, filter-passes}
 use Rattle.fbl_base.proofs.PrecedenceLaws.{Earlier-front}
 
 -- a kept event is in what is left
@@ -31,31 +31,20 @@ kept-Has keep t e h = filter-passes keep t h.0 e h.1
 count-kept : (keep p : Mark → Bool) (u : List Mark) → ((e : Mark) → Has u e → p e ≡ true → keep e ≡ true) → count_by p (filter keep u) ≡ count_by p u
 count-kept keep p [] all = refl
 count-kept keep p (x ∷ u) all =
-    let rest : count_by p (filter keep u) ≡ count_by p u = count-kept keep p u (λ e h. all e (suc h.0, h.1)) in
-    at (keep x) (p x) refl refl (all x (0, refl)) rest
-  where
-    at : (k c : Bool) → keep x ≡ k → p x ≡ c → (p x ≡ true → keep x ≡ true) → count_by p (filter keep u) ≡ count_by p u
-        → count_by p (filter keep (x ∷ u)) ≡ count_by p (x ∷ u)
-    at true c ek ec h rest = rw (ek, sum_by-cons (λ y. cond (p y) 1 0) x (filter keep u), sum_by-cons (λ y. cond (p y) 1 0) x u) (omega (arith, rest))
-    at false false ek ec h rest = rw (ek, sum_by-cons (λ y. cond (p y) 1 0) x u, ec) (omega (arith, rest))
-    at false true ek ec h rest = absurd (let k = h ec in cc)
+    grind (arith, sum_by-cons (λ y. cond (p y) 1 0) x (filter keep u), sum_by-cons (λ y. cond (p y) 1 0) x u, all x (0, refl), count-kept keep p u (λ e h. all e (suc h.0, h.1)))
 
 -- a part of the events of which each one is kept
 pub map-kept : {Y : Type 0} (keep : Mark → Bool) (g : Mark → Option Y) (u : List Mark) → ((e : Mark) (y : Y) → Has u e → g e ≡ Some y → keep e ≡ true)
     → filter_map g (filter keep u) ≡ filter_map g u
-map-kept {Y} keep g u all = filter_map-kept keep g g u (λ i e here. at e (g e) refl (λ y is. all e y (i, here) is)) where
-  at : (e : Mark) (o : Option Y) → g e ≡ o → ((y : Y) → g e ≡ Some y → keep e ≡ true) → ((keep e ≡ true) × (g e ≡ g e)) ⊎ ((g e ≡ None) × (g e ≡ None))
-  at e None is kept = inr (is, is)
-  at e (Some y) is kept = inl (kept y is, refl)
+map-kept keep g [] all = refl
+map-kept {Y} keep g (x ∷ u) all =
+    let here : (y : Y) → g x ≡ Some y → keep x ≡ true = λ y is. all x y (0, refl) is in
+    grind (arith, here, map-kept keep g u (λ e y h. all e y (suc h.0, h.1)))
 
 -- the two ways to leave events out
 pub marks-filter : (keep : Mark → Bool) (t : List Event) → map mark_of (filter (λ e. keep (mark_of e)) t) ≡ filter keep (map mark_of t)
 marks-filter keep [] = refl
-marks-filter keep (x ∷ t) = at (keep (mark_of x)) (marks-filter keep t) where
-  at : (b : Bool) → map mark_of (filter (λ e. keep (mark_of e)) t) ≡ filter keep (map mark_of t)
-      → map mark_of (cond b (x ∷ filter (λ e. keep (mark_of e)) t) (filter (λ e. keep (mark_of e)) t)) ≡ cond b (mark_of x ∷ filter keep (map mark_of t)) (filter keep (map mark_of t))
-  at true ih = ap (λ (ys : List Mark). mark_of x ∷ ys) ih
-  at false ih = ih
+marks-filter keep (x ∷ t) = grind (arith, marks-filter keep t)
 
 -- what leads to a kept event is kept
 abbrev pub KeepsCauses : (Mark → Bool) → List Mark → Type 0
@@ -69,10 +58,9 @@ Has-before keep t causes (step {b} {c} p l) kept = Has-before keep t causes p (c
 -- the first element that passes
 first_of : (N : ℕ → Bool) (xs : List ℕ) (i x : ℕ) → N x ≡ true → slice_get xs i ≡ Some x → ((y : ℕ) → Apart xs y x → N y ≡ false) → slice_get (filter N xs) 0 ≡ Some x
 first_of N [] i x t here none = cc
-first_of N (z ∷ xs) zero x t here none = (let k : N z ≡ true = (let same : z ≡ x = cc in rw same t) in rw k here)
+first_of N (z ∷ xs) zero x t here none = grind arith
 first_of N (z ∷ xs) (suc i) x t here none =
-    let k : N z ≡ false = none z (0, suc i, omega arith, refl, here) in
-    rw k (first_of N xs i x t here (λ y h. none y (suc h.0, suc h.1, omega (arith, h.2), h.3, h.4)))
+    rw (none z (0, suc i, omega arith, refl, here)) (first_of N xs i x t here (λ y h. none y (Apart-later z xs y x h)))
 
 pub taken_at : (q p y : ℕ) (e : Mark) → taken_on q p e ≡ Some y → member_of e ≡ p
 taken_at q p y (Send from ssn to) h = absurd cc
@@ -80,10 +68,6 @@ taken_at q p y (Receipt to rsn from ssn) h = (on_channel from to q p ssn y h).1
 
 -- an event that may follow a trace may follow what is left of it, where what leads to it is left
 module _ (n : ℕ) (keep : Mark → Bool) (u : List Mark) (obeys : WellFormed n u) where
-  of_member : (p : Mark → Bool) (m : ℕ) → ((e : Mark) → p e ≡ true → member_of e ≡ m) → ((e : Mark) → Has u e → member_of e ≡ m → keep e ≡ true)
-      → (e : Mark) → Has u e → p e ≡ true → keep e ≡ true
-  of_member p m at_m all e h yes' = all e h (at_m e yes')
-
   sends_at : (m : ℕ) (e : Mark) → is_send_of m e ≡ true → member_of e ≡ m
   sends_at m (Send from ssn to) h = grind (arith, nat_tests)
   sends_at m (Receipt to rsn from ssn) h = absurd cc
@@ -101,7 +85,7 @@ module _ (n : ℕ) (keep : Mark → Bool) (u : List Mark) (obeys : WellFormed n 
       omega (arith, number.3, below)
 
   sent_on-send : (q s p : ℕ) → sent_on q p (Send q s p) ≡ Some s
-  sent_on-send q s p = (let e : (q == q) ≡ true = eqb-self q in let g : (p == p) ≡ true = eqb-self p in rw (e, g))
+  sent_on-send q s p = grind (arith, nat_tests)
 
   abbrev untaken : ℕ → ℕ → ℕ → Bool
   untaken q p x = not (list_any (λ taken. taken == x) (filter_map (taken_on q p) u))
@@ -140,11 +124,10 @@ module _ (n : ℕ) (keep : Mark → Bool) (u : List Mark) (obeys : WellFormed n 
 
   MayFollow-kept : (e : Mark) → MayFollow n u e → ((a : Mark) → Has u a → (member_of a ≡ member_of e) ⊎ (send_of e ≡ Some a) → keep a ≡ true) → MayFollow n (filter keep u) e
   MayFollow-kept (Send from ssn to) may causes =
-      let count : sends_of (filter keep u) from ≡ sends_of u from = count-kept keep (is_send_of from) u (of_member (is_send_of from) from (sends_at from) (λ a h same. causes a h (inl same))) in
+      let count : sends_of (filter keep u) from ≡ sends_of u from = count-kept keep (is_send_of from) u (λ a h own. causes a h (inl (sends_at from a own))) in
       (may.0, may.1, may.2, omega (arith, may.3, count), omega (arith, may.4, length-left keep u))
   MayFollow-kept (Receipt to rsn from ssn) may causes =
-      let count : receipts_of (filter keep u) to ≡ receipts_of u to =
-      count-kept keep (is_receipt_of to) u (of_member (is_receipt_of to) to (receipts_at to) (λ a h same. causes a h (inl same))) in (
+      let count : receipts_of (filter keep u) to ≡ receipts_of u to = count-kept keep (is_receipt_of to) u (λ a h own. causes a h (inl (receipts_at to a own))) in (
         may.0,
         may.1,
         may.2,

@@ -1,14 +1,14 @@
 -- A closed record always has each receipt held.
-use Rattle.std.proofs.Common.{◌≡◌, ℕ, zero, suc, ◌<◌, Bool, true, false, List, [], ◌∷◌, length, inl, inr, ◌⊎◌, arith, refl, subst, ap, ◌∙◌}
+use Rattle.std.proofs.Common.{◌≡◌, ℕ, zero, suc, ◌<◌, List, [], ◌∷◌, length, inl, inr, ◌⊎◌, arith, refl, subst, ap, ◌∙◌}
 use Rattle.std.specs.Ordering.{nat_cmp}
 use Rattle.std.specs.FinSet as set
-use Rattle.std.proofs.lemmas.Bool.{cases_lt, cases_eq}
+use Rattle.std.proofs.lemmas.Bool.{cases_lt, cases_eq, cases_Bool}
 use Rattle.fbl_base.specs.declared.trace.Determinant.{Determinant}
 use Rattle.fbl_base.specs.Events.{same_determinant}
 use Rattle.fbl_base.proofs.Recorded.{Decides-same_determinant}
 use Rattle.fbl_base.proofs.Sizes.{len-remove_one, some_member, len-within}
 use Rattle.fbl_table.specs.declared.entry.Entry.{Entry}
-use Rattle.fbl_law.specs.Knowledge.{in_table, Includes, Knowledge, table, checkpoint, IsUp, Names, Holds, IsRecorded, IsHolder, IsStable, IsClosed, IsAlwaysHeld}
+use Rattle.fbl_law.specs.Knowledge.{in_table, Includes, Knowledge, table, checkpoint, Names, Holds, IsRecorded, IsHolder, IsStable, IsClosed, IsAlwaysHeld}
 use Rattle.fbl_law.proofs.Lists.{Contains-here, Contains-there, Contains-cons_cases, Contains-none}
 use Rattle.fbl_law.proofs.Safe.{down_or_up, never_both}
 use Rattle.fbl_law.proofs.Tables.{Includes-insert, Includes-insert_cases, Includes-union, Includes-left, Includes-right, named_record}
@@ -24,10 +24,10 @@ Known-and P Q (inl p) (inr q) = inr (λ h. q h.1)
 Known-and P Q (inr p) q = inr (λ h. p h.0)
 
 Known-same : (a b : Determinant) → Known (a ≡ b)
-Known-same a b = at (same_determinant a b) refl where
-  at : (v : Bool) → same_determinant a b ≡ v → Known (a ≡ b)
-  at true is = inl ((Decides-same_determinant a b).0 is)
-  at false is = inr (λ same. let yes' = (Decides-same_determinant a b).1 same in cc)
+Known-same a b = elim (cases_Bool (same_determinant a b)) [
+  | inl is ↦ inl ((Decides-same_determinant a b).0 is)
+  | inr is ↦ inr (λ same. let told = (Decides-same_determinant a b).1 same in cc)
+]
 
 Known-names : (xs : List Entry) (d : Determinant) → Known (Names xs d)
 Known-names [] d = inr (λ h. Contains-none h.0 h.1)
@@ -40,19 +40,16 @@ Known-names (x ∷ xs) d =
       ]
     ]
 
-Includes-insert_other : (s : Members) (k m : ℕ) → Includes s m → Includes (set.insert s k) m
-Includes-insert_other s k m h = elim (cases_eq m k) [ inl same ↦ rw same (Includes-insert s k) | inr other ↦ contains-insert_other s k m other ∙ h ]
-
 -- the set of the members below n at which P holds
 set_of : (n : ℕ) (P : ℕ → Type 0) → ((m : ℕ) → Known (P m)) → (s : Members) × ((m : ℕ) → Includes s m → P m) × ((m : ℕ) → m < n → P m → Includes s m)
-set_of zero P decide = (set.empty, λ m h. absurd (let none : set.contains set.empty m ≡ false = set.contains-empty nat_cmp m in cc), λ m below p. absurd (omega arith))
+set_of zero P decide = (set.empty, λ m h. never_both set.empty m h (set.contains-empty nat_cmp m), λ m below p. absurd (omega arith))
 set_of (suc n) P decide =
     let rest = set_of n P decide in
     elim (decide n) [
       | inl here ↦ (
         set.insert rest.0 n,
         λ m h. elim (Includes-insert_cases rest.0 n m h) [ inl same ↦ rw same here | inr was ↦ rest.1 m was ],
-        λ m below p. elim (cases_eq m n) [ inl same ↦ rw same (Includes-insert rest.0 n) | inr other ↦ Includes-insert_other rest.0 n m (rest.2 m (omega arith) p) ],
+        λ m below p. elim (cases_eq m n) [ inl same ↦ rw same (Includes-insert rest.0 n) | inr other ↦ contains-insert_other rest.0 n m other ∙ rest.2 m (omega arith) p ],
       )
       | inr none ↦ (rest.0, rest.1, λ m below p. elim (cases_eq m n) [ inl same ↦ absurd (none (subst P same p)) | inr other ↦ rest.2 m (omega arith) p ])
     ]
@@ -62,10 +59,7 @@ some_has s m has = omega (arith, len-remove_one s m has)
 
 module _ (f : ℕ) (r : Knowledge) (d : Determinant) where
   Known-holds : (m : ℕ) → Known (Holds r d m)
-  Known-holds m = Known-and _ _ (known_up (down_or_up r.down m)) (Known-names (table r m) d) where
-    known_up : Includes r.down m ⊎ (set.contains r.down m ≡ false) → Known (IsUp r m)
-    known_up (inl down) = inr (λ up. never_both r.down m down up)
-    known_up (inr up) = inl up
+  Known-holds m = elim (down_or_up r.down m) [ inl down ↦ inr (λ holds. never_both r.down m down holds.0) | inr up ↦ Known-and _ _ (inl up) (Known-names (table r m) d) ]
 
   -- where the set has exactly the holders, it tells whether the determinant is stable
   told : (s : Members) → ((m : ℕ) → Includes s m → IsHolder r d m) → ((m : ℕ) → IsHolder r d m → Includes s m) → Known (IsStable f r d)

@@ -1,14 +1,12 @@
 -- A delivery keeps knowledge sound.
-use Rattle.std.proofs.Common.{◌≡◌, ℕ, arith, Bool, true, false, List, [], ◌∷◌, inl, inr, ◌⊎◌, refl, sym, subst, ap, ◌∙◌, zero, suc, Some, cond, map, drop, ◌&&◌, ◌==◌}
+use Rattle.std.proofs.Common.{◌≡◌, ℕ, arith, List, [], ◌∷◌, inl, inr, ◌⊎◌, refl, sym, subst, ap, ◌∙◌, zero, suc, Some, map, ◌&&◌, ◌==◌}
 use Rattle.std.specs.List.{Contains}
 use Rattle.std.specs.FinSet as set
-use Rattle.std.proofs.lemmas.Bool.{cases_eq}
+use Rattle.std.proofs.lemmas.Bool.{cases_eq, cases_Bool}
 use Rattle.fbl_base.specs.declared.trace.Determinant.{Determinant}
 use Rattle.fbl_base.specs.declared.trace.Mark.{Mark}
-use Rattle.fbl_base.specs.Events.{At, member_of, send_of, determinant_of}
+use Rattle.fbl_base.specs.Events.{At, member_of, send_of, determinant_of, receipt_of}
 use Rattle.fbl_base.specs.Precedence.{Has, Precedes}
-use Rattle.fbl_base.specs.Events.{receipt_of}
-use Rattle.std.specs.Ordering.{nat_cmp}
 use Rattle.std.proofs.lemmas.Option.{same_Some}
 use Rattle.std.proofs.lemmas.List.Elements.{Contains-append_cases}
 use Rattle.fbl_base.specs.Rules.{is_send_of, is_receipt_of}
@@ -25,18 +23,15 @@ use Rattle.fbl_law.proofs.Appended.{Has-append, Has-behind, disjoint, Precedes-w
 use Rattle.fbl_law.proofs.Lists.{Contains-at, Contains-there, Contains-from_filter}
 use Rattle.fbl_law.proofs.Channels.{AreSent-matched, made-Has, channel-delivered}
 use Rattle.fbl_law.proofs.Numbered.{count-grown, added-later}
-use Rattle.fbl_law.proofs.Safe.{never_both, nobody_down_empty, recorded_holder, IsRecorded-held}
+use Rattle.fbl_law.proofs.Safe.{never_both, nobody_down_empty, up_if_none, recorded_holder, IsRecorded-held}
 use Rattle.fbl_law.proofs.Keeping.{KeepsKnowledge, IsSoundAt, NamesCauses-kept, IsTrueEntry-kept, sound_kept, sound_passed, truth_everywhere, closed_everywhere}
 use Rattle.fbl_law.proofs.Tables.{Includes-insert, Includes-insert_cases, Includes-only, Includes-union, Includes-left, Names-learned_kept, Names-learned_gained, Names-noted_kept}
 use Rattle.fbl_law.proofs.Tables.{Names-noted, Contains-noted, Names-from_table, learned-keeps}
 
 -- what is left of a channel was in it
 pub taken_off-was : (v : Message) (q p : ℕ) (xs : List Message) (x : Message) → Contains (taken_off v q p xs) x → Contains xs x
-taken_off-was v q p xs x h = at (v.from == q && v.to == p) xs h where
-  at : (b : Bool) (ys : List Message) → Contains (cond b (drop 1 ys) ys) x → Contains ys x
-  at false ys g = g
-  at true [] g = g
-  at true (y ∷ ys) g = Contains-there y ys x g
+taken_off-was v q p [] x h = elim (cases_Bool (v.from == q && v.to == p)) [ inl is ↦ rw is at h | inr is ↦ rw is at h ]
+taken_off-was v q p (y ∷ xs) x h = elim (cases_Bool (v.from == q && v.to == p)) [ inl is ↦ Contains-there y xs x (rw is at h) | inr is ↦ rw is at h ]
 
 -- a receipt names its determinant
 receipt_names : (c d : Determinant) → receipt_of c ≡ receipt_of d → c ≡ d
@@ -50,10 +45,10 @@ module _ (n f : ℕ) (old new : Knowledge) (v : Message) (rsn : ℕ) (made : Lis
   added = receipt_of own ∷ map send_mark made
 
   up : (m : ℕ) → IsUp new m
-  up m = rw s.down (set.contains-empty nat_cmp m)
+  up = up_if_none s.down
 
   was_up : (m : ℕ) → IsUp old m
-  was_up m = rw s.nobody_down (set.contains-empty nat_cmp m)
+  was_up = up_if_none s.nobody_down
 
   flies : IsInFlight old v
   flies = Contains-at (old.channel v.from v.to) 0 v s.front

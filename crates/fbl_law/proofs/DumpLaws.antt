@@ -1,9 +1,9 @@
 -- Dumps of a sound group.
 use Rattle.std.proofs.Common.{◌≡◌, ℕ, zero, suc, ◌+◌, ◌*◌, ◌<◌, ◌≤◌, List, [], ◌∷◌, ◌++◌, length, map, inl, inr, Some, slice_get, get_or, refl, sym}
-use Rattle.std.proofs.Common.{subst, ap, ◌∙◌, arith, append_assoc, append-nil, length-append}
+use Rattle.std.proofs.Common.{subst, ap, arith, append_assoc, append-nil, length-append}
 use Rattle.std.specs.List.{Contains, IsDistinct}
-use Rattle.std.specs.Bool.{Decides}
 use Rattle.std.specs.Cmp.{IsEquivalence}
+use Rattle.std.proofs.Math.Nat.{add-zero, zero-add}
 use Rattle.std.proofs.lemmas.Bool.Decides.{same_from_decides}
 use Rattle.std.proofs.lemmas.List.{length-map}
 use Rattle.std.proofs.lemmas.List.Elements.{Contains-append_left, Contains-append_right}
@@ -31,10 +31,10 @@ use Rattle.fbl_law.proofs.GroupFacts.{named_received, carried_received, trace_fi
 
 -- one more member
 pub pairs_from-push : (m : ℕ) (members : List MemberRecord) (x : MemberRecord) → pairs_from m (members ++ x ∷ []) ≡ pairs_from m members ++ pairs_of (m + length members) x.table
-pairs_from-push m [] x = (let e : m + 0 ≡ m = omega arith in rw e (append-nil (pairs_of m x.table)))
+pairs_from-push m [] x = simp (append-nil, add-zero)
 pairs_from-push m (y ∷ members) x =
-    let e : m + suc (length members) ≡ m + 1 + length members = omega arith in
-    rw e (ap (λ ps. pairs_of m y.table ++ ps) (pairs_from-push (m + 1) members x) ∙ sym (append_assoc (pairs_of m y.table) (pairs_from (m + 1) members) (pairs_of (m + 1 + length members) x.table)))
+    let next : m + suc (length members) ≡ m + 1 + length members = omega arith in
+    simp (next, pairs_from-push (m + 1) members x, append_assoc)
 
 -- a held pair has a member and a determinant of its table
 pairs_of-At : (m : ℕ) (entries : List Entry) (i : ℕ) (h : ℕ × Determinant) → slice_get (pairs_of m entries) i ≡ Some h → (h.0 ≡ m) × Names entries h.1
@@ -58,21 +58,20 @@ pairs_of-Names m entries d named = subst (λ x. Contains (pairs_of m entries) (m
 pairs_from-Names : (m : ℕ) (members : List MemberRecord) (j : ℕ) (d : Determinant) → Names (get_or members j blank).table d → Contains (pairs_from m members) (m + j, d)
 pairs_from-Names m [] j d named = absurd (Contains-none named.0 named.1)
 pairs_from-Names m (x ∷ members) zero d named =
-    (let e : m + 0 ≡ m = omega arith in rw e (Contains-append_left (pairs_of m x.table) (pairs_from (m + 1) members) (m, d) (pairs_of-Names m x.table d named)))
+    rw (add-zero m) (Contains-append_left (pairs_of m x.table) (pairs_from (m + 1) members) (m, d) (pairs_of-Names m x.table d named))
 pairs_from-Names m (x ∷ members) (suc j) d named =
     (let e : m + suc j ≡ m + 1 + j = omega arith in rw e (Contains-append_right (pairs_of m x.table) (pairs_from (m + 1) members) (m + 1 + j, d) (pairs_from-Names (m + 1) members j d named)))
 
 pub held_pairs-Names : (r : GroupRecord) (q : ℕ) (d : Determinant) → Names (member r q).table d → Contains (held_pairs r) (q, d)
-held_pairs-Names r q d named = (let e : 0 + q ≡ q = omega arith in (rw e at (pairs_from-Names 0 r.members q d named)))
+held_pairs-Names r q d named = rw (zero-add q) at (pairs_from-Names 0 r.members q d named)
 
 equivalence : IsEquivalence same_determinant
 equivalence = record {
   refl = λ x. (Decides-same_determinant x x).1 refl;
-  symm = λ x y. same_from_decides (same_determinant x y) (same_determinant y x) (Decides-same_determinant x y) (turned x y);
-  congr = λ x y z same. (let e : x ≡ y = (Decides-same_determinant x y).0 same in rw e refl);
-} where
-  turned : (x y : Determinant) → Decides (same_determinant y x) (x ≡ y)
-  turned x y = (λ is. sym ((Decides-same_determinant y x).0 is), λ same. (Decides-same_determinant y x).1 (sym same))
+  symm = λ x y. same_from_decides (same_determinant x y) (same_determinant y x) (Decides-same_determinant x y)
+      (λ is. sym ((Decides-same_determinant y x).0 is), λ same. (Decides-same_determinant y x).1 (sym same));
+  congr = λ x y z same. rw ((Decides-same_determinant x y).0 same) refl;
+}
 
 -- a receipt of the trace is among its receipts
 Contains-receipts : (t : List Mark) (d : Determinant) → Has t (receipt_of d) → Contains (receipts t) d

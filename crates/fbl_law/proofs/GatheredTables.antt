@@ -1,5 +1,5 @@
 -- What gathered tables have.
-use Rattle.std.proofs.Common.{◌≡◌, ℕ, zero, suc, ◌+◌, ◌<◌, Bool, true, false, cond, List, [], ◌∷◌, ◌++◌, length, take, map, inl, inr, ◌⊎◌, arith, refl, sym}
+use Rattle.std.proofs.Common.{◌≡◌, ℕ, zero, suc, ◌+◌, ◌<◌, cond, List, [], ◌∷◌, ◌++◌, length, take, map, inl, inr, ◌⊎◌, arith, refl, sym}
 use Rattle.std.proofs.Common.{get_or, subst, ap, ◌∙◌}
 use Rattle.std.proofs.lemmas.Bool.{cases_eq}
 use Rattle.std.specs.Prelude.{slice_index_or}
@@ -47,9 +47,8 @@ Contains-saved : (s : Members) (checkpoints : List MemberRecord) (n m : ℕ) →
 Contains-saved s checkpoints zero m below among = absurd (omega arith)
 Contains-saved s checkpoints (suc n) m below among =
     elim (cases_eq m n) [
-      | inl same ↦
-          Contains-append_right (saved_tables s checkpoints n) _ (get_or checkpoints m blank).table
-          (let here : set.contains s n ≡ true = ap (λ k. set.contains s k) (sym same) ∙ among in rw (here, same) (Contains-here (get_or checkpoints n blank).table []))
+      | inl same ↦ rw same (Contains-append_right (saved_tables s checkpoints n) _ (get_or checkpoints n blank).table
+          (let here = rw same at among in rw here (Contains-here (get_or checkpoints n blank).table [])))
       | inr other ↦ Contains-append_left (saved_tables s checkpoints n) _ (get_or checkpoints m blank).table (Contains-saved s checkpoints n m (omega arith) among)
     ]
 
@@ -58,12 +57,11 @@ saved-Contains s checkpoints zero t among = absurd (Contains-none t among)
 saved-Contains s checkpoints (suc n) t among =
     elim (Contains-append_cases (saved_tables s checkpoints n) (cond (set.contains s n) ((get_or checkpoints n blank).table ∷ []) []) t among) [
       | inl before ↦ saved-Contains s checkpoints n t before
-      | inr last ↦ (n, one (set.contains s n) last)
+      | inr last ↦ elim (down_or_up s n) [
+        | inl is ↦ elim (Contains-cons_cases (get_or checkpoints n blank).table [] t (rw is at last)) [ inl first ↦ (n, first) | inr none ↦ absurd (Contains-none t none) ]
+        | inr is ↦ absurd (Contains-none t (rw is at last))
+      ]
     ]
-  where
-    one : (b : Bool) → Contains (cond b ((get_or checkpoints n blank).table ∷ []) []) t → (get_or checkpoints n blank).table ≡ t
-    one true h = elim (Contains-cons_cases (get_or checkpoints n blank).table [] t h) [ inl first ↦ first | inr none ↦ absurd (Contains-none t none) ]
-    one false h = absurd (Contains-none t h)
 
 -- an up member, or a checkpoint, knows that the member m holds the entry's determinant
 abbrev pub KnowsHolder : Knowledge → Entry → ℕ → Type 0
@@ -118,6 +116,9 @@ module _ (f : ℕ) (r : Knowledge) (empty : IsDownEmpty f r) where
         (λ m down. Includes-right was.0.known r.down m down),
         λ m h. elim (Includes-union was.0.known r.down m h) [ inl told ↦ inr (known.1 m told) | inr down ↦ inl down ],
       )
+
+  pub gathered_recorded : (d : Determinant) → Names (recovery_table r) d → IsRecorded r d
+  gathered_recorded d named = subst (λ (c : Determinant). IsRecorded r c) named.2 (entries_gathered named.0 named.1).0
 
   source_gathered : (t : List Entry) (d : Determinant) → Contains sources t → Names t d → Names (recovery_table r) d
   source_gathered t d among named = Names-changed (mark r.down) (λ e. refl) (gathered_all [] sources) d (gathered_all-named [] sources t d among named)

@@ -1,21 +1,19 @@
 -- What checkpoints of a group record, and that a checkpoint keeps a group sound.
-use Rattle.std.proofs.Common.{◌≡◌, ◌≢◌, ℕ, ◌<◌, length, inl, inr, refl, sym, ap, ◌∙◌, arith, subst}
+use Rattle.std.proofs.Common.{◌≡◌, ◌≢◌, ℕ, ◌<◌, inl, inr, refl, sym, ◌∙◌, arith, subst}
 use Rattle.std.specs.Prelude.{slice_set}
-use Rattle.std.specs.FinSet as sets
-use Rattle.std.specs.Ordering.{nat_cmp}
 use Rattle.std.proofs.lemmas.Bool.{cases_eq}
 use Rattle.std.proofs.lemmas.List.{length-set, get_or-set_same, get_or-set_other}
 use Rattle.fbl_base.specs.Events.{receipt_of}
 use Rattle.fbl_base.specs.Fold.{Next}
 use Rattle.fbl_base.specs.Precedence.{itself}
-use Rattle.fbl_member.specs.Members.{MemberRecord, blank}
+use Rattle.fbl_member.specs.Members.{blank}
 use Rattle.fbl_law.specs.Knowledge.{IsUp}
 use Rattle.fbl_law.specs.Steps.{IsCheckpointed}
 use Rattle.fbl_law.specs.Groups.{GroupRecord, member, member_checkpoint, knowledge}
 use Rattle.fbl_law.specs.Sound.{IsFold, IsReplayed, IsSound}
 use Rattle.fbl_law.specs.GroupSteps.{IsCheckpoint}
 use Rattle.fbl_law.specs.GroupLaws.{GroupCheckpointKeeps, CheckpointIsRecorded}
-use Rattle.fbl_law.proofs.Safe.{IsRecorded-reached}
+use Rattle.fbl_law.proofs.Safe.{up_if_none, IsRecorded-reached}
 use Rattle.fbl_law.proofs.Checkpoint.{checkpoint_keeps}
 use Rattle.fbl_law.proofs.GroupFacts.{received_counted, log_counted}
 use Rattle.fbl_law.proofs.ReplayedRecords.{fold-replayed}
@@ -33,7 +31,7 @@ module _ (next : Next) (old new : GroupRecord) (p : ℕ) (s : IsCheckpoint old n
   now = record old { checkpoints = slice_set old.checkpoints p (member old p) }
 
   up : (m : ℕ) → IsUp (knowledge old) m
-  up m = rw s.nobody_down (sets.contains-empty nat_cmp m)
+  up = up_if_none s.nobody_down
 
   own : member_checkpoint now p ≡ member old p
   own = get_or-set_same old.checkpoints p (member old p) blank (omega (arith, s.below, sound.checkpoints))
@@ -48,9 +46,9 @@ module _ (next : Next) (old new : GroupRecord) (p : ℕ) (s : IsCheckpoint old n
     trace = refl;
     tables = λ m. refl;
     channels = λ q m. refl;
-    table = ap (λ (x : MemberRecord). x.table) own;
-    receipts = ap (λ (x : MemberRecord). x.received) own ∙ received_counted next old sound p s.below (up p);
-    sends = ap (λ (x : MemberRecord). length x.log) own ∙ log_counted next old sound p s.below (up p);
+    table = rw own refl;
+    receipts = rw own (received_counted next old sound p s.below (up p));
+    sends = rw own (log_counted next old sound p s.below (up p));
     others = other;
   }
 

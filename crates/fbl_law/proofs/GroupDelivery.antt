@@ -1,11 +1,9 @@
 -- A delivery keeps a group sound.
-use Rattle.std.proofs.Common.{◌≡◌, ◌≢◌, ℕ, suc, ◌+◌, ◌<◌, ◌≤◌, ◌==◌, ◌&&◌, Bool, true, false, cond, List, [], ◌∷◌, ◌++◌, length, map, inl, inr}
-use Rattle.std.proofs.Common.{Some, None, slice_get, get_or, refl, sym, ap, ◌∙◌, arith, append-nil, length-append}
-use Rattle.std.specs.List.{Contains, filter, filter_map, cons_option, fold}
-use Rattle.std.specs.Ordering.{nat_cmp}
+use Rattle.std.proofs.Common.{◌≡◌, ◌≢◌, ℕ, suc, ◌+◌, ◌<◌, ◌≤◌, ◌==◌, ◌&&◌, false, cond, List, [], ◌∷◌, ◌++◌, length, map, inl, inr}
+use Rattle.std.proofs.Common.{Some, slice_get, refl, sym, ap, ◌∙◌, arith, append-nil, length-append}
+use Rattle.std.specs.List.{Contains, filter, filter_map, fold}
 use Rattle.std.specs.FinSet as sets
-use Rattle.std.proofs.lemmas.Bool.{cases_eq, and_right}
-use Rattle.std.proofs.lemmas.Bool.Decides.{nat_tests}
+use Rattle.std.proofs.lemmas.Bool.{cases_eq, ne_eqb, and_right}
 use Rattle.std.proofs.lemmas.List.{map-append, length-set, get_or-set_same, get_or-set_other}
 use Rattle.std.proofs.lemmas.List.Elements.{filter-append, filter_map-append, Contains-append_cases}
 use Rattle.fbl_base.specs.declared.trace.Determinant.{Determinant}
@@ -16,8 +14,9 @@ use Rattle.fbl_base.specs.declared.trace.Mark.{Mark}
 use Rattle.fbl_base.specs.declared.trace.Mark.TheVariants.{Send, Receipt}
 use Rattle.fbl_base.specs.Events.{mark_of, determinant_of}
 use Rattle.fbl_base.specs.Rules.{taken_on, sends_of, MayFollow}
-use Rattle.fbl_base.specs.Fold.{Next, Progress, Lawful, after_notes, advanced, note_of, step_events}
-use Rattle.fbl_base.proofs.FoldLaws.{after_notes-push, after_notes-state}
+use Rattle.fbl_base.specs.Fold.{Next, Lawful, after_notes, advanced, note_of, step_events}
+use Rattle.fbl_base.proofs.FoldLaws.{after_notes-push}
+use Rattle.fbl_base.proofs.RulesLaws.{eqb-self}
 use Rattle.fbl_base.proofs.LawfulLaws.{Lawful-deliver, Lawful-begun, note_of-front, receipts-noted}
 use Rattle.fbl_table.specs.declared.entry.Entry.{Entry}
 use Rattle.fbl_table.specs.Tables.{piggybacked}
@@ -29,13 +28,13 @@ use Rattle.fbl_law.specs.Sound.{IsFold, IsReplayed, IsSound, received_notes, rec
 use Rattle.fbl_law.specs.GroupSteps.{IsDelivery, step_of, receiver, made, delivery_events}
 use Rattle.fbl_law.specs.GroupLaws.{SendsWell, GroupDeliveryKeeps}
 use Rattle.fbl_law.proofs.Lists.{Contains-cons_cases, Contains-none, Contains-from_filter, At-behind}
-use Rattle.fbl_law.proofs.Safe.{never_both}
+use Rattle.fbl_law.proofs.Safe.{never_both, up_if_none}
 use Rattle.fbl_law.proofs.Delivery.{taken_off-was, delivery_keeps}
 use Rattle.fbl_law.proofs.Grown.{received_notes-delivered}
 use Rattle.fbl_law.proofs.Notes.{sent-noted}
 use Rattle.fbl_law.proofs.InOrder.{last_taken-push, last_taken-same}
 use Rattle.fbl_law.proofs.ReplayedRecords.{replayed-grown}
-use Rattle.fbl_law.proofs.GroupFacts.{log_counted, front_flight, front_may_follow}
+use Rattle.fbl_law.proofs.GroupFacts.{up_state, log_counted, front_flight, front_may_follow}
 
 -- the events of a step are the sends of its messages
 marks_made : (p before : ℕ) (carried : List Entry) (sends : List (ℕ × Note)) → map mark_of (step_events p before sends) ≡ map send_mark (messages_from p before carried sends)
@@ -78,7 +77,7 @@ module _ (next : Next) (old new : GroupRecord) (v : Message) (well : SendsWell n
   added = delivery_events next old v
 
   was_up : (m : ℕ) → IsUp (knowledge old) m
-  was_up m = rw s.nobody_down (sets.contains-empty nat_cmp m)
+  was_up = up_if_none s.nobody_down
 
   nobody_down : new.down ≡ sets.empty
   nobody_down = s.down ∙ s.nobody_down
@@ -87,7 +86,7 @@ module _ (next : Next) (old new : GroupRecord) (v : Message) (well : SendsWell n
   flies = (front_flight next old sound v.from v.to v s.front).0
 
   longer : length new.trace ≡ length old.trace + suc (length sends)
-  longer = ap length s.trace ∙ length-append old.trace added ∙ ap (λ k. length old.trace + suc k) (length-step_events v.to (length was.log) sends)
+  longer = rw (s.trace, length-append old.trace added, length-step_events v.to (length was.log) sends) refl
 
   room : length old.trace + 1 + length sends ≤ 8192
   room = omega (arith, longer, s.room, sound.config.limit.1)
@@ -102,7 +101,7 @@ module _ (next : Next) (old new : GroupRecord) (v : Message) (well : SendsWell n
   fold_was = sound.folds v.to s.to_member (was_up v.to)
 
   answer : sends ≡ (next v.to n (fold (λ state x. (next v.to n state x).state) 0 (received_notes old.trace v.to)) v.note).sends.items
-  answer = ap (λ (k : ℕ). (next v.to n k v.note).sends.items) (ap (λ (p : Progress). p.state) fold_was.progress ∙ after_notes-state next v.to n old.config.starts (received_notes old.trace v.to))
+  answer = ap (λ (k : ℕ). (next v.to n k v.note).sends.items) (up_state next old sound v.to s.to_member (was_up v.to))
 
   before : length was.log ≡ sends_of (marks old) v.to
   before = log_counted next old sound v.to s.to_member (was_up v.to)
@@ -113,16 +112,22 @@ module _ (next : Next) (old new : GroupRecord) (v : Message) (well : SendsWell n
       (Lawful-deliver next n old.config.starts old.trace v.to (was.received + 1) v.from v.ssn v.note sends sound.lawful may noted answer
       (well v.to n was.state v.note sound.config.members.0 s.to_member).0 room (Lawful-begun next n old.config.starts old.trace sound.lawful))
 
+  abbrev added_marks : List Mark
+  added_marks = map mark_of added
+
+  marks_split : marks new ≡ marks old ++ added_marks
+  marks_split = rw s.trace (map-append mark_of old.trace added)
+
   marks_now : marks new ≡ marks old ++ Receipt v.to (was.received + 1) v.from v.ssn ∷ map send_mark (made next old v)
   marks_now =
-      ap (map mark_of) s.trace ∙ map-append mark_of old.trace added
+      marks_split
       ∙ ap (λ ms. marks old ++ Receipt v.to (was.received + 1) v.from v.ssn ∷ ms) (marks_made v.to (length was.log) (piggybacked old.config.f (receiver next old v).table) sends)
 
   receiver_now : member new v.to ≡ receiver next old v
-  receiver_now = ap (λ ms. get_or ms v.to blank) s.members ∙ get_or-set_same old.members v.to (receiver next old v) blank (omega (arith, s.to_member, sound.members))
+  receiver_now = rw s.members (get_or-set_same old.members v.to (receiver next old v) blank (omega (arith, s.to_member, sound.members)))
 
   other_now : (m : ℕ) → m ≢ v.to → member new m ≡ member old m
-  other_now m other = ap (λ ms. get_or ms m blank) s.members ∙ get_or-set_other old.members v.to m (receiver next old v) blank other
+  other_now m other = rw s.members (get_or-set_other old.members v.to m (receiver next old v) blank other)
 
   pub is_delivered : IsDelivered n old.config.f (knowledge old) (knowledge new) v (was.received + 1) (made next old v)
   is_delivered = record {
@@ -142,36 +147,22 @@ module _ (next : Next) (old new : GroupRecord) (v : Message) (well : SendsWell n
 
   notes_now : (m : ℕ) → received_notes new.trace m ≡ received_notes old.trace m ++ cond (v.to == m) (v.note ∷ []) []
   notes_now m =
-      ap (λ t. received_notes t m) s.trace
-      ∙ received_notes-delivered old.trace v.to (was.received + 1) v.from v.ssn (length was.log) v.note sends m (receipts-noted n old.trace sound.lawful.well_formed) noted
-
-  abbrev added_marks : List Mark
-  added_marks = map mark_of added
-
-  marks_split : marks new ≡ marks old ++ added_marks
-  marks_split = ap (map mark_of) s.trace ∙ map-append mark_of old.trace added
+      rw s.trace
+      (received_notes-delivered old.trace v.to (was.received + 1) v.from v.ssn (length was.log) v.note sends m (receipts-noted n old.trace sound.lawful.well_formed) noted)
 
   taken_now : (q m : ℕ) → filter_map (taken_on q m) added_marks ≡ cond (v.from == q && v.to == m) (v.ssn ∷ []) []
-  taken_now q m = at (v.from == q && v.to == m) where
-    at : (b : Bool) → cons_option (cond b (Some v.ssn) None) (filter_map (taken_on q m) (map mark_of (step_events v.to (length was.log) sends))) ≡ cond b (v.ssn ∷ []) []
-    at true = ap (λ ks. v.ssn ∷ ks) (none_taken q m v.to (length was.log) sends)
-    at false = none_taken q m v.to (length was.log) sends
+  taken_now q m = rw (none_taken q m v.to (length was.log) sends) grind arith
 
   last_same : (q m : ℕ) → (v.from == q && v.to == m) ≡ false → last_taken (marks new) q m ≡ last_taken (marks old) q m
-  last_same q m off = ap (λ t. last_taken t q m) marks_split ∙ last_taken-same (marks old) added_marks q m (taken_now q m ∙ ap (λ b. cond b (v.ssn ∷ []) []) off)
+  last_same q m off = rw marks_split (last_taken-same (marks old) added_marks q m (taken_now q m ∙ rw off refl))
 
   last_now : last_taken (marks new) v.from v.to ≡ v.ssn
-  last_now =
-      let a : (v.from == v.from) ≡ true = grind (arith, nat_tests) in
-      let b : (v.to == v.to) ≡ true = grind (arith, nat_tests) in
-      ap (λ t. last_taken t v.from v.to) marks_split
-      ∙ last_taken-push (marks old) added_marks v.from v.to v.ssn (taken_now v.from v.to ∙ ap (λ c. cond (c && v.to == v.to) (v.ssn ∷ []) []) a ∙ ap (λ c. cond c (v.ssn ∷ []) []) b)
+  last_now = rw marks_split (last_taken-push (marks old) added_marks v.from v.to v.ssn (taken_now v.from v.to ∙ rw (eqb-self v.from, eqb-self v.to) refl))
 
   other_fold : (m : ℕ) → m < n → m ≢ v.to → IsFold next old m → IsFold next new m
   other_fold m below other f =
-      let apart : (v.to == m) ≡ false = (let ne : v.to ≢ m = (λ e. other (sym e)) in grind (arith, nat_tests)) in
-      let notes : received_notes new.trace m ≡ received_notes old.trace m = notes_now m
-      ∙ ap (λ b. received_notes old.trace m ++ cond b (v.note ∷ []) []) apart ∙ append-nil (received_notes old.trace m) in
+      let apart : (v.to == m) ≡ false = ne_eqb v.to m (λ e. other (sym e)) in
+      let notes : received_notes new.trace m ≡ received_notes old.trace m = notes_now m ∙ rw (apart, append-nil) refl in
       record {
         progress = rw (other_now m other, s.config, notes) f.progress;
         places = rw (other_now m other) f.places;
@@ -180,8 +171,7 @@ module _ (next : Next) (old new : GroupRecord) (v : Message) (well : SendsWell n
 
   own_fold : IsFold next new v.to
   own_fold =
-      let self : (v.to == v.to) ≡ true = grind (arith, nat_tests) in
-      let notes : received_notes new.trace v.to ≡ received_notes old.trace v.to ++ v.note ∷ [] = notes_now v.to ∙ ap (λ b. received_notes old.trace v.to ++ cond b (v.note ∷ []) []) self in
+      let notes : received_notes new.trace v.to ≡ received_notes old.trace v.to ++ v.note ∷ [] = notes_now v.to ∙ rw (eqb-self v.to) refl in
       let after : after_notes next v.to n old.config.starts (received_notes new.trace v.to) ≡ advanced next v.to n (progress_of was) v.note =
       ap (after_notes next v.to n old.config.starts) notes ∙ after_notes-push next v.to n old.config.starts (received_notes old.trace v.to) v.note
       ∙ ap (λ p. advanced next v.to n p v.note) (sym fold_was.progress) in
@@ -192,8 +182,7 @@ module _ (next : Next) (old new : GroupRecord) (v : Message) (well : SendsWell n
         last = λ q below_q. rw receiver_now elim (cases_eq q v.from) [
           | inl same ↦ rw same (get_or-set_same was.last v.from v.ssn 0 sixteen ∙ sym last_now)
           | inr other ↦
-              let apart : (v.from == q) ≡ false = (let ne : v.from ≢ q = (λ e. other (sym e)) in grind (arith, nat_tests)) in
-              let off : (v.from == q && v.to == v.to) ≡ false = rw apart refl in
+              let off : (v.from == q && v.to == v.to) ≡ false = rw (ne_eqb v.from q (λ e. other (sym e))) refl in
               get_or-set_other was.last v.from q v.ssn 0 other ∙ fold_was.last q below_q ∙ sym (last_same q v.to off)
         ];
       }
@@ -213,9 +202,7 @@ module _ (next : Next) (old new : GroupRecord) (v : Message) (well : SendsWell n
       ]
 
   receipts_now : length (receipts (marks new)) ≡ length (receipts (marks old)) + 1
-  receipts_now =
-      ap (λ t. length (receipts t)) marks_split ∙ ap length (filter_map-append determinant_of (marks old) added_marks)
-      ∙ length-append (receipts (marks old)) (receipts added_marks) ∙ ap (λ k. length (receipts (marks old)) + suc k) (ap length (no_receipts v.to (length was.log) sends))
+  receipts_now = rw (marks_split, filter_map-append determinant_of (marks old) added_marks, length-append, no_receipts v.to (length was.log) sends) refl
 
   -- a checkpoint is at the fold of its receipts also where the trace has more
   saved_grown : (m : ℕ) → m < n → IsReplayed next n old.config.starts new.trace m (member_checkpoint old m)
@@ -228,17 +215,17 @@ module _ (next : Next) (old new : GroupRecord) (v : Message) (well : SendsWell n
   IsSound-delivered : IsSound next new
   IsSound-delivered = record {
     config = rw s.config sound.config;
-    members = ap length s.members ∙ length-set old.members v.to (receiver next old v) ∙ sound.members ∙ sym (ap (λ c. c.members) s.config);
-    checkpoints = ap length s.checkpoints ∙ sound.checkpoints ∙ sym (ap (λ c. c.members) s.config);
+    members = rw (s.members, s.config) (length-set old.members v.to (receiver next old v) ∙ sound.members);
+    checkpoints = rw (s.checkpoints, s.config) sound.checkpoints;
     saved = λ m below. rw (s.config, s.checkpoints) (saved_grown m (rw s.config at below));
-    down = λ q down. never_both new.down q down (rw nobody_down (sets.contains-empty nat_cmp q));
+    down = λ q down. never_both new.down q down (up_if_none nobody_down q);
     lawful = rw s.config is_lawful;
     room = rw s.config s.room;
     causes = rw s.config (delivery_keeps n old.config.f (knowledge old) (knowledge new) v (was.received + 1) (made next old v) is_delivered sound.causes);
     folds = λ m below up.
         let within : m < n = (rw s.config at below) in
         elim (cases_eq m v.to) [ inl same ↦ rw same own_fold | inr other ↦ other_fold m within other (sound.folds m within (was_up m)) ];
-    blanks = λ m below down. never_both new.down m down (rw nobody_down (sets.contains-empty nat_cmp m));
+    blanks = λ m below down. never_both new.down m down (up_if_none nobody_down m);
     shape = rw s.config s.shape;
     notes = notes_kept;
     counted = omega (arith, receipts_now, sound.counted, s.undone_ever, s.receipts_ever);

@@ -1,9 +1,7 @@
 -- A group in which nothing is received yet is sound.
-use Rattle.std.proofs.Common.{◌≡◌, ℕ, zero, suc, ◌+◌, ◌<◌, ◌≤◌, ◌==◌, not, Bool, true, false, cond, List, [], ◌∷◌, ◌++◌, length, map, inl, inr, Option}
+use Rattle.std.proofs.Common.{◌≡◌, ℕ, suc, ◌+◌, ◌<◌, ◌≤◌, ◌==◌, not, List, [], ◌∷◌, ◌++◌, length, map, inl, inr, Option}
 use Rattle.std.proofs.Common.{Some, None, slice_get, refl, sym, ap, ◌∙◌, arith, append_assoc, append-nil, length-append, if◌then◌else◌}
 use Rattle.std.specs.List.{Contains, filter, filter_map, cons_option, list_any}
-use Rattle.std.specs.Ordering.{nat_cmp}
-use Rattle.std.specs.FinSet as sets
 use Rattle.std.proofs.lemmas.Bool.{cases_lt}
 use Rattle.std.proofs.lemmas.List.{length-map, map-append, take_all, get_or_past, get_or-replicate}
 use Rattle.std.proofs.lemmas.List.Elements.{filter_map-append}
@@ -15,10 +13,12 @@ use Rattle.fbl_base.specs.declared.trace.Event.TheVariants as event
 use Rattle.fbl_base.specs.declared.trace.Mark.{Mark}
 use Rattle.fbl_base.specs.declared.trace.Mark.TheVariants.{Send, Receipt}
 use Rattle.fbl_base.specs.Configs.{Settings, IsConfig, StartAllowed}
-use Rattle.fbl_base.specs.Events.{At, mark_of, determinant_of, receipt_of}
+use Rattle.fbl_base.specs.Events.{mark_of, determinant_of, receipt_of}
 use Rattle.fbl_base.specs.Precedence.{Has}
-use Rattle.fbl_base.specs.Rules.{sent_on, taken_on, in_flight, sends_of, WellFormed, MayFollow}
-use Rattle.fbl_base.specs.Fold.{Next, Lawful, sent, action_of, actions_of, notes_of, start_of, starts_of, responses, after_notes}
+use Rattle.fbl_base.specs.Rules.{sent_on, taken_on, sends_of, WellFormed, MayFollow}
+use Rattle.fbl_base.specs.Fold.{Next, Lawful, sent, action_of, actions_of, notes_of, start_of, starts_of, after_notes}
+use Rattle.fbl_base.proofs.Gets.{filter_map-At}
+use Rattle.fbl_base.proofs.InFlightLaws.{filter_all}
 use Rattle.fbl_base.proofs.RulesLaws.{WellFormed-none, WellFormed-push}
 use Rattle.fbl_base.proofs.LawfulLaws.{notes_of-sent}
 use Rattle.fbl_member.specs.Members.{Message, MemberRecord, blank}
@@ -31,7 +31,7 @@ use Rattle.fbl_law.specs.Sound.{IsFold, IsReplayed, IsSound, received_notes}
 use Rattle.fbl_law.specs.GroupSteps.{IsGroupStart, start_events, message_of_send}
 use Rattle.fbl_law.specs.GroupLaws.{GroupStartIsSound}
 use Rattle.fbl_law.proofs.Lists.{Contains-cons_cases, Contains-from_filter, Contains-none}
-use Rattle.fbl_law.proofs.Safe.{never_both}
+use Rattle.fbl_law.proofs.Safe.{never_both, up_if_none}
 use Rattle.fbl_law.proofs.Run.{run_is_sound}
 use Rattle.fbl_law.proofs.Notes.{sent-noted}
 use Rattle.fbl_law.proofs.Logs.{log-length}
@@ -47,14 +47,8 @@ starts_given : {Y : Type 0} (g : Event → Option Y) (h : Start → Option Y) �
     → (done : List Event) (ss : List Start) → filter_map g (start_events done ss) ≡ filter_map g done ++ filter_map h ss
 starts_given g h is done [] = sym (append-nil (filter_map g done))
 starts_given g h is done (s ∷ ss) =
-    starts_given g h is (done ++ send_of done s ∷ []) ss
-    ∙ ap (λ ys. ys ++ filter_map h ss) (filter_map-append g done (send_of done s ∷ []) ∙ ap (λ o. filter_map g done ++ cons_option o []) (is s (sends_of (map mark_of done) s.from + 1)))
-    ∙ append_assoc (filter_map g done) (cons_option (h s) []) (filter_map h ss)
-    ∙ ap (λ ys. filter_map g done ++ ys) (joined (h s) (filter_map h ss))
-  where
-    joined : {Z : Type 0} (o : Option Z) (ys : List Z) → cons_option o [] ++ ys ≡ cons_option o ys
-    joined None ys = refl
-    joined (Some z) ys = refl
+    let joined : cons_option (h s) [] ++ filter_map h ss ≡ filter_map h (s ∷ ss) = grind arith in
+    starts_given g h is (done ++ send_of done s ∷ []) ss ∙ rw (filter_map-append, append_assoc, is s, joined)
 
 filter_map-all : (ss : List Start) → filter_map (λ s. Some s) ss ≡ ss
 filter_map-all [] = refl
@@ -84,16 +78,10 @@ starts-obey config is = starts_obey config.members [] config.starts (WellFormed-
 
 -- what nothing is taken of is all in flight
 none_dropped : (ks : List ℕ) → filter (λ ssn. not (list_any (λ taken. taken == ssn) [])) ks ≡ ks
-none_dropped [] = refl
-none_dropped (k ∷ ks) = ap (λ ys. k ∷ ys) (none_dropped ks)
+none_dropped ks = filter_all _ ks (λ i k here. refl)
 
 no_receipt : (t : List Mark) → filter_map determinant_of t ≡ [] → (d : Determinant) → ¬ (Has t (receipt_of d))
-no_receipt t none d has = at t none has.0 has.1 where
-  at : (u : List Mark) → filter_map determinant_of u ≡ [] → (i : ℕ) → At u i (receipt_of d) → ⊥
-  at [] e i here = cc
-  at (Send from ssn to ∷ u) e zero here = cc
-  at (Send from ssn to ∷ u) e (suc i) here = at u e i here
-  at (Receipt to rsn from ssn ∷ u) e i here = cc
+no_receipt t none d has = let r = filter_map-At determinant_of t has.0 (receipt_of d) d has.1 refl in let here = rw none at r.1 in cc
 
 none_taken : (q p : ℕ) (t : List Mark) → filter_map determinant_of t ≡ [] → filter_map (taken_on q p) t ≡ []
 none_taken q p [] e = refl
@@ -106,7 +94,7 @@ marks_between q p t = messages_between (filter_map message_of_send t) q p ∙ ap
   sent : (u : List Event) → filter_map (sent_on q p) (map send_mark (filter_map message_of_send u)) ≡ filter_map (sent_on q p) (map mark_of u)
   sent [] = refl
   sent (event.Receipt to rsn from ssn ∷ u) = sent u
-  sent (event.Send from ssn to note ∷ u) = ap (λ ys. cons_option (sent_on q p (Send from ssn to)) ys) (sent u)
+  sent (event.Send from ssn to note ∷ u) = rw (sent u)
 
 -- each message of the sends is sent, and carries nothing
 message_sent : (t : List Event) (v : Message) → Contains (filter_map message_of_send t) v → (v.carried ≡ []) × ((i : ℕ) × (slice_get t i ≡ Some (event.Send v.from v.ssn v.to v.note)))
@@ -119,12 +107,7 @@ message_sent (event.Send from ssn to note ∷ t) v among = elim (Contains-cons_c
 
 sends_of_one : (m : ℕ) (ss : List Start) → filter_map (λ s. if s.from == m then Some (sent (s.to, s.note)) else None) ss ≡ map sent (starts_of m ss)
 sends_of_one m [] = refl
-sends_of_one m (s ∷ ss) = at (s.from == m) (sends_of_one m ss) where
-  at : (b : Bool) → filter_map (λ s. if s.from == m then Some (sent (s.to, s.note)) else None) ss ≡ map sent (starts_of m ss)
-      → cons_option (cond b (Some (sent (s.to, s.note))) None) (filter_map (λ s. if s.from == m then Some (sent (s.to, s.note)) else None) ss)
-      ≡ map sent (cons_option (cond b (Some (s.to, s.note)) None) (starts_of m ss))
-  at true ih = ap (λ ys. sent (s.to, s.note) ∷ ys) ih
-  at false ih = ih
+sends_of_one m (s ∷ ss) = grind (arith, sends_of_one m ss)
 
 module _ (next : Next) (config : Settings) (r : GroupRecord) (is : IsConfig config) (s : IsGroupStart config r) where
   abbrev n : ℕ
@@ -134,7 +117,7 @@ module _ (next : Next) (config : Settings) (r : GroupRecord) (is : IsConfig conf
   events = start_events [] config.starts
 
   up : (m : ℕ) → IsUp (knowledge r) m
-  up m = rw s.nobody_down (sets.contains-empty nat_cmp m)
+  up = up_if_none s.nobody_down
 
   obeys : WellFormed n (map mark_of events)
   obeys = starts-obey config is
@@ -151,8 +134,7 @@ module _ (next : Next) (config : Settings) (r : GroupRecord) (is : IsConfig conf
     starts_first =
         ap (filter_map start_of) (take_all (length config.starts) events (omega (arith, length-starts [] config.starts)))
         ∙ starts_given start_of (λ s. Some s) (λ s k. refl) [] config.starts ∙ filter_map-all config.starts;
-    responds = λ m. acted m ∙ sym (append-nil (map sent (starts_of m config.starts)))
-        ∙ ap (λ (notes : List Note). map sent (starts_of m config.starts) ++ responses next m n 0 notes) (sym (no_notes m));
+    responds = λ m. rw (no_notes m, append-nil) (acted m);
   }
 
   unreceived : receipts (map mark_of events) ≡ []
@@ -191,10 +173,7 @@ module _ (next : Next) (config : Settings) (r : GroupRecord) (is : IsConfig conf
 
   matches : (q p : ℕ) → MatchesTrace (knowledge r) q p
   matches q p =
-      let flying : in_flight (map mark_of events) q p ≡ filter_map (sent_on q p) (map mark_of events) =
-      ap (λ (ks : List ℕ). filter (λ ssn. not (list_any (λ taken. taken == ssn) ks)) (filter_map (sent_on q p) (map mark_of events))) (none_taken q p (map mark_of events) unreceived)
-      ∙ none_dropped (filter_map (sent_on q p) (map mark_of events)) in
-      rw (s.channels q p, s.trace, flying) (marks_between q p events)
+      rw (s.channels q p, s.trace, none_taken q p (map mark_of events) unreceived, none_dropped) (marks_between q p events)
 
   among_starts : (v : Message) → Contains (channel r v.from v.to) v → Contains (filter_map message_of_send r.trace) v
   among_starts v flies = Contains-from_filter (is_on v.from v.to) (filter_map message_of_send r.trace) v (rw (s.channels v.from v.to) at flies)
@@ -220,8 +199,8 @@ module _ (next : Next) (config : Settings) (r : GroupRecord) (is : IsConfig conf
   IsSound-started : IsSound next r
   IsSound-started = record {
     config = rw s.parameters is;
-    members = s.size ∙ sym (ap (λ (c : Settings). c.members) s.parameters);
-    checkpoints = s.checkpoints ∙ sym (ap (λ (c : Settings). c.members) s.parameters);
+    members = rw s.parameters s.size;
+    checkpoints = rw s.parameters s.checkpoints;
     saved = λ m below. rw s.parameters (saved_now m (rw s.parameters at below));
     down = λ q down. never_both r.down q down (up q);
     lawful = rw (s.parameters, s.trace) is_lawful;

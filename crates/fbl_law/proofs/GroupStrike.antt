@@ -1,17 +1,18 @@
 -- A strike keeps a group sound, and what the tables of a sound group say of recorded receipts.
-use Rattle.std.proofs.Common.{◌≡◌, ℕ, ◌<◌, ◌≤◌, Bool, true, List, length, inl, inr, Some, get_or, refl, sym, ap, ◌∙◌}
+use Rattle.std.proofs.Common.{◌≡◌, ℕ, ◌≤◌, true, List, inl, inr, Some, get_or, refl, ap, ◌∙◌}
 use Rattle.std.specs.List.{Contains, list_any}
 use Rattle.std.specs.FinSet as sets
 use Rattle.std.proofs.lemmas.Bool.{or_cases, or_left, or_right}
 use Rattle.std.proofs.lemmas.List.{get_or_default}
 use Rattle.std.proofs.lemmas.List.Folds.{Any-from_list_any, list_any_at}
+use Rattle.fbl_base.specs.declared.trace.Determinant.{Determinant}
 use Rattle.fbl_base.specs.MemberSets.{AllBelow, Members}
 use Rattle.fbl_base.specs.Fold.{Next, note_of}
 use Rattle.fbl_table.specs.Tables.{is_held}
 use Rattle.fbl_member.specs.Members.{Message, MemberRecord, blank}
-use Rattle.fbl_law.specs.Knowledge.{table, IsInFlight, IsUp, Names, IsRecorded}
+use Rattle.fbl_law.specs.Knowledge.{IsInFlight, IsUp, Names}
 use Rattle.fbl_law.specs.Steps.{IsStruck}
-use Rattle.fbl_law.specs.Groups.{GroupRecord, member, member_checkpoint, channel, knowledge, is_recorded}
+use Rattle.fbl_law.specs.Groups.{GroupRecord, channel, knowledge}
 use Rattle.fbl_law.specs.Sound.{IsFold, IsSound}
 use Rattle.fbl_law.specs.GroupSteps.{IsStrike}
 use Rattle.fbl_law.specs.GroupLaws.{GroupStrikeKeeps, RecordedTest}
@@ -51,8 +52,8 @@ module _ (next : Next) (old new : GroupRecord) (struck : Members) (s : IsStrike 
   IsSound-struck : AllBelow struck old.config.members → sets.len new.down ≤ old.config.f → IsSound next new
   IsSound-struck within few = record {
     config = rw s.config sound.config;
-    members = s.size ∙ sound.members ∙ sym (ap (λ c. c.members) s.config);
-    checkpoints = ap length s.checkpoints ∙ sound.checkpoints ∙ sym (ap (λ c. c.members) s.config);
+    members = rw s.config (s.size ∙ sound.members);
+    checkpoints = rw (s.checkpoints, s.config) sound.checkpoints;
     saved = λ m below. rw (s.config, s.trace, s.checkpoints) (sound.saved m (rw s.config at below));
     down = λ q down. rw s.config elim (Includes-union old.down struck q (rw s.down at down)) [ inl was ↦ sound.down q was | inr now ↦ within q now ];
     lawful = rw (s.config, s.trace) sound.lawful;
@@ -68,30 +69,20 @@ module _ (next : Next) (old new : GroupRecord) (struck : Members) (s : IsStrike 
 pub group_strike_keeps : GroupStrikeKeeps
 group_strike_keeps next old new struck s within few sound = IsSound-struck next old new struck s sound within few
 
--- a test holds of some member's record or of none
-some_record : (p : MemberRecord → Bool) (xs : List MemberRecord) → list_any p xs ≡ true → (k : ℕ) × (k < length xs) × (p (get_or xs k blank) ≡ true)
-some_record p xs h =
-    let some = Any-from_list_any p xs h in
-    (some.0, some.2, ap p (sym (get_or_default xs some.0 some.1 blank some.2) ∙ some.3) ∙ some.4)
+-- some record's table has the determinant exactly where it names it
+named_by : (xs : List MemberRecord) (d : Determinant) → list_any (λ m. is_held m.table d) xs ≡ true → (k : ℕ) × Names (get_or xs k blank).table d
+named_by xs d held =
+    let some = Any-from_list_any (λ (m : MemberRecord). is_held m.table d) xs held in
+    (some.0, Names-held (get_or xs some.0 blank).table d (rw (← get_or_default xs some.0 some.1 blank some.2, some.3) some.4))
+
+named_in : (xs : List MemberRecord) (k : ℕ) (d : Determinant) → Names (get_or xs k blank).table d → list_any (λ m. is_held m.table d) xs ≡ true
+named_in xs k d named = list_any_at (λ (m : MemberRecord). is_held m.table d) xs k blank (named_record xs k d named) (held-Names (get_or xs k blank).table d named)
 
 pub recorded_test : RecordedTest
-recorded_test next r d sound = (λ h. elim (or_cases _ _ h) [ inl member ↦ held member | inr saved ↦ kept saved ], back)
-  where
-    held : list_any (λ (m : MemberRecord). is_held m.table d) r.members ≡ true → IsRecorded (knowledge r) d
-    held h =
-        let some = some_record (λ (m : MemberRecord). is_held m.table d) r.members h in
-        let named : Names (table (knowledge r) some.0) d = Names-held (member r some.0).table d some.2 in
-        IsRecorded-held (knowledge r) d some.0 (up_if_named r.config.f (knowledge r) sound.causes.down some.0 d named, named)
-
-    kept : list_any (λ (m : MemberRecord). is_held m.table d) r.checkpoints ≡ true → IsRecorded (knowledge r) d
-    kept h =
-        let some = some_record (λ (m : MemberRecord). is_held m.table d) r.checkpoints h in
-        IsRecorded-saved (knowledge r) d some.0 (Names-held (member_checkpoint r some.0).table d some.2)
-
-    back : IsRecorded (knowledge r) d → is_recorded r d ≡ true
-    back (inl held') =
-        let named : Names (member r held'.0).table d = held'.1.1 in
-        or_left _ _ (list_any_at (λ (m : MemberRecord). is_held m.table d) r.members held'.0 blank (named_record r.members held'.0 d named) (held-Names (member r held'.0).table d named))
-    back (inr saved) =
-        or_right (list_any (λ (m : MemberRecord). is_held m.table d) r.members) _
-        (list_any_at (λ (m : MemberRecord). is_held m.table d) r.checkpoints saved.0 blank (named_record r.checkpoints saved.0 d saved.1) (held-Names (member_checkpoint r saved.0).table d saved.1))
+recorded_test next r d sound = (
+  λ h. elim (or_cases _ _ h) [
+    | inl held ↦ let one = named_by r.members d held in IsRecorded-held (knowledge r) d one.0 (up_if_named r.config.f (knowledge r) sound.causes.down one.0 d one.1, one.1)
+    | inr saved ↦ let one = named_by r.checkpoints d saved in IsRecorded-saved (knowledge r) d one.0 one.1
+  ],
+  λ recorded. elim recorded [ inl held ↦ or_left _ _ (named_in r.members held.0 d held.1.1) | inr saved ↦ or_right _ _ (named_in r.checkpoints saved.0 d saved.1) ],
+)

@@ -1,10 +1,10 @@
 -- The notes and receipts of a trace that grows.
-use Rattle.std.proofs.Common.{inl, inr, ◌≡◌, ℕ, ◌==◌, Bool, true, false, cond, List, [], ◌∷◌, ◌++◌, Some, None, slice_get, ap, ◌∙◌}
-use Rattle.std.specs.List.{filter_map, cons_option}
+use Rattle.std.proofs.Common.{arith, inl, inr, ◌≡◌, ℕ, ◌==◌, cond, List, [], ◌∷◌, ◌++◌, Some, slice_get, ap, ◌∙◌}
+use Rattle.std.specs.List.{filter_map}
 use Rattle.fbl_base.specs.declared.trace.Note.{Note}
 use Rattle.fbl_base.specs.declared.trace.Event.{Event}
 use Rattle.fbl_base.specs.declared.trace.Event.TheVariants.{Receipt}
-use Rattle.fbl_base.specs.Fold.{action_of, actions_of, notes_of, note_of, step_events, took}
+use Rattle.fbl_base.specs.Fold.{action_of, actions_of, notes_of, note_of, step_events}
 use Rattle.fbl_base.proofs.LawfulLaws.{own_sends, other_sends, notes_of-sent, notes_of-append, note_of-front, actions-append}
 use Rattle.fbl_law.specs.Sound.{received_notes}
 use Rattle.std.proofs.lemmas.Bool.{cases_eq, ne_eqb}
@@ -22,9 +22,5 @@ pub received_notes-delivered : (t : List Event) (p rsn q s before : ℕ) (note :
 received_notes-delivered t p rsn q s before note sends m noted is =
     let new : List Event = Receipt p rsn q s ∷ step_events p before sends in
     let now : note_of (t ++ new) q s ≡ Some note = note_of-front t new q s note is in
-    let one : notes_of (filter_map (action_of (t ++ new) m) new) ≡ cond (p == m) (note ∷ []) [] = rw now (at (t ++ new) (p == m)) in
+    let one : notes_of (filter_map (action_of (t ++ new) m) new) ≡ cond (p == m) (note ∷ []) [] = grind (arith, now, no_notes (t ++ new) p m before sends) in
     ap notes_of (actions-append t new m noted) ∙ notes_of-append (actions_of t m) (filter_map (action_of (t ++ new) m) new) ∙ ap (λ xs. received_notes t m ++ xs) one
-  where
-    at : (T : List Event) (b : Bool) → notes_of (cons_option (cond b (Some (took note)) None) (filter_map (action_of T m) (step_events p before sends))) ≡ cond b (note ∷ []) []
-    at T true = ap (λ xs. note ∷ xs) (no_notes T p m before sends)
-    at T false = no_notes T p m before sends

@@ -1,24 +1,26 @@
 -- What the log of a fold has.
-use Rattle.std.proofs.Common.{◌≡◌, ℕ, zero, suc, ◌+◌, ◌<◌, ◌≤◌, ◌==◌, ◌&&◌, Bool, true, false, cond, List, [], ◌∷◌, ◌++◌, length, take, drop, map}
-use Rattle.std.proofs.Common.{Option, Some, None, option_map, refl, sym, ap, ◌∙◌, arith, append_assoc, length-append}
-use Rattle.std.specs.List.{filter_map, cons_option, fold, find}
+use Rattle.std.proofs.Common.{◌≡◌, ℕ, zero, suc, ◌+◌, ◌<◌, ◌≤◌, ◌==◌, cond, List, [], ◌∷◌, ◌++◌, length, take, drop, map}
+use Rattle.std.proofs.Common.{Option, Some, None, refl, sym, ap, ◌∙◌, arith, append_assoc, length-append, inl, inr}
+use Rattle.std.specs.List.{filter_map, fold}
+use Rattle.std.proofs.Math.Nat.{zero-add}
+use Rattle.std.proofs.lemmas.Bool.{cases_eq}
 use Rattle.std.proofs.lemmas.Bool.Decides.{nat_tests}
 use Rattle.std.proofs.lemmas.List.{append-nil, map-append, take-append-drop}
 use Rattle.std.proofs.lemmas.List.Elements.{filter_map-append}
-use Rattle.std.proofs.lemmas.List.Sums.{fold-append, sum_by-append, sum_by-cons}
+use Rattle.std.proofs.lemmas.List.Sums.{fold-append, sum_by-cons}
 use Rattle.fbl_base.specs.declared.trace.Note.{Note}
 use Rattle.fbl_base.specs.declared.trace.Start.{Start}
 use Rattle.fbl_base.specs.declared.trace.Event.{Event}
 use Rattle.fbl_base.specs.declared.trace.Event.TheVariants.{Send, Receipt}
-use Rattle.fbl_base.specs.declared.trace.Mark.{Mark}
 use Rattle.fbl_base.specs.declared.trace.Mark.TheVariants as mark
 use Rattle.fbl_base.specs.Events.{mark_of}
 use Rattle.fbl_base.specs.Rules.{is_send_of, is_receipt_of, sends_of, receipts_of, WellFormed}
 use Rattle.fbl_base.specs.Fold.{Next, Logged, Progress, Action, took, sent, numbered, starts_of, begun, advanced, after_notes, action_of, actions_of, notes_of, note_of, responses, Lawful}
-use Rattle.fbl_base.proofs.RulesLaws.{sends-step, WellFormed-front, MayFollow-last, eqb-self}
+use Rattle.fbl_base.proofs.RulesLaws.{sends-step, receipts-step, eqb-self}
 use Rattle.fbl_member.specs.Members.{logged_note}
 use Rattle.fbl_member.proofs.Logs.{length-numbered, numbered-append}
 use Rattle.fbl_law.specs.Sound.{received_notes}
+use Rattle.fbl_law.proofs.Appended.{MayFollow-seam}
 
 -- the sends among a member's actions
 abbrev pub sends_in : List Action → List (ℕ × Note)
@@ -38,28 +40,18 @@ sends_in-sent (s ∷ sends) = ap (λ (zs : List (ℕ × Note)). s ∷ zs) (sends
 -- a log has each number from 1 to its length
 pub numbered-has : (before ssn : ℕ) (sends : List (ℕ × Note)) → before < ssn → ssn ≤ before + length sends → (note : Note) × (logged_note (numbered before sends) ssn ≡ Some note)
 numbered-has before ssn [] above within = absurd (omega arith)
-numbered-has before ssn (s ∷ sends) above within = at (before + 1 == ssn) refl (λ more. numbered-has (before + 1) ssn sends more (omega (arith, within))) where
-  at : (b : Bool) → (before + 1 == ssn) ≡ b → (before + 1 < ssn → (note : Note) × (logged_note (numbered (before + 1) sends) ssn ≡ Some note))
-      → (note : Note) × (option_map (λ (l : Logged). l.note)
-      (cond b (Some (record { ssn = before + 1; to = s.0; note = s.1 })) (find (λ l. l.ssn == ssn) (numbered (before + 1) sends))) ≡ Some note)
-  at true is later = (s.1, refl)
-  at false is later = later (grind (arith, nat_tests))
+numbered-has before ssn (s ∷ sends) above within = elim (cases_eq (before + 1) ssn) [
+  | inl same ↦ (s.1, grind (arith, nat_tests, same))
+  | inr other ↦ let later = numbered-has (before + 1) ssn sends (omega arith) (omega (arith, within)) in (later.0, grind (arith, nat_tests, other, later.1))
+]
 
 -- the sends that a fold adds to the log
 pub log-fold : (next : Next) (p n : ℕ) (from : Progress) (notes : List Note)
     → (fold (advanced next p n) from notes).log ≡ from.log ++ numbered (length from.log) (sends_in (responses next p n from.state notes))
 log-fold next p n from [] = sym (append-nil from.log)
 log-fold next p n from (note ∷ notes) =
-    let items = (next p n from.state note).sends.items in
-    let rest = sends_in (responses next p n (next p n from.state note).state notes) in
-    let ih = log-fold next p n (advanced next p n from note) notes in
-    let long : length (from.log ++ numbered (length from.log) items) ≡ length from.log + length items =
-    length-append from.log (numbered (length from.log) items) ∙ ap (λ x. length from.log + x) (length-numbered (length from.log) items) in
-    let whole : sends_in (map sent items ++ responses next p n (next p n from.state note).state notes) ≡ items ++ rest =
-    sends_in-append (map sent items) _ ∙ ap (λ (xs : List (ℕ × Note)). xs ++ rest) (sends_in-sent items) in
-    ih ∙ append_assoc from.log (numbered (length from.log) items) _
-    ∙ ap (λ (xs : List Logged). from.log ++ xs) (ap (λ x. numbered (length from.log) items ++ numbered x rest) long
-    ∙ sym (numbered-append (length from.log) items rest) ∙ ap (λ (xs : List (ℕ × Note)). numbered (length from.log) xs) (sym whole))
+    log-fold next p n (advanced next p n from note) notes
+    ∙ simp (append_assoc, length-append, length-numbered, sends_in-append, sends_in-sent, numbered-append)
 
 pub received-fold : (next : Next) (p n : ℕ) (from : Progress) (notes : List Note) → (fold (advanced next p n) from notes).received ≡ from.received + length notes
 received-fold next p n from [] = omega arith
@@ -69,21 +61,17 @@ received-fold next p n from (note ∷ notes) = (let ih = received-fold next p n 
 pub log-after : (next : Next) (p n : ℕ) (starts : List Start) (notes : List Note)
     → (after_notes next p n starts notes).log ≡ numbered 0 (sends_in (map sent (starts_of p starts) ++ responses next p n 0 notes))
 log-after next p n starts notes =
-    let first = starts_of p starts in
-    let rest = sends_in (responses next p n 0 notes) in
-    let whole : sends_in (map sent first ++ responses next p n 0 notes) ≡ first ++ rest = sends_in-append (map sent first) _
-    ∙ ap (λ (xs : List (ℕ × Note)). xs ++ rest) (sends_in-sent first) in
-    let seam : length (numbered 0 first) ≡ 0 + length first = length-numbered 0 first ∙ omega arith in
-    log-fold next p n (begun p starts) notes ∙ ap (λ x. numbered 0 first ++ numbered x rest) seam ∙ sym (numbered-append 0 first rest)
-    ∙ ap (λ (xs : List (ℕ × Note)). numbered 0 xs) (sym whole)
+    log-fold next p n (begun p starts) notes ∙ simp (zero-add, length-numbered, sends_in-append, sends_in-sent, numbered-append)
+
+length-log : (next : Next) (p n : ℕ) (starts : List Start) (notes : List Note)
+    → length (after_notes next p n starts notes).log ≡ length (sends_in (map sent (starts_of p starts) ++ responses next p n 0 notes))
+length-log next p n starts notes = ap length (log-after next p n starts notes) ∙ length-numbered 0 _
 
 -- it has each number from 1 to its length
 pub log-has : (next : Next) (p n : ℕ) (starts : List Start) (notes : List Note) (ssn : ℕ) → 0 < ssn
     → ssn ≤ length (after_notes next p n starts notes).log → (note : Note) × (logged_note (after_notes next p n starts notes).log ssn ≡ Some note)
 log-has next p n starts notes ssn above within =
-    let sends = sends_in (map sent (starts_of p starts) ++ responses next p n 0 notes) in
-    let long : length (after_notes next p n starts notes).log ≡ length sends = ap length (log-after next p n starts notes) ∙ length-numbered 0 sends in
-    (rw (log-after next p n starts notes) (numbered-has 0 ssn sends above (omega (arith, within, long))))
+    rw (log-after next p n starts notes) (numbered-has 0 ssn _ above (omega (arith, within, length-log next p n starts notes)))
 
 -- the log after the first notes is a front of the log after all
 pub log-front : (next : Next) (p n : ℕ) (starts : List Start) (notes : List Note) (k : ℕ)
@@ -101,79 +89,38 @@ abbrev pub logged_of : ℕ → Event → Option Logged
 logged_of p (Send from ssn to note) = cond (from == p) (Some (record { ssn = ssn; to = to; note = note })) None
 logged_of p (Receipt to rsn from ssn) = None
 
--- a note that is taken in is no send
-takes : (b : Bool) (o : Option Note) (actions : List Action)
-    → sends_in (cons_option (cond b (elim o as (λ x. Option Action) [ None ↦ None | Some note ↦ Some (took note) ]) None) actions) ≡ sends_in actions
-takes true None actions = refl
-takes true (Some note) actions = refl
-takes false o actions = refl
+-- one event more
+sends-grown : (u : List Event) (e : Event) (p : ℕ) → sends_of (map mark_of (u ++ e ∷ [])) p ≡ sends_of (map mark_of u) p + cond (is_send_of p (mark_of e)) 1 0
+sends-grown u e p = rw (map-append mark_of u (e ∷ [])) (sends-step (map mark_of u) (mark_of e) p)
 
 -- the sends of the rest of a trace that obeys the rules, numbered on
 log_from : (n p : ℕ) (all u rest : List Event) → WellFormed n (map mark_of u ++ map mark_of rest)
     → numbered (sends_of (map mark_of u) p) (sends_in (filter_map (action_of all p) rest)) ≡ filter_map (logged_of p) rest
 log_from n p all u [] obeys = refl
 log_from n p all u (Send q k to x ∷ rest) obeys =
-    let M = map mark_of u in
-    let e : Mark = mark.Send q k to in
-    let front : WellFormed n ((M ++ e ∷ []) ++ map mark_of rest) = rw append_assoc obeys in
-    let may = MayFollow-last n M e (WellFormed-front n (M ++ e ∷ []) (map mark_of rest) front) in
-    let marks : map mark_of (u ++ Send q k to x ∷ []) ≡ M ++ e ∷ [] = map-append mark_of u (Send q k to x ∷ []) in
-    let ih = log_from n p all (u ++ Send q k to x ∷ []) rest (rw marks front) in
-    at (q == p) refl may.3 (ap (λ (t : List Mark). sends_of t p) marks ∙ sends-step M e p) ih
-  where
-    S : List (ℕ × Note)
-    S = sends_in (filter_map (action_of all p) rest)
-
-    at : (b : Bool) → (q == p) ≡ b → k ≡ sends_of (map mark_of u) q + 1 → sends_of (map mark_of (u ++ Send q k to x ∷ [])) p ≡ sends_of (map mark_of u) p + cond (q == p) 1 0
-        → numbered (sends_of (map mark_of (u ++ Send q k to x ∷ [])) p) S ≡ filter_map (logged_of p) rest
-        → numbered (sends_of (map mark_of u) p) (sends_in (cons_option (cond b (Some (sent (to, x))) None) (filter_map (action_of all p) rest)))
-        ≡ cons_option (cond b (Some (record { ssn = k; to = to; note = x })) None) (filter_map (logged_of p) rest)
-    at true is number count ih =
-        let same : q ≡ p = grind (arith, nat_tests) in
-        let here : sends_of (map mark_of u) p + 1 ≡ k =
-        (let h : sends_of (map mark_of u) q ≡ sends_of (map mark_of u) p = ap (λ y. sends_of (map mark_of u) y) same in omega (arith, h, number)) in
-        let more : sends_of (map mark_of (u ++ Send q k to x ∷ [])) p ≡ sends_of (map mark_of u) p + 1 = count ∙ (rw is refl) in
-        ap (λ (y : ℕ). record { ssn = y; to = to; note = x } ∷ numbered (sends_of (map mark_of u) p + 1) S) here
-        ∙ ap (λ (ys : List Logged). record { ssn = k; to = to; note = x } ∷ ys) (ap (λ y. numbered y S) (sym more) ∙ ih)
-    at false is number count ih =
-        let more : sends_of (map mark_of (u ++ Send q k to x ∷ [])) p ≡ sends_of (map mark_of u) p = count ∙ (rw is (omega arith)) in
-        ap (λ y. numbered y S) (sym more) ∙ ih
+    let may = MayFollow-seam n (map mark_of u) (mark.Send q k to) (map mark_of rest) obeys in
+    let ih = log_from n p all (u ++ Send q k to x ∷ []) rest (rw (map-append, append_assoc) obeys) in
+    grind (arith, nat_tests, may.3, sends-grown u (Send q k to x) p, ih)
 log_from n p all u (Receipt to r q k ∷ rest) obeys =
-    let M = map mark_of u in
-    let e : Mark = mark.Receipt to r q k in
-    let front : WellFormed n ((M ++ e ∷ []) ++ map mark_of rest) = rw append_assoc obeys in
-    let marks : map mark_of (u ++ Receipt to r q k ∷ []) ≡ M ++ e ∷ [] = map-append mark_of u (Receipt to r q k ∷ []) in
-    let ih = log_from n p all (u ++ Receipt to r q k ∷ []) rest (rw marks front) in
-    let more : sends_of (map mark_of (u ++ Receipt to r q k ∷ [])) p ≡ sends_of M p = ap (λ (t : List Mark). sends_of t p) marks ∙ sends-step M e p ∙ omega arith in
-    ap (λ (xs : List (ℕ × Note)). numbered (sends_of M p) xs) (takes (to == p) (note_of all q k) (filter_map (action_of all p) rest))
-    ∙ ap (λ y. numbered y (sends_in (filter_map (action_of all p) rest))) (sym more) ∙ ih
+    let ih = log_from n p all (u ++ Receipt to r q k ∷ []) rest (rw (map-append, append_assoc) obeys) in
+    grind (arith, sends-grown u (Receipt to r q k) p, ih)
 
 -- in a lawful trace the log after all the member's notes has the member's sends
 pub log-sends : (next : Next) (n : ℕ) (starts : List Start) (t : List Event) (p : ℕ) → Lawful next n starts t
     → (after_notes next p n starts (received_notes t p)).log ≡ filter_map (logged_of p) t
 log-sends next n starts t p lawful =
-    log-after next p n starts (received_notes t p) ∙ ap (λ (xs : List Action). numbered 0 (sends_in xs)) (sym (lawful.responds p)) ∙ log_from n p t [] t lawful.well_formed
+    rw (log-after next p n starts (received_notes t p), ← lawful.responds p) (log_from n p t [] t lawful.well_formed)
 
 -- the log of a trace's sends names the note of each
 pub logged_note-trace : (t : List Event) (p ssn : ℕ) → logged_note (filter_map (logged_of p) t) ssn ≡ note_of t p ssn
 logged_note-trace [] p ssn = refl
-logged_note-trace (Send q k to x ∷ t) p ssn = at (q == p) (k == ssn) refl (logged_note-trace t p ssn) where
-  at : (b c : Bool) → (k == ssn) ≡ c → logged_note (filter_map (logged_of p) t) ssn ≡ note_of t p ssn
-      → logged_note (cons_option (cond b (Some (record { ssn = k; to = to; note = x })) None) (filter_map (logged_of p) t)) ssn ≡ cond (b && c) (Some x) (note_of t p ssn)
-  at true true is ih = rw is refl
-  at true false is ih = rw is ih
-  at false c is ih = ih
+logged_note-trace (Send q k to x ∷ t) p ssn = grind (arith, logged_note-trace t p ssn)
 logged_note-trace (Receipt to r q k ∷ t) p ssn = logged_note-trace t p ssn
 
 -- what the front of a log names, the log names
 logged_note-front : (xs ys : List Logged) (ssn : ℕ) (note : Note) → logged_note xs ssn ≡ Some note → logged_note (xs ++ ys) ssn ≡ Some note
 logged_note-front [] ys ssn note is = cc
-logged_note-front (l ∷ xs) ys ssn note is = at (l.ssn == ssn) is (logged_note-front xs ys ssn note) where
-  at : (b : Bool) → option_map (λ (x : Logged). x.note) (cond b (Some l) (find (λ x. x.ssn == ssn) xs)) ≡ Some note
-      → (logged_note xs ssn ≡ Some note → logged_note (xs ++ ys) ssn ≡ Some note)
-      → option_map (λ (x : Logged). x.note) (cond b (Some l) (find (λ x. x.ssn == ssn) (xs ++ ys))) ≡ Some note
-  at true g ih = g
-  at false g ih = ih g
+logged_note-front (l ∷ xs) ys ssn note is = grind (arith, logged_note-front xs ys ssn note)
 
 -- a message that a member's log names after its first notes has that note in the trace
 pub logged-noted : (next : Next) (n : ℕ) (starts : List Start) (t : List Event) (p k ssn : ℕ) (note : Note) → Lawful next n starts t
@@ -182,25 +129,19 @@ logged-noted next n starts t p k ssn note lawful named =
     let front = log-front next p n starts (received_notes t p) k in
     let whole : logged_note (after_notes next p n starts (received_notes t p)).log ssn ≡ Some note =
     rw front.1 (logged_note-front (after_notes next p n starts (take k (received_notes t p))).log front.0 ssn note named) in
-    sym (logged_note-trace t p ssn) ∙ ap (λ (xs : List Logged). logged_note xs ssn) (sym (log-sends next n starts t p lawful)) ∙ whole
+    rw (← logged_note-trace t p ssn, ← log-sends next n starts t p lawful) whole
 
 -- how many sends a member's actions have
 sends-count : (all u : List Event) (p : ℕ) → length (sends_in (filter_map (action_of all p) u)) ≡ sends_of (map mark_of u) p
 sends-count all [] p = refl
-sends-count all (Send q k to x ∷ u) p = rw (sum_by-cons (λ y. cond (is_send_of p y) 1 0) (mark.Send q k to) (map mark_of u)) (at (q == p) (sends-count all u p)) where
-  at : (b : Bool) → length (sends_in (filter_map (action_of all p) u)) ≡ sends_of (map mark_of u) p
-      → length (sends_in (cons_option (cond b (Some (sent (to, x))) None) (filter_map (action_of all p) u))) ≡ cond b 1 0 + sends_of (map mark_of u) p
-  at true ih = omega (arith, ih)
-  at false ih = omega (arith, ih)
-sends-count all (Receipt to r q k ∷ u) p =
-    rw (sum_by-cons (λ y. cond (is_send_of p y) 1 0) (mark.Receipt to r q k) (map mark_of u))
-    (ap length (takes (to == p) (note_of all q k) (filter_map (action_of all p) u)) ∙ sends-count all u p ∙ omega arith)
+sends-count all (Send q k to x ∷ u) p = grind (arith, sum_by-cons (λ y. cond (is_send_of p y) 1 0) (mark.Send q k to) (map mark_of u), sends-count all u p)
+sends-count all (Receipt to r q k ∷ u) p = grind (arith, sum_by-cons (λ y. cond (is_send_of p y) 1 0) (mark.Receipt to r q k) (map mark_of u), sends-count all u p)
 
 -- the log after all notes is as long as the member's sends are many
 pub log-length : (next : Next) (n : ℕ) (starts : List Start) (t : List Event) (p : ℕ) → Lawful next n starts t
     → length (after_notes next p n starts (received_notes t p)).log ≡ sends_of (map mark_of t) p
 log-length next n starts t p lawful =
-    ap length (log-after next p n starts (received_notes t p)) ∙ length-numbered 0 _ ∙ ap (λ (xs : List Action). length (sends_in xs)) (sym (lawful.responds p)) ∙ sends-count t t p
+    rw (length-log next p n starts (received_notes t p), ← lawful.responds p) (sends-count t t p)
 
 -- that after the first notes is no longer
 pub log-short : (next : Next) (n : ℕ) (starts : List Start) (t : List Event) (p k : ℕ) → Lawful next n starts t
@@ -215,51 +156,33 @@ sends-by : (next : Next) (p n state k : ℕ) (sends : List (ℕ × Note)) (notes
     → length (sends_in xs) ≤ length (sends_in (map sent sends ++ responses next p n state (take k notes)))
 sends-by next p n state k sends notes [] ys is few = omega arith
 sends-by next p n state k [] [] (x ∷ xs) ys is few = absurd cc
-sends-by next p n state k [] (note ∷ notes) (sent s ∷ xs) ys is few = absurd (let bad : sent s ≡ took note = cc in cc)
+sends-by next p n state k [] (note ∷ notes) (sent s ∷ xs) ys is few = absurd cc
 sends-by next p n state zero [] (note ∷ notes) (took x ∷ xs) ys is few = absurd (omega arith)
 sends-by next p n state (suc k) [] (note ∷ notes) (took x ∷ xs) ys is few =
     sends-by next p n (next p n state note).state k (next p n state note).sends.items notes xs ys (cc) (omega (arith, few))
-sends-by next p n state k (s ∷ sends) notes (took x ∷ xs) ys is few = absurd (let bad : took x ≡ sent s = cc in cc)
-sends-by next p n state k (s ∷ sends) notes (sent s' ∷ xs) ys is few =
-    let ih = sends-by next p n state k sends notes xs ys (cc) few in omega (arith, ih)
+sends-by next p n state k (s ∷ sends) notes (took x ∷ xs) ys is few = absurd cc
+sends-by next p n state k (s ∷ sends) notes (sent s' ∷ xs) ys is few = omega (arith, sends-by next p n state k sends notes xs ys (cc) few)
 
 -- at most how many notes a member's actions have
 notes-count : (all u : List Event) (p : ℕ) → length (notes_of (filter_map (action_of all p) u)) ≤ receipts_of (map mark_of u) p
 notes-count all [] p = omega arith
-notes-count all (Send q k to x ∷ u) p = rw (sum_by-cons (λ y. cond (is_receipt_of p y) 1 0) (mark.Send q k to) (map mark_of u)) (at (q == p) (notes-count all u p)) where
-  at : (b : Bool) → length (notes_of (filter_map (action_of all p) u)) ≤ receipts_of (map mark_of u) p
-      → length (notes_of (cons_option (cond b (Some (sent (to, x))) None) (filter_map (action_of all p) u))) ≤ 0 + receipts_of (map mark_of u) p
-  at true ih = omega (arith, ih)
-  at false ih = omega (arith, ih)
-notes-count all (Receipt to r q k ∷ u) p = rw (sum_by-cons (λ y. cond (is_receipt_of p y) 1 0) (mark.Receipt to r q k) (map mark_of u)) (at (to == p) (note_of all q k) (notes-count all u p)) where
-  at : (b : Bool) (o : Option Note) → length (notes_of (filter_map (action_of all p) u)) ≤ receipts_of (map mark_of u) p
-      → length (notes_of (cons_option (cond b (elim o as (λ x. Option Action) [ None ↦ None | Some note ↦ Some (took note) ]) None)
-      (filter_map (action_of all p) u))) ≤ cond b 1 0 + receipts_of (map mark_of u) p
-  at true None ih = omega (arith, ih)
-  at true (Some note) ih = omega (arith, ih)
-  at false o ih = omega (arith, ih)
+notes-count all (Send q k to x ∷ u) p = grind (arith, sum_by-cons (λ y. cond (is_receipt_of p y) 1 0) (mark.Send q k to) (map mark_of u), notes-count all u p)
+notes-count all (Receipt to r q k ∷ u) p = grind (arith, sum_by-cons (λ y. cond (is_receipt_of p y) 1 0) (mark.Receipt to r q k) (map mark_of u), notes-count all u p)
 
 -- a send that comes after at most k of the member's receipts is in the log after the first k notes
 pub logged-by : (next : Next) (n : ℕ) (starts : List Start) (t u rest : List Event) (p ssn to k : ℕ) (x : Note) → Lawful next n starts t
     → t ≡ u ++ Send p ssn to x ∷ rest → receipts_of (map mark_of u) p ≤ k
     → (note : Note) × (logged_note (after_notes next p n starts (take k (received_notes t p))).log ssn ≡ Some note)
 logged-by next n starts t u rest p ssn to k x lawful is few =
-    let e : Mark = mark.Send p ssn to in
-    let M = map mark_of u in
-    let marks : map mark_of t ≡ M ++ e ∷ map mark_of rest = ap (map mark_of) is ∙ map-append mark_of u (Send p ssn to x ∷ rest) in
-    let obeys : WellFormed n ((M ++ e ∷ []) ++ map mark_of rest) = (let g : WellFormed n (M ++ e ∷ map mark_of rest) = rw marks at lawful.well_formed in rw append_assoc g) in
-    let may = MayFollow-last n M e (WellFormed-front n (M ++ e ∷ []) (map mark_of rest) obeys) in
-    let front = filter_map (action_of t p) (u ++ Send p ssn to x ∷ []) in
+    let so_far : List Event = u ++ Send p ssn to x ∷ [] in
+    let may = MayFollow-seam n (map mark_of u) (mark.Send p ssn to) (map mark_of rest) (rw (is, map-append) at lawful.well_formed) in
+    let front = filter_map (action_of t p) so_far in
     let back = filter_map (action_of t p) rest in
     let cut : actions_of t p ≡ front ++ back = ap (filter_map (action_of t p)) (is ∙ sym (append_assoc u (Send p ssn to x ∷ []) rest))
-    ∙ filter_map-append (action_of t p) (u ++ Send p ssn to x ∷ []) rest in
-    let more : map mark_of (u ++ Send p ssn to x ∷ []) ≡ M ++ e ∷ [] = map-append mark_of u (Send p ssn to x ∷ []) in
-    let self : (p == p) ≡ true = eqb-self p in
-    let count : length (sends_in front) ≡ sends_of M p + 1 = sends-count t (u ++ Send p ssn to x ∷ []) p ∙ ap (λ (v : List Mark). sends_of v p) more ∙ sends-step M e p ∙ (rw self refl) in
-    let taken : length (notes_of front) ≤ k =
-    (let a = notes-count t (u ++ Send p ssn to x ∷ []) p in
-    let b = ap (λ (v : List Mark). receipts_of v p) more ∙ sum_by-append (λ y. cond (is_receipt_of p y) 1 0) M (e ∷ []) in
-    omega (arith, a, b, few)) in
+    ∙ filter_map-append (action_of t p) so_far rest in
+    let count : length (sends_in front) ≡ sends_of (map mark_of u) p + 1 = sends-count t so_far p ∙ sends-grown u (Send p ssn to x) p ∙ rw (eqb-self p) refl in
+    let received : receipts_of (map mark_of so_far) p ≡ receipts_of (map mark_of u) p + 0 =
+    rw (map-append mark_of u (Send p ssn to x ∷ [])) (receipts-step (map mark_of u) (mark.Send p ssn to) p) in
+    let taken : length (notes_of front) ≤ k = omega (arith, notes-count t so_far p, received, few) in
     let enough = sends-by next p n 0 k (starts_of p starts) (received_notes t p) front back (sym cut ∙ lawful.responds p) taken in
-    (rw (log-after next p n starts (take k (received_notes t p)))
-    (numbered-has 0 ssn (sends_in (map sent (starts_of p starts) ++ responses next p n 0 (take k (received_notes t p)))) (omega (arith, may.3)) (omega (arith, may.3, count, enough))))
+    log-has next p n starts (take k (received_notes t p)) ssn (omega (arith, may.3)) (omega (arith, may.3, count, enough, length-log next p n starts (take k (received_notes t p))))

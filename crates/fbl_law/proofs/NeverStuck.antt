@@ -1,17 +1,14 @@
 -- Replay never gets stuck.
-use Rattle.std.proofs.Common.{◌≡◌, ℕ, zero, suc, ◌<◌, ◌≤◌, ◌+◌, ◌==◌, Bool, true, false, cond, List, [], ◌∷◌, ◌++◌, take, inl, inr, arith, refl, subst}
-use Rattle.std.proofs.Common.{ap, Option, Some, None, slice_get, count_by}
-use Rattle.std.proofs.lemmas.Bool.{cases_lt}
+use Rattle.std.proofs.Common.{◌≡◌, ℕ, zero, suc, ◌<◌, ◌≤◌, List, [], ◌∷◌, ◌++◌, take, inl, inr, arith, refl, subst, ap, Option, Some, None, slice_get}
+use Rattle.std.proofs.lemmas.Bool.{cases_lt, cases_eq}
 use Rattle.std.proofs.lemmas.Bool.Decides.{nat_tests}
-use Rattle.std.proofs.lemmas.List.Sums.{sum_by-append}
 use Rattle.fbl_base.proofs.Gets.{take-more}
 use Rattle.fbl_base.specs.declared.trace.Determinant.{Determinant}
 use Rattle.fbl_base.specs.declared.trace.Mark.{Mark}
 use Rattle.fbl_base.specs.declared.trace.Mark.TheVariants.{Send, Receipt}
-use Rattle.fbl_base.specs.Events.{At}
-use Rattle.fbl_base.specs.Rules.{is_receipt_of, receipts_of, WellFormed}
-use Rattle.fbl_base.specs.Events.{receipt_of}
-use Rattle.fbl_base.proofs.RulesLaws.{sent-before}
+use Rattle.fbl_base.specs.Events.{At, receipt_of}
+use Rattle.fbl_base.specs.Rules.{receipts_of, WellFormed}
+use Rattle.fbl_base.proofs.RulesLaws.{sent-before, receipts-step}
 use Rattle.fbl_law.specs.Laws.{NeverStuck}
 use Rattle.fbl_law.specs.Stuck.{IsSentAgain, IsStuck}
 use Rattle.fbl_base.proofs.PlacesAndEvents.{one_place}
@@ -32,18 +29,12 @@ module _ (n : ℕ) (t : List Mark) (done : ℕ → ℕ) (obeys : WellFormed n t)
   count_before m (suc i) before = at (slice_get t i) refl (count_before m i (λ j c below. before j c (omega arith)))
     where
       one : (e : Mark) → At t i e → receipts_of (take i t) m ≤ done m → receipts_of (take i t ++ e ∷ []) m ≤ done m
-      one (Send from ssn to) here rest = (let more = sum_by-append (λ y. cond (is_receipt_of m y) 1 0) (take i t) (Send from ssn to ∷ []) in rw more (omega (arith, rest)))
-      one (Receipt to rsn from ssn) here rest = (let more = sum_by-append (λ y. cond (is_receipt_of m y) 1 0) (take i t) (Receipt to rsn from ssn ∷ []) in rw more (mine (to == m) refl))
-        where
-          mine : (b : Bool) → (to == m) ≡ b → receipts_of (take i t) m + count_by (is_receipt_of m) (Receipt to rsn from ssn ∷ []) ≤ done m
-          mine false is = rw is (omega (arith, rest))
-          mine true is =
-              let same : to ≡ m = grind (arith, nat_tests) in
-              let may = obeys i (Receipt to rsn from ssn) here in
-              let le = before i (record { from = from; ssn = ssn; to = to; rsn = rsn }) (omega arith) here in
-              let count : receipts_of (take i t) to ≡ receipts_of (take i t) m = ap (λ x. receipts_of (take i t) x) same in
-              let dones : done to ≡ done m = ap done same in
-              rw is (omega (arith, may.3, le, count, dones))
+      one (Send from ssn to) here rest = omega (arith, receipts-step (take i t) (Send from ssn to) m)
+      one (Receipt to rsn from ssn) here rest =
+          let may = obeys i (Receipt to rsn from ssn) here in
+          let le = before i (record { from = from; ssn = ssn; to = to; rsn = rsn }) (omega arith) here in
+          let step = receipts-step (take i t) (Receipt to rsn from ssn) m in
+          elim (cases_eq to m) [ inl same ↦ grind (arith, nat_tests, may.3, le, step, ap (receipts_of (take i t)) same) | inr other ↦ grind (arith, nat_tests, step) ]
 
       at : (o : Option Mark) → slice_get t i ≡ o → receipts_of (take i t) m ≤ done m → receipts_of (take (suc i) t) m ≤ done m
       at None is rest = rw (take_end t i is) rest

@@ -1,6 +1,6 @@
 -- The notes of a trace's messages.
-use Rattle.std.proofs.Common.{◌≡◌, ℕ, suc, ◌<◌, ◌==◌, ◌&&◌, inl, inr, Bool, true, false, cond, List, [], ◌∷◌, take, map, Some, slice_get, refl, sym, ap, ◌∙◌, arith}
-use Rattle.std.proofs.lemmas.Bool.{cases_order}
+use Rattle.std.proofs.Common.{◌≡◌, ℕ, suc, ◌<◌, ◌==◌, ◌&&◌, inl, inr, List, [], ◌∷◌, take, map, Some, slice_get, refl, ap, ◌∙◌, arith}
+use Rattle.std.proofs.lemmas.Bool.{cases_Bool, cases_order}
 use Rattle.std.proofs.lemmas.Bool.Decides.{nat_tests}
 use Rattle.std.proofs.lemmas.List.{take-take}
 use Rattle.std.proofs.lemmas.Option.{slice_get-map}
@@ -13,24 +13,18 @@ use Rattle.fbl_base.specs.Events.{At, mark_of}
 use Rattle.fbl_base.specs.Precedence.{Has}
 use Rattle.fbl_base.specs.Rules.{is_send_of, sends_of, WellFormed}
 use Rattle.fbl_base.specs.Fold.{note_of}
-use Rattle.fbl_base.proofs.Gets.{slice_get-take}
+use Rattle.fbl_base.proofs.Gets.{slice_get-take, map-At}
 use Rattle.fbl_base.proofs.RulesLaws.{count_at, eqb-self}
 use Rattle.fbl_base.proofs.LawfulLaws.{sent-note}
 
 -- a note that the trace names was sent
 pub noted-sent : (t : List Event) (q k : ℕ) (x : Note) → note_of t q k ≡ Some x → (i : ℕ) × (to : ℕ) × (slice_get t i ≡ Some (Send q k to x))
 noted-sent [] q k x is = absurd cc
-noted-sent (Send q' k' to' x' ∷ t) q k x is = at (q' == q) (k' == k) refl refl is (noted-sent t q k x) where
-  at : (a b : Bool) → (q' == q) ≡ a → (k' == k) ≡ b → cond (a && b) (Some x') (note_of t q k) ≡ Some x
-      → (note_of t q k ≡ Some x → (i : ℕ) × (to : ℕ) × (slice_get t i ≡ Some (Send q k to x)))
-      → (i : ℕ) × (to : ℕ) × (slice_get (Send q' k' to' x' ∷ t) i ≡ Some (Send q k to x))
-  at true true ea eb g rest =
-      let e1 : q' ≡ q = grind (arith, nat_tests) in
-      let e2 : k' ≡ k = grind (arith, nat_tests) in
-      (0, to', cc)
-  at true false ea eb g rest = (let r = rest g in (suc r.0, r.1, r.2))
-  at false b ea eb g rest = (let r = rest g in (suc r.0, r.1, r.2))
-noted-sent (Receipt to' r q' k' ∷ t) q k x is = (let h = noted-sent t q k x is in (suc h.0, h.1, h.2))
+noted-sent (Send q' k' to' x' ∷ t) q k x is = elim (cases_Bool (q' == q && k' == k)) [
+  | inl own ↦ (0, to', grind (arith, nat_tests))
+  | inr other ↦ let r = noted-sent t q k x (rw other at is) in (suc r.0, r.1, r.2)
+]
+noted-sent (Receipt to' r q' k' ∷ t) q k x is = let r = noted-sent t q k x is in (suc r.0, r.1, r.2)
 
 -- the sends of a member have different numbers
 number-once : (n : ℕ) (t : List Mark) → WellFormed n t → (q k to to' i j : ℕ) → At t i (mark.Send q k to) → At t j (mark.Send q k to') → ¬ (i < j)
@@ -56,16 +50,29 @@ one-send n t obeys q k to to' a b =
     let second = b.1 in
     cc
 
-pub send-mark : (t : List Event) (i q k to : ℕ) (x : Note) → slice_get t i ≡ Some (Send q k to x) → At (map mark_of t) i (mark.Send q k to)
-send-mark t i q k to x here = slice_get-map mark_of t i ∙ (rw here refl)
+-- the mark of an event stands at its place
+pub mark-at : (t : List Event) (i : ℕ) (e : Event) → slice_get t i ≡ Some e → At (map mark_of t) i (mark_of e)
+mark-at t i e here = slice_get-map mark_of t i ∙ (rw here refl)
+
+-- and the event at a mark's place has that mark
+pub send-at : (t : List Event) (i q k to : ℕ) → At (map mark_of t) i (mark.Send q k to) → (x : Note) × (slice_get t i ≡ Some (Send q k to x))
+send-at t i q k to here = (let r = map-At mark_of t i (mark.Send q k to) here in is_event r.0 r.1 r.2) where
+  is_event : (e : Event) → slice_get t i ≡ Some e → mark_of e ≡ mark.Send q k to → (x : Note) × (slice_get t i ≡ Some (Send q k to x))
+  is_event (Send q' k' to' x) at same = (x, cc)
+  is_event (Receipt to' r q' k') at same = absurd cc
+
+pub receipt-at : (t : List Event) (i to r q k : ℕ) → At (map mark_of t) i (mark.Receipt to r q k) → slice_get t i ≡ Some (Receipt to r q k)
+receipt-at t i to r q k here = (let place = map-At mark_of t i (mark.Receipt to r q k) here in is_event place.0 place.1 place.2) where
+  is_event : (e : Event) → slice_get t i ≡ Some e → mark_of e ≡ mark.Receipt to r q k → slice_get t i ≡ Some (Receipt to r q k)
+  is_event (Send q' k' to' x) at same = absurd cc
+  is_event (Receipt to' r' q' k') at same = cc
 
 -- in a trace that obeys the rules a send's note is the one that its number names
 pub sent-noted : (n : ℕ) (t : List Event) → WellFormed n (map mark_of t) → (i q k to : ℕ) (x : Note) → slice_get t i ≡ Some (Send q k to x) → note_of t q k ≡ Some x
 sent-noted n t obeys i q k to x here =
     let some = sent-note t i q k to x here in
     let first = noted-sent t q k some.0 some.1 in
-    let e = one-place n (map mark_of t) obeys q k first.1 to first.0 i (send-mark t first.0 q k first.1 some.0 first.2) (send-mark t i q k to x here) in
+    let e = one-place n (map mark_of t) obeys q k first.1 to first.0 i (mark-at t first.0 (Send q k first.1 some.0) first.2) (mark-at t i (Send q k to x) here) in
     let h : slice_get t i ≡ Some (Send q k first.1 some.0) = rw e at first.2 in
-    let f : ◌≡◌ {A = Event} (Send q k first.1 some.0) (Send q k to x) = (let g : Some (Send q k first.1 some.0) ≡ Some (Send q k to x) = sym h ∙ here in cc) in
-    let y : some.0 ≡ x = cc in
-    some.1 ∙ ap Some y
+    let same : some.0 ≡ x = cc in
+    some.1 ∙ ap Some same

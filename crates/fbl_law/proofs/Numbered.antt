@@ -1,5 +1,5 @@
 -- The numbers of a member's events in a trace.
-use Rattle.std.proofs.Common.{◌-◌, ◌≡◌, ℕ, zero, suc, ◌+◌, ◌<◌, ◌≤◌, Bool, true, false, cond, List, [], ◌∷◌, ◌++◌, take, count_by, refl, ap, ◌∙◌, arith}
+use Rattle.std.proofs.Common.{◌-◌, ◌≡◌, ℕ, zero, suc, ◌+◌, ◌<◌, ◌≤◌, Bool, true, false, cond, List, [], ◌∷◌, ◌++◌, take, count_by, refl, arith}
 use Rattle.std.proofs.lemmas.Bool.Decides.{nat_tests}
 use Rattle.std.proofs.Math.Seq.{take-append-add}
 use Rattle.std.proofs.lemmas.List.Sums.{sum_by-append, sum_by-cons}
@@ -7,32 +7,26 @@ use Rattle.fbl_base.specs.declared.trace.Mark.{Mark}
 use Rattle.fbl_base.specs.declared.trace.Mark.TheVariants.{Send, Receipt}
 use Rattle.fbl_base.specs.Events.{At}
 use Rattle.fbl_base.specs.Precedence.{Has}
-use Rattle.fbl_base.specs.Rules.{is_send_of, is_receipt_of, sends_of, receipts_of, WellFormed}
+use Rattle.fbl_base.specs.Rules.{is_send_of, is_receipt_of, sends_of, receipts_of, MayFollow, WellFormed}
 use Rattle.fbl_base.proofs.RulesLaws.{count_at, eqb-self}
 use Rattle.fbl_law.specs.Knowledge.{Knowledge, IsBeforeCheckpoint, IsCheckpointKept}
 use Rattle.fbl_law.specs.Sound.{receipts_at}
 use Rattle.fbl_law.proofs.Lists.{At-behind, some-at}
 use Rattle.fbl_law.proofs.Receipts.{receipts_at-number, receipts_at-Has, length-receipts_at}
 
-counted-later : (p : Mark → Bool) (x : Mark) (t : List Mark) (i k : ℕ) → count_by p (take i t) ≡ k → count_by p (take (suc i) (x ∷ t)) ≡ cond (p x) 1 0 + k
-counted-later p x t i k is = sum_by-cons (λ y. cond (p y) 1 0) x (take i t) ∙ ap (λ z. cond (p x) 1 0 + z) is
-
 -- the elements that pass a test, counted from the front
 counted-at : (p : Mark → Bool) (t : List Mark) (k : ℕ) → k < count_by p t → (i : ℕ) × (e : Mark) × At t i e × (p e ≡ true) × (count_by p (take i t) ≡ k)
 counted-at p [] k below = absurd (omega arith)
 counted-at p (x ∷ t) k below = at (p x) refl k (rw (sum_by-cons (λ y. cond (p y) 1 0) x t) at below) (counted-at p t) where
+  counted : (i : ℕ) → count_by p (take (suc i) (x ∷ t)) ≡ cond (p x) 1 0 + count_by p (take i t)
+  counted i = sum_by-cons (λ y. cond (p y) 1 0) x (take i t)
+
   at : (b : Bool) → p x ≡ b → (k : ℕ) → k < cond (p x) 1 0 + count_by p t
       → ((k : ℕ) → k < count_by p t → (i : ℕ) × (e : Mark) × At t i e × (p e ≡ true) × (count_by p (take i t) ≡ k))
       → (i : ℕ) × (e : Mark) × At (x ∷ t) i e × (p e ≡ true) × (count_by p (take i (x ∷ t)) ≡ k)
   at true is zero less rest = (0, x, refl, is, refl)
-  at true is (suc k) less rest =
-      let more : suc k < 1 + count_by p t = rw is at less in
-      let r = rest k (omega (arith, more)) in
-      (suc r.0, r.1, r.2, r.3, counted-later p x t r.0 k r.4 ∙ ap (λ c. cond {A = ℕ} c 1 0 + k) is ∙ omega arith)
-  at false is k less rest =
-      let more : k < 0 + count_by p t = rw is at less in
-      let r = rest k (omega (arith, more)) in
-      (suc r.0, r.1, r.2, r.3, counted-later p x t r.0 k r.4 ∙ ap (λ c. cond {A = ℕ} c 1 0 + k) is ∙ omega arith)
+  at true is (suc k) less rest = (let r = rest k (grind arith) in (suc r.0, r.1, r.2, r.3, grind (arith, counted r.0, r.4)))
+  at false is k less rest = (let r = rest k (grind arith) in (suc r.0, r.1, r.2, r.3, grind (arith, counted r.0, r.4)))
 
 -- a trace that obeys the rules has a receipt of each number up to its count of them
 pub receipt-there : (n : ℕ) (t : List Mark) (p k : ℕ) → WellFormed n t → 0 < k → k ≤ receipts_of t p → (q : ℕ) × (s : ℕ) × Has t (Receipt p k q s)
@@ -51,8 +45,7 @@ send-there n t q (suc k) obeys above within = (let r = counted-at (is_send_of q)
   at i (Send from s p) here is count =
       let same : from ≡ q = grind (arith, nat_tests) in
       let may = obeys i (Send from s p) here in
-      let as_many : sends_of (take i t) from ≡ sends_of (take i t) q = ap (sends_of (take i t)) same in
-      let number : s ≡ suc k = omega (arith, may.3, as_many, count) in
+      let number : s ≡ suc k = grind (arith, may.3, same) in
       (p, (i, (rw (same, number) at here)))
 
 -- a receipt's number is at most the count of them
@@ -68,16 +61,13 @@ count-grown p t s = omega (arith, sum_by-append (λ y. cond (p y) 1 0) t s)
 
 -- the events appended have numbers beyond those of the trace before
 module _ (n : ℕ) (r : Knowledge) (added : List Mark) (obeys : WellFormed n (r.trace ++ added)) (kept : (m : ℕ) → IsCheckpointKept r m) where
+  -- an event appended may follow a trace that counts no less than the trace before
+  follows : (e : Mark) → Has added e → (t : List Mark) × MayFollow n t e × ((p : Mark → Bool) → count_by p r.trace ≤ count_by p t)
+  follows e new =
+      let place = At-behind r.trace added new.0 e new.1 in
+      let may = rw (place.1, take-append-add r.trace added new.0) at (obeys place.0 e place.2) in
+      (r.trace ++ take new.0 added, may, λ p. count-grown p r.trace (take new.0 added))
+
   pub added-later : (e : Mark) → Has added e → ¬ (IsBeforeCheckpoint r e)
-  added-later (Send q k p) new reached =
-      let place = At-behind r.trace added new.0 (Send q k p) new.1 in
-      let may = obeys place.0 (Send q k p) place.2 in
-      let front : take place.0 (r.trace ++ added) ≡ r.trace ++ take new.0 added = ap (λ i. take i (r.trace ++ added)) place.1 ∙ take-append-add r.trace added new.0 in
-      let count : sends_of (take place.0 (r.trace ++ added)) q ≡ sends_of (r.trace ++ take new.0 added) q = ap (λ t. sends_of t q) front in
-      omega (arith, may.3, count, count-grown (is_send_of q) r.trace (take new.0 added), (kept q).sends, reached)
-  added-later (Receipt p k q s) new reached =
-      let place = At-behind r.trace added new.0 (Receipt p k q s) new.1 in
-      let may = obeys place.0 (Receipt p k q s) place.2 in
-      let front : take place.0 (r.trace ++ added) ≡ r.trace ++ take new.0 added = ap (λ i. take i (r.trace ++ added)) place.1 ∙ take-append-add r.trace added new.0 in
-      let count : receipts_of (take place.0 (r.trace ++ added)) p ≡ receipts_of (r.trace ++ take new.0 added) p = ap (λ t. receipts_of t p) front in
-      omega (arith, may.3, count, count-grown (is_receipt_of p) r.trace (take new.0 added), (kept p).receipts, reached)
+  added-later (Send q k p) new reached = (let after = follows (Send q k p) new in omega (arith, after.1.3, after.2 (is_send_of q), (kept q).sends, reached))
+  added-later (Receipt p k q s) new reached = (let after = follows (Receipt p k q s) new in omega (arith, after.1.3, after.2 (is_receipt_of p), (kept p).receipts, reached))

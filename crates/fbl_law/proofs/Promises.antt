@@ -1,7 +1,5 @@
 -- What soundness promises.
 use Rattle.std.proofs.Common.{◌≡◌, ℕ, ◌<◌, inl, inr, arith, List}
-use Rattle.std.specs.FinSet as sets
-use Rattle.std.specs.Ordering.{nat_cmp}
 use Rattle.std.proofs.lemmas.Bool.{cases_order}
 use Rattle.fbl_base.specs.declared.trace.Determinant.{Determinant}
 use Rattle.fbl_base.specs.declared.trace.Mark.{Mark}
@@ -17,7 +15,7 @@ use Rattle.fbl_law.specs.Groups.{GroupRecord, member, knowledge}
 use Rattle.fbl_law.specs.Promises.{IsHeldBy}
 use Rattle.fbl_law.specs.Laws.{ClosedRecordsFirst, AnySurvivorsHold}
 use Rattle.fbl_law.specs.Headline.{SoundHoldsEachReceipt, SoundIsAlwaysHeld, SoundHasNoOrphan, NoSurvivorIsOrphan, SoundSurvivorsHold, SoundRecordsFirst}
-use Rattle.fbl_law.proofs.Safe.{down_or_up, never_both, no_orphan, IsRecorded-before, Has-recorded}
+use Rattle.fbl_law.proofs.Safe.{down_or_up, never_both, up_if_none, no_orphan, IsRecorded-before, Has-recorded}
 use Rattle.fbl_law.proofs.Decide.{IsAlwaysHeld-closed}
 use Rattle.fbl_law.proofs.Strike.{strike_keeps}
 use Rattle.fbl_law.proofs.GroupFacts.{held-Names}
@@ -37,15 +35,12 @@ pub sound_holds_each_receipt : SoundHoldsEachReceipt
 sound_holds_each_receipt next r sound nobody d there =
     elim (sound_is_always_held next r sound d there) [
       | inl stable ↦ inl (stable.0, stable.1, λ m among. holder m (stable.2 m among))
-      | inr held ↦ inr (λ m depends. is_held_by r d m (held m (up m) depends).1)
+      | inr held ↦ inr (λ m depends. is_held_by r d m (held m (up_if_none nobody m) depends).1)
     ]
   where
-    up : (m : ℕ) → IsUp (knowledge r) m
-    up m = rw nobody (sets.contains-empty nat_cmp m)
-
     holder : (m : ℕ) → IsHolder (knowledge r) d m → IsHeldBy r d m
     holder m (inl holds) = is_held_by r d m holds.1
-    holder m (inr down) = never_both r.down m down.0 (rw nobody (sets.contains-empty nat_cmp m))
+    holder m (inr down) = never_both r.down m down.0 (up_if_none nobody m)
 
 pub no_survivor_is_orphan : NoSurvivorIsOrphan
 no_survivor_is_orphan next old new struck m sound s few =

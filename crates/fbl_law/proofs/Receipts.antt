@@ -1,7 +1,7 @@
 -- A member's receipts in a trace, in order.
-use Rattle.std.proofs.Common.{◌≡◌, ℕ, zero, suc, ◌+◌, ◌==◌, ◌&&◌, Bool, true, false, cond, List, [], ◌∷◌, ◌++◌, length, map, Option, Some, None, option_map}
+use Rattle.std.proofs.Common.{◌≡◌, ℕ, zero, suc, ◌+◌, ◌==◌, Bool, true, false, cond, List, [], ◌∷◌, ◌++◌, length, map, Option, Some, option_map}
 use Rattle.std.proofs.Common.{slice_get, refl, sym, ap, ◌∙◌, arith, append_assoc}
-use Rattle.std.specs.List.{filter_map, cons_option, fold}
+use Rattle.std.specs.List.{filter_map, fold}
 use Rattle.std.proofs.lemmas.Bool.Decides.{nat_tests}
 use Rattle.std.proofs.lemmas.List.{length-map}
 use Rattle.std.proofs.lemmas.List.Sums.{sum_by-cons}
@@ -15,11 +15,12 @@ use Rattle.fbl_base.specs.declared.trace.Mark.TheVariants.{Send, Receipt}
 use Rattle.fbl_base.specs.Events.{mark_of, determinant_of, receipt_of}
 use Rattle.fbl_base.specs.Precedence.{Has}
 use Rattle.fbl_base.specs.Rules.{is_receipt_of, receipts_of, taken_on, WellFormed}
-use Rattle.fbl_base.specs.Fold.{sent, action_of, notes_of, note_of}
+use Rattle.fbl_base.specs.Fold.{action_of, notes_of, note_of}
 use Rattle.fbl_base.proofs.Gets.{filter_map-At, At-filter, At-filter_map}
-use Rattle.fbl_base.proofs.RulesLaws.{receipts-step, WellFormed-front, MayFollow-last}
+use Rattle.fbl_base.proofs.RulesLaws.{receipts-step}
 use Rattle.fbl_base.proofs.LawfulLaws.{receipts-noted}
 use Rattle.fbl_law.specs.Sound.{received_notes, last_taken, receipts_at, last_among}
+use Rattle.fbl_law.proofs.Appended.{MayFollow-seam}
 use Rattle.fbl_law.proofs.Lists.{filter-At, filter-passes}
 use Rattle.fbl_base.proofs.Received.{is_receipt}
 
@@ -29,21 +30,15 @@ receipts-from n p u (Send q k to ∷ rest) obeys j d here =
     let ih = receipts-from n p (u ++ Send q k to ∷ []) rest (rw append_assoc obeys) j d here in
     omega (arith, ih, receipts-step u (Send q k to) p)
 receipts-from n p u (Receipt to r q k ∷ rest) obeys j d here =
-    let front : WellFormed n ((u ++ Receipt to r q k ∷ []) ++ rest) = rw append_assoc obeys in
-    let may = MayFollow-last n u (Receipt to r q k) (WellFormed-front n (u ++ Receipt to r q k ∷ []) rest front) in
-    at (to == p) refl may.3 (receipts-step u (Receipt to r q k) p) j here (receipts-from n p (u ++ Receipt to r q k ∷ []) rest front)
+    let may = MayFollow-seam n u (Receipt to r q k) rest obeys in
+    at (to == p) refl may.3 (receipts-step u (Receipt to r q k) p) j here (receipts-from n p (u ++ Receipt to r q k ∷ []) rest (rw append_assoc obeys))
   where
     at : (b : Bool) → (to == p) ≡ b → r ≡ receipts_of u to + 1 → receipts_of (u ++ Receipt to r q k ∷ []) p ≡ receipts_of u p + cond (to == p) 1 0
         → (j : ℕ) → slice_get (cond b (record { from = q; ssn = k; to = to; rsn = r } ∷ receipts_at rest p) (receipts_at rest p)) j ≡ Some d
         → ((j : ℕ) (d : Determinant) → slice_get (receipts_at rest p) j ≡ Some d → d.rsn ≡ receipts_of (u ++ Receipt to r q k ∷ []) p + j + 1) → d.rsn ≡ receipts_of u p + j + 1
-    at true is number more zero g ih =
-        let same : to ≡ p = grind (arith, nat_tests) in
-        let e : ◌≡◌ {A = Determinant} (record { from = q; ssn = k; to = to; rsn = r }) d = cc in
-        let rsn : r ≡ d.rsn = ap (λ (x : Determinant). x.rsn) e in
-        let count : receipts_of u to ≡ receipts_of u p = ap (λ x. receipts_of u x) same in
-        omega (arith, rsn, number, count)
-    at true is number more (suc j) g ih = (let one : receipts_of (u ++ Receipt to r q k ∷ []) p ≡ receipts_of u p + 1 = more ∙ (rw is refl) in omega (arith, ih j d g, one))
-    at false is number more j g ih = (let none : receipts_of (u ++ Receipt to r q k ∷ []) p ≡ receipts_of u p = more ∙ (rw is (omega arith)) in omega (arith, ih j d g, none))
+    at true is number more zero g ih = grind (arith, nat_tests)
+    at true is number more (suc j) g ih = grind (arith, ih j d g)
+    at false is number more j g ih = grind (arith, ih j d g)
 
 -- a member's receipts are numbered from 1
 pub receipts_at-number : (n : ℕ) (t : List Mark) (p j : ℕ) (d : Determinant) → WellFormed n t → slice_get (receipts_at t p) j ≡ Some d → d.rsn ≡ j + 1
@@ -71,30 +66,15 @@ Has-receipts_at n t p j d obeys has to number =
 -- how many they are
 pub length-receipts_at : (t : List Mark) (p : ℕ) → length (receipts_at t p) ≡ receipts_of t p
 length-receipts_at [] p = refl
-length-receipts_at (Send q k to ∷ t) p = length-receipts_at t p ∙ (rw (sum_by-cons (λ y. cond (is_receipt_of p y) 1 0) (Send q k to) t) (omega arith))
-length-receipts_at (Receipt to r q k ∷ t) p = rw (sum_by-cons (λ y. cond (is_receipt_of p y) 1 0) (Receipt to r q k) t) (at (to == p) (length-receipts_at t p)) where
-  at : (b : Bool) → length (receipts_at t p) ≡ receipts_of t p
-      → length (cond b (record { from = q; ssn = k; to = to; rsn = r } ∷ receipts_at t p) (receipts_at t p)) ≡ cond b 1 0 + receipts_of t p
-  at true ih = omega (arith, ih)
-  at false ih = omega (arith, ih)
+length-receipts_at (Send q k to ∷ t) p = grind (arith, sum_by-cons, length-receipts_at t p)
+length-receipts_at (Receipt to r q k ∷ t) p = grind (arith, sum_by-cons (λ y. cond (is_receipt_of p y) 1 0) (Receipt to r q k) t, length-receipts_at t p)
 
 -- their notes
 notes-at : (all u : List Event) (p : ℕ) → ((i to rsn from ssn : ℕ) → slice_get u i ≡ Some (event.Receipt to rsn from ssn) → (note : Note) × (note_of all from ssn ≡ Some note))
     → map (λ (x : Note). Some x) (notes_of (filter_map (action_of all p) u)) ≡ map (λ (d : Determinant). note_of all d.from d.ssn) (receipts_at (map mark_of u) p)
 notes-at all [] p noted = refl
-notes-at all (event.Send q k to x ∷ u) p noted = at (q == p) (notes-at all u p (λ i. noted (suc i))) where
-  at : (b : Bool) → map (λ (y : Note). Some y) (notes_of (filter_map (action_of all p) u)) ≡ map (λ (d : Determinant). note_of all d.from d.ssn) (receipts_at (map mark_of u) p)
-      → map (λ (y : Note). Some y) (notes_of (cons_option (cond b (Some (sent (to, x))) None) (filter_map (action_of all p) u)))
-      ≡ map (λ (d : Determinant). note_of all d.from d.ssn) (receipts_at (map mark_of u) p)
-  at true ih = ih
-  at false ih = ih
-notes-at all (event.Receipt to r q k ∷ u) p noted = at (to == p) refl (noted 0 to r q k refl) (notes-at all u p (λ i. noted (suc i))) where
-  at : (b : Bool) → (to == p) ≡ b → (note : Note) × (note_of all q k ≡ Some note)
-      → map (λ (y : Note). Some y) (notes_of (filter_map (action_of all p) u)) ≡ map (λ (d : Determinant). note_of all d.from d.ssn) (receipts_at (map mark_of u) p)
-      → map (λ (y : Note). Some y) (notes_of (filter_map (action_of all p) (event.Receipt to r q k ∷ u)))
-      ≡ map (λ (d : Determinant). note_of all d.from d.ssn) (receipts_at (map mark_of (event.Receipt to r q k ∷ u)) p)
-  at true is note ih = (let e = note.1 in rw (is, e) (ap (λ (ys : List (Option Note)). Some note.0 ∷ ys) ih))
-  at false is note ih = rw is ih
+notes-at all (event.Send q k to x ∷ u) p noted = grind (arith, notes-at all u p (λ i. noted (suc i)))
+notes-at all (event.Receipt to r q k ∷ u) p noted = (let note = (noted 0 to r q k refl).1 in grind (arith, note, notes-at all u p (λ i. noted (suc i))))
 
 -- in a trace that obeys the rules a member's notes are those of its receipts
 pub received-notes : (n : ℕ) (t : List Event) (p : ℕ) → WellFormed n (map mark_of t)
@@ -109,27 +89,16 @@ length-received_notes n t p obeys =
 pub note-at : (n : ℕ) (t : List Event) (p j : ℕ) (d : Determinant) (x : Note) → WellFormed n (map mark_of t)
     → slice_get (receipts_at (map mark_of t) p) j ≡ Some d → note_of t d.from d.ssn ≡ Some x → slice_get (received_notes t p) j ≡ Some x
 note-at n t p j d x obeys here noted =
-    at (slice_get (received_notes t p) j) refl
-    (sym (slice_get-map (λ (y : Note). Some y) (received_notes t p) j) ∙ ap (λ (xs : List (Option Note)). slice_get xs j) (received-notes n t p obeys)
-    ∙ slice_get-map (λ (c : Determinant). note_of t c.from c.ssn) (receipts_at (map mark_of t) p) j ∙ (rw (here, noted) refl))
-  where
-    at : (o : Option Note) → slice_get (received_notes t p) j ≡ o → option_map (λ (y : Note). Some y) o ≡ Some (Some x) → slice_get (received_notes t p) j ≡ Some x
-    at None is h = absurd cc
-    at (Some y) is h = (let same : y ≡ x = cc in is ∙ ap Some same)
+    let same : option_map (λ (y : Note). Some y) (slice_get (received_notes t p) j) ≡ Some (Some x) =
+    sym (slice_get-map (λ (y : Note). Some y) (received_notes t p) j) ∙ ap (λ (xs : List (Option Note)). slice_get xs j) (received-notes n t p obeys)
+    ∙ slice_get-map (λ (c : Determinant). note_of t c.from c.ssn) (receipts_at (map mark_of t) p) j ∙ (rw (here, noted) refl) in
+    grind (arith, same)
 
 -- the last message from q that the member's receipts take
 last-from : (q p z : ℕ) (t : List Mark) → fold (λ last ssn. ssn) z (filter_map (taken_on q p) t) ≡ fold (λ last (d : Determinant). cond (d.from == q) d.ssn last) z (receipts_at t p)
 last-from q p z [] = refl
 last-from q p z (Send q' k to ∷ t) = last-from q p z t
-last-from q p z (Receipt to r q' k ∷ t) = at (q' == q) (to == p) refl (last-from q p z t) (last-from q p k t) where
-  at : (a b : Bool) → (q' == q) ≡ a → fold (λ last ssn. ssn) z (filter_map (taken_on q p) t) ≡ fold (λ last (d : Determinant). cond (d.from == q) d.ssn last) z (receipts_at t p)
-      → fold (λ last ssn. ssn) k (filter_map (taken_on q p) t) ≡ fold (λ last (d : Determinant). cond (d.from == q) d.ssn last) k (receipts_at t p)
-      → fold (λ last ssn. ssn) z (cons_option (cond (a && b) (Some k) None) (filter_map (taken_on q p) t))
-      ≡ fold (λ last (d : Determinant). cond (d.from == q) d.ssn last) z (cond b (record { from = q'; ssn = k; to = to; rsn = r } ∷ receipts_at t p) (receipts_at t p))
-  at true true ea same next = rw (ea, fold) next
-  at true false ea same next = same
-  at false true ea same next = rw (ea, fold) same
-  at false false ea same next = same
+last-from q p z (Receipt to r q' k ∷ t) = grind (arith, last-from q p z t, last-from q p k t)
 
 pub last_taken-among : (t : List Mark) (q p : ℕ) → last_taken t q p ≡ last_among (receipts_at t p) q
 last_taken-among t q p = last-from q p 0 t

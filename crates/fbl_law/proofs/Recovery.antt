@@ -1,17 +1,14 @@
 -- A recovery keeps knowledge sound.
-use Rattle.std.proofs.Common.{◌≡◌, ℕ, zero, suc, ◌≤◌, length, arith, ◌↔◌, Bool, true, inl, inr, ◌⊎◌, refl, sym, subst, ap, ◌∙◌, Some}
+use Rattle.std.proofs.Common.{◌≡◌, ℕ, zero, suc, ◌≤◌, length, arith, ◌↔◌, Bool, true, inl, inr, ◌⊎◌, refl, sym, ap, ◌∙◌, Some}
 use Rattle.std.specs.List.{Contains, filter}
-use Rattle.std.specs.Ordering.{nat_cmp}
-use Rattle.std.specs.FinSet as set
 use Rattle.fbl_base.specs.declared.trace.Determinant.{Determinant}
 use Rattle.fbl_base.specs.declared.trace.Mark.{Mark}
 use Rattle.fbl_base.specs.declared.trace.Mark.TheVariants.{Send, Receipt}
-use Rattle.fbl_base.specs.Events.{member_of, send_of}
+use Rattle.fbl_base.specs.Events.{member_of, send_of, receipt_of}
 use Rattle.fbl_base.specs.Precedence.{Has, Earlier, Leads, Precedes, itself, step}
 use Rattle.fbl_base.specs.Rules.{WellFormed, sent_on, taken_on, receipts_of, sends_of}
 use Rattle.fbl_base.proofs.RulesLaws.{is_sent}
 use Rattle.fbl_base.proofs.InFlightLaws.{sent-number}
-use Rattle.fbl_base.specs.Events.{receipt_of}
 use Rattle.fbl_base.proofs.PrecedenceLaws.{Has-filter, Precedes-filter, Has-first}
 use Rattle.fbl_table.specs.declared.entry.Entry.{Entry}
 use Rattle.fbl_member.specs.Members.{Message}
@@ -20,20 +17,16 @@ use Rattle.fbl_law.specs.Knowledge.{MatchesTrace, checkpoint, IsBeforeCheckpoint
 use Rattle.fbl_law.specs.Steps.{Stays, UpTo, IsRecovered}
 use Rattle.fbl_law.proofs.CutWellFormed.{Has-kept, kept-Has, KeepsCauses, Has-before, WellFormed-kept, map-kept, taken_at}
 use Rattle.fbl_law.proofs.Appended.{Earlier-joined}
-use Rattle.fbl_law.proofs.GatheredTables.{IsGathered, entries_gathered, recorded_gathered}
+use Rattle.fbl_law.proofs.GatheredTables.{IsGathered, entries_gathered, gathered_recorded, recorded_gathered}
 use Rattle.fbl_law.proofs.Numbered.{receipt-there, send-there, receipt-number}
-use Rattle.fbl_law.proofs.Safe.{down_or_up, never_both, nobody_down_empty, IsRecorded-depended, IsRecorded-before, IsRecorded-saved, IsRecorded-reached, Has-recorded}
+use Rattle.fbl_law.proofs.Safe.{down_or_up, never_both, nobody_down_empty, up_if_none, IsRecorded-depended, IsRecorded-before, IsRecorded-saved, IsRecorded-reached, Has-recorded}
 use Rattle.fbl_law.specs.Laws.{RecoveryKeeps, CutIsClosed, CutIsRecorded, RecoveryGainsHolders}
 use Rattle.fbl_law.proofs.Keeping.{KeepsKnowledge, IsSoundAt, sound_kept, sound_passed, truth_everywhere, closed_everywhere}
 
--- an event is a receipt or is none
-receipt_or_send : (e : Mark) → ((d : Determinant) × (e ≡ receipt_of d)) ⊎ ((d : Determinant) → ¬ (e ≡ receipt_of d))
-receipt_or_send (Send from ssn to) = inr (λ d same. cc)
-receipt_or_send (Receipt to rsn from ssn) = inl (record { from = from; ssn = ssn; to = to; rsn = rsn }, refl)
-
-sends_nothing : (e b : Mark) → ((d : Determinant) → ¬ (e ≡ receipt_of d)) → ¬ (send_of e ≡ Some b)
-sends_nothing (Send from ssn to) b is_none h = cc
-sends_nothing (Receipt to rsn from ssn) b is_none h = is_none (record { from = from; ssn = ssn; to = to; rsn = rsn }) refl
+-- an event with a send of its own is a receipt
+receives : (e b : Mark) → send_of e ≡ Some b → (d : Determinant) × (e ≡ receipt_of d)
+receives (Send from ssn to) b h = absurd cc
+receives (Receipt to rsn from ssn) b h = (record { from = from; ssn = ssn; to = to; rsn = rsn }, refl)
 
 module _ (n f : ℕ) (old : Knowledge) (obeys : WellFormed n old.trace) (closed : IsClosed f old) where
   UpTo-later : (x a b : Mark) → UpTo old.trace x a → Earlier old.trace a b → UpTo old.trace x b
@@ -58,10 +51,9 @@ module _ (n f : ℕ) (old : Knowledge) (obeys : WellFormed n old.trace) (closed 
         | inr up ↦ IsRecorded-depended f old closed c (member_of e) up (e, step p l, refl)
         | inl down ↦ elim l.1 [
           | inl same ↦ recorded_before c (Stays-earlier b e stays l.0 same) p
-          | inr received ↦ elim (receipt_or_send e) [
-            | inl is ↦ IsRecorded-before f old closed c is.0 (stays down is.0 (ap member_of (sym is.1)) (inl (sym is.1))) (rw is.1 at (step p l))
-            | inr is_none ↦ absurd (sends_nothing e b is_none received)
-          ]
+          | inr received ↦
+              let is = receives e b received in
+              IsRecorded-before f old closed c is.0 (stays down is.0 (ap member_of (sym is.1)) (inl (sym is.1))) (rw is.1 at (step p l))
         ]
       ]
 
@@ -71,6 +63,10 @@ module _ (n f : ℕ) (old : Knowledge) (obeys : WellFormed n old.trace) (closed 
     where
       path : Precedes old.trace (receipt_of c) a
       path = elim up_to [ inl same ↦ rw same (itself (leads.0.0, leads.0.3)) | inr earlier ↦ step (itself (earlier.0, earlier.3)) (earlier, inl at_a) ]
+
+  -- so a cut that keeps the events that stay keeps what leads to them
+  pub Stays-causes : (keep : Mark → Bool) → ((e : Mark) → Has old.trace e → (keep e ≡ true) ↔ Stays old e) → KeepsCauses keep old.trace
+  Stays-causes keep tells a b kept leads = (tells a (leads.0.0, leads.0.3)).1 (Stays-leads a b ((tells b (leads.0.1, leads.0.4)).0 kept) leads)
 
 module _ (n f : ℕ) (old new : Knowledge) (s : IsRecovered f old new) (sound : IsSoundKnowledge n f old) where
   abbrev keep : Mark → Bool
@@ -83,13 +79,10 @@ module _ (n f : ℕ) (old new : Knowledge) (s : IsRecovered f old new) (sound : 
   entries m e down among = entries_gathered f old sound.down e (rw (s.gathered m down) at among)
 
   up_now : (m : ℕ) → IsUp new m
-  up_now m = rw s.nobody_down (set.contains-empty nat_cmp m)
-
-  stays : (e : Mark) → Has old.trace e → keep e ≡ true → Stays old e
-  stays e there kept = (s.trace.2 e there).0 kept
+  up_now = up_if_none s.nobody_down
 
   causes : KeepsCauses keep old.trace
-  causes a b kept leads = (s.trace.2 a (leads.0.0, leads.0.3)).1 (Stays-leads n f old sound.rules sound.closed a b (stays b (leads.0.1, leads.0.4) kept) leads)
+  causes = Stays-causes n f old sound.rules sound.closed keep s.trace.2
 
   was : (e : Mark) → Has new.trace e → Has old.trace e × (keep e ≡ true)
   was e there =
@@ -111,7 +104,7 @@ module _ (n f : ℕ) (old new : Knowledge) (s : IsRecovered f old new) (sound : 
   recorded_left : (d : Determinant) → Has new.trace (receipt_of d) → IsRecorded old d
   recorded_left d there =
       let old_one = was (receipt_of d) there in
-      recorded_before n f old sound.rules sound.closed d (stays (receipt_of d) old_one.0 old_one.1) (itself old_one.0)
+      recorded_before n f old sound.rules sound.closed d ((s.trace.2 (receipt_of d) old_one.0).0 old_one.1) (itself old_one.0)
 
   -- an event stays where each receipt that precedes it is recorded
   left_if : (b : Mark) → Has old.trace b → ((c : Determinant) → Precedes old.trace (receipt_of c) b → IsRecorded old c) → Has new.trace b
@@ -134,7 +127,7 @@ module _ (n f : ℕ) (old new : Knowledge) (s : IsRecovered f old new) (sound : 
   holders_same d m = (
     λ holds. elim (down_or_up old.down m) [
       | inr up ↦ inl (up, rw (s.tables m up) at holds.1)
-      | inl down ↦ inr (down, subst (λ (c : Determinant). IsRecorded old c) holds.1.2 (entries m holds.1.0 down holds.1.1).0)
+      | inl down ↦ inr (down, gathered_recorded f old sound.down d (rw (s.gathered m down) at holds.1))
     ],
     Holds-recovered d m,
   )

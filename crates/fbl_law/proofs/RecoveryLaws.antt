@@ -1,6 +1,5 @@
 -- What a recovery leaves of a group.
-use Rattle.std.proofs.Common.{◌≡◌, ℕ, inl, inr, List, Some, slice_get, refl, sym, ◌∙◌}
-use Rattle.std.proofs.lemmas.Option.{slice_get-map}
+use Rattle.std.proofs.Common.{◌≡◌, ℕ, inl, inr, List, Some, slice_get, sym, ◌∙◌}
 use Rattle.fbl_base.specs.declared.trace.Event.{Event}
 use Rattle.fbl_base.specs.Events.{mark_of}
 use Rattle.fbl_base.specs.Precedence.{Has}
@@ -11,6 +10,7 @@ use Rattle.fbl_law.specs.RecoveryLaws.{GroupRecoveryGainsHolders, HoldersGainThe
 use Rattle.fbl_law.proofs.Recovery.{cut_is_recorded, recovery_gains_holders}
 use Rattle.fbl_law.proofs.GroupRecovery.{recovery-knowledge}
 use Rattle.fbl_law.proofs.CutInOnePass.{recovered_trace-cut}
+use Rattle.fbl_law.proofs.Notes.{mark-at}
 use Rattle.fbl_law.proofs.CutByCounts.{filter-agree, same-test}
 use Rattle.fbl_law.proofs.Undone.{cut-receipts, cut-undone}
 
@@ -42,7 +42,7 @@ pub cut-unique : (r : GroupRecord) (a b : List Event) → IsEventCut (Stays (kno
 cut-unique r a b first second = first.1 ∙ filter-agree (λ e. first.0 (mark_of e)) (λ e. second.0 (mark_of e)) r.trace agree ∙ sym second.1 where
   agree : (i : ℕ) (e : Event) → slice_get r.trace i ≡ Some e → first.0 (mark_of e) ≡ second.0 (mark_of e)
   agree i e here =
-      let there : Has (marks r) (mark_of e) = (i, slice_get-map mark_of r.trace i ∙ (rw here refl)) in
+      let there : Has (marks r) (mark_of e) = (i, mark-at r.trace i e here) in
       same-test (first.0 (mark_of e)) (second.0 (mark_of e)) (λ kept. (second.2 (mark_of e) there).1 ((first.2 (mark_of e) there).0 kept))
       (λ kept. (first.2 (mark_of e) there).1 ((second.2 (mark_of e) there).0 kept))
 

@@ -1,6 +1,5 @@
 -- From the replay of the members that are down to a recovery.
-use Rattle.std.proofs.Common.{◌≡◌, ℕ, ◌+◌, ◌-◌, ◌<◌, ◌≤◌, ◌||◌, not, nat_le, ◌⊎◌, inl, inr, Bool, [], true, false, List, length, map, Some, refl, sym}
-use Rattle.std.proofs.Common.{subst, ap, ◌∙◌, arith}
+use Rattle.std.proofs.Common.{◌≡◌, ℕ, ◌+◌, ◌-◌, ◌<◌, ◌≤◌, ◌⊎◌, inl, inr, [], true, List, length, map, Some, refl, ap, ◌∙◌, arith}
 use Rattle.std.specs.Prelude.{slice_set, slice_index_or}
 use Rattle.std.specs.List.{filter}
 use Rattle.std.specs.FinSet as set
@@ -22,14 +21,12 @@ use Rattle.fbl_law.specs.Steps.{Stays, IsEventCut, recovery_table}
 use Rattle.fbl_law.specs.Groups.{GroupRecord, member, member_checkpoint, channel, knowledge, receipts}
 use Rattle.fbl_law.specs.Sound.{receipts_at, IsReplayed, IsFold, IsSound}
 use Rattle.fbl_law.specs.GroupSteps.{IsRecovery, IsMadeAgain}
-use Rattle.fbl_law.specs.Replaying.{IsNextReplay, is_replayed, recovered_trace, stays_by, resent_to, working, IsReplaying, IsWaiting, replayed_in, IsRebuilt}
+use Rattle.fbl_law.specs.Replaying.{IsNextReplay, is_replayed, recovered_trace, stays_by, working, IsReplaying, IsWaiting, replayed_in, IsRebuilt}
 use Rattle.fbl_law.specs.RecoveryLaws.{ReplayBegins, ReplayIsRight, ReplayEnds, RebuiltIsRecovered}
 use Rattle.fbl_law.proofs.Safe.{down_or_up}
-use Rattle.fbl_law.proofs.CutNotes.{note-was}
-use Rattle.fbl_law.proofs.GroupCheckpoint.{checkpoint_is_recorded}
-use Rattle.fbl_law.proofs.GroupRecovery.{cut-causes, cut-lawful, fold-survives}
-use Rattle.fbl_law.proofs.ReplayedRecords.{replayed-cut, fold-received, fold-replayed, replayed-fold}
-use Rattle.fbl_law.proofs.ReplayFromGathered.{recorded-cut, found-next, replay-room, replayed-next, replays-log, all-replayed}
+use Rattle.fbl_law.proofs.GroupRecovery.{cut-lawful, fold-survives, checkpoint-survives}
+use Rattle.fbl_law.proofs.ReplayedRecords.{fold-received, fold-replayed, replayed-fold}
+use Rattle.fbl_law.proofs.ReplayFromGathered.{found-next, replay-room, replayed-next, replays-log, all-replayed}
 use Rattle.fbl_law.proofs.Counting.{is_of, count_in-same, count_in-most, count_in-step, replayed-most, replayed-count, to-replay-short}
 use Rattle.fbl_law.proofs.CutInOnePass.{recovered_trace-cut}
 use Rattle.fbl_law.proofs.CutByCounts.{filter-agree, stays_by-cut}
@@ -47,21 +44,15 @@ with-table m t is = ap (λ (x : List Entry). record m { table = x }) is
 
 -- what stays depends on the members of the set alone
 pub stays_by-agree : (s : Members) (a b : ℕ → MemberRecord) → ((p : ℕ) → set.contains s p ≡ true → a p ≡ b p) → (e : Mark) → stays_by s a e ≡ stays_by s b e
-stays_by-agree s a b agree (Send from ssn to) = at (set.contains s from) refl where
-  at : (c : Bool) → set.contains s from ≡ c → (not c || nat_le ssn (length (a from).log)) ≡ (not c || nat_le ssn (length (b from).log))
-  at true is = ap (λ (m : MemberRecord). nat_le ssn (length m.log)) (agree from is)
-  at false is = refl
-stays_by-agree s a b agree (Receipt to rsn from ssn) = at (set.contains s to) refl where
-  at : (c : Bool) → set.contains s to ≡ c → (not c || nat_le rsn (a to).received) ≡ (not c || nat_le rsn (b to).received)
-  at true is = ap (λ (m : MemberRecord). nat_le rsn m.received) (agree to is)
-  at false is = refl
+stays_by-agree s a b agree (Send from ssn to) = elim (down_or_up s from) [ inl down ↦ rw (agree from down) refl | inr up ↦ rw up refl ]
+stays_by-agree s a b agree (Receipt to rsn from ssn) = elim (down_or_up s to) [ inl down ↦ rw (agree to down) refl | inr up ↦ rw up refl ]
 
 module _ (next : Next) (old : GroupRecord) (sound : IsSound next old) where
   abbrev cut : IsEventCut (Stays (knowledge old)) old.trace (recovered_trace old)
   cut = recovered_trace-cut next old sound
 
   abbrev lawful : Lawful next old.config.members old.config.starts (recovered_trace old)
-  lawful = (cut-lawful next old sound (recovered_trace old) cut).0
+  lawful = (cut-lawful sound cut).0
 
   abbrev Replays : ℕ → MemberRecord → Type 0
   Replays p m = IsReplayed next old.config.members old.config.starts (recovered_trace old) p m
@@ -71,54 +62,39 @@ module _ (next : Next) (old : GroupRecord) (sound : IsSound next old) where
       → Replays q (member old q) × ((member old q).received ≡ length (receipts_at (map mark_of (recovered_trace old)) q))
   survivor-replays q below up =
       let r : GroupRecord = record old { trace = recovered_trace old } in
-      let fold : IsFold next r q = fold-survives next old sound (recovered_trace old) cut r q up refl refl refl (sound.folds q below up) in
+      let fold : IsFold next r q = fold-survives sound cut r q up refl refl refl (sound.folds q below up) in
       (fold-replayed next r q lawful.well_formed fold, fold-received next r q lawful.well_formed fold)
-
-  working-down : (rebuilt : List MemberRecord) (q : ℕ) → IsDown (knowledge old) q → working old rebuilt q ≡ slice_index_or rebuilt q blank
-  working-down rebuilt q down = rw down refl
-
-  working-up : (rebuilt : List MemberRecord) (q : ℕ) → IsUp (knowledge old) q → working old rebuilt q ≡ member old q
-  working-up rebuilt q up = rw up refl
 
   pub working-replays : (rebuilt : List MemberRecord) → IsReplaying next old rebuilt → (q : ℕ) → q < old.config.members → Replays q (working old rebuilt q)
   working-replays rebuilt replaying q below = elim (down_or_up old.down q) [
-    | inl down ↦ subst (Replays q) (sym (working-down rebuilt q down)) (replaying.replayed q below down)
-    | inr up ↦ subst (Replays q) (sym (working-up rebuilt q up)) (survivor-replays q below up).0
+    | inl down ↦ rw down (replaying.replayed q below down)
+    | inr up ↦ rw up (survivor-replays q below up).0
   ]
 
   working-all : (rebuilt : List MemberRecord) (q : ℕ) → q < old.config.members → IsUp (knowledge old) q
       → (working old rebuilt q).received ≡ length (receipts_at (map mark_of (recovered_trace old)) q)
-  working-all rebuilt q below up = ap (λ (m : MemberRecord). m.received) (working-up rebuilt q up) ∙ (survivor-replays q below up).1
-
-  -- a checkpoint's receipts stay, so its replay is one of the trace that is left
-  pub checkpoint-replays : (p : ℕ) → p < old.config.members → Replays p (member_checkpoint old p)
-  checkpoint-replays p below =
-      let is : recovered_trace old ≡ filter (λ e. cut.0 (mark_of e)) old.trace = cut.1 in
-      replayed-cut next old.config.members old.config.starts old.trace (recovered_trace old) p (member_checkpoint old p) sound.lawful.well_formed lawful.well_formed
-      (λ q k x noted. note-was old.config.members cut.0 old.trace sound.lawful.well_formed (cut-causes next old sound (recovered_trace old) cut) q k x (rw is at noted))
-      (λ d there to within. recorded-cut next old sound (recovered_trace old) cut d ((checkpoint_is_recorded next old p sound below).1 d there to within))
-      (sound.saved p below)
+  working-all rebuilt q below up = rw up (survivor-replays q below up).1
 
   -- each member that is down begins at its checkpoint
   pub replaying-start : (rebuilt : List MemberRecord) → length rebuilt ≡ old.config.members
       → ((p : ℕ) → p < old.config.members → IsDown (knowledge old) p → slice_index_or rebuilt p blank ≡ member_checkpoint old p) → IsReplaying next old rebuilt
   replaying-start rebuilt size begins = record {
     size = size;
-    replayed = λ p below down. subst (Replays p) (sym (begins p below down)) (checkpoint-replays p below);
-    begun = λ p below down. (let e = ap (λ (m : MemberRecord). m.received) (begins p below down) in omega (arith, e));
+    replayed = λ p below down. rw (begins p below down) (checkpoint-survives sound cut p below);
+    begun = λ p below down. rw (begins p below down) (omega arith);
   }
 
   -- what the gathered tables find is the next receipt
   pub replaying-next : (rebuilt : List MemberRecord) (p : ℕ) (d : Determinant) → IsReplaying next old rebuilt → p < old.config.members → IsDown (knowledge old) p
       → found p ((slice_index_or rebuilt p blank).received + 1) (recovery_table (knowledge old)) ≡ Some d → IsNextReplay old.config.members p (slice_index_or rebuilt p blank) d
-  replaying-next rebuilt p d replaying below down is = found-next next old sound (recovered_trace old) cut p (slice_index_or rebuilt p blank) d (replaying.replayed p below down) is
+  replaying-next rebuilt p d replaying below down is = found-next sound cut p (slice_index_or rebuilt p blank) d (replaying.replayed p below down) is
 
   -- its step's sends have room in the log
   pub replaying-room : (rebuilt : List MemberRecord) (p : ℕ) (d : Determinant) (note : Note) → IsReplaying next old rebuilt → p < old.config.members → IsDown (knowledge old) p
       → found p ((slice_index_or rebuilt p blank).received + 1) (recovery_table (knowledge old)) ≡ Some d → logged_note (working old rebuilt d.from).log d.ssn ≡ Some note
       → length (slice_index_or rebuilt p blank).log + length (next p old.config.members (slice_index_or rebuilt p blank).state note).sends.items ≤ 8192
   replaying-room rebuilt p d note replaying below down is named =
-      replay-room next old sound (recovered_trace old) cut p (slice_index_or rebuilt p blank) d (working old rebuilt d.from) note (replaying.replayed p below down) is
+      replay-room sound cut p (slice_index_or rebuilt p blank) d (working old rebuilt d.from) note (replaying.replayed p below down) is
       (working-replays rebuilt replaying d.from (replaying-next rebuilt p d replaying below down is).from) named
 
   -- its replay
@@ -128,12 +104,12 @@ module _ (next : Next) (old : GroupRecord) (sound : IsSound next old) where
   replaying-step rebuilt p d note replaying below down is named = record {
     size = length-set rebuilt p after ∙ replaying.size;
     replayed = λ q below_q down_q. elim (cases_eq q p) [
-      | inl same ↦ rw same (subst (Replays p) (sym own) there)
-      | inr other ↦ subst (Replays q) (sym (get_or-set_other rebuilt p q after blank other)) (replaying.replayed q below_q down_q)
+      | inl same ↦ rw (same, own) there
+      | inr other ↦ rw (get_or-set_other rebuilt p q after blank other) (replaying.replayed q below_q down_q)
     ];
     begun = λ q below_q down_q. elim (cases_eq q p) [
-      | inl same ↦ rw same (let e = ap (λ (m : MemberRecord). m.received) own in omega (arith, e, replaying.begun p below down))
-      | inr other ↦ (let e = ap (λ (m : MemberRecord). m.received) (get_or-set_other rebuilt p q after blank other) in omega (arith, e, replaying.begun q below_q down_q))
+      | inl same ↦ rw (same, own) (omega (arith, replaying.begun p below down))
+      | inr other ↦ rw (get_or-set_other rebuilt p q after blank other) (replaying.begun q below_q down_q)
     ];
   }
     where
@@ -141,7 +117,7 @@ module _ (next : Next) (old : GroupRecord) (sound : IsSound next old) where
       after = replayed_by next p old.config.members (slice_index_or rebuilt p blank) d note
 
       there : Replays p after
-      there = replayed-next next old sound (recovered_trace old) cut p (slice_index_or rebuilt p blank) d (working old rebuilt d.from) note (replaying.replayed p below down) is
+      there = replayed-next sound cut p (slice_index_or rebuilt p blank) d (working old rebuilt d.from) note (replaying.replayed p below down) is
           (working-replays rebuilt replaying d.from (replaying-next rebuilt p d replaying below down is).from) named
 
       own : slice_index_or (slice_set rebuilt p after) p blank ≡ after
@@ -163,43 +139,43 @@ module _ (next : Next) (old : GroupRecord) (sound : IsSound next old) where
   replayed_in-most rebuilt replaying =
       let fewer = count_in-most old.down (λ p. (slice_index_or rebuilt p blank).received - (member_checkpoint old p).received)
       (λ p. (slice_index_or rebuilt p blank).received) old.config.members (λ p below down. omega arith) in
-      omega (arith, fewer, replayed-most next old sound (recovered_trace old) cut (λ p. slice_index_or rebuilt p blank) replaying.replayed)
+      omega (arith, fewer, replayed-most sound cut (λ p. slice_index_or rebuilt p blank) replaying.replayed)
 
   pub replayed_in-short : (rebuilt : List MemberRecord) → IsReplaying next old rebuilt → replayed_in old rebuilt ≤ 8192
-  replayed_in-short rebuilt replaying = omega (arith, replayed_in-most rebuilt replaying, to-replay-short next old sound (recovered_trace old) cut, sound.room, sound.config.limit.1)
+  replayed_in-short rebuilt replaying = omega (arith, replayed_in-most rebuilt replaying, to-replay-short sound cut, sound.room, sound.config.limit.1)
 
   -- the logs stay within their bound
   pub working-log : (rebuilt : List MemberRecord) → IsReplaying next old rebuilt → (q : ℕ) → q < old.config.members → length (working old rebuilt q).log ≤ 8192
-  working-log rebuilt replaying q below = replays-log next old sound (recovered_trace old) cut q (working old rebuilt q) (working-replays rebuilt replaying q below)
+  working-log rebuilt replaying q below = replays-log sound cut q (working old rebuilt q) (working-replays rebuilt replaying q below)
 
   -- new tables change nothing of the replay
   pub replaying-tables : (rebuilt given : List MemberRecord) (t : List Entry) → IsReplaying next old rebuilt → length given ≡ length rebuilt
       → ((p : ℕ) → p < old.config.members → IsDown (knowledge old) p → slice_index_or given p blank ≡ record (slice_index_or rebuilt p blank) { table = t }) → IsReplaying next old given
   replaying-tables rebuilt given t replaying size same = record {
     size = size ∙ replaying.size;
-    replayed = λ p below down. subst (Replays p) (sym (same p below down))
+    replayed = λ p below down. rw (same p below down)
         (replayed-table next old.config.members old (recovered_trace old) p (slice_index_or rebuilt p blank) t (replaying.replayed p below down));
-    begun = λ p below down. (let e = ap (λ (m : MemberRecord). m.received) (same p below down) in omega (arith, e, replaying.begun p below down));
+    begun = λ p below down. rw (same p below down) (replaying.begun p below down);
   }
 
   -- where each member that is down waits, all is replayed
   module _ (rebuilt : List MemberRecord) (replaying : IsReplaying next old rebuilt) (waiting : (p : ℕ) → p < old.config.members → IsDown (knowledge old) p → IsWaiting old rebuilt p) where
     pub working-received : (q : ℕ) → q < old.config.members → (working old rebuilt q).received ≡ length (receipts_at (map mark_of (recovered_trace old)) q)
     working-received =
-        all-replayed next old sound (recovered_trace old) cut (working old rebuilt) (working-replays rebuilt replaying) (working-all rebuilt)
-        (λ p below down d is. waiting p below down d (rw (working-down rebuilt p down) at is))
+        all-replayed sound cut (working old rebuilt) (working-replays rebuilt replaying) (working-all rebuilt)
+        (λ p below down d is. waiting p below down d (rw down at is))
 
     pub rebuilt-received : (p : ℕ) → p < old.config.members → IsDown (knowledge old) p
         → (slice_index_or rebuilt p blank).received ≡ length (receipts_at (map mark_of (recovered_trace old)) p)
-    rebuilt-received p below down = ap (λ (m : MemberRecord). m.received) (sym (working-down rebuilt p down)) ∙ working-received p below
+    rebuilt-received p below down = rw down at (working-received p below)
 
     -- as many are replayed as the trace has of the members that are down, beyond those of their checkpoints
     pub replayed_in-all : replayed_in old rebuilt ≡ length (filter (is_replayed old) (receipts (map mark_of (recovered_trace old))))
     replayed_in-all =
         count_in-same old.down (λ p. (slice_index_or rebuilt p blank).received - (member_checkpoint old p).received)
         (λ p. (working old rebuilt p).received - (member_checkpoint old p).received) old.config.members
-        (λ p below down. ap (λ (m : MemberRecord). m.received - (member_checkpoint old p).received) (sym (working-down rebuilt p down)))
-        ∙ replayed-count next old sound (recovered_trace old) cut (working old rebuilt) (λ p. (member_checkpoint old p).received) working-received
+        (λ p below down. rw down refl)
+        ∙ replayed-count sound cut (working old rebuilt) (λ p. (member_checkpoint old p).received) working-received
 
     -- the events that stay are those that the counts of the members that are down cover
     pub recovered_trace-counts : filter (λ e. stays_by old.down (working old rebuilt) (mark_of e)) old.trace ≡ recovered_trace old
@@ -208,28 +184,25 @@ module _ (next : Next) (old : GroupRecord) (sound : IsSound next old) where
     pub recovered_trace-rebuilt : filter (λ e. stays_by old.down (λ p. slice_index_or rebuilt p blank) (mark_of e)) old.trace ≡ recovered_trace old
     recovered_trace-rebuilt =
         filter-agree (λ e. stays_by old.down (λ p. slice_index_or rebuilt p blank) (mark_of e)) (λ e. stays_by old.down (working old rebuilt) (mark_of e)) old.trace
-        (λ i e here. stays_by-agree old.down (λ p. slice_index_or rebuilt p blank) (working old rebuilt) (λ p down. sym (working-down rebuilt p down)) (mark_of e))
+        (λ i e here. stays_by-agree old.down (λ p. slice_index_or rebuilt p blank) (working old rebuilt) (λ p down. rw down refl) (mark_of e))
         ∙ recovered_trace-counts
 
     -- so a group with these records, and with channels made again, is the group recovered
     module _ (new : GroupRecord) (step : IsRebuilt old new rebuilt) where
       is-lawful : Lawful next new.config.members new.config.starts new.trace
-      is-lawful = (let config : new.config ≡ old.config = step.rest.config in let trace : new.trace ≡ recovered_trace old = step.trace in rw (config, trace) lawful)
+      is-lawful = rw (step.rest.config, step.trace) lawful
 
       rebuilt-fold : (m : ℕ) → m < old.config.members → IsDown (knowledge old) m → IsFold next new m
       rebuilt-fold m below down =
-          let config : new.config ≡ old.config = step.rest.config in
-          let trace : new.trace ≡ recovered_trace old = step.trace in
-          let is : member new m ≡ record (slice_index_or rebuilt m blank) { table = recovery_table (knowledge old) } = step.rebuilt m below down in
           replayed-fold next new m is-lawful.well_formed
-          (rw (config, trace, is)
+          (rw (step.rest.config, step.trace, step.rebuilt m below down)
           (replayed-table next old.config.members old (recovered_trace old) m (slice_index_or rebuilt m blank) (recovery_table (knowledge old)) (replaying.replayed m below down)))
-          (rw (trace, is) (rebuilt-received m below down))
+          (rw (step.trace, step.rebuilt m below down) (rebuilt-received m below down))
 
       fold-all : (m : ℕ) → m < old.config.members → IsFold next new m
       fold-all m below = elim (down_or_up old.down m) [
         | inl down ↦ rebuilt-fold m below down
-        | inr up ↦ fold-survives next old sound (recovered_trace old) cut new m up step.trace step.rest.config (step.rest.survivors m up) (sound.folds m below up)
+        | inr up ↦ fold-survives sound cut new m up step.trace step.rest.config (step.rest.survivors m up) (sound.folds m below up)
       ]
 
       outside : (q p : ℕ) → (old.config.members ≤ q) ⊎ (old.config.members ≤ p) → channel new q p ≡ []
@@ -237,19 +210,19 @@ module _ (next : Next) (old : GroupRecord) (sound : IsSound next old) where
 
       made : (q p : ℕ) → IsDown (knowledge old) q ⊎ IsDown (knowledge old) p → IsMadeAgain new q p
       made q p down = elim (cases_lt q old.config.members) [
-        | inr past ↦ made-again-outside new q p is-lawful.well_formed (inl (let config : new.config ≡ old.config = step.rest.config in rw config past)) (outside q p (inl past))
+        | inr past ↦ made-again-outside new q p is-lawful.well_formed (inl (rw step.rest.config past)) (outside q p (inl past))
         | inl below_q ↦ elim (cases_lt p old.config.members) [
-          | inr past ↦ made-again-outside new q p is-lawful.well_formed (inr (let config : new.config ≡ old.config = step.rest.config in rw config past)) (outside q p (inr past))
+          | inr past ↦ made-again-outside new q p is-lawful.well_formed (inr (rw step.rest.config past)) (outside q p (inr past))
           | inl below_p ↦
               made-again next new is-lawful q p (fold-all q below_q) (fold-all p below_p) (omega (arith, below_q, sound.config.members.1))
-              (step.resent q p down below_q below_p ∙ ap (λ f. resent_to f q p (member new q) (member new p)) (let config : new.config ≡ old.config = step.rest.config in rw config refl))
+              (step.resent q p down below_q below_p ∙ rw step.rest.config refl)
         ]
       ]
 
       pub recovery-made : IsRecovery next old new
       recovery-made = record {
         rest = step.rest;
-        trace = (let trace : new.trace ≡ recovered_trace old = step.trace in rw trace cut);
+        trace = rw step.trace cut;
         folds = rebuilt-fold;
         gathered = λ m below down. ap (λ (x : MemberRecord). x.table) (step.rebuilt m below down);
         made_again = made;

@@ -1,7 +1,8 @@
 -- A member that replays its receipts one after the other.
-use Rattle.std.proofs.Common.{◌≡◌, ◌≢◌, ℕ, zero, suc, ◌+◌, ◌<◌, ◌≤◌, length-append, ◌==◌, Bool, true, false, cond, List, [], ◌∷◌, ◌++◌, length}
+use Rattle.std.proofs.Common.{◌≡◌, ℕ, zero, suc, ◌<◌, ◌≤◌, length-append, ◌==◌, Bool, true, false, cond, List, [], ◌∷◌, ◌++◌, length}
 use Rattle.std.proofs.Common.{take, map, get_or, Some, slice_get, refl, sym, ap, ◌∙◌, arith}
 use Rattle.std.specs.Prelude.{slice_set}
+use Rattle.std.proofs.lemmas.Bool.{eqb-true}
 use Rattle.std.proofs.lemmas.Bool.Decides.{nat_tests}
 use Rattle.std.proofs.lemmas.List.{take_all, take-append-le, length-set, length-replicate, get_or-replicate, get_or-set_same, get_or-set_other}
 use Rattle.std.proofs.lemmas.List.Sums.{fold_push}
@@ -10,8 +11,6 @@ use Rattle.fbl_base.specs.declared.trace.Determinant.{Determinant}
 use Rattle.fbl_base.specs.declared.trace.Note.{Note}
 use Rattle.fbl_base.specs.declared.trace.Start.{Start}
 use Rattle.fbl_base.specs.declared.trace.Event.{Event}
-use Rattle.fbl_base.specs.declared.trace.Event.TheVariants as event
-use Rattle.fbl_base.specs.declared.trace.Mark.TheVariants.{Receipt}
 use Rattle.fbl_base.specs.Events.{mark_of, receipt_of}
 use Rattle.fbl_base.specs.Precedence.{Has}
 use Rattle.fbl_base.specs.Rules.{WellFormed}
@@ -24,6 +23,7 @@ use Rattle.fbl_law.specs.Groups.{GroupRecord, member, marks}
 use Rattle.fbl_law.specs.Sound.{received_notes, IsFold, receipts_at, last_among, IsReplayed}
 use Rattle.fbl_law.proofs.Lists.{some-at}
 use Rattle.fbl_law.proofs.Logs.{received-fold}
+use Rattle.fbl_law.proofs.Notes.{receipt-at}
 use Rattle.fbl_law.proofs.Receipts.{receipts_at-number, receipts_at-Has, Has-receipts_at, length-received_notes, note-at, last_taken-among}
 
 -- a fresh member has replayed nothing
@@ -54,11 +54,9 @@ replayed-step next n starts trace p m d note obeys replayed here noted = record 
     at : (q : ℕ) → q < 16 → (b : Bool) → (d.from == q) ≡ b
         → get_or (slice_set m.last d.from d.ssn) q 0 ≡ cond (d.from == q) d.ssn (last_among (take m.received (receipts_at (map mark_of trace) p)) q)
     at q below true is =
-        let same : d.from ≡ q = grind (arith, nat_tests) in
+        let same = eqb-true d.from q is in
         rw (is, ← same) (get_or-set_same m.last d.from d.ssn 0 (omega (arith, replayed.places, same, below)))
-    at q below false is =
-        let other : q ≢ d.from = grind (arith, nat_tests) in
-        rw is (get_or-set_other m.last d.from q d.ssn 0 other ∙ replayed.last q below)
+    at q below false is = rw is (get_or-set_other m.last d.from q d.ssn 0 (grind (arith, nat_tests)) ∙ replayed.last q below)
 
 -- a member at the fold of its receipts has replayed them all
 pub fold-received : (next : Next) (r : GroupRecord) (m : ℕ) → WellFormed r.config.members (marks r) → IsFold next r m → (member r m).received ≡ length (receipts_at (marks r) m)
@@ -67,43 +65,33 @@ fold-received next r m obeys fold' =
     received-fold next m r.config.members (begun m r.config.starts) (received_notes r.trace m) ∙ omega arith in
     ap (λ (x : Progress). x.received) fold'.progress ∙ count ∙ length-received_notes r.config.members r.trace m obeys
 
+-- a member with as many receipts as the trace has of it has them all
+pub all-taken : (n : ℕ) (t : List Event) (p k : ℕ) → WellFormed n (map mark_of t) → k ≡ length (receipts_at (map mark_of t) p)
+    → (take k (received_notes t p) ≡ received_notes t p) × (take k (receipts_at (map mark_of t) p) ≡ receipts_at (map mark_of t) p)
+all-taken n t p k obeys count =
+    (take_all k (received_notes t p) (omega (arith, length-received_notes n t p obeys)), take_all k (receipts_at (map mark_of t) p) (omega arith))
+
 pub fold-replayed : (next : Next) (r : GroupRecord) (m : ℕ) → WellFormed r.config.members (marks r) → IsFold next r m → IsReplayed next r.config.members r.config.starts r.trace m (member r m)
 fold-replayed next r m obeys fold' =
     let count = fold-received next r m obeys fold' in
-    let notes = length-received_notes r.config.members r.trace m obeys in
-    let all_notes : take (member r m).received (received_notes r.trace m) ≡ received_notes r.trace m = take_all (member r m).received (received_notes r.trace m) (omega (arith, count, notes)) in
-    let all_receipts : take (member r m).received (receipts_at (marks r) m) ≡ receipts_at (marks r) m = take_all (member r m).received (receipts_at (marks r) m) (omega (arith, count)) in
+    let all = all-taken r.config.members r.trace m (member r m).received obeys count in
     record {
       within = omega (arith, count);
-      progress = fold'.progress ∙ ap (λ (xs : List Note). after_notes next m r.config.members r.config.starts xs) (sym all_notes);
+      progress = rw all.0 fold'.progress;
       places = fold'.places;
-      last = λ q below. fold'.last q below ∙ last_taken-among (marks r) q m ∙ ap (λ (ds : List Determinant). last_among ds q) (sym all_receipts);
+      last = λ q below. rw all.1 (fold'.last q below ∙ last_taken-among (marks r) q m);
     }
 
 -- and the other way round
 pub replayed-fold : (next : Next) (r : GroupRecord) (m : ℕ) → WellFormed r.config.members (marks r)
     → IsReplayed next r.config.members r.config.starts r.trace m (member r m) → (member r m).received ≡ length (receipts_at (marks r) m) → IsFold next r m
 replayed-fold next r m obeys replayed count =
-    let notes = length-received_notes r.config.members r.trace m obeys in
-    let all_notes : take (member r m).received (received_notes r.trace m) ≡ received_notes r.trace m = take_all (member r m).received (received_notes r.trace m) (omega (arith, count, notes)) in
-    let all_receipts : take (member r m).received (receipts_at (marks r) m) ≡ receipts_at (marks r) m = take_all (member r m).received (receipts_at (marks r) m) (omega (arith, count)) in
+    let all = all-taken r.config.members r.trace m (member r m).received obeys count in
     record {
-      progress = replayed.progress ∙ ap (λ (xs : List Note). after_notes next m r.config.members r.config.starts xs) all_notes;
+      progress = rw all.0 at replayed.progress;
       places = replayed.places;
-      last = λ q below. replayed.last q below ∙ ap (λ (ds : List Determinant). last_among ds q) all_receipts ∙ sym (last_taken-among (marks r) q m);
+      last = λ q below. rw all.1 at (replayed.last q below) ∙ sym (last_taken-among (marks r) q m);
     }
-
--- the receipt at a place of the marks is one of the events
-receipt-event : (t : List Event) (i to rsn from ssn : ℕ) → slice_get (map mark_of t) i ≡ Some (Receipt to rsn from ssn) → slice_get t i ≡ Some (event.Receipt to rsn from ssn)
-receipt-event [] i to rsn from ssn here = absurd cc
-receipt-event (event.Send q k p x ∷ t) zero to rsn from ssn here = absurd cc
-receipt-event (event.Receipt p r q k ∷ t) zero to rsn from ssn here =
-    let e1 : p ≡ to = cc in
-    let e2 : r ≡ rsn = cc in
-    let e3 : q ≡ from = cc in
-    let e4 : k ≡ ssn = cc in
-    rw (e1, e2, e3, e4) refl
-receipt-event (e ∷ t) (suc i) to rsn from ssn here = receipt-event t i to rsn from ssn here
 
 -- lists that agree on their first elements
 take-agree : {X : Type 0} (k : ℕ) (xs ys : List X) → k ≤ length xs → ((j : ℕ) (x : X) → j < k → slice_get xs j ≡ Some x → slice_get ys j ≡ Some x)
@@ -112,9 +100,9 @@ take-agree zero xs ys within agree = (omega arith, refl)
 take-agree (suc k) [] ys within agree = absurd (omega arith)
 take-agree (suc k) (x ∷ xs) [] within agree = (let e = agree 0 x (omega arith) refl in cc)
 take-agree (suc k) (x ∷ xs) (y ∷ ys) within agree =
-    let first : y ≡ x = (let e = agree 0 x (omega arith) refl in cc) in
+    let first = agree 0 x (omega arith) refl in
     let rest = take-agree k xs ys (omega arith) (λ j z below at. agree (suc j) z (omega arith) at) in
-    (omega (arith, rest.0), (rw first (ap (λ zs. x ∷ zs) rest.1)))
+    (omega (arith, rest.0), cc)
 
 -- a member that has replayed its first receipts of a trace has replayed them of another trace that has the same
 replayed-same : (next : Next) (n : ℕ) (starts : List Start) (old new : List Event) (p : ℕ) (m : MemberRecord)
@@ -124,9 +112,9 @@ replayed-same : (next : Next) (n : ℕ) (starts : List Start) (old new : List Ev
     → IsReplayed next n starts old p m → IsReplayed next n starts new p m
 replayed-same next n starts old new p m within receipts notes replayed = record {
   within = within;
-  progress = replayed.progress ∙ ap (λ (xs : List Note). after_notes next p n starts xs) notes;
+  progress = rw notes at replayed.progress;
   places = replayed.places;
-  last = λ q below. replayed.last q below ∙ ap (λ (ds : List Determinant). last_among ds q) receipts;
+  last = λ q below. rw receipts at (replayed.last q below);
 }
 
 -- so also where the other trace keeps its receipts so far, and no note is new
@@ -151,7 +139,7 @@ replayed-cut next n starts old new p m obeys_old obeys_new note-was stays replay
         let d = receipt.0 in
         let left = there j d below receipt.1 in
         let has = receipts_at-Has (map mark_of new) p j d left in
-        let event = receipt-event new has.0.0 d.to d.rsn d.from d.ssn has.0.1 in
+        let event = receipt-at new has.0.0 d.to d.rsn d.from d.ssn has.0.1 in
         let note = receipts-noted n new obeys_new has.0.0 d.to d.rsn d.from d.ssn event in
         let now = note-at n new p j d note.0 obeys_new left note.1 in
         let before = note-at n old p j d note.0 obeys_old receipt.1 (note-was d.from d.ssn note.0 note.1) in

@@ -1,7 +1,6 @@
 -- What every run keeps.
-use Rattle.std.proofs.Common.{arith}
+use Rattle.std.proofs.Common.{arith, []}
 use Rattle.fbl_base.proofs.PrecedenceLaws.{Has-first}
-use Rattle.std.proofs.Common.{[]}
 use Rattle.std.specs.List.{Contains}
 use Rattle.fbl_table.specs.declared.entry.Entry.{Entry}
 use Rattle.fbl_law.specs.Knowledge.{Store, IsThere, entries, in_table, in_message, in_checkpoint}

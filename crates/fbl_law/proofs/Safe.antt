@@ -24,6 +24,10 @@ down_or_up s m = cases_Bool (set.contains s m)
 pub never_both : {A : Type 0} (s : Members) (m : ℕ) → Includes s m → set.contains s m ≡ false → A
 never_both s m is is_not = absurd cc
 
+-- where nobody is down, each member is up
+pub up_if_none : {s : Members} → s ≡ set.empty → (m : ℕ) → set.contains s m ≡ false
+up_if_none none m = rw none (set.contains-empty nat_cmp m)
+
 -- where members that are down have nothing, what is in a channel has its ends up
 pub up_at_ends : (r : Knowledge) → ((q p : ℕ) → IsDown r q ⊎ IsDown r p → r.channel q p ≡ []) → (q p : ℕ) (v : Message) → Contains (r.channel q p) v → IsUp r q × IsUp r p
 up_at_ends r empty q p v among = elim (down_or_up r.down q) [
@@ -88,9 +92,6 @@ no_orphan f r closed m orphan = orphan.1.2 (IsRecorded-depended f r closed orpha
 pub nobody_down_empty : (f : ℕ) (r : Knowledge) → r.down ≡ set.empty → IsDownEmpty f r
 nobody_down_empty f r none = record {
   few = rw (none, set.len-empty nat_cmp) (omega arith);
-  tables = λ m down. never_both r.down m down (up m);
-  channels = λ q p down. elim down [ inl d ↦ never_both r.down q d (up q) | inr d ↦ never_both r.down p d (up p) ];
+  tables = λ m down. never_both r.down m down (up_if_none none m);
+  channels = λ q p down. elim down [ inl d ↦ never_both r.down q d (up_if_none none q) | inr d ↦ never_both r.down p d (up_if_none none p) ];
 }
-  where
-    up : (m : ℕ) → IsUp r m
-    up m = rw none (set.contains-empty nat_cmp m)

@@ -17,6 +17,7 @@ use Rattle.fbl_table.specs.declared.entry.Entry.{Entry}
 use Rattle.fbl_member.specs.Members.{MemberRecord, blank}
 use Rattle.fbl_law.specs.Knowledge.{Includes, Names}
 use Rattle.fbl_table.specs.Tables.{added, held_by, gathered, learned, noted, piggybacked}
+use Rattle.fbl_law.proofs.Safe.{never_both}
 use Rattle.fbl_law.proofs.Lists.{Contains-map, Contains-changed, Contains-here, Contains-there, Contains-cons_cases, Contains-none, Contains-filter, Contains-from_filter}
 
 pub Includes-insert : (s : Members) (m : ℕ) → Includes (set.insert s m) m
@@ -26,7 +27,7 @@ pub Includes-insert_cases : (s : Members) (p m : ℕ) → Includes (set.insert s
 Includes-insert_cases s p m h = elim (cases_eq m p) [ inl same ↦ inl same | inr other ↦ inr (sym (contains-insert_other s p m other) ∙ h) ]
 
 pub Includes-only : (p m : ℕ) → Includes (set.insert set.empty p) m → m ≡ p
-Includes-only p m h = elim (Includes-insert_cases set.empty p m h) [ inl same ↦ same | inr in_none ↦ absurd (let none : set.contains set.empty m ≡ false = set.contains-empty nat_cmp m in cc) ]
+Includes-only p m h = elim (Includes-insert_cases set.empty p m h) [ inl same ↦ same | inr in_none ↦ never_both set.empty m in_none (set.contains-empty nat_cmp m) ]
 
 pub Includes-union : (s t : Members) (m : ℕ) → Includes (set.union s t) m → Includes s m ⊎ Includes t m
 Includes-union s t m h = or_cases (set.contains s m) (set.contains t m) (sym (set.contains-union nat_cmp_total s t m) ∙ h)

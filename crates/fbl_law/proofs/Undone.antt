@@ -1,6 +1,6 @@
 -- The receipts that a recovery undoes.
-use Rattle.std.proofs.Common.{◌≡◌, ℕ, suc, ◌+◌, not, Bool, true, false, cond, List, [], ◌∷◌, length, map, Option, Some, None, slice_get, refl, sym, ap, ◌∙◌}
-use Rattle.std.specs.List.{filter, filter_map, cons_option}
+use Rattle.std.proofs.Common.{arith, ◌≡◌, ℕ, suc, ◌+◌, not, Bool, List, [], ◌∷◌, length, map, Option, Some, slice_get, refl, ap, ◌∙◌}
+use Rattle.std.specs.List.{filter, filter_map}
 use Rattle.std.proofs.lemmas.List.Filters.{length-filter_both}
 use Rattle.fbl_base.specs.declared.trace.Determinant.{Determinant}
 use Rattle.fbl_base.specs.declared.trace.Event.{Event}
@@ -11,39 +11,31 @@ use Rattle.fbl_base.specs.Fold.{Next}
 use Rattle.fbl_law.specs.Steps.{Stays, IsEventCut}
 use Rattle.fbl_law.specs.Groups.{GroupRecord, marks, knowledge, receipts, is_recorded}
 use Rattle.fbl_law.specs.Sound.{IsSound}
-use Rattle.fbl_law.proofs.CutWellFormed.{marks-filter, Has-kept, kept-Has}
+use Rattle.fbl_law.proofs.GroupRecovery.{cut-marks, cut-was, cut-left, cut-recorded, recorded-cut}
 use Rattle.fbl_law.proofs.GroupStrike.{recorded_test}
 use Rattle.fbl_base.proofs.Received.{is_receipt}
 use Rattle.fbl_law.proofs.CutByCounts.{same-test}
-use Rattle.fbl_law.proofs.ReplayFromGathered.{cut-recorded, recorded-cut}
 
 -- a filter before a map, and after it
 filter_map-after : {X Y : Type 0} (K : X → Bool) (R : Y → Bool) (g : X → Option Y) (xs : List X)
     → ((i : ℕ) (x : X) (y : Y) → slice_get xs i ≡ Some x → g x ≡ Some y → K x ≡ R y) → filter_map g (filter K xs) ≡ filter R (filter_map g xs)
 filter_map-after K R g [] agree = refl
-filter_map-after {X} {Y} K R g (x ∷ xs) agree = at (g x) refl (K x) refl (λ y. agree 0 x y refl) (filter_map-after K R g xs (λ i. agree (suc i))) where
-  at : (o : Option Y) → g x ≡ o → (b : Bool) → K x ≡ b → ((y : Y) → g x ≡ Some y → K x ≡ R y) → filter_map g (filter K xs) ≡ filter R (filter_map g xs)
-      → filter_map g (cond (K x) (x ∷ filter K xs) (filter K xs)) ≡ filter R (cons_option o (filter_map g xs))
-  at None eo true eb same ih = rw (eb, eo) ih
-  at None eo false eb same ih = rw eb ih
-  at (Some y) eo true eb same ih = (let r : R y ≡ true = sym (same y eo) ∙ eb in rw (eb, eo, r) (ap (λ ys. y ∷ ys) ih))
-  at (Some y) eo false eb same ih = (let r : R y ≡ false = sym (same y eo) ∙ eb in rw (eb, r) ih)
+filter_map-after {X} {Y} K R g (x ∷ xs) agree =
+    let here : (y : Y) → g x ≡ Some y → K x ≡ R y = λ y. agree 0 x y refl in
+    grind (arith, here, filter_map-after K R g xs (λ i. agree (suc i)))
 
 module _ (next : Next) (old : GroupRecord) (sound : IsSound next old) (new : List Event) (cut : IsEventCut (Stays (knowledge old)) old.trace new) where
-  is-cut : map mark_of new ≡ filter cut.0 (marks old)
-  is-cut = (let e = cut.1 in rw e (marks-filter cut.0 old.trace))
-
   kept-recorded : (i : ℕ) (e : Mark) (d : Determinant) → slice_get (marks old) i ≡ Some e → determinant_of e ≡ Some d → cut.0 e ≡ is_recorded old d
   kept-recorded i e d here is =
       let receipt = is_receipt e d is in
       let there : Has (marks old) (receipt_of d) = (i, here ∙ ap Some receipt) in
       ap cut.0 receipt ∙ same-test (cut.0 (receipt_of d)) (is_recorded old d)
-      (λ kept. (recorded_test next old d sound).1 (cut-recorded next old sound new cut d (rw is-cut (Has-kept cut.0 (marks old) (receipt_of d) there kept))))
-      (λ recorded. kept-Has cut.0 (marks old) (receipt_of d) (rw is-cut at (recorded-cut next old sound new cut d ((recorded_test next old d sound).0 recorded))))
+      (λ kept. (recorded_test next old d sound).1 (cut-recorded sound cut d (cut-left sound cut (receipt_of d) there kept)))
+      (λ recorded. (cut-was sound cut (receipt_of d) (recorded-cut sound cut d ((recorded_test next old d sound).0 recorded))).1)
 
   -- the receipts of the cut are those that are recorded
   pub cut-receipts : receipts (map mark_of new) ≡ filter (is_recorded old) (receipts (marks old))
-  cut-receipts = ap receipts is-cut ∙ filter_map-after cut.0 (is_recorded old) determinant_of (marks old) kept-recorded
+  cut-receipts = ap receipts (cut-marks sound cut) ∙ filter_map-after cut.0 (is_recorded old) determinant_of (marks old) kept-recorded
 
   -- so the receipts that the trace loses are those that aren't
   pub cut-undone : length (receipts (map mark_of new)) + length (filter (λ d. not (is_recorded old d)) (receipts (marks old))) ≡ length (receipts (marks old))

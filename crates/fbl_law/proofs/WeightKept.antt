@@ -1,9 +1,10 @@
 -- What the step keeps of a weight, the group keeps.
-use Rattle.std.proofs.Common.{◌≡◌, ◌≢◌, ℕ, zero, suc, ◌+◌, ◌<◌, ◌≤◌, ◌==◌, ◌&&◌, Bool, true, false, cond, List, [], ◌∷◌, ◌++◌, inl, inr, drop}
-use Rattle.std.proofs.Common.{map, Option, Some, None, length, slice_get, subst, refl, sym, ap, ◌∙◌, arith}
+use Rattle.std.proofs.Common.{◌≡◌, ℕ, zero, suc, ◌+◌, ◌<◌, ◌≤◌, ◌==◌, ◌&&◌, false, cond, List, [], ◌∷◌, ◌++◌, inl, inr, drop}
+use Rattle.std.proofs.Common.{map, Option, Some, None, length, slice_get, refl, sym, ap, ◌∙◌, arith}
 use Rattle.std.specs.Prelude.{sum_by}
 use Rattle.std.specs.List.{All, Contains, filter_map, fold}
 use Rattle.std.specs.FinSet as set
+use Rattle.std.proofs.lemmas.Bool.{cases_eq, ne_eqb}
 use Rattle.std.proofs.lemmas.Bool.Decides.{nat_tests}
 use Rattle.std.proofs.lemmas.List.Elements.{All-head, All-tail}
 use Rattle.std.proofs.lemmas.List.Sums.{sum_by-cons, sum_by-append, sum_by_push}
@@ -15,22 +16,21 @@ use Rattle.fbl_base.specs.declared.trace.Mark.{Mark}
 use Rattle.fbl_base.specs.declared.trace.Mark.TheVariants as mark
 use Rattle.fbl_base.specs.Events.{mark_of}
 use Rattle.fbl_base.specs.Rules.{WellFormed, MayFollow, in_flight}
-use Rattle.fbl_base.specs.Fold.{Next, Progress, Action, took, sent, Lawful, action_of, actions_of, notes_of, note_of, responses, starts_of}
-use Rattle.fbl_base.proofs.FoldLaws.{after_notes-state}
+use Rattle.fbl_base.specs.Fold.{Next, Action, took, sent, Lawful, action_of, actions_of, notes_of, note_of, responses, starts_of}
 use Rattle.fbl_base.proofs.InFlightLaws.{in_flight-send, in_flight-receipt}
 use Rattle.fbl_base.proofs.LawfulLaws.{receipts-noted}
 use Rattle.fbl_base.proofs.RulesLaws.{WellFormed-keeps, eqb-self}
-use Rattle.fbl_member.specs.Members.{Message, MemberRecord}
+use Rattle.fbl_member.specs.Members.{Message}
 use Rattle.fbl_law.specs.Knowledge.{send_mark, IsInFlight, IsUp, IsDown}
-use Rattle.fbl_law.specs.StepLaws.{StepKeeps, HoldsFirst, StepMakesNone, StepLosesNone, StepConserves, weight_held, weight_flying, weight_of_starts, weight_at_first, WeighsNoMore}
+use Rattle.fbl_law.specs.StepLaws.{StepKeeps, HoldsFirst, StepMakesNone, StepLosesNone, StepConserves, weight_after, weight_held, weight_flying, weight_of_starts, weight_at_first, WeighsNoMore}
 use Rattle.fbl_law.specs.StepLaws.{WeighsNoLess, WeighsTheSame}
 use Rattle.fbl_law.specs.Groups.{GroupRecord, member, channel, marks, knowledge, messages_in_flight, sum_below}
 use Rattle.fbl_law.specs.Sound.{IsSound, received_notes}
-use Rattle.fbl_law.proofs.GroupFacts.{all_up, channel_ends, same_channel}
+use Rattle.fbl_law.proofs.GroupFacts.{all_up, up_state, channel_ends, same_channel}
 use Rattle.fbl_law.proofs.Lists.{Contains-here, Contains-there}
 use Rattle.fbl_law.proofs.Safe.{down_or_up}
-use Rattle.fbl_law.proofs.KeptByStep.{Came, all-came, receipt-mark}
-use Rattle.fbl_law.proofs.Notes.{sent-noted, send-mark}
+use Rattle.fbl_law.proofs.KeptByStep.{Came, all-came}
+use Rattle.fbl_law.proofs.Notes.{sent-noted, mark-at}
 use Rattle.fbl_law.proofs.ChannelCounts.{sum_below-agree}
 
 -- sums over members
@@ -49,31 +49,24 @@ sum_below-none (suc n) = omega (arith, sum_below-none n)
 -- one member's term is a part of the sum
 sum_below-part : (n k : ℕ) (a : ℕ → ℕ) → k < n → a k ≤ sum_below n a
 sum_below-part zero k a below = absurd (omega arith)
-sum_below-part (suc n) k a below = at (k == n) refl (λ less. sum_below-part n k a less) where
-  at : (c : Bool) → (k == n) ≡ c → (k < n → a k ≤ sum_below n a) → a k ≤ sum_below n a + a n
-  at true is ih = (let same : k ≡ n = grind (arith, nat_tests) in omega (arith, ap a same))
-  at false is ih = (let ne : k ≢ n = grind (arith, nat_tests) in omega (arith, ih (omega arith)))
+sum_below-part (suc n) k a below = elim (cases_eq k n) [ inl same ↦ omega (arith, ap a same) | inr other ↦ omega (arith, sum_below-part n k a (omega arith)) ]
 
 -- one member's term grows
 sum_below-at : (n k d : ℕ) (a b : ℕ → ℕ) → k < n → b k ≡ a k + d → ((x : ℕ) → (k == x) ≡ false → b x ≡ a x) → sum_below n b ≡ sum_below n a + d
 sum_below-at zero k d a b below more others = absurd (omega arith)
-sum_below-at (suc n) k d a b below more others = at (k == n) refl (λ less. sum_below-at n k d a b less more others) where
-  at : (c : Bool) → (k == n) ≡ c → (k < n → sum_below n b ≡ sum_below n a + d) → sum_below n b + b n ≡ sum_below n a + a n + d
-  at true is ih =
-      let same : k ≡ n = grind (arith, nat_tests) in
-      let rest : sum_below n b ≡ sum_below n a = sum_below-agree n b a (λ x less. others x (let ne : k ≢ x = omega arith in grind (arith, nat_tests))) in
-      let here : b n ≡ a n + d = subst (λ (x : ℕ). b x ≡ a x + d) same more in
-      omega (arith, rest, here)
-  at false is ih =
-      let ne : k ≢ n = grind (arith, nat_tests) in
-      omega (arith, ih (omega arith), others n is)
+sum_below-at (suc n) k d a b below more others = elim (cases_eq k n) [
+  | inl same ↦
+      let rest : sum_below n b ≡ sum_below n a = sum_below-agree n b a (λ x less. others x (grind (arith, nat_tests))) in
+      omega (arith, rest, rw same at more)
+  | inr other ↦ omega (arith, sum_below-at n k d a b (omega arith) more others, others n (ne_eqb k n other))
+]
 
 -- one pair's term grows
 table-at : (n q p d : ℕ) (a b : ℕ → ℕ → ℕ) → q < n → p < n → b q p ≡ a q p + d → ((x y : ℕ) → (q == x && p == y) ≡ false → b x y ≡ a x y)
     → sum_below n (λ x. sum_below n (b x)) ≡ sum_below n (λ x. sum_below n (a x)) + d
 table-at n q p d a b below_q below_p more others =
     sum_below-at n q d (λ x. sum_below n (a x)) (λ x. sum_below n (b x)) below_q
-    (sum_below-at n p d (a q) (b q) below_p more (λ y is. others q y (let self = eqb-self q in rw (self, is) refl)))
+    (sum_below-at n p d (a q) (b q) below_p more (λ y is. others q y (rw (eqb-self q, is) refl)))
     (λ x is. sum_below-agree n (b x) (a x) (λ y less. others x y (rw is refl)))
 
 -- what flows through the channels, with a weight for each message
@@ -107,9 +100,7 @@ module _ (n : ℕ) (w : ℕ → ℕ → ℕ) where
         let e : Mark = mark.Send q s p in
         let cell : (a b : ℕ) → weight_in (t ++ e ∷ []) a b ≡ sum_by (w a) (in_flight t a b ++ cond (q == a && p == b) (s ∷ []) []) =
         λ a b. ap (sum_by (w a)) (in_flight-send n t obeys q s p a b may) in
-        let self_q = eqb-self q in
-        let self_p = eqb-self p in
-        let here : weight_in (t ++ e ∷ []) q p ≡ weight_in t q p + w q s = cell q p ∙ (rw (self_q, self_p) (sum_by_push (w q) (in_flight t q p) s)) in
+        let here : weight_in (t ++ e ∷ []) q p ≡ weight_in t q p + w q s = cell q p ∙ (rw (eqb-self q, eqb-self p) (sum_by_push (w q) (in_flight t q p) s)) in
         let others : (a b : ℕ) → (q == a && p == b) ≡ false → weight_in (t ++ e ∷ []) a b ≡ weight_in t a b = λ a b is. cell a b
         ∙ (rw is (omega (arith, sum_by-append (w a) (in_flight t a b) []))) in
         let grown = table-at n q p (w q s) (weight_in t) (weight_in (t ++ e ∷ [])) may.0 may.1 here others in
@@ -118,40 +109,31 @@ module _ (n : ℕ) (w : ℕ → ℕ → ℕ) where
         let e : Mark = mark.Receipt p r q s in
         let cell : (a b : ℕ) → weight_in (t ++ e ∷ []) a b ≡ sum_by (w a) (cond (q == a && p == b) (drop 1 (in_flight t a b)) (in_flight t a b)) =
         λ a b. ap (sum_by (w a)) (in_flight-receipt n t obeys p r q s a b may) in
-        let self_q = eqb-self q in
-        let self_p = eqb-self p in
-        let left : weight_in (t ++ e ∷ []) q p ≡ sum_by (w q) (drop 1 (in_flight t q p)) = cell q p ∙ (rw (self_q, self_p) refl) in
+        let left : weight_in (t ++ e ∷ []) q p ≡ sum_by (w q) (drop 1 (in_flight t q p)) = cell q p ∙ (rw (eqb-self q, eqb-self p) refl) in
         let here : weight_in t q p ≡ weight_in (t ++ e ∷ []) q p + w q s = omega (arith, left, drop-first q s (in_flight t q p) may.5) in
         let others : (a b : ℕ) → (q == a && p == b) ≡ false → weight_in t a b ≡ weight_in (t ++ e ∷ []) a b = λ a b is. sym (cell a b ∙ (rw is refl)) in
         let shrunk = table-at n q p (w q s) (weight_in (t ++ e ∷ [])) (weight_in t) may.0 may.1 here others in
         omega (arith, shrunk, ih, sum_by_push into t e, sum_by_push out t e)
 
--- what each of n members does, summed over the members, is what the events do
-module _ (n : ℕ) (t : List Event) (g : Action → ℕ) (h : Mark → ℕ) where
-  -- the event is of one of the members, and weighs what its action does
-  abbrev pub Fits : Event → Type 0
-  Fits (Send q s p x) = (q < n) × (g (sent (p, x)) ≡ h (mark.Send q s p))
-  Fits (Receipt p r q s) = (p < n) × ((x : Note) × (note_of t q s ≡ Some x) × (g (took x) ≡ h (mark.Receipt p r q s)))
+-- what is given to one member each, summed over n members, is what there is
+module _ {X Y : Type 0} (n : ℕ) (part : ℕ → X → Option Y) (g : Y → ℕ) (h : X → ℕ) where
+  -- the element is given to one of the members alone, and weighs there what it does
+  abbrev IsShared : X → Type 0
+  IsShared x = (q : ℕ) × (q < n) × (y : Y) × (part q x ≡ Some y) × (g y ≡ h x) × ((m : ℕ) → (q == m) ≡ false → part m x ≡ None)
 
-  pub by-member : (v : List Event) → ((i : ℕ) (e : Event) → slice_get v i ≡ Some e → Fits e) → sum_below n (λ m. sum_by g (filter_map (action_of t m) v)) ≡ sum_by h (map mark_of v)
-  by-member [] fits = sum_below-none n
-  by-member (Send q s p x ∷ v) fits =
-      let here = fits 0 (Send q s p x) refl in
-      let self = eqb-self q in
-      let own : sum_by g (filter_map (action_of t q) (Send q s p x ∷ v)) ≡ sum_by g (filter_map (action_of t q) v) + h (mark.Send q s p) =
-      rw self (omega (arith, sum_by-cons g (sent (p, x)) (filter_map (action_of t q) v), here.1)) in
-      let others : (m : ℕ) → (q == m) ≡ false → sum_by g (filter_map (action_of t m) (Send q s p x ∷ v)) ≡ sum_by g (filter_map (action_of t m) v) = λ m is. rw is refl in
-      let all = sum_below-at n q (h (mark.Send q s p)) (λ m. sum_by g (filter_map (action_of t m) v)) (λ m. sum_by g (filter_map (action_of t m) (Send q s p x ∷ v))) here.0 own others in
-      omega (arith, all, by-member v (λ i e at. fits (suc i) e at), sum_by-cons h (mark.Send q s p) (map mark_of v))
-  by-member (Receipt p r q s ∷ v) fits =
-      let here = fits 0 (Receipt p r q s) refl in
-      let self = eqb-self p in
-      let note = here.1.1 in
-      let own : sum_by g (filter_map (action_of t p) (Receipt p r q s ∷ v)) ≡ sum_by g (filter_map (action_of t p) v) + h (mark.Receipt p r q s) =
-      rw (self, note) (omega (arith, sum_by-cons g (took here.1.0) (filter_map (action_of t p) v), here.1.2)) in
-      let others : (m : ℕ) → (p == m) ≡ false → sum_by g (filter_map (action_of t m) (Receipt p r q s ∷ v)) ≡ sum_by g (filter_map (action_of t m) v) = λ m is. rw is refl in
-      let all = sum_below-at n p (h (mark.Receipt p r q s)) (λ m. sum_by g (filter_map (action_of t m) v)) (λ m. sum_by g (filter_map (action_of t m) (Receipt p r q s ∷ v))) here.0 own others in
-      omega (arith, all, by-member v (λ i e at. fits (suc i) e at), sum_by-cons h (mark.Receipt p r q s) (map mark_of v))
+  shared : (xs : List X) → ((i : ℕ) (x : X) → slice_get xs i ≡ Some x → IsShared x) → sum_below n (λ m. sum_by g (filter_map (part m) xs)) ≡ sum_by h xs
+  shared [] each = sum_below-none n
+  shared (x ∷ xs) each =
+      let one = each 0 x refl in
+      let own : sum_by g (filter_map (part one.0) (x ∷ xs)) ≡ sum_by g (filter_map (part one.0) xs) + h x =
+      rw one.3 (omega (arith, sum_by-cons g one.2 (filter_map (part one.0) xs), one.4)) in
+      let all = sum_below-at n one.0 (h x) (λ m. sum_by g (filter_map (part m) xs)) (λ m. sum_by g (filter_map (part m) (x ∷ xs))) one.1 own
+      (λ m other. rw (one.5 m other) refl) in
+      omega (arith, all, shared xs (λ i. each (suc i)), sum_by-cons h x xs)
+
+sum_by-marks : (h : Mark → ℕ) (t : List Event) → sum_by (λ e. h (mark_of e)) t ≡ sum_by h (map mark_of t)
+sum_by-marks h [] = refl
+sum_by-marks h (e ∷ t) = omega (arith, sum_by-marks h t, sum_by-cons (λ e. h (mark_of e)) e t, sum_by-cons h (mark_of e) (map mark_of t))
 
 -- a step's weights, along the notes of a member
 module _ (weight : Note → ℕ) where
@@ -179,49 +161,13 @@ module _ (weight : Note → ℕ) where
   -- the starts of each member, summed, are the starts
   starts-weigh : (n : ℕ) (starts : List Start) → ((i : ℕ) (s : Start) → slice_get starts i ≡ Some s → s.from < n)
       → sum_below n (λ m. sum_by (λ (s : ℕ × Note). weight s.1) (starts_of m starts)) ≡ sum_by (λ (s : Start). weight s.note) starts
-  starts-weigh n [] members = sum_below-none n
-  starts-weigh n (s ∷ starts) members =
-      let f : ℕ × Note → ℕ = λ (s : ℕ × Note). weight s.1 in
-      let self = eqb-self s.from in
-      let own : sum_by f (starts_of s.from (s ∷ starts)) ≡ sum_by f (starts_of s.from starts) + weight s.note = rw self (omega (arith, sum_by-cons f (s.to, s.note) (starts_of s.from starts))) in
-      let all = sum_below-at n s.from (weight s.note) (λ m. sum_by f (starts_of m starts)) (λ m. sum_by f (starts_of m (s ∷ starts))) (members 0 s refl) own (λ m is. rw is refl) in
-      omega (arith, all, starts-weigh n starts (λ i e at. members (suc i) e at), sum_by-cons (λ (s : Start). weight s.note) s starts)
+  starts-weigh n starts members =
+      shared n (λ m s. cond (s.from == m) (Some (s.to, s.note)) None) (λ (s : ℕ × Note). weight s.1) (λ s. weight s.note) starts
+      (λ i s here. (s.from, members i s here, (s.to, s.note), rw (eqb-self s.from) refl, refl, λ m other. rw other refl))
 
   module _ (next : Next) (n : ℕ) (P : ℕ → ℕ → Type 0) (Q : ℕ → ℕ → Note → Type 0) (keeps : StepKeeps next n P Q) (mass : ℕ → ℕ → ℕ) where
     abbrev pub reached : ℕ → ℕ → List Note → ℕ
     reached m state notes = fold (λ s x. (next m n s x).state) state notes
-
-    member-makes-none : StepMakesNone next n P Q mass weight → (m state : ℕ) (notes : List Note) → m < n → P m state → All (Came next n P Q keeps m) notes
-        → mass m (reached m state notes) + sum_by given (responses next m n state notes) ≤ mass m state + sum_by weight notes
-    member-makes-none law m state [] below holds came = omega arith
-    member-makes-none law m state (x ∷ notes) below holds came =
-        let here = All-head (Came next n P Q keeps m) x notes came in
-        let ih = member-makes-none law m (next m n state x).state notes below (keeps m here.0 state x below holds here.1).0 (All-tail (Came next n P Q keeps m) x notes came) in
-        let rest = responses next m n (next m n state x).state notes in
-        omega (
-          arith,
-          ih,
-          law m here.0 state x below holds here.1,
-          sum_by-cons weight x notes,
-          sum_by-cons given (took x) (map sent (next m n state x).sends.items ++ rest),
-          given-sends (next m n state x).sends.items rest,
-        )
-
-    member-loses-none : StepLosesNone next n P Q mass weight → (m state : ℕ) (notes : List Note) → m < n → P m state → All (Came next n P Q keeps m) notes
-        → mass m state + sum_by weight notes ≤ mass m (reached m state notes) + sum_by given (responses next m n state notes)
-    member-loses-none law m state [] below holds came = omega arith
-    member-loses-none law m state (x ∷ notes) below holds came =
-        let here = All-head (Came next n P Q keeps m) x notes came in
-        let ih = member-loses-none law m (next m n state x).state notes below (keeps m here.0 state x below holds here.1).0 (All-tail (Came next n P Q keeps m) x notes came) in
-        let rest = responses next m n (next m n state x).state notes in
-        omega (
-          arith,
-          ih,
-          law m here.0 state x below holds here.1,
-          sum_by-cons weight x notes,
-          sum_by-cons given (took x) (map sent (next m n state x).sends.items ++ rest),
-          given-sends (next m n state x).sends.items rest,
-        )
 
     module _ (starts : List Start) (t : List Event) (lawful : Lawful next n starts t)
         (members : (i : ℕ) (s : Start) → slice_get starts i ≡ Some s → s.from < n) (at_first : (m : ℕ) → m < n → P m 0)
@@ -242,44 +188,69 @@ module _ (weight : Note → ℕ) where
       member-gives : (m : ℕ) → sum_by given (actions_of t m) ≡ begins m + replies m
       member-gives m = ap (sum_by given) (lawful.responds m) ∙ given-sends (starts_of m starts) (responses next m n 0 (notes m))
 
-      fits-given : (i : ℕ) (e : Event) → slice_get t i ≡ Some e → Fits n t given (out n w) e
-      fits-given i (Send q s p x) here =
-          let note = sent-noted n t lawful.well_formed i q s p x here in
-          ((lawful.well_formed i (mark.Send q s p) (send-mark t i q s p x here)).0, rw note refl)
-      fits-given i (Receipt p r q s) here =
-          let noted = receipts-noted n t lawful.well_formed i p r q s here in
-          ((lawful.well_formed i (mark.Receipt p r q s) (receipt-mark t i p r q s here)).1, (noted.0, noted.1, refl))
-
-      fits-taken : (i : ℕ) (e : Event) → slice_get t i ≡ Some e → Fits n t taken (into n w) e
-      fits-taken i (Send q s p x) here = ((lawful.well_formed i (mark.Send q s p) (send-mark t i q s p x here)).0, refl)
-      fits-taken i (Receipt p r q s) here =
-          let noted = receipts-noted n t lawful.well_formed i p r q s here in
-          let note = noted.1 in
-          ((lawful.well_formed i (mark.Receipt p r q s) (receipt-mark t i p r q s here)).1, (noted.0, noted.1, rw note refl))
+      -- what the members do weighs what the events do, where each send and each receipt does, with its note
+      acts-weigh : (g : Action → ℕ) (h : Mark → ℕ) → ((q s p : ℕ) (x : Note) → note_of t q s ≡ Some x → g (sent (p, x)) ≡ h (mark.Send q s p))
+          → ((p r q s : ℕ) (x : Note) → note_of t q s ≡ Some x → g (took x) ≡ h (mark.Receipt p r q s))
+          → sum_below n (λ m. sum_by g (actions_of t m)) ≡ sum_by h (map mark_of t)
+      acts-weigh g h sends takes = shared n (action_of t) g (λ e. h (mark_of e)) t each ∙ sum_by-marks h t where
+        each : (i : ℕ) (e : Event) → slice_get t i ≡ Some e → IsShared n (action_of t) g (λ e. h (mark_of e)) e
+        each i (Send q s p x) here =
+            let may = lawful.well_formed i (mark.Send q s p) (mark-at t i (Send q s p x) here) in
+            (q, may.0, sent (p, x), rw (eqb-self q) refl, sends q s p x (sent-noted n t lawful.well_formed i q s p x here), λ m other. rw other refl)
+        each i (Receipt p r q s) here =
+            let may = lawful.well_formed i (mark.Receipt p r q s) (mark-at t i (Receipt p r q s) here) in
+            let noted = receipts-noted n t lawful.well_formed i p r q s here in
+            (p, may.1, took noted.0, rw (eqb-self p, noted.1) refl, takes p r q s noted.0 noted.1, λ m other. rw other refl)
 
       -- what is in flight, and what the members received, is what they sent
       flows : weight_on n w (map mark_of t) + sum_below n (λ m. sum_by weight (notes m)) ≡ sum_by (λ (s : Start). weight s.note) starts + sum_below n replies
       flows =
           let f = flow n w (map mark_of t) lawful.well_formed in
-          let given_all = by-member n t given (out n w) t fits-given in
-          let taken_all = by-member n t taken (into n w) t fits-taken in
+          let given_all = acts-weigh given (out n w) (λ q s p x note. rw note refl) (λ p r q s x note. refl) in
+          let taken_all = acts-weigh taken (into n w) (λ q s p x note. refl) (λ p r q s x note. rw note refl) in
           let takes = sum_below-agree n (λ m. sum_by taken (actions_of t m)) (λ m. sum_by weight (notes m)) (λ m below. taken-notes (actions_of t m)) in
           let gives = sum_below-agree n (λ m. sum_by given (actions_of t m)) (λ m. begins m + replies m) (λ m below. member-gives m) in
           omega (arith, f, given_all, taken_all, takes, gives, sum_below-plus n begins replies, starts-weigh n starts members)
 
+      -- a relation of what is weighed after and before, as `≤` and its converse, that equal weights have and that their sums keep
+      module _ (R : ℕ → ℕ → Type 0) (same : (a b : ℕ) → a ≡ b → R a b) (joined : (a b c d x y : ℕ) → R a b → R c d → x + b + d ≡ a + c + y → R x y)
+          (law : (me from state : ℕ) (note : Note) → me < n → P me state → Q from me note
+          → R (weight_after next n mass weight me state note) (mass me state + weight note)) where
+        sums-related : (k : ℕ) (a b : ℕ → ℕ) → ((x : ℕ) → x < k → R (a x) (b x)) → R (sum_below k a) (sum_below k b)
+        sums-related zero a b each = same 0 0 refl
+        sums-related (suc k) a b each = joined _ _ _ _ _ _ (sums-related k a b (λ x below. each x (omega arith))) (each k (omega arith)) (omega arith)
+
+        member-related : (m state : ℕ) (received : List Note) → m < n → P m state → All (Came next n P Q keeps m) received
+            → R (mass m (reached m state received) + sum_by given (responses next m n state received)) (mass m state + sum_by weight received)
+        member-related m state [] below holds came = same _ _ refl
+        member-related m state (x ∷ received) below holds came =
+            let here = All-head (Came next n P Q keeps m) x received came in
+            let after = next m n state x in
+            let ih = member-related m after.state received below (keeps m here.0 state x below holds here.1).0 (All-tail (Came next n P Q keeps m) x received came) in
+            let rest = responses next m n after.state received in
+            joined _ _ _ _ _ _ ih (law m here.0 state x below holds here.1)
+            (omega (arith, sum_by-cons weight x received, sum_by-cons given (took x) (map sent after.sends.items ++ rest), given-sends after.sends.items rest))
+
+        -- what the states and the channels weigh, and what they weighed at first
+        trace-related : R (sum_below n (λ m. mass m (reached m 0 (notes m))) + weight_on n w (map mark_of t))
+            (sum_below n (λ m. mass m 0) + sum_by (λ (s : Start). weight s.note) starts)
+        trace-related =
+            let each = sums-related n (λ m. mass m (reached m 0 (notes m)) + replies m) (λ m. mass m 0 + sum_by weight (notes m))
+            (λ m below. member-related m 0 (notes m) below (at_first m below) (all-came next n P Q keeps starts t lawful at_first started m)) in
+            joined _ _ _ _ _ _ each (same 0 0 refl)
+            (omega (arith, flows, sum_below-plus n (λ m. mass m (reached m 0 (notes m))) replies, sum_below-plus n (λ m. mass m 0) (λ m. sum_by weight (notes m))))
+
       pub trace-makes-none : StepMakesNone next n P Q mass weight
           → sum_below n (λ m. mass m (reached m 0 (notes m))) + weight_on n w (map mark_of t) ≤ sum_below n (λ m. mass m 0) + sum_by (λ (s : Start). weight s.note) starts
-      trace-makes-none law =
-          let each = sum_below-most n (λ m. mass m (reached m 0 (notes m)) + replies m) (λ m. mass m 0 + sum_by weight (notes m))
-          (λ m below. member-makes-none law m 0 (notes m) below (at_first m below) (all-came next n P Q keeps starts t lawful at_first started m)) in
-          omega (arith, each, flows, sum_below-plus n (λ m. mass m (reached m 0 (notes m))) replies, sum_below-plus n (λ m. mass m 0) (λ m. sum_by weight (notes m)))
+      trace-makes-none = trace-related (λ a b. a ≤ b) (λ a b is. omega arith) (λ a b c d x y first second is. omega arith)
 
       pub trace-loses-none : StepLosesNone next n P Q mass weight
           → sum_below n (λ m. mass m 0) + sum_by (λ (s : Start). weight s.note) starts ≤ sum_below n (λ m. mass m (reached m 0 (notes m))) + weight_on n w (map mark_of t)
-      trace-loses-none law =
-          let each = sum_below-most n (λ m. mass m 0 + sum_by weight (notes m)) (λ m. mass m (reached m 0 (notes m)) + replies m)
-          (λ m below. member-loses-none law m 0 (notes m) below (at_first m below) (all-came next n P Q keeps starts t lawful at_first started m)) in
-          omega (arith, each, flows, sum_below-plus n (λ m. mass m (reached m 0 (notes m))) replies, sum_below-plus n (λ m. mass m 0) (λ m. sum_by weight (notes m)))
+      trace-loses-none = trace-related (λ a b. b ≤ a) (λ a b is. omega arith) (λ a b c d x y first second is. omega arith)
+
+-- what the channel from q to p weighs
+abbrev channel_weight : (Note → ℕ) → GroupRecord → ℕ → ℕ → ℕ
+channel_weight weight r q p = sum_by (λ (v : Message). weight v.note) (channel r q p)
 
 module _ (next : Next) (r : GroupRecord) (P : ℕ → ℕ → Type 0) (Q : ℕ → ℕ → Note → Type 0) (mass : ℕ → ℕ → ℕ) (weight : Note → ℕ)
     (sound : IsSound next r) (keeps : StepKeeps next r.config.members P Q) (first : HoldsFirst r.config P Q) where
@@ -294,7 +265,7 @@ module _ (next : Next) (r : GroupRecord) (P : ℕ → ℕ → Type 0) (Q : ℕ �
   number_weight q s = of_note weight (note_of r.trace q s)
 
   up-weighs : (m : ℕ) → m < r.config.members → IsUp (knowledge r) m → mass m (member r m).state ≡ by_trace m
-  up-weighs m below up = ap (mass m) (ap (λ (x : Progress). x.state) (sound.folds m below up).progress ∙ after_notes-state next m r.config.members r.config.starts (received_notes r.trace m))
+  up-weighs m below up = ap (mass m) (up_state next r sound m below up)
 
   queue-weighs : (q p : ℕ) (xs : List Message) (numbers : List ℕ) → map send_mark xs ≡ map (λ ssn. mark.Send q ssn p) numbers
       → ((v : Message) → Contains xs v → note_of r.trace q v.ssn ≡ Some v.note)
@@ -305,8 +276,7 @@ module _ (next : Next) (r : GroupRecord) (P : ℕ → ℕ → Type 0) (Q : ℕ �
   queue-weighs q p (v ∷ xs) (k ∷ numbers) same noted =
       let number : v.ssn ≡ k = cc in
       let rest : map send_mark xs ≡ map (λ ssn. mark.Send q ssn p) numbers = cc in
-      let note : note_of r.trace q k ≡ Some v.note = rw (← number) (noted v (Contains-here v xs)) in
-      let here : number_weight q k ≡ weight v.note = rw note refl in
+      let here : number_weight q k ≡ weight v.note = rw (← number, noted v (Contains-here v xs)) refl in
       omega (
         arith,
         here,
@@ -316,7 +286,7 @@ module _ (next : Next) (r : GroupRecord) (P : ℕ → ℕ → Type 0) (Q : ℕ �
       )
 
   -- the channel between two members that are up weighs what the trace has in flight there
-  channel-weighs : (q p : ℕ) → IsUp (knowledge r) q → IsUp (knowledge r) p → sum_by (λ (v : Message). weight v.note) (channel r q p) ≡ weight_in n number_weight (marks r) q p
+  channel-weighs : (q p : ℕ) → IsUp (knowledge r) q → IsUp (knowledge r) p → channel_weight weight r q p ≡ weight_in n number_weight (marks r) q p
   channel-weighs q p up_q up_p = queue-weighs q p (channel r q p) (in_flight (marks r) q p) (sound.causes.channels q p up_q up_p) noted where
     noted : (v : Message) → Contains (channel r q p) v → note_of r.trace q v.ssn ≡ Some v.note
     noted v among =
@@ -331,22 +301,18 @@ module _ (next : Next) (r : GroupRecord) (P : ℕ → ℕ → Type 0) (Q : ℕ �
   makes-none law light =
       let whole = trace-makes-none weight next n P Q keeps mass r.config.starts r.trace sound.lawful (λ i s here. (sound.config.starts i s here).0) first.0 first.1 law in
       let states = sum_below-most n (λ m. mass m (member r m).state) by_trace (λ m below. elim (down_or_up r.down m) [
-        | inl down ↦ (let e : (member r m).state ≡ 0 = ap (λ (x : MemberRecord). x.state) (sound.blanks m below down) in
-            omega (arith, ap (mass m) e, light m down (reached weight next n P Q keeps mass m 0 (received_notes r.trace m))))
+        | inl down ↦ rw (sound.blanks m below down) (light m down (reached weight next n P Q keeps mass m 0 (received_notes r.trace m)))
         | inr up ↦ omega (arith, up-weighs m below up)
       ]) in
-      let queues = sum_below-most n (λ q. sum_below n (λ p. sum_by (λ (v : Message). weight v.note) (channel r q p))) (λ q. sum_below n (weight_in n number_weight (marks r) q))
-      (λ q below_q. sum_below-most n (λ p. sum_by (λ (v : Message). weight v.note) (channel r q p)) (weight_in n number_weight (marks r) q) (λ p below_p. cell q p)) in
+      let queues = sum_below-most n (λ q. sum_below n (channel_weight weight r q)) (λ q. sum_below n (weight_in n number_weight (marks r) q))
+      (λ q below_q. sum_below-most n (channel_weight weight r q) (weight_in n number_weight (marks r) q) (λ p below_p. cell q p)) in
       omega (arith, whole, states, queues)
     where
-      gone : (q p : ℕ) → channel r q p ≡ [] → sum_by (λ (v : Message). weight v.note) (channel r q p) ≤ weight_in n number_weight (marks r) q p
-      gone q p none = omega (arith, ap (sum_by (λ (v : Message). weight v.note)) none)
-
-      cell : (q p : ℕ) → sum_by (λ (v : Message). weight v.note) (channel r q p) ≤ weight_in n number_weight (marks r) q p
+      cell : (q p : ℕ) → channel_weight weight r q p ≤ weight_in n number_weight (marks r) q p
       cell q p = elim (down_or_up r.down q) [
-        | inl down ↦ gone q p (sound.causes.down.channels q p (inl down))
+        | inl down ↦ rw (sound.causes.down.channels q p (inl down)) (omega arith)
         | inr up ↦ elim (down_or_up r.down p) [
-          | inl down ↦ gone q p (sound.causes.down.channels q p (inr down))
+          | inl down ↦ rw (sound.causes.down.channels q p (inr down)) (omega arith)
           | inr up_to ↦ omega (arith, channel-weighs q p up up_to)
         ]
       ]
@@ -357,17 +323,14 @@ module _ (next : Next) (r : GroupRecord) (P : ℕ → ℕ → Type 0) (Q : ℕ �
       let whole = trace-loses-none weight next n P Q keeps mass r.config.starts r.trace sound.lawful (λ i s here. (sound.config.starts i s here).0) first.0 first.1 law in
       let up = all_up next r sound nobody in
       let states = sum_below-agree n (λ m. mass m (member r m).state) by_trace (λ m below. up-weighs m below (up m)) in
-      let queues = sum_below-agree n (λ q. sum_below n (λ p. sum_by (λ (v : Message). weight v.note) (channel r q p))) (λ q. sum_below n (weight_in n number_weight (marks r) q))
-      (λ q below_q. sum_below-agree n (λ p. sum_by (λ (v : Message). weight v.note) (channel r q p)) (weight_in n number_weight (marks r) q) (λ p below_p. channel-weighs q p (up q) (up p))) in
+      let queues = sum_below-agree n (λ q. sum_below n (channel_weight weight r q)) (λ q. sum_below n (weight_in n number_weight (marks r) q))
+      (λ q below_q. sum_below-agree n (channel_weight weight r q) (weight_in n number_weight (marks r) q) (λ p below_p. channel-weighs q p (up q) (up p))) in
       omega (arith, whole, states, queues)
 
 -- where nothing is in flight, that weighs nothing
 none-flying : (weight : Note → ℕ) (r : GroupRecord) → messages_in_flight r ≡ 0 → weight_flying weight r ≡ 0
-none-flying weight r none = nothing-below r.config.members (λ q. sum_below r.config.members (weighs q))
-    (λ q below_q. nothing-below r.config.members (weighs q) (λ p below_p. empty q p below_q below_p)) where
-      weighs : ℕ → ℕ → ℕ
-      weighs q p = sum_by (λ (v : Message). weight v.note) (channel r q p)
-
+none-flying weight r none = nothing-below r.config.members (λ q. sum_below r.config.members (channel_weight weight r q))
+    (λ q below_q. nothing-below r.config.members (channel_weight weight r q) (λ p below_p. empty q p below_q below_p)) where
       nothing-below : (n : ℕ) (f : ℕ → ℕ) → ((x : ℕ) → x < n → f x ≡ 0) → sum_below n f ≡ 0
       nothing-below n f each = sum_below-agree n f (λ x. 0) each ∙ sum_below-none n
 
@@ -375,7 +338,7 @@ none-flying weight r none = nothing-below r.config.members (λ q. sum_below r.co
       of_empty [] is = refl
       of_empty (v ∷ xs) is = absurd (omega arith)
 
-      empty : (q p : ℕ) → q < r.config.members → p < r.config.members → weighs q p ≡ 0
+      empty : (q p : ℕ) → q < r.config.members → p < r.config.members → channel_weight weight r q p ≡ 0
       empty q p below_q below_p =
           let row = sum_below-part r.config.members q (λ q. sum_below r.config.members (λ p. length (channel r q p))) below_q in
           let cell = sum_below-part r.config.members p (λ p. length (channel r q p)) below_p in
