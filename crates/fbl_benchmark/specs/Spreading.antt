@@ -1,5 +1,5 @@
 -- What the behaviour does that answers a message by four.
-use Rattle.std.specs.Prelude.{◌≡◌, ◌≢◌, ℕ, ◌+◌, ◌-◌, ◌*◌, ◌%◌, ◌<◌, ◌≤◌, List, [], ◌∷◌, length, if◌then◌else◌, ◌==◌, nat_lt}
+use Rattle.std.specs.Prelude.{◌≡◌, ◌≢◌, ℕ, ◌+◌, ◌-◌, ◌%◌, ◌<◌, ◌≤◌, List, [], ◌∷◌, length, if◌then◌else◌, ◌==◌, nat_lt}
 use Rattle.std.specs.List.{All}
 use Rattle.std.proofs.Common.{Bool, true, false, cond, refl, arith, lit≤}
 use Rattle.std.proofs.lemmas.Bool.Decides.{nat_tests}

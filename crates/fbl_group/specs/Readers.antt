@@ -1,5 +1,5 @@
 -- What the readers of a group answer.
-use Rattle.std.specs.Prelude.{ℕ, ◌==◌, ◌&&◌, Bool}
+use Rattle.std.specs.Prelude.{◌==◌, ◌&&◌, Bool}
 use Rattle.std.specs.FinSet as set
 use Rattle.fbl_base.specs.MemberSets.{AllBelow, Members}
 use Rattle.fbl_law.specs.Groups.{GroupRecord, messages_in_flight}

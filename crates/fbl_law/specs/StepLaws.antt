@@ -30,13 +30,6 @@ AnyNote from to note = Unit {0}
 abbrev pub HoldsFirst : Settings → (ℕ → ℕ → Type 0) → (ℕ → ℕ → Note → Type 0) → Type 0
 HoldsFirst c P Q = ((me : ℕ) → me < c.members → P me 0) × All (λ (s : Start). Q s.from s.to s.note) c.starts
 
--- predicates that hold of all are kept, and hold at first
-pub any_kept : (next : Next) (n : ℕ) → StepKeeps next n AnyState AnyNote
-any_kept next n me from state note member any_state any_note = (tt, λ place default within. tt)
-
-pub any_first : (c : Settings) → HoldsFirst c AnyState AnyNote
-any_first c = ((λ me member. tt), (λ place default within. tt))
-
 -- the predicates hold of a group: P of each member's state and of each checkpoint's, Q of each message in flight and of
 -- each send of the trace
 pub record HoldsOf (r : GroupRecord) (P : ℕ → ℕ → Type 0) (Q : ℕ → ℕ → Note → Type 0) : Type 0 where
