@@ -10,9 +10,9 @@ use Rattle.std.proofs.Math.Bool.{or_assoc, or_comm}
 use Rattle.std.specs.List.{find, position_or_len, AllByRecursion, IsDistinct}
 use Rattle.std.proofs.lemmas.List.Quantifiers.{position-Some}
 use Rattle.fbl_base.proofs.Recorded.{Decides-same_determinant}
-use Rattle.std.proofs.lemmas.List.{append-nil, drop_all, take_all, take_more, take-append-drop, map-append, length-map}
+use Rattle.std.proofs.lemmas.List.{append-nil, drop_all, take_all, take_more, take-append-drop, map-append}
 use Rattle.std.proofs.lemmas.List.Folds.{find-append}
-use Rattle.std.proofs.lemmas.List.Sums.{fold_push, count_by-le-length, sum_by-cons, sum_by_more, sum_by-take-le}
+use Rattle.std.proofs.lemmas.List.Sums.{fold_push, sum_by-cons, sum_by_more, sum_by-take-le}
 use Rattle.std.proofs.lemmas.Option.{slice_get_within, get_or_from_slice_get, slice_get-get_or}
 use Rattle.indexmap.specs.Layout.{set_value_at}
 use Rattle.std.specs.FinSet as set

@@ -1,12 +1,12 @@
-use Rattle.std.proofs.Common.{◌≡◌, ◌++◌, [], ◌∷◌, ◌∙◌, Some, None, ap, sym, arith, length, map, false, true}
+use Rattle.std.proofs.Common.{◌≡◌, ◌++◌, [], ◌∷◌, ◌∙◌, Some, None, sym, length, map}
 use Rattle.std.proofs.lemmas.Bool.{or_parts}
-use Rattle.std.proofs.lemmas.List.{length-map, length_push}
+use Rattle.std.proofs.lemmas.List.{length-map}
 use Rattle.std.specs.Map.{lookup}
 use Rattle.indexmap.specs.IndexMap.{set_value_at}
 use Rattle.fbl_base.specs.Events.{same_determinant}
 use Rattle.fbl_table.specs.Indexed.{listed}
-use Rattle.fbl_table.specs.Tables.{is_held, added, entry_of}
-use Rattle.fbl_table.proofs.Adding.{added-at, added-new, held-at, inserted, length-added_held, place_in, not_held-missing, place-missing, replaced, within-at}
+use Rattle.fbl_table.specs.Tables.{added, entry_of}
+use Rattle.fbl_table.proofs.Adding.{added-at, added-new, held-at, inserted, place_in, not_held-missing, place-missing, replaced}
 use Rattle.fbl_table.proofs.Indexing.{index-added_held, index-push, index-push_closed, open-more, open-push, open-set}
 use Rattle.fbl_table.proofs.indexed.IndexedEntries.add_by_hash.Goals as goal
 

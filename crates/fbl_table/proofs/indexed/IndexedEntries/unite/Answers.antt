@@ -8,9 +8,6 @@ use Rattle.fbl_table.proofs.Adding.{added-at, added-nothing, has-set, held-at, w
 use Rattle.fbl_table.proofs.Indexing.{index-added_held, open-set}
 use Rattle.fbl_table.proofs.indexed.IndexedEntries.unite.Goals as goal
 
-pub index-before-requires : goal.index-before-requires
-index-before-requires g c = within-at c.args.self.now.entries.entries c.args.det.now c.args.place c.requires
-
 pub index_mut-requires : goal.index_mut-requires
 index_mut-requires g c = within-at c.args.self.now.entries.entries c.args.det.now c.args.place c.requires
 
