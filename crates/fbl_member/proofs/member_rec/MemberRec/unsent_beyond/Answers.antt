@@ -1,7 +1,7 @@
 use Rattle.std.proofs.Common.{◌≡◌, ℕ, ◌+◌, ◌<◌, ◌≤◌, ◌==◌, ◌&&◌, nat_lt, Bool, true, false, refl, ap, ◌∙◌, sym, arith, rules, length}
 use Rattle.std.proofs.lemmas.Bool.Decides.{nat_tests}
 use Rattle.std.proofs.lemmas.List.{append-nil}
-use Rattle.fbl_table.proofs.Adding.{item_at}
+use Rattle.std.proofs.lemmas.Option.{slice_get_read}
 use Rattle.fbl_member.proofs.Logs.{beyond-step}
 use Rattle.fbl_member.proofs.member_rec.MemberRec.unsent_beyond.Goals as goal
 use Rattle.fbl_member.proofs.member_rec.MemberRec.unsent_beyond.Goals.{then-eq+then-ssn-number+in_ok-push, else-eq, else-eq-via-then-eq+else-ssn-number, else-eq-via-else-eq}
@@ -23,7 +23,7 @@ loop-place-preserved g c =
     let i = c.loop-place.place in
     let s = c.index.result.now in
     let len : c.len-place-end.result ≡ length log = search rules in
-    let at = item_at log i s (omega (arith, c.loop-place-test.true, len)) c.index.ensures in
+    let at = slice_get_read log _ i s len c.loop-place-test.true c.index.ensures in
     let below : i < length log = omega (arith, c.loop-place-test.true, len) in
     let test : c.eq.result ≡ (s.0 == c.args.to) = c.eq.ensures in
     elim c.if-eq.branch [

@@ -1,9 +1,10 @@
 use Rattle.std.proofs.Common.{◌≡◌, ◌∙◌, sym, ap, arith, length, true}
 use Rattle.std.proofs.lemmas.List.{length-map}
 use Rattle.std.proofs.lemmas.Bool.{false≢true}
+use Rattle.indexmap.specs.Layout.{length-set_value_at}
 use Rattle.fbl_table.specs.Indexed.{listed, KeepsIndex}
 use Rattle.fbl_table.specs.Tables.{entry_of, marked}
-use Rattle.fbl_table.proofs.Adding.{mark-all, mark-step, length-set_value_at}
+use Rattle.fbl_table.proofs.Adding.{mark-all, mark-step}
 use Rattle.fbl_table.proofs.Indexing.{index-marked}
 use Rattle.fbl_table.proofs.Keeping.{keeps-more}
 use Rattle.fbl_table.proofs.indexed.IndexedEntries.mark_all.Goals as goal
