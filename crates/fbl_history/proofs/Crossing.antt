@@ -1,9 +1,9 @@
 -- How a history goes on to a trace.
 use Rattle.std.proofs.Common.{◌≡◌, ◌==◌, ◌&&◌, ◌⊎◌, inl, inr, Bool, true, false}
 use Rattle.std.proofs.Common.{List, [], ◌∷◌, drop, refl, sym, ap, ◌∙◌}
-use Rattle.fbl_base.proofs.Recorded.{both_true, eqb_same}
+use Rattle.std.proofs.lemmas.Bool.Decides.{Decides-and, Decides-eqb}
 use Rattle.fbl_history.specs.declared.column.Column.{Column}
-use Rattle.fbl_history.specs.declared.column.Column.TheVariants.{Send, Receipt, Strike, Recovery, Checkpoint}
+use Rattle.fbl_history.specs.declared.column.Column.TheVariants.{Send, Receipt}
 use Rattle.fbl_history.specs.Columns.{is_standing, crossed, same_standing, standing, is_next, column_then, trace_then, go_on, GoesOnFrom}
 
 none : (b : Bool) → (b && false) ≡ false
@@ -29,32 +29,19 @@ then-past column rest is = rw is refl
 -- columns of the same standing event are equal, and stand
 pub same-is : (a b : Column) → same_standing a b ≡ true → (a ≡ b) × (is_standing b ≡ true)
 same-is (Send q k p false) (Send q' k' p' false) h =
-    let first = both_true (q == q') _ h in
-    let second = both_true (k == k') _ first.1 in
-    let e1 = eqb_same {a = q} {b = q'} first.0 in
-    let e2 = eqb_same {a = k} {b = k'} second.0 in
-    let e3 = eqb_same {a = p} {b = p'} second.1 in
-    (rw (e1, e2, e3) refl, refl)
+    let same = (Decides-and (q == q') _ (Decides-eqb q q') (Decides-and (k == k') _ (Decides-eqb k k') (Decides-eqb p p'))).0 h in
+    (λ i. Send (same.0 i) (same.1.0 i) (same.1.1 i) false, refl)
 same-is (Receipt p r q k s false) (Receipt p' r' q' k' s' false) h =
-    let first = both_true (p == p') _ h in
-    let second = both_true (r == r') _ first.1 in
-    let third = both_true (q == q') _ second.1 in
-    let fourth = both_true (k == k') _ third.1 in
-    let e1 = eqb_same {a = p} {b = p'} first.0 in
-    let e2 = eqb_same {a = r} {b = r'} second.0 in
-    let e3 = eqb_same {a = q} {b = q'} third.0 in
-    let e4 = eqb_same {a = k} {b = k'} fourth.0 in
-    let e5 = eqb_same {a = s} {b = s'} fourth.1 in
-    (rw (e1, e2, e3, e4, e5) refl, refl)
+    let message = Decides-and (q == q') _ (Decides-eqb q q') (Decides-and (k == k') _ (Decides-eqb k k') (Decides-eqb s s')) in
+    let same = (Decides-and (p == p') _ (Decides-eqb p p') (Decides-and (r == r') _ (Decides-eqb r r') message)).0 h in
+    (λ i. Receipt (same.0 i) (same.1.0 i) (same.1.1.0 i) (same.1.1.1.0 i) (same.1.1.1.1 i) false, refl)
 same-is _ _ h = absurd cc
 
 -- a crossed column does not stand
 pub crossed-lies : (column : Column) → is_standing (crossed column) ≡ false
 crossed-lies (Send q k p undone) = refl
 crossed-lies (Receipt p r q k s undone) = refl
-crossed-lies (Strike struck) = refl
-crossed-lies (Recovery replays) = refl
-crossed-lies (Checkpoint m) = refl
+crossed-lies _ = refl
 
 -- what is next stands
 pub next-is : (column : Column) (trace : List Column) → is_next column trace ≡ true → (trace ≡ column ∷ drop 1 trace) × (is_standing column ≡ true)
