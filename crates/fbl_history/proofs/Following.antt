@@ -5,7 +5,7 @@ use Rattle.std.specs.Prelude.{slice_set, slice_index_or}
 use Rattle.std.proofs.lemmas.Bool.Decides.{nat_tests}
 use Rattle.std.proofs.lemmas.List.{take-map, take-take, length-set, get_or-set_same, get_or-set_other, get_or_default, length-map}
 use Rattle.std.proofs.lemmas.List.Sums.{count_by-le-length, sum_by-take-le}
-use Rattle.std.proofs.lemmas.Option.{slice_get-map, get_or_from_slice_get}
+use Rattle.std.proofs.lemmas.Option.{get_or_from_slice_get}
 use Rattle.fbl_base.specs.declared.trace.Determinant.{Determinant}
 use Rattle.fbl_base.specs.declared.trace.Note.{Note}
 use Rattle.fbl_base.specs.declared.trace.Event.{Event}
@@ -26,6 +26,8 @@ use Rattle.fbl_law.specs.Sound.{received_notes, IsReplayed, IsSound}
 use Rattle.std.specs.FinSet as set
 use Rattle.std.specs.List.{filter, range_with_len}
 use Rattle.fbl_base.specs.MemberSets.{member_list, Members}
+use Rattle.fbl_law.proofs.KeptByStep.{receipt-mark}
+use Rattle.fbl_law.proofs.Notes.{send-mark}
 use Rattle.fbl_law.proofs.Lists.{filter-passes, some-at}
 use Rattle.fbl_law.proofs.Logs.{logged-by, logged-noted, log-short}
 use Rattle.fbl_law.proofs.Receipts.{Has-receipts_at}
@@ -56,8 +58,7 @@ past-send {next} {r} {members} {place} replayed from ssn to note here = record {
   size = replayed.size;
   each = replayed.each;
   received = λ m below.
-      let at_mark : At (marks r) place (Send from ssn to) = slice_get-map mark_of r.trace place ∙ (rw here refl) in
-      omega (arith, replayed.received m below, count-more (marks r) place m (Send from ssn to) at_mark);
+      omega (arith, replayed.received m below, count-more (marks r) place m (Send from ssn to) (send-mark r.trace place from ssn to note here));
 }
 
 -- the members of a sound group have replayed what comes before this receipt
@@ -74,7 +75,7 @@ module _ {next : Next} {r : GroupRecord} {members : List MemberRecord} {place : 
   receiver = slice_index_or members d.to blank
 
   at-mark : At (marks r) place (Receipt d.to d.rsn d.from d.ssn)
-  at-mark = slice_get-map mark_of r.trace place ∙ (rw known.here refl)
+  at-mark = receipt-mark r.trace place d.to d.rsn d.from d.ssn known.here
 
   trace-short : length (marks r) ≤ 8192
   trace-short = omega (arith, known.sound.room, known.sound.config.limit.1, length-map r.trace mark_of)

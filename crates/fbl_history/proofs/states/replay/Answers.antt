@@ -1,20 +1,18 @@
-use Rattle.std.proofs.Common.{◌≡◌, ap, ◌∙◌, sym, arith, refl, Some, rules}
-use Rattle.std.specs.Prelude.{slice_index_or}
+use Rattle.std.proofs.Common.{◌≡◌, ap, ◌∙◌, sym, arith, refl, rules}
 use Rattle.fbl_base.specs.Configs.{Settings}
-use Rattle.fbl_member.specs.Members.{MemberRecord, logged_note, blank}
-use Rattle.fbl_history.proofs.Following.{IsNextReceipt, may-follow, is-next, received-few, receiver-read, has-note, note-read, has-room, state-is, past-receipt}
+use Rattle.fbl_member.specs.Members.{MemberRecord, logged_note}
+use Rattle.fbl_history.proofs.Following.{IsNextReceipt, sender, may-follow, is-next, received-few, receiver-read, has-note, note-read, has-room, state-is, past-receipt}
 use Rattle.fbl_history.proofs.states.replay.Given.{Over}
 use Rattle.fbl_history.proofs.states.replay.Goals as goal
-use Rattle.fbl_history.proofs.states.replay.Goals.{After-recoverable, After-unwrap-note, After-members}
+use Rattle.fbl_history.proofs.states.replay.Goals.{After-recoverable, After-log_note, After-members}
 
 known : (g : Over) (c : After-recoverable g) → IsNextReceipt g.B.Behaviour.next c.args.group.now c.args.members.now c.args.place c.args.receipt
 known g c = record { sound = c.recoverable.ensures.sound; replayed = c.requires.before; here = c.requires.here }
 
--- the note that was read is the message's
-named : (g : Over) (c : After-unwrap-note g) → logged_note (slice_index_or c.args.members.now c.args.receipt.from blank).log c.args.receipt.ssn ≡ Some c.unwrap-note.result
-named g c =
-    sym (note-read (record { sound = c.recoverable.ensures.sound; replayed = c.requires.before; here = c.requires.here }) c.index-members-sender.result (c.from-sender.ensures ∙ c.number.ensures.value))
-    ∙ sym c.log_note.ensures ∙ c.unwrap-note.ensures
+-- the note is read in the sender's log
+note-is : (g : Over) (c : After-log_note g) (is : IsNextReceipt g.B.Behaviour.next c.args.group.now c.args.members.now c.args.place c.args.receipt)
+    → c.log_note.result ≡ logged_note (sender is).log c.args.receipt.ssn
+note-is g c is = c.log_note.ensures ∙ note-read is c.index-members-sender.result (c.from-sender.ensures ∙ c.number.ensures.value)
 
 size : (g : Over) (c : After-members g) → c.members.result ≡ c.args.group.now.config.members
 size g c = c.members.ensures.value ∙ ap (λ (x : Settings). x.members) c.config.ensures
@@ -26,8 +24,9 @@ bounds-members-sender g c =
 
 pub unwrap-note-requires : goal.unwrap-note-requires
 unwrap-note-requires g c =
-    let is = known g (goal.at.unwrap-note-requires g c).After-recoverable in
-    rw (c.log_note.ensures ∙ note-read is c.index-members-sender.result (c.from-sender.ensures ∙ c.number.ensures.value) ∙ (has-note is).1) refl
+    let at = goal.at.unwrap-note-requires g c in
+    let is = known g at.After-recoverable in
+    rw (note-is g at.After-log_note is ∙ (has-note is).1) refl
 
 pub bounds-members-from : goal.bounds-members-from
 bounds-members-from g c =
@@ -39,22 +38,22 @@ replay_one-requires g c =
     let at = goal.at.replay_one-requires g c in
     let is = known g at.After-recoverable in
     let read = receiver-read is c.index-members-from.result (c.from.ensures ∙ c.number-2.ensures.value) in
-    let may = may-follow is in
+    let note = sym (note-is g at.After-log_note is) ∙ c.unwrap-note.ensures in
     record {
       least = search rules;
       most = search rules;
-      member = omega (arith, may.1, size g at.After-members);
+      member = omega (arith, (may-follow is).1, size g at.After-members);
       to_me = refl;
       next = rw read (is-next is);
       receipts = rw read (received-few is);
-      sends = rw (read, size g at.After-members) (has-room is (named g at.After-unwrap-note));
+      sends = rw (read, size g at.After-members) (has-room is note);
     }
 
 pub returns : goal.returns
 returns g c =
     let at = goal.at.returns g c in
     let is = known g at.After-recoverable in
-    let note = named g at.After-unwrap-note in
+    let note = sym (note-is g at.After-log_note is) ∙ c.unwrap-note.ensures in
     let place : c.from.result ≡ c.args.receipt.to = c.from.ensures ∙ c.number-2.ensures.value in
     let read = receiver-read is c.index-members-from.result place in
     let after = rw (size g at.After-members, read) at c.in_ok-replay_one.ensures.replayed in
