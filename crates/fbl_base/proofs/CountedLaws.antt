@@ -4,7 +4,7 @@ use Rattle.std.proofs.Common.{◌∷◌, ◌++◌, length, take, drop, Option, S
 use Rattle.std.proofs.Common.{get_or-set_same, get_or-set_other, length-set, length-take}
 use Rattle.std.proofs.lemmas.Bool.{cases_eq, eq-eqb, ne_eqb}
 use Rattle.std.proofs.lemmas.List.{take_more, append-nil}
-use Rattle.std.proofs.lemmas.Option.{slice_get-get_or}
+use Rattle.std.proofs.lemmas.Option.{slice_get_read}
 use Rattle.fbl_base.specs.declared.trace.Mark.{Mark}
 use Rattle.fbl_base.specs.declared.trace.Mark.TheVariants.{Send, Receipt}
 use Rattle.fbl_base.specs.declared.rules.Counts.{Counts}
@@ -123,25 +123,16 @@ counted_receipt n t c d p r q s most obeys counted may is_sends is_receipts is_c
       channels_length = rw (is_channels, length-set) counted.channels_length;
     }
 
-place_has : (events : List Mark) (place : ℕ) (d e : Mark) → place < length events → get_or events place d ≡ e → At events place e
-place_has events place d e within is = slice_get-get_or events place d within ∙ ap Some is
-
-few_before : (events : List Mark) (place : ℕ) → place < 8192 → length (take place events) < 8192
-few_before events place few = omega (arith, length-take place events)
-
-one_more : (events : List Mark) (place : ℕ) (e : Mark) → place < length events → e ≡ get_or events place e → take (place + 1) events ≡ take place events ++ e ∷ []
-one_more events place e within is = take_more events place e within ∙ ap (λ x. take place events ++ x ∷ []) (sym is)
-
 -- the verdict on the event at a place
 pub verdict_at : {A : Type 0} (n : ℕ) (events : List Mark) (place : ℕ) (e : Mark) (c : Counts A) (next : ℕ) (first : Option ℕ)
     (found : Option EventRule) → n ≤ 16 → place < length events → place < 8192 → Counted (take place events) c → e ≡ get_or events place e
     → source_of e < 16 → destination_of e < 16 → next ≡ next_by c e → first ≡ first_by c e
     → MatchOption found (FitsEvent n e next first) (Breaks n e next first) → MatchOption found (ObeysAt n events place) (BreaksAt n events place)
 verdict_at n events place e c next first found most within few counted is below_q below_p is_next is_first h =
-    by_found found (verdict n (take place events) c most (few_before events place few) counted e next first found below_q below_p is_next is_first h)
+    by_found found (verdict n (take place events) c most (omega (arith, length-take place events, few)) counted e next first found below_q below_p is_next is_first h)
   where
     at : At events place e
-    at = place_has events place e e within (sym is)
+    at = slice_get_read events _ place e refl within is
 
     by_found : (found : Option EventRule) → MatchOption found (MayFollow n (take place events) e) (BreaksEvent n (take place events) e)
         → MatchOption found (ObeysAt n events place) (BreaksAt n events place)
@@ -153,7 +144,7 @@ pub admitted : {A : Type 0} (n : ℕ) (events : List Mark) (place : ℕ) (e : Ma
     → WellFormed n (take place events) → Counted (take place events) c → e ≡ get_or events place e
     → ObeysAt n events place → CountsEvent e c after → Counted (take (place + 1) events) after
 admitted n events place e c after most within few obeys counted is obeyed counts =
-    rw (one_more events place e within is) (by_kind e (obeyed e (place_has events place e e within (sym is))) counts)
+    rw (take_more events place e within, ← is) (by_kind e (obeyed e (slice_get_read events _ place e refl within is)) counts)
   where
     by_kind : (e : Mark) → MayFollow n (take place events) e → CountsEvent e c after → Counted (take place events ++ e ∷ []) after
     by_kind (Send q s p) m k = counted_send n (take place events) c after q s p most obeys counted m k.0 k.1 k.2

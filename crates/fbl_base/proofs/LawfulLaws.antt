@@ -78,9 +78,7 @@ sent-note [] i q k to x h = cc
 sent-note (Send q' k' to' x' ∷ t) zero q k to x h =
     let e1 : q' ≡ q = cc in
     let e2 : k' ≡ k = cc in
-    let f1 : (q' == q) ≡ true = grind (arith, nat_tests) in
-    let f2 : (k' == k) ≡ true = grind (arith, nat_tests) in
-    (x', rw (f1, f2))
+    (x', rw (e1, e2, eqb-self q, eqb-self k))
 sent-note (Send q' k' to' x' ∷ t) (suc i) q k to x h = at (q' == q && k' == k) (sent-note t i q k to x h) where
   at : (b : Bool) → (note : Note) × (note_of t q k ≡ Some note) → (note : Note) × (cond b (Some x') (note_of t q k) ≡ Some note)
   at true r = (x', refl)

@@ -91,6 +91,10 @@ sends-send t q s p =
 
 module _ (n : ℕ) (Lost : Mark → Type 0) (no_send : (q s p : ℕ) → Lost (Send q s p) → ⊥) (t : List Mark) (obeys : WellFormed n t)
     (reached : set.FinSet nat_cmp) (unreached_sends : List ℕ) (tracks : Tracks Lost t reached unreached_sends) where
+  -- what an old send says of its message stays so
+  stays : {preceded : Type 0} (q s p : ℕ) → Has t (Send q s p) → (preceded ↔ IsPreceded Lost t (Send q s p)) → (get_or unreached_sends q 0 < s) ↔ preceded
+  stays q s p old same = (λ h. same.1 ((tracks.sends q s p old).0 h), λ h. (tracks.sends q s p old).1 (same.0 h))
+
   tracks_send : (q s p : ℕ) → q < length unreached_sends → MayFollow n t (Send q s p)
       → Tracks Lost (t ++ Send q s p ∷ []) reached (unreached_sends_after (Send q s p) reached unreached_sends)
   tracks_send q s p within may =
@@ -121,8 +125,8 @@ module _ (n : ℕ) (Lost : Mark → Type 0) (no_send : (q s p : ℕ) → Lost (S
       old_send : (q' s' p' : ℕ) → Has t (Send q' s' p') → (IsPreceded Lost (t ++ Send q s p ∷ []) (Send q' s' p') ↔ IsPreceded Lost t (Send q' s' p'))
           → (b : Bool) → set.contains reached q ≡ b → (q' ≡ q) ⊎ (q' ≢ q)
           → (get_or (cond b unreached_sends (set_at unreached_sends q s)) q' 0 < s') ↔ IsPreceded Lost (t ++ Send q s p ∷ []) (Send q' s' p')
-      old_send q' s' p' old same true is at = (λ h. same.1 ((tracks.sends q' s' p' old).0 h), λ h. (tracks.sends q' s' p' old).1 (same.0 h))
-      old_send q' s' p' old same false is (inr ne) = rw get_or-set_other (λ h. same.1 ((tracks.sends q' s' p' old).0 h), λ h. (tracks.sends q' s' p' old).1 (same.0 h))
+      old_send q' s' p' old same true is at = stays q' s' p' old same
+      old_send q' s' p' old same false is (inr ne) = rw get_or-set_other (stays q' s' p' old same)
       old_send q' s' p' old same false is (inl here) =
           let number = obeys old.0 (Send q' s' p') old.1 in
           let fewer = count_at (is_send_of q') t old.0 (Send q' s' p') old.1 (eqb-self q') in
@@ -173,8 +177,7 @@ module _ (n : ℕ) (Lost : Mark → Type 0) (no_send : (q s p : ℕ) → Lost (S
             );
         sends = λ q' s' p' has.
             let old : Has t (Send q' s' p') = elim (At-push t (Receipt p r q s) has.0 (Send q' s' p') has.1) [ inl a ↦ (has.0, a) | inr a ↦ cc ] in
-            let same = preceded_old Lost t (Receipt p r q s) (Send q' s' p') new old in
-            (λ h. same.1 ((tracks.sends q' s' p' old).0 h), λ h. (tracks.sends q' s' p' old).1 (same.0 h));
+            stays q' s' p' old (preceded_old Lost t (Receipt p r q s) (Send q' s' p') new old);
         counted = λ x. omega (arith, tracks.counted x, sends-push t (Receipt p r q s) x);
       }
 
