@@ -40,7 +40,8 @@ held-lookup (e ∷ es) d =
 pub inserted : (es : Pairs) (entry : Entry) → lookup (same_determinant entry.det) es ≡ None
     → map entry_of (insert_entry same_determinant es entry.det entry.known) ≡ map entry_of es ++ entry ∷ []
 inserted es entry none =
-    rw (insert_entry-absent same_determinant entry.det entry.known es (absent_from_lookup (same_determinant entry.det) es none)) (map-append entry_of es ((entry.det, entry.known) ∷ []))
+    let absent = absent_from_lookup (same_determinant entry.det) es none in
+    rw (insert_entry-absent same_determinant entry.det entry.known es absent) (map-append entry_of es ((entry.det, entry.known) ∷ []))
 
 -- a determinant that has an entry at a place is held
 pub held-at : (table : List Entry) (d : Determinant) (i : ℕ) → has_at table d i ≡ true → is_held table d ≡ true

@@ -9,8 +9,10 @@ returns-then-place-ge8192-clause-place g c =
     (c.loop-place.invariant.obeyed, too_many c.args.n c.args.events.now c.loop-place.place (omega arith) c.if-place-ge8192.true)
 
 pub returns-then-place-ge8192-clause-fault : goal.returns-then-place-ge8192-clause-fault
-returns-then-place-ge8192-clause-fault g c =
-    (slice_get_read c.args.events.now _ c.loop-place.place _ refl (omega arith) c.index-events-place.is, omega (arith, length-take c.loop-place.place c.args.events.now, c.if-place-ge8192.true))
+returns-then-place-ge8192-clause-fault g c = (
+  slice_get_read c.args.events.now _ c.loop-place.place _ refl (omega arith) c.index-events-place.is,
+  omega (arith, length-take c.loop-place.place c.args.events.now, c.if-place-ge8192.true),
+)
 
 pub admit-requires-clause-rules : goal.admit-requires-clause-rules
 admit-requires-clause-rules g c = WellFormed-below c.args.n c.args.events.now c.loop-place.place c.loop-place.invariant.obeyed

@@ -7,7 +7,8 @@ use Rattle.fbl_history.proofs.history.replays.Goals.{After-member-item}
 within : (g : Over) (c : After-member-item g) → c.member-item.result < c.args.group.now.config.members
 within g c =
     c.requires c.member-item.result
-    (listed-in c.args.members c.deref-member-items.result.now c.loop-member.member-index c.member-item.result c.loop-member.invariant.listed c.loop-member-test.true c.member-item.is)
+    (listed-in c.args.members c.deref-member-items.result.now c.loop-member.member-index c.member-item.result
+    c.loop-member.invariant.listed c.loop-member-test.true c.member-item.is)
 
 pub received-received-requires : goal.received-received-requires
 received-received-requires g c = within g (goal.at.received-received-requires g c).After-member-item

@@ -6,7 +6,8 @@ use Rattle.fbl_base.proofs.rules.Counts.admit.Given.{Over}
 use Rattle.fbl_base.proofs.rules.Counts.admit.Goals as goal
 use Rattle.fbl_base.proofs.rules.Counts.admit.Goals.{After-broken_rule}
 
-verdict : (g : Over) (c : After-broken_rule g) → MatchOption c.broken_rule.result (ObeysAt c.args.n c.args.events.now c.args.place) (BreaksAt c.args.n c.args.events.now c.args.place)
+verdict : (g : Over) (c : After-broken_rule g)
+    → MatchOption c.broken_rule.result (ObeysAt c.args.n c.args.events.now c.args.place) (BreaksAt c.args.n c.args.events.now c.args.place)
 verdict g c =
     verdict_at c.args.n c.args.events.now c.args.place c.index-events-place.result c.args.self.now _ _ c.broken_rule.result c.requires.members
     c.requires.within c.requires.few c.requires.counted c.index-events-place.is c.first_in_flight-first.ensures.ends.0
