@@ -24,6 +24,9 @@ pub or_cond : (a b : Bool) → cond a true b ≡ (b || a)
 or_cond true b = sym (or-true b)
 or_cond false b = sym (or-false b)
 
+pub or_false : (b : Bool) → b ≡ (b || false)
+or_false b = sym (or-false b)
+
 -- a survivor's pair adds its determinant
 pub recorded_kept : (strike : set.FinSet nat_cmp) (xs : List (ℕ × Determinant)) (i : ℕ) (x : ℕ × Determinant) (d : Determinant) (before after : Bool)
     → i < length xs → x ≡ get_or xs i x → set.contains strike x.0 ≡ false → before ≡ list_any (holds_it strike d) (take i xs)
@@ -37,7 +40,7 @@ pub recorded_skipped : (strike : set.FinSet nat_cmp) (xs : List (ℕ × Determin
     → i < length xs → x ≡ get_or xs i x → set.contains strike x.0 ≡ true → before ≡ list_any (holds_it strike d) (take i xs) → before ≡ list_any (holds_it strike d) (take (i + 1) xs)
 recorded_skipped strike xs i x d before within is out was =
     let one : holds_it strike d x ≡ false = ap (λ b. not b && same_determinant x.1 d) out in
-    was ∙ sym (or-false _) ∙ (rw (list_any_more (holds_it strike d) xs i x within, ← is, one))
+    was ∙ or_false _ ∙ (rw (list_any_more (holds_it strike d) xs i x within, ← is, one))
 
 pub eqb_same : {a b : ℕ} → (a == b) ≡ true → a ≡ b
 eqb_same {a} {b} h = grind (arith, nat_tests)
