@@ -1,8 +1,9 @@
 -- What is counted, after one more event.
 use Rattle.std.proofs.Common.{ℕ, Bool, true, false, cond, ◌≡◌, ◌≢◌, ◌<◌, ◌≤◌, ◌+◌, ◌*◌, ◌==◌, ◌&&◌, ◌⊎◌, ◌↔◌, inl, inr, List, []}
-use Rattle.std.proofs.Common.{◌∷◌, ◌++◌, length, take, drop, Option, Some, None, slice_get, MatchOption, subst, refl, sym, ap, ◌∙◌, arith, get_or, set as set_at}
+use Rattle.std.proofs.Common.{◌∷◌, ◌++◌, length, take, drop, Option, Some, None, slice_get, MatchOption, Decides, subst, refl, sym, ap, ◌∙◌, arith, get_or, set as set_at}
 use Rattle.std.proofs.Common.{get_or-set_same, get_or-set_other, length-set, length-take}
-use Rattle.std.proofs.lemmas.Bool.{cases_eq, eq-eqb, ne_eqb}
+use Rattle.std.proofs.lemmas.Bool.{cases_eq, eq-eqb, false≢true, ne_eqb}
+use Rattle.std.proofs.lemmas.Bool.Decides.{Decides-and, Decides-eqb}
 use Rattle.std.proofs.lemmas.List.{take_more, append-nil}
 use Rattle.std.proofs.lemmas.Option.{slice_get_read}
 use Rattle.fbl_base.specs.declared.trace.Mark.{Mark}
@@ -59,26 +60,28 @@ counter_set xs q s x count after within next was step = at (cases_eq x q) where
       let w : get_or xs q 0 ≡ count = (rw here at was) in rw (here, get_or-set_same) (omega (arith, next, f, w)))
   at (inr other) = (let e : (q == x) ≡ false = ne_eqb q x (λ h. other (sym h)) in let f : after ≡ count + 0 = step ∙ (rw e) in rw get_or-set_other (omega (arith, was, f)))
 
+same_pair : (q p x y : ℕ) → Decides (q == x && p == y) ((q ≡ x) × (p ≡ y))
+same_pair q p x y = Decides-and (q == x) _ (Decides-eqb q x) (Decides-eqb p y)
+
 -- the channel of one pair of members is set
 channel_set : (xs : List (List ℕ)) (q p x y : ℕ) (new was after : List ℕ) → 16 * q + p < length xs → p < 16 → y < 16 → get_or xs (16 * x + y) [] ≡ was
     → after ≡ cond (q == x && p == y) new was → get_or (set_at xs (16 * q + p) new) (16 * x + y) [] ≡ after
-channel_set xs q p x y new was after within below_p below_y is step = at (cases_eq x q) (cases_eq y p) where
-  at : (x ≡ q) ⊎ (x ≢ q) → (y ≡ p) ⊎ (y ≢ p) → get_or (set_at xs (16 * q + p) new) (16 * x + y) [] ≡ after
-  at (inl a) (inl b) = (let e : (q == x) ≡ true = eq-eqb q x (sym a) in let f : (p == y) ≡ true = eq-eqb p y (sym b) in rw (step, e, f, a, b, get_or-set_same))
-  at (inl a) (inr b) = (let f : (p == y) ≡ false = ne_eqb p y (λ h. b (sym h)) in let e : (q == x) ≡ true = eq-eqb q x (sym a) in
-      let ne : 16 * x + y ≢ 16 * q + p = omega (arith, a, b) in rw (step, e, f, get_or-set_other) is)
-  at (inr a) b = (let e : (q == x) ≡ false = ne_eqb q x (λ h. a (sym h)) in let ne : 16 * x + y ≢ 16 * q + p = (λ h. a (omega (arith, h))) in rw (step, e, get_or-set_other) is)
+channel_set xs q p x y new was after within below_p below_y is step = at (q == x && p == y) refl where
+  at : (b : Bool) → (q == x && p == y) ≡ b → get_or (set_at xs (16 * q + p) new) (16 * x + y) [] ≡ after
+  at true e = (let same = (same_pair q p x y).0 e in rw (step, e, ← same.0, ← same.1, get_or-set_same))
+  at false e =
+      let other : 16 * x + y ≢ 16 * q + p = λ h. false≢true (sym e ∙ (same_pair q p x y).1 (omega (arith, h, below_p, below_y), omega (arith, h, below_p, below_y))) in
+      rw (step, e, get_or-set_other) is
 
 cond_append : (b : Bool) (xs ys : List ℕ) → xs ++ cond b ys [] ≡ cond b (xs ++ ys) xs
 cond_append true xs ys = refl
 cond_append false xs ys = append-nil xs
 
 cond_at : (q p x y : ℕ) (f : ℕ → ℕ → List ℕ) (g : List ℕ → List ℕ) → cond (q == x && p == y) (g (f x y)) (f x y) ≡ cond (q == x && p == y) (g (f q p)) (f x y)
-cond_at q p x y f g = at (cases_eq x q) (cases_eq y p) where
-  at : (x ≡ q) ⊎ (x ≢ q) → (y ≡ p) ⊎ (y ≢ p) → cond (q == x && p == y) (g (f x y)) (f x y) ≡ cond (q == x && p == y) (g (f q p)) (f x y)
-  at (inl a) (inl b) = rw (a, b)
-  at (inl a) (inr b) = (let e : (p == y) ≡ false = ne_eqb p y (λ h. b (sym h)) in let e' : (q == x) ≡ true = eq-eqb q x (sym a) in rw (e', e))
-  at (inr a) b = (let e : (q == x) ≡ false = ne_eqb q x (λ h. a (sym h)) in rw e)
+cond_at q p x y f g = at (q == x && p == y) refl where
+  at : (b : Bool) → (q == x && p == y) ≡ b → cond b (g (f x y)) (f x y) ≡ cond b (g (f q p)) (f x y)
+  at true e = (let same = (same_pair q p x y).0 e in rw (same.0, same.1))
+  at false e = refl
 
 -- the counts after a send
 pub counted_send : {A : Type 0} (n : ℕ) (t : List Mark) (c d : Counts A) (q s p : ℕ) → n ≤ 16 → WellFormed n t → Counted t c

@@ -9,10 +9,9 @@ use Rattle.std.proofs.lemmas.Option.{slice_get-get_or, get_or_from_slice_get}
 use Rattle.fbl_base.specs.declared.trace.Determinant.{Determinant}
 use Rattle.fbl_base.specs.declared.trace.Mark.{Mark}
 use Rattle.fbl_base.specs.declared.trace.Mark.TheVariants.{Send, Receipt}
-use Rattle.fbl_base.specs.Events.{At, determinant_of}
+use Rattle.fbl_base.specs.Events.{At, determinant_of, same_determinant, receipt_of}
 use Rattle.fbl_base.specs.Precedence.{Has}
 use Rattle.fbl_base.specs.Rules.{ObeysAt, WellFormed}
-use Rattle.fbl_base.specs.Events.{same_determinant, receipt_of}
 use Rattle.fbl_base.specs.DumpParts.{is_received}
 use Rattle.fbl_base.proofs.Breached.{room}
 use Rattle.fbl_base.proofs.Gets.{At-front, At-below, At-filter_map, filter_map-At}
