@@ -95,10 +95,7 @@ receipts-noted n t obeys i to rsn from ssn at =
     let event = map-At mark_of t sent'.0 (mark.Send from ssn to) sent'.2 in
     by_event sent'.0 event.0 event.1 event.2 where
       by_event : (j : ℕ) (e : Event) → slice_get t j ≡ Some e → mark_of e ≡ mark.Send from ssn to → (note : Note) × (note_of t from ssn ≡ Some note)
-      by_event j (Send q k p x) h is =
-          let e1 : q ≡ from = cc in
-          let e2 : k ≡ ssn = cc in
-          (let r = sent-note t j q k p x h in (r.0, (rw (← e1, ← e2) r.1)))
+      by_event j (Send q k p x) h is = sent-note t j from ssn to x (cc)
       by_event j (Receipt p r q k) h is = cc
 
 -- what the delivery adds to a member's actions
