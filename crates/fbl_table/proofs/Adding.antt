@@ -5,7 +5,7 @@ use Rattle.std.specs.Map.{lookup, values_of, keys_of}
 use Rattle.std.specs.Ordering.{nat_cmp}
 use Rattle.std.specs.Cmp.{nat_cmp_total}
 use Rattle.std.specs.Option.{option_or}
-use Rattle.std.proofs.lemmas.Bool.{false≢true, or_from, or_left, or_parts, or_right}
+use Rattle.std.proofs.lemmas.Bool.{false_from_ne_true, false≢true, or_from, or_left, or_parts, or_right}
 use Rattle.std.proofs.Math.Bool.{or_assoc, or_comm}
 use Rattle.std.specs.List.{find, position_or_len, AllByRecursion, IsDistinct}
 use Rattle.std.proofs.lemmas.List.Quantifiers.{position-Some}
@@ -79,10 +79,9 @@ not_found-missing es d None is = sym (held-lookup es d) ∙ sym is
 not_found-missing es d (Some i) is = tt
 
 pub apart-turned : (a b : Determinant) → same_determinant a b ≡ false → same_determinant b a ≡ false
-apart-turned a b apart = at (same_determinant b a) refl where
-  at : (c : Bool) → same_determinant b a ≡ c → same_determinant b a ≡ false
-  at true is = absurd (false≢true (sym apart ∙ (Decides-same_determinant a b).1 (sym ((Decides-same_determinant b a).0 is))))
-  at false is = is
+apart-turned a b apart =
+    let same = Decides-same_determinant a b in
+    false_from_ne_true (same_determinant b a) (λ is. false≢true (sym apart ∙ same.1 (sym ((Decides-same_determinant b a).0 is))))
 
 apart-at : (es : Pairs) (k d : Determinant) (i : ℕ) → AllByRecursion (λ y. same_determinant k y ≡ false) (keys_of es) → has_at (map entry_of es) d i ≡ true
     → same_determinant d k ≡ false
