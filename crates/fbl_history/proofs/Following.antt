@@ -17,7 +17,7 @@ use Rattle.fbl_base.specs.Rules.{is_receipt_of, is_send_of, receipts_of, MayFoll
 use Rattle.fbl_base.specs.Fold.{Next, Progress, after_notes, note_of, numbered}
 use Rattle.fbl_base.proofs.FoldLaws.{after_notes-state}
 use Rattle.fbl_base.proofs.Gets.{map-At, split-at}
-use Rattle.fbl_base.proofs.RulesLaws.{receipts-step, sent-before}
+use Rattle.fbl_base.proofs.RulesLaws.{eqb-self, receipts-step, sent-before}
 use Rattle.fbl_table.proofs.Adding.{take-next}
 use Rattle.fbl_member.specs.Members.{MemberRecord, blank, fresh, logged_note, replayed_by}
 use Rattle.fbl_member.proofs.Logs.{length-numbered}
@@ -157,10 +157,9 @@ module _ {next : Next} {r : GroupRecord} {members : List MemberRecord} {place : 
         at m below true is =
             let same : m ≡ d.to = grind (arith, nat_tests) in
             let within : d.to < length members = omega (arith, known.replayed.size, may-follow.1) in
-            let self : (d.to == d.to) ≡ true = grind (arith, nat_tests) in
             let set' : slice_index_or (slice_set members d.to after) d.to blank ≡ after = get_or-set_same members d.to after blank within in
             let more : receipts_of (take (place + 1) (marks r)) d.to ≡ receipts_of (take place (marks r)) d.to + 1 =
-            count-more (marks r) place d.to (Receipt d.to d.rsn d.from d.ssn) at-mark ∙ (rw self refl) in
+            count-more (marks r) place d.to (Receipt d.to d.rsn d.from d.ssn) at-mark ∙ (rw (eqb-self d.to) refl) in
             rw same (rw set' (is-replayed, omega (arith, more, known.replayed.received d.to may-follow.1)))
         at m below false is =
             let other : m ≢ d.to = grind (arith, nat_tests) in

@@ -61,8 +61,7 @@ messages-next me before carried sends i s at below =
 
 messages-carried : (me before : ℕ) (carried : List Entry) (sends : List (ℕ × Note)) (i : ℕ) (m : Message)
     → slice_get (messages_from me before carried sends) i ≡ Some m → m.carried ≡ carried
-messages-carried me before carried [] zero m is = cc
-messages-carried me before carried [] (suc i) m is = cc
+messages-carried me before carried [] i m is = cc
 messages-carried me before carried (s ∷ sends) zero m is = sym (ap (λ o. (unwrap_or o m).carried) is)
 messages-carried me before carried (s ∷ sends) (suc i) m is = messages-carried me (before + 1) carried sends i m is
 
@@ -81,12 +80,10 @@ pub starts-step : (me : ℕ) (starts : List Start) (i : ℕ) (s : Start) (b : Bo
 starts-step me starts i s b at is =
     ap (starts_of me) (take-next starts i s at)
     ∙ filter_map-append (λ x. if x.from == me then Some (x.to, x.note) else None) (take i starts) (s ∷ [])
-    ∙ ap (λ l. starts_of me (take i starts) ++ l) (own (s.from == me) b is) where
-      own : (a b : Bool) → a ≡ b → cons_option {X = ℕ × Note} (if a then Some (s.to, s.note) else None) [] ≡ cond b ((s.to, s.note) ∷ []) []
-      own true true e = refl
-      own true false e = absurd cc
-      own false true e = absurd cc
-      own false false e = refl
+    ∙ ap (λ l. starts_of me (take i starts) ++ l) (rw is (own b)) where
+      own : (a : Bool) → cons_option {X = ℕ × Note} (if a then Some (s.to, s.note) else None) [] ≡ cond a ((s.to, s.note) ∷ []) []
+      own true = refl
+      own false = refl
 
 -- the send at a place of the log
 pub noted-at : (before : ℕ) (log : List (ℕ × Note)) (i : ℕ) → logged_note (numbered before log) (before + i + 1) ≡ option_map (λ s. s.1) (slice_get log i)
