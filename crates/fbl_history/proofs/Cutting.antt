@@ -20,13 +20,10 @@ same-self _ stands = absurd cc
 none-passes : (column : Column) (p : Column → Bool) (columns : List Column)
     → list_any (same_standing column) columns ≡ false → list_any (same_standing column) (filter p columns) ≡ false
 none-passes column p [] none = refl
-none-passes column p (c ∷ columns) none = at (same_standing column c) (p c) refl none (none-passes column p columns) where
-  at : (s b : Bool) → same_standing column c ≡ s → (s || list_any (same_standing column) columns) ≡ false
-      → (list_any (same_standing column) columns ≡ false → list_any (same_standing column) (filter p columns) ≡ false)
-      → list_any (same_standing column) (cond b (c ∷ filter p columns) (filter p columns)) ≡ false
-  at true b is none later = absurd cc
-  at false true is none later = rw is (later none)
-  at false false is none later = later none
+none-passes column p (c ∷ columns) none =
+    let parts = or_parts (same_standing column c) _ none in
+    let later = none-passes column p columns parts.1 in
+    elim (p c) as (λ b. list_any (same_standing column) (cond b (c ∷ filter p columns) (filter p columns)) ≡ false) [ true ↦ rw parts.0 later | false ↦ later ]
 
 -- what is none of these is not the next of them
 not-next : (column : Column) (trace : List Column) → list_any (same_standing column) trace ≡ false → is_next column trace ≡ false
