@@ -74,14 +74,16 @@ pub count-bits : (b : ℕ) → b < 65536 → ones b ≡ set.len (set_of b)
 unfolding set_of
 count-bits b within = sym (count-digits 16 b within) ∙ sym (len-flagged (digits 16 b) 0)
 
+pub below-bits : (b n q : ℕ) → b < 65536 → b < 2 ^ n → set.contains (set_of b) q ≡ true → q < n
+below-bits b n q within small has = elim (cases_lt q n) [
+  | inl below ↦ below
+  | inr past ↦ absurd (zero_one (bit_at b q) (bit_at_above b n q small past) (sym (contains-set_of b q within) ∙ has))
+] where
+  zero_one : (x : ℕ) → x ≡ 0 → eqb x 1 ≡ true → ⊥
+  zero_one x none one = grind (arith, nat_tests)
+
 pub below_sixteen : (b q : ℕ) → b < 65536 → set.contains (set_of b) q ≡ true → q < 16
-below_sixteen b q within has = at (cases_lt q 16) where
-  at : (q < 16) ⊎ (16 ≤ q) → q < 16
-  at (inl below) = below
-  at (inr past) = absurd (zero_one (sym (bit_at_above b 16 q within past)) (sym (contains-set_of b q within) ∙ has))
-    where
-      zero_one : 0 ≡ bit_at b q → eqb (bit_at b q) 1 ≡ true → ⊥
-      zero_one none one = grind (arith, nat_tests)
+below_sixteen b q within has = below-bits b 16 q within within has
 
 high_bits : (b n : ℕ) → b < 65536 → AllBelow (set_of b) n → (i : ℕ) → bit_at (b / 2 ^ n) i ≡ 0
 high_bits b n within all i = at (bit_at b (n + i)) refl (bit_at-lt b (n + i)) where
@@ -94,15 +96,7 @@ high_bits b n within all i = at (bit_at b (n + i)) refl (bit_at-lt b (n + i)) wh
   at (suc (suc x)) is below = absurd (omega (arith, below))
 
 pub within-bits : (b n : ℕ) → b < 65536 → (b / 2 ^ n ≡ 0) ↔ AllBelow (set_of b) n
-within-bits b n within = (only, λ all. same_from_bits (b / 2 ^ n) 0 (λ i. high_bits b n within all i ∙ sym (bit_at-zero i))) where
-  zero_one : (q : ℕ) → bit_at b q ≡ 0 → eqb (bit_at b q) 1 ≡ true → ⊥
-  zero_one q none one = grind (arith, nat_tests)
-
-  only : b / 2 ^ n ≡ 0 → (q : ℕ) → set.contains (set_of b) q ≡ true → q < n
-  only none q has = at (cases_lt q n) where
-    small : b < 2 ^ n
-    small = omega (arith, div-add-mod b (2 ^ n), mod-lt b (pow_pos n), ap (λ x. 2 ^ n * x) none)
-
-    at : (q < n) ⊎ (n ≤ q) → q < n
-    at (inl below) = below
-    at (inr past) = absurd (zero_one q (bit_at_above b n q small past) (sym (contains-set_of b q within) ∙ has))
+within-bits b n within = (
+  λ none q has. below-bits b n q within (omega (arith, div-add-mod b (2 ^ n), mod-lt b (pow_pos n), ap (λ x. 2 ^ n * x) none)) has,
+  λ all. same_from_bits (b / 2 ^ n) 0 (λ i. high_bits b n within all i ∙ sym (bit_at-zero i)),
+)

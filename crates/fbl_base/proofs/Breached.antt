@@ -1,6 +1,5 @@
 -- What breaks a rule doesn't obey the rules.
-use Rattle.std.proofs.Common.{◌≡◌, ℕ, ◌<◌, List, length, take, get_or, slice_get, Some, sym, ap, ◌∙◌, ⊎_elim, arith}
-use Rattle.std.proofs.lemmas.Option.{slice_get-get_or}
+use Rattle.std.proofs.Common.{◌≡◌, ℕ, ◌<◌, List, length, take, slice_get, Some, ⊎_elim, arith}
 use Rattle.fbl_base.specs.declared.trace.Start.{Start}
 use Rattle.fbl_base.specs.declared.trace.Determinant.{Determinant}
 use Rattle.fbl_base.specs.declared.trace.Mark.{Mark}
@@ -27,7 +26,7 @@ ends : (n : ℕ) (t : List Mark) (e : Mark) → MayFollow n t e → AreEndsAllow
 ends n t (Send q s p) m = (m.0, m.1, m.2)
 ends n t (Receipt p r q s) m = (m.0, m.1, m.2)
 
-room : (n : ℕ) (t : List Mark) (e : Mark) → MayFollow n t e → length t < 8192
+pub room : (n : ℕ) (t : List Mark) (e : Mark) → MayFollow n t e → length t < 8192
 room n t (Send q s p) m = m.4
 room n t (Receipt p r q s) m = m.4
 
@@ -44,9 +43,6 @@ event_not_allowed n t (Receipt p r q s) (event_rule.WrongNumber w) h m = h.1.2 m
 event_not_allowed n t e (event_rule.NothingInFlight q p) h m = h.1.5 (message n t e m)
 event_not_allowed n t e (event_rule.OtherInFlight q p w) h m = h.1.5 (message n t e m)
 
-pub event_at : (events : List Mark) (place : ℕ) (e : Mark) → place < length events → e ≡ get_or events place e → At events place e
-event_at events place e within is = slice_get-get_or events place e within ∙ ap Some (sym is)
-
 pub not_obeyed : (n : ℕ) (events : List Mark) (place : ℕ) (rule : EventRule) → BreaksAt n events place rule → ¬ (ObeysAt n events place)
 not_obeyed n events place rule h obeys = event_not_allowed n (take place events) h.0 rule h.2 (obeys h.0 h.1)
 
@@ -58,10 +54,6 @@ pair_not_allowed : (n : ℕ) (t : List Mark) (place holder : ℕ) (d : Determina
 pair_not_allowed n t place holder d pair_rule.TooMany h fits = omega (arith, h, fits.0)
 pair_not_allowed n t place holder d (pair_rule.Outside o) h fits = omega (arith, h.1.2, fits.1)
 pair_not_allowed n t place holder d (pair_rule.NoReceipt e) h fits = h.3 (rw h.2 fits.2)
-
--- the pair at a place as one of a list
-pub pair_at : (held : List (ℕ × Determinant)) (place : ℕ) (h : ℕ × Determinant) → place < length held → h ≡ get_or held place h → slice_get held place ≡ Some h
-pair_at held place h within is = slice_get-get_or held place h within ∙ ap Some (sym is)
 
 pub pair_breaks : (dump : Parts) (place : ℕ) (h : ℕ × Determinant) (rule : PairRule) → slice_get dump.held place ≡ Some h
     → BreaksPair dump.members dump.events place h.0 h.1 rule → ¬ (HeldAt dump place)

@@ -1,10 +1,11 @@
 -- What is counted, after one more event.
 use Rattle.std.proofs.Common.{ℕ, Bool, true, false, cond, ◌≡◌, ◌≢◌, ◌<◌, ◌≤◌, ◌+◌, ◌*◌, ◌==◌, ◌&&◌, ◌⊎◌, ◌↔◌, inl, inr, List, []}
-use Rattle.std.proofs.Common.{◌∷◌, ◌++◌, length, take, drop, Option, Some, None, slice_get, MatchOption, subst, refl, sym, ap, ◌∙◌, arith, get_or, set as set_at}
+use Rattle.std.proofs.Common.{◌∷◌, ◌++◌, length, take, drop, Option, Some, None, slice_get, MatchOption, Decides, subst, refl, sym, ap, ◌∙◌, arith, get_or, set as set_at}
 use Rattle.std.proofs.Common.{get_or-set_same, get_or-set_other, length-set, length-take}
-use Rattle.std.proofs.lemmas.Bool.{cases_eq, eq-eqb, ne_eqb}
+use Rattle.std.proofs.lemmas.Bool.{cases_eq, eq-eqb, false≢true, ne_eqb}
+use Rattle.std.proofs.lemmas.Bool.Decides.{Decides-and, Decides-eqb}
 use Rattle.std.proofs.lemmas.List.{take_more, append-nil}
-use Rattle.std.proofs.lemmas.Option.{slice_get-get_or}
+use Rattle.std.proofs.lemmas.Option.{slice_get_read}
 use Rattle.fbl_base.specs.declared.trace.Mark.{Mark}
 use Rattle.fbl_base.specs.declared.trace.Mark.TheVariants.{Send, Receipt}
 use Rattle.fbl_base.specs.declared.rules.Counts.{Counts}
@@ -59,26 +60,28 @@ counter_set xs q s x count after within next was step = at (cases_eq x q) where
       let w : get_or xs q 0 ≡ count = (rw here at was) in rw (here, get_or-set_same) (omega (arith, next, f, w)))
   at (inr other) = (let e : (q == x) ≡ false = ne_eqb q x (λ h. other (sym h)) in let f : after ≡ count + 0 = step ∙ (rw e) in rw get_or-set_other (omega (arith, was, f)))
 
+same_pair : (q p x y : ℕ) → Decides (q == x && p == y) ((q ≡ x) × (p ≡ y))
+same_pair q p x y = Decides-and (q == x) _ (Decides-eqb q x) (Decides-eqb p y)
+
 -- the channel of one pair of members is set
 channel_set : (xs : List (List ℕ)) (q p x y : ℕ) (new was after : List ℕ) → 16 * q + p < length xs → p < 16 → y < 16 → get_or xs (16 * x + y) [] ≡ was
     → after ≡ cond (q == x && p == y) new was → get_or (set_at xs (16 * q + p) new) (16 * x + y) [] ≡ after
-channel_set xs q p x y new was after within below_p below_y is step = at (cases_eq x q) (cases_eq y p) where
-  at : (x ≡ q) ⊎ (x ≢ q) → (y ≡ p) ⊎ (y ≢ p) → get_or (set_at xs (16 * q + p) new) (16 * x + y) [] ≡ after
-  at (inl a) (inl b) = (let e : (q == x) ≡ true = eq-eqb q x (sym a) in let f : (p == y) ≡ true = eq-eqb p y (sym b) in rw (step, e, f, a, b, get_or-set_same))
-  at (inl a) (inr b) = (let f : (p == y) ≡ false = ne_eqb p y (λ h. b (sym h)) in let e : (q == x) ≡ true = eq-eqb q x (sym a) in
-      let ne : 16 * x + y ≢ 16 * q + p = omega (arith, a, b) in rw (step, e, f, get_or-set_other) is)
-  at (inr a) b = (let e : (q == x) ≡ false = ne_eqb q x (λ h. a (sym h)) in let ne : 16 * x + y ≢ 16 * q + p = (λ h. a (omega (arith, h))) in rw (step, e, get_or-set_other) is)
+channel_set xs q p x y new was after within below_p below_y is step = at (q == x && p == y) refl where
+  at : (b : Bool) → (q == x && p == y) ≡ b → get_or (set_at xs (16 * q + p) new) (16 * x + y) [] ≡ after
+  at true e = (let same = (same_pair q p x y).0 e in rw (step, e, ← same.0, ← same.1, get_or-set_same))
+  at false e =
+      let other : 16 * x + y ≢ 16 * q + p = λ h. false≢true (sym e ∙ (same_pair q p x y).1 (omega (arith, h, below_p, below_y), omega (arith, h, below_p, below_y))) in
+      rw (step, e, get_or-set_other) is
 
 cond_append : (b : Bool) (xs ys : List ℕ) → xs ++ cond b ys [] ≡ cond b (xs ++ ys) xs
 cond_append true xs ys = refl
 cond_append false xs ys = append-nil xs
 
 cond_at : (q p x y : ℕ) (f : ℕ → ℕ → List ℕ) (g : List ℕ → List ℕ) → cond (q == x && p == y) (g (f x y)) (f x y) ≡ cond (q == x && p == y) (g (f q p)) (f x y)
-cond_at q p x y f g = at (cases_eq x q) (cases_eq y p) where
-  at : (x ≡ q) ⊎ (x ≢ q) → (y ≡ p) ⊎ (y ≢ p) → cond (q == x && p == y) (g (f x y)) (f x y) ≡ cond (q == x && p == y) (g (f q p)) (f x y)
-  at (inl a) (inl b) = rw (a, b)
-  at (inl a) (inr b) = (let e : (p == y) ≡ false = ne_eqb p y (λ h. b (sym h)) in let e' : (q == x) ≡ true = eq-eqb q x (sym a) in rw (e', e))
-  at (inr a) b = (let e : (q == x) ≡ false = ne_eqb q x (λ h. a (sym h)) in rw e)
+cond_at q p x y f g = at (q == x && p == y) refl where
+  at : (b : Bool) → (q == x && p == y) ≡ b → cond b (g (f x y)) (f x y) ≡ cond b (g (f q p)) (f x y)
+  at true e = (let same = (same_pair q p x y).0 e in rw (same.0, same.1))
+  at false e = refl
 
 -- the counts after a send
 pub counted_send : {A : Type 0} (n : ℕ) (t : List Mark) (c d : Counts A) (q s p : ℕ) → n ≤ 16 → WellFormed n t → Counted t c
@@ -123,25 +126,16 @@ counted_receipt n t c d p r q s most obeys counted may is_sends is_receipts is_c
       channels_length = rw (is_channels, length-set) counted.channels_length;
     }
 
-place_has : (events : List Mark) (place : ℕ) (d e : Mark) → place < length events → get_or events place d ≡ e → At events place e
-place_has events place d e within is = slice_get-get_or events place d within ∙ ap Some is
-
-few_before : (events : List Mark) (place : ℕ) → place < 8192 → length (take place events) < 8192
-few_before events place few = omega (arith, length-take place events)
-
-one_more : (events : List Mark) (place : ℕ) (e : Mark) → place < length events → e ≡ get_or events place e → take (place + 1) events ≡ take place events ++ e ∷ []
-one_more events place e within is = take_more events place e within ∙ ap (λ x. take place events ++ x ∷ []) (sym is)
-
 -- the verdict on the event at a place
 pub verdict_at : {A : Type 0} (n : ℕ) (events : List Mark) (place : ℕ) (e : Mark) (c : Counts A) (next : ℕ) (first : Option ℕ)
     (found : Option EventRule) → n ≤ 16 → place < length events → place < 8192 → Counted (take place events) c → e ≡ get_or events place e
     → source_of e < 16 → destination_of e < 16 → next ≡ next_by c e → first ≡ first_by c e
     → MatchOption found (FitsEvent n e next first) (Breaks n e next first) → MatchOption found (ObeysAt n events place) (BreaksAt n events place)
 verdict_at n events place e c next first found most within few counted is below_q below_p is_next is_first h =
-    by_found found (verdict n (take place events) c most (few_before events place few) counted e next first found below_q below_p is_next is_first h)
+    by_found found (verdict n (take place events) c most (omega (arith, length-take place events, few)) counted e next first found below_q below_p is_next is_first h)
   where
     at : At events place e
-    at = place_has events place e e within (sym is)
+    at = slice_get_read events _ place e refl within is
 
     by_found : (found : Option EventRule) → MatchOption found (MayFollow n (take place events) e) (BreaksEvent n (take place events) e)
         → MatchOption found (ObeysAt n events place) (BreaksAt n events place)
@@ -153,7 +147,7 @@ pub admitted : {A : Type 0} (n : ℕ) (events : List Mark) (place : ℕ) (e : Ma
     → WellFormed n (take place events) → Counted (take place events) c → e ≡ get_or events place e
     → ObeysAt n events place → CountsEvent e c after → Counted (take (place + 1) events) after
 admitted n events place e c after most within few obeys counted is obeyed counts =
-    rw (one_more events place e within is) (by_kind e (obeyed e (place_has events place e e within (sym is))) counts)
+    rw (take_more events place e within, ← is) (by_kind e (obeyed e (slice_get_read events _ place e refl within is)) counts)
   where
     by_kind : (e : Mark) → MayFollow n (take place events) e → CountsEvent e c after → Counted (take place events ++ e ∷ []) after
     by_kind (Send q s p) m k = counted_send n (take place events) c after q s p most obeys counted m k.0 k.1 k.2

@@ -24,11 +24,11 @@ use Rattle.fbl_base.proofs.FoldLaws.{responses-push}
 -- a note that was sent stays so
 pub note_of-front : (t s : List Event) (from ssn : ℕ) (note : Note) → note_of t from ssn ≡ Some note → note_of (t ++ s) from ssn ≡ Some note
 note_of-front [] s from ssn note h = cc
-note_of-front (Send q k to x ∷ t) s from ssn note h = at (q == from && k == ssn) h (note_of-front t s from ssn note) where
-  at : (b : Bool) → cond b (Some x) (note_of t from ssn) ≡ Some note → (note_of t from ssn ≡ Some note → note_of (t ++ s) from ssn ≡ Some note)
-      → cond b (Some x) (note_of (t ++ s) from ssn) ≡ Some note
-  at true g ih = g
-  at false g ih = ih g
+note_of-front (Send q k to x ∷ t) s from ssn note h =
+    (elim (q == from && k == ssn) as (λ b. cond b (Some x) (note_of t from ssn) ≡ Some note → cond b (Some x) (note_of (t ++ s) from ssn) ≡ Some note) [
+      | true ↦ λ g. g
+      | false ↦ λ g. note_of-front t s from ssn note g
+    ]) h
 note_of-front (Receipt to rsn q k ∷ t) s from ssn note h = note_of-front t s from ssn note h
 
 pub notes_of-append : (xs ys : List Action) → notes_of (xs ++ ys) ≡ notes_of xs ++ notes_of ys
@@ -78,13 +78,9 @@ sent-note [] i q k to x h = cc
 sent-note (Send q' k' to' x' ∷ t) zero q k to x h =
     let e1 : q' ≡ q = cc in
     let e2 : k' ≡ k = cc in
-    let f1 : (q' == q) ≡ true = grind (arith, nat_tests) in
-    let f2 : (k' == k) ≡ true = grind (arith, nat_tests) in
-    (x', rw (f1, f2))
-sent-note (Send q' k' to' x' ∷ t) (suc i) q k to x h = at (q' == q && k' == k) (sent-note t i q k to x h) where
-  at : (b : Bool) → (note : Note) × (note_of t q k ≡ Some note) → (note : Note) × (cond b (Some x') (note_of t q k) ≡ Some note)
-  at true r = (x', refl)
-  at false r = r
+    (x', rw (e1, e2, eqb-self q, eqb-self k))
+sent-note (Send q' k' to' x' ∷ t) (suc i) q k to x h =
+    elim (q' == q && k' == k) as (λ b. (note : Note) × (cond b (Some x') (note_of t q k) ≡ Some note)) [ true ↦ (x', refl) | false ↦ sent-note t i q k to x h ]
 sent-note (Receipt p r q' s ∷ t) zero q k to x h = cc
 sent-note (Receipt p r q' s ∷ t) (suc i) q k to x h = sent-note t i q k to x h
 
@@ -97,10 +93,7 @@ receipts-noted n t obeys i to rsn from ssn at =
     let event = map-At mark_of t sent'.0 (mark.Send from ssn to) sent'.2 in
     by_event sent'.0 event.0 event.1 event.2 where
       by_event : (j : ℕ) (e : Event) → slice_get t j ≡ Some e → mark_of e ≡ mark.Send from ssn to → (note : Note) × (note_of t from ssn ≡ Some note)
-      by_event j (Send q k p x) h is =
-          let e1 : q ≡ from = cc in
-          let e2 : k ≡ ssn = cc in
-          (let r = sent-note t j q k p x h in (r.0, (rw (← e1, ← e2) r.1)))
+      by_event j (Send q k p x) h is = sent-note t j from ssn to x (cc)
       by_event j (Receipt p r q k) h is = cc
 
 -- what the delivery adds to a member's actions

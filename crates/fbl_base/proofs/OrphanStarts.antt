@@ -1,5 +1,5 @@
 -- The first events of orphans that depend on a lost receipt.
-use Rattle.std.proofs.Common.{ℕ, [], ◌+◌, ◌<◌, ◌≡◌, ◌≢◌, ◌⊎◌, inl, inr, Bool, true, false, cond, not, ◌||◌, ◌&&◌, List, length, take, Option, Some, None}
+use Rattle.std.proofs.Common.{ℕ, [], ◌+◌, ◌<◌, ◌≡◌, ◌≢◌, inl, inr, Bool, true, false, cond, not, ◌||◌, ◌&&◌, List, length, take, Option, Some, None}
 use Rattle.std.proofs.Common.{refl, sym, ap, ◌∙◌, subst, get_or, set as set_at, get_or-set_same, get_or-set_other, ltb}
 use Rattle.std.proofs.lemmas.Bool.{false≢true, cases_eq}
 use Rattle.std.specs.Cmp.{nat_cmp_total}
@@ -70,15 +70,15 @@ module _ (dump : Parts) (i : ℕ) (reached reached' : set.FinSet nat_cmp) (clean
   -- the event makes its member no orphan
   pub starts_kept : (set.contains (set.difference reached' dump.strike) member ≡ true
       → set.contains (set.difference reached dump.strike) member ≡ true) → (q : ℕ) → q < 16 → StartsBy dump (i + 1) q (get_or starts q None)
-  starts_kept was q below = at_place (cases_eq q member) where
-    at_place : (q ≡ member) ⊎ (q ≢ member) → StartsBy dump (i + 1) q (get_or starts q None)
-    at_place (inl is) = start_kept dump i reached reached' clean clean' before after q (get_or starts q None) (rw is was) (old q below)
-    at_place (inr ne) = kept q below ne
+  starts_kept was q below = elim (cases_eq q member) [
+    | inl is ↦ start_kept dump i reached reached' clean clean' before after q (get_or starts q None) (rw is was) (old q below)
+    | inr ne ↦ kept q below ne
+  ]
 
   -- the event makes its member an orphan
   pub starts_set : i < length dump.events → member < length starts → set.contains (set.difference reached dump.strike) member ≡ false
       → set.contains (set.difference reached' dump.strike) member ≡ true → (q : ℕ) → q < 16 → StartsBy dump (i + 1) q (get_or (set_at starts member (Some i)) q None)
-  starts_set within room was now q below = at_place (cases_eq q member) where
-    at_place : (q ≡ member) ⊎ (q ≢ member) → StartsBy dump (i + 1) q (get_or (set_at starts member (Some i)) q None)
-    at_place (inl is) = rw (is, get_or-set_same) (start_new dump i reached reached' clean clean' before after member within was now)
-    at_place (inr ne) = rw get_or-set_other (kept q below ne)
+  starts_set within room was now q below = elim (cases_eq q member) [
+    | inl is ↦ rw (is, get_or-set_same) (start_new dump i reached reached' clean clean' before after member within was now)
+    | inr ne ↦ rw get_or-set_other (kept q below ne)
+  ]

@@ -1,5 +1,5 @@
 -- A pass over the events finds what a lost receipt reaches.
-use Rattle.std.proofs.Common.{subst, take, length-set, ◌==◌, ℕ, Bool, true, false, cond, ◌||◌, ◌≡◌, ◌≢◌, ◌<◌, ◌≤◌, ◌+◌, ◌⊎◌, ◌↔◌, inl, inr}
+use Rattle.std.proofs.Common.{subst, replicate, take, length-set, ◌==◌, ℕ, Bool, true, false, cond, ◌||◌, ◌≡◌, ◌≢◌, ◌<◌, ◌≤◌, ◌+◌, ◌⊎◌, ◌↔◌, inl, inr}
 use Rattle.std.proofs.Common.{List, [], ◌∷◌, ◌++◌, length, Decides, refl, sym, ap, ◌∙◌, arith, get_or, set as set_at, get_or-set_same, get_or-set_other, ltb}
 use Rattle.std.proofs.lemmas.Bool.{false≢true, cases_eq, or_cases, or_left, or_right, ltb-true, lt-ltb}
 use Rattle.std.proofs.lemmas.List.Sums.{sum_by-append}
@@ -14,7 +14,7 @@ use Rattle.fbl_base.specs.Precedence.{Has, Precedes, Depends}
 use Rattle.fbl_base.specs.Rules.{is_send_of, sends_of, MayFollow, WellFormed}
 use Rattle.fbl_base.specs.Reach.{reached_after, unreached_sends_after}
 use Rattle.fbl_base.specs.MemberSets.{contains-insert_same, contains-insert_other}
-use Rattle.fbl_base.proofs.Gets.{At-below, At-push}
+use Rattle.fbl_base.proofs.Gets.{At-below, At-push, get_or-same}
 use Rattle.fbl_base.proofs.PrecedenceLaws.{Precedes-front, Precedes-push, Precedes-new, Precedes-receipt, Depends-push, new-Precedes, Has-last}
 use Rattle.fbl_base.proofs.RulesLaws.{MayFollow-new, WellFormed-take, in_flight-sent, eqb-self, count_at}
 
@@ -91,6 +91,10 @@ sends-send t q s p =
 
 module _ (n : ℕ) (Lost : Mark → Type 0) (no_send : (q s p : ℕ) → Lost (Send q s p) → ⊥) (t : List Mark) (obeys : WellFormed n t)
     (reached : set.FinSet nat_cmp) (unreached_sends : List ℕ) (tracks : Tracks Lost t reached unreached_sends) where
+  -- what an old send says of its message stays so
+  stays : {preceded : Type 0} (q s p : ℕ) → Has t (Send q s p) → (preceded ↔ IsPreceded Lost t (Send q s p)) → (get_or unreached_sends q 0 < s) ↔ preceded
+  stays q s p old same = (λ h. same.1 ((tracks.sends q s p old).0 h), λ h. (tracks.sends q s p old).1 (same.0 h))
+
   tracks_send : (q s p : ℕ) → q < length unreached_sends → MayFollow n t (Send q s p)
       → Tracks Lost (t ++ Send q s p ∷ []) reached (unreached_sends_after (Send q s p) reached unreached_sends)
   tracks_send q s p within may =
@@ -121,8 +125,8 @@ module _ (n : ℕ) (Lost : Mark → Type 0) (no_send : (q s p : ℕ) → Lost (S
       old_send : (q' s' p' : ℕ) → Has t (Send q' s' p') → (IsPreceded Lost (t ++ Send q s p ∷ []) (Send q' s' p') ↔ IsPreceded Lost t (Send q' s' p'))
           → (b : Bool) → set.contains reached q ≡ b → (q' ≡ q) ⊎ (q' ≢ q)
           → (get_or (cond b unreached_sends (set_at unreached_sends q s)) q' 0 < s') ↔ IsPreceded Lost (t ++ Send q s p ∷ []) (Send q' s' p')
-      old_send q' s' p' old same true is at = (λ h. same.1 ((tracks.sends q' s' p' old).0 h), λ h. (tracks.sends q' s' p' old).1 (same.0 h))
-      old_send q' s' p' old same false is (inr ne) = rw get_or-set_other (λ h. same.1 ((tracks.sends q' s' p' old).0 h), λ h. (tracks.sends q' s' p' old).1 (same.0 h))
+      old_send q' s' p' old same true is at = stays q' s' p' old same
+      old_send q' s' p' old same false is (inr ne) = rw get_or-set_other (stays q' s' p' old same)
       old_send q' s' p' old same false is (inl here) =
           let number = obeys old.0 (Send q' s' p') old.1 in
           let fewer = count_at (is_send_of q') t old.0 (Send q' s' p') old.1 (eqb-self q') in
@@ -173,8 +177,7 @@ module _ (n : ℕ) (Lost : Mark → Type 0) (no_send : (q s p : ℕ) → Lost (S
             );
         sends = λ q' s' p' has.
             let old : Has t (Send q' s' p') = elim (At-push t (Receipt p r q s) has.0 (Send q' s' p') has.1) [ inl a ↦ (has.0, a) | inr a ↦ cc ] in
-            let same = preceded_old Lost t (Receipt p r q s) (Send q' s' p') new old in
-            (λ h. same.1 ((tracks.sends q' s' p' old).0 h), λ h. (tracks.sends q' s' p' old).1 (same.0 h));
+            stays q' s' p' old (preceded_old Lost t (Receipt p r q s) (Send q' s' p') new old);
         counted = λ x. omega (arith, tracks.counted x, sends-push t (Receipt p r q s) x);
       }
 
@@ -187,12 +190,14 @@ Tracks-next n Lost no_send t obeys reached unreached_sends tracks room (Send q s
 Tracks-next n Lost no_send t obeys reached unreached_sends tracks room (Receipt p r q s) lost decides may =
     tracks_receipt n Lost no_send t obeys reached unreached_sends tracks p r q s lost decides may
 
-pub Tracks-none : (Lost : Mark → Type 0) (unreached_sends : List ℕ) → ((q : ℕ) → get_or unreached_sends q 0 ≡ 0) → Tracks Lost [] set.empty unreached_sends
-Tracks-none Lost unreached_sends zeros = record {
+-- before the first event none is reached
+pub Tracks-none : (Lost : Mark → Type 0) {reached : set.FinSet nat_cmp} {unreached_sends : List ℕ} → reached ≡ set.empty → unreached_sends ≡ replicate 16 0
+    → Tracks Lost [] reached unreached_sends
+Tracks-none Lost none zeros = rw (none, zeros) (record {
   members = λ q. (λ h. absurd (false≢true (sym (set.contains-empty nat_cmp q) ∙ h)), λ r. absurd (omega (arith, At-below [] (Has-last r.2.1).0 r.2.0 (Has-last r.2.1).1)));
   sends = λ q s p has. absurd (omega (arith, At-below [] has.0 (Send q s p) has.1));
-  counted = λ q. omega (arith, zeros q);
-}
+  counted = λ q. omega (arith, get_or-same {X = ℕ} 16 q 0);
+})
 
 pub unreached_sends_after-length : (e : Mark) (reached : set.FinSet nat_cmp) (unreached_sends : List ℕ) → length (unreached_sends_after e reached unreached_sends) ≡ length unreached_sends
 unreached_sends_after-length (Send q s p) reached unreached_sends =

@@ -9,11 +9,11 @@ use Rattle.std.proofs.lemmas.Option.{slice_get-get_or, get_or_from_slice_get}
 use Rattle.fbl_base.specs.declared.trace.Determinant.{Determinant}
 use Rattle.fbl_base.specs.declared.trace.Mark.{Mark}
 use Rattle.fbl_base.specs.declared.trace.Mark.TheVariants.{Send, Receipt}
-use Rattle.fbl_base.specs.Events.{At, determinant_of}
+use Rattle.fbl_base.specs.Events.{At, determinant_of, same_determinant, receipt_of}
 use Rattle.fbl_base.specs.Precedence.{Has}
-use Rattle.fbl_base.specs.Rules.{MayFollow, ObeysAt, WellFormed}
-use Rattle.fbl_base.specs.Events.{same_determinant, receipt_of}
+use Rattle.fbl_base.specs.Rules.{ObeysAt, WellFormed}
 use Rattle.fbl_base.specs.DumpParts.{is_received}
+use Rattle.fbl_base.proofs.Breached.{room}
 use Rattle.fbl_base.proofs.Gets.{At-front, At-below, At-filter_map, filter_map-At}
 use Rattle.fbl_base.proofs.Recorded.{Decides-same_determinant, or_cond, or_false}
 
@@ -67,8 +67,7 @@ WellFormed-all n t i all obeyed j e at = obeyed j (omega (arith, At-below t j e 
 
 -- no event may come after 8192 others
 pub too_many : (n : ℕ) (t : List Mark) (place : ℕ) → place < length t → 8192 ≤ place → ¬ (ObeysAt n t place)
-too_many n (e ∷ t) place below most obeys = over (get_or (e ∷ t) place e) (obeys (get_or (e ∷ t) place e) (slice_get-get_or (e ∷ t) place e below)) where
-  over : (x : Mark) → MayFollow n (take place (e ∷ t)) x → ⊥
-  over (Send q s p) may = omega (arith, may.4, length-take place (e ∷ t), below, most)
-  over (Receipt p r q s) may = omega (arith, may.4, length-take place (e ∷ t), below, most)
+too_many n (e ∷ t) place below most obeys =
+    let may = obeys (get_or (e ∷ t) place e) (slice_get-get_or (e ∷ t) place e below) in
+    omega (arith, room n (take place (e ∷ t)) (get_or (e ∷ t) place e) may, length-take place (e ∷ t), below, most)
 too_many n [] place below most obeys = omega arith

@@ -4,6 +4,7 @@ use Rattle.std.proofs.Common.{Decides, ◌↔◌}
 use Rattle.std.specs.List.{list_any}
 use Rattle.std.specs.Ordering.{nat_cmp}
 use Rattle.std.specs.FinSet as set
+use Rattle.std.proofs.Math.Bool.{or-false, or-true}
 use Rattle.std.proofs.lemmas.Bool.Decides.{nat_tests, Decides-and, Decides-eqb}
 use Rattle.std.proofs.lemmas.List.Folds.{list_any_more, Any-from_list_any, list_any-from_Any}
 use Rattle.fbl_base.specs.declared.trace.Determinant.{Determinant}
@@ -20,14 +21,11 @@ abbrev holds_it : set.FinSet nat_cmp → Determinant → ℕ × Determinant → 
 holds_it strike d h = not (set.contains strike h.0) && same_determinant h.1 d
 
 pub or_cond : (a b : Bool) → cond a true b ≡ (b || a)
-or_cond true true = refl
-or_cond true false = refl
-or_cond false true = refl
-or_cond false false = refl
+or_cond true b = sym (or-true b)
+or_cond false b = sym (or-false b)
 
 pub or_false : (b : Bool) → b ≡ (b || false)
-or_false true = refl
-or_false false = refl
+or_false b = sym (or-false b)
 
 -- a survivor's pair adds its determinant
 pub recorded_kept : (strike : set.FinSet nat_cmp) (xs : List (ℕ × Determinant)) (i : ℕ) (x : ℕ × Determinant) (d : Determinant) (before after : Bool)

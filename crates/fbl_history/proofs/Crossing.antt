@@ -1,60 +1,26 @@
 -- How a history goes on to a trace.
-use Rattle.std.proofs.Common.{◌≡◌, ◌==◌, ◌&&◌, ◌⊎◌, inl, inr, Bool, true, false}
-use Rattle.std.proofs.Common.{List, [], ◌∷◌, drop, refl, sym, ap, ◌∙◌}
-use Rattle.fbl_base.proofs.Recorded.{both_true, eqb_same}
+use Rattle.std.proofs.Common.{◌≡◌, ◌==◌, ◌⊎◌, inl, inr, Bool, true, false, List, [], ◌∷◌, drop, refl, sym, ap, ◌∙◌}
+use Rattle.std.proofs.lemmas.Bool.Decides.{Decides-and, Decides-eqb}
 use Rattle.fbl_history.specs.declared.column.Column.{Column}
-use Rattle.fbl_history.specs.declared.column.Column.TheVariants.{Send, Receipt, Strike, Recovery, Checkpoint}
+use Rattle.fbl_history.specs.declared.column.Column.TheVariants.{Send, Receipt}
 use Rattle.fbl_history.specs.Columns.{is_standing, crossed, same_standing, standing, is_next, column_then, trace_then, go_on, GoesOnFrom}
-
-none : (b : Bool) → (b && false) ≡ false
-none true = refl
-none false = refl
-
--- ---- one column
-
-pub then-kept : (column : Column) (rest : List Column) → is_next column rest ≡ true → column_then column rest ≡ column
-then-kept column rest is = rw (is, none (is_standing column)) refl
-
-pub then-crossed : (column : Column) (rest : List Column) → is_standing column ≡ true → is_next column rest ≡ false → column_then column rest ≡ crossed column
-then-crossed column rest stands is = rw (stands, is) refl
-
-pub then-left : (column : Column) (rest : List Column) → is_standing column ≡ false → column_then column rest ≡ column
-then-left column rest stands = rw stands refl
-
-pub then-past : (column : Column) (rest : List Column) → is_next column rest ≡ false → trace_then column rest ≡ rest
-then-past column rest is = rw is refl
-
--- ---- laws
 
 -- columns of the same standing event are equal, and stand
 pub same-is : (a b : Column) → same_standing a b ≡ true → (a ≡ b) × (is_standing b ≡ true)
 same-is (Send q k p false) (Send q' k' p' false) h =
-    let first = both_true (q == q') _ h in
-    let second = both_true (k == k') _ first.1 in
-    let e1 = eqb_same {a = q} {b = q'} first.0 in
-    let e2 = eqb_same {a = k} {b = k'} second.0 in
-    let e3 = eqb_same {a = p} {b = p'} second.1 in
-    (rw (e1, e2, e3) refl, refl)
+    let same = (Decides-and (q == q') _ (Decides-eqb q q') (Decides-and (k == k') _ (Decides-eqb k k') (Decides-eqb p p'))).0 h in
+    (λ i. Send (same.0 i) (same.1.0 i) (same.1.1 i) false, refl)
 same-is (Receipt p r q k s false) (Receipt p' r' q' k' s' false) h =
-    let first = both_true (p == p') _ h in
-    let second = both_true (r == r') _ first.1 in
-    let third = both_true (q == q') _ second.1 in
-    let fourth = both_true (k == k') _ third.1 in
-    let e1 = eqb_same {a = p} {b = p'} first.0 in
-    let e2 = eqb_same {a = r} {b = r'} second.0 in
-    let e3 = eqb_same {a = q} {b = q'} third.0 in
-    let e4 = eqb_same {a = k} {b = k'} fourth.0 in
-    let e5 = eqb_same {a = s} {b = s'} fourth.1 in
-    (rw (e1, e2, e3, e4, e5) refl, refl)
+    let message = Decides-and (q == q') _ (Decides-eqb q q') (Decides-and (k == k') _ (Decides-eqb k k') (Decides-eqb s s')) in
+    let same = (Decides-and (p == p') _ (Decides-eqb p p') (Decides-and (r == r') _ (Decides-eqb r r') message)).0 h in
+    (λ i. Receipt (same.0 i) (same.1.0 i) (same.1.1.0 i) (same.1.1.1.0 i) (same.1.1.1.1 i) false, refl)
 same-is _ _ h = absurd cc
 
 -- a crossed column does not stand
 pub crossed-lies : (column : Column) → is_standing (crossed column) ≡ false
 crossed-lies (Send q k p undone) = refl
 crossed-lies (Receipt p r q k s undone) = refl
-crossed-lies (Strike struck) = refl
-crossed-lies (Recovery replays) = refl
-crossed-lies (Checkpoint m) = refl
+crossed-lies _ = refl
 
 -- what is next stands
 pub next-is : (column : Column) (trace : List Column) → is_next column trace ≡ true → (trace ≡ column ∷ drop 1 trace) × (is_standing column ≡ true)
@@ -71,13 +37,11 @@ standing-trace (column ∷ columns) trace stand = at (is_next column trace) (is_
       → standing (column_then column trace ∷ go_on columns (trace_then column trace)) ≡ trace
   at true s is stands later =
       let next = next-is column trace is in
-      let rest : standing (drop 1 trace) ≡ drop 1 trace =
-      (let whole : standing (column ∷ drop 1 trace) ≡ column ∷ drop 1 trace = ap standing (sym next.0) ∙ stand ∙ next.0 in
-      let first : column ∷ standing (drop 1 trace) ≡ column ∷ drop 1 trace = rw next.1 at whole in cc) in
-      let ih = later (drop 1 trace) rest in
-      rw (then-kept column trace is, is, next.1) (ap (λ xs. column ∷ xs) ih ∙ sym next.0)
-  at false true is stands later = rw (then-crossed column trace stands is, then-past column trace is, crossed-lies column) (later trace stand)
-  at false false is stands later = rw (then-left column trace stands, then-past column trace is, stands) (later trace stand)
+      let whole : standing (column ∷ drop 1 trace) ≡ column ∷ drop 1 trace = ap standing (sym next.0) ∙ stand ∙ next.0 in
+      let rest : standing (drop 1 trace) ≡ drop 1 trace = ap (drop 1) (rw next.1 at whole) in
+      rw (is, next.1, next.1) (ap (λ xs. column ∷ xs) (later (drop 1 trace) rest) ∙ sym next.0)
+  at false true is stands later = rw (is, stands, crossed-lies column) (later trace stand)
+  at false false is stands later = rw (is, stands, stands) (later trace stand)
 
 -- nothing but what stands is crossed, and nothing that is crossed comes back
 pub goes-on : (columns trace : List Column) → GoesOnFrom columns (go_on columns trace)
@@ -85,6 +49,6 @@ goes-on [] trace = tt
 goes-on (column ∷ columns) trace = (at (is_next column trace) (is_standing column) refl refl, goes-on columns (trace_then column trace)) where
   at : (n s : Bool) → is_next column trace ≡ n → is_standing column ≡ s
       → (column_then column trace ≡ column) ⊎ ((is_standing column ≡ true) × (column_then column trace ≡ crossed column))
-  at true s is stands = inl (then-kept column trace is)
-  at false true is stands = inr (stands, then-crossed column trace stands is)
-  at false false is stands = inl (then-left column trace stands)
+  at n false is stands = inl (rw stands refl)
+  at true true is stands = inl (rw (stands, is) refl)
+  at false true is stands = inr (stands, rw (stands, is) refl)

@@ -1,11 +1,11 @@
 -- Members that replay a trace come to its states.
 use Rattle.std.proofs.Common.{◌≡◌, ◌≢◌, ℕ, suc, ◌+◌, ◌<◌, ◌≤◌, ◌==◌, Bool, true, false, cond, List}
-use Rattle.std.proofs.Common.{length, length-append, take, drop, map, get_or, Option, Some, slice_get, refl, sym, ap, ◌∙◌, arith}
+use Rattle.std.proofs.Common.{length, length-append, take, drop, map, get_or, Some, slice_get, refl, sym, ap, ◌∙◌, arith}
 use Rattle.std.specs.Prelude.{slice_set, slice_index_or}
 use Rattle.std.proofs.lemmas.Bool.Decides.{nat_tests}
-use Rattle.std.proofs.lemmas.List.{take-map, take-take, take-append-drop, length-set, get_or-set_same, get_or-set_other, get_or_default, length-map}
-use Rattle.std.proofs.lemmas.List.Sums.{count_by-le-length, sum_by-append}
-use Rattle.std.proofs.lemmas.Option.{slice_get-map, get_or_from_slice_get}
+use Rattle.std.proofs.lemmas.List.{take-map, take-take, length-set, get_or-set_same, get_or-set_other, get_or_default, length-map}
+use Rattle.std.proofs.lemmas.List.Sums.{count_by-le-length, sum_by-take-le}
+use Rattle.std.proofs.lemmas.Option.{get_or_from_slice_get}
 use Rattle.fbl_base.specs.declared.trace.Determinant.{Determinant}
 use Rattle.fbl_base.specs.declared.trace.Note.{Note}
 use Rattle.fbl_base.specs.declared.trace.Event.{Event}
@@ -17,7 +17,7 @@ use Rattle.fbl_base.specs.Rules.{is_receipt_of, is_send_of, receipts_of, MayFoll
 use Rattle.fbl_base.specs.Fold.{Next, Progress, after_notes, note_of, numbered}
 use Rattle.fbl_base.proofs.FoldLaws.{after_notes-state}
 use Rattle.fbl_base.proofs.Gets.{map-At, split-at}
-use Rattle.fbl_base.proofs.RulesLaws.{receipts-step, sent-before}
+use Rattle.fbl_base.proofs.RulesLaws.{eqb-self, receipts-step, sent-before}
 use Rattle.fbl_table.proofs.Adding.{take-next}
 use Rattle.fbl_member.specs.Members.{MemberRecord, blank, fresh, logged_note, replayed_by}
 use Rattle.fbl_member.proofs.Logs.{length-numbered}
@@ -26,6 +26,8 @@ use Rattle.fbl_law.specs.Sound.{received_notes, IsReplayed, IsSound}
 use Rattle.std.specs.FinSet as set
 use Rattle.std.specs.List.{filter, range_with_len}
 use Rattle.fbl_base.specs.MemberSets.{member_list, Members}
+use Rattle.fbl_law.proofs.KeptByStep.{receipt-mark}
+use Rattle.fbl_law.proofs.Notes.{send-mark}
 use Rattle.fbl_law.proofs.Lists.{filter-passes, some-at}
 use Rattle.fbl_law.proofs.Logs.{logged-by, logged-noted, log-short}
 use Rattle.fbl_law.proofs.Receipts.{Has-receipts_at}
@@ -40,148 +42,132 @@ count-more t i m e here = ap (λ (u : List Mark). receipts_of u m) (take-next t 
 -- a member has no more receipts at an earlier place
 count-earlier : (t : List Mark) (i j m : ℕ) → j ≤ i → receipts_of (take j t) m ≤ receipts_of (take i t) m
 count-earlier t i j m before =
-    let front : take j (take i t) ≡ take j t = take-take j i t before in
-    let whole = sum_by-append (λ y. cond (is_receipt_of m y) 1 0) (take j (take i t)) (drop j (take i t)) in
-    let same = ap (λ (u : List Mark). receipts_of u m) (take-append-drop j (take i t)) in
-    omega (arith, whole, same, ap (λ (u : List Mark). receipts_of u m) front)
+    omega (arith, sum_by-take-le (λ y. cond (is_receipt_of m y) 1 0) (take i t) j, ap (λ (u : List Mark). receipts_of u m) (take-take j i t before))
 
 -- the event of a send
 send-at : (t : List Event) (j q k to : ℕ) → At (map mark_of t) j (Send q k to) → (x : Note) × (slice_get t j ≡ Some (event.Send q k to x))
 send-at t j q k to here = (let found = map-At mark_of t j (Send q k to) here in at found.0 found.1 found.2) where
   at : (e : Event) → slice_get t j ≡ Some e → mark_of e ≡ Send q k to → (x : Note) × (slice_get t j ≡ Some (event.Send q k to x))
   at (event.Receipt p r q' k') h is = cc
-  at (event.Send q' k' to' x) h is =
-      let e1 : q' ≡ q = cc in
-      let e2 : k' ≡ k = cc in
-      let e3 : to' ≡ to = cc in
-      (x, h ∙ (rw (e1, e2, e3) refl))
+  at (event.Send q' k' to' x) h is = (x, cc)
 
-module _ {next : Next} {r : GroupRecord} (sound : IsSound next r) {members : List MemberRecord} {place : ℕ} (replayed : HaveReplayed next r place members) where
-  -- a send is no receipt
-  pub past-send : (from ssn to : ℕ) (note : Note) → slice_get r.trace place ≡ Some (event.Send from ssn to note) → HaveReplayed next r (place + 1) members
-  past-send from ssn to note here = record {
-    size = replayed.size;
-    each = replayed.each;
-    received = λ m below.
-        let at_mark : At (marks r) place (Send from ssn to) = slice_get-map mark_of r.trace place ∙ (rw here refl) in
-        omega (arith, replayed.received m below, count-more (marks r) place m (Send from ssn to) at_mark);
-  }
+-- a send is no receipt
+pub past-send : {next : Next} {r : GroupRecord} {members : List MemberRecord} {place : ℕ} → HaveReplayed next r place members
+    → (from ssn to : ℕ) (note : Note) → slice_get r.trace place ≡ Some (event.Send from ssn to note) → HaveReplayed next r (place + 1) members
+past-send {next} {r} {members} {place} replayed from ssn to note here = record {
+  size = replayed.size;
+  each = replayed.each;
+  received = λ m below.
+      omega (arith, replayed.received m below, count-more (marks r) place m (Send from ssn to) (send-mark r.trace place from ssn to note here));
+}
 
-  module _ (d : Determinant) (here : slice_get r.trace place ≡ Some (event.Receipt d.to d.rsn d.from d.ssn)) where
-    abbrev pub sender : MemberRecord
-    sender = slice_index_or members d.from blank
+-- the members of a sound group have replayed what comes before this receipt
+pub record IsNextReceipt (next : Next) (r : GroupRecord) (members : List MemberRecord) (place : ℕ) (d : Determinant) : Type 0 where
+  pub sound : IsSound next r
+  pub replayed : HaveReplayed next r place members
+  pub here : slice_get r.trace place ≡ Some (event.Receipt d.to d.rsn d.from d.ssn)
 
-    abbrev pub receiver : MemberRecord
-    receiver = slice_index_or members d.to blank
+module _ {next : Next} {r : GroupRecord} {members : List MemberRecord} {place : ℕ} {d : Determinant} (known : IsNextReceipt next r members place d) where
+  abbrev pub sender : MemberRecord
+  sender = slice_index_or members d.from blank
 
-    at-mark : At (marks r) place (Receipt d.to d.rsn d.from d.ssn)
-    at-mark = slice_get-map mark_of r.trace place ∙ (rw here refl)
+  abbrev pub receiver : MemberRecord
+  receiver = slice_index_or members d.to blank
 
-    trace-short : length (marks r) ≤ 8192
-    trace-short = omega (arith, sound.room, sound.config.limit.1, length-map r.trace mark_of)
+  at-mark : At (marks r) place (Receipt d.to d.rsn d.from d.ssn)
+  at-mark = receipt-mark r.trace place d.to d.rsn d.from d.ssn known.here
 
-    pub may-follow : MayFollow r.config.members (take place (marks r)) (Receipt d.to d.rsn d.from d.ssn)
-    may-follow = sound.lawful.well_formed place (Receipt d.to d.rsn d.from d.ssn) at-mark
+  trace-short : length (marks r) ≤ 8192
+  trace-short = omega (arith, known.sound.room, known.sound.config.limit.1, length-map r.trace mark_of)
 
-    pub received-few : receiver.received < 8192
-    received-few = omega (arith, may-follow.4, replayed.received d.to may-follow.1, count_by-le-length (is_receipt_of d.to) (take place (marks r)))
+  pub may-follow : MayFollow r.config.members (take place (marks r)) (Receipt d.to d.rsn d.from d.ssn)
+  may-follow = known.sound.lawful.well_formed place (Receipt d.to d.rsn d.from d.ssn) at-mark
 
-    pub sender-read : (i : ℕ) (x : MemberRecord) → i ≡ d.from → slice_index_or members i x ≡ sender
-    sender-read i x same = rw same (get_or_default members d.from x blank (omega (arith, replayed.size, may-follow.0)))
+  pub received-few : receiver.received < 8192
+  received-few = omega (arith, may-follow.4, known.replayed.received d.to may-follow.1, count_by-le-length (is_receipt_of d.to) (take place (marks r)))
 
-    pub receiver-read : (i : ℕ) (x : MemberRecord) → i ≡ d.to → slice_index_or members i x ≡ receiver
-    receiver-read i x same = rw same (get_or_default members d.to x blank (omega (arith, replayed.size, may-follow.1)))
+  -- what is read at the receiver's place
+  pub receiver-read : {i : ℕ} (x : MemberRecord) → i ≡ d.to → slice_index_or members i x ≡ receiver
+  receiver-read x same = rw same (get_or_default members d.to x blank (omega (arith, known.replayed.size, may-follow.1)))
 
-    pub is-next : d.rsn ≡ receiver.received + 1
-    is-next = omega (arith, may-follow.3, replayed.received d.to may-follow.1)
+  pub is-next : d.rsn ≡ receiver.received + 1
+  is-next = omega (arith, may-follow.3, known.replayed.received d.to may-follow.1)
 
-    -- the sender's log has the message
-    pub has-note : (note : Note) × (logged_note sender.log d.ssn ≡ Some note)
-    has-note =
-        let sent = sent-before r.config.members (marks r) sound.lawful.well_formed place d.to d.rsn d.from d.ssn at-mark in
-        let j = sent.0 in
-        let send = send-at r.trace j d.from d.ssn d.to sent.2 in
-        let cut = split-at r.trace j (event.Send d.from d.ssn d.to send.0) send.1 in
-        let front : take j (marks r) ≡ map mark_of (take j r.trace) = take-map mark_of j r.trace in
-        let few : receipts_of (map mark_of (take j r.trace)) d.from ≤ sender.received =
-        omega (arith, ap (λ (u : List Mark). receipts_of u d.from) front, count-earlier (marks r) place j d.from (omega (arith, sent.1)), replayed.received d.from may-follow.0) in
-        let logged = logged-by next r.config.members r.config.starts r.trace (take j r.trace) (drop (suc j) r.trace) d.from d.ssn d.to sender.received send.0 sound.lawful cut few in
-        let log = ap (λ (x : Progress). x.log) (replayed.each d.from may-follow.0).progress in
-        (logged.0, rw log logged.1)
+  -- the sender's log has the message
+  pub has-note : (note : Note) × (logged_note sender.log d.ssn ≡ Some note)
+  has-note =
+      let sent = sent-before r.config.members (marks r) known.sound.lawful.well_formed place d.to d.rsn d.from d.ssn at-mark in
+      let j = sent.0 in
+      let send = send-at r.trace j d.from d.ssn d.to sent.2 in
+      let cut = split-at r.trace j (event.Send d.from d.ssn d.to send.0) send.1 in
+      let front : take j (marks r) ≡ map mark_of (take j r.trace) = take-map mark_of j r.trace in
+      let few : receipts_of (map mark_of (take j r.trace)) d.from ≤ sender.received =
+      omega (arith, ap (λ (u : List Mark). receipts_of u d.from) front, count-earlier (marks r) place j d.from (omega (arith, sent.1)), known.replayed.received d.from may-follow.0) in
+      let logged = logged-by next r.config.members r.config.starts r.trace (take j r.trace) (drop (suc j) r.trace) d.from d.ssn d.to sender.received send.0 known.sound.lawful cut few in
+      let log = ap (λ (x : Progress). x.log) (known.replayed.each d.from may-follow.0).progress in
+      (logged.0, rw log logged.1)
 
-    -- the note that was read is the message's
-    pub named-by : (i : ℕ) (x : MemberRecord) (read : Option Note) (note : Note) → i ≡ d.from
-        → read ≡ logged_note (slice_index_or members i x).log d.ssn → read ≡ Some note → logged_note sender.log d.ssn ≡ Some note
-    named-by i x read note same is some = ap (λ (m : MemberRecord). logged_note m.log d.ssn) (sym (sender-read i x same)) ∙ sym is ∙ some
+  -- the note that is read in the log at the sender's place
+  pub note-read : {i : ℕ} (x : MemberRecord) → i ≡ d.from → logged_note (slice_index_or members i x).log d.ssn ≡ logged_note sender.log d.ssn
+  note-read x same = rw (same, get_or_default members d.from x blank (omega (arith, known.replayed.size, may-follow.0))) refl
 
-    module _ (note : Note) (named : logged_note sender.log d.ssn ≡ Some note) where
-      abbrev pub after : MemberRecord
-      after = replayed_by next d.to r.config.members receiver d note
+  module _ {note : Note} (named : logged_note sender.log d.ssn ≡ Some note) where
+    abbrev pub after : MemberRecord
+    after = replayed_by next d.to r.config.members receiver d note
 
-      pub after-is : (i n : ℕ) (x m : MemberRecord) → i ≡ d.to → n ≡ r.config.members
-          → m ≡ replayed_by next d.to n (slice_index_or members i x) d note → m ≡ after
-      after-is i n x m same size is =
-          is ∙ ap (λ (k : ℕ). replayed_by next d.to k (slice_index_or members i x) d note) size
-          ∙ ap (λ (y : MemberRecord). replayed_by next d.to r.config.members y d note) (receiver-read i x same)
+    noted : note_of r.trace d.from d.ssn ≡ Some note
+    noted =
+        let log = ap (λ (x : Progress). x.log) (known.replayed.each d.from may-follow.0).progress in
+        logged-noted next r.config.members r.config.starts r.trace d.from sender.received d.ssn note known.sound.lawful (rw log at named)
 
-      noted : note_of r.trace d.from d.ssn ≡ Some note
-      noted =
-          let log = ap (λ (x : Progress). x.log) (replayed.each d.from may-follow.0).progress in
-          logged-noted next r.config.members r.config.starts r.trace d.from sender.received d.ssn note sound.lawful (rw log at named)
+    is-replayed : IsReplayed next r.config.members r.config.starts r.trace d.to after
+    is-replayed =
+        replayed-step next r.config.members r.config.starts r.trace d.to receiver d note known.sound.lawful.well_formed (known.replayed.each d.to may-follow.1)
+        (Has-receipts_at r.config.members (marks r) d.to receiver.received d known.sound.lawful.well_formed (place, at-mark) refl is-next) noted
 
-      is-replayed : IsReplayed next r.config.members r.config.starts r.trace d.to after
-      is-replayed =
-          replayed-step next r.config.members r.config.starts r.trace d.to receiver d note sound.lawful.well_formed (replayed.each d.to may-follow.1)
-          (Has-receipts_at r.config.members (marks r) d.to receiver.received d sound.lawful.well_formed (place, at-mark) refl is-next) noted
+    -- the log has room for the step's sends
+    pub has-room : length receiver.log + length (next d.to r.config.members receiver.state note).sends.items ≤ 8192
+    has-room =
+        let items = (next d.to r.config.members receiver.state note).sends.items in
+        let notes = take (receiver.received + 1) (received_notes r.trace d.to) in
+        let log : length after.log ≡ length (after_notes next d.to r.config.members r.config.starts notes).log =
+        ap (λ (x : Progress). length x.log) is-replayed.progress in
+        let short = log-short next r.config.members r.config.starts r.trace d.to (receiver.received + 1) known.sound.lawful in
+        let sends = count_by-le-length (is_send_of d.to) (marks r) in
+        let made = length-append receiver.log (numbered (length receiver.log) items) in
+        omega (arith, log, short, sends, trace-short, made, length-numbered (length receiver.log) items)
 
-      -- the log has room for the step's sends
-      pub has-room : length receiver.log + length (next d.to r.config.members receiver.state note).sends.items ≤ 8192
-      has-room =
-          let items = (next d.to r.config.members receiver.state note).sends.items in
-          let notes = take (receiver.received + 1) (received_notes r.trace d.to) in
-          let log : length after.log ≡ length (after_notes next d.to r.config.members r.config.starts notes).log =
-          ap (λ (x : Progress). length x.log) is-replayed.progress in
-          let short = log-short next r.config.members r.config.starts r.trace d.to (receiver.received + 1) sound.lawful in
-          let sends = count_by-le-length (is_send_of d.to) (marks r) in
-          let made = length-append receiver.log (numbered (length receiver.log) items) in
-          omega (arith, log, short, sends, trace-short, made, length-numbered (length receiver.log) items)
+    -- the receiver comes to the state of the fold
+    pub state-is : after.state ≡ state_after_receipt next r.config.members r.trace d.to d.rsn
+    state-is =
+        ap (λ (x : Progress). x.state) is-replayed.progress
+        ∙ after_notes-state next d.to r.config.members r.config.starts (take (receiver.received + 1) (received_notes r.trace d.to))
+        ∙ ap (λ k. state_after_receipt next r.config.members r.trace d.to k) (sym is-next)
 
-      pub room-by : (i n : ℕ) (x : MemberRecord) → i ≡ d.to → n ≡ r.config.members
-          → length (slice_index_or members i x).log + length (next d.to n (slice_index_or members i x).state note).sends.items ≤ 8192
-      room-by i n x same size = (let read = receiver-read i x same in rw (size, read) has-room)
-
-      -- the receiver comes to the state of the fold
-      pub state-is : after.state ≡ state_after_receipt next r.config.members r.trace d.to d.rsn
-      state-is =
-          ap (λ (x : Progress). x.state) is-replayed.progress
-          ∙ after_notes-state next d.to r.config.members r.config.starts (take (receiver.received + 1) (received_notes r.trace d.to))
-          ∙ ap (λ k. state_after_receipt next r.config.members r.trace d.to k) (sym is-next)
-
-      pub past-receipt : HaveReplayed next r (place + 1) (slice_set members d.to after)
-      past-receipt = record {
-        size = length-set members d.to after ∙ replayed.size;
-        each = λ m below. (at m below (m == d.to) refl).0;
-        received = λ m below. (at m below (m == d.to) refl).1;
-      }
-        where
-          at : (m : ℕ) → m < r.config.members → (b : Bool) → (m == d.to) ≡ b
-              → IsReplayed next r.config.members r.config.starts r.trace m (slice_index_or (slice_set members d.to after) m blank)
-              × ((slice_index_or (slice_set members d.to after) m blank).received ≡ receipts_of (take (place + 1) (marks r)) m)
-          at m below true is =
-              let same : m ≡ d.to = grind (arith, nat_tests) in
-              let within : d.to < length members = omega (arith, replayed.size, may-follow.1) in
-              let self : (d.to == d.to) ≡ true = grind (arith, nat_tests) in
-              let set' : slice_index_or (slice_set members d.to after) d.to blank ≡ after = get_or-set_same members d.to after blank within in
-              let more : receipts_of (take (place + 1) (marks r)) d.to ≡ receipts_of (take place (marks r)) d.to + 1 =
-              count-more (marks r) place d.to (Receipt d.to d.rsn d.from d.ssn) at-mark ∙ (rw self refl) in
-              rw same (rw set' (is-replayed, omega (arith, more, replayed.received d.to may-follow.1)))
-          at m below false is =
-              let other : m ≢ d.to = grind (arith, nat_tests) in
-              let flipped : (d.to == m) ≡ false = grind (arith, nat_tests) in
-              let set' : slice_index_or (slice_set members d.to after) m blank ≡ slice_index_or members m blank = get_or-set_other members d.to m after blank other in
-              let more : receipts_of (take (place + 1) (marks r)) m ≡ receipts_of (take place (marks r)) m + 0 =
-              count-more (marks r) place m (Receipt d.to d.rsn d.from d.ssn) at-mark ∙ (rw flipped refl) in
-              rw set' (replayed.each m below, omega (arith, more, replayed.received m below))
+    pub past-receipt : HaveReplayed next r (place + 1) (slice_set members d.to after)
+    past-receipt = record {
+      size = length-set members d.to after ∙ known.replayed.size;
+      each = λ m below. (at m below (m == d.to) refl).0;
+      received = λ m below. (at m below (m == d.to) refl).1;
+    }
+      where
+        at : (m : ℕ) → m < r.config.members → (b : Bool) → (m == d.to) ≡ b
+            → IsReplayed next r.config.members r.config.starts r.trace m (slice_index_or (slice_set members d.to after) m blank)
+            × ((slice_index_or (slice_set members d.to after) m blank).received ≡ receipts_of (take (place + 1) (marks r)) m)
+        at m below true is =
+            let same : m ≡ d.to = grind (arith, nat_tests) in
+            let within : d.to < length members = omega (arith, known.replayed.size, may-follow.1) in
+            let set' : slice_index_or (slice_set members d.to after) d.to blank ≡ after = get_or-set_same members d.to after blank within in
+            let more : receipts_of (take (place + 1) (marks r)) d.to ≡ receipts_of (take place (marks r)) d.to + 1 =
+            count-more (marks r) place d.to (Receipt d.to d.rsn d.from d.ssn) at-mark ∙ (rw (eqb-self d.to) refl) in
+            rw same (rw set' (is-replayed, omega (arith, more, known.replayed.received d.to may-follow.1)))
+        at m below false is =
+            let other : m ≢ d.to = grind (arith, nat_tests) in
+            let flipped : (d.to == m) ≡ false = grind (arith, nat_tests) in
+            let set' : slice_index_or (slice_set members d.to after) m blank ≡ slice_index_or members m blank = get_or-set_other members d.to m after blank other in
+            let more : receipts_of (take (place + 1) (marks r)) m ≡ receipts_of (take place (marks r)) m + 0 =
+            count-more (marks r) place m (Receipt d.to d.rsn d.from d.ssn) at-mark ∙ (rw flipped refl) in
+            rw set' (known.replayed.each m below, omega (arith, more, known.replayed.received m below))
 
 -- members that have received nothing have replayed none of the trace
 pub fresh-replayed : (next : Next) (r : GroupRecord) (members : List MemberRecord) → length members ≡ r.config.members

@@ -28,19 +28,9 @@ standing-is-trace next r columns = standing-trace columns (trace_columns next r)
 
 -- events whose columns are equal have the same mark
 same-mark : (next : Next) (n : ℕ) (trace : List Event) (e e' : Event) → event_column next n trace e ≡ event_column next n trace e' → mark_of e ≡ mark_of e'
-same-mark next n trace (Send q k p note) (Send q' k' p' note') same =
-    let e1 : q ≡ q' = cc in
-    let e2 : k ≡ k' = cc in
-    let e3 : p ≡ p' = cc in
-    rw (e1, e2, e3) refl
-same-mark next n trace (Receipt p r q k) (Receipt p' r' q' k') same =
-    let e1 : p ≡ p' = cc in
-    let e2 : r ≡ r' = cc in
-    let e3 : q ≡ q' = cc in
-    let e4 : k ≡ k' = cc in
-    rw (e1, e2, e3, e4) refl
-same-mark next n trace (Send q k p note) (Receipt p' r' q' k') same = absurd cc
-same-mark next n trace (Receipt p r q k) (Send q' k' p' note') same = absurd cc
+same-mark next n trace (Send q k p note) (Send q' k' p' note') same = cc
+same-mark next n trace (Receipt p r q k) (Receipt p' r' q' k') same = cc
+same-mark next n trace _ _ same = absurd cc
 
 mark-at : (r : GroupRecord) (i : ℕ) (e : Event) → slice_get r.trace i ≡ Some e → At (marks r) i (mark_of e)
 mark-at r i e here = slice_get-map mark_of r.trace i ∙ (rw here refl)

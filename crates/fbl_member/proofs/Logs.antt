@@ -6,16 +6,15 @@ use Rattle.std.proofs.lemmas.List.{length-append, map-append, length-take-le}
 use Rattle.std.proofs.lemmas.List.Elements.{filter-append, filter_map-append}
 use Rattle.std.proofs.Math.ListN.{length-set}
 use Rattle.std.proofs.lemmas.Option.{slice_get_past}
-use Rattle.std.specs.List.{filter, find, cons_option}
+use Rattle.std.specs.List.{filter, cons_option}
 use Rattle.std.specs.Option.{option_map, option_copied}
 use Rattle.fbl_base.proofs.Sifted.{length-filter_map}
 use Rattle.fbl_base.specs.declared.trace.Note.{Note}
 use Rattle.fbl_base.specs.declared.trace.Start.{Start}
-use Rattle.fbl_base.specs.declared.outcome.Outcome.{Outcome}
 use Rattle.fbl_base.specs.Fold.{Logged, numbered, starts_of}
 use Rattle.fbl_table.specs.declared.entry.Entry.{Entry}
 use Rattle.fbl_table.proofs.Adding.{take-next}
-use Rattle.fbl_member.specs.Members.{Message, MemberRecord, advanced_by, messages_from, logged_note, logged_beyond}
+use Rattle.fbl_member.specs.Members.{Message, MemberRecord, messages_from, logged_note, logged_beyond}
 use Rattle.fbl_member.specs.Kept.{without_number, IsKept}
 
 pub length-numbered : (before : ℕ) (sends : List (ℕ × Note)) → length (numbered before sends) ≡ length sends
@@ -62,8 +61,7 @@ messages-next me before carried sends i s at below =
 
 messages-carried : (me before : ℕ) (carried : List Entry) (sends : List (ℕ × Note)) (i : ℕ) (m : Message)
     → slice_get (messages_from me before carried sends) i ≡ Some m → m.carried ≡ carried
-messages-carried me before carried [] zero m is = cc
-messages-carried me before carried [] (suc i) m is = cc
+messages-carried me before carried [] i m is = cc
 messages-carried me before carried (s ∷ sends) zero m is = sym (ap (λ o. (unwrap_or o m).carried) is)
 messages-carried me before carried (s ∷ sends) (suc i) m is = messages-carried me (before + 1) carried sends i m is
 
@@ -82,32 +80,26 @@ pub starts-step : (me : ℕ) (starts : List Start) (i : ℕ) (s : Start) (b : Bo
 starts-step me starts i s b at is =
     ap (starts_of me) (take-next starts i s at)
     ∙ filter_map-append (λ x. if x.from == me then Some (x.to, x.note) else None) (take i starts) (s ∷ [])
-    ∙ ap (λ l. starts_of me (take i starts) ++ l) (own (s.from == me) b is) where
-      own : (a b : Bool) → a ≡ b → cons_option {X = ℕ × Note} (if a then Some (s.to, s.note) else None) [] ≡ cond b ((s.to, s.note) ∷ []) []
-      own true true e = refl
-      own true false e = absurd cc
-      own false true e = absurd cc
-      own false false e = refl
+    ∙ ap (λ l. starts_of me (take i starts) ++ l) (rw is (own b)) where
+      own : (a : Bool) → cons_option {X = ℕ × Note} (if a then Some (s.to, s.note) else None) [] ≡ cond a ((s.to, s.note) ∷ []) []
+      own true = refl
+      own false = refl
 
 -- the send at a place of the log
 pub noted-at : (before : ℕ) (log : List (ℕ × Note)) (i : ℕ) → logged_note (numbered before log) (before + i + 1) ≡ option_map (λ s. s.1) (slice_get log i)
 noted-at before [] i = refl
-noted-at before (s ∷ log) zero =
-    let here : (before + 1 == before + 0 + 1) ≡ true = grind (arith, nat_tests) in
-    ap (λ b. option_map (λ (l : Logged). l.note) (cond b (Some (record { ssn = before + 1; to = s.0; note = s.1 })) (find (λ l. l.ssn == before + 0 + 1) (numbered (before + 1) log)))) here
+noted-at before (s ∷ log) zero = (let here : (before + 1 == before + 0 + 1) ≡ true = grind (arith, nat_tests) in rw here refl)
 noted-at before (s ∷ log) (suc i) =
     let other : (before + 1 == before + suc i + 1) ≡ false = grind (arith, nat_tests) in
-    ap (λ b. option_map (λ (l : Logged). l.note) (cond b (Some (record { ssn = before + 1; to = s.0; note = s.1 })) (find (λ l. l.ssn == before + suc i + 1) (numbered (before + 1) log)))) other
-    ∙ ap (logged_note (numbered (before + 1) log)) (let e : before + suc i + 1 ≡ before + 1 + i + 1 = omega arith in e)
-    ∙ noted-at (before + 1) log i
+    let number : before + suc i + 1 ≡ before + 1 + i + 1 = omega arith in
+    rw other (ap (logged_note (numbered (before + 1) log)) number ∙ noted-at (before + 1) log i)
 
 -- no send has a number of those before
 pub noted-none : (before : ℕ) (log : List (ℕ × Note)) (ssn : ℕ) → ssn ≤ before → logged_note (numbered before log) ssn ≡ None
 noted-none before [] ssn le = refl
 noted-none before (s ∷ log) ssn le =
     let other : (before + 1 == ssn) ≡ false = grind (arith, nat_tests) in
-    ap (λ b. option_map (λ (l : Logged). l.note) (cond b (Some (record { ssn = before + 1; to = s.0; note = s.1 })) (find (λ l. l.ssn == ssn) (numbered (before + 1) log)))) other
-    ∙ noted-none (before + 1) log ssn (omega (arith, le))
+    rw other (noted-none (before + 1) log ssn (omega (arith, le)))
 
 -- one more send looked at
 pub beyond-step : (log : List (ℕ × Note)) (to ssn i : ℕ) (s : ℕ × Note) (b : Bool) → slice_get log i ≡ Some s → i < length log
@@ -120,12 +112,10 @@ beyond-step log to ssn i s b at below is =
     ∙ ap (map {B = ℕ × Note} (λ (l : Logged). (l.ssn, l.note))) (filter-append (λ l. l.to == to && nat_lt ssn l.ssn) front (record { ssn = i + 1; to = s.0; note = s.1 } ∷ []))
     ∙ map-append {B = ℕ × Note} (λ (l : Logged). (l.ssn, l.note)) (filter (λ l. l.to == to && nat_lt ssn l.ssn) front)
     (filter (λ l. l.to == to && nat_lt ssn l.ssn) (record { ssn = i + 1; to = s.0; note = s.1 } ∷ []))
-    ∙ ap (λ l. logged_beyond front to ssn ++ l) (own (s.0 == to && nat_lt ssn (i + 1)) b is) where
-      own : (a b : Bool) → a ≡ b → map {B = ℕ × Note} (λ (l : Logged). (l.ssn, l.note)) (cond a (record { ssn = i + 1; to = s.0; note = s.1 } ∷ []) []) ≡ cond b ((i + 1, s.1) ∷ []) []
-      own true true e = refl
-      own true false e = absurd cc
-      own false true e = absurd cc
-      own false false e = refl
+    ∙ ap (λ l. logged_beyond front to ssn ++ l) (rw is (own b)) where
+      own : (a : Bool) → map {B = ℕ × Note} (λ (l : Logged). (l.ssn, l.note)) (cond a (record { ssn = i + 1; to = s.0; note = s.1 } ∷ []) []) ≡ cond a ((i + 1, s.1) ∷ []) []
+      own true = refl
+      own false = refl
 
 -- what a member's record keeps of its log is numbered
 pub kept : (m : MemberRecord) (log : List (ℕ × Note)) → length m.last ≡ 16 → m.received ≤ 8192 → length log ≤ 8192 → m.log ≡ numbered 0 log → IsKept m
@@ -136,27 +126,12 @@ kept m log lasts receipts sends is = record {
   numbers = is ∙ numbered-again log ∙ ap (λ l. numbered 0 (map without_number l)) (sym is);
 }
 
--- one receipt of the fold, where the log has the step's sends at its end
-pub stepped : (m : MemberRecord) (state received q from ssn : ℕ) (last : List ℕ) (log after : List (ℕ × Note)) (table now then_table : List Entry)
-    (outcome next : Outcome) → record { state = state; received = received; last = last; log = numbered 0 log; table = table } ≡ m
-    → after ≡ log ++ outcome.sends.items → q ≡ from → outcome ≡ next → now ≡ then_table
-    → record { state = outcome.state; received = received + 1; last = slice_set last q ssn; log = numbered 0 after; table = now } ≡ record (advanced_by m from ssn next) { table = then_table }
-stepped m state received q from ssn last log after table now then_table outcome next is grown sender step tables =
-    let logs : numbered 0 after ≡ numbered 0 log ++ numbered (length (numbered 0 log)) outcome.sends.items = ap (numbered 0) grown ∙ numbered-more log outcome.sends.items in
-    let here : record { state = outcome.state; received = received + 1; last = slice_set last q ssn; log = numbered 0 after; table = now }
-    ≡ record (advanced_by (record { state = state; received = received; last = last; log = numbered 0 log; table = table }) q ssn outcome)
-    { table = now } = (λ j. record { state = outcome.state; received = received + 1; last = slice_set last q ssn; log = logs j; table = now }) in
-    here ∙ (λ j. record (advanced_by (is j) (sender j) ssn (step j)) { table = tables j })
-
 -- what one receipt leaves within bounds
-pub bounded : (m : MemberRecord) (state received q ssn : ℕ) (last : List ℕ) (log after sends : List (ℕ × Note)) (table : List Entry) (k : ℕ)
-    → record { state = state; received = received; last = last; log = numbered 0 log; table = table } ≡ m → length last ≡ 16 → m.received < 8192
-    → after ≡ log ++ sends → length sends ≡ k → length m.log + k ≤ 8192 → (length (slice_set last q ssn) ≡ 16) × (received + 1 ≤ 8192) × (length after ≤ 8192)
-bounded m state received q ssn last log after sends table k is lasts receipts grown some room =
-    let counted : received ≡ m.received = ap (λ r. r.received) is in
-    let logged : length (numbered 0 log) ≡ length m.log = ap (λ r. length r.log) is in
+pub bounded : (received q ssn : ℕ) (last : List ℕ) (log after sends : List (ℕ × Note)) → length last ≡ 16 → received < 8192 → after ≡ log ++ sends
+    → length (numbered 0 log) + length sends ≤ 8192 → (length (slice_set last q ssn) ≡ 16) × (received + 1 ≤ 8192) × (length after ≤ 8192)
+bounded received q ssn last log after sends lasts receipts grown room =
     let all : length after ≡ length log + length sends = ap length grown ∙ length-append log sends in
-    (length-set last q ssn ∙ lasts, omega (arith, receipts, counted), omega (arith, all, logged, length-numbered 0 log, some, room))
+    (length-set last q ssn ∙ lasts, omega arith, omega (arith, all, length-numbered 0 log, room))
 
 -- no send has a number past the last
 pub noted-past : (before : ℕ) (log : List (ℕ × Note)) (i : ℕ) → length log ≤ i → logged_note (numbered before log) (before + i + 1) ≡ None

@@ -11,21 +11,23 @@ module _ (f : _) where
   -- what holds of each determinant of a table holds of each that it passes on
   kept_all : (P : Determinant → Type 0) (table : List Entry) → AllByRecursion P (map (λ (e : Entry). e.det) table) → AllByRecursion P (map (λ (e : Entry). e.det) (piggybacked f table))
   kept_all P [] all = all
-  kept_all P (e ∷ table) all = at (is_open f e) (kept_all P table all.1) where
-    at : (b : Bool) → AllByRecursion P (map (λ (x : Entry). x.det) (piggybacked f table))
-        → AllByRecursion P (map (λ (x : Entry). x.det) (cond b (e ∷ piggybacked f table) (piggybacked f table)))
-    at true rest = (all.0, rest)
-    at false rest = rest
+  kept_all P (e ∷ table) all =
+      let rest = kept_all P table all.1 in
+      elim (is_open f e) as (λ b. AllByRecursion P (map (λ (x : Entry). x.det) (cond b (e ∷ piggybacked f table) (piggybacked f table)))) [
+        | true ↦ (all.0, rest)
+        | false ↦ rest
+      ]
 
   pub IsOnce-piggybacked : (table : List Entry) → IsOnce table → IsOnce (piggybacked f table)
   unfolding IsDistinct
   IsOnce-piggybacked [] once = once
-  IsOnce-piggybacked (e ∷ table) once = at (is_open f e) (kept_all (λ d. same_determinant e.det d ≡ false) table once.0) (IsOnce-piggybacked table once.1) where
-    at : (b : Bool) → AllByRecursion (λ d. same_determinant e.det d ≡ false) (map (λ (x : Entry). x.det) (piggybacked f table))
-        → IsDistinct same_determinant (map (λ (x : Entry). x.det) (piggybacked f table))
-        → IsDistinct same_determinant (map (λ (x : Entry). x.det) (cond b (e ∷ piggybacked f table) (piggybacked f table)))
-    at true others rest = (others, rest)
-    at false others rest = rest
+  IsOnce-piggybacked (e ∷ table) once =
+      let others = kept_all (λ d. same_determinant e.det d ≡ false) table once.0 in
+      let rest = IsOnce-piggybacked table once.1 in
+      elim (is_open f e) as (λ b. IsDistinct same_determinant (map (λ (x : Entry). x.det) (cond b (e ∷ piggybacked f table) (piggybacked f table)))) [
+        | true ↦ (others, rest)
+        | false ↦ rest
+      ]
 
 -- no two entries of none are alike
 pub IsOnce-none : IsOnce []

@@ -1,18 +1,18 @@
 -- Tables as a map has them, and what adding an entry does to them.
 use Rattle.std.proofs.Common.{not, count_by, ◌≡◌, ℕ, zero, suc, ◌+◌, ◌<◌, ◌≤◌, Bool, true, false, cond, ◌||◌, ◌&&◌, if◌then◌else◌, List, [], ◌∷◌}
-use Rattle.std.proofs.Common.{◌++◌, map, Option, Some, None, is_some, unwrap_or, max, refl, sym, ap, ◌∙◌, arith, take, drop, length, slice_get, get_or, position, IfSome, IfNone}
+use Rattle.std.proofs.Common.{◌++◌, map, Option, Some, None, is_some, max, refl, add-one, sym, ap, ◌∙◌, arith, take, drop, length, slice_get, get_or, position, IfSome, IfNone}
 use Rattle.std.specs.Map.{lookup, values_of, keys_of}
 use Rattle.std.specs.Ordering.{nat_cmp}
 use Rattle.std.specs.Cmp.{nat_cmp_total}
 use Rattle.std.specs.Option.{option_or}
-use Rattle.std.proofs.lemmas.Bool.{false≢true, or_from, or_left, or_parts, or_right}
+use Rattle.std.proofs.lemmas.Bool.{false_from_ne_true, false≢true, or_from, or_left, or_parts, or_right}
 use Rattle.std.proofs.Math.Bool.{or_assoc, or_comm}
 use Rattle.std.specs.List.{find, position_or_len, AllByRecursion, IsDistinct}
 use Rattle.std.proofs.lemmas.List.Quantifiers.{position-Some}
 use Rattle.fbl_base.proofs.Recorded.{Decides-same_determinant}
-use Rattle.std.proofs.lemmas.List.{append-nil, drop_all, take_all, take_more, take-append-drop, map-append, length-map}
+use Rattle.std.proofs.lemmas.List.{append-nil, drop_all, take_all, take_more, take-append-drop, map-append}
 use Rattle.std.proofs.lemmas.List.Folds.{find-append}
-use Rattle.std.proofs.lemmas.List.Sums.{fold_push, count_by-le-length, sum_by-cons, sum_by_more, sum_by-take-le}
+use Rattle.std.proofs.lemmas.List.Sums.{fold_push, sum_by-cons, sum_by_more, sum_by-take-le}
 use Rattle.std.proofs.lemmas.Option.{slice_get_within, get_or_from_slice_get, slice_get-get_or}
 use Rattle.indexmap.specs.Layout.{set_value_at}
 use Rattle.std.specs.FinSet as set
@@ -20,6 +20,7 @@ use Rattle.fbl_base.specs.declared.trace.Determinant.{Determinant}
 use Rattle.fbl_base.specs.Events.{same_determinant}
 use Rattle.fbl_base.specs.MemberSets.{same_from_contains}
 use Rattle.indexmap.specs.IndexMap.{insert_entry}
+use Rattle.indexmap.proofs.MapLemmas.{absent_from_lookup, insert_entry-absent, or_len-absent}
 use Rattle.fbl_table.specs.declared.entry.Entry.{Entry}
 use Rattle.fbl_table.specs.Tables.{HasInPlace, is_held, lacks, has_at, added, entry_of, gathered, learned, held_by, greatest_rsn, rsn_of, marked}
 
@@ -35,21 +36,16 @@ held-lookup (e ∷ es) d =
       | false ↦ held-lookup es d
     ]
 
-noted-insert : (es : Pairs) (d : Determinant) (known : set.FinSet nat_cmp) → is_held (map entry_of es) d ≡ false
-    → map entry_of (insert_entry same_determinant es d known) ≡ map entry_of es ++ record { det = d; known = known } ∷ []
-noted-insert [] d known none = refl
-noted-insert (e ∷ es) d known none =
-    let parts = or_parts (same_determinant d e.0) (is_held (map entry_of es) d) none in
-    rw parts.0 (ap (λ t. entry_of e ∷ t) (noted-insert es d known parts.1))
-
-pub inserted : (es new : Pairs) (entry : Entry) → is_held (map entry_of es) entry.det ≡ false
-    → new ≡ insert_entry same_determinant es entry.det entry.known → map entry_of new ≡ map entry_of es ++ entry ∷ []
-inserted es new entry none is = rw is (noted-insert es entry.det entry.known none)
+-- a determinant that was not there goes last
+pub inserted : (es : Pairs) (entry : Entry) → lookup (same_determinant entry.det) es ≡ None
+    → map entry_of (insert_entry same_determinant es entry.det entry.known) ≡ map entry_of es ++ entry ∷ []
+inserted es entry none =
+    let absent = absent_from_lookup (same_determinant entry.det) es none in
+    rw (insert_entry-absent same_determinant entry.det entry.known es absent) (map-append entry_of es ((entry.det, entry.known) ∷ []))
 
 -- a determinant that has an entry at a place is held
 pub held-at : (table : List Entry) (d : Determinant) (i : ℕ) → has_at table d i ≡ true → is_held table d ≡ true
-held-at [] d zero has = absurd (false≢true has)
-held-at [] d (suc i) has = absurd (false≢true has)
+held-at [] d i has = absurd (false≢true has)
 held-at (e ∷ table) d zero has = or_left _ _ has
 held-at (e ∷ table) d (suc i) has = or_right (same_determinant d e.det) _ (held-at table d i has)
 
@@ -64,8 +60,7 @@ some-found table d None at some = absurd (false≢true some)
 some-found table d (Some i) at some = held-at table d i at
 
 pub within-at : (es : Pairs) (d : Determinant) (i : ℕ) → has_at (map entry_of es) d i ≡ true → i < length es
-within-at [] d zero has = absurd (false≢true has)
-within-at [] d (suc i) has = absurd (false≢true has)
+within-at [] d i has = absurd (false≢true has)
 within-at (e ∷ es) d zero has = omega arith
 within-at (e ∷ es) d (suc i) has = omega (arith, within-at es d i has)
 
@@ -84,15 +79,13 @@ not_found-missing es d None is = sym (held-lookup es d) ∙ sym is
 not_found-missing es d (Some i) is = tt
 
 pub apart-turned : (a b : Determinant) → same_determinant a b ≡ false → same_determinant b a ≡ false
-apart-turned a b apart = at (same_determinant b a) refl where
-  at : (c : Bool) → same_determinant b a ≡ c → same_determinant b a ≡ false
-  at true is = absurd (false≢true (sym apart ∙ (Decides-same_determinant a b).1 (sym ((Decides-same_determinant b a).0 is))))
-  at false is = is
+apart-turned a b apart =
+    let same = Decides-same_determinant a b in
+    false_from_ne_true (same_determinant b a) (λ is. false≢true (sym apart ∙ same.1 (sym ((Decides-same_determinant b a).0 is))))
 
 apart-at : (es : Pairs) (k d : Determinant) (i : ℕ) → AllByRecursion (λ y. same_determinant k y ≡ false) (keys_of es) → has_at (map entry_of es) d i ≡ true
     → same_determinant d k ≡ false
-apart-at [] k d zero all has = absurd (false≢true has)
-apart-at [] k d (suc i) all has = absurd (false≢true has)
+apart-at [] k d i all has = absurd (false≢true has)
 apart-at (e ∷ es) k d zero all has = rw ((Decides-same_determinant d e.0).0 has) (apart-turned k e.0 all.0)
 apart-at (e ∷ es) k d (suc i) all has = apart-at es k d i all.1 has
 
@@ -108,19 +101,16 @@ has-set (e ∷ es) (suc i) v d (suc j) = has-set es i v d j
 pub added-at : (es : Pairs) (entry : Entry) (i : ℕ) (v : set.FinSet nat_cmp) → IsDistinct same_determinant (keys_of es)
     → has_at (map entry_of es) entry.det i ≡ true → slice_get (values_of es) i ≡ Some v → map entry_of (set_value_at es i (set.union v entry.known)) ≡ added (map entry_of es) entry
 unfolding added IsDistinct
-added-at [] entry zero v once has is = absurd (false≢true has)
-added-at [] entry (suc i) v once has is = absurd (false≢true has)
+added-at [] entry i v once has is = absurd (false≢true has)
 added-at (e ∷ es) entry zero v once has is =
-    let value : v ≡ e.1 = sym (ap (λ o. unwrap_or o v) is) in
-    rw has (λ j. record { det = e.0; known = set.union (value j) entry.known } ∷ map entry_of es)
+    rw has cc
 added-at (e ∷ es) entry (suc i) v once has is =
     rw (apart-at es e.0 entry.det i once.0 has) (ap (λ t. entry_of e ∷ t) (added-at es entry i v once.1 has is))
 
 -- a value that is written over itself
 same-value : (es : Pairs) (i : ℕ) (v : set.FinSet nat_cmp) → slice_get (values_of es) i ≡ Some v → set_value_at es i v ≡ es
-same-value [] zero v is = refl
-same-value [] (suc i) v is = refl
-same-value (e ∷ es) zero v is = (let value : v ≡ e.1 = sym (ap (λ o. unwrap_or o v) is) in λ j. (e.0, value j) ∷ es)
+same-value [] i v is = refl
+same-value (e ∷ es) zero v is = (let value : v ≡ e.1 = cc in λ j. (e.0, value j) ∷ es)
 same-value (e ∷ es) (suc i) v is = ap (λ t. e ∷ t) (same-value es i v is)
 
 -- where the determinant stands, or would stand next
@@ -128,7 +118,7 @@ abbrev pub place_in : Pairs → Determinant → ℕ
 place_in es d = position_or_len (same_determinant d) (keys_of es)
 
 -- the determinant has the value v at its place, and what is written there is written over what was inserted
-abbrev IsReplaced : Pairs → Determinant → set.FinSet nat_cmp → set.FinSet nat_cmp → set.FinSet nat_cmp → Type 0
+abbrev pub IsReplaced : Pairs → Determinant → set.FinSet nat_cmp → set.FinSet nat_cmp → set.FinSet nat_cmp → Type 0
 IsReplaced es d v k w =
     (has_at (map entry_of es) d (place_in es d) ≡ true) × (slice_get (values_of es) (place_in es d) ≡ Some v)
     × (set_value_at (insert_entry same_determinant es d k) (place_in es d) w ≡ set_value_at es (place_in es d) w)
@@ -146,12 +136,7 @@ replaced (e ∷ es) d v k w is = at (same_determinant d e.0) refl is (replaced e
 
 -- a determinant that stands nowhere would stand last
 pub place-missing : (es : Pairs) (d : Determinant) → lookup (same_determinant d) es ≡ None → place_in es d ≡ length es
-place-missing [] d none = refl
-place-missing (e ∷ es) d none = at (same_determinant d e.0) refl none (place-missing es d) where
-  at : (b : Bool) → same_determinant d e.0 ≡ b → cond b (Some e.1) (lookup (same_determinant d) es) ≡ None
-      → (lookup (same_determinant d) es ≡ None → place_in es d ≡ length es) → place_in (e ∷ es) d ≡ suc (length es)
-  at true b none more = cc
-  at false b none more = rw b (omega (arith, more none))
+place-missing es d none = or_len-absent (same_determinant d) es (absent_from_lookup (same_determinant d) es none)
 
 -- and is not held
 pub not_held-missing : (es : Pairs) (d : Determinant) → lookup (same_determinant d) es ≡ None → is_held (map entry_of es) d ≡ false
@@ -180,29 +165,24 @@ take-next xs i x is = take_more xs i x (slice_get_within xs i x is) ∙ ap (λ y
 
 pub greatest-step : (to : ℕ) (table : List Entry) (i : ℕ) (e : Entry) → slice_get table i ≡ Some e
     → greatest_rsn to (take (i + 1) table) ≡ max (greatest_rsn to (take i table)) (rsn_of to e)
-greatest-step to table i e is = ap (greatest_rsn to) (take-next table i e is) ∙ fold_push (λ last x. max last (rsn_of to x)) 0 (take i table) e
+greatest-step to table i e is = rw (take-next table i e is) (fold_push (λ last x. max last (rsn_of to x)) 0 (take i table) e)
 
 pub gather-step : (table other : List Entry) (i : ℕ) (e : Entry) → slice_get other i ≡ Some e → gathered table (take (i + 1) other) ≡ added (gathered table (take i other)) e
-gather-step table other i e is = ap (gathered table) (take-next other i e is) ∙ fold_push added table (take i other) e
+gather-step table other i e is = rw (take-next other i e is) (fold_push added table (take i other) e)
 
 pub learn-step : (me : ℕ) (table carried : List Entry) (i : ℕ) (e : Entry) → slice_get carried i ≡ Some e
     → learned me table (take (i + 1) carried) ≡ added (learned me table (take i carried)) (held_by me e)
 learn-step me table carried i e is =
-    ap (learned me table) (take-next carried i e is) ∙ ap (gathered table) (map-append (held_by me) (take i carried) (e ∷ []))
-    ∙ fold_push added table (map (held_by me) (take i carried)) (held_by me e)
+    rw (take-next carried i e is, map-append (held_by me) (take i carried) (e ∷ [])) (fold_push added table (map (held_by me) (take i carried)) (held_by me e))
 
 -- the search among the first places
 pub find-step : {X : Type 0} (p : X → Bool) (xs : List X) (i : ℕ) (x : X) → slice_get xs i ≡ Some x → find p (take i xs) ≡ None → find p (take (i + 1) xs) ≡ cond (p x) (Some x) None
-find-step p xs i x is none =
-    ap (find p) (take-next xs i x is) ∙ find-append p (take i xs) (x ∷ []) ∙ ap (λ o. option_or o (find p (x ∷ []))) none
+find-step p xs i x is none = rw (take-next xs i x is, find-append p (take i xs) (x ∷ []), none) refl
 
 pub find-here : {X : Type 0} (p : X → Bool) (xs : List X) (i : ℕ) (x : X) → slice_get xs i ≡ Some x → find p (take i xs) ≡ None → p x ≡ true → find p xs ≡ Some x
 find-here p xs i x is none passes =
     let first : find p (take (i + 1) xs) ≡ Some x = find-step p xs i x is none ∙ ap (λ b. cond b (Some x) None) passes in
     ap (find p) (sym (take-append-drop (i + 1) xs)) ∙ find-append p (take (i + 1) xs) (drop (i + 1) xs) ∙ ap (λ o. option_or o (find p (drop (i + 1) xs))) first
-
-pub item_at : {X : Type 0} (xs : List X) (i : ℕ) (x : X) → i < length xs → x ≡ get_or xs i x → slice_get xs i ≡ Some x
-item_at xs i x below is = slice_get-get_or xs i x below ∙ ap Some (sym is)
 
 -- the first `i` entries marked
 abbrev pub marked_first : ℕ → set.FinSet nat_cmp → List Entry → List Entry
@@ -213,30 +193,16 @@ mark-all i members table done = rw (take_all i table done, drop_all i table done
 
 mark-at : (i : ℕ) (members : set.FinSet nat_cmp) (table : List Entry) (es : Pairs) (v : set.FinSet nat_cmp)
     → map entry_of es ≡ marked_first i members table → slice_get (values_of es) i ≡ Some v → map entry_of (set_value_at es i (set.union v members)) ≡ marked_first (suc i) members table
-mark-at zero members [] [] v same is = refl
-mark-at zero members [] (p ∷ es) v same is = cc
-mark-at zero members (e ∷ table) [] v same is = cc
-mark-at zero members (e ∷ table) (p ∷ es) v same is =
-    let first : entry_of p ≡ e = ap (λ l. get_or l 0 e) same in
-    let rest : map entry_of es ≡ table = ap (drop 1) same in
-    let known : v ≡ e.known = sym (ap (λ o. unwrap_or o v) is) ∙ ap (λ x. x.known) first in
-    λ j. record { det = (first j).det; known = set.union (known j) members } ∷ rest j
-mark-at (suc i) members [] [] v same is = refl
-mark-at (suc i) members [] (p ∷ es) v same is = cc
-mark-at (suc i) members (e ∷ table) [] v same is = cc
+mark-at zero members (e ∷ table) (p ∷ es) v same is = cc
 mark-at (suc i) members (e ∷ table) (p ∷ es) v same is =
-    let first : entry_of p ≡ record { det = e.det; known = set.union e.known members } = ap (λ l. get_or l 0 e) same in
-    let more : map entry_of (set_value_at es i (set.union v members)) ≡ marked_first (suc i) members table = mark-at i members table es v (ap (drop 1) same) is in
-    λ j. first j ∷ more j
+    let more = mark-at i members table es v (ap (drop 1) same) is in cc
+mark-at zero members [] [] v same is = refl
+mark-at (suc i) members [] [] v same is = refl
+mark-at _ _ _ _ _ same is = cc
 
 pub mark-step : (i : ℕ) (members : set.FinSet nat_cmp) (table : List Entry) (es : Pairs) (v : set.FinSet nat_cmp)
     → map entry_of es ≡ marked_first i members table → slice_get (values_of es) i ≡ Some v → map entry_of (set_value_at es i (set.union v members)) ≡ marked_first (i + 1) members table
-mark-step i members table es v same is = mark-at i members table es v same is ∙ ap (λ k. marked_first k members table) (let e : suc i ≡ i + 1 = omega arith in e)
-
-pub length-set_value_at : (es : Pairs) (i : ℕ) (v : set.FinSet nat_cmp) → length (set_value_at es i v) ≡ length es
-length-set_value_at [] i v = refl
-length-set_value_at (e ∷ es) zero v = refl
-length-set_value_at (e ∷ es) (suc i) v = ap suc (length-set_value_at es i v)
+mark-step i members table es v same is = rw add-one (mark-at i members table es v same is)
 
 pub keys-view : (es : Pairs) → map (λ e. e.det) (map entry_of es) ≡ keys_of es
 keys-view [] = refl

@@ -1,14 +1,14 @@
 -- The open places of a table.
 use Rattle.std.proofs.Common.{◌≡◌, ◌⊎◌, inl, inr, get_or, ℕ, zero, suc, ◌+◌, ◌<◌, ◌≤◌, Bool, true, false, cond, ◌||◌, if◌then◌else◌, nat_le, List, []}
 use Rattle.std.proofs.Common.{◌∷◌, ◌++◌, map, Option, Some, None, unwrap_or, refl, sym, ap, ◌∙◌, arith, take, length, slice_get}
-use Rattle.std.proofs.lemmas.Bool.{false≢true}
+use Rattle.std.proofs.lemmas.Bool.{false≢true, or_parts}
 use Rattle.std.proofs.lemmas.Bool.Decides.{nat_tests}
 use Rattle.std.proofs.lemmas.List.{take_all, length-map, length_push, append-nil}
 use Rattle.std.proofs.lemmas.Option.{slice_get_cases}
 use Rattle.std.proofs.lemmas.List.Elements.{All-filter, All-head, All-nil, All-push, All-tail, All-weaker, filter-append, filter_map-append, filter_passes}
-use Rattle.std.specs.List.{All, filter, filter_map}
+use Rattle.std.specs.List.{All, IsDistinct, filter, filter_map}
 use Rattle.std.specs.Option.{option_map_or}
-use Rattle.std.specs.Map.{values_of}
+use Rattle.std.specs.Map.{keys_of, values_of}
 use Rattle.indexmap.specs.Layout.{set_value_at}
 use Rattle.std.specs.Ordering.{nat_cmp}
 use Rattle.std.specs.Cmp.{nat_cmp_total}
@@ -17,9 +17,9 @@ use Rattle.fbl_base.specs.Events.{same_determinant}
 use Rattle.fbl_base.proofs.Gets.{At-new}
 use Rattle.fbl_base.proofs.Sizes.{len-within}
 use Rattle.fbl_table.specs.declared.entry.Entry.{Entry}
-use Rattle.fbl_table.specs.Tables.{is_open, piggybacked, marked, added, is_held, entry_of}
+use Rattle.fbl_table.specs.Tables.{is_open, piggybacked, marked, added, is_held, has_at, entry_of}
 use Rattle.fbl_table.specs.Index.{places, open_at, IsIndex, AreOpen}
-use Rattle.fbl_table.proofs.Adding.{Pairs, take-next, length-added_held}
+use Rattle.fbl_table.proofs.Adding.{Pairs, take-next, length-added_held, added-at, held-at}
 
 -- a filter that lets through less, after one that lets through more
 filter-twice : {X : Type 0} (p q : X → Bool) → ((x : X) → q x ≡ true → p x ≡ true) → (xs : List X) → filter q (filter p xs) ≡ filter q xs
@@ -222,3 +222,15 @@ open-set limit es i v w is stays ps = All-weaker _ _ (at es i is) ps where
   at (e ∷ es) zero is (suc place) opens = opens
   at (e ∷ es) (suc i) is zero opens = opens
   at (e ∷ es) (suc i) is (suc place) opens = at es i is place opens
+
+-- where more is known of the determinant at a place, the open places stay an index, and open where nothing closes
+pub index-united : (limit : ℕ) (es : Pairs) (entry : Entry) (place : ℕ) (v w : set.FinSet nat_cmp) → IsDistinct same_determinant (keys_of es)
+    → has_at (map entry_of es) entry.det place ≡ true → slice_get (values_of es) place ≡ Some v → w ≡ set.union v entry.known
+    → (stale closed : Bool) → (closed ≡ false → nat_le (set.len v) limit ≡ true → nat_le (set.len w) limit ≡ true)
+    → (ps : List ℕ) → IsIndex limit (map entry_of es) ps → (stale ≡ false → AreOpen limit (map entry_of es) ps)
+    → IsIndex limit (map entry_of (set_value_at es place w)) ps × ((stale || closed) ≡ false → AreOpen limit (map entry_of (set_value_at es place w)) ps)
+index-united limit es entry place v w once has is more stale closed stays ps index exact = (
+  rw (more, added-at es entry place v once has is)
+      (index-added_held limit (map entry_of es) entry ps (held-at (map entry_of es) entry.det place has) index),
+  λ fresh. (let kept = or_parts stale closed fresh in open-set limit es place v w is (stays kept.1) ps (exact kept.0)),
+)

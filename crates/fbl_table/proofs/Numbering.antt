@@ -2,7 +2,6 @@
 use Rattle.std.proofs.Common.{if◌then◌else◌, ◌≡◌, ℕ, ◌+◌, ◌==◌, ◌&&◌, Bool, true, false, cond, List, [], ◌∷◌, Option, Some, None, refl, ap, ◌∙◌, sym}
 use Rattle.std.proofs.Common.{take, slice_get}
 use Rattle.std.specs.Prelude.{nat_lt}
-use Rattle.std.specs.List.{find}
 use Rattle.std.proofs.lemmas.Bool.{and_parts, eqb-true, false≢true}
 use Rattle.std.specs.Option.{option_map, option_or}
 use Rattle.std.proofs.lemmas.List.Folds.{find-append}
@@ -28,9 +27,8 @@ or-none (Some x) = refl
 found-more : (to rsn : ℕ) (table : List Entry) (i : ℕ) (e : Entry) → slice_get table i ≡ Some e
     → found to rsn (take (i + 1) table) ≡ option_or (found to rsn (take i table)) (cond (is_of_receipt to rsn e) (Some e.det) None)
 found-more to rsn table i e is =
-    ap (found to rsn) (take-next table i e is) ∙ ap (option_map (λ (x : Entry). x.det)) (find-append (is_of_receipt to rsn) (take i table) (e ∷ []))
-    ∙ map-or (λ (x : Entry). x.det) (find (is_of_receipt to rsn) (take i table)) (cond (is_of_receipt to rsn e) (Some e) None)
-    ∙ ap (option_or (found to rsn (take i table))) (map-test (λ (x : Entry). x.det) (is_of_receipt to rsn e) e)
+    rw (take-next table i e is, find-append (is_of_receipt to rsn) (take i table) (e ∷ []), map-or)
+    (ap (option_or (found to rsn (take i table))) (map-test (λ (x : Entry). x.det) (is_of_receipt to rsn e) e))
 
 -- an entry that tells of no receipt that is looked for
 not-sought : (to count rsn : ℕ) (e : Entry) → ((e.det.to == to) && nat_lt count e.det.rsn) ≡ false → nat_lt count rsn ≡ true → is_of_receipt to rsn e ≡ false

@@ -1,8 +1,7 @@
 -- How many entries are passed on, and that they are put into a list in turn.
-use Rattle.std.proofs.Common.{◌≡◌, ℕ, ◌+◌, ◌≤◌, Bool, true, false, cond, List, [], ◌∷◌, ◌++◌, map, count_by, if◌then◌else◌, Some, refl, sym, ap, ◌∙◌}
-use Rattle.std.proofs.Common.{arith, take, drop, length, slice_get}
+use Rattle.std.proofs.Common.{◌≡◌, ℕ, ◌+◌, ◌≤◌, Bool, true, false, cond, List, [], ◌∷◌, ◌++◌, map, count_by, if◌then◌else◌, Some, refl, sym, ap}
+use Rattle.std.proofs.Common.{◌∙◌, arith, take, drop, length, slice_get, append_assoc}
 use Rattle.std.proofs.lemmas.List.{length-map, length-append, take-append-drop}
-use Rattle.std.proofs.Common.{append_assoc}
 use Rattle.std.proofs.lemmas.List.Elements.{filter-append}
 use Rattle.std.specs.List.{filter, filter_map, cons_option}
 use Rattle.std.proofs.lemmas.List.Sums.{length-filter, sum_by-cons}

@@ -1,6 +1,7 @@
-use Rattle.std.proofs.Common.{arith, length-take}
+use Rattle.std.proofs.Common.{refl, arith, length-take}
+use Rattle.std.proofs.lemmas.Option.{slice_get_read}
 use Rattle.fbl_base.proofs.Received.{WellFormed-below, WellFormed-all, too_many}
-use Rattle.fbl_base.proofs.Breached.{event_at, not_obeyed, same_event}
+use Rattle.fbl_base.proofs.Breached.{not_obeyed, same_event}
 use Rattle.fbl_base.proofs.audit.first_bad_event.Goals as goal
 
 pub returns-then-place-ge8192-clause-place : goal.returns-then-place-ge8192-clause-place
@@ -8,8 +9,10 @@ returns-then-place-ge8192-clause-place g c =
     (c.loop-place.invariant.obeyed, too_many c.args.n c.args.events.now c.loop-place.place (omega arith) c.if-place-ge8192.true)
 
 pub returns-then-place-ge8192-clause-fault : goal.returns-then-place-ge8192-clause-fault
-returns-then-place-ge8192-clause-fault g c =
-    (event_at c.args.events.now c.loop-place.place _ (omega arith) c.index-events-place.is, omega (arith, length-take c.loop-place.place c.args.events.now, c.if-place-ge8192.true))
+returns-then-place-ge8192-clause-fault g c = (
+  slice_get_read c.args.events.now _ c.loop-place.place _ refl (omega arith) c.index-events-place.is,
+  omega (arith, length-take c.loop-place.place c.args.events.now, c.if-place-ge8192.true),
+)
 
 pub admit-requires-clause-rules : goal.admit-requires-clause-rules
 admit-requires-clause-rules g c = WellFormed-below c.args.n c.args.events.now c.loop-place.place c.loop-place.invariant.obeyed
@@ -19,7 +22,7 @@ returns-in-Some-clause-place g c = (c.loop-place.invariant.obeyed, not_obeyed c.
 
 pub returns-in-Some-clause-fault : goal.returns-in-Some-clause-fault
 returns-in-Some-clause-fault g c =
-    let at = event_at c.args.events.now c.loop-place.place c.index-events-place.result (omega arith) c.index-events-place.is in
+    let at = slice_get_read c.args.events.now _ c.loop-place.place c.index-events-place.result refl (omega arith) c.index-events-place.is in
     (at, same_event c.args.n c.args.events.now c.loop-place.place c.index-events-place.result c.in-Some.rule at (rw c.in-Some.is at c.in_ok-rule.ensures.verdict))
 
 pub returns-clause-place : goal.returns-clause-place

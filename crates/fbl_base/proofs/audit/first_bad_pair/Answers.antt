@@ -1,25 +1,30 @@
-use Rattle.std.proofs.Common.{below_more, arith}
+use Rattle.std.proofs.Common.{refl, ◌≡◌, below_more, arith, Some, slice_get}
+use Rattle.std.proofs.lemmas.Option.{slice_get_read}
 use Rattle.fbl_base.specs.Audit.{HeldAt}
 use Rattle.fbl_base.specs.DumpParts.{parts_of}
 use Rattle.fbl_base.proofs.Gets.{At-below}
-use Rattle.fbl_base.proofs.Breached.{pair_at, pair_breaks, pair_fits}
+use Rattle.fbl_base.proofs.Breached.{pair_breaks, pair_fits}
+use Rattle.fbl_base.proofs.audit.first_bad_pair.Given.{Over}
 use Rattle.fbl_base.proofs.audit.first_bad_pair.Goals as goal
+use Rattle.fbl_base.proofs.audit.first_bad_pair.Goals.{After-index-pair}
+
+-- the pair at the place
+here : (g : Over) (c : After-index-pair g) → slice_get c.args.raw.now.held.items c.loop-place.place ≡ Some c.index-pair.result.now
+here g c =
+    slice_get_read c.args.raw.now.held.items _ c.loop-place.place c.index-pair.result.now refl (omega (arith, c.args.raw.now.held.ok.0)) c.index-pair.ensures
 
 pub returns-in-Some-clause-place : goal.returns-in-Some-clause-place
 returns-in-Some-clause-place g c =
-    let dump = parts_of c.args.raw.now in
-    let at = pair_at dump.held c.loop-place.place c.index-pair.result.now (omega (arith, c.args.raw.now.held.ok.0)) c.index-pair.ensures in
-    (c.loop-place.invariant, pair_breaks dump c.loop-place.place c.index-pair.result.now c.in-Some.rule at c.in-Some.ensures)
+    let at = here g (goal.at.returns-in-Some-clause-place g c).After-index-pair in
+    (c.loop-place.invariant, pair_breaks (parts_of c.args.raw.now) c.loop-place.place c.index-pair.result.now c.in-Some.rule at c.in-Some.ensures)
 
 pub returns-in-Some-clause-fault : goal.returns-in-Some-clause-fault
-returns-in-Some-clause-fault g c =
-    let dump = parts_of c.args.raw.now in
-    (pair_at dump.held c.loop-place.place c.index-pair.result.now (omega (arith, c.args.raw.now.held.ok.0)) c.index-pair.ensures, c.in-Some.ensures)
+returns-in-Some-clause-fault g c = (here g (goal.at.returns-in-Some-clause-fault g c).After-index-pair, c.in-Some.ensures)
 
 pub loop-place-preserved : goal.loop-place-preserved
 loop-place-preserved g c =
     let dump = parts_of c.args.raw.now in
-    let at = pair_at dump.held c.loop-place.place c.index-pair.result.now (omega (arith, c.args.raw.now.held.ok.0)) c.index-pair.ensures in
+    let at = here g (goal.at.loop-place-preserved g c).After-index-pair in
     below_more (HeldAt dump) c.loop-place.place c.loop-place.invariant (pair_fits dump c.loop-place.place c.index-pair.result.now at c.in_default.ensures)
 
 pub returns-clause-place : goal.returns-clause-place

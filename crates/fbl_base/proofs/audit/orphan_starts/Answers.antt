@@ -1,4 +1,4 @@
-use Rattle.std.proofs.Common.{None, ◌≡◌, arith, ◌∙◌, take, length, [], ◌+◌, sym, ap, refl, ℕ, ◌≢◌, length-set}
+use Rattle.std.proofs.Common.{None, ◌≡◌, arith, ◌∙◌, take, length, ◌+◌, sym, ap, refl, ℕ, ◌≢◌, length-set}
 use Rattle.std.specs.FinSet as set
 use Rattle.fbl_base.specs.Audit.{IsLost}
 use Rattle.fbl_base.specs.Rules.{WellFormed}
@@ -13,8 +13,7 @@ use Rattle.std.proofs.lemmas.Bool.{false≢true}
 
 pub loop-place-init : goal.loop-place-init
 loop-place-init g c =
-    let tracks : Tracks (IsLost c.args.dump.now) [] c.new-reach.result.reached c.new-reach.result.unreached_sends =
-    rw c.new-reach.ensures.reached (Tracks-none (IsLost c.args.dump.now) c.new-reach.result.unreached_sends (λ q. rw c.new-reach.ensures.unreached_sends (get_or-same {X = ℕ} 16 q 0))) in
+    let tracks = Tracks-none (IsLost c.args.dump.now) c.new-reach.ensures.reached c.new-reach.ensures.unreached_sends in
     record {
       tracks = tracks;
       room = rw c.new-reach.ensures.unreached_sends;

@@ -1,15 +1,14 @@
-use Rattle.std.proofs.Common.{ℕ, ◌≡◌, arith, ◌∙◌, take}
+use Rattle.std.proofs.Common.{◌≡◌, arith, ◌∙◌, take}
 use Rattle.std.proofs.lemmas.List.{take_all}
 use Rattle.fbl_base.specs.Audit.{IsLost}
 use Rattle.fbl_base.specs.Rules.{WellFormed}
 use Rattle.fbl_base.proofs.Recorded.{Decides-is_lost, Tracks-orphans}
-use Rattle.fbl_base.proofs.Gets.{get_or-same}
 use Rattle.fbl_base.proofs.ReachLaws.{Tracks-none, Tracks-more, unreached_sends_after-length}
 use Rattle.fbl_base.proofs.audit.orphans.Goals as goal
 
 pub loop-event-init : goal.loop-event-init
 loop-event-init g c = record {
-  tracks = rw c.new-reach.ensures.reached (Tracks-none (IsLost c.args.dump.now) c.new-reach.result.unreached_sends (λ q. rw c.new-reach.ensures.unreached_sends (get_or-same {X = ℕ} 16 q 0)));
+  tracks = Tracks-none (IsLost c.args.dump.now) c.new-reach.ensures.reached c.new-reach.ensures.unreached_sends;
   room = rw c.new-reach.ensures.unreached_sends;
 }
 

@@ -5,5 +5,5 @@ use Rattle.fbl_history.proofs.states.column_at.Goals as goal
 
 pub returns-in-Send-clause-after : goal.returns-in-Send-clause-after
 returns-in-Send-clause-after g c =
-    past-send c.recoverable.ensures.sound c.requires.before c.in-Send.from c.in-Send.ssn c.in-Send.to c.in-Send.note
+    past-send c.requires.before c.in-Send.from c.in-Send.ssn c.in-Send.to c.in-Send.note
     (c.requires.here ∙ ap (λ (e : Event). Some e) c.in-Send.is)

@@ -1,9 +1,8 @@
-use Rattle.std.proofs.Common.{◌≡◌, ℕ, ap, ◌∙◌, arith}
+use Rattle.std.proofs.Common.{◌≡◌, ℕ, ap, ◌∙◌}
 use Rattle.fbl_base.proofs.Numbers.{is_number}
 use Rattle.fbl_base.specs.Configs.{Settings}
 use Rattle.fbl_member.specs.Members.{MemberRecord, blank, fresh}
 use Rattle.fbl_group.proofs.Queues.{made-more}
-use Rattle.fbl_history.proofs.Following.{fresh-replayed}
 use Rattle.fbl_history.proofs.states.fresh_members.Goals as goal
 
 pub loop-number-preserved : goal.loop-number-preserved
@@ -17,11 +16,3 @@ loop-number-preserved g c =
     made-more blank (λ (m : ℕ) (x : MemberRecord). x ≡ fresh m c.args.group.now.config.starts) c.loop-number.number c.loop-number.members.items
     c.in_ok-fresh.field-0 (record { size = c.loop-number.invariant.size; each = c.loop-number.invariant.fresh }) is in
     rw c.in_ok-push.ensures.items (record { size = more.size; fresh = more.each })
-
-pub returns : goal.returns
-returns g c =
-    let count : c.members-number-end.result ≡ c.args.group.now.config.members =
-    c.members-number-end.ensures.value ∙ ap (λ (x : Settings). x.members) c.config-config.ensures in
-    fresh-replayed g.B.Behaviour.next c.args.group.now c.loop-number.members.items
-    (omega (arith, count, c.loop-number.invariant.size, c.loop-number.auto.number-end, c.loop-number-test.false))
-    (λ m below. c.loop-number.invariant.fresh m (omega (arith, count, below, c.loop-number-test.false)))

@@ -1,75 +1,63 @@
-use Rattle.std.proofs.Common.{◌≡◌, ap, ◌∙◌, arith, refl}
+use Rattle.std.proofs.Common.{◌≡◌, ap, ◌∙◌, sym, arith, refl, rules}
 use Rattle.fbl_base.specs.Configs.{Settings}
 use Rattle.fbl_member.specs.Members.{MemberRecord, logged_note}
-use Rattle.fbl_history.proofs.Following.{may-follow, is-next, received-few, sender-read, receiver-read, has-note, named-by, after-is, room-by, state-is, past-receipt}
+use Rattle.fbl_history.proofs.Following.{IsNextReceipt, sender, may-follow, is-next, received-few, receiver-read, has-note, note-read, has-room, state-is, past-receipt}
+use Rattle.fbl_history.proofs.states.replay.Given.{Over}
 use Rattle.fbl_history.proofs.states.replay.Goals as goal
+use Rattle.fbl_history.proofs.states.replay.Goals.{After-recoverable, After-log_note, After-members}
+
+known : (g : Over) (c : After-recoverable g) → IsNextReceipt g.B.Behaviour.next c.args.group.now c.args.members.now c.args.place c.args.receipt
+known g c = record { sound = c.recoverable.ensures.sound; replayed = c.requires.before; here = c.requires.here }
+
+-- the note is read in the sender's log
+note-is : (g : Over) (c : After-log_note g) (is : IsNextReceipt g.B.Behaviour.next c.args.group.now c.args.members.now c.args.place c.args.receipt)
+    → c.log_note.result ≡ logged_note (sender is).log c.args.receipt.ssn
+note-is g c is = c.log_note.ensures ∙ note-read is c.index-members-sender.result (c.from-sender.ensures ∙ c.number.ensures.value)
+
+size : (g : Over) (c : After-members g) → c.members.result ≡ c.args.group.now.config.members
+size g c = c.members.ensures.value ∙ ap (λ (x : Settings). x.members) c.config.ensures
 
 pub bounds-members-sender : goal.bounds-members-sender
 bounds-members-sender g c =
-    let may = may-follow c.recoverable.ensures.sound c.requires.before c.args.receipt c.requires.here in
+    let may = may-follow (known g (goal.at.bounds-members-sender g c).After-recoverable) in
     omega (arith, may.0, c.requires.before.size, c.number.ensures.value, c.from-sender.ensures)
 
 pub unwrap-note-requires : goal.unwrap-note-requires
 unwrap-note-requires g c =
-    let has = has-note c.recoverable.ensures.sound c.requires.before c.args.receipt c.requires.here in
-    let read =
-    sender-read c.recoverable.ensures.sound c.requires.before c.args.receipt c.requires.here c.from-sender.result c.index-members-sender.result
-    (c.from-sender.ensures ∙ c.number.ensures.value) in
-    let is = c.log_note.ensures ∙ ap (λ (m : MemberRecord). logged_note m.log c.args.receipt.ssn) read ∙ has.1 in
-    rw is refl
+    let at = goal.at.unwrap-note-requires g c in
+    let is = known g at.After-recoverable in
+    rw (note-is g at.After-log_note is ∙ (has-note is).1) refl
 
 pub bounds-members-from : goal.bounds-members-from
 bounds-members-from g c =
-    let may = may-follow c.recoverable.ensures.sound c.requires.before c.args.receipt c.requires.here in
+    let may = may-follow (known g (goal.at.bounds-members-from g c).After-recoverable) in
     omega (arith, may.1, c.requires.before.size, c.number-2.ensures.value, c.from.ensures)
 
-pub replay_one-requires-clause-member : goal.replay_one-requires-clause-member
-replay_one-requires-clause-member g c =
-    let may = may-follow c.recoverable.ensures.sound c.requires.before c.args.receipt c.requires.here in
-    omega (arith, may.1, c.members.ensures.value, ap (λ (x : Settings). x.members) c.config.ensures)
+pub replay_one-requires : goal.replay_one-requires
+replay_one-requires g c =
+    let at = goal.at.replay_one-requires g c in
+    let is = known g at.After-recoverable in
+    let read = receiver-read is c.index-members-from.result (c.from.ensures ∙ c.number-2.ensures.value) in
+    let note = sym (note-is g at.After-log_note is) ∙ c.unwrap-note.ensures in
+    record {
+      least = search rules;
+      most = search rules;
+      member = omega (arith, (may-follow is).1, size g at.After-members);
+      to_me = refl;
+      next = rw read (is-next is);
+      receipts = rw read (received-few is);
+      sends = rw (read, size g at.After-members) (has-room is note);
+    }
 
-pub replay_one-requires-clause-next : goal.replay_one-requires-clause-next
-replay_one-requires-clause-next g c =
-    let read =
-    receiver-read c.recoverable.ensures.sound c.requires.before c.args.receipt c.requires.here c.from.result c.index-members-from.result
-    (c.from.ensures ∙ c.number-2.ensures.value) in
-    rw read (is-next c.recoverable.ensures.sound c.requires.before c.args.receipt c.requires.here)
-
-pub replay_one-requires-clause-receipts : goal.replay_one-requires-clause-receipts
-replay_one-requires-clause-receipts g c =
-    let read =
-    receiver-read c.recoverable.ensures.sound c.requires.before c.args.receipt c.requires.here c.from.result c.index-members-from.result
-    (c.from.ensures ∙ c.number-2.ensures.value) in
-    rw read (received-few c.recoverable.ensures.sound c.requires.before c.args.receipt c.requires.here)
-
-pub replay_one-requires-clause-sends : goal.replay_one-requires-clause-sends
-replay_one-requires-clause-sends g c =
-    let named =
-    named-by c.recoverable.ensures.sound c.requires.before c.args.receipt c.requires.here c.from-sender.result c.index-members-sender.result
-    c.log_note.result c.unwrap-note.result (c.from-sender.ensures ∙ c.number.ensures.value) c.log_note.ensures c.unwrap-note.ensures in
-    room-by c.recoverable.ensures.sound c.requires.before c.args.receipt c.requires.here c.unwrap-note.result named c.from.result c.members.result
-    c.index-members-from.result (c.from.ensures ∙ c.number-2.ensures.value) (c.members.ensures.value ∙ ap (λ (x : Settings). x.members) c.config.ensures)
-
-pub returns-clause-state : goal.returns-clause-state
-returns-clause-state g c =
-    let named =
-    named-by c.recoverable.ensures.sound c.requires.before c.args.receipt c.requires.here c.from-sender.result c.index-members-sender.result
-    c.log_note.result c.unwrap-note.result (c.from-sender.ensures ∙ c.number.ensures.value) c.log_note.ensures c.unwrap-note.ensures in
-    let is =
-    after-is c.recoverable.ensures.sound c.requires.before c.args.receipt c.requires.here c.unwrap-note.result named c.from.result c.members.result
-    c.index-members-from.result c.replay_one.new.self (c.from.ensures ∙ c.number-2.ensures.value)
-    (c.members.ensures.value ∙ ap (λ (x : Settings). x.members) c.config.ensures) c.in_ok-replay_one.ensures.replayed in
-    c.state.ensures ∙ ap (λ (m : MemberRecord). m.state) is
-    ∙ state-is c.recoverable.ensures.sound c.requires.before c.args.receipt c.requires.here c.unwrap-note.result named
-
-pub returns-clause-after : goal.returns-clause-after
-returns-clause-after g c =
-    let named =
-    named-by c.recoverable.ensures.sound c.requires.before c.args.receipt c.requires.here c.from-sender.result c.index-members-sender.result
-    c.log_note.result c.unwrap-note.result (c.from-sender.ensures ∙ c.number.ensures.value) c.log_note.ensures c.unwrap-note.ensures in
-    let is =
-    after-is c.recoverable.ensures.sound c.requires.before c.args.receipt c.requires.here c.unwrap-note.result named c.from.result c.members.result
-    c.index-members-from.result c.replay_one.new.self (c.from.ensures ∙ c.number-2.ensures.value)
-    (c.members.ensures.value ∙ ap (λ (x : Settings). x.members) c.config.ensures) c.in_ok-replay_one.ensures.replayed in
+pub returns : goal.returns
+returns g c =
+    let at = goal.at.returns g c in
+    let is = known g at.After-recoverable in
+    let note = sym (note-is g at.After-log_note is) ∙ c.unwrap-note.ensures in
     let place : c.from.result ≡ c.args.receipt.to = c.from.ensures ∙ c.number-2.ensures.value in
-    rw (place, is) (past-receipt c.recoverable.ensures.sound c.requires.before c.args.receipt c.requires.here c.unwrap-note.result named)
+    let read = receiver-read is c.index-members-from.result place in
+    let after = rw (size g at.After-members, read) at c.in_ok-replay_one.ensures.replayed in
+    record {
+      state = c.state.ensures ∙ ap (λ (m : MemberRecord). m.state) after ∙ state-is is note;
+      after = rw (place, after) (past-receipt is note);
+    }

@@ -1,4 +1,4 @@
-use Rattle.std.proofs.Common.{◌≡◌, ◌<◌, ◌≤◌, ◌⊎◌, inl, inr, ℕ, sym, ◌∙◌, false, true, arith}
+use Rattle.std.proofs.Common.{◌≡◌, ◌<◌, ◌≤◌, inl, inr, ℕ, sym, ◌∙◌, false, true, arith}
 use Rattle.std.proofs.lemmas.Bool.{cases_lt, false≢true}
 use Rattle.std.specs.FinSet as set
 use Rattle.fbl_base.specs.Bits.{set_of}
@@ -7,10 +7,10 @@ use Rattle.fbl_base.proofs.member_set.MemberSet.outsider.Goals as goal
 
 -- a member that is none of those from n on is below n
 below : (b n number q : ℕ) → b < 65536 → 16 ≤ number → ((k : ℕ) → n ≤ k → k < number → set.contains (set_of b) k ≡ false) → set.contains (set_of b) q ≡ true → q < n
-below b n number q within end none has = at (cases_lt q n) where
-  at : (q < n) ⊎ (n ≤ q) → q < n
-  at (inl small) = small
-  at (inr big) = absurd (false≢true (sym (none q big (omega (arith, below_sixteen b q within has, end))) ∙ has))
+below b n number q within end none has = elim (cases_lt q n) [
+  | inl small ↦ small
+  | inr big ↦ absurd (false≢true (sym (none q big (omega (arith, below_sixteen b q within has, end))) ∙ has))
+]
 
 pub returns : goal.returns
 returns c q has =

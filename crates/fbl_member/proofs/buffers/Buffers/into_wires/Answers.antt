@@ -1,7 +1,7 @@
 use Rattle.std.proofs.Common.{◌-◌, Some, ◌∙◌, arith, length, refl, take}
 use Rattle.std.proofs.lemmas.List.Elements.{All-pop}
 use Rattle.fbl_table.specs.Tables.{piggybacked}
-use Rattle.fbl_table.proofs.Adding.{item_at}
+use Rattle.std.proofs.lemmas.Option.{slice_get_read}
 use Rattle.fbl_member.specs.Rooms.{HasRoom}
 use Rattle.fbl_member.proofs.Logs.{messages-next, made-carried}
 use Rattle.fbl_member.proofs.Once.{IsOnce-piggybacked}
@@ -12,7 +12,7 @@ loop-place-preserved g c =
     let carried = piggybacked c.args.f c.args.table.now in
     let i = c.loop-place.place in
     let s = c.index-sends-place.result in
-    let at = item_at c.args.sends.now i s (omega (arith, c.loop-place-test.true)) c.index-sends-place.is in
+    let at = slice_get_read c.args.sends.now _ i s refl c.loop-place-test.true c.index-sends-place.is in
     let next = messages-next c.args.me c.args.before carried c.args.sends.now i s at c.loop-place-test.true in
     let popped =
     All-pop (HasRoom (length carried)) c.loop-place.lists.items c.take_last.new.self.items (Some c.take_last.result)

@@ -1,7 +1,7 @@
-use Rattle.std.proofs.Common.{◌≡◌, ap, ◌∙◌, sym, arith, length, true, false, take}
+use Rattle.std.proofs.Common.{refl, ◌≡◌, ap, ◌∙◌, sym, arith, length, true, false, take}
 use Rattle.std.proofs.lemmas.List.{append-nil, take_all}
 use Rattle.fbl_base.specs.Fold.{starts_of}
-use Rattle.fbl_table.proofs.Adding.{item_at}
+use Rattle.std.proofs.lemmas.Option.{slice_get_read}
 use Rattle.fbl_member.proofs.Logs.{starts-step, few_starts}
 use Rattle.fbl_member.proofs.member_rec.MemberRec.fresh.Goals as goal
 use Rattle.fbl_member.proofs.member_rec.MemberRec.fresh.Goals.{then-eq+in_ok-push, else-eq}
@@ -11,7 +11,7 @@ loop-start-preserved g c =
     let starts = c.starts-start-items.result.now in
     let i = c.loop-start.start-index in
     let s = c.start-item.result in
-    let at = item_at starts i s (omega (arith, c.loop-start-test.true)) c.start-item.is in
+    let at = slice_get_read starts _ i s refl c.loop-start-test.true c.start-item.is in
     elim c.if-eq.branch [
       | then-eq+in_ok-push w ↦
           rw (w.log-is, w.in_ok-push.ensures.items, c.loop-start.invariant) (sym (starts-step c.args.me starts i s true at (sym c.eq.ensures ∙ w.if-eq.true)))

@@ -1,11 +1,17 @@
-use Rattle.std.proofs.Common.{◌≡◌, ◌+◌, ◌≤◌, ◌++◌, ap, ◌∙◌, arith, length, refl}
+use Rattle.std.proofs.Common.{◌≡◌, ◌+◌, ◌≤◌, ◌++◌, ap, arith, length, refl}
 use Rattle.std.proofs.lemmas.List.Elements.{All-weaker}
 use Rattle.fbl_base.specs.declared.trace.Determinant.{Determinant}
-use Rattle.fbl_table.specs.Tables.{learned, noted, piggybacked}
-use Rattle.fbl_member.specs.Members.{table_after}
+use Rattle.fbl_table.specs.Tables.{piggybacked}
 use Rattle.fbl_member.specs.Rooms.{HasRoom}
-use Rattle.fbl_member.proofs.Logs.{stepped, bounded}
+use Rattle.fbl_member.proofs.Logs.{bounded, numbered-more}
+use Rattle.fbl_member.proofs.member_rec.MemberRec.receive.Given.{Over}
 use Rattle.fbl_member.proofs.member_rec.MemberRec.receive.Goals as goal
+use Rattle.fbl_member.proofs.member_rec.MemberRec.receive.Goals.{After-unwrap}
+
+-- the log with the step's sends at its end
+grown : (g : Over) (c : After-unwrap g) → c.extend_from_slice.new.self.items ≡ c.self.inside.log.items ++ c.args.outcome.now.sends.items
+grown g c =
+    rw (c.in_ok-reserve.ensures.items, c.as_slice-sends.ensures.value) at (rw c.unwrap.ensures at c.extend_from_slice.ensures.items)
 
 pub into_wires-requires-clause-numbers : goal.into_wires-requires-clause-numbers
 into_wires-requires-clause-numbers g c =
@@ -27,22 +33,10 @@ into_wires-requires-clause-rooms g c =
 
 pub invariant_of-self-2 : goal.invariant_of-self-2
 invariant_of-self-2 g c =
-    let sends = c.as_slice-sends.ensures.value in
-    let items = (rw c.unwrap.ensures at c.extend_from_slice.ensures.items) in
-    let grown : c.extend_from_slice.new.self.items ≡ c.self.inside.log.items ++ c.as_slice-sends.result.now = items ∙ ap (λ l. l ++ c.as_slice-sends.result.now) c.in_ok-reserve.ensures.items in
-    bounded c.args.self.now c.self.inside.state c.self.inside.received c.number.result c.ssn-2.result c.self.inside.last c.self.inside.log.items
-    c.extend_from_slice.new.self.items c.as_slice-sends.result.now c.self.inside.table _ c.self.view_is c.self.invariant.0 c.requires.receipts grown (ap length sends) c.requires.sends
+    bounded c.self.inside.received c.number.result c.ssn-2.result c.self.inside.last c.self.inside.log.items _ _ c.self.invariant.0
+    (rw (← c.self.view_is) at c.requires.receipts) (grown g (goal.at.invariant_of-self-2 g c).After-unwrap) (rw (← c.self.view_is) at c.requires.sends)
 
 pub returns-clause-received : goal.returns-clause-received
 returns-clause-received g c =
-    let sends = c.as_slice-sends.ensures.value in
-    let items = (rw c.unwrap.ensures at c.extend_from_slice.ensures.items) in
-    let grown : c.extend_from_slice.new.self.items ≡ c.self.inside.log.items ++ c.args.outcome.now.sends.items = items
-    ∙ ap (λ l. l ++ c.as_slice-sends.result.now) c.in_ok-reserve.ensures.items ∙ ap (λ l. c.self.inside.log.items ++ l) sends in
-    let v = c.args.wire.now in
-    let sender : c.number.result ≡ v.from = c.number.ensures.value ∙ c.from-2.ensures in
-    let table : c.learn_and_note.new.self ≡ table_after c.args.me c.args.self.now v = c.in_ok-learn_and_note.ensures.ok
-    ∙ (λ j. noted c.args.me (learned c.args.me (c.self.view_is j).table (c.carried-carried.ensures.value j))
-    (record { from = c.from.ensures j; ssn = c.ssn.ensures j; to = c.args.me; rsn = (c.self.view_is j).received + 1 })) in
-    rw c.ssn-2.ensures (stepped c.args.self.now c.self.inside.state c.self.inside.received c.number.result v.from v.ssn c.self.inside.last
-    c.self.inside.log.items c.extend_from_slice.new.self.items c.self.inside.table c.learn_and_note.new.self _ c.args.outcome.now c.args.outcome.now c.self.view_is grown sender refl table)
+    rw (← c.self.view_is, grown g (goal.at.returns-clause-received g c).After-unwrap, numbered-more, c.number.ensures.value, c.from-2.ensures, c.ssn-2.ensures)
+    (rw (c.in_ok-learn_and_note.ensures.ok, c.carried-carried.ensures.value, c.from.ensures, c.ssn.ensures) refl)

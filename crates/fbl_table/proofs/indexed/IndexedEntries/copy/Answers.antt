@@ -1,4 +1,4 @@
-use Rattle.std.proofs.Common.{rules, ◌≡◌, sym}
+use Rattle.std.proofs.Common.{rules, ◌≡◌}
 use Rattle.std.proofs.lemmas.Map.Entries.{entries_from_clone}
 use Rattle.fbl_table.proofs.indexed.IndexedEntries.copy.Goals as goal
 

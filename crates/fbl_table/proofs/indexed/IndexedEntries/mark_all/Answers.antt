@@ -1,15 +1,13 @@
-use Rattle.std.proofs.Common.{◌≡◌, ◌∙◌, sym, ap, refl, arith, length, true}
+use Rattle.std.proofs.Common.{◌≡◌, ◌∙◌, sym, ap, arith, length, true}
 use Rattle.std.proofs.lemmas.List.{length-map}
 use Rattle.std.proofs.lemmas.Bool.{false≢true}
+use Rattle.indexmap.specs.Layout.{length-set_value_at}
 use Rattle.fbl_table.specs.Indexed.{listed, KeepsIndex}
 use Rattle.fbl_table.specs.Tables.{entry_of, marked}
-use Rattle.fbl_table.proofs.Adding.{mark-all, mark-step, length-set_value_at}
+use Rattle.fbl_table.proofs.Adding.{mark-all, mark-step}
 use Rattle.fbl_table.proofs.Indexing.{index-marked}
 use Rattle.fbl_table.proofs.Keeping.{keeps-more}
 use Rattle.fbl_table.proofs.indexed.IndexedEntries.mark_all.Goals as goal
-
-pub loop-place-init : goal.loop-place-init
-loop-place-init g c = record { so_far = refl; limit = refl; open_places = refl; spare = refl; size = sym c.len-place-end.ensures.len }
 
 pub loop-place-preserved : goal.loop-place-preserved
 loop-place-preserved g c =

@@ -1,4 +1,3 @@
-use Rattle.std.proofs.Common.{◌∙◌, rules, sym}
 use Rattle.std.specs.FinSet as set
 use Rattle.fbl_table.specs.Indexed.{listed}
 use Rattle.fbl_table.proofs.Adding.{added-new}

@@ -1,11 +1,10 @@
-use Rattle.std.proofs.Common.{◌≡◌, ◌<◌, ◌++◌, ◌∙◌, ℕ, List, Some, ap, arith, get_or, length, slice_get, sym}
+use Rattle.std.proofs.Common.{◌≡◌, ◌<◌, ◌++◌, ◌∙◌, ℕ, List, Some, ap, arith, get_or, length, slice_get}
 use Rattle.std.proofs.lemmas.List.{take_all}
-use Rattle.std.proofs.lemmas.List.Elements.{All-get_or, filter_map-append}
+use Rattle.std.proofs.lemmas.List.Elements.{filter_map-append}
 use Rattle.std.proofs.lemmas.Option.{slice_get-get_or}
 use Rattle.std.specs.List.{filter_map}
 use Rattle.std.specs.Vec.{vec_capacity}
 use Rattle.fbl_table.specs.Indexed.{listed}
-use Rattle.fbl_table.specs.Tables.{piggybacked}
 use Rattle.fbl_table.proofs.Indexing.{open-piggybacked}
 use Rattle.fbl_table.proofs.Passing.{picked-one, pushed, fits}
 use Rattle.fbl_table.proofs.indexed.IndexedEntries.push_open.Goals as goal
@@ -13,13 +12,6 @@ use Rattle.fbl_table.proofs.indexed.IndexedEntries.push_open.Goals as goal
 -- the place that is looked at
 place-at : (items places : List ℕ) (i : ℕ) → items ≡ places → i < length items → slice_get places i ≡ Some (get_or items i 0)
 place-at items places i is below = rw (← is) (slice_get-get_or items i 0 below)
-
-pub entry_at-requires : goal.entry_at-requires
-entry_at-requires g c =
-    let places = c.args.self.now.open_places.items in
-    let table = listed c.args.self.now in
-    let below = rw c.deref-place-items.ensures.value at c.loop-place-test.true in
-    rw c.deref-place-items.ensures.value (All-get_or (λ place. place < length table) places c.loop-place.place-index 0 below c.requires.indexed.index.within)
 
 pub push_reserved-requires : goal.push_reserved-requires
 push_reserved-requires g c =
