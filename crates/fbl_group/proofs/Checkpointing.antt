@@ -38,7 +38,7 @@ module _ (next : Next) (old : GroupRecord) (sound : IsSound next old) (p : ℕ) 
   within-members = omega (arith, may.below, sound.members, is_place)
 
   it : copy ≡ member old p
-  it = same ∙ read_at old.members place read read within-members is ∙ ap (λ k. slice_index_or old.members k blank) is_place
+  it = same ∙ read_at old.members is_place (omega (arith, may.below, sound.members)) is
 
   pub is_checkpoint : IsCheckpoint old (record old { checkpoints = slice_set old.checkpoints place copy }) p
   is_checkpoint = record {

@@ -22,7 +22,9 @@ use Rattle.fbl_group.specs.declared.refusals.CommitRefusal.TheVariants as commit
 use Rattle.fbl_group.specs.Tickets.{take_refusal, empty_refusal, IsTicket, commit_refusal, stale_or_full, is_current, has_no_room, is_full, IsCommitRefusal}
 use Rattle.fbl_law.specs.Sound.{IsSound}
 use Rattle.fbl_law.proofs.GroupFacts.{all_up, receipts_fit, front_flight}
-use Rattle.fbl_group.proofs.Queues.{first-is, read_any, eqb-same}
+use Rattle.std.proofs.lemmas.List.{get_or_default}
+use Rattle.std.proofs.lemmas.Bool.{eq-eqb}
+use Rattle.fbl_group.proofs.Queues.{first-is}
 
 below_test : (m n : ℕ) → m < n → nat_lt m n ≡ true
 below_test m n below = grind (arith, nat_tests)
@@ -54,7 +56,7 @@ take_at_front : (r : GroupRecord) (p q : ℕ) → p < r.config.members → q < r
 take_at_front r p q below_p below_q nobody =
     let a : nat_lt p r.config.members ≡ true = below_test p r.config.members below_p in
     let b : nat_lt q r.config.members ≡ true = below_test q r.config.members below_q in
-    let d : (set.len r.down == 0) ≡ true = eqb-same (set.len r.down) 0 nobody in
+    let d : (set.len r.down == 0) ≡ true = eq-eqb (set.len r.down) 0 nobody in
     rw (a, b, d) refl
 
 module _ {r now : GroupRecord} (view : r ≡ now) {p q n a b : ℕ} (all : n ≡ r.config.members) (is_p : a ≡ p) (less_p : a < n) (is_q : b ≡ q)
@@ -71,7 +73,7 @@ module _ {r now : GroupRecord} (view : r ≡ now) {p q n a b : ℕ} (all : n ≡
   -- what is read at the receiver's place is its record
   module _ (next : Next) (sound : IsSound next r) {place : ℕ} {x : MemberRecord} (is_place : place ≡ p) (read : x ≡ get_or r.members place x) where
     of_receiver : x ≡ member r p
-    of_receiver = read ∙ ap (λ k. get_or r.members k x) is_place ∙ read_any r.members p x _ (omega (arith, below_p, sound.members))
+    of_receiver = read ∙ ap (λ k. get_or r.members k x) is_place ∙ get_or_default r.members p x _ (omega (arith, below_p, sound.members))
 
     pub few_received : {received : ℕ} → received ≡ x.received → Fits w32 (received + 1)
     few_received is = omega (
@@ -119,7 +121,7 @@ module _ (next : Next) {r now : GroupRecord} (view : r ≡ now) (t : Ticket) (no
 
   commit_at_front : commit_refusal next now t ≡ stale_or_full r t sends (front r t.from t.to)
   commit_at_front =
-      let d : (set.len r.down == 0) ≡ true = eqb-same (set.len r.down) 0 nobody in
+      let d : (set.len r.down == 0) ≡ true = eq-eqb (set.len r.down) 0 nobody in
       let s : (r.config.members == t.n) ≡ true = grind (arith, nat_tests) in
       ap (λ (x : GroupRecord). commit_refusal next x t) (sym view) ∙ rw (d, s) refl
 
@@ -137,7 +139,7 @@ module _ (next : Next) {r now : GroupRecord} (view : r ≡ now) (t : Ticket) (no
     module _ (sound : IsSound next r) {place : ℕ} {x : MemberRecord} {told : Bool} (is_place : place ≡ t.to) (read : x ≡ get_or r.members place x) (told_is : told ≡ is_current x w t) where
       tells : told ≡ is_current (member r t.to) w t
       tells = told_is ∙ ap (λ (y : MemberRecord). is_current y w t)
-          (read ∙ ap (λ k. get_or r.members k x) is_place ∙ read_any r.members t.to x _ (omega (arith, t.ends.0, size, sound.members)))
+          (read ∙ ap (λ k. get_or r.members k x) is_place ∙ get_or_default r.members t.to x _ (omega (arith, t.ends.0, size, sound.members)))
 
       pub is_stale : told ≡ false → commit_refusal next now t ≡ Some commit.Stale
       is_stale off = commit_decided tells ∙ ap (λ (b : Bool). cond (not b) (Some commit.Stale) (cond (is_full r sends) (Some commit.Full) None)) off
@@ -184,11 +186,11 @@ module _ (next : Next) (r : GroupRecord) (p q : ℕ) (v : Message) (t : Ticket) 
       let state : (member r t.to).state ≡ t.state = ap (λ k. (member r k).state) is.to ∙ sym is.state in
       let rsn : (member r t.to).received + 1 ≡ t.rsn = ap (λ k. (member r k).received + 1) is.to ∙ sym is.rsn in
       rw (
-        eqb-same (member r t.to).state t.state state,
-        eqb-same ((member r t.to).received + 1) t.rsn rsn,
-        eqb-same v.ssn t.ssn (sym is.ssn),
-        eqb-same v.note.value t.note.value (ap (λ (n : Note). n.value) (sym is.note)),
-        eqb-same v.note.hops t.note.hops (ap (λ (n : Note). n.hops) (sym is.note)),
+        eq-eqb (member r t.to).state t.state state,
+        eq-eqb ((member r t.to).received + 1) t.rsn rsn,
+        eq-eqb v.ssn t.ssn (sym is.ssn),
+        eq-eqb v.note.value t.note.value (ap (λ (n : Note). n.value) (sym is.note)),
+        eq-eqb v.note.hops t.note.hops (ap (λ (n : Note). n.hops) (sym is.note)),
       ) refl
 
   same_step : next t.to t.n t.state t.note ≡ step_of next r v

@@ -26,7 +26,8 @@ use Rattle.fbl_law.proofs.GroupDelivery.{length-step_events, group_delivery_keep
 use Rattle.fbl_group.specs.Channels.{first_message, front_message, send_of_message, taken_and_sent}
 use Rattle.fbl_group.specs.Deliveries.{IsPlanned, Delivered}
 use Rattle.fbl_group.specs.Tickets.{has_no_room}
-use Rattle.fbl_group.proofs.Queues.{first-is, messages-from, messages-to, none-some, read_any, set-same, settled-in, settled-shape, settled_trace}
+use Rattle.fbl_group.proofs.Queues.{first-is, messages-from, messages-to, none-some, settled-in, settled-shape, settled_trace}
+use Rattle.std.proofs.lemmas.List.{get_or_default, set-get_or}
 
 -- where there is room, the limit holds and the counter can rise
 pub has_room : (limit len ever sends : ℕ) → has_no_room limit len ever sends ≡ false → (len + 1 + sends ≤ limit) × (ever ≢ 18446744073709551615)
@@ -95,7 +96,7 @@ module _ (next : Next) {r now : GroupRecord} {q p : ℕ} {outcome : Outcome} (we
 
   -- what is read at the member's place is its record
   pub member_is : {place : ℕ} {x : MemberRecord} → place ≡ p → x ≡ get_or r.members place x → x ≡ m
-  member_is {x = x} is read = read ∙ ap (λ k. get_or r.members k x) is ∙ read_any r.members p x _ (omega (arith, plan.to_member, sound.members))
+  member_is {x = x} is read = read ∙ ap (λ k. get_or r.members k x) is ∙ get_or_default r.members p x _ (omega (arith, plan.to_member, sound.members))
 
   -- of channels that are still the group's: there is a front, what is read there is the message, and receivers are members
   module _ {cs : List (List (List Message))} (same : cs ≡ r.channels) where
@@ -103,7 +104,7 @@ module _ (next : Next) {r now : GroupRecord} {q p : ℕ} {outcome : Outcome} (we
     pub stays : {place : ℕ} {x before : MemberRecord} {trace : List Event} → place ≡ p → x ≡ before → before ≡ get_or r.members place before
         → trace ≡ r.trace → record r { members = slice_set r.members place x; channels = cs; trace = trace } ≡ r
     stays {place = place} {x = x} {before = before} {trace = trace} is unchanged read kept =
-        same_parts r _ cs trace (set-same r.members place x before (omega (arith, is, plan.to_member, sound.members)) (unchanged ∙ read)) same kept
+        same_parts r _ cs trace (ap (λ y. slice_set r.members place y) (unchanged ∙ read) ∙ set-get_or r.members place before) same kept
 
     rows : (a : ℕ) → a < r.config.members → length (get_or cs a []) ≡ r.config.members
     rows a below = ap (λ (x : List (List (List Message))). length (get_or x a [])) same ∙ sound.shape.receivers a below

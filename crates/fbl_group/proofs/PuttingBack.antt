@@ -24,18 +24,17 @@ module _ (down : Members) (given old : List MemberRecord) where
       → i < length old → i < length given → set.contains down i ≡ true → x ≡ get_or rebuilt place x
       → Putting down given old (i + 1) (slice_set members place x) (slice_set rebuilt place y)
   put-down i place members rebuilt x y so_far is_place below within is read =
-      let was : x ≡ slice_index_or given i blank = read_at rebuilt place x x (omega (arith, so_far.left.size, within, is_place)) read
-      ∙ ap (λ k. slice_index_or rebuilt k blank) is_place ∙ so_far.left.rest i (omega arith) in
+      let was : x ≡ slice_index_or given i blank = read_at rebuilt is_place (omega (arith, so_far.left.size, within)) read ∙ so_far.left.rest i (omega arith) in
       record {
-        turned = turned-set blank (IsPut down given old) i place old members x so_far.turned is_place below
+        turned = turned-set so_far.turned is_place below
             (was ∙ sym (ap (λ b. cond b (slice_index_or given i blank) (slice_index_or old i blank)) is));
-        left = turned-set blank (λ m z. Unit {0}) i place given rebuilt y so_far.left is_place within tt;
+        left = turned-set so_far.left is_place within tt;
       }
 
   pub put-up : (i : ℕ) (members rebuilt : List MemberRecord) → Putting down given old i members rebuilt → set.contains down i ≡ false → Putting down given old (i + 1) members rebuilt
   put-up i members rebuilt so_far up = record {
-    turned = turned-kept blank (IsPut down given old) i old members so_far.turned (sym (ap (λ b. cond b (slice_index_or given i blank) (slice_index_or old i blank)) up));
-    left = turned-kept blank (λ m x. Unit {0}) i given rebuilt so_far.left tt;
+    turned = turned-kept so_far.turned (sym (ap (λ b. cond b (slice_index_or given i blank) (slice_index_or old i blank)) up));
+    left = turned-kept so_far.left tt;
   }
 
   pub put-end : (i : ℕ) (members rebuilt : List MemberRecord) → Putting down given old i members rebuilt → length old ≤ i → IsPutBack down given old members

@@ -4,7 +4,7 @@ use Rattle.std.proofs.Common.{Some, None, get_or, refl, sym, subst, ap, ◌∙�
 use Rattle.std.specs.Prelude.{slice_index_or, slice_set}
 use Rattle.std.specs.FinSet as set
 use Rattle.std.proofs.lemmas.Bool.Decides.{nat_tests}
-use Rattle.std.proofs.lemmas.List.{append-nil, take_all}
+use Rattle.std.proofs.lemmas.List.{append-nil, take_all, get_or_default}
 use Rattle.fbl_base.specs.MemberSets.{Members}
 use Rattle.fbl_base.specs.declared.trace.Determinant.{Determinant}
 use Rattle.fbl_base.specs.declared.trace.Note.{Note}
@@ -21,11 +21,10 @@ use Rattle.fbl_law.specs.Replaying.{IsNextReplay, working, IsReplaying, IsWaitin
 use Rattle.fbl_law.proofs.GatheredTables.{gathered_all-more, gathered_all-push}
 use Rattle.fbl_law.proofs.ReplayLaws.{replaying-start, replaying-next, replaying-room, replaying-step, replayed_in-step, replayed_in-short, replaying-tables}
 use Rattle.fbl_group.specs.Rebuilding.{AreByNumber, Tries, Rounds, HasReplayed, IsReady}
-use Rattle.fbl_group.proofs.Queues.{read_any}
 
 -- a record that is read at a place of the list, whatever stands past its end
-pub read_at : (ms : List MemberRecord) (i : ℕ) (d m : MemberRecord) → i < length ms → m ≡ get_or ms i d → m ≡ slice_index_or ms i blank
-read_at ms i d m below read = read ∙ read_any ms i d blank below
+pub read_at : (ms : List MemberRecord) {place i : ℕ} {m : MemberRecord} → place ≡ i → i < length ms → m ≡ get_or ms place m → m ≡ slice_index_or ms i blank
+read_at ms {i = i} {m = m} is below read = read ∙ ap (λ k. get_or ms k m) is ∙ get_or_default ms i m blank below
 
 -- the table of one member more
 pub gathered-step : (ms : List MemberRecord) (i : ℕ) (before after : List Entry) (m : MemberRecord) → i < length ms → m ≡ slice_index_or ms i blank
@@ -56,7 +55,7 @@ pub saved-step : (s : Members) (ms : List MemberRecord) (i x place : ℕ) (first
     → before ≡ gathered_all first (saved_tables s ms i) → after ≡ gathered before m.table → after ≡ gathered_all first (saved_tables s ms (i + 1))
 saved-step s ms i x place first before after m same is_place below read down was is =
     let here : set.contains s i ≡ true = ap (λ k. set.contains s k) (sym same) ∙ down in
-    let it : m ≡ slice_index_or ms i blank = read_at ms place m m (omega (arith, below, is_place)) read ∙ ap (λ k. slice_index_or ms k blank) is_place in
+    let it : m ≡ slice_index_or ms i blank = read_at ms is_place below read in
     let e : i + 1 ≡ suc i = omega arith in
     rw (e, here) (is ∙ ap (λ (t : List Entry). gathered t m.table) was
     ∙ ap (λ (y : MemberRecord). gathered (gathered_all first (saved_tables s ms i)) y.table) it ∙ sym (gathered_all-push first (saved_tables s ms i) (slice_index_or ms i blank).table))
@@ -91,7 +90,7 @@ module _ (next : Next) (r : GroupRecord) (sound : IsSound next r) where
     at-place = omega (arith, sound.down p down, replaying.size, is_place)
 
     is-record : {m : MemberRecord} → m ≡ get_or rebuilt place m → m ≡ slice_index_or rebuilt p blank
-    is-record {m = m} read = read_at rebuilt place m m at-place read ∙ ap (λ x. slice_index_or rebuilt x blank) is_place
+    is-record read = read_at rebuilt is_place (omega (arith, sound.down p down, replaying.size)) read
 
     -- the receipt that is sought by its number
     module _ {m : MemberRecord} {numbered : List (List (Option Determinant))} {rsn : ℕ} {answer : Option Determinant} (read : m ≡ get_or rebuilt place m) (by_number : AreByNumber r numbered)

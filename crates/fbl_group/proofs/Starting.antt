@@ -91,7 +91,7 @@ sent-more q p n first before after events i e w shape from to below read is put 
     let next : i + 1 ≡ suc i = omega arith in
     let more : filter_map message_of_send (take (i + 1) events) ≡ filter_map message_of_send (take i events) ++ w ∷ [] = ap (λ k. filter_map message_of_send (take k events)) next
     ∙ filter_map-more message_of_send events i e below read ∙ ap (λ (o : Option Message). filter_map message_of_send (take i events) ++ cons_option o []) is in
-    ap (λ (cs : List (List (List Message))). channel_in cs q p) put ∙ put-in n before w.from w q p refl shape from to ∙ ap (λ (c : List Message). c ++ between q p (w ∷ [])) was
+    ap (λ (cs : List (List (List Message))). channel_in cs q p) put ∙ put-in w q p refl shape from to ∙ ap (λ (c : List Message). c ++ between q p (w ∷ [])) was
     ∙ append_assoc (channel_in first q p) (between q p (filter_map message_of_send (take i events))) (between q p (w ∷ []))
     ∙ ap (λ (c : List Message). channel_in first q p ++ c) (sym (filter-append (is_on q p) (filter_map message_of_send (take i events)) (w ∷ []))
     ∙ ap (λ (c : List Message). between q p c) (sym more))

@@ -26,7 +26,7 @@ loop-event-preserved g c =
           let ends = event-ends c.args.n c.args.events.now c.loop-event.event-index c.event-item.result w.in-Some.wire c.requires.rules c.loop-event-test.true c.event-item.is is in
           let put = w.in_ok-send.ensures in
           rw w.channels-is (record {
-            shape = rw put (written-shape c.args.n (rows c.loop-event.channels) w.in-Some.wire.from w.in-Some.wire.to _ c.loop-event.invariant.shape ends.0 ends.1);
+            shape = rw put (written-shape _ c.loop-event.invariant.shape ends.0 ends.1);
             sent = λ q p. sent-more q p c.args.n (rows c.args.channels.now) (rows c.loop-event.channels) _ c.args.events.now c.loop-event.event-index c.event-item.result
                 w.in-Some.wire c.loop-event.invariant.shape ends.0 ends.1 c.loop-event-test.true c.event-item.is is put (c.loop-event.invariant.sent q p);
           })
