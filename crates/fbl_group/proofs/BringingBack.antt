@@ -5,7 +5,6 @@ use Rattle.std.specs.Prelude.{slice_index_or, count_by}
 use Rattle.std.specs.List.{filter, cons_option}
 use Rattle.std.specs.Option.{is_some}
 use Rattle.std.specs.Result.{OnErr}
-use Rattle.std.specs.Ordering.{nat_cmp}
 use Rattle.std.specs.FinSet as set
 use Rattle.std.proofs.lemmas.Bool.{cases_lt}
 use Rattle.std.proofs.lemmas.List.Sums.{sum_by-cons}
@@ -45,13 +44,6 @@ counted-receipts (e ∷ trace) = sum_by-cons (λ x. cond (is_some (determinant_o
 pub on_err : {X E : Type 0} {P : Type 0} (result : Result X E) → P → OnErr result P
 on_err (Ok x) holds = tt
 on_err (Err e) holds = holds
-
--- somebody is down, or nobody
-pub nobody : (down : Members) (count : ℕ) → count ≡ set.len down → count ≡ 0 → down ≡ set.empty
-nobody down count is none = set.empty_of_len down (omega (arith, is, none))
-
-pub somebody : (down : Members) (count : ℕ) → count ≡ set.len down → count ≢ 0 → ¬ (down ≡ set.empty)
-somebody down count is some none = some (is ∙ ap (λ (s : Members). set.len s) none ∙ set.len-empty nat_cmp)
 
 -- what is no greater than a number that fits
 within : (most k : ℕ) → most < 2 ^ 64 → k ≤ most → Fits w64 k

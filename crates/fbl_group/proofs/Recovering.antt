@@ -19,20 +19,19 @@ use Rattle.fbl_law.specs.Groups.{GroupRecord, member_checkpoint, knowledge}
 use Rattle.fbl_law.specs.Sound.{IsSound}
 use Rattle.fbl_law.specs.Replaying.{IsNextReplay, working, IsReplaying, IsWaiting, replayed_in}
 use Rattle.fbl_law.proofs.GatheredTables.{gathered_all-more, gathered_all-push}
-use Rattle.fbl_law.proofs.ReplayLaws.{replaying-start, replaying-next, replaying-room, replaying-step, replayed_in-step, replayed_in-short, replaying-tables}
+use Rattle.fbl_law.proofs.ReplayLaws.{replaying-start, replaying-next, replaying-room, replaying-step, replayed_in-step, replaying-tables}
 use Rattle.fbl_group.specs.Rebuilding.{AreByNumber, Tries, Rounds, HasReplayed, IsReady}
+use Rattle.fbl_group.proofs.Queues.{Made}
 
 -- a record that is read at a place of the list, whatever stands past its end
 pub read_at : (ms : List MemberRecord) {place i : ℕ} {m : MemberRecord} → place ≡ i → i < length ms → m ≡ get_or ms place m → m ≡ slice_index_or ms i blank
 read_at ms {i = i} {m = m} is below read = read ∙ ap (λ k. get_or ms k m) is ∙ get_or_default ms i m blank below
 
 -- the table of one member more
-pub gathered-step : (ms : List MemberRecord) (i : ℕ) (before after : List Entry) (m : MemberRecord) → i < length ms → m ≡ slice_index_or ms i blank
+pub gathered-step : (ms : List MemberRecord) (i : ℕ) {before after : List Entry} {m : MemberRecord} → i < length ms → m ≡ slice_index_or ms i blank
     → before ≡ gathered_all [] (map (λ (x : MemberRecord). x.table) (take i ms)) → after ≡ gathered before m.table
     → after ≡ gathered_all [] (map (λ (x : MemberRecord). x.table) (take (i + 1) ms))
-gathered-step ms i before after m below read was is =
-    is ∙ ap (λ (t : List Entry). gathered t m.table) was
-    ∙ ap (λ (x : MemberRecord). gathered (gathered_all [] (map (λ (y : MemberRecord). y.table) (take i ms))) x.table) read ∙ sym (gathered_all-more ms i below)
+gathered-step ms i below read was is = rw (is, was, read) (sym (gathered_all-more ms i below))
 
 -- some tables, and then others
 gathered_all-then : (t : List Entry) (xs ys : List (List Entry)) → gathered_all t (xs ++ ys) ≡ gathered_all (gathered_all t xs) ys
@@ -50,22 +49,20 @@ gathered-end r i n before saved after all size was adds is =
     ∙ sym (gathered_all-then [] (map (λ (x : MemberRecord). x.table) r.members) (saved_tables r.down r.checkpoints (length r.checkpoints))))
 
 -- the table of one checkpoint more
-pub saved-step : (s : Members) (ms : List MemberRecord) (i x place : ℕ) (first before after : List Entry) (m : MemberRecord) → x ≡ i → place ≡ i
+pub saved-step : (s : Members) (ms : List MemberRecord) {i x place : ℕ} (first : List Entry) {before after : List Entry} {m : MemberRecord} → x ≡ i → place ≡ i
     → i < length ms → m ≡ get_or ms place m → set.contains s x ≡ true
     → before ≡ gathered_all first (saved_tables s ms i) → after ≡ gathered before m.table → after ≡ gathered_all first (saved_tables s ms (i + 1))
-saved-step s ms i x place first before after m same is_place below read down was is =
-    let here : set.contains s i ≡ true = ap (λ k. set.contains s k) (sym same) ∙ down in
-    let it : m ≡ slice_index_or ms i blank = read_at ms is_place below read in
+saved-step s ms {i = i} first same is_place below read down was is =
+    let here = (rw same at down) in
     let e : i + 1 ≡ suc i = omega arith in
-    rw (e, here) (is ∙ ap (λ (t : List Entry). gathered t m.table) was
-    ∙ ap (λ (y : MemberRecord). gathered (gathered_all first (saved_tables s ms i)) y.table) it ∙ sym (gathered_all-push first (saved_tables s ms i) (slice_index_or ms i blank).table))
+    rw (e, here, is, was, read_at ms is_place below read) (sym (gathered_all-push first (saved_tables s ms i) (slice_index_or ms i blank).table))
 
-pub saved-skip : (s : Members) (ms : List MemberRecord) (i x : ℕ) (first before : List Entry) → x ≡ i → set.contains s x ≡ false
+pub saved-skip : (s : Members) (ms : List MemberRecord) {i x : ℕ} (first : List Entry) {before : List Entry} → x ≡ i → set.contains s x ≡ false
     → before ≡ gathered_all first (saved_tables s ms i) → before ≡ gathered_all first (saved_tables s ms (i + 1))
-saved-skip s ms i x first before same up was =
-    let here : set.contains s i ≡ false = ap (λ k. set.contains s k) (sym same) ∙ up in
+saved-skip s ms {i = i} first same up was =
+    let here = (rw same at up) in
     let e : i + 1 ≡ suc i = omega arith in
-    rw (e, here) (was ∙ ap (gathered_all first) (sym (append-nil (saved_tables s ms i))))
+    rw (e, here, was) (ap (gathered_all first) (sym (append-nil (saved_tables s ms i))))
 
 -- what the replay of a receipt asks
 pub record MayReplay (next : Next) (n p : ℕ) (d : Determinant) (note : Note) (x : MemberRecord) : Type 0 where
@@ -77,12 +74,40 @@ pub record MayReplay (next : Next) (n p : ℕ) (d : Determinant) (note : Note) (
   pub receipts : x.received < 8192
   pub sends : length x.log + length (next p n x.state note).sends.items ≤ 8192
 
-module _ (next : Next) (r : GroupRecord) (sound : IsSound next r) where
-  pub begun : (rebuilt : List MemberRecord) (i : ℕ) → i ≡ r.config.members → length rebuilt ≡ i
-      → ((p : ℕ) → p < i → set.contains r.down p ≡ true → slice_index_or rebuilt p blank ≡ record (member_checkpoint r p) { table = [] }) → IsReplaying next r rebuilt
-  begun rebuilt i all size each =
-      replaying-tables next r sound r.checkpoints rebuilt [] (replaying-start next r sound r.checkpoints sound.checkpoints (λ p below down. refl)) (size ∙ all ∙ sym sound.checkpoints)
-      (λ p below down. each p (omega (arith, all, below)) down)
+-- a round so far: what is so of the replay, and of the tries of the members below i
+pub record Rounding (next : Next) (r : GroupRecord) (i : ℕ) (first now : List MemberRecord) (moved : Bool) : Type 0 where
+  pub replaying : IsReplaying next r now
+  pub tried : Rounds next r i first now moved
+
+module _ {next : Next} {r : GroupRecord} {i : ℕ} {first before : List MemberRecord} where
+  -- one more member that replays or waits
+  pub round-step : {k : ℕ} {moved : Bool} (after : List MemberRecord) (b : Bool) → k ≡ i → Rounding next r i first before moved → Tries next r k before after b
+      → Rounding next r (i + 1) first after (if b then true else moved)
+  round-step {moved = true} after true is_k so_far tried = record { replaying = tried.0; tried = (tried.0, omega (arith, so_far.tried.1, tried.1)) }
+  round-step {moved = false} after true is_k so_far tried = record { replaying = tried.0; tried = (tried.0, rw (← so_far.tried.0) (omega (arith, tried.1))) }
+  round-step {moved = true} after false is_k so_far tried = rw tried.0 (record { replaying = so_far.replaying; tried = so_far.tried })
+  round-step {moved = false} after false is_k so_far tried = rw tried.0 (record {
+    replaying = so_far.replaying;
+    tried = (
+      so_far.tried.0,
+      below_more (λ p. IsDown (knowledge r) p → IsWaiting r first p) i so_far.tried.1 (λ down. rw (← is_k, ← so_far.tried.0) tried.1),
+    );
+  })
+
+  -- one more that is up
+  pub round-up : {moved : Bool} → Rounding next r i first before moved → set.contains r.down i ≡ false → Rounding next r (i + 1) first before moved
+  round-up {moved = true} so_far up = record { replaying = so_far.replaying; tried = so_far.tried }
+  round-up {moved = false} so_far up = record {
+    replaying = so_far.replaying;
+    tried = (so_far.tried.0, below_more (λ p. IsDown (knowledge r) p → IsWaiting r first p) i so_far.tried.1 (λ (down : set.contains r.down i ≡ true). cc));
+  }
+
+module _ {next : Next} {r : GroupRecord} (sound : IsSound next r) where
+  pub begun : {rebuilt : List MemberRecord} {i : ℕ} → i ≡ r.config.members
+      → Made blank (λ p x. set.contains r.down p ≡ true → x ≡ record (member_checkpoint r p) { table = [] }) i rebuilt → IsReplaying next r rebuilt
+  begun {rebuilt = rebuilt} all made =
+      replaying-tables next r sound r.checkpoints rebuilt [] (replaying-start next r sound r.checkpoints sound.checkpoints (λ p below down. refl))
+      (made.size ∙ all ∙ sym sound.checkpoints) (λ p below down. made.each p (omega (arith, all, below)) down)
 
   -- what one try needs, and what it leaves
   module _ {rebuilt : List MemberRecord} {p place : ℕ} (replaying : IsReplaying next r rebuilt) (down : set.contains r.down p ≡ true) (is_place : place ≡ p) where
@@ -153,45 +178,11 @@ module _ (next : Next) (r : GroupRecord) (sound : IsSound next r) where
                   replayed_in-step next r sound rebuilt p d note replaying (sound.down p down) down,
                 ))
 
-  -- a try keeps what is so of the replay
-  pub tried-replaying : (p : ℕ) (before after : List MemberRecord) (b : Bool) → IsReplaying next r before → Tries next r p before after b → IsReplaying next r after
-  tried-replaying p before after true replaying tried = tried.0
-  tried-replaying p before after false replaying tried = subst (IsReplaying next r) (sym tried.0) replaying
-
-  -- a round so far, and one more member that replays, waits or is up
-  pub round-moved : (i k : ℕ) (first before after : List MemberRecord) (moved b : Bool) → b ≡ true → Rounds next r i first before moved
-      → Tries next r k before after b → Rounds next r (i + 1) first after true
-  round-moved i k first before after true true holds so_far tried = (tried.0, omega (arith, so_far.1, tried.1))
-  round-moved i k first before after false true holds so_far tried = (tried.0, (let e : replayed_in r before ≡ replayed_in r first = ap (replayed_in r) so_far.0 in omega (arith, e, tried.1)))
-  round-moved i k first before after moved false holds so_far tried = cc
-
-  pub round-waits : (i k : ℕ) (first before after : List MemberRecord) (moved b : Bool) → k ≡ i → b ≡ false → Rounds next r i first before moved
-      → Tries next r k before after b → Rounds next r (i + 1) first after moved
-  round-waits i k first before after moved true is_k fails so_far tried = cc
-  round-waits i k first before after true false is_k fails so_far tried =
-      (subst (IsReplaying next r) (sym tried.0) so_far.0, (let e : replayed_in r after ≡ replayed_in r before = ap (replayed_in r) tried.0 in omega (arith, e, so_far.1)))
-  round-waits i k first before after false false is_k fails so_far tried = (
-    tried.0 ∙ so_far.0,
-    below_more (λ p. IsDown (knowledge r) p → IsWaiting r first p) i so_far.1
-        (λ down. subst (IsWaiting r first) is_k (subst (λ (ms : List MemberRecord). IsWaiting r ms k) so_far.0 tried.1)),
-  )
-
-  pub round-up : (i : ℕ) (first now : List MemberRecord) (moved : Bool) → Rounds next r i first now moved → set.contains r.down i ≡ false → Rounds next r (i + 1) first now moved
-  round-up i first now true so_far up = so_far
-  round-up i first now false so_far up = (so_far.0, below_more (λ p. IsDown (knowledge r) p → IsWaiting r first p) i so_far.1 (λ (down : set.contains r.down i ≡ true). cc))
-
-  -- rounds end
-  pub round-more : (before after : List MemberRecord) → Rounds next r r.config.members before after true → replayed_in r before < replayed_in r after
-  round-more before after round = round.1
-
-  pub few-replayed : (rebuilt : List MemberRecord) → IsReplaying next r rebuilt → replayed_in r rebuilt ≤ 8192
-  few-replayed rebuilt replaying = replayed_in-short next r sound rebuilt replaying
-
-  pub round-last : (before after : List MemberRecord) → IsReplaying next r before → Rounds next r r.config.members before after false → HasReplayed next r after
-  round-last before after replaying round = subst (HasReplayed next r) (sym round.0) (record { replaying = replaying; waiting = round.1 })
+  pub round-last : {before after : List MemberRecord} → IsReplaying next r before → Rounds next r r.config.members before after false → HasReplayed next r after
+  round-last replaying round = rw round.0 (record { replaying = replaying; waiting = round.1 })
 
   -- the tables are given
-  module _ (before after : List MemberRecord) (replayed : HasReplayed next r before) (size : length after ≡ length before)
+  module _ {before : List MemberRecord} (after : List MemberRecord) (replayed : HasReplayed next r before) (size : length after ≡ length before)
       (given : (p : ℕ) → p < r.config.members → IsDown (knowledge r) p → slice_index_or after p blank ≡ record (slice_index_or before p blank) { table = recovery_table (knowledge r) }) where
     same-log : (q : ℕ) → q < r.config.members → (working r after q).log ≡ (working r before q).log
     same-log q below = at (set.contains r.down q) refl where

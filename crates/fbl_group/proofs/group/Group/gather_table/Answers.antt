@@ -10,7 +10,7 @@ use Rattle.fbl_group.proofs.group.Group.gather_table.Goals as goal
 
 pub loop-record-preserved : goal.loop-record-preserved
 loop-record-preserved g c =
-    gathered-step c.deref-record-items.result.now c.loop-record.record-index c.loop-record.gathered c.gather.new.self c.record-item.result c.loop-record-test.true
+    gathered-step c.deref-record-items.result.now c.loop-record.record-index c.loop-record-test.true
     (read_at c.deref-record-items.result.now refl c.loop-record-test.true c.record-item.is) c.loop-record.invariant
     (c.in_ok-gather.ensures.gathered ∙ ap (λ (t : List Entry). gathered c.loop-record.gathered t) c.table.ensures)
 
