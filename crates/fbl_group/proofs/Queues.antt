@@ -34,9 +34,6 @@ pub is-there : {X : Type 0} (o : Option X) → {P : Type 0} → ¬ P → IfNone 
 is-there None not none = absurd (not none)
 is-there (Some x) not none = refl
 
-pub front-read : {X : Type 0} (P : X → Type 0) (o : Option X) (x : X) → o ≡ Some x → IfSome o P → P x
-front-read P o x is some = subst (λ z. IfSome z P) is some
-
 pub none-some : {X : Type 0} (o : Option X) (x : X) → o ≡ None → o ≡ Some x → ⊥
 none-some o x none some = cc
 
