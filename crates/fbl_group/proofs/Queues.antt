@@ -81,7 +81,7 @@ turned-kept {d = d} {Wanted = Wanted} {i = i} {xs = xs} turned wanted = record {
 }
 
 -- numbers that differ
-eqb-other : (a b : ℕ) → b ≢ a → (a == b) ≡ false
+pub eqb-other : (a b : ℕ) → b ≢ a → (a == b) ≡ false
 eqb-other a b e = grind (arith, nat_tests)
 
 -- ---- what there is for each pair

@@ -1,8 +1,9 @@
 -- The steps of a recovery before it changes the group: gathering, replay in rounds, tables given.
 use Rattle.std.proofs.Common.{if◌then◌else◌, nat_lt, ◌≡◌, ℕ, suc, ◌+◌, ◌<◌, ◌≤◌, Bool, true, false, List, [], ◌∷◌, ◌++◌, length, map, take, Option}
-use Rattle.std.proofs.Common.{Some, None, get_or, refl, sym, subst, ap, ◌∙◌, arith, below_more}
+use Rattle.std.proofs.Common.{Some, None, get_or, inl, inr, refl, sym, ap, ◌∙◌, arith, below_more}
 use Rattle.std.specs.Prelude.{slice_index_or, slice_set}
 use Rattle.std.specs.FinSet as set
+use Rattle.std.proofs.lemmas.Bool.{cases_Bool}
 use Rattle.std.proofs.lemmas.Bool.Decides.{nat_tests}
 use Rattle.std.proofs.lemmas.List.{append-nil, take_all, get_or_default}
 use Rattle.fbl_base.specs.MemberSets.{Members}
@@ -42,11 +43,8 @@ pub gathered-end : (r : GroupRecord) (i n : ℕ) (before saved after : List Entr
     → before ≡ gathered_all [] (map (λ (x : MemberRecord). x.table) (take i r.members))
     → saved ≡ gathered_all before (saved_tables r.down r.checkpoints n) → after ≡ marked r.down saved → after ≡ recovery_table (knowledge r)
 gathered-end r i n before saved after all size was adds is =
-    let first : before ≡ gathered_all [] (map (λ (x : MemberRecord). x.table) r.members) = was
-    ∙ ap (λ (ms : List MemberRecord). gathered_all [] (map (λ (x : MemberRecord). x.table) ms)) (take_all i r.members all) in
-    is ∙ ap (marked r.down) (adds ∙ ap (λ (t : List Entry). gathered_all t (saved_tables r.down r.checkpoints n)) first
-    ∙ ap (λ k. gathered_all (gathered_all [] (map (λ (x : MemberRecord). x.table) r.members)) (saved_tables r.down r.checkpoints k)) (sym size)
-    ∙ sym (gathered_all-then [] (map (λ (x : MemberRecord). x.table) r.members) (saved_tables r.down r.checkpoints (length r.checkpoints))))
+    rw (is, adds, was, take_all i r.members all, ← size)
+    (ap (marked r.down) (sym (gathered_all-then [] (map (λ (x : MemberRecord). x.table) r.members) (saved_tables r.down r.checkpoints (length r.checkpoints)))))
 
 -- the table of one checkpoint more
 pub saved-step : (s : Members) (ms : List MemberRecord) {i x place : ℕ} (first : List Entry) {before after : List Entry} {m : MemberRecord} → x ≡ i → place ≡ i
@@ -128,9 +126,7 @@ module _ {next : Next} {r : GroupRecord} (sound : IsSound next r) where
       is-beyond = (let begun_at = replaying.begun p (sound.down p down) down in grind (arith, nat_tests, begun_at, is-received))
 
       is-looked-up : answer ≡ found p ((slice_index_or rebuilt p blank).received + 1) (recovery_table (knowledge r))
-      is-looked-up =
-          sought ∙ by_number.each p (sound.down p down) down (rsn + 1) ∙ ap (λ b. if b then found p (rsn + 1) (recovery_table (knowledge r)) else None) is-beyond
-          ∙ ap (λ k. found p (k + 1) (recovery_table (knowledge r))) is-received
+      is-looked-up = rw (← is-received) (sought ∙ by_number.each p (sound.down p down) down (rsn + 1) ∙ rw is-beyond refl)
 
       module _ {d : Determinant} (is : answer ≡ Some d) where
         is-found : found p ((slice_index_or rebuilt p blank).received + 1) (recovery_table (knowledge r)) ≡ Some d
@@ -145,38 +141,29 @@ module _ {next : Next} {r : GroupRecord} (sound : IsSound next r) where
         -- the log of its sender
         module _ {records : List MemberRecord} {sent : Option Note} (same : records ≡ rebuilt) (looked : sent ≡ logged_note (working r records d.from).log d.ssn) where
           logged : sent ≡ logged_note (working r rebuilt d.from).log d.ssn
-          logged = looked ∙ ap (λ (ms : List MemberRecord). logged_note (working r ms d.from).log d.ssn) same
+          logged = (rw same at looked)
 
           -- its message is not sent again yet
           pub waits-unsent : sent ≡ None → Tries next r p rebuilt rebuilt false
-          waits-unsent none = (refl, λ c found_c. ap (λ (x : Determinant). logged_note (working r rebuilt x.from).log x.ssn) (alike c found_c) ∙ sym logged ∙ none) where
-            alike : (c : Determinant) → found p ((slice_index_or rebuilt p blank).received + 1) (recovery_table (knowledge r)) ≡ Some c → c ≡ d
-            alike c found_c = (let e : Some c ≡ Some d = sym found_c ∙ is-found in cc)
+          waits-unsent none = (refl, λ c found_c. (let e : Some c ≡ Some d = sym found_c ∙ is-found in let alike : c ≡ d = cc in rw alike (sym logged ∙ none)))
 
           module _ {n : ℕ} {note : Note} {x : MemberRecord} (all : n ≡ r.config.members) (named : sent ≡ Some note) (here : x ≡ get_or rebuilt place x) where
             pub may-replay : MayReplay next n p d note x
-            may-replay = record {
-              least = omega (arith, all, sound.config.members.0);
-              most = omega (arith, all, sound.config.members.1);
-              member = omega (arith, all, sound.down p down);
+            may-replay = rw (all, is-record here) (record {
+              least = sound.config.members.0;
+              most = sound.config.members.1;
+              member = sound.down p down;
               to_me = its-next.to;
-              number = its-next.rsn ∙ ap (λ (y : MemberRecord). y.received + 1) (sym (is-record here));
-              receipts = (let room = its-next.room in let received : x.received ≡ (slice_index_or rebuilt p blank).received =
-                  ap (λ (y : MemberRecord). y.received) (is-record here) in omega (arith, room, received));
-              sends =
-                  subst (λ (k : ℕ). length x.log + length (next p k x.state note).sends.items ≤ 8192) (sym all)
-                  (subst (λ (y : MemberRecord). length y.log + length (next p r.config.members y.state note).sends.items ≤ 8192)
-                  (sym (is-record here)) (replaying-room next r sound rebuilt p d note replaying (sound.down p down) down is-found (sym logged ∙ named)));
-            }
+              number = its-next.rsn;
+              receipts = (let room = its-next.room in omega (arith, room));
+              sends = replaying-room next r sound rebuilt p d note replaying (sound.down p down) down is-found (sym logged ∙ named);
+            })
 
             pub replays-one : {after : MemberRecord} → after ≡ replayed_by next p n x d note → Tries next r p rebuilt (slice_set rebuilt place after) true
-            replays-one {after = after} is_after =
-                subst (λ (k : ℕ). Tries next r p rebuilt (slice_set rebuilt k after) true) (sym is_place)
-                (subst (λ (y : MemberRecord). Tries next r p rebuilt (slice_set rebuilt p y) true)
-                (sym (is_after ∙ ap (λ (k : ℕ). replayed_by next p k x d note) all ∙ ap (λ (y : MemberRecord). replayed_by next p r.config.members y d note) (is-record here))) (
-                  replaying-step next r sound rebuilt p d note replaying (sound.down p down) down is-found (sym logged ∙ named),
-                  replayed_in-step next r sound rebuilt p d note replaying (sound.down p down) down,
-                ))
+            replays-one is_after = rw (is_place, is_after, all, is-record here) (
+              replaying-step next r sound rebuilt p d note replaying (sound.down p down) down is-found (sym logged ∙ named),
+              replayed_in-step next r sound rebuilt p d note replaying (sound.down p down) down,
+            )
 
   pub round-last : {before after : List MemberRecord} → IsReplaying next r before → Rounds next r r.config.members before after false → HasReplayed next r after
   round-last replaying round = rw round.0 (record { replaying = replaying; waiting = round.1 })
@@ -185,15 +172,14 @@ module _ {next : Next} {r : GroupRecord} (sound : IsSound next r) where
   module _ {before : List MemberRecord} (after : List MemberRecord) (replayed : HasReplayed next r before) (size : length after ≡ length before)
       (given : (p : ℕ) → p < r.config.members → IsDown (knowledge r) p → slice_index_or after p blank ≡ record (slice_index_or before p blank) { table = recovery_table (knowledge r) }) where
     same-log : (q : ℕ) → q < r.config.members → (working r after q).log ≡ (working r before q).log
-    same-log q below = at (set.contains r.down q) refl where
-      at : (b : Bool) → set.contains r.down q ≡ b → (working r after q).log ≡ (working r before q).log
-      at true is = rw is (ap (λ (m : MemberRecord). m.log) (given q below is))
-      at false is = rw is refl
+    same-log q below = elim (cases_Bool (set.contains r.down q)) [
+      | inl is ↦ rw (is, given q below is) refl
+      | inr is ↦ rw is refl
+    ]
 
     still-waits : (p : ℕ) → p < r.config.members → IsDown (knowledge r) p → IsWaiting r after p
     still-waits p below down d is =
-        let was : found p ((slice_index_or before p blank).received + 1) (recovery_table (knowledge r)) ≡ Some d =
-        ap (λ (m : MemberRecord). found p (m.received + 1) (recovery_table (knowledge r))) (sym (given p below down)) ∙ is in
+        let was = (rw (given p below down) at is) in
         let from = (replaying-next next r sound before p d replayed.replaying below down was).from in
         ap (λ (log : List Logged). logged_note log d.ssn) (same-log d.from from) ∙ replayed.waiting p below down d was
 

@@ -209,12 +209,7 @@ count-unrecorded r = counted r.trace where
     at : (x : Event) → count_by (is_unrecorded r) events ≡ length (filter unrecorded (receipts (map mark_of events)))
         → cond (is_unrecorded r x) 1 0 + count_by (is_unrecorded r) events ≡ length (filter unrecorded (cons_option (determinant_of (mark_of x)) (receipts (map mark_of events))))
     at (event.Send from ssn to note) ih = omega (arith, ih)
-    at (event.Receipt to rsn from ssn) ih = here (unrecorded (record { from = from; ssn = ssn; to = to; rsn = rsn })) ih where
-      here : (b : Bool) → count_by (is_unrecorded r) events ≡ length (filter unrecorded (receipts (map mark_of events)))
-          → cond b 1 0 + count_by (is_unrecorded r) events
-          ≡ length (cond b (record { from = from; ssn = ssn; to = to; rsn = rsn } ∷ filter unrecorded (receipts (map mark_of events))) (filter unrecorded (receipts (map mark_of events))))
-      here true ih = omega (arith, ih)
-      here false ih = omega (arith, ih)
+    at (event.Receipt to rsn from ssn) ih = grind (arith, ih)
 
 -- in a sound group each receipt of a member that is up is recorded
 up-recorded : (next : Next) (r : GroupRecord) (d : Determinant) → IsSound next r → Has (marks r) (receipt_of d) → IsUp (knowledge r) d.to → is_recorded r d ≡ true
