@@ -1,9 +1,7 @@
 -- What a recovery leaves, once the records that were rebuilt are in place.
 use Rattle.std.proofs.Common.{◌||◌, ◌⊎◌, inl, inr, ◌≡◌, ◌≢◌, ℕ, ◌+◌, ◌-◌, ◌<◌, ◌≤◌, Bool, true, false, cond, List, [], ◌∷◌, length, map, refl}
-use Rattle.std.proofs.Common.{sym, ap, subst, ◌∙◌, arith, Result, Ok, Err, Fits, w64, ◌^◌}
-use Rattle.std.specs.Prelude.{slice_index_or, count_by}
+use Rattle.std.proofs.Common.{sym, ap, subst, ◌∙◌, arith, Result, Ok, Err, Fits, w64, ◌^◌, slice_index_or, count_by, is_some}
 use Rattle.std.specs.List.{filter, cons_option}
-use Rattle.std.specs.Option.{is_some}
 use Rattle.std.specs.Result.{OnErr}
 use Rattle.std.specs.FinSet as set
 use Rattle.std.proofs.lemmas.Bool.{cases_Bool, cases_lt}

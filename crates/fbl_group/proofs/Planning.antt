@@ -1,8 +1,6 @@
 -- What is known of a delivery that is planned.
 use Rattle.std.proofs.Common.{Some, None, ◌≡◌, ◌≢◌, ℕ, suc, ◌+◌, ◌<◌, ◌≤◌, Bool, true, false, ◌||◌, ◌==◌, List, [], ◌∷◌, ◌++◌, length, map}
-use Rattle.std.proofs.Common.{refl, sym, subst, ap, ◌∙◌, arith, get_or, length-append, Fits, w32}
-use Rattle.std.specs.Prelude.{slice_get, slice_set, nat_lt}
-use Rattle.std.specs.List.{All}
+use Rattle.std.proofs.Common.{refl, sym, subst, ap, ◌∙◌, append_assoc, arith, get_or, length-append, Fits, w32, slice_get, slice_set, nat_lt, All}
 use Rattle.std.proofs.lemmas.Bool.Decides.{nat_tests}
 use Rattle.fbl_base.specs.declared.trace.Event.{Event}
 use Rattle.fbl_base.specs.declared.trace.Event.TheVariants.{Receipt}
@@ -26,7 +24,7 @@ use Rattle.fbl_law.proofs.GroupDelivery.{length-step_events, group_delivery_keep
 use Rattle.fbl_group.specs.Channels.{first_message, front_message, send_of_message, taken_and_sent}
 use Rattle.fbl_group.specs.Deliveries.{IsPlanned, Delivered}
 use Rattle.fbl_group.specs.Tickets.{has_no_room}
-use Rattle.fbl_group.proofs.Queues.{first-is, messages-from, messages-to, none-some, settled-in, settled-shape, settled_trace}
+use Rattle.fbl_group.proofs.Queues.{first-is, messages-from, messages-to, none-some, sends-messages, settled-in, settled-shape}
 use Rattle.std.proofs.lemmas.List.{get_or_default, set-get_or}
 
 -- where there is room, the limit holds and the counter can rise
@@ -174,21 +172,19 @@ module _ {next : Next} {r now : GroupRecord} {q p : ℕ} {outcome : Outcome} (we
           moves = rw same at moved
 
           shape : HasChannels r.config.members after_rows
-          shape = rw moves (settled-shape r.config.members r.channels v q p made sound.shape plan.from_member plan.to_member apart of_sender to_receiver froms tos)
+          shape = rw moves (settled-shape v made sound.shape plan.from_member plan.to_member apart of_sender to_receiver froms tos)
 
           channels : (a b : ℕ) → channel new a b ≡ taken_off v a b (channel r a b) ++ between a b (made_by next r v)
           channels a b =
               ap (λ (y : List (List (List Message))). channel_in y a b) moves
-              ∙ settled-in r.config.members r.channels v q p made sound.shape plan.from_member plan.to_member apart of_sender to_receiver froms tos a b
+              ∙ settled-in v made sound.shape plan.from_member plan.to_member apart of_sender to_receiver froms tos a b
               ∙ ap (λ (ws : List Message). taken_off v a b (channel r a b) ++ between a b ws) made_next
 
           rsn_next : rsn ≡ m.received + 1
           rsn_next = rsn_is ∙ ap (λ (y : MemberRecord). y.received) receives
 
           trace_is : trace ≡ r.trace ++ delivery_events next r v
-          trace_is =
-              settled_trace r.trace pushed trace made p (length m.log) rsn q ssn _ outcome.sends.items (receipt ∙ ap (λ (es : List Event). es ++ Receipt p rsn q ssn ∷ []) kept) sends made_is
-              ∙ rw (rsn_next, ssn_is, is_v, plan.step, to_receiver, of_sender) refl
+          trace_is = rw (sends, receipt, kept, made_is, append_assoc, sends-messages, rsn_next, ssn_is, is_v, plan.step, to_receiver, of_sender) refl
 
           longer : length trace ≡ length r.trace + 1 + length outcome.sends.items
           longer = ap length trace_is ∙ length-append r.trace (delivery_events next r v)

@@ -1,18 +1,17 @@
 -- Channels as queues: the loops over them, and what is left of them by a send, a delivery, a strike and a recovery.
 use Rattle.std.proofs.Common.{IfSome, IfNone, IsSome, subst, ◌≡◌, ◌≢◌, ℕ, zero, suc, ◌+◌, ◌<◌, ◌≤◌, ◌⊎◌, inl, inr, Bool, true, false, cond, ◌&&◌, ◌-◌}
 use Rattle.std.proofs.Common.{◌==◌, List, [], ◌∷◌, ◌++◌, length, map, drop, replicate, refl, sym, ap, ◌∙◌, arith, ◌||◌, Vec, Option, Some, None, slice_get, get_or, set}
-use Rattle.std.proofs.Common.{append_assoc, append-nil, below_more}
-use Rattle.std.specs.VecDeque.{deque_items, deque_len, deque_capacity}
+use Rattle.std.proofs.Common.{append_assoc, append-nil, below_more, deque_items, deque_len, deque_capacity, All}
 use Rattle.std.specs.declared.collections.VecDeque.{VecDeque}
 use Rattle.fbl_base.proofs.Gets.{get_or-same}
 use Rattle.fbl_base.proofs.RulesLaws.{eqb-self}
 use Rattle.fbl_group.specs.declared.channels.Channels.{Channels}
-use Rattle.std.specs.List.{All}
 use Rattle.std.specs.FinSet as set
 use Rattle.std.specs.Vec.{with_item}
 use Rattle.std.proofs.lemmas.Bool.{cases_lt, cases_eq, eqb-true}
 use Rattle.std.proofs.lemmas.Bool.Decides.{nat_tests}
 use Rattle.std.proofs.lemmas.List.{length-map, length-set, length-replicate, map-append, map-set, get_or-map, get_or_append_left, get_or_push, get_or_default, get_or-set_same, get_or-set_other, length_push, set-get_or}
+use Rattle.std.proofs.lemmas.List.Elements.{filter-append}
 use Rattle.fbl_base.specs.MemberSets.{Members}
 use Rattle.fbl_base.specs.declared.trace.Note.{Note}
 use Rattle.fbl_base.specs.declared.trace.Event.{Event}
@@ -20,7 +19,7 @@ use Rattle.fbl_base.specs.declared.trace.Event.TheVariants.{Receipt}
 use Rattle.fbl_base.specs.Fold.{step_events}
 use Rattle.fbl_table.specs.declared.entry.Entry.{Entry}
 use Rattle.fbl_member.specs.Members.{Message, messages_from}
-use Rattle.fbl_law.specs.Steps.{between, taken_off}
+use Rattle.fbl_law.specs.Steps.{between, is_on, taken_off}
 use Rattle.fbl_law.specs.Groups.{HasChannels, channel_in}
 use Rattle.fbl_group.specs.Channels.{rows, rooms, room_in, first_message, each, with_at, with_sent, taken_and_sent, send_of_message}
 
@@ -253,12 +252,11 @@ pub length-messages : (me before : ℕ) (carried : List Entry) (sends : List (�
 length-messages me before carried [] = refl
 length-messages me before carried (s ∷ sends) = ap suc (length-messages me (before + 1) carried sends)
 
-pub made-fits : (g : ℕ → ℕ) (me before : ℕ) (carried : List Entry) (sends given : List (ℕ × Note)) (made : List Message) → given ≡ sends
+pub made-fits : (g : ℕ → ℕ) (me before : ℕ) (carried : List Entry) {sends given : List (ℕ × Note)} {made : List Message} → given ≡ sends
     → made ≡ messages_from me before carried sends → All (λ (s : ℕ × Note). length given ≤ g s.0) given → All (λ (w : Message). length made ≤ g w.to) made
-made-fits g me before carried sends given made same is all k d below =
-    let fits = messages-to (λ t. length given ≤ g t) me before carried sends (subst (λ (xs : List (ℕ × Note)). All (λ (s : ℕ × Note). length given ≤ g s.0) xs) same all) in
-    let one = (subst (λ (ws : List Message). All (λ (w : Message). length given ≤ g w.to) ws) (sym is) fits) k d below in
-    omega (arith, one, ap length same, ap length is, length-messages me before carried sends)
+made-fits g me before carried {sends = sends} same is all k d below =
+    let fits = messages-to (λ t. length sends ≤ g t) me before carried sends (rw same at all) in
+    rw is (omega (arith, fits k d (omega (arith, below, ap length is)), length-messages me before carried sends))
 
 -- the rest of what all fit
 pub all-rest : {X : Type 0} (P : X → Type 0) (x : X) (xs : List X) → All P (x ∷ xs) → All P xs
@@ -279,17 +277,12 @@ module _ (n me : ℕ) (below : me < n) where
       let to : w.to < n = tos 0 w (omega arith) in
       sent-in made _ q p (written-shape (channel_in cs me w.to ++ w ∷ []) shape below to)
       (all-rest (λ (x : Message). x.from ≡ me) w made froms) (all-rest (λ (x : Message). x.to < n) w made tos)
-      ∙ ap (λ (c : List Message). c ++ between q p made) (put-in w q p (froms 0 w (omega arith)) shape below to)
-      ∙ append_assoc (channel_in cs q p) (between q p (w ∷ [])) (between q p made)
-      ∙ ap (λ (c : List Message). channel_in cs q p ++ c) (at (w.from == q && w.to == p))
-    where
-      at : (b : Bool) → cond b (w ∷ []) [] ++ between q p made ≡ cond b (w ∷ between q p made) (between q p made)
-      at true = refl
-      at false = refl
+      ∙ rw (put-in w q p (froms 0 w (omega arith)) shape below to, append_assoc (channel_in cs q p) (between q p (w ∷ [])) (between q p made))
+      (ap (λ (c : List Message). channel_in cs q p ++ c) (sym (filter-append (is_on q p) (w ∷ []) made)))
 
 -- the front is off its channel, and the messages made are at the ends of theirs
-module _ (n : ℕ) (cs : List (List (List Message))) (v : Message) (from to : ℕ) (made : List Message) (shape : HasChannels n cs) (below_from : from < n) (below_to : to < n) (apart : from ≢ to)
-    (of_sender : v.from ≡ from) (to_receiver : v.to ≡ to) (froms : All (λ (w : Message). w.from ≡ to) made) (tos : All (λ (w : Message). w.to < n) made) where
+module _ {n : ℕ} {cs : List (List (List Message))} (v : Message) {from to : ℕ} (made : List Message) (shape : HasChannels n cs) (below_from : from < n) (below_to : to < n)
+    (apart : from ≢ to) (of_sender : v.from ≡ from) (to_receiver : v.to ≡ to) (froms : All (λ (w : Message). w.from ≡ to) made) (tos : All (λ (w : Message). w.to < n) made) where
   abbrev taken : List (List (List Message))
   taken = with_at cs from to (drop 1 (channel_in cs from to))
 
@@ -315,15 +308,7 @@ module _ (n : ℕ) (cs : List (List (List Message))) (v : Message) (from to : �
 -- the messages of a step are its sends
 pub sends-messages : (me before : ℕ) (carried : List Entry) (sends : List (ℕ × Note)) → map send_of_message (messages_from me before carried sends) ≡ step_events me before sends
 sends-messages me before carried [] = refl
-sends-messages me before carried (s ∷ sends) = ap (λ es. send_of_message (record { from = me; to = s.0; ssn = before + 1; note = s.1; carried = carried }) ∷ es)
-    (sends-messages me (before + 1) carried sends)
-
--- the trace after a receipt and the messages of its step
-pub settled_trace : (t0 t1 t2 : List Event) (made : List Message) (me before rsn from ssn : ℕ) (carried : List Entry) (sends : List (ℕ × Note)) → t1 ≡ t0 ++ Receipt me rsn from ssn ∷ []
-    → t2 ≡ t1 ++ map send_of_message made → made ≡ messages_from me before carried sends → t2 ≡ t0 ++ Receipt me rsn from ssn ∷ step_events me before sends
-settled_trace t0 t1 t2 made me before rsn from ssn carried sends first then made_is =
-    then ∙ ap (λ (xs : List Event). xs ++ map send_of_message made) first ∙ append_assoc t0 (Receipt me rsn from ssn ∷ []) (map send_of_message made)
-    ∙ ap (λ (xs : List Event). t0 ++ Receipt me rsn from ssn ∷ xs) (ap (λ (xs : List Message). map send_of_message xs) made_is ∙ sends-messages me before carried sends)
+sends-messages me before carried (s ∷ sends) = rw (sends-messages me (before + 1) carried sends) refl
 
 -- ---- steps of the loops
 
@@ -350,17 +335,11 @@ pub room-left : (room : List (List ℕ)) (from left : ℕ) (w : Message) (rest :
     → All (λ (v : Message). suc (length rest) ≤ get_or (get_or room from []) v.to 0) (w ∷ rest)
     → All (λ (v : Message). length rest ≤ get_or (get_or (with_at room from w.to left) from []) v.to 0) rest
 room-left room from left w rest places less fits i d below =
-    let v : Message = get_or rest i d in
-    at v (fits (suc i) d (omega (arith, below))) (at-in 0 room from w.to left places from v.to) (from == from && w.to == v.to) refl
+    at (cases_eq (get_or rest i d).to w.to)
   where
-    first : suc (length rest) ≤ get_or (get_or room from []) w.to 0
-    first = fits 0 w (omega arith)
-
-    at : (v : Message) → suc (length rest) ≤ get_or (get_or room from []) v.to 0 → get_or (get_or (with_at room from w.to left) from []) v.to 0 ≡ cond (from == from && w.to == v.to) left
-        (get_or (get_or room from []) v.to 0)
-        → (b : Bool) → (from == from && w.to == v.to) ≡ b → length rest ≤ get_or (get_or (with_at room from w.to left) from []) v.to 0
-    at v fit read true is = (let now = (rw is at read) in omega (arith, now, less, first))
-    at v fit read false is = (let now = (rw is at read) in omega (arith, now, fit))
+    at : ((get_or rest i d).to ≡ w.to) ⊎ ((get_or rest i d).to ≢ w.to) → length rest ≤ get_or (get_or (with_at room from w.to left) from []) (get_or rest i d).to 0
+    at (inl same) = rw (same, at-here 0 room from w.to left places) (omega (arith, less, fits 0 w (omega arith)))
+    at (inr other) = rw (at-else 0 room from w.to left places from (get_or rest i d).to (inr other)) (omega (arith, fits (suc i) d (omega (arith, below))))
 
 -- a channel that a send needs is there, whatever room was made on others
 pub listed : {old now : List (List (List Message))} {from : ℕ} {s : ℕ × Note} (sends : List (ℕ × Note)) {i : ℕ} → now ≡ old → from < length old

@@ -1,7 +1,6 @@
 -- When a strike is refused, and what it leaves.
 use Rattle.std.proofs.Common.{subst, ◌≡◌, ◌≢◌, ℕ, suc, ◌+◌, ◌<◌, ◌≤◌, ◌==◌, ◌&&◌, ◌||◌, not, Bool, true, false, cond, List, [], ◌∷◌, length}
-use Rattle.std.proofs.Common.{map, inl, inr, ◌⊎◌, Option, Some, None, refl, sym, ap, ◌∙◌, arith, slice_get}
-use Rattle.std.specs.Prelude.{nat_lt, count_by, slice_index_or}
+use Rattle.std.proofs.Common.{map, inl, inr, ◌⊎◌, Option, Some, None, refl, sym, ap, ◌∙◌, arith, slice_get, nat_lt, count_by, slice_index_or, option_map}
 use Rattle.std.specs.List.{filter, list_any, list_all, cons_option}
 use Rattle.std.specs.Ordering.{nat_cmp, eq_by_cmp}
 use Rattle.std.specs.Cmp.{unsigned_tied, nat_cmp_total}
@@ -9,7 +8,6 @@ use Rattle.std.specs.FinSet as sets
 use Rattle.std.proofs.lemmas.Bool.{cases_Bool, cases_lt, false≢true, false_from_ne_true, true_from_ne_false}
 use Rattle.std.proofs.Math.Bool.{or-true}
 use Rattle.std.proofs.lemmas.Bool.Decides.{nat_tests}
-use Rattle.std.specs.Option.{option_map}
 use Rattle.std.proofs.lemmas.Option.{slice_get-map}
 use Rattle.std.proofs.lemmas.List.Sums.{sum_by-cons}
 use Rattle.fbl_base.specs.declared.trace.Determinant.{Determinant}

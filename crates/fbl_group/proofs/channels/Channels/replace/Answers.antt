@@ -1,5 +1,4 @@
-use Rattle.std.proofs.Common.{inr, refl, ap, ◌∙◌, arith}
-use Rattle.std.specs.VecDeque.{deque_items}
+use Rattle.std.proofs.Common.{inr, refl, ap, ◌∙◌, arith, deque_items}
 use Rattle.fbl_group.proofs.Queues.{asked_of, found, in-channels, replacing-kept, replacing-other, within_row}
 use Rattle.fbl_group.proofs.channels.Channels.replace.Goals as goal
 use Rattle.fbl_group.proofs.channels.Channels.replace.Goals.{then-has_either, else-has_either}

@@ -1,5 +1,4 @@
-use Rattle.std.proofs.Common.{◌-◌, [], length, ◌∙◌, arith}
-use Rattle.std.specs.VecDeque.{deque_len, deque_capacity}
+use Rattle.std.proofs.Common.{◌-◌, [], length, ◌∙◌, arith, deque_len, deque_capacity}
 use Rattle.fbl_group.specs.Channels.{rows, rooms}
 use Rattle.fbl_group.proofs.Queues.{at-same, found, listed, reserved-more}
 use Rattle.fbl_group.proofs.channels.Channels.reserve_from.Goals as goal

@@ -1,5 +1,4 @@
-use Rattle.std.proofs.Common.{◌++◌, subst, sym, ◌∙◌, ap, refl, List, []}
-use Rattle.std.specs.List.{filter_map}
+use Rattle.std.proofs.Common.{◌++◌, subst, sym, ◌∙◌, ap, refl, List, [], filter_map}
 use Rattle.fbl_base.specs.Configs.{IsConfig}
 use Rattle.fbl_base.specs.declared.trace.Event.{Event}
 use Rattle.fbl_base.specs.declared.trace.Start.{Start}

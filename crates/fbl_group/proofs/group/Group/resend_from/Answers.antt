@@ -1,5 +1,4 @@
-use Rattle.std.specs.VecDeque.{deque_items}
-use Rattle.std.proofs.Common.{sym, ap, ◌∙◌, arith}
+use Rattle.std.proofs.Common.{sym, ap, ◌∙◌, arith, deque_items}
 use Rattle.std.proofs.lemmas.List.{length-map}
 use Rattle.fbl_law.specs.Replaying.{working, sent_again}
 use Rattle.fbl_group.proofs.Queues.{made-none, made-mapped}

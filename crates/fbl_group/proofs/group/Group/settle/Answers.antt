@@ -49,7 +49,7 @@ take_and_send-requires-clause-receivers g c =
 
 pub take_and_send-requires-clause-room : goal.take_and_send-requires-clause-room
 take_and_send-requires-clause-room g c =
-    made-fits (λ k. room_in c.reserve_from.new.self c.args.done.now.ticket.to k) c.args.done.now.ticket.to _ _ c.args.done.now.outcome.sends.items c.as_slice-sends.result.now c.in_ok-made.made.items
+    made-fits (λ k. room_in c.reserve_from.new.self c.args.done.now.ticket.to k) c.args.done.now.ticket.to _ _
     c.as_slice-sends.ensures.value c.in_ok-made.ensures.sent c.in_ok-reserve_from.ensures.room
 
 pub take_and_send-requires-clause-trace : goal.take_and_send-requires-clause-trace

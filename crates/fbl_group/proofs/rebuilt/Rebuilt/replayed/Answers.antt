@@ -1,5 +1,4 @@
-use Rattle.std.proofs.Common.{◌≡◌, ◌-◌, arith}
-use Rattle.std.specs.Prelude.{slice_index_or}
+use Rattle.std.proofs.Common.{◌≡◌, ◌-◌, arith, slice_index_or}
 use Rattle.fbl_member.specs.Members.{blank}
 use Rattle.fbl_group.proofs.PuttingBack.{counted-more}
 use Rattle.fbl_group.proofs.rebuilt.Rebuilt.replayed.Goals as goal
