@@ -1,15 +1,15 @@
 -- Messages that are sent again.
-use Rattle.std.proofs.Common.{◌≡◌, ℕ, ◌+◌, ◌<◌, List, [], ◌∷◌, ◌++◌, length, take, Result, Ok, Err, sym, ap, ◌∙◌, subst, append_assoc}
-use Rattle.std.proofs.Common.{get_or, Option, None, Some, IfSome}
-use Rattle.std.specs.Result.{IfOk, OnOk}
+use Rattle.std.proofs.Common.{◌≡◌, ℕ, ◌+◌, ◌<◌, List, [], ◌∷◌, ◌++◌, length, take, Result, Ok, Err, sym, ap, subst, append_assoc}
+use Rattle.std.proofs.Common.{get_or}
+use Rattle.std.specs.Result.{IfOk}
 use Rattle.std.proofs.lemmas.List.{map_more}
 use Rattle.fbl_base.specs.declared.trace.Note.{Note}
 use Rattle.fbl_table.specs.declared.entry.Entry.{Entry}
 use Rattle.fbl_table.specs.Tables.{piggybacked}
-use Rattle.fbl_member.specs.Members.{Message, MemberRecord, last_from, logged_beyond}
+use Rattle.fbl_member.specs.Members.{Message}
 use Rattle.fbl_member.specs.Carried.{IsOnce}
 use Rattle.fbl_member.proofs.Once.{IsOnce-piggybacked}
-use Rattle.fbl_law.specs.Replaying.{resent, resent_to}
+use Rattle.fbl_law.specs.Replaying.{resent}
 
 -- one message more
 pub again-step : (q p i : ℕ) (carried : List Entry) (sends : List (ℕ × Note)) (d : ℕ × Note) (first : List Message) {before after : List Message} {v : Message} → i < length sends

@@ -1,6 +1,6 @@
 -- What a recovery leaves, once the records that were rebuilt are in place.
-use Rattle.std.proofs.Common.{◌||◌, ◌⊎◌, inl, inr, ◌≡◌, ◌≢◌, ℕ, ◌+◌, ◌-◌, ◌<◌, ◌≤◌, Bool, true, false, cond, List, [], ◌∷◌, length, map, refl}
-use Rattle.std.proofs.Common.{sym, ap, subst, ◌∙◌, arith, Result, Ok, Err, Fits, w64, ◌^◌, slice_index_or, count_by, is_some}
+use Rattle.std.proofs.Common.{◌||◌, ◌⊎◌, inl, inr, ◌≡◌, ℕ, ◌+◌, ◌-◌, ◌<◌, ◌≤◌, true, cond, List, [], ◌∷◌, length, map, refl}
+use Rattle.std.proofs.Common.{sym, ap, ◌∙◌, arith, Result, Ok, Err, Fits, w64, ◌^◌, slice_index_or, count_by, is_some}
 use Rattle.std.specs.List.{filter, cons_option}
 use Rattle.std.specs.Result.{OnErr}
 use Rattle.std.specs.FinSet as set
@@ -8,24 +8,22 @@ use Rattle.std.proofs.lemmas.Bool.{cases_Bool, cases_lt}
 use Rattle.std.proofs.Math.Bool.{or-true}
 use Rattle.std.proofs.lemmas.List.Sums.{sum_by-cons}
 use Rattle.fbl_base.specs.MemberSets.{Members}
-use Rattle.fbl_base.specs.Configs.{Settings}
 use Rattle.fbl_base.specs.declared.trace.Event.{Event}
 use Rattle.fbl_base.specs.declared.trace.Event.TheVariants as event
 use Rattle.fbl_base.specs.Events.{mark_of, determinant_of}
 use Rattle.fbl_base.specs.Fold.{Next}
 use Rattle.fbl_member.specs.Members.{Message, MemberRecord, blank}
 use Rattle.fbl_law.specs.Knowledge.{IsUp, IsDown}
-use Rattle.fbl_law.specs.Groups.{GroupRecord, channel_in, channel, sum_below, messages_in, member, knowledge, marks, receipts}
+use Rattle.fbl_law.specs.Groups.{GroupRecord, channel_in, channel, messages_in, member, knowledge, marks, receipts}
 use Rattle.fbl_law.specs.Sound.{IsSound}
 use Rattle.fbl_law.specs.GroupSteps.{IsRecovery}
-use Rattle.fbl_law.specs.Replaying.{is_replayed, stays_by, recovered_trace, count_in, resent_to, sent_again, working, replayed_in, IsRebuilt}
+use Rattle.fbl_law.specs.Replaying.{is_replayed, stays_by, recovered_trace, count_in, resent_to, sent_again, working, IsRebuilt}
 use Rattle.fbl_base.proofs.Sifted.{length-left}
 use Rattle.fbl_law.proofs.GroupRecovery.{recovery-keeps}
 use Rattle.fbl_law.proofs.Undone.{cut-undone}
 use Rattle.fbl_law.proofs.CutInOnePass.{recovered_trace-cut}
 use Rattle.fbl_law.proofs.ChannelCounts.{channel-outside, sum_below-agree, sent_again-agree, sent_again-short}
 use Rattle.fbl_law.proofs.ReplayLaws.{with-table, working-log, replayed_in-all, recovered_trace-rebuilt, recovery-made}
-use Rattle.fbl_group.specs.declared.answers.Recovered.{Recovered}
 use Rattle.fbl_group.specs.Recoveries.{messages_at, Recovers}
 use Rattle.fbl_group.specs.Channels.{AreReplaced}
 use Rattle.fbl_group.specs.Rebuilding.{IsReady, IsPutBack}

@@ -1,15 +1,14 @@
 -- When a checkpoint is taken, and what it leaves.
-use Rattle.std.proofs.Common.{◌≡◌, ℕ, ◌<◌, ◌==◌, not, Bool, true, false, cond, length, get_or, Some, None, refl, ap, ◌∙◌, arith}
-use Rattle.std.specs.Prelude.{nat_lt, slice_index_or, slice_set}
+use Rattle.std.proofs.Common.{◌≡◌, ℕ, ◌<◌, get_or, None, refl, ◌∙◌, arith}
+use Rattle.std.specs.Prelude.{slice_set}
 use Rattle.std.specs.FinSet as sets
 use Rattle.std.proofs.lemmas.Bool.Decides.{nat_tests}
 use Rattle.fbl_base.specs.Fold.{Next}
-use Rattle.fbl_member.specs.Members.{MemberRecord, blank}
+use Rattle.fbl_member.specs.Members.{MemberRecord}
 use Rattle.fbl_law.specs.Groups.{GroupRecord, member}
 use Rattle.fbl_law.specs.Sound.{IsCheckpointFold, IsSound}
 use Rattle.fbl_law.specs.GroupSteps.{IsCheckpoint}
 use Rattle.fbl_law.proofs.GroupCheckpoint.{group_checkpoint_keeps}
-use Rattle.fbl_group.specs.declared.refusals.CheckpointRefusal.TheVariants.{BadMember, Down}
 use Rattle.fbl_group.specs.Checkpoints.{checkpoint_refusal}
 use Rattle.fbl_group.proofs.Recovering.{read_at}
 

@@ -1,5 +1,5 @@
 -- Which refusal of a delivery, a ticket or a commit holds.
-use Rattle.std.proofs.Common.{◌≡◌, ℕ, ◌+◌, ◌<◌, Bool, true, false, ◌&&◌, ◌==◌, not, cond, length, arith, refl, sym, subst, ap, ◌∙◌, Option, Some, None, Fits, w32, get_or}
+use Rattle.std.proofs.Common.{◌≡◌, ℕ, ◌+◌, ◌<◌, Bool, true, false, ◌==◌, not, cond, length, arith, refl, sym, ap, ◌∙◌, Some, None, Fits, w32, get_or}
 use Rattle.std.specs.Prelude.{nat_lt}
 use Rattle.std.proofs.lemmas.Bool.Decides.{nat_tests}
 use Rattle.std.specs.FinSet as set
@@ -9,10 +9,9 @@ use Rattle.fbl_base.specs.declared.trace.Note.{Note}
 use Rattle.fbl_member.specs.Members.{Message, MemberRecord}
 use Rattle.fbl_law.specs.Groups.{GroupRecord, member, channel}
 use Rattle.fbl_law.specs.GroupSteps.{step_of}
-use Rattle.fbl_group.specs.declared.refusals.DeliverRefusal.{DeliverRefusal}
 use Rattle.fbl_group.specs.declared.refusals.DeliverRefusal.TheVariants as deliver
 use Rattle.fbl_group.specs.Channels.{front, front_message}
-use Rattle.fbl_group.specs.Deliveries.{deliver_refusal, of_take, of_commit, take_or_room, room_refusal, IsDeliverRefusal, IsPlanned, Delivers}
+use Rattle.fbl_group.specs.Deliveries.{deliver_refusal, of_take, of_commit, IsDeliverRefusal, IsPlanned, Delivers}
 use Rattle.fbl_group.specs.declared.answers.Receipted.{Receipted}
 use Rattle.fbl_group.specs.declared.ticket.Ticket.{Ticket}
 use Rattle.fbl_group.specs.declared.refusals.TakeRefusal.{TakeRefusal}

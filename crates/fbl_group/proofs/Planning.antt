@@ -1,12 +1,12 @@
 -- What is known of a delivery that is planned.
-use Rattle.std.proofs.Common.{Some, None, ◌≡◌, ◌≢◌, ℕ, suc, ◌+◌, ◌<◌, ◌≤◌, Bool, true, false, ◌||◌, ◌==◌, List, [], ◌∷◌, ◌++◌, length, map}
-use Rattle.std.proofs.Common.{refl, sym, subst, ap, ◌∙◌, append_assoc, arith, get_or, length-append, Fits, w32, slice_get, slice_set, nat_lt, All}
+use Rattle.std.proofs.Common.{Some, None, ◌≡◌, ◌≢◌, ℕ, suc, ◌+◌, ◌<◌, ◌≤◌, false, List, [], ◌∷◌, ◌++◌, length, map}
+use Rattle.std.proofs.Common.{refl, sym, subst, ap, ◌∙◌, append_assoc, arith, get_or, length-append, Fits, w32, slice_get, slice_set, All}
 use Rattle.std.proofs.lemmas.Bool.Decides.{nat_tests}
 use Rattle.fbl_base.specs.declared.trace.Event.{Event}
 use Rattle.fbl_base.specs.declared.trace.Event.TheVariants.{Receipt}
 use Rattle.fbl_base.specs.declared.outcome.Outcome.{Outcome}
 use Rattle.fbl_base.specs.declared.trace.Note.{Note}
-use Rattle.fbl_base.specs.Fold.{Next, step_events}
+use Rattle.fbl_base.specs.Fold.{Next}
 use Rattle.fbl_base.specs.Steps.{SendsAllowed}
 use Rattle.fbl_table.specs.declared.entry.Entry.{Entry}
 use Rattle.fbl_table.specs.Tables.{is_held, piggybacked}
@@ -21,7 +21,7 @@ use Rattle.fbl_law.proofs.GroupFacts.{all_up, receipts_fit, sends_fit, receipt_i
 use Rattle.fbl_member.specs.Carried.{IsOnce}
 use Rattle.fbl_law.proofs.DumpLaws.{carried_fits}
 use Rattle.fbl_law.proofs.GroupDelivery.{length-step_events, group_delivery_keeps}
-use Rattle.fbl_group.specs.Channels.{first_message, front_message, send_of_message, taken_and_sent}
+use Rattle.fbl_group.specs.Channels.{front_message, send_of_message, taken_and_sent}
 use Rattle.fbl_group.specs.Deliveries.{IsPlanned, Delivered}
 use Rattle.fbl_group.specs.Tickets.{has_no_room}
 use Rattle.fbl_group.proofs.Queues.{first-is, messages-from, messages-to, none-some, sends-messages, settled-in, settled-shape}

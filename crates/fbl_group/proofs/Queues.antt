@@ -1,5 +1,5 @@
 -- Channels as queues: the loops over them, and what is left of them by a send, a delivery, a strike and a recovery.
-use Rattle.std.proofs.Common.{IfSome, IfNone, IsSome, subst, ◌≡◌, ◌≢◌, ℕ, zero, suc, ◌+◌, ◌<◌, ◌≤◌, ◌⊎◌, inl, inr, Bool, true, false, cond, ◌&&◌, ◌-◌}
+use Rattle.std.proofs.Common.{IfNone, IsSome, subst, ◌≡◌, ◌≢◌, ℕ, zero, suc, ◌+◌, ◌<◌, ◌≤◌, ◌⊎◌, inl, inr, Bool, true, false, cond, ◌&&◌, ◌-◌}
 use Rattle.std.proofs.Common.{◌==◌, List, [], ◌∷◌, ◌++◌, length, map, drop, replicate, refl, sym, ap, ◌∙◌, arith, ◌||◌, Vec, Option, Some, None, slice_get, get_or, set}
 use Rattle.std.proofs.Common.{append_assoc, append-nil, below_more, deque_items, deque_len, deque_capacity, All}
 use Rattle.std.specs.declared.collections.VecDeque.{VecDeque}
@@ -14,8 +14,6 @@ use Rattle.std.proofs.lemmas.List.{length-map, length-set, length-replicate, map
 use Rattle.std.proofs.lemmas.List.Elements.{filter-append}
 use Rattle.fbl_base.specs.MemberSets.{Members}
 use Rattle.fbl_base.specs.declared.trace.Note.{Note}
-use Rattle.fbl_base.specs.declared.trace.Event.{Event}
-use Rattle.fbl_base.specs.declared.trace.Event.TheVariants.{Receipt}
 use Rattle.fbl_base.specs.Fold.{step_events}
 use Rattle.fbl_table.specs.declared.entry.Entry.{Entry}
 use Rattle.fbl_member.specs.Members.{Message, messages_from}

@@ -17,7 +17,7 @@ use Rattle.fbl_law.specs.Knowledge.{IsDown}
 use Rattle.fbl_law.specs.Steps.{gathered_all, saved_tables, recovery_table}
 use Rattle.fbl_law.specs.Groups.{GroupRecord, member_checkpoint, knowledge}
 use Rattle.fbl_law.specs.Sound.{IsSound}
-use Rattle.fbl_law.specs.Replaying.{IsNextReplay, working, IsReplaying, IsWaiting, replayed_in}
+use Rattle.fbl_law.specs.Replaying.{IsNextReplay, working, IsReplaying, IsWaiting}
 use Rattle.fbl_law.proofs.GatheredTables.{gathered_all-more, gathered_all-push}
 use Rattle.fbl_law.proofs.ReplayLaws.{replaying-start, replaying-next, replaying-room, replaying-step, replayed_in-step, replaying-tables}
 use Rattle.fbl_group.specs.Rebuilding.{AreByNumber, Tries, Rounds, HasReplayed, IsReady}

@@ -1,4 +1,4 @@
-use Rattle.std.proofs.Common.{◌≡◌, sym, arith, get_or}
+use Rattle.std.proofs.Common.{◌≡◌, sym, get_or}
 use Rattle.std.proofs.lemmas.List.Sums.{count_by_more_yes, count_by_more_no}
 use Rattle.fbl_group.specs.Strikes.{is_lost_receipt_of}
 use Rattle.fbl_group.proofs.strike.count_lost.Goals as goal

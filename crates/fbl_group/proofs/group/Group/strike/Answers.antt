@@ -1,4 +1,4 @@
-use Rattle.std.proofs.Common.{◌≡◌, None, sym, subst, refl, ◌∙◌, count_by}
+use Rattle.std.proofs.Common.{◌≡◌, subst, refl, ◌∙◌, count_by}
 use Rattle.fbl_law.specs.Groups.{GroupRecord}
 use Rattle.fbl_law.specs.GroupSteps.{IsStrike}
 use Rattle.fbl_law.proofs.Promises.{sound_has_no_orphan, sound_records_first}
