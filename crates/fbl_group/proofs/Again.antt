@@ -12,7 +12,8 @@ use Rattle.fbl_member.proofs.Once.{IsOnce-piggybacked}
 use Rattle.fbl_law.specs.Replaying.{resent}
 
 -- one message more
-pub again-step : (q p i : ℕ) (carried : List Entry) (sends : List (ℕ × Note)) (d : ℕ × Note) (first : List Message) {before after : List Message} {v : Message} → i < length sends
+pub again-step : (q p i : ℕ) (carried : List Entry) (sends : List (ℕ × Note)) (d : ℕ × Note) (first : List Message) {before after : List Message} {v : Message}
+    → i < length sends
     → before ≡ first ++ resent q p carried (take i sends) → after ≡ before ++ v ∷ []
     → v ≡ record { from = q; to = p; ssn = (get_or sends i d).0; note = (get_or sends i d).1; carried = carried }
     → after ≡ first ++ resent q p carried (take (i + 1) sends)

@@ -124,7 +124,8 @@ module _ (next : Next) {r now : GroupRecord} (view : r ≡ now) (t : Ticket) (no
     module _ (sound : IsSound next r) {place : ℕ} {x : MemberRecord} {told : Bool} (is_place : place ≡ t.to) (read : x ≡ get_or r.members place x) (told_is : told ≡ is_current x w t) where
       tells : told ≡ is_current (member r t.to) w t
       tells =
-          let of_receiver : x ≡ member r t.to = read ∙ ap (λ k. get_or r.members k x) is_place ∙ get_or_default r.members t.to x _ (omega (arith, t.ends.0, size, sound.members)) in
+          let of_receiver : x ≡ member r t.to =
+          read ∙ ap (λ k. get_or r.members k x) is_place ∙ get_or_default r.members t.to x _ (omega (arith, t.ends.0, size, sound.members)) in
           rw of_receiver at told_is
 
       pub is_stale : told ≡ false → commit_refusal next now t ≡ Some commit.Stale

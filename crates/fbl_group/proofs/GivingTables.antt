@@ -14,7 +14,8 @@ pub record Giving (down : Members) (table : List Entry) (first : List MemberReco
 
 module _ {down : Members} {table : List Entry} {first : List MemberRecord} {i : ℕ} {rebuilt : List MemberRecord} {before : List Entry}
     (so_far : Giving down table first i rebuilt before) where
-  pub give-one : {place : ℕ} {after : List Entry} {x y : MemberRecord} → place ≡ i → i < length first → set.contains down i ≡ true → x ≡ slice_index_or rebuilt place x
+  pub give-one : {place : ℕ} {after : List Entry} {x y : MemberRecord} → place ≡ i → i < length first → set.contains down i ≡ true
+      → x ≡ slice_index_or rebuilt place x
       → y ≡ record x { table = before } → ((p : ℕ) → i < p → set.contains down p ≡ true → after ≡ before) → Giving down table first (i + 1) (slice_set rebuilt place y) after
   give-one is_place below here read made stays =
       let was = read_at rebuilt is_place (omega (arith, so_far.turned.size, below)) read ∙ so_far.turned.rest i (omega arith) in

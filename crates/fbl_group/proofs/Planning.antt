@@ -149,7 +149,8 @@ module _ {next : Next} {r now : GroupRecord} {q p : ℕ} {outcome : Outcome} (we
         module _ {after_rows : List (List (List Message))} {f ssn rsn : ℕ} {after : MemberRecord} {made : List Message} {reserved pushed trace : List Event}
             (received : after ≡ received_by p x w outcome) (sent : made ≡ messages_from p (length x.log) (piggybacked f after.table) outcome.sends.items)
             (f_is : f ≡ r.config.f) (ssn_is : ssn ≡ w.ssn) (rsn_is : rsn ≡ after.received) (kept : reserved ≡ r.trace)
-            (receipt : pushed ≡ reserved ++ Receipt p rsn q ssn ∷ []) (sends : trace ≡ pushed ++ map send_of_message made) (moved : after_rows ≡ taken_and_sent cs q p made) where
+            (receipt : pushed ≡ reserved ++ Receipt p rsn q ssn ∷ []) (sends : trace ≡ pushed ++ map send_of_message made)
+            (moved : after_rows ≡ taken_and_sent cs q p made) where
           abbrev new : GroupRecord
           new = record r { members = slice_set r.members place after; channels = after_rows; trace = trace; receipts_ever = r.receipts_ever + 1 }
 
@@ -213,7 +214,8 @@ module _ {next : Next} {r now : GroupRecord} {q p : ℕ} {outcome : Outcome} (we
           is_sound = group_delivery_keeps next r new v well is_delivery sound
 
           -- what the delivery answers
-          pub is_delivered : {carried : List Entry} → carried ≡ w.carried → Delivered next now new (front_message now q p) (record { rsn = rsn; carried = length carried; state = outcome.state })
+          pub is_delivered : {carried : List Entry} → carried ≡ w.carried
+              → Delivered next now new (front_message now q p) (record { rsn = rsn; carried = length carried; state = outcome.state })
           is_delivered {carried = carried} is = subst (λ (old : GroupRecord).
               Delivered next old new (front_message old q p) (record { rsn = rsn; carried = length carried; state = outcome.state })) view (record {
                 delivery = is_delivery;

@@ -20,7 +20,8 @@ pub record Putting (down : Members) (given old : List MemberRecord) (i : ℕ) (m
   pub left : Turned blank (λ m x. Unit {0}) i given rebuilt
 
 module _ {down : Members} {given old : List MemberRecord} {i : ℕ} {members rebuilt : List MemberRecord} (so_far : Putting down given old i members rebuilt) where
-  pub put-down : {place : ℕ} {x : MemberRecord} (y : MemberRecord) → place ≡ i → i < length old → i < length given → set.contains down i ≡ true → x ≡ get_or rebuilt place x
+  pub put-down : {place : ℕ} {x : MemberRecord} (y : MemberRecord) → place ≡ i → i < length old → i < length given → set.contains down i ≡ true
+      → x ≡ get_or rebuilt place x
       → Putting down given old (i + 1) (slice_set members place x) (slice_set rebuilt place y)
   put-down y is_place below within is read = record {
     turned = turned-set so_far.turned is_place below

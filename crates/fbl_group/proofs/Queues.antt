@@ -1,8 +1,10 @@
 -- Channels as queues: the loops over them, and what is left of them by a send, a delivery, a strike and a recovery.
-use Rattle.std.proofs.Common.{IfNone, IsSome, subst, ◌≡◌, ◌≢◌, ℕ, zero, suc, ◌+◌, ◌<◌, ◌≤◌, ◌⊎◌, inl, inr, Bool, true, false, cond, ◌&&◌, ◌-◌}
+use Rattle.std.proofs.Common.{IfNone, IsSome, subst, ◌≡◌, ◌≢◌, ℕ, zero, suc, ◌+◌, ◌<◌, ◌≤◌, ◌⊎◌, inl, inr, Bool, true, false, cond, ◌&&◌}
+use Rattle.std.proofs.Common.{◌-◌}
 use Rattle.std.proofs.Common.{◌==◌, List, [], ◌∷◌, ◌++◌, length, map, drop, replicate, refl, sym, ap, ◌∙◌, arith, ◌||◌, Vec, Option, Some, None, slice_get, get_or, set}
 use Rattle.std.proofs.Common.{append_assoc, append-nil, below_more, deque_items, deque_len, deque_capacity, All}
 use Rattle.std.specs.declared.collections.VecDeque.{VecDeque}
+use Rattle.std.proofs.lemmas.List.{get_or-replicate}
 use Rattle.fbl_base.proofs.Gets.{get_or-same}
 use Rattle.fbl_base.proofs.RulesLaws.{eqb-self}
 use Rattle.fbl_group.specs.declared.channels.Channels.{Channels}
@@ -10,7 +12,8 @@ use Rattle.std.specs.FinSet as set
 use Rattle.std.specs.Vec.{with_item}
 use Rattle.std.proofs.lemmas.Bool.{cases_lt, cases_eq, eqb-true}
 use Rattle.std.proofs.lemmas.Bool.Decides.{nat_tests}
-use Rattle.std.proofs.lemmas.List.{length-map, length-set, length-replicate, map-append, map-set, get_or-map, get_or_append_left, get_or_push, get_or_default, get_or-set_same, get_or-set_other, length_push, set-get_or}
+use Rattle.std.proofs.lemmas.List.{length-map, length-set, length-replicate, map-append, map-set, get_or-map, get_or_append_left, get_or_push, get_or_default, get_or-set_same}
+use Rattle.std.proofs.lemmas.List.{get_or-set_other, length_push, set-get_or}
 use Rattle.std.proofs.lemmas.List.Elements.{filter-append}
 use Rattle.fbl_base.specs.MemberSets.{Members}
 use Rattle.fbl_base.specs.declared.trace.Note.{Note}
@@ -61,7 +64,8 @@ pub record Turned {X : Type 0} (d : X) (Wanted : ℕ → X → Type 0) (i : ℕ)
   pub done : (m : ℕ) → m < i → Wanted m (get_or xs m d)
   pub rest : (m : ℕ) → i ≤ m → get_or xs m d ≡ get_or old m d
 
-pub turned-set : {X : Type 0} {d : X} {Wanted : ℕ → X → Type 0} {i place : ℕ} {old xs : List X} {x : X} → Turned d Wanted i old xs → place ≡ i → i < length old → Wanted i x
+pub turned-set : {X : Type 0} {d : X} {Wanted : ℕ → X → Type 0} {i place : ℕ} {old xs : List X} {x : X} → Turned d Wanted i old xs → place ≡ i
+    → i < length old → Wanted i x
     → Turned d Wanted (i + 1) old (set xs place x)
 turned-set {d = d} {Wanted = Wanted} {i = i} {place = place} {xs = xs} {x = x} turned same within wanted = record {
   size = length-set xs place x ∙ turned.size;
@@ -70,7 +74,8 @@ turned-set {d = d} {Wanted = Wanted} {i = i} {place = place} {xs = xs} {x = x} t
   rest = λ m past. get_or-set_other xs place m x d (λ e. absurd (omega (arith, e, same, past))) ∙ turned.rest m (omega (arith, past));
 }
 
-pub turned-kept : {X : Type 0} {d : X} {Wanted : ℕ → X → Type 0} {i : ℕ} {old xs : List X} → Turned d Wanted i old xs → Wanted i (get_or old i d) → Turned d Wanted (i + 1) old xs
+pub turned-kept : {X : Type 0} {d : X} {Wanted : ℕ → X → Type 0} {i : ℕ} {old xs : List X} → Turned d Wanted i old xs → Wanted i (get_or old i d)
+    → Turned d Wanted (i + 1) old xs
 turned-kept {d = d} {Wanted = Wanted} {i = i} {xs = xs} turned wanted = record {
   size = turned.size;
   done = below_more (λ m. Wanted m (get_or xs m d)) i turned.done (rw (turned.rest i (omega arith)) wanted);
@@ -135,7 +140,8 @@ pub record Found {A : Type 0} (channels : Channels A) (i j q p : ℕ) (row : Vec
   pub messages : deque_items one ≡ channel_in (rows channels) q p
   pub room : spare one ≡ room_in channels q p
   pub in_room : (q < length (rooms channels)) × (p < length (get_or (rooms channels) q []))
-  pub changed : (new : Queue A) {vs : List Message} → deque_items new ≡ vs → each deque_items (set channels.rows.items i (with_item row j new)) ≡ with_at (rows channels) q p vs
+  pub changed : (new : Queue A) {vs : List Message} → deque_items new ≡ vs
+      → each deque_items (set channels.rows.items i (with_item row j new)) ≡ with_at (rows channels) q p vs
   pub room_set : (new : Queue A) → each spare (set channels.rows.items i (with_item row j new)) ≡ with_at (rooms channels) q p (spare new)
 
 -- whatever is seen of them, it stands at as many places
@@ -153,7 +159,8 @@ module _ {A : Type 0} (channels : Channels A) {i j q p : ℕ} {row : Vec (Queue 
   row-is : {X : Type 0} (seen : Queue A → X) → map seen row.items ≡ get_or (each seen all) q []
   row-is seen =
       ap (λ (r : Vec (Queue A) A). map seen r.items) read_row
-      ∙ sym (get_or-map (λ (r : Vec (Queue A) A). map seen r.items) all i row [] (omega (arith, is_q, places.0, length-map all (λ (r : Vec (Queue A) A). map deque_items r.items))))
+      ∙ sym (get_or-map (λ (r : Vec (Queue A) A). map seen r.items) all i row []
+      (omega (arith, is_q, places.0, length-map all (λ (r : Vec (Queue A) A). map deque_items r.items))))
       ∙ ap (λ k. get_or (each seen all) k []) is_q
 
   -- the channel has a place in its row
@@ -190,13 +197,8 @@ module _ {A : Type 0} (channels : Channels A) {i j q p : ℕ} {row : Vec (Queue 
 pub none-shape : (n : ℕ) (cs : List (List (List Message))) → cs ≡ replicate n (replicate n []) → HasChannels n cs
 none-shape n cs is = rw is (record {
   senders = length-replicate n (replicate n []);
-  receivers = λ q below. row n q below;
+  receivers = λ q below. rw (get_or-replicate n q (replicate {A = List Message} n []) [] below) (length-replicate n []);
 })
-  where
-    row : (k q : ℕ) → q < k → length (get_or {A = List (List Message)} (replicate k (replicate n [])) q []) ≡ n
-    row zero q below = absurd (omega arith)
-    row (suc k) zero below = length-replicate n []
-    row (suc k) (suc q) below = row k q (omega (arith, below))
 
 pub none-in : (n : ℕ) (cs : List (List (List Message))) (q p : ℕ) → cs ≡ replicate n (replicate n []) → channel_in cs q p ≡ []
 none-in n cs q p is = rw is (at n q) where
@@ -280,7 +282,8 @@ module _ (n me : ℕ) (below : me < n) where
 
 -- the front is off its channel, and the messages made are at the ends of theirs
 module _ {n : ℕ} {cs : List (List (List Message))} (v : Message) {from to : ℕ} (made : List Message) (shape : HasChannels n cs) (below_from : from < n) (below_to : to < n)
-    (apart : from ≢ to) (of_sender : v.from ≡ from) (to_receiver : v.to ≡ to) (froms : All (λ (w : Message). w.from ≡ to) made) (tos : All (λ (w : Message). w.to < n) made) where
+    (apart : from ≢ to) (of_sender : v.from ≡ from) (to_receiver : v.to ≡ to)
+    (froms : All (λ (w : Message). w.from ≡ to) made) (tos : All (λ (w : Message). w.to < n) made) where
   abbrev taken : List (List (List Message))
   taken = with_at cs from to (drop 1 (channel_in cs from to))
 
@@ -295,7 +298,8 @@ module _ {n : ℕ} {cs : List (List (List Message))} (v : Message) {from to : �
 
   taken-in : (q p : ℕ) → channel_in taken q p ≡ taken_off v q p (channel_in cs q p)
   taken-in q p = rw (of_sender, to_receiver) (written-in (drop 1 (channel_in cs from to)) shape below_from below_to q p ∙ at (from == q) (to == p) refl refl) where
-    at : (a b : Bool) → (from == q) ≡ a → (to == p) ≡ b → cond (a && b) (drop 1 (channel_in cs from to)) (channel_in cs q p) ≡ cond (a && b) (drop 1 (channel_in cs q p)) (channel_in cs q p)
+    at : (a b : Bool) → (from == q) ≡ a → (to == p) ≡ b
+        → cond (a && b) (drop 1 (channel_in cs from to)) (channel_in cs q p) ≡ cond (a && b) (drop 1 (channel_in cs q p)) (channel_in cs q p)
     at true true ea eb = rw (eqb-true from q ea, eqb-true to p eb) refl
     at true false ea eb = refl
     at false b ea eb = refl
@@ -345,8 +349,8 @@ pub listed : {old now : List (List (List Message))} {from : ℕ} {s : ℕ × Not
 listed {s = s} sends {i = i} same below fits within read = rw same (below, omega (arith, fits i s within, ap (λ (x : ℕ × Note). x.0) read))
 
 -- room is made for one send more
-pub reserved-more : (room : List (List ℕ)) (from left need i : ℕ) (s : ℕ × Note) (sends : List (ℕ × Note)) (places : (from < length room) × (s.0 < length (get_or room from []))) → need ≤ left
-    → i < length sends → s ≡ get_or sends i s → ((j : ℕ) (d : ℕ × Note) → j < i → need ≤ get_or (get_or room from []) (get_or sends j d).0 0)
+pub reserved-more : (room : List (List ℕ)) (from left need i : ℕ) (s : ℕ × Note) (sends : List (ℕ × Note))
+    (places : (from < length room) × (s.0 < length (get_or room from []))) → need ≤ left → i < length sends → s ≡ get_or sends i s → ((j : ℕ) (d : ℕ × Note) → j < i → need ≤ get_or (get_or room from []) (get_or sends j d).0 0)
     → (j : ℕ) (d : ℕ × Note) → j < i + 1 → need ≤ get_or (get_or (with_at room from s.0 left) from []) (get_or sends j d).0 0
 reserved-more room from left need i s sends places made below read so_far j d less = at (get_or sends j d).0 (cases_eq (get_or sends j d).0 s.0) (cases_lt j i) refl where
   at : (to : ℕ) → (to ≡ s.0) ⊎ (to ≢ s.0) → (j < i) ⊎ (i ≤ j) → (get_or sends j d).0 ≡ to → need ≤ get_or (get_or (with_at room from s.0 left) from []) to 0
@@ -364,7 +368,8 @@ pub record Replacing (n : ℕ) (s : Members) (by : ℕ → ℕ → List Message)
   pub done : (q p : ℕ) → q < n → p < n → (q < i) ⊎ ((q ≡ i) × (p < j)) → channel_in now q p ≡ cond (set.contains s q || set.contains s p) (by q p) (channel_in old q p)
   pub rest : (q p : ℕ) → (i < q) ⊎ ((q ≡ i) × (j ≤ p)) → channel_in now q p ≡ channel_in old q p
 
-module _ {n : ℕ} {s : Members} {by : ℕ → ℕ → List Message} {old now : List (List (List Message))} {i j : ℕ} (so_far : Replacing n s by old now i j) (below_i : i < n) (below_j : j < n) where
+module _ {n : ℕ} {s : Members} {by : ℕ → ℕ → List Message} {old now : List (List (List Message))} {i j : ℕ}
+    (so_far : Replacing n s by old now i j) (below_i : i < n) (below_j : j < n) where
   place : (i < length now) × (j < length (get_or now i []))
   place = in-channels so_far.shape below_i below_j
 
@@ -397,7 +402,8 @@ module _ {n : ℕ} {s : Members} {by : ℕ → ℕ → List Message} {old now : 
           at-else [] now i j x place q p (inl oq) ∙ so_far.done q p below_q below_p (earlier q p early (inl oq))
 
   -- a channel with an end in the set is another now, and one with none stays
-  pub replacing-other : {b : Bool} {x : List Message} → b ≡ (set.contains s i || set.contains s j) → b ≡ true → x ≡ by i j → Replacing n s by old (with_at now i j x) i (j + 1)
+  pub replacing-other : {b : Bool} {x : List Message} → b ≡ (set.contains s i || set.contains s j) → b ≡ true → x ≡ by i j
+      → Replacing n s by old (with_at now i j x) i (j + 1)
   replacing-other tested either is = replacing-set (is ∙ sym (ap (λ b. cond b (by i j) (channel_in old i j)) (sym tested ∙ either)))
 
   pub replacing-kept : {b : Bool} → b ≡ (set.contains s i || set.contains s j) → b ≡ false → Replacing n s by old now i (j + 1)
@@ -406,5 +412,6 @@ module _ {n : ℕ} {s : Members} {by : ℕ → ℕ → List Message} {old now : 
       (replacing-set (so_far.rest i j (inr (refl, omega arith)) ∙ sym (ap (λ b. cond b (by i j) (channel_in old i j)) (sym tested ∙ neither))))
 
 -- whether an end of a channel is in the set, asked of its members by number
-pub asked_of : (s : Members) {q p a b : ℕ} {told : Bool} → told ≡ (set.contains s a || set.contains s b) → a ≡ q → b ≡ p → told ≡ (set.contains s q || set.contains s p)
+pub asked_of : (s : Members) {q p a b : ℕ} {told : Bool} → told ≡ (set.contains s a || set.contains s b) → a ≡ q → b ≡ p
+    → told ≡ (set.contains s q || set.contains s p)
 asked_of s told is_q is_p = cc

@@ -1,11 +1,12 @@
 -- What a group is made of at its start.
-use Rattle.std.proofs.Common.{◌≡◌, ◌≢◌, ◌⊎◌, inl, inr, ℕ, zero, suc, ◌+◌, ◌<◌, ◌==◌, cond, List, [], ◌∷◌, ◌++◌, length, map, take, drop, get_or, Option, Some, None, refl}
-use Rattle.std.proofs.Common.{sym, ap, ◌∙◌, arith, append_assoc, slice_index, slice_index_or, slice_set, count_by}
+use Rattle.std.proofs.Common.{◌≡◌, ◌≢◌, ◌⊎◌, inl, inr, ℕ, zero, suc, ◌+◌, ◌<◌, ◌==◌, cond, List, [], ◌∷◌, ◌++◌, length, map, take, drop}
+use Rattle.std.proofs.Common.{get_or, Option, Some, None, refl}
+use Rattle.std.proofs.Common.{sym, ap, ◌∙◌, arith, append_assoc, slice_get, slice_index, slice_index_or, slice_set, count_by}
 use Rattle.std.specs.List.{filter_map, cons_option, IsDistinct}
 use Rattle.std.proofs.lemmas.Bool.{cases_eq}
-use Rattle.std.proofs.lemmas.List.{map-append, length-map, get_or-map, get_or-set_same, get_or-set_other, take_more}
+use Rattle.std.proofs.lemmas.List.{map-append, get_or-set_same, get_or-set_other, take_more}
 use Rattle.std.proofs.lemmas.List.Elements.{filter-append, filter_map-append}
-use Rattle.std.proofs.lemmas.Option.{slice_get-get_or}
+use Rattle.std.proofs.lemmas.Option.{slice_get-get_or, slice_get-map}
 use Rattle.std.proofs.lemmas.List.Sums.{sum_by-append}
 use Rattle.fbl_base.specs.declared.trace.Note.{Note}
 use Rattle.fbl_base.specs.declared.trace.Start.{Start}
@@ -58,14 +59,16 @@ counts-more done sent from to note counts places within m below = rw (sends-more
 -- the message of an event that obeys the rules goes from a member to a member
 pub event-ends : (n : ℕ) (events : List Event) (i : ℕ) {e : Event} {w : Message} → WellFormed n (map mark_of events) → i < length events → e ≡ get_or events i e
     → message_of_send e ≡ Some w → (w.from < n) × (w.to < n)
-event-ends n events i {e = e} {w = w} obeys below read is = at e is (obeys i (mark_of e) (slice_get-get_or (map mark_of events) i (mark_of e) (omega (arith, below, length-map events mark_of))
-    ∙ ap (λ m. Some m) (get_or-map mark_of events i e (mark_of e) below ∙ ap mark_of (sym read)))) where
-      at : (x : Event) → message_of_send x ≡ Some w → MayFollow n (take i (map mark_of events)) (mark_of x) → (w.from < n) × (w.to < n)
-      at (Send from ssn to note) is may =
-          let sender : from ≡ w.from = cc in
-          let receiver : to ≡ w.to = cc in
-          (omega (arith, sender, may.0), omega (arith, receiver, may.1))
-      at (Receipt to rsn from ssn) is may = absurd cc
+event-ends n events i {e = e} {w = w} obeys below read is = at e is (obeys i (mark_of e) there) where
+  there : slice_get (map mark_of events) i ≡ Some (mark_of e)
+  there = rw (slice_get-map mark_of events i, slice_get-get_or events i e below, ← read) refl
+
+  at : (x : Event) → message_of_send x ≡ Some w → MayFollow n (take i (map mark_of events)) (mark_of x) → (w.from < n) × (w.to < n)
+  at (Send from ssn to note) is may =
+      let sender : from ≡ w.from = cc in
+      let receiver : to ≡ w.to = cc in
+      (omega (arith, sender, may.0), omega (arith, receiver, may.1))
+  at (Receipt to rsn from ssn) is may = absurd cc
 
 -- one event more: its message is at the end of its channel
 pub sent-more : (q p : ℕ) {n : ℕ} (first : List (List (List Message))) {before after : List (List (List Message))} (events : List Event) (i : ℕ) {e : Event} {w : Message}
@@ -79,7 +82,8 @@ sent-more q p first events i {e = e} {w = w} shape from to below read is put was
     (put-in w q p refl shape from to ∙ rw (was, append_assoc (channel_in first q p) (between q p sent) (between q p (w ∷ []))) refl)
 
 -- an event that sends nothing leaves the channels
-pub sent-none : (q p : ℕ) (first before : List (List (List Message))) (events : List Event) (i : ℕ) {e : Event} → i < length events → e ≡ get_or events i e → message_of_send e ≡ None
+pub sent-none : (q p : ℕ) (first before : List (List (List Message))) (events : List Event) (i : ℕ) {e : Event} → i < length events → e ≡ get_or events i e
+    → message_of_send e ≡ None
     → channel_in before q p ≡ channel_in first q p ++ between q p (filter_map message_of_send (take i events))
     → channel_in before q p ≡ channel_in first q p ++ between q p (filter_map message_of_send (take (i + 1) events))
 sent-none q p first before events i {e = e} below read is was = rw (sifted_none (is_on q p) message_of_send events i e below read is) was

@@ -9,7 +9,9 @@ use Rattle.std.proofs.lemmas.Bool.{cases_Bool, cases_lt, false≢true, false_fro
 use Rattle.std.proofs.Math.Bool.{or-true}
 use Rattle.std.proofs.lemmas.Bool.Decides.{nat_tests}
 use Rattle.std.proofs.lemmas.Option.{slice_get-map}
-use Rattle.std.proofs.lemmas.List.Sums.{sum_by-cons}
+use Rattle.std.proofs.lemmas.List.{get_or_default}
+use Rattle.std.proofs.lemmas.List.Folds.{Any-from_list_any, list_any-from_Any}
+use Rattle.std.proofs.lemmas.List.Sums.{AllPass-from_list_all, list_all-from_AllPass, sum_by-cons}
 use Rattle.fbl_base.specs.declared.trace.Determinant.{Determinant}
 use Rattle.fbl_base.specs.declared.trace.Event.{Event}
 use Rattle.fbl_base.specs.declared.trace.Event.TheVariants as event
@@ -32,32 +34,20 @@ use Rattle.fbl_group.specs.Channels.{AreReplaced}
 use Rattle.fbl_group.specs.Strikes.{is_within, strike_refusal, lost_receipts, is_lost_receipt_of, IsBlanked}
 
 -- the test of who is below n
-all_below : (n : ℕ) (ks : List ℕ) → ((q : ℕ) → list_any (eq_by_cmp nat_cmp q) ks ≡ true → q < n) → list_all (λ m. nat_lt m n) ks ≡ true
-all_below n [] below = refl
-all_below n (k ∷ ks) below =
-    let tie : eq_by_cmp nat_cmp k k ≡ true = unsigned_tied k k ∙ eqb-self k in
-    let first : k < n = below k (ap (λ b. b || list_any (eq_by_cmp nat_cmp k) ks) tie) in
-    let is : nat_lt k n ≡ true = grind (arith, nat_tests) in
-    rw is (all_below n ks (λ q among. below q (rw among (or-true (eq_by_cmp nat_cmp q k)))))
-
-below_all : (n : ℕ) (ks : List ℕ) → list_all (λ m. nat_lt m n) ks ≡ true → (q : ℕ) → list_any (eq_by_cmp nat_cmp q) ks ≡ true → q < n
-below_all n [] all q among = cc
-below_all n (k ∷ ks) all q among = at (nat_lt k n) (eq_by_cmp nat_cmp q k) refl refl all among (below_all n ks) where
-  at : (a b : Bool) → nat_lt k n ≡ a → eq_by_cmp nat_cmp q k ≡ b → (a && list_all (λ m. nat_lt m n) ks) ≡ true
-      → (b || list_any (eq_by_cmp nat_cmp q) ks) ≡ true → (list_all (λ m. nat_lt m n) ks ≡ true → (q : ℕ) → list_any (eq_by_cmp nat_cmp q) ks ≡ true → q < n) → q < n
-  at false b ea eb all among rest = cc
-  at true true ea eb all among rest =
-      let same : (q == k) ≡ true = sym (unsigned_tied q k) ∙ eb in
-      let equal : q ≡ k = grind (arith, nat_tests) in
-      let below : k < n = grind (arith, nat_tests) in
-      omega (arith, equal, below)
-  at true false ea eb all among rest = rest all q among
-
 within-below : (s : Members) (n : ℕ) → is_within s n ≡ true → AllBelow s n
-within-below s n within q among = below_all n (sets.items s) within q (sym (sets.contains-items s q) ∙ among)
+within-below s n within q among =
+    let one = Any-from_list_any (eq_by_cmp nat_cmp q) (sets.items s) (sym (sets.contains-items s q) ∙ among) in
+    let below : nat_lt one.1 n ≡ true = rw one.3 at (AllPass-from_list_all (λ m. nat_lt m n) (sets.items s) within one.0 one.1 one.2) in
+    let same : (q == one.1) ≡ true = sym (unsigned_tied q one.1) ∙ one.4 in
+    grind (arith, nat_tests)
 
 below-within : (s : Members) (n : ℕ) → AllBelow s n → is_within s n ≡ true
-below-within s n below = all_below n (sets.items s) (λ q among. below q (sets.contains-items s q ∙ among))
+below-within s n below = list_all-from_AllPass (λ m. nat_lt m n) (sets.items s) (λ k d less.
+    let m : ℕ = slice_index_or (sets.items s) k d in
+    let itself : eq_by_cmp nat_cmp m m ≡ true = unsigned_tied m m ∙ eqb-self m in
+    let among = list_any-from_Any (eq_by_cmp nat_cmp m) (sets.items s) (k, m, less, get_or_default (sets.items s) k m d less, itself) in
+    let within : m < n = below m (sets.contains-items s m ∙ among) in
+    grind (arith, nat_tests))
 
 not-below : (s : Members) (n : ℕ) → ¬ (AllBelow s n) → is_within s n ≡ false
 not-below s n not_all = false_from_ne_true (is_within s n) (λ is. not_all (within-below s n is))
@@ -149,7 +139,8 @@ module _ {next : Next} {old : GroupRecord} (new : GroupRecord) {struck : Members
   -- a channel with an end that was down before was empty before
   emptied_now : (q p : ℕ) → IsDown (knowledge new) q ⊎ IsDown (knowledge new) p → channel new q p ≡ []
   emptied_now q p ends = at (cases_Bool (sets.contains struck q)) (cases_Bool (sets.contains struck p)) where
-    at : (sets.contains struck q ≡ true) ⊎ (sets.contains struck q ≡ false) → (sets.contains struck p ≡ true) ⊎ (sets.contains struck p ≡ false) → channel new q p ≡ []
+    at : (sets.contains struck q ≡ true) ⊎ (sets.contains struck q ≡ false) → (sets.contains struck p ≡ true) ⊎ (sets.contains struck p ≡ false)
+        → channel new q p ≡ []
     at (inl end) either = emptied q p (inl end)
     at (inr other) (inl end) = emptied q p (inr end)
     at (inr out_q) (inr out_p) =

@@ -27,7 +27,8 @@ loop-event-preserved g c =
           let put = w.in_ok-send.ensures in
           rw w.channels-is (record {
             shape = rw put (written-shape _ c.loop-event.invariant.shape ends.0 ends.1);
-            sent = λ q p. sent-more q p (rows c.args.channels.now) c.args.events.now c.loop-event.event-index c.loop-event.invariant.shape ends.0 ends.1 c.loop-event-test.true c.event-item.is is put (c.loop-event.invariant.sent q p);
+            sent = λ q p. sent-more q p (rows c.args.channels.now) c.args.events.now c.loop-event.event-index
+                c.loop-event.invariant.shape ends.0 ends.1 c.loop-event-test.true c.event-item.is is put (c.loop-event.invariant.sent q p);
           })
       | in_default w ↦
           let is : message_of_send c.event-item.result ≡ None = sym c.message.ensures ∙ w.in_default.is in

@@ -10,10 +10,10 @@ loop-number-preserved g c =
     let asked : set.contains c.args.self.down c.loop-number.number ≡ c.has.result = ap (λ x. set.contains c.args.self.down x) (sym c.member_at.ensures) ∙ sym c.has.ensures in
     elim c.if-has.branch [
       | then-has w ↦
-          rw (w.members-is, w.records-is) (put-down c.loop-number.invariant w.swap.new.y c.from-place.ensures (omega (arith, c.loop-number-test.true, c.requires.members, c.args.members.now.ok.0))
+          rw (w.members-is, w.records-is) (put-down c.loop-number.invariant w.swap.new.y c.from-place.ensures
+          (omega (arith, c.loop-number-test.true, c.requires.members, c.args.members.now.ok.0))
           (omega (arith, c.loop-number-test.true, c.requires.records, c.args.self.records.ok.0))
-          (asked ∙ w.if-has.true)
-          (subst (λ (m : MemberRecord). m ≡ get_or c.loop-number.records.items c.from-place.result m) (sym w.swap.ensures.x_after) w.index_mut-then-has.ensures.value))
+          (asked ∙ w.if-has.true) (rw w.swap.ensures.x_after w.index_mut-then-has.ensures.value))
       | else-has w ↦
           rw (w.members-is, w.records-is) (put-up c.loop-number.invariant (asked ∙ w.if-has.false))
     ]
