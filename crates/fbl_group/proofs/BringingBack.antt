@@ -1,6 +1,6 @@
 -- What a recovery leaves, once the records that were rebuilt are in place.
-use Rattle.std.proofs.Common.{◌||◌, ◌⊎◌, inl, inr, ◌≡◌, ℕ, ◌+◌, ◌-◌, ◌<◌, ◌≤◌, true, cond, List, [], ◌∷◌, length, map, refl}
-use Rattle.std.proofs.Common.{sym, ap, ◌∙◌, arith, Result, Ok, Err, Fits, w64, ◌^◌, slice_index_or, count_by, is_some}
+use Rattle.std.proofs.Common.{◌||◌, ◌⊎◌, inl, inr, ◌≡◌, ℕ, ◌+◌, ◌-◌, ◌<◌, ◌≤◌, true, cond, List, [], ◌∷◌, length, map, refl, sym, ap}
+use Rattle.std.proofs.Common.{◌∙◌, arith, Result, Ok, Err, Fits, w64, ◌^◌, slice_index_or, count_by, is_some}
 use Rattle.std.specs.List.{filter, cons_option}
 use Rattle.std.specs.Result.{OnErr}
 use Rattle.std.specs.FinSet as set

@@ -1,10 +1,10 @@
 -- Channels as queues: the loops over them, and what is left of them by a send, a delivery, a strike and a recovery.
 use Rattle.std.proofs.Common.{IfNone, IsSome, subst, ◌≡◌, ◌≢◌, ℕ, zero, suc, ◌+◌, ◌<◌, ◌≤◌, ◌⊎◌, inl, inr, Bool, true, false, cond, ◌&&◌}
-use Rattle.std.proofs.Common.{◌-◌}
-use Rattle.std.proofs.Common.{◌==◌, List, [], ◌∷◌, ◌++◌, length, map, drop, replicate, refl, sym, ap, ◌∙◌, arith, ◌||◌, Vec, Option, Some, None, slice_get, get_or, set}
-use Rattle.std.proofs.Common.{append_assoc, append-nil, below_more, deque_items, deque_len, deque_capacity, All}
+use Rattle.std.proofs.Common.{◌-◌, ◌==◌, List, [], ◌∷◌, ◌++◌, length, map, drop, replicate, refl, sym, ap, ◌∙◌, arith, ◌||◌, Vec, Option, Some, None}
+use Rattle.std.proofs.Common.{slice_get, get_or, set, append_assoc, append-nil, below_more, deque_items, deque_len, deque_capacity, All}
 use Rattle.std.specs.declared.collections.VecDeque.{VecDeque}
-use Rattle.std.proofs.lemmas.List.{get_or-replicate}
+use Rattle.std.proofs.lemmas.List.{get_or-replicate, length-map, length-set, length-replicate, map-append, map-set, get_or-map, get_or_append_left, get_or_push, get_or_default}
+use Rattle.std.proofs.lemmas.List.{get_or-set_same, get_or-set_other, length_push, set-get_or}
 use Rattle.fbl_base.proofs.Gets.{get_or-same}
 use Rattle.fbl_base.proofs.RulesLaws.{eqb-self}
 use Rattle.fbl_group.specs.declared.channels.Channels.{Channels}
@@ -12,8 +12,6 @@ use Rattle.std.specs.FinSet as set
 use Rattle.std.specs.Vec.{with_item}
 use Rattle.std.proofs.lemmas.Bool.{cases_lt, cases_eq, eqb-true}
 use Rattle.std.proofs.lemmas.Bool.Decides.{nat_tests}
-use Rattle.std.proofs.lemmas.List.{length-map, length-set, length-replicate, map-append, map-set, get_or-map, get_or_append_left, get_or_push, get_or_default, get_or-set_same}
-use Rattle.std.proofs.lemmas.List.{get_or-set_other, length_push, set-get_or}
 use Rattle.std.proofs.lemmas.List.Elements.{filter-append}
 use Rattle.fbl_base.specs.MemberSets.{Members}
 use Rattle.fbl_base.specs.declared.trace.Note.{Note}
@@ -142,6 +140,7 @@ pub record Found {A : Type 0} (channels : Channels A) (i j q p : ℕ) (row : Vec
   pub in_room : (q < length (rooms channels)) × (p < length (get_or (rooms channels) q []))
   pub changed : (new : Queue A) {vs : List Message} → deque_items new ≡ vs
       → each deque_items (set channels.rows.items i (with_item row j new)) ≡ with_at (rows channels) q p vs
+  pub kept : (new : Queue A) → deque_items new ≡ deque_items one → each deque_items (set channels.rows.items i (with_item row j new)) ≡ rows channels
   pub room_set : (new : Queue A) → each spare (set channels.rows.items i (with_item row j new)) ≡ with_at (rooms channels) q p (spare new)
 
 -- whatever is seen of them, it stands at as many places
@@ -190,6 +189,7 @@ module _ {A : Type 0} (channels : Channels A) {i j q p : ℕ} {row : Vec (Queue 
         omega (arith, places.1, same-long spare deque_items all q),
       );
       changed = λ new is. seen-set deque_items new ∙ ap (with_at (rows channels) q p) is;
+      kept = λ new is. seen-set deque_items new ∙ ap (with_at (rows channels) q p) (is ∙ seen-at deque_items []) ∙ at-same [] (rows channels) q p;
       room_set = seen-set spare;
     }
 
@@ -350,7 +350,8 @@ listed {s = s} sends {i = i} same below fits within read = rw same (below, omega
 
 -- room is made for one send more
 pub reserved-more : (room : List (List ℕ)) (from left need i : ℕ) (s : ℕ × Note) (sends : List (ℕ × Note))
-    (places : (from < length room) × (s.0 < length (get_or room from []))) → need ≤ left → i < length sends → s ≡ get_or sends i s → ((j : ℕ) (d : ℕ × Note) → j < i → need ≤ get_or (get_or room from []) (get_or sends j d).0 0)
+    (places : (from < length room) × (s.0 < length (get_or room from []))) → need ≤ left
+    → i < length sends → s ≡ get_or sends i s → ((j : ℕ) (d : ℕ × Note) → j < i → need ≤ get_or (get_or room from []) (get_or sends j d).0 0)
     → (j : ℕ) (d : ℕ × Note) → j < i + 1 → need ≤ get_or (get_or (with_at room from s.0 left) from []) (get_or sends j d).0 0
 reserved-more room from left need i s sends places made below read so_far j d less = at (get_or sends j d).0 (cases_eq (get_or sends j d).0 s.0) (cases_lt j i) refl where
   at : (to : ℕ) → (to ≡ s.0) ⊎ (to ≢ s.0) → (j < i) ⊎ (i ≤ j) → (get_or sends j d).0 ≡ to → need ≤ get_or (get_or (with_at room from s.0 left) from []) to 0

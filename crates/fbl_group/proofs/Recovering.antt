@@ -1,6 +1,6 @@
 -- The steps of a recovery before it changes the group: gathering, replay in rounds, tables given.
-use Rattle.std.proofs.Common.{if◌then◌else◌, nat_lt, ◌≡◌, ℕ, suc, ◌+◌, ◌<◌, ◌≤◌, Bool, true, false, List, [], ◌∷◌, ◌++◌, length, map, take, Option}
-use Rattle.std.proofs.Common.{Some, None, get_or, inl, inr, refl, sym, ap, ◌∙◌, arith, below_more, slice_index_or, slice_set}
+use Rattle.std.proofs.Common.{if◌then◌else◌, nat_lt, ◌≡◌, ℕ, suc, ◌+◌, ◌<◌, ◌≤◌, Bool, true, false, List, [], ◌∷◌, ◌++◌, length, map, take}
+use Rattle.std.proofs.Common.{Option, Some, None, get_or, inl, inr, refl, sym, ap, ◌∙◌, arith, below_more, slice_index_or, slice_set}
 use Rattle.std.specs.FinSet as set
 use Rattle.std.proofs.lemmas.Bool.{cases_Bool}
 use Rattle.std.proofs.lemmas.Bool.Decides.{nat_tests}

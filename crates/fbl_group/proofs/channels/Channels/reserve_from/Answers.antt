@@ -8,8 +8,7 @@ returns-in_err-reserve-clause-same g c =
     let places = listed c.args.sends.now c.loop-send.invariant.same c.requires.from c.requires.receivers c.loop-send-test.true c.send-item.is in
     let channel = found c.loop-send.self (c.from.ensures ∙ c.number.ensures.value) (c.from-in-loop-send.ensures ∙ c.number-in-loop-send.ensures.value)
     places c.index_mut.ensures.value c.index_mut-in-loop-send.ensures.value in
-    channel.changed c.reserve.new.self (c.reserve.ensures.items ∙ channel.messages)
-    ∙ at-same [] (rows c.loop-send.self) c.args.from c.send-item.result.0 ∙ c.loop-send.invariant.same
+    channel.kept c.reserve.new.self c.reserve.ensures.items ∙ c.loop-send.invariant.same
 
 pub loop-send-preserved : goal.loop-send-preserved
 loop-send-preserved g c =
@@ -17,8 +16,7 @@ loop-send-preserved g c =
     let channel = found c.loop-send.self (c.from.ensures ∙ c.number.ensures.value) (c.from-in-loop-send.ensures ∙ c.number-in-loop-send.ensures.value)
     places c.index_mut.ensures.value c.index_mut-in-loop-send.ensures.value in
     record {
-      same = channel.changed c.reserve.new.self (c.reserve.ensures.items ∙ channel.messages)
-          ∙ at-same [] (rows c.loop-send.self) c.args.from c.send-item.result.0 ∙ c.loop-send.invariant.same;
+      same = channel.kept c.reserve.new.self c.reserve.ensures.items ∙ c.loop-send.invariant.same;
       room = λ i d below. rw (channel.room_set c.reserve.new.self) (reserved-more (rooms c.loop-send.self) c.args.from (deque_capacity c.reserve.new.self - deque_len c.reserve.new.self)
           (length c.args.sends.now) c.loop-send.send-index c.send-item.result c.args.sends.now channel.in_room (omega (arith, c.in_ok-reserve.ensures.ok))
           c.loop-send-test.true c.send-item.is c.loop-send.invariant.room i d below);

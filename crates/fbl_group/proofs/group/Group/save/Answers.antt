@@ -23,17 +23,7 @@ invariant_of-self g c =
 
 pub returns-clause-saved : goal.returns-clause-saved
 returns-clause-saved g c =
-    let new : GroupRecord = record {
-      config = c.self.inside.config;
-      members = c.self.inside.members.items;
-      checkpoints = slice_set c.self.inside.checkpoints.items c.from-place.result c.in_ok-copy.copy;
-      channels = rows c.self.inside.channels;
-      trace = c.self.inside.trace.items;
-      down = c.self.inside.down;
-      receipts_ever = c.self.inside.receipts_ever;
-      undone_ever = c.self.inside.undone_ever;
-    } in
-    subst (λ (r : GroupRecord). IsCheckpoint r new c.args.member) c.self.view_is
+    rw (← c.self.view_is)
     (is_checkpoint c.self.invariant (c.from-place.ensures ∙ c.number.ensures.value) (rw (← c.self.view_is) at c.requires) c.in_ok-copy.ensures c.index.ensures)
 
 pub returns-clause-fold : goal.returns-clause-fold
