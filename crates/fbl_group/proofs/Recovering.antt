@@ -17,9 +17,9 @@ use Rattle.fbl_law.specs.Knowledge.{IsDown}
 use Rattle.fbl_law.specs.Steps.{gathered_all, saved_tables, recovery_table}
 use Rattle.fbl_law.specs.Groups.{GroupRecord, member_checkpoint, knowledge}
 use Rattle.fbl_law.specs.Sound.{IsSound}
-use Rattle.fbl_law.specs.Replaying.{IsNextReplay, working, IsReplaying, IsWaiting}
+use Rattle.fbl_law.specs.Replaying.{IsNextReplay, working, IsReplaying, IsWaiting, replayed_in}
 use Rattle.fbl_law.proofs.GatheredTables.{gathered_all-more, gathered_all-push}
-use Rattle.fbl_law.proofs.ReplayLaws.{replaying-start, replaying-next, replaying-room, replaying-step, replayed_in-step, replaying-tables}
+use Rattle.fbl_law.proofs.ReplayLaws.{replaying-start, replaying-next, replaying-room, replaying-step, replayed_in-step, replayed_in-short, replaying-tables}
 use Rattle.fbl_group.specs.Rebuilding.{AreByNumber, Tries, Rounds, HasReplayed, IsReady}
 use Rattle.fbl_group.proofs.Queues.{Made}
 
@@ -163,6 +163,13 @@ module _ {next : Next} {r : GroupRecord} (sound : IsSound next r) where
               replaying-step next r sound rebuilt p d note replaying (sound.down p down) down is-found (sym logged ∙ named),
               replayed_in-step next r sound rebuilt p d note replaying (sound.down p down) down,
             )
+
+  -- rounds end
+  pub round-more : (before after : List MemberRecord) → Rounds next r r.config.members before after true → replayed_in r before < replayed_in r after
+  round-more before after round = round.1
+
+  pub few-replayed : (rebuilt : List MemberRecord) → IsReplaying next r rebuilt → replayed_in r rebuilt ≤ 8192
+  few-replayed rebuilt replaying = replayed_in-short next r sound rebuilt replaying
 
   pub round-last : {before after : List MemberRecord} → IsReplaying next r before → Rounds next r r.config.members before after false → HasReplayed next r after
   round-last replaying round = rw round.0 (record { replaying = replaying; waiting = round.1 })
