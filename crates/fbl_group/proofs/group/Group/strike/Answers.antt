@@ -41,10 +41,9 @@ returns g c =
     let emptied = (rw c.members-2.ensures.value at c.drop_at.ensures) in
     let strike = is_strike new c.self.invariant allowed c.blank_members.ensures emptied c.union-self-inside.ensures refl refl refl refl refl in
     let sound = is_sound new c.self.invariant allowed c.blank_members.ensures emptied c.union-self-inside.ensures refl refl refl refl refl in
-    let lost : c.count_lost.result ≡ count_by (is_lost_receipt_of c.union-self-inside.result c.blank_members.new.members.items
-    c.self.inside.checkpoints.items) c.self.inside.trace.items = rw (← c.deref.ensures.value, ← c.deref-2.ensures.value, ← c.deref-3.ensures.value) c.count_lost.ensures in
+    let lost = (rw (c.deref.ensures.value, c.deref-2.ensures.value, c.deref-3.ensures.value) at c.count_lost.ensures) in
     record {
-      struck = (c.in_ok-allow_strike.ensures.allowed, (subst (λ (r : GroupRecord). IsStrike r new c.args.set) c.self.view_is strike, lost ∙ count-lost g.B.Behaviour.next new sound));
+      struck = (c.in_ok-allow_strike.ensures.allowed, (rw (← c.self.view_is) strike, lost ∙ count-lost g.B.Behaviour.next new sound));
       refused = tt;
       unchanged = tt;
       no_orphan = λ m. sound_has_no_orphan g.B.Behaviour.next new m sound;
