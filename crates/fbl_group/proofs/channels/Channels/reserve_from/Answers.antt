@@ -1,6 +1,6 @@
-use Rattle.std.proofs.Common.{◌-◌, [], length, ◌∙◌, arith, deque_len, deque_capacity}
-use Rattle.fbl_group.specs.Channels.{rows, rooms}
-use Rattle.fbl_group.proofs.Queues.{at-same, found, listed, reserved-more}
+use Rattle.std.proofs.Common.{◌-◌, length, ◌∙◌, arith, deque_len, deque_capacity}
+use Rattle.fbl_group.specs.Channels.{rooms}
+use Rattle.fbl_group.proofs.Queues.{found, listed, reserved-more}
 use Rattle.fbl_group.proofs.channels.Channels.reserve_from.Goals as goal
 
 pub returns-in_err-reserve-clause-same : goal.returns-in_err-reserve-clause-same

@@ -1,11 +1,5 @@
-use Rattle.std.proofs.Common.{◌++◌, subst, sym, ◌∙◌, ap, refl, List, [], filter_map}
-use Rattle.fbl_base.specs.Configs.{IsConfig}
-use Rattle.fbl_base.specs.declared.trace.Event.{Event}
-use Rattle.fbl_base.specs.declared.trace.Start.{Start}
-use Rattle.fbl_member.specs.Members.{Message}
-use Rattle.fbl_law.specs.Steps.{between}
-use Rattle.fbl_law.specs.Groups.{HasChannels}
-use Rattle.fbl_law.specs.GroupSteps.{IsGroupStart, start_events, message_of_send}
+use Rattle.std.proofs.Common.{refl}
+use Rattle.fbl_law.specs.GroupSteps.{IsGroupStart}
 use Rattle.fbl_law.proofs.GroupStart.{starts-obey, group_start_is_sound}
 use Rattle.fbl_group.specs.Channels.{rows}
 use Rattle.fbl_group.proofs.Queues.{none-shape, none-in}

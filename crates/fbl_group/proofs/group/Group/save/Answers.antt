@@ -1,7 +1,5 @@
-use Rattle.std.proofs.Common.{◌≡◌, subst, ap, ◌∙◌, arith, slice_set}
+use Rattle.std.proofs.Common.{◌≡◌, ap, ◌∙◌, arith}
 use Rattle.fbl_law.specs.Groups.{GroupRecord}
-use Rattle.fbl_law.specs.GroupSteps.{IsCheckpoint}
-use Rattle.fbl_group.specs.Channels.{rows}
 use Rattle.fbl_group.proofs.Checkpointing.{may_checkpoint, is_checkpoint, is_sound, is_fold}
 use Rattle.fbl_group.proofs.group.Group.save.Goals as goal
 

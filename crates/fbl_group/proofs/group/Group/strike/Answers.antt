@@ -1,9 +1,7 @@
-use Rattle.std.proofs.Common.{◌≡◌, subst, refl, ◌∙◌, count_by}
+use Rattle.std.proofs.Common.{refl, ◌∙◌}
 use Rattle.fbl_law.specs.Groups.{GroupRecord}
-use Rattle.fbl_law.specs.GroupSteps.{IsStrike}
 use Rattle.fbl_law.proofs.Promises.{sound_has_no_orphan, sound_records_first}
 use Rattle.fbl_group.specs.Channels.{rows}
-use Rattle.fbl_group.specs.Strikes.{is_lost_receipt_of}
 use Rattle.fbl_group.proofs.Promised.{survivors_hold, records_causes}
 use Rattle.fbl_group.proofs.Striking.{is_strike, is_sound, count-lost}
 use Rattle.fbl_group.proofs.group.Group.strike.Goals as goal

@@ -1,6 +1,5 @@
-use Rattle.std.proofs.Common.{◌≡◌, get_or, subst, sym, ap, ◌∙◌, arith}
+use Rattle.std.proofs.Common.{◌≡◌, sym, ap, ◌∙◌, arith}
 use Rattle.std.specs.FinSet as set
-use Rattle.fbl_member.specs.Members.{MemberRecord}
 use Rattle.fbl_group.proofs.PuttingBack.{put-down, put-up, put-end}
 use Rattle.fbl_group.proofs.rebuilt.Rebuilt.put_back.Goals as goal
 use Rattle.fbl_group.proofs.rebuilt.Rebuilt.put_back.Goals.{then-has, else-has}
