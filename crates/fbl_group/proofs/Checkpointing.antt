@@ -1,15 +1,14 @@
 -- When a checkpoint is taken, and what it leaves.
-use Rattle.std.proofs.Common.{◌≡◌, ℕ, ◌<◌, ◌==◌, not, Bool, true, false, cond, length, get_or, Some, None, refl, ap, ◌∙◌, arith}
-use Rattle.std.specs.Prelude.{nat_lt, slice_index_or, slice_set}
+use Rattle.std.proofs.Common.{◌≡◌, ℕ, ◌<◌, get_or, None, refl, ◌∙◌, arith}
+use Rattle.std.specs.Prelude.{slice_set}
 use Rattle.std.specs.FinSet as sets
 use Rattle.std.proofs.lemmas.Bool.Decides.{nat_tests}
 use Rattle.fbl_base.specs.Fold.{Next}
-use Rattle.fbl_member.specs.Members.{MemberRecord, blank}
+use Rattle.fbl_member.specs.Members.{MemberRecord}
 use Rattle.fbl_law.specs.Groups.{GroupRecord, member}
 use Rattle.fbl_law.specs.Sound.{IsCheckpointFold, IsSound}
 use Rattle.fbl_law.specs.GroupSteps.{IsCheckpoint}
 use Rattle.fbl_law.proofs.GroupCheckpoint.{group_checkpoint_keeps}
-use Rattle.fbl_group.specs.declared.refusals.CheckpointRefusal.TheVariants.{BadMember, Down}
 use Rattle.fbl_group.specs.Checkpoints.{checkpoint_refusal}
 use Rattle.fbl_group.proofs.Recovering.{read_at}
 
@@ -19,33 +18,22 @@ pub record MayCheckpoint (r : GroupRecord) (p : ℕ) : Type 0 where
   pub nobody_down : r.down ≡ sets.empty
 
 pub may_checkpoint : (r : GroupRecord) (p : ℕ) → checkpoint_refusal r p ≡ None → MayCheckpoint r p
-may_checkpoint r p allowed = at (nat_lt p r.config.members) (sets.len r.down == 0) refl refl allowed where
-  at : (a b : Bool) → nat_lt p r.config.members ≡ a → (sets.len r.down == 0) ≡ b → cond (not a) (Some BadMember) (cond (not b) (Some Down) None) ≡ None → MayCheckpoint r p
-  at false b ea eb none = cc
-  at true false ea eb none = cc
-  at true true ea eb none = record {
-    below = grind (arith, nat_tests);
-    nobody_down = sets.empty_of_len r.down (grind (arith, nat_tests));
-  }
+may_checkpoint r p allowed = record { below = grind (arith, nat_tests); nobody_down = sets.empty_of_len r.down (grind (arith, nat_tests)) }
 
 -- a record that is read at the member's place is copied there
-module _ (next : Next) (old : GroupRecord) (sound : IsSound next old) (p : ℕ) (allowed : checkpoint_refusal old p ≡ None) (place : ℕ)
-    (is_place : place ≡ p) (copy read : MemberRecord) (same : copy ≡ read) (is : read ≡ get_or old.members place read) where
+module _ {next : Next} {old : GroupRecord} (sound : IsSound next old) {p place : ℕ} (is_place : place ≡ p) (allowed : checkpoint_refusal old p ≡ None)
+    {copy read : MemberRecord} (same : copy ≡ read) (is : read ≡ get_or old.members place read) where
   may : MayCheckpoint old p
   may = may_checkpoint old p allowed
 
-  pub within-members : place < length old.members
-  within-members = omega (arith, may.below, sound.members, is_place)
-
   it : copy ≡ member old p
-  it = same ∙ read_at old.members place read read within-members is ∙ ap (λ k. slice_index_or old.members k blank) is_place
+  it = same ∙ read_at old.members is_place (omega (arith, may.below, sound.members)) is
 
   pub is_checkpoint : IsCheckpoint old (record old { checkpoints = slice_set old.checkpoints place copy }) p
   is_checkpoint = record {
     nobody_down = may.nobody_down;
     below = may.below;
-    saved = ap (λ k. let r : GroupRecord = record old { checkpoints = slice_set old.checkpoints k copy } in r) is_place
-        ∙ ap (λ m. let r : GroupRecord = record old { checkpoints = slice_set old.checkpoints p m } in r) it;
+    saved = rw (is_place, it) refl;
   }
 
   pub is_sound : IsSound next (record old { checkpoints = slice_set old.checkpoints place copy })

@@ -1,5 +1,5 @@
 -- Which refusal of a delivery, a ticket or a commit holds.
-use Rattle.std.proofs.Common.{◌≡◌, ℕ, ◌+◌, ◌<◌, Bool, true, false, ◌&&◌, ◌==◌, not, cond, length, arith, refl, sym, subst, ap, ◌∙◌, Option, Some, None, Fits, w32, get_or}
+use Rattle.std.proofs.Common.{◌≡◌, ℕ, ◌+◌, ◌<◌, Bool, true, false, ◌==◌, not, cond, length, arith, refl, sym, ap, ◌∙◌, Some, None, Fits, w32, get_or}
 use Rattle.std.specs.Prelude.{nat_lt}
 use Rattle.std.proofs.lemmas.Bool.Decides.{nat_tests}
 use Rattle.std.specs.FinSet as set
@@ -9,10 +9,9 @@ use Rattle.fbl_base.specs.declared.trace.Note.{Note}
 use Rattle.fbl_member.specs.Members.{Message, MemberRecord}
 use Rattle.fbl_law.specs.Groups.{GroupRecord, member, channel}
 use Rattle.fbl_law.specs.GroupSteps.{step_of}
-use Rattle.fbl_group.specs.declared.refusals.DeliverRefusal.{DeliverRefusal}
 use Rattle.fbl_group.specs.declared.refusals.DeliverRefusal.TheVariants as deliver
 use Rattle.fbl_group.specs.Channels.{front, front_message}
-use Rattle.fbl_group.specs.Deliveries.{deliver_refusal, of_take, of_commit, take_or_room, room_refusal, IsDeliverRefusal, IsPlanned, Delivers}
+use Rattle.fbl_group.specs.Deliveries.{deliver_refusal, of_take, of_commit, IsDeliverRefusal, IsPlanned, Delivers}
 use Rattle.fbl_group.specs.declared.answers.Receipted.{Receipted}
 use Rattle.fbl_group.specs.declared.ticket.Ticket.{Ticket}
 use Rattle.fbl_group.specs.declared.refusals.TakeRefusal.{TakeRefusal}
@@ -22,10 +21,9 @@ use Rattle.fbl_group.specs.declared.refusals.CommitRefusal.TheVariants as commit
 use Rattle.fbl_group.specs.Tickets.{take_refusal, empty_refusal, IsTicket, commit_refusal, stale_or_full, is_current, has_no_room, is_full, IsCommitRefusal}
 use Rattle.fbl_law.specs.Sound.{IsSound}
 use Rattle.fbl_law.proofs.GroupFacts.{all_up, receipts_fit, front_flight}
-use Rattle.fbl_group.proofs.Queues.{first-is, read_any, eqb-same}
-
-below_test : (m n : ℕ) → m < n → nat_lt m n ≡ true
-below_test m n below = grind (arith, nat_tests)
+use Rattle.std.proofs.lemmas.List.{get_or_default}
+use Rattle.std.proofs.lemmas.Bool.{eq-eqb}
+use Rattle.fbl_group.proofs.Queues.{first-is}
 
 -- a step that there is room for is planned
 module _ (next : Next) (r : GroupRecord) (p q : ℕ) (below_p : p < r.config.members) (below_q : q < r.config.members) (nobody : set.len r.down ≡ 0)
@@ -37,7 +35,7 @@ module _ (next : Next) (r : GroupRecord) (p q : ℕ) (below_p : p < r.config.mem
   first = first-is (channel r q p) v at
 
   steps : outcome ≡ step_of next r v
-  steps = step ∙ ap (λ (m : ℕ). next m r.config.members (member r m).state v.note) (sym ends.1)
+  steps = rw ends.1 step
 
   is_planned : is_full r (length outcome.sends.items) ≡ false → IsPlanned next r q p outcome
   is_planned room = record {
@@ -50,28 +48,27 @@ module _ (next : Next) (r : GroupRecord) (p q : ℕ) (below_p : p < r.config.mem
   }
 
 -- between members of a group of which nobody is down the front decides about a ticket
-take_at_front : (r : GroupRecord) (p q : ℕ) → p < r.config.members → q < r.config.members → set.len r.down ≡ 0 → take_refusal r p q ≡ empty_refusal (front r q p)
-take_at_front r p q below_p below_q nobody =
-    let a : nat_lt p r.config.members ≡ true = below_test p r.config.members below_p in
-    let b : nat_lt q r.config.members ≡ true = below_test q r.config.members below_q in
-    let d : (set.len r.down == 0) ≡ true = eqb-same (set.len r.down) 0 nobody in
-    rw (a, b, d) refl
-
 module _ {r now : GroupRecord} (view : r ≡ now) {p q n a b : ℕ} (all : n ≡ r.config.members) (is_p : a ≡ p) (less_p : a < n) (is_q : b ≡ q)
     (less_q : b < n) (nobody : set.len r.down ≡ 0) where
   below_p : p < r.config.members
   below_p = omega (arith, all, is_p, less_p)
 
-  decided : take_refusal now p q ≡ empty_refusal (front r q p)
-  decided = ap (λ (x : GroupRecord). take_refusal x p q) (sym view) ∙ take_at_front r p q below_p (omega (arith, all, is_q, less_q)) nobody
+  below_q : q < r.config.members
+  below_q = omega (arith, all, is_q, less_q)
+
+  decided : take_refusal r p q ≡ empty_refusal (front r q p)
+  decided =
+      let a : nat_lt p r.config.members ≡ true = grind (arith, nat_tests, below_p) in
+      let b : nat_lt q r.config.members ≡ true = grind (arith, nat_tests, below_q) in
+      rw (a, b, nobody) refl
 
   pub nothing_to_take : front r q p ≡ None → take_refusal now p q ≡ Some take.Empty
-  nothing_to_take none = decided ∙ ap empty_refusal none
+  nothing_to_take none = rw (← view) (decided ∙ ap empty_refusal none)
 
   -- what is read at the receiver's place is its record
-  module _ (next : Next) (sound : IsSound next r) {place : ℕ} {x : MemberRecord} (is_place : place ≡ p) (read : x ≡ get_or r.members place x) where
+  module _ {next : Next} (sound : IsSound next r) {place : ℕ} {x : MemberRecord} (is_place : place ≡ p) (read : x ≡ get_or r.members place x) where
     of_receiver : x ≡ member r p
-    of_receiver = read ∙ ap (λ k. get_or r.members k x) is_place ∙ read_any r.members p x _ (omega (arith, below_p, sound.members))
+    of_receiver = read ∙ ap (λ k. get_or r.members k x) is_place ∙ get_or_default r.members p x _ (omega (arith, below_p, sound.members))
 
     pub few_received : {received : ℕ} → received ≡ x.received → Fits w32 (received + 1)
     few_received is = omega (
@@ -91,27 +88,18 @@ module _ {r now : GroupRecord} (view : r ≡ now) {p q n a b : ℕ} (all : n ≡
           n = size ∙ all;
           to = to ∙ sym flies.2;
           from = from ∙ sym flies.1;
-          state = state ∙ ap (λ (m : MemberRecord). m.state) of_receiver ∙ ap (λ (m : ℕ). (member r m).state) (sym flies.2);
-          rsn = rsn ∙ ap (λ (m : MemberRecord). m.received + 1) of_receiver ∙ ap (λ (m : ℕ). (member r m).received + 1) (sym flies.2);
+          state = rw (flies.2, ← of_receiver) state;
+          rsn = rw (flies.2, ← of_receiver) rsn;
           ssn = ssn;
           note = note;
         } in
-        (decided ∙ ap empty_refusal at, subst (λ (y : GroupRecord). (w : Message) × (front y q p ≡ Some w) × IsTicket y w t) view (v, at, ticket))
+        rw (← view) (decided ∙ ap empty_refusal at, (v, at, ticket))
 
 -- what holds where a ticket is current
 current_parts : (m : MemberRecord) (v : Message) (t : Ticket) → is_current m v t ≡ true → (m.state ≡ t.state) × (v.note ≡ t.note)
-current_parts m v t all = parts (m.state == t.state) (m.received + 1 == t.rsn) (v.ssn == t.ssn) (v.note.value == t.note.value) (v.note.hops == t.note.hops) refl refl refl all where
+current_parts m v t all = (grind (arith, nat_tests), same v.note t.note (grind (arith, nat_tests)) (grind (arith, nat_tests))) where
   same : (a b : Note) → a.value ≡ b.value → a.hops ≡ b.hops → a ≡ b
   same a b e1 e2 i = record { value = e1 i; hops = e2 i }
-
-  parts : (a b c d e : Bool) → (m.state == t.state) ≡ a → (v.note.value == t.note.value) ≡ d → (v.note.hops == t.note.hops) ≡ e
-      → (a && (b && (c && (d && e)))) ≡ true → (m.state ≡ t.state) × (v.note ≡ t.note)
-  parts true true true true true ea ed ee h = (grind (arith, nat_tests), same v.note t.note (grind (arith, nat_tests)) (grind (arith, nat_tests)))
-  parts true true true true false ea ed ee h = cc
-  parts true true true false e ea ed ee h = cc
-  parts true true false d e ea ed ee h = cc
-  parts true false c d e ea ed ee h = cc
-  parts false b c d e ea ed ee h = cc
 
 module _ (next : Next) {r now : GroupRecord} (view : r ≡ now) (t : Ticket) (nobody : set.len r.down ≡ 0) (size : r.config.members ≡ t.n) where
   abbrev sends : ℕ
@@ -119,28 +107,29 @@ module _ (next : Next) {r now : GroupRecord} (view : r ≡ now) (t : Ticket) (no
 
   commit_at_front : commit_refusal next now t ≡ stale_or_full r t sends (front r t.from t.to)
   commit_at_front =
-      let d : (set.len r.down == 0) ≡ true = eqb-same (set.len r.down) 0 nobody in
       let s : (r.config.members == t.n) ≡ true = grind (arith, nat_tests) in
-      ap (λ (x : GroupRecord). commit_refusal next x t) (sym view) ∙ rw (d, s) refl
+      rw (← view, nobody, s) refl
 
   pub nothing_to_commit : front r t.from t.to ≡ None → commit_refusal next now t ≡ Some commit.Stale
-  nothing_to_commit none = commit_at_front ∙ ap (stale_or_full r t sends) none
+  nothing_to_commit none = rw (commit_at_front, none) refl
 
   module _ {w : Message} (at : front r t.from t.to ≡ Some w) where
     commit_decided : {told : Bool} → told ≡ is_current (member r t.to) w t → commit_refusal next now t ≡ cond (not told) (Some commit.Stale) (cond (is_full r sends) (Some commit.Full) None)
-    commit_decided tells = commit_at_front ∙ ap (stale_or_full r t sends) at ∙ ap (λ (b : Bool). cond (not b) (Some commit.Stale) (cond (is_full r sends) (Some commit.Full) None)) (sym tells)
+    commit_decided tells = rw (commit_at_front, at, tells) refl
 
     room_decides : {told : Bool} → told ≡ is_current (member r t.to) w t → told ≡ true → commit_refusal next now t ≡ cond (is_full r sends) (Some commit.Full) None
-    room_decides tells current = commit_decided tells ∙ ap (λ (b : Bool). cond (not b) (Some commit.Stale) (cond (is_full r sends) (Some commit.Full) None)) current
+    room_decides tells current = rw (commit_decided tells, current) refl
 
     -- what is read at the receiver's place tells whether the ticket is current
     module _ (sound : IsSound next r) {place : ℕ} {x : MemberRecord} {told : Bool} (is_place : place ≡ t.to) (read : x ≡ get_or r.members place x) (told_is : told ≡ is_current x w t) where
       tells : told ≡ is_current (member r t.to) w t
-      tells = told_is ∙ ap (λ (y : MemberRecord). is_current y w t)
-          (read ∙ ap (λ k. get_or r.members k x) is_place ∙ read_any r.members t.to x _ (omega (arith, t.ends.0, size, sound.members)))
+      tells =
+          let of_receiver : x ≡ member r t.to =
+          read ∙ ap (λ k. get_or r.members k x) is_place ∙ get_or_default r.members t.to x _ (omega (arith, t.ends.0, size, sound.members)) in
+          rw of_receiver at told_is
 
       pub is_stale : told ≡ false → commit_refusal next now t ≡ Some commit.Stale
-      is_stale off = commit_decided tells ∙ ap (λ (b : Bool). cond (not b) (Some commit.Stale) (cond (is_full r sends) (Some commit.Full) None)) off
+      is_stale off = rw (commit_decided tells, off) refl
 
       -- and whether there is room for its step
       module _ {outcome : Outcome} {limit len given : ℕ} {full : Bool} (step : outcome ≡ next t.to t.n t.state t.note) (current : told ≡ true)
@@ -150,18 +139,17 @@ module _ (next : Next) {r now : GroupRecord} (view : r ≡ now) (t : Ticket) (no
         asked = rw (← limit_is, ← len_is, ← given_is) (sym full_is)
 
         full_decides : commit_refusal next now t ≡ cond full (Some commit.Full) None
-        full_decides = room_decides tells current ∙ ap (λ (o : Outcome). cond (is_full r (length o.sends.items)) (Some commit.Full) None) (sym step)
-            ∙ ap (λ (b : Bool). cond b (Some commit.Full) None) asked
+        full_decides = rw (room_decides tells current, ← step, asked) refl
 
         pub is_commit_full : full ≡ true → commit_refusal next now t ≡ Some commit.Full
-        is_commit_full is = full_decides ∙ ap (λ (b : Bool). cond b (Some commit.Full) None) is
+        is_commit_full is = rw (full_decides, is) refl
 
         pub is_commit_planned : full ≡ false → (commit_refusal next now t ≡ None) × IsPlanned next now t.from t.to outcome
         is_commit_planned room =
             let parts = current_parts (member r t.to) w t (sym tells ∙ current) in
             let steps : outcome ≡ next t.to r.config.members (member r t.to).state w.note = rw (size, parts.0, parts.1) step in
             let planned = is_planned next r t.to t.from (rw size t.ends.0) (rw size t.ends.1) nobody w outcome sound at steps (asked ∙ room) in
-            (full_decides ∙ ap (λ (b : Bool). cond b (Some commit.Full) None) room, subst (λ (y : GroupRecord). IsPlanned next y t.from t.to outcome) view planned)
+            (rw (full_decides, room) refl, rw (← view) planned)
 
 -- a step whose ticket was just taken is refused only for want of room or of memory
 module _ (next : Next) (r : GroupRecord) (p q : ℕ) (v : Message) (t : Ticket) (may : take_refusal r p q ≡ None) (at : front r q p ≡ Some v)
@@ -170,49 +158,38 @@ module _ (next : Next) (r : GroupRecord) (p q : ℕ) (v : Message) (t : Ticket) 
   full = is_full r (length (step_of next r v).sends.items)
 
   nobody : set.len r.down ≡ 0
-  nobody = decide (nat_lt p r.config.members && nat_lt q r.config.members) (set.len r.down == 0) refl may where
-    decide : (a b : Bool) → (set.len r.down == 0) ≡ b → cond (not a) (Some take.BadMember) (cond (not b) (Some take.Down) (empty_refusal (front r q p))) ≡ None → set.len r.down ≡ 0
-    decide false b eb none = cc
-    decide true false eb none = cc
-    decide true true eb none = grind (arith, nat_tests)
+  nobody = grind (arith, nat_tests)
 
   here : front r t.from t.to ≡ Some v
-  here = ap (λ k. front r k t.to) from ∙ ap (λ k. front r q k) to ∙ at
+  here = rw (from, to) at
 
   current : is_current (member r t.to) v t ≡ true
   current =
-      let state : (member r t.to).state ≡ t.state = ap (λ k. (member r k).state) is.to ∙ sym is.state in
-      let rsn : (member r t.to).received + 1 ≡ t.rsn = ap (λ k. (member r k).received + 1) is.to ∙ sym is.rsn in
+      let state : (member r t.to).state ≡ t.state = rw is.to (sym is.state) in
+      let rsn : (member r t.to).received + 1 ≡ t.rsn = rw is.to (sym is.rsn) in
       rw (
-        eqb-same (member r t.to).state t.state state,
-        eqb-same ((member r t.to).received + 1) t.rsn rsn,
-        eqb-same v.ssn t.ssn (sym is.ssn),
-        eqb-same v.note.value t.note.value (ap (λ (n : Note). n.value) (sym is.note)),
-        eqb-same v.note.hops t.note.hops (ap (λ (n : Note). n.hops) (sym is.note)),
+        eq-eqb (member r t.to).state t.state state,
+        eq-eqb ((member r t.to).received + 1) t.rsn rsn,
+        eq-eqb v.ssn t.ssn (sym is.ssn),
+        eq-eqb v.note.value t.note.value (ap (λ (n : Note). n.value) (sym is.note)),
+        eq-eqb v.note.hops t.note.hops (ap (λ (n : Note). n.hops) (sym is.note)),
       ) refl
 
   same_step : next t.to t.n t.state t.note ≡ step_of next r v
-  same_step = ap (λ k. next k t.n t.state t.note) is.to ∙ ap (λ k. next v.to k t.state t.note) is.n
-      ∙ ap (λ k. next v.to r.config.members k t.note) is.state ∙ ap (λ (n : Note). next v.to r.config.members (member r v.to).state n) is.note
+  same_step = rw (is.to, is.n, is.state, is.note) refl
 
   commit_is : commit_refusal next r t ≡ cond full (Some commit.Full) None
-  commit_is = room_decides next {r = r} refl t nobody (sym is.n) here (sym current) refl ∙ ap (λ (o : Outcome). cond (is_full r (length o.sends.items)) (Some commit.Full) None) same_step
+  commit_is = rw (room_decides next {r = r} refl t nobody (sym is.n) here (sym current) refl, same_step) refl
 
   deliver_is : deliver_refusal next r p q ≡ cond full (Some deliver.Full) None
-  deliver_is = ap (take_or_room next r (front r q p)) may ∙ ap (room_refusal next r) at
+  deliver_is = rw (may, at) refl
 
   refused_as : (refusal : CommitRefusal) → IsCommitRefusal (commit_refusal next r t) refusal → IsDeliverRefusal (deliver_refusal next r p q) (of_commit refusal)
-  refused_as refusal refused = subst (λ (o : Option DeliverRefusal). IsDeliverRefusal o (of_commit refusal)) (sym deliver_is)
-      (decide full refusal (subst (λ (o : Option CommitRefusal). IsCommitRefusal o refusal) commit_is refused)) where
-        decide : (b : Bool) (x : CommitRefusal) → IsCommitRefusal (cond b (Some commit.Full) None) x → IsDeliverRefusal (cond b (Some deliver.Full) None) (of_commit x)
-        decide true commit.Memory is = cc
-        decide true commit.Full is = refl
-        decide true commit.Down is = cc
-        decide true commit.Stale is = cc
-        decide false commit.Memory is = refl
-        decide false commit.Full is = cc
-        decide false commit.Down is = cc
-        decide false commit.Stale is = cc
+  refused_as refusal refused = rw deliver_is (decide full refusal (rw commit_is at refused)) where
+    decide : (b : Bool) (x : CommitRefusal) → IsCommitRefusal (cond b (Some commit.Full) None) x → IsDeliverRefusal (cond b (Some deliver.Full) None) (of_commit x)
+    decide true commit.Full is = refl
+    decide false commit.Memory is = refl
+    decide b x is = cc
 
   delivered_as : commit_refusal next r t ≡ None → deliver_refusal next r p q ≡ None
   delivered_as none = deliver_is ∙ decide full (sym commit_is ∙ none) where
@@ -225,19 +202,18 @@ module _ (next : Next) (r : GroupRecord) (p q : ℕ) (t : Ticket)
     (taken : (take_refusal r p q ≡ None) × ((v : Message) × (front r q p ≡ Some v) × IsTicket r v t)) (ends : (t.to ≡ p) × (t.from ≡ q)) (made : Ticket) (same : made ≡ t) where
   pub commit_refused : (refusal : CommitRefusal) → IsCommitRefusal (commit_refusal next r made) refusal → IsDeliverRefusal (deliver_refusal next r p q) (of_commit refusal)
   commit_refused refusal refused =
-      refused_as next r p q taken.1.0 t taken.0 taken.1.1 taken.1.2 ends.0 ends.1 refusal (subst (λ (u : Ticket). IsCommitRefusal (commit_refusal next r u) refusal) same refused)
+      refused_as next r p q taken.1.0 t taken.0 taken.1.1 taken.1.2 ends.0 ends.1 refusal (rw same at refused)
 
   pub delivers : (new : GroupRecord) (answer : Receipted) → (commit_refusal next r made ≡ None) × Delivers next r new made.to made.from answer
       → (deliver_refusal next r p q ≡ None) × Delivers next r new p q answer
   delivers new answer done = (
-    delivered_as next r p q taken.1.0 t taken.0 taken.1.1 taken.1.2 ends.0 ends.1 (subst (λ (u : Ticket). commit_refusal next r u ≡ None) same done.0),
-    subst (λ (k : ℕ). Delivers next r new k q answer) ends.0
-        (subst (λ (k : ℕ). Delivers next r new t.to k answer) ends.1 (subst (λ (u : Ticket). Delivers next r new u.to u.from answer) same done.1)),
+    delivered_as next r p q taken.1.0 t taken.0 taken.1.1 taken.1.2 ends.0 ends.1 (rw same at done.0),
+    (rw (same, ends.0, ends.1) at done.1),
   )
 
 -- a delivery is refused as its ticket is
 pub take_refused : (next : Next) (r : GroupRecord) (p q : ℕ) (refusal : TakeRefusal) → take_refusal r p q ≡ Some refusal → IsDeliverRefusal (deliver_refusal next r p q) (of_take refusal)
-take_refused next r p q refusal is = subst (λ (o : Option DeliverRefusal). IsDeliverRefusal o (of_take refusal)) (sym (ap (take_or_room next r (front r q p)) is)) (decide refusal) where
+take_refused next r p q refusal is = rw is (decide refusal) where
   decide : (x : TakeRefusal) → IsDeliverRefusal (Some (of_take x)) (of_take x)
   decide take.BadMember = refl
   decide take.Down = refl

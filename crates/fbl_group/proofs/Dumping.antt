@@ -1,7 +1,7 @@
 -- The parts of a dump.
-use Rattle.std.proofs.Common.{◌≡◌, ℕ, zero, suc, ◌+◌, ◌<◌, List, [], ◌∷◌, ◌++◌, length, take, get_or, Some, slice_get, sym, ap, ◌∙◌, arith, below_more}
+use Rattle.std.proofs.Common.{◌≡◌, ℕ, ◌+◌, ◌<◌, List, [], ◌∷◌, ◌++◌, length, take, get_or, Some, slice_get, refl, add-one, arith, below_more}
 use Rattle.std.specs.Prelude.{slice_index_or}
-use Rattle.std.proofs.lemmas.List.{map-append, length-take-le}
+use Rattle.std.proofs.lemmas.List.{map-append, length-take-le, take_more, get_or_read_under}
 use Rattle.fbl_base.proofs.Gets.{take-more}
 use Rattle.fbl_table.specs.declared.entry.Entry.{Entry}
 use Rattle.fbl_member.specs.Carried.{IsOnce}
@@ -9,22 +9,19 @@ use Rattle.fbl_member.specs.Members.{MemberRecord, blank}
 use Rattle.fbl_law.specs.Dumps.{pairs_of, pairs_from}
 use Rattle.fbl_law.proofs.DumpLaws.{pairs_from-push}
 
-get-at : {X : Type 0} (xs : List X) (i : ℕ) (x d : X) → i < length xs → x ≡ get_or xs i x → (slice_get xs i ≡ Some x) × (slice_index_or xs i d ≡ x)
-get-at [] i x d below at = absurd (omega arith)
-get-at (y ∷ xs) zero x d below at = (ap (λ z. Some z) (sym at), sym at)
-get-at (y ∷ xs) (suc i) x d below at = get-at xs i x d (omega arith) at
-
 -- one more entry
-pub pairs_of-more : (m : ℕ) (entries : List Entry) (i : ℕ) (e : Entry) → slice_get entries i ≡ Some e → pairs_of m (take (suc i) entries) ≡ pairs_of m (take i entries) ++ (m, e.det) ∷ []
-pairs_of-more m entries i e at = ap (λ es. pairs_of m es) (take-more entries i e at) ∙ map-append (λ (x : Entry). (m, x.det)) (take i entries) (e ∷ [])
+pub pairs_of-more : (m : ℕ) (entries : List Entry) (i : ℕ) (e : Entry) → slice_get entries i ≡ Some e
+    → pairs_of m (take (i + 1) entries) ≡ pairs_of m (take i entries) ++ (m, e.det) ∷ []
+pairs_of-more m entries i e at = rw (add-one, take-more entries i e at) (map-append (λ (x : Entry). (m, x.det)) (take i entries) (e ∷ []))
 
 -- one more member
 pub pairs_from-more : (ms : List MemberRecord) (i : ℕ) (x : MemberRecord) → i < length ms → x ≡ get_or ms i x
-    → pairs_from 0 (take (suc i) ms) ≡ pairs_from 0 (take i ms) ++ pairs_of i x.table
+    → pairs_from 0 (take (i + 1) ms) ≡ pairs_from 0 (take i ms) ++ pairs_of i x.table
 pairs_from-more ms i x below at =
     let place : 0 + length (take i ms) ≡ i = omega (arith, length-take-le i ms (omega arith)) in
-    ap (λ xs. pairs_from 0 xs) (take-more ms i x (get-at ms i x blank below at).0) ∙ (rw place at (pairs_from-push 0 (take i ms) x))
+    rw (take_more ms i x below, ← at) (rw place at (pairs_from-push 0 (take i ms) x))
 
 pub distinct-more : (ms : List MemberRecord) (i : ℕ) (x : MemberRecord) → i < length ms → x ≡ get_or ms i x
     → ((m : ℕ) → m < i → IsOnce (slice_index_or ms m blank).table) → IsOnce x.table → (m : ℕ) → m < i + 1 → IsOnce (slice_index_or ms m blank).table
-distinct-more ms i x below at so_far once = below_more (λ m. IsOnce (slice_index_or ms m blank).table) i so_far (rw (get-at ms i x blank below at).1 once)
+distinct-more ms i x below at so_far once =
+    below_more (λ m. IsOnce (slice_index_or ms m blank).table) i so_far (rw (← get_or_read_under ms i (length ms) x blank at below refl) once)

@@ -1,6 +1,5 @@
 -- The loop that gives the members that are down the gathered table, one after the other.
-use Rattle.std.proofs.Common.{◌≡◌, ℕ, ◌+◌, ◌<◌, ◌≤◌, true, false, List, length, ap, ◌∙◌, arith}
-use Rattle.std.specs.Prelude.{slice_index_or, slice_set}
+use Rattle.std.proofs.Common.{◌≡◌, ℕ, ◌+◌, ◌<◌, ◌≤◌, true, false, List, length, refl, ◌∙◌, arith, slice_index_or, slice_set}
 use Rattle.std.specs.FinSet as set
 use Rattle.fbl_base.specs.MemberSets.{Members}
 use Rattle.fbl_table.specs.declared.entry.Entry.{Entry}
@@ -13,23 +12,20 @@ pub record Giving (down : Members) (table : List Entry) (first : List MemberReco
   pub turned : Turned blank (λ p x. set.contains down p ≡ true → x ≡ record (slice_index_or first p blank) { table = table }) i first rebuilt
   pub left : (p : ℕ) → i ≤ p → set.contains down p ≡ true → gathered ≡ table
 
-module _ (down : Members) (table : List Entry) (first : List MemberRecord) where
-  pub give-one : (i place : ℕ) (rebuilt : List MemberRecord) (before after : List Entry) (x y : MemberRecord)
-      → Giving down table first i rebuilt before → place ≡ i → i < length first → set.contains down i ≡ true → x ≡ slice_index_or rebuilt place x
+module _ {down : Members} {table : List Entry} {first : List MemberRecord} {i : ℕ} {rebuilt : List MemberRecord} {before : List Entry}
+    (so_far : Giving down table first i rebuilt before) where
+  pub give-one : {place : ℕ} {after : List Entry} {x y : MemberRecord} → place ≡ i → i < length first → set.contains down i ≡ true
+      → x ≡ slice_index_or rebuilt place x
       → y ≡ record x { table = before } → ((p : ℕ) → i < p → set.contains down p ≡ true → after ≡ before) → Giving down table first (i + 1) (slice_set rebuilt place y) after
-  give-one i place rebuilt before after x y so_far is_place below here read made stays =
-      let was : x ≡ slice_index_or first i blank = read_at rebuilt place x x (omega (arith, so_far.turned.size, below, is_place)) read
-      ∙ ap (λ k. slice_index_or rebuilt k blank) is_place ∙ so_far.turned.rest i (omega arith) in
+  give-one is_place below here read made stays =
+      let was = read_at rebuilt is_place (omega (arith, so_far.turned.size, below)) read ∙ so_far.turned.rest i (omega arith) in
       record {
-        turned = turned-set blank (λ p z. set.contains down p ≡ true → z ≡ record (slice_index_or first p blank) { table = table }) i place first rebuilt y so_far.turned is_place below
-            (λ there. made ∙ ap (λ (m : MemberRecord). record m { table = before }) was
-            ∙ ap (λ (t : List Entry). record (slice_index_or first i blank) { table = t }) (so_far.left i (omega arith) there));
+        turned = turned-set so_far.turned is_place below (λ there. rw (made, was, so_far.left i (omega arith) there) refl);
         left = λ p past there. stays p (omega (arith, past)) there ∙ so_far.left p (omega (arith, past)) there;
       }
 
-  pub give-none : (i : ℕ) (rebuilt : List MemberRecord) (gathered : List Entry) → Giving down table first i rebuilt gathered
-      → set.contains down i ≡ false → Giving down table first (i + 1) rebuilt gathered
-  give-none i rebuilt gathered so_far up = record {
-    turned = turned-kept blank (λ p x. set.contains down p ≡ true → x ≡ record (slice_index_or first p blank) { table = table }) i first rebuilt so_far.turned (λ there. cc);
+  pub give-none : set.contains down i ≡ false → Giving down table first (i + 1) rebuilt before
+  give-none up = record {
+    turned = turned-kept so_far.turned (λ there. cc);
     left = λ p past there. so_far.left p (omega (arith, past)) there;
   }

@@ -1,4 +1,5 @@
 pub mod Queues
+pub mod Views
 pub mod Planning
 pub mod Deciding
 pub mod Striking

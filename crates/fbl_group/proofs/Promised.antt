@@ -1,5 +1,5 @@
 -- What strikes and recoveries promise.
-use Rattle.std.proofs.Common.{◌≡◌, ℕ, length, inl, inr, sym, subst, arith}
+use Rattle.std.proofs.Common.{◌≡◌, length, inl, inr, sym, subst, arith}
 use Rattle.fbl_base.specs.MemberSets.{Members}
 use Rattle.fbl_base.specs.Fold.{Next}
 use Rattle.fbl_member.specs.Members.{MemberRecord}

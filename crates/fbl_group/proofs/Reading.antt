@@ -1,5 +1,6 @@
 -- How large the parts of a sound group are.
-use Rattle.std.proofs.Common.{◌≡◌, ℕ, ◌+◌, ◌-◌, ◌*◌, ◌≤◌, ◌==◌, not, Bool, List, [], ◌∷◌, length, map, inl, inr, refl, ap, arith}
+use Rattle.std.proofs.Common.{◌≡◌, ℕ, ◌+◌, ◌-◌, ◌*◌, ◌≤◌, ◌==◌, not, Bool, List, [], ◌∷◌, length, map, inl, inr, refl, sym, ap, ◌∙◌}
+use Rattle.std.proofs.Common.{arith}
 use Rattle.std.specs.Prelude.{sum_by}
 use Rattle.std.specs.List.{filter_map, list_any}
 use Rattle.std.specs.FinSet as set
@@ -55,23 +56,21 @@ module _ (next : Next) (r : GroupRecord) (sound : IsSound next r) where
   pub received-twice : 2 * (r.receipts_ever - r.undone_ever) ≤ length r.trace
   received-twice = omega (arith, unreceived, sound.counted)
 
+  -- a channel between members that are up has as many messages as are in flight by the trace
+  as-in-flight : (q p : ℕ) → IsUp (knowledge r) q → IsUp (knowledge r) p → length (channel r q p) ≡ length (in_flight (marks r) q p)
+  as-in-flight q p up_q up_p =
+      let matches : MatchesTrace (knowledge r) q p = sound.causes.channels q p up_q up_p in
+      let same : length (map send_mark (channel r q p)) ≡ length (map (λ ssn. Send q ssn p) (in_flight (marks r) q p)) = ap length matches in
+      omega (arith, same, length-map (channel r q p) send_mark, length-map (in_flight (marks r) q p) (λ ssn. Send q ssn p))
+
   -- while nobody is down that is in flight
   pub unreceived-fly : set.len r.down ≡ 0 → length r.trace - 2 * (r.receipts_ever - r.undone_ever) ≡ messages_in_flight r
   unreceived-fly nobody =
       let n = r.config.members in
       let up : (m : ℕ) → IsUp (knowledge r) m = all_up next r sound (set.empty_of_len r.down nobody) in
-      let cell : (q p : ℕ) → length (channel r q p) ≡ weight_in n one (marks r) q p = λ q p.
-      let matches : MatchesTrace (knowledge r) q p = sound.causes.channels q p (up q) (up p) in
-      let same : length (map send_mark (channel r q p)) ≡ length (map (λ ssn. Send q ssn p) (in_flight (marks r) q p)) = ap length matches in
-      omega (
-        arith,
-        same,
-        length-map (channel r q p) send_mark,
-        length-map (in_flight (marks r) q p) (λ ssn. Send q ssn p),
-        weighs-length q (in_flight (marks r) q p),
-      ) in
       let all = sum_below-agree n (λ q. sum_below n (λ p. length (channel r q p))) (λ q. sum_below n (weight_in n one (marks r) q))
-      (λ q below. sum_below-agree n (λ p. length (channel r q p)) (weight_in n one (marks r) q) (λ p below_p. cell q p)) in
+      (λ q below. sum_below-agree n (λ p. length (channel r q p)) (weight_in n one (marks r) q)
+      (λ p below_p. as-in-flight q p (up q) (up p) ∙ sym (weighs-length q (in_flight (marks r) q p)))) in
       omega (arith, all, unreceived, sound.counted)
 
   -- a channel has at most as many messages as the trace may have events
@@ -80,10 +79,7 @@ module _ (next : Next) (r : GroupRecord) (sound : IsSound next r) where
     | inl down ↦ rw (sound.causes.down.channels q p (inl down)) omega arith
     | inr up ↦ elim (down_or_up r.down p) [
       | inl down ↦ rw (sound.causes.down.channels q p (inr down)) omega arith
-      | inr up_to ↦
-          let matches : MatchesTrace (knowledge r) q p = sound.causes.channels q p up up_to in
-          let same : length (map send_mark (channel r q p)) ≡ length (map (λ ssn. Send q ssn p) (in_flight (marks r) q p)) = ap length matches in
-          omega (arith, same, length-map (channel r q p) send_mark, length-map (in_flight (marks r) q p) (λ ssn. Send q ssn p), in_flight-fits (marks r) q p, trace_fits next r sound)
+      | inr up_to ↦ omega (arith, as-in-flight q p up up_to, in_flight-fits (marks r) q p, trace_fits next r sound)
     ]
   ]
 

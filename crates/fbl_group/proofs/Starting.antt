@@ -1,12 +1,11 @@
 -- What a group is made of at its start.
-use Rattle.std.proofs.Common.{◌≡◌, ℕ, zero, suc, ◌+◌, ◌<◌, ◌==◌, Bool, true, false, cond, List, [], ◌∷◌, ◌++◌, length, map, take, drop, get_or, Option, Some, None, refl}
-use Rattle.std.proofs.Common.{sym, ap, ◌∙◌, arith, append_assoc, append-nil}
-use Rattle.std.specs.Prelude.{slice_index, slice_index_or, slice_set, count_by}
+use Rattle.std.proofs.Common.{◌≡◌, ◌≢◌, ◌⊎◌, inl, inr, ℕ, zero, suc, ◌+◌, ◌<◌, ◌==◌, cond, List, [], ◌∷◌, ◌++◌, length, map, take, drop}
+use Rattle.std.proofs.Common.{get_or, Option, Some, None, refl, ap, ◌∙◌, arith, append_assoc, slice_get, slice_index, slice_index_or, slice_set, count_by}
 use Rattle.std.specs.List.{filter_map, cons_option, IsDistinct}
-use Rattle.std.proofs.lemmas.Bool.Decides.{nat_tests}
-use Rattle.std.proofs.lemmas.List.{map-append, length-map, get_or-map}
-use Rattle.std.proofs.lemmas.List.Elements.{filter-append}
-use Rattle.std.proofs.lemmas.Option.{slice_get-get_or}
+use Rattle.std.proofs.lemmas.Bool.{cases_eq}
+use Rattle.std.proofs.lemmas.List.{map-append, get_or-set_same, get_or-set_other, take_more}
+use Rattle.std.proofs.lemmas.List.Elements.{filter-append, filter_map-append}
+use Rattle.std.proofs.lemmas.Option.{slice_get-get_or, slice_get-map}
 use Rattle.std.proofs.lemmas.List.Sums.{sum_by-append}
 use Rattle.fbl_base.specs.declared.trace.Note.{Note}
 use Rattle.fbl_base.specs.declared.trace.Start.{Start}
@@ -19,7 +18,9 @@ use Rattle.fbl_member.specs.Members.{Message}
 use Rattle.fbl_law.specs.Steps.{is_on, between}
 use Rattle.fbl_law.specs.Groups.{HasChannels, channel_in}
 use Rattle.fbl_law.specs.GroupSteps.{start_events, message_of_send}
-use Rattle.fbl_group.proofs.Queues.{put-in}
+use Rattle.fbl_base.proofs.RulesLaws.{eqb-self}
+use Rattle.fbl_base.proofs.Sifted.{sifted_none}
+use Rattle.fbl_group.proofs.Queues.{eqb-other, put-in}
 
 -- no two entries of none are equal
 pub once-none : IsDistinct same_determinant []
@@ -27,15 +28,9 @@ unfolding IsDistinct
 once-none = tt
 
 -- one more element under a map that drops some
-pub filter_map-more : {X Y : Type 0} (h : X → Option Y) (xs : List X) (i : ℕ) (x : X) → i < length xs → x ≡ get_or xs i x
-    → filter_map h (take (suc i) xs) ≡ filter_map h (take i xs) ++ cons_option (h x) []
-filter_map-more h [] i x below at = absurd (omega arith)
-filter_map-more h (y ∷ xs) zero x below at = ap (λ z. cons_option (h z) []) (sym at)
-filter_map-more {Y = Y} h (y ∷ xs) (suc i) x below at = here (h y) (filter_map-more h xs i x (omega arith) at) where
-  here : (o : Option Y) → filter_map h (take (suc i) xs) ≡ filter_map h (take i xs) ++ cons_option (h x) []
-      → cons_option o (filter_map h (take (suc i) xs)) ≡ cons_option o (filter_map h (take i xs)) ++ cons_option (h x) []
-  here None ih = ih
-  here (Some z) ih = ap (λ zs. z ∷ zs) ih
+filter_map-more : {X Y : Type 0} (h : X → Option Y) (xs : List X) (i : ℕ) (x : X) → i < length xs → x ≡ get_or xs i x
+    → filter_map h (take (i + 1) xs) ≡ filter_map h (take i xs) ++ cons_option (h x) []
+filter_map-more h xs i x below at = rw (take_more xs i x below, ← at) (filter_map-append h (take i xs) (x ∷ []))
 
 -- one more send of a start
 pub starts-more : (done : List Event) (ss : List Start) (i : ℕ) (s : Start) → i < length ss → s ≡ get_or ss i s
@@ -55,54 +50,39 @@ sends-more done from ssn to note m =
 pub counts-more : (done : List Event) (sent : List ℕ) (from to : ℕ) (note : Note) → ((m : ℕ) → m < 16 → slice_index sent m ≡ sends_of (map mark_of done) m) → length sent ≡ 16
     → from < 16 → (m : ℕ) → m < 16
     → slice_index (slice_set sent from (slice_index sent from + 1)) m ≡ sends_of (map mark_of (done ++ Send from (sends_of (map mark_of done) from + 1) to note ∷ [])) m
-counts-more done sent from to note counts places within m below = read sent from m _ (omega (arith, places, within)) ∙ at (from == m) refl ∙ sym (sends-more done from _ to note m) where
-  read : (xs : List ℕ) (k j x : ℕ) → k < length xs → slice_index (slice_set xs k x) j ≡ cond (k == j) x (slice_index xs j)
-  read [] k j x lt = absurd (omega arith)
-  read (y ∷ xs) zero zero x lt = refl
-  read (y ∷ xs) zero (suc j) x lt = rw (let e : (0 == suc j) ≡ false = grind (arith, nat_tests) in e) refl
-  read (y ∷ xs) (suc k) zero x lt = rw (let e : (suc k == 0) ≡ false = grind (arith, nat_tests) in e) refl
-  read (y ∷ xs) (suc k) (suc j) x lt = rw (let e : (suc k == suc j) ≡ (k == j) = grind (arith, nat_tests) in e) (read xs k j x (omega arith))
-
-  at : (b : Bool) → (from == m) ≡ b → cond b (slice_index sent from + 1) (slice_index sent m) ≡ sends_of (map mark_of done) m + cond b 1 0
-  at true e =
-      let same : from ≡ m = grind (arith, nat_tests) in
-      rw same (ap (λ k. k + 1) (counts m below))
-  at false e = omega (arith, counts m below)
+counts-more done sent from to note counts places within m below = rw (sends-more done from _ to note m) (at (cases_eq m from)) where
+  at : (m ≡ from) ⊎ (m ≢ from) → slice_index (slice_set sent from (slice_index sent from + 1)) m ≡ sends_of (map mark_of done) m + cond (from == m) 1 0
+  at (inl same) = rw (same, eqb-self from, get_or-set_same sent from (slice_index sent from + 1) 0 (omega (arith, places, within))) (ap (λ k. k + 1) (counts from within))
+  at (inr other) = rw (eqb-other from m other, get_or-set_other sent from m (slice_index sent from + 1) 0 other) (omega (arith, counts m below))
 
 -- the message of an event that obeys the rules goes from a member to a member
-pub event-ends : (n : ℕ) (events : List Event) (i : ℕ) (e : Event) (w : Message) → WellFormed n (map mark_of events) → i < length events → e ≡ get_or events i e
+pub event-ends : (n : ℕ) (events : List Event) (i : ℕ) {e : Event} {w : Message} → WellFormed n (map mark_of events) → i < length events → e ≡ get_or events i e
     → message_of_send e ≡ Some w → (w.from < n) × (w.to < n)
-event-ends n events i e w obeys below read is = at e is (obeys i (mark_of e) (slice_get-get_or (map mark_of events) i (mark_of e) (omega (arith, below, length-map events mark_of))
-    ∙ ap (λ m. Some m) (get_or-map mark_of events i e (mark_of e) below ∙ ap mark_of (sym read)))) where
-      at : (x : Event) → message_of_send x ≡ Some w → MayFollow n (take i (map mark_of events)) (mark_of x) → (w.from < n) × (w.to < n)
-      at (Send from ssn to note) is may =
-          let sender : from ≡ w.from = cc in
-          let receiver : to ≡ w.to = cc in
-          (omega (arith, sender, may.0), omega (arith, receiver, may.1))
-      at (Receipt to rsn from ssn) is may = absurd cc
+event-ends n events i {e = e} {w = w} obeys below read is = at e is (obeys i (mark_of e) there) where
+  there : slice_get (map mark_of events) i ≡ Some (mark_of e)
+  there = rw (slice_get-map mark_of events i, slice_get-get_or events i e below, ← read) refl
+
+  at : (x : Event) → message_of_send x ≡ Some w → MayFollow n (take i (map mark_of events)) (mark_of x) → (w.from < n) × (w.to < n)
+  at (Send from ssn to note) is may =
+      let sender : from ≡ w.from = cc in
+      let receiver : to ≡ w.to = cc in
+      (omega (arith, sender, may.0), omega (arith, receiver, may.1))
+  at (Receipt to rsn from ssn) is may = absurd cc
 
 -- one event more: its message is at the end of its channel
-pub sent-more : (q p n : ℕ) (first before after : List (List (List Message))) (events : List Event) (i : ℕ) (e : Event) (w : Message) → HasChannels n before → w.from < n → w.to < n
-    → i < length events → e ≡ get_or events i e → message_of_send e ≡ Some w
+pub sent-more : (q p : ℕ) {n : ℕ} (first : List (List (List Message))) {before after : List (List (List Message))} (events : List Event) (i : ℕ) {e : Event} {w : Message}
+    → HasChannels n before → w.from < n → w.to < n → i < length events → e ≡ get_or events i e → message_of_send e ≡ Some w
     → after ≡ slice_set before w.from (slice_set (slice_index_or before w.from []) w.to (channel_in before w.from w.to ++ w ∷ []))
     → channel_in before q p ≡ channel_in first q p ++ between q p (filter_map message_of_send (take i events))
     → channel_in after q p ≡ channel_in first q p ++ between q p (filter_map message_of_send (take (i + 1) events))
-sent-more q p n first before after events i e w shape from to below read is put was =
-    let next : i + 1 ≡ suc i = omega arith in
-    let more : filter_map message_of_send (take (i + 1) events) ≡ filter_map message_of_send (take i events) ++ w ∷ [] = ap (λ k. filter_map message_of_send (take k events)) next
-    ∙ filter_map-more message_of_send events i e below read ∙ ap (λ (o : Option Message). filter_map message_of_send (take i events) ++ cons_option o []) is in
-    ap (λ (cs : List (List (List Message))). channel_in cs q p) put ∙ put-in n before w.from w q p refl shape from to ∙ ap (λ (c : List Message). c ++ between q p (w ∷ [])) was
-    ∙ append_assoc (channel_in first q p) (between q p (filter_map message_of_send (take i events))) (between q p (w ∷ []))
-    ∙ ap (λ (c : List Message). channel_in first q p ++ c) (sym (filter-append (is_on q p) (filter_map message_of_send (take i events)) (w ∷ []))
-    ∙ ap (λ (c : List Message). between q p c) (sym more))
+sent-more q p first events i {e = e} {w = w} shape from to below read is put was =
+    let sent = filter_map message_of_send (take i events) in
+    rw (put, filter_map-more message_of_send events i e below read, is, filter-append (is_on q p) sent (w ∷ []))
+    (put-in w q p refl shape from to ∙ rw (was, append_assoc (channel_in first q p) (between q p sent) (between q p (w ∷ []))) refl)
 
 -- an event that sends nothing leaves the channels
-pub sent-none : (q p : ℕ) (first before : List (List (List Message))) (events : List Event) (i : ℕ) (e : Event) → i < length events → e ≡ get_or events i e → message_of_send e ≡ None
+pub sent-none : (q p : ℕ) (first before : List (List (List Message))) (events : List Event) (i : ℕ) {e : Event} → i < length events → e ≡ get_or events i e
+    → message_of_send e ≡ None
     → channel_in before q p ≡ channel_in first q p ++ between q p (filter_map message_of_send (take i events))
     → channel_in before q p ≡ channel_in first q p ++ between q p (filter_map message_of_send (take (i + 1) events))
-sent-none q p first before events i e below read is was =
-    let next : i + 1 ≡ suc i = omega arith in
-    let more : filter_map message_of_send (take (i + 1) events) ≡ filter_map message_of_send (take i events) = ap (λ k. filter_map message_of_send (take k events)) next
-    ∙ filter_map-more message_of_send events i e below read ∙ ap (λ (o : Option Message). filter_map message_of_send (take i events) ++ cons_option o []) is
-    ∙ append-nil (filter_map message_of_send (take i events)) in
-    was ∙ ap (λ (c : List Message). channel_in first q p ++ between q p c) (sym more)
+sent-none q p first before events i {e = e} below read is was = rw (sifted_none (is_on q p) message_of_send events i e below read is) was

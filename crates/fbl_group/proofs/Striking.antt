@@ -1,16 +1,17 @@
 -- When a strike is refused, and what it leaves.
-use Rattle.std.proofs.Common.{subst, ◌≡◌, ◌≢◌, ℕ, suc, ◌+◌, ◌<◌, ◌≤◌, ◌==◌, ◌&&◌, ◌||◌, not, Bool, true, false, cond, List, [], ◌∷◌, length}
-use Rattle.std.proofs.Common.{map, inl, inr, ◌⊎◌, Option, Some, None, refl, sym, ap, ◌∙◌, arith, slice_get}
-use Rattle.std.specs.Prelude.{nat_lt, count_by, slice_index_or}
-use Rattle.std.specs.List.{filter, list_any, list_all, cons_option}
+use Rattle.std.proofs.Common.{◌≡◌, ◌≢◌, ℕ, suc, ◌+◌, ◌<◌, ◌≤◌, ◌==◌, ◌&&◌, ◌||◌, not, Bool, true, false, cond, List, [], ◌∷◌, length}
+use Rattle.std.proofs.Common.{map, inl, inr, ◌⊎◌, Option, Some, None, refl, sym, ap, ◌∙◌, arith, slice_get, nat_lt, count_by, slice_index_or, option_map}
+use Rattle.std.specs.List.{filter, cons_option}
 use Rattle.std.specs.Ordering.{nat_cmp, eq_by_cmp}
 use Rattle.std.specs.Cmp.{unsigned_tied, nat_cmp_total}
 use Rattle.std.specs.FinSet as sets
-use Rattle.std.proofs.lemmas.Bool.{cases_lt, false≢true}
+use Rattle.std.proofs.lemmas.Bool.{cases_Bool, cases_lt, false≢true, false_from_ne_true, true_from_ne_false}
+use Rattle.std.proofs.Math.Bool.{or-true}
 use Rattle.std.proofs.lemmas.Bool.Decides.{nat_tests}
-use Rattle.std.specs.Option.{option_map}
 use Rattle.std.proofs.lemmas.Option.{slice_get-map}
-use Rattle.std.proofs.lemmas.List.Sums.{sum_by-cons}
+use Rattle.std.proofs.lemmas.List.{get_or_default}
+use Rattle.std.proofs.lemmas.List.Folds.{Any-from_list_any, list_any-from_Any}
+use Rattle.std.proofs.lemmas.List.Sums.{AllPass-from_list_all, list_all-from_AllPass, sum_by-cons}
 use Rattle.fbl_base.specs.declared.trace.Determinant.{Determinant}
 use Rattle.fbl_base.specs.declared.trace.Event.{Event}
 use Rattle.fbl_base.specs.declared.trace.Event.TheVariants as event
@@ -33,42 +34,23 @@ use Rattle.fbl_group.specs.Channels.{AreReplaced}
 use Rattle.fbl_group.specs.Strikes.{is_within, strike_refusal, lost_receipts, is_lost_receipt_of, IsBlanked}
 
 -- the test of who is below n
-all_below : (n : ℕ) (ks : List ℕ) → ((q : ℕ) → list_any (eq_by_cmp nat_cmp q) ks ≡ true → q < n) → list_all (λ m. nat_lt m n) ks ≡ true
-all_below n [] below = refl
-all_below n (k ∷ ks) below =
-    let tie : eq_by_cmp nat_cmp k k ≡ true = unsigned_tied k k ∙ eqb-self k in
-    let first : k < n = below k (ap (λ b. b || list_any (eq_by_cmp nat_cmp k) ks) tie) in
-    let is : nat_lt k n ≡ true = grind (arith, nat_tests) in
-    rw is (all_below n ks (λ q among. below q (rw among (or_true (eq_by_cmp nat_cmp q k)))))
-  where
-    or_true : (b : Bool) → (b || true) ≡ true
-    or_true true = refl
-    or_true false = refl
-
-below_all : (n : ℕ) (ks : List ℕ) → list_all (λ m. nat_lt m n) ks ≡ true → (q : ℕ) → list_any (eq_by_cmp nat_cmp q) ks ≡ true → q < n
-below_all n [] all q among = cc
-below_all n (k ∷ ks) all q among = at (nat_lt k n) (eq_by_cmp nat_cmp q k) refl refl all among (below_all n ks) where
-  at : (a b : Bool) → nat_lt k n ≡ a → eq_by_cmp nat_cmp q k ≡ b → (a && list_all (λ m. nat_lt m n) ks) ≡ true
-      → (b || list_any (eq_by_cmp nat_cmp q) ks) ≡ true → (list_all (λ m. nat_lt m n) ks ≡ true → (q : ℕ) → list_any (eq_by_cmp nat_cmp q) ks ≡ true → q < n) → q < n
-  at false b ea eb all among rest = cc
-  at true true ea eb all among rest =
-      let same : (q == k) ≡ true = sym (unsigned_tied q k) ∙ eb in
-      let equal : q ≡ k = grind (arith, nat_tests) in
-      let below : k < n = grind (arith, nat_tests) in
-      omega (arith, equal, below)
-  at true false ea eb all among rest = rest all q among
-
 within-below : (s : Members) (n : ℕ) → is_within s n ≡ true → AllBelow s n
-within-below s n within q among = below_all n (sets.items s) within q (sym (sets.contains-items s q) ∙ among)
+within-below s n within q among =
+    let one = Any-from_list_any (eq_by_cmp nat_cmp q) (sets.items s) (sym (sets.contains-items s q) ∙ among) in
+    let below : nat_lt one.1 n ≡ true = rw one.3 at (AllPass-from_list_all (λ m. nat_lt m n) (sets.items s) within one.0 one.1 one.2) in
+    let same : (q == one.1) ≡ true = sym (unsigned_tied q one.1) ∙ one.4 in
+    grind (arith, nat_tests)
 
 below-within : (s : Members) (n : ℕ) → AllBelow s n → is_within s n ≡ true
-below-within s n below = all_below n (sets.items s) (λ q among. below q (sets.contains-items s q ∙ among))
+below-within s n below = list_all-from_AllPass (λ m. nat_lt m n) (sets.items s) (λ k d less.
+    let m : ℕ = slice_index_or (sets.items s) k d in
+    let itself : eq_by_cmp nat_cmp m m ≡ true = unsigned_tied m m ∙ eqb-self m in
+    let among = list_any-from_Any (eq_by_cmp nat_cmp m) (sets.items s) (k, m, less, get_or_default (sets.items s) k m d less, itself) in
+    let within : m < n = below m (sets.contains-items s m ∙ among) in
+    grind (arith, nat_tests))
 
 not-below : (s : Members) (n : ℕ) → ¬ (AllBelow s n) → is_within s n ≡ false
-not-below s n not_all = at (is_within s n) refl where
-  at : (b : Bool) → is_within s n ≡ b → b ≡ false
-  at true is = absurd (not_all (within-below s n is))
-  at false is = refl
+not-below s n not_all = false_from_ne_true (is_within s n) (λ is. not_all (within-below s n is))
 
 -- each refusal comes where its rule is broken and those before it are kept
 module _ (struck : Members) {r now : GroupRecord} (view : r ≡ now) {n : ℕ} (all : n ≡ r.config.members) where
@@ -104,22 +86,9 @@ pub record MayStrike (r : GroupRecord) (struck : Members) : Type 0 where
   pub few : sets.len (sets.union r.down struck) ≤ r.config.f
 
 pub may_strike : (r : GroupRecord) (struck : Members) → strike_refusal r struck ≡ None → MayStrike r struck
-may_strike r struck allowed = at (is_within struck r.config.members) (sets.len struck == 0) (nat_lt r.config.f (sets.len (sets.union r.down struck))) refl refl refl allowed where
-  at : (a b c : Bool) → is_within struck r.config.members ≡ a → (sets.len struck == 0) ≡ b → nat_lt r.config.f (sets.len (sets.union r.down struck)) ≡ c
-      → cond (not a) (Some BadMember) (cond b (Some Nobody) (cond c (Some TooMany) None)) ≡ None → MayStrike r struck
-  at false b c ea eb ec none = cc
-  at true true c ea eb ec none = cc
-  at true false true ea eb ec none = cc
-  at true false false ea eb ec none = record {
-    below = within-below struck r.config.members ea;
-    few = grind (arith, nat_tests);
-  }
+may_strike r struck allowed = record { below = within-below struck r.config.members (grind (arith, nat_tests)); few = grind (arith, nat_tests) }
 
--- the channels are emptied, by a number that is that of the members
-pub emptied-by : {n k : ℕ} {s : Members} {old new : List (List (List Message))} → n ≡ k → AreReplaced n s (λ q p. []) old new → AreReplaced k s (λ q p. []) old new
-emptied-by {s = s} {old = old} {new = new} same emptied = subst (λ m. AreReplaced m s (λ q p. []) old new) same emptied
-
-module _ (next : Next) (old new : GroupRecord) (struck : Members) (sound : IsSound next old) (allowed : strike_refusal old struck ≡ None)
+module _ {next : Next} {old : GroupRecord} (new : GroupRecord) {struck : Members} (sound : IsSound next old) (allowed : strike_refusal old struck ≡ None)
     (blanked : IsBlanked struck old.members new.members) (channels : AreReplaced old.config.members struck (λ q p. []) old.channels new.channels)
     (down : new.down ≡ sets.union old.down struck) (trace : new.trace ≡ old.trace) (checkpoints : new.checkpoints ≡ old.checkpoints)
     (config : new.config ≡ old.config) (receipts_ever : new.receipts_ever ≡ old.receipts_ever) (undone_ever : new.undone_ever ≡ old.undone_ever) where
@@ -128,22 +97,20 @@ module _ (next : Next) (old new : GroupRecord) (struck : Members) (sound : IsSou
 
   -- who is down was down before or is struck
   both_down : (m : ℕ) → sets.contains new.down m ≡ (sets.contains old.down m || sets.contains struck m)
-  both_down m = ap (λ (s : Members). sets.contains s m) down ∙ sets.contains-union {R = nat_cmp} nat_cmp_total old.down struck m
-
-  neither : (a b : Bool) → (a || b) ≡ false → (a ≡ false) × (b ≡ false)
-  neither true b h = cc
-  neither false b h = (refl, h)
+  both_down m = rw down (sets.contains-union {R = nat_cmp} nat_cmp_total old.down struck m)
 
   not_struck : (m : ℕ) → IsUp (knowledge new) m → sets.contains struck m ≡ false
-  not_struck m up = (neither (sets.contains old.down m) (sets.contains struck m) (sym (both_down m) ∙ up)).1
+  not_struck m up = grind (arith, both_down m)
+
+  down_before : (m : ℕ) → sets.contains struck m ≡ false → IsDown (knowledge new) m → IsDown (knowledge old) m
+  down_before m other is = grind (arith, both_down m)
 
   -- a member that is down now and is not struck was blank before
   blank_now : (m : ℕ) → IsDown (knowledge new) m → slice_index_or new.members m blank ≡ blank
-  blank_now m is = at (sets.contains old.down m) (sets.contains struck m) refl refl (sym (both_down m) ∙ is) where
-    at : (a b : Bool) → sets.contains old.down m ≡ a → sets.contains struck m ≡ b → (a || b) ≡ true → slice_index_or new.members m blank ≡ blank
-    at a true ea eb either = blanked.named m eb
-    at true false ea eb either = blanked.others m eb ∙ sound.blanks m (sound.down m ea) ea
-    at false false ea eb either = cc
+  blank_now m is = elim (cases_Bool (sets.contains struck m)) [
+    | inl named ↦ blanked.named m named
+    | inr other ↦ blanked.others m other ∙ (let before = down_before m other is in sound.blanks m (sound.down m before) before)
+  ]
 
   -- a channel is emptied where one of its ends is struck, and no other is
   emptied_where : (q p : ℕ) → channel new q p ≡ cond (sets.contains struck q || sets.contains struck p) [] (channel old q p)
@@ -163,32 +130,21 @@ module _ (next : Next) (old new : GroupRecord) (struck : Members) (sound : IsSou
     at (inr past) within = outside (inl past)
 
   kept : (q p : ℕ) → sets.contains struck q ≡ false → sets.contains struck p ≡ false → channel new q p ≡ channel old q p
-  kept q p up_q up_p = emptied_where q p ∙ ap (λ b. cond (b || sets.contains struck p) [] (channel old q p)) up_q ∙ ap (λ b. cond b [] (channel old q p)) up_p
+  kept q p up_q up_p = (rw (up_q, up_p) at (emptied_where q p))
 
-  emptied : (q p : ℕ) → (sets.contains struck q || sets.contains struck p) ≡ true → channel new q p ≡ []
-  emptied q p ends = emptied_where q p ∙ ap (λ b. cond b [] (channel old q p)) ends
-
-  either : (a b : Bool) → (a ≡ true) ⊎ (b ≡ true) → (a || b) ≡ true
-  either true b h = refl
-  either false b (inl h) = cc
-  either false b (inr h) = h
+  emptied : (q p : ℕ) → (sets.contains struck q ≡ true) ⊎ (sets.contains struck p ≡ true) → channel new q p ≡ []
+  emptied q p (inl end) = (rw end at (emptied_where q p))
+  emptied q p (inr end) = (rw (end, or-true) at (emptied_where q p))
 
   -- a channel with an end that was down before was empty before
-  was_empty : (q p : ℕ) → IsDown (knowledge old) q ⊎ IsDown (knowledge old) p → channel old q p ≡ []
-  was_empty q p ends = sound.causes.down.channels q p ends
-
   emptied_now : (q p : ℕ) → IsDown (knowledge new) q ⊎ IsDown (knowledge new) p → channel new q p ≡ []
-  emptied_now q p ends = at (sets.contains struck q) (sets.contains struck p) refl refl where
-    before : (m : ℕ) → sets.contains struck m ≡ false → IsDown (knowledge new) m → IsDown (knowledge old) m
-    before m out is = right (sets.contains old.down m) (sets.contains struck m) out (sym (both_down m) ∙ is) where
-      right : (a b : Bool) → b ≡ false → (a || b) ≡ true → a ≡ true
-      right true b eb h = refl
-      right false b eb h = cc
-
-    at : (a b : Bool) → sets.contains struck q ≡ a → sets.contains struck p ≡ b → channel new q p ≡ []
-    at true b ea eb = emptied q p (either (sets.contains struck q) (sets.contains struck p) (inl ea))
-    at false true ea eb = emptied q p (either (sets.contains struck q) (sets.contains struck p) (inr eb))
-    at false false ea eb = kept q p ea eb ∙ was_empty q p (elim ends [ inl is ↦ inl (before q ea is) | inr is ↦ inr (before p eb is) ])
+  emptied_now q p ends = at (cases_Bool (sets.contains struck q)) (cases_Bool (sets.contains struck p)) where
+    at : (sets.contains struck q ≡ true) ⊎ (sets.contains struck q ≡ false) → (sets.contains struck p ≡ true) ⊎ (sets.contains struck p ≡ false)
+        → channel new q p ≡ []
+    at (inl end) either = emptied q p (inl end)
+    at (inr other) (inl end) = emptied q p (inr end)
+    at (inr out_q) (inr out_p) =
+        kept q p out_q out_p ∙ sound.causes.down.channels q p (elim ends [ inl is ↦ inl (down_before q out_q is) | inr is ↦ inr (down_before p out_p is) ])
 
   pub is_strike : IsStrike old new struck
   is_strike = record {
@@ -242,20 +198,13 @@ count-unrecorded r = counted r.trace where
     at : (x : Event) → count_by (is_unrecorded r) events ≡ length (filter unrecorded (receipts (map mark_of events)))
         → cond (is_unrecorded r x) 1 0 + count_by (is_unrecorded r) events ≡ length (filter unrecorded (cons_option (determinant_of (mark_of x)) (receipts (map mark_of events))))
     at (event.Send from ssn to note) ih = omega (arith, ih)
-    at (event.Receipt to rsn from ssn) ih = here (unrecorded (record { from = from; ssn = ssn; to = to; rsn = rsn })) ih where
-      here : (b : Bool) → count_by (is_unrecorded r) events ≡ length (filter unrecorded (receipts (map mark_of events)))
-          → cond b 1 0 + count_by (is_unrecorded r) events
-          ≡ length (cond b (record { from = from; ssn = ssn; to = to; rsn = rsn } ∷ filter unrecorded (receipts (map mark_of events))) (filter unrecorded (receipts (map mark_of events))))
-      here true ih = omega (arith, ih)
-      here false ih = omega (arith, ih)
+    at (event.Receipt to rsn from ssn) ih = grind (arith, ih)
 
 -- in a sound group each receipt of a member that is up is recorded
 up-recorded : (next : Next) (r : GroupRecord) (d : Determinant) → IsSound next r → Has (marks r) (receipt_of d) → IsUp (knowledge r) d.to → is_recorded r d ≡ true
-up-recorded next r d sound there up = at (is_recorded r d) refl where
-  at : (b : Bool) → is_recorded r d ≡ b → b ≡ true
-  at true is = refl
-  at false is =
-      absurd (sound_has_no_orphan next r d.to sound (up, (d, (receipt_of d, itself there, refl), λ recorded. false≢true (sym is ∙ (recorded_test next r d sound).1 recorded))))
+up-recorded next r d sound there up =
+    true_from_ne_false (is_recorded r d)
+    (λ is. sound_has_no_orphan next r d.to sound (up, (d, (receipt_of d, itself there, refl), λ recorded. false≢true (sym is ∙ (recorded_test next r d sound).1 recorded))))
 
 -- tests that agree on each element count the same
 counted-agree : {X : Type 0} (p q : X → Bool) (xs : List X) → ((i : ℕ) (x : X) → slice_get xs i ≡ Some x → p x ≡ q x) → count_by p xs ≡ count_by q xs

@@ -1,5 +1,4 @@
-use Rattle.std.proofs.Common.{◌≡◌, ℕ, ◌<◌, take}
-use Rattle.std.specs.Prelude.{slice_index_or}
+use Rattle.std.proofs.Common.{◌≡◌, ℕ, ◌<◌, take, slice_index_or}
 use Rattle.fbl_member.specs.Carried.{IsOnce}
 use Rattle.fbl_member.specs.Members.{blank}
 use Rattle.fbl_law.specs.Dumps.{pairs_from}

@@ -1,6 +1,4 @@
-use Rattle.std.proofs.Common.{◌≡◌, ◌∙◌, rules}
-use Rattle.std.specs.Prelude.{count_by}
-use Rattle.std.specs.Option.{is_some}
+use Rattle.std.proofs.Common.{◌≡◌, ◌∙◌, rules, count_by, is_some}
 use Rattle.fbl_base.specs.Events.{mark_of, determinant_of}
 use Rattle.fbl_group.proofs.BringingBack.{counted-receipts}
 use Rattle.fbl_group.proofs.recover.count_receipts.Goals as goal

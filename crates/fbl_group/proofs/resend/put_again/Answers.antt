@@ -1,5 +1,3 @@
-use Rattle.std.proofs.Common.{get_or, ap, ◌∙◌, List}
-use Rattle.fbl_table.specs.declared.entry.Entry.{Entry}
 use Rattle.fbl_table.specs.Tables.{piggybacked}
 use Rattle.fbl_group.proofs.Again.{again-step}
 use Rattle.fbl_group.proofs.resend.put_again.Goals as goal
@@ -8,15 +6,7 @@ pub loop-send-preserved : goal.loop-send-preserved
 loop-send-preserved g c = record {
   so_far =
       again-step c.args.from c.args.to c.loop-send.send-index (piggybacked c.args.f c.args.table.now) c.args.unsent.now
-      (0, record { value = 0; hops = 0 }) c.args.wires.now.items c.loop-send.wires.items c.push_back.new.self.items c.new.result c.loop-send-test.true
-      c.loop-send.invariant.so_far c.in_ok-push_back.ensures.items
-      (c.new.ensures ∙ ap (λ (carried : List Entry).
-      record {
-        from = c.args.from;
-        to = c.args.to;
-        ssn = (get_or c.args.unsent.now c.loop-send.send-index (0, record { value = 0; hops = 0 })).0;
-        note = (get_or c.args.unsent.now c.loop-send.send-index (0, record { value = 0; hops = 0 })).1;
-        carried = carried;
-      }) c.in_ok-carried.ensures.value);
+      (0, record { value = 0; hops = 0 }) c.args.wires.now.items c.loop-send-test.true c.loop-send.invariant.so_far c.in_ok-push_back.ensures.items
+      (rw c.in_ok-carried.ensures.value at c.new.ensures);
   passed = c.pass_on.ensures.passed;
 }

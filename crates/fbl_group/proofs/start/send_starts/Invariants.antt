@@ -1,5 +1,4 @@
-use Rattle.std.proofs.Common.{◌≡◌, ℕ, ◌++◌, take}
-use Rattle.std.specs.List.{filter_map}
+use Rattle.std.proofs.Common.{◌≡◌, ℕ, ◌++◌, take, filter_map}
 use Rattle.fbl_law.specs.GroupSteps.{message_of_send}
 use Rattle.fbl_law.specs.Steps.{between}
 use Rattle.fbl_law.specs.Groups.{HasChannels, channel_in}

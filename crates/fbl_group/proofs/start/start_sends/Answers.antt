@@ -1,5 +1,4 @@
-use Rattle.std.proofs.Common.{◌≡◌, suc, ◌+◌, ◌<◌, ◌∷◌, [], map, length-append, ◌∙◌, arith}
-use Rattle.std.specs.Prelude.{slice_index}
+use Rattle.std.proofs.Common.{◌≡◌, suc, ◌+◌, ◌<◌, ◌∷◌, [], map, length-append, ◌∙◌, arith, slice_index}
 use Rattle.std.proofs.lemmas.List.{length-set}
 use Rattle.fbl_base.specs.declared.trace.Event.TheVariants.{Send}
 use Rattle.fbl_base.specs.Events.{mark_of}

@@ -1,5 +1,4 @@
-use Rattle.std.proofs.Common.{◌≡◌, ℕ, ◌<◌, ◌≤◌, length}
-use Rattle.std.specs.Prelude.{slice_index_or}
+use Rattle.std.proofs.Common.{◌≡◌, ℕ, ◌<◌, ◌≤◌, length, slice_index_or}
 use Rattle.fbl_base.specs.declared.trace.Note.{Note}
 use Rattle.fbl_group.specs.Channels.{rows, room_in}
 use Rattle.fbl_group.proofs.channels.Channels.reserve_from.Given as goal

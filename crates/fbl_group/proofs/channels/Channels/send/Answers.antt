@@ -1,10 +1,9 @@
-use Rattle.std.proofs.Common.{◌-◌, ◌++◌, ◌∷◌, [], ◌∙◌}
-use Rattle.std.specs.VecDeque.{deque_items, deque_len, deque_capacity}
+use Rattle.std.proofs.Common.{◌++◌, ◌∷◌, [], ap, ◌∙◌}
 use Rattle.fbl_group.proofs.Queues.{found}
 use Rattle.fbl_group.proofs.channels.Channels.send.Goals as goal
 
 pub returns : goal.returns
 returns g c =
-    let channel = found deque_items c.args.self.now.rows.items (c.from-2.ensures ∙ c.number.ensures.value ∙ c.from.ensures) (c.from-3.ensures ∙ c.number-2.ensures.value ∙ c.to.ensures)
-    c.requires.from c.requires.to c.index_mut.ensures.value (λ d. deque_capacity d - deque_len d) c.index_mut-2.ensures.value in
-    channel.changed (λ vs. vs ++ c.args.wire ∷ []) c.push_back.new.self c.in_ok-push_back.ensures.items
+    let channel = found c.args.self.now (c.from-2.ensures ∙ c.number.ensures.value ∙ c.from.ensures) (c.from-3.ensures ∙ c.number-2.ensures.value ∙ c.to.ensures)
+    (c.requires.from, c.requires.to) c.index_mut.ensures.value c.index_mut-2.ensures.value in
+    channel.changed c.push_back.new.self (c.in_ok-push_back.ensures.items ∙ ap (λ vs. vs ++ c.args.wire ∷ []) channel.messages)

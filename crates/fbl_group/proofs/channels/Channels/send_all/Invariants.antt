@@ -1,6 +1,4 @@
-use Rattle.std.proofs.Common.{◌≡◌, ◌+◌, ◌<◌, ◌≤◌, ◌++◌, [], length, map, vec_len, vec_capacity}
-use Rattle.std.specs.Prelude.{slice_index_or}
-use Rattle.std.specs.List.{All}
+use Rattle.std.proofs.Common.{◌≡◌, ◌+◌, ◌<◌, ◌≤◌, ◌++◌, [], length, map, vec_len, vec_capacity, slice_index_or, All}
 use Rattle.std.specs.Vec.Iter.{into_iter_items}
 use Rattle.fbl_member.specs.Members.{Message}
 use Rattle.fbl_group.specs.Channels.{rows, room_in, with_sent, send_of_message}

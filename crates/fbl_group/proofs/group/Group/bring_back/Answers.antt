@@ -1,25 +1,25 @@
-use Rattle.std.proofs.Common.{ℕ, refl, sym, subst, ap, ◌∙◌, arith}
-use Rattle.fbl_law.specs.Groups.{GroupRecord, HasChannels}
+use Rattle.std.proofs.Common.{refl, arith}
 use Rattle.fbl_group.specs.Channels.{rows}
 use Rattle.fbl_group.proofs.BringingBack.{size, short-again, short-rest, fewer, undone-fits, is_sound, recovers}
+use Rattle.fbl_group.proofs.Views.{members_now}
 use Rattle.fbl_group.proofs.group.Group.bring_back.Goals as goal
 
 pub contents-resent-requires-clause-shape : goal.contents-resent-requires-clause-shape
 contents-resent-requires-clause-shape g c =
-    subst (λ (n : ℕ). HasChannels n (rows c.in_ok-again.again)) (sym (c.members-n.ensures.value ∙ ap (λ (r : GroupRecord). r.config.members) c.self.view_is)) c.in_ok-again.ensures.shape
+    rw (members_now c.self.view_is c.members-n.ensures.value) c.in_ok-again.ensures.shape
 
 pub contents-resent-requires-clause-few : goal.contents-resent-requires-clause-few
 contents-resent-requires-clause-few g c =
-    short-again g.B.Behaviour.next c.self.invariant c.self.view_is c.in_ok-rebuilt.ensures.ready
+    short-again c.self.invariant c.self.view_is c.in_ok-rebuilt.ensures.ready
     (rows c.in_ok-again.again) c.members-n.ensures.value c.as_slice.ensures.value c.in_ok-again.ensures.each
 
 pub count_receipts-requires : goal.count_receipts-requires
 count_receipts-requires g c =
-    short-rest g.B.Behaviour.next c.self.invariant c.self.view_is c.in_ok-rebuilt.ensures.ready c.in_ok-rebuilt.ensures.down c.cut.ensures c.as_slice-3.ensures.value
+    short-rest c.self.invariant c.self.view_is c.in_ok-rebuilt.ensures.ready c.in_ok-rebuilt.ensures.down c.cut.ensures c.as_slice-3.ensures.value
 
 pub overflow_sub-undone : goal.overflow_sub-undone
 overflow_sub-undone g c =
-    fewer g.B.Behaviour.next c.self.invariant c.self.view_is c.in_ok-rebuilt.ensures.ready c.in_ok-rebuilt.ensures.down c.cut.ensures c.receipt_count-before.ensures
+    fewer c.self.invariant c.self.view_is c.in_ok-rebuilt.ensures.ready c.in_ok-rebuilt.ensures.down c.cut.ensures c.receipt_count-before.ensures
     c.count_receipts.ensures c.as_slice-3.ensures.value
 
 pub put_back-requires-clause-members : goal.put_back-requires-clause-members
@@ -28,22 +28,22 @@ put_back-requires-clause-members g c =
 
 pub put_back-requires-clause-records : goal.put_back-requires-clause-records
 put_back-requires-clause-records g c =
-    omega (arith, c.in_ok-rebuilt.rebuilt.records.ok.0, size g.B.Behaviour.next c.self.invariant c.self.view_is c.in_ok-rebuilt.ensures.ready, c.members-n.ensures.value)
+    omega (arith, c.in_ok-rebuilt.rebuilt.records.ok.0, size c.self.invariant c.self.view_is c.in_ok-rebuilt.ensures.ready, c.members-n.ensures.value)
 
 pub overflow_add-self : goal.overflow_add-self
 overflow_add-self g c =
     let ranges = c.self.ranges in
-    undone-fits g.B.Behaviour.next c.self.invariant c.self.view_is c.in_ok-rebuilt.ensures.ready c.in_ok-rebuilt.ensures.down c.cut.ensures c.receipt_count-before.ensures
+    undone-fits c.self.invariant c.self.view_is c.in_ok-rebuilt.ensures.ready c.in_ok-rebuilt.ensures.down c.cut.ensures c.receipt_count-before.ensures
     c.count_receipts.ensures c.as_slice-3.ensures.value c.from.ensures ranges.1.1.1.1.1.1.0.1
 
 pub invariant_of-self : goal.invariant_of-self
 invariant_of-self g c =
-    is_sound g.B.Behaviour.next c.self.invariant c.self.view_is c.in_ok-rebuilt.ensures.ready c.in_ok-rebuilt.ensures.down c.cut.ensures c.receipt_count-before.ensures
+    is_sound c.self.invariant c.self.view_is c.in_ok-rebuilt.ensures.ready c.in_ok-rebuilt.ensures.down c.cut.ensures c.receipt_count-before.ensures
     c.count_receipts.ensures c.as_slice-3.ensures.value c.from.ensures (rows c.in_ok-again.again) c.members-n.ensures.value c.as_slice.ensures.value c.in_ok-again.ensures.each c.put_back.ensures
     c.replace.ensures refl refl refl c.empty-self-inside.ensures refl refl
 
 pub returns-clause-recovered : goal.returns-clause-recovered
 returns-clause-recovered g c =
-    recovers g.B.Behaviour.next c.self.invariant c.self.view_is c.in_ok-rebuilt.ensures.ready c.in_ok-rebuilt.ensures.down c.cut.ensures c.receipt_count-before.ensures
+    recovers c.self.invariant c.self.view_is c.in_ok-rebuilt.ensures.ready c.in_ok-rebuilt.ensures.down c.cut.ensures c.receipt_count-before.ensures
     c.count_receipts.ensures c.as_slice-3.ensures.value c.from.ensures (rows c.in_ok-again.again) c.members-n.ensures.value c.as_slice.ensures.value c.in_ok-again.ensures.each c.put_back.ensures
     c.replace.ensures refl refl refl c.empty-self-inside.ensures refl refl c.replayed-replayed.ensures c.as_slice-2.ensures.value c.contents-resent.ensures.messages

@@ -1,8 +1,7 @@
-use Rattle.std.proofs.Common.{◌≡◌, ◌&&◌, Bool, true, false, refl, sym, ap, ◌∙◌}
-use Rattle.std.specs.Prelude.{◌==◌}
+use Rattle.std.proofs.Common.{◌≡◌, ◌&&◌, Bool, true, false, refl, sym, ap, ◌∙◌, ◌==◌}
 use Rattle.std.specs.FinSet as set
-use Rattle.fbl_law.specs.Groups.{GroupRecord}
-use Rattle.fbl_group.proofs.Queues.{eqb-same}
+use Rattle.std.proofs.lemmas.Bool.{eq-eqb}
+use Rattle.fbl_group.proofs.Views.{none_down}
 use Rattle.fbl_group.proofs.group.Group.is_quiet.Goals as goal
 
 and-true : (a b : Bool) → b ≡ true → a ≡ (a && b)
@@ -11,5 +10,5 @@ and-true false b is = refl
 
 pub returns-then-count-eq0 : goal.returns-then-count-eq0
 returns-then-count-eq0 g c =
-    let nobody = ap (λ (r : GroupRecord). set.len r.down) (sym c.self.view_is) ∙ sym c.count.ensures ∙ c.if-count-eq0.true in
-    ap (λ k. k == 0) (c.unreceived.ensures nobody) ∙ and-true _ (set.len c.args.self.now.down == 0) (eqb-same _ 0 nobody)
+    let nobody = none_down c.self.view_is c.count.ensures c.if-count-eq0.true in
+    ap (λ k. k == 0) (c.unreceived.ensures nobody) ∙ and-true _ (set.len c.args.self.now.down == 0) (eq-eqb _ 0 nobody)

@@ -1,12 +1,5 @@
-use Rattle.std.proofs.Common.{◌++◌, subst, sym, ◌∙◌, ap, refl, List, []}
-use Rattle.std.specs.List.{filter_map}
-use Rattle.fbl_base.specs.Configs.{IsConfig}
-use Rattle.fbl_base.specs.declared.trace.Event.{Event}
-use Rattle.fbl_base.specs.declared.trace.Start.{Start}
-use Rattle.fbl_member.specs.Members.{Message}
-use Rattle.fbl_law.specs.Steps.{between}
-use Rattle.fbl_law.specs.Groups.{HasChannels}
-use Rattle.fbl_law.specs.GroupSteps.{IsGroupStart, start_events, message_of_send}
+use Rattle.std.proofs.Common.{refl}
+use Rattle.fbl_law.specs.GroupSteps.{IsGroupStart}
 use Rattle.fbl_law.proofs.GroupStart.{starts-obey, group_start_is_sound}
 use Rattle.fbl_group.specs.Channels.{rows}
 use Rattle.fbl_group.proofs.Queues.{none-shape, none-in}
@@ -16,13 +9,12 @@ use Rattle.fbl_group.proofs.group.Group.new.Goals.{After-empty}
 
 pub send_starts-requires-clause-shape : goal.send_starts-requires-clause-shape
 send_starts-requires-clause-shape g c =
-    subst (λ k. HasChannels k (rows c.in_ok-channels.channels)) (c.members.ensures.value
-    ∙ sym c.members-2.ensures.value) (none-shape c.members.result (rows c.in_ok-channels.channels) c.in_ok-channels.ensures)
+    rw (c.members-2.ensures.value, ← c.members.ensures.value) (none-shape c.members.result (rows c.in_ok-channels.channels) c.in_ok-channels.ensures)
 
 pub send_starts-requires-clause-rules : goal.send_starts-requires-clause-rules
 send_starts-requires-clause-rules g c =
-    let rules : IsConfig c.args.config = subst IsConfig c.config.view_is c.config.invariant in
-    rw (c.deref.ensures.value, c.in_ok-trace.ensures, c.starts.ensures, c.members-2.ensures.value) (starts-obey c.args.config rules)
+    rw (c.deref.ensures.value, c.in_ok-trace.ensures, c.starts.ensures, c.members-2.ensures.value)
+    (starts-obey c.args.config (rw (← c.config.view_is) c.config.invariant))
 
 -- the group is the start
 made : (g : Over) (c : After-empty g) → IsGroupStart c.args.config (record {
@@ -38,10 +30,10 @@ made : (g : Over) (c : After-empty g) → IsGroupStart c.args.config (record {
 })
 made g c = record {
   parameters = refl;
-  trace = c.in_ok-trace.ensures ∙ ap (λ (ss : List Start). start_events [] ss) c.starts.ensures;
-  shape = subst (λ k. HasChannels k (rows c.send_starts.new.channels)) c.members-2.ensures.value c.in_ok-send_starts.ensures.shape;
-  channels = λ q p. c.in_ok-send_starts.ensures.sent q p ∙ ap (λ (vs : List Message). vs ++ between q p (filter_map message_of_send c.deref.result.now))
-      (none-in c.members.result (rows c.in_ok-channels.channels) q p c.in_ok-channels.ensures) ∙ ap (λ (es : List Event). between q p (filter_map message_of_send es)) c.deref.ensures.value;
+  trace = (rw c.starts.ensures at c.in_ok-trace.ensures);
+  shape = (rw c.members-2.ensures.value at c.in_ok-send_starts.ensures.shape);
+  channels = λ q p.
+      rw (none-in c.members.result (rows c.in_ok-channels.channels) q p c.in_ok-channels.ensures, c.deref.ensures.value) at (c.in_ok-send_starts.ensures.sent q p);
   size = c.in_ok-members.ensures.size;
   members = c.in_ok-members.ensures.fresh;
   checkpoints = c.in_ok-checkpoints.ensures.size;
@@ -53,7 +45,7 @@ made g c = record {
 
 pub invariant_of-result : goal.invariant_of-result
 invariant_of-result g c =
-    group_start_is_sound g.B.Behaviour.next c.args.config _ (subst IsConfig c.config.view_is c.config.invariant) (made g c)
+    group_start_is_sound g.B.Behaviour.next c.args.config _ (rw (← c.config.view_is) c.config.invariant) (made g c)
 
 pub returns : goal.returns
 returns g c = made g c

@@ -1,4 +1,4 @@
-use Rattle.std.proofs.Common.{arith, ap, ◌∙◌, length}
+use Rattle.std.proofs.Common.{arith, ap, length}
 use Rattle.fbl_law.specs.Groups.{GroupRecord, marks, receipts}
 use Rattle.fbl_group.proofs.Reading.{received-twice}
 use Rattle.fbl_group.proofs.group.Group.receipt_count.Goals as goal

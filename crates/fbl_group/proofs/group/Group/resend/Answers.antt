@@ -1,11 +1,8 @@
-use Rattle.std.specs.VecDeque.{deque_items}
-use Rattle.std.proofs.Common.{◌≡◌, ℕ, ◌<◌, [], List, length, map, sym, ap, ◌∙◌, arith}
+use Rattle.std.proofs.Common.{map, sym, ap, ◌∙◌, arith, deque_items}
 use Rattle.std.proofs.lemmas.List.{length-map}
-use Rattle.std.specs.Prelude.{slice_index_or}
-use Rattle.fbl_law.specs.Groups.{GroupRecord}
 use Rattle.fbl_law.specs.Replaying.{working, sent_again}
-use Rattle.fbl_member.specs.Members.{Message}
 use Rattle.fbl_group.proofs.Queues.{made-mapped, made-none}
+use Rattle.fbl_group.proofs.Views.{all_passed}
 use Rattle.fbl_group.proofs.group.Group.resend.Goals as goal
 
 pub loop-number-init : goal.loop-number-init
@@ -14,9 +11,7 @@ loop-number-init g c = rw c.new-rows.ensures.items (made-none _ _)
 pub loop-number-preserved : goal.loop-number-preserved
 loop-number-preserved g c =
     let member = c.member_at-from.ensures in
-    rw c.in_ok-push.ensures.items (made-mapped (λ row. map deque_items row.items) [] (λ q (row : List (List Message)). (length row ≡ c.args.self.now.config.members) × ((p : ℕ)
-    → p < c.args.self.now.config.members → slice_index_or row p [] ≡ sent_again c.args.self.now.config.f c.args.self.now.down (working c.args.self.now c.args.rebuilt.now) q p))
-    c.loop-number.number c.loop-number.rows.items c.in_ok-resend_from.field-0 c.loop-number.invariant (
+    rw c.in_ok-push.ensures.items (made-mapped (λ row. map deque_items row.items) _ _ c.loop-number.invariant (
       length-map c.in_ok-resend_from.field-0.items deque_items ∙ sym c.in_ok-resend_from.field-0.ok.0 ∙ c.in_ok-resend_from.ensures.size,
       λ p below. c.in_ok-resend_from.ensures.each p below
           ∙ ap (λ k. sent_again c.args.self.now.config.f c.args.self.now.down (working c.args.self.now c.args.rebuilt.now) k p) member,
@@ -24,14 +19,7 @@ loop-number-preserved g c =
 
 pub returns : goal.returns
 returns g c =
-    let same : c.loop-number.number ≡ c.args.self.now.config.members = omega (
-      arith,
-      c.members-number-end.ensures.value,
-      ap
-          (λ (r : GroupRecord). r.config.members) c.self.view_is,
-      c.loop-number-test.false,
-      c.loop-number.auto.number-end,
-    ) in
+    let same = all_passed c.self.view_is c.members-number-end.ensures.value c.loop-number-test.false c.loop-number.auto.number-end in
     record {
       shape = record {
         senders = c.loop-number.invariant.size ∙ same;

@@ -1,7 +1,5 @@
 use Rattle.fbl_group.specs.Channels.{each}
-use Rattle.std.specs.VecDeque.{deque_items}
-use Rattle.std.proofs.Common.{◌≡◌, ℕ, ◌<◌, [], length}
-use Rattle.std.specs.Prelude.{slice_index_or}
+use Rattle.std.proofs.Common.{◌≡◌, ℕ, ◌<◌, [], length, deque_items, slice_index_or}
 use Rattle.fbl_law.specs.Replaying.{working, sent_again}
 use Rattle.fbl_group.proofs.Queues.{Made}
 use Rattle.fbl_group.proofs.group.Group.resend.Given as goal

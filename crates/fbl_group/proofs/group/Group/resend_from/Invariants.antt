@@ -1,5 +1,4 @@
-use Rattle.std.specs.VecDeque.{deque_items}
-use Rattle.std.proofs.Common.{◌≡◌, [], map, IfSome}
+use Rattle.std.proofs.Common.{◌≡◌, [], map, IfSome, deque_items}
 use Rattle.fbl_table.specs.Tables.{piggybacked}
 use Rattle.fbl_law.specs.Replaying.{working, sent_again}
 use Rattle.fbl_group.proofs.Queues.{Made}

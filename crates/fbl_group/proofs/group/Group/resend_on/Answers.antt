@@ -1,8 +1,6 @@
-use Rattle.std.proofs.Common.{◌++◌, ◌||◌, cond, List, [], sym, ap, ◌∙◌}
+use Rattle.std.proofs.Common.{◌||◌, ap, ◌∙◌}
 use Rattle.std.specs.FinSet as set
-use Rattle.fbl_member.specs.Members.{Message}
 use Rattle.fbl_law.specs.Groups.{GroupRecord}
-use Rattle.fbl_law.specs.Replaying.{working, resent_to}
 use Rattle.fbl_group.proofs.group.Group.resend_on.Goals as goal
 use Rattle.fbl_group.proofs.group.Group.resend_on.Goals.{then-has_either+in_ok-resend_to, else-has_either}
 
@@ -11,15 +9,8 @@ returns-clause-made g c =
     let ends = c.has_either.ensures ∙ ap (λ (r : GroupRecord). set.contains r.down c.args.from || set.contains r.down c.args.to) c.self.view_is in
     elim c.if-has_either.branch [
       | then-has_either+in_ok-resend_to w ↦
-          rw w.wires-is (w.in_ok-resend_to.ensures.put ∙ ap
-          (λ (vs : List Message). vs ++ resent_to c.args.self.now.config.f c.args.from c.args.to
-          (working c.args.self.now c.args.rebuilt.now c.args.from) (working c.args.self.now c.args.rebuilt.now c.args.to)) c.new-wires.ensures.items
-          ∙ sym (ap (λ b. cond b (resent_to c.args.self.now.config.f c.args.from c.args.to (working c.args.self.now c.args.rebuilt.now c.args.from)
-          (working c.args.self.now c.args.rebuilt.now c.args.to)) []) (sym ends ∙ w.if-has_either.true)))
-      | else-has_either w ↦
-          rw w.wires-is (c.new-wires.ensures.items ∙ sym
-          (ap (λ b. cond b (resent_to c.args.self.now.config.f c.args.from c.args.to (working c.args.self.now c.args.rebuilt.now c.args.from)
-          (working c.args.self.now c.args.rebuilt.now c.args.to)) []) (sym ends ∙ w.if-has_either.false)))
+          rw (w.wires-is, ← ends, w.if-has_either.true) (rw c.new-wires.ensures.items at w.in_ok-resend_to.ensures.put)
+      | else-has_either w ↦ rw (w.wires-is, ← ends, w.if-has_either.false) c.new-wires.ensures.items
     ]
 
 pub returns-clause-passed : goal.returns-clause-passed

@@ -1,9 +1,5 @@
-use Rattle.std.proofs.Common.{◌≡◌, None, sym, subst, ap, ◌∙◌, arith}
-use Rattle.std.specs.Prelude.{slice_set}
+use Rattle.std.proofs.Common.{◌≡◌, ap, ◌∙◌, arith}
 use Rattle.fbl_law.specs.Groups.{GroupRecord}
-use Rattle.fbl_law.specs.GroupSteps.{IsCheckpoint}
-use Rattle.fbl_group.specs.Checkpoints.{checkpoint_refusal}
-use Rattle.fbl_group.specs.Channels.{rows}
 use Rattle.fbl_group.proofs.Checkpointing.{may_checkpoint, is_checkpoint, is_sound, is_fold}
 use Rattle.fbl_group.proofs.group.Group.save.Goals as goal
 
@@ -21,29 +17,13 @@ index_mut-requires g c =
 
 pub invariant_of-self : goal.invariant_of-self
 invariant_of-self g c =
-    let allowed = subst (λ (r : GroupRecord). checkpoint_refusal r c.args.member ≡ None) (sym c.self.view_is) c.requires in
-    is_sound g.B.Behaviour.next _ c.self.invariant c.args.member allowed c.from-place.result
-    (c.from-place.ensures ∙ c.number.ensures.value) c.in_ok-copy.copy c.index.result.now c.in_ok-copy.ensures c.index.ensures
+    is_sound c.self.invariant (c.from-place.ensures ∙ c.number.ensures.value) (rw (← c.self.view_is) at c.requires) c.in_ok-copy.ensures c.index.ensures
 
 pub returns-clause-saved : goal.returns-clause-saved
 returns-clause-saved g c =
-    let allowed = subst (λ (r : GroupRecord). checkpoint_refusal r c.args.member ≡ None) (sym c.self.view_is) c.requires in
-    let new : GroupRecord = record {
-      config = c.self.inside.config;
-      members = c.self.inside.members.items;
-      checkpoints = slice_set c.self.inside.checkpoints.items c.from-place.result c.in_ok-copy.copy;
-      channels = rows c.self.inside.channels;
-      trace = c.self.inside.trace.items;
-      down = c.self.inside.down;
-      receipts_ever = c.self.inside.receipts_ever;
-      undone_ever = c.self.inside.undone_ever;
-    } in
-    subst (λ (r : GroupRecord). IsCheckpoint r new c.args.member) c.self.view_is
-    (is_checkpoint g.B.Behaviour.next _ c.self.invariant c.args.member allowed c.from-place.result
-    (c.from-place.ensures ∙ c.number.ensures.value) c.in_ok-copy.copy c.index.result.now c.in_ok-copy.ensures c.index.ensures)
+    rw (← c.self.view_is)
+    (is_checkpoint c.self.invariant (c.from-place.ensures ∙ c.number.ensures.value) (rw (← c.self.view_is) at c.requires) c.in_ok-copy.ensures c.index.ensures)
 
 pub returns-clause-fold : goal.returns-clause-fold
 returns-clause-fold g c =
-    let allowed = subst (λ (r : GroupRecord). checkpoint_refusal r c.args.member ≡ None) (sym c.self.view_is) c.requires in
-    is_fold g.B.Behaviour.next _ c.self.invariant c.args.member allowed
-    c.from-place.result (c.from-place.ensures ∙ c.number.ensures.value) c.in_ok-copy.copy c.index.result.now c.in_ok-copy.ensures c.index.ensures
+    is_fold c.self.invariant (c.from-place.ensures ∙ c.number.ensures.value) (rw (← c.self.view_is) at c.requires) c.in_ok-copy.ensures c.index.ensures

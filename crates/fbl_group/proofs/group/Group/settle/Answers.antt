@@ -1,63 +1,55 @@
-use Rattle.std.proofs.Common.{◌≡◌, ◌≢◌, ℕ, ◌+◌, ◌<◌, ◌^◌, length, arith, rules, refl, sym, ap, ◌∙◌, subst, Fits, w64}
-use Rattle.fbl_law.specs.Sound.{IsSound}
+use Rattle.std.proofs.Common.{◌≡◌, ◌≢◌, ℕ, ◌+◌, ◌<◌, ◌^◌, length, arith, rules, refl, ap, ◌∙◌, Fits, w64}
 use Rattle.fbl_group.specs.Channels.{room_in}
 use Rattle.fbl_group.proofs.BringingBack.{on_err}
-use Rattle.fbl_group.proofs.Queues.{front-read, is-there, length-messages, made-fits}
+use Rattle.fbl_group.proofs.Queues.{is-there, length-messages, made-fits}
 use Rattle.fbl_group.proofs.Planning as planning
 use Rattle.fbl_group.proofs.group.Group.settle.Goals as goal
 
 pub reserve_from-requires-clause-receivers : goal.reserve_from-requires-clause-receivers
 reserve_from-requires-clause-receivers g c =
-    planning.receivers_in g.B.Behaviour.next g.met.B.Behaviour.sends_allowed c.self.invariant c.self.view_is c.requires refl c.as_slice-sends.ensures.value
+    planning.receivers_in g.met.B.Behaviour.sends_allowed c.self.invariant c.self.view_is c.requires refl c.as_slice-sends.ensures.value
 
 pub front-requires-clause-to : goal.front-requires-clause-to
-front-requires-clause-to g c =
-    planning.below_receiver g.B.Behaviour.next g.met.B.Behaviour.sends_allowed c.self.invariant c.self.view_is c.requires c.reserve_from.ensures.same
+front-requires-clause-to g c = planning.below_receiver g.met.B.Behaviour.sends_allowed c.self.invariant c.self.view_is c.requires c.reserve_from.ensures.same
 
 pub unwrap-wire-requires : goal.unwrap-wire-requires
 unwrap-wire-requires g c =
-    is-there c.front.result (planning.not_empty g.B.Behaviour.next g.met.B.Behaviour.sends_allowed c.self.invariant c.self.view_is c.requires c.reserve_from.ensures.same) c.front.ensures.none
+    is-there c.front.result (planning.not_empty g.met.B.Behaviour.sends_allowed c.self.invariant c.self.view_is c.requires c.reserve_from.ensures.same) c.front.ensures.none
 
 pub overflow_cast-carried : goal.overflow_cast-carried
 overflow_cast-carried g c =
-    let wire = planning.front_is g.B.Behaviour.next g.met.B.Behaviour.sends_allowed c.self.invariant c.self.view_is c.requires c.reserve_from.ensures.same
-    (front-read _ c.front.result c.unwrap-wire.result c.unwrap-wire.ensures c.front.ensures.some) in
-    planning.few_carried g.B.Behaviour.next g.met.B.Behaviour.sends_allowed c.self.invariant c.self.view_is c.requires wire c.carried.ensures.value c.carried.ensures.once
+    planning.few_carried g.met.B.Behaviour.sends_allowed c.self.invariant c.self.view_is c.requires c.reserve_from.ensures.same
+    (rw c.unwrap-wire.ensures at c.front.ensures.some) c.carried.ensures.value c.carried.ensures.once
 
 pub receive-requires : goal.receive-requires
 receive-requires g c =
-    let wire = planning.front_is g.B.Behaviour.next g.met.B.Behaviour.sends_allowed c.self.invariant c.self.view_is c.requires c.reserve_from.ensures.same
-    (front-read _ c.front.result c.unwrap-wire.result c.unwrap-wire.ensures c.front.ensures.some) in
-    let member = planning.member_is g.B.Behaviour.next g.met.B.Behaviour.sends_allowed c.self.invariant c.self.view_is c.requires (c.from.ensures
-    ∙ c.number.ensures.value) c.index_mut-member.ensures.value in
-    let reads = planning.reads g.B.Behaviour.next g.met.B.Behaviour.sends_allowed c.self.invariant c.self.view_is c.requires wire member c.members-n.ensures.value in
+    let reads = planning.reads g.met.B.Behaviour.sends_allowed c.self.invariant c.self.view_is c.requires c.reserve_from.ensures.same
+    (rw c.unwrap-wire.ensures at c.front.ensures.some) (c.from.ensures ∙ c.number.ensures.value) c.index_mut-member.ensures.value c.members-n.ensures.value in
     search (rules, reads)
 
 pub invariant_of-self-in_err-made : goal.invariant_of-self-in_err-made
 invariant_of-self-in_err-made g c =
-    subst (IsSound g.B.Behaviour.next) (sym (planning.stays g.B.Behaviour.next g.met.B.Behaviour.sends_allowed c.self.invariant c.self.view_is c.requires c.reserve_from.ensures.same (c.from.ensures
-    ∙ c.number.ensures.value) c.in_err-made.ensures.unchanged c.index_mut-member.ensures.value c.reserve.ensures.items)) c.self.invariant
+    rw (planning.stays g.met.B.Behaviour.sends_allowed c.self.invariant c.self.view_is c.requires c.reserve_from.ensures.same c.from.result
+    c.in_err-made.ensures.unchanged c.index_mut-member.ensures.value c.reserve.ensures.items) c.self.invariant
 
 pub returns-in_err-made-clause-unchanged : goal.returns-in_err-made-clause-unchanged
 returns-in_err-made-clause-unchanged g c =
-    on_err c.from_residual-in_err-made.result (planning.stays g.B.Behaviour.next g.met.B.Behaviour.sends_allowed c.self.invariant c.self.view_is c.requires c.reserve_from.ensures.same (c.from.ensures
-    ∙ c.number.ensures.value) c.in_err-made.ensures.unchanged c.index_mut-member.ensures.value c.reserve.ensures.items ∙ c.self.view_is)
+    on_err c.from_residual-in_err-made.result (planning.stays g.met.B.Behaviour.sends_allowed c.self.invariant c.self.view_is c.requires c.reserve_from.ensures.same c.from.result
+    c.in_err-made.ensures.unchanged c.index_mut-member.ensures.value c.reserve.ensures.items ∙ c.self.view_is)
 
 pub take_and_send-requires-clause-channel : goal.take_and_send-requires-clause-channel
-take_and_send-requires-clause-channel g c =
-    planning.below_receiver g.B.Behaviour.next g.met.B.Behaviour.sends_allowed c.self.invariant c.self.view_is c.requires c.reserve_from.ensures.same
+take_and_send-requires-clause-channel g c = planning.below_receiver g.met.B.Behaviour.sends_allowed c.self.invariant c.self.view_is c.requires c.reserve_from.ensures.same
 
 pub take_and_send-requires-clause-apart : goal.take_and_send-requires-clause-apart
-take_and_send-requires-clause-apart g c =
-    planning.apart g.B.Behaviour.next g.met.B.Behaviour.sends_allowed c.self.invariant c.self.view_is c.requires
+take_and_send-requires-clause-apart g c = planning.apart g.met.B.Behaviour.sends_allowed c.self.invariant c.self.view_is c.requires
 
 pub take_and_send-requires-clause-receivers : goal.take_and_send-requires-clause-receivers
 take_and_send-requires-clause-receivers g c =
-    planning.sent_in g.B.Behaviour.next g.met.B.Behaviour.sends_allowed c.self.invariant c.self.view_is c.requires c.reserve_from.ensures.same _ _ c.in_ok-made.ensures.sent
+    planning.sent_in g.met.B.Behaviour.sends_allowed c.self.invariant c.self.view_is c.requires c.reserve_from.ensures.same _ _ c.in_ok-made.ensures.sent
 
 pub take_and_send-requires-clause-room : goal.take_and_send-requires-clause-room
 take_and_send-requires-clause-room g c =
-    made-fits (λ k. room_in c.reserve_from.new.self c.args.done.now.ticket.to k) c.args.done.now.ticket.to _ _ c.args.done.now.outcome.sends.items c.as_slice-sends.result.now c.in_ok-made.made.items
+    made-fits (λ k. room_in c.reserve_from.new.self c.args.done.now.ticket.to k) c.args.done.now.ticket.to _ _
     c.as_slice-sends.ensures.value c.in_ok-made.ensures.sent c.in_ok-reserve_from.ensures.room
 
 pub take_and_send-requires-clause-trace : goal.take_and_send-requires-clause-trace
@@ -68,7 +60,7 @@ take_and_send-requires-clause-trace g c =
 
 pub overflow_add-self : goal.overflow_add-self
 overflow_add-self g c =
-    let room = planning.room g.B.Behaviour.next g.met.B.Behaviour.sends_allowed c.self.invariant c.self.view_is c.requires in
+    let room = planning.room g.met.B.Behaviour.sends_allowed c.self.invariant c.self.view_is c.requires in
     let ranges = c.self.ranges in
     rises c.self.inside.receipts_ever ranges.1.1.1.1.1.1.0.1 room.1 where
       rises : (n : ℕ) → n < 2 ^ 64 → n ≢ 18446744073709551615 → Fits w64 (n + 1)
@@ -76,20 +68,14 @@ overflow_add-self g c =
 
 pub invariant_of-self-2 : goal.invariant_of-self-2
 invariant_of-self-2 g c =
-    let wire = planning.front_is g.B.Behaviour.next g.met.B.Behaviour.sends_allowed c.self.invariant c.self.view_is c.requires c.reserve_from.ensures.same
-    (front-read _ c.front.result c.unwrap-wire.result c.unwrap-wire.ensures c.front.ensures.some) in
-    let member = planning.member_is g.B.Behaviour.next g.met.B.Behaviour.sends_allowed c.self.invariant c.self.view_is c.requires (c.from.ensures
-    ∙ c.number.ensures.value) c.index_mut-member.ensures.value in
-    planning.is_sound g.B.Behaviour.next g.met.B.Behaviour.sends_allowed c.self.invariant c.self.view_is c.requires wire member c.reserve_from.ensures.same (c.from.ensures
-    ∙ c.number.ensures.value) c.in_ok-made.ensures.received c.in_ok-made.ensures.sent c.f-f.ensures c.ssn-ssn.ensures c.received-rsn.ensures.value c.reserve.ensures.items
+    planning.is_sound g.met.B.Behaviour.sends_allowed c.self.invariant c.self.view_is c.requires c.reserve_from.ensures.same
+    (rw c.unwrap-wire.ensures at c.front.ensures.some) (c.from.ensures ∙ c.number.ensures.value) c.index_mut-member.ensures.value
+    c.in_ok-made.ensures.received c.in_ok-made.ensures.sent c.f-f.ensures c.ssn-ssn.ensures c.received-rsn.ensures.value c.reserve.ensures.items
     c.push_reserved.ensures.items c.take_and_send.ensures.trace c.take_and_send.ensures.channels
 
 pub returns-clause-delivered : goal.returns-clause-delivered
 returns-clause-delivered g c =
-    let wire = planning.front_is g.B.Behaviour.next g.met.B.Behaviour.sends_allowed c.self.invariant c.self.view_is c.requires c.reserve_from.ensures.same
-    (front-read _ c.front.result c.unwrap-wire.result c.unwrap-wire.ensures c.front.ensures.some) in
-    let member = planning.member_is g.B.Behaviour.next g.met.B.Behaviour.sends_allowed c.self.invariant c.self.view_is c.requires (c.from.ensures
-    ∙ c.number.ensures.value) c.index_mut-member.ensures.value in
-    planning.is_delivered g.B.Behaviour.next g.met.B.Behaviour.sends_allowed c.self.invariant c.self.view_is c.requires wire member c.reserve_from.ensures.same (c.from.ensures
-    ∙ c.number.ensures.value) c.in_ok-made.ensures.received c.in_ok-made.ensures.sent c.f-f.ensures c.ssn-ssn.ensures c.received-rsn.ensures.value c.reserve.ensures.items
+    planning.is_delivered g.met.B.Behaviour.sends_allowed c.self.invariant c.self.view_is c.requires c.reserve_from.ensures.same
+    (rw c.unwrap-wire.ensures at c.front.ensures.some) (c.from.ensures ∙ c.number.ensures.value) c.index_mut-member.ensures.value
+    c.in_ok-made.ensures.received c.in_ok-made.ensures.sent c.f-f.ensures c.ssn-ssn.ensures c.received-rsn.ensures.value c.reserve.ensures.items
     c.push_reserved.ensures.items c.take_and_send.ensures.trace c.take_and_send.ensures.channels c.carried.ensures.value

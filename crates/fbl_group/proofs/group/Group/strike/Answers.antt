@@ -1,12 +1,9 @@
-use Rattle.std.proofs.Common.{◌≡◌, None, sym, subst, refl, ◌∙◌}
+use Rattle.std.proofs.Common.{refl, ◌∙◌}
 use Rattle.fbl_law.specs.Groups.{GroupRecord}
-use Rattle.fbl_law.specs.GroupSteps.{IsStrike}
 use Rattle.fbl_law.proofs.Promises.{sound_has_no_orphan, sound_records_first}
-use Rattle.std.specs.Prelude.{count_by}
 use Rattle.fbl_group.specs.Channels.{rows}
-use Rattle.fbl_group.specs.Strikes.{strike_refusal, is_lost_receipt_of}
 use Rattle.fbl_group.proofs.Promised.{survivors_hold, records_causes}
-use Rattle.fbl_group.proofs.Striking.{emptied-by, is_strike, is_sound, count-lost}
+use Rattle.fbl_group.proofs.Striking.{is_strike, is_sound, count-lost}
 use Rattle.fbl_group.proofs.group.Group.strike.Goals as goal
 
 pub returns-in_err-allow_strike-clause-no_orphan : goal.returns-in_err-allow_strike-clause-no_orphan
@@ -23,9 +20,8 @@ returns-in_err-allow_strike-clause-causes g c = rw (← c.self.view_is) (records
 
 pub invariant_of-self : goal.invariant_of-self
 invariant_of-self g c =
-    let allowed = subst (λ (r : GroupRecord). strike_refusal r c.args.set ≡ None) (sym c.self.view_is) c.in_ok-allow_strike.ensures.allowed in
-    is_sound g.B.Behaviour.next _ _ c.args.set c.self.invariant allowed c.blank_members.ensures
-    (emptied-by c.members-2.ensures.value c.drop_at.ensures) c.union-self-inside.ensures refl refl refl refl refl
+    is_sound _ c.self.invariant (rw (← c.self.view_is) at c.in_ok-allow_strike.ensures.allowed) c.blank_members.ensures
+    (rw c.members-2.ensures.value at c.drop_at.ensures) c.union-self-inside.ensures refl refl refl refl refl
 
 pub returns : goal.returns
 returns g c =
@@ -39,14 +35,13 @@ returns g c =
       receipts_ever = c.self.inside.receipts_ever;
       undone_ever = c.self.inside.undone_ever;
     } in
-    let allowed = subst (λ (r : GroupRecord). strike_refusal r c.args.set ≡ None) (sym c.self.view_is) c.in_ok-allow_strike.ensures.allowed in
-    let emptied = emptied-by c.members-2.ensures.value c.drop_at.ensures in
-    let strike = is_strike g.B.Behaviour.next _ new c.args.set c.self.invariant allowed c.blank_members.ensures emptied c.union-self-inside.ensures refl refl refl refl refl in
-    let sound = is_sound g.B.Behaviour.next _ new c.args.set c.self.invariant allowed c.blank_members.ensures emptied c.union-self-inside.ensures refl refl refl refl refl in
-    let lost : c.count_lost.result ≡ count_by (is_lost_receipt_of c.union-self-inside.result c.blank_members.new.members.items
-    c.self.inside.checkpoints.items) c.self.inside.trace.items = rw (← c.deref.ensures.value, ← c.deref-2.ensures.value, ← c.deref-3.ensures.value) c.count_lost.ensures in
+    let allowed = (rw (← c.self.view_is) at c.in_ok-allow_strike.ensures.allowed) in
+    let emptied = (rw c.members-2.ensures.value at c.drop_at.ensures) in
+    let strike = is_strike new c.self.invariant allowed c.blank_members.ensures emptied c.union-self-inside.ensures refl refl refl refl refl in
+    let sound = is_sound new c.self.invariant allowed c.blank_members.ensures emptied c.union-self-inside.ensures refl refl refl refl refl in
+    let lost = (rw (c.deref.ensures.value, c.deref-2.ensures.value, c.deref-3.ensures.value) at c.count_lost.ensures) in
     record {
-      struck = (c.in_ok-allow_strike.ensures.allowed, (subst (λ (r : GroupRecord). IsStrike r new c.args.set) c.self.view_is strike, lost ∙ count-lost g.B.Behaviour.next new sound));
+      struck = (c.in_ok-allow_strike.ensures.allowed, (rw (← c.self.view_is) strike, lost ∙ count-lost g.B.Behaviour.next new sound));
       refused = tt;
       unchanged = tt;
       no_orphan = λ m. sound_has_no_orphan g.B.Behaviour.next new m sound;

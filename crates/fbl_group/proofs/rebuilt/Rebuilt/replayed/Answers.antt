@@ -1,20 +1,15 @@
-use Rattle.std.proofs.Common.{◌≡◌, ◌-◌, ap, ◌∙◌, arith}
-use Rattle.std.specs.Prelude.{slice_index_or}
+use Rattle.std.proofs.Common.{◌≡◌, ◌-◌, arith, slice_index_or}
 use Rattle.fbl_member.specs.Members.{blank}
-use Rattle.fbl_law.specs.Replaying.{count_in}
 use Rattle.fbl_group.proofs.PuttingBack.{counted-more}
 use Rattle.fbl_group.proofs.rebuilt.Rebuilt.replayed.Goals as goal
 
 pub loop-number-preserved : goal.loop-number-preserved
 loop-number-preserved g c =
-    let member = c.member_at.ensures in
     let more = counted-more c.args.self.now.down (λ p. (slice_index_or c.args.self.now.records.items p blank).received - (slice_index_or c.args.checkpoints.now p blank).received)
-    c.loop-number.number c.member_at.result c.loop-number.replayed c.replayed_by-replayed.result member c.loop-number.invariant.counted c.loop-number.invariant.bound
-    c.replayed_by-replayed.ensures.value c.replayed_by-replayed.ensures.bound in
+    c.member_at.ensures c.loop-number.invariant.counted c.loop-number.invariant.bound c.replayed_by-replayed.ensures.value c.replayed_by-replayed.ensures.bound in
     record { counted = more.0; bound = more.1 }
 
 pub returns : goal.returns
 returns g c =
-    let same : c.loop-number.number ≡ c.args.n = omega (arith, c.loop-number-test.false, c.loop-number.auto.number-end) in
-    c.loop-number.invariant.counted ∙ ap (λ k. count_in c.args.self.now.down (λ p. (slice_index_or c.args.self.now.records.items p blank).received -
-    (slice_index_or c.args.checkpoints.now p blank).received) k) same
+    let same : c.args.n ≡ c.loop-number.number = omega (arith, c.loop-number-test.false, c.loop-number.auto.number-end) in
+    rw same c.loop-number.invariant.counted
