@@ -6,7 +6,6 @@ use Rattle.std.proofs.lemmas.Bool.Decides.{Decides-and, Decides-eqb}
 use Rattle.std.proofs.lemmas.Bool.{false≢true, cases_eq, or_cases, or_left, or_right}
 use Rattle.std.specs.Cmp.{nat_cmp_total}
 use Rattle.std.proofs.lemmas.List.{get_or_push, get_or_append_left}
-use Rattle.std.proofs.lemmas.Option.{slice_get_read}
 use Rattle.std.specs.Ordering.{nat_cmp}
 use Rattle.std.specs.FinSet as set
 use Rattle.fbl_base.specs.declared.trace.Mark.{Mark}
@@ -231,13 +230,12 @@ Knows-as t p by_member by_member' by_message by_message' members messages knows 
 
 -- one event more
 pub Seen-more : (t : List Mark) (p : ℕ) (by_member by_member' : List Members) (by_message by_message' : Message → Members) (from_the_end : List Members) (e : Mark) (members : Members)
-    → Seen t p by_member by_message from_the_end → 0 < p → e ≡ get_or t (p - 1) e → member_of e < 16
+    → Seen t p by_member by_message from_the_end → 0 < p → At t (p - 1) e → member_of e < 16
     → members ≡ dependents_by by_member by_message e
     → by_member' ≡ set_at by_member (member_of e) (set.union (get_or by_member (member_of e) set.empty) members)
     → ((m : Message) → by_message' m ≡ known_after by_message (message_taken_by e) members m)
     → Seen t (p - 1) by_member' by_message' (from_the_end ++ members ∷ [])
-Seen-more t p by_member by_member' by_message by_message' from_the_end e members seen some is below are own taken =
-    let at : At t (p - 1) e = slice_get_read t (length t) (p - 1) e refl (omega (arith, seen.count, some)) is in
+Seen-more t p by_member by_member' by_message by_message' from_the_end e members seen some at below are own taken =
     let behind : Knows t (p - 1 + 1) by_member by_message = Knows-at t p (p - 1 + 1) by_member by_message (omega (arith, some)) seen.knows in
     let right : (q : ℕ) → (set.contains members q ≡ true) ↔ DependsOnPlace t q (p - 1) = λ q. (rw are (dependents_right t (p - 1) by_member by_message e at below behind q)) in
     record {
@@ -256,13 +254,9 @@ Seen-more t p by_member by_member' by_message by_message' from_the_end e members
         (rw (get_or_append_left from_the_end (members ∷ []) set.empty (length t - 1 - i) before) (seen.found i q (omega (arith, from, ne)) within))
 
 -- an event is one of the group's members
-pub member_within : (n : ℕ) (t : List Mark) (i : ℕ) (e : Mark) → WellFormed n t → n ≤ 16 → i < length t → e ≡ get_or t i e → member_of e < 16
-member_within n t i (Send from ssn to) obeys few below is =
-    let may = obeys i (Send from ssn to) (slice_get_read t (length t) i (Send from ssn to) refl below is) in
-    omega (arith, may.0, few)
-member_within n t i (Receipt to rsn from ssn) obeys few below is =
-    let may = obeys i (Receipt to rsn from ssn) (slice_get_read t (length t) i (Receipt to rsn from ssn) refl below is) in
-    omega (arith, may.1, few)
+pub member_within : (n : ℕ) (t : List Mark) (i : ℕ) (e : Mark) → WellFormed n t → n ≤ 16 → At t i e → member_of e < 16
+member_within n t i (Send from ssn to) obeys few at = omega (arith, (obeys i (Send from ssn to) at).0, few)
+member_within n t i (Receipt to rsn from ssn) obeys few at = omega (arith, (obeys i (Receipt to rsn from ssn) at).1, few)
 
 -- at the end of the pass it has seen all
 pub Seen-all : (t : List Mark) (p : ℕ) (by_member : List Members) (by_message : Message → Members) (found : Dependents) → p ≤ 0
