@@ -1,5 +1,5 @@
 -- A history goes on by one command.
-use Rattle.std.proofs.Common.{◌≡◌, ℕ, ◌<◌, ◌≤◌, ◌+◌, inl, inr, List, [], ◌∷◌, ◌++◌, length, take, get_or, refl, sym, ap, subst, ◌∙◌, Option, Some, None}
+use Rattle.std.proofs.Common.{◌≡◌, ℕ, ◌<◌, ◌≤◌, ◌+◌, inl, inr, List, [], ◌∷◌, ◌++◌, length, take, get_or, refl, ap, Option, Some, None}
 use Rattle.std.proofs.Common.{Result, Ok, Err}
 use Rattle.std.proofs.lemmas.List.{take_more, take_all}
 use Rattle.std.specs.Result.{IsErrAnd}
@@ -28,7 +28,6 @@ use Rattle.fbl_threads.specs.declared.draining.DrainRefusal.{DrainRefusal}
 use Rattle.fbl_threads.specs.Drains.{Drains}
 use Rattle.fbl_play.specs.Histories.{HistoryStep, HistoryRun, HistoryTells, HistoryTellsOn, IsHistoryOfBytes}
 use Rattle.fbl_play.specs.declared.histories.RunHistory.{RunHistory}
-use Rattle.fbl_script.specs.Scripts.{IsScriptFault}
 use Rattle.fbl_play.specs.Runs.{Step, DeliveryBy, StrikeBy, CheckpointBy}
 use Rattle.fbl_play.specs.Telling.{IsTold, IsToldUpTo}
 

@@ -1,5 +1,5 @@
 -- How the parts of a play fit together.
-use Rattle.std.proofs.Common.{◌≡◌, ℕ, ◌<◌, ◌⊎◌, List, refl, sym, ap, subst, inl, inr, Option, Some, None, Result, Ok, Err, IfSome, length}
+use Rattle.std.proofs.Common.{◌≡◌, ℕ, ◌<◌, ◌⊎◌, List, refl, ap, inl, inr, Option, Some, None, Result, Ok, Err, IfSome, length}
 use Rattle.fbl_input.specs.declared.fault.RunFault.{RunFault}
 use Rattle.fbl_input.specs.declared.fault.RunFault.TheVariants as faults
 use Rattle.fbl_input.specs.Shapes.{longest, ◌>>=◌}

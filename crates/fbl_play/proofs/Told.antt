@@ -1,5 +1,5 @@
 -- How far a play came, and what its observer was told by then.
-use Rattle.std.proofs.Common.{◌≡◌, ℕ, ◌<◌, ◌≤◌, ◌+◌, ◌++◌, get_or, List, [], ◌∷◌, length, take, inl, inr, refl, sym, subst, ◌∙◌, Option, Result, Ok, Err}
+use Rattle.std.proofs.Common.{◌≡◌, ℕ, ◌<◌, ◌≤◌, ◌+◌, ◌++◌, get_or, List, [], ◌∷◌, length, take, inl, inr, refl, Option, Result, Ok, Err}
 use Rattle.std.proofs.lemmas.List.{take_all, take_more}
 use Rattle.std.specs.Result.{IsErrAnd}
 use Rattle.fbl_base.specs.Configs.{Settings}

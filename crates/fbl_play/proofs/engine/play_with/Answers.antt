@@ -1,10 +1,5 @@
-use Rattle.std.proofs.Common.{ℕ, List, [], ◌∷◌, ◌++◌, ◌∙◌, ap, arith, refl, sym, subst, take, string_bytes}
-use Rattle.std.proofs.lemmas.List.{take_more}
-use Rattle.std.proofs.lemmas.Result.{IfOk-at_ok}
-use Rattle.std.specs.Io.KnownBytes.{Appends}
-use Rattle.fbl_play.specs.Runs.{Step}
+use Rattle.std.proofs.Common.{[], ◌∷◌, ◌++◌, arith, refl}
 use Rattle.fbl_play.proofs.RunTexts.{play_none, play_more, play_front}
-use Rattle.fbl_play.specs.Telling.{IsTold}
 use Rattle.fbl_play.proofs.Told.{told_all, told_cut, told_next, told_none, told_short}
 use Rattle.fbl_play.proofs.engine.play_with.Goals as goal
 

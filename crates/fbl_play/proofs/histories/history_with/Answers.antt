@@ -1,10 +1,5 @@
-use Rattle.std.proofs.Common.{[], ◌∷◌, ◌++◌, ◌∙◌, ap, arith, refl, sym, subst, take, string_bytes}
-use Rattle.std.proofs.lemmas.List.{take_more}
-use Rattle.std.proofs.lemmas.Result.{IfOk-at_ok}
+use Rattle.std.proofs.Common.{[], ◌∷◌, ◌++◌, ap, arith, refl}
 use Rattle.fbl_base.specs.Configs.{Settings}
-use Rattle.fbl_play.specs.Histories.{HistoryStep}
-use Rattle.fbl_play.specs.Runs.{Step}
-use Rattle.fbl_play.specs.Telling.{IsTold}
 use Rattle.fbl_play.proofs.HistoryRuns.{has_none, has_more, history_all, history_short, history_none, step-config}
 use Rattle.fbl_play.proofs.Told.{told_next}
 use Rattle.fbl_play.proofs.histories.history_with.Goals as goal
