@@ -13,7 +13,7 @@ use Rattle.fbl_base.specs.MemberSets.{Members}
 use Rattle.fbl_base.specs.declared.trace.Determinant.{Determinant}
 use Rattle.fbl_base.specs.declared.trace.Mark.{Mark}
 use Rattle.fbl_base.specs.declared.trace.Mark.TheVariants.{Send, Receipt}
-use Rattle.fbl_base.specs.Audit.{Parts, IsDump, IsLost}
+use Rattle.fbl_base.specs.Audit.{Parts, IsDump, IsDumpOrphan, IsLost}
 use Rattle.fbl_base.specs.Events.{At, determinant_of, receipt_of, same_determinant}
 use Rattle.fbl_base.specs.Precedence.{Depends}
 use Rattle.fbl_base.proofs.Gets.{filter_map-At}
@@ -117,7 +117,7 @@ module _ (dump : Parts) (rules : IsDump dump) (d : Determinant) (dependents : Me
     determinant = refl;
     may = least_may dump d rules few;
     loses = least_loses dump d;
-    least = λ members may loses q h. has_least dump members d may loses q h;
+    least = λ members. has_least dump members d;
     orphans = left dump (least_of dump d) dependents d are;
     some = some_member (set.difference dependents (least_of dump d)) more;
   })
@@ -207,20 +207,23 @@ none_said dump (e ∷ ds) said says none (suc i) d at = elim says [
   | inr un ↦ absurd (no_cons un.0 un.1 (sym none ∙ un.2))
 ]
 
+-- whom the loss of the members leaves as an orphan, it leaves as one of some receipt
+pub left_of_receipt : (dump : Parts) (members : Members) (q : ℕ) → IsDumpOrphan (struck_by members dump) q → (d : Determinant) × LosesReceipt dump members d × IsLeftOrphan dump members d q
+left_of_receipt dump members q orphan = of_event orphan.1.0 orphan.1.1 orphan.1.2 where
+  of_event : (e : Mark) → IsLost (struck_by members dump) e → Depends dump.events q e → (d : Determinant) × LosesReceipt dump members d × IsLeftOrphan dump members d q
+  of_event (Send from ssn to) lost depends = absurd lost
+  of_event (Receipt to rsn from ssn) lost depends = (record { from = from; ssn = ssn; to = to; rsn = rsn }, lost, (orphan.0, depends))
+
 -- the run is safe exactly where no receipt of it is unsafe
 pub says_safe : (dump : Parts) (said : List UnsafeReceipt) → SaysUnsafe dump (receipts_of_dump dump) said → (said ≡ []) ↔ IsSafe dump
 says_safe dump said says = (
-  λ none members may q orphan. by_event none members may q orphan.0 orphan.1.0 orphan.1.1 orphan.1.2,
+  λ none members may q orphan.
+      let left = left_of_receipt dump members q orphan in
+      let has = Has-first left.2.1.1 in
+      let among = filter_map-At determinant_of dump.events has.0 (receipt_of left.0) left.0 has.1 refl in
+      none_said dump (receipts_of_dump dump) said says none among.0 left.0 among.1 (members, may, left.1, (q, left.2)),
   λ safe. says_none dump (receipts_of_dump dump) said says (λ d u. safe u.0 u.1 u.3.0 (u.3.1.0, (receipt_of d, u.2, u.3.1.1))),
-) where
-  by_event : said ≡ [] → (members : Members) → MayBeLost dump members → (q : ℕ) → set.contains members q ≡ false → (e : Mark)
-      → IsLost (struck_by members dump) e → Depends dump.events q e → ⊥
-  by_event none members may q out (Send from ssn to) lost depends = lost
-  by_event none members may q out (Receipt to rsn from ssn) lost depends =
-      let d : Determinant = record { from = from; ssn = ssn; to = to; rsn = rsn } in
-      let has = Has-first depends.1 in
-      let among = filter_map-At determinant_of dump.events has.0 (Receipt to rsn from ssn) d has.1 refl in
-      none_said dump (receipts_of_dump dump) said says none among.0 d among.1 (members, may, lost, (q, (out, depends)))
+)
 
 -- who is found to depend on a receipt's place depends on the receipt
 pub dependents_of_receipt : (n : ℕ) (t : List Mark) (found : Dependents) (i : ℕ) (e : Mark) (d : Determinant) → WellFormed n t → AreDependents t found

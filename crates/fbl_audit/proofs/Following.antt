@@ -6,7 +6,6 @@ use Rattle.std.proofs.lemmas.Bool.Decides.{Decides-and, Decides-eqb}
 use Rattle.std.proofs.lemmas.Bool.{false≢true, cases_eq, or_cases, or_left, or_right}
 use Rattle.std.specs.Cmp.{nat_cmp_total}
 use Rattle.std.proofs.lemmas.List.{get_or_push, get_or_append_left}
-use Rattle.std.proofs.lemmas.Option.{slice_get_read}
 use Rattle.std.specs.Ordering.{nat_cmp}
 use Rattle.std.specs.FinSet as set
 use Rattle.fbl_base.specs.declared.trace.Mark.{Mark}
@@ -77,11 +76,19 @@ depends_here t i member e at = (
   joined : (j : ℕ) → PlaceLeads t i j → DependsOnPlace t member j → DependsOnPlace t member i
   joined j leads d = (d.0, d.1, Precedes-joined (place_step (same_place at) leads) d.2, d.3, d.4)
 
+-- the event is a receipt of the message
+abbrev pub Takes : Message → Mark → Type 0
+Takes m b = send_of b ≡ Some (Send m.from m.ssn m.to)
+
+-- the members are those that depend on an event at place i or later of which P holds
+abbrev pub AreLater : List Mark → (Mark → Type 0) → ℕ → Members → Type 0
+AreLater t P i members = (q : ℕ) → (set.contains members q ≡ true) ↔ DependsOnLater t P i q
+
 -- the pass knows who depends on an event at place i or later: of each member, and of each message that is received
 pub record Knows (t : List Mark) (i : ℕ) (by_member : List Members) (by_message : Message → Members) : Type 0 where
   pub room : length by_member ≡ 16
-  pub members : (m q : ℕ) → m < 16 → (set.contains (get_or by_member m set.empty) q ≡ true) ↔ DependsOnLater t (λ b. member_of b ≡ m) i q
-  pub messages : (m : Message) (q : ℕ) → (set.contains (by_message m) q ≡ true) ↔ DependsOnLater t (λ b. send_of b ≡ Some (Send m.from m.ssn m.to)) i q
+  pub members : (m : ℕ) → m < 16 → AreLater t (λ b. member_of b ≡ m) i (get_or by_member m set.empty)
+  pub messages : (m : Message) → AreLater t (Takes m) i (by_message m)
 
 pub contains-both : (s t : Members) (q : ℕ) → (set.contains (set.union s t) q ≡ true) ↔ (set.contains s q ≡ true) ⊎ (set.contains t q ≡ true)
 contains-both s t q = (rw (set.contains-union nat_cmp_total s t q)
@@ -105,7 +112,7 @@ dependents_right t i by_member by_message (Send from ssn to) at below knows q =
     let here = depends_here t i q (Send from ssn to) at in
     let both = contains-both (set.insert (get_or by_member from set.empty) from) (by_message (record { from = from; ssn = ssn; to = to })) q in
     let own = contains-one_more (get_or by_member from set.empty) from q in
-    let later = knows.members from q below in
+    let later = knows.members from below q in
     let taken = knows.messages (record { from = from; ssn = ssn; to = to }) q in (
       λ h. here.1 (elim (both.0 h) [
         | inl x ↦ elim (own.0 x) [ inl is ↦ inl is | inr y ↦ inr (inl (later.0 y)) ]
@@ -119,7 +126,7 @@ dependents_right t i by_member by_message (Send from ssn to) at below knows q =
 dependents_right t i by_member by_message (Receipt to rsn from ssn) at below knows q =
     let here = depends_here t i q (Receipt to rsn from ssn) at in
     let own = contains-one_more (get_or by_member to set.empty) to q in
-    let later = knows.members to q below in (
+    let later = knows.members to below q in (
       λ h. here.1 (elim (own.0 h) [ inl is ↦ inl is | inr y ↦ inr (inl (later.0 y)) ]),
       λ d. own.1 (elim (here.0 d) [
         | inl is ↦ inl is
@@ -137,66 +144,49 @@ Decides-same_message a b =
 -- who depends on the event takes its place among those that depend on later ones
 module _ (t : List Mark) (i : ℕ) (by_member : List Members) (by_message : Message → Members) (e : Mark) (at : At t i e)
     (knows : Knows t (i + 1) by_member by_message) (found : Members) (right : (q : ℕ) → (set.contains found q ≡ true) ↔ DependsOnPlace t q i) where
-  members_more : member_of e < 16 → (m q : ℕ) → m < 16
-      → (set.contains (get_or (set_at by_member (member_of e) (set.union (get_or by_member (member_of e) set.empty) found)) m set.empty) q ≡ true) ↔
-      DependsOnLater t (λ b. member_of b ≡ m) i q
-  members_more below m q within = at_place (cases_eq m (member_of e)) (later_more t (λ b. member_of b ≡ m) i q e at) (knows.members m q within) where
+  -- where P holds of the event, they join those of P that depend on later ones, and else P has the same as before
+  found_more : (P : Mark → Type 0) (members : Members) → P e → AreLater t P (i + 1) members → AreLater t P i (set.union members found)
+  found_more P members here later q =
+      let more = later_more t P i q e at in
+      let both = contains-both members found q in (
+        λ h. more.1 (elim (both.0 h) [ inl x ↦ inl ((later q).0 x) | inr x ↦ inr (here, (right q).0 x) ]),
+        λ d. both.1 (elim (more.0 d) [ inl x ↦ inl ((later q).1 x) | inr x ↦ inr ((right q).1 x.1) ]),
+      )
+
+  found_same : (P : Mark → Type 0) (members : Members) → ¬ (P e) → AreLater t P (i + 1) members → AreLater t P i members
+  found_same P members other later q =
+      let more = later_more t P i q e at in
+      (λ h. more.1 (inl ((later q).0 h)), λ d. elim (more.0 d) [ inl x ↦ (later q).1 x | inr x ↦ absurd (other x.0) ])
+
+  members_more : member_of e < 16 → (m : ℕ) → m < 16
+      → AreLater t (λ b. member_of b ≡ m) i (get_or (set_at by_member (member_of e) (set.union (get_or by_member (member_of e) set.empty) found)) m set.empty)
+  members_more below m within = at_place (cases_eq m (member_of e)) where
     at_place : (m ≡ member_of e) ⊎ (m ≢ member_of e)
-        → (DependsOnLater t (λ b. member_of b ≡ m) i q ↔ DependsOnLater t (λ b. member_of b ≡ m) (i + 1) q ⊎ ((member_of e ≡ m) × DependsOnPlace t q i))
-        → ((set.contains (get_or by_member m set.empty) q ≡ true) ↔ DependsOnLater t (λ b. member_of b ≡ m) (i + 1) q)
-        → (set.contains (get_or (set_at by_member (member_of e) (set.union (get_or by_member (member_of e) set.empty) found)) m set.empty) q ≡ true) ↔
-        DependsOnLater t (λ b. member_of b ≡ m) i q
-    at_place (inl is) more later =
+        → AreLater t (λ b. member_of b ≡ m) i (get_or (set_at by_member (member_of e) (set.union (get_or by_member (member_of e) set.empty) found)) m set.empty)
+    at_place (inl is) =
         let room : member_of e < length by_member = omega (arith, below, knows.room) in
-        let both = contains-both (get_or by_member (member_of e) set.empty) found q in
-        let same : get_or (set_at by_member (member_of e) (set.union (get_or by_member (member_of e) set.empty) found)) m set.empty ≡ set.union (get_or by_member (member_of e) set.empty) found =
-        ap (λ k. get_or (set_at by_member (member_of e) (set.union (get_or by_member (member_of e) set.empty) found)) k set.empty) is ∙ get_or-set_same by_member (member_of e) _ set.empty room in
-        rw same (
-          λ h. more.1 (elim (both.0 h) [ inl x ↦ inl (later.0 (rw is x)) | inr x ↦ inr (sym is, (right q).0 x) ]),
-          λ d. both.1 (elim (more.0 d) [ inl x ↦ inl (rw is at (later.1 x)) | inr x ↦ inr ((right q).1 x.1) ]),
-        )
-    at_place (inr ne) more later =
-        rw (get_or-set_other by_member (member_of e) m _ set.empty ne) (
-          λ h. more.1 (inl (later.0 h)),
-          λ d. elim (more.0 d) [ inl x ↦ later.1 x | inr x ↦ absurd (ne (sym x.0)) ],
-        )
+        rw (is, get_or-set_same by_member (member_of e) (set.union (get_or by_member (member_of e) set.empty) found) set.empty room)
+        (found_more (λ b. member_of b ≡ member_of e) _ refl (knows.members (member_of e) below))
+    at_place (inr ne) =
+        rw (get_or-set_other by_member (member_of e) m (set.union (get_or by_member (member_of e) set.empty) found) set.empty ne)
+        (found_same (λ b. member_of b ≡ m) _ (λ own. ne (sym own)) (knows.members m within))
 
-  -- an event that takes no message
-  messages_kept : message_taken_by e ≡ None → (m : Message) (q : ℕ) → (set.contains (by_message m) q ≡ true) ↔ DependsOnLater t (λ b. send_of b ≡ Some (Send m.from m.ssn m.to)) i q
-  messages_kept none m q =
-      let more = later_more t (λ b. send_of b ≡ Some (Send m.from m.ssn m.to)) i q e at in
-      let later = knows.messages m q in
-      (λ h. more.1 (inl (later.0 h)), λ d. elim (more.0 d) [ inl x ↦ later.1 x | inr x ↦ absurd (takes_none e m none x.0) ])
-    where
-      takes_none : (b : Mark) (m : Message) → message_taken_by b ≡ None → send_of b ≡ Some (Send m.from m.ssn m.to) → ⊥
-      takes_none (Send from ssn to) m none h = cc
-      takes_none (Receipt to rsn from ssn) m none h = cc
+  -- an event that takes no message, and a receipt
+  messages_same : message_taken_by e ≡ None → (m : Message) → AreLater t (Takes m) i (by_message m)
+  messages_same none m = found_same (Takes m) _ (takes_none e none) (knows.messages m) where
+    takes_none : (b : Mark) → message_taken_by b ≡ None → Takes m b → ⊥
+    takes_none (Send from ssn to) none h = cc
+    takes_none (Receipt to rsn from ssn) none h = cc
 
-  -- a receipt
-  messages_more : (taken : Message) → send_of e ≡ Some (Send taken.from taken.ssn taken.to) → (m : Message) (q : ℕ)
-      → (set.contains (known_after by_message (Some taken) found m) q ≡ true) ↔ DependsOnLater t (λ b. send_of b ≡ Some (Send m.from m.ssn m.to)) i q
-  messages_more taken takes m q = at_message (same_addressed_message taken m) refl (later_more t (λ b. send_of b ≡ Some (Send m.from m.ssn m.to)) i q e at) (knows.messages m q) where
+  messages_more : (taken : Message) → Takes taken e → (m : Message) → AreLater t (Takes m) i (known_after by_message (Some taken) found m)
+  messages_more taken takes m = at_message (same_addressed_message taken m) refl where
     same_send : (a b : Message) → Some (Send a.from a.ssn a.to) ≡ Some (Send b.from b.ssn b.to) → a ≡ b
     same_send a b h = (let e1 : a.from ≡ b.from = cc in let e2 : a.ssn ≡ b.ssn = cc in let e3 : a.to ≡ b.to = cc in λ j. record { from = e1 j; ssn = e2 j; to = e3 j })
 
-    at_message : (b : Bool) → same_addressed_message taken m ≡ b
-        → (DependsOnLater t (λ b. send_of b ≡ Some (Send m.from m.ssn m.to)) i q ↔ DependsOnLater t (λ b. send_of b ≡ Some (Send m.from m.ssn m.to))
-        (i + 1) q ⊎ ((send_of e ≡ Some (Send m.from m.ssn m.to)) × DependsOnPlace t q i))
-        → ((set.contains (by_message m) q ≡ true) ↔ DependsOnLater t (λ b. send_of b ≡ Some (Send m.from m.ssn m.to)) (i + 1) q)
-        → (set.contains (cond b (set.union (by_message taken) found) (by_message m)) q ≡ true) ↔ DependsOnLater t (λ b. send_of b ≡ Some (Send m.from m.ssn m.to)) i q
-    at_message true is more later =
-        let same : taken ≡ m = (Decides-same_message taken m).0 is in
-        let both = contains-both (by_message taken) found q in (
-          λ h. more.1 (elim (both.0 h) [ inl x ↦ inl (later.0 (rw same at x)) | inr x ↦ inr ((rw same at takes), (right q).0 x) ]),
-          λ d. both.1 (elim (more.0 d) [ inl x ↦ inl (rw same (later.1 x)) | inr x ↦ inr ((right q).1 x.1) ]),
-        )
-    at_message false is more later = (
-      λ h. more.1 (inl (later.0 h)),
-      λ d. elim (more.0 d) [
-        | inl x ↦ later.1 x
-        | inr x ↦ absurd (false≢true (sym is ∙ (Decides-same_message taken m).1 (same_send taken m (sym takes ∙ x.0))))
-      ],
-    )
+    at_message : (b : Bool) → same_addressed_message taken m ≡ b → AreLater t (Takes m) i (cond b (set.union (by_message taken) found) (by_message m))
+    at_message true is = rw (← (Decides-same_message taken m).0 is) (found_more (Takes taken) _ takes (knows.messages taken))
+    at_message false is =
+        found_same (Takes m) _ (λ takes'. false≢true (sym is ∙ (Decides-same_message taken m).1 (same_send taken m (sym takes ∙ takes')))) (knows.messages m)
 
   -- what is known with the event
   pub Knows-more : member_of e < 16 → Knows t i (set_at by_member (member_of e) (set.union (get_or by_member (member_of e) set.empty) found)) (known_after by_message (message_taken_by e) found)
@@ -205,21 +195,20 @@ module _ (t : List Mark) (i : ℕ) (by_member : List Members) (by_message : Mess
     members = members_more below;
     messages = by_event e refl;
   } where
-    by_event : (b : Mark) → b ≡ e → (m : Message) (q : ℕ)
-        → (set.contains (known_after by_message (message_taken_by b) found m) q ≡ true) ↔ DependsOnLater t (λ b. send_of b ≡ Some (Send m.from m.ssn m.to)) i q
-    by_event (Send from ssn to) is m q = messages_kept (ap message_taken_by (sym is)) m q
-    by_event (Receipt to rsn from ssn) is m q = messages_more (record { from = from; ssn = ssn; to = to }) (ap send_of (sym is)) m q
+    by_event : (b : Mark) → b ≡ e → (m : Message) → AreLater t (Takes m) i (known_after by_message (message_taken_by b) found m)
+    by_event (Send from ssn to) is = messages_same (ap message_taken_by (sym is))
+    by_event (Receipt to rsn from ssn) is = messages_more (record { from = from; ssn = ssn; to = to }) (ap send_of (sym is))
 
 -- nothing is known behind the last event
 pub Knows-none : (t : List Mark) (by_member : List Members) (by_message : Message → Members) → by_member ≡ replicate 16 set.empty
     → ((m : Message) → by_message m ≡ set.empty) → Knows t (length t) by_member by_message
 Knows-none t by_member by_message members messages = record {
   room = rw members refl;
-  members = λ m q within. (rw (members, get_or-same 16 m set.empty) (λ h. absurd (false≢true (sym (set.contains-empty nat_cmp q) ∙ h)), λ d. absurd (none (λ b. member_of b ≡ m) q d)));
-  messages = λ m q. (rw (messages m) (λ h. absurd (false≢true (sym (set.contains-empty nat_cmp q) ∙ h)), λ d. absurd (none (λ b. send_of b ≡ Some (Send m.from m.ssn m.to)) q d)));
+  members = λ m within. (rw (members, get_or-same 16 m set.empty) (none (λ b. member_of b ≡ m)));
+  messages = λ m. (rw (messages m) (none (Takes m)));
 } where
-  none : (P : Mark → Type 0) (q : ℕ) → DependsOnLater t P (length t) q → ⊥
-  none P q d = absurd (omega (arith, d.2, At-below t d.0 d.1 d.3))
+  none : (P : Mark → Type 0) → AreLater t P (length t) set.empty
+  none P q = (λ h. absurd (false≢true (sym (set.contains-empty nat_cmp q) ∙ h)), λ d. absurd (omega (arith, d.2, At-below t d.0 d.1 d.3)))
 
 -- what the pass has when it has seen the events from place p on
 pub record Seen (t : List Mark) (p : ℕ) (by_member : List Members) (by_message : Message → Members) (from_the_end : List Members) : Type 0 where
@@ -236,18 +225,17 @@ Knows-as : (t : List Mark) (p : ℕ) (by_member by_member' : List Members) (by_m
 Knows-as t p by_member by_member' by_message by_message' members messages knows = record {
   room = rw members knows.room;
   members = rw members knows.members;
-  messages = λ m q. (rw (messages m) (knows.messages m q));
+  messages = λ m. (rw (messages m) (knows.messages m));
 }
 
 -- one event more
 pub Seen-more : (t : List Mark) (p : ℕ) (by_member by_member' : List Members) (by_message by_message' : Message → Members) (from_the_end : List Members) (e : Mark) (members : Members)
-    → Seen t p by_member by_message from_the_end → 0 < p → e ≡ get_or t (p - 1) e → member_of e < 16
+    → Seen t p by_member by_message from_the_end → 0 < p → At t (p - 1) e → member_of e < 16
     → members ≡ dependents_by by_member by_message e
     → by_member' ≡ set_at by_member (member_of e) (set.union (get_or by_member (member_of e) set.empty) members)
     → ((m : Message) → by_message' m ≡ known_after by_message (message_taken_by e) members m)
     → Seen t (p - 1) by_member' by_message' (from_the_end ++ members ∷ [])
-Seen-more t p by_member by_member' by_message by_message' from_the_end e members seen some is below are own taken =
-    let at : At t (p - 1) e = slice_get_read t (length t) (p - 1) e refl (omega (arith, seen.count, some)) is in
+Seen-more t p by_member by_member' by_message by_message' from_the_end e members seen some at below are own taken =
     let behind : Knows t (p - 1 + 1) by_member by_message = Knows-at t p (p - 1 + 1) by_member by_message (omega (arith, some)) seen.knows in
     let right : (q : ℕ) → (set.contains members q ≡ true) ↔ DependsOnPlace t q (p - 1) = λ q. (rw are (dependents_right t (p - 1) by_member by_message e at below behind q)) in
     record {
@@ -266,13 +254,9 @@ Seen-more t p by_member by_member' by_message by_message' from_the_end e members
         (rw (get_or_append_left from_the_end (members ∷ []) set.empty (length t - 1 - i) before) (seen.found i q (omega (arith, from, ne)) within))
 
 -- an event is one of the group's members
-pub member_within : (n : ℕ) (t : List Mark) (i : ℕ) (e : Mark) → WellFormed n t → n ≤ 16 → i < length t → e ≡ get_or t i e → member_of e < 16
-member_within n t i (Send from ssn to) obeys few below is =
-    let may = obeys i (Send from ssn to) (slice_get_read t (length t) i (Send from ssn to) refl below is) in
-    omega (arith, may.0, few)
-member_within n t i (Receipt to rsn from ssn) obeys few below is =
-    let may = obeys i (Receipt to rsn from ssn) (slice_get_read t (length t) i (Receipt to rsn from ssn) refl below is) in
-    omega (arith, may.1, few)
+pub member_within : (n : ℕ) (t : List Mark) (i : ℕ) (e : Mark) → WellFormed n t → n ≤ 16 → At t i e → member_of e < 16
+member_within n t i (Send from ssn to) obeys few at = omega (arith, (obeys i (Send from ssn to) at).0, few)
+member_within n t i (Receipt to rsn from ssn) obeys few at = omega (arith, (obeys i (Receipt to rsn from ssn) at).1, few)
 
 -- at the end of the pass it has seen all
 pub Seen-all : (t : List Mark) (p : ℕ) (by_member : List Members) (by_message : Message → Members) (found : Dependents) → p ≤ 0

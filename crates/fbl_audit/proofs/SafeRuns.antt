@@ -2,19 +2,16 @@
 use Rattle.std.proofs.Common.{ℕ, Bool, true, false, ◌≡◌, ◌<◌, ◌≤◌, ◌⊎◌, inl, inr, refl, sym, ap, ◌∙◌, arith, nat_cmp, nat_lt}
 use Rattle.std.specs.FinSet as set
 use Rattle.std.proofs.lemmas.Bool.{false≢true, ltb-false, ltb-true}
-use Rattle.fbl_base.specs.MemberSets.{Members}
 use Rattle.fbl_base.specs.declared.trace.Determinant.{Determinant}
-use Rattle.fbl_base.specs.declared.trace.Mark.{Mark}
-use Rattle.fbl_base.specs.declared.trace.Mark.TheVariants.{Send, Receipt}
-use Rattle.fbl_base.specs.Audit.{Parts, IsDump, IsLost}
+use Rattle.fbl_base.specs.Audit.{Parts, IsDump}
 use Rattle.fbl_base.specs.Events.{receipt_of}
 use Rattle.fbl_base.specs.Precedence.{Depends, Has}
 use Rattle.fbl_base.proofs.PrecedenceLaws.{Has-first}
 use Rattle.fbl_base.proofs.Sizes.{len-within}
-use Rattle.fbl_audit.specs.Checking.{IsSafe, MayBeLost, struck_by}
+use Rattle.fbl_audit.specs.Checking.{IsSafe}
 use Rattle.fbl_audit.specs.Holders.{holders_of}
 use Rattle.fbl_audit.specs.Laws.{HasAlwaysNoOrphans, SafeLaw}
-use Rattle.fbl_audit.proofs.Checks.{least_loses, least_may, least_of, loses_all}
+use Rattle.fbl_audit.proofs.Checks.{least_loses, least_may, least_of, left_of_receipt, loses_all}
 use Rattle.fbl_audit.proofs.Following.{contains-both}
 
 module _ (dump : Parts) (rules : IsDump dump) (nobody : dump.strike ≡ set.empty) where
@@ -49,19 +46,14 @@ module _ (dump : Parts) (rules : IsDump dump) (nobody : dump.strike ≡ set.empt
     by_test true many = inl (ltb-true dump.f (set.len (holders_of dump d)) many)
     by_test false few = inr (dependents_hold safe d has (ltb-false dump.f (set.len (holders_of dump d)) few))
 
-  no_orphan : HasAlwaysNoOrphans dump → (members : Members) → MayBeLost dump members → (q : ℕ) → set.contains members q ≡ false
-      → (e : Mark) → IsLost (struck_by members dump) e → Depends dump.events q e → ⊥
-  no_orphan holds members may q out (Send from ssn to) lost depends = lost
-  no_orphan holds members may q out (Receipt to rsn from ssn) lost depends =
-      let d : Determinant = record { from = from; ssn = ssn; to = to; rsn = rsn } in
-      let all = loses_all dump members d lost in
-      elim (holds d (Has-first depends.1)) [
-        | inl many ↦ (let fewer = len-within (set.len (holders_of dump d)) (holders_of dump d) members refl all in omega (arith, many, fewer, may.few, no_length))
-        | inr held ↦ false≢true (sym out ∙ all q (held q depends))
+  of_condition : HasAlwaysNoOrphans dump → IsSafe dump
+  of_condition holds members may q orphan =
+      let left = left_of_receipt dump members q orphan in
+      let all = loses_all dump members left.0 left.1 in
+      elim (holds left.0 (Has-first left.2.1.1)) [
+        | inl many ↦ (let fewer = len-within (set.len (holders_of dump left.0)) (holders_of dump left.0) members refl all in omega (arith, many, fewer, may.few, no_length))
+        | inr held ↦ false≢true (sym left.2.0 ∙ all q (held q left.2.1))
       ]
 
 pub safe_by_condition : SafeLaw
-safe_by_condition dump rules nobody = (
-  by_condition dump rules nobody,
-  λ holds members may q orphan. no_orphan dump rules nobody holds members may q orphan.0 orphan.1.0 orphan.1.1 orphan.1.2,
-)
+safe_by_condition dump rules nobody = (by_condition dump rules nobody, of_condition dump rules nobody)

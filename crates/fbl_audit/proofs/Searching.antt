@@ -35,42 +35,49 @@ pub record Knows (t : List Mark) (i p : ℕ) (ends : List (Option ℕ)) (sends :
 pub before_right : (t : List Mark) (i p : ℕ) (ends : List (Option ℕ)) (sends : Message → Option ℕ) (e : Mark) → At t p e → member_of e < 16
     → Knows t i p ends sends → IsBefore t i p (place_before ends sends e)
 before_right t i p ends sends e at below knows = by_member (get_or ends (member_of e) None) (knows.members (member_of e) below) where
-  no_own : IsEndBy t i p (member_of e) None → (j : ℕ) → PlacePrecedes t i j → (l : PlaceLeads t j p) → member_of l.0 ≡ member_of l.1 → ⊥
-  no_own none j q l own = none j l.0 l.2 l.3 (own ∙ ap member_of (same_event t p p l.1 e refl l.4 at)) q
+  -- a path to the event is empty where none comes to an earlier one of its member, nor to a send that it takes
+  only_here : IsEndBy t i p (member_of e) None → ((j : ℕ) (a : Mark) → j < p → At t j a → send_of e ≡ Some a → ¬ (PlacePrecedes t i j)) → PlacePrecedes t i p → p ≡ i
+  only_here none unsent pr = elim (last_step pr) [
+    | inl here ↦ here
+    | inr s ↦
+        let same : s.2.1 ≡ e = same_event t p p s.2.1 e refl s.2.4 at in
+        absurd (elim s.2.5 [
+          | inl own ↦ none s.0 s.2.0 s.2.2 s.2.3 (own ∙ ap member_of same) s.1
+          | inr sends' ↦ unsent s.0 s.2.0 s.2.2 s.2.3 (ap send_of (sym same) ∙ sends') s.1
+        ])
+  ]
 
   by_message : IsEndBy t i p (member_of e) None → (e' : Mark) → e' ≡ e → IsBefore t i p (option_and_then sends (message_taken_by e'))
-  by_message none (Send from ssn to) is = λ pr. elim (last_step pr) [
-    | inl here ↦ here
-    | inr s ↦ elim s.2.5 [
-      | inl own ↦ absurd (no_own none s.0 s.1 s.2 own)
-      | inr sends' ↦ absurd (no_send (same_event t p p s.2.1 e refl s.2.4 at ∙ sym is) sends')
-    ]
-  ] where
-    no_send : {b a : Mark} → b ≡ Send from ssn to → send_of b ≡ Some a → ⊥
-    no_send {b} {a} same h = (let e : None ≡ Some a = ap send_of (sym same) ∙ h in cc)
+  by_message none (Send from ssn to) is = only_here none (λ j a within at_j sends'. absurd (let taken : None ≡ Some a = ap send_of is ∙ sends' in cc))
   by_message none (Receipt to rsn from ssn) is = at_send (sends (record { from = from; ssn = ssn; to = to })) (knows.messages (record { from = from; ssn = ssn; to = to })) where
-    at_p : At t p (Receipt to rsn from ssn)
-    at_p = (rw is at)
-
     at_send : (o : Option ℕ) → IsSentBy t i p (record { from = from; ssn = ssn; to = to }) o → IsBefore t i p o
-    at_send (Some k) sent = ((Send from ssn to, Receipt to rsn from ssn, sent.0, sent.1, at_p, inr refl), sent.2)
-    at_send None unsent = λ pr. elim (last_step pr) [
-      | inl here ↦ here
-      | inr s ↦ elim s.2.5 [
-        | inl own ↦ absurd (no_own none s.0 s.1 s.2 own)
-        | inr sends' ↦
-            let same : s.2.1 ≡ Receipt to rsn from ssn = same_event t p p s.2.1 (Receipt to rsn from ssn) refl s.2.4 at_p in
-            let from_send : Some (Send from ssn to) ≡ Some s.2.0 = ap send_of (sym same) ∙ sends' in
-            let is_send : s.2.0 ≡ Send from ssn to = cc in
-            absurd (unsent s.0 s.2.2 (rw is_send at s.2.3) s.1)
-      ]
-    ]
+    at_send (Some k) sent = ((Send from ssn to, e, sent.0, sent.1, at, inr (ap send_of (sym is))), sent.2)
+    at_send None unsent = only_here none (λ j a within at_j sends'.
+        let taken : Some (Send from ssn to) ≡ Some a = ap send_of is ∙ sends' in
+        let is_send : a ≡ Send from ssn to = cc in
+        unsent j within (rw is_send at at_j))
 
   by_member : (o : Option ℕ) → IsEndBy t i p (member_of e) o → IsBefore t i p (option_or o (option_and_then sends (message_taken_by e)))
   by_member (Some k) found = (let b = found.1.own in ((b.0, e, found.0, b.1, at, inl b.2), found.1.depends))
   by_member None none = by_message none e refl
 
 -- ---- one more event
+
+-- a member's first event stays where no path comes to one of it at place p
+End-kept : (t : List Mark) (i p m : ℕ) → ((b : Mark) → At t p b → member_of b ≡ m → ¬ (PlacePrecedes t i p)) → (o : Option ℕ) → IsEndBy t i p m o → IsEndBy t i (p + 1) m o
+End-kept t i p m none (Some j) found = (omega (arith, found.0), found.1)
+End-kept t i p m none None first = λ k b within at_k own pr. elim (cases_eq k p) [
+  | inl here ↦ none b (rw here at at_k) own (rw here at pr)
+  | inr before ↦ first k b (omega (arith, within, before)) at_k own pr
+]
+
+-- and the send of a message, where no path comes to one of it there
+Sent-kept : (t : List Mark) (i p : ℕ) (m : Message) → (At t p (Send m.from m.ssn m.to) → ¬ (PlacePrecedes t i p)) → (o : Option ℕ) → IsSentBy t i p m o → IsSentBy t i (p + 1) m o
+Sent-kept t i p m none (Some j) sent = (omega (arith, sent.0), sent.1, sent.2)
+Sent-kept t i p m none None unsent = λ k within at_k pr. elim (cases_eq k p) [
+  | inl here ↦ none (rw here at at_k) (rw here at pr)
+  | inr before ↦ unsent k (omega (arith, within, before)) at_k pr
+]
 
 -- a path comes to the event
 pub Knows-more : (t : List Mark) (i p : ℕ) (ends ends' : List (Option ℕ)) (sends sends' : Message → Option ℕ) (e : Mark) → At t p e → member_of e < 16
@@ -79,69 +86,47 @@ pub Knows-more : (t : List Mark) (i p : ℕ) (ends ends' : List (Option ℕ)) (s
 Knows-more t i p ends ends' sends sends' e at below pr knows ends_are sends_are = record {
   room = rw ends_are (length-set ends (member_of e) _ ∙ knows.room);
   members = λ m within. (rw ends_are (at_member m (cases_eq m (member_of e)) (knows.members m within)));
-  messages = λ m. (rw (sends_are m) (at_message m e refl (sends m) refl (knows.messages m)));
+  messages = λ m. (rw (sends_are m) (at_message m e refl));
 } where
   here_more : (o : Option ℕ) → IsEndBy t i p (member_of e) o → IsEndBy t i (p + 1) (member_of e) (option_or o (Some p))
   here_more (Some j) found = (omega (arith, found.0), found.1)
   here_more None none = (omega arith, record { own = (e, at, refl); depends = pr; first = none })
 
-  other_more : (m : ℕ) → m ≢ member_of e → (o : Option ℕ) → IsEndBy t i p m o → IsEndBy t i (p + 1) m o
-  other_more m ne (Some j) found = (omega (arith, found.0), found.1)
-  other_more m ne None none = λ k b within at_k own. elim (cases_eq k p) [
-    | inl here ↦ absurd (ne (sym own ∙ ap member_of (same_event t k p b e here at_k at)))
-    | inr before ↦ none k b (omega (arith, within, before)) at_k own
-  ]
-
   at_member : (m : ℕ) → (m ≡ member_of e) ⊎ (m ≢ member_of e) → IsEndBy t i p m (get_or ends m None) → IsEndBy t i (p + 1) m (get_or (end_after ends p e) m None)
   at_member m (inl is) end =
       let room : member_of e < length ends = omega (arith, below, knows.room) in
       rw is (rw (get_or-set_same ends (member_of e) (option_or (get_or ends (member_of e) None) (Some p)) None room) (here_more (get_or ends (member_of e) None) (rw is at end)))
-  at_member m (inr ne) end = rw (get_or-set_other ends (member_of e) m (option_or (get_or ends (member_of e) None) (Some p)) None ne) (other_more m ne (get_or ends m None) end)
+  at_member m (inr ne) end =
+      rw (get_or-set_other ends (member_of e) m (option_or (get_or ends (member_of e) None) (Some p)) None ne)
+      (End-kept t i p m (λ b at_p own. absurd (ne (sym own ∙ ap member_of (same_event t p p b e refl at_p at)))) (get_or ends m None) end)
 
   -- an event that is not the send of the message
-  kept : (m : Message) → e ≢ Send m.from m.ssn m.to → (o : Option ℕ) → IsSentBy t i p m o → IsSentBy t i (p + 1) m o
-  kept m ne (Some j) sent = (omega (arith, sent.0), sent.1, sent.2)
-  kept m ne None unsent = λ k within at_k. elim (cases_eq k p) [
-    | inl here ↦ absurd (ne (same_event t p k e (Send m.from m.ssn m.to) (sym here) at at_k))
-    | inr before ↦ unsent k (omega (arith, within, before)) at_k
-  ]
+  kept : (m : Message) → e ≢ Send m.from m.ssn m.to → IsSentBy t i (p + 1) m (sends m)
+  kept m ne = Sent-kept t i p m (λ at_p. absurd (ne (same_event t p p e (Send m.from m.ssn m.to) refl at at_p))) (sends m) (knows.messages m)
 
-  at_message : (m : Message) (e' : Mark) → e' ≡ e → (o : Option ℕ) → sends m ≡ o → IsSentBy t i p m o → IsSentBy t i (p + 1) m (sent_after sends (message_sent_by e') p m)
-  at_message m (Receipt to rsn from ssn) is o old sent = rw old (kept m (λ h. (let no : Receipt to rsn from ssn ≡ Send m.from m.ssn m.to = is ∙ h in cc)) o sent)
-  at_message m (Send from ssn to) is o old sent = by_test (same_addressed_message (record { from = from; ssn = ssn; to = to }) m) refl where
+  at_message : (m : Message) (e' : Mark) → e' ≡ e → IsSentBy t i (p + 1) m (sent_after sends (message_sent_by e') p m)
+  at_message m (Receipt to rsn from ssn) is = kept m (λ h. (let no : Receipt to rsn from ssn ≡ Send m.from m.ssn m.to = is ∙ h in cc))
+  at_message m (Send from ssn to) is = by_test (same_addressed_message (record { from = from; ssn = ssn; to = to }) m) refl where
     by_test : (b : Bool) → same_addressed_message (record { from = from; ssn = ssn; to = to }) m ≡ b → IsSentBy t i (p + 1) m (cond b (Some p) (sends m))
     by_test true test =
         let same : record { from = from; ssn = ssn; to = to } ≡ m = (Decides-same_message (record { from = from; ssn = ssn; to = to }) m).0 test in
         let here : e ≡ Send m.from m.ssn m.to = sym is ∙ ap (λ (x : Message). Send x.from x.ssn x.to) same in
         (omega arith, (rw here at at), pr)
-    by_test false test = rw old (kept m (λ h. (
+    by_test false test = kept m (λ h. (
         let sent_here : Send from ssn to ≡ Send m.from m.ssn m.to = is ∙ h in
         let e1 : from ≡ m.from = cc in
         let e2 : ssn ≡ m.ssn = cc in
         let e3 : to ≡ m.to = cc in
         false≢true (sym test ∙ (Decides-same_message (record { from = from; ssn = ssn; to = to }) m).1 (λ j. record { from = e1 j; ssn = e2 j; to = e3 j }))
-        )) o sent)
+        ))
 
 -- no path comes to the event
 pub Knows-same : (t : List Mark) (i p : ℕ) (ends : List (Option ℕ)) (sends : Message → Option ℕ) → ¬ (PlacePrecedes t i p) → Knows t i p ends sends → Knows t i (p + 1) ends sends
 Knows-same t i p ends sends none_comes knows = record {
   room = knows.room;
-  members = λ m within. at_member m (get_or ends m None) (knows.members m within);
-  messages = λ m. at_message m (sends m) (knows.messages m);
-} where
-  at_member : (m : ℕ) (o : Option ℕ) → IsEndBy t i p m o → IsEndBy t i (p + 1) m o
-  at_member m (Some j) found = (omega (arith, found.0), found.1)
-  at_member m None none = λ k b within at_k own pr. elim (cases_eq k p) [
-    | inl here ↦ none_comes (rw here at pr)
-    | inr before ↦ none k b (omega (arith, within, before)) at_k own pr
-  ]
-
-  at_message : (m : Message) (o : Option ℕ) → IsSentBy t i p m o → IsSentBy t i (p + 1) m o
-  at_message m (Some j) sent = (omega (arith, sent.0), sent.1, sent.2)
-  at_message m None unsent = λ k within at_k pr. elim (cases_eq k p) [
-    | inl here ↦ none_comes (rw here at pr)
-    | inr before ↦ unsent k (omega (arith, within, before)) at_k pr
-  ]
+  members = λ m within. End-kept t i p m (λ b at_p own. none_comes) _ (knows.members m within);
+  messages = λ m. Sent-kept t i p m (λ at_p. none_comes) _ (knows.messages m);
+}
 
 -- nothing is known before the first event
 pub Knows-none : (t : List Mark) (i : ℕ) (ends : List (Option ℕ)) (sends : Message → Option ℕ) → ends ≡ replicate 16 None

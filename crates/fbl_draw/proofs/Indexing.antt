@@ -3,25 +3,19 @@ use Rattle.std.proofs.Common.{ℕ, ◌+◌, ◌<◌, ◌≡◌, ◌==◌, Bool, 
 use Rattle.std.proofs.Common.{Decides, refl, sym, ap, ◌∙◌, arith}
 use Rattle.std.specs.Option.{option_or, is_some}
 use Rattle.std.specs.List.{position_from}
+use Rattle.std.proofs.lemmas.Bool.Decides.{Decides-and, Decides-eqb}
 use Rattle.std.proofs.lemmas.List.{take_more}
 use Rattle.fbl_base.specs.Events.{same_message, is_message}
 use Rattle.fbl_base.specs.declared.trace.Mark.{Mark}
-use Rattle.fbl_base.proofs.Recorded.{both_true, eqb_same}
-use Rattle.fbl_base.proofs.RulesLaws.{eqb-self}
 use Rattle.fbl_base.specs.declared.trace.MessageName.{MessageName}
 use Rattle.fbl_draw.specs.Receipts.{receipt_place, taken_by, takes}
 
 pub Decides-same_message : (a b : MessageName) → Decides (same_message a b) (a ≡ b)
-Decides-same_message a b = (same, is) where
-  same : same_message a b ≡ true → a ≡ b
-  same h =
-      let both = both_true (a.from == b.from) _ h in
-      let e1 : a.from ≡ b.from = eqb_same both.0 in
-      let e2 : a.ssn ≡ b.ssn = eqb_same both.1 in
-      (λ i. record { from = e1 i; ssn = e2 i })
-
-  is : a ≡ b → same_message a b ≡ true
-  is e = rw (← e) (rw (eqb-self a.from, eqb-self a.ssn))
+Decides-same_message a b =
+    let both = Decides-and (a.from == b.from) _ (Decides-eqb a.from b.from) (Decides-eqb a.ssn b.ssn) in (
+      λ h. (let e = both.0 h in λ i. record { from = e.0 i; ssn = e.1 i }),
+      λ e. both.1 (ap (λ (m : MessageName). m.from) e, ap (λ (m : MessageName). m.ssn) e),
+    )
 
 -- the first place at which a test passes, with one more element behind
 position_push : {X : Type 0} (p : X → Bool) (k : ℕ) (xs : List X) (x : X) → position_from p k (xs ++ x ∷ []) ≡ option_or (position_from p k xs) (cond (p x) (Some (k + length xs)) None)

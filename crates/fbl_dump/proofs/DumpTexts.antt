@@ -17,39 +17,30 @@ use Rattle.fbl_dump.specs.Dumps.{parts_of_data, parts_of_input}
 use Rattle.fbl_dump.specs.DumpLines.{ReadsBack, dump_data, event_data, number_data, pair_data}
 use Rattle.fbl_dump.proofs.Newlines.{read_newline}
 
-events_float : (es : List Mark) → items_have_float (items_of (map event_data es)) ≡ false
-events_float [] = refl
-events_float (Send from ssn to ∷ es) = events_float es
-events_float (Receipt to rsn from ssn ∷ es) = events_float es
+-- the items have no float, and nest to a depth of one
+abbrev AreFlat : List Data → Type 0
+AreFlat ds = (items_have_float (items_of ds) ≡ false) × (items_depth (items_of ds) ≤ 1)
 
-pairs_float : (hs : List (ℕ × Determinant)) → items_have_float (items_of (map pair_data hs)) ≡ false
-pairs_float [] = refl
-pairs_float (h ∷ hs) = pairs_float hs
+flat_events : (es : List Mark) → AreFlat (map event_data es)
+flat_events [] = (refl, omega arith)
+flat_events (Send from ssn to ∷ es) = (let rest = flat_events es in (rest.0, omega (arith, rest.1)))
+flat_events (Receipt to rsn from ssn ∷ es) = (let rest = flat_events es in (rest.0, omega (arith, rest.1)))
 
-numbers_float : (ns : List ℕ) → items_have_float (items_of (map number_data ns)) ≡ false
-numbers_float [] = refl
-numbers_float (n ∷ ns) = numbers_float ns
+flat_pairs : (hs : List (ℕ × Determinant)) → AreFlat (map pair_data hs)
+flat_pairs [] = (refl, omega arith)
+flat_pairs (h ∷ hs) = (let rest = flat_pairs hs in (rest.0, omega (arith, rest.1)))
+
+flat_numbers : (ns : List ℕ) → AreFlat (map number_data ns)
+flat_numbers [] = (refl, omega arith)
+flat_numbers (n ∷ ns) = (let rest = flat_numbers ns in (rest.0, omega (arith, rest.1)))
 
 dump_float : (dump : Parts) → has_float (dump_data dump) ≡ false
 unfolding dump_data
-dump_float dump = rw (events_float dump.events, pairs_float dump.held, numbers_float (member_list dump.strike)) refl
-
-events_depth : (es : List Mark) → items_depth (items_of (map event_data es)) ≤ 1
-events_depth [] = omega arith
-events_depth (Send from ssn to ∷ es) = omega (arith, events_depth es)
-events_depth (Receipt to rsn from ssn ∷ es) = omega (arith, events_depth es)
-
-pairs_depth : (hs : List (ℕ × Determinant)) → items_depth (items_of (map pair_data hs)) ≤ 1
-pairs_depth [] = omega arith
-pairs_depth (h ∷ hs) = omega (arith, pairs_depth hs)
-
-numbers_depth : (ns : List ℕ) → items_depth (items_of (map number_data ns)) ≤ 1
-numbers_depth [] = omega arith
-numbers_depth (n ∷ ns) = omega (arith, numbers_depth ns)
+dump_float dump = rw ((flat_events dump.events).0, (flat_pairs dump.held).0, (flat_numbers (member_list dump.strike)).0)
 
 dump_depth : (dump : Parts) → depth (dump_data dump) ≤ max_depth
 unfolding dump_data
-dump_depth dump = omega (arith, events_depth dump.events, pairs_depth dump.held, numbers_depth (member_list dump.strike))
+dump_depth dump = omega (arith, (flat_events dump.events).1, (flat_pairs dump.held).1, (flat_numbers (member_list dump.strike)).1)
 
 -- the text of a value that is a dump
 pub text_of_dump : (d : Data) (dump : Parts) (text : List ℕ) → d ≡ dump_data dump → (has_float d ≡ false → text ≡ compact_text d) → text ≡ compact_text (dump_data dump)

@@ -1,6 +1,6 @@
 -- The values of a dump, and how they are read back.
 use Rattle.std.proofs.Common.{◌≡◌, ℕ, ◌+◌, ◌<◌, ◌≤◌, ◌⊎◌, List, [], ◌∷◌, ◌++◌, map, take, get_or, length, suc, zero, refl, sym, ap, subst, ◌∙◌}
-use Rattle.std.proofs.Common.{arith, Bool, true, false, ◌&&◌, cond, Option, Some, None, option_map, Ok, nat_cmp, nat_eq, inl, inr, eq-eqb, nat_le, ◌||◌}
+use Rattle.std.proofs.Common.{arith, Bool, true, false, ◌&&◌, Option, Some, option_map, Ok, nat_cmp, nat_eq, inl, inr, eq-eqb, ◌||◌}
 use Rattle.std.proofs.Math.Bool.{or-true}
 use Rattle.std.proofs.lemmas.List.{take_more, map_push}
 use Rattle.std.proofs.lemmas.List.Elements.{All-push}
@@ -38,7 +38,7 @@ all_read shape f [] h = refl
 all_read shape f (x ∷ xs) h =
     let rest : all_shaped shape (map f xs) ≡ Some xs = all_read shape f xs (λ k d lt. h (suc k) d (omega (arith, lt))) in
     let first : shape (f x) ≡ Some x = h 0 x (omega arith) in
-    rw (first, rest) refl
+    rw (first, rest)
 
 pub list_read : {A : Type 0} (shape : Data → Option A) (f : A → Data) (xs : List A) → All (λ x. shape (f x) ≡ Some x) xs → list_of shape (list_data (map f xs)) ≡ Some xs
 list_read shape f xs h = ap (λ ds. all_shaped shape ds) (elements_of (map f xs)) ∙ all_read shape f xs h
@@ -77,17 +77,14 @@ set_read s below h = ap (option_map set.from_list) (list_read member_shape numbe
 
 -- a number that is not too large
 number_read : (most n : ℕ) → n ≤ most → number_within 0 most (number_data n) ≡ Some n
-number_read most n h =
-    let low : nat_le 0 n ≡ true = le-leb 0 n (omega arith) in
-    let high : nat_le n most ≡ true = le-leb n most h in
-    ap (λ b. cond (b && nat_le n most) (Some n) None) low ∙ ap (λ b. cond b (Some n) None) high
+number_read most n h = rw (le-leb 0 n (omega arith), le-leb n most h)
 
 -- an object with a dump's keys is read as its parts
 pub object_read : (members f : ℕ) (events held strike : Data) (es : List Mark) (hs : List (ℕ × Determinant)) (s : set.FinSet nat_cmp)
     → members ≤ 255 → f ≤ 255 → list_of event_shape events ≡ Some es → list_of pair_shape held ≡ Some hs → set_shape strike ≡ Some s
     → parts_of_data (dump_object members f events held strike) ≡ Ok (record { members = members; f = f; events = es; held = hs; strike = s })
 unfolding parts_of_data
-object_read members f events held strike es hs s few fewer e h t = rw (number_read 255 members few, number_read 255 f fewer, e, h, t) refl
+object_read members f events held strike es hs s few fewer e h t = rw (number_read 255 members few, number_read 255 f fewer, e, h, t)
 
 -- the parts of a dump are read back
 pub parts_read : (dump : Parts) → IsDump dump → All (λ x. event_shape (event_data x) ≡ Some x) dump.events
@@ -103,8 +100,4 @@ parts_read dump rules events held strike =
 pub dump_same : (dump : Parts) (m f : ℕ) (e h s : Data) → m ≡ dump.members → f ≡ dump.f → e ≡ list_data (map event_data dump.events)
     → h ≡ list_data (map pair_data dump.held) → s ≡ list_data (map number_data (member_list dump.strike)) → dump_object m f e h s ≡ dump_data dump
 unfolding dump_data
-dump_same dump m f e h s em ef ee eh es =
-    let held : Data = list_data (map pair_data dump.held) in
-    let events : Data = list_data (map event_data dump.events) in
-    ap (λ x. dump_object x f e h s) em ∙ ap (λ x. dump_object dump.members x e h s) ef ∙ ap (λ x. dump_object dump.members dump.f x h s) ee
-    ∙ ap (λ x. dump_object dump.members dump.f events x s) eh ∙ ap (λ x. dump_object dump.members dump.f events held x) es
+dump_same dump m f e h s em ef ee eh es = rw (em, ef, ee, eh, es)

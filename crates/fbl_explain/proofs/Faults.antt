@@ -1,5 +1,5 @@
 -- What the first fault of an input says of another.
-use Rattle.std.proofs.Common.{◌≡◌, ◌≢◌, List, ℕ, refl, Result, Ok, Err}
+use Rattle.std.proofs.Common.{◌≢◌, List, ℕ, refl, Result, Ok, Err}
 use Rattle.std.specs.Prelude.{IfOk, IfNone}
 use Rattle.std.specs.Result.{result_err}
 use Rattle.fbl_input.specs.declared.fault.RunFault.{RunFault}

@@ -6,10 +6,8 @@ use Rattle.std.proofs.lemmas.List.{map-append, take_more}
 use Rattle.std.specs.FinSet as set
 use Rattle.fbl_base.specs.MemberSets.{Members}
 use Rattle.fbl_base.specs.declared.trace.Determinant.{Determinant}
-use Rattle.fbl_base.specs.declared.trace.Mark.{Mark}
-use Rattle.fbl_base.specs.declared.trace.Mark.TheVariants.{Send, Receipt}
 use Rattle.fbl_base.specs.Audit.{Parts}
-use Rattle.fbl_base.specs.Events.{At, determinant_of, member_of, receipt_of}
+use Rattle.fbl_base.specs.Events.{At, receipt_of}
 use Rattle.fbl_base.specs.Places.{DependsOnPlace}
 use Rattle.fbl_base.specs.Precedence.{Has}
 use Rattle.fbl_base.specs.Rules.{WellFormed}
@@ -18,14 +16,10 @@ use Rattle.fbl_base.proofs.PlacesAndEvents.{depends-from_places, places-from_dep
 use Rattle.fbl_base.proofs.PrecedenceLaws.{Has-first, Has-last}
 use Rattle.fbl_audit.specs.Checking.{IsLeftOrphan}
 use Rattle.fbl_audit.specs.Paths.{IsPathTo}
+use Rattle.fbl_audit.proofs.Following.{member_within}
 use Rattle.fbl_explain.specs.declared.why.LossReason.{LossReason}
 use Rattle.fbl_explain.specs.declared.why.OrphanPath.{OrphanPath}
 use Rattle.fbl_explain.specs.Whys.{ArePathsTo, IsPathFrom, IsReasonOf, TellsOf}
-
--- an event of a trace is one of a member
-within : (n : ℕ) (t : List Mark) (i : ℕ) (e : Mark) → WellFormed n t → n ≤ 16 → At t i e → member_of e < 16
-within n t i (Send from ssn to) obeys few at = (let may = obeys i (Send from ssn to) at in omega (arith, may.0, few))
-within n t i (Receipt to rsn from ssn) obeys few at = (let may = obeys i (Receipt to rsn from ssn) at in omega (arith, may.1, few))
 
 -- ---- one receipt
 
@@ -83,7 +77,7 @@ pub PathsBy-all : (dump : Parts) (d : Determinant) (members : Members) (paths : 
     → PathsBy dump d members 16 paths → ArePathsTo dump d members paths
 PathsBy-all dump d members paths obeys few by = record {
   each = by.each;
-  all = λ q left. (let last = Has-last left.1.1 in by.all q (rw left.1.2 at (within dump.members dump.events last.0 left.1.0 obeys few last.1)) left);
+  all = λ q left. (let last = Has-last left.1.1 in by.all q (rw left.1.2 at (member_within dump.members dump.events last.0 left.1.0 obeys few last.1)) left);
   rising = by.rising;
 }
 

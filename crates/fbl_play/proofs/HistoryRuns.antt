@@ -1,5 +1,5 @@
 -- A history goes on by one command.
-use Rattle.std.proofs.Common.{◌≡◌, ℕ, ◌<◌, ◌≤◌, ◌+◌, inl, inr, List, [], ◌∷◌, ◌++◌, length, take, get_or, refl, sym, ap, subst, ◌∙◌, Option, Some, None}
+use Rattle.std.proofs.Common.{◌≡◌, ℕ, ◌<◌, ◌≤◌, ◌+◌, inl, inr, List, [], ◌∷◌, ◌++◌, length, take, get_or, refl, ap, Option, Some, None}
 use Rattle.std.proofs.Common.{Result, Ok, Err}
 use Rattle.std.proofs.lemmas.List.{take_more, take_all}
 use Rattle.std.specs.Result.{IsErrAnd}
@@ -28,7 +28,6 @@ use Rattle.fbl_threads.specs.declared.draining.DrainRefusal.{DrainRefusal}
 use Rattle.fbl_threads.specs.Drains.{Drains}
 use Rattle.fbl_play.specs.Histories.{HistoryStep, HistoryRun, HistoryTells, HistoryTellsOn, IsHistoryOfBytes}
 use Rattle.fbl_play.specs.declared.histories.RunHistory.{RunHistory}
-use Rattle.fbl_script.specs.Scripts.{IsScriptFault}
 use Rattle.fbl_play.specs.Runs.{Step, DeliveryBy, StrikeBy, CheckpointBy}
 use Rattle.fbl_play.specs.Telling.{IsTold, IsToldUpTo}
 
@@ -76,10 +75,7 @@ history_more : (next : Next) (workers : ℕ) (start mid new : GroupRecord) (cs :
     → HistoryStep next mid.down c account new history later
     → HistoryRun next workers start (cs ++ c ∷ []) new (accounts ++ account ∷ []) before later
 history_more next workers start mid new [] [] c account line before history later r s sound follows =
-    let P : GroupRecord → Type 0 = λ g. Step next workers g c new line account in
-    let Q : GroupRecord → Type 0 = λ g. HistoryStep next g.down c account new history later in
-    let H : List Column → Type 0 = λ h. HistoryStep next start.down c account new h later in
-    (new, line, later, subst P r.0 s, sound, subst H r.1 (subst Q r.0 follows), (refl, refl))
+    (new, line, later, (rw r.0 at s), sound, (rw (r.0, r.1) at follows), (refl, refl))
 history_more next workers start mid new (d ∷ cs) (a ∷ accounts) c account line before history later r s sound follows =
     (r.0, r.1, r.2, r.3, r.4, r.5, history_more next workers r.0 mid new cs accounts c account line r.2 history later r.6 s sound follows)
 history_more next workers start mid new [] (a ∷ accounts) c account line before history later r s sound follows = absurd r
@@ -101,13 +97,12 @@ pub has_more : (next : Next) (workers : ℕ) (config : Settings) (mid new : Grou
     → d ≡ get_or cs i d → Step next workers mid d new line account → IsSound next new → HistoryStep next mid.down d account new history later
     → HasHistory next workers config cs (i + 1) (accounts ++ account ∷ []) new later
 has_more next workers config mid new cs i d accounts account line history later within h is step sound follows =
-    let P : List Command → Type 0 = λ w. HistoryRun next workers h.start w new (accounts ++ account ∷ []) (trace_columns next h.start) later in
     record {
       start = h.start;
       is_start = h.is_start;
       sound = h.sound;
       run =
-          subst P (ap (λ x. take i cs ++ x ∷ []) is ∙ sym (take_more cs i d within))
+          rw (take_more cs i d within, ← is)
           (history_more next workers h.start mid new (take i cs) accounts d account line (trace_columns next h.start) history later h.run step sound follows);
     }
 
@@ -118,8 +113,7 @@ module _ {O : Type 0} (before : O → Command → O → Type 0) (after : O → C
       → HasHistory next workers config cs i accounts end history → IsTold before after (take i cs) accounts old new
       → HistoryTellsOn before after next workers config cs old new (Ok history)
   history_all end i accounts history all h told =
-      let P : List Command → Type 0 = λ w. HistoryRun next workers h.start w end accounts (trace_columns next h.start) history in
-      (accounts, (h.start, end, h.is_start, h.sound, subst P (take_all _ _ all) h.run), subst (λ w. IsTold before after w accounts old new) (take_all _ _ all) told)
+      (accounts, (h.start, end, h.is_start, h.sound, (rw (take_all i cs all) at h.run)), (rw (take_all i cs all) at told))
 
   -- memory ran out for the next command
   pub history_short : (mid : GroupRecord) (i : ℕ) (accounts : List Account) (history : List Column) (r : Result (List Column) RunFault)
@@ -127,15 +121,14 @@ module _ {O : Type 0} (before : O → Command → O → Type 0) (after : O → C
       → IsToldUpTo before after cs i accounts old new → HistoryTellsOn before after next workers config cs old new r
   history_short mid i accounts history (Ok x) is within h told = absurd is
   history_short mid i accounts history (Err e) is within h told =
-      subst (λ fault. HistoryTellsOn before after next workers config cs old new (Err fault)) (sym is)
-      (inr (i, accounts, (within, (history, (h.start, mid, h.is_start, h.sound, h.run))), told))
+      rw is (inr (i, accounts, (within, (history, (h.start, mid, h.is_start, h.sound, h.run))), told))
 
 -- no group could be made, or no history of it
 pub history_none : {O : Type 0} (before : O → Command → O → Type 0) (after : O → Command → Account → O → Type 0) (next : Next) (workers : ℕ) (config : Settings)
     (cs : List Command) (old : O) (r : Result (List Column) RunFault) → IsErrAnd r (λ e. e ≡ faults.Memory) → HistoryTellsOn before after next workers config cs old old r
 history_none before after next workers config cs old (Ok x) is = absurd is
 history_none before after next workers config cs old (Err e) is =
-    subst (λ fault. HistoryTellsOn before after next workers config cs old old (Err fault)) (sym is) (inl refl)
+    rw is (inl refl)
 
 -- what tells is a history
 pub told_history : {O : Type 0} (before : O → Command → O → Type 0) (after : O → Command → Account → O → Type 0) (workers : ℕ) (input : List ℕ) (old new : O)
@@ -147,5 +140,5 @@ told_history before after workers input old new (Ok answer) h = elim h [
 told_history before after workers input old new (Err faults.Memory) h = tt
 told_history before after workers input old new (Err fault) h = elim h [
   | inl some ↦ absurd some.2
-  | inr none ↦ (let e = none.1 in let same : none.0 ≡ fault = cc in subst (λ f. IsScriptFault input f) same none.2)
+  | inr none ↦ (let e = none.1 in let same : none.0 ≡ fault = cc in rw same at none.2)
 ]

@@ -1,5 +1,5 @@
 -- How the parts of a play fit together.
-use Rattle.std.proofs.Common.{◌≡◌, ℕ, ◌<◌, ◌⊎◌, List, refl, sym, ap, subst, inl, inr, Option, Some, None, Result, Ok, Err, IfSome, length}
+use Rattle.std.proofs.Common.{◌≡◌, ℕ, ◌<◌, ◌⊎◌, List, refl, ap, inl, inr, Option, Some, None, Result, Ok, Err, IfSome, length}
 use Rattle.fbl_input.specs.declared.fault.RunFault.{RunFault}
 use Rattle.fbl_input.specs.declared.fault.RunFault.TheVariants as faults
 use Rattle.fbl_input.specs.Shapes.{longest, ◌>>=◌}
@@ -28,7 +28,7 @@ plays_fault workers input before f is = (is, keeps_itself before)
 pub plays_whole : (workers : ℕ) (known : Option (List ℕ)) (bytes : List ℕ) (before after : Option (List ℕ)) (r : Result (Unit {0}) RunFault)
     → IfSome known (λ input. bytes ≡ input) → Plays workers bytes before after r → IfSome known (λ input. ReadsAndPlays workers input before after r)
 plays_whole workers None bytes before after r e h = tt
-plays_whole workers (Some input) bytes before after r e h = let P : List ℕ → Type 0 = λ w. Plays workers w before after r in inr (subst P e h)
+plays_whole workers (Some input) bytes before after r e h = inr (rw e at h)
 
 -- an input that is too long is no script
 long_input : (input : List ℕ) → longest < length input → outline_of_input input ≡ Err faults.TooLong
@@ -39,11 +39,10 @@ pub plays_unread : (workers : ℕ) (known before : Option (List ℕ)) (f : RunFa
     → (f ≡ faults.TooLong → IfSome known (λ input. longest < length input)) → IfSome known (λ input. ReadsAndPlays workers input before before (Err f))
 plays_unread workers None before f w long = tt
 plays_unread workers (Some input) before f w long =
-    let P : RunFault → Type 0 = λ fault. ReadsAndPlays workers input before before (Err fault) in
     elim w [
-      | inl e ↦ subst P (sym e) (inl (refl, keeps_itself before))
+      | inl e ↦ rw e (inl (refl, keeps_itself before))
       | inr v ↦ elim v [
-        | inl e ↦ subst P (sym e) (inr (long_input input (long e), keeps_itself before))
-        | inr e ↦ subst P (sym e) (inr (inl (keeps_itself before)))
+        | inl e ↦ rw e (inr (long_input input (long e), keeps_itself before))
+        | inr e ↦ rw e (inr (inl (keeps_itself before)))
       ]
     ]

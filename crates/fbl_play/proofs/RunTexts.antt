@@ -1,5 +1,5 @@
 -- A run goes on by one command.
-use Rattle.std.proofs.Common.{◌≡◌, ℕ, ◌<◌, ◌+◌, List, [], ◌∷◌, ◌++◌, length, take, get_or, refl, sym, ap, subst, ◌∙◌, append_assoc, append-nil, Option, Some}
+use Rattle.std.proofs.Common.{◌≡◌, ℕ, ◌<◌, ◌+◌, List, [], ◌∷◌, ◌++◌, length, take, get_or, refl, sym, ap, ◌∙◌, append_assoc, append-nil, Option, Some}
 use Rattle.std.proofs.Common.{None, ◌≤◌}
 use Rattle.std.proofs.lemmas.List.{take_more, take_all}
 use Rattle.std.specs.Io.KnownBytes.{Appends}
@@ -18,8 +18,7 @@ pub run_more : (next : Next) (workers : ℕ) (start mid new : GroupRecord) (cs :
     → CommandRun next workers start cs mid text accounts → Step next workers mid c new line account → IsSound next new
     → CommandRun next workers start (cs ++ c ∷ []) new (text ++ line) (accounts ++ account ∷ [])
 run_more next workers start mid new [] [] c account text line r s sound =
-    let P : GroupRecord → Type 0 = λ g. Step next workers g c new line account in
-    (new, line, [], subst P r.0 s, sound, (refl, refl), ap (λ w. w ++ line) r.1 ∙ sym (append-nil line))
+    (new, line, [], (rw r.0 at s), sound, (refl, refl), ap (λ w. w ++ line) r.1 ∙ sym (append-nil line))
 run_more next workers start mid new (d ∷ cs) (a ∷ accounts) c account text line r s sound = (
   r.0,
   r.1,
@@ -45,10 +44,7 @@ module _ (next : Next) (workers : ℕ) (config : Settings) (mid new : GroupRecor
     (a b c : Option (List ℕ)) (line : List ℕ) (within : i < length cs) (p : IsPlayed next workers config cs i accounts mid a b) (is : d ≡ get_or cs i d)
     (step : Step next workers mid d new line account) (sound : IsSound next new) where
   run_on : CommandRun next workers p.start (take (i + 1) cs) new (p.text ++ line) (accounts ++ account ∷ [])
-  run_on =
-      let S : Command → Type 0 = λ w. Step next workers mid w new line account in
-      let P : List Command → Type 0 = λ w. CommandRun next workers p.start w new (p.text ++ line) (accounts ++ account ∷ []) in
-      subst P (sym (take_more cs i d within)) (run_more next workers p.start mid new (take i cs) accounts (get_or cs i d) account p.text line p.run (subst S is step) sound)
+  run_on = rw (take_more cs i d within, ← is) (run_more next workers p.start mid new (take i cs) accounts d account p.text line p.run step sound)
 
   -- one more command, and its line
   pub play_more : Appends b c line → IsPlayed next workers config cs (i + 1) (accounts ++ account ∷ []) new a c
@@ -89,5 +85,4 @@ play_none next workers config start cs known is sound =
 pub play_all : (next : Next) (workers : ℕ) (config : Settings) (end : GroupRecord) (cs : List Command) (i : ℕ) (accounts : List Account) (a b : Option (List ℕ)) → length cs ≤ i
     → IsPlayed next workers config cs i accounts end a b → IsWritten next workers config cs accounts a b
 play_all next workers config end cs i accounts a b h p =
-    let P : List Command → Type 0 = λ w. CommandRun next workers p.start w end p.text accounts in
-    (p.text, (p.start, end, p.is_start, p.sound, subst P (take_all _ _ h) p.run), p.written)
+    (p.text, (p.start, end, p.is_start, p.sound, (rw (take_all i cs h) at p.run)), p.written)

@@ -1,6 +1,6 @@
 -- How far a play came, and what its observer was told by then.
-use Rattle.std.proofs.Common.{◌≡◌, ℕ, ◌<◌, ◌≤◌, ◌++◌, List, [], ◌∷◌, length, take, inl, inr, refl, sym, subst, ◌∙◌, Option, Result, Ok, Err}
-use Rattle.std.proofs.lemmas.List.{take_all}
+use Rattle.std.proofs.Common.{◌≡◌, ℕ, ◌<◌, ◌≤◌, ◌+◌, ◌++◌, get_or, List, [], ◌∷◌, length, take, inl, inr, refl, Option, Result, Ok, Err}
+use Rattle.std.proofs.lemmas.List.{take_all, take_more}
 use Rattle.std.specs.Result.{IsErrAnd}
 use Rattle.fbl_base.specs.Configs.{Settings}
 use Rattle.fbl_base.specs.Fold.{Next}
@@ -16,13 +16,19 @@ use Rattle.fbl_play.proofs.RunTexts.{IsPlayed, play_all}
 
 module _ {O : Type 0} (before : O → Command → O → Type 0) (after : O → Command → Account → O → Type 0) where
   -- an observer is told of one more command
-  pub told_more : (cs : List Command) (accounts : List Account) (c : Command) (account : Account) (old mid begun new : O)
+  told_more : (cs : List Command) (accounts : List Account) (c : Command) (account : Account) (old mid begun new : O)
       → IsTold before after cs accounts old mid → before mid c begun → after begun c account new → IsTold before after (cs ++ c ∷ []) (accounts ++ account ∷ []) old new
-  told_more [] [] c account old mid begun new is first last = (begun, new, subst (λ o. before o c begun) is first, last, refl)
+  told_more [] [] c account old mid begun new is first last = (begun, new, (rw is at first), last, refl)
   told_more (d ∷ cs) (a ∷ accounts) c account old mid begun new is first last =
       (is.0, is.1, is.2, is.3, told_more cs accounts c account is.1 mid begun new is.4 first last)
   told_more [] (a ∷ accounts) c account old mid begun new is first last = absurd is
   told_more (d ∷ cs) [] c account old mid begun new is first last = absurd is
+
+  -- and so of that at a place, after those before it
+  pub told_next : (cs : List Command) (i : ℕ) (c : Command) (accounts : List Account) (account : Account) (old mid begun new : O) → i < length cs → c ≡ get_or cs i c
+      → IsTold before after (take i cs) accounts old mid → before mid c begun → after begun c account new → IsTold before after (take (i + 1) cs) (accounts ++ account ∷ []) old new
+  told_next cs i c accounts account old mid begun new within at is first last =
+      rw (take_more cs i c within, ← at) (told_more (take i cs) accounts c account old mid begun new is first last)
 
   module _ (next : Next) (workers : ℕ) (config : Settings) (cs : List Command) (had has : Option (List ℕ)) (old new : O) where
     -- what tells is a play
@@ -39,26 +45,25 @@ module _ {O : Type 0} (before : O → Command → O → Type 0) (after : O → C
     pub told_all : (end : GroupRecord) (i : ℕ) (accounts : List Account) → length cs ≤ i → IsPlayed next workers config cs i accounts end had has
         → IsTold before after (take i cs) accounts old new → TellsOn before after next workers config cs had has old new (Ok tt)
     told_all end i accounts all p told =
-        (accounts, play_all next workers config end cs i accounts had has all p, subst (λ w. IsTold before after w accounts old new) (take_all _ _ all) told)
+        (accounts, play_all next workers config end cs i accounts had has all p, (rw (take_all i cs all) at told))
 
     -- memory ran out for the next command
     pub told_short : (mid : GroupRecord) (i : ℕ) (accounts : List Account) (r : Result (Unit {0}) RunFault) → IsErrAnd r (λ e. e ≡ faults.Memory) → i < length cs
         → IsPlayed next workers config cs i accounts mid had has → IsToldUpTo before after cs i accounts old new → TellsOn before after next workers config cs had has old new r
     told_short mid i accounts (Ok x) is h p told = absurd is
     told_short mid i accounts (Err e) is h p told =
-        subst (λ fault. TellsOn before after next workers config cs had has old new (Err fault)) (sym is)
-        (inr (i, accounts, (h, (p.text, (p.start, mid, p.is_start, p.sound, p.run), p.written)), told))
+        rw is (inr (i, accounts, (h, (p.text, (p.start, mid, p.is_start, p.sound, p.run), p.written)), told))
 
     -- a write failed
     pub told_cut : (i : ℕ) (accounts : List Account) (fault : RunFault) (r : Result (Unit {0}) RunFault) → IsErrAnd r (λ e. e ≡ fault) → fault ≡ faults.Write
         → IsCutAfter next workers config cs i accounts had has → IsToldUpTo before after cs i accounts old new → TellsOn before after next workers config cs had has old new r
     told_cut i accounts fault (Ok x) is write cut told = absurd is
     told_cut i accounts fault (Err e) is write cut told =
-        subst (λ f. TellsOn before after next workers config cs had has old new (Err f)) (sym (is ∙ write)) (i, accounts, cut, told)
+        rw (is, write) (i, accounts, cut, told)
 
   -- no group could be made
   pub told_none : (next : Next) (workers : ℕ) (config : Settings) (cs : List Command) (known : Option (List ℕ)) (old : O) (r : Result (Unit {0}) RunFault)
       → IsErrAnd r (λ e. e ≡ faults.Memory) → TellsOn before after next workers config cs known known old old r
   told_none next workers config cs known old (Ok x) is = absurd is
   told_none next workers config cs known old (Err e) is =
-      subst (λ fault. TellsOn before after next workers config cs known known old old (Err fault)) (sym is) (inl (keeps_itself known, refl))
+      rw is (inl (keeps_itself known, refl))

@@ -4,6 +4,7 @@ use Rattle.std.proofs.Common.{refl, sym, ap, ◌∙◌, arith}
 use Rattle.std.specs.Bool.{beq}
 use Rattle.std.specs.Cmp.{booleans_Decides}
 use Rattle.std.specs.List.{fold}
+use Rattle.std.proofs.lemmas.Bool.{not-false}
 use Rattle.std.proofs.lemmas.List.{append_assoc, at_drop_more, take_more}
 use Rattle.std.proofs.lemmas.List.Folds.{list_any-append}
 use Rattle.std.proofs.lemmas.List.Sums.{fold_push}
@@ -14,16 +15,12 @@ use Rattle.fbl_shapes.specs.declared.shape.Shape.{Shape}
 use Rattle.fbl_shapes.specs.declared.shape.Shape.TheVariants.{Line}
 use Rattle.fbl_base.specs.declared.trace.MessageName.{MessageName}
 use Rattle.fbl_show.specs.Members.{differs, is_down, is_down_after, line_kind, line_part, line_to, turns}
-use Rattle.fbl_show.specs.Messages.{has_standing_receipt, stub_where, taken_by_column}
+use Rattle.fbl_show.specs.Messages.{has_standing_receipt, taken_by_column}
 use Rattle.fbl_show.specs.Places.{drawn, last_before}
 
 -- the last place before the next one
 pub last_more : (test : ℕ → Bool) (i : ℕ) → last_before test (i + 1) ≡ cond (test i) (Some i) (last_before test i)
 last_more test i = let e : i + 1 ≡ suc i = omega arith in ap (last_before test) e
-
-pub stub_same : (received received' : MessageName → Bool) (place : ℕ) (column : Column) → ((m : MessageName) → received m ≡ received' m)
-    → stub_where received place column ≡ stub_where received' place column
-stub_same received received' place column same = (λ i. stub_where (λ m. same m i) place column)
 
 -- at a column of a history
 module _ (columns : List Column) (i : ℕ) (c : Column) (within : i < length columns) (is : c ≡ get_or columns i c) where
@@ -90,25 +87,16 @@ module _ (columns : List Column) (i : ℕ) (c : Column) (within : i < length col
 
 -- two that are not the same, and two that are
 pub differ : (a b : Bool) → not (beq a b) ≡ true → differs b a ≡ true
-differ a b test = other a b (λ same. not_same (beq a b) test ((booleans_Decides a b).1 same)) where
-  not_same : (t : Bool) → not t ≡ true → t ≡ true → ⊥
-  not_same true n e = cc
-  not_same false n e = cc
-
-  other : (a b : Bool) → (a ≡ b → ⊥) → differs b a ≡ true
-  other true true ne = absurd (ne refl)
-  other true false ne = refl
-  other false true ne = refl
-  other false false ne = absurd (ne refl)
+differ true true test = cc
+differ true false test = refl
+differ false true test = refl
+differ false false test = cc
 
 pub agree : (a b : Bool) → not (beq a b) ≡ false → a ≡ b
-agree a b test = (booleans_Decides a b).0 (holds (beq a b) test) where
-  holds : (t : Bool) → not t ≡ false → t ≡ true
-  holds true n = refl
-  holds false n = absurd (cc)
+agree a b test = (booleans_Decides a b).0 (not-false (beq a b) test)
 
 pub straight_on : (a b : Bool) → a ≡ b → differs b a ≡ false
 straight_on true true e = refl
-straight_on true false e = absurd (cc)
-straight_on false true e = absurd (cc)
+straight_on true false e = cc
+straight_on false true e = cc
 straight_on false false e = refl

@@ -1,6 +1,6 @@
 -- Each step of the claims keeps their rule, and the rule says what a step does to the words.
 use Rattle.std.proofs.Common.{◌≡◌, ◌≢◌, ◌<◌, ℕ, zero, suc, ◌⊎◌, inl, inr, ⊎_elim, List, [], ◌∷◌, ◌++◌, Option, Some, None, cond, eqb, get_or, set, sym}
-use Rattle.std.proofs.Common.{refl, ap, ◌∙◌, subst, arith, length-set, eq-eqb, ne_eqb, Bool, get_or-set_same, get_or-set_other}
+use Rattle.std.proofs.Common.{refl, ap, ◌∙◌, arith, length-set, eq-eqb, ne_eqb, get_or-set_same, get_or-set_other}
 use Rattle.std.proofs.lemmas.List.{set-get_or, ext_get_or}
 use mathlib.Core.Logic.{dite}
 use mathlib.Core.Option.{some, some-injective, some-ne-none}
@@ -54,10 +54,9 @@ moves_else word views id v w member at not_v not_w =
 pub splits : (n id : ℕ) (v : Option ℕ) → Splits (IsExclusive n) id v v None
 splits n id v s rule at =
     let same : set s.views id v ≡ s.views = set_again s.views id v at in
-    let P : List (Option ℕ) → Type 0 = λ views. IsExclusive n (record { words = s.words; homes = s.homes; views = views ++ None ∷ [] }) in
     let old : (pass member : ℕ) → ViewHolds (s.views ++ None ∷ []) pass member
     → ViewHolds s.views pass member = λ pass member held. ⊎_elim (λ h. h) (λ e. absurd (no_member member e)) (at_snoc s.views None (Some member) pass held) in
-    subst P (sym same) (record {
+    rw same (record {
       a_word_each = rule.a_word_each;
       of_the_group = λ pass member held. rule.of_the_group pass member (old pass member held);
       free_or_claimed = λ member below. same_holders (get_or s.words member 0) s.views (s.views ++ None ∷ []) member
@@ -70,8 +69,7 @@ pub joins : (n id other : ℕ) → Joins (IsExclusive n) id None other None None
 joins n id other s rule at apart at_other =
     let one : set s.views id None ≡ s.views = set_again s.views id None at in
     let both : set (set s.views id None) other None ≡ s.views = set_again (set s.views id None) other None at_other ∙ one in
-    let P : List (Option ℕ) → Type 0 = λ views. IsExclusive n (record { words = s.words; homes = s.homes; views = views }) in
-    subst P (sym both) rule
+    rw both rule
 
 pub one_holder : HasOneHolder
 one_holder n s member one other rule held also =
@@ -89,16 +87,12 @@ placed : (n i id word : ℕ) (v w : Option ℕ) (s : St) → IsExclusive n s →
 placed n i id word v w s rule below at not_v not_w here = record {
   a_word_each = length-set s.words i word ∙ rule.a_word_each;
   of_the_group = λ pass member held. dite (ℕ_discrete member i)
-      (λ e. let P : ℕ → Type 0 = λ m. m < n in subst P (sym e) below)
+      (λ e. rw e below)
       (λ ne. rule.of_the_group pass member (was_held s.views id w member (not_w member ne) pass held));
   free_or_claimed = λ member low. dite (ℕ_discrete member i)
-      (λ e.
-      let P : ℕ → Type 0 = λ m. Fits (get_or (set s.words i word) m 0) (set s.views id w) m in
-      let Q : ℕ → Type 0 = λ k. Fits k (set s.views id w) i in
-      subst P (sym e) (subst Q (sym (get_or-set_same s.words i word 0 (let l = rule.a_word_each in omega arith))) here))
+      (λ e. rw (e, get_or-set_same s.words i word 0 (let l = rule.a_word_each in omega arith)) here)
       (λ ne.
-      let Q : ℕ → Type 0 = λ k. Fits k (set s.views id w) member in
-      subst Q (sym (get_or-set_other s.words i member word 0 ne))
+      rw (get_or-set_other s.words i member word 0 ne)
       (moves_else (get_or s.words member 0) s.views id v w member at (not_v member ne) (not_w member ne) (rule.free_or_claimed member low)));
 }
 
@@ -134,21 +128,19 @@ last_to_claim views id i word at h =
 unchanged : (n i id : ℕ) (v : Option ℕ) (s : St) → IsExclusive n s → get_elem? s.views id ≡ some v
     → IsExclusive n (record { words = set s.words i (get_or s.words i 0); homes = s.homes; views = set s.views id v })
 unchanged n i id v s rule at =
-    let Q : List ℕ × List (Option ℕ) → Type 0 = λ z. IsExclusive n (record { words = z.0; homes = s.homes; views = z.1 }) in
-    subst Q (λ k. (sym (set-get_or s.words i 0) k, sym (set_again s.views id v at) k)) rule
+    rw (set-get_or s.words i 0, set_again s.views id v at) rule
 
 pub takes : (n slots id i : ℕ) → i < n → Allows (IsExclusive n) slots id (None, []) i (λ x. either (eqb x 0) 1 x) (λ x w. w ≡ (cond (eqb x 0) (Some i) None, []))
 takes n slots id i below s rule _ at _ =
-    let x : ℕ = get_or s.words i 0 in
-    let P : Bool → Type 0 = λ b. IsExclusive n (record { words = set s.words i (either b 1 x); homes = s.homes; views = set s.views id (cond b (Some i) None) }) in (
+    let x : ℕ = get_or s.words i 0 in (
       cond (eqb x 0) (Some i) None,
       keeps,
       tt,
       dite (ℕ_discrete x 0)
-          (λ hit. subst P (sym (eq-eqb x 0 hit))
+          (λ hit. rw (eq-eqb x 0 hit)
           (placed n i id 1 None (Some i) s rule below at (λ member ne. no_member member) (λ member ne e. ne (sym (one_member i member e)))
           (first_to_claim s.views id i x hit at (rule.free_or_claimed i below))))
-          (λ miss. subst P (sym (ne_eqb x 0 miss)) (unchanged n i id None s rule at)),
+          (λ miss. rw (ne_eqb x 0 miss) (unchanged n i id None s rule at)),
       refl,
     )
 
@@ -191,8 +183,8 @@ same_words n old new rule rule' into back =
 same_views : (n : ℕ) (old new : St) → IsExclusive n old → IsExclusive n new → new.views ≡ old.views → new.words ≡ old.words
 same_views n old new rule rule' is =
     same_words n old new rule rule'
-    (λ member pass held. let P : List (Option ℕ) → Type 0 = λ views. ViewHolds views pass member in subst P (sym is) held)
-    (λ member pass held. let P : List (Option ℕ) → Type 0 = λ views. ViewHolds views pass member in subst P is held)
+    (λ member pass held. rw is held)
+    (λ member pass held. rw is at held)
 
 -- where one view changes and has to do with one member alone, the words of the others stay
 one_word : (n i id word : ℕ) (v w : Option ℕ) (old new : St) → IsExclusive n old → IsExclusive n new → i < n → get_elem? old.views id ≡ some v → new.views ≡ set old.views id w
@@ -203,31 +195,26 @@ one_word n i id word v w old new rule rule' below at is not_v not_w here =
     (λ e. ap (λ m. get_or new.words m 0) e ∙ (here
     ∙ (sym (get_or-set_same old.words i word 0 (let l = rule.a_word_each in omega arith)) ∙ ap (λ m. get_or (set old.words i word) m 0) (sym e))))
     (λ ne.
-    let P : List (Option ℕ) → Type 0 = λ views. (pass : ℕ) → ViewHolds old.views pass member → ViewHolds views pass member in
-    let Q : List (Option ℕ) → Type 0 = λ views. (pass : ℕ) → ViewHolds views pass member → ViewHolds old.views pass member in
     same_word n old new member rule rule' (let l = rule'.a_word_each in omega arith)
-    (subst P (sym is) (stays_held old.views id v w member at (not_v member ne))) (subst Q (sym is) (was_held old.views id w member (not_w member ne)))
+    (rw is (stays_held old.views id v w member at (not_v member ne))) (rw is (was_held old.views id w member (not_w member ne)))
     ∙ sym (get_or-set_other old.words i member word 0 ne)))
 
 says : (n : ℕ) (old new : St) (pass : ℕ) (before after : Option ℕ) → IsExclusive n old → IsExclusive n new → get_elem? old.views pass ≡ some before
     → new.views ≡ set old.views pass after → IsSaidBy before after old.words new.words
 says n old new pass None None rule rule' at is = same_views n old new rule rule' (is ∙ set_again old.views pass None at)
 says n old new pass None (Some p) rule rule' at is =
-    let P : List (Option ℕ) → Type 0 = λ views. ViewHolds views pass p in
-    let held : ViewHolds new.views pass p = subst P (sym is) (set_hit old.views pass (Some p) None at) in
+    let held : ViewHolds new.views pass p = rw is (set_hit old.views pass (Some p) None at) in
     let low : p < n = rule'.of_the_group pass p held in
     let none : (other : ℕ) → ¬ (ViewHolds old.views other p) = λ other was. dite (ℕ_discrete other pass)
     (λ e. no_member p (some-injective None (Some p) (sym at ∙ (ap (λ k. get_elem? old.views k) (sym e) ∙ was))))
-    (λ ne. let Q : List (Option ℕ) → Type 0 = λ views. ViewHolds views other p in
-    ne (one_holder n new p other pass rule' (subst Q (sym is) (set_else old.views pass other (Some p) ne ∙ was)) held)) in (
+    (λ ne. ne (one_holder n new p other pass rule' (rw is (set_else old.views pass other (Some p) ne ∙ was)) held)) in (
       free_word n old p rule low none,
       one_word n p pass 1 None (Some p) old new rule rule' low at is (λ member ne. no_member member) (λ member ne e. ne (sym (one_member p member e))) (held_word n new p pass rule' held),
     )
 says n old new pass (Some p) None rule rule' at is =
     let low : p < n = rule.of_the_group pass p at in
     let none : (other : ℕ) → ¬ (ViewHolds new.views other p) = λ other held.
-    let Q : List (Option ℕ) → Type 0 = λ views. ViewHolds views other p in
-    ⊎_elim (λ t. no_member p t.1) (λ t. t.0 (one_holder n old p other pass rule t.1 at)) (at_set old.views pass other None (Some p) (subst Q is held)) in (
+    ⊎_elim (λ t. no_member p t.1) (λ t. t.0 (one_holder n old p other pass rule t.1 at)) (at_set old.views pass other None (Some p) (rw is at held)) in (
       held_word n old p pass rule at,
       one_word n p pass 0 (Some p) None old new rule rule' low at is (λ member ne e. ne (sym (one_member p member e))) (λ member ne. no_member member) (free_word n new p rule' low none),
     )
@@ -237,9 +224,8 @@ says n old new pass (Some p) (Some q) rule rule' at is =
 grows : (n : ℕ) (old new : St) → IsExclusive n old → IsExclusive n new → new.views ≡ old.views ++ None ∷ [] → new.words ≡ old.words
 grows n old new rule rule' is =
     same_words n old new rule rule'
-    (λ member pass held. let P : List (Option ℕ) → Type 0 = λ views. ViewHolds views pass member in subst P (sym is) (at_longer old.views (None ∷ []) pass (Some member) held))
-    (λ member pass held. let P : List (Option ℕ) → Type 0 = λ views. ViewHolds views pass member in
-    ⊎_elim (λ h. h) (λ e. absurd (no_member member e)) (at_snoc old.views None (Some member) pass (subst P is held)))
+    (λ member pass held. rw is (at_longer old.views (None ∷ []) pass (Some member) held))
+    (λ member pass held. ⊎_elim (λ h. h) (λ e. absurd (no_member member e)) (at_snoc old.views None (Some member) pass (rw is at held)))
 
 pub words_follow_views : WordsFollowViews
 words_follow_views n old new rule rule' = ((λ pass before after. says n old new pass before after rule rule'), grows n old new rule rule')

@@ -11,6 +11,7 @@ use Rattle.fbl_draw.specs.Pictures.{IsPicture}
 use Rattle.fbl_dump.specs.Auditing.{Audits, IsAuditText}
 use Rattle.fbl_dump.specs.Answering.{TextAlone}
 use Rattle.fbl_dump.specs.Checking.{Checks, IsChecked}
+use Rattle.fbl_base.proofs.Recorded.{or_false}
 use Rattle.fbl_dump.proofs.Answers.{answers_unread}
 use Rattle.fbl_explain.specs.declared.account.Account.{Account}
 use Rattle.fbl_explain.specs.Accounts.{is_refusal}
@@ -35,7 +36,7 @@ ended (Some input) Answers r status is h = (r, h, is)
 pub read_whole : (known : Option (List ℕ)) (bytes : List ℕ) (Answers : List ℕ → Type 0) (Fails : Type 0) → IfSome known (λ input. bytes ≡ input)
     → Answers bytes → IfSome known (λ input. Fails ⊎ Answers input)
 read_whole None bytes Answers Fails is h = tt
-read_whole (Some input) bytes Answers Fails is h = inr (subst Answers is h)
+read_whole (Some input) bytes Answers Fails is h = inr (rw is at h)
 
 -- a failed read is one whatever was asked
 unread_as : (A B : Type 0) (Answers : List ℕ → Type 0) (known before : Option (List ℕ)) (f : RunFault)
@@ -61,10 +62,7 @@ unread Draw known before f is long = unread_as _ _ (λ input. Draws input before
 module _ {O : Type 0} (has : O → Bool) where
   pub keeps_refusals : (cs : List Command) (accounts : List Account) (old new : O)
       → IsTold (λ o c p. has p ≡ has o) (λ o c account p. has p ≡ (has o || is_refusal account)) cs accounts old new → has new ≡ (has old || list_any is_refusal accounts)
-  keeps_refusals [] [] old new told = ap has told ∙ nothing (has old) where
-    nothing : (b : Bool) → b ≡ (b || false)
-    nothing true = refl
-    nothing false = refl
+  keeps_refusals [] [] old new told = ap has told ∙ or_false (has old)
   keeps_refusals (c ∷ cs) (account ∷ accounts) old new told =
       keeps_refusals cs accounts told.1 new told.4 ∙ ap (λ b. b || list_any is_refusal accounts) (told.3 ∙ ap (λ b. b || is_refusal account) told.2)
       ∙ together (has old) (is_refusal account) (list_any is_refusal accounts) where

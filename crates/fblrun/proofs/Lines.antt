@@ -115,13 +115,13 @@ show_workers_gives e n is = subst (ShowGives e) (sym (decimal_digit n (omega (ar
 -- ---- refusals
 
 line_taken : (words : List Text) → IsCommandLine words → IsTaken (drop 1 words)
-line_taken words (is_audit line) = ap (built_takes (built program) nothing_held) line.1 ∙ (audit_gives line.0).1
-line_taken words (is_check line) = ap (built_takes (built program) nothing_held) line.1 ∙ (check_gives line.0).1
-line_taken words (is_draw line) = ap (built_takes (built program) nothing_held) line.1 ∙ (draw_gives line.0).1
-line_taken words (is_play s line) = ap (built_takes (built program) nothing_held) line.1 ∙ (play_gives s line.0).1
-line_taken words (is_workers s n count line) = ap (built_takes (built program) nothing_held) line.1 ∙ (workers_gives s line.0 n count).1
-line_taken words (is_show line) = ap (built_takes (built program) nothing_held) line.1 ∙ (show_gives line.0).1
-line_taken words (is_show_workers n count line) = ap (built_takes (built program) nothing_held) line.1 ∙ (show_workers_gives line.0 n count).1
+line_taken words (is_audit line) = rw line.1 (audit_gives line.0).1
+line_taken words (is_check line) = rw line.1 (check_gives line.0).1
+line_taken words (is_draw line) = rw line.1 (draw_gives line.0).1
+line_taken words (is_play s line) = rw line.1 (play_gives s line.0).1
+line_taken words (is_workers s n count line) = rw line.1 (workers_gives s line.0 n count).1
+line_taken words (is_show line) = rw line.1 (show_gives line.0).1
+line_taken words (is_show_workers n count line) = rw line.1 (show_workers_gives line.0 n count).1
 
 pub taken : (a : App) (words : List Text) → a ≡ program → IsCommandLine words → takes a words ≡ true
 taken a words is line = ap (λ p. takes p words) is ∙ (λ i. program_simple i && line_taken words line i)

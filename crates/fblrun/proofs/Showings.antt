@@ -18,9 +18,7 @@ use Rattle.fblrun.specs.Showing.{IsShown, PutsOut, Shows}
 pub puts_text : (IsText : List ℕ → Type 0) (text : List ℕ) (before after : Option (List ℕ)) (r : Result (Unit {0}) RunFault) → IsText text → OnOk r (Appends before after text)
     → OnErr r ((n : ℕ) × (n < length text) × Appends before after (take n text)) → IfErr r (λ e. e ≡ faults.Write) → PutsOut IsText before after r
 puts_text IsText text before after (Ok x) is whole front fault = (text, is, whole)
-puts_text IsText text before after (Err f) is whole front fault =
-    let P : RunFault → Type 0 = λ e. PutsOut IsText before after (Err e) in
-    subst P (sym fault) (text, front.0, is, front.1, front.2)
+puts_text IsText text before after (Err f) is whole front fault = rw fault (text, front.0, is, front.1, front.2)
 
 -- the picture of a history that the play of the input has
 pub shows_text : (IsText : List ℕ → Type 0) (workers : ℕ) (input : List ℕ) (before after : Option (List ℕ))
@@ -47,7 +45,7 @@ module _ {O : Type 0} (hears_before : O → Command → O → Type 0) (hears_aft
   fault_told f (inr told) =
       let is : ◌≡◌ {A = Result RunHistory RunFault} (Err f) (Err told.0) = told.1 in
       let same : f ≡ told.0 = cc in
-      inr (subst (IsScriptFault input) (sym same) told.2)
+      inr (rw same told.2)
 
   ended_by : (writer : Option (List ℕ)) (f : RunFault)
       → ((s : Outline) × IsScriptOf input s × HistoryTellsScript hears_before hears_after workers s old new (Err f)) ⊎ IsScriptFault input f → Shows workers input writer writer (Err f)
@@ -69,12 +67,11 @@ pub shows_unread : (workers : ℕ) (known before : Option (List ℕ)) (f : RunFa
     → IfSome known (λ input. FailsToRead {A = Unit {0}} before before (Err f) ⊎ Shows workers input before before (Err f))
 shows_unread workers None before f w long = tt
 shows_unread workers (Some input) before f w long =
-    let P : RunFault → Type 0 = λ fault. FailsToRead {A = Unit {0}} before before (Err fault) ⊎ Shows workers input before before (Err fault) in
     let long_input : longest < length input → outline_of_input input ≡ Err faults.TooLong = λ h. ap (λ v. v >>= outline_of) (too_long input h) in
     elim w [
-      | inl e ↦ subst P (sym e) (inl (refl, keeps_itself before))
+      | inl e ↦ rw e (inl (refl, keeps_itself before))
       | inr v ↦ elim v [
-        | inl e ↦ subst P (sym e) (inr (long_input (long e), keeps_itself before))
-        | inr e ↦ subst P (sym e) (inr (keeps_itself before))
+        | inl e ↦ rw e (inr (long_input (long e), keeps_itself before))
+        | inr e ↦ rw e (inr (keeps_itself before))
       ]
     ]

@@ -1,5 +1,3 @@
-use Rattle.std.proofs.Common.{◌&&◌, not, Bool, Ok, ap, subst, sym, ◌∙◌}
-use Rattle.fblrun.specs.Orders.{PlaysWell}
 use Rattle.fblrun.proofs.Endings.{plays_well}
 use Rattle.fblrun.proofs.play_well.Goals as goal
 
@@ -7,8 +5,7 @@ pub returns-in-Ok : goal.returns-in-Ok
 returns-in-Ok g c =
     let had = g.W.Write.contents c.args.writer.now in
     let has = g.W.Write.contents c.play_observed.new.writer in
-    let P : Bool → Type 0 = λ is_well. PlaysWell c.args.workers c.args.strict c.args.input.now had has (Ok is_well) in
-    subst P (sym (c.is_well.ensures ∙ ap (λ refused. not (c.args.strict && refused)) c.has_refused.ensures))
+    rw (c.is_well.ensures, c.has_refused.ensures)
     (plays_well (λ teller. teller.has_refused) c.args.workers c.args.strict c.args.input.now had has c.new-teller.result c.play_observed.new.observer c.new-teller.ensures c.in-Ok.ensures.tells)
 
 pub returns-in-Err : goal.returns-in-Err

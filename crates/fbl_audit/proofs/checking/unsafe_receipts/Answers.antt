@@ -39,7 +39,4 @@ returns-clause-said c =
     rw (← all) c.loop-place.invariant
 
 pub returns-clause-safe : goal.returns-clause-safe
-returns-clause-safe c =
-    let all : filter_map determinant_of (take c.loop-place.place c.events-event-items.result.now) ≡ receipts_of_dump c.args.dump.now =
-    ap (filter_map determinant_of) (take_all c.loop-place.place c.events-event-items.result.now (omega arith) ∙ c.events-event-items.ensures.events) in
-    says_safe c.args.dump.now c.loop-place.unsafe_receipts.items (rw (← all) c.loop-place.invariant)
+returns-clause-safe c = says_safe c.args.dump.now c.loop-place.unsafe_receipts.items (returns-clause-said c)

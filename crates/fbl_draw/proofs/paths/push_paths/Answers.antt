@@ -1,10 +1,8 @@
 use Rattle.std.proofs.Common.{ℕ, ◌<◌, List, ◌++◌, ap, ◌∙◌, arith}
-use Rattle.std.specs.List.{flat_map, range_with_len}
-use Rattle.std.proofs.lemmas.List.{take_all}
-use Rattle.std.proofs.lemmas.List.FromFn.{length-range_with_len}
 use Rattle.fbl_base.proofs.Numbers.{rows_more}
 use Rattle.fbl_shapes.specs.declared.shape.Shape.{Shape}
 use Rattle.fbl_draw.specs.Paths.{path_shapes, places_in}
+use Rattle.fbl_draw.proofs.Rows.{rows_all}
 use Rattle.fbl_draw.proofs.paths.push_paths.Goals as goal
 
 pub loop-number-preserved : goal.loop-number-preserved
@@ -20,7 +18,5 @@ loop-number-preserved c =
 
 pub returns : goal.returns
 returns c =
-    let dump = c.args.dump.now in
-    let steps : ℕ → List Shape = λ m. path_shapes dump.events (places_in c.args.paths.now m) in
-    let all = take_all c.loop-number.number (range_with_len 0 dump.members) (omega (arith, length-range_with_len 0 dump.members, c.members-number-end.ensures)) in
-    c.loop-number.invariant ∙ ap (λ l. c.args.shapes.now.items ++ flat_map steps l) all
+    let steps : ℕ → List Shape = λ m. path_shapes c.args.dump.now.events (places_in c.args.paths.now m) in
+    rows_all steps c.args.shapes.now.items _ c.args.dump.now.members c.loop-number.number (omega (arith, c.members-number-end.ensures)) c.loop-number.invariant

@@ -1,4 +1,4 @@
-use Rattle.std.proofs.Common.{◌≡◌, ◌∙◌, sym, ap}
+use Rattle.std.proofs.Common.{◌≡◌, ◌∙◌, ap}
 use Rattle.fbl_dump.specs.Checking.{IsChecked, check_lines}
 use Rattle.fbl_dump.proofs.Answers.{answers_passed}
 use Rattle.fbl_dump.proofs.Verdicts.{checked, verdict_of}

@@ -9,4 +9,4 @@ returns-clause-text c = text_of_dump _ c.args.dump.now _ c.in_ok-value.ensures.v
 pub returns-clause-reads_back : goal.returns-clause-reads_back
 returns-clause-reads_back c = text_reads_back _ c.args.dump.now _ c.in_ok-value.ensures.value
     (subst IsUtf8 c.as_str-text.ensures.value c.as_str-text.utf8)
-    (text_of_dump _ c.args.dump.now _ c.in_ok-value.ensures.value c.in_ok-text.ensures.text) c.in_ok-text.ensures.reads_back c.in_ok-value.ensures.reads_back
+    (returns-clause-text c) c.in_ok-text.ensures.reads_back c.in_ok-value.ensures.reads_back

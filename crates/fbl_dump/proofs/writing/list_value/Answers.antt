@@ -1,4 +1,4 @@
-use Rattle.std.proofs.Common.{◌≡◌, ◌<◌, ap, ◌∙◌, length, Some, map}
+use Rattle.std.proofs.Common.{◌≡◌, ap, ◌∙◌, Some, map}
 use Rattle.std.proofs.lemmas.List.{take_all}
 use Rattle.serde_json.specs.Data.{array}
 use Rattle.serde_json.specs.View.{view, items_of}
@@ -8,14 +8,13 @@ use Rattle.fbl_dump.proofs.writing.list_value.Goals as goal
 
 pub loop-item-preserved : goal.loop-item-preserved
 loop-item-preserved g c =
-    let form = g.F.Form.form in
     let xs = c.args.items.now in
-    let i = c.loop-item.item-index in
+    let form = g.F.Form.form in
     let x = c.item-item.result in
-    let lt : i < length xs = c.loop-item-test.true in
     record {
-      value = ap (map view) c.in_ok-push.ensures.items ∙ next_value form _ c.in_ok-value_of.field-0 xs i x lt c.loop-item.invariant.value (c.in_ok-value_of.ensures.value ∙ ap form c.item-item.is);
-      reads_back = next_read (λ y. g.F.Form.shape (form y) ≡ Some y) xs i x lt c.loop-item.invariant.reads_back (rw (← c.item-item.is) c.in_ok-value_of.ensures.reads_back);
+      value = ap (map view) c.in_ok-push.ensures.items
+          ∙ next_value form _ _ xs _ x c.loop-item-test.true c.loop-item.invariant.value (c.in_ok-value_of.ensures.value ∙ ap form c.item-item.is);
+      reads_back = next_read (λ y. g.F.Form.shape (form y) ≡ Some y) xs _ x c.loop-item-test.true c.loop-item.invariant.reads_back (rw (← c.item-item.is) c.in_ok-value_of.ensures.reads_back);
     }
 
 pub returns-clause-value : goal.returns-clause-value

@@ -1,11 +1,6 @@
-use Rattle.std.proofs.Common.{ℕ, List, [], ◌∷◌, ◌++◌, ◌∙◌, ap, arith, refl, sym, subst, take, string_bytes}
-use Rattle.std.proofs.lemmas.List.{take_more}
-use Rattle.std.proofs.lemmas.Result.{IfOk-at_ok}
-use Rattle.std.specs.Io.KnownBytes.{Appends}
-use Rattle.fbl_play.specs.Runs.{Step}
+use Rattle.std.proofs.Common.{[], ◌∷◌, ◌++◌, arith, refl}
 use Rattle.fbl_play.proofs.RunTexts.{play_none, play_more, play_front}
-use Rattle.fbl_play.specs.Telling.{IsTold}
-use Rattle.fbl_play.proofs.Told.{told_all, told_cut, told_more, told_none, told_short}
+use Rattle.fbl_play.proofs.Told.{told_all, told_cut, told_next, told_none, told_short}
 use Rattle.fbl_play.proofs.engine.play_with.Goals as goal
 
 pub loop-command-init : goal.loop-command-init
@@ -36,14 +31,12 @@ returns-in_err-put g c =
     let d = c.command-item.result in
     let new = c.run_command-after.result.0 in
     let accounts = c.loop-command.invariant.0 in
-    let front = c.in_err-put.ensures.front in
-    let step =
-    IfOk-at_ok (λ answer. Step next c.args.workers c.loop-command.group d new (string_bytes answer.text) answer.account) c.in_ok-answer.was c.run_command-after.ensures in
-    let P : List ℕ → Type 0 = λ w. Appends (g.W.Write.contents c.loop-command.writer) (g.W.Write.contents c.put.new.writer) (take front.0 w) in
+    let front = rw c.as_bytes.ensures.value at c.in_err-put.ensures.front in
+    let step = rw c.in_ok-answer.was at c.run_command-after.ensures in
     told_cut g.O.Observer.hears_before g.O.Observer.hears_after next c.args.workers c.args.config cs _ _ _ _ i accounts c.in_err-put.field-0.0
     c.from_residual-in_err-put.result c.from_residual-in_err-put.ensures.1 c.in_err-put.ensures.fault
     (play_front next c.args.workers c.args.config c.loop-command.group new cs i d accounts c.in_ok-answer.answer.account _ _ _ _ c.loop-command-test.true
-    c.loop-command.invariant.1 c.command-item.is step c.recoverable-in-loop-command.ensures.sound front.0 (rw (← c.as_bytes.ensures.value) front.1) (subst P c.as_bytes.ensures.value front.2))
+    c.loop-command.invariant.1 c.command-item.is step c.recoverable-in-loop-command.ensures.sound front.0 front.1 front.2)
     (c.loop-command.observer, d, c.loop-command-test.true, c.command-item.is, c.loop-command.invariant.2, c.before-in-loop-command.ensures)
 
 pub loop-command-preserved : goal.loop-command-preserved
@@ -55,17 +48,12 @@ loop-command-preserved g c =
     let new = c.run_command-after.result.0 in
     let accounts = c.loop-command.invariant.0 in
     let account = c.in_ok-answer.answer.account in
-    let step =
-    IfOk-at_ok (λ answer. Step next c.args.workers c.loop-command.group d new (string_bytes answer.text) answer.account) c.in_ok-answer.was c.run_command-after.ensures in
-    let P : List ℕ → Type 0 = λ w. Appends (g.W.Write.contents c.loop-command.writer) (g.W.Write.contents c.put.new.writer) w in
-    let before = g.O.Observer.hears_before in
-    let after = g.O.Observer.hears_after in (
+    let step = rw c.in_ok-answer.was at c.run_command-after.ensures in (
       accounts ++ account ∷ [],
       play_more next c.args.workers c.args.config c.loop-command.group new cs i d accounts account _ _ _ _ c.loop-command-test.true c.loop-command.invariant.1
-          c.command-item.is step c.recoverable-in-loop-command.ensures.sound (subst P c.as_bytes.ensures.value c.in_ok-put.ensures.whole),
-      subst (λ w. IsTold before after w (accounts ++ account ∷ []) c.args.observer.now c.after.new.self)
-          (ap (λ x. take i cs ++ x ∷ []) c.command-item.is ∙ sym (take_more cs i d c.loop-command-test.true))
-          (told_more before after _ accounts _ account _ _ _ _ c.loop-command.invariant.2 c.before-in-loop-command.ensures c.after.ensures),
+          c.command-item.is step c.recoverable-in-loop-command.ensures.sound (rw c.as_bytes.ensures.value at c.in_ok-put.ensures.whole),
+      told_next g.O.Observer.hears_before g.O.Observer.hears_after cs i d accounts account _ _ _ _ c.loop-command-test.true c.command-item.is
+          c.loop-command.invariant.2 c.before-in-loop-command.ensures c.after.ensures,
     )
 
 pub returns : goal.returns

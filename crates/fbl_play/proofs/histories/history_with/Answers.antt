@@ -1,12 +1,7 @@
-use Rattle.std.proofs.Common.{[], ◌∷◌, ◌++◌, ◌∙◌, ap, arith, refl, sym, subst, take, string_bytes}
-use Rattle.std.proofs.lemmas.List.{take_more}
-use Rattle.std.proofs.lemmas.Result.{IfOk-at_ok}
+use Rattle.std.proofs.Common.{[], ◌∷◌, ◌++◌, ap, arith, refl}
 use Rattle.fbl_base.specs.Configs.{Settings}
-use Rattle.fbl_play.specs.Histories.{HistoryStep}
-use Rattle.fbl_play.specs.Runs.{Step}
-use Rattle.fbl_play.specs.Telling.{IsTold}
 use Rattle.fbl_play.proofs.HistoryRuns.{has_none, has_more, history_all, history_short, history_none, step-config}
-use Rattle.fbl_play.proofs.Told.{told_more}
+use Rattle.fbl_play.proofs.Told.{told_next}
 use Rattle.fbl_play.proofs.histories.history_with.Goals as goal
 
 pub loop-command-init : goal.loop-command-init
@@ -28,9 +23,7 @@ returns-in_err-history g c =
 
 pub history_after-requires : goal.history_after-requires
 history_after-requires g c =
-    let step =
-    IfOk-at_ok (λ answer. Step g.B.Behaviour.next c.args.workers c.loop-command.group c.command-item.result c.run_command-after.result.0 (string_bytes answer.text) answer.account)
-    c.in_ok-answer.was c.run_command-after.ensures in
+    let step = rw c.in_ok-answer.was at c.run_command-after.ensures in
     let config = step-config g.B.Behaviour.next c.args.workers c.loop-command.group c.command-item.result c.run_command-after.result.0 _ _ step in
     λ q is. (let below = c.down-down.ensures.within q is in omega (arith, below, ap (λ (x : Settings). x.members) config))
 
@@ -64,15 +57,11 @@ loop-command-preserved g c =
     let new = c.run_command-after.result.0 in
     let accounts = c.loop-command.invariant.0 in
     let account = c.in_ok-answer.answer.account in
-    let step =
-    IfOk-at_ok (λ answer. Step next c.args.workers c.loop-command.group d new (string_bytes answer.text) answer.account) c.in_ok-answer.was c.run_command-after.ensures in
-    let follows = subst (λ down. HistoryStep next down d account new c.loop-command.history c.in_ok-history-2.history) c.down-down.ensures.down c.in_ok-history-2.ensures in
-    let before = g.O.Observer.hears_before in
-    let after = g.O.Observer.hears_after in (
+    let step = rw c.in_ok-answer.was at c.run_command-after.ensures in
+    let follows = rw c.down-down.ensures.down at c.in_ok-history-2.ensures in (
       accounts ++ account ∷ [],
       has_more next c.args.workers c.args.config c.loop-command.group new cs i d accounts account _ c.loop-command.history _ c.loop-command-test.true
           c.loop-command.invariant.1 c.command-item.is step c.recoverable-in-loop-command.ensures.sound follows,
-      subst (λ w. IsTold before after w (accounts ++ account ∷ []) c.args.observer.now c.after.new.self)
-          (ap (λ x. take i cs ++ x ∷ []) c.command-item.is ∙ sym (take_more cs i d c.loop-command-test.true))
-          (told_more before after _ accounts _ account _ _ _ _ c.loop-command.invariant.2 c.before-in-loop-command.ensures c.after.ensures),
+      told_next g.O.Observer.hears_before g.O.Observer.hears_after cs i d accounts account _ _ _ _ c.loop-command-test.true c.command-item.is
+          c.loop-command.invariant.2 c.before-in-loop-command.ensures c.after.ensures,
     )

@@ -1,7 +1,6 @@
-use Rattle.std.proofs.Common.{ℕ, IfErr, List, subst, sym, string_bytes, Result, Ok, Err, IfOk}
+use Rattle.std.proofs.Common.{ℕ, IfErr, List, string_bytes, Result, Ok, Err, IfOk}
 use Rattle.std.proofs.lemmas.Result.{IfOk-at_ok}
 use Rattle.fbl_base.specs.declared.strike.Strike.{Strike}
-use Rattle.fbl_explain.specs.declared.account.Account.{Account}
 use Rattle.fbl_base.specs.Fold.{Next}
 use Rattle.fbl_law.specs.Groups.{GroupRecord}
 use Rattle.fbl_threads.specs.Drains.{Drains}
@@ -20,16 +19,14 @@ joined (Err e) P Q R p q both = tt
 pub returns : goal.returns
 returns g c =
     let answer = c.drain-group.result.1 in
-    let P : List Strike → Type 0 = λ plan. Drains g.B.Behaviour.next c.args.workers plan c.args.group c.drain-group.result.0 answer in
-    let drained = subst P c.strikes-strikes.ensures c.drain-group.ensures in
+    let drained = rw c.strikes-strikes.ensures at c.drain-group.ensures in
     let account : IsRunAccount c.args.plan.now c.args.group.receipts_ever c.args.group.undone_ever c.drain-group.result.0 answer
     c.account_of-account.result = rw (← c.receipts_ever-ever.ensures, ← c.undone_ever-undone.ensures) c.account_of-account.ensures in
-    let A : Account → Type 0 = λ a. IsRunAccount c.args.plan.now c.args.group.receipts_ever c.args.group.undone_ever c.drain-group.result.0 answer a in
     joined c.answer_with.result _ _ _ c.answer_with.ensures.text c.answer_with.ensures.account (λ told is same. (
       answer,
       drained,
       IfOk-at_ok (λ text. IsRunText answer (string_bytes text)) is c.answer_text-text.ensures,
-      subst A (sym same) account,
+      rw same account,
     ))
 
 -- a refused plan has a bad entry, and the group is as it was

@@ -1,5 +1,7 @@
-use Rattle.std.proofs.Common.{ap, arith, unwrap_or, ◌-◌}
+use Rattle.std.proofs.Common.{ap, arith, length, refl, unwrap_or, ◌-◌}
 use Rattle.std.specs.FinSet as set
+use Rattle.std.proofs.lemmas.Option.{slice_get_read}
+use Rattle.fbl_base.specs.Events.{At}
 use Rattle.fbl_base.specs.Rules.{WellFormed}
 use Rattle.fbl_audit.proofs.Following.{Knows-none, Seen-all, Seen-more, member_within}
 use Rattle.fbl_audit.proofs.dependents.Dependents.of.Goals as goal
@@ -16,10 +18,12 @@ loop-place-preserved c =
     let t = c.events-events.result.now in
     let rules = c.events-events.ensures.rules in
     let obeys : WellFormed c.args.dump.now.members t = rw c.events-events.ensures.events rules.events in
-    let within = member_within c.args.dump.now.members t (c.loop-place.place - 1) c.index-events-place.result obeys rules.members.1
-    (omega (arith, c.loop-place.invariant.count, c.loop-place-test.true)) c.index-events-place.is in
-    rw c.in_ok-push.ensures.items (Seen-more t c.loop-place.place _ _ _ _ c.loop-place.from_the_end.items c.index-events-place.result
-    c.dependents-members.result c.loop-place.invariant c.loop-place-test.true c.index-events-place.is within c.dependents-members.ensures c.in_ok-add.ensures.members c.in_ok-add.ensures.messages)
+    let p = c.loop-place.place - 1 in
+    let e = c.index-events-place.result in
+    let at : At t p e = slice_get_read t (length t) p e refl (omega (arith, c.loop-place.invariant.count, c.loop-place-test.true)) c.index-events-place.is in
+    let within = member_within c.args.dump.now.members t p e obeys rules.members.1 at in
+    rw c.in_ok-push.ensures.items (Seen-more t c.loop-place.place _ _ _ _ c.loop-place.from_the_end.items e
+    c.dependents-members.result c.loop-place.invariant c.loop-place-test.true at within c.dependents-members.ensures c.in_ok-add.ensures.members c.in_ok-add.ensures.messages)
 
 pub returns : goal.returns
 returns c = rw (← c.events-events.ensures.events)

@@ -19,7 +19,7 @@ loop-later-preserved c =
     let e = c.index-events-later.result in
     let o = c.before-before.result in
     let at : At t p e = slice_get_read t (length t) p e refl (omega arith) c.index-events-later.is in
-    let within = member_within c.args.dump.now.members t p e obeys rules.members.1 (omega arith) c.index-events-later.is in
+    let within = member_within c.args.dump.now.members t p e obeys rules.members.1 at in
     let here : IsBefore t i p o = rw c.before-before.ensures (before_right t i p _ _ e at within c.loop-later.invariant.knows) in
     elim c.if-is_some.branch [
       | then-is_some+in_ok-add w ↦
