@@ -1,6 +1,6 @@
 -- The first place of a list at which a shape is missing.
-use Rattle.std.proofs.Common.{◌≡◌, ℕ, ◌+◌, ◌<◌, List, [], ◌∷◌, ◌++◌, append_assoc, refl, option_and_then, map, get_or, length, sym, ap, ◌∙◌, suc, subst, drop}
-use Rattle.std.proofs.Common.{drop-cons, add-one, below_more, arith, Bool, true, false, Option, Some, None, slice_get, option_map}
+use Rattle.std.proofs.Common.{◌≡◌, ℕ, ◌+◌, ◌<◌, List, [], ◌∷◌, ◌++◌, append_assoc, refl, option_and_then, map, get_or, length, sym, ap, ◌∙◌, suc, drop}
+use Rattle.std.proofs.Common.{drop-cons, add-one, below_more, true, Option, Some, None, slice_get, option_map}
 use Rattle.std.specs.Prelude.{is_some}
 use Rattle.serde_json.specs.Data.{Data}
 use Rattle.fbl_input.specs.Shapes.{all_shaped}

@@ -1,6 +1,6 @@
 -- The exit status of an answer, the answer where nothing could be read, and whether a play was refused something.
 use Rattle.std.proofs.Common.{◌≡◌, ℕ, ◌<◌, ◌⊎◌, ◌||◌, ◌&&◌, not, Bool, true, false, List, [], ◌∷◌, Option, Some, None, Result, Ok, Err, IfSome, length, inl}
-use Rattle.std.proofs.Common.{inr, subst, refl, ap, ◌∙◌}
+use Rattle.std.proofs.Common.{inr, refl, ap, ◌∙◌}
 use Rattle.std.specs.List.{list_any}
 use Rattle.fbl_input.specs.declared.fault.RunFault.{RunFault}
 use Rattle.fbl_input.specs.declared.fault.RunFault.TheVariants as faults

@@ -1,5 +1,5 @@
 -- How the parts of a picture of a history fit together.
-use Rattle.std.proofs.Common.{◌≡◌, ℕ, ◌<◌, ◌⊎◌, List, sym, ap, subst, inl, inr, Option, Some, None, Result, Ok, Err, IfSome, IfErr, OnOk, OnErr, refl, take, length}
+use Rattle.std.proofs.Common.{◌≡◌, ℕ, ◌<◌, ◌⊎◌, List, ap, inl, inr, Option, Some, None, Result, Ok, Err, IfSome, IfErr, OnOk, OnErr, refl, take, length}
 use Rattle.std.specs.Io.KnownBytes.{Appends}
 use Rattle.fbl_explain.specs.declared.account.Account.{Account}
 use Rattle.fbl_input.specs.declared.fault.RunFault.{RunFault}
