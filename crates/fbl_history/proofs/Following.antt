@@ -19,7 +19,7 @@ use Rattle.fbl_base.proofs.FoldLaws.{after_notes-state}
 use Rattle.fbl_base.proofs.Gets.{map-At, split-at}
 use Rattle.fbl_base.proofs.RulesLaws.{eqb-self, receipts-step, sent-before}
 use Rattle.fbl_table.proofs.Adding.{take-next}
-use Rattle.fbl_member.specs.Members.{MemberRecord, blank, fresh, logged_note, replayed_by}
+use Rattle.fbl_member.specs.Members.{MemberRecord, blank, logged_note, replayed_by}
 use Rattle.fbl_member.proofs.Logs.{length-numbered}
 use Rattle.fbl_law.specs.Groups.{GroupRecord, marks}
 use Rattle.fbl_law.specs.Sound.{received_notes, IsReplayed, IsSound}
@@ -31,7 +31,7 @@ use Rattle.fbl_law.proofs.Notes.{send-mark}
 use Rattle.fbl_law.proofs.Lists.{filter-passes, some-at}
 use Rattle.fbl_law.proofs.Logs.{logged-by, logged-noted, log-short}
 use Rattle.fbl_law.proofs.Receipts.{Has-receipts_at}
-use Rattle.fbl_law.proofs.ReplayedRecords.{replayed-fresh, replayed-step}
+use Rattle.fbl_law.proofs.ReplayedRecords.{replayed-step}
 use Rattle.fbl_history.specs.Replays.{HaveReplayed}
 use Rattle.fbl_history.specs.Traces.{state_after_receipt}
 
@@ -168,15 +168,6 @@ module _ {next : Next} {r : GroupRecord} {members : List MemberRecord} {place : 
             let more : receipts_of (take (place + 1) (marks r)) m ≡ receipts_of (take place (marks r)) m + 0 =
             count-more (marks r) place m (Receipt d.to d.rsn d.from d.ssn) at-mark ∙ (rw flipped refl) in
             rw set' (known.replayed.each m below, omega (arith, more, known.replayed.received m below))
-
--- members that have received nothing have replayed none of the trace
-pub fresh-replayed : (next : Next) (r : GroupRecord) (members : List MemberRecord) → length members ≡ r.config.members
-    → ((m : ℕ) → m < r.config.members → slice_index_or members m blank ≡ fresh m r.config.starts) → HaveReplayed next r 0 members
-fresh-replayed next r members size are = record {
-  size = size;
-  each = λ m below. (let is = are m below in rw is (replayed-fresh next r.config.members r.config.starts r.trace m));
-  received = λ m below. (let is = are m below in rw is refl);
-}
 
 -- each of the members of a set is in it
 pub listed-in : (s : Members) (listed : List ℕ) (i m : ℕ) → listed ≡ member_list s → i < length listed → m ≡ get_or listed i m → set.contains s m ≡ true

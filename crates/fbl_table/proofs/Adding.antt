@@ -170,11 +170,6 @@ greatest-step to table i e is = rw (take-next table i e is) (fold_push (λ last 
 pub gather-step : (table other : List Entry) (i : ℕ) (e : Entry) → slice_get other i ≡ Some e → gathered table (take (i + 1) other) ≡ added (gathered table (take i other)) e
 gather-step table other i e is = rw (take-next other i e is) (fold_push added table (take i other) e)
 
-pub learn-step : (me : ℕ) (table carried : List Entry) (i : ℕ) (e : Entry) → slice_get carried i ≡ Some e
-    → learned me table (take (i + 1) carried) ≡ added (learned me table (take i carried)) (held_by me e)
-learn-step me table carried i e is =
-    rw (take-next carried i e is, map-append (held_by me) (take i carried) (e ∷ [])) (fold_push added table (map (held_by me) (take i carried)) (held_by me e))
-
 -- the search among the first places
 pub find-step : {X : Type 0} (p : X → Bool) (xs : List X) (i : ℕ) (x : X) → slice_get xs i ≡ Some x → find p (take i xs) ≡ None → find p (take (i + 1) xs) ≡ cond (p x) (Some x) None
 find-step p xs i x is none = rw (take-next xs i x is, find-append p (take i xs) (x ∷ []), none) refl
