@@ -8,7 +8,7 @@ use Rattle.std.proofs.lemmas.List.{take_more}
 use Rattle.std.proofs.lemmas.Option.{slice_get_read}
 use Rattle.std.proofs.lemmas.List.Elements.{filter_map-append}
 use Rattle.std.proofs.lemmas.List.Folds.{Any-from_list_any, list_any-from_Any}
-use Rattle.std.proofs.lemmas.Bool.{false≢true}
+use Rattle.std.proofs.lemmas.Bool.{and_parts, eqb-true, false≢true}
 use Rattle.fbl_base.specs.MemberSets.{Members}
 use Rattle.fbl_base.specs.declared.trace.Determinant.{Determinant}
 use Rattle.fbl_base.specs.declared.trace.Mark.{Mark}
@@ -19,7 +19,7 @@ use Rattle.fbl_base.specs.Precedence.{Depends}
 use Rattle.fbl_base.proofs.Gets.{filter_map-At}
 use Rattle.fbl_base.proofs.PlacesAndEvents.{depends-from_places, places-from_depends}
 use Rattle.fbl_base.proofs.PrecedenceLaws.{Has-first}
-use Rattle.fbl_base.proofs.Recorded.{Decides-same_determinant, both_true, eqb_same}
+use Rattle.fbl_base.proofs.Recorded.{Decides-same_determinant}
 use Rattle.fbl_base.proofs.RulesLaws.{eqb-self}
 use Rattle.fbl_base.proofs.Sizes.{len-remove_one, len-within, some_member}
 use Rattle.fbl_audit.specs.declared.checking.UnsafeReceipt.{UnsafeReceipt}
@@ -50,9 +50,9 @@ pub holds : (dump : Parts) (d : Determinant) (holder : ℕ) → (set.contains (h
 holds dump d holder = (
   λ h.
       let a = Any-from_list_any (is_pair d holder) dump.held (sym same ∙ h) in
-      let b = both_true (same_determinant a.1.1 d) (a.1.0 == holder) a.4 in
+      let b = and_parts (same_determinant a.1.1 d) (a.1.0 == holder) a.4 in
       let det : a.1.1 ≡ d = (Decides-same_determinant a.1.1 d).0 b.0 in
-      let member : a.1.0 ≡ holder = eqb_same b.1 in
+      let member : a.1.0 ≡ holder = eqb-true a.1.0 holder b.1 in
       (a.0, a.2, (let pair : (holder, d) ≡ a.1 = (λ i. (sym member i, sym det i)) in rw pair a.3)),
   λ r. same ∙ list_any-from_Any (is_pair d holder) dump.held (r.0, (holder, d), r.1, r.2, (rw ((Decides-same_determinant d d).1 refl, eqb-self holder))),
 ) where

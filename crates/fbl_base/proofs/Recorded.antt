@@ -1,14 +1,14 @@
 -- Which determinants are recorded.
-use Rattle.std.proofs.Common.{ℕ, ◌+◌, ◌<◌, ◌≡◌, ◌==◌, Bool, true, false, not, cond, ◌&&◌, ◌||◌, List, length, take, get_or, refl, sym, ap, ◌∙◌, arith}
+use Rattle.std.proofs.Common.{ℕ, ◌+◌, ◌<◌, ◌≡◌, ◌==◌, Bool, true, false, not, cond, ◌&&◌, ◌||◌, List, length, take, get_or, refl, sym, ap, ◌∙◌}
 use Rattle.std.proofs.Common.{Decides, ◌↔◌}
 use Rattle.std.specs.List.{list_any}
 use Rattle.std.specs.Ordering.{nat_cmp}
 use Rattle.std.specs.FinSet as set
 use Rattle.std.proofs.Math.Bool.{or-false, or-true}
-use Rattle.std.proofs.lemmas.Bool.Decides.{nat_tests, Decides-and, Decides-eqb}
+use Rattle.std.proofs.lemmas.Bool.Decides.{Decides-and, Decides-eqb}
 use Rattle.std.proofs.lemmas.List.Folds.{list_any_more, Any-from_list_any, list_any-from_Any}
 use Rattle.fbl_base.specs.declared.trace.Determinant.{Determinant}
-use Rattle.std.proofs.lemmas.Bool.{false≢true, not-true, not_from_false, false_from_ne_true}
+use Rattle.std.proofs.lemmas.Bool.{and_parts, false≢true, not-true, not_from_false, false_from_ne_true}
 use Rattle.fbl_base.specs.declared.trace.Mark.{Mark}
 use Rattle.fbl_base.specs.declared.trace.Mark.TheVariants.{Send, Receipt}
 use Rattle.fbl_base.specs.Reach.{is_lost_test}
@@ -42,13 +42,6 @@ recorded_skipped strike xs i x d before within is out was =
     let one : holds_it strike d x ≡ false = ap (λ b. not b && same_determinant x.1 d) out in
     was ∙ or_false _ ∙ (rw (list_any_more (holds_it strike d) xs i x within, ← is, one))
 
-pub eqb_same : {a b : ℕ} → (a == b) ≡ true → a ≡ b
-eqb_same {a} {b} h = grind (arith, nat_tests)
-
-pub both_true : (a b : Bool) → (a && b) ≡ true → (a ≡ true) × (b ≡ true)
-both_true true b h = (refl, h)
-both_true false b h = cc
-
 pub Decides-same_determinant : (a b : Determinant) → Decides (same_determinant a b) (a ≡ b)
 Decides-same_determinant a b =
     let sent = Decides-and (a.from == b.from) _ (Decides-eqb a.from b.from)
@@ -61,7 +54,7 @@ pub Decides-is_held_outside : (dump : Parts) (d : Determinant) → Decides (is_h
 Decides-is_held_outside dump d = (
   λ h.
       let a = Any-from_list_any (holds_it dump.strike d) dump.held h in
-      let b = both_true (not (set.contains dump.strike a.1.0)) (same_determinant a.1.1 d) a.4 in
+      let b = and_parts (not (set.contains dump.strike a.1.0)) (same_determinant a.1.1 d) a.4 in
       let is : a.1.1 ≡ d = (Decides-same_determinant a.1.1 d).0 b.1 in
       (a.1.0, (a.0, a.2, (let pair : (a.1.0, d) ≡ a.1 = (λ i. (a.1.0, sym is i)) in rw pair a.3)), not-true (set.contains dump.strike a.1.0) b.0),
   λ r. list_any-from_Any (holds_it dump.strike d) dump.held (r.1.0, (r.0, d), r.1.1, r.1.2, rw (r.2, (Decides-same_determinant d d).1 refl)),
