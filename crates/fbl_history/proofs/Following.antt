@@ -8,7 +8,6 @@ use Rattle.std.proofs.lemmas.List.Sums.{count_by-le-length, sum_by-take-le}
 use Rattle.std.proofs.lemmas.Option.{get_or_from_slice_get}
 use Rattle.fbl_base.specs.declared.trace.Determinant.{Determinant}
 use Rattle.fbl_base.specs.declared.trace.Note.{Note}
-use Rattle.fbl_base.specs.declared.trace.Event.{Event}
 use Rattle.fbl_base.specs.declared.trace.Event.TheVariants as event
 use Rattle.fbl_base.specs.declared.trace.Mark.{Mark}
 use Rattle.fbl_base.specs.declared.trace.Mark.TheVariants.{Send, Receipt}
@@ -16,7 +15,7 @@ use Rattle.fbl_base.specs.Events.{At, mark_of}
 use Rattle.fbl_base.specs.Rules.{is_receipt_of, is_send_of, receipts_of, MayFollow}
 use Rattle.fbl_base.specs.Fold.{Next, Progress, after_notes, note_of, numbered}
 use Rattle.fbl_base.proofs.FoldLaws.{after_notes-state}
-use Rattle.fbl_base.proofs.Gets.{map-At, split-at}
+use Rattle.fbl_base.proofs.Gets.{split-at}
 use Rattle.fbl_base.proofs.RulesLaws.{eqb-self, receipts-step, sent-before}
 use Rattle.fbl_table.proofs.Adding.{take-next}
 use Rattle.fbl_member.specs.Members.{MemberRecord, blank, logged_note, replayed_by}
@@ -26,8 +25,7 @@ use Rattle.fbl_law.specs.Sound.{received_notes, IsReplayed, IsSound}
 use Rattle.std.specs.FinSet as set
 use Rattle.std.specs.List.{filter, range_with_len}
 use Rattle.fbl_base.specs.MemberSets.{member_list, Members}
-use Rattle.fbl_law.proofs.KeptByStep.{receipt-mark}
-use Rattle.fbl_law.proofs.Notes.{send-mark}
+use Rattle.fbl_law.proofs.Notes.{mark-at, send-at}
 use Rattle.fbl_law.proofs.Lists.{filter-passes, some-at}
 use Rattle.fbl_law.proofs.Logs.{logged-by, logged-noted, log-short}
 use Rattle.fbl_law.proofs.Receipts.{Has-receipts_at}
@@ -44,13 +42,6 @@ count-earlier : (t : List Mark) (i j m : ℕ) → j ≤ i → receipts_of (take 
 count-earlier t i j m before =
     omega (arith, sum_by-take-le (λ y. cond (is_receipt_of m y) 1 0) (take i t) j, ap (λ (u : List Mark). receipts_of u m) (take-take j i t before))
 
--- the event of a send
-send-at : (t : List Event) (j q k to : ℕ) → At (map mark_of t) j (Send q k to) → (x : Note) × (slice_get t j ≡ Some (event.Send q k to x))
-send-at t j q k to here = (let found = map-At mark_of t j (Send q k to) here in at found.0 found.1 found.2) where
-  at : (e : Event) → slice_get t j ≡ Some e → mark_of e ≡ Send q k to → (x : Note) × (slice_get t j ≡ Some (event.Send q k to x))
-  at (event.Receipt p r q' k') h is = cc
-  at (event.Send q' k' to' x) h is = (x, cc)
-
 -- a send is no receipt
 pub past-send : {next : Next} {r : GroupRecord} {members : List MemberRecord} {place : ℕ} → HaveReplayed next r place members
     → (from ssn to : ℕ) (note : Note) → slice_get r.trace place ≡ Some (event.Send from ssn to note) → HaveReplayed next r (place + 1) members
@@ -58,7 +49,7 @@ past-send {next} {r} {members} {place} replayed from ssn to note here = record {
   size = replayed.size;
   each = replayed.each;
   received = λ m below.
-      omega (arith, replayed.received m below, count-more (marks r) place m (Send from ssn to) (send-mark r.trace place from ssn to note here));
+      omega (arith, replayed.received m below, count-more (marks r) place m (Send from ssn to) (mark-at r.trace place (event.Send from ssn to note) here));
 }
 
 -- the members of a sound group have replayed what comes before this receipt
@@ -75,7 +66,7 @@ module _ {next : Next} {r : GroupRecord} {members : List MemberRecord} {place : 
   receiver = slice_index_or members d.to blank
 
   at-mark : At (marks r) place (Receipt d.to d.rsn d.from d.ssn)
-  at-mark = receipt-mark r.trace place d.to d.rsn d.from d.ssn known.here
+  at-mark = mark-at r.trace place (event.Receipt d.to d.rsn d.from d.ssn) known.here
 
   trace-short : length (marks r) ≤ 8192
   trace-short = omega (arith, known.sound.room, known.sound.config.limit.1, length-map r.trace mark_of)

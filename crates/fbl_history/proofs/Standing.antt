@@ -1,15 +1,14 @@
 -- The columns of a trace stand, and no two are the same.
 use Rattle.std.proofs.Common.{◌≡◌, ℕ, List, [], ◌∷◌, map, Some, refl, sym, ap, ◌∙◌}
-use Rattle.std.specs.Prelude.{slice_get}
-use Rattle.std.proofs.lemmas.Option.{slice_get-map}
 use Rattle.fbl_base.specs.declared.trace.Event.{Event}
 use Rattle.fbl_base.specs.declared.trace.Event.TheVariants.{Send, Receipt}
-use Rattle.fbl_base.specs.Events.{At, mark_of}
+use Rattle.fbl_base.specs.Events.{mark_of}
 use Rattle.fbl_base.specs.Fold.{Next}
 use Rattle.fbl_base.proofs.Gets.{map-At}
 use Rattle.fbl_base.proofs.PlacesAndEvents.{one_place}
 use Rattle.fbl_law.specs.Groups.{GroupRecord, marks}
 use Rattle.fbl_law.specs.Sound.{IsSound}
+use Rattle.fbl_law.proofs.Notes.{mark-at}
 use Rattle.fbl_history.specs.declared.column.Column.{Column}
 use Rattle.fbl_history.specs.Columns.{standing, go_on, HasEachOnce}
 use Rattle.fbl_history.specs.Traces.{event_column, trace_columns}
@@ -32,14 +31,11 @@ same-mark next n trace (Send q k p note) (Send q' k' p' note') same = cc
 same-mark next n trace (Receipt p r q k) (Receipt p' r' q' k') same = cc
 same-mark next n trace _ _ same = absurd cc
 
-mark-at : (r : GroupRecord) (i : ℕ) (e : Event) → slice_get r.trace i ≡ Some e → At (marks r) i (mark_of e)
-mark-at r i e here = slice_get-map mark_of r.trace i ∙ (rw here refl)
-
 pub trace-once : (next : Next) (r : GroupRecord) → IsSound next r → HasEachOnce (trace_columns next r)
 trace-once next r sound i j a b at_i at_j same =
     let first = map-At (event_column next r.config.members r.trace) r.trace i a at_i in
     let second = map-At (event_column next r.config.members r.trace) r.trace j b at_j in
     let marked : mark_of first.0 ≡ mark_of second.0 =
     same-mark next r.config.members r.trace first.0 second.0 (first.2 ∙ (same-is a b same).0 ∙ sym second.2) in
-    one_place r.config.members (marks r) sound.lawful.well_formed (mark_of first.0) i j (mark-at r i first.0 first.1)
-    (mark-at r j second.0 second.1 ∙ ap (λ m. Some m) (sym marked))
+    one_place r.config.members (marks r) sound.lawful.well_formed (mark_of first.0) i j (mark-at r.trace i first.0 first.1)
+    (mark-at r.trace j second.0 second.1 ∙ ap (λ m. Some m) (sym marked))
