@@ -1,31 +1,21 @@
-//! Short holds of a lock.
+//! Short holds of a lock. Between two tries of it a worker spins, the longer the more it has tried (`Backoff`), and keeps its
+//! processor: where every one has another load, who gives it away gets it back after milliseconds.
 
 use crate::endings::Endings;
-use std::hint;
+use crossbeam_utils::Backoff;
 use std::sync::{Mutex, MutexGuard, Wait};
 
-/// How often a worker spins between two tries of the lock, which takes as long as a few holds.
-const SPINS: u32 = 600;
-
-/// How often the lock is tried with such pauses by a worker that others don't wait for.
-const IDLE_TRIES: u32 = 6;
+/// How often the lock is tried with spins between the tries by a worker that others don't wait for.
+const IDLE_TRIES: u32 = 24;
 
 /// How often it sleeps then between two tries, before it sleeps on the lock.
 const IDLE_NAPS: u32 = 1000;
 
-/// How often the lock is tried by a worker that has claimed a member.
-const TRIES: u32 = 128;
+/// How often the lock is tried with spins between the tries by a worker that has claimed a member.
+const TRIES: u32 = 1024;
 
 /// After how many of these tries too many workers want the lock.
-const FEW_TRIES: u32 = 8;
-
-/// Lets the lock alone for a while. The processor is kept: where every one has another load, who gives it away gets it back after
-/// milliseconds.
-fn pause() {
-    for _spin in 0..SPINS {
-        hint::spin_loop();
-    }
-}
+const FEW_TRIES: u32 = 40;
 
 /// Takes the lock for a worker that has claimed nobody. Nobody waits for it: so where the lock is taken it soon sleeps between
 /// its tries, each time longer, and leaves the lock to those that have work. A worker that sleeps on the lock has to be woken
@@ -35,11 +25,12 @@ pub(crate) fn hold_idle<'a, T, R: Wait>(
     lock: &'a Mutex<T>,
     endings: &Endings,
 ) -> MutexGuard<'a, T> {
+    let backoff = Backoff::new();
     for _try in 0..IDLE_TRIES {
         if let Some(guard) = lock.try_lock() {
             return guard;
         }
-        pause();
+        backoff.spin();
     }
     for number in 0..IDLE_NAPS {
         let seen = endings.count();
@@ -60,11 +51,12 @@ pub(crate) fn hold_claiming<'a, T, R: Wait>(
     rt: &R,
     lock: &'a Mutex<T>,
 ) -> (MutexGuard<'a, T>, bool) {
+    let backoff = Backoff::new();
     for number in 0..TRIES {
         if let Some(guard) = lock.try_lock() {
             return (guard, FEW_TRIES <= number);
         }
-        pause();
+        backoff.spin();
     }
     (lock.lock(rt), true)
 }
