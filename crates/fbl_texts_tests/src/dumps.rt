@@ -245,6 +245,25 @@ fn stops_at_a_failed_read(rt: HostRuntime) {
     assert!(rt; finished);
 }
 
+/// A text of six writes, of which the one with this number failed, if there is one: the fault is told, and a part of the text
+/// is written, or all of it.
+pub(crate) fn stopped_at(
+    rt: &impl Abort,
+    fails_at: u32,
+    done: Result<(), RunFault>,
+    written: &[u8],
+    text: &str,
+) {
+    assert!(rt; text.as_bytes().starts_with(written));
+    if fails_at <= 6 {
+        assert!(rt; matches!(done, Err(RunFault::Write)), "at {fails_at}");
+        assert!(rt; written.len() < text.len());
+    } else {
+        assert!(rt; done.is_ok(), "at {fails_at}");
+        assert_eq!(rt; written.len(), text.len());
+    }
+}
+
 #[test]
 fn stops_at_a_failed_write(rt: HostRuntime) {
     for failure in [
@@ -256,15 +275,7 @@ fn stops_at_a_failed_write(rt: HostRuntime) {
             let mut reader = LOST.as_bytes();
             let mut writer = UnsteadyWriter::new(rt.alloc(), 7, fails_at, failure);
             let done = audit(rt.alloc(), &mut reader, &mut writer);
-            let text = LOST_TEXT.as_bytes();
-            assert!(rt; text.starts_with(writer.held.as_slice()));
-            if fails_at <= 6 {
-                assert!(rt; matches!(done, Err(RunFault::Write)), "at {fails_at}");
-                assert!(rt; writer.held.len() < text.len());
-            } else {
-                assert!(rt; done.is_ok(), "at {fails_at}");
-                assert_eq!(rt; writer.held.len(), text.len());
-            }
+            stopped_at(&rt, fails_at, done, writer.held.as_slice(), LOST_TEXT);
         }
     }
 }

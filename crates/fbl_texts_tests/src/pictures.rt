@@ -1,4 +1,4 @@
-use crate::dumps::{LINE, LOST, audited, text_of};
+use crate::dumps::{LINE, LOST, audited, stopped_at, text_of};
 use fbl_draw::{draw, draw_bytes};
 use fbl_fixtures::{FailedWrite, Page, UnsteadyReader, UnsteadyWriter};
 use fbl_input::RunFault;
@@ -182,14 +182,7 @@ fn stops_at_a_failed_write(rt: HostRuntime) -> Result<(), Fail> {
         let mut reader = LOST.as_bytes();
         let mut writer = UnsteadyWriter::new(rt.alloc(), 1000, fails_at, FailedWrite::Interruption);
         let done = draw(rt.alloc(), &mut reader, &mut writer);
-        assert!(rt; text.as_bytes().starts_with(writer.held.as_slice()));
-        if fails_at <= 6 {
-            assert!(rt; matches!(done, Err(RunFault::Write)), "at {fails_at}");
-            assert!(rt; writer.held.len() < text.len());
-        } else {
-            assert!(rt; done.is_ok(), "at {fails_at}");
-            assert_eq!(rt; writer.held.len(), text.len());
-        }
+        stopped_at(&rt, fails_at, done, writer.held.as_slice(), text.as_str());
     }
     Ok(())
 }
