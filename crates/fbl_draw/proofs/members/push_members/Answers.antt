@@ -27,4 +27,5 @@ loop-number-preserved c =
 
 pub returns : goal.returns
 returns c =
-    rows_all (shapes_of_member c.args.dump.now c.args.starts.now) c.args.shapes.now.items _ c.args.dump.now.members c.loop-number.number (omega (arith, c.members-number-end.ensures)) c.loop-number.invariant
+    rows_all (shapes_of_member c.args.dump.now c.args.starts.now) c.args.shapes.now.items _ c.args.dump.now.members c.loop-number.number
+    (omega (arith, c.members-number-end.ensures)) c.loop-number.invariant

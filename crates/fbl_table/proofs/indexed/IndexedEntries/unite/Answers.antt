@@ -18,7 +18,8 @@ returns-then-count-eq0-clause-entries g c =
 pub returns-clause-entries : goal.returns-clause-entries
 returns-clause-entries g c =
     let es = c.args.self.now.entries.entries in
-    rw c.union-united.ensures (added-at es (record { det = c.args.det.now; known = c.args.known }) c.args.place c.index-before.result.now c.len-distinct.ensures.unique c.requires c.index-before.ensures)
+    rw c.union-united.ensures
+    (added-at es (record { det = c.args.det.now; known = c.args.known }) c.args.place _ c.len-distinct.ensures.unique c.requires c.index-before.ensures)
 
 pub returns-clause-same : goal.returns-clause-same
 returns-clause-same g c det at = has-set c.args.self.now.entries.entries c.args.place c.union-united.result det at
