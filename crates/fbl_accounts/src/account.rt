@@ -19,7 +19,7 @@ impl Behaviour for Account {
         requires member { me < n }
         ensures step { result ≡ account_step me n state note }
     {
-        let next = Member::new((me.number() + 1) % n).unwrap();
+        let next = me.after(1, n);
         let Some(balance) = state.checked_add(note.value.into()) else {
             return Outcome::with_onward(state, next, note.value, note.hops.max(1));
         };

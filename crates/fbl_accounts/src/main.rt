@@ -50,9 +50,9 @@ fn report<R: Print>(rt: &R, when: &str, group: &Group<Account>) -> Result<()>
 
 /// Runs the accounts until no payment is in flight.
 fn run<R: Print + Threads + Wait + Sync>(rt: &R, alloc: Global) -> Result<()> {
-    let a = Member::new(0).unwrap();
-    let b = Member::new(1).unwrap();
-    let c = Member::new(2).unwrap();
+    let a = Member::at(0);
+    let b = Member::at(1);
+    let c = Member::at(2);
     let starts = [opening(b, a, 100), opening(c, b, 200), opening(a, c, 300)];
     let config = Config::new(alloc, 3, 1, 8192, &starts)?;
     let mut group = Group::<Account>::new(alloc, config)?;

@@ -1,13 +1,6 @@
 -- Why a member is an orphan.
-use Rattle.std.proofs.Common.{ℕ, ◌≡◌, false, refl}
+use Rattle.fbl_audit.proofs.Common.{ℕ, ◌≡◌, false, refl, Mark, Parts, IsLost, IsDumpOrphan, At, WellFormed, depends-from_places, places-from_depends, Has-first, IsCause}
 use Rattle.std.specs.FinSet as set
-use Rattle.fbl_base.specs.declared.trace.Mark.{Mark}
-use Rattle.fbl_base.specs.Audit.{Parts, IsLost, IsDumpOrphan}
-use Rattle.fbl_base.specs.Events.{At}
-use Rattle.fbl_base.specs.Rules.{WellFormed}
-use Rattle.fbl_base.proofs.PlacesAndEvents.{depends-from_places, places-from_depends}
-use Rattle.fbl_base.proofs.PrecedenceLaws.{Has-first}
-use Rattle.fbl_audit.specs.Paths.{IsCause}
 use Rattle.fbl_audit.proofs.Following.{same_event}
 
 -- the event of a cause is lost

@@ -1,33 +1,21 @@
 -- Which receipts are unsafe, and that the run is safe where none is.
-use Rattle.std.proofs.Common.{ℕ, Bool, true, false, ◌≡◌, ◌<◌, ◌≤◌, ◌+◌, ◌==◌, ◌&&◌, ◌||◌, ◌↔◌, inl, inr, List, [], ◌∷◌, ◌++◌, length, take}
-use Rattle.std.proofs.Common.{map, Option, Some, None, refl, sym, ap, ◌∙◌, arith, get_or, max, append-nil, cond, not, zero, suc, slice_get}
-use Rattle.std.specs.List.{Contains, filter, filter_map, list_any}
-use Rattle.std.specs.Cmp.{nat_cmp_total}
+use Rattle.fbl_audit.proofs.Common.{ℕ, Bool, true, false, ◌≡◌, ◌<◌, ◌≤◌, ◌+◌, ◌==◌, ◌↔◌, inl, inr, List, [], ◌∷◌, ◌++◌, length, take, map, Some}
+use Rattle.fbl_audit.proofs.Common.{None, refl, sym, ap, ◌∙◌, arith, get_or, max, zero, suc, slice_get, filter, filter_map, nat_cmp_total, slice_get_read, false≢true, Members}
+use Rattle.fbl_audit.proofs.Common.{Determinant, Mark, Send, Receipt, Parts, IsDump, IsDumpOrphan, IsLost, At, determinant_of, receipt_of, same_determinant, Depends, depends-from_places}
+use Rattle.fbl_audit.proofs.Common.{places-from_depends, Has-first, Decides-same_determinant, len-remove_one, len-within, some_member, IsSafe, SaysUnsafe, receipts_of_dump, Dependents}
+use Rattle.fbl_audit.proofs.Common.{AreDependents, WellFormed, holders_of}
+use Rattle.std.proofs.Common.{◌&&◌, append-nil}
+use Rattle.std.specs.List.{Contains, cons_option, list_any}
 use Rattle.std.specs.FinSet as set
 use Rattle.std.proofs.lemmas.List.{take_more}
-use Rattle.std.proofs.lemmas.Option.{slice_get_read}
 use Rattle.std.proofs.lemmas.List.Elements.{filter_map-append}
 use Rattle.std.proofs.lemmas.List.Folds.{Any-from_list_any, list_any-from_Any}
-use Rattle.std.proofs.lemmas.Bool.{and_parts, eqb-true, false≢true}
-use Rattle.fbl_base.specs.MemberSets.{Members}
-use Rattle.fbl_base.specs.declared.trace.Determinant.{Determinant}
-use Rattle.fbl_base.specs.declared.trace.Mark.{Mark}
-use Rattle.fbl_base.specs.declared.trace.Mark.TheVariants.{Send, Receipt}
-use Rattle.fbl_base.specs.Audit.{Parts, IsDump, IsDumpOrphan, IsLost}
-use Rattle.fbl_base.specs.Events.{At, determinant_of, receipt_of, same_determinant}
-use Rattle.fbl_base.specs.Precedence.{Depends}
+use Rattle.std.proofs.lemmas.Bool.{and_parts, eqb-true}
 use Rattle.fbl_base.proofs.Gets.{filter_map-At}
-use Rattle.fbl_base.proofs.PlacesAndEvents.{depends-from_places, places-from_depends}
-use Rattle.fbl_base.proofs.PrecedenceLaws.{Has-first}
-use Rattle.fbl_base.proofs.Recorded.{Decides-same_determinant}
 use Rattle.fbl_base.proofs.RulesLaws.{eqb-self}
-use Rattle.fbl_base.proofs.Sizes.{len-remove_one, len-within, some_member}
 use Rattle.fbl_audit.specs.declared.checking.UnsafeReceipt.{UnsafeReceipt}
-use Rattle.fbl_audit.specs.Checking.{IsLeftOrphan, IsSafe, IsSaidOf, IsUnsafe, LosesReceipt, MayBeLost, SaysUnsafe, receipts_of_dump, struck_by}
-use Rattle.fbl_audit.specs.declared.dependents.Dependents.{Dependents}
-use Rattle.fbl_audit.specs.Dependents.{AreDependents, dependents_at}
-use Rattle.fbl_base.specs.Rules.{WellFormed}
-use Rattle.fbl_audit.specs.Holders.{holders_of}
+use Rattle.fbl_audit.specs.Checking.{IsLeftOrphan, IsSaidOf, IsUnsafe, LosesReceipt, MayBeLost, struck_by}
+use Rattle.fbl_audit.specs.Dependents.{dependents_at}
 use Rattle.fbl_audit.proofs.Following.{contains-both}
 
 -- ---- who holds a determinant
@@ -38,12 +26,7 @@ is_pair d holder h = same_determinant h.1 d && (h.0 == holder)
 any_holder : (d : Determinant) (holder : ℕ) (held : List (ℕ × Determinant))
     → list_any (λ y. y == holder) (map (λ h. h.0) (filter (λ h. same_determinant h.1 d) held)) ≡ list_any (is_pair d holder) held
 any_holder d holder [] = refl
-any_holder d holder (x ∷ xs) = by_test (same_determinant x.1 d) (any_holder d holder xs) where
-  by_test : (b : Bool) → list_any (λ y. y == holder) (map (λ (h : ℕ × Determinant). h.0) (filter (λ h. same_determinant h.1 d) xs)) ≡ list_any (is_pair d holder) xs
-      → list_any (λ y. y == holder) (map (λ (h : ℕ × Determinant). h.0)
-      (cond b (x ∷ filter (λ h. same_determinant h.1 d) xs) (filter (λ h. same_determinant h.1 d) xs))) ≡ ((b && (x.0 == holder)) || list_any (is_pair d holder) xs)
-  by_test true rest = ap (λ r. (x.0 == holder) || r) rest
-  by_test false rest = rest
+any_holder d holder (x ∷ xs) = (let rest = any_holder d holder xs in grind (arith, rest))
 
 -- the index has exactly the holders that the pairs name
 pub holds : (dump : Parts) (d : Determinant) (holder : ℕ) → (set.contains (holders_of dump d) holder ≡ true) ↔ Contains dump.held (holder, d)
@@ -67,10 +50,9 @@ least_of dump d = set.union dump.strike (holders_of dump d)
 
 -- members lose the receipt where they have all its holders
 pub loses_all : (dump : Parts) (members : Members) (d : Determinant) → LosesReceipt dump members d → (q : ℕ) → set.contains (holders_of dump d) q ≡ true → set.contains members q ≡ true
-loses_all dump members d loses q has = by_test (set.contains members q) refl where
-  by_test : (b : Bool) → set.contains members q ≡ b → set.contains members q ≡ true
-  by_test true is = is
-  by_test false is = absurd (loses (q, (holds dump d q).0 has, is))
+loses_all dump members d loses q has =
+    let outside = λ (is : set.contains members q ≡ false). loses (q, (holds dump d q).0 has, is) in
+    grind (arith, outside)
 
 all_lose : (dump : Parts) (members : Members) (d : Determinant) → ((q : ℕ) → set.contains (holders_of dump d) q ≡ true → set.contains members q ≡ true) → LosesReceipt dump members d
 all_lose dump members d all held = false≢true (sym held.2 ∙ all held.0 ((holds dump d held.0).1 held.1))
@@ -97,17 +79,13 @@ least_may dump d rules few = record {
   few = few;
 }
 
-pub both_not : (a b : Bool) → ((a && not b) ≡ true) ↔ ((b ≡ false) × (a ≡ true))
-both_not true true = (λ h. cc, λ h. sym h.0)
-both_not true false = (λ h. (refl, refl), λ h. refl)
-both_not false b = (λ h. cc, λ h. h.1)
-
 -- who is left of those that depend on the receipt
 left : (dump : Parts) (members dependents : Members) (d : Determinant) → ((q : ℕ) → (set.contains dependents q ≡ true) ↔ Depends dump.events q (receipt_of d))
     → (q : ℕ) → (set.contains (set.difference dependents members) q ≡ true) ↔ IsLeftOrphan dump members d q
 left dump members dependents d are q =
-    let is = both_not (set.contains dependents q) (set.contains members q) in
-    rw (set.contains-difference nat_cmp_total) (λ h. ((is.0 h).0, (are q).0 (is.0 h).1), λ o. is.1 (o.0, (are q).1 o.1))
+    let left_of = set.contains-difference nat_cmp_total dependents members q in
+    let found = are q in
+    grind (arith, left_of, found)
 
 module _ (dump : Parts) (rules : IsDump dump) (d : Determinant) (dependents : Members) (are : (q : ℕ) → (set.contains dependents q ≡ true) ↔ Depends dump.events q (receipt_of d)) where
   -- what is found of an unsafe receipt is what is to be said of it
@@ -129,25 +107,13 @@ module _ (dump : Parts) (rules : IsDump dump) (d : Determinant) (dependents : Me
       let least = has_least dump members d u.1 u.2 in
       let fewer = len-within (set.len (least_of dump d)) (least_of dump d) members refl least in
       let few : set.len (least_of dump d) ≤ max dump.f (set.len dump.strike) = omega (arith, fewer, u.1.few) in
-      let out : set.contains (least_of dump d) u.3.0 ≡ false = not_in (set.contains (least_of dump d) u.3.0) refl in
+      let among = least u.3.0 in
+      let left' = u.3.1.0 in
+      let out : set.contains (least_of dump d) u.3.0 ≡ false = grind (arith, among, left') in
       let here = (left dump (least_of dump d) dependents d are u.3.0).1 (out, u.3.1.1) in
-      none (few, more_than_none (set.difference dependents (least_of dump d)) u.3.0 here)
-    where
-      not_in : (b : Bool) → set.contains (least_of dump d) u.3.0 ≡ b → set.contains (least_of dump d) u.3.0 ≡ false
-      not_in true is = absurd (false≢true (sym u.3.1.0 ∙ has_least dump u.0 d u.1 u.2 u.3.0 is))
-      not_in false is = is
-
-      more_than_none : (s : Members) (q : ℕ) → set.contains s q ≡ true → 0 < set.len s
-      more_than_none s q has = (let one = len-remove_one s q has in omega (arith, one))
+      none (few, omega (arith, len-remove_one (set.difference dependents (least_of dump d)) u.3.0 here))
 
 -- ---- all receipts
-
-abbrev determinants_here : Option Determinant → List Determinant
-determinants_here None = []
-determinants_here (Some d) = d ∷ []
-
-no_cons : (x : UnsafeReceipt) (xs : List UnsafeReceipt) → [] ≡ x ∷ xs → ⊥
-no_cons x xs h = cc
 
 -- one more receipt
 pub says_more : (dump : Parts) (ds more : List Determinant) (said said' : List UnsafeReceipt) → SaysUnsafe dump ds said → SaysUnsafe dump more said'
@@ -165,27 +131,20 @@ said_is_unsafe dump d said is = (said.strike, is.may, is.loses, (is.some.0, (is.
 -- the events go on by one: a receipt of which something is said, a receipt that is not unsafe, or no receipt
 module _ (dump : Parts) (events : List Mark) (i : ℕ) (e : Mark) (within : i < length events) (is : e ≡ get_or events i e) (said : List UnsafeReceipt)
     (says : SaysUnsafe dump (filter_map determinant_of (take i events)) said) where
-  one_more : (more : List Determinant) → determinants_here (determinant_of e) ≡ more → filter_map determinant_of (take (i + 1) events) ≡ filter_map determinant_of (take i events) ++ more
-  one_more more here =
-      ap (filter_map determinant_of) (take_more events i e within ∙ ap (λ x. take i events ++ x ∷ []) (sym is))
-      ∙ filter_map-append determinant_of (take i events) (e ∷ [])
-      ∙ ap (λ l. filter_map determinant_of (take i events) ++ l) (one e ∙ here)
-    where
-      one : (e : Mark) → filter_map determinant_of (e ∷ []) ≡ determinants_here (determinant_of e)
-      one (Send from ssn to) = refl
-      one (Receipt to rsn from ssn) = refl
+  one_more : filter_map determinant_of (take (i + 1) events) ≡ filter_map determinant_of (take i events) ++ cons_option (determinant_of e) []
+  one_more = rw (take_more events i e within, ← is, filter_map-append determinant_of (take i events) (e ∷ []))
 
   pub says_unsafe : (d : Determinant) (first : UnsafeReceipt) → determinant_of e ≡ Some d → IsSaidOf dump d first
       → SaysUnsafe dump (filter_map determinant_of (take (i + 1) events)) (said ++ first ∷ [])
-  says_unsafe d first of_e is_said = rw (one_more (d ∷ []) (ap determinants_here of_e)) (says_more dump _ (d ∷ []) said (first ∷ []) says (inr (first, [], refl, is_said, refl)))
+  says_unsafe d first of_e is_said = rw (one_more, of_e) (says_more dump _ (d ∷ []) said (first ∷ []) says (inr (first, [], refl, is_said, refl)))
 
   pub says_nothing : (d : Determinant) → determinant_of e ≡ Some d → ¬ (IsUnsafe dump d) → SaysUnsafe dump (filter_map determinant_of (take (i + 1) events)) said
   says_nothing d of_e safe =
       let all : SaysUnsafe dump (filter_map determinant_of (take i events) ++ d ∷ []) (said ++ []) = says_more dump _ (d ∷ []) said [] says (inl (safe, refl)) in
-      rw (one_more (d ∷ []) (ap determinants_here of_e)) (rw (append-nil said) at all)
+      rw (one_more, of_e) (rw (append-nil said) at all)
 
   pub says_no_receipt : determinant_of e ≡ None → SaysUnsafe dump (filter_map determinant_of (take (i + 1) events)) said
-  says_no_receipt none = rw (one_more [] (ap determinants_here none)) (rw (append-nil (filter_map determinant_of (take i events))) says)
+  says_no_receipt none = rw (one_more, none, append-nil) says
 
 -- nothing is said where no receipt is unsafe, and where nothing is said none is
 says_none : (dump : Parts) (ds : List Determinant) (said : List UnsafeReceipt) → SaysUnsafe dump ds said → ((d : Determinant) → ¬ (IsUnsafe dump d)) → said ≡ []
@@ -200,11 +159,11 @@ none_said : (dump : Parts) (ds : List Determinant) (said : List UnsafeReceipt) �
 none_said dump [] said says none i d at = cc
 none_said dump (e ∷ ds) said says none zero d at = elim says [
   | inl safe ↦ (let same : e ≡ d = cc in rw same at safe.0)
-  | inr un ↦ absurd (no_cons un.0 un.1 (sym none ∙ un.2))
+  | inr un ↦ (let no : [] ≡ un.0 ∷ un.1 = sym none ∙ un.2 in cc)
 ]
 none_said dump (e ∷ ds) said says none (suc i) d at = elim says [
   | inl safe ↦ none_said dump ds said safe.1 none i d at
-  | inr un ↦ absurd (no_cons un.0 un.1 (sym none ∙ un.2))
+  | inr un ↦ (let no : [] ≡ un.0 ∷ un.1 = sym none ∙ un.2 in cc)
 ]
 
 -- whom the loss of the members leaves as an orphan, it leaves as one of some receipt
@@ -232,11 +191,9 @@ pub dependents_of_receipt : (n : ℕ) (t : List Mark) (found : Dependents) (i : 
 dependents_of_receipt n t found i (Send from ssn to) d obeys are within is of_e q = cc
 dependents_of_receipt n t found i (Receipt to rsn from ssn) d obeys are within is of_e q =
     let at : At t i (Receipt to rsn from ssn) = slice_get_read t (length t) i (Receipt to rsn from ssn) refl within is in
-    let same : Receipt to rsn from ssn ≡ receipt_of d = ap receipt_of (some_same of_e) in
+    let det : record { from = from; ssn = ssn; to = to; rsn = rsn } ≡ d = cc in
+    let same : Receipt to rsn from ssn ≡ receipt_of d = ap receipt_of det in
     let here = are.members i q within in (
       λ h. rw same at (depends-from_places t q i (Receipt to rsn from ssn) at (here.0 h)),
       λ d'. here.1 (places-from_depends n t obeys q i (Receipt to rsn from ssn) at (rw same d')),
     )
-  where
-    some_same : {a b : Determinant} → Some a ≡ Some b → a ≡ b
-    some_same e = cc

@@ -1,15 +1,11 @@
 -- How the index of holders is made.
-use Rattle.std.proofs.Common.{ℕ, ◌+◌, ◌<◌, ◌≡◌, Bool, true, false, cond, List, [], ◌∷◌, ◌++◌, length, take, get_or, map, Option, Some, unwrap_or, refl, sym, ap}
-use Rattle.std.proofs.Common.{◌∙◌, append-nil}
-use Rattle.std.specs.List.{filter}
+use Rattle.fbl_audit.proofs.Common.{ℕ, ◌+◌, ◌<◌, ◌≡◌, Bool, true, false, cond, List, [], ◌∷◌, ◌++◌, length, take, get_or, map, Option, Some, unwrap_or, refl, sym}
+use Rattle.fbl_audit.proofs.Common.{ap, ◌∙◌, filter, nat_cmp_total, Determinant, same_determinant, Decides-same_determinant}
+use Rattle.std.proofs.Common.{append-nil}
 use Rattle.std.specs.Ordering.{nat_cmp}
-use Rattle.std.specs.Cmp.{nat_cmp_total}
 use Rattle.std.specs.FinSet as set
 use Rattle.std.proofs.lemmas.List.{map-append}
 use Rattle.std.proofs.lemmas.List.Elements.{filter_more}
-use Rattle.fbl_base.specs.declared.trace.Determinant.{Determinant}
-use Rattle.fbl_base.specs.Events.{same_determinant}
-use Rattle.fbl_base.proofs.Recorded.{Decides-same_determinant}
 
 -- the members that hold the determinant by these pairs
 abbrev held_by : Determinant → List (ℕ × Determinant) → set.FinSet nat_cmp
@@ -20,23 +16,12 @@ pub held_more : (old : Determinant → Option (set.FinSet nat_cmp)) (xs : List (
     (members : set.FinSet nat_cmp) (after : Option (set.FinSet nat_cmp))
     → i < length xs → x ≡ get_or xs i x → unwrap_or (old d) set.empty ≡ held_by d (take i xs) → members ≡ set.insert (unwrap_or (old x.1) set.empty) x.0
     → after ≡ cond (same_determinant x.1 d) (Some members) (old d) → unwrap_or after set.empty ≡ held_by d (take (i + 1) xs)
-held_more old xs i x d members after within is was now new = at_key (same_determinant x.1 d) refl where
-  more : (b : Bool) → same_determinant x.1 d ≡ b
-      → held_by d (take (i + 1) xs) ≡ set.from_list (map (λ h. h.0) (filter (λ h. same_determinant h.1 d) (take i xs)) ++ map (λ h. h.0) (cond b (x ∷ []) []))
-  more b e =
-      ap (λ l. set.from_list (map (λ h. h.0) l)) (filter_more (λ h. same_determinant h.1 d) xs i x within
-      ∙ ap (λ y. filter (λ h. same_determinant h.1 d) (take i xs) ++ cond (same_determinant y.1 d) (y ∷ []) []) (sym is)
-      ∙ ap (λ c. filter (λ h. same_determinant h.1 d) (take i xs) ++ cond c (x ∷ []) []) e)
-      ∙ ap set.from_list (map-append (λ h. h.0) (filter (λ h. same_determinant h.1 d) (take i xs)) (cond b (x ∷ []) []))
-
-  at_key : (b : Bool) → same_determinant x.1 d ≡ b → unwrap_or after set.empty ≡ held_by d (take (i + 1) xs)
-  at_key true e =
-      let key : x.1 ≡ d = (Decides-same_determinant x.1 d).0 e in
-      ap (λ o. unwrap_or o set.empty) (new ∙ ap (λ b. cond b (Some members) (old d)) e) ∙ now
-      ∙ ap (λ s. set.insert s x.0) (ap (λ k. unwrap_or (old k) set.empty) key ∙ was)
-      ∙ sym (set.from_list_push nat_cmp_total set.nat_cmp-IsAntisymmetric _ x.0)
-      ∙ sym (more true e)
-  at_key false e =
-      ap (λ o. unwrap_or o set.empty) (new ∙ ap (λ b. cond b (Some members) (old d)) e) ∙ was
-      ∙ ap set.from_list (sym (append-nil _))
-      ∙ sym (more false e)
+held_more old xs i x d members after within is was now new =
+    rw (new, filter_more (λ h. same_determinant h.1 d) xs i x within, ← is, map-append) (at_key (same_determinant x.1 d) refl)
+  where
+    at_key : (b : Bool) → same_determinant x.1 d ≡ b
+        → unwrap_or (cond b (Some members) (old d)) set.empty ≡ set.from_list (map (λ h. h.0) (filter (λ h. same_determinant h.1 d) (take i xs)) ++ map (λ h. h.0) (cond b (x ∷ []) []))
+    at_key true e =
+        let key : x.1 ≡ d = (Decides-same_determinant x.1 d).0 e in
+        now ∙ ap (λ s. set.insert s x.0) (ap (λ k. unwrap_or (old k) set.empty) key ∙ was) ∙ sym (set.from_list_push nat_cmp_total set.nat_cmp-IsAntisymmetric _ x.0)
+    at_key false e = was ∙ ap set.from_list (sym (append-nil _))

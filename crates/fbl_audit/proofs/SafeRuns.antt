@@ -1,15 +1,10 @@
 -- With nobody struck, a run is safe exactly by the always-no-orphans condition.
-use Rattle.std.proofs.Common.{ℕ, Bool, true, false, ◌≡◌, ◌<◌, ◌≤◌, ◌⊎◌, inl, inr, refl, sym, ap, ◌∙◌, arith, nat_cmp, nat_lt}
+use Rattle.fbl_audit.proofs.Common.{ℕ, true, false, ◌≡◌, ◌≤◌, inl, inr, refl, sym, ap, ◌∙◌, arith, false≢true, Determinant, Parts, IsDump, receipt_of, Depends}
+use Rattle.fbl_audit.proofs.Common.{Has-first, len-within, IsSafe, holders_of}
+use Rattle.std.proofs.Common.{nat_cmp}
 use Rattle.std.specs.FinSet as set
-use Rattle.std.proofs.lemmas.Bool.{false≢true, ltb-false, ltb-true}
-use Rattle.fbl_base.specs.declared.trace.Determinant.{Determinant}
-use Rattle.fbl_base.specs.Audit.{Parts, IsDump}
-use Rattle.fbl_base.specs.Events.{receipt_of}
-use Rattle.fbl_base.specs.Precedence.{Depends, Has}
-use Rattle.fbl_base.proofs.PrecedenceLaws.{Has-first}
-use Rattle.fbl_base.proofs.Sizes.{len-within}
-use Rattle.fbl_audit.specs.Checking.{IsSafe}
-use Rattle.fbl_audit.specs.Holders.{holders_of}
+use Rattle.std.proofs.lemmas.Bool.{cases_lt}
+use Rattle.fbl_base.specs.Precedence.{Has}
 use Rattle.fbl_audit.specs.Laws.{HasAlwaysNoOrphans, SafeLaw}
 use Rattle.fbl_audit.proofs.Checks.{least_loses, least_may, least_of, left_of_receipt, loses_all}
 use Rattle.fbl_audit.proofs.Following.{contains-both}
@@ -23,28 +18,20 @@ module _ (dump : Parts) (rules : IsDump dump) (nobody : dump.strike ≡ set.empt
 
   -- the least members that lose a receipt are its holders
   in_least : (d : Determinant) (q : ℕ) → set.contains (least_of dump d) q ≡ true → set.contains (holders_of dump d) q ≡ true
-  in_least d q has = elim ((contains-both dump.strike (holders_of dump d) q).0 has) [
-    | inl struck ↦ absurd (false≢true (sym (none_struck q) ∙ struck))
-    | inr held ↦ held
-  ]
+  in_least d q has = grind (arith, contains-both dump.strike (holders_of dump d) q, none_struck q, has)
 
   -- who depends on a receipt of which few enough know, in a safe run, holds it
   dependents_hold : IsSafe dump → (d : Determinant) → Has dump.events (receipt_of d) → set.len (holders_of dump d) ≤ dump.f
       → (q : ℕ) → Depends dump.events q (receipt_of d) → set.contains (holders_of dump d) q ≡ true
-  dependents_hold safe d has few q depends = by_test (set.contains (least_of dump d) q) refl where
-    within : set.len (least_of dump d) ≤ set.len (holders_of dump d)
-    within = len-within (set.len (least_of dump d)) (least_of dump d) (holders_of dump d) refl (in_least d)
-
-    by_test : (b : Bool) → set.contains (least_of dump d) q ≡ b → set.contains (holders_of dump d) q ≡ true
-    by_test true is = in_least d q is
-    by_test false is = absurd (safe (least_of dump d) (least_may dump d rules (omega (arith, within, few))) q (is, (receipt_of d, least_loses dump d, depends)))
+  dependents_hold safe d has few q depends =
+      let within = len-within (set.len (least_of dump d)) (least_of dump d) (holders_of dump d) refl (in_least d) in
+      let may = least_may dump d rules (omega (arith, within, few)) in
+      let left = λ (is : set.contains (least_of dump d) q ≡ false). safe (least_of dump d) may q (is, (receipt_of d, least_loses dump d, depends)) in
+      let held = in_least d q in
+      grind (arith, left, held)
 
   by_condition : IsSafe dump → HasAlwaysNoOrphans dump
-  by_condition safe d has = by_test (nat_lt dump.f (set.len (holders_of dump d))) refl where
-    by_test : (b : Bool) → nat_lt dump.f (set.len (holders_of dump d)) ≡ b
-        → (dump.f < set.len (holders_of dump d)) ⊎ ((q : ℕ) → Depends dump.events q (receipt_of d) → set.contains (holders_of dump d) q ≡ true)
-    by_test true many = inl (ltb-true dump.f (set.len (holders_of dump d)) many)
-    by_test false few = inr (dependents_hold safe d has (ltb-false dump.f (set.len (holders_of dump d)) few))
+  by_condition safe d has = elim (cases_lt dump.f (set.len (holders_of dump d))) [ inl many ↦ inl many | inr few ↦ inr (dependents_hold safe d has few) ]
 
   of_condition : HasAlwaysNoOrphans dump → IsSafe dump
   of_condition holds members may q orphan =

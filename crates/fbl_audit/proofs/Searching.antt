@@ -1,19 +1,13 @@
 -- A search from the first event on finds a path to each member that depends on an event.
-use Rattle.std.proofs.Common.{ℕ, zero, suc, Bool, true, false, ◌≡◌, ◌≢◌, ◌<◌, ◌+◌, ◌-◌, ◌⊎◌, inl, inr, List, [], ◌∷◌, ◌++◌, length, Option, Some}
-use Rattle.std.proofs.Common.{None, option_and_then, refl, sym, ap, ◌∙◌, arith, get_or, get_or-set_same, get_or-set_other, length-set, length-append, replicate, reverse, slice_get}
-use Rattle.std.proofs.Common.{cond}
+use Rattle.fbl_audit.proofs.Common.{below_more, ℕ, zero, suc, Bool, true, false, ◌≡◌, ◌<◌, ◌+◌, ◌-◌, ◌⊎◌, inl, inr, List, [], ◌∷◌, ◌++◌, length, Option}
+use Rattle.fbl_audit.proofs.Common.{Some, None, refl, sym, ap, ◌∙◌, arith, get_or, get_or-set_same, get_or-set_other, length-set, length-append, replicate, reverse, slice_get, cond}
+use Rattle.fbl_audit.proofs.Common.{cases_eq, nat_tests, slice_get_read, Mark, Send, Receipt, At, member_of, send_of, PlaceLeads, PlacePrecedes, same_place, place_step, At-below}
+use Rattle.fbl_audit.proofs.Common.{get_or-same, Message, message_taken_by, same_addressed_message, ArePaths, IsBefore, IsEndBy, IsPath}
+use Rattle.std.proofs.Common.{◌≢◌, option_and_then}
 use Rattle.std.specs.Option.{is_some, option_or}
-use Rattle.std.proofs.lemmas.Bool.{false≢true, cases_eq}
 use Rattle.std.proofs.lemmas.List.{reverse-append}
-use Rattle.std.proofs.lemmas.Option.{slice_get_read}
-use Rattle.fbl_base.specs.declared.trace.Mark.{Mark}
-use Rattle.fbl_base.specs.declared.trace.Mark.TheVariants.{Send, Receipt}
-use Rattle.fbl_base.specs.Events.{At, member_of, send_of}
-use Rattle.fbl_base.specs.Places.{PlaceLeads, PlacePrecedes, same_place, place_step}
-use Rattle.fbl_base.proofs.Gets.{At-below, At-push, get_or-same}
-use Rattle.fbl_audit.specs.declared.dependents.Message.{Message}
-use Rattle.fbl_audit.specs.Dependents.{message_taken_by, same_addressed_message}
-use Rattle.fbl_audit.specs.Paths.{ArePaths, IsBefore, IsEndBy, IsPath, IsSentBy, Origin, end_after, message_sent_by, place_before, sent_after}
+use Rattle.fbl_base.proofs.Gets.{At-push}
+use Rattle.fbl_audit.specs.Paths.{IsSentBy, Origin, end_after, message_sent_by, place_before, sent_after}
 use Rattle.fbl_audit.proofs.Following.{Decides-same_message, same_event}
 
 -- a path is empty, or ends with a step
@@ -66,18 +60,12 @@ before_right t i p ends sends e at below knows = by_member (get_or ends (member_
 -- a member's first event stays where no path comes to one of it at place p
 End-kept : (t : List Mark) (i p m : ℕ) → ((b : Mark) → At t p b → member_of b ≡ m → ¬ (PlacePrecedes t i p)) → (o : Option ℕ) → IsEndBy t i p m o → IsEndBy t i (p + 1) m o
 End-kept t i p m none (Some j) found = (omega (arith, found.0), found.1)
-End-kept t i p m none None first = λ k b within at_k own pr. elim (cases_eq k p) [
-  | inl here ↦ none b (rw here at at_k) own (rw here at pr)
-  | inr before ↦ first k b (omega (arith, within, before)) at_k own pr
-]
+End-kept t i p m none None first = λ k b. below_more (λ j. At t j b → member_of b ≡ m → ¬ (PlacePrecedes t i j)) p (λ j. first j b) (none b) k
 
 -- and the send of a message, where no path comes to one of it there
 Sent-kept : (t : List Mark) (i p : ℕ) (m : Message) → (At t p (Send m.from m.ssn m.to) → ¬ (PlacePrecedes t i p)) → (o : Option ℕ) → IsSentBy t i p m o → IsSentBy t i (p + 1) m o
 Sent-kept t i p m none (Some j) sent = (omega (arith, sent.0), sent.1, sent.2)
-Sent-kept t i p m none None unsent = λ k within at_k pr. elim (cases_eq k p) [
-  | inl here ↦ none (rw here at at_k) (rw here at pr)
-  | inr before ↦ unsent k (omega (arith, within, before)) at_k pr
-]
+Sent-kept t i p m none None unsent = below_more (λ j. At t j (Send m.from m.ssn m.to) → ¬ (PlacePrecedes t i j)) p unsent none
 
 -- a path comes to the event
 pub Knows-more : (t : List Mark) (i p : ℕ) (ends ends' : List (Option ℕ)) (sends sends' : Message → Option ℕ) (e : Mark) → At t p e → member_of e < 16
@@ -85,20 +73,18 @@ pub Knows-more : (t : List Mark) (i p : ℕ) (ends ends' : List (Option ℕ)) (s
     → ends' ≡ end_after ends p e → ((m : Message) → sends' m ≡ sent_after sends (message_sent_by e) p m) → Knows t i (p + 1) ends' sends'
 Knows-more t i p ends ends' sends sends' e at below pr knows ends_are sends_are = record {
   room = rw ends_are (length-set ends (member_of e) _ ∙ knows.room);
-  members = λ m within. (rw ends_are (at_member m (cases_eq m (member_of e)) (knows.members m within)));
+  members = λ m within. (rw ends_are (elim (cases_eq m (member_of e)) [
+    | inl is ↦
+        let room : member_of e < length ends = omega (arith, below, knows.room) in
+        rw (is, get_or-set_same) (here_more _ (knows.members (member_of e) below))
+    | inr ne ↦ rw get_or-set_other
+        (End-kept t i p m (λ b at_p own. absurd (ne (sym own ∙ ap member_of (same_event t p p b e refl at_p at)))) _ (knows.members m within))
+  ]));
   messages = λ m. (rw (sends_are m) (at_message m e refl));
 } where
   here_more : (o : Option ℕ) → IsEndBy t i p (member_of e) o → IsEndBy t i (p + 1) (member_of e) (option_or o (Some p))
   here_more (Some j) found = (omega (arith, found.0), found.1)
   here_more None none = (omega arith, record { own = (e, at, refl); depends = pr; first = none })
-
-  at_member : (m : ℕ) → (m ≡ member_of e) ⊎ (m ≢ member_of e) → IsEndBy t i p m (get_or ends m None) → IsEndBy t i (p + 1) m (get_or (end_after ends p e) m None)
-  at_member m (inl is) end =
-      let room : member_of e < length ends = omega (arith, below, knows.room) in
-      rw is (rw (get_or-set_same ends (member_of e) (option_or (get_or ends (member_of e) None) (Some p)) None room) (here_more (get_or ends (member_of e) None) (rw is at end)))
-  at_member m (inr ne) end =
-      rw (get_or-set_other ends (member_of e) m (option_or (get_or ends (member_of e) None) (Some p)) None ne)
-      (End-kept t i p m (λ b at_p own. absurd (ne (sym own ∙ ap member_of (same_event t p p b e refl at_p at)))) (get_or ends m None) end)
 
   -- an event that is not the send of the message
   kept : (m : Message) → e ≢ Send m.from m.ssn m.to → IsSentBy t i (p + 1) m (sends m)
@@ -106,19 +92,15 @@ Knows-more t i p ends ends' sends sends' e at below pr knows ends_are sends_are 
 
   at_message : (m : Message) (e' : Mark) → e' ≡ e → IsSentBy t i (p + 1) m (sent_after sends (message_sent_by e') p m)
   at_message m (Receipt to rsn from ssn) is = kept m (λ h. (let no : Receipt to rsn from ssn ≡ Send m.from m.ssn m.to = is ∙ h in cc))
-  at_message m (Send from ssn to) is = by_test (same_addressed_message (record { from = from; ssn = ssn; to = to }) m) refl where
-    by_test : (b : Bool) → same_addressed_message (record { from = from; ssn = ssn; to = to }) m ≡ b → IsSentBy t i (p + 1) m (cond b (Some p) (sends m))
+  at_message m (Send from ssn to) is = by_test (same_addressed_message sent m) refl where
+    sent : Message
+    sent = record { from = from; ssn = ssn; to = to }
+
+    by_test : (b : Bool) → same_addressed_message sent m ≡ b → IsSentBy t i (p + 1) m (cond b (Some p) (sends m))
     by_test true test =
-        let same : record { from = from; ssn = ssn; to = to } ≡ m = (Decides-same_message (record { from = from; ssn = ssn; to = to }) m).0 test in
-        let here : e ≡ Send m.from m.ssn m.to = sym is ∙ ap (λ (x : Message). Send x.from x.ssn x.to) same in
+        let here : e ≡ Send m.from m.ssn m.to = sym is ∙ ap (λ (x : Message). Send x.from x.ssn x.to) ((Decides-same_message sent m).0 test) in
         (omega arith, (rw here at at), pr)
-    by_test false test = kept m (λ h. (
-        let sent_here : Send from ssn to ≡ Send m.from m.ssn m.to = is ∙ h in
-        let e1 : from ≡ m.from = cc in
-        let e2 : ssn ≡ m.ssn = cc in
-        let e3 : to ≡ m.to = cc in
-        false≢true (sym test ∙ (Decides-same_message (record { from = from; ssn = ssn; to = to }) m).1 (λ j. record { from = e1 j; ssn = e2 j; to = e3 j }))
-        ))
+    by_test false test = kept m (λ h. (let same : Send from ssn to ≡ Send m.from m.ssn m.to = is ∙ h in grind (arith, nat_tests)))
 
 -- no path comes to the event
 pub Knows-same : (t : List Mark) (i p : ℕ) (ends : List (Option ℕ)) (sends : Message → Option ℕ) → ¬ (PlacePrecedes t i p) → Knows t i p ends sends → Knows t i (p + 1) ends sends
@@ -145,37 +127,26 @@ pub record Seen (t : List Mark) (i p : ℕ) (ends : List (Option ℕ)) (sends : 
   pub count : length earlier ≡ p
   pub before : (k : ℕ) (o : Option ℕ) → slice_get earlier k ≡ Some o → IsBefore t i k o
 
-Before-more : (t : List Mark) (i p : ℕ) (earlier : List (Option ℕ)) (o : Option ℕ) → length earlier ≡ p
-    → ((k : ℕ) (o : Option ℕ) → slice_get earlier k ≡ Some o → IsBefore t i k o) → IsBefore t i p o
-    → (k : ℕ) (o' : Option ℕ) → slice_get (earlier ++ o ∷ []) k ≡ Some o' → IsBefore t i k o'
-Before-more t i p earlier o count before here k o' at = elim (At-push earlier o k o' at) [
-  | inl old ↦ before k o' old
-  | inr new ↦ (rw (new.0, count, ← new.1) here)
-]
-
--- a path comes to what a place leads to, and to the first event itself
-pub comes : (t : List Mark) (i p : ℕ) (e : Mark) (o : Option ℕ) → At t p e → IsBefore t i p o → ((k : ℕ) × (o ≡ Some k)) ⊎ (p ≡ i) → PlacePrecedes t i p
-comes t i p e o at before (inl some) = (let b : PlaceLeads t some.0 p × PlacePrecedes t i some.0 = rw some.1 at before in place_step b.1 b.0)
-comes t i p e o at before (inr is) = rw (← is) (same_place at)
-
-pub Seen-more : (t : List Mark) (i p : ℕ) (ends ends' : List (Option ℕ)) (sends sends' : Message → Option ℕ) (earlier : List (Option ℕ)) (e : Mark) (o : Option ℕ)
-    → Seen t i p ends sends earlier → At t p e → member_of e < 16 → IsBefore t i p o → PlacePrecedes t i p → ends' ≡ end_after ends p e
-    → ((m : Message) → sends' m ≡ sent_after sends (message_sent_by e) p m)
-    → Seen t i (p + 1) ends' sends' (earlier ++ o ∷ [])
-Seen-more t i p ends ends' sends sends' earlier e o seen at below here pr ends_are sends_are = record {
-  knows = Knows-more t i p ends ends' sends sends' e at below pr seen.knows ends_are sends_are;
+pub Seen-push : (t : List Mark) (i p : ℕ) (ends ends' : List (Option ℕ)) (sends sends' : Message → Option ℕ) (earlier : List (Option ℕ)) (o : Option ℕ)
+    → Seen t i p ends sends earlier → IsBefore t i p o → Knows t i (p + 1) ends' sends' → Seen t i (p + 1) ends' sends' (earlier ++ o ∷ [])
+Seen-push t i p ends ends' sends sends' earlier o seen here knows = record {
+  knows = knows;
   count = length-append earlier (o ∷ []) ∙ ap (λ n. n + 1) seen.count;
-  before = Before-more t i p earlier o seen.count seen.before here;
+  before = λ k o' at. elim (At-push earlier o k o' at) [
+    | inl old ↦ seen.before k o' old
+    | inr new ↦ (rw (new.0, seen.count, ← new.1) here)
+  ];
 }
 
-pub Seen-same : (t : List Mark) (i p : ℕ) (ends : List (Option ℕ)) (sends : Message → Option ℕ) (earlier : List (Option ℕ)) → Seen t i p ends sends earlier
-    → p ≢ i → IsBefore t i p None
-    → Seen t i (p + 1) ends sends (earlier ++ None ∷ [])
-Seen-same t i p ends sends earlier seen ne here = record {
-  knows = Knows-same t i p ends sends (λ pr. ne (here pr)) seen.knows;
-  count = length-append earlier (None ∷ []) ∙ ap (λ n. n + 1) seen.count;
-  before = Before-more t i p earlier None seen.count seen.before here;
-}
+-- a path comes to what a place leads to, and to the first event itself, and to no other
+pub comes : (t : List Mark) (i p : ℕ) (e : Mark) (o : Option ℕ) → At t p e → IsBefore t i p o → (is_some o ≡ true) ⊎ (p ≡ i) → PlacePrecedes t i p
+comes t i p e (Some k) at before why = place_step before.1 before.0
+comes t i p e None at before (inl some) = cc
+comes t i p e None at before (inr is) = rw (← is) (same_place at)
+
+pub none_comes : (t : List Mark) (i p : ℕ) (o : Option ℕ) → IsBefore t i p o → is_some o ≡ false → p ≢ i → ¬ (PlacePrecedes t i p)
+none_comes t i p (Some k) before none ne pr = cc
+none_comes t i p None before none ne pr = ne (before pr)
 
 pub Seen-all : (t : List Mark) (i p : ℕ) (ends : List (Option ℕ)) (sends : Message → Option ℕ) (earlier : List (Option ℕ)) → Seen t i p ends sends earlier
     → p ≡ length t → ArePaths (record { events = t; place = i }) earlier ends
@@ -185,14 +156,6 @@ Seen-all t i p ends sends earlier seen all = record {
   before = seen.before;
   members = λ m within. (rw all at (seen.knows.members m within));
 }
-
-pub some_of : (o : Option ℕ) → is_some o ≡ true → (k : ℕ) × (o ≡ Some k)
-some_of None h = cc
-some_of (Some k) h = (k, refl)
-
-pub none_of : (o : Option ℕ) → is_some o ≡ false → o ≡ None
-none_of None h = refl
-none_of (Some k) h = cc
 
 -- ---- walking back
 
@@ -219,16 +182,8 @@ pub IsPath-back : (t : List Mark) (i k j : ℕ) (path path' : List ℕ) → Plac
 IsPath-back t i k j path path' leads is more = rw (more, reverse-append path (i ∷ [])) (IsPath-more t i k j (reverse path) leads is)
 
 -- what the list has of a place that a path comes to
-At-place : (origin : Origin) (earlier ends : List (Option ℕ)) → ArePaths origin earlier ends → (p : ℕ) (o : Option ℕ) → PlacePrecedes origin.events origin.place p
-    → o ≡ get_or earlier p o → slice_get earlier p ≡ Some o
-At-place origin earlier ends are p o comes is =
-    let has = Precedes-has comes in
-    slice_get_read earlier (length earlier) p o refl (omega (arith, are.count, At-below origin.events p has.0 has.1)) is
-
 pub before_at : (origin : Origin) (earlier ends : List (Option ℕ)) → ArePaths origin earlier ends → (p : ℕ) (o : Option ℕ) → PlacePrecedes origin.events origin.place p
     → o ≡ get_or earlier p o → IsBefore origin.events origin.place p o
-before_at origin earlier ends are p o comes is = are.before p o (At-place origin earlier ends are p o comes is)
-
--- where nothing leads on to it, a path begins
-pub begins_here : (t : List Mark) (i p : ℕ) (o : Option ℕ) → o ≡ None → IsBefore t i p o → PlacePrecedes t i p → p ≡ i
-begins_here t i p o none before comes = (let at_none : IsBefore t i p None = rw none at before in at_none comes)
+before_at origin earlier ends are p o comes is =
+    let has = Precedes-has comes in
+    are.before p o (slice_get_read earlier (length earlier) p o refl (omega (arith, are.count, At-below origin.events p has.0 has.1)) is)

@@ -74,6 +74,7 @@ impl<'a> Audit<'a> {
     }
 
     /// Whether no member outside the strike set holds the determinant.
+    #[tactic(auto, using(crate::proofs::Auditing::lost_test))]
     pub fn is_lost(&self, determinant: &Determinant) -> bool
         ensures { result ≡ not (is_held_outside self.now determinant.now) }
     {

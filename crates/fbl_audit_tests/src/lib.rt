@@ -3,12 +3,4 @@
 #![tactic(auto)]
 
 #[cfg(test)]
-mod agreement;
-#[cfg(test)]
-mod audits;
-#[cfg(test)]
-mod paths;
-#[cfg(test)]
-mod traces;
-#[cfg(test)]
-mod want_of_memory;
+mod tests;

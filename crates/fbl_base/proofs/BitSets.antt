@@ -1,46 +1,35 @@
 -- Operations on bits as operations on sets.
-use Rattle.std.proofs.Common.{◌≡◌, ◌≢◌, ℕ, zero, suc, ◌+◌, ◌-◌, ◌*◌, ◌/◌, ◌%◌, ◌^◌, ◌<◌, ◌≤◌, true, false, ◌||◌, ◌&&◌, not, cond, max}
-use Rattle.std.proofs.Common.{min, refl, sym, ap, ◌∙◌, arith, eqb, inl, inr, ◌⊎◌, ◌↔◌, count_by, bit_and, bit_or, w16}
-use Rattle.std.proofs.lemmas.Bool.{cases_lt, cases_eq}
-use Rattle.std.proofs.lemmas.Bool.Decides.{nat_tests}
-use Rattle.std.proofs.lemmas.List.Sums.{sum_by-cons}
+use Rattle.fbl_base.proofs.Common.{◌≡◌, ◌≢◌, ℕ, zero, suc, ◌+◌, ◌-◌, ◌*◌, ◌<◌, ◌≤◌, true, ◌&&◌, not, cond, refl, sym, ap, ◌∙◌, arith, inl, inr}
+use Rattle.fbl_base.proofs.Common.{◌⊎◌, ◌↔◌, count_by, cases_eq, nat_tests, sum_by-cons, nat_cmp_total, same_from_contains, contains-insert_other}
+use Rattle.std.proofs.Common.{◌/◌, ◌%◌, ◌^◌, min, eqb, bit_and, bit_or, w16}
+use Rattle.std.proofs.lemmas.Bool.{cases_lt}
 use Rattle.std.proofs.lemmas.Nat.Bits.{bit_at-lt, bit_at_or, bit_at_and, bit_at_not, bit_at_above, bit_at_set_same, bit_at_set_other, shr_and_one, same_from_bits, bit_at-zero}
 use Rattle.std.proofs.Math.Nat.{div-add-mod, mod-lt, div-div-eq-div-mul}
 use Rattle.std.proofs.lemmas.Nat.{pow-add, pow_pos, or_lt, and_le_l}
 use Rattle.std.specs.Int.{bit_at}
 use Rattle.std.specs.Int.Count.{ones, ones_in, ones_step}
-use Rattle.std.specs.Cmp.{nat_cmp_total}
 use Rattle.std.specs.FinSet as set
-use Rattle.fbl_base.specs.MemberSets.{len-flagged, same_from_contains, contains-insert_same, contains-insert_other, AllBelow}
+use Rattle.fbl_base.specs.MemberSets.{len-flagged, contains-insert_same, AllBelow}
 use Rattle.fbl_base.specs.Bits.{digits, set_of, contains-set_of, parity}
 
-at_most : (x y : ℕ) → x < 2 → y < 2 → eqb (max x y) 1 ≡ (eqb x 1 || eqb y 1)
-at_most x y below_x below_y = grind (arith, nat_tests)
+pub empty_bits : set_of 0 ≡ set.empty
+empty_bits = same_from_contains _ _ (λ q. contains-set_of 0 q (omega arith) ∙ ap (λ x. eqb x 1) (bit_at-zero q) ∙ sym (set.contains-empty _ q))
 
-and_not : (x y : ℕ) → x < 2 → y < 2 → eqb (min x (1 - y)) 1 ≡ (eqb x 1 && not (eqb y 1))
-and_not x y below_x below_y = grind (arith, nat_tests)
+pub has_bits : (b q : ℕ) → b < 65536 → eqb (bit_and (b / 2 ^ q) 1) 1 ≡ set.contains (set_of b) q
+has_bits b q within = ap (λ x. eqb x 1) (shr_and_one b q) ∙ sym (contains-set_of b q within)
 
-zero_min : (y : ℕ) → eqb (min 0 y) 1 ≡ false
-zero_min y = rw (let e : min 0 y ≡ 0 = omega arith in e) refl
-
-pub empty-bits : set_of 0 ≡ set.empty
-empty-bits = same_from_contains _ _ (λ q. contains-set_of 0 q (omega arith) ∙ ap (λ x. eqb x 1) (bit_at-zero q) ∙ sym (set.contains-empty _ q))
-
-pub has-bits : (b q : ℕ) → b < 65536 → eqb (bit_and (b / 2 ^ q) 1) 1 ≡ set.contains (set_of b) q
-has-bits b q within = ap (λ x. eqb x 1) (shr_and_one b q) ∙ sym (contains-set_of b q within)
-
-pub union-bits : (a b : ℕ) → a < 65536 → b < 65536 → set_of (bit_or a b) ≡ set.union (set_of a) (set_of b)
-union-bits a b wa wb = same_from_contains _ _
+pub union_bits : (a b : ℕ) → a < 65536 → b < 65536 → set_of (bit_or a b) ≡ set.union (set_of a) (set_of b)
+union_bits a b wa wb = same_from_contains _ _
     (λ q. rw (
       set.contains-union nat_cmp_total,
       contains-set_of (bit_or a b) q (or_lt 16 a b wa wb),
       contains-set_of a q wa,
       contains-set_of b q wb,
       bit_at_or a b q,
-    ) (at_most (bit_at a q) (bit_at b q) (bit_at-lt a q) (bit_at-lt b q)))
+    ) (let x = bit_at-lt a q in let y = bit_at-lt b q in grind (arith, nat_tests, x, y)))
 
-pub difference-bits : (a b : ℕ) → a < 65536 → b < 65536 → set_of (bit_and a (65535 - b)) ≡ set.difference (set_of a) (set_of b)
-difference-bits a b wa wb = same_from_contains _ _
+pub difference_bits : (a b : ℕ) → a < 65536 → b < 65536 → set_of (bit_and a (65535 - b)) ≡ set.difference (set_of a) (set_of b)
+difference_bits a b wa wb = same_from_contains _ _
     (λ q. rw (
       set.contains-difference nat_cmp_total,
       contains-set_of (bit_and a (65535 - b)) q (omega (arith, wa, and_le_l a (65535 - b))),
@@ -49,11 +38,11 @@ difference-bits a b wa wb = same_from_contains _ _
       bit_at_and a (65535 - b) q,
     ) (at q (cases_lt q 16))) where
       at : (q : ℕ) → (q < 16) ⊎ (16 ≤ q) → eqb (min (bit_at a q) (bit_at (65535 - b) q)) 1 ≡ (eqb (bit_at a q) 1 && not (eqb (bit_at b q) 1))
-      at q (inl below) = rw (bit_at_not w16 b q wb below) (and_not (bit_at a q) (bit_at b q) (bit_at-lt a q) (bit_at-lt b q))
-      at q (inr past) = rw (bit_at_above a 16 q wa past) (zero_min (bit_at (65535 - b) q))
+      at q (inl below) = rw (bit_at_not w16 b q wb below) (let x = bit_at-lt a q in let y = bit_at-lt b q in grind (arith, nat_tests, x, y))
+      at q (inr past) = rw (bit_at_above a 16 q wa past) (grind (arith, nat_tests))
 
-pub insert-bits : (b m : ℕ) → b < 65536 → m < 16 → set_of (bit_or b (1 * 2 ^ m % 65536)) ≡ set.insert (set_of b) m
-insert-bits b m wb wm = same_from_contains _ _
+pub insert_bits : (b m : ℕ) → b < 65536 → m < 16 → set_of (bit_or b (1 * 2 ^ m % 65536)) ≡ set.insert (set_of b) m
+insert_bits b m wb wm = same_from_contains _ _
     (λ q. contains-set_of (bit_or b (1 * 2 ^ m % 65536)) q (or_lt 16 b (1 * 2 ^ m % 65536) wb (mod-lt (1 * 2 ^ m) (let z : 0 < 65536 = omega arith in z))) ∙ at q (cases_eq q m)) where
       at : (q : ℕ) → (q ≡ m) ⊎ (q ≢ m) → eqb (bit_at (bit_or b (1 * 2 ^ m % 65536)) q) 1 ≡ set.contains (set.insert (set_of b) m) q
       at q (inl is) = rw is (ap (λ x. eqb x 1) (bit_at_set_same w16 b m wm) ∙ sym (contains-insert_same _ m))
@@ -70,30 +59,29 @@ count-digits (suc n) b below =
     let rest : count_by (λ d. d) (digits n (b / 2)) ≡ ones (b / 2) = count-digits n (b / 2) (omega (arith, below)) in
     sum_by-cons (λ d. cond d 1 0) (eqb (b % 2) 1) (digits n (b / 2)) ∙ ap (λ x. x + count_by (λ d. d) (digits n (b / 2))) (parity b) ∙ ap (λ x. b % 2 + x) rest ∙ sym (ones_step b)
 
-pub count-bits : (b : ℕ) → b < 65536 → ones b ≡ set.len (set_of b)
+pub count_bits : (b : ℕ) → b < 65536 → ones b ≡ set.len (set_of b)
 unfolding set_of
-count-bits b within = sym (count-digits 16 b within) ∙ sym (len-flagged (digits 16 b) 0)
+count_bits b within = sym (count-digits 16 b within) ∙ sym (len-flagged (digits 16 b) 0)
 
 pub below-bits : (b n q : ℕ) → b < 65536 → b < 2 ^ n → set.contains (set_of b) q ≡ true → q < n
 below-bits b n q within small has = elim (cases_lt q n) [
   | inl below ↦ below
-  | inr past ↦ absurd (zero_one (bit_at b q) (bit_at_above b n q small past) (sym (contains-set_of b q within) ∙ has))
-] where
-  zero_one : (x : ℕ) → x ≡ 0 → eqb x 1 ≡ true → ⊥
-  zero_one x none one = grind (arith, nat_tests)
+  | inr past ↦
+      let none = bit_at_above b n q small past in
+      let one = contains-set_of b q within in
+      absurd (grind (arith, nat_tests, none, one, has))
+]
 
 pub below_sixteen : (b q : ℕ) → b < 65536 → set.contains (set_of b) q ≡ true → q < 16
 below_sixteen b q within has = below-bits b 16 q within within has
 
 high_bits : (b n : ℕ) → b < 65536 → AllBelow (set_of b) n → (i : ℕ) → bit_at (b / 2 ^ n) i ≡ 0
-high_bits b n within all i = at (bit_at b (n + i)) refl (bit_at-lt b (n + i)) where
-  moved : bit_at (b / 2 ^ n) i ≡ bit_at b (n + i)
-  moved = ap (λ x. x % 2) (div-div-eq-div-mul b (2 ^ n) (2 ^ i) ∙ ap (λ x. b / x) (sym (pow-add 2 n i)))
-
-  at : (x : ℕ) → bit_at b (n + i) ≡ x → x < 2 → bit_at (b / 2 ^ n) i ≡ 0
-  at zero is below = moved ∙ is
-  at (suc zero) is below = absurd (omega (arith, all (n + i) (contains-set_of b (n + i) within ∙ ap (λ x. eqb x 1) is)))
-  at (suc (suc x)) is below = absurd (omega (arith, below))
+high_bits b n within all i =
+    let moved : bit_at (b / 2 ^ n) i ≡ bit_at b (n + i) = ap (λ x. x % 2) (div-div-eq-div-mul b (2 ^ n) (2 ^ i) ∙ ap (λ x. b / x) (sym (pow-add 2 n i))) in
+    let below = bit_at-lt b (n + i) in
+    let is = contains-set_of b (n + i) within in
+    let small = all (n + i) in
+    grind (arith, nat_tests, moved, below, is, small)
 
 pub within-bits : (b n : ℕ) → b < 65536 → (b / 2 ^ n ≡ 0) ↔ AllBelow (set_of b) n
 within-bits b n within = (

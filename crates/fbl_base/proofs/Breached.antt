@@ -1,25 +1,11 @@
 -- What breaks a rule doesn't obey the rules.
-use Rattle.std.proofs.Common.{◌≡◌, ℕ, ◌<◌, List, length, take, slice_get, Some, ⊎_elim, arith}
-use Rattle.fbl_base.specs.declared.trace.Start.{Start}
-use Rattle.fbl_base.specs.declared.trace.Determinant.{Determinant}
-use Rattle.fbl_base.specs.declared.trace.Mark.{Mark}
+use Rattle.fbl_base.proofs.Common.{◌≡◌, ℕ, ◌<◌, List, length, take, slice_get, Some, ⊎_elim, arith, Determinant, Mark, EventRule, Parts, HeldAt, At, MayFollow, ObeysAt}
+use Rattle.fbl_base.proofs.Common.{BreaksAt, BreaksEvent, first_in_flight}
 use Rattle.fbl_base.specs.declared.trace.Mark.TheVariants.{Send, Receipt}
-use Rattle.fbl_base.specs.declared.fault.StartRule.{StartRule}
-use Rattle.fbl_base.specs.declared.fault.StartRule.TheVariants as start_rule
-use Rattle.fbl_base.specs.declared.fault.EventRule.{EventRule}
 use Rattle.fbl_base.specs.declared.fault.EventRule.TheVariants as event_rule
 use Rattle.fbl_base.specs.declared.fault.PairRule.{PairRule}
 use Rattle.fbl_base.specs.declared.fault.PairRule.TheVariants as pair_rule
-use Rattle.fbl_base.specs.Audit.{Parts, HeldAt}
-use Rattle.fbl_base.specs.Configs.{StartAllowed}
-use Rattle.fbl_base.specs.Events.{At}
-use Rattle.fbl_base.specs.Rules.{MayFollow, ObeysAt}
-use Rattle.fbl_base.specs.Breaches.{AreEndsAllowed, BreaksAt, BreaksEvent, BreaksPair, BreaksStart, FitsPair, TakesMessage, first_in_flight}
-
-pub start_not_allowed : (n : ℕ) (s : Start) (rule : StartRule) → BreaksStart n s rule → ¬ (StartAllowed n s)
-start_not_allowed n s (start_rule.Outside o) h allowed = ⊎_elim (λ a. omega (arith, a.2, allowed.0)) (λ b. omega (arith, b.1.2, allowed.1)) h
-start_not_allowed n s start_rule.ToItself h allowed = allowed.2 h.2
-start_not_allowed n s (start_rule.TooManyHops hops) h allowed = omega (arith, allowed.3, h.3, h.4)
+use Rattle.fbl_base.specs.Breaches.{AreEndsAllowed, BreaksPair, FitsPair, TakesMessage}
 
 -- what an event that may follow has
 ends : (n : ℕ) (t : List Mark) (e : Mark) → MayFollow n t e → AreEndsAllowed n e
@@ -40,8 +26,7 @@ event_not_allowed n t e (event_rule.Outside o) h m = ⊎_elim (λ a. omega (arit
 event_not_allowed n t e event_rule.ToItself h m = (ends n t e m).2 h.1.2
 event_not_allowed n t (Send q s p) (event_rule.WrongNumber w) h m = h.1.2 m.3
 event_not_allowed n t (Receipt p r q s) (event_rule.WrongNumber w) h m = h.1.2 m.3
-event_not_allowed n t e (event_rule.NothingInFlight q p) h m = h.1.5 (message n t e m)
-event_not_allowed n t e (event_rule.OtherInFlight q p w) h m = h.1.5 (message n t e m)
+event_not_allowed n t e _ h m = h.1.5 (message n t e m)
 
 pub not_obeyed : (n : ℕ) (events : List Mark) (place : ℕ) (rule : EventRule) → BreaksAt n events place rule → ¬ (ObeysAt n events place)
 not_obeyed n events place rule h obeys = event_not_allowed n (take place events) h.0 rule h.2 (obeys h.0 h.1)

@@ -1,16 +1,9 @@
 -- What is in flight after one more event.
-use Rattle.std.proofs.Common.{◌==◌, ◌&&◌, not, ◌||◌, ℕ, suc, Bool, true, false, cond, ◌≡◌, ◌≢◌, ◌<◌, ◌≤◌, List, [], ◌∷◌, ◌++◌, take, drop, Some}
-use Rattle.std.proofs.Common.{None, refl, ap, ◌∙◌, arith, slice_get}
-use Rattle.std.specs.List.{filter, filter_map, list_any, cons_option}
-use Rattle.std.proofs.lemmas.Bool.Decides.{nat_tests}
+use Rattle.fbl_base.proofs.Common.{◌==◌, ◌&&◌, not, ℕ, suc, Bool, true, false, cond, ◌≡◌, ◌≢◌, ◌<◌, ◌≤◌, List, [], ◌∷◌, ◌++◌, take, drop, Some}
+use Rattle.fbl_base.proofs.Common.{None, refl, ap, ◌∙◌, arith, slice_get, filter, filter_map, list_any, cons_option, nat_tests, list_any-append, filter-append, filter_map-append, Mark}
+use Rattle.fbl_base.proofs.Common.{At, Has, is_send_of, sends_of, sent_on, taken_on, in_flight, MayFollow, WellFormed}
 use Rattle.std.proofs.lemmas.List.{append-nil}
-use Rattle.std.proofs.lemmas.List.Folds.{list_any-append}
-use Rattle.std.proofs.lemmas.List.Elements.{filter-append, filter_map-append}
-use Rattle.fbl_base.specs.declared.trace.Mark.{Mark}
 use Rattle.fbl_base.specs.declared.trace.Mark.TheVariants.{Send, Receipt}
-use Rattle.fbl_base.specs.Events.{At}
-use Rattle.fbl_base.specs.Precedence.{Has}
-use Rattle.fbl_base.specs.Rules.{is_send_of, sends_of, sent_on, taken_on, in_flight, MayFollow, WellFormed}
 use Rattle.fbl_base.proofs.Gets.{At-filter_map, Apart, Apart-filter, Apart-filter_map, slice_get-take}
 use Rattle.fbl_base.proofs.RulesLaws.{on_channel, is_sent, sent-before, count_at, eqb-self, WellFormed-take}
 
@@ -61,43 +54,27 @@ pub in_flight-send : (n : ℕ) (t : List Mark) → WellFormed n t → (q s p a b
     → in_flight (t ++ Send q s p ∷ []) a b ≡ in_flight t a b ++ (cond (q == a && p == b) (s ∷ []) [])
 in_flight-send n t obeys q s p a b may =
     let taken : filter_map (taken_on a b) (t ++ Send q s p ∷ []) ≡ filter_map (taken_on a b) t = rw (filter_map-append (taken_on a b) t (Send q s p ∷ [])) (append-nil _) in
-    rw (taken, filter_map-append (sent_on a b) t (Send q s p ∷ []), filter-append) (ap (λ ys. in_flight t a b ++ ys) (on (q == a) (p == b) refl refl)) where
-      not_it : (x : ℕ) → x ≤ sends_of t q → (x == s) ≡ false
-      not_it x below = (let ne : x ≢ s = omega (arith, may.3, below) in grind (arith, nat_tests))
-
-      on : (x y : Bool) → (q == a) ≡ x → (p == b) ≡ y
-          → filter (λ ssn. not (list_any (λ k. k == ssn) (filter_map (taken_on a b) t))) (cons_option (cond (x && y) (Some s) None) []) ≡ cond (x && y) (s ∷ []) []
-      on true true ex ey =
-          let e1 : q ≡ a = grind (arith, nat_tests) in
-          let e2 : p ≡ b = grind (arith, nat_tests) in
-          rw (none_any (λ k. k == s) (filter_map (taken_on a b) t) (λ i x at. not_it x (rw (← e1) at (taken-sent n t obeys a b x i at))))
-      on true false ex ey = refl
-      on false y ex ey = refl
+    let fresh : q ≡ a → list_any (λ k. k == s) (filter_map (taken_on a b) t) ≡ false = λ same. none_any (λ k. k == s) (filter_map (taken_on a b) t) (λ i x at.
+    let below = taken-sent n t obeys a b x i at in
+    let count = ap (sends_of t) same in
+    grind (arith, nat_tests, may.3, below, count)) in
+    rw (taken, filter_map-append (sent_on a b) t (Send q s p ∷ []), filter-append) (grind (arith, nat_tests, fresh))
 
 -- to leave out one more number is to leave it out of what is left
 filter_twice : (ks : List ℕ) (s : ℕ) (xs : List ℕ)
     → filter (λ x. not (list_any (λ k. k == x) (ks ++ s ∷ []))) xs ≡ filter (λ x. not (s == x)) (filter (λ x. not (list_any (λ k. k == x) ks)) xs)
 filter_twice ks s [] = refl
 filter_twice ks s (x ∷ xs) =
-    let ih = filter_twice ks s xs in
-    rw (list_any-append (λ k. k == x) ks (s ∷ [])) (at (list_any (λ k. k == x) ks) (s == x) refl ih) where
-      at : (b c : Bool) → (s == x) ≡ c → filter (λ y. not (list_any (λ k. k == y) (ks ++ s ∷ []))) xs
-          ≡ filter (λ y. not (s == y)) (filter (λ y. not (list_any (λ k. k == y) ks)) xs)
-          → cond (not (b || (c || false))) (x ∷ filter (λ y. not (list_any (λ k. k == y) (ks ++ s ∷ []))) xs)
-          (filter (λ y. not (list_any (λ k. k == y) (ks ++ s ∷ []))) xs)
-          ≡ filter (λ y. not (s == y)) (cond (not b) (x ∷ filter (λ y. not (list_any (λ k. k == y) ks)) xs) (filter (λ y. not (list_any (λ k. k == y) ks)) xs))
-      at true c e ih = ih
-      at false true e ih = rw e ih
-      at false false e ih = rw e (ap (λ ys. x ∷ ys) ih)
+    let rest = filter_twice ks s xs in
+    let more = list_any-append (λ k. k == x) ks (s ∷ []) in
+    grind (arith, rest, more)
 
 filter_first : (s : ℕ) (xs : List ℕ) → slice_get xs 0 ≡ Some s → ((i x : ℕ) → slice_get xs (suc i) ≡ Some x → s ≢ x) → filter (λ x. not (s == x)) xs ≡ drop 1 xs
 filter_first s [] first others = cc
 filter_first s (x ∷ xs) first others =
     let e : s ≡ x = cc in
     let same : (s == x) ≡ true = grind (arith, nat_tests) in
-    rw same (filter_all (λ y. not (s == y)) xs (λ i y at. differs y (others i y at))) where
-      differs : (y : ℕ) → s ≢ y → not (s == y) ≡ true
-      differs y ne = (let f : (s == y) ≡ false = grind (arith, nat_tests) in rw f)
+    rw same (filter_all (λ y. not (s == y)) xs (λ i y at. (let ne = others i y at in grind (arith, nat_tests, ne))))
 
 -- a receipt takes the first message off its channel
 pub in_flight-receipt : (n : ℕ) (t : List Mark) → WellFormed n t → (p r q s a b : ℕ) → MayFollow n t (Receipt p r q s)
@@ -111,9 +88,9 @@ in_flight-receipt n t obeys p r q s a b may =
       on true true ex ey =
           let e1 : q ≡ a = grind (arith, nat_tests) in
           let e2 : p ≡ b = grind (arith, nat_tests) in
-          filter_twice (filter_map (taken_on a b) t) s (filter_map (sent_on a b) t)
-          ∙ filter_first s (in_flight t a b) (rw (← e1, ← e2) may.5) (λ i x at.
           let first : slice_get (in_flight t a b) 0 ≡ Some s = rw (← e1, ← e2) may.5 in
+          filter_twice (filter_map (taken_on a b) t) s (filter_map (sent_on a b) t)
+          ∙ filter_first s (in_flight t a b) first (λ i x at.
           let apart = Apart-filter (λ ssn. not (list_any (λ k. k == ssn) (filter_map (taken_on a b) t))) (filter_map (sent_on a b) t) s x (0, suc i, omega arith, first, at) in
           let rises = sent-rises n t obeys a b s x apart in
           omega (arith, rises))

@@ -1,22 +1,19 @@
 -- A delivery keeps a trace lawful.
-use Rattle.std.proofs.Common.{◌≡◌, ◌≢◌, ℕ, zero, suc, ◌+◌, ◌<◌, ◌≤◌, ◌==◌, ◌&&◌, ◌⊎◌, inl, inr, Bool, true, false, cond, List, [], ◌∷◌}
-use Rattle.std.proofs.Common.{◌++◌, length, take, map, Some, subst, slice_get, refl, sym, ap, ◌∙◌, arith, append_assoc, length-append, length-take}
-use Rattle.std.specs.List.{filter_map, fold, All}
-use Rattle.std.proofs.lemmas.Bool.Decides.{nat_tests}
-use Rattle.std.proofs.lemmas.List.{append-nil, take-append-le, map-append, length-map}
+use Rattle.fbl_base.proofs.Common.{◌≡◌, ◌≢◌, ℕ, zero, suc, ◌+◌, ◌<◌, ◌≤◌, ◌==◌, ◌&&◌, ◌⊎◌, inl, inr, true, false, cond, List, [], ◌∷◌}
+use Rattle.fbl_base.proofs.Common.{◌++◌, length, take, map, Some, subst, slice_get, refl, sym, ap, ◌∙◌, arith, filter_map, fold, cases_eq, nat_tests, take-append-le}
+use Rattle.fbl_base.proofs.Common.{filter_map-append, Note, Start, Mark, At, sends_of, is_send_of, MayFollow, WellFormed, Next, took, sent, responses}
+use Rattle.std.proofs.Common.{append_assoc, length-append, length-take}
+use Rattle.std.specs.List.{All}
+use Rattle.std.proofs.lemmas.List.{append-nil, map-append, length-map}
 use Rattle.std.proofs.lemmas.List.Sums.{sum_by-append}
-use Rattle.std.proofs.lemmas.List.Elements.{filter_map-append, All-head, All-tail}
+use Rattle.std.proofs.lemmas.List.Elements.{All-head, All-tail}
 use Rattle.std.proofs.lemmas.Option.{slice_get-map}
 use Rattle.fbl_base.proofs.Sifted.{length-filter_map}
-use Rattle.fbl_base.specs.declared.trace.Note.{Note}
-use Rattle.fbl_base.specs.declared.trace.Start.{Start}
 use Rattle.fbl_base.specs.declared.trace.Event.{Event}
 use Rattle.fbl_base.specs.declared.trace.Event.TheVariants.{Send, Receipt}
-use Rattle.fbl_base.specs.declared.trace.Mark.{Mark}
 use Rattle.fbl_base.specs.declared.trace.Mark.TheVariants as mark
-use Rattle.fbl_base.specs.Events.{At, mark_of}
-use Rattle.fbl_base.specs.Rules.{sends_of, is_send_of, MayFollow, WellFormed}
-use Rattle.fbl_base.specs.Fold.{Next, Action, took, sent, action_of, actions_of, notes_of, note_of, responses, start_of, starts_of, step_events, Lawful}
+use Rattle.fbl_base.specs.Events.{mark_of}
+use Rattle.fbl_base.specs.Fold.{Action, action_of, actions_of, notes_of, note_of, start_of, starts_of, step_events, Lawful}
 use Rattle.fbl_base.proofs.Gets.{filter_map-agree, map-At}
 use Rattle.fbl_base.proofs.RulesLaws.{WellFormed-push, sent-before, eqb-self}
 use Rattle.fbl_base.proofs.FoldLaws.{responses-push}
@@ -25,10 +22,7 @@ use Rattle.fbl_base.proofs.FoldLaws.{responses-push}
 pub note_of-front : (t s : List Event) (from ssn : ℕ) (note : Note) → note_of t from ssn ≡ Some note → note_of (t ++ s) from ssn ≡ Some note
 note_of-front [] s from ssn note h = cc
 note_of-front (Send q k to x ∷ t) s from ssn note h =
-    (elim (q == from && k == ssn) as (λ b. cond b (Some x) (note_of t from ssn) ≡ Some note → cond b (Some x) (note_of (t ++ s) from ssn) ≡ Some note) [
-      | true ↦ λ g. g
-      | false ↦ λ g. note_of-front t s from ssn note g
-    ]) h
+    (let rest = note_of-front t s from ssn note in grind (arith, rest, h))
 note_of-front (Receipt to rsn q k ∷ t) s from ssn note h = note_of-front t s from ssn note h
 
 pub notes_of-append : (xs ys : List Action) → notes_of (xs ++ ys) ≡ notes_of xs ++ notes_of ys
@@ -100,13 +94,13 @@ receipts-noted n t obeys i to rsn from ssn at =
 added : (T : List Event) (p rsn q s before : ℕ) (note : Note) (sends : List (ℕ × Note)) (m : ℕ) → note_of T q s ≡ Some note
     → (((p ≡ m) × (filter_map (action_of T m) (Receipt p rsn q s ∷ step_events p before sends) ≡ took note ∷ map sent sends))
     ⊎ (filter_map (action_of T m) (Receipt p rsn q s ∷ step_events p before sends) ≡ []))
-added T p rsn q s before note sends m noted = at (p == m) refl where
-  at : (b : Bool) → (p == m) ≡ b → (((p ≡ m) × (filter_map (action_of T m) (Receipt p rsn q s ∷ step_events p before sends)
-      ≡ took note ∷ map sent sends)) ⊎ (filter_map (action_of T m) (Receipt p rsn q s ∷ step_events p before sends) ≡ []))
-  at true is =
-      let same : p ≡ m = grind (arith, nat_tests) in
-      inl (same, (rw (is, noted) (ap (λ xs. took note ∷ xs) (subst (λ (x : ℕ). filter_map (action_of T x) (step_events p before sends) ≡ map sent sends) same (own_sends T p before sends)))))
-  at false is = inr (rw is (other_sends T p m before sends is))
+added T p rsn q s before note sends m noted = elim (cases_eq p m) [
+  | inl same ↦
+      let own : filter_map (action_of T m) (step_events p before sends) ≡ map sent sends = rw same (own_sends T m before sends) in
+      let is : (p == m) ≡ true = grind (arith, nat_tests) in
+      inl (same, rw (is, noted) (ap (λ xs. took note ∷ xs) own))
+  | inr other ↦ (let is : (p == m) ≡ false = grind (arith, nat_tests) in inr (rw is (other_sends T p m before sends is)))
+]
 
 pub actions-append : (t new : List Event) (m : ℕ)
     → ((i to rsn from ssn : ℕ) → slice_get t i ≡ Some (Receipt to rsn from ssn) → (note : Note) × (note_of t from ssn ≡ Some note))

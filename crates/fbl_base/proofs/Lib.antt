@@ -1,4 +1,4 @@
-pub mod PlacesLaws
+pub mod Common
 pub mod PrecedenceLaws
 pub mod Gets
 pub mod RulesLaws

@@ -1,9 +1,8 @@
--- The numbers below another, and the members that are made of numbers.
-use Rattle.std.proofs.Common.{ℕ, ◌+◌, ◌<◌, ◌≡◌, List, ◌++◌, Option, Some, None, take, get_or, sym, ap, ◌∙◌, arith}
-use Rattle.std.specs.List.{flat_map, range_with_len}
-use Rattle.std.specs.Option.{SomeIff}
-use Rattle.std.proofs.lemmas.List.{flat_map_more, take_more}
-use Rattle.std.proofs.lemmas.List.FromFn.{get_or-range_with_len, length-range_with_len}
+-- The numbers below another.
+use Rattle.fbl_base.proofs.Common.{ℕ, ◌+◌, ◌<◌, ◌≡◌, List, ◌++◌, take, get_or, sym, ap, ◌∙◌, arith, range_with_len, take_more, get_or-range_with_len}
+use Rattle.std.specs.List.{flat_map}
+use Rattle.std.proofs.lemmas.List.{flat_map_more}
+use Rattle.std.proofs.lemmas.List.FromFn.{length-range_with_len}
 
 -- what is made of each number, of one more number
 pub rows_more : {X : Type 0} (f : ℕ → List X) (before : List X) (n i : ℕ) → i < n
@@ -15,8 +14,3 @@ rows_more f before n i lt =
     ap (λ k. (before ++ flat_map f (take i r)) ++ f k) (sym at)
     ∙ flat_map_more f before (take i r) (get_or r i 0)
     ∙ ap (λ l. before ++ flat_map f l) (sym more)
-
--- the member that there is with a number has that number
-pub is_number : (o : Option ℕ) (x n : ℕ) → SomeIff o (n < 16) n → o ≡ Some x → x ≡ n
-is_number None x n iff is = cc
-is_number (Some y) x n iff is = (let e : y ≡ x = cc in sym e ∙ iff.1)

@@ -1,14 +1,14 @@
 -- Precedence between places and between events say the same of a trace that obeys the rules.
-use Rattle.std.proofs.Common.{ℕ, ◌≡◌, ◌<◌, inl, inr, List, take}
+use Rattle.fbl_base.proofs.Common.{ℕ, ◌≡◌, ◌<◌, inl, inr, List, take, Mark, At, Precedes, Depends, itself, step, WellFormed}
 use Rattle.std.proofs.lemmas.Bool.{cases_order}
-use Rattle.fbl_base.specs.declared.trace.Mark.{Mark}
-use Rattle.fbl_base.specs.Events.{At}
-use Rattle.fbl_base.specs.Precedence.{Precedes, Depends, itself, step}
-use Rattle.fbl_base.specs.Rules.{WellFormed}
 use Rattle.fbl_base.specs.Places.{DependsOnPlace, PlacePrecedes, place_step, same_place}
 use Rattle.fbl_base.proofs.Gets.{slice_get-take}
 use Rattle.fbl_base.proofs.PrecedenceLaws.{Has-last}
 use Rattle.fbl_base.proofs.RulesLaws.{MayFollow-new, WellFormed-take}
+
+pub Precedes-joined : {t : List Mark} {i j k : ℕ} → PlacePrecedes t i j → PlacePrecedes t j k → PlacePrecedes t i k
+Precedes-joined p (same_place h) = p
+Precedes-joined p (place_step q s) = place_step (Precedes-joined p q) s
 
 -- no event stands twice
 pub one_place : (n : ℕ) (t : List Mark) → WellFormed n t → (e : Mark) (i j : ℕ) → At t i e → At t j e → i ≡ j

@@ -1,15 +1,10 @@
 -- Laws of precedence between events.
-use Rattle.std.proofs.Common.{ℕ, Bool, ◌≡◌, ◌⊎◌, ◌↔◌, inl, inr, List, [], ◌∷◌, ◌++◌, length, Some, refl, sym, ap, ◌∙◌, arith}
-use Rattle.std.specs.List.{filter}
-use Rattle.fbl_base.specs.declared.trace.Mark.{Mark}
+use Rattle.fbl_base.proofs.Common.{ℕ, Bool, ◌≡◌, ◌⊎◌, ◌↔◌, inl, inr, List, [], ◌∷◌, ◌++◌, length, Some, refl, sym, ap, ◌∙◌, arith, filter, Mark}
+use Rattle.fbl_base.proofs.Common.{member_of, Has, Precedes, itself, step, Depends}
 use Rattle.fbl_base.specs.declared.trace.Mark.TheVariants.{Send, Receipt}
-use Rattle.fbl_base.specs.Events.{member_of, send_of}
-use Rattle.fbl_base.specs.Precedence.{Has, Earlier, Precedes, itself, step, Depends}
+use Rattle.fbl_base.specs.Events.{send_of}
+use Rattle.fbl_base.specs.Precedence.{Earlier}
 use Rattle.fbl_base.proofs.Gets.{At-front, At-new, At-below, At-push, At-filter, Apart-filter}
-
-pub Precedes-joined : {t : List Mark} {a b c : Mark} → Precedes t a b → Precedes t b c → Precedes t a c
-Precedes-joined p (itself h) = p
-Precedes-joined p (step q s) = step (Precedes-joined p q) s
 
 pub Earlier-front : (t s : List Mark) (a b : Mark) → Earlier t a b → Earlier (t ++ s) a b
 Earlier-front t s a b h = (h.0, h.1, h.2, At-front t s h.0 a h.3, At-front t s h.1 b h.4)
@@ -60,9 +55,9 @@ new-Precedes t e {a} {b} p leads =
     step (Precedes-front t (e ∷ []) p) ((h.0, length t, At-below t h.0 b h.1, At-front t (e ∷ []) h.0 b h.1, At-new t e), leads)
 
 -- what an appended receipt depends on: what its member depended on, and what precedes its send
-pub Precedes-receipt : (t : List Mark) (to rsn from ssn : ℕ) (a : Mark) → ¬ (Has t (Receipt to rsn from ssn))
+pub precedes_receipt : (t : List Mark) (to rsn from ssn : ℕ) (a : Mark) → ¬ (Has t (Receipt to rsn from ssn))
     → Precedes (t ++ Receipt to rsn from ssn ∷ []) a (Receipt to rsn from ssn) ↔ (a ≡ Receipt to rsn from ssn) ⊎ Depends t to a ⊎ Precedes t a (Send from ssn to)
-Precedes-receipt t to rsn from ssn a new = (
+precedes_receipt t to rsn from ssn a new = (
   λ p. elim (Precedes-new t (Receipt to rsn from ssn) new refl p) [
     | inl x ↦ inl x
     | inr x ↦ inr (elim x.2 [ inl y ↦ inl (x.0, x.1, y) | inr y ↦ inr (let is : Send from ssn to ≡ x.0 = cc in rw is x.1) ])
@@ -83,17 +78,10 @@ Depends-push t e q a new = (
   elim [ inl d ↦ (d.0, Precedes-front t (e ∷ []) d.1, d.2) | inr d ↦ (e, d.1, d.0) ],
 )
 
--- events that are left in their order precede each other only as before
-pub Precedes-among : {s t : List Mark} {a b : Mark} → ((x : Mark) → Has s x → Has t x) → ((x y : Mark) → Earlier s x y → Earlier t x y) → Precedes s a b → Precedes t a b
-Precedes-among {s} {t} {a} has earlier (itself h) = itself (has a h)
-Precedes-among has earlier (step {b} {c} p l) = step (Precedes-among has earlier p) (earlier b c l.0, l.1)
-
 pub Has-filter : (p : Mark → Bool) (t : List Mark) (a : Mark) → Has (filter p t) a → Has t a
 Has-filter p t a h = At-filter p t h.0 a h.1
 
-pub Earlier-filter : (p : Mark → Bool) (t : List Mark) (a b : Mark) → Earlier (filter p t) a b → Earlier t a b
-Earlier-filter p t a b h = Apart-filter p t a b h
-
 -- what is left after some events are dropped precedes only what it preceded
 pub Precedes-filter : (p : Mark → Bool) (t : List Mark) {a b : Mark} → Precedes (filter p t) a b → Precedes t a b
-Precedes-filter p t h = Precedes-among (Has-filter p t) (Earlier-filter p t) h
+Precedes-filter p t {a} (itself h) = itself (Has-filter p t a h)
+Precedes-filter p t (step {b} {c} path l) = step (Precedes-filter p t path) (Apart-filter p t b c l.0, l.1)

@@ -1,22 +1,17 @@
 -- A pass over the events finds what a lost receipt reaches.
-use Rattle.std.proofs.Common.{subst, replicate, take, length-set, ◌==◌, ℕ, Bool, true, false, cond, ◌||◌, ◌≡◌, ◌≢◌, ◌<◌, ◌≤◌, ◌+◌, ◌⊎◌, ◌↔◌, inl, inr}
-use Rattle.std.proofs.Common.{List, [], ◌∷◌, ◌++◌, length, Decides, refl, sym, ap, ◌∙◌, arith, get_or, set as set_at, get_or-set_same, get_or-set_other, ltb}
-use Rattle.std.proofs.lemmas.Bool.{false≢true, cases_eq, or_cases, or_left, or_right, ltb-true, lt-ltb}
-use Rattle.std.proofs.lemmas.List.Sums.{sum_by-append}
-use Rattle.std.proofs.lemmas.List.{take_more}
-use Rattle.std.proofs.lemmas.Option.{slice_get_read}
-use Rattle.std.specs.Ordering.{nat_cmp}
+use Rattle.fbl_base.proofs.Common.{subst, replicate, take, length-set, ℕ, Bool, true, false, cond, ◌||◌, ◌≡◌, ◌<◌, ◌≤◌, ◌+◌, ◌⊎◌, ◌↔◌, inl, inr, List}
+use Rattle.fbl_base.proofs.Common.{[], ◌∷◌, ◌++◌, length, Decides, refl, sym, ap, ◌∙◌, arith, get_or, get_or-set_same, get_or-set_other, false≢true, take_more}
+use Rattle.fbl_base.proofs.Common.{slice_get_read, nat_cmp, nat_cmp_total, unsigned_tied, nat_tests, Mark, At, member_of, Has, Precedes, Depends, sends_of, MayFollow, WellFormed}
+use Rattle.fbl_base.proofs.Common.{reached_after}
+use Rattle.std.proofs.Common.{set as set_at, ltb}
+use Rattle.std.proofs.lemmas.Bool.{or_cases, ltb-true}
 use Rattle.std.specs.FinSet as set
-use Rattle.fbl_base.specs.declared.trace.Mark.{Mark}
 use Rattle.fbl_base.specs.declared.trace.Mark.TheVariants.{Send, Receipt}
-use Rattle.fbl_base.specs.Events.{At, member_of}
-use Rattle.fbl_base.specs.Precedence.{Has, Precedes, Depends}
-use Rattle.fbl_base.specs.Rules.{is_send_of, sends_of, MayFollow, WellFormed}
-use Rattle.fbl_base.specs.Reach.{reached_after, unreached_sends_after}
-use Rattle.fbl_base.specs.MemberSets.{contains-insert_same, contains-insert_other}
+use Rattle.fbl_base.specs.Reach.{unreached_sends_after}
 use Rattle.fbl_base.proofs.Gets.{At-below, At-push, get_or-same}
-use Rattle.fbl_base.proofs.PrecedenceLaws.{Precedes-front, Precedes-push, Precedes-new, Precedes-receipt, Depends-push, new-Precedes, Has-last}
-use Rattle.fbl_base.proofs.RulesLaws.{MayFollow-new, WellFormed-take, in_flight-sent, eqb-self, count_at}
+use Rattle.fbl_base.proofs.PrecedenceLaws.{Precedes-front, Precedes-push, Precedes-new, precedes_receipt, Depends-push, new-Precedes, Has-last}
+use Rattle.fbl_base.proofs.RulesLaws.{MayFollow-new, WellFormed-take, in_flight-sent, eqb-self, sends-step}
+use Rattle.fbl_base.proofs.InFlightLaws.{sent-number}
 
 -- a lost receipt precedes the event
 abbrev pub IsPreceded : (Mark → Type 0) → List Mark → Mark → Type 0
@@ -48,15 +43,15 @@ preceded_old Lost t e b new old =
 preceded_receipt : (Lost : Mark → Type 0) (t : List Mark) (p r q s : ℕ) → ¬ (Has t (Receipt p r q s))
     → IsPreceded Lost (t ++ Receipt p r q s ∷ []) (Receipt p r q s) ↔ Lost (Receipt p r q s) ⊎ IsReached Lost t p ⊎ IsPreceded Lost t (Send q s p)
 preceded_receipt Lost t p r q s new = (
-  λ d. elim ((Precedes-receipt t p r q s d.0 new).0 d.2) [
+  λ d. elim ((precedes_receipt t p r q s d.0 new).0 d.2) [
     | inl is ↦ inl (rw is at d.1)
     | inr h ↦ inr (elim h [ inl x ↦ inl (d.0, d.1, x) | inr x ↦ inr (d.0, d.1, x) ])
   ],
   elim [
-    | inl lost ↦ (Receipt p r q s, lost, (Precedes-receipt t p r q s (Receipt p r q s) new).1 (inl refl))
+    | inl lost ↦ (Receipt p r q s, lost, (precedes_receipt t p r q s (Receipt p r q s) new).1 (inl refl))
     | inr h ↦ elim h [
-      | inl x ↦ (x.0, x.1, (Precedes-receipt t p r q s x.0 new).1 (inr (inl x.2)))
-      | inr x ↦ (x.0, x.1, (Precedes-receipt t p r q s x.0 new).1 (inr (inr x.2)))
+      | inl x ↦ (x.0, x.1, (precedes_receipt t p r q s x.0 new).1 (inr (inl x.2)))
+      | inr x ↦ (x.0, x.1, (precedes_receipt t p r q s x.0 new).1 (inr (inr x.2)))
     ]
   ],
 )
@@ -73,75 +68,49 @@ preceded_send Lost no_send t q s p new = (
 
 contains-if : (b : Bool) (reached : set.FinSet nat_cmp) (p x : ℕ)
     → (set.contains (cond b (set.insert reached p) reached) x ≡ true) ↔ (set.contains reached x ≡ true) ⊎ ((p ≡ x) × (b ≡ true))
-contains-if false reached p x = (inl, elim [ inl h ↦ h | inr h ↦ absurd (false≢true h.1) ])
-contains-if true reached p x = at_place (cases_eq x p) where
-  at_place : (x ≡ p) ⊎ (x ≢ p) → (set.contains (set.insert reached p) x ≡ true) ↔ (set.contains reached x ≡ true) ⊎ ((p ≡ x) × (true ≡ true))
-  at_place (inl is) = (λ _. inr (sym is, refl), λ _. rw is (contains-insert_same reached p))
-  at_place (inr ne) =
-      let same = contains-insert_other reached p x ne in
-      (λ h. inl (sym same ∙ h), elim [ inl h ↦ same ∙ h | inr h ↦ absurd (ne (sym h.0)) ])
-
-sends-push : (t : List Mark) (e : Mark) (x : ℕ) → sends_of t x ≤ sends_of (t ++ e ∷ []) x
-sends-push t e x = rw (sum_by-append (λ y. cond (is_send_of x y) 1 0) t (e ∷ [])) (omega arith)
-
-sends-send : (t : List Mark) (q s p : ℕ) → sends_of (t ++ Send q s p ∷ []) q ≡ sends_of t q + 1
-sends-send t q s p =
-    let e : (q == q) ≡ true = eqb-self q in
-    rw (sum_by-append (λ y. cond (is_send_of q y) 1 0) t (Send q s p ∷ []), e) (omega arith)
+contains-if b reached p x = grind (arith, nat_tests, set.contains-insert nat_cmp_total reached p x, unsigned_tied x p)
 
 module _ (n : ℕ) (Lost : Mark → Type 0) (no_send : (q s p : ℕ) → Lost (Send q s p) → ⊥) (t : List Mark) (obeys : WellFormed n t)
     (reached : set.FinSet nat_cmp) (unreached_sends : List ℕ) (tracks : Tracks Lost t reached unreached_sends) where
-  -- what an old send says of its message stays so
-  stays : {preceded : Type 0} (q s p : ℕ) → Has t (Send q s p) → (preceded ↔ IsPreceded Lost t (Send q s p)) → (get_or unreached_sends q 0 < s) ↔ preceded
-  stays q s p old same = (λ h. same.1 ((tracks.sends q s p old).0 h), λ h. (tracks.sends q s p old).1 (same.0 h))
-
   tracks_send : (q s p : ℕ) → q < length unreached_sends → MayFollow n t (Send q s p)
       → Tracks Lost (t ++ Send q s p ∷ []) reached (unreached_sends_after (Send q s p) reached unreached_sends)
   tracks_send q s p within may =
       let new = MayFollow-new n t (Send q s p) obeys may in
       let preceded = preceded_send Lost no_send t q s p new in
-      let more = sends-send t q s p in
+      let self = eqb-self q in
+      let moved = λ (y : ℕ) (here : y ≡ q) (s' p' : ℕ) (d : IsPreceded Lost t (Send y s' p')). (tracks.members q).1 (d.0, d.1, (Send y s' p', d.2, here)) in
       record {
         members = λ x.
-            let push = reached_push Lost t (Send q s p) x new in (
-              λ h. push.1 (inl ((tracks.members x).0 h)),
-              λ h. elim (push.0 h) [
-                | inl old ↦ (tracks.members x).1 old
-                | inr now ↦ (tracks.members x).1 (rw now.0 at (preceded.0 now.1))
-              ],
-            );
+            let push = reached_push Lost t (Send q s p) x new in
+            let was = tracks.members x in
+            let own = λ (here : q ≡ x). subst (λ (y : ℕ). (set.contains reached y ≡ true) ↔ IsReached Lost t y) (sym here) was in
+            grind (arith, push, was, preceded, own);
         sends = λ q' s' p' has. elim (At-push t (Send q s p) has.0 (Send q' s' p') has.1) [
-          | inl a ↦ old_send q' s' p' (has.0, a) (preceded_old Lost t (Send q s p) (Send q' s' p') new (has.0, a)) (set.contains reached q) refl (cases_eq q' q)
-          | inr a ↦ (let e1 : q' ≡ q = cc in let e2 : s' ≡ s = cc in let e3 : p' ≡ p = cc in rw (e1, e2, e3) (new_send preceded (set.contains reached q) refl))
+          | inl a ↦
+              let old : Has t (Send q' s' p') = (has.0, a) in
+              let same = preceded_old Lost t (Send q s p) (Send q' s' p') new old in
+              let was = tracks.sends q' s' p' old in
+              let fewer = sent-number n t obeys q' s' p' old in
+              let own = λ (here : q' ≡ q). ap (sends_of t) here in
+              let set_here = get_or-set_same unreached_sends q s 0 within in
+              let set_other = get_or-set_other unreached_sends q q' s 0 in (
+                λ h. same.1 (was.0 (grind (arith, nat_tests, fewer, own, set_here, set_other, may.3))),
+                λ d.
+                    let before = was.1 (same.0 d) in
+                    let reached_here = λ (here : q' ≡ q). moved q' here s' p' (same.0 d) in
+                    grind (arith, nat_tests, before, reached_here, set_here, set_other),
+              )
+          | inr a ↦
+              let was = tracks.members q in
+              let e1 : q' ≡ q = cc in
+              let e2 : s' ≡ s = cc in
+              let e3 : p' ≡ p = cc in
+              rw (e1, e2, e3) (grind (arith, preceded, was, may.3, tracks.counted q, get_or-set_same unreached_sends q s 0 within))
         ];
-        counted = λ x. counts more (set.contains reached q) refl x (cases_eq x q);
+        counted = λ x.
+            let own = λ (here : x ≡ q). ap (sends_of t) here in
+            grind (arith, nat_tests, tracks.counted x, may.3, sends-step t (Send q s p) x, own, get_or-set_same unreached_sends q s 0 within, get_or-set_other unreached_sends q x s 0);
       }
-    where
-      new_send : (IsPreceded Lost (t ++ Send q s p ∷ []) (Send q s p) ↔ IsReached Lost t q) → (b : Bool) → set.contains reached q ≡ b
-          → (get_or (cond b unreached_sends (set_at unreached_sends q s)) q 0 < s) ↔ IsPreceded Lost (t ++ Send q s p ∷ []) (Send q s p)
-      new_send preceded true is = (λ _. preceded.1 ((tracks.members q).0 is), λ _. omega (arith, may.3, tracks.counted q))
-      new_send preceded false is = (rw get_or-set_same (λ h. absurd (omega (arith, h)), λ h. absurd (false≢true (sym is ∙ (tracks.members q).1 (preceded.0 h)))))
-
-      old_send : (q' s' p' : ℕ) → Has t (Send q' s' p') → (IsPreceded Lost (t ++ Send q s p ∷ []) (Send q' s' p') ↔ IsPreceded Lost t (Send q' s' p'))
-          → (b : Bool) → set.contains reached q ≡ b → (q' ≡ q) ⊎ (q' ≢ q)
-          → (get_or (cond b unreached_sends (set_at unreached_sends q s)) q' 0 < s') ↔ IsPreceded Lost (t ++ Send q s p ∷ []) (Send q' s' p')
-      old_send q' s' p' old same true is at = stays q' s' p' old same
-      old_send q' s' p' old same false is (inr ne) = rw get_or-set_other (stays q' s' p' old same)
-      old_send q' s' p' old same false is (inl here) =
-          let number = obeys old.0 (Send q' s' p') old.1 in
-          let fewer = count_at (is_send_of q') t old.0 (Send q' s' p') old.1 (eqb-self q') in
-          let fewer' : s' ≤ sends_of t q = (rw (← here) omega (arith, number.3, fewer)) in
-          rw (here, get_or-set_same) (
-            λ h. absurd (omega (arith, h, fewer', may.3)),
-            λ h. (let d = same.0 (subst (λ (y : ℕ). IsPreceded Lost (t ++ Send q s p ∷ []) (Send y s' p')) (sym here) h) in
-                absurd (false≢true (sym is ∙ (tracks.members q).1 (d.0, d.1, (Send q' s' p', d.2, here))))),
-          )
-
-      counts : sends_of (t ++ Send q s p ∷ []) q ≡ sends_of t q + 1 → (b : Bool) → set.contains reached q ≡ b → (x : ℕ) → (x ≡ q) ⊎ (x ≢ q)
-          → get_or (cond b unreached_sends (set_at unreached_sends q s)) x 0 ≤ sends_of (t ++ Send q s p ∷ []) x
-      counts more true is x at = omega (arith, tracks.counted x, sends-push t (Send q s p) x)
-      counts more false is x (inr ne) = rw get_or-set_other (omega (arith, tracks.counted x, sends-push t (Send q s p) x))
-      counts more false is x (inl here) = rw (here, get_or-set_same) (omega (arith, may.3, more))
 
   tracks_receipt : (p r q s : ℕ) (lost : Bool) → Decides lost (Lost (Receipt p r q s)) → MayFollow n t (Receipt p r q s)
       → Tracks Lost (t ++ Receipt p r q s ∷ []) (reached_after (Receipt p r q s) lost reached unreached_sends) unreached_sends
@@ -153,9 +122,11 @@ module _ (n : ℕ) (Lost : Mark → Type 0) (no_send : (q s p : ℕ) → Lost (S
       record {
         members = λ x.
             let cases = contains-if (lost || ltb (get_or unreached_sends q 0) s) reached p x in
-            let push = reached_push Lost t (Receipt p r q s) x new in (
+            let push = reached_push Lost t (Receipt p r q s) x new in
+            let was = tracks.members x in
+            let own = λ (here : p ≡ x). subst (λ (y : ℕ). (set.contains reached y ≡ true) ↔ IsReached Lost t y) (sym here) was in (
               λ h. push.1 (elim (cases.0 h) [
-                | inl old ↦ inl ((tracks.members x).0 old)
+                | inl old ↦ inl (was.0 old)
                 | inr now ↦ inr (
                   now.0,
                   preceded.1 (elim (or_cases lost (ltb (get_or unreached_sends q 0) s) now.1) [
@@ -164,31 +135,22 @@ module _ (n : ℕ) (Lost : Mark → Type 0) (no_send : (q s p : ℕ) → Lost (S
                   ]),
                 )
               ]),
-              λ h. cases.1 (elim (push.0 h) [
-                | inl old ↦ inl ((tracks.members x).1 old)
-                | inr now ↦ elim (preceded.0 now.1) [
-                  | inl is_lost ↦ inr (now.0, or_left lost (ltb (get_or unreached_sends q 0) s) (decides.1 is_lost))
-                  | inr other ↦ elim other [
-                    | inl at_p ↦ inl ((tracks.members x).1 (rw now.0 at at_p))
-                    | inr sent' ↦ inr (now.0, or_right lost (ltb (get_or unreached_sends q 0) s) (lt-ltb (get_or unreached_sends q 0) s (message.1 sent')))
-                  ]
-                ]
-              ]),
+              λ h.
+                  let new = push.0 h in
+                  grind (arith, nat_tests, cases, new, was, own, preceded, message, decides),
             );
         sends = λ q' s' p' has.
             let old : Has t (Send q' s' p') = elim (At-push t (Receipt p r q s) has.0 (Send q' s' p') has.1) [ inl a ↦ (has.0, a) | inr a ↦ cc ] in
-            stays q' s' p' old (preceded_old Lost t (Receipt p r q s) (Send q' s' p') new old);
-        counted = λ x. omega (arith, tracks.counted x, sends-push t (Receipt p r q s) x);
+            let same = preceded_old Lost t (Receipt p r q s) (Send q' s' p') new old in
+            let was = tracks.sends q' s' p' old in
+            (λ h. same.1 (was.0 h), λ h. was.1 (same.0 h));
+        counted = λ x. omega (arith, tracks.counted x, sends-step t (Receipt p r q s) x);
       }
 
-pub Tracks-next : (n : ℕ) (Lost : Mark → Type 0) → ((q s p : ℕ) → Lost (Send q s p) → ⊥) → (t : List Mark) → WellFormed n t
-    → (reached : set.FinSet nat_cmp) (unreached_sends : List ℕ) → Tracks Lost t reached unreached_sends → n ≤ length unreached_sends
-    → (e : Mark) (lost : Bool) → Decides lost (Lost e) → MayFollow n t e
-    → Tracks Lost (t ++ e ∷ []) (reached_after e lost reached unreached_sends) (unreached_sends_after e reached unreached_sends)
-Tracks-next n Lost no_send t obeys reached unreached_sends tracks room (Send q s p) lost decides may =
-    tracks_send n Lost no_send t obeys reached unreached_sends tracks q s p (omega (arith, may.0, room)) may
-Tracks-next n Lost no_send t obeys reached unreached_sends tracks room (Receipt p r q s) lost decides may =
-    tracks_receipt n Lost no_send t obeys reached unreached_sends tracks p r q s lost decides may
+  pub Tracks-next : n ≤ length unreached_sends → (e : Mark) (lost : Bool) → Decides lost (Lost e) → MayFollow n t e
+      → Tracks Lost (t ++ e ∷ []) (reached_after e lost reached unreached_sends) (unreached_sends_after e reached unreached_sends)
+  Tracks-next room (Send q s p) lost decides may = tracks_send q s p (omega (arith, may.0, room)) may
+  Tracks-next room (Receipt p r q s) lost decides may = tracks_receipt p r q s lost decides may
 
 -- before the first event none is reached
 pub Tracks-none : (Lost : Mark → Type 0) {reached : set.FinSet nat_cmp} {unreached_sends : List ℕ} → reached ≡ set.empty → unreached_sends ≡ replicate 16 0

@@ -1,37 +1,19 @@
 -- Which determinants receipts have.
-use Rattle.std.proofs.Common.{drop, ℕ, ◌+◌, ◌<◌, ◌≤◌, ◌≡◌, Bool, true, cond, ◌||◌, List, [], ◌∷◌, length, take, get_or, Some, None, refl, sym, ap, ◌∙◌}
-use Rattle.std.proofs.Common.{arith, Decides, length-take}
-use Rattle.std.specs.List.{list_any, filter_map, cons_option}
-use Rattle.std.proofs.lemmas.List.{take_more, take-append-drop, take-append-le}
-use Rattle.std.proofs.lemmas.List.Folds.{list_any-append, Any-from_list_any, list_any-from_Any}
-use Rattle.std.proofs.lemmas.List.Elements.{filter_map-append}
-use Rattle.std.proofs.lemmas.Option.{slice_get-get_or, get_or_from_slice_get}
-use Rattle.fbl_base.specs.declared.trace.Determinant.{Determinant}
-use Rattle.fbl_base.specs.declared.trace.Mark.{Mark}
+use Rattle.fbl_base.proofs.Common.{drop, ℕ, ◌+◌, ◌<◌, ◌≤◌, ◌≡◌, true, ◌||◌, List, [], ◌∷◌, length, take, get_or, Some, refl, sym, ap, ◌∙◌, arith}
+use Rattle.fbl_base.proofs.Common.{Decides, list_any, filter_map, cons_option, take_more, take-append-le, list_any-append, Any-from_list_any, list_any-from_Any, filter_map-append}
+use Rattle.fbl_base.proofs.Common.{get_or_from_slice_get, Determinant, Mark, At, determinant_of, same_determinant, Has, ObeysAt, WellFormed, is_received}
+use Rattle.std.proofs.Common.{length-take}
+use Rattle.std.proofs.lemmas.List.{take-append-drop}
+use Rattle.std.proofs.lemmas.Option.{slice_get-get_or}
 use Rattle.fbl_base.specs.declared.trace.Mark.TheVariants.{Send, Receipt}
-use Rattle.fbl_base.specs.Events.{At, determinant_of, same_determinant, receipt_of}
-use Rattle.fbl_base.specs.Precedence.{Has}
-use Rattle.fbl_base.specs.Rules.{ObeysAt, WellFormed}
-use Rattle.fbl_base.specs.DumpParts.{is_received}
+use Rattle.fbl_base.specs.Events.{receipt_of}
 use Rattle.fbl_base.proofs.Breached.{room}
 use Rattle.fbl_base.proofs.Gets.{At-front, At-below, At-filter_map, filter_map-At}
-use Rattle.fbl_base.proofs.Recorded.{Decides-same_determinant, or_cond, or_false}
+use Rattle.fbl_base.proofs.Recorded.{Decides-same_determinant}
 
-more : (events : List Mark) (i : ℕ) (e : Mark) (d : Determinant) → i < length events → e ≡ get_or events i e
+pub more : (events : List Mark) (i : ℕ) (e : Mark) (d : Determinant) → i < length events → e ≡ get_or events i e
     → is_received (take (i + 1) events) d ≡ (is_received (take i events) d || list_any (λ x. same_determinant x d) (cons_option (determinant_of e) []))
 more events i e d below is = rw (take_more events i e below, ← is, filter_map-append determinant_of (take i events) (e ∷ []), list_any-append (λ x. same_determinant x d))
-
--- one more receipt
-pub received_more : (events : List Mark) (i : ℕ) (e : Mark) (key d : Determinant) (before after : Bool) → i < length events → e ≡ get_or events i e
-    → determinant_of e ≡ Some key → before ≡ is_received (take i events) d → after ≡ cond (same_determinant key d) true before → after ≡ is_received (take (i + 1) events) d
-received_more events i e key d before after below is some was now =
-    now ∙ or_cond (same_determinant key d) before ∙ ap (λ b. b || same_determinant key d) was
-    ∙ (rw (more events i e d below is, some) (ap (λ b. is_received (take i events) d || b) (or_false (same_determinant key d))))
-
--- one more send
-pub received_same : (events : List Mark) (i : ℕ) (e : Mark) (d : Determinant) (before : Bool) → i < length events → e ≡ get_or events i e
-    → determinant_of e ≡ None → before ≡ is_received (take i events) d → before ≡ is_received (take (i + 1) events) d
-received_same events i e d before below is none was = was ∙ or_false _ ∙ (rw (more events i e d below is, none))
 
 pub is_receipt : (e : Mark) (d : Determinant) → determinant_of e ≡ Some d → e ≡ receipt_of d
 is_receipt (Send q s p) d h = cc

@@ -1,16 +1,9 @@
 -- How many members sets have.
-use Rattle.std.proofs.Common.{ℕ, zero, suc, ◌+◌, ◌-◌, ◌<◌, ◌≤◌, ◌≡◌, ◌≢◌, Bool, true, false, cond, not, ◌&&◌, ◌||◌, List, [], ◌∷◌, refl, sym}
-use Rattle.std.proofs.Common.{ap, ◌∙◌, arith, eqb}
-use Rattle.std.proofs.lemmas.Bool.Decides.{nat_tests}
-use Rattle.std.proofs.lemmas.Bool.{false≢true, eq-eqb, and_parts, not-true}
-use Rattle.std.specs.List.{list_any}
-use Rattle.std.specs.Ordering.{nat_cmp, eq_by_cmp}
-use Rattle.std.specs.Cmp.{unsigned_tied, nat_cmp_total}
+use Rattle.fbl_base.proofs.Common.{ℕ, zero, suc, ◌+◌, ◌-◌, ◌<◌, ◌≤◌, ◌≡◌, ◌≢◌, true, false, cond, ◌||◌, List, [], ◌∷◌, refl, sym, ap, ◌∙◌}
+use Rattle.fbl_base.proofs.Common.{arith, inl, inr, nat_tests, cases_eq, false≢true, list_any, nat_cmp, unsigned_tied, nat_cmp_total, same_from_contains}
+use Rattle.std.proofs.lemmas.Bool.{eq-eqb}
+use Rattle.std.specs.Ordering.{eq_by_cmp}
 use Rattle.std.specs.FinSet as set
-use Rattle.fbl_base.specs.MemberSets.{same_from_contains}
-
-MemberSet : Type 0
-MemberSet = set.FinSet nat_cmp
 
 -- a set that is not empty has a member
 pub some_member : (s : set.FinSet nat_cmp) → 0 < set.len s → (k : ℕ) × (set.contains s k ≡ true)
@@ -24,18 +17,12 @@ some_member s more = at (set.items s) refl where
       (k, set.contains-items s k ∙ ap (λ xs. list_any (eq_by_cmp nat_cmp k) xs) some ∙ ap (λ b. b || list_any (eq_by_cmp nat_cmp k) ks) tie)
 
 contains-remove_cases : (s : set.FinSet nat_cmp) (k q : ℕ) → set.contains (set.remove s k) q ≡ true → (q ≢ k) × (set.contains s q ≡ true)
-contains-remove_cases s k q h = parts (eqb q k) refl where
-  step : set.contains (set.remove s k) q ≡ (not (eqb q k) && set.contains s q)
-  step = set.contains-remove nat_cmp_total s k q ∙ ap (λ b. not b && set.contains s q) (unsigned_tied q k)
-
-  parts : (b : Bool) → eqb q k ≡ b → (q ≢ k) × (set.contains s q ≡ true)
-  parts true is = absurd (false≢true (sym (step ∙ ap (λ b. not b && set.contains s q) is) ∙ h))
-  parts false is = (λ e. (let t : eqb q k ≡ true = grind (arith, nat_tests) in false≢true (sym is ∙ t)), sym (step ∙ ap (λ b. not b && set.contains s q) is) ∙ h)
+contains-remove_cases s k q h =
+    let removed = set.contains-remove nat_cmp_total s k q in
+    (λ e. grind (arith, nat_tests, removed, unsigned_tied q k, e), grind (arith, removed))
 
 contains-remove_other : (s : set.FinSet nat_cmp) (k q : ℕ) → q ≢ k → set.contains s q ≡ true → set.contains (set.remove s k) q ≡ true
-contains-remove_other s k q ne h =
-    let f : eqb q k ≡ false = grind (arith, nat_tests) in
-    set.contains-remove nat_cmp_total s k q ∙ ap (λ b. not b && set.contains s q) (unsigned_tied q k ∙ f) ∙ h
+contains-remove_other s k q ne h = grind (arith, nat_tests, set.contains-remove nat_cmp_total s k q, unsigned_tied q k)
 
 pub len-remove_one : (s : set.FinSet nat_cmp) (k : ℕ) → set.contains s k ≡ true → set.len (set.remove s k) + 1 ≡ set.len s
 len-remove_one s k has =
@@ -57,18 +44,15 @@ len-within (suc n) s t some within =
 
 -- a set with more members than another has one that the other lacks
 pub some_outside : (s t : set.FinSet nat_cmp) → set.len t < set.len s → (k : ℕ) × (set.contains s k ≡ true) × (set.contains t k ≡ false)
-some_outside s t more = at (set.len (set.difference s t)) refl where
-  lacks : (a b : Bool) → (a && not b) ≡ false → a ≡ true → b ≡ true
-  lacks true true h e = refl
-  lacks true false h e = cc
-  lacks false b h e = cc
-
-  at : (n : ℕ) → set.len (set.difference s t) ≡ n → (k : ℕ) × (set.contains s k ≡ true) × (set.contains t k ≡ false)
-  at zero none =
-      let empty : (q : ℕ) → (set.contains s q && not (set.contains t q)) ≡ false = λ q. sym (set.contains-difference nat_cmp_total s t q)
-      ∙ ap (λ x. set.contains x q) (set.empty_of_len (set.difference s t) none) ∙ set.contains-empty nat_cmp q in
-      absurd (omega (arith, more, len-within (set.len s) s t refl (λ q h. lacks (set.contains s q) (set.contains t q) (empty q) h)))
-  at (suc n) some =
-      let k = some_member (set.difference s t) (omega (arith, some)) in
-      let b = and_parts (set.contains s k.0) (not (set.contains t k.0)) (sym (set.contains-difference nat_cmp_total s t k.0) ∙ k.1) in
-      (k.0, b.0, not-true (set.contains t k.0) b.1)
+some_outside s t more =
+    let left = set.difference s t in
+    let has = λ (q : ℕ). set.contains-difference nat_cmp_total s t q in
+    elim (cases_eq (set.len left) 0) [
+      | inl none ↦
+          let empty = λ (q : ℕ). sym (has q) ∙ ap (λ x. set.contains x q) (set.empty_of_len left none) ∙ set.contains-empty nat_cmp q in
+          absurd (omega (arith, more, len-within (set.len s) s t refl (λ q h. (let lacks = empty q in grind (arith, lacks, h)))))
+      | inr some ↦
+          let k = some_member left (omega (arith, some)) in
+          let here = has k.0 in
+          (k.0, grind (arith, here, k.1), grind (arith, here, k.1))
+    ]

@@ -7,6 +7,7 @@
 ghost use Rattle.fbl_base.specs.Laws.{ReceiptLaw, DependsLaw, PlacesLaw, DependsOnPlacesLaw, LawfulDeliveryLaw};
 
 /// What precedes an added receipt: the receipt itself, what its member depended on, and what precedes its send.
+#[tactic(auto, using(crate::proofs::PrecedenceLaws::precedes_receipt))]
 pub fn receipt_law()
     ensures { ReceiptLaw }
 {}

@@ -37,6 +37,7 @@ impl Model for MemberSet {
 
 impl MemberSet {
     /// No members.
+    #[tactic(auto, using(crate::proofs::BitSets::empty_bits))]
     pub fn empty() -> MemberSet
         ensures { result ≡ set.empty }
     {
@@ -44,6 +45,7 @@ impl MemberSet {
     }
 
     /// Whether the member is in the set.
+    #[tactic(auto, using(crate::proofs::BitSets::has_bits))]
     pub fn has(self, member: Member) -> bool
         ensures { result ≡ set.contains self member }
     {
@@ -51,6 +53,7 @@ impl MemberSet {
     }
 
     /// The set and the member.
+    #[tactic(auto, using(crate::proofs::BitSets::insert_bits))]
     pub fn with(self, member: Member) -> MemberSet
         ensures { result ≡ set.insert self member }
     {
@@ -60,6 +63,7 @@ impl MemberSet {
     }
 
     /// How many members there are.
+    #[tactic(auto, using(crate::proofs::BitSets::count_bits))]
     pub fn count(self) -> u32
         ensures { result ≡ set.len self }
     {
@@ -83,6 +87,7 @@ impl MemberSet {
     }
 
     /// The members of either set.
+    #[tactic(auto, using(crate::proofs::BitSets::union_bits))]
     pub fn union(self, other: MemberSet) -> MemberSet
         ensures { result ≡ set.union self other }
     {
@@ -114,6 +119,7 @@ impl MemberSet {
     }
 
     /// The members that are not in the other set.
+    #[tactic(auto, using(crate::proofs::BitSets::difference_bits))]
     pub fn without(self, other: MemberSet) -> MemberSet
         ensures { result ≡ set.difference self other }
     {

@@ -38,21 +38,11 @@ impl Behaviour for Spread {
             hops: note.hops - 1,
         };
         let sends = ArrayVec::from([
-            (after(me, 1, n), passed),
-            (after(me, 2, n), passed),
-            (after(me, 3, n), passed),
-            (after(me, 4, n), passed),
+            (me.after(1, n), passed),
+            (me.after(2, n), passed),
+            (me.after(3, n), passed),
+            (me.after(4, n), passed),
         ]);
         Outcome { state, sends }
     }
-}
-
-/// The member so many places on, round a group of `n`.
-fn after(me: Member, by: u8, n: u8) -> Member
-    requires least { 2 ≤ n }
-    requires most { n ≤ 16 }
-    requires step { by ≤ 4 }
-    ensures { result ≡ (me + by) % n }
-{
-    Member::new((me.number() + by) % n).unwrap()
 }

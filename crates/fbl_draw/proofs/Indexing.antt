@@ -20,12 +20,7 @@ Decides-same_message a b =
 -- the first place at which a test passes, with one more element behind
 position_push : {X : Type 0} (p : X → Bool) (k : ℕ) (xs : List X) (x : X) → position_from p k (xs ++ x ∷ []) ≡ option_or (position_from p k xs) (cond (p x) (Some (k + length xs)) None)
 position_push p k [] x = ap (λ n. cond (p x) (Some n) None) (let e : k ≡ k + 0 = omega arith in e)
-position_push p k (y ∷ ys) x = at_first (p y)
-    (position_push p (k + 1) ys x ∙ ap (λ n. option_or (position_from p (k + 1) ys) (cond (p x) (Some n) None)) (let e : k + 1 + length ys ≡ k + length (y ∷ ys) = omega arith in e)) where
-      at_first : (b : Bool) → position_from p (k + 1) (ys ++ x ∷ []) ≡ option_or (position_from p (k + 1) ys) (cond (p x) (Some (k + length (y ∷ ys))) None)
-          → cond b (Some k) (position_from p (k + 1) (ys ++ x ∷ [])) ≡ option_or (cond b (Some k) (position_from p (k + 1) ys)) (cond (p x) (Some (k + length (y ∷ ys))) None)
-      at_first true later = refl
-      at_first false later = later
+position_push p k (y ∷ ys) x = grind (arith, position_push p (k + 1) ys x)
 
 place_more : (events : List Mark) (i : ℕ) (e : Mark) (m : MessageName) → i < length events → e ≡ get_or events i e
     → receipt_place (take (i + 1) events) m ≡ option_or (receipt_place (take i events) m) (cond (takes m e) (Some i) None)
@@ -37,14 +32,6 @@ place_more events i e m within is =
 or_none : {X : Type 0} (o : Option X) → o ≡ option_or o None
 or_none None = refl
 or_none (Some x) = refl
-
-or_some : {X : Type 0} (o p : Option X) → is_some o ≡ true → o ≡ option_or o p
-or_some None p h = cc
-or_some (Some x) p h = refl
-
-is_none : {X : Type 0} (o : Option X) → is_some o ≡ false → o ≡ None
-is_none None h = refl
-is_none (Some x) h = cc
 
 module _ (old : MessageName → Option ℕ) (events : List Mark) (i : ℕ) (e : Mark) (within : i < length events) (is : e ≡ get_or events i e)
     (was : (m : MessageName) → old m ≡ receipt_place (take i events) m) where
@@ -61,19 +48,15 @@ module _ (old : MessageName → Option ℕ) (events : List Mark) (i : ℕ) (e : 
 
   -- the event takes a message that has its place already
   pub old_message : (taken : MessageName) → taken_by e ≡ Some taken → is_some (old taken) ≡ true → (m : MessageName) → old m ≡ receipt_place (take (i + 1) events) m
-  old_message taken some there m = at_key (same_message taken m) refl ∙ more m (Some taken) some where
-    at_key : (b : Bool) → same_message taken m ≡ b → old m ≡ option_or (old m) (cond (same_message taken m) (Some i) None)
-    at_key true key =
-        let here : is_some (old m) ≡ true = ap (λ k. is_some (old k)) (sym ((Decides-same_message taken m).0 key)) ∙ there in
-        or_some (old m) _ here
-    at_key false key = or_none (old m) ∙ ap (λ c. option_or (old m) (cond c (Some i) None)) (sym key)
+  old_message taken some there m =
+      let same : same_message taken m ≡ true → taken ≡ m = (Decides-same_message taken m).0 in
+      let kept : old m ≡ option_or (old m) (cond (same_message taken m) (Some i) None) = grind (arith, same, there) in
+      kept ∙ more m (Some taken) some
 
   -- the event takes a message that has no place yet
   pub new_message : (taken : MessageName) → taken_by e ≡ Some taken → is_some (old taken) ≡ false → (after : MessageName → Option ℕ)
       → ((m : MessageName) → after m ≡ cond (same_message taken m) (Some i) (old m)) → (m : MessageName) → after m ≡ receipt_place (take (i + 1) events) m
-  new_message taken some absent after put m = put m ∙ at_key (same_message taken m) refl ∙ more m (Some taken) some where
-    at_key : (b : Bool) → same_message taken m ≡ b → cond (same_message taken m) (Some i) (old m) ≡ option_or (old m) (cond (same_message taken m) (Some i) None)
-    at_key true key =
-        let none : old m ≡ None = is_none (old m) (ap (λ k. is_some (old k)) (sym ((Decides-same_message taken m).0 key)) ∙ absent) in
-        ap (λ c. cond c (Some i) (old m)) key ∙ ap (λ o. option_or o (Some i)) (sym none) ∙ ap (λ c. option_or (old m) (cond c (Some i) None)) (sym key)
-    at_key false key = ap (λ c. cond c (Some i) (old m)) key ∙ or_none (old m) ∙ ap (λ c. option_or (old m) (cond c (Some i) None)) (sym key)
+  new_message taken some absent after put m =
+      let same : same_message taken m ≡ true → taken ≡ m = (Decides-same_message taken m).0 in
+      let made : cond (same_message taken m) (Some i) (old m) ≡ option_or (old m) (cond (same_message taken m) (Some i) None) = grind (arith, same, absent) in
+      put m ∙ made ∙ more m (Some taken) some

@@ -82,7 +82,7 @@ pub(crate) fn paths_of(alloc: Global, audit: &Audit) -> Result<Vec<Vec<usize>>, 
 {
     let mut paths = Vec::new(alloc);
     for number in 0..16u8 {
-        let member = Member::new(number).unwrap();
+        let member = Member::at(number);
         paths.push(path_to(alloc, audit, member)?)?;
     }
     Ok(paths)

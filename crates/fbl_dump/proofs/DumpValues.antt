@@ -1,7 +1,6 @@
 -- The values of a dump, and how they are read back.
-use Rattle.std.proofs.Common.{◌≡◌, ℕ, ◌+◌, ◌<◌, ◌≤◌, ◌⊎◌, List, [], ◌∷◌, ◌++◌, map, take, get_or, length, suc, zero, refl, sym, ap, subst, ◌∙◌}
-use Rattle.std.proofs.Common.{arith, Bool, true, false, ◌&&◌, Option, Some, option_map, Ok, nat_cmp, nat_eq, inl, inr, eq-eqb, ◌||◌}
-use Rattle.std.proofs.Math.Bool.{or-true}
+use Rattle.std.proofs.Common.{◌≡◌, ℕ, ◌+◌, ◌<◌, ◌≤◌, List, [], ◌∷◌, ◌++◌, map, take, get_or, length, suc, zero, refl, sym, ap, subst, ◌∙◌}
+use Rattle.std.proofs.Common.{arith, Bool, true, Option, Some, option_map, Ok, nat_cmp, nat_eq}
 use Rattle.std.proofs.lemmas.List.{take_more, map_push}
 use Rattle.std.proofs.lemmas.List.Elements.{All-push}
 use Rattle.std.proofs.lemmas.Map.Views.{any-filter_same}
@@ -18,8 +17,6 @@ use Rattle.fbl_base.specs.MemberSets.{member_list}
 use Rattle.fbl_input.specs.Shapes.{all_shaped, number_within, list_of, member_shape, set_shape}
 use Rattle.fbl_dump.specs.DumpLines.{dump_data, dump_object, event_data, pair_data, list_data, number_data}
 use Rattle.fbl_dump.specs.Dumps.{event_shape, pair_shape, parts_of_data}
-use Rattle.fbl_base.specs.declared.trace.Mark.{Mark}
-use Rattle.fbl_base.specs.declared.trace.Determinant.{Determinant}
 use Rattle.fbl_input.proofs.Lists.{elements_of}
 
 -- one more value
@@ -46,31 +43,16 @@ list_read shape f xs h = ap (λ ds. all_shaped shape ds) (elements_of (map f xs)
 -- a number among those from a on
 found : (a n q : ℕ) → a ≤ q → q < a + n → list_any (λ y. nat_eq y q) (range_with_len a n) ≡ true
 found a zero q least below = absurd (omega (arith, least, below))
-found a (suc n) q least below = at (split a q least) (λ h. found (a + 1) n q h (omega (arith, below))) where
-  split : (a q : ℕ) → a ≤ q → (a ≡ q) ⊎ (a + 1 ≤ q)
-  split a q h = grind arith
-
-  at : (a ≡ q) ⊎ (a + 1 ≤ q) → (a + 1 ≤ q → list_any (λ y. nat_eq y q) (range_with_len (a + 1) n) ≡ true)
-      → (nat_eq a q || list_any (λ y. nat_eq y q) (range_with_len (a + 1) n)) ≡ true
-  at (inl e) rest = ap (λ b. b || list_any (λ y. nat_eq y q) (range_with_len (a + 1) n)) (eq-eqb a q e)
-  at (inr h) rest = ap (λ b. nat_eq a q || b) (rest h) ∙ or-true (nat_eq a q)
+found a (suc n) q least below = grind (arith, found (a + 1) n q)
 
 -- a filter of the numbers from 0 on keeps what the test tells, below their count
 kept : (p : ℕ → Bool) (n q : ℕ) → (p q ≡ true → q < n) → list_any (λ y. nat_eq y q) (filter p (range_with_len 0 n)) ≡ p q
-kept p n q below =
-    any-filter_same (λ y. nat_eq y q) p (p q) (λ k e. ap p (eqb-true k q e)) (range_with_len 0 n) ∙ by_test (p q) below
-  where
-    by_test : (b : Bool) → (b ≡ true → q < n) → (b && list_any (λ y. nat_eq y q) (range_with_len 0 n)) ≡ b
-    by_test true h = let lt : q < n = h refl in found 0 n q (omega arith) (omega (arith, lt))
-    by_test false h = refl
-
-kept_members : (s : set.FinSet nat_cmp) (n : ℕ) → AllBelow s n → set.from_list (filter (set.contains s) (range_with_len 0 n)) ≡ s
-kept_members s n below = set.same_set nat_cmp_total set.nat_cmp-IsAntisymmetric _ s (λ q. set.contains-from_list_nat _ q ∙ kept (set.contains s) n q (below q))
+kept p n q below = any-filter_same (λ y. nat_eq y q) p (p q) (λ k e. ap p (eqb-true k q e)) (range_with_len 0 n) ∙ grind (arith, found 0 n q, below)
 
 -- the members of a set, taken into a set again
 set_of_members : (s : set.FinSet nat_cmp) → AllBelow s 16 → set.from_list (member_list s) ≡ s
 unfolding member_list
-set_of_members s below = kept_members s 16 below
+set_of_members s below = set.same_set nat_cmp_total set.nat_cmp-IsAntisymmetric _ s (λ q. set.contains-from_list_nat _ q ∙ kept (set.contains s) 16 q (below q))
 
 pub set_read : (s : set.FinSet nat_cmp) → AllBelow s 16 → All (λ m. member_shape (number_data m) ≡ Some m) (member_list s) → set_shape (list_data (map number_data (member_list s))) ≡ Some s
 set_read s below h = ap (option_map set.from_list) (list_read member_shape number_data (member_list s) h) ∙ ap Some (set_of_members s below)
@@ -79,22 +61,20 @@ set_read s below h = ap (option_map set.from_list) (list_read member_shape numbe
 number_read : (most n : ℕ) → n ≤ most → number_within 0 most (number_data n) ≡ Some n
 number_read most n h = rw (le-leb 0 n (omega arith), le-leb n most h)
 
--- an object with a dump's keys is read as its parts
-pub object_read : (members f : ℕ) (events held strike : Data) (es : List Mark) (hs : List (ℕ × Determinant)) (s : set.FinSet nat_cmp)
-    → members ≤ 255 → f ≤ 255 → list_of event_shape events ≡ Some es → list_of pair_shape held ≡ Some hs → set_shape strike ≡ Some s
-    → parts_of_data (dump_object members f events held strike) ≡ Ok (record { members = members; f = f; events = es; held = hs; strike = s })
-unfolding parts_of_data
-object_read members f events held strike es hs s few fewer e h t = rw (number_read 255 members few, number_read 255 f fewer, e, h, t)
-
 -- the parts of a dump are read back
 pub parts_read : (dump : Parts) → IsDump dump → All (λ x. event_shape (event_data x) ≡ Some x) dump.events
     → All (λ x. pair_shape (pair_data x) ≡ Some x) dump.held → All (λ m. member_shape (number_data m) ≡ Some m) (member_list dump.strike) → parts_of_data (dump_data dump) ≡ Ok dump
-unfolding dump_data
+unfolding dump_data parts_of_data
 parts_read dump rules events held strike =
     let few = rules.members.1 in
     let fewer = rules.f.1 in
-    object_read dump.members dump.f _ _ _ dump.events dump.held dump.strike (omega (arith, few)) (omega (arith, few, fewer))
-    (list_read event_shape event_data dump.events events) (list_read pair_shape pair_data dump.held held) (set_read dump.strike (λ q h. let lt = rules.strike q h in omega (arith, few, lt)) strike)
+    rw (
+      number_read 255 dump.members (omega (arith, few)),
+      number_read 255 dump.f (omega (arith, few, fewer)),
+      list_read event_shape event_data dump.events events,
+      list_read pair_shape pair_data dump.held held,
+      set_read dump.strike (λ q h. let lt = rules.strike q h in omega (arith, few, lt)) strike,
+    )
 
 -- an object of a dump's parts
 pub dump_same : (dump : Parts) (m f : ℕ) (e h s : Data) → m ≡ dump.members → f ≡ dump.f → e ≡ list_data (map event_data dump.events)

@@ -1,10 +1,10 @@
 -- What an answer about a dump leaves in the writer, where a relation says which answers are right, and with which texts.
-use Rattle.std.specs.Prelude.{ℕ, ◌<◌, ◌⊎◌, List, length, take, Option, Result, Ok, Err}
-use Rattle.std.specs.Io.KnownBytes.{Keeps, Appends}
+use Rattle.std.specs.Prelude.{ℕ, ◌⊎◌, List, Option, Result, Ok, Err}
+use Rattle.std.specs.Io.KnownBytes.{Keeps}
 use Rattle.fbl_base.specs.Audit.{Parts}
 use Rattle.fbl_input.specs.declared.fault.RunFault.{RunFault}
 use Rattle.fbl_input.specs.declared.fault.RunFault.TheVariants as faults
-use Rattle.fbl_input.specs.Faults.{FailsToRead}
+use Rattle.fbl_input.specs.Faults.{FailsToRead, PutsOut}
 use Rattle.fbl_dump.specs.Dumps.{IsDumpOf, IsDumpFault}
 
 -- the relation of texts alone: nothing is answered beside the text
@@ -13,13 +13,7 @@ TextAlone IsText dump _ text = IsText dump text
 
 -- what an answer about the dump leaves in the writer
 abbrev pub AnswersDump : {A : Type 0} → (Parts → A → List ℕ → Type 0) → Parts → Option (List ℕ) → Option (List ℕ) → Result A RunFault → Type 0
--- the whole text of the answer
-AnswersDump IsRight dump before after (Ok x) = (text : List ℕ) × IsRight dump x text × Appends before after text
--- a prefix of the text of a right answer, without its end
-AnswersDump {A} IsRight dump before after (Err faults.Write) = (x : A) × (text : List ℕ) × (part : ℕ) × IsRight dump x text × (part < length text) × Appends before after (take part text)
--- nothing
-AnswersDump IsRight dump before after (Err faults.Memory) = Keeps before after
-AnswersDump IsRight dump before after (Err e) = ⊥
+AnswersDump IsRight dump before after result = PutsOut (IsRight dump) before after result
 
 -- the input is a dump, and this is an answer about it
 abbrev pub AnswersInput : {A : Type 0} → (Parts → A → List ℕ → Type 0) → List ℕ → Option (List ℕ) → Option (List ℕ) → Result A RunFault → Type 0

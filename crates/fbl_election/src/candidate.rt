@@ -22,7 +22,7 @@ impl Behaviour for Candidate {
         requires member { me < n }
         ensures step { result ≡ candidate_step me n state note }
     {
-        let next = Member::new((me.number() + 1) % n).unwrap();
+        let next = me.after(1, n);
         let value = u64::from(note.value);
         let hops = if value > state {
             note.hops

@@ -47,7 +47,7 @@ fn report<R: Print>(rt: &R, when: &str, group: &Group<Candidate>) -> Result<()>
     elected(group);
     print!(rt; "{when}:")?;
     for number in 0..group.config().members() {
-        let state = group.state(Member::new(number).unwrap());
+        let state = group.state(Member::at(number));
         prove!(state <= 9);
         print!(rt; " {state}")?;
     }
@@ -63,7 +63,7 @@ fn declare<R: Print>(rt: &R, group: &Group<Candidate>) -> Result<()>
 {
     elected(group);
     for number in 0..group.config().members() {
-        let state = group.state(Member::new(number).unwrap());
+        let state = group.state(Member::at(number));
         prove!(state == 9);
         println!(rt; "member {number} has elected {state}")?;
     }
@@ -72,10 +72,10 @@ fn declare<R: Print>(rt: &R, group: &Group<Candidate>) -> Result<()>
 
 /// Runs the election until nothing is in flight.
 fn run<R: Print + Threads + Wait + Sync>(rt: &R, alloc: Global) -> Result<()> {
-    let a = Member::new(0).unwrap();
-    let b = Member::new(1).unwrap();
-    let c = Member::new(2).unwrap();
-    let d = Member::new(3).unwrap();
+    let a = Member::at(0);
+    let b = Member::at(1);
+    let c = Member::at(2);
+    let d = Member::at(3);
     let starts = [
         bringing(d, a, 7),
         bringing(a, b, 3),

@@ -1,25 +1,20 @@
 -- How the paths from a receipt to its orphans are gathered, and reasons told.
-use Rattle.std.proofs.Common.{ℕ, true, false, ◌≡◌, ◌<◌, ◌≤◌, ◌+◌, inl, inr, List, [], ◌∷◌, ◌++◌, length, map, take, Some, slice_get, refl, sym, ap, ◌∙◌}
-use Rattle.std.proofs.Common.{arith, get_or, length-append}
-use Rattle.std.proofs.lemmas.Bool.{false≢true, cases_eq}
-use Rattle.std.proofs.lemmas.List.{map-append, take_more}
-use Rattle.std.specs.FinSet as set
+use Rattle.std.proofs.Common.{ℕ, ◌≡◌, ◌<◌, ◌≤◌, ◌+◌, inl, inr, List, [], ◌∷◌, ◌++◌, length, take, Some, slice_get, sym, ◌∙◌}
+use Rattle.std.proofs.Common.{arith, get_or}
+use Rattle.std.proofs.lemmas.Bool.{cases_eq}
+use Rattle.std.proofs.lemmas.List.{take_more}
+use Rattle.std.specs.List.{AllZip}
 use Rattle.fbl_base.specs.MemberSets.{Members}
 use Rattle.fbl_base.specs.declared.trace.Determinant.{Determinant}
 use Rattle.fbl_base.specs.Audit.{Parts}
-use Rattle.fbl_base.specs.Events.{At, receipt_of}
-use Rattle.fbl_base.specs.Places.{DependsOnPlace}
-use Rattle.fbl_base.specs.Precedence.{Has}
 use Rattle.fbl_base.specs.Rules.{WellFormed}
 use Rattle.fbl_base.proofs.Gets.{At-below, At-front, At-new, At-push}
-use Rattle.fbl_base.proofs.PlacesAndEvents.{depends-from_places, places-from_depends}
-use Rattle.fbl_base.proofs.PrecedenceLaws.{Has-first, Has-last}
+use Rattle.fbl_base.proofs.PrecedenceLaws.{Has-last}
 use Rattle.fbl_audit.specs.Checking.{IsLeftOrphan}
-use Rattle.fbl_audit.specs.Paths.{IsPathTo}
 use Rattle.fbl_audit.proofs.Following.{member_within}
 use Rattle.fbl_explain.specs.declared.why.LossReason.{LossReason}
 use Rattle.fbl_explain.specs.declared.why.OrphanPath.{OrphanPath}
-use Rattle.fbl_explain.specs.Whys.{ArePathsTo, IsPathFrom, IsReasonOf, TellsOf}
+use Rattle.fbl_explain.specs.Whys.{ArePathsTo, IsPathFrom}
 
 -- ---- one receipt
 
@@ -81,46 +76,15 @@ PathsBy-all dump d members paths obeys few by = record {
   rising = by.rising;
 }
 
--- a receipt that the dump has not
-pub no_paths : (dump : Parts) (d : Determinant) (members : Members) → ¬ (Has dump.events (receipt_of d)) → ArePathsTo dump d members []
-no_paths dump d members none = record { each = λ k p at. cc; all = λ q left. absurd (none (Has-first left.1.1)); rising = λ k l p r before at_k at_l. cc }
-
--- a path makes an orphan of a member that is left, and where there is none it is no orphan
-pub left_by_path : (dump : Parts) (d : Determinant) (members : Members) (i q : ℕ) (path : List ℕ) → At dump.events i (receipt_of d) → set.contains members q ≡ false
-    → IsPathTo (record { events = dump.events; place = i }) q path → IsLeftOrphan dump members d q
-left_by_path dump d members i q path at out found =
-    let own = found.1.own in
-    (out, depends-from_places dump.events q i (receipt_of d) at (found.0, own.0, found.1.depends, own.1, own.2))
-
-pub not_left : (dump : Parts) (d : Determinant) (members : Members) (i q : ℕ) → WellFormed dump.members dump.events → At dump.events i (receipt_of d)
-    → ¬ (DependsOnPlace dump.events q i) → ¬ (IsLeftOrphan dump members d q)
-not_left dump d members i q obeys at none left = none (places-from_depends dump.members dump.events obeys q i (receipt_of d) at left.1)
-
-pub struck_not_left : (dump : Parts) (d : Determinant) (members : Members) (q : ℕ) → set.contains members q ≡ true → ¬ (IsLeftOrphan dump members d q)
-struck_not_left dump d members q has left = false≢true (sym left.0 ∙ has)
-
 -- ---- all receipts
 
-pub TellsOf-none : (dump : Parts) → TellsOf dump [] []
-TellsOf-none dump = record { count = refl; each = λ k x r at. cc }
-
 -- one more receipt with its reason
-pub TellsOf-more : {X : Type 0} (dump : Parts) (ask : X → Determinant × Members) (xs : List X) (i : ℕ) (x : X) (reasons : List LossReason) (r : LossReason)
-    → i < length xs → x ≡ get_or xs i x
-    → TellsOf dump (map ask (take i xs)) reasons → IsReasonOf dump (ask x).0 (ask x).1 r → TellsOf dump (map ask (take (i + 1) xs)) (reasons ++ r ∷ [])
-TellsOf-more dump ask xs i x reasons r below is tells reason =
-    let taken = take_more xs i x below ∙ ap (λ y. take i xs ++ y ∷ []) (sym is) in
-    let more : map ask (take (i + 1) xs) ≡ map ask (take i xs) ++ ask x ∷ [] = ap (map ask) taken ∙ map-append ask (take i xs) (x ∷ []) in
-    rw more record {
-      count = length-append reasons (r ∷ []) ∙ ap (λ n. n + 1) tells.count ∙ sym (length-append (map ask (take i xs)) (ask x ∷ []));
-      each = λ k y s at_y at_s. elim (At-push (map ask (take i xs)) (ask x) k y at_y) [
-        | inl old ↦ elim (At-push reasons r k s at_s) [
-          | inl old' ↦ tells.each k y s old old'
-          | inr new ↦ absurd (omega (arith, new.0, tells.count, At-below (map ask (take i xs)) k y old))
-        ]
-        | inr new ↦ elim (At-push reasons r k s at_s) [
-          | inl old ↦ absurd (omega (arith, new.0, tells.count, At-below reasons k s old))
-          | inr new' ↦ (rw (← new.1, ← new'.1) reason)
-        ]
-      ];
-    }
+pub reasons_more : {X : Type 0} (IsReason : X → LossReason → Type 0) (xs : List X) (i : ℕ) (x : X) (reasons : List LossReason) (r : LossReason) → i < length xs → x ≡ get_or xs i x
+    → AllZip IsReason (take i xs) reasons → IsReason x r → AllZip IsReason (take (i + 1) xs) (reasons ++ r ∷ [])
+reasons_more {X} IsReason xs i x reasons r below is told reason = rw (take_more xs i x below, ← is) (push (take i xs) reasons told)
+  where
+    push : (xs : List X) (rs : List LossReason) → AllZip IsReason xs rs → AllZip IsReason (xs ++ x ∷ []) (rs ++ r ∷ [])
+    push [] [] told = (reason, tt)
+    push [] (r' ∷ rs) told = absurd told
+    push (x' ∷ xs) [] told = absurd told
+    push (x' ∷ xs) (r' ∷ rs) told = (told.0, push xs rs told.1)

@@ -1,5 +1,6 @@
 -- Why receipts are lost, or could be.
-use Rattle.std.specs.Prelude.{ℕ, ◌≡◌, ◌<◌, List, length, map, Some, slice_get}
+use Rattle.std.specs.Prelude.{ℕ, ◌≡◌, ◌<◌, List, Some, slice_get}
+use Rattle.std.specs.List.{AllZip}
 use Rattle.fbl_base.specs.MemberSets.{Members}
 use Rattle.fbl_base.specs.declared.trace.Determinant.{Determinant}
 use Rattle.fbl_base.specs.Audit.{Parts, lost_determinants}
@@ -28,16 +29,11 @@ pub record IsReasonOf (dump : Parts) (d : Determinant) (members : Members) (reas
   pub strike : reason.strike ≡ members
   pub orphans : ArePathsTo dump d members reason.orphans.items
 
--- a reason is told of each of these receipts with the members that lose it, in their order
-pub record TellsOf (dump : Parts) (receipts : List (Determinant × Members)) (reasons : List LossReason) : Type 0 where
-  pub count : length reasons ≡ length receipts
-  pub each : (k : ℕ) (x : Determinant × Members) (r : LossReason) → slice_get receipts k ≡ Some x → slice_get reasons k ≡ Some r → IsReasonOf dump x.0 x.1 r
-
--- of the lost receipts, with the strike set
+-- a reason is told of each lost receipt with the strike set, in their order
 abbrev pub TellsLost : Parts → List LossReason → Type 0
-TellsLost dump reasons = TellsOf dump (map (λ d. (d, dump.strike)) (lost_determinants dump)) reasons
+TellsLost dump reasons = AllZip (λ d. IsReasonOf dump d dump.strike) (lost_determinants dump) reasons
 
--- of the unsafe receipts, each with the least members that may be lost and lose it
+-- a reason is told of each unsafe receipt with the least members that may be lost and lose it, in their order
 abbrev pub TellsUnsafe : Parts → List LossReason → Type 0
 TellsUnsafe dump reasons =
-    (said : List UnsafeReceipt) × SaysUnsafe dump (receipts_of_dump dump) said × TellsOf dump (map (λ u. (u.determinant, u.strike)) said) reasons
+    (said : List UnsafeReceipt) × SaysUnsafe dump (receipts_of_dump dump) said × AllZip (λ u. IsReasonOf dump u.determinant u.strike) said reasons

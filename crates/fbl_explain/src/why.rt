@@ -66,7 +66,7 @@ fn paths_to_orphans(
     };
     let paths = Paths::of(alloc, dump, place)?;
     for number in 0..16u8 {
-        let orphan = Member::new(number).unwrap();
+        let orphan = Member::at(number);
         if !strike.has(orphan) {
             if let Some(places) = paths.to(alloc, orphan)? {
                 orphans.push(OrphanPath { orphan, places })?;

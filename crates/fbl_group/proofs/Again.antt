@@ -1,14 +1,8 @@
 -- Messages that are sent again.
-use Rattle.std.proofs.Common.{◌≡◌, ℕ, ◌+◌, ◌<◌, List, [], ◌∷◌, ◌++◌, length, take, Result, Ok, Err, sym, ap, subst, append_assoc, get_or}
-use Rattle.std.specs.Result.{IfOk}
+use Rattle.fbl_group.proofs.Common.{◌≡◌, ℕ, ◌+◌, ◌<◌, List, [], ◌∷◌, ◌++◌, length, take, Result, sym, ap, subst, append_assoc, get_or, IfOk, Note, Entry}
+use Rattle.fbl_group.proofs.Common.{piggybacked, Message, IsOnce, IsOnce-piggybacked, resent}
+use Rattle.std.proofs.Common.{Ok, Err}
 use Rattle.std.proofs.lemmas.List.{map_more}
-use Rattle.fbl_base.specs.declared.trace.Note.{Note}
-use Rattle.fbl_table.specs.declared.entry.Entry.{Entry}
-use Rattle.fbl_table.specs.Tables.{piggybacked}
-use Rattle.fbl_member.specs.Members.{Message}
-use Rattle.fbl_member.specs.Carried.{IsOnce}
-use Rattle.fbl_member.proofs.Once.{IsOnce-piggybacked}
-use Rattle.fbl_law.specs.Replaying.{resent}
 
 -- one message more
 pub again-step : (q p i : ℕ) (carried : List Entry) (sends : List (ℕ × Note)) (d : ℕ × Note) (first : List Message) {before after : List Message} {v : Message}

@@ -1,50 +1,30 @@
 -- What a recovery leaves, once the records that were rebuilt are in place.
-use Rattle.std.proofs.Common.{◌||◌, ◌⊎◌, inl, inr, ◌≡◌, ℕ, ◌+◌, ◌-◌, ◌<◌, ◌≤◌, true, cond, List, [], ◌∷◌, length, map, refl, sym, ap}
-use Rattle.std.proofs.Common.{◌∙◌, arith, Result, Ok, Err, Fits, w64, ◌^◌, slice_index_or, count_by, is_some}
-use Rattle.std.specs.List.{filter, cons_option}
+use Rattle.fbl_group.proofs.Common.{◌||◌, ◌⊎◌, ◌≡◌, ℕ, ◌+◌, ◌-◌, ◌<◌, ◌≤◌, cond, List, [], ◌∷◌, length, map, refl, sym, ap, ◌∙◌, arith}
+use Rattle.fbl_group.proofs.Common.{Result, Fits, slice_index_or, count_by, is_some, filter, get_or_past, sum_by-cons, Members, Event, mark_of, determinant_of, Next, Message, MemberRecord}
+use Rattle.fbl_group.proofs.Common.{blank, IsUp, IsDown, GroupRecord, channel_in, channel, member, knowledge, marks, receipts, IsSound, recovery_table, count_in, sent_again, working}
+use Rattle.fbl_group.proofs.Common.{length-left, sum_below-agree, Recovers, AreReplaced, IsReady, IsPutBack}
+use Rattle.std.proofs.Common.{w64, ◌^◌}
 use Rattle.std.specs.Result.{OnErr}
 use Rattle.std.specs.FinSet as set
-use Rattle.std.proofs.lemmas.Bool.{cases_Bool, cases_lt}
-use Rattle.std.proofs.Math.Bool.{or-true}
-use Rattle.std.proofs.lemmas.List.Sums.{sum_by-cons}
-use Rattle.fbl_base.specs.MemberSets.{Members}
-use Rattle.fbl_base.specs.declared.trace.Event.{Event}
 use Rattle.fbl_base.specs.declared.trace.Event.TheVariants as event
-use Rattle.fbl_base.specs.Events.{mark_of, determinant_of}
-use Rattle.fbl_base.specs.Fold.{Next}
-use Rattle.fbl_member.specs.Members.{Message, MemberRecord, blank}
-use Rattle.fbl_law.specs.Knowledge.{IsUp, IsDown}
-use Rattle.fbl_law.specs.Groups.{GroupRecord, channel_in, channel, messages_in, member, knowledge, marks, receipts}
-use Rattle.fbl_law.specs.Sound.{IsSound}
+use Rattle.fbl_law.specs.Groups.{messages_in}
 use Rattle.fbl_law.specs.GroupSteps.{IsRecovery}
-use Rattle.fbl_law.specs.Replaying.{is_replayed, stays_by, recovered_trace, count_in, resent_to, sent_again, working, IsRebuilt}
-use Rattle.fbl_base.proofs.Sifted.{length-left}
-use Rattle.fbl_law.proofs.GroupRecovery.{recovery-keeps}
-use Rattle.fbl_law.proofs.Undone.{cut-undone}
+use Rattle.fbl_law.specs.Replaying.{is_replayed, stays_by, recovered_trace, resent_to, IsRebuilt}
+use Rattle.fbl_law.proofs.GroupRecovery.{group_recovery_keeps}
+use Rattle.fbl_law.proofs.RecoveryLaws.{cut-undone}
 use Rattle.fbl_law.proofs.CutInOnePass.{recovered_trace-cut}
-use Rattle.fbl_law.proofs.ChannelCounts.{channel-outside, sum_below-agree, sent_again-agree, sent_again-short}
-use Rattle.fbl_law.proofs.ReplayLaws.{with-table, working-log, replayed_in-all, recovered_trace-rebuilt, recovery-made}
-use Rattle.fbl_group.specs.Recoveries.{messages_at, Recovers}
-use Rattle.fbl_group.specs.Channels.{AreReplaced}
-use Rattle.fbl_group.specs.Rebuilding.{IsReady, IsPutBack}
+use Rattle.fbl_law.proofs.ChannelCounts.{sent_again-short}
+use Rattle.fbl_law.proofs.ReplayLaws.{with-table, working-log, replayed_in-all, recovered_trace-rebuilt, rebuilt_is_recovered}
+use Rattle.fbl_group.specs.Recoveries.{messages_at}
 
 -- receipts are counted event by event
 pub counted-receipts : (trace : List Event) → count_by (λ e. is_some (determinant_of (mark_of e))) trace ≡ length (receipts (map mark_of trace))
 counted-receipts [] = refl
-counted-receipts (e ∷ trace) = sum_by-cons (λ x. cond (is_some (determinant_of (mark_of x))) 1 0) e trace ∙ at e (counted-receipts trace) where
-  at : (x : Event) → count_by (λ y. is_some (determinant_of (mark_of y))) trace ≡ length (receipts (map mark_of trace))
-      → cond (is_some (determinant_of (mark_of x))) 1 0 + count_by (λ y. is_some (determinant_of (mark_of y))) trace
-      ≡ length (cons_option (determinant_of (mark_of x)) (receipts (map mark_of trace)))
-  at (event.Send from ssn to note) ih = omega (arith, ih)
-  at (event.Receipt to rsn from ssn) ih = omega (arith, ih)
+counted-receipts (event.Send q k p note ∷ trace) = omega (arith, sum_by-cons (λ e. cond (is_some (determinant_of (mark_of e))) 1 0) (event.Send q k p note) trace, counted-receipts trace)
+counted-receipts (event.Receipt p n q k ∷ trace) = omega (arith, sum_by-cons (λ e. cond (is_some (determinant_of (mark_of e))) 1 0) (event.Receipt p n q k) trace, counted-receipts trace)
 
 pub on_err : {X E : Type 0} {P : Type 0} (result : Result X E) → P → OnErr result P
-on_err (Ok x) holds = tt
-on_err (Err e) holds = holds
-
--- what is no greater than a number that fits
-within : (most k : ℕ) → most < 2 ^ 64 → k ≤ most → Fits w64 k
-within most k fits few = omega (arith, fits, few)
+on_err result holds = grind arith
 
 -- the channels are made of what is sent again while these records stand for the members that are down
 abbrev AreSentAgain : GroupRecord → List MemberRecord → List (List (List Message)) → Type 0
@@ -80,9 +60,8 @@ module _ {next : Next} {old now : GroupRecord} {rebuilt : List MemberRecord} (so
     -- what is sent again on a channel is at most what the trace may have
     pub short-again : (q p : ℕ) → q < n → p < n → length (channel_in again q p) ≤ 8192
     short-again q p below_q below_p =
-        let within_q : q < old.config.members = omega (arith, all, below_q) in
-        rw (made q p within_q (omega (arith, all, below_p)))
-        (sent_again-short old.config.f old.down (working old rebuilt) q p 8192 (working-log next old sound rebuilt ready.replayed.replaying q within_q))
+        rw (made q p (omega (arith, all, below_q)) (omega (arith, all, below_p)))
+        (sent_again-short old.config.f old.down (working old rebuilt) q p 8192 (working-log next old sound rebuilt ready.replayed.replaying q (omega (arith, all, below_q))))
 
   -- the trace that is cut
   module _ {s : Members} {rest : List Event} (is_down : s ≡ now.down) (is_cut : rest ≡ filter (λ e. stays_by s (λ p. slice_index_or rebuilt p blank) (mark_of e)) old.trace) where
@@ -113,7 +92,7 @@ module _ {next : Next} {old now : GroupRecord} {rebuilt : List MemberRecord} (so
 
         -- the counter of undone receipts stays within that of all receipts
         pub undone-fits : old.receipts_ever < 2 ^ 64 → Fits w64 (old.undone_ever + undone)
-        undone-fits fits = within old.receipts_ever (old.undone_ever + undone) fits (omega (arith, undone-left, sound.counted))
+        undone-fits fits = omega (arith, fits, undone-left, sound.counted)
 
         -- the group that is left
         module _ {new : GroupRecord} {n : ℕ} {records : List MemberRecord} (again : List (List (List Message))) (all : n ≡ old.config.members)
@@ -131,69 +110,37 @@ module _ {next : Next} {old now : GroupRecord} {rebuilt : List MemberRecord} (so
           channels = (rw all at replaced)
 
           works : (q : ℕ) → q < old.config.members → member new q ≡ working old rebuilt q
-          works q below = elim (cases_Bool (set.contains old.down q)) [
-            | inl is ↦ rw is (members.put q (omega (arith, below, sound.members)) is)
-            | inr is ↦ rw is (members.kept q is)
-          ]
+          works q below = grind (arith, members.put q, members.kept q, sound.members)
 
           -- a channel with an end that was down has what its sender sends again
           resent_on : (q p : ℕ) → IsDown (knowledge old) q ⊎ IsDown (knowledge old) p → q < old.config.members → p < old.config.members
               → channel new q p ≡ resent_to old.config.f q p (member new q) (member new p)
-          resent_on q p down below_q below_p =
-              (rw (ends down) at (channels.each q p below_q below_p)) ∙ again-is q p below_q below_p
-              ∙ sent_again-agree old.config.f old.down (working old rebuilt) (λ m. member new m) q p (sym (works q below_q)) (sym (works p below_p)) ∙ rw (ends down) refl
-            where
-              ends : IsDown (knowledge old) q ⊎ IsDown (knowledge old) p → (set.contains old.down q || set.contains old.down p) ≡ true
-              ends (inl is) = rw is refl
-              ends (inr is) = rw is (or-true (set.contains old.down q))
+          resent_on q p down below_q below_p = grind (arith, channels.each q p, again-is q p, works q, works p)
 
           -- the others stay
           survive : (q p : ℕ) → IsUp (knowledge old) q → IsUp (knowledge old) p → channel new q p ≡ channel old q p
-          survive q p up_q up_p = at (cases_lt q old.config.members) (cases_lt p old.config.members) where
-            outside : (old.config.members ≤ q) ⊎ (old.config.members ≤ p) → channel new q p ≡ channel old q p
-            outside out = channel-outside old.config.members new.channels q p channels.shape out ∙ sym (channel-outside old.config.members old.channels q p sound.shape out)
-
-            at : (q < old.config.members) ⊎ (old.config.members ≤ q) → (p < old.config.members) ⊎ (old.config.members ≤ p) → channel new q p ≡ channel old q p
-            at (inl below_q) (inl below_p) = (rw (up_q, up_p) at (channels.each q p below_q below_p))
-            at (inl below_q) (inr past) = outside (inr past)
-            at (inr past) within_p = outside (inl past)
+          survive q p up_q up_p = grind (arith, get_or_past, channels.each q p, channels.shape, sound.shape)
 
           -- how many messages are sent again
           counted : messages_in old.config.members again ≡ messages_at old.down new
           counted = rw config (sum_below-agree old.config.members _ _ (λ q below_q. sum_below-agree old.config.members _ _ (λ p below_p. one q p below_q below_p))) where
             one : (q p : ℕ) → q < old.config.members → p < old.config.members
                 → length (channel_in again q p) ≡ cond (set.contains old.down q || set.contains old.down p) (length (channel new q p)) 0
-            one q p below_q below_p = elim (cases_Bool (set.contains old.down q || set.contains old.down p)) [
-              | inl is ↦ rw is (ap length (sym (rw is at (channels.each q p below_q below_p))))
-              | inr is ↦ rw (again-is q p below_q below_p, is) refl
-            ]
+            one q p below_q below_p = grind (arith, channels.each q p, again-is q p)
 
           marks_left : length (receipts (marks new)) ≡ length (receipts (map mark_of left))
           marks_left = ap (λ (es : List Event). length (receipts (map mark_of es))) (trace ∙ cut-left)
 
           is_rebuilt : IsRebuilt old new rebuilt
-          is_rebuilt = record {
-            rest = record {
-              nobody_down = down;
-              size = members.size;
-              survivors = members.kept;
-              shape = channels.shape;
-              channels = survive;
-              config = config;
-              receipts_ever = receipts_ever;
-              undone_ever = omega (arith, undone_ever, undone-left, marks_left);
-              checkpoints = checkpoints;
-            };
-            trace = trace ∙ cut-left ∙ left-is;
-            rebuilt = λ m below is. members.put m (omega (arith, below, sound.members)) is ∙ with-table (slice_index_or rebuilt m blank) _ (ready.tables m below is);
-            resent = resent_on;
-          }
+          is_rebuilt =
+              let table = λ (m : ℕ). with-table (slice_index_or rebuilt m blank) (recovery_table (knowledge old)) in
+              grind (arith, down, members, channels.shape, survive, config, trace, cut-left, left-is, undone-left, marks_left, ready.tables, table, sound.members, resent_on)
 
           is_recovery : IsRecovery next old new
-          is_recovery = recovery-made next old sound rebuilt ready.replayed.replaying ready.replayed.waiting new is_rebuilt
+          is_recovery = rebuilt_is_recovered next old sound rebuilt ready.replayed.replaying ready.replayed.waiting new is_rebuilt
 
           pub is_sound : IsSound next new
-          is_sound = recovery-keeps next old new is_recovery sound
+          is_sound = group_recovery_keeps next old new is_recovery sound
 
           -- what is answered, from the number of receipts that were replayed and of messages that are sent again
           pub recovers : {replays messages : ℕ} {saved : List MemberRecord}

@@ -1,12 +1,9 @@
 -- The parts of a dump.
-use Rattle.std.proofs.Common.{◌≡◌, ℕ, ◌+◌, ◌<◌, List, [], ◌∷◌, ◌++◌, length, take, get_or, Some, slice_get, refl, add-one, arith, below_more}
-use Rattle.std.specs.Prelude.{slice_index_or}
-use Rattle.std.proofs.lemmas.List.{map-append, length-take-le, take_more, get_or_read_under}
+use Rattle.fbl_group.proofs.Common.{◌≡◌, ℕ, ◌+◌, ◌<◌, List, [], ◌∷◌, ◌++◌, length, take, get_or, Some, slice_get, refl, add-one, arith, slice_index_or, map-append}
+use Rattle.fbl_group.proofs.Common.{take_more, Entry, IsOnce, MemberRecord, blank, pairs_of, pairs_from}
+use Rattle.std.proofs.Common.{below_more}
+use Rattle.std.proofs.lemmas.List.{length-take-le, get_or_read_under}
 use Rattle.fbl_base.proofs.Gets.{take-more}
-use Rattle.fbl_table.specs.declared.entry.Entry.{Entry}
-use Rattle.fbl_member.specs.Carried.{IsOnce}
-use Rattle.fbl_member.specs.Members.{MemberRecord, blank}
-use Rattle.fbl_law.specs.Dumps.{pairs_of, pairs_from}
 use Rattle.fbl_law.proofs.DumpLaws.{pairs_from-push}
 
 -- one more entry

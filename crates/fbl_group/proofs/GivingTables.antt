@@ -1,11 +1,8 @@
 -- The loop that gives the members that are down the gathered table, one after the other.
-use Rattle.std.proofs.Common.{◌≡◌, ℕ, ◌+◌, ◌<◌, ◌≤◌, true, false, List, length, refl, ◌∙◌, arith, slice_index_or, slice_set}
+use Rattle.fbl_group.proofs.Common.{◌≡◌, ℕ, ◌+◌, ◌<◌, ◌≤◌, true, false, List, length, arith, slice_index_or, slice_set, common_steps, get_or_default, Members, Entry}
+use Rattle.fbl_group.proofs.Common.{MemberRecord, blank}
 use Rattle.std.specs.FinSet as set
-use Rattle.fbl_base.specs.MemberSets.{Members}
-use Rattle.fbl_table.specs.declared.entry.Entry.{Entry}
-use Rattle.fbl_member.specs.Members.{MemberRecord, blank}
-use Rattle.fbl_group.proofs.Queues.{Turned, turned-set, turned-kept}
-use Rattle.fbl_group.proofs.Recovering.{read_at}
+use Rattle.fbl_group.proofs.Queues.{Turned}
 
 -- the members of the set below i have the table, and while one from i on needs it, it is what is left
 pub record Giving (down : Members) (table : List Entry) (first : List MemberRecord) (i : ℕ) (rebuilt : List MemberRecord) (gathered : List Entry) : Type 0 where
@@ -17,15 +14,7 @@ module _ {down : Members} {table : List Entry} {first : List MemberRecord} {i : 
   pub give-one : {place : ℕ} {after : List Entry} {x y : MemberRecord} → place ≡ i → i < length first → set.contains down i ≡ true
       → x ≡ slice_index_or rebuilt place x
       → y ≡ record x { table = before } → ((p : ℕ) → i < p → set.contains down p ≡ true → after ≡ before) → Giving down table first (i + 1) (slice_set rebuilt place y) after
-  give-one is_place below here read made stays =
-      let was = read_at rebuilt is_place (omega (arith, so_far.turned.size, below)) read ∙ so_far.turned.rest i (omega arith) in
-      record {
-        turned = turned-set so_far.turned is_place below (λ there. rw (made, was, so_far.left i (omega arith) there) refl);
-        left = λ p past there. stays p (omega (arith, past)) there ∙ so_far.left p (omega (arith, past)) there;
-      }
+  give-one is_place below here read made stays = grind (arith, common_steps, get_or_default)
 
   pub give-none : set.contains down i ≡ false → Giving down table first (i + 1) rebuilt before
-  give-none up = record {
-    turned = turned-kept so_far.turned (λ there. cc);
-    left = λ p past there. so_far.left p (omega (arith, past)) there;
-  }
+  give-none up = grind arith

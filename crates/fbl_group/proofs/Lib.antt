@@ -1,3 +1,4 @@
+pub mod Common
 pub mod Queues
 pub mod Views
 pub mod Planning

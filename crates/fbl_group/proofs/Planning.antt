@@ -1,40 +1,26 @@
 -- What is known of a delivery that is planned.
-use Rattle.std.proofs.Common.{Some, None, ◌≡◌, ◌≢◌, ℕ, suc, ◌+◌, ◌<◌, ◌≤◌, false, List, [], ◌∷◌, ◌++◌, length, map, refl, sym, subst, ap}
-use Rattle.std.proofs.Common.{◌∙◌, append_assoc, arith, get_or, length-append, Fits, w32, slice_get, slice_set, All}
-use Rattle.std.proofs.lemmas.Bool.Decides.{nat_tests}
-use Rattle.fbl_base.specs.declared.trace.Event.{Event}
+use Rattle.fbl_group.proofs.Common.{Some, None, ◌≡◌, ◌≢◌, ℕ, ◌+◌, ◌<◌, ◌≤◌, false, List, [], ◌∷◌, ◌++◌, length, map, refl, sym, subst, ap, ◌∙◌}
+use Rattle.fbl_group.proofs.Common.{append_assoc, arith, get_or, length-append, Fits, w32, slice_get, slice_set, All, nat_tests, Event, Outcome, Note, Next, Entry, piggybacked, Message}
+use Rattle.fbl_group.proofs.Common.{MemberRecord, messages_from, IsUp, taken_off, between, GroupRecord, HasChannels, member, channel, channel_in, knowledge, IsSound, step_of, all_up}
+use Rattle.fbl_group.proofs.Common.{receipts_fit, front_flight, IsOnce, front_message, send_of_message, taken_and_sent, IsPlanned, set-get_or}
 use Rattle.fbl_base.specs.declared.trace.Event.TheVariants.{Receipt}
-use Rattle.fbl_base.specs.declared.outcome.Outcome.{Outcome}
-use Rattle.fbl_base.specs.declared.trace.Note.{Note}
-use Rattle.fbl_base.specs.Fold.{Next}
 use Rattle.fbl_base.specs.Steps.{SendsAllowed}
-use Rattle.fbl_table.specs.declared.entry.Entry.{Entry}
-use Rattle.fbl_table.specs.Tables.{is_held, piggybacked}
-use Rattle.fbl_member.specs.Members.{Message, MemberRecord, last_from, received_by, messages_from, table_after, next_determinant}
-use Rattle.fbl_law.specs.Knowledge.{IsInFlight, IsUp}
-use Rattle.fbl_law.specs.Steps.{taken_off, between}
-use Rattle.fbl_law.specs.Groups.{GroupRecord, HasChannels, member, channel, channel_in, knowledge}
-use Rattle.fbl_law.specs.Sound.{IsSound}
-use Rattle.fbl_law.specs.GroupSteps.{step_of, made as made_by, delivery_events, IsDelivery}
+use Rattle.fbl_table.specs.Tables.{is_held}
+use Rattle.fbl_member.specs.Members.{last_from, received_by, table_after, next_determinant}
+use Rattle.fbl_law.specs.Knowledge.{IsInFlight}
+use Rattle.fbl_law.specs.GroupSteps.{made as made_by, delivery_events, IsDelivery}
 use Rattle.fbl_law.specs.GroupLaws.{SendsWell}
-use Rattle.fbl_law.proofs.GroupFacts.{all_up, receipts_fit, sends_fit, receipt_is_new, new_not_held, new_not_carried, flight_ends, front_flight, front_is_later}
-use Rattle.fbl_member.specs.Carried.{IsOnce}
+use Rattle.fbl_law.proofs.GroupFacts.{sends_fit, receipt_is_new, new_not_held, new_not_carried, flight_ends, front_is_later}
 use Rattle.fbl_law.proofs.DumpLaws.{carried_fits}
 use Rattle.fbl_law.proofs.GroupDelivery.{length-step_events, group_delivery_keeps}
-use Rattle.fbl_group.specs.Channels.{front_message, send_of_message, taken_and_sent}
-use Rattle.fbl_group.specs.Deliveries.{IsPlanned, Delivered}
+use Rattle.fbl_group.specs.Deliveries.{Delivered}
 use Rattle.fbl_group.specs.Tickets.{has_no_room}
-use Rattle.fbl_group.proofs.Queues.{first-is, messages-from, messages-to, none-some, sends-messages, settled-in, settled-shape}
-use Rattle.std.proofs.lemmas.List.{get_or_default, set-get_or}
+use Rattle.fbl_group.proofs.Queues.{first-is, messages-all, sends-messages, settled-in}
+use Rattle.fbl_group.proofs.Recovering.{read_at}
 
 -- where there is room, the limit holds and the counter can rise
 pub has_room : (limit len ever sends : ℕ) → has_no_room limit len ever sends ≡ false → (len + 1 + sends ≤ limit) × (ever ≢ 18446744073709551615)
 has_room limit len ever sends room = (grind (arith, nat_tests), λ is. grind (arith, nat_tests))
-
--- parts of a record that are written with what they were
-same_parts : (r : GroupRecord) (members : List MemberRecord) (channels : List (List (List Message))) (trace : List Event) → members ≡ r.members
-    → channels ≡ r.channels → trace ≡ r.trace → record r { members = members; channels = channels; trace = trace } ≡ r
-same_parts r members channels trace e1 e2 e3 i = record r { members = e1 i; channels = e2 i; trace = e3 i }
 
 -- what the receiver's step asks of the message that is read at the front, and of the record at the receiver's place
 pub record Reads (next : Next) (n p : ℕ) (outcome : Outcome) (w : Message) (x : MemberRecord) : Type 0 where
@@ -94,8 +80,7 @@ module _ {next : Next} {r now : GroupRecord} {q p : ℕ} {outcome : Outcome} (we
     -- where memory ran out, all is as it was
     pub stays : (place : ℕ) {x before : MemberRecord} {trace : List Event} → x ≡ before → before ≡ get_or r.members place before
         → trace ≡ r.trace → record r { members = slice_set r.members place x; channels = cs; trace = trace } ≡ r
-    stays place {before = before} {trace = trace} unchanged read kept =
-        same_parts r _ cs trace (ap (λ y. slice_set r.members place y) (unchanged ∙ read) ∙ set-get_or r.members place before) same kept
+    stays place {before = before} unchanged read kept = rw (kept, same, unchanged, read, set-get_or r.members place before) refl
 
     rows : (a : ℕ) → a < r.config.members → length (get_or cs a []) ≡ r.config.members
     rows a below = rw same (sound.shape.receivers a below)
@@ -104,14 +89,15 @@ module _ {next : Next} {r now : GroupRecord} {q p : ℕ} {outcome : Outcome} (we
     below_receiver = omega (arith, rows q plan.from_member, plan.to_member)
 
     pub not_empty : slice_get (channel_in cs q p) 0 ≡ None → ⊥
-    not_empty none = none-some _ _ (rw same at none) plan.first
+    not_empty none = (let first = rw none at (rw (← same) at plan.first) in cc)
 
     pub receivers_in : {given : List (ℕ × Note)} → given ≡ outcome.sends.items → All (λ (s : ℕ × Note). s.0 < length (get_or cs p [])) given
-    receivers_in is = rw is (λ k d below. (let one = receivers k d below in omega (arith, one, rows p plan.to_member)))
+    receivers_in is = rw is (λ k d below. omega (arith, receivers k d below, rows p plan.to_member))
 
     pub sent_in : {made : List Message} (before : ℕ) (carried : List Entry) → made ≡ messages_from p before carried outcome.sends.items
         → All (λ (w : Message). w.to < length (get_or cs p [])) made
-    sent_in before carried is = rw is (messages-to (λ k. k < length (get_or cs p [])) p before carried outcome.sends.items (receivers_in {given = outcome.sends.items} refl))
+    sent_in before carried is =
+        rw is (λ k d below. (messages-all (λ k. k < length (get_or cs p [])) p before carried outcome.sends.items (receivers_in {given = outcome.sends.items} refl) k d below).1)
 
     -- what is read at the front is the message
     module _ {w : Message} (front : slice_get (channel_in cs q p) 0 ≡ Some w) where
@@ -121,29 +107,22 @@ module _ {next : Next} {r now : GroupRecord} {q p : ℕ} {outcome : Outcome} (we
       pub few_carried : {carried : List Entry} → carried ≡ w.carried → IsOnce carried → Fits w32 (length carried)
       few_carried {carried = carried} is once =
           let same : carried ≡ v.carried = is ∙ ap (λ (u : Message). u.carried) is_v in
-          fits (length carried) (omega (arith, ap length same, carried_fits next r sound v flies (subst IsOnce same once), sound.room, sound.config.limit.1))
-        where
-          fits : (n : ℕ) → n ≤ 8192 → Fits w32 n
-          fits n few = omega (arith, few)
+          omega (arith, ap length same, carried_fits next r sound v flies (subst IsOnce same once), sound.room, sound.config.limit.1)
 
       -- and what is read at the member's place is its record
       module _ {place : ℕ} {x : MemberRecord} (at_place : place ≡ p) (read : x ≡ get_or r.members place x) where
         is_m : x ≡ m
-        is_m = read ∙ ap (λ k. get_or r.members k x) at_place ∙ get_or_default r.members p x _ (omega (arith, plan.to_member, sound.members))
+        is_m = read_at r.members at_place (omega (arith, plan.to_member, sound.members)) read
 
         pub reads : {n : ℕ} → n ≡ r.config.members → Reads next n p outcome w x
-        reads is = rw (is, is_m, is_v) (record {
-          least = sound.config.members.0;
-          most = sound.config.members.1;
-          member = plan.to_member;
-          to_me = to_receiver;
-          newer = rw of_sender (front_is_later next r sound q p v plan.first);
-          not_held = rw of_sender (new_not_held next r sound p _ (receipt_is_new next r sound p q v.ssn plan.to_member up));
-          not_carried = rw of_sender (new_not_carried next r sound v _ flies (receipt_is_new next r sound p q v.ssn plan.to_member up));
-          step = step;
-          receipts = omega (arith, receipts_fit next r sound p plan.to_member up, room.0, sound.config.limit.1);
-          sends = omega (arith, sends_fit next r sound p plan.to_member up, room.0, sound.config.limit.1);
-        })
+        reads is =
+            let new = receipt_is_new next r sound p q v.ssn plan.to_member up in
+            let newer = front_is_later next r sound q p v plan.first in
+            let not_held = new_not_held next r sound p _ new in
+            let not_carried = new_not_carried next r sound v _ flies new in
+            let receipts = receipts_fit next r sound p plan.to_member up in
+            let sends = sends_fit next r sound p plan.to_member up in
+            rw (is, is_m, is_v) grind (arith, sound.config, plan.to_member, of_sender, to_receiver, newer, not_held, not_carried, step, receipts, sends, room)
 
         -- the record after the delivery, from what each step of it made
         module _ {after_rows : List (List (List Message))} {f ssn rsn : ℕ} {after : MemberRecord} {made : List Message} {reserved pushed trace : List Event}
@@ -163,23 +142,11 @@ module _ {next : Next} {r now : GroupRecord} {q p : ℕ} {outcome : Outcome} (we
           made_next : made ≡ made_by next r v
           made_next = made_is ∙ rw (plan.step, to_receiver) refl
 
-          froms : All (λ (u : Message). u.from ≡ p) made
-          froms = rw sent (messages-from p _ _ outcome.sends.items)
+          ends : All (λ (u : Message). (u.from ≡ p) × (u.to < r.config.members)) made
+          ends = rw sent (messages-all (λ k. k < r.config.members) p _ _ outcome.sends.items receivers)
 
-          tos : All (λ (u : Message). u.to < r.config.members) made
-          tos = rw sent (messages-to (λ k. k < r.config.members) p _ _ outcome.sends.items receivers)
-
-          moves : after_rows ≡ taken_and_sent r.channels q p made
-          moves = rw same at moved
-
-          shape : HasChannels r.config.members after_rows
-          shape = rw moves (settled-shape v made sound.shape plan.from_member plan.to_member apart of_sender to_receiver froms tos)
-
-          channels : (a b : ℕ) → channel new a b ≡ taken_off v a b (channel r a b) ++ between a b (made_by next r v)
-          channels a b =
-              ap (λ (y : List (List (List Message))). channel_in y a b) moves
-              ∙ settled-in v made sound.shape plan.from_member plan.to_member apart of_sender to_receiver froms tos a b
-              ∙ ap (λ (ws : List Message). taken_off v a b (channel r a b) ++ between a b ws) made_next
+          settled : HasChannels r.config.members after_rows × ((a b : ℕ) → channel new a b ≡ taken_off v a b (channel r a b) ++ between a b (made_by next r v))
+          settled = rw (moved, same, ← made_next) (settled-in v made sound.shape plan.from_member plan.to_member of_sender to_receiver ends)
 
           rsn_next : rsn ≡ m.received + 1
           rsn_next = rsn_is ∙ ap (λ (y : MemberRecord). y.received) receives
@@ -188,27 +155,14 @@ module _ {next : Next} {r now : GroupRecord} {q p : ℕ} {outcome : Outcome} (we
           trace_is = rw (sends, receipt, kept, made_is, append_assoc, sends-messages, rsn_next, ssn_is, is_v, plan.step, to_receiver, of_sender) refl
 
           longer : length trace ≡ length r.trace + 1 + length outcome.sends.items
-          longer = ap length trace_is ∙ length-append r.trace (delivery_events next r v)
-              ∙ ap (λ (k : ℕ). length r.trace + suc k) (length-step_events v.to (length (member r v.to).log) (step_of next r v).sends.items
-              ∙ ap (λ (o : Outcome). length o.sends.items) (sym plan.step)) ∙ omega arith
+          longer =
+              let sent = length-step_events v.to (length (member r v.to).log) (step_of next r v).sends.items in
+              let step : (step_of next r v).sends.items ≡ outcome.sends.items = ap (λ (o : Outcome). o.sends.items) (sym plan.step) in
+              omega (arith, ap length trace_is, length-append r.trace (delivery_events next r v), sent, ap length step)
 
           is_delivery : IsDelivery next r new v
-          is_delivery = record {
-            nobody_down = plan.nobody_down;
-            front = rw (of_sender, to_receiver) plan.first;
-            to_member = rw to_receiver plan.to_member;
-            from_member = rw of_sender plan.from_member;
-            room = omega (arith, longer, room.0);
-            trace = trace_is;
-            members = rw (at_place, receives, plan.step, to_receiver) refl;
-            shape = shape;
-            channels = channels;
-            receipts_ever = refl;
-            undone_ever = refl;
-            config = refl;
-            down = refl;
-            checkpoints = refl;
-          }
+          is_delivery =
+              grind (arith, plan, of_sender, to_receiver, room, longer, trace_is, at_place, receives, settled)
 
           pub is_sound : IsSound next new
           is_sound = group_delivery_keeps next r new v well is_delivery sound
@@ -216,10 +170,4 @@ module _ {next : Next} {r now : GroupRecord} {q p : ℕ} {outcome : Outcome} (we
           -- what the delivery answers
           pub is_delivered : {carried : List Entry} → carried ≡ w.carried
               → Delivered next now new (front_message now q p) (record { rsn = rsn; carried = length carried; state = outcome.state })
-          is_delivered {carried = carried} is = subst (λ (old : GroupRecord).
-              Delivered next old new (front_message old q p) (record { rsn = rsn; carried = length carried; state = outcome.state })) view (record {
-                delivery = is_delivery;
-                rsn = rw to_receiver rsn_next;
-                carried = ap length (is ∙ ap (λ (u : Message). u.carried) is_v);
-                state = ap (λ (o : Outcome). o.state) plan.step;
-              })
+          is_delivered {carried = carried} is = rw (← view) grind (arith, is_delivery, to_receiver, rsn_next, is_v, plan.step)

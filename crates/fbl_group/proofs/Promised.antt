@@ -1,19 +1,11 @@
 -- What strikes and recoveries promise.
-use Rattle.std.proofs.Common.{◌≡◌, length, inl, inr, sym, subst, arith}
-use Rattle.fbl_base.specs.MemberSets.{Members}
-use Rattle.fbl_base.specs.Fold.{Next}
-use Rattle.fbl_member.specs.Members.{MemberRecord}
-use Rattle.fbl_law.specs.Knowledge.{IsUp, Names, table}
-use Rattle.fbl_law.specs.Groups.{GroupRecord, knowledge}
+use Rattle.fbl_group.proofs.Common.{◌≡◌, length, inr, arith, Members, Next, GroupRecord, knowledge, IsSound, IsStrike, lost_receipts, Recovers, inl}
+use Rattle.fbl_law.specs.Knowledge.{table}
 use Rattle.fbl_law.specs.Promises.{SurvivorsHold, RecordsCauses, LeavesRecorded, GainsHolders, KeepsHolders}
-use Rattle.fbl_law.specs.Sound.{IsSound}
-use Rattle.fbl_law.specs.GroupSteps.{IsStrike}
 use Rattle.fbl_law.proofs.Safe.{down_or_up, IsRecorded-before}
 use Rattle.fbl_law.proofs.Promises.{sound_survivors_hold}
 use Rattle.fbl_law.proofs.RecoveryLaws.{recovery_undoes_lost}
 use Rattle.fbl_group.specs.declared.answers.Recovered.{Recovered}
-use Rattle.fbl_group.specs.Strikes.{lost_receipts}
-use Rattle.fbl_group.specs.Recoveries.{Recovers}
 
 -- survivors are those that are not down
 pub survivors_hold : (next : Next) (r : GroupRecord) → IsSound next r → SurvivorsHold (knowledge r) r.down
@@ -36,8 +28,5 @@ pub keeps_holders : (old down new : GroupRecord) (set : Members)
 keeps_holders old down new set strike leaves gains d m left holds =
     elim (down_or_up down.down m) [
       | inl is ↦ (gains d m).1 (inr (is, ((leaves.exactly d).0 left).1))
-      | inr up ↦ (gains d m).1 (inl (up, still up))
+      | inr up ↦ (gains d m).1 (inl (up, rw (strike.survivors m up, table) holds.1))
     ]
-  where
-    still : IsUp (knowledge down) m → Names (table (knowledge down) m) d
-    still up = subst (λ (x : MemberRecord). Names x.table d) (sym (strike.survivors m up)) holds.1

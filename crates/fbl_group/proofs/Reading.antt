@@ -1,24 +1,18 @@
 -- How large the parts of a sound group are.
-use Rattle.std.proofs.Common.{◌≡◌, ℕ, ◌+◌, ◌-◌, ◌*◌, ◌≤◌, ◌==◌, not, Bool, List, [], ◌∷◌, length, map, inl, inr, refl, sym, ap, ◌∙◌}
-use Rattle.std.proofs.Common.{arith}
+use Rattle.fbl_group.proofs.Common.{◌≡◌, ℕ, ◌+◌, ◌-◌, ◌*◌, ◌≤◌, ◌==◌, not, Bool, List, [], ◌∷◌, length, map, refl, sym, ap, ◌∙◌, arith, length-map}
+use Rattle.fbl_group.proofs.Common.{sum_by-cons, length-left, determinant_of, mark_of, Next, IsOnce, IsUp, GroupRecord, member, channel, marks, knowledge, receipts, sum_below, IsSound}
+use Rattle.fbl_group.proofs.Common.{all_up, sum_below-agree, inl, inr}
 use Rattle.std.specs.Prelude.{sum_by}
 use Rattle.std.specs.List.{filter_map, list_any}
 use Rattle.std.specs.FinSet as set
-use Rattle.std.proofs.lemmas.List.{length-map}
-use Rattle.std.proofs.lemmas.List.Sums.{sum_by-cons}
-use Rattle.fbl_base.proofs.Sifted.{length-left, length-filter_map}
+use Rattle.fbl_base.proofs.Sifted.{length-filter_map}
 use Rattle.fbl_base.specs.declared.trace.Mark.{Mark}
 use Rattle.fbl_base.specs.declared.trace.Mark.TheVariants.{Send, Receipt}
-use Rattle.fbl_base.specs.Events.{determinant_of, mark_of}
 use Rattle.fbl_base.specs.Rules.{in_flight, sent_on, taken_on}
-use Rattle.fbl_base.specs.Fold.{Next}
-use Rattle.fbl_member.specs.Carried.{IsOnce}
-use Rattle.fbl_law.specs.Knowledge.{send_mark, IsUp, MatchesTrace}
-use Rattle.fbl_law.specs.Groups.{GroupRecord, member, channel, marks, knowledge, receipts, messages_in_flight, sum_below}
-use Rattle.fbl_law.specs.Sound.{IsSound}
-use Rattle.fbl_law.proofs.Safe.{down_or_up}
-use Rattle.fbl_law.proofs.GroupFacts.{all_up, trace_fits}
-use Rattle.fbl_law.proofs.ChannelCounts.{sum_below-agree}
+use Rattle.fbl_law.specs.Knowledge.{send_mark, MatchesTrace}
+use Rattle.fbl_law.specs.Groups.{messages_in_flight}
+use Rattle.fbl_law.proofs.Safe.{down_or_both_up}
+use Rattle.fbl_law.proofs.GroupFacts.{trace_fits}
 use Rattle.fbl_law.proofs.WeightKept.{weight_in, weight_on, into, out, flow}
 use Rattle.fbl_law.proofs.DumpLaws.{table_fits}
 
@@ -75,12 +69,9 @@ module _ (next : Next) (r : GroupRecord) (sound : IsSound next r) where
 
   -- a channel has at most as many messages as the trace may have events
   pub channel_fits : (q p : ℕ) → length (channel r q p) ≤ 8192
-  channel_fits q p = elim (down_or_up r.down q) [
-    | inl down ↦ rw (sound.causes.down.channels q p (inl down)) omega arith
-    | inr up ↦ elim (down_or_up r.down p) [
-      | inl down ↦ rw (sound.causes.down.channels q p (inr down)) omega arith
-      | inr up_to ↦ omega (arith, as-in-flight q p up up_to, in_flight-fits (marks r) q p, trace_fits next r sound)
-    ]
+  channel_fits q p = elim (down_or_both_up r.down q p) [
+    | inl down ↦ rw (sound.causes.down.channels q p down) omega arith
+    | inr up ↦ omega (arith, as-in-flight q p up.0 up.1, in_flight-fits (marks r) q p, trace_fits next r sound)
   ]
 
   -- and so has a table at most as many entries

@@ -1,26 +1,18 @@
 -- What a group is made of at its start.
-use Rattle.std.proofs.Common.{◌≡◌, ◌≢◌, ◌⊎◌, inl, inr, ℕ, zero, suc, ◌+◌, ◌<◌, ◌==◌, cond, List, [], ◌∷◌, ◌++◌, length, map, take, drop}
-use Rattle.std.proofs.Common.{get_or, Option, Some, None, refl, ap, ◌∙◌, arith, append_assoc, slice_get, slice_index, slice_index_or, slice_set, count_by}
-use Rattle.std.specs.List.{filter_map, cons_option, IsDistinct}
-use Rattle.std.proofs.lemmas.Bool.{cases_eq}
-use Rattle.std.proofs.lemmas.List.{map-append, get_or-set_same, get_or-set_other, take_more}
-use Rattle.std.proofs.lemmas.List.Elements.{filter-append, filter_map-append}
+use Rattle.fbl_group.proofs.Common.{◌≡◌, ℕ, zero, suc, ◌+◌, ◌<◌, ◌==◌, cond, List, [], ◌∷◌, ◌++◌, length, map, take, drop, get_or, Option, Some, None, refl}
+use Rattle.fbl_group.proofs.Common.{◌∙◌, arith, append_assoc, slice_get, slice_index, slice_index_or, slice_set, cons_option, nat_tests, map-append, get_or-set_same, get_or-set_other}
+use Rattle.fbl_group.proofs.Common.{take_more, filter-append, filter_map-append, Note, Event, mark_of, sends_of, Message, is_on, between, HasChannels, channel_in, start_events}
+use Rattle.fbl_group.proofs.Common.{message_of_send}
+use Rattle.std.specs.List.{filter_map, IsDistinct}
 use Rattle.std.proofs.lemmas.Option.{slice_get-get_or, slice_get-map}
 use Rattle.std.proofs.lemmas.List.Sums.{sum_by-append}
-use Rattle.fbl_base.specs.declared.trace.Note.{Note}
 use Rattle.fbl_base.specs.declared.trace.Start.{Start}
-use Rattle.fbl_base.specs.declared.trace.Event.{Event}
 use Rattle.fbl_base.specs.declared.trace.Event.TheVariants.{Send, Receipt}
 use Rattle.fbl_base.specs.declared.trace.Mark.TheVariants as mark
-use Rattle.fbl_base.specs.Events.{mark_of, same_determinant}
-use Rattle.fbl_base.specs.Rules.{is_send_of, sends_of, MayFollow, WellFormed}
-use Rattle.fbl_member.specs.Members.{Message}
-use Rattle.fbl_law.specs.Steps.{is_on, between}
-use Rattle.fbl_law.specs.Groups.{HasChannels, channel_in}
-use Rattle.fbl_law.specs.GroupSteps.{start_events, message_of_send}
-use Rattle.fbl_base.proofs.RulesLaws.{eqb-self}
+use Rattle.fbl_base.specs.Events.{same_determinant}
+use Rattle.fbl_base.specs.Rules.{is_send_of, MayFollow, WellFormed}
 use Rattle.fbl_base.proofs.Sifted.{sifted_none}
-use Rattle.fbl_group.proofs.Queues.{eqb-other, put-in}
+use Rattle.fbl_group.proofs.Queues.{put-in}
 
 -- no two entries of none are equal
 pub once-none : IsDistinct same_determinant []
@@ -43,17 +35,14 @@ starts-more done (x ∷ ss) (suc i) s below at = starts-more done ss i s (omega 
 sends-more : (done : List Event) (from ssn to : ℕ) (note : Note) (m : ℕ) → sends_of (map mark_of (done ++ Send from ssn to note ∷ [])) m ≡ sends_of (map mark_of done) m + cond
     (from == m) 1 0
 sends-more done from ssn to note m =
-    ap (λ marks. count_by (is_send_of m) marks) (map-append mark_of done (Send from ssn to note ∷ []))
-    ∙ sum_by-append (λ e. cond (is_send_of m e) 1 0) (map mark_of done) (mark.Send from ssn to ∷ []) ∙ ap (λ k. sends_of (map mark_of done) m + k) (omega arith)
+    rw (map-append mark_of done (Send from ssn to note ∷ []), sum_by-append (λ e. cond (is_send_of m e) 1 0) (map mark_of done) (mark.Send from ssn to ∷ [])) (omega arith)
 
 -- the counts of sends, with one more
 pub counts-more : (done : List Event) (sent : List ℕ) (from to : ℕ) (note : Note) → ((m : ℕ) → m < 16 → slice_index sent m ≡ sends_of (map mark_of done) m) → length sent ≡ 16
     → from < 16 → (m : ℕ) → m < 16
     → slice_index (slice_set sent from (slice_index sent from + 1)) m ≡ sends_of (map mark_of (done ++ Send from (sends_of (map mark_of done) from + 1) to note ∷ [])) m
-counts-more done sent from to note counts places within m below = rw (sends-more done from _ to note m) (at (cases_eq m from)) where
-  at : (m ≡ from) ⊎ (m ≢ from) → slice_index (slice_set sent from (slice_index sent from + 1)) m ≡ sends_of (map mark_of done) m + cond (from == m) 1 0
-  at (inl same) = rw (same, eqb-self from, get_or-set_same sent from (slice_index sent from + 1) 0 (omega (arith, places, within))) (ap (λ k. k + 1) (counts from within))
-  at (inr other) = rw (eqb-other from m other, get_or-set_other sent from m (slice_index sent from + 1) 0 other) (omega (arith, counts m below))
+counts-more done sent from to note counts places within m below =
+    rw (sends-more done from _ to note m) grind (arith, nat_tests, get_or-set_same, get_or-set_other, counts m)
 
 -- the message of an event that obeys the rules goes from a member to a member
 pub event-ends : (n : ℕ) (events : List Event) (i : ℕ) {e : Event} {w : Message} → WellFormed n (map mark_of events) → i < length events → e ≡ get_or events i e
@@ -63,10 +52,7 @@ event-ends n events i {e = e} {w = w} obeys below read is = at e is (obeys i (ma
   there = rw (slice_get-map mark_of events i, slice_get-get_or events i e below, ← read) refl
 
   at : (x : Event) → message_of_send x ≡ Some w → MayFollow n (take i (map mark_of events)) (mark_of x) → (w.from < n) × (w.to < n)
-  at (Send from ssn to note) is may =
-      let sender : from ≡ w.from = cc in
-      let receiver : to ≡ w.to = cc in
-      (omega (arith, sender, may.0), omega (arith, receiver, may.1))
+  at (Send from ssn to note) is may = grind arith
   at (Receipt to rsn from ssn) is may = absurd cc
 
 -- one event more: its message is at the end of its channel

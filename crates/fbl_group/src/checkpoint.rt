@@ -41,7 +41,7 @@ impl<B: Behaviour, A: Allocator + Copy> Group<B, A> {
         ensures fold { IsCheckpointFold B.next self.now member }
         ensures recorded { (d : Determinant) → Has (marks self.now) (receipt_of d) → d.to ≡ member → d.rsn ≤ result → IsRecorded (knowledge self.now) d }
     {
-        self.checkpoints[usize::from(member.number())].received()
+        self.saved(member).received()
     }
 
     /// Whether a checkpoint of the member may be taken, if there is memory for it.

@@ -1,6 +1,6 @@
 //! Steps that are made apart from the record: a ticket is taken, and the step is committed later.
 
-ghost use Rattle.std.specs.Prelude.{◌≡◌, ◌+◌, ◌<◌, ◌≤◌, IfOk, IfErr, OnOk, OnErr, None, Some};
+ghost use Rattle.std.specs.Prelude.{◌≡◌, ◌+◌, ◌<◌, ◌≤◌, IfOk, IfErr, IfSome, IfNone, OnOk, OnErr, None, Some};
 ghost use Rattle.fbl_member.specs.Members.{Message};
 ghost use Rattle.fbl_group.specs.Channels.{front as front_of};
 ghost use Rattle.fbl_group.specs.Deliveries.{Delivers, IsPlanned};
@@ -17,22 +17,23 @@ use std::alloc::Allocator;
 impl<B: Behaviour, A: Allocator + Copy> Group<B, A> {
     /// What the step of a delivery to one member from another is made from. Nothing changes, and the message stays in
     /// its channel.
+    #[tactic(auto, using(std::proofs::lemmas::Bool::Decides::nat_tests))]
     pub fn take(&self, to: Member, from: Member) -> Result<Ticket, TakeRefusal>
         ensures taken { IfOk result (λ ticket. (take_refusal self.now to from ≡ None) × ((v : Message) × (front_of self.now from to ≡ Some v) × IsTicket self.now v ticket)) }
         ensures ends { IfOk result (λ ticket. (ticket.to ≡ to) × (ticket.from ≡ from)) }
         ensures refused { IfErr result (λ refusal. take_refusal self.now to from ≡ Some refusal) }
     {
-        let n = self.config.members();
+        let n = self.size();
         if to.number() >= n || from.number() >= n {
             return Err(TakeRefusal::BadMember);
         }
-        if self.down.count() != 0 {
+        if self.down().count() != 0 {
             return Err(TakeRefusal::Down);
         }
-        let Some(wire) = self.channels.front(from, to) else {
+        let Some(wire) = self.front(from, to) else {
             return Err(TakeRefusal::Empty);
         };
-        let member = &self.members[usize::from(to.number())];
+        let member = self.record(to);
         Ok(Ticket {
             n,
             to,
@@ -58,30 +59,41 @@ impl<B: Behaviour, A: Allocator + Copy> Group<B, A> {
         }
     }
 
+    /// The front of the channel from one member to the other.
+    fn front(&self, from: Member, to: Member) -> Option<&Wire<A>>
+        requires from { from < self.now.config.members }
+        requires to { to < self.now.config.members }
+        ensures some { IfSome result (λ wire. front_of self.now from to ≡ Some wire.now) }
+        ensures none { IfNone result (front_of self.now from to ≡ None) }
+    {
+        self.channels.front(from, to)
+    }
+
     /// Whether nothing but lack of memory refuses the commit.
+    #[tactic(auto, using(std::proofs::lemmas::Bool::Decides::nat_tests))]
     fn plan_commit(&self, done: &Done<B>) -> Result<(), CommitRefusal>
         ensures planned { OnOk result ((commit_refusal B.next self.now done.now.ticket ≡ None) × IsPlanned B.next self.now done.now.ticket.from done.now.ticket.to done.now.outcome) }
         ensures refused { IfErr result (λ refusal. commit_refusal B.next self.now done.now.ticket ≡ Some refusal) }
     {
         let ticket = done.ticket;
-        if self.down.count() != 0 {
+        if self.down().count() != 0 {
             return Err(CommitRefusal::Down);
         }
-        if self.config.members() != ticket.n {
+        if self.size() != ticket.n {
             return Err(CommitRefusal::Stale);
         }
-        let Some(wire) = self.channels.front(ticket.from, ticket.to) else {
+        let Some(wire) = self.front(ticket.from, ticket.to) else {
             return Err(CommitRefusal::Stale);
         };
-        let member = &self.members[usize::from(ticket.to.number())];
+        let member = self.record(ticket.to);
         if !is_current(member, wire, &ticket) {
             return Err(CommitRefusal::Stale);
         }
         let sends = done.outcome.sends.len();
         if is_full(
-            self.config.limit(),
-            self.trace.len(),
-            self.receipts_ever,
+            self.config().limit(),
+            self.trace().len(),
+            self.receipts_ever(),
             sends,
         ) {
             return Err(CommitRefusal::Full);

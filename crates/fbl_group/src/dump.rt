@@ -15,7 +15,6 @@ ghost use Rattle.fbl_law.specs.Dumps.{pairs_of, pairs_from, dump_of, HasDistinct
 ghost use Rattle.fbl_group.specs.Readers.{IsDumpRefusal};
 
 use crate::group::Group;
-use crate::members::member_at;
 use crate::refusals::DumpGroupRefusal;
 use fbl_base::audit::Dump;
 use fbl_base::{Behaviour, Determinant, Event, Mark, Member, MemberSet, RawDump};
@@ -32,7 +31,9 @@ impl<B: Behaviour, A: Allocator + Copy> Group<B, A> {
         ensures refused { IfErr result (IsDumpRefusal self.now strike) }
         ensures no_orphan { ((q : ℕ) → IsDown (knowledge self.now) q → Includes strike q) → set.len strike ≤ self.now.config.f → IfOk result (λ dump. (m : ℕ) → ¬ (IsDumpOrphan dump m)) }
     {
-        if !strike.within(self.config.members()) {
+        // what is so of each group: its tables have no orphan to show
+        self.promises();
+        if !strike.within(self.size()) {
             return Err(DumpGroupRefusal::BadStrike);
         }
         match self.raw_dump(strike) {
@@ -79,7 +80,7 @@ fn held_pairs<A: Allocator + Copy>(
 {
     let mut held = Vec::new(alloc);
     for place in 0..members.len() {
-        let holder = member_at(place as u8);
+        let holder = Member::at(place as u8);
         push_pairs(&mut held, holder, members[place].table())?;
     }
     Ok(held)

@@ -9,7 +9,6 @@ mod crash;
 mod deliver;
 mod dump;
 mod group;
-mod members;
 mod readers;
 mod rebuilt;
 mod recover;

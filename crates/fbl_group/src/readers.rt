@@ -4,15 +4,14 @@ ghost use Rattle.std.specs.Prelude.{◌≡◌, ℕ, ◌<◌, ◌≤◌, ◌+◌,
 ghost use Rattle.fbl_base.specs.MemberSets.{AllBelow};
 ghost use Rattle.fbl_base.specs.Fold.{state_after};
 ghost use Rattle.fbl_law.specs.Knowledge.{IsOrphan, IsUp, IsDown};
-ghost use Rattle.fbl_law.specs.Groups.{channel as channel_of, messages_in_flight as messages_in_flight_of, knowledge, marks, member as record_of, receipts};
+ghost use Rattle.fbl_law.specs.Groups.{channel as channel_of, member_checkpoint, messages_in_flight as messages_in_flight_of, knowledge, marks, member as record_of, receipts};
 ghost use Rattle.std.specs.FinSet as set;
 ghost use Rattle.fbl_law.specs.Sound.{IsSound, received_notes};
 ghost use Rattle.fbl_law.specs.StepLaws.{weight_held, weight_flying};
-ghost use Rattle.fbl_law.specs.Promises.{HoldsEachReceipt};
+ghost use Rattle.fbl_law.specs.Promises.{HoldsEachReceipt, SurvivorsHold, RecordsFirst, RecordsCauses};
 ghost use Rattle.fbl_group.specs.Readers.{is_quiet as is_quiet_now};
 
 use crate::group::Group;
-use crate::members::member_at;
 use fbl_base::{Behaviour, Config, Event, Member, MemberSet};
 use fbl_member::MemberRec;
 use fbl_table::Table;
@@ -46,7 +45,7 @@ impl<B: Behaviour, A: Allocator + Copy> Group<B, A> {
     {
         let mut sum = 0u128;
         for number in 0..self.config.members() {
-            sum += u128::from(self.state(member_at(number)));
+            sum += u128::from(self.state(Member::at(number)));
         }
         sum
     }
@@ -102,6 +101,7 @@ impl<B: Behaviour, A: Allocator + Copy> Group<B, A> {
         ensures held { HoldsEachReceipt self.now }
         ensures no_orphan { (m : ℕ) → ¬ (IsOrphan (knowledge self.now) m) }
     {
+        self.promises();
         self.trace.as_slice()
     }
 
@@ -112,7 +112,19 @@ impl<B: Behaviour, A: Allocator + Copy> Group<B, A> {
         ensures held { HoldsEachReceipt self.now }
         ensures no_orphan { (m : ℕ) → ¬ (IsOrphan (knowledge self.now) m) }
     {
-        let _ = self.trace();
+        self.promises();
+    }
+
+    /// Does nothing but promise what is so of each group, as it is sound.
+    pub(crate) fn promises(&self)
+        ensures sound { IsSound B.next self.now }
+        ensures held { HoldsEachReceipt self.now }
+        ensures no_orphan { (m : ℕ) → ¬ (IsOrphan (knowledge self.now) m) }
+        ensures survivors { SurvivorsHold (knowledge self.now) self.now.down }
+        ensures first { RecordsFirst (knowledge self.now) }
+        ensures causes { RecordsCauses (knowledge self.now) }
+    {
+        let _ = self.down.count();
     }
 
     /// Who is down.
@@ -124,17 +136,18 @@ impl<B: Behaviour, A: Allocator + Copy> Group<B, A> {
     }
 
     /// Whether nothing is in flight and nobody is down.
+    #[tactic(auto, using(std::proofs::lemmas::Bool::Decides::nat_tests))]
     pub fn is_quiet(&self) -> bool
         ensures { result ≡ is_quiet_now self.now }
     {
-        self.down.count() == 0 && self.unreceived() == 0
+        self.down().count() == 0 && self.unreceived() == 0
     }
 
     /// How many messages are in all channels.
     pub fn messages_in_flight(&self) -> usize
         ensures { result ≡ messages_in_flight_of self.now }
     {
-        if self.down.count() == 0 {
+        if self.down().count() == 0 {
             self.unreceived()
         } else {
             self.channels.contents(self.config.members()).messages
@@ -177,6 +190,14 @@ impl<B: Behaviour, A: Allocator + Copy> Group<B, A> {
         self.undone_ever
     }
 
+    /// How many members there are.
+    pub(crate) fn size(&self) -> u8
+        ensures value { result ≡ self.now.config.members }
+        ensures few { result ≤ 16 }
+    {
+        self.config.members()
+    }
+
     /// The member's record.
     pub(crate) fn record(&self, member: Member) -> &MemberRec<A>
         requires { member < self.now.config.members }
@@ -184,5 +205,14 @@ impl<B: Behaviour, A: Allocator + Copy> Group<B, A> {
         ensures sound { IsSound B.next self.now }
     {
         &self.members[usize::from(member.number())]
+    }
+
+    /// The member's checkpoint.
+    pub(crate) fn saved(&self, member: Member) -> &MemberRec<A>
+        requires { member < self.now.config.members }
+        ensures value { result.now ≡ member_checkpoint self.now member }
+        ensures sound { IsSound B.next self.now }
+    {
+        &self.checkpoints[usize::from(member.number())]
     }
 }

@@ -8,7 +8,6 @@ ghost use Rattle.fbl_member.specs.Members.{blank};
 ghost use Rattle.fbl_law.specs.Replaying.{stays_by, count_in};
 ghost use Rattle.fbl_group.specs.Rebuilding.{IsPutBack};
 
-use crate::members::member_at;
 use fbl_base::{Event, Member, MemberSet};
 use fbl_member::MemberRec;
 use std::alloc::Allocator;
@@ -30,7 +29,7 @@ impl<A: Allocator + Copy> Rebuilt<A> {
     {
         let mut replayed = 0;
         for number in 0..n {
-            replayed += self.replayed_by(checkpoints, member_at(number));
+            replayed += self.replayed_by(checkpoints, Member::at(number));
         }
         replayed
     }
@@ -97,7 +96,7 @@ impl<A: Allocator + Copy> Rebuilt<A> {
         let Rebuilt { down, mut records } = self;
         for number in 0..n {
             let place = usize::from(number);
-            if down.has(member_at(number)) {
+            if down.has(Member::at(number)) {
                 mem::swap(&mut members[place], &mut records[place]);
             }
         }

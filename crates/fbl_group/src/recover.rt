@@ -13,9 +13,8 @@ ghost use Rattle.fbl_group.specs.Strikes.{lost_receipts};
 use crate::answers::Recovered;
 use crate::channels::{Channels, has_either};
 use crate::group::Group;
-use crate::members::member_at;
 use crate::refusals::RecoverRefusal;
-use fbl_base::{Behaviour, Event, MemberSet};
+use fbl_base::{Behaviour, Event, Member, MemberSet};
 use std::alloc::{AllocError, Allocator};
 use std::mem;
 
@@ -35,7 +34,9 @@ impl<B: Behaviour, A: Allocator + Copy> Group<B, A> {
         ensures refused { IfErr result (IsRecoverRefusal self.old) }
         ensures unchanged { OnErr result (self.new ≡ self.old) }
     {
-        if self.down.count() == 0 {
+        // what is so of each group, of the one that is recovered, too
+        self.promises();
+        if self.down().count() == 0 {
             return Err(RecoverRefusal::NotDown);
         }
         match self.bring_back() {
@@ -95,9 +96,9 @@ impl<A: Allocator> Channels<A> {
     {
         let mut again = again;
         for sender in 0..n {
-            let from = member_at(sender);
+            let from = Member::at(sender);
             for receiver in 0..n {
-                let to = member_at(receiver);
+                let to = Member::at(receiver);
                 if has_either(down, from, to) {
                     mem::swap(
                         &mut self.rows[usize::from(sender)][usize::from(receiver)],

@@ -11,7 +11,6 @@ ghost use Rattle.fbl_law.specs.Replaying.{working, IsReplaying};
 ghost use Rattle.fbl_group.specs.Rebuilding.{AreByNumber, IsGathered, Tries, Rounds, HasReplayed, IsReady};
 
 use crate::group::Group;
-use crate::members::member_at;
 use crate::rebuilt::Rebuilt;
 use fbl_base::{Behaviour, Determinant, Member, Note};
 use fbl_member::MemberRec;
@@ -69,7 +68,7 @@ impl<B: Behaviour, A: Allocator + Copy> Group<B, A> {
         ensures table { IfOk result (λ table. table ≡ recovery_table (knowledge self.now)) }
         ensures sound { IsSound B.next self.now }
     {
-        let mut gathered = Table::for_limit(*self.members.allocator(), self.config.f());
+        let mut gathered = Table::for_limit(*self.members.allocator(), self.config().f());
         for record in &self.members {
             gathered.gather(record.table())?;
         }
@@ -82,9 +81,10 @@ impl<B: Behaviour, A: Allocator + Copy> Group<B, A> {
     fn gather_saved(&self, gathered: &mut Table<A>) -> Result<(), AllocError>
         ensures { OnOk result (gathered.new ≡ gathered_all gathered.old (saved_tables self.now.down self.now.checkpoints self.now.config.members)) }
     {
-        for number in 0..self.config.members() {
-            if self.down.has(member_at(number)) {
-                gathered.gather(self.checkpoints[usize::from(number)].table())?;
+        for number in 0..self.size() {
+            let member = Member::at(number);
+            if self.down().has(member) {
+                gathered.gather(self.saved(member).table())?;
             }
         }
         Ok(())
@@ -96,8 +96,8 @@ impl<B: Behaviour, A: Allocator + Copy> Group<B, A> {
         ensures { IfOk result (λ receipts. AreByNumber self.now receipts.items) }
     {
         let mut receipts = Vec::new(*self.members.allocator());
-        for number in 0..self.config.members() {
-            let member = member_at(number);
+        for number in 0..self.size() {
+            let member = Member::at(number);
             receipts.push(self.number_receipts_of(member, gathered)?)?;
         }
         Ok(receipts)
@@ -113,7 +113,7 @@ impl<B: Behaviour, A: Allocator + Copy> Group<B, A> {
         ensures { set.contains self.now.down member ≡ true → IfOk result (IsByNumber member (member_checkpoint self.now member).received gathered.now) }
     {
         let alloc = *self.members.allocator();
-        if self.down.has(member) {
+        if self.down().has(member) {
             let checkpoint = &self.checkpoints[usize::from(member.number())];
             Receipts::of_member(alloc, gathered, member, checkpoint.received())
         } else {
@@ -126,8 +126,8 @@ impl<B: Behaviour, A: Allocator + Copy> Group<B, A> {
         ensures { IfOk result (λ rebuilt. IsReplaying B.next self.now rebuilt.items) }
     {
         let mut rebuilt = Vec::new(*self.members.allocator());
-        for number in 0..self.config.members() {
-            let member = member_at(number);
+        for number in 0..self.size() {
+            let member = Member::at(number);
             rebuilt.push(self.begin_one(member)?)?;
         }
         Ok(rebuilt)
@@ -138,8 +138,8 @@ impl<B: Behaviour, A: Allocator + Copy> Group<B, A> {
         ensures { set.contains self.now.down member ≡ true → IfOk result (λ begun. begun ≡ record (member_checkpoint self.now member) { table = [] }) }
     {
         let alloc = *self.members.allocator();
-        let f = self.config.f();
-        if self.down.has(member) {
+        let f = self.config().f();
+        if self.down().has(member) {
             let checkpoint = &self.checkpoints[usize::from(member.number())];
             checkpoint.copy_with(Table::for_limit(alloc, f))
         } else {
@@ -158,9 +158,9 @@ impl<B: Behaviour, A: Allocator + Copy> Group<B, A> {
         ensures { IfOk result (λ moved. Rounds B.next self.now self.now.config.members rebuilt.old.items rebuilt.new.items moved) }
     {
         let mut moved = false;
-        for number in 0..self.config.members() {
-            let member = member_at(number);
-            if self.down.has(member) {
+        for number in 0..self.size() {
+            let member = Member::at(number);
+            if self.down().has(member) {
                 if self.replay_next(gathered, member, rebuilt)? {
                     moved = true;
                 }
@@ -181,7 +181,9 @@ impl<B: Behaviour, A: Allocator + Copy> Group<B, A> {
         requires replaying { IsReplaying B.next self.now rebuilt.old.items }
         ensures { IfOk result (λ moved. Tries B.next self.now member rebuilt.old.items rebuilt.new.items moved) }
     {
-        let n = self.config.members();
+        // the group is sound
+        self.recoverable();
+        let n = self.size();
         let place = usize::from(member.number());
         let rsn = rebuilt[place].received() + 1;
         let Some(determinant) = gathered.receipt(member, rsn) else {
@@ -215,7 +217,7 @@ impl<B: Behaviour, A: Allocator + Copy> Group<B, A> {
         ensures { result.now ≡ working self.now rebuilt.now member }
     {
         let place = usize::from(member.number());
-        if self.down.has(member) {
+        if self.down().has(member) {
             &rebuilt[place]
         } else {
             &self.members[place]
@@ -232,10 +234,12 @@ impl<B: Behaviour, A: Allocator + Copy> Group<B, A> {
         requires replayed { HasReplayed B.next self.now rebuilt.old.items }
         ensures { OnOk result (IsReady B.next self.now rebuilt.new.items) }
     {
+        // the group is sound
+        self.recoverable();
         let mut gathered = gathered;
-        for number in 0..self.config.members() {
-            let member = member_at(number);
-            if self.down.has(member) {
+        for number in 0..self.size() {
+            let member = Member::at(number);
+            if self.down().has(member) {
                 let table = self.table_for(member, &mut gathered)?;
                 rebuilt[usize::from(number)].set_table(table);
             }
@@ -249,7 +253,7 @@ impl<B: Behaviour, A: Allocator + Copy> Group<B, A> {
         ensures left { (p : ℕ) → member < p → set.contains self.now.down p ≡ true → gathered.new ≡ gathered.old }
     {
         if self.is_last_down(member) {
-            let none = Table::for_limit(*self.members.allocator(), self.config.f());
+            let none = Table::for_limit(*self.members.allocator(), self.config().f());
             Ok(mem::replace(gathered, none))
         } else {
             gathered.copy()
@@ -261,8 +265,8 @@ impl<B: Behaviour, A: Allocator + Copy> Group<B, A> {
         ensures { result ≡ true → (p : ℕ) → member < p → set.contains self.now.down p ≡ false }
     {
         let down = self.down();
-        for number in member.number() + 1..self.config.members() {
-            if down.has(member_at(number)) {
+        for number in member.number() + 1..self.size() {
+            if down.has(Member::at(number)) {
                 return false;
             }
         }

@@ -10,7 +10,6 @@ ghost use Rattle.fbl_group.specs.Channels.{rows};
 
 use crate::channels::{Channel, Channels, has_either};
 use crate::group::Group;
-use crate::members::member_at;
 use fbl_base::{Behaviour, Member, Note};
 use fbl_member::{Carried, MemberRec, Wire};
 use fbl_table::Table;
@@ -25,8 +24,8 @@ impl<B: Behaviour, A: Allocator + Copy> Group<B, A> {
         ensures each { IfOk result (λ again. (q p : ℕ) → q < self.now.config.members → p < self.now.config.members → channel_in (rows again) q p ≡ sent_again self.now.config.f self.now.down (working self.now rebuilt.now) q p) }
     {
         let mut rows = Vec::new(*self.members.allocator());
-        for number in 0..self.config.members() {
-            let from = member_at(number);
+        for number in 0..self.size() {
+            let from = Member::at(number);
             rows.push(self.resend_from(rebuilt, from)?)?;
         }
         Ok(Channels { rows })
@@ -45,8 +44,8 @@ impl<B: Behaviour, A: Allocator + Copy> Group<B, A> {
     {
         let mut row = Vec::new(*self.members.allocator());
         let mut passed = None;
-        for number in 0..self.config.members() {
-            let to = member_at(number);
+        for number in 0..self.size() {
+            let to = Member::at(number);
             row.push(self.resend_on(rebuilt, from, to, &mut passed)?)?;
         }
         Ok(row)
@@ -69,7 +68,7 @@ impl<B: Behaviour, A: Allocator + Copy> Group<B, A> {
         ensures made { IfOk result (λ channel. channel.items ≡ sent_again self.now.config.f self.now.down (working self.now rebuilt.now) from to) }
     {
         let mut wires = VecDeque::new(*self.members.allocator());
-        if has_either(self.down, from, to) {
+        if has_either(self.down(), from, to) {
             self.resend_to(rebuilt, from, to, passed, &mut wires)?;
         }
         Ok(wires)
@@ -100,7 +99,7 @@ impl<B: Behaviour, A: Allocator + Copy> Group<B, A> {
             to,
             unsent.as_slice(),
             sender.table(),
-            self.config.f(),
+            self.config().f(),
             passed,
         )
     }

@@ -12,8 +12,7 @@ ghost use Rattle.fbl_law.specs.GroupSteps.{IsGroupStart, start_events, message_o
 
 use crate::channels::{Channels, empty_channels};
 use crate::group::Group;
-use crate::members::member_at;
-use fbl_base::{Behaviour, Config, Event, MemberSet, Start};
+use fbl_base::{Behaviour, Config, Event, Member, MemberSet, Start};
 use fbl_member::{Carried, MemberRec, Wire};
 use std::alloc::{AllocError, Allocator};
 use std::marker::PhantomData;
@@ -53,7 +52,7 @@ fn fresh_members<A: Allocator + Copy>(
 {
     let mut members = Vec::new(alloc);
     for number in 0..config.members() {
-        let member = member_at(number);
+        let member = Member::at(number);
         members.push(MemberRec::fresh(alloc, config, member)?)?;
     }
     Ok(members)

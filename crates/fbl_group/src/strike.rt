@@ -13,9 +13,8 @@ ghost use Rattle.fbl_group.specs.Strikes.{strike_refusal, Strikes, IsBlanked, is
 use crate::answers::Struck;
 use crate::channels::{Channels, has_either};
 use crate::group::Group;
-use crate::members::member_at;
 use crate::refusals::StrikeRefusal;
-use fbl_base::{Behaviour, Determinant, Event, MemberSet};
+use fbl_base::{Behaviour, Determinant, Event, Member, MemberSet};
 use fbl_member::MemberRec;
 use std::alloc::{AllocError, Allocator};
 
@@ -33,6 +32,8 @@ impl<B: Behaviour, A: Allocator + Copy> Group<B, A> {
         ensures first { RecordsFirst (knowledge self.new) }
         ensures causes { RecordsCauses (knowledge self.new) }
     {
+        // what is so of each group stays so where the strike is refused
+        self.promises();
         self.allow_strike(set)?;
         blank_members(
             &mut self.members,
@@ -62,13 +63,13 @@ impl<B: Behaviour, A: Allocator + Copy> Group<B, A> {
         ensures allowed { OnOk result (strike_refusal self.now set ≡ None) }
         ensures refused { IfErr result (λ refusal. strike_refusal self.now set ≡ Some refusal) }
     {
-        if !set.within(self.config.members()) {
+        if !set.within(self.size()) {
             return Err(StrikeRefusal::BadMember);
         }
         if set.count() == 0 {
             return Err(StrikeRefusal::Nobody);
         }
-        if self.down.union(set).count() > u32::from(self.config.f()) {
+        if self.down().union(set).count() > u32::from(self.config().f()) {
             return Err(StrikeRefusal::TooMany);
         }
         Ok(())
@@ -189,7 +190,7 @@ fn blank_members<A: Allocator + Copy>(
 {
     let alloc = *members.allocator();
     for number in 0..n {
-        let member = member_at(number);
+        let member = Member::at(number);
         if set.has(member) {
             make_blank(&mut members[usize::from(number)], alloc, f);
         }
@@ -211,9 +212,9 @@ impl<A: Allocator> Channels<A> {
         ensures { AreReplaced n set (λ q p. []) (rows self.old) (rows self.new) }
     {
         for sender in 0..n {
-            let from = member_at(sender);
+            let from = Member::at(sender);
             for receiver in 0..n {
-                let to = member_at(receiver);
+                let to = Member::at(receiver);
                 if has_either(set, from, to) {
                     self.rows[usize::from(sender)][usize::from(receiver)].clear();
                 }

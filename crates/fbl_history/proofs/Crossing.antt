@@ -1,19 +1,14 @@
 -- How a history goes on to a trace.
-use Rattle.std.proofs.Common.{◌≡◌, ◌==◌, ◌⊎◌, inl, inr, Bool, true, false, List, [], ◌∷◌, drop, refl, sym, ap, ◌∙◌}
-use Rattle.std.proofs.lemmas.Bool.Decides.{Decides-and, Decides-eqb}
-use Rattle.fbl_history.specs.declared.column.Column.{Column}
+use Rattle.fbl_history.proofs.Common.{◌≡◌, Bool, true, false, List, [], ◌∷◌, drop, refl, sym, ap, ◌∙◌, arith, nat_tests, Column, is_standing, crossed, same_standing}
+use Rattle.fbl_history.proofs.Common.{standing, is_next, go_on}
+use Rattle.std.proofs.Common.{◌⊎◌}
 use Rattle.fbl_history.specs.declared.column.Column.TheVariants.{Send, Receipt}
-use Rattle.fbl_history.specs.Columns.{is_standing, crossed, same_standing, standing, is_next, column_then, trace_then, go_on, GoesOnFrom}
+use Rattle.fbl_history.specs.Columns.{column_then, trace_then, GoesOnFrom}
 
 -- columns of the same standing event are equal, and stand
 pub same-is : (a b : Column) → same_standing a b ≡ true → (a ≡ b) × (is_standing b ≡ true)
-same-is (Send q k p false) (Send q' k' p' false) h =
-    let same = (Decides-and (q == q') _ (Decides-eqb q q') (Decides-and (k == k') _ (Decides-eqb k k') (Decides-eqb p p'))).0 h in
-    (λ i. Send (same.0 i) (same.1.0 i) (same.1.1 i) false, refl)
-same-is (Receipt p r q k s false) (Receipt p' r' q' k' s' false) h =
-    let message = Decides-and (q == q') _ (Decides-eqb q q') (Decides-and (k == k') _ (Decides-eqb k k') (Decides-eqb s s')) in
-    let same = (Decides-and (p == p') _ (Decides-eqb p p') (Decides-and (r == r') _ (Decides-eqb r r') message)).0 h in
-    (λ i. Receipt (same.0 i) (same.1.0 i) (same.1.1.0 i) (same.1.1.1.0 i) (same.1.1.1.1 i) false, refl)
+same-is (Send q k p false) (Send q' k' p' false) h = grind (arith, nat_tests)
+same-is (Receipt p r q k s false) (Receipt p' r' q' k' s' false) h = grind (arith, nat_tests)
 same-is _ _ h = absurd cc
 
 -- a crossed column does not stand
@@ -44,11 +39,10 @@ standing-trace (column ∷ columns) trace stand = at (is_next column trace) (is_
   at false false is stands later = rw (is, stands, stands) (later trace stand)
 
 -- nothing but what stands is crossed, and nothing that is crossed comes back
+stays_or_crossed : (column : Column) (trace : List Column)
+    → (column_then column trace ≡ column) ⊎ ((is_standing column ≡ true) × (column_then column trace ≡ crossed column))
+stays_or_crossed column trace = grind arith
+
 pub goes-on : (columns trace : List Column) → GoesOnFrom columns (go_on columns trace)
 goes-on [] trace = tt
-goes-on (column ∷ columns) trace = (at (is_next column trace) (is_standing column) refl refl, goes-on columns (trace_then column trace)) where
-  at : (n s : Bool) → is_next column trace ≡ n → is_standing column ≡ s
-      → (column_then column trace ≡ column) ⊎ ((is_standing column ≡ true) × (column_then column trace ≡ crossed column))
-  at n false is stands = inl (rw stands refl)
-  at true true is stands = inl (rw (stands, is) refl)
-  at false true is stands = inr (stands, rw (stands, is) refl)
+goes-on (column ∷ columns) trace = (stays_or_crossed column trace, goes-on columns (trace_then column trace))

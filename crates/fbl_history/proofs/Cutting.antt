@@ -1,13 +1,14 @@
 -- A history that goes on to some of its standing events.
-use Rattle.std.proofs.Common.{subst, ◌≡◌, ℕ, zero, suc, Bool, true, false, cond, List, [], ◌∷◌, map, Some, refl, ap, ◌∙◌, arith}
-use Rattle.std.specs.Prelude.{slice_get}
-use Rattle.std.specs.List.{filter, list_any}
+use Rattle.fbl_history.proofs.Common.{◌≡◌, suc, Bool, true, false, cond, List, [], ◌∷◌, map, get_or, refl, ap, ◌∙◌, arith, filter, Column, is_standing, crossed}
+use Rattle.fbl_history.proofs.Common.{same_standing, standing, is_next, go_on, HasEachOnce}
+use Rattle.std.proofs.Common.{subst}
+use Rattle.std.specs.List.{list_any}
 use Rattle.std.proofs.lemmas.Bool.{false_from_ne_true, or_parts}
 use Rattle.fbl_base.proofs.RulesLaws.{eqb-self}
-use Rattle.fbl_law.proofs.Lists.{filter-At}
-use Rattle.fbl_history.specs.declared.column.Column.{Column}
+use Rattle.std.proofs.lemmas.List.Folds.{list_any_none}
+use Rattle.std.proofs.lemmas.Option.{slice_get-get_or}
 use Rattle.fbl_history.specs.declared.column.Column.TheVariants.{Send, Receipt}
-use Rattle.fbl_history.specs.Columns.{is_standing, crossed, same_standing, standing, is_next, go_on, crossed_without, HasEachOnce}
+use Rattle.fbl_history.specs.Columns.{crossed_without}
 use Rattle.fbl_history.proofs.Crossing.{same-is, next-is}
 
 -- a standing event is the same as itself
@@ -15,6 +16,14 @@ same-self : (column : Column) → is_standing column ≡ true → same_standing 
 same-self (Send q k p false) stands = simp eqb-self
 same-self (Receipt p r q k s false) stands = simp eqb-self
 same-self _ stands = absurd cc
+
+-- the order of two columns that are not the same does not matter
+apart-flipped : (a b : Column) → same_standing a b ≡ false → same_standing b a ≡ false
+apart-flipped a b apart =
+    false_from_ne_true (same_standing b a) (λ same.
+    (let equal = same-is b a same in
+    let itself : same_standing a b ≡ true = rw equal.0 (same-self a equal.1) in
+    cc))
 
 -- a column that is none of these is none of those of them that pass a test
 none-passes : (column : Column) (p : Column → Bool) (columns : List Column)
@@ -30,106 +39,56 @@ not-next : (column : Column) (trace : List Column) → list_any (same_standing c
 not-next column [] none = refl
 not-next column (event ∷ trace) none = (or_parts (same_standing column event) _ none).0
 
--- the first column is none of the later ones
-none-later : (column : Column) (columns : List Column) → ((j : ℕ) (c : Column) → slice_get columns j ≡ Some c → same_standing column c ≡ false)
-    → list_any (same_standing column) columns ≡ false
-none-later column [] apart = refl
-none-later column (c ∷ columns) apart = (let here = apart 0 c refl in rw here (none-later column columns (λ j. apart (suc j))))
-
--- a column at the front that none of these is changes nothing for them
-front-apart : (column : Column) (trace columns : List Column) → ((j : ℕ) (c : Column) → slice_get columns j ≡ Some c → same_standing c column ≡ false)
+-- a column at the front that none of the standing ones is changes nothing for them
+front-apart : (column : Column) (trace columns : List Column) → list_any (same_standing column) (standing columns) ≡ false
     → map (crossed_without trace) columns ≡ map (crossed_without (column ∷ trace)) columns
-front-apart column trace [] apart = refl
-front-apart column trace (c ∷ columns) apart =
-    let here = apart 0 c refl in
-    rw here (ap (λ xs. crossed_without trace c ∷ xs) (front-apart column trace columns (λ j. apart (suc j))))
+front-apart column trace [] none = refl
+front-apart column trace (c ∷ columns) none = at (is_standing c) refl (front-apart column trace columns) where
+  at : (s : Bool) → is_standing c ≡ s
+      → (list_any (same_standing column) (standing columns) ≡ false → map (crossed_without trace) columns ≡ map (crossed_without (column ∷ trace)) columns)
+      → map (crossed_without trace) (c ∷ columns) ≡ map (crossed_without (column ∷ trace)) (c ∷ columns)
+  at true stands later =
+      let parts = or_parts (same_standing column c) _ (rw stands at none) in
+      rw (apart-flipped column c parts.0) (ap (λ xs. crossed_without trace c ∷ xs) (later parts.1))
+  at false lies later = rw lies (ap (λ xs. c ∷ xs) (later (rw lies at none)))
 
--- the columns after the first one have each event once, and none of them is the first one's
+-- of columns that have each event once the first one is none of the later ones, which have each once too
+first-apart : (column : Column) (columns : List Column) → HasEachOnce (column ∷ columns) → list_any (same_standing column) columns ≡ false
+first-apart column columns once =
+    list_any_none (same_standing column) columns (λ k d below. false_from_ne_true (same_standing column (get_or columns k d)) (λ same.
+    (let next : 0 ≡ suc k = once 0 (suc k) column (get_or columns k d) refl (slice_get-get_or columns k d below) same in omega (arith, next))))
+
 once-rest : (column : Column) (columns : List Column) → HasEachOnce (column ∷ columns) → HasEachOnce columns
 once-rest column columns once i j a b at_i at_j same = (let next : suc i ≡ suc j = once (suc i) (suc j) a b at_i at_j same in omega (arith, next))
-
-first-apart : (column : Column) (columns : List Column) → HasEachOnce (column ∷ columns)
-    → (j : ℕ) (c : Column) → slice_get columns j ≡ Some c → same_standing column c ≡ false
-first-apart column columns once j c at_j =
-    false_from_ne_true (same_standing column c) (λ same. (let next : 0 ≡ suc j = once 0 (suc j) column c refl at_j same in omega (arith, next)))
-
-apart-first : (column : Column) (columns : List Column) → HasEachOnce (column ∷ columns)
-    → (j : ℕ) (c : Column) → slice_get columns j ≡ Some c → same_standing c column ≡ false
-apart-first column columns once j c at_j =
-    false_from_ne_true (same_standing c column) (λ same. (let next : suc j ≡ 0 = once (suc j) 0 c column at_j refl same in omega (arith, next)))
 
 -- what does not stand is not next
 lies-past : (column : Column) (trace : List Column) → is_standing column ≡ false → is_next column trace ≡ false
 lies-past column trace lies = false_from_ne_true (is_next column trace) (λ is. (let stands = (next-is column trace is).1 in absurd cc))
 
-module _ (column : Column) (columns : List Column) (stays : Column → Bool) (once : HasEachOnce (column ∷ columns)) where
-  abbrev rest : List Column
-  rest = filter stays (standing columns)
+-- where the trace has this left, the history crosses what it hasn't
+abbrev CrossesOthers : List Column → List Column → Type 0
+CrossesOthers columns trace = go_on columns trace ≡ map (crossed_without trace) columns
 
-  abbrev whole : List Column
-  whole = filter stays (standing (column ∷ columns))
-
-  -- where the trace has this left, the history with the column in front crosses what it hasn't
-  abbrev CrossesOthers : List Column → Type 0
-  CrossesOthers trace = go_on (column ∷ columns) trace ≡ map (crossed_without trace) (column ∷ columns)
-
-  first-step : (s b : Bool) → is_standing column ≡ s → stays column ≡ b → go_on columns rest ≡ map (crossed_without rest) columns → CrossesOthers whole
-  first-step false b lies stay later =
-      let left : rest ≡ whole = rw lies refl in
-      subst CrossesOthers left (rw (lies, lies-past column rest lies) (ap (λ xs. column ∷ xs) later))
-  first-step true false stands stay later =
-      let left : rest ≡ whole = rw (stands, stay) refl in
-      let apart = none-later column columns (first-apart column columns once) in
-      let none = none-passes column stays (standing columns) (none-passes column is_standing columns apart) in
-      subst CrossesOthers left (rw (stands, none, not-next column rest none) (ap (λ xs. crossed column ∷ xs) later))
-  first-step true true stands stay later =
-      let left : column ∷ rest ≡ whole = rw (stands, stay) refl in
-      let apart = front-apart column rest columns (apart-first column columns once) in
-      subst CrossesOthers left (rw (stands, same-self column stands) (ap (λ xs. column ∷ xs) (later ∙ apart)))
-
-cut-crossed : (columns : List Column) (stays : Column → Bool) → HasEachOnce columns
-    → go_on columns (filter stays (standing columns)) ≡ map (crossed_without (filter stays (standing columns))) columns
-cut-crossed [] stays once = refl
-cut-crossed (column ∷ columns) stays once =
-    first-step column columns stays once (is_standing column) (stays column) refl refl
-    (cut-crossed columns stays (once-rest column columns once))
-
--- ---- each event once among the standing ones
-
-once-lies : (column : Column) (columns : List Column) → is_standing column ≡ false → HasEachOnce columns → HasEachOnce (column ∷ columns)
-once-lies column columns lies rest zero j a b at_i at_j same =
-    let is : column ≡ a = cc in
-    let equal = same-is a b same in
-    let stands : is_standing column ≡ true = ap is_standing (is ∙ equal.0) ∙ equal.1 in
-    absurd cc
-once-lies column columns lies rest (suc i) zero a b at_i at_j same =
-    let is : column ≡ b = cc in
-    let stands : is_standing column ≡ true = ap is_standing is ∙ (same-is a b same).1 in
-    absurd cc
-once-lies column columns lies rest (suc i) (suc j) a b at_i at_j same = ap suc (rest i j a b at_i at_j same)
-
-once-stands : (column : Column) (columns : List Column) → HasEachOnce (column ∷ standing columns) → HasEachOnce columns → HasEachOnce (column ∷ columns)
-once-stands column columns once rest zero zero a b at_i at_j same = refl
-once-stands column columns once rest zero (suc j) a b at_i at_j same =
-    let place = filter-At is_standing columns j b at_j (same-is a b same).1 in
-    let next : 0 ≡ suc place.0 = once 0 (suc place.0) a b at_i place.1 same in
-    absurd (omega (arith, next))
-once-stands column columns once rest (suc i) zero a b at_i at_j same =
-    let equal = same-is a b same in
-    let place = filter-At is_standing columns i a at_i (ap is_standing equal.0 ∙ equal.1) in
-    let next : suc place.0 ≡ 0 = once (suc place.0) 0 a b place.1 at_j same in
-    absurd (omega (arith, next))
-once-stands column columns once rest (suc i) (suc j) a b at_i at_j same = ap suc (rest i j a b at_i at_j same)
-
-once-whole : (columns : List Column) → HasEachOnce (standing columns) → HasEachOnce columns
-once-whole [] once = λ i j a b at_i at_j same. absurd cc
-once-whole (column ∷ columns) once = at (is_standing column) refl (once-whole columns) where
-  at : (s : Bool) → is_standing column ≡ s → (HasEachOnce (standing columns) → HasEachOnce columns) → HasEachOnce (column ∷ columns)
-  at true stands later =
-      let whole = rw stands at once in
-      once-stands column columns whole (later (once-rest column (standing columns) whole))
-  at false lies later = once-lies column columns lies (later (rw lies at once))
-
-pub others-crossed : (columns : List Column) (stays : Column → Bool) → HasEachOnce (standing columns)
-    → go_on columns (filter stays (standing columns)) ≡ map (crossed_without (filter stays (standing columns))) columns
-others-crossed columns stays once = cut-crossed columns stays (once-whole columns once)
+pub others-crossed : (columns : List Column) (stays : Column → Bool) → HasEachOnce (standing columns) → CrossesOthers columns (filter stays (standing columns))
+others-crossed [] stays once = refl
+others-crossed (column ∷ columns) stays once = at (is_standing column) (stays column) refl refl (others-crossed columns stays) where
+  at : (s b : Bool) → is_standing column ≡ s → stays column ≡ b → (HasEachOnce (standing columns) → CrossesOthers columns (filter stays (standing columns)))
+      → CrossesOthers (column ∷ columns) (filter stays (standing (column ∷ columns)))
+  at false b lies stay later =
+      let rest = filter stays (standing columns) in
+      let left : rest ≡ filter stays (standing (column ∷ columns)) = rw lies refl in
+      subst (CrossesOthers (column ∷ columns)) left (rw (lies, lies-past column rest lies) (ap (λ xs. column ∷ xs) (later (rw lies at once))))
+  at true false stands stay later =
+      let rest = filter stays (standing columns) in
+      let left : rest ≡ filter stays (standing (column ∷ columns)) = rw (stands, stay) refl in
+      let whole : HasEachOnce (column ∷ standing columns) = rw stands at once in
+      let none = none-passes column stays (standing columns) (first-apart column (standing columns) whole) in
+      subst (CrossesOthers (column ∷ columns)) left
+      (rw (stands, none, not-next column rest none) (ap (λ xs. crossed column ∷ xs) (later (once-rest column (standing columns) whole))))
+  at true true stands stay later =
+      let rest = filter stays (standing columns) in
+      let left : column ∷ rest ≡ filter stays (standing (column ∷ columns)) = rw (stands, stay) refl in
+      let whole : HasEachOnce (column ∷ standing columns) = rw stands at once in
+      let apart = front-apart column rest columns (first-apart column (standing columns) whole) in
+      subst (CrossesOthers (column ∷ columns)) left
+      (rw (stands, same-self column stands) (ap (λ xs. column ∷ xs) (later (once-rest column (standing columns) whole) ∙ apart)))

@@ -1,8 +1,8 @@
 -- Members that replay a trace come to its states.
-use Rattle.std.proofs.Common.{◌≡◌, ◌≢◌, ℕ, suc, ◌+◌, ◌<◌, ◌≤◌, ◌==◌, Bool, true, false, cond, List}
-use Rattle.std.proofs.Common.{length, length-append, take, drop, map, get_or, Some, slice_get, refl, sym, ap, ◌∙◌, arith}
+use Rattle.fbl_history.proofs.Common.{◌≡◌, ℕ, suc, ◌<◌, ◌≤◌, true, cond, List, length, take, drop, map, get_or, Some, refl, sym, ap, ◌∙◌, arith, nat_tests, mark_of}
+use Rattle.fbl_history.proofs.Common.{Next, MemberRecord, blank, logged_note, GroupRecord, marks, IsSound, filter, mark-at, HaveReplayed}
+use Rattle.std.proofs.Common.{◌+◌, length-append, slice_get}
 use Rattle.std.specs.Prelude.{slice_set, slice_index_or}
-use Rattle.std.proofs.lemmas.Bool.Decides.{nat_tests}
 use Rattle.std.proofs.lemmas.List.{take-map, take-take, length-set, get_or-set_same, get_or-set_other, get_or_default, length-map}
 use Rattle.std.proofs.lemmas.List.Sums.{count_by-le-length, sum_by-take-le}
 use Rattle.std.proofs.lemmas.Option.{get_or_from_slice_get}
@@ -11,26 +11,24 @@ use Rattle.fbl_base.specs.declared.trace.Note.{Note}
 use Rattle.fbl_base.specs.declared.trace.Event.TheVariants as event
 use Rattle.fbl_base.specs.declared.trace.Mark.{Mark}
 use Rattle.fbl_base.specs.declared.trace.Mark.TheVariants.{Send, Receipt}
-use Rattle.fbl_base.specs.Events.{At, mark_of}
+use Rattle.fbl_base.specs.Events.{At}
 use Rattle.fbl_base.specs.Rules.{is_receipt_of, is_send_of, receipts_of, MayFollow}
-use Rattle.fbl_base.specs.Fold.{Next, Progress, after_notes, note_of, numbered}
+use Rattle.fbl_base.specs.Fold.{Progress, after_notes, note_of, numbered}
 use Rattle.fbl_base.proofs.FoldLaws.{after_notes-state}
 use Rattle.fbl_base.proofs.Gets.{split-at}
-use Rattle.fbl_base.proofs.RulesLaws.{eqb-self, receipts-step, sent-before}
+use Rattle.fbl_base.proofs.RulesLaws.{receipts-step, sent-before}
 use Rattle.fbl_table.proofs.Adding.{take-next}
-use Rattle.fbl_member.specs.Members.{MemberRecord, blank, logged_note, replayed_by}
+use Rattle.fbl_member.specs.Members.{replayed_by}
 use Rattle.fbl_member.proofs.Logs.{length-numbered}
-use Rattle.fbl_law.specs.Groups.{GroupRecord, marks}
-use Rattle.fbl_law.specs.Sound.{received_notes, IsReplayed, IsSound}
+use Rattle.fbl_law.specs.Sound.{received_notes, IsReplayed}
 use Rattle.std.specs.FinSet as set
-use Rattle.std.specs.List.{filter, range_with_len}
+use Rattle.std.specs.List.{range_with_len}
 use Rattle.fbl_base.specs.MemberSets.{member_list, Members}
-use Rattle.fbl_law.proofs.Notes.{mark-at, send-at}
+use Rattle.fbl_law.proofs.Notes.{send-at}
 use Rattle.fbl_law.proofs.Lists.{filter-passes, some-at}
 use Rattle.fbl_law.proofs.Logs.{logged-by, logged-noted, log-short}
 use Rattle.fbl_law.proofs.Receipts.{Has-receipts_at}
 use Rattle.fbl_law.proofs.ReplayedRecords.{replayed-step}
-use Rattle.fbl_history.specs.Replays.{HaveReplayed}
 use Rattle.fbl_history.specs.Traces.{state_after_receipt}
 
 -- how many receipts a member has with one event more
@@ -79,7 +77,7 @@ module _ {next : Next} {r : GroupRecord} {members : List MemberRecord} {place : 
 
   -- what is read at the receiver's place
   pub receiver-read : {i : ℕ} (x : MemberRecord) → i ≡ d.to → slice_index_or members i x ≡ receiver
-  receiver-read x same = rw same (get_or_default members d.to x blank (omega (arith, known.replayed.size, may-follow.1)))
+  receiver-read x same = grind (arith, get_or_default, known.replayed.size, may-follow)
 
   pub is-next : d.rsn ≡ receiver.received + 1
   is-next = omega (arith, may-follow.3, known.replayed.received d.to may-follow.1)
@@ -100,7 +98,7 @@ module _ {next : Next} {r : GroupRecord} {members : List MemberRecord} {place : 
 
   -- the note that is read in the log at the sender's place
   pub note-read : {i : ℕ} (x : MemberRecord) → i ≡ d.from → logged_note (slice_index_or members i x).log d.ssn ≡ logged_note sender.log d.ssn
-  note-read x same = rw (same, get_or_default members d.from x blank (omega (arith, known.replayed.size, may-follow.0))) refl
+  note-read x same = grind (arith, get_or_default, known.replayed.size, may-follow)
 
   module _ {note : Note} (named : logged_note sender.log d.ssn ≡ Some note) where
     abbrev pub after : MemberRecord
@@ -138,27 +136,18 @@ module _ {next : Next} {r : GroupRecord} {members : List MemberRecord} {place : 
     pub past-receipt : HaveReplayed next r (place + 1) (slice_set members d.to after)
     past-receipt = record {
       size = length-set members d.to after ∙ known.replayed.size;
-      each = λ m below. (at m below (m == d.to) refl).0;
-      received = λ m below. (at m below (m == d.to) refl).1;
+      each = λ m below. grind (arith, get_or-set_same, get_or-set_other, is-replayed, known.replayed.size, known.replayed.each m below);
+      received = λ m below. grind (
+        arith,
+        nat_tests,
+        get_or-set_same,
+        get_or-set_other,
+        known.replayed.size,
+        known.replayed.received m below,
+        may-follow.1,
+        count-more (marks r) place m (Receipt d.to d.rsn d.from d.ssn) at-mark,
+      );
     }
-      where
-        at : (m : ℕ) → m < r.config.members → (b : Bool) → (m == d.to) ≡ b
-            → IsReplayed next r.config.members r.config.starts r.trace m (slice_index_or (slice_set members d.to after) m blank)
-            × ((slice_index_or (slice_set members d.to after) m blank).received ≡ receipts_of (take (place + 1) (marks r)) m)
-        at m below true is =
-            let same : m ≡ d.to = grind (arith, nat_tests) in
-            let within : d.to < length members = omega (arith, known.replayed.size, may-follow.1) in
-            let set' : slice_index_or (slice_set members d.to after) d.to blank ≡ after = get_or-set_same members d.to after blank within in
-            let more : receipts_of (take (place + 1) (marks r)) d.to ≡ receipts_of (take place (marks r)) d.to + 1 =
-            count-more (marks r) place d.to (Receipt d.to d.rsn d.from d.ssn) at-mark ∙ (rw (eqb-self d.to) refl) in
-            rw same (rw set' (is-replayed, omega (arith, more, known.replayed.received d.to may-follow.1)))
-        at m below false is =
-            let other : m ≢ d.to = grind (arith, nat_tests) in
-            let flipped : (d.to == m) ≡ false = grind (arith, nat_tests) in
-            let set' : slice_index_or (slice_set members d.to after) m blank ≡ slice_index_or members m blank = get_or-set_other members d.to m after blank other in
-            let more : receipts_of (take (place + 1) (marks r)) m ≡ receipts_of (take place (marks r)) m + 0 =
-            count-more (marks r) place m (Receipt d.to d.rsn d.from d.ssn) at-mark ∙ (rw flipped refl) in
-            rw set' (known.replayed.each m below, omega (arith, more, known.replayed.received m below))
 
 -- each of the members of a set is in it
 pub listed-in : (s : Members) (listed : List ℕ) (i m : ℕ) → listed ≡ member_list s → i < length listed → m ≡ get_or listed i m → set.contains s m ≡ true

@@ -1,3 +1,4 @@
+pub mod Common
 pub mod Following
 pub mod Crossing
 pub mod Standing

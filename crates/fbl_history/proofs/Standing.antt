@@ -1,17 +1,9 @@
 -- The columns of a trace stand, and no two are the same.
-use Rattle.std.proofs.Common.{◌≡◌, ℕ, List, [], ◌∷◌, map, Some, refl, sym, ap, ◌∙◌}
-use Rattle.fbl_base.specs.declared.trace.Event.{Event}
+use Rattle.fbl_history.proofs.Common.{◌≡◌, ℕ, List, [], ◌∷◌, map, Some, refl, sym, ap, ◌∙◌, Event, mark_of, Next, GroupRecord, marks, IsSound, mark-at, Column, standing}
+use Rattle.fbl_history.proofs.Common.{go_on, HasEachOnce, event_column, trace_columns}
 use Rattle.fbl_base.specs.declared.trace.Event.TheVariants.{Send, Receipt}
-use Rattle.fbl_base.specs.Events.{mark_of}
-use Rattle.fbl_base.specs.Fold.{Next}
 use Rattle.fbl_base.proofs.Gets.{map-At}
 use Rattle.fbl_base.proofs.PlacesAndEvents.{one_place}
-use Rattle.fbl_law.specs.Groups.{GroupRecord, marks}
-use Rattle.fbl_law.specs.Sound.{IsSound}
-use Rattle.fbl_law.proofs.Notes.{mark-at}
-use Rattle.fbl_history.specs.declared.column.Column.{Column}
-use Rattle.fbl_history.specs.Columns.{standing, go_on, HasEachOnce}
-use Rattle.fbl_history.specs.Traces.{event_column, trace_columns}
 use Rattle.fbl_history.proofs.Crossing.{same-is, standing-trace}
 
 columns-stand : (next : Next) (n : ℕ) (trace events : List Event) → standing (map (event_column next n trace) events) ≡ map (event_column next n trace) events
@@ -19,11 +11,8 @@ columns-stand next n trace [] = refl
 columns-stand next n trace (Send q k p note ∷ events) = ap (λ (xs : List Column). event_column next n trace (Send q k p note) ∷ xs) (columns-stand next n trace events)
 columns-stand next n trace (Receipt p r q k ∷ events) = ap (λ (xs : List Column). event_column next n trace (Receipt p r q k) ∷ xs) (columns-stand next n trace events)
 
-pub trace-stands : (next : Next) (r : GroupRecord) → standing (trace_columns next r) ≡ trace_columns next r
-trace-stands next r = columns-stand next r.config.members r.trace r.trace
-
 pub standing-is-trace : (next : Next) (r : GroupRecord) (columns : List Column) → standing (go_on columns (trace_columns next r)) ≡ trace_columns next r
-standing-is-trace next r columns = standing-trace columns (trace_columns next r) (trace-stands next r)
+standing-is-trace next r columns = standing-trace columns (trace_columns next r) (columns-stand next r.config.members r.trace r.trace)
 
 -- events whose columns are equal have the same mark
 same-mark : (next : Next) (n : ℕ) (trace : List Event) (e e' : Event) → event_column next n trace e ≡ event_column next n trace e' → mark_of e ≡ mark_of e'

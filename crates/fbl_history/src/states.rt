@@ -21,7 +21,7 @@ fn fresh_members<B: Behaviour>(
     let config = group.config();
     let mut members = Vec::new(alloc);
     for number in 0..config.members() {
-        let member = Member::new(number).unwrap();
+        let member = Member::at(number);
         members.push(MemberRec::fresh(alloc, config, member)?)?;
     }
     Ok(members)

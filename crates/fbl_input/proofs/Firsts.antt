@@ -13,10 +13,10 @@ module _ {V A : Type 0} (view : V → Data) (shape : Data → Option A) where
 
   pub has_shape : (list : List V) (i : ℕ) (v : V) (a : A) → i < length list → v ≡ get_or list i v → Some a ≡ shape (view v) → (d : Data)
       → slice_get (map view list) i ≡ Some d → is_some (shape d) ≡ true
-  has_shape list i v a within is given d at = (let same : view v ≡ d = same_some (sym (seen_at list i v within is) ∙ at) in rw (← same, ← given))
-    where
-      same_some : {x y : Data} → ◌≡◌ {A = Option Data} (Some x) (Some y) → x ≡ y
-      same_some e = cc
+  has_shape list i v a within is given d at =
+      let seen = seen_at list i v within is in
+      let same : view v ≡ d = cc in
+      rw (← same, ← given)
 
   -- one more has the shape
   pub one_more : (list : List V) (i : ℕ) (v : V) (a : A) → i < length list → v ≡ get_or list i v → Some a ≡ shape (view v)

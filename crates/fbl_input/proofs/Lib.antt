@@ -4,3 +4,4 @@ pub mod Inputs
 pub mod Faults
 pub mod Firsts
 pub mod Misfitting
+pub mod Outputs

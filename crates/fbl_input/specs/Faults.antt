@@ -1,6 +1,6 @@
--- Refusals as faults, the first fault of an input, and what a failed read leaves.
-use Rattle.std.specs.Prelude.{◌≡◌, ℕ, List, Option, Result, Ok, Err}
-use Rattle.std.specs.Io.KnownBytes.{Keeps}
+-- Refusals as faults, the first fault of an input, and what a failed read and an answer leave.
+use Rattle.std.specs.Prelude.{◌≡◌, ℕ, ◌<◌, List, length, take, Option, Result, Ok, Err}
+use Rattle.std.specs.Io.KnownBytes.{Appends, Keeps}
 use Rattle.fbl_base.specs.declared.config.ConfigRefusal.{ConfigRefusal}
 use Rattle.fbl_base.specs.declared.config.ConfigRefusal.TheVariants as config
 use Rattle.fbl_base.specs.declared.refusal.DumpRefusal.{DumpRefusal}
@@ -39,3 +39,13 @@ IsFirstFault asked RefusesConfig RefusesDump e = asked ≡ Err e
 -- a read failed, and nothing was written
 abbrev pub FailsToRead : {A : Type 0} → Option (List ℕ) → Option (List ℕ) → Result A RunFault → Type 0
 FailsToRead before after result = (result ≡ Err faults.Read) × Keeps before after
+
+-- what an answer with a text leaves in the writer, where a relation says which answers are right, and with which texts
+abbrev pub PutsOut : {A : Type 0} → (A → List ℕ → Type 0) → Option (List ℕ) → Option (List ℕ) → Result A RunFault → Type 0
+-- the whole text of the answer
+PutsOut IsRight before after (Ok x) = (text : List ℕ) × IsRight x text × Appends before after text
+-- a prefix of the text of a right answer, without its end
+PutsOut {A} IsRight before after (Err faults.Write) = (x : A) × (text : List ℕ) × (part : ℕ) × IsRight x text × (part < length text) × Appends before after (take part text)
+-- nothing
+PutsOut IsRight before after (Err faults.Memory) = Keeps before after
+PutsOut IsRight before after (Err e) = ⊥

@@ -1,12 +1,7 @@
 -- Precedence where several events are appended.
-use Rattle.std.proofs.Common.{append_assoc, ◌≡◌, ℕ, ◌<◌, List, [], ◌∷◌, ◌++◌, inl, inr, ◌⊎◌, arith, ◌∙◌, Some}
-use Rattle.fbl_base.specs.declared.trace.Mark.{Mark}
-use Rattle.fbl_base.specs.Events.{At, member_of, send_of}
-use Rattle.fbl_base.specs.Precedence.{Has, Earlier, Precedes, itself, step}
-use Rattle.fbl_base.specs.Rules.{MayFollow, WellFormed}
-use Rattle.fbl_base.proofs.Gets.{At-front, At-below}
-use Rattle.fbl_base.proofs.PlacesAndEvents.{one_place}
-use Rattle.fbl_base.proofs.RulesLaws.{WellFormed-front, MayFollow-last}
+use Rattle.fbl_law.proofs.Common.{append_assoc, ◌≡◌, ℕ, ◌<◌, List, [], ◌∷◌, ◌++◌, inl, inr, ◌⊎◌, arith, ◌∙◌, Some, Mark, At, member_of, send_of, Has}
+use Rattle.fbl_law.proofs.Common.{Earlier, Precedes, itself, step, MayFollow, WellFormed, At-front, At-below, one_place, WellFormed-front}
+use Rattle.fbl_base.proofs.RulesLaws.{MayFollow-last}
 use Rattle.fbl_law.proofs.Lists.{At-append, At-behind}
 
 -- each event of a trace that obeys the rules may follow those before it
@@ -25,9 +20,6 @@ Earlier-joined n t a b c obeys first second =
 
 pub Has-append : (t added : List Mark) (e : Mark) → Has (t ++ added) e → Has t e ⊎ Has added e
 Has-append t added e h = elim (At-append t added h.0 e h.1) [ inl here ↦ inl (h.0, here) | inr there ↦ inr (there.0, there.2) ]
-
-pub Has-behind : (t added : List Mark) (e : Mark) → Has added e → Has (t ++ added) e
-Has-behind t added e h = let r = At-behind t added h.0 e h.1 in (r.0, r.2)
 
 -- so the events appended are new
 pub disjoint : (n : ℕ) (t added : List Mark) → WellFormed n (t ++ added) → (e : Mark) → Has added e → ¬ (Has t e)

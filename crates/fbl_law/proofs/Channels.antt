@@ -1,27 +1,13 @@
 -- Channels and the trace.
-use Rattle.std.proofs.Common.{option_map, ◌≡◌, ℕ, ◌==◌, ◌&&◌, not, Bool, true, false, cond, List, [], ◌∷◌, ◌++◌, map, drop, arith, refl, sym, ap, ◌∙◌, Some}
-use Rattle.std.proofs.Common.{append_assoc}
-use Rattle.std.specs.List.{Contains, filter_map, list_any}
-use Rattle.std.proofs.lemmas.Bool.Decides.{nat_tests}
-use Rattle.std.proofs.lemmas.List.{drop-map, append-nil, map-append}
-use Rattle.fbl_base.specs.declared.trace.Mark.{Mark}
+use Rattle.fbl_law.proofs.Common.{option_map, ◌≡◌, ℕ, ◌==◌, ◌&&◌, not, Bool, true, false, cond, List, [], ◌∷◌, ◌++◌, map, drop, arith, refl, sym, ap, ◌∙◌}
+use Rattle.fbl_law.proofs.Common.{Some, append_assoc, Contains, filter_map, list_any, nat_tests, map-append, Mark, Has, sent_on, taken_on, in_flight, WellFormed, map-At, At-filter}
+use Rattle.fbl_law.proofs.Common.{At-filter_map, is_sent, WellFormed-front, in_flight-send, in_flight-receipt, Message, Knowledge, send_mark, IsInFlight, IsUp, MatchesTrace, IsDownEmpty}
+use Rattle.fbl_law.proofs.Common.{between, taken_off, slice_get-map}
+use Rattle.std.proofs.lemmas.List.{drop-map, append-nil}
 use Rattle.fbl_base.specs.declared.trace.Mark.TheVariants.{Send, Receipt}
-use Rattle.fbl_base.specs.Precedence.{Has}
-use Rattle.fbl_base.specs.Rules.{sent_on, taken_on, in_flight, WellFormed}
-use Rattle.fbl_base.proofs.Gets.{map-At, At-filter, At-filter_map}
-use Rattle.fbl_base.proofs.RulesLaws.{is_sent, WellFormed-front}
-use Rattle.fbl_base.proofs.InFlightLaws.{in_flight-send, in_flight-receipt}
-use Rattle.fbl_member.specs.Members.{Message}
-use Rattle.fbl_law.specs.Knowledge.{Knowledge, send_mark, IsInFlight, IsUp, MatchesTrace, IsDownEmpty}
-use Rattle.fbl_law.specs.Steps.{between, taken_off}
 use Rattle.fbl_law.proofs.Appended.{MayFollow-seam}
 use Rattle.fbl_law.proofs.Lists.{Contains-at, Contains-place}
 use Rattle.fbl_law.proofs.Safe.{up_at_ends}
-use Rattle.std.proofs.lemmas.Option.{slice_get-map}
-
--- each message in flight was sent
-abbrev pub AreSent : Knowledge → Type 0
-AreSent r = (v : Message) → IsInFlight r v → Has r.trace (send_mark v)
 
 -- a message of a list is among its marks
 pub Has-made : (made : List Message) (v : Message) → Contains made v → Has (map send_mark made) (send_mark v)
@@ -41,7 +27,9 @@ in_flight-Has t q p e h =
 pub matched-Has : (r : Knowledge) (v : Message) → MatchesTrace r v.from v.to → IsInFlight r v → Has r.trace (send_mark v)
 matched-Has r v matches flies = in_flight-Has r.trace v.from v.to (send_mark v) (rw matches at (Has-made (r.channel v.from v.to) v flies))
 
-pub AreSent-matched : (f : ℕ) (r : Knowledge) → ((q p : ℕ) → IsUp r q → IsUp r p → MatchesTrace r q p) → IsDownEmpty f r → AreSent r
+-- each message in flight was sent
+pub AreSent-matched : (f : ℕ) (r : Knowledge) → ((q p : ℕ) → IsUp r q → IsUp r p → MatchesTrace r q p) → IsDownEmpty f r
+    → (v : Message) → IsInFlight r v → Has r.trace (send_mark v)
 AreSent-matched f r matches empty v flies =
     let ends = up_at_ends r empty.channels v.from v.to v flies in
     matched-Has r v (matches v.from v.to ends.0 ends.1) flies

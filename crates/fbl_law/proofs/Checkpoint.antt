@@ -1,10 +1,6 @@
 -- A checkpoint keeps knowledge sound.
-use Rattle.std.proofs.Common.{ℕ, inl, inr, refl, ap, ◌∙◌, arith}
-use Rattle.std.proofs.lemmas.Bool.{cases_eq}
-use Rattle.fbl_member.specs.Members.{MemberRecord}
-use Rattle.fbl_law.specs.Knowledge.{Knowledge, Store, in_table, in_message, in_checkpoint, IsThere, IsUp, IsCheckpointKept, IsSoundKnowledge}
-use Rattle.fbl_law.specs.Steps.{IsCheckpointed}
-use Rattle.fbl_law.specs.Laws.{CheckpointKeeps}
+use Rattle.fbl_law.proofs.Common.{ℕ, inl, inr, refl, ap, ◌∙◌, arith, cases_eq, MemberRecord, Knowledge, Store, in_table, in_message, in_checkpoint, IsThere, IsUp, IsCheckpointKept}
+use Rattle.fbl_law.proofs.Common.{IsSoundKnowledge, IsCheckpointed}
 use Rattle.fbl_law.proofs.Safe.{never_both, nobody_down_empty, up_if_none}
 use Rattle.fbl_law.proofs.Keeping.{KeepsKnowledge, IsSameStore, IsSoundAt, sound_kept, truth_everywhere, closed_everywhere}
 
@@ -52,8 +48,8 @@ module _ (n f : ℕ) (old new : Knowledge) (p : ℕ) (s : IsCheckpointed old new
         }
   ]
 
-  IsSoundKnowledge-checkpoint : IsSoundKnowledge n f new
-  IsSoundKnowledge-checkpoint = record {
+  pub checkpoint_keeps : IsSoundKnowledge n f new
+  checkpoint_keeps = record {
     rules = rw s.trace sound.rules;
     truth = truth_everywhere f new good;
     closed = closed_everywhere f new good;
@@ -61,6 +57,3 @@ module _ (n f : ℕ) (old new : Knowledge) (p : ℕ) (s : IsCheckpointed old new
     down = keeps.down;
     checkpoints = kept;
   }
-
-pub checkpoint_keeps : CheckpointKeeps
-checkpoint_keeps = IsSoundKnowledge-checkpoint

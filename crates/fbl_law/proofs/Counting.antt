@@ -1,26 +1,12 @@
 -- How many receipts are replayed.
-use Rattle.std.proofs.Common.{◌≡◌, ◌≢◌, ℕ, zero, suc, ◌+◌, ◌-◌, ◌<◌, ◌≤◌, ◌==◌, ◌&&◌, Some, slice_get, Bool, true, List, [], ◌∷◌, inl, inr}
-use Rattle.std.proofs.Common.{length, map, refl, sym, ap, ◌∙◌, arith}
-use Rattle.std.specs.Prelude.{nat_lt}
-use Rattle.std.specs.List.{filter}
+use Rattle.fbl_law.proofs.Common.{◌≡◌, ◌≢◌, ℕ, zero, suc, ◌+◌, ◌-◌, ◌<◌, ◌≤◌, ◌==◌, ◌&&◌, Some, slice_get, Bool, true, List, [], ◌∷◌, inl, inr}
+use Rattle.fbl_law.proofs.Common.{length, map, refl, sym, ap, ◌∙◌, arith, nat_lt, filter, cases_eq, nat_tests, length-map, Determinant, Event, Mark, mark_of, determinant_of, AllBelow}
+use Rattle.fbl_law.proofs.Common.{Members, WellFormed, Next, MemberRecord, Stays, IsEventCut, GroupRecord, knowledge, receipts, receipts_at, IsReplayed, IsSound, length-left}
+use Rattle.fbl_law.proofs.Common.{length-filter_map}
 use Rattle.std.specs.FinSet as set
-use Rattle.std.proofs.lemmas.Bool.{cases_eq}
-use Rattle.std.proofs.lemmas.Bool.Decides.{nat_tests}
-use Rattle.std.proofs.lemmas.List.{length-map}
-use Rattle.fbl_base.specs.declared.trace.Determinant.{Determinant}
-use Rattle.fbl_base.specs.declared.trace.Event.{Event}
-use Rattle.fbl_base.specs.declared.trace.Mark.{Mark}
-use Rattle.fbl_base.specs.Events.{mark_of, determinant_of}
-use Rattle.fbl_base.specs.MemberSets.{AllBelow, Members}
-use Rattle.fbl_base.specs.Rules.{WellFormed}
-use Rattle.fbl_base.specs.Fold.{Next}
-use Rattle.fbl_member.specs.Members.{MemberRecord}
-use Rattle.fbl_law.specs.Steps.{Stays, IsEventCut}
-use Rattle.fbl_law.specs.Groups.{GroupRecord, knowledge, receipts}
-use Rattle.fbl_law.specs.Sound.{receipts_at, IsReplayed, IsSound}
 use Rattle.fbl_law.specs.Replaying.{count_in}
-use Rattle.fbl_law.proofs.GroupRecovery.{cut-obeys, cut-shorter}
-use Rattle.fbl_base.proofs.Sifted.{length-left, length-filter_map}
+use Rattle.fbl_law.proofs.Recovery.{cut-obeys}
+use Rattle.fbl_law.proofs.GroupRecovery.{marks-cut, cut-shorter}
 use Rattle.fbl_law.proofs.Receipts.{receipts_at-number}
 use Rattle.fbl_law.proofs.Safe.{down_or_up}
 
@@ -99,26 +85,20 @@ count_in-beyond s past n m t within obeys =
     ∙ count_in-determinants s n (filter (beyond past) (receipts t)) within ∙ ap length (filter-both (is_of s) (beyond past) (receipts t))
 
 module _ {next : Next} {old : GroupRecord} (sound : IsSound next old) {new : List Event} (cut : IsEventCut (Stays (knowledge old)) old.trace new) where
-  -- what the members that are down replay, in all
-  pub to-replay : count_in old.down (λ p. length (receipts_at (map mark_of new) p)) old.config.members ≡ length (filter (is_of old.down) (receipts (map mark_of new)))
-  to-replay = count_in-determinants old.down old.config.members (receipts (map mark_of new)) sound.down
-
-  pub to-replay-short : length (filter (is_of old.down) (receipts (map mark_of new))) ≤ length old.trace
-  to-replay-short =
-      let some = length-left (is_of old.down) (receipts (map mark_of new)) in
-      omega (arith, cut-shorter sound cut, some, length-filter_map determinant_of (map mark_of new), length-map new mark_of)
-
-  -- so far they have replayed no more than that
+  -- the members that are down replay no more than the trace has
   pub replayed-most : (work : ℕ → MemberRecord)
       → ((p : ℕ) → p < old.config.members → set.contains old.down p ≡ true → IsReplayed next old.config.members old.config.starts new p (work p))
-      → count_in old.down (λ p. (work p).received) old.config.members ≤ length (filter (is_of old.down) (receipts (map mark_of new)))
+      → count_in old.down (λ p. (work p).received) old.config.members ≤ length old.trace
   replayed-most work replays =
       let most = count_in-most old.down (λ p. (work p).received) (λ p. length (receipts_at (map mark_of new) p)) old.config.members (λ p below down. (replays p below down).within) in
-      omega (arith, most, to-replay)
+      let all = count_in-determinants old.down old.config.members (receipts (map mark_of new)) sound.down in
+      let some = length-left (is_of old.down) (receipts (map mark_of new)) in
+      omega (arith, most, all, some, cut-shorter sound cut, length-filter_map determinant_of (map mark_of new), length-map new mark_of)
 
-  -- and at the end exactly that, but for what they had replayed before
-  pub replayed-count : (work : ℕ → MemberRecord) (past : ℕ → ℕ) → ((p : ℕ) → p < old.config.members → (work p).received ≡ length (receipts_at (map mark_of new) p))
+  -- and at the end exactly its receipts of theirs, but for what they had replayed before
+  pub replayed-count : (work : ℕ → MemberRecord) (past : ℕ → ℕ)
+      → ((p : ℕ) → p < old.config.members → set.contains old.down p ≡ true → (work p).received ≡ length (receipts_at (map mark_of new) p))
       → count_in old.down (λ p. (work p).received - past p) old.config.members ≡ length (filter (λ d. set.contains old.down d.to && nat_lt (past d.to) d.rsn) (receipts (map mark_of new)))
   replayed-count work past all =
-      count_in-same old.down (λ p. (work p).received - past p) (λ p. length (receipts_at (map mark_of new) p) - past p) old.config.members (λ p below down. ap (λ k. k - past p) (all p below))
-      ∙ count_in-beyond old.down past old.config.members old.config.members (map mark_of new) sound.down (cut-obeys sound cut)
+      count_in-same old.down (λ p. (work p).received - past p) (λ p. length (receipts_at (map mark_of new) p) - past p) old.config.members (λ p below down. ap (λ k. k - past p) (all p below down))
+      ∙ count_in-beyond old.down past old.config.members old.config.members (map mark_of new) sound.down (cut-obeys sound.causes (marks-cut old.trace cut))

@@ -1,41 +1,24 @@
 -- The trace that recovery leaves, in one pass.
-use Rattle.std.proofs.Common.{◌≡◌, ◌≢◌, ℕ, zero, suc, ◌<◌, ◌≤◌, ◌==◌, ◌&&◌, ◌||◌, not, inl, inr, Bool, true, false, List, [], ◌∷◌, ◌++◌}
-use Rattle.std.proofs.Common.{length, map, Some, refl, sym, ap, ◌∙◌, arith, append_assoc}
-use Rattle.std.specs.List.{filter, list_any}
+use Rattle.fbl_law.proofs.Common.{◌≡◌, ◌≢◌, ℕ, zero, suc, ◌<◌, ◌≤◌, ◌==◌, ◌&&◌, ◌||◌, not, inl, inr, Bool, true, false, List, [], ◌∷◌, ◌++◌}
+use Rattle.fbl_law.proofs.Common.{length, map, Some, refl, sym, ap, ◌∙◌, arith, append_assoc, filter, list_any, nat_cmp, and_parts, cases_eq, cases_Bool, eqb-true, ne_eqb, or_cases}
+use Rattle.fbl_law.proofs.Common.{or_right, false_from_ne_true, nat_tests, map-append, Determinant, Event, Mark, At, mark_of, member_of, receipt_of, contains-insert_same}
+use Rattle.fbl_law.proofs.Common.{contains-insert_other, Members, Has, WellFormed, Next, At-front, At-below, eqb-self, Entry, is_held, Stays, IsEventCut, recovery_table, GroupRecord, marks}
+use Rattle.fbl_law.proofs.Common.{knowledge, IsSound, recovered_trace}
 use Rattle.std.specs.FinSet as set
-use Rattle.std.specs.Ordering.{nat_cmp}
-use Rattle.std.proofs.lemmas.Bool.{and_parts, cases_eq, cases_Bool, eqb-true, ne_eqb, or_cases, or_right, not-true, not_from_false, false_from_ne_true}
-use Rattle.std.proofs.lemmas.Bool.Decides.{nat_tests}
-use Rattle.std.proofs.lemmas.List.{map-append}
+use Rattle.std.proofs.lemmas.Bool.{not-true, not_from_false}
 use Rattle.std.proofs.lemmas.List.Folds.{list_any-append}
-use Rattle.fbl_base.specs.declared.trace.Determinant.{Determinant}
-use Rattle.fbl_base.specs.declared.trace.Event.{Event}
-use Rattle.fbl_base.specs.declared.trace.Mark.{Mark}
 use Rattle.fbl_base.specs.declared.trace.Mark.TheVariants.{Send, Receipt}
-use Rattle.fbl_base.specs.Events.{At, mark_of, member_of, receipt_of}
-use Rattle.fbl_base.specs.MemberSets.{contains-insert_same, contains-insert_other, Members}
-use Rattle.fbl_base.specs.Precedence.{Has}
-use Rattle.fbl_base.specs.Rules.{WellFormed}
-use Rattle.fbl_base.specs.Fold.{Next}
-use Rattle.fbl_base.proofs.Gets.{At-front, At-below}
-use Rattle.fbl_base.proofs.RulesLaws.{eqb-self}
-use Rattle.fbl_table.specs.declared.entry.Entry.{Entry}
-use Rattle.fbl_table.specs.Tables.{is_held}
-use Rattle.fbl_law.specs.Knowledge.{IsRecorded}
-use Rattle.fbl_law.specs.Steps.{UpTo, Stays, IsEventCut, recovery_table}
-use Rattle.fbl_law.specs.Groups.{GroupRecord, marks, knowledge}
-use Rattle.fbl_law.specs.Sound.{IsSound}
-use Rattle.fbl_law.specs.Replaying.{stops_at, cut_from, recovered_trace}
-use Rattle.fbl_law.proofs.GroupFacts.{Names-held, held-Names}
+use Rattle.fbl_law.specs.Steps.{UpTo}
+use Rattle.fbl_law.specs.Replaying.{stops_at, cut_from}
 use Rattle.fbl_law.proofs.Appended.{once}
 use Rattle.fbl_law.proofs.Lists.{At-seam}
+use Rattle.fbl_law.proofs.Tables.{Names-held, held-Names}
 use Rattle.fbl_law.proofs.GatheredTables.{gathered_recorded, recorded_gathered}
 
 same_mark : Mark → Mark → Bool
 same_mark (Send q k to) (Send q' k' to') = (q == q') && ((k == k') && (to == to'))
-same_mark (Send q k to) (Receipt to' r' q' k') = false
-same_mark (Receipt to r q k) (Send q' k' to') = false
 same_mark (Receipt to r q k) (Receipt to' r' q' k') = (to == to') && ((r == r') && ((q == q') && (k == k')))
+same_mark a b = false
 
 same_mark-self : (e : Mark) → same_mark e e ≡ true
 unfolding same_mark
@@ -155,15 +138,12 @@ module _ (next : Next) (old : GroupRecord) (sound : IsSound next old) where
   abbrev keep : Mark → Bool
   keep e = not (loses lost (marks old) e)
 
-  recorded-held : (d : Determinant) → IsRecorded (knowledge old) d → is_held (recovery_table (knowledge old)) d ≡ true
-  recorded-held d recorded = held-Names (recovery_table (knowledge old)) d (recorded_gathered old.config.f (knowledge old) sound.causes.down sound.causes.checkpoints d recorded)
-
-  held-recorded : (d : Determinant) → is_held (recovery_table (knowledge old)) d ≡ true → IsRecorded (knowledge old) d
-  held-recorded d held = gathered_recorded old.config.f (knowledge old) sound.causes.down d (Names-held (recovery_table (knowledge old)) d held)
-
   keep-stays : (e : Mark) → Has (marks old) e → keep e ≡ true → Stays (knowledge old) e
   keep-stays e has kept down c at_e up_to =
-      elim (cases_Bool (is_held (recovery_table (knowledge old)) c)) [ inl held ↦ held-recorded c held | inr unheld ↦ absurd (lose unheld) ]
+      elim (cases_Bool (is_held (recovery_table (knowledge old)) c)) [
+        | inl held ↦ gathered_recorded old.config.f (knowledge old) sound.causes.down c (Names-held (recovery_table (knowledge old)) c held)
+        | inr unheld ↦ absurd (lose unheld)
+      ]
     where
       at-place : UpTo (marks old) (receipt_of c) e → (i : ℕ) × (j : ℕ) × (i ≤ j) × At (marks old) i (receipt_of c) × At (marks old) j e
       at-place (inl same) = (has.0, has.0, omega arith, (rw same has.1), has.1)
@@ -188,7 +168,7 @@ module _ (next : Next) (old : GroupRecord) (sound : IsSound next old) where
             let parts = and_parts (set.contains old.down to) _ is in
             let d : Determinant = record { from = q; ssn = k; to = to; rsn = r } in
             let recorded = stays (rw (← same) parts.0) d same up_to in
-            let held = recorded-held d recorded in
+            let held = held-Names (recovery_table (knowledge old)) d (recorded_gathered old.config.f (knowledge old) sound.causes.down sound.causes.checkpoints d recorded) in
             let not-held = not-true (is_held (recovery_table (knowledge old)) d) parts.1 in
             cc
 

@@ -1,31 +1,14 @@
 -- What a cut of a well-formed trace leaves is well formed.
-use Rattle.std.proofs.Common.{map, ◌≡◌, ℕ, zero, suc, ◌<◌, ◌==◌, not, Bool, true, false, cond, List, [], ◌∷◌, ◌++◌, length, take, inl, inr, ◌⊎◌, arith, refl}
-use Rattle.std.proofs.Common.{ap, ◌∙◌, Option, Some, slice_get, count_by}
-use Rattle.std.specs.List.{filter, filter_map, list_any}
-use Rattle.std.proofs.lemmas.Bool.Decides.{nat_tests}
+use Rattle.fbl_law.proofs.Common.{map, ◌≡◌, ℕ, suc, nat_lt, Bool, true, false, cond, List, [], ◌∷◌, ◌++◌, length, inl, inr, ◌⊎◌, arith, refl, ap, Option, Some}
+use Rattle.fbl_law.proofs.Common.{slice_get, count_by, filter, filter_map, fold, nat_tests, filter-append, sum_by-cons, Event, Mark, mark_of, member_of, send_of, Has, Leads, Precedes}
+use Rattle.fbl_law.proofs.Common.{itself, step, is_send_of, is_receipt_of, sends_of, receipts_of, sent_on, taken_on, in_flight, MayFollow, WellFormed, At-front, At-below, WellFormed-keeps}
+use Rattle.fbl_law.proofs.Common.{is_sent, WellFormed-none, WellFormed-push, in_flight-sent, length-left, last_taken}
 use Rattle.std.proofs.lemmas.List.{append-nil}
-use Rattle.std.proofs.lemmas.List.Elements.{filter-append}
-use Rattle.std.proofs.lemmas.List.Sums.{sum_by-cons}
-use Rattle.fbl_base.specs.declared.trace.Event.{Event}
-use Rattle.fbl_base.specs.declared.trace.Mark.{Mark}
 use Rattle.fbl_base.specs.declared.trace.Mark.TheVariants.{Send, Receipt}
-use Rattle.fbl_base.specs.Events.{mark_of, At, member_of, send_of}
-use Rattle.fbl_base.specs.Precedence.{Has, Leads, Precedes, itself, step}
-use Rattle.fbl_base.specs.Rules.{is_send_of, is_receipt_of, sends_of, receipts_of, sent_on, taken_on, in_flight, MayFollow, WellFormed}
-use Rattle.fbl_base.proofs.Gets.{filter_map-At, At-front, At-below, Apart, Apart-later, Apart-filter, Apart-filter_map, slice_get-take}
-use Rattle.fbl_base.proofs.RulesLaws.{WellFormed-keeps, on_channel, is_sent, WellFormed-none, WellFormed-push, WellFormed-take, in_flight-sent}
-use Rattle.fbl_base.proofs.InFlightLaws.{sent-number, sent-rises}
-use Rattle.fbl_base.proofs.Sifted.{length-left}
-use Rattle.fbl_law.proofs.Lists.{At-seam, filter-At, filter-passes}
+use Rattle.fbl_base.proofs.RulesLaws.{on_channel}
+use Rattle.fbl_law.proofs.InOrder.{in_flight-beyond}
+use Rattle.fbl_law.proofs.Lists.{At-seam, filter-At}
 use Rattle.fbl_base.proofs.PrecedenceLaws.{Earlier-front}
-
--- a kept event is in what is left
-pub Has-kept : (keep : Mark → Bool) (t : List Mark) (e : Mark) → Has t e → keep e ≡ true → Has (filter keep t) e
-Has-kept keep t e h yes' = filter-At keep t h.0 e h.1 yes'
-
--- and what is left is kept
-pub kept-Has : (keep : Mark → Bool) (t : List Mark) (e : Mark) → Has (filter keep t) e → keep e ≡ true
-kept-Has keep t e h = filter-passes keep t h.0 e h.1
 
 -- counts of a kind of event of which each is kept
 count-kept : (keep p : Mark → Bool) (u : List Mark) → ((e : Mark) → Has u e → p e ≡ true → keep e ≡ true) → count_by p (filter keep u) ≡ count_by p u
@@ -52,22 +35,21 @@ KeepsCauses keep t = (a b : Mark) → keep b ≡ true → Leads t a b → keep a
 
 -- so what precedes an event of what is left is in what is left
 pub Has-before : (keep : Mark → Bool) (t : List Mark) {a b : Mark} → KeepsCauses keep t → Precedes t a b → keep b ≡ true → Has (filter keep t) a
-Has-before keep t {a} causes (itself h) kept = Has-kept keep t a h kept
+Has-before keep t {a} causes (itself h) kept = filter-At keep t h.0 a h.1 kept
 Has-before keep t causes (step {b} {c} p l) kept = Has-before keep t causes p (causes b c kept l)
 
--- the first element that passes
-first_of : (N : ℕ → Bool) (xs : List ℕ) (i x : ℕ) → N x ≡ true → slice_get xs i ≡ Some x → ((y : ℕ) → Apart xs y x → N y ≡ false) → slice_get (filter N xs) 0 ≡ Some x
-first_of N [] i x t here none = cc
-first_of N (z ∷ xs) zero x t here none = grind arith
-first_of N (z ∷ xs) (suc i) x t here none =
-    rw (none z (0, suc i, omega arith, refl, here)) (first_of N xs i x t here (λ y h. none y (Apart-later z xs y x h)))
+-- the first number that passes stays the first, where what gives it is kept
+first-left : (keep : Mark → Bool) (g : Mark → Option ℕ) (p : ℕ → Bool) (u : List Mark) (s : ℕ) → ((e : Mark) → g e ≡ Some s → keep e ≡ true)
+    → slice_get (filter p (filter_map g u)) 0 ≡ Some s → slice_get (filter p (filter_map g (filter keep u))) 0 ≡ Some s
+first-left keep g p [] s kept first = first
+first-left keep g p (e ∷ u) s kept first = grind (arith, kept e, first-left keep g p u s kept)
 
 pub taken_at : (q p y : ℕ) (e : Mark) → taken_on q p e ≡ Some y → member_of e ≡ p
 taken_at q p y (Send from ssn to) h = absurd cc
 taken_at q p y (Receipt to rsn from ssn) h = (on_channel from to q p ssn y h).1
 
 -- an event that may follow a trace may follow what is left of it, where what leads to it is left
-module _ (n : ℕ) (keep : Mark → Bool) (u : List Mark) (obeys : WellFormed n u) where
+module _ (n : ℕ) (keep : Mark → Bool) (u : List Mark) (obeys : WellFormed n u) (left : WellFormed n (filter keep u)) where
   sends_at : (m : ℕ) (e : Mark) → is_send_of m e ≡ true → member_of e ≡ m
   sends_at m (Send from ssn to) h = grind (arith, nat_tests)
   sends_at m (Receipt to rsn from ssn) h = absurd cc
@@ -76,51 +58,12 @@ module _ (n : ℕ) (keep : Mark → Bool) (u : List Mark) (obeys : WellFormed n 
   receipts_at m (Send from ssn to) h = absurd cc
   receipts_at m (Receipt to rsn from ssn) h = grind (arith, nat_tests)
 
-  -- the sends of a channel have rising numbers
-  rises : (q p x y : ℕ) → Apart u (Send q x p) (Send q y p) → x < y
-  rises q p x y h =
-      let number = obeys h.1 (Send q y p) h.4 in
-      let front : At (take h.1 u) h.0 (Send q x p) = slice_get-take u h.1 h.0 (Send q x p) h.2 h.3 in
-      let below = sent-number n (take h.1 u) (WellFormed-take n h.1 u obeys) q x p (h.0, front) in
-      omega (arith, number.3, below)
-
-  sent_on-send : (q s p : ℕ) → sent_on q p (Send q s p) ≡ Some s
-  sent_on-send q s p = grind (arith, nat_tests)
-
-  abbrev untaken : ℕ → ℕ → ℕ → Bool
-  untaken q p x = not (list_any (λ taken. taken == x) (filter_map (taken_on q p) u))
-
-  abbrev all_sent : ℕ → ℕ → List ℕ
-  all_sent q p = filter_map (sent_on q p) u
-
   first-kept : (q s p : ℕ) → slice_get (in_flight u q p) 0 ≡ Some s → keep (Send q s p) ≡ true
       → filter_map (taken_on q p) (filter keep u) ≡ filter_map (taken_on q p) u → slice_get (in_flight (filter keep u) q p) 0 ≡ Some s
   first-kept q s p first kept same =
-      let there = in_flight-sent u q s p first in
-      let left = Has-kept keep u (Send q s p) there kept in
-      let place = filter_map-At (sent_on q p) (filter keep u) left.0 (Send q s p) s left.1 (sent_on-send q s p) in
-      rw same (first_of (untaken q p) (filter_map (sent_on q p) (filter keep u)) place.0 s (filter-passes (untaken q p) (all_sent q p) 0 s first) place.1 (λ y h. none y h (untaken q p y) refl))
-    where
-      later : (y k : ℕ) → slice_get (filter (untaken q p) (all_sent q p)) k ≡ Some y → y < s → ⊥
-      later y zero g below = (let same' : y ≡ s = cc in omega arith)
-      later y (suc k) g below =
-          let r = Apart-filter (untaken q p) (all_sent q p) s y (0, suc k, omega arith, first, g) in
-          let above = sent-rises n u obeys q p s y r in
-          omega (arith, above, below)
-
-      none : (y : ℕ) → Apart (filter_map (sent_on q p) (filter keep u)) y s → (b : Bool) → untaken q p y ≡ b → untaken q p y ≡ false
-      none y h false is = is
-      none y h true is =
-          let r = Apart-filter_map (sent_on q p) (filter keep u) y s h in
-          let ey = is_sent q p y r.0 r.3 in
-          let es = is_sent q p s r.1 r.4 in
-          let events = Apart-filter keep u r.0 r.1 r.2 in
-          let at_y : At u events.0 (Send q y p) = events.3 ∙ ap Some ey in
-          let at_s : At u events.1 (Send q s p) = events.4 ∙ ap Some es in
-          let below = rises q p y s (events.0, events.1, events.2, at_y, at_s) in
-          let among = filter_map-At (sent_on q p) u events.0 (Send q y p) y at_y (sent_on-send q y p) in
-          let flying = filter-At (untaken q p) (all_sent q p) among.0 y among.1 is in
-          absurd (later y flying.0 flying.1 below)
+      let last : last_taken (filter keep u) q p ≡ last_taken u q p = ap (fold (λ last ssn. ssn) 0) same in
+      rw (← in_flight-beyond n (filter keep u) q p left, last)
+      (first-left keep (sent_on q p) (λ x. nat_lt (last_taken u q p) x) u s (λ e is. rw (is_sent q p s e is) kept) (rw (in_flight-beyond n u q p obeys) first))
 
   MayFollow-kept : (e : Mark) → MayFollow n u e → ((a : Mark) → Has u a → (member_of a ≡ member_of e) ⊎ (send_of e ≡ Some a) → keep a ≡ true) → MayFollow n (filter keep u) e
   MayFollow-kept (Send from ssn to) may causes =
@@ -149,4 +92,4 @@ WellFormed-kept n keep t obeys = WellFormed-keeps n (λ u. KeepsCauses keep u �
     at : (b : Bool) → keep e ≡ b → WellFormed n (filter keep u ++ cond b (e ∷ []) [])
     at false is = rw append-nil done
     at true is = WellFormed-push n (filter keep u) e done
-        (MayFollow-kept n keep u obeys_u e may (λ a h why. causes a e is ((h.0, length u, At-below u h.0 a h.1, At-front u (e ∷ []) h.0 a h.1, At-seam u e []), why)))
+        (MayFollow-kept n keep u obeys_u done e may (λ a h why. causes a e is ((h.0, length u, At-below u h.0 a h.1, At-front u (e ∷ []) h.0 a h.1, At-seam u e []), why)))

@@ -1,41 +1,25 @@
 -- A delivery keeps knowledge sound.
-use Rattle.std.proofs.Common.{◌≡◌, ℕ, arith, List, [], ◌∷◌, inl, inr, ◌⊎◌, refl, sym, subst, ap, ◌∙◌, zero, suc, Some, map, ◌&&◌, ◌==◌}
-use Rattle.std.specs.List.{Contains}
+use Rattle.fbl_law.proofs.Common.{◌≡◌, ℕ, arith, List, [], ◌∷◌, inl, inr, ◌⊎◌, refl, sym, subst, ap, ◌∙◌, zero, suc, Some, map, ◌&&◌, ◌==◌, Contains}
+use Rattle.fbl_law.proofs.Common.{cases_eq, cases_Bool, contains-insert_same, Determinant, Mark, At, member_of, send_of, determinant_of, receipt_of, Has, Precedes, Contains-append_cases}
+use Rattle.fbl_law.proofs.Common.{is_send_of, is_receipt_of, At-front, Has-last, Entry, Message, Includes, Knowledge, Store, in_table, in_message, in_checkpoint, owner, IsThere, Owes, table}
+use Rattle.fbl_law.proofs.Common.{send_mark, IsInFlight, IsUp, Names, Holds, IsHolder, IsTrueEntry, NamesCauses, IsSoundKnowledge, learned, IsDelivered, is_on, taken_off, between}
+use Rattle.fbl_law.proofs.Common.{determinant}
 use Rattle.std.specs.FinSet as set
-use Rattle.std.proofs.lemmas.Bool.{cases_eq, cases_Bool}
-use Rattle.fbl_base.specs.declared.trace.Determinant.{Determinant}
-use Rattle.fbl_base.specs.declared.trace.Mark.{Mark}
-use Rattle.fbl_base.specs.Events.{At, member_of, send_of, determinant_of, receipt_of}
-use Rattle.fbl_base.specs.Precedence.{Has, Precedes}
 use Rattle.std.proofs.lemmas.Option.{same_Some}
-use Rattle.std.proofs.lemmas.List.Elements.{Contains-append_cases}
-use Rattle.fbl_base.specs.Rules.{is_send_of, is_receipt_of}
-use Rattle.fbl_base.proofs.Gets.{At-front}
-use Rattle.fbl_base.proofs.PrecedenceLaws.{Has-last, Precedes-front}
-use Rattle.fbl_table.specs.declared.entry.Entry.{Entry}
-use Rattle.fbl_member.specs.Members.{Message}
-use Rattle.fbl_law.specs.Knowledge.{Includes, Knowledge, Store, in_table, in_message, in_checkpoint, owner, IsThere, Owes, table, send_mark, IsInFlight, IsUp, Names, Holds, IsHolder}
-use Rattle.fbl_law.specs.Knowledge.{IsTrueEntry, NamesCauses, IsSoundKnowledge}
-use Rattle.fbl_table.specs.Tables.{learned}
-use Rattle.fbl_law.specs.Steps.{IsDelivered, is_on, taken_off, between, determinant}
-use Rattle.fbl_law.specs.Laws.{DeliveryKeeps}
-use Rattle.fbl_law.proofs.Appended.{Has-append, Has-behind, disjoint, Precedes-within, Precedes-entered}
-use Rattle.fbl_law.proofs.Lists.{Contains-at, Contains-there, Contains-from_filter}
+use Rattle.fbl_base.proofs.PrecedenceLaws.{Precedes-front}
+use Rattle.fbl_law.proofs.Appended.{Has-append, disjoint, Precedes-within, Precedes-entered}
+use Rattle.fbl_law.proofs.Lists.{At-behind, Contains-at, Contains-there, Contains-from_filter}
 use Rattle.fbl_law.proofs.Channels.{AreSent-matched, made-Has, channel-delivered}
 use Rattle.fbl_law.proofs.Numbered.{count-grown, added-later}
 use Rattle.fbl_law.proofs.Safe.{never_both, nobody_down_empty, up_if_none, recorded_holder, IsRecorded-held}
 use Rattle.fbl_law.proofs.Keeping.{KeepsKnowledge, IsSoundAt, NamesCauses-kept, IsTrueEntry-kept, sound_kept, sound_passed, truth_everywhere, closed_everywhere}
-use Rattle.fbl_law.proofs.Tables.{Includes-insert, Includes-insert_cases, Includes-only, Includes-union, Includes-left, Names-learned_kept, Names-learned_gained, Names-noted_kept}
-use Rattle.fbl_law.proofs.Tables.{Names-noted, Contains-noted, Names-from_table, learned-keeps}
+use Rattle.fbl_law.proofs.Tables.{Includes-insert_cases, Includes-only, Includes-union, Includes-left, Names-learned_kept, Names-learned_gained, Names-noted_kept, Names-noted}
+use Rattle.fbl_law.proofs.Tables.{Contains-noted, Names-from_table, learned-keeps}
 
 -- what is left of a channel was in it
 pub taken_off-was : (v : Message) (q p : ℕ) (xs : List Message) (x : Message) → Contains (taken_off v q p xs) x → Contains xs x
 taken_off-was v q p [] x h = elim (cases_Bool (v.from == q && v.to == p)) [ inl is ↦ rw is at h | inr is ↦ rw is at h ]
 taken_off-was v q p (y ∷ xs) x h = elim (cases_Bool (v.from == q && v.to == p)) [ inl is ↦ Contains-there y xs x (rw is at h) | inr is ↦ rw is at h ]
-
--- a receipt names its determinant
-receipt_names : (c d : Determinant) → receipt_of c ≡ receipt_of d → c ≡ d
-receipt_names c d same = same_Some c d (ap determinant_of same)
 
 module _ (n f : ℕ) (old new : Knowledge) (v : Message) (rsn : ℕ) (made : List Message) (s : IsDelivered n f old new v rsn made) (sound : IsSoundKnowledge n f old) where
   abbrev own : Determinant
@@ -59,9 +43,6 @@ module _ (n f : ℕ) (old new : Knowledge) (v : Message) (rsn : ℕ) (made : Lis
         | inl same ↦ rw (same, s.receiver) (Names-noted_kept v.to _ own d (Names-learned_kept v.to (table old v.to) v.carried d (rw same at named)))
         | inr other ↦ rw (s.others m other) named
       ]
-
-  Has-added : (e : Mark) → Has added e → Has new.trace e
-  Has-added e there = rw s.trace (Has-behind old.trace added e there)
 
   Has-cases : (e : Mark) → Has new.trace e → Has old.trace e ⊎ Has added e
   Has-cases e there = Has-append old.trace added e (rw s.trace at there)
@@ -103,11 +84,11 @@ module _ (n f : ℕ) (old new : Knowledge) (v : Message) (rsn : ℕ) (made : Lis
       (λ x h. let fact = sound.truth (in_table v.to) x (was_up v.to) h in (still x v.to fact.1 fact.0, fact.1))
       (λ e h. let fact = sound.truth (in_message v) e flies h in let now = still e v.from fact.1 fact.0 in (
         (now.0, λ m k. elim (Includes-insert_cases e.known v.to m k) [ inl self ↦ rw self (inl (up v.to, gained e.det (e, h, refl))) | inr was ↦ now.1 m was ]),
-        Includes-insert e.known v.to,
+        contains-insert_same e.known v.to,
       ))
 
   good_own : IsGood (record { det = own; known = set.insert set.empty v.to })
-  good_own = ((Has-added (receipt_of own) (0, refl), λ m h. rw (Includes-only v.to m h) (inl (up v.to, noted))), Includes-insert set.empty v.to)
+  good_own = (((let r = At-behind old.trace added 0 (receipt_of own) refl in rw s.trace (r.0, r.2)), λ m h. rw (Includes-only v.to m h) (inl (up v.to, noted))), contains-insert_same set.empty v.to)
 
   added_cases : (e : Mark) → Has added e → (receipt_of own ≡ e) ⊎ ((x : Message) × Contains made x × (send_mark x ≡ e))
   added_cases e h = at_place h.0 h.1
@@ -127,17 +108,13 @@ module _ (n f : ℕ) (old new : Knowledge) (v : Message) (rsn : ℕ) (made : Lis
 
   -- the one receipt that was added is the one delivered
   is_own : (d : Determinant) → Has added (receipt_of d) → own ≡ d
-  is_own d h = elim (added_cases (receipt_of d) h) [ inl same ↦ receipt_names own d same | inr is ↦ absurd (let no : send_mark is.0 ≡ receipt_of d = is.2 in cc) ]
+  is_own d h = elim (added_cases (receipt_of d) h) [ inl same ↦ same_Some own d (ap determinant_of same) | inr is ↦ absurd (let no : send_mark is.0 ≡ receipt_of d = is.2 in cc) ]
 
   -- the receiver's table names the causes of what it or the message named the causes of
-  caught : (es : List Entry) → ((d : Determinant) → Names es d → Names (table new v.to) d) → (b : Mark) → Has old.trace b → NamesCauses f old es b → NamesCauses f new (table new v.to) b
-  caught es more b there causes d before = elim (NamesCauses-kept f old new keeps es b there causes d before) [ inl named ↦ inl (more d named) | inr stable ↦ inr stable ]
-
-  had_all : (b : Mark) → Has old.trace b → NamesCauses f old (table old v.to) b → NamesCauses f new (table new v.to) b
-  had_all = caught (table old v.to) (λ d. Names-delivered d v.to)
-
-  gained_all : (b : Mark) → Has old.trace b → NamesCauses f old v.carried b → NamesCauses f new (table new v.to) b
-  gained_all = caught v.carried gained
+  caught : (b : Mark) → Has old.trace b → NamesCauses f old (table old v.to) b ⊎ NamesCauses f old v.carried b → NamesCauses f new (table new v.to) b
+  caught b there (inl had) d before =
+      elim (NamesCauses-kept f old new keeps (table old v.to) b there had d before) [ inl named ↦ inl (Names-delivered d v.to named) | inr stable ↦ inr stable ]
+  caught b there (inr came) d before = elim (NamesCauses-kept f old new keeps v.carried b there came d before) [ inl named ↦ inl (gained d named) | inr stable ↦ inr stable ]
 
   -- and of the events added
   mine : (b : Mark) → Has added b → NamesCauses f new (table new v.to) b
@@ -147,8 +124,8 @@ module _ (n f : ℕ) (old new : Knowledge) (v : Message) (rsn : ℕ) (made : Lis
         | inr entered ↦
             let whole : Precedes new.trace (receipt_of d) entered.0 = rw s.trace (Precedes-front old.trace added entered.1) in
             elim entered.2 [
-              | inl event ↦ had_all entered.0 (Has-last entered.1) (sound.closed.events (in_table v.to) entered.0 (was_up v.to) event) d whole
-              | inr first ↦ gained_all entered.0 (Has-last entered.1) (sound.closed.events (in_message v) entered.0 flies first) d whole
+              | inl event ↦ caught entered.0 (Has-last entered.1) (inl (sound.closed.events (in_table v.to) entered.0 (was_up v.to) event)) d whole
+              | inr first ↦ caught entered.0 (Has-last entered.1) (inr (sound.closed.events (in_message v) entered.0 flies first)) d whole
             ]
       ]
 
@@ -159,14 +136,14 @@ module _ (n f : ℕ) (old new : Knowledge) (v : Message) (rsn : ℕ) (made : Lis
       | inr last ↦ subst IsGood last good_own
     ];
     events = λ b at_to d before. elim (Has-cases b (Has-last before)) [
-      | inl old_one ↦ had_all b old_one (sound.closed.events (in_table v.to) b (was_up v.to) at_to) d before
+      | inl old_one ↦ caught b old_one (inl (sound.closed.events (in_table v.to) b (was_up v.to) at_to)) d before
       | inr new_one ↦ mine b new_one d before
     ];
     named = λ c named d before. elim (Has-cases (receipt_of c) (Has-last before)) [
       | inr new_one ↦ mine (receipt_of c) new_one d before
       | inl old_one ↦ elim (Names-from_table v.to (table old v.to) v.carried own c (rw s.receiver at named)) [
-        | inl had_it ↦ had_all (receipt_of c) old_one (sound.closed.named (in_table v.to) c (was_up v.to) had_it) d before
-        | inr (inl carried) ↦ gained_all (receipt_of c) old_one (sound.closed.named (in_message v) c flies carried) d before
+        | inl had_it ↦ caught (receipt_of c) old_one (inl (sound.closed.named (in_table v.to) c (was_up v.to) had_it)) d before
+        | inr (inl carried) ↦ caught (receipt_of c) old_one (inr (sound.closed.named (in_message v) c flies carried)) d before
         | inr (inr same) ↦ mine (receipt_of c) (0, ap (λ (x : Determinant). Some (receipt_of x)) same) d before
       ]
     ];
@@ -207,8 +184,8 @@ module _ (n f : ℕ) (old new : Knowledge) (v : Message) (rsn : ℕ) (made : Lis
         owes = λ b has owes. still_owes (in_checkpoint m) tt (λ same. cc) b has (rw s.checkpoints at owes);
       })
 
-  IsSoundKnowledge-delivered : IsSoundKnowledge n f new
-  IsSoundKnowledge-delivered = record {
+  pub delivery_keeps : IsSoundKnowledge n f new
+  delivery_keeps = record {
     rules = s.rules;
     truth = truth_everywhere f new good;
     closed = closed_everywhere f new good;
@@ -220,6 +197,3 @@ module _ (n f : ℕ) (old new : Knowledge) (v : Message) (rsn : ℕ) (made : Lis
       table = λ d up_m named. Names-delivered d m ((sound.checkpoints m).table d (was_up m) (rw s.checkpoints at named));
     };
   }
-
-pub delivery_keeps : DeliveryKeeps
-delivery_keeps = IsSoundKnowledge-delivered

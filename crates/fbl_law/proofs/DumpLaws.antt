@@ -1,29 +1,15 @@
 -- Dumps of a sound group.
-use Rattle.std.proofs.Common.{◌≡◌, ℕ, zero, suc, ◌+◌, ◌*◌, ◌<◌, ◌≤◌, List, [], ◌∷◌, ◌++◌, length, map, inl, inr, Some, slice_get, get_or, refl, sym}
-use Rattle.std.proofs.Common.{subst, ap, arith, append_assoc, append-nil, length-append}
-use Rattle.std.specs.List.{Contains, IsDistinct}
+use Rattle.fbl_law.proofs.Common.{◌≡◌, ℕ, zero, suc, ◌+◌, ◌<◌, ◌≤◌, List, [], ◌∷◌, ◌++◌, length, map, inl, inr, Some, slice_get, get_or, refl, sym, subst, ap}
+use Rattle.fbl_law.proofs.Common.{arith, append_assoc, length-append, Contains, zero-add, same_from_decides, length-map, Contains-append_left, Contains-append_right, length-filter_map}
+use Rattle.fbl_law.proofs.Common.{Members, Determinant, Mark, mark_of, determinant_of, same_determinant, receipt_of, Has, Depends, Next, map-At, filter_map-At, At-below}
+use Rattle.fbl_law.proofs.Common.{Decides-same_determinant, Entry, Message, MemberRecord, blank, IsInFlight, Names, GroupRecord, member, marks, knowledge, receipts, IsSound}
+use Rattle.std.proofs.Common.{◌*◌, append-nil}
+use Rattle.std.specs.List.{IsDistinct}
 use Rattle.std.specs.Cmp.{IsEquivalence}
-use Rattle.std.proofs.Math.Nat.{add-zero, zero-add}
-use Rattle.std.proofs.lemmas.Bool.Decides.{same_from_decides}
-use Rattle.std.proofs.lemmas.List.{length-map}
-use Rattle.std.proofs.lemmas.List.Elements.{Contains-append_left, Contains-append_right}
+use Rattle.std.proofs.Math.Nat.{add-zero}
 use Rattle.std.proofs.lemmas.Map.Made.{length-le_from_is_member, is_member-Decides}
-use Rattle.fbl_base.proofs.Sifted.{length-filter_map}
-use Rattle.fbl_base.specs.MemberSets.{Members}
-use Rattle.fbl_base.specs.declared.trace.Determinant.{Determinant}
-use Rattle.fbl_base.specs.declared.trace.Mark.{Mark}
 use Rattle.fbl_base.specs.declared.trace.Mark.TheVariants.{Send, Receipt}
-use Rattle.fbl_base.specs.Events.{mark_of, determinant_of, same_determinant, receipt_of}
-use Rattle.fbl_base.specs.Precedence.{Has, Depends}
-use Rattle.fbl_base.specs.Fold.{Next}
 use Rattle.fbl_base.specs.Audit.{IsLost, HeldAt}
-use Rattle.fbl_base.proofs.Gets.{map-At, filter_map-At, At-below}
-use Rattle.fbl_base.proofs.Recorded.{Decides-same_determinant}
-use Rattle.fbl_table.specs.declared.entry.Entry.{Entry}
-use Rattle.fbl_member.specs.Members.{Message, MemberRecord, blank}
-use Rattle.fbl_law.specs.Knowledge.{IsInFlight, Names}
-use Rattle.fbl_law.specs.Groups.{GroupRecord, member, marks, knowledge, receipts}
-use Rattle.fbl_law.specs.Sound.{IsSound}
 use Rattle.fbl_law.specs.Dumps.{pairs_of, pairs_from, held_pairs, dump_of, HasDistinctTables, DumpObeysRules, DumpHasNoOrphan}
 use Rattle.fbl_law.proofs.Lists.{At-append, Contains-at, Contains-map, Contains-changed, Contains-none}
 use Rattle.fbl_law.proofs.Promises.{any_survivors_hold}
@@ -61,9 +47,6 @@ pairs_from-Names m (x ∷ members) zero d named =
     rw (add-zero m) (Contains-append_left (pairs_of m x.table) (pairs_from (m + 1) members) (m, d) (pairs_of-Names m x.table d named))
 pairs_from-Names m (x ∷ members) (suc j) d named =
     (let e : m + suc j ≡ m + 1 + j = omega arith in rw e (Contains-append_right (pairs_of m x.table) (pairs_from (m + 1) members) (m + 1 + j, d) (pairs_from-Names (m + 1) members j d named)))
-
-pub held_pairs-Names : (r : GroupRecord) (q : ℕ) (d : Determinant) → Names (member r q).table d → Contains (held_pairs r) (q, d)
-held_pairs-Names r q d named = rw (zero-add q) at (pairs_from-Names 0 r.members q d named)
 
 equivalence : IsEquivalence same_determinant
 equivalence = record {
@@ -137,4 +120,4 @@ dump_has_no_orphan next r strike m sound covers few orphan = at orphan.1.0 orpha
   at (Receipt to rsn from ssn) lost depends =
       let d : Determinant = record { from = from; ssn = ssn; to = to; rsn = rsn } in
       let one = any_survivors_hold r.config.members r.config.f (knowledge r) strike sound.causes covers few m d orphan.0 depends in
-      lost (one.0, held_pairs-Names r one.0 d one.2, one.1)
+      lost (one.0, rw (zero-add one.0) at (pairs_from-Names 0 r.members one.0 d one.2), one.1)

@@ -1,36 +1,31 @@
 -- What gathered tables have.
-use Rattle.std.proofs.Common.{◌≡◌, ℕ, zero, suc, ◌+◌, ◌<◌, cond, List, [], ◌∷◌, ◌++◌, length, take, map, inl, inr, ◌⊎◌, arith, refl, sym}
-use Rattle.std.proofs.Common.{get_or, subst, ap, ◌∙◌}
-use Rattle.std.proofs.lemmas.Bool.{cases_eq}
-use Rattle.std.specs.Prelude.{slice_index_or}
-use Rattle.std.proofs.lemmas.List.{get_or_default, map_more}
-use Rattle.std.proofs.lemmas.List.Elements.{Contains-get_or, Contains-append_cases, Contains-append_left, Contains-append_right}
-use Rattle.std.specs.List.{Contains}
+use Rattle.fbl_law.proofs.Common.{◌≡◌, ℕ, zero, suc, ◌+◌, ◌<◌, cond, List, [], ◌∷◌, ◌++◌, length, take, map, inl, inr, ◌⊎◌, arith, refl, sym, get_or, subst}
+use Rattle.fbl_law.proofs.Common.{ap, ◌∙◌, cases_eq, slice_index_or, get_or_default, Contains-append_cases, Contains-append_left, Contains-append_right, Contains, fold, fold_push}
+use Rattle.fbl_law.proofs.Common.{Members, Determinant, Entry, MemberRecord, blank, Store, in_table, in_checkpoint, IsThere, entries, Includes, Names, Knowledge, table, checkpoint, IsDown}
+use Rattle.fbl_law.proofs.Common.{IsRecorded, IsDownEmpty, IsCheckpointKept, gathered, recovery_table}
+use Rattle.std.proofs.lemmas.List.{map_more}
+use Rattle.std.proofs.lemmas.List.Elements.{Contains-get_or}
 use Rattle.std.specs.FinSet as set
-use Rattle.fbl_base.specs.MemberSets.{Members}
-use Rattle.fbl_base.specs.declared.trace.Determinant.{Determinant}
-use Rattle.fbl_table.specs.declared.entry.Entry.{Entry}
-use Rattle.fbl_member.specs.Members.{MemberRecord, blank}
-use Rattle.fbl_law.specs.Knowledge.{Includes, Names, Knowledge, table, checkpoint, IsDown, IsUp, IsRecorded, IsDownEmpty, IsCheckpointKept}
-use Rattle.fbl_table.specs.Tables.{gathered}
-use Rattle.fbl_law.specs.Steps.{gathered_all, saved_tables, recovery_table}
+use Rattle.fbl_law.specs.Steps.{gathered_all, saved_tables}
 use Rattle.fbl_law.proofs.Lists.{Contains-changed, Contains-map, Contains-here, Contains-there, Contains-cons_cases, Contains-none}
 use Rattle.fbl_law.proofs.Safe.{down_or_up, up_if_named, IsRecorded-held, IsRecorded-saved}
 use Rattle.fbl_law.proofs.Tables.{joined, Includes-union, Includes-right, Names-gathered, Names-gathered_kept, gathered-keeps, Names-changed, named_record}
 
+-- what holds of a value at first, and which each step keeps, holds at the end
+fold-keeps : {A B : Type 0} (P : B → Type 0) (f : B → A → B) (b : B) (xs : List A) → P b → ((b : B) (x : A) → Contains xs x → P b → P (f b x)) → P (fold f b xs)
+fold-keeps P f b [] holds keeps = holds
+fold-keeps P f b (x ∷ xs) holds keeps = fold-keeps P f (f b x) xs (keeps b x (Contains-here x xs) holds) (λ c y among. keeps c y (Contains-there x xs y among))
+
 abbrev mark : Members → Entry → Entry
 mark s e = record { det = e.det; known = set.union e.known s }
-
-all_kept : (xs : List Entry) (ts : List (List Entry)) (d : Determinant) → Names xs d → Names (gathered_all xs ts) d
-all_kept xs [] d named = named
-all_kept xs (t ∷ ts) d named = all_kept (gathered xs t) ts d (Names-gathered_kept xs t d named)
 
 -- what one of the tables names, the gathered one names
 pub gathered_all-named : (xs : List Entry) (ts : List (List Entry)) (t : List Entry) (d : Determinant) → Contains ts t → Names t d → Names (gathered_all xs ts) d
 gathered_all-named xs [] t d among named = absurd (omega (arith, among.1))
 gathered_all-named xs (u ∷ ts) t d among named =
     elim (Contains-cons_cases u ts t among) [
-      | inl first ↦ all_kept (gathered xs u) ts d (Names-gathered xs u d (subst (λ (v : List Entry). Names v d) (sym first) named))
+      | inl first ↦ fold-keeps (λ es. Names es d) gathered (gathered xs u) ts (Names-gathered xs u d (subst (λ (v : List Entry). Names v d) (sym first) named))
+          (λ es v here. Names-gathered_kept es v d)
       | inr later ↦ gathered_all-named (gathered xs u) ts t d later named
     ]
 
@@ -38,9 +33,8 @@ gathered_all-named xs (u ∷ ts) t d among named =
 module _ (Q : Entry → Type 0) (join : (x e : Entry) → Q x → Q e → x.det ≡ e.det → Q (joined x e)) where
   pub gathered_all-keeps : (xs : List Entry) (ts : List (List Entry)) → ((x : Entry) → Contains xs x → Q x)
       → ((t : List Entry) (e : Entry) → Contains ts t → Contains t e → Q e) → (y : Entry) → Contains (gathered_all xs ts) y → Q y
-  gathered_all-keeps xs [] all each y among = all y among
-  gathered_all-keeps xs (t ∷ ts) all each y among =
-      gathered_all-keeps (gathered xs t) ts (gathered-keeps Q join xs t all (λ e h. each t e (Contains-here t ts) h)) (λ u e h k. each u e (Contains-there t ts u h) k) y among
+  gathered_all-keeps xs ts all each =
+      fold-keeps (λ es. (y : Entry) → Contains es y → Q y) gathered xs ts all (λ es t here keeps. gathered-keeps Q join es t keeps (λ e. each t e here))
 
 -- the tables of checkpoints are those of the members of the set
 Contains-saved : (s : Members) (checkpoints : List MemberRecord) (n m : ℕ) → m < n → Includes s m → Contains (saved_tables s checkpoints n) (get_or checkpoints m blank).table
@@ -63,13 +57,11 @@ saved-Contains s checkpoints (suc n) t among =
       ]
     ]
 
--- an up member, or a checkpoint, knows that the member m holds the entry's determinant
+-- a store knows that the member m holds the entry's determinant
 abbrev pub KnowsHolder : Knowledge → Entry → ℕ → Type 0
-KnowsHolder r e m =
-    ((q : ℕ) × (x : Entry) × IsUp r q × Contains (table r q) x × (x.det ≡ e.det) × Includes x.known m)
-    ⊎ ((q : ℕ) × (x : Entry) × Contains (checkpoint r q).table x × (x.det ≡ e.det) × Includes x.known m)
+KnowsHolder r e m = (k : Store) × (x : Entry) × IsThere r k × Contains (entries r k) x × (x.det ≡ e.det) × Includes x.known m
 
--- the entry unites what up members and checkpoints know of a recorded determinant, and names those that are down
+-- the entry unites what stores know of a recorded determinant, and names those that are down
 abbrev pub IsGathered : Knowledge → Entry → Type 0
 IsGathered r e = IsRecorded r e.det × ((m : ℕ) → IsDown r m → Includes e.known m) × ((m : ℕ) → Includes e.known m → IsDown r m ⊎ KnowsHolder r e m)
 
@@ -78,7 +70,7 @@ module _ (f : ℕ) (r : Knowledge) (empty : IsDownEmpty f r) where
   abbrev sources : List (List Entry)
   sources = map (λ (m : MemberRecord). m.table) r.members ++ saved_tables r.down r.checkpoints (length r.checkpoints)
 
-  -- an up member or a checkpoint knows of each holder of a recorded determinant that the entry names
+  -- a store knows of each holder of a recorded determinant that the entry names
   abbrev IsKnown : Entry → Type 0
   IsKnown e = IsRecorded r e.det × ((m : ℕ) → Includes e.known m → KnowsHolder r e m)
 
@@ -87,7 +79,7 @@ module _ (f : ℕ) (r : Knowledge) (empty : IsDownEmpty f r) where
     a.0,
     λ m h. elim (Includes-union x.known e.known m h) [
       | inl left ↦ a.1 m left
-      | inr right ↦ elim (b.1 m right) [ inl t ↦ inl (t.0, t.1, t.2, t.3, t.4 ∙ sym same, t.5) | inr t ↦ inr (t.0, t.1, t.2, t.3 ∙ sym same, t.4) ]
+      | inr right ↦ let t = b.1 m right in (t.0, t.1, t.2, t.3, t.4 ∙ sym same, t.5)
     ],
   )
 
@@ -98,13 +90,13 @@ module _ (f : ℕ) (r : Knowledge) (empty : IsDownEmpty f r) where
       let is : table r at.0 ≡ t = ap (λ (m : MemberRecord). m.table) (get_or_default r.members at.0 blank member.0 at.1 ∙ at.2) ∙ member.2 in
       let here : Contains (table r at.0) e = rw is of_t in
       let up = up_if_named f r empty at.0 e.det (e, here, refl) in
-      (IsRecorded-held r e.det at.0 (up, (e, here, refl)), λ m h. inl (at.0, e, up, here, refl, h))
+      (IsRecorded-held r e.det at.0 (up, (e, here, refl)), λ m h. (in_table at.0, e, up, here, refl, h))
 
   saved_known : (t : List Entry) (e : Entry) → Contains (saved_tables r.down r.checkpoints (length r.checkpoints)) t → Contains t e → IsKnown e
   saved_known t e among of_t =
       let saved = saved-Contains r.down r.checkpoints (length r.checkpoints) t among in
       let here : Contains (checkpoint r saved.0).table e = rw saved.1 of_t in
-      (IsRecorded-saved r e.det saved.0 (e, here, refl), λ m h. inr (saved.0, e, here, refl, h))
+      (IsRecorded-saved r e.det saved.0 (e, here, refl), λ m h. (in_checkpoint saved.0, e, tt, here, refl, h))
 
   pub entries_gathered : (e : Entry) → Contains (recovery_table r) e → IsGathered r e
   entries_gathered e among =
@@ -141,15 +133,10 @@ module _ (f : ℕ) (r : Knowledge) (empty : IsDownEmpty f r) where
             saved.1
       ]
 
--- one table more
-pub gathered_all-push : (table : List Entry) (ts : List (List Entry)) (t : List Entry) → gathered_all table (ts ++ t ∷ []) ≡ gathered (gathered_all table ts) t
-gathered_all-push table [] t = refl
-gathered_all-push table (u ∷ ts) t = gathered_all-push (gathered table u) ts t
-
 -- the table of one member more
 pub gathered_all-more : (members : List MemberRecord) (i : ℕ) → i < length members
     → gathered_all [] (map (λ (m : MemberRecord). m.table) (take (i + 1) members))
     ≡ gathered (gathered_all [] (map (λ (m : MemberRecord). m.table) (take i members))) (slice_index_or members i blank).table
 gathered_all-more members i below =
     ap (gathered_all []) (map_more (λ (m : MemberRecord). m.table) members i blank below)
-    ∙ gathered_all-push [] (map (λ (m : MemberRecord). m.table) (take i members)) (slice_index_or members i blank).table
+    ∙ fold_push gathered [] (map (λ (m : MemberRecord). m.table) (take i members)) (slice_index_or members i blank).table

@@ -1,16 +1,6 @@
 -- What checkpoints of a group record, and that a checkpoint keeps a group sound.
-use Rattle.std.proofs.Common.{◌≡◌, ◌≢◌, ℕ, ◌<◌, inl, inr, refl, sym, ◌∙◌, arith, subst}
-use Rattle.std.specs.Prelude.{slice_set}
-use Rattle.std.proofs.lemmas.Bool.{cases_eq}
-use Rattle.std.proofs.lemmas.List.{length-set, get_or-set_same, get_or-set_other}
-use Rattle.fbl_base.specs.Events.{receipt_of}
-use Rattle.fbl_base.specs.Fold.{Next}
-use Rattle.fbl_base.specs.Precedence.{itself}
-use Rattle.fbl_member.specs.Members.{blank}
-use Rattle.fbl_law.specs.Knowledge.{IsUp}
-use Rattle.fbl_law.specs.Steps.{IsCheckpointed}
-use Rattle.fbl_law.specs.Groups.{GroupRecord, member, member_checkpoint, knowledge}
-use Rattle.fbl_law.specs.Sound.{IsFold, IsReplayed, IsSound}
+use Rattle.fbl_law.proofs.Common.{◌≡◌, ◌≢◌, ℕ, ◌<◌, inl, inr, refl, sym, ◌∙◌, arith, subst, slice_set, cases_eq, length-set, get_or-set_same, get_or-set_other}
+use Rattle.fbl_law.proofs.Common.{receipt_of, Next, itself, blank, IsUp, IsCheckpointed, GroupRecord, member, member_checkpoint, knowledge, IsReplayed, IsSound}
 use Rattle.fbl_law.specs.GroupSteps.{IsCheckpoint}
 use Rattle.fbl_law.specs.GroupLaws.{GroupCheckpointKeeps, CheckpointIsRecorded}
 use Rattle.fbl_law.proofs.Safe.{up_if_none, IsRecorded-reached}
@@ -58,9 +48,6 @@ module _ (next : Next) (old new : GroupRecord) (p : ℕ) (s : IsCheckpoint old n
     | inr apart ↦ rw (other m apart) (sound.saved m below)
   ]
 
-  fold_now : (m : ℕ) → IsFold next old m → IsFold next now m
-  fold_now m f = record { progress = f.progress; places = f.places; last = f.last }
-
   IsSound-checkpoint : IsSound next now
   IsSound-checkpoint = record {
     config = sound.config;
@@ -70,7 +57,7 @@ module _ (next : Next) (old new : GroupRecord) (p : ℕ) (s : IsCheckpoint old n
     lawful = sound.lawful;
     room = sound.room;
     causes = checkpoint_keeps old.config.members old.config.f (knowledge old) (knowledge now) p is_checkpointed sound.causes;
-    folds = λ m below up_m. fold_now m (sound.folds m below up_m);
+    folds = λ m below up_m. let f = sound.folds m below up_m in record { progress = f.progress; places = f.places; last = f.last };
     blanks = sound.blanks;
     saved = saved_now;
     shape = sound.shape;

@@ -1,39 +1,23 @@
 -- A delivery keeps a group sound.
-use Rattle.std.proofs.Common.{◌≡◌, ◌≢◌, ℕ, suc, ◌+◌, ◌<◌, ◌≤◌, ◌==◌, ◌&&◌, false, cond, List, [], ◌∷◌, ◌++◌, length, map, inl, inr}
-use Rattle.std.proofs.Common.{Some, slice_get, refl, sym, ap, ◌∙◌, arith, append-nil, length-append}
-use Rattle.std.specs.List.{Contains, filter, filter_map, fold}
+use Rattle.fbl_law.proofs.Common.{◌≡◌, ◌≢◌, ℕ, suc, ◌+◌, ◌<◌, ◌≤◌, ◌==◌, false, cond, List, [], ◌∷◌, ◌++◌, length, map, inl, inr, Some, slice_get}
+use Rattle.fbl_law.proofs.Common.{refl, sym, ap, ◌∙◌, arith, length-append, Contains, filter_map, fold, cases_eq, ne_eqb, map-append, length-set, get_or-set_same, get_or-set_other}
+use Rattle.fbl_law.proofs.Common.{filter-append, filter_map-append, Contains-append_cases, Determinant, Note, Event, Mark, mark_of, determinant_of, receipt_of, sends_of, MayFollow, Next}
+use Rattle.fbl_law.proofs.Common.{Lawful, note_of, At-front, eqb-self, Entry, piggybacked, Message, MemberRecord, blank, send_mark, IsInFlight, IsUp, determinant, IsDelivered, is_on}
+use Rattle.fbl_law.proofs.Common.{between, taken_off, GroupRecord, member, member_checkpoint, channel, marks, knowledge, receipts, IsFold, IsReplayed, IsSound, received_notes, receipts_at}
+use Rattle.std.proofs.Common.{append-nil}
 use Rattle.std.specs.FinSet as sets
-use Rattle.std.proofs.lemmas.Bool.{cases_eq, ne_eqb, and_right}
-use Rattle.std.proofs.lemmas.List.{map-append, length-set, get_or-set_same, get_or-set_other}
-use Rattle.std.proofs.lemmas.List.Elements.{filter-append, filter_map-append, Contains-append_cases}
-use Rattle.fbl_base.specs.declared.trace.Determinant.{Determinant}
-use Rattle.fbl_base.specs.declared.trace.Note.{Note}
-use Rattle.fbl_base.specs.declared.trace.Event.{Event}
 use Rattle.fbl_base.specs.declared.trace.Event.TheVariants as event
-use Rattle.fbl_base.specs.declared.trace.Mark.{Mark}
 use Rattle.fbl_base.specs.declared.trace.Mark.TheVariants.{Send, Receipt}
-use Rattle.fbl_base.specs.Events.{mark_of, determinant_of}
-use Rattle.fbl_base.specs.Rules.{taken_on, sends_of, MayFollow}
-use Rattle.fbl_base.specs.Fold.{Next, Lawful, after_notes, advanced, note_of, step_events}
-use Rattle.fbl_base.proofs.FoldLaws.{after_notes-push}
-use Rattle.fbl_base.proofs.RulesLaws.{eqb-self}
-use Rattle.fbl_base.proofs.LawfulLaws.{Lawful-deliver, Lawful-begun, note_of-front, receipts-noted}
-use Rattle.fbl_table.specs.declared.entry.Entry.{Entry}
-use Rattle.fbl_table.specs.Tables.{piggybacked}
-use Rattle.fbl_member.specs.Members.{Message, MemberRecord, blank, progress_of, messages_from}
-use Rattle.fbl_law.specs.Knowledge.{send_mark, IsInFlight, IsUp}
-use Rattle.fbl_law.specs.Steps.{IsDelivered, is_on, between, taken_off}
-use Rattle.fbl_law.specs.Groups.{GroupRecord, member, member_checkpoint, channel, marks, knowledge, receipts}
-use Rattle.fbl_law.specs.Sound.{IsFold, IsReplayed, IsSound, received_notes, receipts_at, last_taken}
+use Rattle.fbl_base.specs.Fold.{step_events}
+use Rattle.fbl_base.proofs.LawfulLaws.{Lawful-deliver, Lawful-begun, note_of-front}
+use Rattle.fbl_member.specs.Members.{messages_from}
 use Rattle.fbl_law.specs.GroupSteps.{IsDelivery, step_of, receiver, made, delivery_events}
-use Rattle.fbl_law.specs.GroupLaws.{SendsWell, GroupDeliveryKeeps}
-use Rattle.fbl_law.proofs.Lists.{Contains-cons_cases, Contains-none, Contains-from_filter, At-behind}
+use Rattle.fbl_law.specs.GroupLaws.{SendsWell}
+use Rattle.fbl_law.proofs.Lists.{At-seam, Contains-cons_cases, Contains-none, Contains-from_filter, At-behind}
 use Rattle.fbl_law.proofs.Safe.{never_both, up_if_none}
 use Rattle.fbl_law.proofs.Delivery.{taken_off-was, delivery_keeps}
-use Rattle.fbl_law.proofs.Grown.{received_notes-delivered}
 use Rattle.fbl_law.proofs.Notes.{sent-noted}
-use Rattle.fbl_law.proofs.InOrder.{last_taken-push, last_taken-same}
-use Rattle.fbl_law.proofs.ReplayedRecords.{replayed-grown}
+use Rattle.fbl_law.proofs.ReplayedRecords.{replayed-kept, replayed-step, replayed-table, fold-replayed, fold-received, replayed-fold}
 use Rattle.fbl_law.proofs.GroupFacts.{up_state, log_counted, front_flight, front_may_follow}
 
 -- the events of a step are the sends of its messages
@@ -58,10 +42,6 @@ made_event p before carried (s ∷ sends) x among = elim (Contains-cons_cases _ 
 no_receipts : (p before : ℕ) (sends : List (ℕ × Note)) → filter_map determinant_of (map mark_of (step_events p before sends)) ≡ []
 no_receipts p before [] = refl
 no_receipts p before (s ∷ sends) = no_receipts p (before + 1) sends
-
-none_taken : (q m p before : ℕ) (sends : List (ℕ × Note)) → filter_map (taken_on q m) (map mark_of (step_events p before sends)) ≡ []
-none_taken q m p before [] = refl
-none_taken q m p before (s ∷ sends) = none_taken q m p (before + 1) sends
 
 module _ (next : Next) (old new : GroupRecord) (v : Message) (well : SendsWell next) (s : IsDelivery next old new v) (sound : IsSound next old) where
   abbrev n : ℕ
@@ -145,47 +125,42 @@ module _ (next : Next) (old new : GroupRecord) (v : Message) (well : SendsWell n
     checkpoints = s.checkpoints;
   }
 
-  notes_now : (m : ℕ) → received_notes new.trace m ≡ received_notes old.trace m ++ cond (v.to == m) (v.note ∷ []) []
-  notes_now m =
-      rw s.trace
-      (received_notes-delivered old.trace v.to (was.received + 1) v.from v.ssn (length was.log) v.note sends m (receipts-noted n old.trace sound.lawful.well_formed) noted)
+  abbrev own : Determinant
+  own = determinant v (was.received + 1)
 
-  taken_now : (q m : ℕ) → filter_map (taken_on q m) added_marks ≡ cond (v.from == q && v.to == m) (v.ssn ∷ []) []
-  taken_now q m = rw (none_taken q m v.to (length was.log) sends) grind arith
+  receipts_added : receipts added_marks ≡ own ∷ []
+  receipts_added = rw (no_receipts v.to (length was.log) sends) refl
 
-  last_same : (q m : ℕ) → (v.from == q && v.to == m) ≡ false → last_taken (marks new) q m ≡ last_taken (marks old) q m
-  last_same q m off = rw marks_split (last_taken-same (marks old) added_marks q m (taken_now q m ∙ rw off refl))
+  receipts_at_now : (m : ℕ) → receipts_at (marks new) m ≡ receipts_at (marks old) m ++ cond (v.to == m) (own ∷ []) []
+  receipts_at_now m = rw (marks_split, filter_map-append determinant_of (marks old) added_marks, receipts_added, filter-append) refl
 
-  last_now : last_taken (marks new) v.from v.to ≡ v.ssn
-  last_now = rw marks_split (last_taken-push (marks old) added_marks v.from v.to v.ssn (taken_now v.from v.to ∙ rw (eqb-self v.from, eqb-self v.to) refl))
+  -- who has replayed its first receipts of the trace before has replayed them of the new one
+  grown : (m : ℕ) (x : MemberRecord) → IsReplayed next n old.config.starts old.trace m x → IsReplayed next n old.config.starts new.trace m x
+  grown m x =
+      replayed-kept next n old.config.starts old.trace new.trace m x sound.lawful.well_formed is_lawful.well_formed
+      (λ q k y z was now. let kept : note_of new.trace q k ≡ Some y = rw s.trace (note_of-front old.trace added q k y was) in cc)
+      (λ d there to within. rw marks_split (there.0, At-front (marks old) added_marks there.0 (receipt_of d) there.1))
 
-  other_fold : (m : ℕ) → m < n → m ≢ v.to → IsFold next old m → IsFold next new m
-  other_fold m below other f =
+  other_fold : (m : ℕ) → m < n → m ≢ v.to → IsFold next new m
+  other_fold m below other =
+      let fold = sound.folds m below (was_up m) in
       let apart : (v.to == m) ≡ false = ne_eqb v.to m (λ e. other (sym e)) in
-      let notes : received_notes new.trace m ≡ received_notes old.trace m = notes_now m ∙ rw (apart, append-nil) refl in
-      record {
-        progress = rw (other_now m other, s.config, notes) f.progress;
-        places = rw (other_now m other) f.places;
-        last = λ q below_q. rw (other_now m other) (f.last q below_q ∙ sym (last_same q m (and_right (v.from == q) (v.to == m) apart)));
-      }
+      let same : receipts_at (marks new) m ≡ receipts_at (marks old) m = receipts_at_now m ∙ rw (apart, append-nil) refl in
+      replayed-fold next new m (rw s.config is_lawful.well_formed)
+      (rw (other_now m other, s.config) (grown m (member old m) (fold-replayed next old m sound.lawful.well_formed fold)))
+      (rw (other_now m other) (fold-received next old m sound.lawful.well_formed fold ∙ ap length (sym same)))
 
   own_fold : IsFold next new v.to
   own_fold =
-      let notes : received_notes new.trace v.to ≡ received_notes old.trace v.to ++ v.note ∷ [] = notes_now v.to ∙ rw (eqb-self v.to) refl in
-      let after : after_notes next v.to n old.config.starts (received_notes new.trace v.to) ≡ advanced next v.to n (progress_of was) v.note =
-      ap (after_notes next v.to n old.config.starts) notes ∙ after_notes-push next v.to n old.config.starts (received_notes old.trace v.to) v.note
-      ∙ ap (λ p. advanced next v.to n p v.note) (sym fold_was.progress) in
-      let sixteen : v.from < length was.last = omega (arith, s.from_member, fold_was.places, sound.config.members.1) in
-      record {
-        progress = rw (receiver_now, s.config) (sym after);
-        places = rw receiver_now (length-set was.last v.from v.ssn ∙ fold_was.places);
-        last = λ q below_q. rw receiver_now elim (cases_eq q v.from) [
-          | inl same ↦ rw same (get_or-set_same was.last v.from v.ssn 0 sixteen ∙ sym last_now)
-          | inr other ↦
-              let off : (v.from == q && v.to == v.to) ≡ false = rw (ne_eqb v.from q (λ e. other (sym e))) refl in
-              get_or-set_other was.last v.from q v.ssn 0 other ∙ fold_was.last q below_q ∙ sym (last_same q v.to off)
-        ];
-      }
+      let count = fold-received next old v.to sound.lawful.well_formed fold_was in
+      let more : receipts_at (marks new) v.to ≡ receipts_at (marks old) v.to ++ own ∷ [] = receipts_at_now v.to ∙ rw (eqb-self v.to) refl in
+      let here : slice_get (receipts_at (marks new) v.to) was.received ≡ Some own = ap (slice_get (receipts_at (marks new) v.to)) count ∙ rw more (At-seam (receipts_at (marks old) v.to) own []) in
+      let noted_now : note_of new.trace v.from v.ssn ≡ Some v.note = rw s.trace (note_of-front old.trace added v.from v.ssn v.note noted) in
+      let replayed = replayed-step next n old.config.starts new.trace v.to was own v.note is_lawful.well_formed
+      (grown v.to was (fold-replayed next old v.to sound.lawful.well_formed fold_was)) here noted_now in
+      replayed-fold next new v.to (rw s.config is_lawful.well_formed)
+      (rw (receiver_now, s.config) (replayed-table next n old.config.starts new.trace v.to _ (receiver next old v).table replayed))
+      (rw receiver_now (omega (arith, count, ap length more, length-append (receipts_at (marks old) v.to) (own ∷ []))))
 
   notes_kept : (x : Message) → IsInFlight (knowledge new) x → note_of new.trace x.from x.ssn ≡ Some x.note
   notes_kept x flying =
@@ -202,34 +177,23 @@ module _ (next : Next) (old new : GroupRecord) (v : Message) (well : SendsWell n
       ]
 
   receipts_now : length (receipts (marks new)) ≡ length (receipts (marks old)) + 1
-  receipts_now = rw (marks_split, filter_map-append determinant_of (marks old) added_marks, length-append, no_receipts v.to (length was.log) sends) refl
+  receipts_now = rw (marks_split, filter_map-append determinant_of (marks old) added_marks, length-append, ap length receipts_added) refl
 
-  -- a checkpoint is at the fold of its receipts also where the trace has more
-  saved_grown : (m : ℕ) → m < n → IsReplayed next n old.config.starts new.trace m (member_checkpoint old m)
-  saved_grown m below =
-      replayed-grown next n old.config.starts old.trace new.trace m (member_checkpoint old m) _ _ sound.lawful.well_formed
-      (ap (λ t. receipts_at t m) marks_split ∙ ap (filter (λ (d : Determinant). d.to == m)) (filter_map-append determinant_of (marks old) added_marks)
-      ∙ filter-append (λ (d : Determinant). d.to == m) (receipts (marks old)) (receipts added_marks))
-      (notes_now m) (sound.saved m below)
-
-  IsSound-delivered : IsSound next new
-  IsSound-delivered = record {
+  pub group_delivery_keeps : IsSound next new
+  group_delivery_keeps = record {
     config = rw s.config sound.config;
     members = rw (s.members, s.config) (length-set old.members v.to (receiver next old v) ∙ sound.members);
     checkpoints = rw (s.checkpoints, s.config) sound.checkpoints;
-    saved = λ m below. rw (s.config, s.checkpoints) (saved_grown m (rw s.config at below));
+    saved = λ m below. rw (s.config, s.checkpoints) (grown m (member_checkpoint old m) (sound.saved m (rw s.config at below)));
     down = λ q down. never_both new.down q down (up_if_none nobody_down q);
     lawful = rw s.config is_lawful;
     room = rw s.config s.room;
     causes = rw s.config (delivery_keeps n old.config.f (knowledge old) (knowledge new) v (was.received + 1) (made next old v) is_delivered sound.causes);
     folds = λ m below up.
         let within : m < n = (rw s.config at below) in
-        elim (cases_eq m v.to) [ inl same ↦ rw same own_fold | inr other ↦ other_fold m within other (sound.folds m within (was_up m)) ];
+        elim (cases_eq m v.to) [ inl same ↦ rw same own_fold | inr other ↦ other_fold m within other ];
     blanks = λ m below down. never_both new.down m down (up_if_none nobody_down m);
     shape = rw s.config s.shape;
     notes = notes_kept;
     counted = omega (arith, receipts_now, sound.counted, s.undone_ever, s.receipts_ever);
   }
-
-pub group_delivery_keeps : GroupDeliveryKeeps
-group_delivery_keeps next old new v well s sound = IsSound-delivered next old new v well s sound

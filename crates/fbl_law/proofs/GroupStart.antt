@@ -1,41 +1,24 @@
 -- A group in which nothing is received yet is sound.
-use Rattle.std.proofs.Common.{◌≡◌, ℕ, suc, ◌+◌, ◌<◌, ◌≤◌, ◌==◌, not, List, [], ◌∷◌, ◌++◌, length, map, inl, inr, Option}
-use Rattle.std.proofs.Common.{Some, None, slice_get, refl, sym, ap, ◌∙◌, arith, append_assoc, append-nil, length-append, if◌then◌else◌}
-use Rattle.std.specs.List.{Contains, filter, filter_map, cons_option, list_any}
-use Rattle.std.proofs.lemmas.Bool.{cases_lt}
-use Rattle.std.proofs.lemmas.List.{length-map, map-append, take_all, get_or_past, get_or-replicate}
-use Rattle.std.proofs.lemmas.List.Elements.{filter_map-append}
-use Rattle.fbl_base.specs.declared.trace.Note.{Note}
-use Rattle.fbl_base.specs.declared.trace.Start.{Start}
-use Rattle.fbl_base.specs.declared.trace.Determinant.{Determinant}
-use Rattle.fbl_base.specs.declared.trace.Event.{Event}
+use Rattle.fbl_law.proofs.Common.{◌≡◌, ℕ, suc, ◌+◌, ◌<◌, ◌≤◌, ◌==◌, List, [], ◌∷◌, ◌++◌, length, get_or, map, inl, inr, Option, Some, None, slice_get}
+use Rattle.fbl_law.proofs.Common.{refl, sym, ap, ◌∙◌, arith, append_assoc, length-append, Contains, filter, filter_map, cons_option, cases_lt, length-map, map-append, take_all}
+use Rattle.fbl_law.proofs.Common.{get_or_past, filter_map-append, Note, Start, Determinant, Event, Mark, mark_of, determinant_of, receipt_of, Has, in_flight, sent_on, taken_on, sends_of}
+use Rattle.fbl_law.proofs.Common.{WellFormed, MayFollow, Next, Lawful, sent, action_of, actions_of, notes_of, start_of, starts_of, after_notes, filter_map-At, WellFormed-none}
+use Rattle.fbl_law.proofs.Common.{WellFormed-push, fresh, Message, MemberRecord, blank, length-numbered, send_mark, IsUp, MatchesTrace, starts, is_on, GroupRecord, member_checkpoint}
+use Rattle.fbl_law.proofs.Common.{channel, knowledge, receipts, IsFold, IsReplayed, IsSound, received_notes}
+use Rattle.std.proofs.Common.{append-nil, if◌then◌else◌}
 use Rattle.fbl_base.specs.declared.trace.Event.TheVariants as event
-use Rattle.fbl_base.specs.declared.trace.Mark.{Mark}
 use Rattle.fbl_base.specs.declared.trace.Mark.TheVariants.{Send, Receipt}
 use Rattle.fbl_base.specs.Configs.{Settings, IsConfig, StartAllowed}
-use Rattle.fbl_base.specs.Events.{mark_of, determinant_of, receipt_of}
-use Rattle.fbl_base.specs.Precedence.{Has}
-use Rattle.fbl_base.specs.Rules.{sent_on, taken_on, sends_of, WellFormed, MayFollow}
-use Rattle.fbl_base.specs.Fold.{Next, Lawful, sent, action_of, actions_of, notes_of, start_of, starts_of, after_notes}
-use Rattle.fbl_base.proofs.Gets.{filter_map-At}
-use Rattle.fbl_base.proofs.InFlightLaws.{filter_all}
-use Rattle.fbl_base.proofs.RulesLaws.{WellFormed-none, WellFormed-push}
 use Rattle.fbl_base.proofs.LawfulLaws.{notes_of-sent}
-use Rattle.fbl_member.specs.Members.{Message, MemberRecord, blank}
-use Rattle.fbl_member.proofs.Logs.{length-numbered}
-use Rattle.fbl_law.specs.Knowledge.{table, send_mark, IsUp, MatchesTrace}
-use Rattle.fbl_law.specs.Run.{IsStart, starts}
-use Rattle.fbl_law.specs.Steps.{is_on}
-use Rattle.fbl_law.specs.Groups.{GroupRecord, member_checkpoint, channel, knowledge, receipts}
-use Rattle.fbl_law.specs.Sound.{IsFold, IsReplayed, IsSound, received_notes}
+use Rattle.fbl_law.specs.Run.{IsStart}
 use Rattle.fbl_law.specs.GroupSteps.{IsGroupStart, start_events, message_of_send}
-use Rattle.fbl_law.specs.GroupLaws.{GroupStartIsSound}
+use Rattle.fbl_law.proofs.InOrder.{fifo}
 use Rattle.fbl_law.proofs.Lists.{Contains-cons_cases, Contains-from_filter, Contains-none}
 use Rattle.fbl_law.proofs.Safe.{never_both, up_if_none}
 use Rattle.fbl_law.proofs.Run.{run_is_sound}
 use Rattle.fbl_law.proofs.Notes.{sent-noted}
 use Rattle.fbl_law.proofs.Logs.{log-length}
-use Rattle.fbl_law.proofs.ReplayedRecords.{replayed-fresh}
+use Rattle.fbl_law.proofs.ReplayedRecords.{replayed-fresh, replayed-fold}
 use Rattle.fbl_law.proofs.Channels.{messages_between}
 
 -- the send of a start after the events so far
@@ -54,9 +37,10 @@ filter_map-all : (ss : List Start) → filter_map (λ s. Some s) ss ≡ ss
 filter_map-all [] = refl
 filter_map-all (s ∷ ss) = ap (λ ys. s ∷ ys) (filter_map-all ss)
 
-filter_map-none : {Y : Type 0} (ss : List Start) → filter_map {X = Start} {Y = Y} (λ s. None) ss ≡ []
-filter_map-none [] = refl
-filter_map-none (s ∷ ss) = filter_map-none ss
+-- the starts are no receipts
+no_receipts : (done : List Event) (ss : List Start) → receipts (map mark_of (start_events done ss)) ≡ receipts (map mark_of done)
+no_receipts done [] = refl
+no_receipts done (s ∷ ss) = no_receipts (done ++ send_of done s ∷ []) ss ∙ rw (map-append, filter_map-append, append-nil) refl
 
 length-starts : (done : List Event) (ss : List Start) → length (start_events done ss) ≡ length done + length ss
 length-starts done [] = omega arith
@@ -75,10 +59,6 @@ starts_obey n done (s ∷ ss) obeys allowed room =
 
 pub starts-obey : (config : Settings) → IsConfig config → WellFormed config.members (map mark_of (start_events [] config.starts))
 starts-obey config is = starts_obey config.members [] config.starts (WellFormed-none config.members) is.starts (omega (arith, is.few_starts))
-
--- what nothing is taken of is all in flight
-none_dropped : (ks : List ℕ) → filter (λ ssn. not (list_any (λ taken. taken == ssn) [])) ks ≡ ks
-none_dropped ks = filter_all _ ks (λ i k here. refl)
 
 no_receipt : (t : List Mark) → filter_map determinant_of t ≡ [] → (d : Determinant) → ¬ (Has t (receipt_of d))
 no_receipt t none d has = let r = filter_map-At determinant_of t has.0 (receipt_of d) d has.1 refl in let here = rw none at r.1 in cc
@@ -138,16 +118,7 @@ module _ (next : Next) (config : Settings) (r : GroupRecord) (is : IsConfig conf
   }
 
   unreceived : receipts (map mark_of events) ≡ []
-  unreceived = mapped events ∙ starts_given (λ e. determinant_of (mark_of e)) (λ s. None) (λ s k. refl) [] config.starts ∙ filter_map-none config.starts where
-    mapped : (t : List Event) → filter_map determinant_of (map mark_of t) ≡ filter_map (λ e. determinant_of (mark_of e)) t
-    mapped [] = refl
-    mapped (e ∷ t) = ap (λ ys. cons_option (determinant_of (mark_of e)) ys) (mapped t)
-
-  no_table : (m : ℕ) → table (knowledge r) m ≡ []
-  no_table m = elim (cases_lt m n) [
-    | inl below ↦ ap (λ (x : MemberRecord). x.table) (s.members m below)
-    | inr above ↦ ap (λ (x : MemberRecord). x.table) (get_or_past r.members m blank (omega (arith, above, s.size)))
-  ]
+  unreceived = no_receipts [] config.starts
 
   -- the starts of a member are its sends in the trace
   starts_sent : (m : ℕ) → length (starts_of m config.starts) ≡ sends_of (map mark_of events) m
@@ -155,17 +126,12 @@ module _ (next : Next) (config : Settings) (r : GroupRecord) (is : IsConfig conf
       sym (length-numbered 0 (starts_of m config.starts))
       ∙ ap (λ (notes : List Note). length (after_notes next m n config.starts notes).log) (sym (no_notes m)) ∙ log-length next n config.starts events m is_lawful
 
-  no_checkpoint : (m : ℕ) → ((member_checkpoint r m).table ≡ []) × ((member_checkpoint r m).received ≡ 0) × (length (member_checkpoint r m).log ≤ sends_of (map mark_of r.trace) m)
-  no_checkpoint m = elim (cases_lt m n) [
-    | inl below ↦ (
-      ap (λ (x : MemberRecord). x.table) (s.saved m below),
-      ap (λ (x : MemberRecord). x.received) (s.saved m below),
-      (let log = ap (λ (x : MemberRecord). length x.log) (s.saved m below) in rw s.trace (omega (arith, log, length-numbered 0 (starts_of m config.starts), starts_sent m))),
-    )
-    | inr above ↦ (
-        let none = get_or_past r.checkpoints m blank (omega (arith, above, s.checkpoints)) in
-        (ap (λ (x : MemberRecord). x.table) none, ap (λ (x : MemberRecord). x.received) none, (let log = ap (λ (x : MemberRecord). length x.log) none in omega (arith, log)))
-        )
+  -- the records of fresh members, and what is past them
+  started : (xs : List MemberRecord) → length xs ≡ n → ((m : ℕ) → m < n → get_or xs m blank ≡ fresh m config.starts) → (m : ℕ)
+      → ((get_or xs m blank).table ≡ []) × ((get_or xs m blank).received ≡ 0) × (length (get_or xs m blank).log ≤ sends_of (map mark_of r.trace) m)
+  started xs size each m = elim (cases_lt m n) [
+    | inl below ↦ rw (each m below, s.trace) (refl, refl, omega (arith, length-numbered 0 (starts_of m config.starts), starts_sent m))
+    | inr above ↦ rw (get_or_past xs m blank (omega (arith, above, size))) (refl, refl, omega arith)
   ]
 
   saved_now : (m : ℕ) → m < n → IsReplayed next n config.starts r.trace m (member_checkpoint r m)
@@ -173,7 +139,8 @@ module _ (next : Next) (config : Settings) (r : GroupRecord) (is : IsConfig conf
 
   matches : (q p : ℕ) → MatchesTrace (knowledge r) q p
   matches q p =
-      rw (s.channels q p, s.trace, none_taken q p (map mark_of events) unreceived, none_dropped) (marks_between q p events)
+      let none = ap (λ (ks : List ℕ). ks ++ in_flight (map mark_of events) q p) (none_taken q p (map mark_of events) unreceived) in
+      rw (s.channels q p, s.trace) (marks_between q p events ∙ ap (map (λ ssn. Send q ssn p)) (fifo n (map mark_of events) q p obeys ∙ none))
 
   among_starts : (v : Message) → Contains (channel r v.from v.to) v → Contains (filter_map message_of_send r.trace) v
   among_starts v flies = Contains-from_filter (is_on v.from v.to) (filter_map message_of_send r.trace) v (rw (s.channels v.from v.to) at flies)
@@ -183,21 +150,19 @@ module _ (next : Next) (config : Settings) (r : GroupRecord) (is : IsConfig conf
     rules = rw s.trace obeys;
     nobody_down = s.nobody_down;
     unreceived = rw s.trace (no_receipt (map mark_of events) unreceived);
-    tables = no_table;
-    checkpoints = no_checkpoint;
+    tables = λ m. (started r.members s.size s.members m).0;
+    checkpoints = started r.checkpoints s.checkpoints s.saved;
     channels = matches;
     messages = λ v flies. (message_sent r.trace v (among_starts v flies)).0;
   }
 
   fold_now : (m : ℕ) → m < n → IsFold next r m
-  fold_now m below = record {
-    progress = rw (s.members m below, s.parameters, s.trace, no_notes m) refl;
-    places = rw (s.members m below) refl;
-    last = λ q below_q. rw (s.members m below, s.trace, none_taken q m (map mark_of events) unreceived) (get_or-replicate {A = ℕ} 16 q 0 0 below_q);
-  }
+  fold_now m below =
+      replayed-fold next r m (rw (s.parameters, s.trace) obeys) (rw (s.members m below, s.parameters) (replayed-fresh next n config.starts r.trace m))
+      (rw (s.members m below, s.trace, unreceived) refl)
 
-  IsSound-started : IsSound next r
-  IsSound-started = record {
+  pub group_start_is_sound : IsSound next r
+  group_start_is_sound = record {
     config = rw s.parameters is;
     members = rw s.parameters s.size;
     checkpoints = rw s.parameters s.checkpoints;
@@ -214,6 +179,3 @@ module _ (next : Next) (config : Settings) (r : GroupRecord) (is : IsConfig conf
         sent-noted n r.trace (rw s.trace obeys) sent_at.0 v.from v.ssn v.to v.note sent_at.1;
     counted = rw (s.undone_ever, s.receipts_ever, s.trace, unreceived) refl;
   }
-
-pub group_start_is_sound : GroupStartIsSound
-group_start_is_sound next config r is s = IsSound-started next config r is s

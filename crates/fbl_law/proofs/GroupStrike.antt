@@ -1,27 +1,16 @@
 -- A strike keeps a group sound, and what the tables of a sound group say of recorded receipts.
-use Rattle.std.proofs.Common.{◌≡◌, ℕ, ◌≤◌, true, List, inl, inr, Some, get_or, refl, ap, ◌∙◌}
-use Rattle.std.specs.List.{Contains, list_any}
+use Rattle.fbl_law.proofs.Common.{◌≡◌, ℕ, ◌≤◌, true, List, inl, inr, Some, get_or, refl, ap, ◌∙◌, Contains, list_any, or_cases, or_left, or_right, get_or_default}
+use Rattle.fbl_law.proofs.Common.{Any-from_list_any, Determinant, AllBelow, Members, Next, note_of, is_held, Message, MemberRecord, blank, IsInFlight, IsUp, Names, IsStruck, GroupRecord}
+use Rattle.fbl_law.proofs.Common.{channel, knowledge, IsFold, IsSound}
 use Rattle.std.specs.FinSet as sets
-use Rattle.std.proofs.lemmas.Bool.{or_cases, or_left, or_right}
-use Rattle.std.proofs.lemmas.List.{get_or_default}
-use Rattle.std.proofs.lemmas.List.Folds.{Any-from_list_any, list_any_at}
-use Rattle.fbl_base.specs.declared.trace.Determinant.{Determinant}
-use Rattle.fbl_base.specs.MemberSets.{AllBelow, Members}
-use Rattle.fbl_base.specs.Fold.{Next, note_of}
-use Rattle.fbl_table.specs.Tables.{is_held}
-use Rattle.fbl_member.specs.Members.{Message, MemberRecord, blank}
-use Rattle.fbl_law.specs.Knowledge.{IsInFlight, IsUp, Names}
-use Rattle.fbl_law.specs.Steps.{IsStruck}
-use Rattle.fbl_law.specs.Groups.{GroupRecord, channel, knowledge}
-use Rattle.fbl_law.specs.Sound.{IsFold, IsSound}
+use Rattle.std.proofs.lemmas.List.Folds.{list_any_at}
 use Rattle.fbl_law.specs.GroupSteps.{IsStrike}
-use Rattle.fbl_law.specs.GroupLaws.{GroupStrikeKeeps, RecordedTest}
+use Rattle.fbl_law.specs.GroupLaws.{RecordedTest}
 use Rattle.fbl_law.proofs.Safe.{down_or_up, never_both, up_at_ends, up_if_named, IsRecorded-held, IsRecorded-saved}
-use Rattle.fbl_law.proofs.Tables.{Includes-union, Includes-left, named_record}
+use Rattle.fbl_law.proofs.Tables.{Names-held, held-Names, Includes-union, Includes-left, named_record}
 use Rattle.fbl_law.proofs.Strike.{strike_keeps}
-use Rattle.fbl_law.proofs.GroupFacts.{Names-held, held-Names}
 
-module _ (next : Next) (old new : GroupRecord) (struck : Members) (s : IsStrike old new struck) (sound : IsSound next old) where
+module _ (next : Next) (old new : GroupRecord) (struck : Members) (s : IsStrike old new struck) where
   was_up : (m : ℕ) → IsUp (knowledge new) m → IsUp (knowledge old) m
   was_up m up = elim (down_or_up old.down m) [ inl down ↦ never_both new.down m (rw s.down (Includes-left old.down struck m down)) up | inr h ↦ h ]
 
@@ -36,8 +25,8 @@ module _ (next : Next) (old new : GroupRecord) (struck : Members) (s : IsStrike 
     checkpoints = s.checkpoints;
   }
 
-  notes_kept : (v : Message) → IsInFlight (knowledge new) v → note_of new.trace v.from v.ssn ≡ Some v.note
-  notes_kept v flying =
+  notes_kept : IsSound next old → (v : Message) → IsInFlight (knowledge new) v → note_of new.trace v.from v.ssn ≡ Some v.note
+  notes_kept sound v flying =
       let ends = up_at_ends (knowledge new) s.emptied v.from v.to v flying in
       let among : Contains (channel new v.from v.to) v = flying in
       rw s.trace (sound.notes v (rw (s.channels v.from v.to ends.0 ends.1) at among))
@@ -49,8 +38,8 @@ module _ (next : Next) (old new : GroupRecord) (struck : Members) (s : IsStrike 
     last = λ q below. rw (s.survivors m up, s.trace) (f.last q below);
   }
 
-  IsSound-struck : AllBelow struck old.config.members → sets.len new.down ≤ old.config.f → IsSound next new
-  IsSound-struck within few = record {
+  pub group_strike_keeps : AllBelow struck old.config.members → sets.len new.down ≤ old.config.f → IsSound next old → IsSound next new
+  group_strike_keeps within few sound = record {
     config = rw s.config sound.config;
     members = rw s.config (s.size ∙ sound.members);
     checkpoints = rw (s.checkpoints, s.config) sound.checkpoints;
@@ -62,12 +51,9 @@ module _ (next : Next) (old new : GroupRecord) (struck : Members) (s : IsStrike 
     folds = λ m below up. fold_kept m up (sound.folds m (rw s.config at below) (was_up m up));
     blanks = λ m below down. s.blanks m down;
     shape = rw s.config s.shape;
-    notes = notes_kept;
+    notes = notes_kept sound;
     counted = rw (s.trace, s.undone_ever, s.receipts_ever) sound.counted;
   }
-
-pub group_strike_keeps : GroupStrikeKeeps
-group_strike_keeps next old new struck s within few sound = IsSound-struck next old new struck s sound within few
 
 -- some record's table has the determinant exactly where it names it
 named_by : (xs : List MemberRecord) (d : Determinant) → list_any (λ m. is_held m.table d) xs ≡ true → (k : ℕ) × Names (get_or xs k blank).table d

@@ -1,75 +1,80 @@
 -- Each channel is first in, first out: what is in flight was sent after all that was received on it.
-use Rattle.std.proofs.Common.{◌≡◌, ℕ, suc, ◌<◌, ◌≤◌, ◌==◌, ◌&&◌, Bool, true, false, cond, List, [], ◌∷◌, ◌++◌, drop, inl, inr, ◌⊎◌, Some, slice_get}
-use Rattle.std.proofs.Common.{refl, sym, ap, arith}
-use Rattle.std.specs.List.{filter_map, fold}
-use Rattle.std.proofs.lemmas.Bool.{and_parts, eqb-true}
+use Rattle.fbl_law.proofs.Common.{◌≡◌, ℕ, suc, ◌<◌, ◌≤◌, ◌==◌, ◌&&◌, nat_lt, Bool, true, false, cond, List, [], ◌∷◌, ◌++◌, drop, Some, None, slice_get}
+use Rattle.fbl_law.proofs.Common.{refl, ap, ◌∙◌, arith, append_assoc, filter, filter_map, cons_option, fold, and_parts, eqb-true, nat_tests, filter_map-append, Mark, taken_on, sent_on}
+use Rattle.fbl_law.proofs.Common.{in_flight, MayFollow, WellFormed, At-front, At-filter_map, WellFormed-keeps, is_sent, in_flight-send, in_flight-receipt, last_taken}
 use Rattle.std.proofs.lemmas.List.{append-nil}
-use Rattle.std.proofs.lemmas.List.Elements.{filter_map-append}
-use Rattle.std.proofs.lemmas.List.Sums.{fold_push}
-use Rattle.fbl_base.specs.declared.trace.Mark.{Mark}
 use Rattle.fbl_base.specs.declared.trace.Mark.TheVariants.{Send, Receipt}
-use Rattle.fbl_base.specs.Rules.{taken_on, sent_on, sends_of, in_flight, MayFollow, WellFormed}
-use Rattle.fbl_base.proofs.Gets.{At-push, Apart-filter}
-use Rattle.fbl_base.proofs.RulesLaws.{WellFormed-keeps}
-use Rattle.fbl_base.proofs.InFlightLaws.{taken-sent, sent-rises, in_flight-send, in_flight-receipt}
-use Rattle.fbl_law.specs.Sound.{last_taken}
+use Rattle.fbl_base.proofs.Gets.{Apart, Apart-later}
+use Rattle.fbl_base.proofs.InFlightLaws.{filter_all, sent-rises}
+use Rattle.fbl_law.proofs.Lists.{filter-passes}
 
--- a message that was received on a channel is the last one
-pub last_taken-push : (t u : List Mark) (q p : ℕ) (s : ℕ) → filter_map (taken_on q p) u ≡ s ∷ [] → last_taken (t ++ u) q p ≡ s
-last_taken-push t u q p s is = rw (filter_map-append, is) (fold_push (λ last ssn. ssn) 0 (filter_map (taken_on q p) t) s)
+-- what was sent stays what was taken and then what is in flight, where one more is sent, and where the first one is taken
+one-sent : (sent taken flying more : List ℕ) → sent ≡ taken ++ flying → sent ++ more ≡ (taken ++ []) ++ (flying ++ more)
+one-sent sent taken flying more was = rw (was, append-nil, append_assoc)
 
-pub last_taken-same : (t u : List Mark) (q p : ℕ) → filter_map (taken_on q p) u ≡ [] → last_taken (t ++ u) q p ≡ last_taken t q p
-last_taken-same t u q p is = rw (filter_map-append, is, append-nil) refl
+one-taken : (b : Bool) (s : ℕ) (sent taken flying : List ℕ) → sent ≡ taken ++ flying → (b ≡ true → slice_get flying 0 ≡ Some s)
+    → sent ++ [] ≡ (taken ++ cons_option (cond b (Some s) None) []) ++ cond b (drop 1 flying) flying
+one-taken false s sent taken flying was first = rw (was, append-nil (taken ++ flying), append-nil taken)
+one-taken true s sent taken [] was first = absurd (let none = first refl in cc)
+one-taken true s sent taken (x ∷ flying) was first =
+    let same : x ≡ s = (let one = first refl in cc) in
+    rw (was, append-nil, append_assoc, same)
 
--- the last number of a list is one of its numbers, or there is none
-last_of : (a : ℕ) (ks : List ℕ) → (fold (λ last ssn. ssn) a ks ≡ a) ⊎ ((j : ℕ) × (slice_get ks j ≡ Some (fold (λ last ssn. ssn) a ks)))
-last_of a [] = inl refl
-last_of a (k ∷ ks) = elim (last_of k ks) [ inl is ↦ inr (0, ap Some (sym is)) | inr r ↦ inr (suc r.0, r.1) ]
-
--- each number in flight is beyond the last one received
-abbrev IsBeyond : ℕ → ℕ → List Mark → Type 0
-IsBeyond q p t = (j x : ℕ) → slice_get (in_flight t q p) j ≡ Some x → last_taken t q p < x
-
-last_sent : (n : ℕ) (t : List Mark) (q p : ℕ) → WellFormed n t → last_taken t q p ≤ sends_of t q
-last_sent n t q p obeys = elim (last_of 0 (filter_map (taken_on q p) t)) [
-  | inl none ↦ omega (arith, none)
-  | inr some ↦ taken-sent n t obeys q p (last_taken t q p) some.0 some.1
-]
-
-drop_one-At : (ks : List ℕ) (j x : ℕ) → slice_get (drop 1 ks) j ≡ Some x → slice_get ks (suc j) ≡ Some x
-drop_one-At [] j x at = cc
-drop_one-At (k ∷ ks) j x at = at
-
-IsBeyond-push : (n : ℕ) (t : List Mark) (e : Mark) (q p : ℕ) → WellFormed n t → MayFollow n t e → IsBeyond q p t → IsBeyond q p (t ++ e ∷ [])
-IsBeyond-push n t (Send a s b) q p obeys may beyond j x at =
-    let last : last_taken (t ++ Send a s b ∷ []) q p ≡ last_taken t q p = last_taken-same t (Send a s b ∷ []) q p refl in
-    let flying : in_flight (t ++ Send a s b ∷ []) q p ≡ in_flight t q p ++ cond (a == q && b == p) (s ∷ []) [] = in_flight-send n t obeys a s b q p may in
-    let below : last_taken t q p < x = on (a == q && b == p) refl (rw flying at at) in
-    omega (arith, last, below)
+-- messages are taken in the order in which they were sent: what was sent is what was taken, and then what is in flight
+fifo-one : (n : ℕ) (t : List Mark) (e : Mark) (q p : ℕ) → WellFormed n t → MayFollow n t e → filter_map (sent_on q p) t ≡ filter_map (taken_on q p) t ++ in_flight t q p
+    → filter_map (sent_on q p) (t ++ e ∷ []) ≡ filter_map (taken_on q p) (t ++ e ∷ []) ++ in_flight (t ++ e ∷ []) q p
+fifo-one n t (Send q' s p') q p obeys may was =
+    let one : cons_option (cond (q' == q && p' == p) (Some s) None) [] ≡ cond (q' == q && p' == p) (s ∷ []) [] = grind arith in
+    rw (in_flight-send n t obeys q' s p' q p may, filter_map-append (sent_on q p) t (Send q' s p' ∷ []), filter_map-append (taken_on q p) t (Send q' s p' ∷ []), one)
+    (one-sent _ _ (in_flight t q p) _ was)
+fifo-one n t (Receipt p' r q' s) q p obeys may was =
+    rw (
+      in_flight-receipt n t obeys p' r q' s q p may,
+      filter_map-append (sent_on q p) t (Receipt p' r q' s ∷ []),
+      filter_map-append (taken_on q p) t (Receipt p' r q' s ∷ []),
+    ) (one-taken (q' == q && p' == p) s _ _ (in_flight t q p) was first)
   where
-    on : (c : Bool) → (a == q && b == p) ≡ c → slice_get (in_flight t q p ++ cond c (s ∷ []) []) j ≡ Some x → last_taken t q p < x
-    on false is at' = beyond j x (rw append-nil at at')
-    on true is at' = elim (At-push (in_flight t q p) s j x at') [
-      | inl old ↦ beyond j x old
-      | inr new ↦
-          let same = eqb-true a q (and_parts (a == q) (b == p) is).0 in
-          omega (arith, last_sent n t q p obeys, ap (sends_of t) same, may.3, new.1)
-    ]
-IsBeyond-push n t (Receipt b r a s) q p obeys may beyond j x at =
-    on (a == q && b == p) refl (rw (in_flight-receipt n t obeys b r a s q p may) at at)
-  where
-    on : (c : Bool) → (a == q && b == p) ≡ c → slice_get (cond c (drop 1 (in_flight t q p)) (in_flight t q p)) j ≡ Some x
-        → last_taken (t ++ Receipt b r a s ∷ []) q p < x
-    on false is at' =
-        let taken : filter_map (taken_on q p) (Receipt b r a s ∷ []) ≡ [] = rw is in
-        omega (arith, last_taken-same t (Receipt b r a s ∷ []) q p taken, beyond j x at')
-    on true is at' =
-        let parts = and_parts (a == q) (b == p) is in
-        let taken : filter_map (taken_on q p) (Receipt b r a s ∷ []) ≡ s ∷ [] = rw is in
-        let first : slice_get (in_flight t q p) 0 ≡ Some s = rw (← eqb-true a q parts.0, ← eqb-true b p parts.1) may.5 in
-        let later = drop_one-At (in_flight t q p) j x at' in
-        let rises = sent-rises n t obeys q p s x (Apart-filter _ (filter_map (sent_on q p) t) s x (0, suc j, omega arith, first, later)) in
-        omega (arith, last_taken-push t (Receipt b r a s ∷ []) q p s taken, rises)
+    first : (q' == q && p' == p) ≡ true → slice_get (in_flight t q p) 0 ≡ Some s
+    first is =
+        let parts = and_parts (q' == q) (p' == p) is in
+        rw (← eqb-true q' q parts.0, ← eqb-true p' p parts.1) may.5
 
-pub in_flight-beyond : (n : ℕ) (t : List Mark) (q p j x : ℕ) → WellFormed n t → slice_get (in_flight t q p) j ≡ Some x → last_taken t q p < x
-in_flight-beyond n t q p j x obeys at = WellFormed-keeps n (IsBeyond q p) (λ i y none. cc) (λ u e. IsBeyond-push n u e q p) t obeys j x at
+pub fifo : (n : ℕ) (t : List Mark) (q p : ℕ) → WellFormed n t → filter_map (sent_on q p) t ≡ filter_map (taken_on q p) t ++ in_flight t q p
+fifo n t q p obeys = WellFormed-keeps n (λ u. filter_map (sent_on q p) u ≡ filter_map (taken_on q p) u ++ in_flight u q p) refl (λ u e. fifo-one n u e q p) t obeys
+
+-- in a rising list whose front has been taken, the numbers beyond the last one taken are the rest
+abbrev last_of : ℕ → List ℕ → ℕ
+last_of z xs = fold (λ last x. x) z xs
+
+last-above : (z y : ℕ) (xs : List ℕ) → z ≤ y → ((i x : ℕ) → slice_get xs i ≡ Some x → z < x) → z ≤ last_of y xs
+last-above z y [] below above = below
+last-above z y (x ∷ xs) below above = last-above z x xs (omega (arith, above 0 x refl)) (λ i. above (suc i))
+
+beyond-last : (z : ℕ) (xs ys : List ℕ) → ((i x : ℕ) → slice_get (xs ++ ys) i ≡ Some x → z < x) → ((x y : ℕ) → Apart (xs ++ ys) x y → x < y)
+    → filter (λ x. nat_lt (last_of z xs) x) (xs ++ ys) ≡ ys
+beyond-last z [] ys above rises = filter_all (λ x. nat_lt z x) ys (λ i x here. (let below = above i x here in grind (arith, nat_tests)))
+beyond-last z (x ∷ xs) ys above rises =
+    let later : (i y : ℕ) → slice_get (xs ++ ys) i ≡ Some y → x < y = λ i y here. rises x y (0, suc i, omega arith, refl, here) in
+    let most : x ≤ last_of x xs = last-above x x xs (omega arith) (λ i y here. later i y (At-front xs ys i y here)) in
+    let not-beyond : nat_lt (last_of x xs) x ≡ false = grind (arith, nat_tests) in
+    rw not-beyond (beyond-last x xs ys later (λ a b apart. rises a b (Apart-later x (xs ++ ys) a b apart)))
+
+sent-positive : (n : ℕ) (t : List Mark) (q p i x : ℕ) → WellFormed n t → slice_get (filter_map (sent_on q p) t) i ≡ Some x → 0 < x
+sent-positive n t q p i x obeys here =
+    let a = At-filter_map (sent_on q p) t i x here in
+    let is = is_sent q p x a.1 a.3 in
+    let may = obeys a.0 (Send q x p) (a.2 ∙ ap Some is) in
+    omega (arith, may.3)
+
+-- what is in flight are the numbers sent beyond the last one taken
+pub in_flight-beyond : (n : ℕ) (t : List Mark) (q p : ℕ) → WellFormed n t → filter (λ x. nat_lt (last_taken t q p) x) (filter_map (sent_on q p) t) ≡ in_flight t q p
+in_flight-beyond n t q p obeys =
+    let order = fifo n t q p obeys in
+    ap (filter (λ x. nat_lt (last_taken t q p) x)) order
+    ∙ (beyond-last 0 (filter_map (taken_on q p) t) (in_flight t q p) (λ i x here. sent-positive n t q p i x obeys (rw order here)) (λ x y apart. sent-rises n t obeys q p x y (rw order apart)))
+
+-- so each number in flight is beyond the last one taken
+pub in_flight-later : (n : ℕ) (t : List Mark) (q p j x : ℕ) → WellFormed n t → slice_get (in_flight t q p) j ≡ Some x → last_taken t q p < x
+in_flight-later n t q p j x obeys here =
+    let beyond : nat_lt (last_taken t q p) x ≡ true = filter-passes (λ y. nat_lt (last_taken t q p) y) (filter_map (sent_on q p) t) j x (rw (in_flight-beyond n t q p obeys) here) in
+    grind (arith, nat_tests)

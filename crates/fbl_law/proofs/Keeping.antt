@@ -1,17 +1,7 @@
 -- What every step keeps that leaves up members what they were holders of.
-use Rattle.std.proofs.Common.{◌≡◌, ℕ, List, inl, inr, arith, subst, refl}
-use Rattle.std.specs.List.{Contains}
-use Rattle.fbl_base.specs.declared.trace.Determinant.{Determinant}
-use Rattle.fbl_base.specs.declared.trace.Mark.{Mark}
-use Rattle.fbl_base.specs.Events.{member_of, receipt_of}
-use Rattle.fbl_base.specs.Precedence.{Has, Precedes}
-use Rattle.fbl_base.proofs.PrecedenceLaws.{Has-last}
-use Rattle.fbl_base.proofs.Sizes.{some_outside}
-use Rattle.fbl_table.specs.declared.entry.Entry.{Entry}
-use Rattle.fbl_table.specs.Tables.{piggybacked}
-use Rattle.fbl_member.specs.Members.{Message}
-use Rattle.fbl_law.specs.Knowledge.{Includes, Knowledge, Store, in_table, in_message, in_checkpoint, owner, entries, table, IsThere, Owes, IsUp, Names, Holds, IsRecorded, IsHolder, IsStable}
-use Rattle.fbl_law.specs.Knowledge.{IsTrueEntry, KnowsTruth, NamesCauses, IsClosed, IsDownEmpty}
+use Rattle.fbl_law.proofs.Common.{◌≡◌, ℕ, List, inl, inr, arith, subst, refl, Contains, Determinant, Mark, member_of, receipt_of, Has, Precedes, Has-last, some_outside, Entry}
+use Rattle.fbl_law.proofs.Common.{piggybacked, Message, Includes, Knowledge, Store, in_table, in_message, in_checkpoint, owner, entries, table, IsThere, Owes, IsUp, Names, Holds, IsRecorded}
+use Rattle.fbl_law.proofs.Common.{IsHolder, IsStable, IsTrueEntry, KnowsTruth, NamesCauses, IsClosed, IsDownEmpty}
 use Rattle.fbl_law.proofs.Safe.{down_or_up, up_at_ends, IsRecorded-held, IsRecorded-saved, recorded_holder}
 use Rattle.fbl_law.proofs.Tables.{Contains-piggybacked, passed_or_known}
 

@@ -1,25 +1,14 @@
 -- What the log of a fold has.
-use Rattle.std.proofs.Common.{◌≡◌, ℕ, zero, suc, ◌+◌, ◌<◌, ◌≤◌, ◌==◌, cond, List, [], ◌∷◌, ◌++◌, length, take, drop, map}
-use Rattle.std.proofs.Common.{Option, Some, None, refl, sym, ap, ◌∙◌, arith, append_assoc, length-append, inl, inr}
-use Rattle.std.specs.List.{filter_map, fold}
-use Rattle.std.proofs.Math.Nat.{zero-add}
-use Rattle.std.proofs.lemmas.Bool.{cases_eq}
-use Rattle.std.proofs.lemmas.Bool.Decides.{nat_tests}
-use Rattle.std.proofs.lemmas.List.{append-nil, map-append, take-append-drop}
-use Rattle.std.proofs.lemmas.List.Elements.{filter_map-append}
-use Rattle.std.proofs.lemmas.List.Sums.{fold-append, sum_by-cons}
-use Rattle.fbl_base.specs.declared.trace.Note.{Note}
-use Rattle.fbl_base.specs.declared.trace.Start.{Start}
-use Rattle.fbl_base.specs.declared.trace.Event.{Event}
+use Rattle.fbl_law.proofs.Common.{◌≡◌, ℕ, zero, suc, ◌+◌, ◌<◌, ◌≤◌, ◌==◌, cond, List, [], ◌∷◌, ◌++◌, length, take, drop, map, Option, Some, None, refl}
+use Rattle.fbl_law.proofs.Common.{sym, ap, ◌∙◌, arith, append_assoc, length-append, inl, inr, filter_map, fold, zero-add, cases_eq, nat_tests, map-append, take-append-drop}
+use Rattle.fbl_law.proofs.Common.{filter_map-append, sum_by-cons, Note, Start, Event, mark_of, is_send_of, is_receipt_of, sends_of, receipts_of, WellFormed, Next, Logged, Progress, Action}
+use Rattle.fbl_law.proofs.Common.{took, sent, numbered, starts_of, begun, advanced, after_notes, action_of, actions_of, notes_of, note_of, responses, Lawful, sends-step, receipts-step}
+use Rattle.fbl_law.proofs.Common.{eqb-self, logged_note, length-numbered, received_notes}
+use Rattle.std.proofs.lemmas.List.{append-nil}
+use Rattle.std.proofs.lemmas.List.Sums.{fold-append}
 use Rattle.fbl_base.specs.declared.trace.Event.TheVariants.{Send, Receipt}
 use Rattle.fbl_base.specs.declared.trace.Mark.TheVariants as mark
-use Rattle.fbl_base.specs.Events.{mark_of}
-use Rattle.fbl_base.specs.Rules.{is_send_of, is_receipt_of, sends_of, receipts_of, WellFormed}
-use Rattle.fbl_base.specs.Fold.{Next, Logged, Progress, Action, took, sent, numbered, starts_of, begun, advanced, after_notes, action_of, actions_of, notes_of, note_of, responses, Lawful}
-use Rattle.fbl_base.proofs.RulesLaws.{sends-step, receipts-step, eqb-self}
-use Rattle.fbl_member.specs.Members.{logged_note}
-use Rattle.fbl_member.proofs.Logs.{length-numbered, numbered-append}
-use Rattle.fbl_law.specs.Sound.{received_notes}
+use Rattle.fbl_member.proofs.Logs.{numbered-append}
 use Rattle.fbl_law.proofs.Appended.{MayFollow-seam}
 
 -- the sends among a member's actions
@@ -66,12 +55,6 @@ log-after next p n starts notes =
 length-log : (next : Next) (p n : ℕ) (starts : List Start) (notes : List Note)
     → length (after_notes next p n starts notes).log ≡ length (sends_in (map sent (starts_of p starts) ++ responses next p n 0 notes))
 length-log next p n starts notes = ap length (log-after next p n starts notes) ∙ length-numbered 0 _
-
--- it has each number from 1 to its length
-pub log-has : (next : Next) (p n : ℕ) (starts : List Start) (notes : List Note) (ssn : ℕ) → 0 < ssn
-    → ssn ≤ length (after_notes next p n starts notes).log → (note : Note) × (logged_note (after_notes next p n starts notes).log ssn ≡ Some note)
-log-has next p n starts notes ssn above within =
-    rw (log-after next p n starts notes) (numbered-has 0 ssn _ above (omega (arith, within, length-log next p n starts notes)))
 
 -- the log after the first notes is a front of the log after all
 pub log-front : (next : Next) (p n : ℕ) (starts : List Start) (notes : List Note) (k : ℕ)
@@ -185,4 +168,4 @@ logged-by next n starts t u rest p ssn to k x lawful is few =
     rw (map-append mark_of u (Send p ssn to x ∷ [])) (receipts-step (map mark_of u) (mark.Send p ssn to) p) in
     let taken : length (notes_of front) ≤ k = omega (arith, notes-count t so_far p, received, few) in
     let enough = sends-by next p n 0 k (starts_of p starts) (received_notes t p) front back (sym cut ∙ lawful.responds p) taken in
-    log-has next p n starts (take k (received_notes t p)) ssn (omega (arith, may.3)) (omega (arith, may.3, count, enough, length-log next p n starts (take k (received_notes t p))))
+    rw (log-after next p n starts (take k (received_notes t p))) (numbered-has 0 ssn _ (omega (arith, may.3)) (omega (arith, may.3, count, enough)))

@@ -1,20 +1,8 @@
 -- The notes of a trace's messages.
-use Rattle.std.proofs.Common.{◌≡◌, ℕ, suc, ◌<◌, ◌==◌, ◌&&◌, inl, inr, List, [], ◌∷◌, take, map, Some, slice_get, refl, ap, ◌∙◌, arith}
-use Rattle.std.proofs.lemmas.Bool.{cases_Bool, cases_order}
-use Rattle.std.proofs.lemmas.Bool.Decides.{nat_tests}
-use Rattle.std.proofs.lemmas.List.{take-take}
-use Rattle.std.proofs.lemmas.Option.{slice_get-map}
-use Rattle.fbl_base.specs.declared.trace.Note.{Note}
-use Rattle.fbl_base.specs.declared.trace.Event.{Event}
+use Rattle.fbl_law.proofs.Common.{◌≡◌, ℕ, suc, ◌<◌, ◌==◌, ◌&&◌, inl, inr, List, [], ◌∷◌, take, map, Some, slice_get, refl, ap, ◌∙◌, arith, cases_Bool}
+use Rattle.fbl_law.proofs.Common.{cases_order, nat_tests, slice_get-map, Note, Event, Mark, At, mark_of, Has, WellFormed, note_of, slice_get-take, map-At, WellFormed-take, sent-number}
 use Rattle.fbl_base.specs.declared.trace.Event.TheVariants.{Send, Receipt}
-use Rattle.fbl_base.specs.declared.trace.Mark.{Mark}
 use Rattle.fbl_base.specs.declared.trace.Mark.TheVariants as mark
-use Rattle.fbl_base.specs.Events.{At, mark_of}
-use Rattle.fbl_base.specs.Precedence.{Has}
-use Rattle.fbl_base.specs.Rules.{is_send_of, sends_of, WellFormed}
-use Rattle.fbl_base.specs.Fold.{note_of}
-use Rattle.fbl_base.proofs.Gets.{slice_get-take, map-At}
-use Rattle.fbl_base.proofs.RulesLaws.{count_at, eqb-self}
 use Rattle.fbl_base.proofs.LawfulLaws.{sent-note}
 
 -- a note that the trace names was sent
@@ -29,11 +17,8 @@ noted-sent (Receipt to' r q' k' ∷ t) q k x is = let r = noted-sent t q k x is 
 -- the sends of a member have different numbers
 number-once : (n : ℕ) (t : List Mark) → WellFormed n t → (q k to to' i j : ℕ) → At t i (mark.Send q k to) → At t j (mark.Send q k to') → ¬ (i < j)
 number-once n t obeys q k to to' i j here there below =
-    let first = obeys i (mark.Send q k to) here in
-    let second = obeys j (mark.Send q k to') there in
-    let more = count_at (is_send_of q) (take j t) i (mark.Send q k to) (slice_get-take t j i (mark.Send q k to) below here) (eqb-self q) in
-    let fewer : take i (take j t) ≡ take i t = take-take i j t (omega arith) in
-    omega (arith, first.3, second.3, more, ap (λ (u : List Mark). sends_of u q) fewer)
+    let before = sent-number n (take j t) (WellFormed-take n j t obeys) q k to (i, slice_get-take t j i (mark.Send q k to) below here) in
+    omega (arith, before, (obeys j (mark.Send q k to') there).3)
 
 one-place : (n : ℕ) (t : List Mark) → WellFormed n t → (q k to to' i j : ℕ) → At t i (mark.Send q k to) → At t j (mark.Send q k to') → i ≡ j
 one-place n t obeys q k to to' i j here there = elim (cases_order i j) [

@@ -1,32 +1,13 @@
 -- The numbers of a member's events in a trace.
-use Rattle.std.proofs.Common.{◌-◌, ◌≡◌, ℕ, zero, suc, ◌+◌, ◌<◌, ◌≤◌, Bool, true, false, cond, List, [], ◌∷◌, ◌++◌, take, count_by, refl, arith}
-use Rattle.std.proofs.lemmas.Bool.Decides.{nat_tests}
+use Rattle.fbl_law.proofs.Common.{◌-◌, ◌≡◌, ℕ, ◌<◌, ◌≤◌, Bool, cond, List, [], ◌∷◌, ◌++◌, take, length, inl, inr, count_by, ap, arith, cases_eq, cases_lt}
+use Rattle.fbl_law.proofs.Common.{nat_tests, sum_by-append, Mark, Has, is_send_of, is_receipt_of, sends_of, receipts_of, MayFollow, WellFormed, WellFormed-keeps, sends-step, eqb-self}
+use Rattle.fbl_law.proofs.Common.{At-front, Knowledge, IsBeforeCheckpoint, IsCheckpointKept, receipts_at}
 use Rattle.std.proofs.Math.Seq.{take-append-add}
-use Rattle.std.proofs.lemmas.List.Sums.{sum_by-append, sum_by-cons}
-use Rattle.fbl_base.specs.declared.trace.Mark.{Mark}
 use Rattle.fbl_base.specs.declared.trace.Mark.TheVariants.{Send, Receipt}
-use Rattle.fbl_base.specs.Events.{At}
-use Rattle.fbl_base.specs.Precedence.{Has}
-use Rattle.fbl_base.specs.Rules.{is_send_of, is_receipt_of, sends_of, receipts_of, MayFollow, WellFormed}
-use Rattle.fbl_base.proofs.RulesLaws.{count_at, eqb-self}
-use Rattle.fbl_law.specs.Knowledge.{Knowledge, IsBeforeCheckpoint, IsCheckpointKept}
-use Rattle.fbl_law.specs.Sound.{receipts_at}
+use Rattle.fbl_base.proofs.RulesLaws.{count_at}
+use Rattle.fbl_base.proofs.Gets.{At-new}
 use Rattle.fbl_law.proofs.Lists.{At-behind, some-at}
 use Rattle.fbl_law.proofs.Receipts.{receipts_at-number, receipts_at-Has, length-receipts_at}
-
--- the elements that pass a test, counted from the front
-counted-at : (p : Mark → Bool) (t : List Mark) (k : ℕ) → k < count_by p t → (i : ℕ) × (e : Mark) × At t i e × (p e ≡ true) × (count_by p (take i t) ≡ k)
-counted-at p [] k below = absurd (omega arith)
-counted-at p (x ∷ t) k below = at (p x) refl k (rw (sum_by-cons (λ y. cond (p y) 1 0) x t) at below) (counted-at p t) where
-  counted : (i : ℕ) → count_by p (take (suc i) (x ∷ t)) ≡ cond (p x) 1 0 + count_by p (take i t)
-  counted i = sum_by-cons (λ y. cond (p y) 1 0) x (take i t)
-
-  at : (b : Bool) → p x ≡ b → (k : ℕ) → k < cond (p x) 1 0 + count_by p t
-      → ((k : ℕ) → k < count_by p t → (i : ℕ) × (e : Mark) × At t i e × (p e ≡ true) × (count_by p (take i t) ≡ k))
-      → (i : ℕ) × (e : Mark) × At (x ∷ t) i e × (p e ≡ true) × (count_by p (take i (x ∷ t)) ≡ k)
-  at true is zero less rest = (0, x, refl, is, refl)
-  at true is (suc k) less rest = (let r = rest k (grind arith) in (suc r.0, r.1, r.2, r.3, grind (arith, counted r.0, r.4)))
-  at false is k less rest = (let r = rest k (grind arith) in (suc r.0, r.1, r.2, r.3, grind (arith, counted r.0, r.4)))
 
 -- a trace that obeys the rules has a receipt of each number up to its count of them
 pub receipt-there : (n : ℕ) (t : List Mark) (p k : ℕ) → WellFormed n t → 0 < k → k ≤ receipts_of t p → (q : ℕ) × (s : ℕ) × Has t (Receipt p k q s)
@@ -38,15 +19,21 @@ receipt-there n t p k obeys above within =
 
 -- and a send
 pub send-there : (n : ℕ) (t : List Mark) (q k : ℕ) → WellFormed n t → 0 < k → k ≤ sends_of t q → (p : ℕ) × Has t (Send q k p)
-send-there n t q zero obeys above within = absurd (omega arith)
-send-there n t q (suc k) obeys above within = (let r = counted-at (is_send_of q) t k (omega arith) in at r.0 r.1 r.2 r.3 r.4) where
-  at : (i : ℕ) (e : Mark) → At t i e → is_send_of q e ≡ true → sends_of (take i t) q ≡ k → (p : ℕ) × Has t (Send q (suc k) p)
-  at i (Receipt p r from s) here is count = absurd cc
-  at i (Send from s p) here is count =
-      let same : from ≡ q = grind (arith, nat_tests) in
-      let may = obeys i (Send from s p) here in
-      let number : s ≡ suc k = grind (arith, may.3, same) in
-      (p, (i, (rw (same, number) at here)))
+send-there n t q k obeys = WellFormed-keeps n (λ u. (k : ℕ) → 0 < k → k ≤ sends_of u q → (p : ℕ) × Has u (Send q k p)) (λ k above within. absurd (omega arith)) more t obeys k
+  where
+    last : (u : List Mark) (e : Mark) (k : ℕ) → MayFollow n u e → sends_of u q < k → k ≤ sends_of (u ++ e ∷ []) q → (p : ℕ) × (e ≡ Send q k p)
+    last u (Send from s p) k may beyond within = elim (cases_eq from q) [
+      | inl same ↦ (p, grind (arith, nat_tests, may.3, ap (sends_of u) same, sends-step u (Send from s p) q))
+      | inr other ↦ absurd (grind (arith, nat_tests, sends-step u (Send from s p) q))
+    ]
+    last u (Receipt p r from s) k may beyond within = absurd (omega (arith, beyond, within, sends-step u (Receipt p r from s) q))
+
+    more : (u : List Mark) (e : Mark) → WellFormed n u → MayFollow n u e → ((k : ℕ) → 0 < k → k ≤ sends_of u q → (p : ℕ) × Has u (Send q k p))
+        → (k : ℕ) → 0 < k → k ≤ sends_of (u ++ e ∷ []) q → (p : ℕ) × Has (u ++ e ∷ []) (Send q k p)
+    more u e obeys may before k above within = elim (cases_lt (sends_of u q) k) [
+      | inl beyond ↦ let one = last u e k may beyond within in (one.0, (length u, rw (← one.1) (At-new u e)))
+      | inr old ↦ let there = before k above old in (there.0, (there.1.0, At-front u (e ∷ []) there.1.0 (Send q k there.0) there.1.1))
+    ]
 
 -- a receipt's number is at most the count of them
 pub receipt-number : (n : ℕ) (t : List Mark) (p r q s : ℕ) → WellFormed n t → Has t (Receipt p r q s) → r ≤ receipts_of t p

@@ -1,29 +1,16 @@
 -- What soundness promises.
-use Rattle.std.proofs.Common.{◌≡◌, ℕ, ◌<◌, inl, inr, arith, List}
-use Rattle.std.proofs.lemmas.Bool.{cases_order}
-use Rattle.fbl_base.specs.declared.trace.Determinant.{Determinant}
-use Rattle.fbl_base.specs.declared.trace.Mark.{Mark}
+use Rattle.fbl_law.proofs.Common.{◌≡◌, ℕ, ◌<◌, inl, inr, arith, List, take, cases_order, Mark, At, receipt_of, Has, itself, step, WellFormed, slice_get-take, some_outside}
+use Rattle.fbl_law.proofs.Common.{WellFormed-take, in_table, IsUp, IsHolder, member, knowledge}
 use Rattle.fbl_base.specs.declared.trace.Mark.TheVariants.{Receipt}
-use Rattle.fbl_base.specs.Events.{At, receipt_of}
-use Rattle.fbl_base.specs.Precedence.{Has, itself, step}
-use Rattle.fbl_base.specs.Rules.{is_receipt_of, WellFormed}
-use Rattle.fbl_base.proofs.Gets.{slice_get-take}
-use Rattle.fbl_base.proofs.Sizes.{some_outside}
-use Rattle.fbl_base.proofs.RulesLaws.{count_at, eqb-self, WellFormed-take}
-use Rattle.fbl_law.specs.Knowledge.{in_table, IsUp, Names, table, IsHolder}
-use Rattle.fbl_law.specs.Groups.{GroupRecord, member, knowledge}
 use Rattle.fbl_law.specs.Promises.{IsHeldBy}
 use Rattle.fbl_law.specs.Laws.{ClosedRecordsFirst, AnySurvivorsHold}
 use Rattle.fbl_law.specs.Headline.{SoundHoldsEachReceipt, SoundIsAlwaysHeld, SoundHasNoOrphan, NoSurvivorIsOrphan, SoundSurvivorsHold, SoundRecordsFirst}
+use Rattle.fbl_law.proofs.Tables.{held-Names}
+use Rattle.fbl_law.proofs.Numbered.{receipt-number}
 use Rattle.fbl_law.proofs.Safe.{down_or_up, never_both, up_if_none, no_orphan, IsRecorded-before, Has-recorded}
 use Rattle.fbl_law.proofs.Decide.{IsAlwaysHeld-closed}
 use Rattle.fbl_law.proofs.Strike.{strike_keeps}
-use Rattle.fbl_law.proofs.GroupFacts.{held-Names}
 use Rattle.fbl_law.proofs.GroupStrike.{is_struck}
-
--- what a table names, the member holds
-pub is_held_by : (r : GroupRecord) (d : Determinant) (m : ℕ) → Names (table (knowledge r) m) d → IsHeldBy r d m
-is_held_by r d m named = held-Names (member r m).table d named
 
 pub sound_is_always_held : SoundIsAlwaysHeld
 sound_is_always_held next r sound = IsAlwaysHeld-closed r.config.f (knowledge r) sound.causes.closed
@@ -35,16 +22,16 @@ pub sound_holds_each_receipt : SoundHoldsEachReceipt
 sound_holds_each_receipt next r sound nobody d there =
     elim (sound_is_always_held next r sound d there) [
       | inl stable ↦ inl (stable.0, stable.1, λ m among. holder m (stable.2 m among))
-      | inr held ↦ inr (λ m depends. is_held_by r d m (held m (up_if_none nobody m) depends).1)
+      | inr held ↦ inr (λ m depends. held-Names (member r m).table d (held m (up_if_none nobody m) depends).1)
     ]
   where
     holder : (m : ℕ) → IsHolder (knowledge r) d m → IsHeldBy r d m
-    holder m (inl holds) = is_held_by r d m holds.1
+    holder m (inl holds) = held-Names (member r m).table d holds.1
     holder m (inr down) = never_both r.down m down.0 (up_if_none nobody m)
 
 pub no_survivor_is_orphan : NoSurvivorIsOrphan
 no_survivor_is_orphan next old new struck m sound s few =
-    let keeps = strike_keeps old.config.members old.config.f (knowledge old) (knowledge new) struck (is_struck next old new struck s sound) few sound.causes in
+    let keeps = strike_keeps old.config.members old.config.f (knowledge old) (knowledge new) struck (is_struck next old new struck s) few sound.causes in
     no_orphan old.config.f (knowledge new) keeps.closed m
 
 -- of more than f holders one is outside a set of at most f members, and up
@@ -66,10 +53,9 @@ sound_survivors_hold next r s sound covers few =
 receipts_rise : (n : ℕ) (t : List Mark) (i j p a b q s q' s' : ℕ)
     → WellFormed n t → At t i (Receipt p a q s) → At t j (Receipt p b q' s') → i < j → a < b
 receipts_rise n t i j p a b q s q' s' obeys first second below =
-    let front : At _ i (Receipt p a q s) = slice_get-take t j i (Receipt p a q s) below first in
-    let number = WellFormed-take n j t obeys i (Receipt p a q s) front in
+    let before = receipt-number n (take j t) p a q s (WellFormed-take n j t obeys) (i, slice_get-take t j i (Receipt p a q s) below first) in
     let later = obeys j (Receipt p b q' s') second in
-    omega (arith, number.3, later.3, count_at (is_receipt_of p) _ i (Receipt p a q s) front (eqb-self p))
+    omega (arith, before, later.3)
 
 pub closed_records_first : ClosedRecordsFirst
 closed_records_first n f r rules truth closed c d there same before recorded =

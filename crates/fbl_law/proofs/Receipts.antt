@@ -1,28 +1,13 @@
 -- A member's receipts in a trace, in order.
-use Rattle.std.proofs.Common.{◌≡◌, ℕ, zero, suc, ◌+◌, ◌==◌, Bool, true, false, cond, List, [], ◌∷◌, ◌++◌, length, map, Option, Some, option_map}
-use Rattle.std.proofs.Common.{slice_get, refl, sym, ap, ◌∙◌, arith, append_assoc}
-use Rattle.std.specs.List.{filter_map, fold}
-use Rattle.std.proofs.lemmas.Bool.Decides.{nat_tests}
-use Rattle.std.proofs.lemmas.List.{length-map}
-use Rattle.std.proofs.lemmas.List.Sums.{sum_by-cons}
-use Rattle.std.proofs.lemmas.Option.{slice_get-map}
-use Rattle.fbl_base.specs.declared.trace.Determinant.{Determinant}
-use Rattle.fbl_base.specs.declared.trace.Note.{Note}
-use Rattle.fbl_base.specs.declared.trace.Event.{Event}
+use Rattle.fbl_law.proofs.Common.{◌≡◌, ℕ, zero, suc, ◌+◌, ◌≤◌, ◌==◌, inl, inr, Bool, true, false, cond, List, [], ◌∷◌, ◌++◌, length, map, Option, Some}
+use Rattle.fbl_law.proofs.Common.{option_map, slice_get, refl, sym, ap, ◌∙◌, arith, append_assoc, take, drop, ◌<◌, length-take, filter_map, fold, cases_lt, nat_tests, length-map}
+use Rattle.fbl_law.proofs.Common.{take-append-drop, sum_by-cons, slice_get-map, Determinant, Note, Event, Mark, At, mark_of, determinant_of, receipt_of, Has, is_receipt_of, receipts_of}
+use Rattle.fbl_law.proofs.Common.{taken_on, WellFormed, action_of, notes_of, note_of, At-front, At-below, filter_map-At, At-filter, At-filter_map, receipts-step, WellFormed-take}
+use Rattle.fbl_law.proofs.Common.{receipts-noted, received_notes, last_taken, receipts_at, last_among, is_receipt}
 use Rattle.fbl_base.specs.declared.trace.Event.TheVariants as event
-use Rattle.fbl_base.specs.declared.trace.Mark.{Mark}
 use Rattle.fbl_base.specs.declared.trace.Mark.TheVariants.{Send, Receipt}
-use Rattle.fbl_base.specs.Events.{mark_of, determinant_of, receipt_of}
-use Rattle.fbl_base.specs.Precedence.{Has}
-use Rattle.fbl_base.specs.Rules.{is_receipt_of, receipts_of, taken_on, WellFormed}
-use Rattle.fbl_base.specs.Fold.{action_of, notes_of, note_of}
-use Rattle.fbl_base.proofs.Gets.{filter_map-At, At-filter, At-filter_map}
-use Rattle.fbl_base.proofs.RulesLaws.{receipts-step}
-use Rattle.fbl_base.proofs.LawfulLaws.{receipts-noted}
-use Rattle.fbl_law.specs.Sound.{received_notes, last_taken, receipts_at, last_among}
 use Rattle.fbl_law.proofs.Appended.{MayFollow-seam}
-use Rattle.fbl_law.proofs.Lists.{filter-At, filter-passes}
-use Rattle.fbl_base.proofs.Received.{is_receipt}
+use Rattle.fbl_law.proofs.Lists.{some-at, filter-At, filter-passes}
 
 receipts-from : (n p : ℕ) (u rest : List Mark) → WellFormed n (u ++ rest) → (j : ℕ) (d : Determinant) → slice_get (receipts_at rest p) j ≡ Some d → d.rsn ≡ receipts_of u p + j + 1
 receipts-from n p u [] obeys j d here = absurd cc
@@ -63,11 +48,31 @@ Has-receipts_at n t p j d obeys has to number =
     let same : b.0 ≡ j = omega (arith, place, number) in
     rw same at b.1
 
+-- where each receipt of a member is numbered at most k, it has at most k
+pub at-most : (n : ℕ) (t : List Mark) (p k : ℕ) → WellFormed n t → ((d : Determinant) → Has t (receipt_of d) → d.to ≡ p → d.rsn ≤ k) → length (receipts_at t p) ≤ k
+at-most n t p k obeys all = elim (cases_lt k (length (receipts_at t p))) [
+  | inr few ↦ few
+  | inl more ↦
+      let d = some-at (receipts_at t p) k more in
+      let has = receipts_at-Has t p k d.0 d.1 in
+      absurd (omega (arith, all d.0 has.0 has.1, receipts_at-number n t p k d.0 obeys d.1))
+]
+
 -- how many they are
 pub length-receipts_at : (t : List Mark) (p : ℕ) → length (receipts_at t p) ≡ receipts_of t p
 length-receipts_at [] p = refl
 length-receipts_at (Send q k to ∷ t) p = grind (arith, sum_by-cons, length-receipts_at t p)
 length-receipts_at (Receipt to r q k ∷ t) p = grind (arith, sum_by-cons (λ y. cond (is_receipt_of p y) 1 0) (Receipt to r q k) t, length-receipts_at t p)
+
+-- so before a place too
+pub at-most-before : (n : ℕ) (t : List Mark) (p k j : ℕ) → WellFormed n t → ((i : ℕ) (d : Determinant) → i < j → At t i (receipt_of d) → d.to ≡ p → d.rsn ≤ k)
+    → receipts_of (take j t) p ≤ k
+at-most-before n t p k j obeys all =
+    let few = at-most n (take j t) p k (WellFormed-take n j t obeys) (λ d has to.
+    let below = At-below (take j t) has.0 (receipt_of d) has.1 in
+    let here : At t has.0 (receipt_of d) = rw take-append-drop at (At-front (take j t) (drop j t) has.0 (receipt_of d) has.1) in
+    all has.0 d (omega (arith, below, length-take j t)) here to) in
+    omega (arith, few, length-receipts_at (take j t) p)
 
 -- their notes
 notes-at : (all u : List Event) (p : ℕ) → ((i to rsn from ssn : ℕ) → slice_get u i ≡ Some (event.Receipt to rsn from ssn) → (note : Note) × (note_of all from ssn ≡ Some note))

@@ -1,41 +1,22 @@
 -- How the members that are down replay what the survivors have recorded.
-use Rattle.std.proofs.Common.{◌≡◌, ℕ, suc, ◌+◌, ◌<◌, ◌≤◌, inl, inr, List, [], ◌∷◌, ◌++◌, length, take, drop, map}
-use Rattle.std.proofs.Common.{Option, Some, None, slice_get, refl, sym, subst, ap, ◌∙◌, arith, length-take, length-append}
-use Rattle.std.proofs.lemmas.Bool.{cases_Bool, cases_lt}
-use Rattle.std.proofs.lemmas.Bool.Decides.{nat_tests}
-use Rattle.std.proofs.lemmas.List.{take-append-drop, map-append, length-map}
-use Rattle.std.proofs.lemmas.List.Sums.{count_by-le-length}
-use Rattle.std.proofs.lemmas.Option.{slice_get_within}
-use Rattle.fbl_base.specs.declared.trace.Determinant.{Determinant}
-use Rattle.fbl_base.specs.declared.trace.Note.{Note}
-use Rattle.fbl_base.specs.declared.trace.Event.{Event}
+use Rattle.fbl_law.proofs.Common.{◌≡◌, ℕ, suc, ◌+◌, ◌<◌, ◌≤◌, inl, inr, List, [], ◌∷◌, length, take, drop, map, Some, None, slice_get, refl, sym, subst, ap}
+use Rattle.fbl_law.proofs.Common.{◌∙◌, arith, length-append, cases_Bool, nat_tests, length-map, count_by-le-length, slice_get_within, Determinant, Note, Event, mark_of, receipt_of}
+use Rattle.fbl_law.proofs.Common.{Has, is_receipt_of, is_send_of, receipts_of, WellFormed, Next, Progress, numbered, after_notes, note_of, split-at, sent-before, Entry, found, MemberRecord}
+use Rattle.fbl_law.proofs.Common.{logged_note, replayed_by, length-numbered, Names, IsUp, IsDown, Stays, IsEventCut, recovery_table, GroupRecord, knowledge, received_notes, receipts_at}
+use Rattle.fbl_law.proofs.Common.{IsReplayed, IsSound, IsSentAgain, IsStuck, IsNextReplay}
+use Rattle.std.proofs.lemmas.List.{take-map}
 use Rattle.fbl_base.specs.declared.trace.Event.TheVariants as event
-use Rattle.fbl_base.specs.declared.trace.Mark.{Mark}
 use Rattle.fbl_base.specs.declared.trace.Mark.TheVariants.{Send}
-use Rattle.fbl_base.specs.Events.{mark_of, receipt_of}
-use Rattle.fbl_base.specs.Precedence.{Has}
-use Rattle.fbl_base.specs.Rules.{is_receipt_of, is_send_of, WellFormed}
-use Rattle.fbl_base.specs.Fold.{Next, Progress, numbered, after_notes, note_of}
-use Rattle.fbl_base.proofs.Gets.{At-front, At-below, split-at}
-use Rattle.fbl_base.proofs.RulesLaws.{sent-before, WellFormed-front}
-use Rattle.fbl_table.specs.declared.entry.Entry.{Entry}
-use Rattle.fbl_table.specs.Tables.{found, is_of_receipt}
-use Rattle.fbl_member.specs.Members.{MemberRecord, logged_note, replayed_by}
-use Rattle.fbl_member.proofs.Logs.{length-numbered}
-use Rattle.fbl_law.specs.Knowledge.{Names, IsUp, IsDown}
-use Rattle.fbl_law.specs.Steps.{Stays, IsEventCut, recovery_table}
-use Rattle.fbl_law.specs.Groups.{GroupRecord, knowledge}
-use Rattle.fbl_law.specs.Sound.{received_notes, receipts_at, IsReplayed, IsSound}
-use Rattle.fbl_law.specs.Stuck.{IsSentAgain, IsStuck}
-use Rattle.fbl_law.specs.Replaying.{IsNextReplay}
-use Rattle.fbl_law.proofs.Lists.{some-at, Contains-here, Contains-there, Contains-cons_cases, Contains-none}
+use Rattle.fbl_table.specs.Tables.{is_of_receipt}
+use Rattle.fbl_law.proofs.Lists.{Contains-here, Contains-there, Contains-cons_cases, Contains-none}
 use Rattle.fbl_law.proofs.Safe.{down_or_up}
 use Rattle.fbl_law.proofs.GatheredTables.{gathered_recorded, recorded_gathered}
 use Rattle.fbl_law.proofs.NeverStuck.{never_stuck}
 use Rattle.fbl_law.proofs.Notes.{send-at}
-use Rattle.fbl_law.proofs.GroupRecovery.{cut-lawful, cut-obeys, cut-shorter, cut-recorded, recorded-cut}
+use Rattle.fbl_law.proofs.Recovery.{cut-obeys, cut-recorded, recorded-cut}
+use Rattle.fbl_law.proofs.GroupRecovery.{marks-cut, cut-lawful, cut-shorter}
 use Rattle.fbl_law.proofs.Logs.{logged-noted, logged-by, log-short}
-use Rattle.fbl_law.proofs.Receipts.{receipts_at-number, receipts_at-Has, Has-receipts_at, length-receipts_at}
+use Rattle.fbl_law.proofs.Receipts.{at-most, at-most-before, receipts_at-number, receipts_at-Has, Has-receipts_at, length-receipts_at}
 use Rattle.fbl_law.proofs.ReplayedRecords.{replayed-step}
 
 -- what a table finds is one of its entries' determinants, of that receipt
@@ -46,27 +27,17 @@ found-named p k (e ∷ table) d is = elim (cases_Bool (is_of_receipt p k e)) [
   | inr other ↦ let r = found-named p k table d (rw other at is) in ((r.0.0, Contains-there e table r.0.0 r.0.1, r.0.2), r.1, r.2)
 ]
 
--- where it finds none, no entry is of that receipt
-pub found-none : (p k : ℕ) (table : List Entry) (d : Determinant) → found p k table ≡ None → Names table d → d.to ≡ p → d.rsn ≡ k → ⊥
-found-none p k [] d is named to rsn = Contains-none named.0 named.1
-found-none p k (e ∷ table) d is named to rsn = elim (cases_Bool (is_of_receipt p k e)) [
-  | inl own ↦ (let some = rw own at is in cc)
+-- of a receipt that the table names it finds one
+found-some : (p k : ℕ) (table : List Entry) (d : Determinant) → Names table d → d.to ≡ p → d.rsn ≡ k → (c : Determinant) × (found p k table ≡ Some c)
+found-some p k [] d named to rsn = absurd (Contains-none named.0 named.1)
+found-some p k (e ∷ table) d named to rsn = elim (cases_Bool (is_of_receipt p k e)) [
+  | inl own ↦ (e.det, rw own refl)
   | inr other ↦ elim (Contains-cons_cases e table named.0 named.1) [
     | inl first ↦
         let det : e.det ≡ d = ap (λ (x : Entry). x.det) first ∙ named.2 in
-        grind (arith, nat_tests, ap (λ (x : Determinant). x.to) det, ap (λ (x : Determinant). x.rsn) det)
-    | inr later ↦ found-none p k table d (rw other at is) (named.0, later, named.2) to rsn
+        absurd (grind (arith, nat_tests, ap (λ (x : Determinant). x.to) det, ap (λ (x : Determinant). x.rsn) det))
+    | inr later ↦ rw other (found-some p k table d (named.0, later, named.2) to rsn)
   ]
-]
-
--- where each receipt of a member is numbered at most k, it has at most k
-at-most : (n : ℕ) (t : List Mark) (p k : ℕ) → WellFormed n t → ((d : Determinant) → Has t (receipt_of d) → d.to ≡ p → d.rsn ≤ k) → length (receipts_at t p) ≤ k
-at-most n t p k obeys all = elim (cases_lt k (length (receipts_at t p))) [
-  | inr few ↦ few
-  | inl more ↦
-      let d = some-at (receipts_at t p) k more in
-      let has = receipts_at-Has t p k d.0 d.1 in
-      absurd (omega (arith, all d.0 has.0 has.1, receipts_at-number n t p k d.0 obeys d.1))
 ]
 
 module _ {next : Next} {old : GroupRecord} (sound : IsSound next old) {new : List Event} (cut : IsEventCut (Stays (knowledge old)) old.trace new) where
@@ -75,26 +46,22 @@ module _ {next : Next} {old : GroupRecord} (sound : IsSound next old) {new : Lis
   Replays p m = IsReplayed next old.config.members old.config.starts new p m
 
   obeys : WellFormed old.config.members (map mark_of new)
-  obeys = cut-obeys sound cut
+  obeys = cut-obeys sound.causes (marks-cut old.trace cut)
 
   -- what the gathered tables find of a member is its receipt in the cut with that number
   pub found-receipt : (p k : ℕ) (d : Determinant) → found p (k + 1) (recovery_table (knowledge old)) ≡ Some d → slice_get (receipts_at (map mark_of new) p) k ≡ Some d
   found-receipt p k d is =
       let named = found-named p (k + 1) (recovery_table (knowledge old)) d is in
       let recorded = gathered_recorded old.config.f (knowledge old) sound.causes.down d named.0 in
-      Has-receipts_at old.config.members (map mark_of new) p k d obeys (recorded-cut sound cut d recorded) named.1 named.2
+      Has-receipts_at old.config.members (map mark_of new) p k d obeys (recorded-cut sound.causes (marks-cut old.trace cut) d recorded) named.1 named.2
 
   -- and they find each receipt of the cut
   pub found-all : (p k : ℕ) (d : Determinant) → slice_get (receipts_at (map mark_of new) p) k ≡ Some d → found p (k + 1) (recovery_table (knowledge old)) ≡ Some d
-  found-all p k d here = at (found p (k + 1) (recovery_table (knowledge old))) refl where
-    has : Has (map mark_of new) (receipt_of d) × (d.to ≡ p)
-    has = receipts_at-Has (map mark_of new) p k d here
-
-    at : (o : Option Determinant) → found p (k + 1) (recovery_table (knowledge old)) ≡ o → found p (k + 1) (recovery_table (knowledge old)) ≡ Some d
-    at None is =
-        let named = recorded_gathered old.config.f (knowledge old) sound.causes.down sound.causes.checkpoints d (cut-recorded sound cut d has.0) in
-        absurd (found-none p (k + 1) (recovery_table (knowledge old)) d is named has.1 (receipts_at-number old.config.members (map mark_of new) p k d obeys here))
-    at (Some c) is = (let there = found-receipt p k c is in is ∙ sym there ∙ here)
+  found-all p k d here =
+      let has = receipts_at-Has (map mark_of new) p k d here in
+      let named = recorded_gathered old.config.f (knowledge old) sound.causes.down sound.causes.checkpoints d (cut-recorded sound.causes (marks-cut old.trace cut) d has.0) in
+      let some = found-some p (k + 1) (recovery_table (knowledge old)) d named has.1 (receipts_at-number old.config.members (map mark_of new) p k d obeys here) in
+      some.1 ∙ sym (found-receipt p k some.0 some.1) ∙ here
 
   -- a note that a replaying member's log names is the note of that message in the cut
   pub replayed-noted : (q : ℕ) (w : MemberRecord) (ssn : ℕ) (note : Note) → Replays q w → logged_note w.log ssn ≡ Some note → note_of new q ssn ≡ Some note
@@ -143,13 +110,11 @@ module _ {next : Next} {old : GroupRecord} (sound : IsSound next old) {new : Lis
       let items = (next p old.config.members m.state note).sends.items in
       omega (arith, after, length-append m.log (numbered (length m.log) items), length-numbered (length m.log) items)
 
-  -- the receipt that a member would replay next waits for its message: the sender's log has none yet
-  abbrev pub Waits : (ℕ → MemberRecord) → ℕ → Type 0
-  Waits work p = (d : Determinant) → found p ((work p).received + 1) (recovery_table (knowledge old)) ≡ Some d → logged_note (work d.from).log d.ssn ≡ None
-
+  -- where the receipt that a member would replay next waits for its message: the sender's log has none yet
   module _ (work : ℕ → MemberRecord) (replays : (q : ℕ) → q < old.config.members → Replays q (work q))
       (survivors : (q : ℕ) → q < old.config.members → IsUp (knowledge old) q → (work q).received ≡ length (receipts_at (map mark_of new) q))
-      (waiting : (p : ℕ) → p < old.config.members → IsDown (knowledge old) p → Waits work p) where
+      (waiting : (p : ℕ) (d : Determinant) → p < old.config.members → IsDown (knowledge old) p
+      → found p ((work p).received + 1) (recovery_table (knowledge old)) ≡ Some d → logged_note (work d.from).log d.ssn ≡ None) where
     -- a message whose sender has replayed all that comes before it is in the sender's log
     sent-again : (q k to : ℕ) → q < old.config.members → Has (map mark_of new) (Send q k to)
         → IsSentAgain (map mark_of new) (λ m. (work m).received) q k to → (note : Note) × (logged_note (work q).log k ≡ Some note)
@@ -157,14 +122,9 @@ module _ {next : Next} {old : GroupRecord} (sound : IsSound next old) {new : Lis
         let j = has.0 in
         let here = send-at new j q k to has.1 in
         let cut-at = split-at new j (event.Send q k to here.0) here.1 in
-        let marks-at : map mark_of new ≡ map mark_of (take j new) ++ map mark_of (drop j new) = ap (map mark_of) (sym (take-append-drop j new)) ∙ map-append mark_of (take j new) (drop j new) in
-        let front = WellFormed-front old.config.members (map mark_of (take j new)) (map mark_of (drop j new)) (rw marks-at at obeys) in
-        let few : length (receipts_at (map mark_of (take j new)) q) ≤ (work q).received =
-        at-most old.config.members (map mark_of (take j new)) q (work q).received front (λ c there at_q.
-        let before : there.0 < j = omega (arith, At-below (map mark_of (take j new)) there.0 (receipt_of c) there.1, length-map (take j new) mark_of, length-take j new) in
-        sent c at_q (there.0, j, before, rw marks-at (At-front (map mark_of (take j new)) (map mark_of (drop j new)) there.0 (receipt_of c) there.1), has.1)) in
-        let logged = logged-by next old.config.members old.config.starts new (take j new) (drop (suc j) new) q k to (work q).received here.0
-        (cut-lawful sound cut).0 cut-at (omega (arith, few, length-receipts_at (map mark_of (take j new)) q)) in
+        let few : receipts_of (map mark_of (take j new)) q ≤ (work q).received = rw take-map at
+        (at-most-before old.config.members (map mark_of new) q (work q).received j obeys (λ i c before there at_q. sent c at_q (i, j, before, there, has.1))) in
+        let logged = logged-by next old.config.members old.config.starts new (take j new) (drop (suc j) new) q k to (work q).received here.0 (cut-lawful sound cut).0 cut-at few in
         let log : (work q).log ≡ (after_notes next q old.config.members old.config.starts (take (work q).received (received_notes new q))).log =
         ap (λ (x : Progress). x.log) (replays q below).progress in
         (logged.0, rw log logged.1)
@@ -176,7 +136,7 @@ module _ {next : Next} {old : GroupRecord} (sound : IsSound next old) {new : Lis
         elim (down_or_up old.down d.to) [
           | inr up ↦ (let within = slice_get_within (receipts_at (map mark_of new) d.to) (work d.to).received d here in omega (arith, within, survivors d.to may.1 up))
           | inl down ↦
-              let none = waiting d.to may.1 down d (found-all d.to (work d.to).received d here) in
+              let none = waiting d.to d may.1 down (found-all d.to (work d.to).received d here) in
               let front = sent-before old.config.members (map mark_of new) obeys has.0 d.to d.rsn d.from d.ssn has.1 in
               let some = sent-again d.from d.ssn d.to may.0 (front.0, front.2) sent in
               let some-is = some.1 in

@@ -1,51 +1,22 @@
 -- From the replay of the members that are down to a recovery.
-use Rattle.std.proofs.Common.{◌≡◌, ℕ, ◌+◌, ◌-◌, ◌<◌, ◌≤◌, ◌⊎◌, inl, inr, [], true, List, length, map, Some, refl, ap, ◌∙◌, arith}
-use Rattle.std.specs.Prelude.{slice_set, slice_index_or}
-use Rattle.std.specs.List.{filter}
-use Rattle.std.specs.FinSet as set
-use Rattle.std.proofs.lemmas.Bool.{cases_lt, cases_eq}
-use Rattle.std.proofs.lemmas.List.{length-set, get_or-set_same, get_or-set_other}
-use Rattle.fbl_base.specs.MemberSets.{Members}
-use Rattle.fbl_base.specs.declared.trace.Determinant.{Determinant}
-use Rattle.fbl_base.specs.declared.trace.Note.{Note}
-use Rattle.fbl_base.specs.declared.trace.Event.{Event}
-use Rattle.fbl_base.specs.declared.trace.Mark.{Mark}
-use Rattle.fbl_base.specs.declared.trace.Mark.TheVariants.{Send, Receipt}
-use Rattle.fbl_base.specs.Events.{mark_of}
-use Rattle.fbl_base.specs.Fold.{Next, Lawful}
-use Rattle.fbl_table.specs.declared.entry.Entry.{Entry}
-use Rattle.fbl_table.specs.Tables.{found}
-use Rattle.fbl_member.specs.Members.{MemberRecord, blank, logged_note, replayed_by}
-use Rattle.fbl_law.specs.Knowledge.{IsUp, IsDown}
-use Rattle.fbl_law.specs.Steps.{Stays, IsEventCut, recovery_table}
-use Rattle.fbl_law.specs.Groups.{GroupRecord, member, member_checkpoint, channel, knowledge, receipts}
-use Rattle.fbl_law.specs.Sound.{receipts_at, IsReplayed, IsFold, IsSound}
-use Rattle.fbl_law.specs.GroupSteps.{IsRecovery, IsMadeAgain}
-use Rattle.fbl_law.specs.Replaying.{IsNextReplay, is_replayed, recovered_trace, stays_by, working, IsReplaying, IsWaiting, replayed_in, IsRebuilt}
-use Rattle.fbl_law.specs.RecoveryLaws.{ReplayBegins, ReplayIsRight, ReplayEnds, RebuiltIsRecovered}
+use Rattle.fbl_law.proofs.Common.{◌≡◌, ℕ, ◌+◌, ◌-◌, ◌<◌, ◌≤◌, ◌⊎◌, inl, inr, [], List, length, map, Some, refl, ap, ◌∙◌, arith, slice_set}
+use Rattle.fbl_law.proofs.Common.{slice_index_or, filter, cases_lt, cases_eq, length-set, get_or-set_same, get_or-set_other, Determinant, Note, mark_of, Next, Lawful, Entry, found}
+use Rattle.fbl_law.proofs.Common.{MemberRecord, blank, logged_note, replayed_by, IsDown, Stays, IsEventCut, recovery_table, GroupRecord, member_checkpoint, channel, knowledge, receipts}
+use Rattle.fbl_law.proofs.Common.{receipts_at, IsReplayed, IsFold, IsSound, IsRecovery, IsMadeAgain, IsNextReplay, recovered_trace, stays_by}
+use Rattle.fbl_law.specs.Replaying.{is_replayed, working, IsReplaying, IsWaiting, replayed_in, IsRebuilt}
 use Rattle.fbl_law.proofs.Safe.{down_or_up}
-use Rattle.fbl_law.proofs.GroupRecovery.{cut-lawful, fold-survives, checkpoint-survives}
-use Rattle.fbl_law.proofs.ReplayedRecords.{fold-received, fold-replayed, replayed-fold}
+use Rattle.fbl_law.proofs.GroupRecovery.{cut-lawful, survivor-replays, fold-survives, checkpoint-survives}
+use Rattle.fbl_law.proofs.ReplayedRecords.{replayed-table, replayed-fold}
 use Rattle.fbl_law.proofs.ReplayFromGathered.{found-next, replay-room, replayed-next, replays-log, all-replayed}
-use Rattle.fbl_law.proofs.Counting.{is_of, count_in-same, count_in-most, count_in-step, replayed-most, replayed-count, to-replay-short}
+use Rattle.fbl_law.proofs.Counting.{count_in-most, count_in-step, replayed-most, replayed-count}
 use Rattle.fbl_law.proofs.CutInOnePass.{recovered_trace-cut}
-use Rattle.fbl_law.proofs.CutByCounts.{filter-agree, stays_by-cut}
+use Rattle.fbl_law.proofs.CutByCounts.{stays_by-cut}
 use Rattle.fbl_law.proofs.ChannelsMadeAgain.{made-again, made-again-outside}
 use Rattle.fbl_law.proofs.ChannelCounts.{channel-outside}
-
--- a replay does not read the table
-pub replayed-table : (next : Next) (n : ℕ) (r : GroupRecord) (trace : List Event) (p : ℕ) (m : MemberRecord) (t : List Entry)
-    → IsReplayed next n r.config.starts trace p m → IsReplayed next n r.config.starts trace p (record m { table = t })
-replayed-table next n r trace p m t replayed = record { within = replayed.within; progress = replayed.progress; places = replayed.places; last = replayed.last }
 
 -- a record with a table that it has
 pub with-table : (m : MemberRecord) (t : List Entry) → m.table ≡ t → m ≡ record m { table = t }
 with-table m t is = ap (λ (x : List Entry). record m { table = x }) is
-
--- what stays depends on the members of the set alone
-pub stays_by-agree : (s : Members) (a b : ℕ → MemberRecord) → ((p : ℕ) → set.contains s p ≡ true → a p ≡ b p) → (e : Mark) → stays_by s a e ≡ stays_by s b e
-stays_by-agree s a b agree (Send from ssn to) = elim (down_or_up s from) [ inl down ↦ rw (agree from down) refl | inr up ↦ rw up refl ]
-stays_by-agree s a b agree (Receipt to rsn from ssn) = elim (down_or_up s to) [ inl down ↦ rw (agree to down) refl | inr up ↦ rw up refl ]
 
 module _ (next : Next) (old : GroupRecord) (sound : IsSound next old) where
   abbrev cut : IsEventCut (Stays (knowledge old)) old.trace (recovered_trace old)
@@ -57,28 +28,16 @@ module _ (next : Next) (old : GroupRecord) (sound : IsSound next old) where
   abbrev Replays : ℕ → MemberRecord → Type 0
   Replays p m = IsReplayed next old.config.members old.config.starts (recovered_trace old) p m
 
-  -- a survivor is at the fold of all its receipts
-  pub survivor-replays : (q : ℕ) → q < old.config.members → IsUp (knowledge old) q
-      → Replays q (member old q) × ((member old q).received ≡ length (receipts_at (map mark_of (recovered_trace old)) q))
-  survivor-replays q below up =
-      let r : GroupRecord = record old { trace = recovered_trace old } in
-      let fold : IsFold next r q = fold-survives sound cut r q up refl refl refl (sound.folds q below up) in
-      (fold-replayed next r q lawful.well_formed fold, fold-received next r q lawful.well_formed fold)
-
   pub working-replays : (rebuilt : List MemberRecord) → IsReplaying next old rebuilt → (q : ℕ) → q < old.config.members → Replays q (working old rebuilt q)
   working-replays rebuilt replaying q below = elim (down_or_up old.down q) [
     | inl down ↦ rw down (replaying.replayed q below down)
-    | inr up ↦ rw up (survivor-replays q below up).0
+    | inr up ↦ rw up (survivor-replays sound cut q below up).0
   ]
 
-  working-all : (rebuilt : List MemberRecord) (q : ℕ) → q < old.config.members → IsUp (knowledge old) q
-      → (working old rebuilt q).received ≡ length (receipts_at (map mark_of (recovered_trace old)) q)
-  working-all rebuilt q below up = rw up (survivor-replays q below up).1
-
   -- each member that is down begins at its checkpoint
-  pub replaying-start : (rebuilt : List MemberRecord) → length rebuilt ≡ old.config.members
+  pub replay_begins : (rebuilt : List MemberRecord) → length rebuilt ≡ old.config.members
       → ((p : ℕ) → p < old.config.members → IsDown (knowledge old) p → slice_index_or rebuilt p blank ≡ member_checkpoint old p) → IsReplaying next old rebuilt
-  replaying-start rebuilt size begins = record {
+  replay_begins rebuilt size begins = record {
     size = size;
     replayed = λ p below down. rw (begins p below down) (checkpoint-survives sound cut p below);
     begun = λ p below down. rw (begins p below down) (omega arith);
@@ -98,10 +57,10 @@ module _ (next : Next) (old : GroupRecord) (sound : IsSound next old) where
       (working-replays rebuilt replaying d.from (replaying-next rebuilt p d replaying below down is).from) named
 
   -- its replay
-  pub replaying-step : (rebuilt : List MemberRecord) (p : ℕ) (d : Determinant) (note : Note) → IsReplaying next old rebuilt → p < old.config.members → IsDown (knowledge old) p
+  pub replay_is_right : (rebuilt : List MemberRecord) (p : ℕ) (d : Determinant) (note : Note) → IsReplaying next old rebuilt → p < old.config.members → IsDown (knowledge old) p
       → found p ((slice_index_or rebuilt p blank).received + 1) (recovery_table (knowledge old)) ≡ Some d → logged_note (working old rebuilt d.from).log d.ssn ≡ Some note
       → IsReplaying next old (slice_set rebuilt p (replayed_by next p old.config.members (slice_index_or rebuilt p blank) d note))
-  replaying-step rebuilt p d note replaying below down is named = record {
+  replay_is_right rebuilt p d note replaying below down is named = record {
     size = length-set rebuilt p after ∙ replaying.size;
     replayed = λ q below_q down_q. elim (cases_eq q p) [
       | inl same ↦ rw (same, own) there
@@ -134,15 +93,12 @@ module _ (next : Next) (old : GroupRecord) (sound : IsSound next old) where
       (omega (arith, own, replaying.begun p below down))
       (λ q other. ap (λ (m : MemberRecord). m.received - (member_checkpoint old q).received) (get_or-set_other rebuilt p q after blank other))
 
-  -- no more are replayed than the trace that recovery leaves has of the members that are down
-  pub replayed_in-most : (rebuilt : List MemberRecord) → IsReplaying next old rebuilt → replayed_in old rebuilt ≤ length (filter (is_of old.down) (receipts (map mark_of (recovered_trace old))))
-  replayed_in-most rebuilt replaying =
+  -- no more are replayed than the trace has
+  pub replayed_in-short : (rebuilt : List MemberRecord) → IsReplaying next old rebuilt → replayed_in old rebuilt ≤ 8192
+  replayed_in-short rebuilt replaying =
       let fewer = count_in-most old.down (λ p. (slice_index_or rebuilt p blank).received - (member_checkpoint old p).received)
       (λ p. (slice_index_or rebuilt p blank).received) old.config.members (λ p below down. omega arith) in
-      omega (arith, fewer, replayed-most sound cut (λ p. slice_index_or rebuilt p blank) replaying.replayed)
-
-  pub replayed_in-short : (rebuilt : List MemberRecord) → IsReplaying next old rebuilt → replayed_in old rebuilt ≤ 8192
-  replayed_in-short rebuilt replaying = omega (arith, replayed_in-most rebuilt replaying, to-replay-short sound cut, sound.room, sound.config.limit.1)
+      omega (arith, fewer, replayed-most sound cut (λ p. slice_index_or rebuilt p blank) replaying.replayed, sound.room, sound.config.limit.1)
 
   -- the logs stay within their bound
   pub working-log : (rebuilt : List MemberRecord) → IsReplaying next old rebuilt → (q : ℕ) → q < old.config.members → length (working old rebuilt q).log ≤ 8192
@@ -154,38 +110,26 @@ module _ (next : Next) (old : GroupRecord) (sound : IsSound next old) where
   replaying-tables rebuilt given t replaying size same = record {
     size = size ∙ replaying.size;
     replayed = λ p below down. rw (same p below down)
-        (replayed-table next old.config.members old (recovered_trace old) p (slice_index_or rebuilt p blank) t (replaying.replayed p below down));
+        (replayed-table next old.config.members old.config.starts (recovered_trace old) p (slice_index_or rebuilt p blank) t (replaying.replayed p below down));
     begun = λ p below down. rw (same p below down) (replaying.begun p below down);
   }
 
   -- where each member that is down waits, all is replayed
   module _ (rebuilt : List MemberRecord) (replaying : IsReplaying next old rebuilt) (waiting : (p : ℕ) → p < old.config.members → IsDown (knowledge old) p → IsWaiting old rebuilt p) where
-    pub working-received : (q : ℕ) → q < old.config.members → (working old rebuilt q).received ≡ length (receipts_at (map mark_of (recovered_trace old)) q)
-    working-received =
-        all-replayed sound cut (working old rebuilt) (working-replays rebuilt replaying) (working-all rebuilt)
-        (λ p below down d is. waiting p below down d (rw down at is))
-
-    pub rebuilt-received : (p : ℕ) → p < old.config.members → IsDown (knowledge old) p
+    pub replay_ends : (p : ℕ) → p < old.config.members → IsDown (knowledge old) p
         → (slice_index_or rebuilt p blank).received ≡ length (receipts_at (map mark_of (recovered_trace old)) p)
-    rebuilt-received p below down = rw down at (working-received p below)
+    replay_ends p below down = rw down at (
+        all-replayed sound cut (working old rebuilt) (working-replays rebuilt replaying) (λ q below_q up. rw up (survivor-replays sound cut q below_q up).1)
+        (λ q d below_q down_q is. waiting q below_q down_q d (rw down_q at is)) p below
+        )
 
     -- as many are replayed as the trace has of the members that are down, beyond those of their checkpoints
     pub replayed_in-all : replayed_in old rebuilt ≡ length (filter (is_replayed old) (receipts (map mark_of (recovered_trace old))))
-    replayed_in-all =
-        count_in-same old.down (λ p. (slice_index_or rebuilt p blank).received - (member_checkpoint old p).received)
-        (λ p. (working old rebuilt p).received - (member_checkpoint old p).received) old.config.members
-        (λ p below down. rw down refl)
-        ∙ replayed-count sound cut (working old rebuilt) (λ p. (member_checkpoint old p).received) working-received
+    replayed_in-all = replayed-count sound cut (λ p. slice_index_or rebuilt p blank) (λ p. (member_checkpoint old p).received) replay_ends
 
-    -- the events that stay are those that the counts of the members that are down cover
-    pub recovered_trace-counts : filter (λ e. stays_by old.down (working old rebuilt) (mark_of e)) old.trace ≡ recovered_trace old
-    recovered_trace-counts = stays_by-cut next old sound (recovered_trace old) cut (working old rebuilt) (working-replays rebuilt replaying) working-received
-
+    -- the events that stay are those that the counts of the members that were down cover
     pub recovered_trace-rebuilt : filter (λ e. stays_by old.down (λ p. slice_index_or rebuilt p blank) (mark_of e)) old.trace ≡ recovered_trace old
-    recovered_trace-rebuilt =
-        filter-agree (λ e. stays_by old.down (λ p. slice_index_or rebuilt p blank) (mark_of e)) (λ e. stays_by old.down (working old rebuilt) (mark_of e)) old.trace
-        (λ i e here. stays_by-agree old.down (λ p. slice_index_or rebuilt p blank) (working old rebuilt) (λ p down. rw down refl) (mark_of e))
-        ∙ recovered_trace-counts
+    recovered_trace-rebuilt = stays_by-cut next old sound (recovered_trace old) cut (λ p. slice_index_or rebuilt p blank) replaying.replayed replay_ends
 
     -- so a group with these records, and with channels made again, is the group recovered
     module _ (new : GroupRecord) (step : IsRebuilt old new rebuilt) where
@@ -196,13 +140,13 @@ module _ (next : Next) (old : GroupRecord) (sound : IsSound next old) where
       rebuilt-fold m below down =
           replayed-fold next new m is-lawful.well_formed
           (rw (step.rest.config, step.trace, step.rebuilt m below down)
-          (replayed-table next old.config.members old (recovered_trace old) m (slice_index_or rebuilt m blank) (recovery_table (knowledge old)) (replaying.replayed m below down)))
-          (rw (step.trace, step.rebuilt m below down) (rebuilt-received m below down))
+          (replayed-table next old.config.members old.config.starts (recovered_trace old) m (slice_index_or rebuilt m blank) (recovery_table (knowledge old)) (replaying.replayed m below down)))
+          (rw (step.trace, step.rebuilt m below down) (replay_ends m below down))
 
       fold-all : (m : ℕ) → m < old.config.members → IsFold next new m
       fold-all m below = elim (down_or_up old.down m) [
         | inl down ↦ rebuilt-fold m below down
-        | inr up ↦ fold-survives sound cut new m up step.trace step.rest.config (step.rest.survivors m up) (sound.folds m below up)
+        | inr up ↦ fold-survives sound cut new m below up step.trace step.rest.config (step.rest.survivors m up)
       ]
 
       outside : (q p : ℕ) → (old.config.members ≤ q) ⊎ (old.config.members ≤ p) → channel new q p ≡ []
@@ -219,23 +163,11 @@ module _ (next : Next) (old : GroupRecord) (sound : IsSound next old) where
         ]
       ]
 
-      pub recovery-made : IsRecovery next old new
-      recovery-made = record {
+      pub rebuilt_is_recovered : IsRecovery next old new
+      rebuilt_is_recovered = record {
         rest = step.rest;
         trace = rw step.trace cut;
         folds = rebuilt-fold;
         gathered = λ m below down. ap (λ (x : MemberRecord). x.table) (step.rebuilt m below down);
         made_again = made;
       }
-
-pub replay_begins : ReplayBegins
-replay_begins next old rebuilt sound = replaying-start next old sound rebuilt
-
-pub replay_is_right : ReplayIsRight
-replay_is_right next old rebuilt p d note sound = replaying-step next old sound rebuilt p d note
-
-pub replay_ends : ReplayEnds
-replay_ends next old rebuilt sound replaying waiting = rebuilt-received next old sound rebuilt replaying waiting
-
-pub rebuilt_is_recovered : RebuiltIsRecovered
-rebuilt_is_recovered next old new rebuilt sound replaying waiting step = recovery-made next old sound rebuilt replaying waiting new step

@@ -1,26 +1,11 @@
 -- A member that replays its receipts one after the other.
-use Rattle.std.proofs.Common.{◌≡◌, ℕ, zero, suc, ◌<◌, ◌≤◌, length-append, ◌==◌, Bool, true, false, cond, List, [], ◌∷◌, ◌++◌, length}
-use Rattle.std.proofs.Common.{take, map, get_or, Some, slice_get, refl, sym, ap, ◌∙◌, arith}
-use Rattle.std.specs.Prelude.{slice_set}
-use Rattle.std.proofs.lemmas.Bool.{eqb-true}
-use Rattle.std.proofs.lemmas.Bool.Decides.{nat_tests}
-use Rattle.std.proofs.lemmas.List.{take_all, take-append-le, length-set, length-replicate, get_or-replicate, get_or-set_same, get_or-set_other}
-use Rattle.std.proofs.lemmas.List.Sums.{fold_push}
-use Rattle.std.proofs.lemmas.Option.{slice_get_within}
-use Rattle.fbl_base.specs.declared.trace.Determinant.{Determinant}
-use Rattle.fbl_base.specs.declared.trace.Note.{Note}
-use Rattle.fbl_base.specs.declared.trace.Start.{Start}
-use Rattle.fbl_base.specs.declared.trace.Event.{Event}
-use Rattle.fbl_base.specs.Events.{mark_of, receipt_of}
-use Rattle.fbl_base.specs.Precedence.{Has}
-use Rattle.fbl_base.specs.Rules.{WellFormed}
-use Rattle.fbl_base.specs.Fold.{Next, Progress, advanced, begun, after_notes, note_of}
+use Rattle.fbl_law.proofs.Common.{◌≡◌, ℕ, zero, suc, ◌<◌, ◌≤◌, ◌==◌, cond, List, [], ◌∷◌, length, take, map, get_or, Some, slice_get, refl, sym, ap, ◌∙◌}
+use Rattle.fbl_law.proofs.Common.{arith, inl, inr, slice_set, cases_eq, eq-eqb, ne_eqb, take_all, length-set, get_or-set_same, get_or-set_other, fold_push, slice_get_within, Determinant}
+use Rattle.fbl_law.proofs.Common.{Note, Start, Event, mark_of, receipt_of, Has, WellFormed, Next, Progress, advanced, begun, after_notes, note_of, receipts-noted, Entry, MemberRecord, fresh}
+use Rattle.fbl_law.proofs.Common.{replayed_by, GroupRecord, member, marks, received_notes, IsFold, receipts_at, last_among, IsReplayed}
+use Rattle.std.proofs.lemmas.List.{length-replicate, get_or-replicate}
 use Rattle.fbl_base.proofs.FoldLaws.{after_notes-push}
-use Rattle.fbl_base.proofs.LawfulLaws.{receipts-noted}
 use Rattle.fbl_table.proofs.Adding.{take-next}
-use Rattle.fbl_member.specs.Members.{MemberRecord, fresh, replayed_by}
-use Rattle.fbl_law.specs.Groups.{GroupRecord, member, marks}
-use Rattle.fbl_law.specs.Sound.{received_notes, IsFold, receipts_at, last_among, IsReplayed}
 use Rattle.fbl_law.proofs.Lists.{some-at}
 use Rattle.fbl_law.proofs.Logs.{received-fold}
 use Rattle.fbl_law.proofs.Notes.{receipt-at}
@@ -46,17 +31,23 @@ replayed-step next n starts trace p m d note obeys replayed here noted = record 
       ∙ ap (λ (xs : List Note). after_notes next p n starts xs) (sym (take-next (received_notes trace p) m.received note (note-at n trace p m.received d note obeys here noted)));
   places = length-set m.last d.from d.ssn ∙ replayed.places;
   last = λ q below.
-      at q below (d.from == q) refl
+      at q below
       ∙ sym (ap (λ (ds : List Determinant). last_among ds q) (take-next (receipts_at (map mark_of trace) p) m.received d here)
       ∙ fold_push (λ last (x : Determinant). cond (x.from == q) x.ssn last) 0 (take m.received (receipts_at (map mark_of trace) p)) d);
 }
   where
-    at : (q : ℕ) → q < 16 → (b : Bool) → (d.from == q) ≡ b
-        → get_or (slice_set m.last d.from d.ssn) q 0 ≡ cond (d.from == q) d.ssn (last_among (take m.received (receipts_at (map mark_of trace) p)) q)
-    at q below true is =
-        let same = eqb-true d.from q is in
-        rw (is, ← same) (get_or-set_same m.last d.from d.ssn 0 (omega (arith, replayed.places, same, below)))
-    at q below false is = rw is (get_or-set_other m.last d.from q d.ssn 0 (grind (arith, nat_tests)) ∙ replayed.last q below)
+    at : (q : ℕ) → q < 16 → get_or (slice_set m.last d.from d.ssn) q 0 ≡ cond (d.from == q) d.ssn (last_among (take m.received (receipts_at (map mark_of trace) p)) q)
+    at q below = elim (cases_eq d.from q) [
+      | inl same ↦
+          let is = eq-eqb d.from q same in
+          rw (is, ← same) (get_or-set_same m.last d.from d.ssn 0 (omega (arith, replayed.places, same, below)))
+      | inr other ↦ rw (ne_eqb d.from q other) (get_or-set_other m.last d.from q d.ssn 0 (λ same. other (sym same)) ∙ replayed.last q below)
+    ]
+
+-- the table is no part of a replay
+pub replayed-table : (next : Next) (n : ℕ) (starts : List Start) (trace : List Event) (p : ℕ) (m : MemberRecord) (t : List Entry)
+    → IsReplayed next n starts trace p m → IsReplayed next n starts trace p (record m { table = t })
+replayed-table next n starts trace p m t replayed = record { within = replayed.within; progress = replayed.progress; places = replayed.places; last = replayed.last }
 
 -- a member at the fold of its receipts has replayed them all
 pub fold-received : (next : Next) (r : GroupRecord) (m : ℕ) → WellFormed r.config.members (marks r) → IsFold next r m → (member r m).received ≡ length (receipts_at (marks r) m)
@@ -104,28 +95,18 @@ take-agree (suc k) (x ∷ xs) (y ∷ ys) within agree =
     let rest = take-agree k xs ys (omega arith) (λ j z below at. agree (suc j) z (omega arith) at) in
     (omega (arith, rest.0), cc)
 
--- a member that has replayed its first receipts of a trace has replayed them of another trace that has the same
-replayed-same : (next : Next) (n : ℕ) (starts : List Start) (old new : List Event) (p : ℕ) (m : MemberRecord)
-    → m.received ≤ length (receipts_at (map mark_of new) p)
-    → take m.received (receipts_at (map mark_of old) p) ≡ take m.received (receipts_at (map mark_of new) p)
-    → take m.received (received_notes old p) ≡ take m.received (received_notes new p)
-    → IsReplayed next n starts old p m → IsReplayed next n starts new p m
-replayed-same next n starts old new p m within receipts notes replayed = record {
-  within = within;
-  progress = rw notes at replayed.progress;
-  places = replayed.places;
-  last = λ q below. rw receipts at (replayed.last q below);
-}
-
--- so also where the other trace keeps its receipts so far, and no note is new
-pub replayed-cut : (next : Next) (n : ℕ) (starts : List Start) (old new : List Event) (p : ℕ) (m : MemberRecord) → WellFormed n (map mark_of old) → WellFormed n (map mark_of new)
-    → ((q k : ℕ) (x : Note) → note_of new q k ≡ Some x → note_of old q k ≡ Some x)
+-- a member that has replayed its first receipts of a trace has replayed them of another trace that has them too, where the
+-- two agree on the notes
+pub replayed-kept : (next : Next) (n : ℕ) (starts : List Start) (old new : List Event) (p : ℕ) (m : MemberRecord) → WellFormed n (map mark_of old) → WellFormed n (map mark_of new)
+    → ((q k : ℕ) (x y : Note) → note_of old q k ≡ Some x → note_of new q k ≡ Some y → x ≡ y)
     → ((d : Determinant) → Has (map mark_of old) (receipt_of d) → d.to ≡ p → d.rsn ≤ m.received → Has (map mark_of new) (receipt_of d))
     → IsReplayed next n starts old p m → IsReplayed next n starts new p m
-replayed-cut next n starts old new p m obeys_old obeys_new note-was stays replayed =
-    let receipts = take-agree m.received (receipts_at (map mark_of old) p) (receipts_at (map mark_of new) p) replayed.within there in
-    let notes = take-agree m.received (received_notes old p) (received_notes new p) (omega (arith, replayed.within, length-received_notes n old p obeys_old)) noted in
-    replayed-same next n starts old new p m receipts.0 receipts.1 notes.1 replayed
+replayed-kept next n starts old new p m obeys_old obeys_new agree stays replayed = record {
+  within = receipts.0;
+  progress = rw notes.1 at replayed.progress;
+  places = replayed.places;
+  last = λ q below. rw receipts.1 at (replayed.last q below);
+}
   where
     there : (j : ℕ) (d : Determinant) → j < m.received → slice_get (receipts_at (map mark_of old) p) j ≡ Some d → slice_get (receipts_at (map mark_of new) p) j ≡ Some d
     there j d below here =
@@ -133,25 +114,23 @@ replayed-cut next n starts old new p m obeys_old obeys_new note-was stays replay
         let number = receipts_at-number n (map mark_of old) p j d obeys_old here in
         Has-receipts_at n (map mark_of new) p j d obeys_new (stays d has.0 has.1 (omega (arith, number, below))) has.1 number
 
-    noted : (j : ℕ) (x : Note) → j < m.received → slice_get (received_notes old p) j ≡ Some x → slice_get (received_notes new p) j ≡ Some x
-    noted j x below here =
-        let receipt = some-at (receipts_at (map mark_of old) p) j (omega (arith, replayed.within, below)) in
-        let d = receipt.0 in
-        let left = there j d below receipt.1 in
-        let has = receipts_at-Has (map mark_of new) p j d left in
-        let event = receipt-at new has.0.0 d.to d.rsn d.from d.ssn has.0.1 in
-        let note = receipts-noted n new obeys_new has.0.0 d.to d.rsn d.from d.ssn event in
-        let now = note-at n new p j d note.0 obeys_new left note.1 in
-        let before = note-at n old p j d note.0 obeys_old receipt.1 (note-was d.from d.ssn note.0 note.1) in
-        now ∙ sym before ∙ here
+    noted : (t : List Event) → WellFormed n (map mark_of t) → (j : ℕ) (d : Determinant) → slice_get (receipts_at (map mark_of t) p) j ≡ Some d
+        → (x : Note) × (note_of t d.from d.ssn ≡ Some x) × (slice_get (received_notes t p) j ≡ Some x)
+    noted t obeys j d here =
+        let has = receipts_at-Has (map mark_of t) p j d here in
+        let note = receipts-noted n t obeys has.0.0 d.to d.rsn d.from d.ssn (receipt-at t has.0.0 d.to d.rsn d.from d.ssn has.0.1) in
+        (note.0, note.1, note-at n t p j d note.0 obeys here note.1)
 
--- and where the trace grows
-pub replayed-grown : (next : Next) (n : ℕ) (starts : List Start) (old new : List Event) (p : ℕ) (m : MemberRecord) (more : List Determinant) (notes : List Note) → WellFormed n (map mark_of old)
-    → receipts_at (map mark_of new) p ≡ receipts_at (map mark_of old) p ++ more → received_notes new p ≡ received_notes old p ++ notes
-    → IsReplayed next n starts old p m → IsReplayed next n starts new p m
-replayed-grown next n starts old new p m more notes obeys receipts_now notes_now replayed =
-    replayed-same next n starts old new p m
-    (omega (arith, ap length receipts_now, length-append (receipts_at (map mark_of old) p) more, replayed.within))
-    (sym (ap (take m.received) receipts_now ∙ take-append-le m.received (receipts_at (map mark_of old) p) more replayed.within))
-    (sym (ap (take m.received) notes_now ∙ take-append-le m.received (received_notes old p) notes (omega (arith, replayed.within, length-received_notes n old p obeys))))
-    replayed
+    same_note : (j : ℕ) (x : Note) → j < m.received → slice_get (received_notes old p) j ≡ Some x → slice_get (received_notes new p) j ≡ Some x
+    same_note j x below here =
+        let receipt = some-at (receipts_at (map mark_of old) p) j (omega (arith, replayed.within, below)) in
+        let was = noted old obeys_old j receipt.0 receipt.1 in
+        let now = noted new obeys_new j receipt.0 (there j receipt.0 below receipt.1) in
+        let same = agree receipt.0.from receipt.0.ssn was.0 now.0 was.1 now.1 in
+        now.2 ∙ ap Some (sym same) ∙ sym was.2 ∙ here
+
+    receipts : (m.received ≤ length (receipts_at (map mark_of new) p)) × (take m.received (receipts_at (map mark_of old) p) ≡ take m.received (receipts_at (map mark_of new) p))
+    receipts = take-agree m.received (receipts_at (map mark_of old) p) (receipts_at (map mark_of new) p) replayed.within there
+
+    notes : (m.received ≤ length (received_notes new p)) × (take m.received (received_notes old p) ≡ take m.received (received_notes new p))
+    notes = take-agree m.received (received_notes old p) (received_notes new p) (omega (arith, replayed.within, length-received_notes n old p obeys_old)) same_note

@@ -1,10 +1,6 @@
 -- What every run keeps.
-use Rattle.std.proofs.Common.{arith, []}
-use Rattle.fbl_base.proofs.PrecedenceLaws.{Has-first}
-use Rattle.std.specs.List.{Contains}
-use Rattle.fbl_table.specs.declared.entry.Entry.{Entry}
-use Rattle.fbl_law.specs.Knowledge.{Store, IsThere, entries, in_table, in_message, in_checkpoint}
-use Rattle.fbl_law.specs.Run.{starts, delivers, strikes, checkpoints, recovers}
+use Rattle.fbl_law.proofs.Common.{arith, [], Has-first, Contains, Entry, Store, IsThere, entries, in_table, in_message, in_checkpoint, starts}
+use Rattle.fbl_law.specs.Run.{delivers, strikes, checkpoints, recovers}
 use Rattle.fbl_law.specs.Laws.{RunIsSound, RunIsHeld}
 use Rattle.fbl_law.proofs.Lists.{Contains-none}
 use Rattle.fbl_law.proofs.Safe.{no_orphan, nobody_down_empty}

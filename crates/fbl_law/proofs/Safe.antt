@@ -1,25 +1,22 @@
 -- What a closed record promises.
-use Rattle.std.proofs.Common.{List, ◌≡◌, ℕ, false, [], inl, inr, ◌⊎◌, arith, subst, refl}
-use Rattle.std.specs.Ordering.{nat_cmp}
+use Rattle.fbl_law.proofs.Common.{List, ◌≡◌, ℕ, false, [], inl, inr, ◌⊎◌, arith, subst, refl, nat_cmp, Contains, cases_Bool, Members, Determinant, Mark, Has, Precedes, Depends}
+use Rattle.fbl_law.proofs.Common.{member_of, receipt_of, some_member, IsTrueEntry, in_table, in_checkpoint, IsHolder, Includes, Knowledge, table, checkpoint, IsUp, IsDown, Names, Holds}
+use Rattle.fbl_law.proofs.Common.{IsRecorded, IsStable, KnowsTruth, IsBeforeCheckpoint, IsClosed, IsDownEmpty, Message, Entry}
 use Rattle.std.specs.FinSet as set
-use Rattle.std.specs.List.{Contains}
-use Rattle.std.proofs.lemmas.Bool.{cases_Bool}
-use Rattle.fbl_base.specs.MemberSets.{Members}
-use Rattle.fbl_base.specs.declared.trace.Determinant.{Determinant}
-use Rattle.fbl_base.specs.declared.trace.Mark.{Mark}
-use Rattle.fbl_base.specs.Precedence.{Has, Precedes, Depends}
-use Rattle.fbl_base.specs.Events.{member_of, receipt_of}
-use Rattle.fbl_base.proofs.Sizes.{some_member}
-use Rattle.fbl_law.specs.Knowledge.{IsTrueEntry, in_table, in_checkpoint, IsHolder, Includes, Knowledge, table, checkpoint, IsUp, IsDown, Names, Holds, IsRecorded, IsStable}
-use Rattle.fbl_law.specs.Knowledge.{KnowsTruth, IsBeforeCheckpoint, IsClosed, IsOrphan, IsDownEmpty}
+use Rattle.fbl_law.specs.Knowledge.{IsOrphan}
 use Rattle.fbl_law.specs.Promises.{RecordsCauses}
-use Rattle.fbl_member.specs.Members.{Message}
 use Rattle.fbl_law.proofs.Lists.{Contains-none}
-use Rattle.fbl_table.specs.declared.entry.Entry.{Entry}
 
 -- a set has a member or has not
 pub down_or_up : (s : Members) (m : ℕ) → Includes s m ⊎ (set.contains s m ≡ false)
 down_or_up s m = cases_Bool (set.contains s m)
+
+-- of two members one is down, or both are up
+pub down_or_both_up : (s : Members) (q p : ℕ) → (Includes s q ⊎ Includes s p) ⊎ ((set.contains s q ≡ false) × (set.contains s p ≡ false))
+down_or_both_up s q p = elim (down_or_up s q) [
+  | inl down ↦ inl (inl down)
+  | inr up ↦ elim (down_or_up s p) [ inl down ↦ inl (inr down) | inr up_p ↦ inr (up, up_p) ]
+]
 
 pub never_both : {A : Type 0} (s : Members) (m : ℕ) → Includes s m → set.contains s m ≡ false → A
 never_both s m is is_not = absurd cc
@@ -30,10 +27,7 @@ up_if_none none m = rw none (set.contains-empty nat_cmp m)
 
 -- where members that are down have nothing, what is in a channel has its ends up
 pub up_at_ends : (r : Knowledge) → ((q p : ℕ) → IsDown r q ⊎ IsDown r p → r.channel q p ≡ []) → (q p : ℕ) (v : Message) → Contains (r.channel q p) v → IsUp r q × IsUp r p
-up_at_ends r empty q p v among = elim (down_or_up r.down q) [
-  | inl down ↦ absurd (Contains-none v (rw (empty q p (inl down)) at among))
-  | inr up ↦ elim (down_or_up r.down p) [ inl down ↦ absurd (Contains-none v (rw (empty q p (inr down)) at among)) | inr up_to ↦ (up, up_to) ]
-]
+up_at_ends r empty q p v among = elim (down_or_both_up r.down q p) [ inl down ↦ absurd (Contains-none v (rw (empty q p down) at among)) | inr up ↦ up ]
 
 -- and a member whose table names something is up
 pub up_if_named : (f : ℕ) (r : Knowledge) → IsDownEmpty f r → (m : ℕ) (d : Determinant) → Names (table r m) d → IsUp r m
@@ -56,11 +50,9 @@ IsRecorded-stable f r d s =
     let one = some_member s.0 (omega (arith, s.1)) in
     recorded_holder r d one.0 (s.2 one.0 one.1)
 
-recorded_by : (f : ℕ) (r : Knowledge) (d : Determinant) (m : ℕ) → IsUp r m → Names (table r m) d ⊎ IsStable f r d → IsRecorded r d
-recorded_by f r d m up cause = elim cause [ inl named ↦ IsRecorded-held r d m (up, named) | inr stable ↦ IsRecorded-stable f r d stable ]
-
-saved_by : (f : ℕ) (r : Knowledge) (d : Determinant) (m : ℕ) → Names (checkpoint r m).table d ⊎ IsStable f r d → IsRecorded r d
-saved_by f r d m cause = elim cause [ inl named ↦ IsRecorded-saved r d m named | inr stable ↦ IsRecorded-stable f r d stable ]
+-- what is named or stable is recorded, where what is named is
+recorded_or : (f : ℕ) (r : Knowledge) (d : Determinant) {N : Type 0} → (N → IsRecorded r d) → N ⊎ IsStable f r d → IsRecorded r d
+recorded_or f r d recorded cause = elim cause [ inl named ↦ recorded named | inr stable ↦ IsRecorded-stable f r d stable ]
 
 -- what true entries name is in the trace
 pub Has-named : (r : Knowledge) (entries : List Entry) → ((e : Entry) → Contains entries e → IsTrueEntry r e) → (d : Determinant) → Names entries d → Has r.trace (receipt_of d)
@@ -73,16 +65,20 @@ Has-recorded r known d (inr saved) = Has-named r (checkpoint r saved.0).table (�
 
 -- what an up member depends on is recorded
 pub IsRecorded-depended : (f : ℕ) (r : Knowledge) → IsClosed f r → (d : Determinant) (m : ℕ) → IsUp r m → Depends r.trace m (receipt_of d) → IsRecorded r d
-IsRecorded-depended f r closed d m up depends = recorded_by f r d m up (closed.events (in_table m) depends.0 up depends.2 d depends.1)
+IsRecorded-depended f r closed d m up depends =
+    recorded_or f r d (λ named. IsRecorded-held r d m (up, named)) (closed.events (in_table m) depends.0 up depends.2 d depends.1)
 
 -- what precedes a recorded receipt is recorded
 pub IsRecorded-before : (f : ℕ) (r : Knowledge) → IsClosed f r → RecordsCauses r
-IsRecorded-before f r closed c d (inl held) before = recorded_by f r c held.0 held.1.0 (closed.named (in_table held.0) d held.1.0 held.1.1 c before)
-IsRecorded-before f r closed c d (inr saved) before = saved_by f r c saved.0 (closed.named (in_checkpoint saved.0) d tt saved.1 c before)
+IsRecorded-before f r closed c d (inl held) before =
+    recorded_or f r c (λ named. IsRecorded-held r c held.0 (held.1.0, named)) (closed.named (in_table held.0) d held.1.0 held.1.1 c before)
+IsRecorded-before f r closed c d (inr saved) before =
+    recorded_or f r c (IsRecorded-saved r c saved.0) (closed.named (in_checkpoint saved.0) d tt saved.1 c before)
 
 -- what precedes an event from before its member's checkpoint is recorded
 pub IsRecorded-reached : (f : ℕ) (r : Knowledge) → IsClosed f r → (d : Determinant) (b : Mark) → IsBeforeCheckpoint r b → Precedes r.trace (receipt_of d) b → IsRecorded r d
-IsRecorded-reached f r closed d b reached before = saved_by f r d _ (closed.events (in_checkpoint (member_of b)) b tt (refl, reached) d before)
+IsRecorded-reached f r closed d b reached before =
+    recorded_or f r d (IsRecorded-saved r d (member_of b)) (closed.events (in_checkpoint (member_of b)) b tt (refl, reached) d before)
 
 -- in a closed record no up member is an orphan
 pub no_orphan : (f : ℕ) (r : Knowledge) → IsClosed f r → (m : ℕ) → ¬ (IsOrphan r m)

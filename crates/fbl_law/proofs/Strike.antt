@@ -1,10 +1,7 @@
 -- A strike keeps knowledge sound.
-use Rattle.std.proofs.Common.{ℕ, ◌≤◌, inl, inr, refl, sym, subst}
+use Rattle.fbl_law.proofs.Common.{ℕ, ◌≤◌, inl, inr, refl, sym, subst, Members, Includes, Knowledge, Store, in_table, in_message, in_checkpoint, IsThere, IsDown, IsUp}
+use Rattle.fbl_law.proofs.Common.{IsSoundKnowledge, IsStruck}
 use Rattle.std.specs.FinSet as set
-use Rattle.fbl_base.specs.MemberSets.{Members}
-use Rattle.fbl_law.specs.Knowledge.{Includes, Knowledge, Store, in_table, in_message, in_checkpoint, IsThere, IsDown, IsUp, IsSoundKnowledge}
-use Rattle.fbl_law.specs.Steps.{IsStruck}
-use Rattle.fbl_law.specs.Laws.{StrikeKeeps}
 use Rattle.fbl_law.proofs.Tables.{Includes-left}
 use Rattle.fbl_law.proofs.Safe.{down_or_up, never_both, up_at_ends}
 use Rattle.fbl_law.proofs.Keeping.{KeepsKnowledge, IsSameStore, IsSoundAt, sound_kept, truth_everywhere, closed_everywhere}
@@ -34,8 +31,8 @@ module _ (n f : ℕ) (old new : Knowledge) (struck : Members) (s : IsStruck old 
   good : (k : Store) → IsThere new k → IsSoundAt f new k
   good k there = sound_kept f old new keeps sound.truth sound.closed k k there (same k there)
 
-  IsSoundKnowledge-struck : IsSoundKnowledge n f new
-  IsSoundKnowledge-struck = record {
+  pub strike_keeps : IsSoundKnowledge n f new
+  strike_keeps = record {
     rules = rw s.trace sound.rules;
     truth = truth_everywhere f new good;
     closed = closed_everywhere f new good;
@@ -47,6 +44,3 @@ module _ (n f : ℕ) (old new : Knowledge) (struck : Members) (s : IsStruck old 
       table = λ d up named. rw (s.tables m up) ((sound.checkpoints m).table d (was_up m up) (rw s.checkpoints at named));
     };
   }
-
-pub strike_keeps : StrikeKeeps
-strike_keeps = IsSoundKnowledge-struck

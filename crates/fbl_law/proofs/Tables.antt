@@ -1,27 +1,16 @@
 -- What tables name after they have learned.
-use Rattle.std.proofs.Common.{◌≡◌, ℕ, ◌<◌, length, get_or, true, false, cond, List, [], ◌∷◌, inl, inr, ◌⊎◌, map, refl, sym, subst, ap, ◌∙◌}
-use Rattle.std.specs.List.{Contains}
-use Rattle.std.specs.Prelude.{nat_le}
-use Rattle.std.specs.Ordering.{nat_cmp}
+use Rattle.fbl_law.proofs.Common.{◌≡◌, ℕ, ◌<◌, ◌||◌, arith, length, get_or, true, false, cond, List, [], ◌∷◌, inl, inr, ◌⊎◌, map, refl, sym, subst, ap, ◌∙◌}
+use Rattle.fbl_law.proofs.Common.{Contains, nat_le, nat_cmp, cases_Bool, false_from_ne_true, cases_eq, cases_lt, or_cases, or_left, or_right, get_or_past, Any-from_list_any}
+use Rattle.fbl_law.proofs.Common.{Contains-append_left, Determinant, same_determinant, contains-insert_other, Members, Decides-same_determinant, Entry, MemberRecord, blank, Includes, Names}
+use Rattle.fbl_law.proofs.Common.{is_held, gathered, learned, piggybacked}
 use Rattle.std.specs.Cmp.{nat_cmp_total}
 use Rattle.std.specs.FinSet as set
-use Rattle.std.proofs.lemmas.Bool.{cases_eq, cases_lt, or_cases, or_left, or_right}
 use Rattle.std.proofs.lemmas.Bool.Decides.{leb_tells}
-use Rattle.std.proofs.lemmas.List.{get_or_past}
-use Rattle.std.proofs.lemmas.List.Elements.{Contains-push, Contains-append_left, Contains-push_cases}
-use Rattle.fbl_base.specs.declared.trace.Determinant.{Determinant}
-use Rattle.fbl_base.specs.Events.{same_determinant}
-use Rattle.fbl_base.specs.MemberSets.{contains-insert_same, contains-insert_other, Members}
-use Rattle.fbl_base.proofs.Recorded.{Decides-same_determinant}
-use Rattle.fbl_table.specs.declared.entry.Entry.{Entry}
-use Rattle.fbl_member.specs.Members.{MemberRecord, blank}
-use Rattle.fbl_law.specs.Knowledge.{Includes, Names}
-use Rattle.fbl_table.specs.Tables.{added, held_by, gathered, learned, noted, piggybacked}
+use Rattle.std.proofs.lemmas.List.Folds.{list_any-from_Any}
+use Rattle.std.proofs.lemmas.List.Elements.{Contains-push, Contains-push_cases}
+use Rattle.fbl_table.specs.Tables.{added, held_by, noted}
 use Rattle.fbl_law.proofs.Safe.{never_both}
 use Rattle.fbl_law.proofs.Lists.{Contains-map, Contains-changed, Contains-here, Contains-there, Contains-cons_cases, Contains-none, Contains-filter, Contains-from_filter}
-
-pub Includes-insert : (s : Members) (m : ℕ) → Includes (set.insert s m) m
-Includes-insert s m = contains-insert_same s m
 
 pub Includes-insert_cases : (s : Members) (p m : ℕ) → Includes (set.insert s p) m → (m ≡ p) ⊎ Includes s m
 Includes-insert_cases s p m h = elim (cases_eq m p) [ inl same ↦ inl same | inr other ↦ inr (sym (contains-insert_other s p m other) ∙ h) ]
@@ -45,51 +34,45 @@ same-is a b h = (Decides-same_determinant a b).0 h
 abbrev pub joined : Entry → Entry → Entry
 joined x e = record { det = x.det; known = set.union x.known e.known }
 
-pub Names-none : (d : Determinant) → ¬ (Names [] d)
-Names-none d named = Contains-none named.0 named.1
-
 -- a record whose table names something is one of the list
 pub named_record : (xs : List MemberRecord) (m : ℕ) (d : Determinant) → Names (get_or xs m blank).table d → m < length xs
 named_record xs m d named = elim (cases_lt m (length xs)) [
   | inl below ↦ below
-  | inr past ↦ absurd (Names-none d (rw (get_or_past xs m blank past) at named))
+  | inr past ↦ (let none : Names [] d = rw (get_or_past xs m blank past) at named in absurd (Contains-none none.0 none.1))
 ]
 
-pub Names-added_kept : (xs : List Entry) (e : Entry) (d : Determinant) → Names xs d → Names (added xs e) d
-unfolding added
-Names-added_kept [] e d named = absurd (Names-none d named)
-Names-added_kept (x ∷ xs) e d named =
-    elim (same_determinant e.det x.det) as (λ b. Names (cond b (joined x e ∷ xs) (x ∷ added xs e)) d) [
-      | true ↦ elim (Contains-cons_cases x xs named.0 named.1) [
-        | inl first ↦ (joined x e, Contains-here (joined x e) xs, ap (λ (y : Entry). y.det) first ∙ named.2)
-        | inr later ↦ (named.0, Contains-there (joined x e) xs named.0 later, named.2)
-      ]
-      | false ↦ elim (Contains-cons_cases x xs named.0 named.1) [
-        | inl first ↦ (x, Contains-here x (added xs e), ap (λ (y : Entry). y.det) first ∙ named.2)
-        | inr later ↦ let r = Names-added_kept xs e d (named.0, later, named.2) in (r.0, Contains-there x (added xs e) r.0 r.1, r.2)
-      ]
-    ]
+-- a table that has a determinant names it
+pub Names-held : (entries : List Entry) (d : Determinant) → is_held entries d ≡ true → Names entries d
+Names-held entries d h =
+    let some = Any-from_list_any (λ (e : Entry). same_determinant d e.det) entries h in
+    (some.1, (some.0, some.2, some.3), sym ((Decides-same_determinant d some.1.det).0 some.4))
 
-pub Names-added : (xs : List Entry) (e : Entry) → Names (added xs e) e.det
+pub held-Names : (entries : List Entry) (d : Determinant) → Names entries d → is_held entries d ≡ true
+held-Names entries d named =
+    list_any-from_Any (λ (e : Entry). same_determinant d e.det) entries
+    (named.1.0, named.0, named.1.1, named.1.2, (Decides-same_determinant d named.0.det).1 (sym named.2))
+
+pub not-held : (entries : List Entry) (d : Determinant) → ¬ (Names entries d) → is_held entries d ≡ false
+not-held entries d none = false_from_ne_true (is_held entries d) (λ is. none (Names-held entries d is))
+
+-- what is added, and what is gathered, names what either part names
+held-added : (xs : List Entry) (e : Entry) (d : Determinant) → is_held (added xs e) d ≡ (is_held xs d || same_determinant d e.det)
 unfolding added
-Names-added [] e = (e, Contains-here e [], refl)
-Names-added (x ∷ xs) e =
-    (elim (same_determinant e.det x.det) as (λ b. same_determinant e.det x.det ≡ b → Names (cond b (joined x e ∷ xs) (x ∷ added xs e)) e.det) [
-      | true ↦ λ h. (joined x e, Contains-here (joined x e) xs, sym (same-is e.det x.det h))
-      | false ↦ λ _. let r = Names-added xs e in (r.0, Contains-there x (added xs e) r.0 r.1, r.2)
-    ]) refl
+held-added [] e d = grind arith
+held-added (x ∷ xs) e d = elim (cases_Bool (same_determinant e.det x.det)) [
+  | inl same ↦ rw (same, same-is e.det x.det same) grind arith
+  | inr other ↦ rw (other, held-added xs e d) grind arith
+]
+
+held-gathered : (xs es : List Entry) (d : Determinant) → is_held (gathered xs es) d ≡ (is_held xs d || is_held es d)
+held-gathered xs [] d = grind arith
+held-gathered xs (e ∷ es) d = rw (held-gathered (added xs e) es d, held-added xs e d) grind arith
 
 pub Names-gathered_kept : (xs es : List Entry) (d : Determinant) → Names xs d → Names (gathered xs es) d
-Names-gathered_kept xs [] d named = named
-Names-gathered_kept xs (e ∷ es) d named = Names-gathered_kept (added xs e) es d (Names-added_kept xs e d named)
+Names-gathered_kept xs es d named = Names-held (gathered xs es) d (rw held-gathered (or_left _ _ (held-Names xs d named)))
 
 pub Names-gathered : (xs es : List Entry) (d : Determinant) → Names es d → Names (gathered xs es) d
-Names-gathered xs [] d named = absurd (Names-none d named)
-Names-gathered xs (e ∷ es) d named =
-    elim (Contains-cons_cases e es named.0 named.1) [
-      | inl first ↦ Names-gathered_kept (added xs e) es d (let r = Names-added xs e in (r.0, r.1, r.2 ∙ (ap (λ (y : Entry). y.det) first ∙ named.2)))
-      | inr later ↦ Names-gathered (added xs e) es d (named.0, later, named.2)
-    ]
+Names-gathered xs es d named = Names-held (gathered xs es) d (rw held-gathered (or_right _ _ (held-Names es d named)))
 
 -- entries under a map that keeps their determinants
 module _ (g : Entry → Entry) (keeps : (e : Entry) → (g e).det ≡ e.det) where

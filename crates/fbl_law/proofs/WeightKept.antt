@@ -1,34 +1,20 @@
 -- What the step keeps of a weight, the group keeps.
-use Rattle.std.proofs.Common.{◌≡◌, ℕ, zero, suc, ◌+◌, ◌<◌, ◌≤◌, ◌==◌, ◌&&◌, false, cond, List, [], ◌∷◌, ◌++◌, inl, inr, drop}
-use Rattle.std.proofs.Common.{map, Option, Some, None, length, slice_get, refl, sym, ap, ◌∙◌, arith}
+use Rattle.fbl_law.proofs.Common.{◌≡◌, ℕ, zero, suc, ◌+◌, ◌<◌, ◌≤◌, ◌==◌, ◌&&◌, false, cond, List, [], ◌∷◌, ◌++◌, inl, inr, drop, map, Option, Some}
+use Rattle.fbl_law.proofs.Common.{None, length, slice_get, refl, sym, ap, ◌∙◌, arith, All, Contains, filter_map, fold, cases_eq, ne_eqb, nat_tests, All-head, All-tail, sum_by-cons}
+use Rattle.fbl_law.proofs.Common.{sum_by-append, Note, Start, Event, Mark, mark_of, WellFormed, MayFollow, in_flight, Next, Action, took, sent, Lawful, action_of, actions_of, notes_of}
+use Rattle.fbl_law.proofs.Common.{note_of, responses, starts_of, in_flight-send, in_flight-receipt, receipts-noted, WellFormed-keeps, eqb-self, Message, send_mark, IsInFlight, IsUp}
+use Rattle.fbl_law.proofs.Common.{StepKeeps, HoldsFirst, GroupRecord, member, channel, marks, knowledge, sum_below, IsSound, received_notes}
 use Rattle.std.specs.Prelude.{sum_by}
-use Rattle.std.specs.List.{All, Contains, filter_map, fold}
+use Rattle.std.specs.Option.{option_map_or}
 use Rattle.std.specs.FinSet as set
-use Rattle.std.proofs.lemmas.Bool.{cases_eq, ne_eqb}
-use Rattle.std.proofs.lemmas.Bool.Decides.{nat_tests}
-use Rattle.std.proofs.lemmas.List.Elements.{All-head, All-tail}
-use Rattle.std.proofs.lemmas.List.Sums.{sum_by-cons, sum_by-append, sum_by_push}
-use Rattle.fbl_base.specs.declared.trace.Note.{Note}
-use Rattle.fbl_base.specs.declared.trace.Start.{Start}
-use Rattle.fbl_base.specs.declared.trace.Event.{Event}
+use Rattle.std.proofs.lemmas.List.Sums.{sum_by_push}
 use Rattle.fbl_base.specs.declared.trace.Event.TheVariants.{Send, Receipt}
-use Rattle.fbl_base.specs.declared.trace.Mark.{Mark}
 use Rattle.fbl_base.specs.declared.trace.Mark.TheVariants as mark
-use Rattle.fbl_base.specs.Events.{mark_of}
-use Rattle.fbl_base.specs.Rules.{WellFormed, MayFollow, in_flight}
-use Rattle.fbl_base.specs.Fold.{Next, Action, took, sent, Lawful, action_of, actions_of, notes_of, note_of, responses, starts_of}
-use Rattle.fbl_base.proofs.InFlightLaws.{in_flight-send, in_flight-receipt}
-use Rattle.fbl_base.proofs.LawfulLaws.{receipts-noted}
-use Rattle.fbl_base.proofs.RulesLaws.{WellFormed-keeps, eqb-self}
-use Rattle.fbl_member.specs.Members.{Message}
-use Rattle.fbl_law.specs.Knowledge.{send_mark, IsInFlight, IsUp, IsDown}
-use Rattle.fbl_law.specs.StepLaws.{StepKeeps, HoldsFirst, StepMakesNone, StepLosesNone, StepConserves, weight_after, weight_held, weight_flying, weight_of_starts, weight_at_first, WeighsNoMore}
-use Rattle.fbl_law.specs.StepLaws.{WeighsNoLess, WeighsTheSame}
-use Rattle.fbl_law.specs.Groups.{GroupRecord, member, channel, marks, knowledge, messages_in_flight, sum_below}
-use Rattle.fbl_law.specs.Sound.{IsSound, received_notes}
-use Rattle.fbl_law.proofs.GroupFacts.{all_up, up_state, channel_ends, same_channel}
+use Rattle.fbl_law.specs.StepLaws.{StepMakesNone, StepLosesNone, StepConserves, weight_after, weight_flying, weight_of, weight_of_starts, WeighsNoMore, WeighsNoLess, WeighsTheSame}
+use Rattle.fbl_law.specs.Groups.{messages_in_flight}
+use Rattle.fbl_law.proofs.GroupFacts.{all_up, up_state, channel_ends}
 use Rattle.fbl_law.proofs.Lists.{Contains-here, Contains-there}
-use Rattle.fbl_law.proofs.Safe.{down_or_up}
+use Rattle.fbl_law.proofs.Safe.{down_or_up, down_or_both_up}
 use Rattle.fbl_law.proofs.KeptByStep.{Came, all-came}
 use Rattle.fbl_law.proofs.Notes.{sent-noted, mark-at}
 use Rattle.fbl_law.proofs.ChannelCounts.{sum_below-agree}
@@ -38,18 +24,20 @@ sum_below-plus : (n : ℕ) (a b : ℕ → ℕ) → sum_below n (λ x. a x + b x)
 sum_below-plus zero a b = refl
 sum_below-plus (suc n) a b = omega (arith, sum_below-plus n a b)
 
-sum_below-most : (n : ℕ) (a b : ℕ → ℕ) → ((x : ℕ) → x < n → a x ≤ b x) → sum_below n a ≤ sum_below n b
-sum_below-most zero a b most = omega arith
-sum_below-most (suc n) a b most = omega (arith, sum_below-most n a b (λ x below. most x (omega arith)), most n (omega arith))
-
 sum_below-none : (n : ℕ) → sum_below n (λ x. 0) ≡ 0
 sum_below-none zero = refl
 sum_below-none (suc n) = omega (arith, sum_below-none n)
 
--- one member's term is a part of the sum
-sum_below-part : (n k : ℕ) (a : ℕ → ℕ) → k < n → a k ≤ sum_below n a
-sum_below-part zero k a below = absurd (omega arith)
-sum_below-part (suc n) k a below = elim (cases_eq k n) [ inl same ↦ omega (arith, ap a same) | inr other ↦ omega (arith, sum_below-part n k a (omega arith)) ]
+-- where each term of a sum of 0 has one of 0, the other sum is 0
+sum_below-nothing : (n : ℕ) (a b : ℕ → ℕ) → ((x : ℕ) → a x ≡ 0 → b x ≡ 0) → sum_below n a ≡ 0 → sum_below n b ≡ 0
+sum_below-nothing zero a b each none = refl
+sum_below-nothing (suc n) a b each none = omega (arith, sum_below-nothing n a b each (omega arith), each n (omega arith))
+
+-- sums of terms that are related, as by `≤` or its converse, where equal numbers are related and sums of related numbers are
+module _ (R : ℕ → ℕ → Type 0) (same : (a b : ℕ) → a ≡ b → R a b) (joined : (a b c d x y : ℕ) → R a b → R c d → x + b + d ≡ a + c + y → R x y) where
+  sums-related : (n : ℕ) (a b : ℕ → ℕ) → ((x : ℕ) → x < n → R (a x) (b x)) → R (sum_below n a) (sum_below n b)
+  sums-related zero a b each = same 0 0 refl
+  sums-related (suc n) a b each = joined _ _ _ _ _ _ (sums-related n a b (λ x below. each x (omega arith))) (each n (omega arith)) (omega arith)
 
 -- one member's term grows
 sum_below-at : (n k d : ℕ) (a b : ℕ → ℕ) → k < n → b k ≡ a k + d → ((x : ℕ) → (k == x) ≡ false → b x ≡ a x) → sum_below n b ≡ sum_below n a + d
@@ -145,10 +133,6 @@ module _ (weight : Note → ℕ) where
   given (took x) = 0
   given (sent s) = weight s.1
 
-  abbrev pub of_note : Option Note → ℕ
-  of_note None = 0
-  of_note (Some x) = weight x
-
   given-sends : (sends : List (ℕ × Note)) (rest : List Action) → sum_by given (map sent sends ++ rest) ≡ sum_by (λ (s : ℕ × Note). weight s.1) sends + sum_by given rest
   given-sends [] rest = omega arith
   given-sends (s ∷ sends) rest = omega (arith, sum_by-cons given (sent s) (map sent sends ++ rest), sum_by-cons (λ (s : ℕ × Note). weight s.1) s sends, given-sends sends rest)
@@ -174,7 +158,7 @@ module _ (weight : Note → ℕ) where
         (started : All (λ (s : Start). Q s.from s.to s.note) starts) where
       -- what a message weighs, by its number
       abbrev pub w : ℕ → ℕ → ℕ
-      w q s = of_note (note_of t q s)
+      w q s = option_map_or weight (note_of t q s) 0
 
       abbrev notes : ℕ → List Note
       notes m = received_notes t m
@@ -184,9 +168,6 @@ module _ (weight : Note → ℕ) where
 
       abbrev begins : ℕ → ℕ
       begins m = sum_by (λ (s : ℕ × Note). weight s.1) (starts_of m starts)
-
-      member-gives : (m : ℕ) → sum_by given (actions_of t m) ≡ begins m + replies m
-      member-gives m = ap (sum_by given) (lawful.responds m) ∙ given-sends (starts_of m starts) (responses next m n 0 (notes m))
 
       -- what the members do weighs what the events do, where each send and each receipt does, with its note
       acts-weigh : (g : Action → ℕ) (h : Mark → ℕ) → ((q s p : ℕ) (x : Note) → note_of t q s ≡ Some x → g (sent (p, x)) ≡ h (mark.Send q s p))
@@ -209,17 +190,14 @@ module _ (weight : Note → ℕ) where
           let given_all = acts-weigh given (out n w) (λ q s p x note. rw note refl) (λ p r q s x note. refl) in
           let taken_all = acts-weigh taken (into n w) (λ q s p x note. refl) (λ p r q s x note. rw note refl) in
           let takes = sum_below-agree n (λ m. sum_by taken (actions_of t m)) (λ m. sum_by weight (notes m)) (λ m below. taken-notes (actions_of t m)) in
-          let gives = sum_below-agree n (λ m. sum_by given (actions_of t m)) (λ m. begins m + replies m) (λ m below. member-gives m) in
+          let gives = sum_below-agree n (λ m. sum_by given (actions_of t m)) (λ m. begins m + replies m)
+          (λ m below. ap (sum_by given) (lawful.responds m) ∙ given-sends (starts_of m starts) (responses next m n 0 (notes m))) in
           omega (arith, f, given_all, taken_all, takes, gives, sum_below-plus n begins replies, starts-weigh n starts members)
 
       -- a relation of what is weighed after and before, as `≤` and its converse, that equal weights have and that their sums keep
       module _ (R : ℕ → ℕ → Type 0) (same : (a b : ℕ) → a ≡ b → R a b) (joined : (a b c d x y : ℕ) → R a b → R c d → x + b + d ≡ a + c + y → R x y)
           (law : (me from state : ℕ) (note : Note) → me < n → P me state → Q from me note
           → R (weight_after next n mass weight me state note) (mass me state + weight note)) where
-        sums-related : (k : ℕ) (a b : ℕ → ℕ) → ((x : ℕ) → x < k → R (a x) (b x)) → R (sum_below k a) (sum_below k b)
-        sums-related zero a b each = same 0 0 refl
-        sums-related (suc k) a b each = joined _ _ _ _ _ _ (sums-related k a b (λ x below. each x (omega arith))) (each k (omega arith)) (omega arith)
-
         member-related : (m state : ℕ) (received : List Note) → m < n → P m state → All (Came next n P Q keeps m) received
             → R (mass m (reached m state received) + sum_by given (responses next m n state received)) (mass m state + sum_by weight received)
         member-related m state [] below holds came = same _ _ refl
@@ -235,25 +213,17 @@ module _ (weight : Note → ℕ) where
         trace-related : R (sum_below n (λ m. mass m (reached m 0 (notes m))) + weight_on n w (map mark_of t))
             (sum_below n (λ m. mass m 0) + sum_by (λ (s : Start). weight s.note) starts)
         trace-related =
-            let each = sums-related n (λ m. mass m (reached m 0 (notes m)) + replies m) (λ m. mass m 0 + sum_by weight (notes m))
+            let each = sums-related R same joined n (λ m. mass m (reached m 0 (notes m)) + replies m) (λ m. mass m 0 + sum_by weight (notes m))
             (λ m below. member-related m 0 (notes m) below (at_first m below) (all-came next n P Q keeps starts t lawful at_first started m)) in
             joined _ _ _ _ _ _ each (same 0 0 refl)
             (omega (arith, flows, sum_below-plus n (λ m. mass m (reached m 0 (notes m))) replies, sum_below-plus n (λ m. mass m 0) (λ m. sum_by weight (notes m))))
-
-      pub trace-makes-none : StepMakesNone next n P Q mass weight
-          → sum_below n (λ m. mass m (reached m 0 (notes m))) + weight_on n w (map mark_of t) ≤ sum_below n (λ m. mass m 0) + sum_by (λ (s : Start). weight s.note) starts
-      trace-makes-none = trace-related (λ a b. a ≤ b) (λ a b is. omega arith) (λ a b c d x y first second is. omega arith)
-
-      pub trace-loses-none : StepLosesNone next n P Q mass weight
-          → sum_below n (λ m. mass m 0) + sum_by (λ (s : Start). weight s.note) starts ≤ sum_below n (λ m. mass m (reached m 0 (notes m))) + weight_on n w (map mark_of t)
-      trace-loses-none = trace-related (λ a b. b ≤ a) (λ a b is. omega arith) (λ a b c d x y first second is. omega arith)
 
 -- what the channel from q to p weighs
 abbrev channel_weight : (Note → ℕ) → GroupRecord → ℕ → ℕ → ℕ
 channel_weight weight r q p = sum_by (λ (v : Message). weight v.note) (channel r q p)
 
 module _ (next : Next) (r : GroupRecord) (P : ℕ → ℕ → Type 0) (Q : ℕ → ℕ → Note → Type 0) (mass : ℕ → ℕ → ℕ) (weight : Note → ℕ)
-    (sound : IsSound next r) (keeps : StepKeeps next r.config.members P Q) (first : HoldsFirst r.config P Q) where
+    (nothing : (me : ℕ) → mass me 0 ≡ 0) (sound : IsSound next r) (keeps : StepKeeps next r.config.members P Q) (first : HoldsFirst r.config P Q) where
   abbrev n : ℕ
   n = r.config.members
 
@@ -262,7 +232,7 @@ module _ (next : Next) (r : GroupRecord) (P : ℕ → ℕ → Type 0) (Q : ℕ �
   by_trace m = mass m (reached weight next r.config.members P Q keeps mass m 0 (received_notes r.trace m))
 
   abbrev number_weight : ℕ → ℕ → ℕ
-  number_weight q s = of_note weight (note_of r.trace q s)
+  number_weight q s = option_map_or weight (note_of r.trace q s) 0
 
   up-weighs : (m : ℕ) → m < r.config.members → IsUp (knowledge r) m → mass m (member r m).state ≡ by_trace m
   up-weighs m below up = ap (mass m) (up_state next r sound m below up)
@@ -276,14 +246,8 @@ module _ (next : Next) (r : GroupRecord) (P : ℕ → ℕ → Type 0) (Q : ℕ �
   queue-weighs q p (v ∷ xs) (k ∷ numbers) same noted =
       let number : v.ssn ≡ k = cc in
       let rest : map send_mark xs ≡ map (λ ssn. mark.Send q ssn p) numbers = cc in
-      let here : number_weight q k ≡ weight v.note = rw (← number, noted v (Contains-here v xs)) refl in
-      omega (
-        arith,
-        here,
-        queue-weighs q p xs numbers rest (λ u among. noted u (Contains-there v xs u among)),
-        sum_by-cons (λ (v : Message). weight v.note) v xs,
-        sum_by-cons (number_weight q) k numbers,
-      )
+      let tail = queue-weighs q p xs numbers rest (λ u among. noted u (Contains-there v xs u among)) in
+      grind (arith, noted v (Contains-here v xs), tail, sum_by-cons (λ (v : Message). weight v.note) v xs, sum_by-cons (number_weight q) k numbers)
 
   -- the channel between two members that are up weighs what the trace has in flight there
   channel-weighs : (q p : ℕ) → IsUp (knowledge r) q → IsUp (knowledge r) p → channel_weight weight r q p ≡ weight_in n number_weight (marks r) q p
@@ -291,82 +255,56 @@ module _ (next : Next) (r : GroupRecord) (P : ℕ → ℕ → Type 0) (Q : ℕ �
     noted : (v : Message) → Contains (channel r q p) v → note_of r.trace q v.ssn ≡ Some v.note
     noted v among =
         let ends = (channel_ends next r sound q p v among).0 in
-        let flies : IsInFlight (knowledge r) v = same_channel r v v.from v.to q p ends.0 ends.1 among in
+        let flies : IsInFlight (knowledge r) v = rw (← ends.0, ← ends.1) at among in
         rw ends.0 at (sound.notes v flies)
 
-  -- where each step makes no weight, the group weighs at most what it weighed at first, if a state 0 in the place of that of
-  -- a member that is down makes none
-  pub makes-none : StepMakesNone next r.config.members P Q mass weight → ((m : ℕ) → IsDown (knowledge r) m → (state : ℕ) → mass m 0 ≤ mass m state)
-      → weight_held mass r + weight_flying weight r ≤ weight_at_first mass weight r.config
-  makes-none law light =
-      let whole = trace-makes-none weight next n P Q keeps mass r.config.starts r.trace sound.lawful (λ i s here. (sound.config.starts i s here).0) first.0 first.1 law in
-      let states = sum_below-most n (λ m. mass m (member r m).state) by_trace (λ m below. elim (down_or_up r.down m) [
-        | inl down ↦ rw (sound.blanks m below down) (light m down (reached weight next n P Q keeps mass m 0 (received_notes r.trace m)))
-        | inr up ↦ omega (arith, up-weighs m below up)
-      ]) in
-      let queues = sum_below-most n (λ q. sum_below n (channel_weight weight r q)) (λ q. sum_below n (weight_in n number_weight (marks r) q))
-      (λ q below_q. sum_below-most n (channel_weight weight r q) (weight_in n number_weight (marks r) q) (λ p below_p. cell q p)) in
-      omega (arith, whole, states, queues)
-    where
-      cell : (q p : ℕ) → channel_weight weight r q p ≤ weight_in n number_weight (marks r) q p
-      cell q p = elim (down_or_up r.down q) [
-        | inl down ↦ rw (sound.causes.down.channels q p (inl down)) (omega arith)
-        | inr up ↦ elim (down_or_up r.down p) [
-          | inl down ↦ rw (sound.causes.down.channels q p (inr down)) (omega arith)
-          | inr up_to ↦ omega (arith, channel-weighs q p up up_to)
-        ]
-      ]
+  -- what the group weighs is related to what its starts do, where what its members and channels weigh is to what they do by the trace
+  group-related : (R : ℕ → ℕ → Type 0) → ((a b : ℕ) → a ≡ b → R a b) → ((a b c d x y : ℕ) → R a b → R c d → x + b + d ≡ a + c + y → R x y)
+      → ((me from state : ℕ) (note : Note) → me < n → P me state → Q from me note → R (weight_after next n mass weight me state note) (mass me state + weight note))
+      → ((m : ℕ) → m < n → R (mass m (member r m).state) (by_trace m)) → ((q p : ℕ) → R (channel_weight weight r q p) (weight_in n number_weight (marks r) q p))
+      → R (weight_of mass weight r) (weight_of_starts weight r.config)
+  group-related R same joined law states cells =
+      let whole = trace-related weight next n P Q keeps mass r.config.starts r.trace sound.lawful (λ i s here. (sound.config.starts i s here).0) first.0 first.1 R same joined law in
+      let held = sums-related R same joined n _ _ states in
+      let flying = sums-related R same joined n _ _ (λ q below. sums-related R same joined n (channel_weight weight r q) (weight_in n number_weight (marks r) q) (λ p below_p. cells q p)) in
+      let light : sum_below n (λ m. mass m 0) ≡ 0 = sum_below-agree n (λ m. mass m 0) (λ m. 0) (λ m below. nothing m) ∙ sum_below-none n in
+      let all : R (weight_of mass weight r) (sum_below n by_trace + weight_on n number_weight (marks r)) = joined _ _ _ _ _ _ held flying (omega arith) in
+      joined _ _ _ _ _ _ all whole (omega (arith, light))
+
+  -- where each step makes no weight, the group weighs at most what its starts do
+  pub weighs_no_more : StepMakesNone next n P Q mass weight → WeighsNoMore mass weight r
+  weighs_no_more law = group-related (λ a b. a ≤ b) (λ a b is. omega arith) (λ a b c d x y first second is. omega arith) law states cells where
+    states : (m : ℕ) → m < n → mass m (member r m).state ≤ by_trace m
+    states m below = elim (down_or_up r.down m) [ inl down ↦ rw (sound.blanks m below down, nothing m) (omega arith) | inr up ↦ omega (arith, up-weighs m below up) ]
+
+    cells : (q p : ℕ) → channel_weight weight r q p ≤ weight_in n number_weight (marks r) q p
+    cells q p = elim (down_or_both_up r.down q p) [
+      | inl down ↦ rw (sound.causes.down.channels q p down) (omega arith)
+      | inr up ↦ omega (arith, channel-weighs q p up.0 up.1)
+    ]
+
+  -- where nothing is in flight, that weighs nothing
+  none-flying : messages_in_flight r ≡ 0 → weight_flying weight r ≡ 0
+  none-flying = sum_below-nothing n _ _ (λ q. sum_below-nothing n _ (channel_weight weight r q) (λ p. empty (channel r q p))) where
+    empty : (xs : List Message) → length xs ≡ 0 → sum_by (λ (v : Message). weight v.note) xs ≡ 0
+    empty [] is = refl
+    empty (v ∷ xs) is = absurd (omega arith)
 
   -- where each step loses none, and nobody is down, it weighs at least that
-  pub loses-none : StepLosesNone next r.config.members P Q mass weight → r.down ≡ set.empty → weight_at_first mass weight r.config ≤ weight_held mass r + weight_flying weight r
-  loses-none law nobody =
-      let whole = trace-loses-none weight next n P Q keeps mass r.config.starts r.trace sound.lawful (λ i s here. (sound.config.starts i s here).0) first.0 first.1 law in
-      let up = all_up next r sound nobody in
-      let states = sum_below-agree n (λ m. mass m (member r m).state) by_trace (λ m below. up-weighs m below (up m)) in
-      let queues = sum_below-agree n (λ q. sum_below n (channel_weight weight r q)) (λ q. sum_below n (weight_in n number_weight (marks r) q))
-      (λ q below_q. sum_below-agree n (channel_weight weight r q) (weight_in n number_weight (marks r) q) (λ p below_p. channel-weighs q p (up q) (up p))) in
-      omega (arith, whole, states, queues)
+  pub weighs_no_less : StepLosesNone next n P Q mass weight → WeighsNoLess mass weight r
+  weighs_no_less law = record { whole = most; settled = λ nobody none. omega (arith, most nobody, none-flying none) } where
+    most : r.down ≡ set.empty → weight_of_starts weight r.config ≤ weight_of mass weight r
+    most nobody =
+        let up = all_up next r sound nobody in
+        group-related (λ a b. b ≤ a) (λ a b is. omega arith) (λ a b c d x y first second is. omega arith) law
+        (λ m below. omega (arith, up-weighs m below (up m))) (λ q p. omega (arith, channel-weighs q p (up q) (up p)))
 
--- where nothing is in flight, that weighs nothing
-none-flying : (weight : Note → ℕ) (r : GroupRecord) → messages_in_flight r ≡ 0 → weight_flying weight r ≡ 0
-none-flying weight r none = nothing-below r.config.members (λ q. sum_below r.config.members (channel_weight weight r q))
-    (λ q below_q. nothing-below r.config.members (channel_weight weight r q) (λ p below_p. empty q p below_q below_p)) where
-      nothing-below : (n : ℕ) (f : ℕ → ℕ) → ((x : ℕ) → x < n → f x ≡ 0) → sum_below n f ≡ 0
-      nothing-below n f each = sum_below-agree n f (λ x. 0) each ∙ sum_below-none n
-
-      of_empty : (xs : List Message) → length xs ≡ 0 → sum_by (λ (v : Message). weight v.note) xs ≡ 0
-      of_empty [] is = refl
-      of_empty (v ∷ xs) is = absurd (omega arith)
-
-      empty : (q p : ℕ) → q < r.config.members → p < r.config.members → channel_weight weight r q p ≡ 0
-      empty q p below_q below_p =
-          let row = sum_below-part r.config.members q (λ q. sum_below r.config.members (λ p. length (channel r q p))) below_q in
-          let cell = sum_below-part r.config.members p (λ p. length (channel r q p)) below_p in
-          of_empty (channel r q p) (omega (arith, none, row, cell))
-
-module _ (next : Next) (r : GroupRecord) (P : ℕ → ℕ → Type 0) (Q : ℕ → ℕ → Note → Type 0) (mass : ℕ → ℕ → ℕ) (weight : Note → ℕ)
-    (nothing : (me : ℕ) → mass me 0 ≡ 0) (sound : IsSound next r) (keeps : StepKeeps next r.config.members P Q) (first : HoldsFirst r.config P Q) where
-  -- states 0 that weigh nothing weigh nothing in all
-  first-nothing : weight_at_first mass weight r.config ≡ weight_of_starts weight r.config
-  first-nothing = omega (arith, sum_below-agree r.config.members (λ m. mass m 0) (λ m. 0) (λ m below. nothing m), sum_below-none r.config.members)
-
-  pub weighs_no_more : StepMakesNone next r.config.members P Q mass weight → WeighsNoMore mass weight r
-  weighs_no_more law =
-      let most = makes-none next r P Q mass weight sound keeps first law (λ m down state. omega (arith, nothing m)) in
-      omega (arith, most, first-nothing)
-
-  pub weighs_no_less : StepLosesNone next r.config.members P Q mass weight → WeighsNoLess mass weight r
-  weighs_no_less law = record {
-    whole = λ nobody. omega (arith, loses-none next r P Q mass weight sound keeps first law nobody, first-nothing);
-    settled = λ nobody none. omega (arith, loses-none next r P Q mass weight sound keeps first law nobody, first-nothing, none-flying weight r none);
-  }
-
-  pub weighs_the_same : StepConserves next r.config.members P Q mass weight → WeighsTheSame mass weight r
+  pub weighs_the_same : StepConserves next n P Q mass weight → WeighsTheSame mass weight r
   weighs_the_same law =
       let more = weighs_no_more (λ me from state note below p q. omega (arith, law me from state note below p q)) in
       let less = weighs_no_less (λ me from state note below p q. omega (arith, law me from state note below p q)) in
       record {
         whole = λ nobody. omega (arith, more, less.whole nobody);
-        settled = λ nobody none. omega (arith, more, less.settled nobody none, none-flying weight r none);
+        settled = λ nobody none. omega (arith, more, less.settled nobody none, none-flying none);
         most = more;
       }

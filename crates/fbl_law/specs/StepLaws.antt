@@ -78,10 +78,6 @@ weight_of mass weight r = weight_held mass r + weight_flying weight r
 abbrev pub weight_of_starts : (Note → ℕ) → Settings → ℕ
 weight_of_starts weight c = sum_by (λ (s : Start). weight s.note) c.starts
 
--- what a group weighs at first: the states 0 and the starts
-abbrev pub weight_at_first : (ℕ → ℕ → ℕ) → (Note → ℕ) → Settings → ℕ
-weight_at_first mass weight c = sum_below c.members (λ m. mass m 0) + weight_of_starts weight c
-
 -- the group weighs no more than its starts
 abbrev pub WeighsNoMore : (ℕ → ℕ → ℕ) → (Note → ℕ) → GroupRecord → Type 0
 WeighsNoMore mass weight r = weight_of mass weight r ≤ weight_of_starts weight r.config

@@ -2,7 +2,7 @@
 -- messages until more than f members are known to hold them is family-based logging (Alvisi, Hoppe and Marzullo 1993);
 -- checkpoints, and recovery from them by replay, are those of Elnozahy and others (2002).
 use Rattle.std.specs.Prelude.{◌≡◌, ◌≢◌, ℕ, zero, suc, ◌⊎◌, ◌↔◌, ◌==◌, ◌&&◌, Bool, true, Some, List, [], ◌∷◌, ◌++◌, length, map, drop, slice_get, slice_index_or, if◌then◌else◌}
-use Rattle.std.specs.List.{Contains, filter}
+use Rattle.std.specs.List.{Contains, filter, fold}
 use Rattle.std.specs.FinSet as set
 use Rattle.fbl_base.specs.MemberSets.{Members}
 use Rattle.fbl_base.specs.declared.trace.Determinant.{Determinant}
@@ -19,8 +19,7 @@ use Rattle.fbl_member.specs.Members.{Message, MemberRecord, blank}
 
 -- several tables' entries, one table after the other
 abbrev pub gathered_all : List Entry → List (List Entry) → List Entry
-gathered_all table [] = table
-gathered_all table (t ∷ ts) = gathered_all (gathered table t) ts
+gathered_all table ts = fold gathered table ts
 
 -- the tables of the checkpoints of the members of the set that are below n, in member order
 abbrev pub saved_tables : Members → List MemberRecord → ℕ → List (List Entry)

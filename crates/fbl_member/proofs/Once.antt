@@ -1,10 +1,8 @@
 -- What a table passes on has no determinant twice.
-use Rattle.std.proofs.Common.{◌≡◌, true, false, cond, List, [], ◌∷◌, map}
+use Rattle.fbl_member.proofs.Common.{◌≡◌, true, false, cond, List, [], ◌∷◌, map, Determinant, Entry, piggybacked}
 use Rattle.std.specs.List.{AllByRecursion, IsDistinct}
-use Rattle.fbl_base.specs.declared.trace.Determinant.{Determinant}
 use Rattle.fbl_base.specs.Events.{same_determinant}
-use Rattle.fbl_table.specs.declared.entry.Entry.{Entry}
-use Rattle.fbl_table.specs.Tables.{is_open, piggybacked}
+use Rattle.fbl_table.specs.Tables.{is_open}
 use Rattle.fbl_member.specs.Carried.{IsOnce}
 
 module _ (f : _) where
@@ -13,10 +11,7 @@ module _ (f : _) where
   kept_all P [] all = all
   kept_all P (e ∷ table) all =
       let rest = kept_all P table all.1 in
-      elim (is_open f e) as (λ b. AllByRecursion P (map (λ (x : Entry). x.det) (cond b (e ∷ piggybacked f table) (piggybacked f table)))) [
-        | true ↦ (all.0, rest)
-        | false ↦ rest
-      ]
+      elim (is_open f e) as (λ b. AllByRecursion P (map (λ (x : Entry). x.det) (cond b (e ∷ piggybacked f table) (piggybacked f table)))) [ true ↦ (all.0, rest) | false ↦ rest ]
 
   pub IsOnce-piggybacked : (table : List Entry) → IsOnce table → IsOnce (piggybacked f table)
   unfolding IsDistinct
@@ -24,10 +19,7 @@ module _ (f : _) where
   IsOnce-piggybacked (e ∷ table) once =
       let others = kept_all (λ d. same_determinant e.det d ≡ false) table once.0 in
       let rest = IsOnce-piggybacked table once.1 in
-      elim (is_open f e) as (λ b. IsDistinct same_determinant (map (λ (x : Entry). x.det) (cond b (e ∷ piggybacked f table) (piggybacked f table)))) [
-        | true ↦ (others, rest)
-        | false ↦ rest
-      ]
+      elim (is_open f e) as (λ b. IsDistinct same_determinant (map (λ (x : Entry). x.det) (cond b (e ∷ piggybacked f table) (piggybacked f table)))) [ true ↦ (others, rest) | false ↦ rest ]
 
 -- no two entries of none are alike
 pub IsOnce-none : IsOnce []

@@ -18,7 +18,7 @@ use Rattle.fbl_script.specs.declared.script.Command.{Command}
 use Rattle.fbl_script.specs.declared.script.Command.TheVariants as commands
 use Rattle.fbl_script.specs.Scripts.{Outline, IsScriptOf, IsScriptFault}
 use Rattle.fbl_play.specs.declared.histories.RunHistory.{RunHistory}
-use Rattle.fbl_play.specs.Runs.{Step, next_of}
+use Rattle.fbl_play.specs.Runs.{Along, Step, next_of}
 use Rattle.fbl_play.specs.Telling.{IsTold, IsToldUpTo}
 
 -- the history after a command that was not refused, before which these members were down, and which left the group like this:
@@ -36,14 +36,15 @@ abbrev pub HistoryStep : Next → Members → Command → Account → GroupRecor
 HistoryStep next down command (Refused reason) r old new = new ≡ old
 HistoryStep next down command _ r old new = IsAfterCommand next down command r old new
 
+-- a command as one step of a group and of its history
+abbrev pub ColumnsStep : Next → ℕ → GroupRecord × List Column → Command → Account → GroupRecord × List Column → Type 0
+ColumnsStep next workers old c account new =
+    (text : List ℕ) × Step next workers old.0 c new.0 text account × IsSound next new.0 × HistoryStep next old.0.down c account new.0 old.1 new.1
+
 -- the commands may lead from old to new, one after another, with these accounts, and from the history before to the one
 -- after; each record that a command leaves is sound
 abbrev pub HistoryRun : Next → ℕ → GroupRecord → List Command → GroupRecord → List Account → List Column → List Column → Type 0
-HistoryRun next workers old [] new [] before after = (new ≡ old) × (after ≡ before)
-HistoryRun next workers old (c ∷ cs) new (account ∷ accounts) before after =
-    (mid : GroupRecord) × (text : List ℕ) × (columns : List Column) × Step next workers old c mid text account × IsSound next mid
-    × HistoryStep next old.down c account mid before columns × HistoryRun next workers mid cs new accounts columns after
-HistoryRun next workers old _ new _ before after = ⊥
+HistoryRun next workers old commands new accounts before after = Along (ColumnsStep next workers) commands accounts (old, before) (new, after)
 
 -- some run of the commands, from a new group of this config, has these accounts and this history
 abbrev pub IsHistoryOf : Next → ℕ → Settings → List Command → List Account → List Column → Type 0

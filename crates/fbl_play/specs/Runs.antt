@@ -128,14 +128,20 @@ Step next workers old (commands.Checkpoint p) new text account = CheckpointStep 
 
 -- ---- the commands of a script
 
+-- steps of such a kind lead from old to new along the commands, each with its account
+abbrev pub Along : {S : Type 0} → (S → Command → Account → S → Type 0) → List Command → List Account → S → S → Type 0
+Along step [] [] old new = new ≡ old
+Along {S} step (c ∷ cs) (account ∷ accounts) old new = (mid : S) × step old c account mid × Along step cs accounts mid new
+Along step _ _ old new = ⊥
+
+-- a command as one step of a group and of the text that was printed
+abbrev pub TextStep : Next → ℕ → GroupRecord × List ℕ → Command → Account → GroupRecord × List ℕ → Type 0
+TextStep next workers old c account new = (line : List ℕ) × Step next workers old.0 c new.0 line account × IsSound next new.0 × (new.1 ≡ old.1 ++ line)
+
 -- the commands may lead from old to new, one after another, print the text and have these accounts; each record that a command
 -- leaves is sound
 abbrev pub CommandRun : Next → ℕ → GroupRecord → List Command → GroupRecord → List ℕ → List Account → Type 0
-CommandRun next workers old [] new text [] = (new ≡ old) × (text ≡ [])
-CommandRun next workers old (c ∷ cs) new text (account ∷ accounts) =
-    (mid : GroupRecord) × (first : List ℕ) × (rest : List ℕ) × Step next workers old c mid first account × IsSound next mid
-    × CommandRun next workers mid cs new rest accounts × (text ≡ first ++ rest)
-CommandRun next workers old _ new text _ = ⊥
+CommandRun next workers old commands new text accounts = Along (TextStep next workers) commands accounts (old, []) (new, text)
 
 -- some run of the commands, from a new group of this config, prints the text and has these accounts; each record of the run is
 -- sound, so that each state that is printed is the fold of the member's receipts in the trace

@@ -1,5 +1,5 @@
 -- What an observer of a play is told, and when.
-use Rattle.std.specs.Prelude.{◌≡◌, ℕ, ◌<◌, ◌⊎◌, List, [], ◌∷◌, length, take, slice_index_or, Option, Result, Ok, Err}
+use Rattle.std.specs.Prelude.{◌≡◌, ℕ, ◌<◌, ◌⊎◌, List, length, take, slice_index_or, Option, Result, Ok, Err}
 use Rattle.std.specs.Io.KnownBytes.{Keeps}
 use Rattle.fbl_base.specs.Configs.{Settings}
 use Rattle.fbl_base.specs.Fold.{Next}
@@ -8,16 +8,13 @@ use Rattle.fbl_input.specs.declared.fault.RunFault.{RunFault}
 use Rattle.fbl_input.specs.declared.fault.RunFault.TheVariants as faults
 use Rattle.fbl_script.specs.declared.script.Command.{Command}
 use Rattle.fbl_script.specs.Scripts.{Outline, IsScriptOf, IsScriptFault}
-use Rattle.fbl_play.specs.Runs.{IsCutAfter, IsWritten, IsWrittenUpTo, next_of}
+use Rattle.fbl_play.specs.Runs.{Along, IsCutAfter, IsWritten, IsWrittenUpTo, next_of}
 
 -- an observer, by what it is after it was told that a command is to be run, and that it was run with an account
 module _ {O : Type 0} (before : O → Command → O → Type 0) (after : O → Command → Account → O → Type 0) where
   -- it was told of each of the commands in turn, before it was run and then with its account
   abbrev pub IsTold : List Command → List Account → O → O → Type 0
-  IsTold [] [] old new = new ≡ old
-  IsTold (c ∷ cs) (account ∷ accounts) old new =
-      (begun : O) × (mid : O) × before old c begun × after begun c account mid × IsTold cs accounts mid new
-  IsTold _ _ old new = ⊥
+  IsTold = Along (λ old c account new. (begun : O) × before old c begun × after begun c account new)
 
   -- it was told of the first so many of the commands, and that the next one is to be run
   abbrev pub IsToldUpTo : List Command → ℕ → List Account → O → O → Type 0

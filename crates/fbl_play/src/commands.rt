@@ -61,7 +61,7 @@ fn run_states<B: Behaviour>(alloc: Global, group: &Group<B>) -> Result<String, A
 {
     let mut states = Vec::new(alloc);
     for number in 0..group.config().members() {
-        let member = Member::new(number).unwrap();
+        let member = Member::at(number);
         states.push(shown_state(group, member))?;
     }
     states_text(alloc, states.as_slice())
@@ -92,7 +92,7 @@ fn statuses<B: Behaviour>(
 {
     let mut statuses = Vec::new(alloc);
     for number in 0..group.config().members() {
-        let member = Member::new(number).unwrap();
+        let member = Member::at(number);
         statuses.push(shown_status(group, member))?;
     }
     Ok(statuses)

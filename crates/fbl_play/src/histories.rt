@@ -1,6 +1,7 @@
 //! The history of a script's run.
 
-ghost use Rattle.std.specs.Prelude.{◌≡◌, ◌≤◌, IfOk};
+ghost use Rattle.std.specs.Prelude.{◌≡◌, IfOk};
+ghost use Rattle.fbl_base.specs.Configs.{WorkersAllowed};
 ghost use Rattle.fbl_base.specs.MemberSets.{AllBelow};
 ghost use Rattle.fbl_play.specs.Histories.{HistoryStep, HistoryTells, HistoryTellsOn, HistoryTellsScript, IsHistoryOfBytes};
 ghost use Rattle.fbl_play.specs.Runs.{next_of};
@@ -64,8 +65,7 @@ fn history_with<B: Behaviour + Send + Sync, T: Threads + Wait + Sync, O: Observe
     commands: &[Command],
     observer: &mut O,
 ) -> Result<History, RunFault>
-    requires some { 1 ≤ workers }
-    requires few { workers ≤ 8 }
+    requires { WorkersAllowed workers }
     ensures { HistoryTellsOn O.hears_before O.hears_after B.next workers config commands.now observer.old observer.new result }
 {
     let mut group: Group<B> = Group::new(alloc, config)?;
@@ -96,8 +96,7 @@ fn history_under<T: Threads + Wait + Sync, O: Observer>(
     commands: &[Command],
     observer: &mut O,
 ) -> Result<History, RunFault>
-    requires some { 1 ≤ workers }
-    requires few { workers ≤ 8 }
+    requires { WorkersAllowed workers }
     ensures { HistoryTellsOn O.hears_before O.hears_after (next_of behaviour) workers config commands.now observer.old observer.new result }
 {
     match behaviour {
@@ -118,8 +117,7 @@ fn history_of_script<T: Threads + Wait + Sync, O: Observer>(
     script: Script,
     observer: &mut O,
 ) -> Result<RunHistory, RunFault>
-    requires some { 1 ≤ workers }
-    requires few { workers ≤ 8 }
+    requires { WorkersAllowed workers }
     ensures { HistoryTellsScript O.hears_before O.hears_after workers (outline script) observer.old observer.new result }
 {
     let Script {
@@ -156,8 +154,7 @@ pub fn history_observed<T: Threads + Wait + Sync, O: Observer>(
     workers: u8,
     observer: &mut O,
 ) -> Result<RunHistory, RunFault>
-    requires some { 1 ≤ workers }
-    requires few { workers ≤ 8 }
+    requires { WorkersAllowed workers }
     ensures { HistoryTells O.hears_before O.hears_after workers input.now observer.old observer.new result }
 {
     match script_of_bytes(alloc, input) {
@@ -173,8 +170,7 @@ pub fn history_of_bytes<T: Threads + Wait + Sync>(
     input: &[u8],
     workers: u8,
 ) -> Result<RunHistory, RunFault>
-    requires some { 1 ≤ workers }
-    requires few { workers ≤ 8 }
+    requires { WorkersAllowed workers }
     ensures { IsHistoryOfBytes workers input.now result }
 {
     history_observed(rt, alloc, input, workers, &mut NoObserver)

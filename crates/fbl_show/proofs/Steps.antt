@@ -1,6 +1,6 @@
 -- One column more: of members' lines, and of messages that were sent or received.
 use Rattle.std.proofs.Common.{ℕ, suc, ◌+◌, ◌<◌, ◌≡◌, ◌||◌, not, Bool, true, false, cond, List, [], ◌∷◌, ◌++◌, length, take, drop, get_or, Option, Some, None}
-use Rattle.std.proofs.Common.{refl, sym, ap, ◌∙◌, arith}
+use Rattle.std.proofs.Common.{sym, ap, ◌∙◌, arith}
 use Rattle.std.specs.Bool.{beq}
 use Rattle.std.specs.Cmp.{booleans_Decides}
 use Rattle.std.specs.List.{fold}
@@ -14,7 +14,7 @@ use Rattle.fbl_history.specs.declared.column.Column.{Column}
 use Rattle.fbl_shapes.specs.declared.shape.Shape.{Shape}
 use Rattle.fbl_shapes.specs.declared.shape.Shape.TheVariants.{Line}
 use Rattle.fbl_base.specs.declared.trace.MessageName.{MessageName}
-use Rattle.fbl_show.specs.Members.{differs, is_down, is_down_after, line_kind, line_part, line_to, turns}
+use Rattle.fbl_show.specs.Members.{differs, is_down, is_down_after, line_kind, line_part, turns}
 use Rattle.fbl_show.specs.Messages.{has_standing_receipt, taken_by_column}
 use Rattle.fbl_show.specs.Places.{drawn, last_before}
 
@@ -30,6 +30,10 @@ module _ (columns : List Column) (i : ℕ) (c : Column) (within : i < length col
   -- what is drawn from it on
   pub drawn_more : (draw : ℕ → Column → List Shape) → drawn draw i (drop i columns) ≡ draw i c ++ drawn draw (i + 1) (drop (i + 1) columns)
   drawn_more draw = at_drop_more (drawn draw i) columns i c within ∙ ap (λ x. draw i x ++ drawn draw (i + 1) (drop (i + 1) columns)) (sym is)
+
+  pub drawn_on : (draw : ℕ → Column → List Shape) (front base : List Shape) → front ++ drawn draw i (drop i columns) ≡ base
+      → (front ++ draw i c) ++ drawn draw (i + 1) (drop (i + 1) columns) ≡ base
+  drawn_on draw front base drew = append_assoc front (draw i c) _ ∙ ap (λ s. front ++ s) (sym (drawn_more draw)) ∙ drew
 
   -- whether a message is received behind it
   pub received_more : (m : MessageName) → has_standing_receipt (take (i + 1) columns) m ≡ (has_standing_receipt (take i columns) m || is_message m (taken_by_column c))
@@ -60,43 +64,21 @@ module _ (columns : List Column) (i : ℕ) (c : Column) (within : i < length col
     pub turns_is : turns columns m i ≡ differs down after
     turns_is = sym (λ j. differs (was j) (down_more j))
 
-    -- what is drawn of the member's line from the column on, where the line turns there
-    pub turned : (shapes base : List Shape) (start : Option ℕ) → start ≡ last_before (turns columns m) i
-        → shapes ++ drawn (line_part columns m) i (drop i columns) ≡ base → differs down after ≡ true
-        → (shapes ++ Line m start i (line_kind down) ∷ []) ++ drawn (line_part columns m) (i + 1) (drop (i + 1) columns) ≡ base
-    turned shapes base start starts drew turn =
-        let rest = drawn (line_part columns m) (i + 1) (drop (i + 1) columns) in
-        let part : Line m start i (line_kind down) ∷ [] ≡ line_part columns m i c =
-        (λ j. Line m (starts j) i (line_kind (was j)) ∷ []) ∙ ap (λ b. cond b (line_to columns m i ∷ []) []) (sym (turns_is ∙ turn)) in
-        append_assoc shapes (Line m start i (line_kind down) ∷ []) rest ∙ ap (λ p. shapes ++ (p ++ rest)) part ∙ ap (λ s. shapes ++ s) (sym (drawn_more (line_part columns m))) ∙ drew
-
-    -- and where it doesn't
-    pub straight : (shapes base : List Shape) → shapes ++ drawn (line_part columns m) i (drop i columns) ≡ base → differs down after ≡ false
-        → shapes ++ drawn (line_part columns m) (i + 1) (drop (i + 1) columns) ≡ base
-    straight shapes base drew turn =
-        let rest = drawn (line_part columns m) (i + 1) (drop (i + 1) columns) in
-        let part : [] ≡ line_part columns m i c = ap (λ b. cond b (line_to columns m i ∷ []) []) (sym (turns_is ∙ turn)) in
-        ap (λ p. shapes ++ (p ++ rest)) part ∙ ap (λ s. shapes ++ s) (sym (drawn_more (line_part columns m))) ∙ drew
+    -- what is drawn of the member's line from the column on
+    pub line_on : (front base : List Shape) (start : Option ℕ) → start ≡ last_before (turns columns m) i → front ++ drawn (line_part columns m) i (drop i columns) ≡ base
+        → (front ++ cond (differs down after) (Line m start i (line_kind down) ∷ []) []) ++ drawn (line_part columns m) (i + 1) (drop (i + 1) columns) ≡ base
+    line_on front base start starts drew =
+        let part : cond (differs down after) (Line m start i (line_kind down) ∷ []) [] ≡ line_part columns m i c =
+        λ j. cond (sym turns_is j) (Line m (starts j) i (line_kind (was j)) ∷ []) [] in
+        ap (λ p. (front ++ p) ++ drawn (line_part columns m) (i + 1) (drop (i + 1) columns)) part ∙ drawn_on (line_part columns m) front base drew
 
     -- where the member last turned, behind the column
-    pub start_turned : differs down after ≡ true → Some i ≡ last_before (turns columns m) (i + 1)
-    start_turned turn = sym (last_more (turns columns m) i ∙ ap (λ b. cond b (Some i) (last_before (turns columns m) i)) (turns_is ∙ turn))
-
-    pub start_straight : (start : Option ℕ) → start ≡ last_before (turns columns m) i → differs down after ≡ false → start ≡ last_before (turns columns m) (i + 1)
-    start_straight start starts turn = starts ∙ sym (last_more (turns columns m) i ∙ ap (λ b. cond b (Some i) (last_before (turns columns m) i)) (turns_is ∙ turn))
+    pub start_on : last_before (turns columns m) (i + 1) ≡ cond (differs down after) (Some i) (last_before (turns columns m) i)
+    start_on = last_more (turns columns m) i ∙ ap (λ b. cond b (Some i) (last_before (turns columns m) i)) turns_is
 
 -- two that are not the same, and two that are
-pub differ : (a b : Bool) → not (beq a b) ≡ true → differs b a ≡ true
-differ true true test = cc
-differ true false test = refl
-differ false true test = refl
-differ false false test = cc
+pub differs_is : (a b : Bool) → differs b a ≡ not (beq a b)
+differs_is a b = grind arith
 
 pub agree : (a b : Bool) → not (beq a b) ≡ false → a ≡ b
 agree a b test = (booleans_Decides a b).0 (not-false (beq a b) test)
-
-pub straight_on : (a b : Bool) → a ≡ b → differs b a ≡ false
-straight_on true true e = refl
-straight_on true false e = cc
-straight_on false true e = cc
-straight_on false false e = refl

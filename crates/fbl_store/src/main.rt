@@ -39,7 +39,7 @@ fn look_up(group: &Group<Shard>, key: u8) -> u8
 {
     group.kept();
     group.none_made();
-    let owner = Member::new(key % group.config().members()).unwrap();
+    let owner = Member::at(key % group.config().members());
     group.state(owner).to_le_bytes()[usize::from(key)]
 }
 
@@ -59,9 +59,9 @@ fn report<R: Print>(rt: &R, when: &str, group: &Group<Shard>) -> Result<()>
 
 /// Runs the store until no command is in flight.
 fn run<R: Print + Threads + Wait + Sync>(rt: &R, alloc: Global) -> Result<()> {
-    let a = Member::new(0).unwrap();
-    let b = Member::new(1).unwrap();
-    let c = Member::new(2).unwrap();
+    let a = Member::at(0);
+    let b = Member::at(1);
+    let c = Member::at(2);
     let starts = [
         asking(a, b, 3, Change::Put(40)),
         asking(a, b, 3, Change::Add(2)),

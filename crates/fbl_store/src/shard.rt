@@ -24,7 +24,7 @@ impl Behaviour for Shard {
         requires member { me < n }
         ensures step { result ≡ shard_step me n state note }
     {
-        let next = Member::new((me.number() + 1) % n).unwrap();
+        let next = me.after(1, n);
         match Command::read(note.value) {
             Some(command) if command.key % n == me.number() => silent(command.apply(state)),
             Some(_) => Outcome::with_onward(state, next, note.value, note.hops),

@@ -1,12 +1,11 @@
 -- A table's entries added in turn to none give the table.
-use Rattle.std.proofs.Common.{◌≡◌, false, ◌||◌, List, [], ◌∷◌, ◌++◌, map, refl, sym, ap, ◌∙◌}
-use Rattle.std.proofs.lemmas.List.{append-nil, append_assoc}
+use Rattle.fbl_table.proofs.Common.{arith, ◌≡◌, false, List, [], ◌∷◌, ◌++◌, map, refl, sym, ap, ◌∙◌, append-nil, fold, AllByRecursion, same_determinant, Entry, is_held}
+use Rattle.fbl_table.proofs.Common.{gathered}
+use Rattle.std.proofs.lemmas.List.{append_assoc}
 use Rattle.std.proofs.lemmas.List.Folds.{list_any-append}
-use Rattle.std.specs.List.{fold, AllByRecursion, IsDistinct}
-use Rattle.fbl_base.specs.Events.{same_determinant}
-use Rattle.fbl_table.specs.declared.entry.Entry.{Entry}
-use Rattle.fbl_table.specs.Tables.{is_held, added, gathered}
-use Rattle.fbl_table.proofs.Adding.{added-new, apart-turned}
+use Rattle.std.specs.List.{IsDistinct}
+use Rattle.fbl_table.specs.Tables.{added}
+use Rattle.fbl_table.proofs.Adding.{added_new, apart-turned}
 
 -- none of the rest is held by the first entries
 abbrev Apart : List Entry → List Entry → Type 0
@@ -17,20 +16,19 @@ apart-more : (first rest : List Entry) (e : Entry) → Apart first rest
 apart-more first [] e apart once = tt
 apart-more first (x ∷ rest) e apart once =
     let one : is_held (first ++ e ∷ []) x.det ≡ false =
-    list_any-append (λ (y : Entry). same_determinant x.det y.det) first (e ∷ []) ∙ ap (λ b. b || (same_determinant x.det e.det || false)) apart.0
-    ∙ ap (λ b. b || false) (apart-turned e.det x.det once.0) in
+    grind (arith, list_any-append (λ (y : Entry). same_determinant x.det y.det) first (e ∷ []), apart.0, apart-turned e.det x.det once.0) in
     (one, apart-more first rest e apart.1 once.1)
 
 added-apart : (first rest : List Entry) → Apart first rest → IsDistinct same_determinant (map (λ (e : Entry). e.det) rest) → fold added first rest ≡ first ++ rest
 unfolding IsDistinct
 added-apart first [] apart once = sym (append-nil first)
 added-apart first (e ∷ rest) apart once =
-    ap (λ (t : List Entry). fold added t rest) (added-new first e apart.0) ∙ added-apart (first ++ e ∷ []) rest (apart-more first rest e apart.1 once.0) once.1
+    ap (λ (t : List Entry). fold added t rest) (added_new first e apart.0) ∙ added-apart (first ++ e ∷ []) rest (apart-more first rest e apart.1 once.0) once.1
     ∙ append_assoc first (e ∷ []) rest
 
 none-held : (rest : List Entry) → Apart [] rest
 none-held [] = tt
 none-held (e ∷ rest) = (refl, none-held rest)
 
-pub gathered-first : (table : List Entry) → IsDistinct same_determinant (map (λ (e : Entry). e.det) table) → gathered [] table ≡ table
-gathered-first table once = added-apart [] table (none-held table) once
+pub gathered_first : (table : List Entry) → IsDistinct same_determinant (map (λ (e : Entry). e.det) table) → gathered [] table ≡ table
+gathered_first table once = added-apart [] table (none-held table) once

@@ -1,43 +1,34 @@
 -- How many entries are passed on, and that they are put into a list in turn.
-use Rattle.std.proofs.Common.{◌≡◌, ℕ, ◌+◌, ◌≤◌, Bool, true, false, cond, List, [], ◌∷◌, ◌++◌, map, count_by, if◌then◌else◌, Some, refl, sym, ap}
-use Rattle.std.proofs.Common.{◌∙◌, arith, take, drop, length, slice_get, append_assoc}
-use Rattle.std.proofs.lemmas.List.{length-map, length-append, take-append-drop}
-use Rattle.std.proofs.lemmas.List.Elements.{filter-append}
-use Rattle.std.specs.List.{filter, filter_map, cons_option}
-use Rattle.std.proofs.lemmas.List.Sums.{length-filter, sum_by-cons}
+use Rattle.fbl_table.proofs.Common.{◌≡◌, ℕ, ◌+◌, ◌≤◌, Bool, cond, List, [], ◌∷◌, ◌++◌, map, count_by, Some, refl, sym, ap, ◌∙◌, arith, take, drop, length}
+use Rattle.fbl_table.proofs.Common.{slice_get, length-map, take-append-drop, filter-append, filter, filter_map, sum_by-cons, Determinant, length-left, Entry, is_open, piggybacked, gathered}
+use Rattle.fbl_table.proofs.Common.{learned, held_by, open_at, IsIndex}
+use Rattle.std.proofs.Common.{append_assoc}
+use Rattle.std.proofs.lemmas.List.{length-append}
+use Rattle.std.specs.List.{cons_option}
+use Rattle.std.proofs.lemmas.List.Sums.{length-filter}
 use Rattle.std.specs.FinSet as set
-use Rattle.fbl_base.specs.declared.trace.Determinant.{Determinant}
-use Rattle.fbl_base.specs.Events.{same_determinant}
-use Rattle.fbl_base.proofs.Sifted.{length-left, length-filter_map}
-use Rattle.fbl_table.specs.declared.entry.Entry.{Entry}
-use Rattle.fbl_table.specs.Tables.{is_open, piggybacked, added, gathered, learned, noted, held_by}
-use Rattle.fbl_table.specs.Index.{open_at, IsIndex}
-use Rattle.fbl_table.proofs.Adding.{at_most_one, take-next}
+use Rattle.fbl_base.proofs.Sifted.{length-filter_map}
+use Rattle.fbl_table.specs.Tables.{added, noted}
+use Rattle.fbl_table.proofs.Adding.{take-next}
 use Rattle.fbl_table.proofs.Indexing.{index-piggybacked}
 
 -- an entry more makes at most one more to pass on
 open-added : (f : ℕ) (table : List Entry) (entry : Entry) → count_by (is_open f) (added table entry) ≤ count_by (is_open f) table + 1
 unfolding added
-open-added f [] entry = omega (arith, at_most_one (is_open f entry))
-open-added f (e ∷ table) entry = at (open-added f table entry) (same_determinant entry.det e.det) where
-  count : (x : Entry) (xs : List Entry) → count_by (is_open f) (x ∷ xs) ≡ cond (is_open f x) 1 0 + count_by (is_open f) xs
-  count = sum_by-cons (λ x. cond (is_open f x) 1 0)
-
-  united : Entry
-  united = record { det = e.det; known = set.union e.known entry.known }
-
-  at : count_by (is_open f) (added table entry) ≤ count_by (is_open f) table + 1
-      → (b : Bool) → count_by (is_open f) (if b then united ∷ table else e ∷ added table entry) ≤ count_by (is_open f) (e ∷ table) + 1
-  at more true = omega (arith, count united table, count e table, at_most_one (is_open f united))
-  at more false = omega (arith, count e (added table entry), count e table, more)
+open-added f [] entry = grind arith
+open-added f (e ∷ table) entry =
+    let rest = open-added f table entry in
+    let united : Entry = record { det = e.det; known = set.union e.known entry.known } in
+    let count = λ (x : Entry) (xs : List Entry). sum_by-cons (λ y. cond (is_open f y) 1 0) x xs in
+    grind (arith, rest, count united table, count e table, count e (added table entry))
 
 open-gathered : (f : ℕ) (table other : List Entry) → count_by (is_open f) (gathered table other) ≤ count_by (is_open f) table + length other
 open-gathered f table [] = omega arith
 open-gathered f table (e ∷ other) = omega (arith, open-added f table e, open-gathered f (added table e) other)
 
 -- what is learned and the member's own make no more than as many more to pass on
-pub open-receipt : (f me : ℕ) (table carried : List Entry) (d : Determinant) → length (piggybacked f (noted me (learned me table carried) d)) ≤ length (piggybacked f table) + length carried + 1
-open-receipt f me table carried d =
+pub open_receipt : (f me : ℕ) (table carried : List Entry) (d : Determinant) → length (piggybacked f (noted me (learned me table carried) d)) ≤ length (piggybacked f table) + length carried + 1
+open_receipt f me table carried d =
     let learns = learned me table carried in
     let own : List Entry = record { det = d; known = set.insert set.empty me } ∷ [] in
     let split = ap length (filter-append (is_open f) learns own) ∙ length-append (piggybacked f learns) (piggybacked f own) in
@@ -45,10 +36,10 @@ open-receipt f me table carried d =
     omega (arith, split, length-left (is_open f) own, more, length-filter (is_open f) learns, length-filter (is_open f) table, length-map carried (held_by me))
 
 -- no more are passed on than there are open places
-pub open-within : (limit : ℕ) (table : List Entry) (ps : List ℕ) → IsIndex limit table ps → length (piggybacked limit table) ≤ length ps
-open-within limit table ps index =
+pub open-within : (limit : ℕ) (table : List Entry) (ps : List ℕ) (stale : Bool) → IsIndex limit table ps stale → length (piggybacked limit table) ≤ length ps
+open-within limit table ps stale index =
     let picked = filter (open_at limit table) ps in
-    omega (arith, sym (ap length (index-piggybacked limit table ps index)), length-filter_map (slice_get table) picked, length-left (open_at limit table) ps)
+    omega (arith, sym (ap length (index-piggybacked limit table ps stale index)), length-filter_map (slice_get table) picked, length-left (open_at limit table) ps)
 
 -- what is made of a list is made of its parts in turn
 abbrev IsByParts : {X Y : Type 0} → (List X → List Y) → Type 0

@@ -78,6 +78,7 @@ impl<A: Allocator + Copy> IndexedEntries<A> {
     }
 
     /// How many entries there are.
+    #[tactic(auto, using(crate::proofs::Adding::keys_view))]
     pub(crate) fn len(&self) -> usize
         ensures len { result ≡ length (listed self.now) }
         ensures unique { IsDistinct same_determinant (map (λ e. e.det) (listed self.now)) }
@@ -102,6 +103,7 @@ impl<A: Allocator + Copy> IndexedEntries<A> {
     }
 
     /// Whether there is an entry of the determinant.
+    #[tactic(auto, using(crate::proofs::Adding::held_at))]
     pub(crate) fn holds(&self, det: &Determinant) -> bool
         ensures { result ≡ is_held (listed self.now) det.now }
     {
@@ -135,6 +137,7 @@ impl<A: Allocator + Copy> IndexedEntries<A> {
 
     /// The place of the determinant's entry, if there is one.
     #[inline(never)]
+    #[tactic(auto, using(crate::proofs::Adding::has_found))]
     fn place_by_hash(&self, det: &Determinant) -> Option<usize>
         ensures has { IfSome result (λ place. has_at (listed self.now) det.now place ≡ true) }
         ensures none { IfNone result (is_held (listed self.now) det.now ≡ false) }
@@ -176,6 +179,7 @@ impl<A: Allocator + Copy> IndexedEntries<A> {
     }
 
     /// Adds the member's own new determinant.
+    #[tactic(auto, using(crate::proofs::Adding::added_new))]
     pub(crate) fn note_own(&mut self, me: Member, det: Determinant)
         requires new { is_held (listed self.old) det ≡ false }
         requires room { 0 < room self.old }
@@ -189,6 +193,7 @@ impl<A: Allocator + Copy> IndexedEntries<A> {
     }
 
     /// Takes in another table's entries. After `Err` there are the same entries.
+    #[tactic(auto, using(crate::proofs::Adding::fold_next, crate::proofs::Keeping::keeps_more))]
     pub(crate) fn gather(&mut self, other: &IndexedEntries<A>) -> Result<(), AllocError>
         ensures gathered { OnOk result (listed self.new ≡ gathered (listed self.old) (listed other.now)) }
         ensures unchanged { OnErr result (listed self.new ≡ listed self.old) }
@@ -238,6 +243,7 @@ impl<A: Allocator + Copy> IndexedEntries<A> {
     }
 
     /// Unites what is known of the determinants at the first places with what another knows, which has the same ones there.
+    #[tactic(auto, using(crate::proofs::Adding::fold_next, crate::proofs::Keeping::keeps_more))]
     fn unite_shared(&mut self, other: &IndexedEntries<A>, shared: usize)
         requires len { shared ≤ length (listed other.now) }
         requires same { HasInPlace shared (listed self.old) (listed other.now) }
@@ -252,6 +258,7 @@ impl<A: Allocator + Copy> IndexedEntries<A> {
 
     /// Adds what is known of the determinant, with room for one entry more.
     #[inline(always)]
+    #[tactic(auto, using(crate::proofs::Adding::held_at, crate::proofs::Adding::length_added_held))]
     fn add(&mut self, det: &Determinant, known: MemberSet)
         requires { 0 < room self.old }
         ensures entries { listed self.new ≡ added (listed self.old) (record { det = det.now; known = known }) }
@@ -279,6 +286,7 @@ impl<A: Allocator + Copy> IndexedEntries<A> {
     /// Unites what is known of the determinant, which has an entry at the place, with this. It is written only where more is
     /// known.
     #[inline(always)]
+    #[tactic(auto, using(crate::proofs::Adding::added_at, crate::proofs::Adding::has_set, crate::proofs::Adding::within_at))]
     fn unite(&mut self, det: &Determinant, known: MemberSet, place: usize)
         requires { has_at (listed self.old) det.now place ≡ true }
         ensures entries { listed self.new ≡ added (listed self.old) (record { det = det.now; known = known }) }

@@ -100,6 +100,7 @@ impl<A: Allocator + Copy> Table<A> {
     }
 
     /// The determinant of the member's receipt with this number, the first if there are several.
+    #[tactic(auto, using(crate::proofs::Adding::find_here))]
     pub fn find(&self, to: Member, rsn: u32) -> Option<Determinant>
         ensures { result ≡ found to rsn self.now }
     {
@@ -137,6 +138,7 @@ impl<A: Allocator + Copy> Table<A> {
 
     /// Takes in what a message carried to the member, and then the determinant of the message's receipt, as `learn` and
     /// `note_own` do in turn. Neither the table nor what was carried has that determinant yet. After `Err` neither is done.
+    #[tactic(auto, using(crate::proofs::Adding::not_held_learned))]
     pub fn learn_and_note(
         &mut self,
         me: Member,
@@ -174,6 +176,7 @@ impl<A: Allocator + Copy> Table<A> {
     }
 
     /// How many entries at most are passed on once the member has taken in these and its own: room enough for them.
+    #[tactic(auto, using(crate::proofs::Passing::open_receipt))]
     pub fn room_to_piggyback(&self, f: u8, carried: &[Entry]) -> usize
         ensures enough { (me : ℕ) (det : Determinant) → length (piggybacked f (noted me (learned me self.now carried.now) det)) ≤ result }
         ensures few { result ≤ length self.now + length carried.now + 1 }
@@ -194,6 +197,7 @@ impl<A: Allocator + Copy> Table<A> {
     }
 
     /// Takes in the entries of another table where there are none yet: it becomes a copy, so that no entry is hashed.
+    #[tactic(auto, using(crate::proofs::Distinct::gathered_first))]
     fn gather_first(&mut self, other: &Table<A>) -> Result<(), AllocError>
         requires { self.old ≡ [] }
         ensures gathered { OnOk result (self.new ≡ gathered self.old other.now) }

@@ -3,14 +3,4 @@
 #![tactic(auto)]
 
 #[cfg(test)]
-mod dumps;
-#[cfg(test)]
-mod explanations;
-#[cfg(test)]
-mod pictures;
-#[cfg(test)]
-mod printing;
-#[cfg(test)]
-mod scripts;
-#[cfg(test)]
-mod versions;
+mod tests;

@@ -2,18 +2,4 @@
 #![tactic(auto)]
 
 #[cfg(test)]
-mod claiming;
-#[cfg(test)]
-mod fixtures;
-#[cfg(test)]
-mod gates;
-#[cfg(test)]
-mod memory;
-#[cfg(test)]
-mod patience;
-#[cfg(test)]
-mod refusals;
-#[cfg(test)]
-mod schedules;
-#[cfg(test)]
-mod sharing;
+mod tests;

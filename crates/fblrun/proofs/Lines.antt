@@ -19,7 +19,7 @@ use Rattle.clap.proofs.OnLiterals.{clap_on_literals}
 use Rattle.fbl_base.specs.Configs.{WorkersAllowed}
 use Rattle.fblrun.specs.declared.Order.{Order}
 use Rattle.fblrun.specs.CommandLines.{IsCommandLine, is_audit, is_check, is_draw, is_play, is_show, is_show_workers, is_workers, IsOrderAt, IsOrderOf, audit_line, check_line, draw_line}
-use Rattle.fblrun.specs.CommandLines.{flag_text, play_line, program, show_line, with_explain, with_strict}
+use Rattle.fblrun.specs.CommandLines.{flag_text, order_for, play_line, program, show_line, with_explain, with_strict}
 
 -- the subcommand that the words behind the program's name give, with what was found of it
 abbrev named : List Text → Option (Text × List Row)
@@ -47,30 +47,9 @@ abbrev Gives : List Text → Text → Option Text → Option Text → Bool → T
 Gives line name workers strict e =
     (asked (named (with_explain e line)) ≡ Some (name, workers, strict, Some (flag_text e))) × IsTaken (with_explain e line)
 
-audit_gives : (e : Bool) → Gives audit_line (codes "audit") None None e
-unfolding clap_on_literals
-audit_gives = elim [ true ↦ (refl, refl) | false ↦ (refl, refl) ]
-
-check_gives : (e : Bool) → Gives check_line (codes "check") None None e
-unfolding clap_on_literals
-check_gives = elim [ true ↦ (refl, refl) | false ↦ (refl, refl) ]
-
-draw_gives : (e : Bool) → Gives draw_line (codes "draw") None None e
-unfolding clap_on_literals
-draw_gives = elim [ true ↦ (refl, refl) | false ↦ (refl, refl) ]
-
 -- the same of a line of a play, with or without `--strict`
 abbrev PlayGives : List Text → Text → Bool → Bool → Type 0
 PlayGives line workers s e = Gives (with_strict s line) (codes "play") (Some workers) (Some (flag_text s)) e
-
-play_gives : (s e : Bool) → PlayGives play_line (codes "2") s e
-unfolding clap_on_literals
-play_gives true = elim [ true ↦ (refl, refl) | false ↦ (refl, refl) ]
-play_gives false = elim [ true ↦ (refl, refl) | false ↦ (refl, refl) ]
-
-show_gives : (e : Bool) → Gives show_line (codes "show") (Some (codes "2")) None e
-unfolding clap_on_literals
-show_gives = elim [ true ↦ (refl, refl) | false ↦ (refl, refl) ]
 
 -- a fact of each number of workers
 by_count : (P : ℕ → Type 0) → P 1 → P 2 → P 3 → P 4 → P 5 → P 6 → P 7 → P 8 → (n : ℕ) → WorkersAllowed n → P n
@@ -88,43 +67,49 @@ by_count P a b c d e f g h (suc (suc (suc (suc (suc (suc (suc (suc (suc n)))))))
 abbrev with_word : Text → List Text → List Text
 with_word word line = line ++ codes "--workers" ∷ word ∷ []
 
-abbrev WordGives : Bool → Bool → Text → Type 0
-WordGives s e word = PlayGives (with_word word play_line) word s e
+-- the words of a play with or without `--strict`, or of a picture, with a number of workers
+abbrev WordGives : Option Bool → Bool → Text → Type 0
+WordGives (Some s) e word = PlayGives (with_word word play_line) word s e
+WordGives None e word = Gives (with_word word show_line) (codes "show") (Some word) None e
 
-abbrev ShowGives : Bool → Text → Type 0
-ShowGives e word = Gives (with_word word show_line) (codes "show") (Some word) None e
-
-digit_gives : (s e : Bool) (n : ℕ) → WorkersAllowed n → WordGives s e ((48 + n) ∷ [])
+digit_gives : (o : Option Bool) (e : Bool) (n : ℕ) → WorkersAllowed n → WordGives o e ((48 + n) ∷ [])
 unfolding clap_on_literals
-digit_gives true true = by_count (λ n. WordGives true true ((48 + n) ∷ [])) (refl, refl) (refl, refl) (refl, refl) (refl, refl) (refl, refl) (refl, refl) (refl, refl) (refl, refl)
-digit_gives true false = by_count (λ n. WordGives true false ((48 + n) ∷ [])) (refl, refl) (refl, refl) (refl, refl) (refl, refl) (refl, refl) (refl, refl) (refl, refl) (refl, refl)
-digit_gives false true = by_count (λ n. WordGives false true ((48 + n) ∷ [])) (refl, refl) (refl, refl) (refl, refl) (refl, refl) (refl, refl) (refl, refl) (refl, refl) (refl, refl)
-digit_gives false false = by_count (λ n. WordGives false false ((48 + n) ∷ [])) (refl, refl) (refl, refl) (refl, refl) (refl, refl) (refl, refl) (refl, refl) (refl, refl) (refl, refl)
+digit_gives (Some true) true = by_count (λ n. WordGives (Some true) true ((48 + n) ∷ [])) (refl, refl) (refl, refl) (refl, refl) (refl, refl) (refl, refl) (refl, refl) (refl, refl) (refl, refl)
+digit_gives (Some true) false = by_count (λ n. WordGives (Some true) false ((48 + n) ∷ [])) (refl, refl) (refl, refl) (refl, refl) (refl, refl) (refl, refl) (refl, refl) (refl, refl) (refl, refl)
+digit_gives (Some false) true = by_count (λ n. WordGives (Some false) true ((48 + n) ∷ [])) (refl, refl) (refl, refl) (refl, refl) (refl, refl) (refl, refl) (refl, refl) (refl, refl) (refl, refl)
+digit_gives (Some false) false = by_count (λ n. WordGives (Some false) false ((48 + n) ∷ [])) (refl, refl) (refl, refl) (refl, refl) (refl, refl) (refl, refl) (refl, refl) (refl, refl) (refl, refl)
+digit_gives None true = by_count (λ n. WordGives None true ((48 + n) ∷ [])) (refl, refl) (refl, refl) (refl, refl) (refl, refl) (refl, refl) (refl, refl) (refl, refl) (refl, refl)
+digit_gives None false = by_count (λ n. WordGives None false ((48 + n) ∷ [])) (refl, refl) (refl, refl) (refl, refl) (refl, refl) (refl, refl) (refl, refl) (refl, refl) (refl, refl)
 
-workers_gives : (s e : Bool) (n : ℕ) → WorkersAllowed n → WordGives s e (decimal n)
-workers_gives s e n is = subst (WordGives s e) (sym (decimal_digit n (omega (arith, is.1)))) (digit_gives s e n is)
+workers_gives : (o : Option Bool) (e : Bool) (n : ℕ) → WorkersAllowed n → WordGives o e (decimal n)
+workers_gives o e n is = subst (WordGives o e) (sym (decimal_digit n (omega (arith, is.1)))) (digit_gives o e n is)
 
-digit_shows : (e : Bool) (n : ℕ) → WorkersAllowed n → ShowGives e ((48 + n) ∷ [])
+-- what a command line asks for
+abbrev asked_for : {words : List Text} → IsCommandLine words → Asked
+asked_for (is_audit line) = (codes "audit", None, None, Some (flag_text line.0))
+asked_for (is_check line) = (codes "check", None, None, Some (flag_text line.0))
+asked_for (is_draw line) = (codes "draw", None, None, Some (flag_text line.0))
+asked_for (is_play s line) = (codes "play", Some (codes "2"), Some (flag_text s), Some (flag_text line.0))
+asked_for (is_workers s n count line) = (codes "play", Some (decimal n), Some (flag_text s), Some (flag_text line.0))
+asked_for (is_show line) = (codes "show", Some (codes "2"), None, Some (flag_text line.0))
+asked_for (is_show_workers n count line) = (codes "show", Some (decimal n), None, Some (flag_text line.0))
+
+-- its words are taken, and ask for this
+line_gives : (words : List Text) (line : IsCommandLine words) → (asked (named (drop 1 words)) ≡ Some (asked_for line)) × IsTaken (drop 1 words)
 unfolding clap_on_literals
-digit_shows true = by_count (λ n. ShowGives true ((48 + n) ∷ [])) (refl, refl) (refl, refl) (refl, refl) (refl, refl) (refl, refl) (refl, refl) (refl, refl) (refl, refl)
-digit_shows false = by_count (λ n. ShowGives false ((48 + n) ∷ [])) (refl, refl) (refl, refl) (refl, refl) (refl, refl) (refl, refl) (refl, refl) (refl, refl) (refl, refl)
-
-show_workers_gives : (e : Bool) (n : ℕ) → WorkersAllowed n → ShowGives e (decimal n)
-show_workers_gives e n is = subst (ShowGives e) (sym (decimal_digit n (omega (arith, is.1)))) (digit_shows e n is)
+line_gives words (is_audit line) = rw line.1 (elim line.0 as (Gives audit_line (codes "audit") None None) [ true ↦ (refl, refl) | false ↦ (refl, refl) ])
+line_gives words (is_check line) = rw line.1 (elim line.0 as (Gives check_line (codes "check") None None) [ true ↦ (refl, refl) | false ↦ (refl, refl) ])
+line_gives words (is_draw line) = rw line.1 (elim line.0 as (Gives draw_line (codes "draw") None None) [ true ↦ (refl, refl) | false ↦ (refl, refl) ])
+line_gives words (is_play true line) = rw line.1 (elim line.0 as (PlayGives play_line (codes "2") true) [ true ↦ (refl, refl) | false ↦ (refl, refl) ])
+line_gives words (is_play false line) = rw line.1 (elim line.0 as (PlayGives play_line (codes "2") false) [ true ↦ (refl, refl) | false ↦ (refl, refl) ])
+line_gives words (is_workers s n count line) = rw line.1 (workers_gives (Some s) line.0 n count)
+line_gives words (is_show line) = rw line.1 (elim line.0 as (Gives show_line (codes "show") (Some (codes "2")) None) [ true ↦ (refl, refl) | false ↦ (refl, refl) ])
+line_gives words (is_show_workers n count line) = rw line.1 (workers_gives None line.0 n count)
 
 -- ---- refusals
 
-line_taken : (words : List Text) → IsCommandLine words → IsTaken (drop 1 words)
-line_taken words (is_audit line) = rw line.1 (audit_gives line.0).1
-line_taken words (is_check line) = rw line.1 (check_gives line.0).1
-line_taken words (is_draw line) = rw line.1 (draw_gives line.0).1
-line_taken words (is_play s line) = rw line.1 (play_gives s line.0).1
-line_taken words (is_workers s n count line) = rw line.1 (workers_gives s line.0 n count).1
-line_taken words (is_show line) = rw line.1 (show_gives line.0).1
-line_taken words (is_show_workers n count line) = rw line.1 (show_workers_gives line.0 n count).1
-
 pub taken : (a : App) (words : List Text) → a ≡ program → IsCommandLine words → takes a words ≡ true
-taken a words is line = ap (λ p. takes p words) is ∙ (λ i. program_simple i && line_taken words line i)
+taken a words is line = ap (λ p. takes p words) is ∙ (λ i. program_simple i && (line_gives words line).1 i)
 
 pub refused : {T : Type 0} (words : List Text) (e : Error) (r : Result T Error) → IsErrAnd r (λ f. f ≡ e)
     → (IsCommandLine words → kind_of e ≡ OutOfMemory) → IfErr r (λ f. IsCommandLine words → kind_of f ≡ OutOfMemory)
@@ -133,8 +118,8 @@ refused words e (Err f) is h = λ line. ap kind_of is ∙ h line
 
 -- ---- orders
 
-of_some : {A : Type 0} (a b : A) → Some a ≡ Some b → a ≡ b
-of_some a b e = ap (λ o. unwrap_or o a) e
+two : decimal 2 ≡ codes "2"
+two = decimal_digit 2 (omega arith)
 
 -- the name of the subcommand, as the matches tell it
 name_is : {Z : Type 0} (o : Option (Box SubCommand Z)) → option_map (λ p. p.0) (subcommand_rows o) ≡ option_map (λ b. (out-SubCommand (box_value b)).name.now) o
@@ -154,65 +139,39 @@ record IsFound (name : Text) (rows : List Row) (x : Asked) : Type 0 where
 found_asked : (o : Option (Text × List Row)) (name : Text) (rows : List Row) (x : Asked) → option_map (λ p. p.0) o ≡ Some name → option_map (λ p. p.1) o ≡ Some rows → asked o ≡ Some x
     → IsFound name rows x
 found_asked None name rows x is found e = absurd (cc)
-found_asked (Some p) name rows x is found e =
-    let same = of_some _ _ e in
-    let same_rows = sym (of_some _ _ found) in
-    record {
-      named = sym (of_some _ _ is) ∙ ap (λ q. q.0) same;
-      workers = ap (one_of (codes "workers")) same_rows ∙ ap (λ q. q.1) same;
-      strict = ap (one_of (codes "strict")) same_rows ∙ ap (λ q. q.2) same;
-      explain = ap (one_of (codes "explain")) same_rows ∙ ap (λ q. q.3) same;
-    }
+found_asked (Some p) name rows x is found e = record { named = cc; workers = cc; strict = cc; explain = cc }
 
 -- nothing was asked for, where none was found
 none_asked : {A : Type 0} (o : Option (Text × List Row)) (x : Asked) → option_map (λ p. p.0) o ≡ None → asked o ≡ Some x → A
-none_asked None x is e = absurd (cc)
-none_asked (Some p) x is e = absurd (cc)
+none_asked o x is e = grind arith
+
+-- what was found is what a command line asks for, so that the order at it is the line's
+order_found : {words : List Text} (name : Text) (rows : List Row) (order : Order) → IsOrderAt name rows order
+    → (line : IsCommandLine words) → IsFound name rows (asked_for line) → order ≡ order_for line
+order_found name rows order at (is_audit line) f = at.audit line.0 f.named f.explain
+order_found name rows order at (is_check line) f = at.check line.0 f.named f.explain
+order_found name rows order at (is_draw line) f = at.draw line.0 f.named f.explain
+order_found name rows order at (is_play s line) f = at.play s line.0 2 (omega arith) f.named (f.workers ∙ ap Some (sym two)) f.strict f.explain
+order_found name rows order at (is_workers s n count line) f = at.play s line.0 n (omega (arith, count.1)) f.named f.workers f.strict f.explain
+order_found name rows order at (is_show line) f = at.show line.0 2 (omega arith) f.named (f.workers ∙ ap Some (sym two)) f.explain
+order_found name rows order at (is_show_workers n count line) f = at.show line.0 n (omega (arith, count.1)) f.named f.workers f.explain
 
 -- the matches are those of the program on the words
 module _ (a : App) (words : List Text) (m : ArgMatches) (is : a ≡ program) (matches : HasMatchesOf a words m) where
-  rows_are : subcommand_rows_of m ≡ named (drop 1 words)
-  rows_are = (subst (λ (p : App). HasMatchesOf p words m) is matches program_simple).1
-
-  asked_on : (line : List Text) → drop 1 words ≡ line → asked (subcommand_rows_of m) ≡ asked (named line)
-  asked_on line e = ap asked (rows_are ∙ ap named e)
+  line_asked : (line : IsCommandLine words) → asked (subcommand_rows_of m) ≡ Some (asked_for line)
+  line_asked line =
+      let rows : subcommand_rows_of m ≡ named (drop 1 words) = (subst (λ (p : App). HasMatchesOf p words m) is matches program_simple).1 in
+      ap asked rows ∙ (line_gives words line).0
 
   -- a subcommand was found, and the order is the one at its name and rows
   pub order_is : (name : Text) (rows : List Row) (order : Order) → Some name ≡ subcommand_name_of m
       → Some rows ≡ option_map (λ p. p.1) (subcommand_rows_of m) → IsOrderAt name rows order → IsOrderOf words order
-  order_is name rows order name_of rows_of at =
-      let found : (line : List Text) (x : Asked) → drop 1 words ≡ line → asked (named line) ≡ Some x → IsFound name rows x =
-      λ line x e gives. found_asked _ name rows x (matches_name m ∙ sym name_of) (sym rows_of) (asked_on line e ∙ gives) in
-      let two : decimal 2 ≡ codes "2" = decimal_digit 2 (omega arith) in
-      record {
-        audit = λ x e. (let f = found _ _ e (audit_gives x).0 in at.audit x f.named f.explain);
-        check = λ x e. (let f = found _ _ e (check_gives x).0 in at.check x f.named f.explain);
-        draw = λ x e. (let f = found _ _ e (draw_gives x).0 in at.draw x f.named f.explain);
-        play = λ s x e.
-            let f = found _ _ e (play_gives s x).0 in
-            at.play s x 2 (omega arith) f.named (f.workers ∙ ap Some (sym two)) f.strict f.explain;
-        workers = λ s x n count e.
-            let f = found _ _ e (workers_gives s x n count).0 in
-            at.play s x n (omega (arith, count.1)) f.named f.workers f.strict f.explain;
-        show = λ x e. (let f = found _ _ e (show_gives x).0 in at.show x 2 (omega arith) f.named (f.workers ∙ ap Some (sym two)) f.explain);
-        show_workers = λ x n count e.
-            let f = found _ _ e (show_workers_gives x n count).0 in
-            at.show x n (omega (arith, count.1)) f.named f.workers f.explain;
-      }
+  order_is name rows order name_of rows_of at line =
+      order_found name rows order at line (found_asked _ name rows (asked_for line) (matches_name m ∙ sym name_of) (sym rows_of) (line_asked line))
 
   -- no subcommand was found, and the words are none of the lines
   pub none_is : (order : Order) → None ≡ subcommand_name_of m → IsOrderOf words order
-  none_is order none =
-      let named_none = matches_name m ∙ sym none in
-      record {
-        audit = λ x e. none_asked _ _ named_none (asked_on _ e ∙ (audit_gives x).0);
-        check = λ x e. none_asked _ _ named_none (asked_on _ e ∙ (check_gives x).0);
-        draw = λ x e. none_asked _ _ named_none (asked_on _ e ∙ (draw_gives x).0);
-        play = λ s x e. none_asked _ _ named_none (asked_on _ e ∙ (play_gives s x).0);
-        workers = λ s x n count e. none_asked _ _ named_none (asked_on _ e ∙ (workers_gives s x n count).0);
-        show = λ x e. none_asked _ _ named_none (asked_on _ e ∙ (show_gives x).0);
-        show_workers = λ x n count e. none_asked _ _ named_none (asked_on _ e ∙ (show_workers_gives x n count).0);
-      }
+  none_is order none line = none_asked _ _ (matches_name m ∙ sym none) (line_asked line)
 
 -- ---- the number of workers
 

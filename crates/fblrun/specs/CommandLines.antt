@@ -92,18 +92,19 @@ pub data IsCommandLine (words : List Text) : Type 0 where
   is_show : IsLine words show_line → IsCommandLine words
   is_show_workers : (n : ℕ) → WorkersAllowed n → IsLine words (with_workers n show_line) → IsCommandLine words
 
--- the order is that of the words, if they are one of these: where no number of workers is said there are 2
-pub record IsOrderOf (words : List Text) (order : Order) : Type 0 where
-  pub audit : (explain : Bool) → drop 1 words ≡ with_explain explain audit_line → order ≡ record { task = Audit; explain = explain }
-  pub check : (explain : Bool) → drop 1 words ≡ with_explain explain check_line → order ≡ record { task = Check; explain = explain }
-  pub draw : (explain : Bool) → drop 1 words ≡ with_explain explain draw_line → order ≡ record { task = Draw; explain = explain }
-  pub play : (strict explain : Bool) → drop 1 words ≡ with_explain explain (with_strict strict play_line)
-      → order ≡ record { task = Play 2 strict; explain = explain }
-  pub workers : (strict explain : Bool) (n : ℕ) → WorkersAllowed n → drop 1 words ≡ with_explain explain (with_strict strict (with_workers n play_line))
-      → order ≡ record { task = Play n strict; explain = explain }
-  pub show : (explain : Bool) → drop 1 words ≡ with_explain explain show_line → order ≡ record { task = Show 2; explain = explain }
-  pub show_workers : (explain : Bool) (n : ℕ) → WorkersAllowed n → drop 1 words ≡ with_explain explain (with_workers n show_line)
-      → order ≡ record { task = Show n; explain = explain }
+-- the order that they give: where no number of workers is said there are 2
+abbrev pub order_for : {words : List Text} → IsCommandLine words → Order
+order_for (is_audit line) = record { task = Audit; explain = line.0 }
+order_for (is_check line) = record { task = Check; explain = line.0 }
+order_for (is_draw line) = record { task = Draw; explain = line.0 }
+order_for (is_play strict line) = record { task = Play 2 strict; explain = line.0 }
+order_for (is_workers strict n allowed line) = record { task = Play n strict; explain = line.0 }
+order_for (is_show line) = record { task = Show 2; explain = line.0 }
+order_for (is_show_workers n allowed line) = record { task = Show n; explain = line.0 }
+
+-- the order is that of the words, if they are one of these
+abbrev pub IsOrderOf : List Text → Order → Type 0
+IsOrderOf words order = (line : IsCommandLine words) → order ≡ order_for line
 
 -- ---- what a subcommand's arguments say
 

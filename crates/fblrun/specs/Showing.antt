@@ -1,10 +1,11 @@
 -- What the picture of the history of a script leaves in the writer.
-use Rattle.std.specs.Prelude.{◌≡◌, ℕ, ◌<◌, List, length, take, Option, Result, Ok, Err}
-use Rattle.std.specs.Io.KnownBytes.{Appends, Keeps}
+use Rattle.std.specs.Prelude.{◌≡◌, ℕ, List, Option, Result, Ok, Err}
+use Rattle.std.specs.Io.KnownBytes.{Keeps}
 use Rattle.fbl_explain.specs.declared.account.Account.{Account}
 use Rattle.fbl_history.specs.declared.column.Column.{Column}
 use Rattle.fbl_input.specs.declared.fault.RunFault.{RunFault}
 use Rattle.fbl_input.specs.declared.fault.RunFault.TheVariants as faults
+use Rattle.fbl_input.specs.Faults.{PutsOut}
 use Rattle.fbl_play.specs.Histories.{IsHistoryOf}
 use Rattle.fbl_play.specs.Runs.{next_of}
 use Rattle.fbl_script.specs.Scripts.{Outline, IsScriptFault, IsScriptOf, behaviour_word}
@@ -17,20 +18,10 @@ IsShown workers input text =
     × IsHistoryOf (next_of s.behaviour) workers s.config s.commands accounts columns
     × (text ≡ history_picture s.config.members s.config.f (behaviour_word s.behaviour) columns)
 
--- what is left in the writer where such a text is put out
-abbrev pub PutsOut : (List ℕ → Type 0) → Option (List ℕ) → Option (List ℕ) → Result (Unit {0}) RunFault → Type 0
--- the whole text
-PutsOut IsText before after (Ok x) = (text : List ℕ) × IsText text × Appends before after text
--- its begin, without its end
-PutsOut IsText before after (Err faults.Write) = (text : List ℕ) × (part : ℕ) × IsText text × (part < length text) × Appends before after (take part text)
--- nothing
-PutsOut IsText before after (Err faults.Memory) = Keeps before after
-PutsOut IsText before after (Err e) = ⊥
-
 -- what the picture of the history of a script leaves in the writer
 abbrev pub Shows : ℕ → List ℕ → Option (List ℕ) → Option (List ℕ) → Result (Unit {0}) RunFault → Type 0
-Shows workers input before after (Ok x) = PutsOut (IsShown workers input) before after (Ok x)
-Shows workers input before after (Err faults.Write) = PutsOut (IsShown workers input) before after (Err faults.Write)
+Shows workers input before after (Ok x) = PutsOut {A = Unit {0}} (λ _. IsShown workers input) before after (Ok x)
+Shows workers input before after (Err faults.Write) = PutsOut {A = Unit {0}} (λ _. IsShown workers input) before after (Err faults.Write)
 -- memory may run out for any input, and then nothing is written
 Shows workers input before after (Err faults.Memory) = Keeps before after
 -- any other fault is the input's first as a script; so a failed read is none

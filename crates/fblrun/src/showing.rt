@@ -3,7 +3,8 @@
 ghost use Rattle.std.specs.Prelude.{◌≡◌, ◌≤◌};
 ghost use Rattle.fbl_script.specs.Scripts.{behaviour_word};
 ghost use Rattle.fbl_show.specs.HistoryPictures.{history_picture};
-ghost use Rattle.fblrun.specs.Showing.{PutsOut, Shows};
+ghost use Rattle.fblrun.specs.Showing.{Shows};
+ghost use Rattle.fbl_input.specs.Faults.{PutsOut};
 
 use fbl_input::{RunFault, put};
 use fbl_play::{Observer, RunHistory, history_observed};
@@ -20,7 +21,7 @@ fn show_history<W: Write>(
     played: &RunHistory,
 ) -> Result<(), RunFault>
     requires { played.now.members ≤ 16 }
-    ensures { PutsOut (λ text. text ≡ history_picture played.now.members played.now.f (behaviour_word played.now.behaviour) played.now.history) (W.contents writer.old) (W.contents writer.new) result }
+    ensures { PutsOut (λ _ text. text ≡ history_picture played.now.members played.now.f (behaviour_word played.now.behaviour) played.now.history) (W.contents writer.old) (W.contents writer.new) result }
 {
     let name = played.behaviour.name();
     let columns = played.history.columns();

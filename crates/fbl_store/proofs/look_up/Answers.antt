@@ -36,9 +36,9 @@ pub returns-clause-value : goal.returns-clause-value
 returns-clause-value c m below =
     let r = c.args.group.now in
     let state : ℕ → ℕ = λ k. (record_of r k).state in
-    let owner : c.unwrap-owner.result ≡ c.args.key % r.config.members = search rules in
+    let owner : c.at-owner.result ≡ c.args.key % r.config.members = search rules in
     let is : slice_index_or c.to_le_bytes.result c.from.result 0 ≡ value_at (state (c.args.key % r.config.members)) c.args.key =
-    read c.to_le_bytes.result (state c.unwrap-owner.result) c.from.result c.args.key
+    read c.to_le_bytes.result (state c.at-owner.result) c.from.result c.args.key
     (c.to_le_bytes.ensures ∙ ap values c.state.ensures.value) c.from.ensures
     ∙ ap (λ k. value_at (state k) c.args.key) owner
     in
@@ -49,9 +49,9 @@ pub returns-clause-most : goal.returns-clause-most
 returns-clause-most c =
     let r = c.args.group.now in
     let state : ℕ → ℕ = λ k. (record_of r k).state in
-    let below : c.unwrap-owner.result < r.config.members = search rules in
-    let is : slice_index_or c.to_le_bytes.result c.from.result 0 ≡ value_at (state c.unwrap-owner.result) c.args.key =
-    read c.to_le_bytes.result (state c.unwrap-owner.result) c.from.result c.args.key
+    let below : c.at-owner.result < r.config.members = search rules in
+    let is : slice_index_or c.to_le_bytes.result c.from.result 0 ≡ value_at (state c.at-owner.result) c.args.key =
+    read c.to_le_bytes.result (state c.at-owner.result) c.from.result c.args.key
     (c.to_le_bytes.ensures ∙ ap values c.state.ensures.value) c.from.ensures
     in
-    omega (arith, is, value-most state r.config.members c.args.key c.unwrap-owner.result below c.requires, c.none_made.ensures)
+    omega (arith, is, value-most state r.config.members c.args.key c.at-owner.result below c.requires, c.none_made.ensures)

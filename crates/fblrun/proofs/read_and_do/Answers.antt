@@ -1,7 +1,8 @@
 use Rattle.std.proofs.Common.{Err}
 use Rattle.fbl_input.specs.Faults.{FailsToRead}
 use Rattle.fblrun.specs.Orders.{AnswersTask, ReadsAndAnswersTask}
-use Rattle.fblrun.proofs.Endings.{ended, read_whole, unread}
+use Rattle.fblrun.proofs.Endings.{ended, not_read}
+use Rattle.fbl_input.proofs.Inputs.{read_whole}
 use Rattle.fblrun.proofs.read_and_do.Goals as goal
 
 pub returns-in-Ok : goal.returns-in-Ok
@@ -10,10 +11,11 @@ returns-in-Ok g c =
     let has = g.W.Write.contents c.do_task-done.new.writer in
     let done = c.do_task-done.result in
     ended _ (λ input. ReadsAndAnswersTask c.args.order.task input had has) done _ c.end.ensures
-    (read_whole _ _ (λ input. AnswersTask c.args.order.task input had has done) (FailsToRead had has done) c.in-Ok.ensures.whole.1 (rw (← c.as_slice-input.ensures.value) c.do_task-done.ensures))
+    (read_whole _ _ (λ input. AnswersTask c.args.order.task input had has done) (λ _. FailsToRead had has done)
+    c.in-Ok.ensures.whole.1 (rw (← c.as_slice-input.ensures.value) c.do_task-done.ensures))
 
 pub returns-in-Err : goal.returns-in-Err
 returns-in-Err g c =
     let known = g.W.Write.contents c.args.writer.now in
     ended _ (λ input. ReadsAndAnswersTask c.args.order.task input known known) (Err c.in-Err.fault) _ c.end-in-Err.ensures
-    (unread c.args.order.task _ _ _ c.in-Err.ensures.faults c.in-Err.ensures.long)
+    (not_read c.args.order.task _ _ _ c.in-Err.ensures.faults c.in-Err.ensures.long)

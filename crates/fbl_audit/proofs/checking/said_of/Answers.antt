@@ -1,4 +1,4 @@
-use Rattle.std.proofs.Common.{arith, ap, ◌∙◌, ◌≡◌, max}
+use Rattle.fbl_audit.proofs.Common.{arith, ap, ◌∙◌, ◌≡◌, max}
 use Rattle.std.specs.FinSet as set
 use Rattle.fbl_audit.proofs.Checks.{least_of, said_right, none_unsafe}
 use Rattle.fbl_audit.proofs.checking.said_of.Goals as goal

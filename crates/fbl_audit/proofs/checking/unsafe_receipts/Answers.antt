@@ -1,10 +1,5 @@
-use Rattle.std.proofs.Common.{◌≡◌, arith, ap, sym, ◌∙◌, take}
-use Rattle.std.specs.List.{filter_map}
+use Rattle.fbl_audit.proofs.Common.{◌≡◌, arith, ap, sym, ◌∙◌, take, filter_map, determinant_of, WellFormed, AreDependents, receipts_of_dump}
 use Rattle.std.proofs.lemmas.List.{take_all}
-use Rattle.fbl_base.specs.Events.{determinant_of}
-use Rattle.fbl_base.specs.Rules.{WellFormed}
-use Rattle.fbl_audit.specs.Dependents.{AreDependents}
-use Rattle.fbl_audit.specs.Checking.{receipts_of_dump}
 use Rattle.fbl_audit.proofs.Checks.{dependents_of_receipt, says_safe, says_unsafe, says_nothing, says_no_receipt}
 use Rattle.fbl_audit.proofs.checking.unsafe_receipts.Goals as goal
 use Rattle.fbl_audit.proofs.checking.unsafe_receipts.Goals.{in-Some+in-Some-said_of+in_ok-push, in-Some+in_default-said_of, in_default}

@@ -1,7 +1,4 @@
-use Rattle.std.proofs.Common.{take}
-use Rattle.std.specs.List.{filter_map}
-use Rattle.fbl_base.specs.Events.{determinant_of}
-use Rattle.fbl_audit.specs.Checking.{SaysUnsafe}
+use Rattle.fbl_audit.proofs.Common.{take, filter_map, determinant_of, SaysUnsafe}
 use Rattle.fbl_audit.proofs.checking.unsafe_receipts.Given as goal
 
 abbrev pub invariant-loop-place : goal.invariant-loop-place

@@ -1,5 +1,4 @@
-use Rattle.std.proofs.Common.{◌∙◌, sym, arith}
-use Rattle.std.proofs.lemmas.Bool.{false≢true}
+use Rattle.fbl_base.proofs.Common.{◌∙◌, sym, arith, false≢true}
 use Rattle.fbl_base.proofs.Received.{Decides-is_received}
 use Rattle.fbl_base.proofs.audit.broken_rule.Goals as goal
 

@@ -1,5 +1,5 @@
-use Rattle.std.proofs.Common.{refl, arith, length-take}
-use Rattle.std.proofs.lemmas.Option.{slice_get_read}
+use Rattle.fbl_base.proofs.Common.{refl, arith, slice_get_read}
+use Rattle.std.proofs.Common.{length-take}
 use Rattle.fbl_base.proofs.Received.{WellFormed-below, WellFormed-all, too_many}
 use Rattle.fbl_base.proofs.Breached.{not_obeyed, same_event}
 use Rattle.fbl_base.proofs.audit.first_bad_event.Goals as goal

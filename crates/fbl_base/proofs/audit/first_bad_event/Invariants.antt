@@ -1,6 +1,4 @@
-use Rattle.std.proofs.Common.{ℕ, ◌<◌, ◌≤◌, take}
-use Rattle.fbl_base.specs.Rules.{ObeysAt}
-use Rattle.fbl_base.specs.Counted.{Counted}
+use Rattle.fbl_base.proofs.Common.{ℕ, ◌<◌, ◌≤◌, take, ObeysAt, Counted}
 use Rattle.fbl_base.proofs.audit.first_bad_event.Given as goal
 
 abbrev pub invariant-loop-place : goal.invariant-loop-place

@@ -1,7 +1,4 @@
-use Rattle.std.proofs.Common.{refl, ◌≡◌, below_more, arith, Some, slice_get}
-use Rattle.std.proofs.lemmas.Option.{slice_get_read}
-use Rattle.fbl_base.specs.Audit.{HeldAt}
-use Rattle.fbl_base.specs.DumpParts.{parts_of}
+use Rattle.fbl_base.proofs.Common.{refl, ◌≡◌, below_more, arith, Some, slice_get, slice_get_read, HeldAt, parts_of}
 use Rattle.fbl_base.proofs.Gets.{At-below}
 use Rattle.fbl_base.proofs.Breached.{pair_breaks, pair_fits}
 use Rattle.fbl_base.proofs.audit.first_bad_pair.Given.{Over}

@@ -1,6 +1,4 @@
-use Rattle.std.proofs.Common.{ℕ, ◌<◌}
-use Rattle.fbl_base.specs.Audit.{HeldAt}
-use Rattle.fbl_base.specs.DumpParts.{parts_of}
+use Rattle.fbl_base.proofs.Common.{ℕ, ◌<◌, HeldAt, parts_of}
 use Rattle.fbl_base.proofs.audit.first_bad_pair.Given as goal
 
 abbrev pub invariant-loop-place : goal.invariant-loop-place

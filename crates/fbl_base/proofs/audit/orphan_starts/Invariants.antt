@@ -1,5 +1,5 @@
-use Rattle.std.proofs.Common.{◌≡◌, ℕ, ◌<◌, take, length}
-use Rattle.fbl_base.specs.Audit.{IsLost, orphan_start_in}
+use Rattle.fbl_base.proofs.Common.{◌≡◌, ℕ, ◌<◌, take, length, IsLost}
+use Rattle.fbl_base.specs.Audit.{orphan_start_in}
 use Rattle.fbl_base.proofs.ReachLaws.{Tracks}
 use Rattle.fbl_base.proofs.OrphanStarts.{StartsBy}
 use Rattle.fbl_base.proofs.audit.orphan_starts.Given as goal

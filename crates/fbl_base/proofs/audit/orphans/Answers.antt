@@ -1,7 +1,4 @@
-use Rattle.std.proofs.Common.{◌≡◌, arith, ◌∙◌, take}
-use Rattle.std.proofs.lemmas.List.{take_all}
-use Rattle.fbl_base.specs.Audit.{IsLost}
-use Rattle.fbl_base.specs.Rules.{WellFormed}
+use Rattle.fbl_base.proofs.Common.{◌≡◌, arith, ◌∙◌, take, take_all, IsLost, WellFormed}
 use Rattle.fbl_base.proofs.Recorded.{Decides-is_lost, Tracks-orphans}
 use Rattle.fbl_base.proofs.ReachLaws.{Tracks-none, Tracks-more, unreached_sends_after-length}
 use Rattle.fbl_base.proofs.audit.orphans.Goals as goal

@@ -1,5 +1,4 @@
-use Rattle.std.proofs.Common.{◌≡◌, take, length}
-use Rattle.fbl_base.specs.Audit.{IsLost}
+use Rattle.fbl_base.proofs.Common.{◌≡◌, take, length, IsLost}
 use Rattle.fbl_base.proofs.ReachLaws.{Tracks}
 use Rattle.fbl_base.proofs.audit.orphans.Given as goal
 

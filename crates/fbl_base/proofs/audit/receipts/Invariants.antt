@@ -1,8 +1,5 @@
-use Rattle.std.proofs.Common.{◌≡◌, take}
+use Rattle.fbl_base.proofs.Common.{◌≡◌, take, Determinant, same_determinant, is_received}
 use Rattle.std.specs.HashSet as hash_set
-use Rattle.fbl_base.specs.declared.trace.Determinant.{Determinant}
-use Rattle.fbl_base.specs.Events.{same_determinant}
-use Rattle.fbl_base.specs.DumpParts.{is_received}
 use Rattle.fbl_base.proofs.audit.receipts.Given as goal
 
 abbrev pub invariant-loop-event : goal.invariant-loop-event

@@ -1,9 +1,6 @@
-use Rattle.std.proofs.Common.{◌≡◌, take, not, ◌&&◌}
+use Rattle.fbl_base.proofs.Common.{◌≡◌, take, not, ◌&&◌, list_any, Determinant, same_determinant}
 use Rattle.std.specs.FinSet as set
 use Rattle.std.specs.HashSet as hash_set
-use Rattle.std.specs.List.{list_any}
-use Rattle.fbl_base.specs.declared.trace.Determinant.{Determinant}
-use Rattle.fbl_base.specs.Events.{same_determinant}
 use Rattle.fbl_base.proofs.audit.recorded_determinants.Given as goal
 
 abbrev pub invariant-loop-holder : goal.invariant-loop-holder

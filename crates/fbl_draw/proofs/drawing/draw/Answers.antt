@@ -1,10 +1,11 @@
 use Rattle.fbl_draw.specs.Pictures.{IsPicture}
 use Rattle.fbl_dump.specs.Answering.{TextAlone}
-use Rattle.fbl_dump.proofs.Answers.{answers_whole, answers_unread}
+use Rattle.fbl_dump.proofs.Answers.{answers_unread}
+use Rattle.fbl_input.proofs.Inputs.{read_whole}
 use Rattle.fbl_draw.proofs.drawing.draw.Goals as goal
 
 pub returns-in-Ok : goal.returns-in-Ok
-returns-in-Ok g c = answers_whole (TextAlone IsPicture) _ _ _ _ _ c.in-Ok.ensures.whole.1 (rw (← c.as_slice.ensures.value) c.draw_bytes.ensures)
+returns-in-Ok g c = read_whole _ _ _ _ c.in-Ok.ensures.whole.1 (rw (← c.as_slice.ensures.value) c.draw_bytes.ensures)
 
 pub returns-in-Err : goal.returns-in-Err
 returns-in-Err g c = answers_unread (TextAlone IsPicture) _ _ _ c.in-Err.ensures.faults c.in-Err.ensures.long

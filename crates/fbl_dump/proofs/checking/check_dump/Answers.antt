@@ -1,6 +1,6 @@
 use Rattle.std.proofs.Common.{◌≡◌, ◌∙◌, ap}
 use Rattle.fbl_dump.specs.Checking.{IsChecked, check_lines}
-use Rattle.fbl_dump.proofs.Answers.{answers_passed}
+use Rattle.fbl_input.proofs.Outputs.{puts_front}
 use Rattle.fbl_dump.proofs.Verdicts.{checked, verdict_of}
 use Rattle.fbl_dump.proofs.checking.check_dump.Goals as goal
 
@@ -9,4 +9,4 @@ returns-in_err-put g c =
     let said = c.in_ok-unsafe_receipts.unsafe_receipts.items in
     let text : c.as_bytes.result.now ≡ check_lines said = c.as_bytes.ensures.value ∙ c.in_ok-text.ensures ∙ ap check_lines c.as_slice.ensures.value in
     let right = checked c.args.dump.now said c.as_bytes.result.now c.in_ok-unsafe_receipts.ensures.said c.in_ok-unsafe_receipts.ensures.safe text in
-    answers_passed IsChecked c.args.dump.now (verdict_of said) c.as_bytes.result.now _ _ _ _ c.from_residual-in_err-put.ensures.1 right c.in_err-put.ensures.front c.in_err-put.ensures.fault
+    puts_front (IsChecked c.args.dump.now) (verdict_of said) _ right _ _ _ _ c.from_residual-in_err-put.ensures.1 c.in_err-put.ensures.front c.in_err-put.ensures.fault

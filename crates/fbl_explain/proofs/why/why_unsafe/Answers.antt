@@ -1,19 +1,15 @@
 use Rattle.std.proofs.Common.{◌≡◌, take, arith, ◌∙◌}
 use Rattle.std.proofs.lemmas.List.{take_all}
-use Rattle.fbl_base.specs.MemberSets.{Members}
-use Rattle.fbl_base.specs.declared.trace.Determinant.{Determinant}
 use Rattle.fbl_audit.specs.declared.checking.UnsafeReceipt.{UnsafeReceipt}
-use Rattle.fbl_explain.proofs.Whys.{TellsOf-more, TellsOf-none}
+use Rattle.fbl_explain.specs.Whys.{IsReasonOf}
+use Rattle.fbl_explain.proofs.Whys.{reasons_more}
 use Rattle.fbl_explain.proofs.why.why_unsafe.Goals as goal
-
-pub loop-receipt-init : goal.loop-receipt-init
-loop-receipt-init c = rw c.new-receipts.ensures.items (TellsOf-none c.args.dump.now)
 
 pub loop-receipt-preserved : goal.loop-receipt-preserved
 loop-receipt-preserved c =
-    let ask : UnsafeReceipt → Determinant × Members = λ u. (u.determinant, u.strike) in
-    rw c.in_ok-push.ensures.items (TellsOf-more c.args.dump.now ask c.deref-receipt-items.result.now _ c.receipt-item.result _ _ (omega arith) c.receipt-item.is
-    c.loop-receipt.invariant (rw c.in_ok-audit.ensures at c.in_ok-reason_of.ensures))
+    let dump = c.args.dump.now in
+    rw c.in_ok-push.ensures.items (reasons_more (λ (u : UnsafeReceipt). IsReasonOf dump u.determinant u.strike) c.deref-receipt-items.result.now _ c.receipt-item.result _ _
+    (omega arith) c.receipt-item.is c.loop-receipt.invariant (rw c.in_ok-audit.ensures at c.in_ok-reason_of.ensures))
 
 pub returns-clause-not_safe : goal.returns-clause-not_safe
 returns-clause-not_safe c =

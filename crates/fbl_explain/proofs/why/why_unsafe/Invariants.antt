@@ -1,6 +1,7 @@
-use Rattle.std.proofs.Common.{map, take}
-use Rattle.fbl_explain.specs.Whys.{TellsOf}
+use Rattle.std.proofs.Common.{take}
+use Rattle.std.specs.List.{AllZip}
+use Rattle.fbl_explain.specs.Whys.{IsReasonOf}
 use Rattle.fbl_explain.proofs.why.why_unsafe.Given as goal
 
 abbrev pub invariant-loop-receipt : goal.invariant-loop-receipt
-invariant-loop-receipt l = TellsOf l.dump (map (λ u. (u.determinant, u.strike)) (take l.receipt-index l.receipt-items)) l.receipts.items
+invariant-loop-receipt l = AllZip (λ u. IsReasonOf l.dump u.determinant u.strike) (take l.receipt-index l.receipt-items) l.receipts.items

@@ -1,5 +1,4 @@
-use Rattle.std.proofs.Common.{◌≡◌, [], replicate, deque_items}
-use Rattle.fbl_group.specs.Channels.{each}
+use Rattle.fbl_group.proofs.Common.{◌≡◌, [], replicate, deque_items, each}
 use Rattle.fbl_group.proofs.channels.empty_channels.Given as goal
 
 abbrev pub invariant-loop-number : goal.invariant-loop-number

@@ -1,4 +1,4 @@
-use Rattle.std.proofs.Common.{◌≡◌, [], map, replicate, deque_items}
+use Rattle.fbl_group.proofs.Common.{◌≡◌, [], map, replicate, deque_items}
 use Rattle.fbl_group.proofs.channels.empty_row.Given as goal
 
 abbrev pub invariant-loop-number : goal.invariant-loop-number

@@ -1,7 +1,4 @@
-use Rattle.std.proofs.Common.{◌≡◌, ℕ, ◌<◌, take, slice_index_or}
-use Rattle.fbl_member.specs.Carried.{IsOnce}
-use Rattle.fbl_member.specs.Members.{blank}
-use Rattle.fbl_law.specs.Dumps.{pairs_from}
+use Rattle.fbl_group.proofs.Common.{◌≡◌, ℕ, ◌<◌, take, slice_index_or, IsOnce, blank, pairs_from}
 use Rattle.fbl_group.proofs.dump.held_pairs.Given as goal
 
 abbrev pub invariant-loop-place : goal.invariant-loop-place

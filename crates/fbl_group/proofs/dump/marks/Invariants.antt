@@ -1,5 +1,4 @@
-use Rattle.std.proofs.Common.{◌≡◌, ◌≤◌, length, map, take, vec_capacity}
-use Rattle.fbl_base.specs.Events.{mark_of}
+use Rattle.fbl_group.proofs.Common.{◌≡◌, ◌≤◌, length, map, take, vec_capacity, mark_of}
 use Rattle.fbl_group.proofs.dump.marks.Given as goal
 
 abbrev pub invariant-loop-event : goal.invariant-loop-event

@@ -1,5 +1,4 @@
-use Rattle.std.proofs.Common.{◌≡◌, ◌+◌, ◌≤◌, ◌++◌, length, take, vec_len, vec_capacity}
-use Rattle.fbl_law.specs.Dumps.{pairs_of}
+use Rattle.fbl_group.proofs.Common.{◌≡◌, ◌+◌, ◌≤◌, ◌++◌, length, take, vec_len, vec_capacity, pairs_of}
 use Rattle.fbl_group.proofs.dump.push_pairs.Given as goal
 
 abbrev pub invariant-loop-place : goal.invariant-loop-place

@@ -1,5 +1,4 @@
-use Rattle.std.proofs.Common.{◌≡◌, ◌∙◌, rules, count_by, is_some}
-use Rattle.fbl_base.specs.Events.{mark_of, determinant_of}
+use Rattle.fbl_group.proofs.Common.{◌≡◌, ◌∙◌, rules, count_by, is_some, mark_of, determinant_of}
 use Rattle.fbl_group.proofs.BringingBack.{counted-receipts}
 use Rattle.fbl_group.proofs.recover.count_receipts.Goals as goal
 

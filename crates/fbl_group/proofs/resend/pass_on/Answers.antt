@@ -1,8 +1,4 @@
-use Rattle.std.proofs.Common.{◌≡◌, rules, sym, subst, ◌∙◌}
-use Rattle.std.specs.Result.{IfOk}
-use Rattle.fbl_table.specs.Tables.{piggybacked}
-use Rattle.fbl_member.specs.Carried.{IsOnce}
-use Rattle.fbl_member.proofs.Once.{IsOnce-piggybacked}
+use Rattle.fbl_group.proofs.Common.{◌≡◌, rules, sym, subst, ◌∙◌, IfOk, piggybacked, IsOnce, IsOnce-piggybacked}
 use Rattle.fbl_group.proofs.Again.{passed-once}
 use Rattle.fbl_group.proofs.resend.pass_on.Goals as goal
 

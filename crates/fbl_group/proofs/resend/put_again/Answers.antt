@@ -1,4 +1,4 @@
-use Rattle.fbl_table.specs.Tables.{piggybacked}
+use Rattle.fbl_group.proofs.Common.{piggybacked}
 use Rattle.fbl_group.proofs.Again.{again-step}
 use Rattle.fbl_group.proofs.resend.put_again.Goals as goal
 

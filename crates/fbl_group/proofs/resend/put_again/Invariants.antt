@@ -1,6 +1,4 @@
-use Rattle.std.proofs.Common.{◌≡◌, ◌++◌, take, IfSome}
-use Rattle.fbl_table.specs.Tables.{piggybacked}
-use Rattle.fbl_law.specs.Replaying.{resent}
+use Rattle.fbl_group.proofs.Common.{◌≡◌, ◌++◌, take, IfSome, piggybacked, resent}
 use Rattle.fbl_group.proofs.resend.put_again.Given as goal
 
 abbrev pub invariant-loop-send : goal.invariant-loop-send

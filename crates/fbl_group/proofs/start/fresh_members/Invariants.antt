@@ -1,5 +1,5 @@
-use Rattle.std.proofs.Common.{◌≡◌}
-use Rattle.fbl_member.specs.Members.{fresh, blank}
+use Rattle.fbl_group.proofs.Common.{◌≡◌, blank}
+use Rattle.fbl_member.specs.Members.{fresh}
 use Rattle.fbl_group.proofs.Queues.{Made}
 use Rattle.fbl_group.proofs.start.fresh_members.Given as goal
 

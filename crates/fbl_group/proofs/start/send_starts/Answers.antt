@@ -1,6 +1,4 @@
-use Rattle.std.proofs.Common.{◌≡◌, sym, ◌∙◌, arith, None, Some}
-use Rattle.fbl_law.specs.GroupSteps.{message_of_send}
-use Rattle.fbl_group.specs.Channels.{rows}
+use Rattle.fbl_group.proofs.Common.{◌≡◌, sym, ◌∙◌, arith, None, Some, message_of_send, rows}
 use Rattle.fbl_group.proofs.Queues.{written-shape}
 use Rattle.fbl_group.proofs.Starting.{event-ends, sent-more, sent-none}
 use Rattle.fbl_group.proofs.start.send_starts.Goals as goal

@@ -1,8 +1,5 @@
-use Rattle.std.proofs.Common.{◌≡◌, ℕ, ◌++◌, take, filter_map}
-use Rattle.fbl_law.specs.GroupSteps.{message_of_send}
-use Rattle.fbl_law.specs.Steps.{between}
-use Rattle.fbl_law.specs.Groups.{HasChannels, channel_in}
-use Rattle.fbl_group.specs.Channels.{rows}
+use Rattle.fbl_group.proofs.Common.{◌≡◌, ℕ, ◌++◌, take, message_of_send, between, HasChannels, channel_in, rows}
+use Rattle.std.proofs.Common.{filter_map}
 use Rattle.fbl_group.proofs.start.send_starts.Given as goal
 
 abbrev pub invariant-loop-event : goal.invariant-loop-event

@@ -1,8 +1,5 @@
-use Rattle.std.proofs.Common.{◌≡◌, suc, ◌+◌, ◌<◌, ◌∷◌, [], map, length-append, ◌∙◌, arith, slice_index}
-use Rattle.std.proofs.lemmas.List.{length-set}
+use Rattle.fbl_group.proofs.Common.{◌≡◌, suc, ◌+◌, ◌<◌, ◌∷◌, [], map, length-append, ◌∙◌, arith, slice_index, length-set, mark_of, sends_of}
 use Rattle.fbl_base.specs.declared.trace.Event.TheVariants.{Send}
-use Rattle.fbl_base.specs.Events.{mark_of}
-use Rattle.fbl_base.specs.Rules.{sends_of}
 use Rattle.fbl_group.proofs.Starting.{starts-more, counts-more}
 use Rattle.fbl_group.proofs.start.start_sends.Goals as goal
 

@@ -1,7 +1,4 @@
-use Rattle.std.proofs.Common.{◌≡◌, ℕ, ◌<◌, ◌≤◌, [], length, map, drop, slice_index, vec_capacity}
-use Rattle.fbl_base.specs.Events.{mark_of}
-use Rattle.fbl_base.specs.Rules.{sends_of}
-use Rattle.fbl_law.specs.GroupSteps.{start_events}
+use Rattle.fbl_group.proofs.Common.{◌≡◌, ℕ, ◌<◌, ◌≤◌, [], length, map, drop, slice_index, vec_capacity, mark_of, sends_of, start_events}
 use Rattle.fbl_group.proofs.start.start_sends.Given as goal
 
 abbrev pub invariant-loop-start : goal.invariant-loop-start

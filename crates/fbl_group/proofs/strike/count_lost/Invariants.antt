@@ -1,5 +1,4 @@
-use Rattle.std.proofs.Common.{◌≡◌, take, count_by}
-use Rattle.fbl_group.specs.Strikes.{is_lost_receipt_of}
+use Rattle.fbl_group.proofs.Common.{◌≡◌, take, count_by, is_lost_receipt_of}
 use Rattle.fbl_group.proofs.strike.count_lost.Given as goal
 
 abbrev pub invariant-loop-event : goal.invariant-loop-event

@@ -1,5 +1,4 @@
-use Rattle.std.proofs.Common.{◌≡◌, take}
-use Rattle.fbl_group.specs.Strikes.{unrecorded_among}
+use Rattle.fbl_group.proofs.Common.{◌≡◌, take, unrecorded_among}
 use Rattle.fbl_group.proofs.strike.unrecorded.Given as goal
 
 abbrev pub invariant-loop-event : goal.invariant-loop-event

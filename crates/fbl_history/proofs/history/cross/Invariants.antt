@@ -1,5 +1,4 @@
-use Rattle.std.proofs.Common.{◌≡◌, ◌≤◌, ◌++◌, drop, take, length}
-use Rattle.fbl_history.specs.Columns.{go_on}
+use Rattle.fbl_history.proofs.Common.{◌≡◌, ◌≤◌, ◌++◌, drop, take, length, go_on}
 use Rattle.fbl_history.proofs.history.cross.Given as goal
 
 abbrev pub invariant-loop-column : goal.invariant-loop-column

@@ -1,4 +1,4 @@
-use Rattle.std.proofs.Common.{◌<◌}
+use Rattle.fbl_history.proofs.Common.{◌<◌}
 use Rattle.fbl_history.proofs.Following.{listed-in}
 use Rattle.fbl_history.proofs.history.replays.Given.{Over}
 use Rattle.fbl_history.proofs.history.replays.Goals as goal

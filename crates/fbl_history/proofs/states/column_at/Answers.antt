@@ -1,5 +1,4 @@
-use Rattle.std.proofs.Common.{ap, ◌∙◌, Some}
-use Rattle.fbl_base.specs.declared.trace.Event.{Event}
+use Rattle.fbl_history.proofs.Common.{ap, ◌∙◌, Some, Event}
 use Rattle.fbl_history.proofs.Following.{past-send}
 use Rattle.fbl_history.proofs.states.column_at.Goals as goal
 

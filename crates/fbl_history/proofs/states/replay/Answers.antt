@@ -1,6 +1,5 @@
-use Rattle.std.proofs.Common.{◌≡◌, ap, ◌∙◌, sym, arith, refl, rules}
-use Rattle.fbl_base.specs.Configs.{Settings}
-use Rattle.fbl_member.specs.Members.{MemberRecord, logged_note}
+use Rattle.fbl_history.proofs.Common.{◌≡◌, ap, ◌∙◌, sym, arith, refl, Settings, MemberRecord, logged_note}
+use Rattle.std.proofs.Common.{rules}
 use Rattle.fbl_history.proofs.Following.{IsNextReceipt, sender, may-follow, is-next, received-few, receiver-read, has-note, note-read, has-room, state-is, past-receipt}
 use Rattle.fbl_history.proofs.states.replay.Given.{Over}
 use Rattle.fbl_history.proofs.states.replay.Goals as goal

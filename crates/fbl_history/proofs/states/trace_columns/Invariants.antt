@@ -1,6 +1,4 @@
-use Rattle.std.proofs.Common.{◌≡◌, map, take}
-use Rattle.fbl_history.specs.Replays.{HaveReplayed}
-use Rattle.fbl_history.specs.Traces.{event_column}
+use Rattle.fbl_history.proofs.Common.{◌≡◌, map, take, HaveReplayed, event_column}
 use Rattle.fbl_history.proofs.states.trace_columns.Given as goal
 
 abbrev pub invariant-loop-place : goal.invariant-loop-place

@@ -1,8 +1,9 @@
-use Rattle.fbl_law.proofs.RecoveryLaws.{one_pass_cuts, cut_is_one}
+use Rattle.fbl_law.proofs.CutInOnePass.{recovered_trace-cut}
+use Rattle.fbl_law.proofs.RecoveryLaws.{cut_is_one}
 use Rattle.fbl_law.proofs.recovery_laws.cut_law.Goals as goal
 
 pub returns : goal.returns
 returns c = record {
-  cut = one_pass_cuts;
+  cut = recovered_trace-cut;
   one = cut_is_one;
 }

@@ -1,7 +1,4 @@
-use Rattle.std.proofs.Common.{◌≡◌}
-use Rattle.std.specs.List.{All}
-use Rattle.std.specs.Vec.{vec_len, vec_capacity}
-use Rattle.fbl_member.specs.Rooms.{HasRoom}
+use Rattle.fbl_member.proofs.Common.{◌≡◌, All, vec_len, vec_capacity, HasRoom}
 use Rattle.fbl_member.proofs.buffers.empty_lists.Given as goal
 
 abbrev pub invariant-loop-place : goal.invariant-loop-place

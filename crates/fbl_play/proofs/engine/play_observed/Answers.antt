@@ -1,7 +1,4 @@
-use Rattle.std.proofs.Common.{inl, inr, refl}
-use Rattle.fbl_input.proofs.Bytes.{keeps_itself}
-use Rattle.fbl_script.specs.Scripts.{outline}
-use Rattle.fbl_play.specs.Runs.{next_of}
+use Rattle.fbl_play.proofs.Common.{inl, inr, refl, keeps_itself, outline, next_of}
 use Rattle.fbl_play.proofs.Playing.{plays_script, plays_fault}
 use Rattle.fbl_play.proofs.Told.{told_plays}
 use Rattle.fbl_play.proofs.engine.play_observed.Goals as goal

@@ -1,7 +1,5 @@
-use Rattle.std.proofs.Common.{List, take}
-use Rattle.fbl_explain.specs.declared.account.Account.{Account}
+use Rattle.fbl_play.proofs.Common.{List, take, Account, IsTold}
 use Rattle.fbl_play.proofs.RunTexts.{IsPlayed}
-use Rattle.fbl_play.specs.Telling.{IsTold}
 use Rattle.fbl_play.proofs.engine.play_with.Given as goal
 
 abbrev pub invariant-loop-command : goal.invariant-loop-command

@@ -1,5 +1,4 @@
-use Rattle.std.proofs.Common.{inl, inr, refl}
-use Rattle.fbl_script.specs.Scripts.{outline}
+use Rattle.fbl_play.proofs.Common.{inl, inr, refl, outline}
 use Rattle.fbl_play.proofs.histories.history_observed.Goals as goal
 
 pub returns-in-Ok : goal.returns-in-Ok

@@ -1,4 +1,4 @@
-use Rattle.std.proofs.Common.{refl}
+use Rattle.fbl_play.proofs.Common.{refl}
 use Rattle.fbl_play.proofs.histories.history_of_script.Goals as goal
 
 pub returns-in-Ok : goal.returns-in-Ok

@@ -1,9 +1,7 @@
-use Rattle.std.proofs.Common.{ℕ, IfErr, List, string_bytes, Result, Ok, Err, IfOk}
+use Rattle.fbl_play.proofs.Common.{ℕ, List, Result, Ok, Err, Next, GroupRecord, Drains}
+use Rattle.std.proofs.Common.{IfErr, string_bytes, IfOk}
 use Rattle.std.proofs.lemmas.Result.{IfOk-at_ok}
 use Rattle.fbl_base.specs.declared.strike.Strike.{Strike}
-use Rattle.fbl_base.specs.Fold.{Next}
-use Rattle.fbl_law.specs.Groups.{GroupRecord}
-use Rattle.fbl_threads.specs.Drains.{Drains}
 use Rattle.fbl_threads.specs.declared.draining.Drained.{Drained}
 use Rattle.fbl_threads.specs.declared.draining.DrainRefusal.{DrainRefusal}
 use Rattle.fbl_threads.specs.declared.draining.DrainRefusal.TheVariants as drain

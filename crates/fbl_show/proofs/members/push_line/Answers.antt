@@ -1,8 +1,8 @@
-use Rattle.std.proofs.Common.{◌≡◌, ◌∷◌, ◌++◌, [], ◌<◌, arith, ap, ◌∙◌, sym, length}
+use Rattle.std.proofs.Common.{◌≡◌, ◌∷◌, ◌++◌, [], ◌<◌, append-nil, arith, ap, ◌∙◌, sym, length}
 use Rattle.fbl_shapes.specs.declared.shape.Shape.TheVariants.{Line}
 use Rattle.fbl_show.specs.Members.{line_part}
 use Rattle.fbl_show.specs.Places.{drawn}
-use Rattle.fbl_show.proofs.Steps.{agree, differ, down_more, start_straight, start_turned, straight, straight_on, turned}
+use Rattle.fbl_show.proofs.Steps.{agree, differs_is, down_more, line_on, start_on}
 use Rattle.fbl_show.proofs.members.push_line.Goals as goal
 use Rattle.fbl_show.proofs.members.push_line.Goals.{then-is_down_after-is_down+in_ok-push, else-is_down_after-is_down}
 
@@ -20,22 +20,19 @@ loop-place-preserved c =
     let drew = c.loop-place.invariant.2 in
     let base = c.args.shapes.now.items ++ drawn (line_part columns m) 0 columns in
     let next = down_more columns i x within c.index-columns-place.is m down after was c.after-is_down_after.ensures in
+    let line = line_on columns i x within c.index-columns-place.is m down after was c.after-is_down_after.ensures in
+    let start = start_on columns i x within c.index-columns-place.is m down after was c.after-is_down_after.ensures in
     elim c.if-is_down_after-is_down.branch [
       | then-is_down_after-is_down+in_ok-push w ↦
-          let turn = differ after down w.if-is_down_after-is_down.true in
+          let turn = differs_is after down ∙ w.if-is_down_after-is_down.true in
           let pushed : w.push.new.self.items ≡ c.loop-place.shapes.items ++ Line m c.loop-place.start i _ ∷ [] =
           w.in_ok-push.ensures.items ∙ ap (λ k. c.loop-place.shapes.items ++ Line m c.loop-place.start i k ∷ []) w.kind_of_line-kind.ensures in
-          rw (w.shapes-is, w.is_down-is, w.start-is, pushed) (
-            next,
-            start_turned columns i x within c.index-columns-place.is m down after was c.after-is_down_after.ensures turn,
-            turned columns i x within c.index-columns-place.is m down after was c.after-is_down_after.ensures _ base _ starts drew turn,
-          )
+          rw (w.shapes-is, w.is_down-is, w.start-is, pushed) (next, sym (rw turn at start), (rw turn at (line _ base _ starts drew)))
       | else-is_down_after-is_down w ↦
-          let same = agree after down w.if-is_down_after-is_down.false in
-          let turn = straight_on after down same in
+          let turn = differs_is after down ∙ w.if-is_down_after-is_down.false in
           rw (w.shapes-is, w.is_down-is, w.start-is) (
-            sym same ∙ next,
-            start_straight columns i x within c.index-columns-place.is m down after was c.after-is_down_after.ensures _ starts turn,
-            straight columns i x within c.index-columns-place.is m down after was c.after-is_down_after.ensures _ base drew turn,
+            sym (agree after down w.if-is_down_after-is_down.false) ∙ next,
+            starts ∙ sym (rw turn at start),
+            (rw (turn, append-nil) at (line _ base _ starts drew)),
           )
     ]

@@ -1,5 +1,4 @@
-use Rattle.std.proofs.Common.{sym, ap, ◌∙◌}
-use Rattle.fbl_threads.specs.Plans.{struck_at}
+use Rattle.fbl_threads.proofs.Common.{sym, ap, ◌∙◌, struck_at}
 use Rattle.fbl_threads.proofs.Reaching.{met_full, met_no_memory, was_late, committed, crashed, left_down}
 use Rattle.fbl_threads.proofs.ledgered.make_turn.Goals as goal
 

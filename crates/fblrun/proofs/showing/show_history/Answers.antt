@@ -1,7 +1,7 @@
 use Rattle.std.proofs.Common.{◌≡◌, ◌∙◌, List, ℕ}
 use Rattle.fbl_script.specs.Scripts.{behaviour_word}
 use Rattle.fbl_show.specs.HistoryPictures.{history_picture}
-use Rattle.fblrun.proofs.Showings.{puts_text}
+use Rattle.fbl_input.proofs.Outputs.{puts_text}
 use Rattle.fblrun.proofs.showing.show_history.Goals as goal
 
 pub returns : goal.returns
@@ -10,4 +10,4 @@ returns g c =
     let IsText : List ℕ → Type 0 = λ text. text ≡ history_picture played.members played.f (behaviour_word played.behaviour) played.history in
     let is : c.as_bytes.result.now ≡ history_picture played.members played.f (behaviour_word played.behaviour) played.history =
     c.as_bytes.ensures.value ∙ c.in_ok-text.ensures ∙ (λ j. history_picture played.members played.f (c.name-name.ensures j) (c.columns-columns.ensures j)) in
-    puts_text IsText c.as_bytes.result.now _ _ c.put.result is c.put.ensures.whole c.put.ensures.front c.put.ensures.fault
+    puts_text (λ _. IsText) c.as_bytes.result.now is _ _ c.put.result c.put.ensures.whole c.put.ensures.front c.put.ensures.fault

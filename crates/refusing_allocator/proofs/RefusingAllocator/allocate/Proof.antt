@@ -49,6 +49,8 @@ allocate_spec 𝓤 𝓛 𝓜 𝓡 wired Y L g d drops met _ =
     let out : (v : Val) (x : Answer.Denot) → Sq 𝓛 (‵ (Answer.own_val x (v ∷ [])) ∷ ‵ (block_if_ok (token Z h) τ x) ∷ ‵ (flft κ q) ∷ Rest ∷ []) (prop (W.post y v)) = λ v x.
     suffices ! _ (ends_at 𝓛 (method Z) (left Z) c y v x (tt, (tt, (tt, tt))) (tt, (tt, (tt, tt)))) $
     nothing ! $ nothing ! $ fjoin ! $ nothing ! $ fjoin ! $ nothing ! $ fjoin ! $ join ! $ move ! (2 ∷ 3 ∷ []) $ join ! $ join ! $ done ! in
+    let none : Sq 𝓛 (‵ (flft κ q) ∷ Rest ∷ []) (prop (W.post y (answer_val false 0 0))) =
+    nothing ! $ use0 𝓛 (‵ (Answer.own_val (Err (record {})) (answer_val false 0 0 ∷ []))) (Answer-err 𝓛) $ out (answer_val false 0 0) (Err (record {})) in
     qed 𝓛 (((‵ (flft κ q) ⊛ Rest) ⊛ ‵ (owns (types_at (method Z).signature.params κs) a y.0.4)) ∷ (raw (fact 𝓤 (ρ ⊑ Y.lives)) ⊛ raw (fact 𝓤 Given)) ∷ []) ∵
     move ! (1 ∷ []) $ split ! $ heard ! (ρ ⊑ Y.lives) (λ lives. heard ! Given (λ given_sizes.
     split ! $ split ! $ move ! (2 ∷ []) $ fsplit ! $ fsplit ! $ move ! (1 ∷ []) $
@@ -66,8 +68,7 @@ allocate_spec 𝓤 𝓛 𝓜 𝓡 wired Y L g d drops met _ =
     first ! $ branches ! (get ! refl)
     (λ refused. sets ! (agg ! (no_more !)) refl (tt, tt) $
     sets ! (agg ! (and_then ! (lit ! tt) (and_then ! (get ! refl) (no_more !)))) refl (Answer-typed false 0 0) $
-    returns_within ! (W.post y) refl (look_at ! 0 refl) $ free_all ! refl $ keep ! (0 ∷ 2 ∷ []) $ nothing ! $
-    use0 𝓛 (‵ (Answer.own_val (Err (record {})) (answer_val false 0 0 ∷ []))) (Answer-err 𝓛) $ out (answer_val false 0 0) (Err (record {})))
+    returns_within ! (W.post y) refl (look_at ! 0 refl) $ free_all ! refl $ keep ! (0 ∷ 2 ∷ []) $ none)
     (λ served. skips ! $ exec ! 𝓣.C 𝓣.Λ En (after 3 (here Z).body) (at_ret En (W.post y)) $
     sets ! (addr ! (through ! refl (fld ! refl (stop !)))) refl (tt, tt) $ move ! (1 ∷ 0 ∷ []) $
     use2 𝓛 (raw ((Takes Z 𝓛 𝓜.mem 𝓡.returns).pre z))
@@ -78,5 +79,4 @@ allocate_spec 𝓤 𝓛 𝓜 𝓡 wired Y L g d drops met _ =
     answers Z ! 𝓜.mem 𝓡.returns h τ v
     (λ b o is_ok. lands_as ! is_ok refl (Answer-typed true b o) $ returns ! (look_at ! 0 refl) $ free_all ! refl $ fjoin ! $
     use0 𝓛 (‵ (Answer.own_val (Ok (block_ptr b o)) (answer_val true b o ∷ []))) (Answer-Ok 𝓛 b o) $ out (answer_val true b o) (Ok (block_ptr b o)))
-    (λ is_err. lands_as ! is_err refl (Answer-typed false 0 0) $ returns ! (look_at ! 0 refl) $ free_all ! refl $ nothing ! $
-    use0 𝓛 (‵ (Answer.own_val (Err (record {})) (answer_val false 0 0 ∷ []))) (Answer-err 𝓛) $ out (answer_val false 0 0) (Err (record {}))))))))))))
+    (λ is_err. lands_as ! is_err refl (Answer-typed false 0 0) $ returns ! (look_at ! 0 refl) $ free_all ! refl $ none))))))))))

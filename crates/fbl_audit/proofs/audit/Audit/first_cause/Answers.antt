@@ -1,6 +1,4 @@
-use Rattle.std.proofs.Common.{◌≡◌, ◌<◌, length, ap, ◌∙◌, sym, arith, below_more}
-use Rattle.std.proofs.lemmas.Bool.{false≢true}
-use Rattle.fbl_base.proofs.Gets.{At-below}
+use Rattle.fbl_audit.proofs.Common.{◌≡◌, ◌<◌, length, ap, ◌∙◌, sym, arith, below_more, false≢true, At-below}
 use Rattle.fbl_audit.proofs.audit.Audit.first_cause.Goals as goal
 
 pub loop-place-preserved : goal.loop-place-preserved

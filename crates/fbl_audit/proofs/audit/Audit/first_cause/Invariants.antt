@@ -1,5 +1,4 @@
-use Rattle.std.proofs.Common.{ℕ, ◌<◌}
-use Rattle.fbl_audit.specs.Paths.{IsCause}
+use Rattle.fbl_audit.proofs.Common.{ℕ, ◌<◌, IsCause}
 use Rattle.fbl_audit.proofs.audit.Audit.first_cause.Given as goal
 
 abbrev pub invariant-loop-place : goal.invariant-loop-place

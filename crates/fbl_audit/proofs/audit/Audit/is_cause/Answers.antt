@@ -1,11 +1,5 @@
-use Rattle.std.proofs.Common.{◌≡◌, length, ap, ◌∙◌, sym, refl}
-use Rattle.std.proofs.lemmas.Bool.{false≢true}
-use Rattle.std.proofs.lemmas.Option.{slice_get_read}
-use Rattle.fbl_base.specs.Audit.{IsLost}
-use Rattle.fbl_base.specs.Events.{At}
-use Rattle.fbl_audit.specs.Dependents.{AreDependents}
-use Rattle.fbl_audit.specs.Paths.{IsCause}
-use Rattle.fbl_audit.proofs.Auditing.{is_kept, is_lost, send_is_kept}
+use Rattle.fbl_audit.proofs.Common.{◌≡◌, length, ap, ◌∙◌, sym, refl, false≢true, slice_get_read, IsLost, At, AreDependents, IsCause}
+use Rattle.fbl_audit.proofs.Auditing.{Decides-lost, send_is_kept}
 use Rattle.fbl_audit.proofs.Causes.{cause_lost}
 use Rattle.fbl_audit.proofs.audit.Audit.is_cause.Goals as goal
 use Rattle.fbl_audit.proofs.audit.Audit.is_cause.Goals.{After-determinant}
@@ -21,7 +15,7 @@ returns-then-is_lost c =
     let dump = c.args.self.now in
     let e = c.index-events-place.result in
     let found : AreDependents dump.events c.self.inside.dependents = rw c.self.view_is at c.self.invariant.1 in
-    let lost = is_lost dump e c.in-Some.determinant (sym c.in-Some.ensures) (sym c.is_lost.ensures ∙ c.if-is_lost.true) in
+    let lost = (Decides-lost dump e c.in-Some.determinant (sym c.in-Some.ensures)).0 (sym c.is_lost.ensures ∙ c.if-is_lost.true) in
     let right = found.members c.args.place c.args.member c.requires in
     rw (c.has.ensures, c.at.ensures) (λ h. (e, event_at (goal.at.returns-then-is_lost c).After-determinant, lost, right.0 h), λ cause. right.1 cause.3)
 
@@ -31,7 +25,8 @@ kept_is_none c kept cause = kept (cause_lost c.args.self.now c.args.member c.arg
 
 pub returns-else-is_lost : goal.returns-else-is_lost
 returns-else-is_lost c =
-    let kept = is_kept c.args.self.now c.index-events-place.result c.in-Some.determinant (sym c.in-Some.ensures) (sym c.is_lost.ensures ∙ c.if-is_lost.false) in
+    let lost = (Decides-lost c.args.self.now c.index-events-place.result c.in-Some.determinant (sym c.in-Some.ensures)).1 in
+    let kept = λ (is : IsLost c.args.self.now c.index-events-place.result). false≢true (sym c.if-is_lost.false ∙ c.is_lost.ensures ∙ lost is) in
     (λ h. absurd (false≢true (sym c.if-is_lost.false ∙ h)), λ cause. absurd (kept_is_none (goal.at.returns-else-is_lost c).After-determinant kept cause))
 
 pub returns-in-None : goal.returns-in-None

@@ -1,7 +1,4 @@
-use Rattle.std.proofs.Common.{◌≡◌, not, take}
-use Rattle.std.specs.List.{filter, filter_map}
-use Rattle.fbl_base.specs.Events.{determinant_of}
-use Rattle.fbl_base.specs.Audit.{is_held_outside}
+use Rattle.fbl_audit.proofs.Common.{◌≡◌, not, take, filter, filter_map, determinant_of, is_held_outside}
 use Rattle.fbl_audit.proofs.audit.Audit.lost.Given as goal
 
 abbrev pub invariant-loop-event : goal.invariant-loop-event

@@ -1,8 +1,7 @@
-use Rattle.std.proofs.Common.{◌≡◌, false, ap, ◌∙◌, sym}
+use Rattle.fbl_audit.proofs.Common.{◌≡◌, false, ap, ◌∙◌, sym, At-below}
 use Rattle.std.specs.FinSet as set
 use Rattle.std.proofs.lemmas.Option.{IfSome_then}
 use Rattle.std.proofs.lemmas.Result.{IfOk-weaker}
-use Rattle.fbl_base.proofs.Gets.{At-below}
 use Rattle.fbl_audit.specs.Paths.{IsFirstCause}
 use Rattle.fbl_audit.proofs.Causes.{cause_orphan, no_cause}
 use Rattle.fbl_audit.proofs.audit.Audit.orphan_path.Goals as goal

@@ -1,9 +1,6 @@
-use Rattle.std.proofs.Common.{◌≡◌, ◌<◌, length, arith, ◌∙◌, ap, sym, refl}
-use Rattle.std.proofs.lemmas.Option.{slice_get_read}
-use Rattle.fbl_base.specs.Events.{At}
-use Rattle.fbl_base.specs.Audit.{IsDump}
-use Rattle.fbl_audit.specs.Dependents.{AreDependents}
-use Rattle.fbl_audit.proofs.Auditing.{AreReached, AreReached-more, AreReached-none, AreReached-orphans, AreReached-same, is_kept, is_lost, send_is_kept}
+use Rattle.fbl_audit.proofs.Common.{◌≡◌, ◌<◌, ◌+◌, length, arith, ◌∙◌, ap, sym, refl, false≢true, slice_get_read, At, IsDump, IsLost, AreDependents}
+use Rattle.fbl_audit.proofs.Auditing.{AreReached, AreReached-none, AreReached-orphans, below_next, Decides-lost, send_is_kept}
+use Rattle.fbl_audit.proofs.Following.{AreAmong-more, AreAmong-same}
 use Rattle.fbl_audit.proofs.audit.Audit.orphans.Goals as goal
 use Rattle.fbl_audit.proofs.audit.Audit.orphans.Goals.{in-Some+then-is_lost, in-Some+else-is_lost, in_default}
 
@@ -19,14 +16,16 @@ loop-place-preserved c =
     let within : p < length c.events-event-items.result.now = omega arith in
     let at : At dump.events p e = rw events at (slice_get_read c.events-event-items.result.now (length c.events-event-items.result.now) p e refl within c.event-item.is) in
     let found : AreDependents dump.events c.self.inside.dependents = rw c.self.view_is at c.self.invariant.1 in
+    let same = AreAmong-same dump.events (λ j. j < p) (λ j. j < p + 1) p (below_next p) e at (IsLost dump) c.loop-place.reached c.loop-place.invariant in
+    let more = AreAmong-more dump.events (λ j. j < p) (λ j. j < p + 1) p (below_next p) e at (IsLost dump) c.loop-place.reached c.loop-place.invariant in
     elim c.match-determinant.branch [
       | in-Some+then-is_lost w ↦
-          let lost = is_lost dump e w.in-Some.determinant (sym w.in-Some.ensures) (sym w.is_lost.ensures ∙ w.if-is_lost.true) in
-          rw (w.reached-is, w.union-reached.ensures, w.at.ensures) (AreReached-more dump p e c.loop-place.reached _ at lost (λ q. found.members p q (rw (← events) within)) c.loop-place.invariant)
+          let lost = (Decides-lost dump e w.in-Some.determinant (sym w.in-Some.ensures)).0 (sym w.is_lost.ensures ∙ w.if-is_lost.true) in
+          rw (w.reached-is, w.union-reached.ensures, w.at.ensures) (more lost _ (λ q. found.members p q (rw (← events) within)))
       | in-Some+else-is_lost w ↦
-          rw w.reached-is (AreReached-same dump p e c.loop-place.reached at
-          (is_kept dump e w.in-Some.determinant (sym w.in-Some.ensures) (sym w.is_lost.ensures ∙ w.if-is_lost.false)) c.loop-place.invariant)
-      | in_default w ↦ rw w.reached-is (AreReached-same dump p e c.loop-place.reached at (send_is_kept dump e (sym w.in_default.ensures)) c.loop-place.invariant)
+          let lost = (Decides-lost dump e w.in-Some.determinant (sym w.in-Some.ensures)).1 in
+          rw w.reached-is (same (λ is. false≢true (sym w.if-is_lost.false ∙ w.is_lost.ensures ∙ lost is)))
+      | in_default w ↦ rw w.reached-is (same (send_is_kept dump e (sym w.in_default.ensures)))
     ]
 
 pub returns : goal.returns

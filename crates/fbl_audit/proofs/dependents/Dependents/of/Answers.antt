@@ -1,8 +1,5 @@
-use Rattle.std.proofs.Common.{ap, arith, length, refl, unwrap_or, ◌-◌}
+use Rattle.fbl_audit.proofs.Common.{ap, arith, length, refl, unwrap_or, ◌-◌, slice_get_read, At, WellFormed}
 use Rattle.std.specs.FinSet as set
-use Rattle.std.proofs.lemmas.Option.{slice_get_read}
-use Rattle.fbl_base.specs.Events.{At}
-use Rattle.fbl_base.specs.Rules.{WellFormed}
 use Rattle.fbl_audit.proofs.Following.{Knows-none, Seen-all, Seen-more, member_within}
 use Rattle.fbl_audit.proofs.dependents.Dependents.of.Goals as goal
 

@@ -1,7 +1,6 @@
+use Rattle.fbl_audit.proofs.Common.{arith, ◌∙◌, ap, same_determinant}
 use Rattle.std.specs.FinSet as set
 use Rattle.std.specs.HashMap as hash_map
-use Rattle.std.proofs.Common.{arith, ◌∙◌, ap}
-use Rattle.fbl_base.specs.Events.{same_determinant}
 use Rattle.fbl_audit.proofs.Holding.{held_more}
 use Rattle.fbl_audit.proofs.holders.Holders.of.Goals as goal
 

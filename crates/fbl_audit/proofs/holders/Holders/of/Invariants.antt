@@ -1,9 +1,6 @@
-use Rattle.std.proofs.Common.{◌≡◌, map, take, unwrap_or}
-use Rattle.std.specs.List.{filter}
+use Rattle.fbl_audit.proofs.Common.{◌≡◌, map, take, unwrap_or, filter, Determinant, same_determinant}
 use Rattle.std.specs.FinSet as set
 use Rattle.std.specs.HashMap as hash_map
-use Rattle.fbl_base.specs.declared.trace.Determinant.{Determinant}
-use Rattle.fbl_base.specs.Events.{same_determinant}
 use Rattle.fbl_audit.proofs.holders.Holders.of.Given as goal
 
 abbrev pub invariant-loop-holder : goal.invariant-loop-holder

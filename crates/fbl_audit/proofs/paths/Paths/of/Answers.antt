@@ -1,11 +1,6 @@
-use Rattle.std.proofs.Common.{◌≡◌, None, inl, inr, length, refl, arith, sym, ◌∙◌}
-use Rattle.std.proofs.lemmas.Option.{slice_get_read}
-use Rattle.fbl_base.specs.Events.{At}
-use Rattle.fbl_base.specs.Places.{PlacePrecedes}
-use Rattle.fbl_base.specs.Rules.{WellFormed}
-use Rattle.fbl_audit.specs.Paths.{IsBefore}
+use Rattle.fbl_audit.proofs.Common.{inl, inr, length, refl, arith, sym, ◌∙◌, slice_get_read, At, PlacePrecedes, WellFormed, IsBefore}
 use Rattle.fbl_audit.proofs.Following.{member_within}
-use Rattle.fbl_audit.proofs.Searching.{before_right, comes, none_of, some_of, Seen-more, Seen-same}
+use Rattle.fbl_audit.proofs.Searching.{before_right, comes, none_comes, Knows-more, Knows-same, Seen-push}
 use Rattle.fbl_audit.proofs.paths.Paths.of.Goals as goal
 use Rattle.fbl_audit.proofs.paths.Paths.of.Goals.{then-is_some+in_ok-add, then-is_some-via-then-is_some, then-is_some-via-else-is_some+then-later-place, else-is_some+else-later-place}
 
@@ -24,11 +19,13 @@ loop-later-preserved c =
     elim c.if-is_some.branch [
       | then-is_some+in_ok-add w ↦
           let pr : PlacePrecedes t i p = comes t i p e o at here (elim w.then-is_some.branch [
-            | then-is_some-via-then-is_some w' ↦ inl (some_of o (sym c.is_some.ensures ∙ w'.if-is_some.true))
+            | then-is_some-via-then-is_some w' ↦ inl (sym c.is_some.ensures ∙ w'.if-is_some.true)
             | then-is_some-via-else-is_some+then-later-place w' ↦ inr w'.if-later-place.true
           ]) in
-          rw (w.search-is, c.in_ok-push.ensures.items) (Seen-more t i p _ _ _ _ c.loop-later.earlier.items e o c.loop-later.invariant at within here pr w.add.ensures.ends w.in_ok-add.ensures.sends)
+          rw (w.search-is, c.in_ok-push.ensures.items) (Seen-push t i p _ _ _ _ c.loop-later.earlier.items o c.loop-later.invariant here
+          (Knows-more t i p _ _ _ _ e at within pr c.loop-later.invariant.knows w.add.ensures.ends w.in_ok-add.ensures.sends))
       | else-is_some+else-later-place w ↦
-          let none : o ≡ None = none_of o (sym c.is_some.ensures ∙ w.if-is_some.false) in
-          rw (w.search-is, c.in_ok-push.ensures.items, none) (Seen-same t i p _ _ c.loop-later.earlier.items c.loop-later.invariant w.if-later-place.false (rw none at here))
+          let none = none_comes t i p o here (sym c.is_some.ensures ∙ w.if-is_some.false) w.if-later-place.false in
+          rw (w.search-is, c.in_ok-push.ensures.items) (Seen-push t i p _ _ _ _ c.loop-later.earlier.items o c.loop-later.invariant here
+          (Knows-same t i p _ _ none c.loop-later.invariant.knows))
     ]

@@ -1,5 +1,5 @@
+use Rattle.fbl_audit.proofs.Common.{same_addressed_message}
 use Rattle.std.specs.HashMap as hash_map
-use Rattle.fbl_audit.specs.Dependents.{same_addressed_message}
 use Rattle.fbl_audit.proofs.Searching.{Seen}
 use Rattle.fbl_audit.proofs.paths.Paths.of.Given as goal
 

@@ -1,6 +1,5 @@
-use Rattle.std.proofs.Common.{◌≡◌, ◌<◌, Some, None, arith, ap, ◌∙◌, get_or}
-use Rattle.fbl_audit.specs.Paths.{ArePaths, IsBefore, IsEndBy}
-use Rattle.fbl_audit.proofs.Searching.{IsPath-back, before_at, begins_here}
+use Rattle.fbl_audit.proofs.Common.{◌≡◌, ◌<◌, Some, None, arith, ap, ◌∙◌, get_or, ArePaths, IsBefore, IsEndBy}
+use Rattle.fbl_audit.proofs.Searching.{IsPath-back, before_at}
 use Rattle.fbl_audit.proofs.paths.Paths.to.Goals as goal
 use Rattle.fbl_audit.proofs.paths.Paths.to.Goals.{After-index}
 
@@ -29,7 +28,8 @@ returns-clause-paths c =
     let origin = c.args.self.now in
     let place = c.loop-before.place in
     let at = (goal.at.returns-clause-paths c).After-index in
-    let begins : place ≡ origin.place = begins_here origin.events origin.place place c.index.result.now c.in_default-index.is (before_place at) c.loop-before.invariant.depends in
+    let none : IsBefore origin.events origin.place place None = rw c.in_default-index.is at (before_place at) in
+    let begins : place ≡ origin.place = none c.loop-before.invariant.depends in
     let same : c.args.member ≡ c.number.result = cc in
     let is : get_or c.self.inside.ends c.args.member None ≡ Some c.in-Some.end = ap (λ m. get_or c.self.inside.ends m None) same ∙ c.in-Some.is in
     let within : c.args.member < 16 = omega (arith, c.number.ensures.value, c.number.ensures.bound) in

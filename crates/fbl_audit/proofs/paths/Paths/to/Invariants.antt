@@ -1,6 +1,4 @@
-use Rattle.std.proofs.Common.{reverse}
-use Rattle.fbl_base.specs.Places.{PlacePrecedes}
-use Rattle.fbl_audit.specs.Paths.{IsPath}
+use Rattle.fbl_audit.proofs.Common.{reverse, PlacePrecedes, IsPath}
 use Rattle.fbl_audit.proofs.paths.Paths.to.Given as goal
 
 abbrev pub invariant-loop-before : goal.invariant-loop-before

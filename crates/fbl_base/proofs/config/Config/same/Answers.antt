@@ -1,17 +1,11 @@
-use Rattle.std.proofs.Common.{◌≡◌, rules, ap, sym, ◌∙◌, true, Bool, IsTrue}
+use Rattle.fbl_base.proofs.Common.{◌≡◌, ap, sym, ◌∙◌, true, Settings}
+use Rattle.std.proofs.Common.{rules}
 use Rattle.std.proofs.lemmas.Slice.Eq.{slice_eq-Decides}
-use Rattle.fbl_base.specs.Configs.{Settings}
 use Rattle.fbl_base.proofs.SameStart.{Decides-same_start}
 use Rattle.fbl_base.proofs.config.Config.same.Goals as goal
 
 same_settings : (a b : Settings) → a.members ≡ b.members → a.f ≡ b.f → a.limit ≡ b.limit → a.starts ≡ b.starts → a ≡ b
 same_settings a b e1 e2 e3 e4 i = record { members = e1 i; f = e2 i; limit = e3 i; starts = e4 i }
-
-is_true : (b : Bool) → IsTrue b → b ≡ true
-is_true b h = search rules
-
-true_is : (b : Bool) → b ≡ true → IsTrue b
-true_is b h = search rules
 
 pub returns : goal.returns
 returns g c =
@@ -19,6 +13,8 @@ returns g c =
     let a = c.as_slice.ensures.value in
     let b = c.as_slice-2.ensures.value in
     rw (← c.self.view_is, ← c.other.view_is) (
-      λ t. same_settings _ _ c.if-self-other.false c.if-self-other-2.false c.if-self-other-3.false (sym a ∙ starts.0 (is_true c.eq.result t) ∙ b),
-      λ e. true_is c.eq.result (starts.1 (a ∙ ap (λ (s : Settings). s.starts) e ∙ sym b)),
+      λ t.
+          let yes' : c.eq.result ≡ true = search rules in
+          same_settings _ _ c.if-self-other.false c.if-self-other-2.false c.if-self-other-3.false (sym a ∙ starts.0 yes' ∙ b),
+      λ e. (let yes' : c.eq.result ≡ true = starts.1 (a ∙ ap (λ (s : Settings). s.starts) e ∙ sym b) in search rules),
     )

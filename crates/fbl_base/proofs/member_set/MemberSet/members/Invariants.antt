@@ -1,6 +1,5 @@
 -- the members found are those below the number
-use Rattle.std.proofs.Common.{◌≡◌, take}
-use Rattle.std.specs.List.{filter, range_with_len}
+use Rattle.fbl_base.proofs.Common.{◌≡◌, take, filter, range_with_len}
 use Rattle.std.specs.FinSet as set
 use Rattle.fbl_base.proofs.member_set.MemberSet.members.Given as goal
 

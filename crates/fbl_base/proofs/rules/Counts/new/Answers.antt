@@ -1,4 +1,4 @@
-use Rattle.std.proofs.Common.{◌≡◌, ℕ, zero, suc, ◌++◌, ◌∷◌, [], List, get_or, refl, arith}
+use Rattle.fbl_base.proofs.Common.{◌≡◌, ℕ, zero, suc, ◌++◌, ◌∷◌, [], List, get_or, refl, arith}
 use Rattle.fbl_base.proofs.rules.Counts.new.Goals as goal
 
 -- one more empty channel leaves each channel empty

@@ -1,6 +1,4 @@
-use Rattle.std.proofs.Common.{◌≡◌, ◌≤◌, ◌*◌, length}
-use Rattle.fbl_law.specs.Groups.{channel_in, sum_below}
-use Rattle.fbl_group.specs.Channels.{rows, value_of}
+use Rattle.fbl_group.proofs.Common.{◌≡◌, ◌≤◌, ◌*◌, length, channel_in, sum_below, rows, value_of}
 use Rattle.fbl_group.proofs.channels.Channels.contents_from.Given as goal
 
 abbrev pub invariant-loop-number : goal.invariant-loop-number

@@ -1,5 +1,6 @@
-use Rattle.std.proofs.Common.{arith, refl}
-use Rattle.fbl_group.proofs.Queues.{asked_of, found, in-channels, replacing-kept, replacing-other, within_row}
+use Rattle.fbl_group.proofs.Common.{◌≡◌, ◌||◌, arith, refl}
+use Rattle.std.specs.FinSet as set
+use Rattle.fbl_group.proofs.Queues.{found, in-channels, replacing-kept, replacing-other, within_row}
 use Rattle.fbl_group.proofs.channels.Channels.drop_at.Goals as goal
 use Rattle.fbl_group.proofs.channels.Channels.drop_at.Goals.{then-has_either, else-has_either}
 
@@ -12,7 +13,7 @@ index_mut-requires-then-has_either g c =
 pub loop-receiver-preserved : goal.loop-receiver-preserved
 loop-receiver-preserved g c =
     let so_far = c.loop-receiver.invariant in
-    let asked = asked_of c.args.set c.has_either.ensures c.member_at-from.ensures c.member_at-to.ensures in
+    let asked : c.has_either.result ≡ (set.contains c.args.set c.loop-sender.sender || set.contains c.args.set c.loop-receiver.receiver) = cc in
     let places = in-channels so_far.shape c.loop-sender-test.true c.loop-receiver-test.true in
     elim c.if-has_either.branch [
       | then-has_either w ↦

@@ -1,5 +1,4 @@
-use Rattle.std.proofs.Common.{[]}
-use Rattle.fbl_group.specs.Channels.{rows}
+use Rattle.fbl_group.proofs.Common.{[], rows}
 use Rattle.fbl_group.proofs.Queues.{Replacing}
 use Rattle.fbl_group.proofs.channels.Channels.drop_at.Given as goal
 

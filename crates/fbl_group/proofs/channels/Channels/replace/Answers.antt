@@ -1,5 +1,6 @@
-use Rattle.std.proofs.Common.{inr, refl, ap, ◌∙◌, arith, deque_items}
-use Rattle.fbl_group.proofs.Queues.{asked_of, found, in-channels, replacing-kept, replacing-other, within_row}
+use Rattle.fbl_group.proofs.Common.{◌≡◌, ◌||◌, inr, refl, ap, ◌∙◌, arith, deque_items}
+use Rattle.std.specs.FinSet as set
+use Rattle.fbl_group.proofs.Queues.{found, in-channels, replacing-kept, replacing-other, within_row}
 use Rattle.fbl_group.proofs.channels.Channels.replace.Goals as goal
 use Rattle.fbl_group.proofs.channels.Channels.replace.Goals.{then-has_either, else-has_either}
 
@@ -23,7 +24,7 @@ loop-receiver-preserved g c =
     let below_p = c.loop-receiver-test.true in
     let ours = c.loop-receiver.invariant.replaced in
     let theirs = c.loop-receiver.invariant.left in
-    let asked = asked_of c.args.down c.has_either.ensures c.member_at-from.ensures c.member_at-to.ensures in
+    let asked : c.has_either.result ≡ (set.contains c.args.down q || set.contains c.args.down p) = cc in
     elim c.if-has_either.branch [
       | then-has_either w ↦
           let channel = found c.loop-receiver.self w.from.ensures w.from-then-has_either.ensures (in-channels ours.shape below_q below_p)

@@ -1,5 +1,4 @@
-use Rattle.fbl_law.specs.Groups.{channel_in}
-use Rattle.fbl_group.specs.Channels.{rows}
+use Rattle.fbl_group.proofs.Common.{channel_in, rows}
 use Rattle.fbl_group.proofs.Queues.{Replacing}
 use Rattle.fbl_group.proofs.channels.Channels.replace.Given as goal
 

@@ -1,5 +1,5 @@
-use Rattle.std.proofs.Common.{◌-◌, length, ◌∙◌, arith, deque_len, deque_capacity}
-use Rattle.fbl_group.specs.Channels.{rooms}
+use Rattle.fbl_group.proofs.Common.{◌-◌, length, ◌∙◌, arith, rooms}
+use Rattle.std.proofs.Common.{deque_len, deque_capacity}
 use Rattle.fbl_group.proofs.Queues.{found, listed, reserved-more}
 use Rattle.fbl_group.proofs.channels.Channels.reserve_from.Goals as goal
 

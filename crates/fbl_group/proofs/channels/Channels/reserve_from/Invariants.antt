@@ -1,6 +1,4 @@
-use Rattle.std.proofs.Common.{◌≡◌, ℕ, ◌<◌, ◌≤◌, length, slice_index_or}
-use Rattle.fbl_base.specs.declared.trace.Note.{Note}
-use Rattle.fbl_group.specs.Channels.{rows, room_in}
+use Rattle.fbl_group.proofs.Common.{◌≡◌, ℕ, ◌<◌, ◌≤◌, length, slice_index_or, Note, rows, room_in}
 use Rattle.fbl_group.proofs.channels.Channels.reserve_from.Given as goal
 
 abbrev pub invariant-loop-send : goal.invariant-loop-send

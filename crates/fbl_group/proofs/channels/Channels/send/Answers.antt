@@ -1,4 +1,4 @@
-use Rattle.std.proofs.Common.{◌++◌, ◌∷◌, [], ap, ◌∙◌}
+use Rattle.fbl_group.proofs.Common.{◌++◌, ◌∷◌, [], ap, ◌∙◌}
 use Rattle.fbl_group.proofs.Queues.{found}
 use Rattle.fbl_group.proofs.channels.Channels.send.Goals as goal
 

@@ -1,6 +1,5 @@
-use Rattle.std.proofs.Common.{[], get_or, drop, ap, ◌∙◌, inl}
-use Rattle.fbl_group.specs.Channels.{rooms}
-use Rattle.fbl_group.proofs.Queues.{at-else, found}
+use Rattle.fbl_group.proofs.Common.{drop, ap, ◌∙◌, arith, get_or-set_other}
+use Rattle.fbl_group.proofs.Queues.{found}
 use Rattle.fbl_group.proofs.channels.Channels.take_front.Goals as goal
 
 pub returns : goal.returns
@@ -9,6 +8,5 @@ returns g c =
     c.index_mut.ensures.value c.index_mut-2.ensures.value in
     record {
       taken = channel.changed c.pop_front.new.self (c.pop_front.ensures.rest ∙ ap (λ vs. drop 1 vs) channel.messages);
-      room = λ q p other. ap (λ rs. get_or (get_or rs q []) p 0) (channel.room_set c.pop_front.new.self)
-          ∙ at-else 0 (rooms c.args.self.now) c.args.from c.args.to _ channel.in_room q p (inl other);
+      room = λ q p other. grind (arith, get_or-set_other, channel.room_set c.pop_front.new.self);
     }

@@ -1,6 +1,7 @@
+use Rattle.fbl_group.proofs.Common.{arith}
 use Rattle.fbl_group.proofs.Queues.{made-more, made-none}
 use Rattle.fbl_group.proofs.Recovering.{begun}
-use Rattle.fbl_group.proofs.Views.{all_passed, sound_now}
+use Rattle.fbl_group.proofs.Views.{sound_now}
 use Rattle.fbl_group.proofs.group.Group.begin.Goals as goal
 
 pub loop-number-init : goal.loop-number-init
@@ -8,9 +9,8 @@ loop-number-init g c = rw c.new-rebuilt.ensures.items (made-none _ _)
 
 pub loop-number-preserved : goal.loop-number-preserved
 loop-number-preserved g c =
-    rw c.in_ok-push.ensures.items (made-more _ _ _ _ _ c.loop-number.invariant (rw c.member_at-member.ensures at c.in_ok-begin_one.ensures))
+    rw c.in_ok-push.ensures.items (made-more _ _ _ _ _ c.loop-number.invariant (rw c.at-member.ensures at c.in_ok-begin_one.ensures))
 
 pub returns : goal.returns
 returns g c =
-    begun (sound_now c.self.view_is c.self.invariant)
-    (all_passed c.self.view_is c.members-number-end.ensures.value c.loop-number-test.false c.loop-number.auto.number-end) c.loop-number.invariant
+    begun (sound_now c.self.view_is c.self.invariant) (grind (arith, c.self.view_is, c.loop-number.auto.number-end)) c.loop-number.invariant

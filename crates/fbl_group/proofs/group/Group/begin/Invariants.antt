@@ -1,7 +1,5 @@
-use Rattle.std.proofs.Common.{◌≡◌, [], true}
+use Rattle.fbl_group.proofs.Common.{◌≡◌, [], true, blank, member_checkpoint}
 use Rattle.std.specs.FinSet as set
-use Rattle.fbl_member.specs.Members.{blank}
-use Rattle.fbl_law.specs.Groups.{member_checkpoint}
 use Rattle.fbl_group.proofs.Queues.{Made}
 use Rattle.fbl_group.proofs.group.Group.begin.Given as goal
 

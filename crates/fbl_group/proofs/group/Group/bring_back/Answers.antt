@@ -1,5 +1,4 @@
-use Rattle.std.proofs.Common.{refl, arith}
-use Rattle.fbl_group.specs.Channels.{rows}
+use Rattle.fbl_group.proofs.Common.{refl, arith, rows}
 use Rattle.fbl_group.proofs.BringingBack.{size, short-again, short-rest, fewer, undone-fits, is_sound, recovers}
 use Rattle.fbl_group.proofs.Views.{members_now}
 use Rattle.fbl_group.proofs.group.Group.bring_back.Goals as goal

@@ -1,5 +1,4 @@
-use Rattle.std.proofs.Common.{◌≡◌}
-use Rattle.fbl_law.specs.Steps.{gathered_all, saved_tables}
+use Rattle.fbl_group.proofs.Common.{◌≡◌, gathered_all, saved_tables}
 use Rattle.fbl_group.proofs.group.Group.gather_saved.Given as goal
 
 abbrev pub invariant-loop-number : goal.invariant-loop-number

@@ -1,9 +1,4 @@
-use Rattle.std.proofs.Common.{◌≡◌, [], List, take, map, length, refl, ap, ◌∙◌, arith}
-use Rattle.fbl_table.specs.declared.entry.Entry.{Entry}
-use Rattle.fbl_table.specs.Tables.{gathered, marked}
-use Rattle.fbl_member.specs.Members.{MemberRecord}
-use Rattle.fbl_law.specs.Groups.{GroupRecord}
-use Rattle.fbl_law.specs.Steps.{gathered_all}
+use Rattle.fbl_group.proofs.Common.{◌≡◌, [], List, take, map, length, refl, ap, ◌∙◌, arith, Entry, gathered, marked, MemberRecord, GroupRecord, gathered_all}
 use Rattle.fbl_group.proofs.Recovering.{read_at, gathered-step, gathered-end}
 use Rattle.fbl_group.proofs.Views.{sound_now}
 use Rattle.fbl_group.proofs.group.Group.gather_table.Goals as goal

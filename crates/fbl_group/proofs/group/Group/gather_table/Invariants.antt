@@ -1,6 +1,4 @@
-use Rattle.std.proofs.Common.{◌≡◌, [], take, map}
-use Rattle.fbl_member.specs.Members.{MemberRecord}
-use Rattle.fbl_law.specs.Steps.{gathered_all}
+use Rattle.fbl_group.proofs.Common.{◌≡◌, [], take, map, MemberRecord, gathered_all}
 use Rattle.fbl_group.proofs.group.Group.gather_table.Given as goal
 
 abbrev pub invariant-loop-record : goal.invariant-loop-record

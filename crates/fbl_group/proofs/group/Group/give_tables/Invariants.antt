@@ -1,5 +1,4 @@
-use Rattle.fbl_law.specs.Groups.{knowledge}
-use Rattle.fbl_law.specs.Steps.{recovery_table}
+use Rattle.fbl_group.proofs.Common.{knowledge, recovery_table}
 use Rattle.fbl_group.proofs.GivingTables.{Giving}
 use Rattle.fbl_group.proofs.group.Group.give_tables.Given as goal
 

@@ -1,4 +1,4 @@
-use Rattle.std.proofs.Common.{◌≡◌, ℕ, ◌<◌, false}
+use Rattle.fbl_group.proofs.Common.{◌≡◌, ℕ, ◌<◌, false}
 use Rattle.std.specs.FinSet as set
 use Rattle.fbl_group.proofs.group.Group.is_last_down.Given as goal
 

@@ -1,7 +1,6 @@
-use Rattle.std.proofs.Common.{refl}
+use Rattle.fbl_group.proofs.Common.{refl, rows}
 use Rattle.fbl_law.specs.GroupSteps.{IsGroupStart}
 use Rattle.fbl_law.proofs.GroupStart.{starts-obey, group_start_is_sound}
-use Rattle.fbl_group.specs.Channels.{rows}
 use Rattle.fbl_group.proofs.Queues.{none-shape, none-in}
 use Rattle.fbl_group.proofs.group.Group.new.Given.{Over}
 use Rattle.fbl_group.proofs.group.Group.new.Goals as goal

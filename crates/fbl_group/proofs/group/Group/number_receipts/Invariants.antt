@@ -1,7 +1,6 @@
-use Rattle.std.proofs.Common.{◌≡◌, [], true}
+use Rattle.fbl_group.proofs.Common.{◌≡◌, [], true, member_checkpoint}
 use Rattle.std.specs.FinSet as set
 use Rattle.fbl_table.specs.Receipts.{IsByNumber}
-use Rattle.fbl_law.specs.Groups.{member_checkpoint}
 use Rattle.fbl_group.proofs.Queues.{Made}
 use Rattle.fbl_group.proofs.group.Group.number_receipts.Given as goal
 

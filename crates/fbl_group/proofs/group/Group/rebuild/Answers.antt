@@ -1,4 +1,4 @@
-use Rattle.std.proofs.Common.{arith}
+use Rattle.fbl_group.proofs.Common.{arith}
 use Rattle.fbl_group.proofs.Recovering.{few-replayed, round-last, round-more}
 use Rattle.fbl_group.proofs.group.Group.rebuild.Goals as goal
 

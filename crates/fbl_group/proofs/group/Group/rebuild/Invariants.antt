@@ -1,5 +1,4 @@
-use Rattle.std.proofs.Common.{◌-◌}
-use Rattle.fbl_law.specs.Replaying.{IsReplaying, replayed_in}
+use Rattle.fbl_group.proofs.Common.{◌-◌, IsReplaying, replayed_in}
 use Rattle.fbl_group.proofs.group.Group.rebuild.Given as goal
 
 abbrev pub invariant-loop-rebuilt : goal.invariant-loop-rebuilt

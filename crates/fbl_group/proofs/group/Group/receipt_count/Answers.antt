@@ -1,5 +1,4 @@
-use Rattle.std.proofs.Common.{arith, ap, length}
-use Rattle.fbl_law.specs.Groups.{GroupRecord, marks, receipts}
+use Rattle.fbl_group.proofs.Common.{arith}
 use Rattle.fbl_group.proofs.Reading.{received-twice}
 use Rattle.fbl_group.proofs.group.Group.receipt_count.Goals as goal
 
@@ -9,4 +8,4 @@ overflow_cast-result g c =
     omega (arith, sound.counted, received-twice g.B.Behaviour.next _ sound, sound.room, sound.config.limit.1)
 
 pub returns : goal.returns
-returns g c = omega (arith, c.self.invariant.counted, ap (λ (r : GroupRecord). length (receipts (marks r))) c.self.view_is)
+returns g c = grind (arith, c.self.view_is)

@@ -1,40 +1,39 @@
-use Rattle.std.proofs.Common.{◌∙◌, arith, rules}
+use Rattle.fbl_group.proofs.Common.{◌∙◌, arith, rules}
 use Rattle.fbl_group.proofs.Recovering.{at-place, from-member, may-replay, waits-unsent, replays-one}
-use Rattle.fbl_group.proofs.Views.{members_now, sound_now}
 use Rattle.fbl_group.proofs.group.Group.replay_next.Goals as goal
 
 pub receipt-requires : goal.receipt-requires
 receipt-requires g c =
-    let sound = sound_now c.self.view_is c.self.invariant in
+    let sound = c.recoverable.ensures.sound in
     omega (arith, sound.down c.args.member c.requires.down, c.requires.gathered.receipts.size)
 
 pub note_sent-requires-clause-from : goal.note_sent-requires-clause-from
 note_sent-requires-clause-from g c =
-    from-member (sound_now c.self.view_is c.self.invariant) c.requires.replaying c.requires.down
+    from-member c.recoverable.ensures.sound c.requires.replaying c.requires.down
     (c.from-place.ensures ∙ c.number.ensures.value) c.index.ensures c.requires.gathered.receipts c.receipt.ensures c.received-rsn.ensures.value c.in-Some.is
 
 pub returns-in_default-note_sent : goal.returns-in_default-note_sent
 returns-in_default-note_sent g c =
-    waits-unsent (sound_now c.self.view_is c.self.invariant) c.requires.replaying c.requires.down
+    waits-unsent c.recoverable.ensures.sound c.requires.replaying c.requires.down
     (c.from-place.ensures ∙ c.number.ensures.value) c.index.ensures c.requires.gathered.receipts c.receipt.ensures c.received-rsn.ensures.value
     c.in-Some.is c.as_slice.ensures.value c.note_sent.ensures c.in_default-note_sent.is
 
 pub index_mut-requires : goal.index_mut-requires
 index_mut-requires g c =
-    let within = at-place (sound_now c.self.view_is c.self.invariant) c.requires.replaying c.requires.down
+    let within = at-place c.recoverable.ensures.sound c.requires.replaying c.requires.down
     (c.from-place.ensures ∙ c.number.ensures.value) in omega (arith, within, c.args.rebuilt.now.ok.0)
 
 pub replay_one-requires : goal.replay_one-requires
 replay_one-requires g c =
-    let may = may-replay (sound_now c.self.view_is c.self.invariant) c.requires.replaying c.requires.down
+    let may = may-replay c.recoverable.ensures.sound c.requires.replaying c.requires.down
     (c.from-place.ensures ∙ c.number.ensures.value) c.index.ensures c.requires.gathered.receipts c.receipt.ensures c.received-rsn.ensures.value
     c.in-Some.is c.as_slice.ensures.value c.note_sent.ensures
-    (members_now c.self.view_is c.members-n.ensures.value) c.in-Some-note_sent.is c.index_mut.ensures.value in
+    c.size-n.ensures.value c.in-Some-note_sent.is c.index_mut.ensures.value in
     search (rules, may)
 
 pub returns : goal.returns
 returns g c =
-    replays-one (sound_now c.self.view_is c.self.invariant) c.requires.replaying c.requires.down
+    replays-one c.recoverable.ensures.sound c.requires.replaying c.requires.down
     (c.from-place.ensures ∙ c.number.ensures.value) c.index.ensures c.requires.gathered.receipts c.receipt.ensures c.received-rsn.ensures.value
     c.in-Some.is c.as_slice.ensures.value c.note_sent.ensures
-    (members_now c.self.view_is c.members-n.ensures.value) c.in-Some-note_sent.is c.index_mut.ensures.value c.in_ok-replay_one.ensures.replayed
+    c.size-n.ensures.value c.in-Some-note_sent.is c.index_mut.ensures.value c.in_ok-replay_one.ensures.replayed

@@ -1,6 +1,4 @@
-use Rattle.fbl_group.specs.Channels.{each}
-use Rattle.std.proofs.Common.{◌≡◌, ℕ, ◌<◌, [], length, deque_items, slice_index_or}
-use Rattle.fbl_law.specs.Replaying.{working, sent_again}
+use Rattle.fbl_group.proofs.Common.{each, ◌≡◌, ℕ, ◌<◌, [], length, deque_items, slice_index_or, working, sent_again}
 use Rattle.fbl_group.proofs.Queues.{Made}
 use Rattle.fbl_group.proofs.group.Group.resend.Given as goal
 

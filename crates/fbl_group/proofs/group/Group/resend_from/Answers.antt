@@ -1,8 +1,5 @@
-use Rattle.std.proofs.Common.{sym, ap, ◌∙◌, arith, deque_items}
-use Rattle.std.proofs.lemmas.List.{length-map}
-use Rattle.fbl_law.specs.Replaying.{working, sent_again}
+use Rattle.fbl_group.proofs.Common.{ap, ◌∙◌, arith, deque_items, length-map, working, sent_again}
 use Rattle.fbl_group.proofs.Queues.{made-none, made-mapped}
-use Rattle.fbl_group.proofs.Views.{all_passed}
 use Rattle.fbl_group.proofs.group.Group.resend_from.Goals as goal
 
 pub loop-number-init : goal.loop-number-init
@@ -13,7 +10,7 @@ loop-number-init g c = record {
 
 pub loop-number-preserved : goal.loop-number-preserved
 loop-number-preserved g c =
-    let member = c.member_at-to.ensures in
+    let member = c.at-to.ensures in
     record {
       made =
           rw c.in_ok-push.ensures.items (made-mapped deque_items _ _ c.loop-number.invariant.made
@@ -22,10 +19,4 @@ loop-number-preserved g c =
     }
 
 pub returns : goal.returns
-returns g c =
-    let same = all_passed c.self.view_is c.members-number-end.ensures.value c.loop-number-test.false c.loop-number.auto.number-end in
-    record {
-      size = c.loop-number.row.ok.0 ∙ sym (length-map c.loop-number.row.items deque_items) ∙ c.loop-number.invariant.made.size
-          ∙ same;
-      each = λ p below. c.loop-number.invariant.made.each p (omega (arith, same, below));
-    }
+returns g c = grind (arith, c.self.view_is, length-map)

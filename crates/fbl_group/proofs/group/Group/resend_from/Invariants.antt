@@ -1,6 +1,4 @@
-use Rattle.std.proofs.Common.{◌≡◌, [], map, IfSome, deque_items}
-use Rattle.fbl_table.specs.Tables.{piggybacked}
-use Rattle.fbl_law.specs.Replaying.{working, sent_again}
+use Rattle.fbl_group.proofs.Common.{◌≡◌, [], map, IfSome, deque_items, piggybacked, working, sent_again}
 use Rattle.fbl_group.proofs.Queues.{Made}
 use Rattle.fbl_group.proofs.group.Group.resend_from.Given as goal
 

@@ -1,12 +1,9 @@
-use Rattle.std.proofs.Common.{◌||◌, ap, ◌∙◌}
-use Rattle.std.specs.FinSet as set
-use Rattle.fbl_law.specs.Groups.{GroupRecord}
 use Rattle.fbl_group.proofs.group.Group.resend_on.Goals as goal
 use Rattle.fbl_group.proofs.group.Group.resend_on.Goals.{then-has_either+in_ok-resend_to, else-has_either}
 
 pub returns-clause-made : goal.returns-clause-made
 returns-clause-made g c =
-    let ends = c.has_either.ensures ∙ ap (λ (r : GroupRecord). set.contains r.down c.args.from || set.contains r.down c.args.to) c.self.view_is in
+    let ends = (rw c.down.ensures.down at c.has_either.ensures) in
     elim c.if-has_either.branch [
       | then-has_either+in_ok-resend_to w ↦
           rw (w.wires-is, ← ends, w.if-has_either.true) (rw c.new-wires.ensures.items at w.in_ok-resend_to.ensures.put)

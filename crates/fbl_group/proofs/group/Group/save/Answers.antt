@@ -1,19 +1,16 @@
-use Rattle.std.proofs.Common.{◌≡◌, ap, ◌∙◌, arith}
-use Rattle.fbl_law.specs.Groups.{GroupRecord}
+use Rattle.fbl_group.proofs.Common.{◌∙◌, arith}
 use Rattle.fbl_group.proofs.Checkpointing.{may_checkpoint, is_checkpoint, is_sound, is_fold}
 use Rattle.fbl_group.proofs.group.Group.save.Goals as goal
 
 pub index-requires : goal.index-requires
 index-requires g c =
-    let n : c.self.inside.config.members ≡ c.args.self.now.config.members = ap (λ (r : GroupRecord). r.config.members) c.self.view_is in
     let may = may_checkpoint c.args.self.now c.args.member c.requires in
-    omega (arith, may.below, n, c.self.invariant.members, c.self.inside.members.ok.0, c.from-place.ensures, c.number.ensures.value)
+    grind (arith, c.self.view_is, may)
 
 pub index_mut-requires : goal.index_mut-requires
 index_mut-requires g c =
-    let n : c.self.inside.config.members ≡ c.args.self.now.config.members = ap (λ (r : GroupRecord). r.config.members) c.self.view_is in
     let may = may_checkpoint c.args.self.now c.args.member c.requires in
-    omega (arith, may.below, n, c.self.invariant.checkpoints, c.self.inside.checkpoints.ok.0, c.from-place.ensures, c.number.ensures.value)
+    grind (arith, c.self.view_is, may)
 
 pub invariant_of-self : goal.invariant_of-self
 invariant_of-self g c =

@@ -1,5 +1,4 @@
-use Rattle.std.proofs.Common.{◌≡◌, ◌≢◌, ℕ, ◌+◌, ◌<◌, ◌^◌, length, arith, rules, refl, ap, ◌∙◌, Fits, w64}
-use Rattle.fbl_group.specs.Channels.{room_in}
+use Rattle.fbl_group.proofs.Common.{◌≡◌, length, arith, rules, refl, ap, ◌∙◌, room_in}
 use Rattle.fbl_group.proofs.BringingBack.{on_err}
 use Rattle.fbl_group.proofs.Queues.{is-there, length-messages, made-fits}
 use Rattle.fbl_group.proofs.Planning as planning
@@ -62,9 +61,7 @@ pub overflow_add-self : goal.overflow_add-self
 overflow_add-self g c =
     let room = planning.room g.met.B.Behaviour.sends_allowed c.self.invariant c.self.view_is c.requires in
     let ranges = c.self.ranges in
-    rises c.self.inside.receipts_ever ranges.1.1.1.1.1.1.0.1 room.1 where
-      rises : (n : ℕ) → n < 2 ^ 64 → n ≢ 18446744073709551615 → Fits w64 (n + 1)
-      rises n below other = omega (arith, below, other)
+    omega (arith, room.1, ranges.1.1.1.1.1.1.0.1)
 
 pub invariant_of-self-2 : goal.invariant_of-self-2
 invariant_of-self-2 g c =

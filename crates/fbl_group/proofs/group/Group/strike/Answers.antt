@@ -1,22 +1,7 @@
-use Rattle.std.proofs.Common.{refl, ◌∙◌}
-use Rattle.fbl_law.specs.Groups.{GroupRecord}
-use Rattle.fbl_law.proofs.Promises.{sound_has_no_orphan, sound_records_first}
-use Rattle.fbl_group.specs.Channels.{rows}
+use Rattle.fbl_group.proofs.Common.{refl, ◌∙◌, GroupRecord, sound_has_no_orphan, sound_records_first, rows}
 use Rattle.fbl_group.proofs.Promised.{survivors_hold, records_causes}
 use Rattle.fbl_group.proofs.Striking.{is_strike, is_sound, count-lost}
 use Rattle.fbl_group.proofs.group.Group.strike.Goals as goal
-
-pub returns-in_err-allow_strike-clause-no_orphan : goal.returns-in_err-allow_strike-clause-no_orphan
-returns-in_err-allow_strike-clause-no_orphan g c m = rw (← c.self.view_is) (sound_has_no_orphan g.B.Behaviour.next _ m c.self.invariant)
-
-pub returns-in_err-allow_strike-clause-survivors : goal.returns-in_err-allow_strike-clause-survivors
-returns-in_err-allow_strike-clause-survivors g c = rw (← c.self.view_is) (survivors_hold g.B.Behaviour.next _ c.self.invariant)
-
-pub returns-in_err-allow_strike-clause-first : goal.returns-in_err-allow_strike-clause-first
-returns-in_err-allow_strike-clause-first g c = rw (← c.self.view_is) (sound_records_first g.B.Behaviour.next _ c.self.invariant)
-
-pub returns-in_err-allow_strike-clause-causes : goal.returns-in_err-allow_strike-clause-causes
-returns-in_err-allow_strike-clause-causes g c = rw (← c.self.view_is) (records_causes g.B.Behaviour.next _ c.self.invariant)
 
 pub invariant_of-self : goal.invariant_of-self
 invariant_of-self g c =

@@ -1,4 +1,4 @@
-use Rattle.std.proofs.Common.{◌≡◌, sym, ap, ◌∙◌, arith}
+use Rattle.fbl_group.proofs.Common.{◌≡◌, ◌∙◌, arith}
 use Rattle.std.specs.FinSet as set
 use Rattle.fbl_group.proofs.PuttingBack.{put-down, put-up, put-end}
 use Rattle.fbl_group.proofs.rebuilt.Rebuilt.put_back.Goals as goal
@@ -6,7 +6,7 @@ use Rattle.fbl_group.proofs.rebuilt.Rebuilt.put_back.Goals.{then-has, else-has}
 
 pub loop-number-preserved : goal.loop-number-preserved
 loop-number-preserved g c =
-    let asked : set.contains c.args.self.down c.loop-number.number ≡ c.has.result = ap (λ x. set.contains c.args.self.down x) (sym c.member_at.ensures) ∙ sym c.has.ensures in
+    let asked : set.contains c.args.self.down c.loop-number.number ≡ c.has.result = cc in
     elim c.if-has.branch [
       | then-has w ↦
           rw (w.members-is, w.records-is) (put-down c.loop-number.invariant w.swap.new.y c.from-place.ensures

@@ -1,12 +1,11 @@
-use Rattle.std.proofs.Common.{◌≡◌, ◌-◌, arith, slice_index_or}
-use Rattle.fbl_member.specs.Members.{blank}
+use Rattle.fbl_group.proofs.Common.{◌≡◌, ◌-◌, arith, slice_index_or, blank}
 use Rattle.fbl_group.proofs.PuttingBack.{counted-more}
 use Rattle.fbl_group.proofs.rebuilt.Rebuilt.replayed.Goals as goal
 
 pub loop-number-preserved : goal.loop-number-preserved
 loop-number-preserved g c =
     let more = counted-more c.args.self.now.down (λ p. (slice_index_or c.args.self.now.records.items p blank).received - (slice_index_or c.args.checkpoints.now p blank).received)
-    c.member_at.ensures c.loop-number.invariant.counted c.loop-number.invariant.bound c.replayed_by-replayed.ensures.value c.replayed_by-replayed.ensures.bound in
+    c.at.ensures c.loop-number.invariant.counted c.loop-number.invariant.bound c.replayed_by-replayed.ensures.value c.replayed_by-replayed.ensures.bound in
     record { counted = more.0; bound = more.1 }
 
 pub returns : goal.returns

@@ -1,6 +1,4 @@
-use Rattle.std.proofs.Common.{◌≡◌, ◌-◌, ◌≤◌, ◌*◌, slice_index_or}
-use Rattle.fbl_member.specs.Members.{blank}
-use Rattle.fbl_law.specs.Replaying.{count_in}
+use Rattle.fbl_group.proofs.Common.{◌≡◌, ◌-◌, ◌≤◌, ◌*◌, slice_index_or, blank, count_in}
 use Rattle.fbl_group.proofs.rebuilt.Rebuilt.replayed.Given as goal
 
 abbrev pub invariant-loop-number : goal.invariant-loop-number

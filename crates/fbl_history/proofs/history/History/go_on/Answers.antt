@@ -1,10 +1,8 @@
-use Rattle.std.proofs.Common.{List, Ok, ◌++◌, drop, sym, ap, ◌∙◌}
+use Rattle.fbl_history.proofs.Common.{List, ◌++◌, drop, sym, ap, ◌∙◌, Column, go_on, trace_columns}
+use Rattle.std.proofs.Common.{Ok}
 use Rattle.std.proofs.lemmas.Iterator.Consumers.{YieldsList-at}
 use Rattle.std.proofs.lemmas.Iterator.Adapters.{YieldsList-from_skip, YieldsList-from_vec, items_from_extend}
 use Rattle.std.specs.declared.alloc.AllocError.{AllocError}
-use Rattle.fbl_history.specs.declared.column.Column.{Column}
-use Rattle.fbl_history.specs.Columns.{go_on}
-use Rattle.fbl_history.specs.Traces.{trace_columns}
 use Rattle.fbl_history.proofs.history.History.go_on.Goals as goal
 
 pub returns : goal.returns

@@ -1,8 +1,5 @@
-use Rattle.std.proofs.Common.{◌-◌, Some, ◌∙◌, arith, length, refl, take}
+use Rattle.fbl_member.proofs.Common.{◌-◌, Some, ◌∙◌, arith, length, refl, take, piggybacked, slice_get_read, HasRoom}
 use Rattle.std.proofs.lemmas.List.Elements.{All-pop}
-use Rattle.fbl_table.specs.Tables.{piggybacked}
-use Rattle.std.proofs.lemmas.Option.{slice_get_read}
-use Rattle.fbl_member.specs.Rooms.{HasRoom}
 use Rattle.fbl_member.proofs.Logs.{messages-next, made-carried}
 use Rattle.fbl_member.proofs.Once.{IsOnce-piggybacked}
 use Rattle.fbl_member.proofs.buffers.Buffers.into_wires.Goals as goal

@@ -1,9 +1,4 @@
-use Rattle.std.proofs.Common.{◌≡◌, ◌+◌, ◌≤◌, take, length}
-use Rattle.std.specs.List.{All}
-use Rattle.std.specs.Vec.{vec_len, vec_capacity}
-use Rattle.fbl_table.specs.Tables.{piggybacked}
-use Rattle.fbl_member.specs.Members.{messages_from}
-use Rattle.fbl_member.specs.Rooms.{HasRoom}
+use Rattle.fbl_member.proofs.Common.{◌≡◌, ◌+◌, ◌≤◌, take, length, All, vec_len, vec_capacity, piggybacked, messages_from, HasRoom}
 use Rattle.fbl_member.proofs.buffers.Buffers.into_wires.Given as goal
 
 abbrev pub invariant-loop-place : goal.invariant-loop-place

@@ -1,7 +1,5 @@
-use Rattle.std.proofs.Common.{refl, ◌≡◌, ap, ◌∙◌, sym, arith, length, true, false, take}
-use Rattle.std.proofs.lemmas.List.{append-nil, take_all}
-use Rattle.fbl_base.specs.Fold.{starts_of}
-use Rattle.std.proofs.lemmas.Option.{slice_get_read}
+use Rattle.fbl_member.proofs.Common.{refl, ◌≡◌, ap, ◌∙◌, arith, length, take, append-nil, starts_of, slice_get_read}
+use Rattle.std.proofs.lemmas.List.{take_all}
 use Rattle.fbl_member.proofs.Logs.{starts-step, few_starts}
 use Rattle.fbl_member.proofs.member_rec.MemberRec.fresh.Goals as goal
 use Rattle.fbl_member.proofs.member_rec.MemberRec.fresh.Goals.{then-eq+in_ok-push, else-eq}
@@ -12,11 +10,10 @@ loop-start-preserved g c =
     let i = c.loop-start.start-index in
     let s = c.start-item.result in
     let at = slice_get_read starts _ i s refl c.loop-start-test.true c.start-item.is in
+    let more = starts-step c.args.me starts i s at in
     elim c.if-eq.branch [
-      | then-eq+in_ok-push w ↦
-          rw (w.log-is, w.in_ok-push.ensures.items, c.loop-start.invariant) (sym (starts-step c.args.me starts i s true at (sym c.eq.ensures ∙ w.if-eq.true)))
-      | else-eq w ↦
-          rw (w.log-is, c.loop-start.invariant) (sym (starts-step c.args.me starts i s false at (sym c.eq.ensures ∙ w.if-eq.false) ∙ append-nil _))
+      | then-eq+in_ok-push w ↦ rw (w.log-is, w.in_ok-push.ensures.items, c.loop-start.invariant, more, ← c.eq.ensures, w.if-eq.true)
+      | else-eq w ↦ rw (w.log-is, c.loop-start.invariant, more, ← c.eq.ensures, w.if-eq.false, append-nil)
     ]
 
 pub invariant_of-member : goal.invariant_of-member

@@ -1,5 +1,4 @@
-use Rattle.std.proofs.Common.{◌≡◌, take}
-use Rattle.fbl_base.specs.Fold.{starts_of}
+use Rattle.fbl_member.proofs.Common.{◌≡◌, take, starts_of}
 use Rattle.fbl_member.proofs.member_rec.MemberRec.fresh.Given as goal
 
 abbrev pub invariant-loop-start : goal.invariant-loop-start

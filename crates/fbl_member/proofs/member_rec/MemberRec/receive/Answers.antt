@@ -1,8 +1,5 @@
-use Rattle.std.proofs.Common.{◌≡◌, ◌+◌, ◌≤◌, ◌++◌, ap, arith, length, refl}
+use Rattle.fbl_member.proofs.Common.{◌≡◌, ◌+◌, ◌≤◌, ◌++◌, ap, arith, length, refl, Determinant, piggybacked, HasRoom}
 use Rattle.std.proofs.lemmas.List.Elements.{All-weaker}
-use Rattle.fbl_base.specs.declared.trace.Determinant.{Determinant}
-use Rattle.fbl_table.specs.Tables.{piggybacked}
-use Rattle.fbl_member.specs.Rooms.{HasRoom}
 use Rattle.fbl_member.proofs.Logs.{bounded, numbered-more}
 use Rattle.fbl_member.proofs.member_rec.MemberRec.receive.Given.{Over}
 use Rattle.fbl_member.proofs.member_rec.MemberRec.receive.Goals as goal

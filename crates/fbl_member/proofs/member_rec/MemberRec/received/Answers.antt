@@ -1,4 +1,4 @@
-use Rattle.std.proofs.Common.{refl}
+use Rattle.fbl_member.proofs.Common.{refl}
 use Rattle.fbl_member.proofs.Logs.{kept}
 use Rattle.fbl_member.proofs.member_rec.MemberRec.received.Goals as goal
 

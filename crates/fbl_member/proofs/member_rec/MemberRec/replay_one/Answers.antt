@@ -1,4 +1,4 @@
-use Rattle.std.proofs.Common.{refl}
+use Rattle.fbl_member.proofs.Common.{refl}
 use Rattle.fbl_member.proofs.Logs.{bounded, numbered-more}
 use Rattle.fbl_member.proofs.member_rec.MemberRec.replay_one.Goals as goal
 

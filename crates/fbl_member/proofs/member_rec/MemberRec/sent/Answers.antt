@@ -1,4 +1,4 @@
-use Rattle.std.proofs.Common.{◌≡◌, refl, length, rules, sym, ◌∙◌}
+use Rattle.fbl_member.proofs.Common.{◌≡◌, refl, length, rules, sym, ◌∙◌}
 use Rattle.fbl_member.proofs.Logs.{kept, length-numbered}
 use Rattle.fbl_member.proofs.member_rec.MemberRec.sent.Goals as goal
 

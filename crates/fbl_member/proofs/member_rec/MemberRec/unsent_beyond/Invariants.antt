@@ -1,6 +1,4 @@
-use Rattle.std.proofs.Common.{◌≡◌, take}
-use Rattle.fbl_base.specs.Fold.{numbered}
-use Rattle.fbl_member.specs.Members.{logged_beyond}
+use Rattle.fbl_member.proofs.Common.{◌≡◌, take, numbered, logged_beyond}
 use Rattle.fbl_member.proofs.member_rec.MemberRec.unsent_beyond.Given as goal
 
 abbrev pub invariant-loop-place : goal.invariant-loop-place

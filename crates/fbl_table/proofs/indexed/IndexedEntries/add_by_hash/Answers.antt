@@ -1,15 +1,9 @@
-use Rattle.std.proofs.Common.{◌≡◌, ◌++◌, [], ◌∷◌, ◌∙◌, None, Some, ap, sym, length, map}
-use Rattle.std.proofs.lemmas.List.{length-map}
+use Rattle.fbl_table.proofs.Common.{◌≡◌, ◌++◌, [], ◌∷◌, ◌∙◌, None, Some, ap, sym, length, map, append-nil, length-map, lookup, nat_cmp, insert_entry, same_determinant}
+use Rattle.fbl_table.proofs.Common.{Entry, listed, entry_of}
 use Rattle.std.specs.FinSet as set
-use Rattle.std.specs.Map.{lookup}
-use Rattle.std.specs.Ordering.{nat_cmp}
-use Rattle.indexmap.specs.IndexMap.{insert_entry}
-use Rattle.fbl_base.specs.Events.{same_determinant}
-use Rattle.fbl_table.specs.declared.entry.Entry.{Entry}
-use Rattle.fbl_table.specs.Indexed.{listed}
-use Rattle.fbl_table.specs.Tables.{added, entry_of}
-use Rattle.fbl_table.proofs.Adding.{Pairs, added-at, added-new, inserted, place_in, not_held-missing, place-missing, replaced, IsReplaced}
-use Rattle.fbl_table.proofs.Indexing.{index-push, index-push_closed, index-united, open-more, open-push}
+use Rattle.fbl_table.specs.Tables.{added}
+use Rattle.fbl_table.proofs.Adding.{Pairs, added_at, added_new, inserted, place_in, not_held-missing, place-missing, replaced, IsReplaced}
+use Rattle.fbl_table.proofs.Indexing.{index-push, index-united}
 use Rattle.fbl_table.proofs.indexed.IndexedEntries.add_by_hash.Given.{Over}
 use Rattle.fbl_table.proofs.indexed.IndexedEntries.add_by_hash.Goals as goal
 use Rattle.fbl_table.proofs.indexed.IndexedEntries.add_by_hash.Goals.{After-unwrap-place}
@@ -44,24 +38,23 @@ module _ (g : Over) (c : After-unwrap-place g) where
     entries = ap (map entry_of) written ∙ inserted es entry (looked_up ∙ none)
 
     is-added : map entry_of c.insert_full.new.self.entries ≡ added (map entry_of es) entry
-    is-added = entries ∙ sym (added-new (map entry_of es) entry (not_held-missing es entry.det (looked_up ∙ none)))
+    is-added = entries ∙ sym (added_new (map entry_of es) entry (not_held-missing es entry.det (looked_up ∙ none)))
 
 pub returns-in-Some-clause-entries : goal.returns-in-Some-clause-entries
 returns-in-Some-clause-entries g c =
     let at = (goal.at.returns-in-Some-clause-entries g c).After-unwrap-place in
     let r = replacing g at c.in-Some.before c.union-united.result c.in-Some.is in
     rw (written g at, place g at, r.2, c.union-united.ensures)
-    (added-at c.args.self.now.entries.entries c.args.entry _ _ c.len-distinct.ensures.unique r.0 r.1)
+    (added_at c.args.self.now.entries.entries c.args.entry _ _ c.len-distinct.ensures.unique r.0 r.1)
 
 pub returns-in-Some-clause-indexed : goal.returns-in-Some-clause-indexed
 returns-in-Some-clause-indexed g c is =
     let at = (goal.at.returns-in-Some-clause-indexed g c).After-unwrap-place in
     let old = c.args.self.now in
     let r = replacing g at c.in-Some.before c.union-united.result c.in-Some.is in
-    let kept =
-    index-united old.limit old.entries.entries c.args.entry _ _ _ c.len-distinct.ensures.unique r.0 r.1 c.union-united.ensures
-    old.stale c.closes.result c.closes.ensures old.open_places.items is.index is.exact in
-    rw (written g at, place g at, r.2) (record { index = kept.0; exact = kept.1 })
+    rw (written g at, place g at, r.2)
+    (index-united old.limit old.entries.entries c.args.entry _ _ _ c.len-distinct.ensures.unique r.0 r.1 c.union-united.ensures
+    old.stale c.closes.result c.closes.ensures old.open_places.items is)
 
 pub returns-then-is_open-clause-entries : goal.returns-then-is_open-clause-entries
 returns-then-is_open-clause-entries g c = is-added g (goal.at.returns-then-is_open-clause-entries g c).After-unwrap-place c.in-None.is
@@ -74,19 +67,11 @@ returns-then-is_open-clause-indexed g c is =
     let at = (goal.at.returns-then-is_open-clause-indexed g c).After-unwrap-place in
     let old = c.args.self.now in
     let opens = sym c.is_open.ensures ∙ c.if-is_open.true in
-    record {
-      index = rw (entries g at c.in-None.is, c.push_reserved.ensures.items, last g at c.in-None.is) (index-push old.limit (listed old) c.args.entry old.open_places.items is.index);
-      exact = λ fresh.
-          rw (entries g at c.in-None.is, c.push_reserved.ensures.items, last g at c.in-None.is)
-          (open-push old.limit (listed old) c.args.entry old.open_places.items opens (is.exact fresh));
-    }
+    rw (entries g at c.in-None.is, c.push_reserved.ensures.items, last g at c.in-None.is) (rw opens at (index-push old.limit (listed old) c.args.entry old.open_places.items old.stale is))
 
 pub returns-else-is_open-clause-indexed : goal.returns-else-is_open-clause-indexed
 returns-else-is_open-clause-indexed g c is =
     let at = (goal.at.returns-else-is_open-clause-indexed g c).After-unwrap-place in
     let old = c.args.self.now in
     let closed = sym c.is_open.ensures ∙ c.if-is_open.false in
-    record {
-      index = rw (entries g at c.in-None.is) (index-push_closed old.limit (listed old) c.args.entry old.open_places.items closed is.index);
-      exact = λ fresh. rw (entries g at c.in-None.is) (open-more old.limit (listed old) c.args.entry old.open_places.items (is.exact fresh));
-    }
+    rw (entries g at c.in-None.is) (rw (closed, append-nil) at (index-push old.limit (listed old) c.args.entry old.open_places.items old.stale is))

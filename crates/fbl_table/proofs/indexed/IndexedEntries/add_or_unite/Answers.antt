@@ -1,5 +1,4 @@
-use Rattle.std.proofs.Common.{arith, ap, not, length, cond, ℕ}
-use Rattle.fbl_table.specs.Indexed.{listed}
+use Rattle.fbl_table.proofs.Common.{arith, ap, not, length, cond, ℕ, listed}
 use Rattle.fbl_table.proofs.Adding.{length-added}
 use Rattle.fbl_table.proofs.indexed.IndexedEntries.add_or_unite.Goals as goal
 

@@ -1,4 +1,4 @@
-use Rattle.std.proofs.Common.{rules, ◌≡◌}
+use Rattle.fbl_table.proofs.Common.{rules, ◌≡◌}
 use Rattle.std.proofs.lemmas.Map.Entries.{entries_from_clone}
 use Rattle.fbl_table.proofs.indexed.IndexedEntries.copy.Goals as goal
 
@@ -8,7 +8,4 @@ returns-clause-indexed g c =
     let entries : c.in_ok-clone.field-0.entries ≡ kept.entries.entries =
     entries_from_clone _ _ (λ x y is. is) (λ v w is. is) kept.entries.entries c.in_ok-clone.field-0.entries c.in_ok-clone.ensures.cases in
     let places : c.extend_from_slice.new.self.items ≡ kept.open_places.items = search rules in
-    record {
-      index = rw (entries, places) c.requires.index;
-      exact = λ fresh. rw (entries, places) (c.requires.exact fresh);
-    }
+    rw (entries, places) c.requires

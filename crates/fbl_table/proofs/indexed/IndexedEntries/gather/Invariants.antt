@@ -1,6 +1,4 @@
-use Rattle.std.proofs.Common.{◌≡◌, ◌+◌, ◌≤◌, take, length, count_by}
-use Rattle.fbl_table.specs.Indexed.{listed, room, KeepsIndex}
-use Rattle.fbl_table.specs.Tables.{lacks, gathered}
+use Rattle.fbl_table.proofs.Common.{◌≡◌, ◌+◌, ◌≤◌, take, length, count_by, listed, room, KeepsIndex, lacks, gathered}
 use Rattle.fbl_table.proofs.indexed.IndexedEntries.gather.Given as goal
 
 abbrev pub invariant-loop-place : goal.invariant-loop-place

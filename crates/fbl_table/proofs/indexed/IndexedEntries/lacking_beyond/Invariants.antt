@@ -1,6 +1,4 @@
-use Rattle.std.proofs.Common.{◌≤◌, take, count_by}
-use Rattle.fbl_table.specs.Indexed.{listed}
-use Rattle.fbl_table.specs.Tables.{lacks}
+use Rattle.fbl_table.proofs.Common.{◌≤◌, take, count_by, listed, lacks}
 use Rattle.fbl_table.proofs.indexed.IndexedEntries.lacking_beyond.Given as goal
 
 abbrev pub invariant-loop-place : goal.invariant-loop-place

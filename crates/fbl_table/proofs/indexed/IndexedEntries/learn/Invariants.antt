@@ -1,6 +1,5 @@
-use Rattle.std.proofs.Common.{◌≡◌, ◌+◌, ◌≤◌, take}
-use Rattle.fbl_table.specs.Indexed.{listed, room, IsIndexed}
-use Rattle.fbl_table.specs.Tables.{learned}
+use Rattle.fbl_table.proofs.Common.{◌≡◌, ◌+◌, ◌≤◌, take, listed, room, learned}
+use Rattle.fbl_table.specs.Indexed.{IsIndexed}
 use Rattle.fbl_table.proofs.indexed.IndexedEntries.learn.Given as goal
 
 abbrev pub invariant-loop-entry : goal.invariant-loop-entry

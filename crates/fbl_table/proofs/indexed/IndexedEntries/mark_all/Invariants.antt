@@ -1,6 +1,5 @@
-use Rattle.std.proofs.Common.{◌≡◌, length}
+use Rattle.fbl_table.proofs.Common.{◌≡◌, length, listed}
 use Rattle.indexmap.specs.IndexMap.{spare}
-use Rattle.fbl_table.specs.Indexed.{listed}
 use Rattle.fbl_table.proofs.Adding.{marked_first}
 use Rattle.fbl_table.proofs.indexed.IndexedEntries.mark_all.Given as goal
 

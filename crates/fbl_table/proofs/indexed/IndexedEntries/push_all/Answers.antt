@@ -1,8 +1,4 @@
-use Rattle.std.proofs.Common.{arith, ◌∙◌}
-use Rattle.std.proofs.lemmas.List.Elements.{filter-append}
-use Rattle.std.specs.Vec.{vec_capacity}
-use Rattle.fbl_table.specs.Indexed.{listed}
-use Rattle.fbl_table.specs.Tables.{is_open, piggybacked}
+use Rattle.fbl_table.proofs.Common.{arith, ◌∙◌, filter-append, vec_capacity, listed, is_open, piggybacked}
 use Rattle.fbl_table.proofs.Passing.{pushed, fits}
 use Rattle.fbl_table.proofs.indexed.IndexedEntries.push_all.Goals as goal
 

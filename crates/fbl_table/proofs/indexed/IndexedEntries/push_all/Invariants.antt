@@ -1,7 +1,4 @@
-use Rattle.std.proofs.Common.{◌≡◌, ◌++◌, take}
-use Rattle.std.specs.Vec.{vec_capacity}
-use Rattle.fbl_table.specs.Indexed.{listed}
-use Rattle.fbl_table.specs.Tables.{piggybacked}
+use Rattle.fbl_table.proofs.Common.{◌≡◌, ◌++◌, take, vec_capacity, listed, piggybacked}
 use Rattle.fbl_table.proofs.indexed.IndexedEntries.push_all.Given as goal
 
 abbrev pub invariant-loop-place : goal.invariant-loop-place

@@ -1,7 +1,4 @@
-use Rattle.std.proofs.Common.{◌≡◌, ◌++◌, take, slice_get}
-use Rattle.std.specs.List.{filter_map}
-use Rattle.std.specs.Vec.{vec_capacity}
-use Rattle.fbl_table.specs.Indexed.{listed}
+use Rattle.fbl_table.proofs.Common.{◌≡◌, ◌++◌, take, slice_get, filter_map, vec_capacity, listed}
 use Rattle.fbl_table.proofs.indexed.IndexedEntries.push_open.Given as goal
 
 abbrev pub invariant-loop-place : goal.invariant-loop-place

@@ -1,5 +1,4 @@
-use Rattle.fbl_table.specs.Indexed.{listed}
-use Rattle.fbl_table.specs.Tables.{HasInPlace}
+use Rattle.fbl_table.proofs.Common.{listed, HasInPlace}
 use Rattle.fbl_table.proofs.indexed.IndexedEntries.shared_places.Given as goal
 
 abbrev pub invariant-loop-place : goal.invariant-loop-place

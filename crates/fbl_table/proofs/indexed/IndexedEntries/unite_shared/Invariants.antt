@@ -1,6 +1,4 @@
-use Rattle.std.proofs.Common.{◌≡◌, take}
-use Rattle.fbl_table.specs.Indexed.{listed, KeepsIndex}
-use Rattle.fbl_table.specs.Tables.{HasInPlace, gathered}
+use Rattle.fbl_table.proofs.Common.{◌≡◌, take, listed, KeepsIndex, HasInPlace, gathered}
 use Rattle.fbl_table.proofs.indexed.IndexedEntries.unite_shared.Given as goal
 
 abbrev pub invariant-loop-place : goal.invariant-loop-place

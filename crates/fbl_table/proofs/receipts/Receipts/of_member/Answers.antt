@@ -1,4 +1,4 @@
-use Rattle.std.proofs.Common.{sym, ◌∙◌}
+use Rattle.fbl_table.proofs.Common.{sym, ◌∙◌}
 use Rattle.fbl_table.proofs.Numbering.{by_number-other, by_number-put}
 use Rattle.fbl_table.proofs.receipts.Receipts.of_member.Goals as goal
 use Rattle.fbl_table.proofs.receipts.Receipts.of_member.Goals.{then-is_beyond+in_ok-put_first, else-is_beyond}

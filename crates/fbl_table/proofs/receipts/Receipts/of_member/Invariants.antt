@@ -1,5 +1,4 @@
-use Rattle.std.proofs.Common.{take}
-use Rattle.fbl_table.specs.Receipts.{IsByNumber}
+use Rattle.fbl_table.proofs.Common.{take, IsByNumber}
 use Rattle.fbl_table.proofs.receipts.Receipts.of_member.Given as goal
 
 abbrev pub invariant-loop-place : goal.invariant-loop-place

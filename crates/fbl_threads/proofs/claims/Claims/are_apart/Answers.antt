@@ -1,4 +1,4 @@
-use Rattle.std.proofs.Common.{rules, ap, ◌≡◌, ◌∙◌, sym, Some}
+use Rattle.fbl_threads.proofs.Common.{rules, ap, ◌≡◌, ◌∙◌, sym, Some}
 use Rattle.fbl_threads.proofs.Exclusion.{splits, joins_none}
 use Rattle.fbl_threads.proofs.claims.Claims.are_apart.Goals as goal
 

@@ -1,4 +1,4 @@
-use Rattle.std.proofs.Common.{rules, ap}
+use Rattle.fbl_threads.proofs.Common.{rules, ap}
 use Rattle.fbl_threads.proofs.Exclusion.{joins}
 use Rattle.fbl_threads.proofs.claims.Claims.join.Goals as goal
 

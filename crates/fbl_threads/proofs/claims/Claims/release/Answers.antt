@@ -1,4 +1,4 @@
-use Rattle.std.proofs.Common.{◌≡◌, rules}
+use Rattle.fbl_threads.proofs.Common.{◌≡◌, rules}
 use Rattle.fbl_threads.proofs.Exclusion.{gives_back}
 use Rattle.fbl_threads.proofs.claims.Claims.release.Goals as goal
 

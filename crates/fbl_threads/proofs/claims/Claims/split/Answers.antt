@@ -1,4 +1,4 @@
-use Rattle.std.proofs.Common.{rules, ap}
+use Rattle.fbl_threads.proofs.Common.{rules, ap}
 use Rattle.fbl_threads.proofs.Exclusion.{splits}
 use Rattle.fbl_threads.proofs.claims.Claims.split.Goals as goal
 

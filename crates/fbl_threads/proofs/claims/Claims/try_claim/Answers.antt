@@ -1,4 +1,4 @@
-use Rattle.std.proofs.Common.{rules}
+use Rattle.fbl_threads.proofs.Common.{rules}
 use Rattle.fbl_threads.proofs.Exclusion.{takes}
 use Rattle.fbl_threads.proofs.claims.Claims.try_claim.Goals as goal
 

@@ -1,4 +1,4 @@
-use Rattle.std.proofs.Common.{ℕ, ◌<◌}
+use Rattle.fbl_threads.proofs.Common.{ℕ, ◌<◌}
 use Rattle.fbl_threads.specs.Turns.{MayTake}
 use Rattle.fbl_threads.proofs.ledgered.Ledgered.take_first.Given as goal
 

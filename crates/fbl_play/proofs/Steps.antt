@@ -1,0 +1,18 @@
+-- Steps along commands go on by one command.
+use Rattle.fbl_play.proofs.Common.{◌≡◌, ℕ, ◌<◌, ◌+◌, List, [], ◌∷◌, ◌++◌, length, take, get_or, refl, Account, Command}
+use Rattle.std.proofs.lemmas.List.{take_more}
+use Rattle.fbl_play.specs.Runs.{Along}
+
+module _ {S : Type 0} (step : S → Command → Account → S → Type 0) where
+  along_more : (cs : List Command) (accounts : List Account) (c : Command) (account : Account) (old mid new : S)
+      → Along step cs accounts old mid → step mid c account new → Along step (cs ++ c ∷ []) (accounts ++ account ∷ []) old new
+  along_more [] [] c account old mid new is last = (new, (rw is at last), refl)
+  along_more (d ∷ cs) (a ∷ accounts) c account old mid new is last = (is.0, is.1, along_more cs accounts c account is.0 mid new is.2 last)
+  along_more [] (a ∷ accounts) c account old mid new is last = absurd is
+  along_more (d ∷ cs) [] c account old mid new is last = absurd is
+
+  -- the command at a place, after those before it
+  pub along_next : (cs : List Command) (i : ℕ) (c : Command) (accounts : List Account) (account : Account) (old mid new : S) → i < length cs → c ≡ get_or cs i c
+      → Along step (take i cs) accounts old mid → step mid c account new → Along step (take (i + 1) cs) (accounts ++ account ∷ []) old new
+  along_next cs i c accounts account old mid new within at is last =
+      rw (take_more cs i c within, ← at) (along_more (take i cs) accounts c account old mid new is last)

@@ -1,0 +1,226 @@
+//! Drains whose end is the same for every schedule.
+
+use super::fixtures::{
+    STATES_OF_TWELVE, drain_by, group, has_counts, has_states, total, twelve_receipts,
+};
+use fbl_base::{Relay, Start, Strike};
+use fbl_fixtures::{set, start, strike};
+use fbl_group::{Group, Recovered};
+use fbl_threads::{Drained, NoGate, drain};
+use std::alloc::Global;
+use std::process::Abort;
+use std::sync::Wait;
+use std::test::Fail;
+use std::thread::Threads;
+
+/// Whether this is a quiet end of a drain, with the members in these states, and with so many receipts made and undone.
+fn is_quiet_end(
+    group: &Group<Relay>,
+    drained: &Drained,
+    states: &[u64],
+    made: u64,
+    undone: u64,
+) -> bool {
+    drained.quiet
+        && has_states(group, states)
+        && total(drained.by_worker.as_slice()) == made
+        && total(drained.undone_by_worker.as_slice()) == undone
+}
+
+/// Whether a drain of the twelve receipts by this plan ends quietly, with what it undid made up for.
+fn is_made_up_for<R: Threads + Wait + Sync>(
+    rt: &R,
+    alloc: Global,
+    plan: &[Strike],
+    workers: u8,
+) -> Result<bool, Fail> {
+    let group = twelve_receipts(alloc)?;
+    let (group, answer) = drain_by(rt, alloc, group, plan, workers);
+    let drained = answer?;
+    let undone = total(drained.undone_by_worker.as_slice());
+    let made = undone.saturating_add(12);
+    Ok(is_quiet_end(&group, &drained, &STATES_OF_TWELVE, made, undone))
+}
+
+/// Asserts that this plan is made up for by any number of workers.
+fn make_up_for<R: Threads + Wait + Sync + Abort>(
+    rt: &R,
+    alloc: Global,
+    plan: &[Strike],
+) -> Result<(), Fail> {
+    for workers in 1..=8 {
+        assert!(rt;
+            is_made_up_for(rt, alloc, plan, workers)?,
+            "{plan:?}, {workers} workers"
+        );
+    }
+    Ok(())
+}
+
+#[test]
+fn a_plan_of_three_strikes_is_made_up_for(rt: HostRuntime) -> Result<(), Fail> {
+    let plan = [strike(2, &[1])?, strike(5, &[0, 3])?, strike(9, &[2])?];
+    make_up_for(&rt, rt.alloc(), &plan)
+}
+
+#[test]
+fn a_strike_at_each_count_is_made_up_for(rt: HostRuntime) -> Result<(), Fail> {
+    for at in 1..=12 {
+        for number in 0..4 {
+            make_up_for(&rt, rt.alloc(), &[strike(at, &[number])?])?;
+        }
+    }
+    Ok(())
+}
+
+/// Whether a drain of two messages to member 1, which passes none on, makes and undoes so many receipts by this plan.
+fn is_applied<R: Threads + Wait + Sync>(
+    rt: &R,
+    alloc: Global,
+    plan: &[Strike],
+    workers: u8,
+    made: u64,
+    undone: u64,
+) -> Result<bool, Fail> {
+    let group = group(alloc, 3, 1, 8192, &[start(0, 1, 5, 0)?, start(0, 1, 6, 0)?])?;
+    let (group, answer) = drain_by(rt, alloc, group, plan, workers);
+    Ok(is_quiet_end(&group, &answer?, &[0, 11, 0], made, undone))
+}
+
+// Each strike of the only member that receives undoes all that it received.
+#[test]
+fn a_plan_is_applied_at_its_count(rt: HostRuntime) -> Result<(), Fail> {
+    let plan = [strike(2, &[1])?, strike(3, &[1])?];
+    for workers in [1, 2, 8] {
+        for (entries, made, undone) in [(0, 2, 0), (1, 4, 2), (2, 5, 3)] {
+            assert!(rt;
+                is_applied(&rt, rt.alloc(), &plan[..entries], workers, made, undone)?,
+                "{workers} workers, {entries} entries"
+            );
+        }
+    }
+    Ok(())
+}
+
+/// Whether a recovery replayed 15 receipts, sent nothing again and undid nothing.
+fn is_replay_only(recovered: Recovered) -> bool {
+    recovered.replayed == 15 && recovered.resent == 0 && recovered.undone == 0
+}
+
+/// Strikes and recovers all members of 16 but the first, and answers whether each of them replays a receipt and has its
+/// state again.
+fn comes_back(group: &mut Group<Relay>) -> Result<bool, Fail> {
+    let struck = group.strike(set(&[1, 2, 3, 4, 5, 6, 7, 8, 9, 10, 11, 12, 13, 14, 15])?)?;
+    let recovered = group.recover()?;
+    Ok(struck.lost == 0 && is_replay_only(recovered) && has_states(group, &[1; 16]))
+}
+
+/// Whether a message that went round 16 members is replayed by all but the first of them.
+fn is_replayed<R: Threads + Wait + Sync>(rt: &R, alloc: Global, workers: u8) -> Result<bool, Fail> {
+    let group = group(alloc, 16, 15, 8192, &[start(0, 1, 1, 15)?])?;
+    let (mut group, answer) = drain_by(rt, alloc, group, &[], workers);
+    Ok(answer?.quiet && comes_back(&mut group)?)
+}
+
+#[test]
+fn a_ring_of_16_comes_back_from_one_survivor(rt: HostRuntime) -> Result<(), Fail> {
+    for workers in [1, 2, 8] {
+        assert!(rt; is_replayed(&rt, rt.alloc(), workers)?, "{workers} workers");
+    }
+    Ok(())
+}
+
+/// Each of 16 members sends the next one a message.
+fn round_starts(alloc: Global) -> Result<Vec<Start>, Fail> {
+    let mut starts = Vec::new(alloc);
+    for number in 0..16u8 {
+        let (next, value) = ((number + 1) % 16, u32::from(number) + 1);
+        starts.push(start(number, next, value, 3)?)?;
+    }
+    Ok(starts)
+}
+
+/// A member of 16 is struck at each count from 1 to 64.
+fn round_plan(alloc: Global) -> Result<Vec<Strike>, Fail> {
+    let mut plan = Vec::new(alloc);
+    for at in 1..=64u8 {
+        plan.push(strike(u64::from(at), &[at % 16])?)?;
+    }
+    Ok(plan)
+}
+
+/// Whether these messages are all delivered in spite of 64 strikes.
+fn is_delivered<R: Threads + Wait + Sync>(
+    rt: &R,
+    alloc: Global,
+    workers: u8,
+) -> Result<bool, Fail> {
+    let group = group(alloc, 16, 15, 8192, &round_starts(alloc)?)?;
+    let plan = round_plan(alloc)?;
+    let (group, answer) = drain_by(rt, alloc, group, &plan, workers);
+    let states = [
+        58, 46, 34, 22, 10, 14, 18, 22, 26, 30, 34, 38, 42, 46, 50, 54,
+    ];
+    Ok(answer?.quiet && has_states(&group, &states))
+}
+
+#[test]
+fn a_strike_at_each_of_64_counts_is_made_up_for(rt: HostRuntime) -> Result<(), Fail> {
+    for workers in [1, 2, 8] {
+        assert!(rt;
+            is_delivered(&rt, rt.alloc(), workers)?,
+            "{workers} workers"
+        );
+    }
+    Ok(())
+}
+
+/// Whether this is the end of a drain that found no room for a receipt of the only message.
+fn is_full_end(group: &Group<Relay>, drained: &Drained) -> bool {
+    drained.full
+        && !drained.quiet
+        && !drained.memory
+        && total(drained.by_worker.as_slice()) == 0
+        && group.messages_in_flight() == 1
+        && has_states(group, &[0, 0])
+}
+
+/// Whether a drain of a group with no room for its one message ends so, with no receipt.
+fn ends_full<R: Threads + Wait + Sync>(rt: &R, alloc: Global, workers: u8) -> Result<bool, Fail> {
+    let group = group(alloc, 2, 1, 2, &[start(0, 1, 5, 1)?])?;
+    let (group, answer) = drain_by(rt, alloc, group, &[], workers);
+    Ok(is_full_end(&group, &answer?))
+}
+
+#[test]
+fn a_full_group_ends_a_drain(rt: HostRuntime) -> Result<(), Fail> {
+    for workers in [1, 2, 8] {
+        assert!(rt; ends_full(&rt, rt.alloc(), workers)?, "{workers} workers");
+    }
+    Ok(())
+}
+
+#[test]
+fn a_drain_without_turns_leaves_the_group_as_it_was(rt: HostRuntime) -> Result<(), Fail> {
+    let group = twelve_receipts(rt.alloc())?;
+    let (group, answer) = drain(&rt, rt.alloc(), group, &[], 2, 0, &NoGate);
+    let drained = answer?;
+    assert!(rt; !drained.quiet && !drained.full && !drained.memory);
+    assert!(rt; has_counts(&drained, &[0, 0], &[0, 0]));
+    assert!(rt; group.messages_in_flight() == 3 && group.receipts_ever() == 0);
+    Ok(())
+}
+
+/// With one turn each, worker 0 looks for messages to member 0, to whom none is in flight, and worker 1 for those to member 1.
+#[test]
+fn what_a_worker_does_is_booked_to_its_place(rt: HostRuntime) -> Result<(), Fail> {
+    let starts = [start(0, 1, 5, 0)?, start(0, 1, 6, 0)?];
+    let group = group(rt.alloc(), 2, 1, 8192, &starts)?;
+    let plan = [strike(1, &[1])?];
+    let (group, answer) = drain(&rt, rt.alloc(), group, &plan, 2, 1, &NoGate);
+    let drained = answer?;
+    assert!(rt; drained.started == 2 && !drained.quiet && !drained.full && !drained.memory);
+    assert!(rt; has_counts(&drained, &[0, 1], &[0, 1]));
+    assert!(rt; group.messages_in_flight() == 2 && group.receipts_ever() == 1);
+    Ok(())
+}

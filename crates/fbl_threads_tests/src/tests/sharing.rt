@@ -1,0 +1,223 @@
+//! A group under a lock, each call of it in a hold of its own.
+
+use super::fixtures::{TURNS, group};
+use fbl_base::{Note, Relay, Start};
+use fbl_fixtures::{member, set, start};
+use fbl_group::{
+    CommitRefusal, CrashRefusal, DeliverRefusal, Done, Receipted, RecoverRefusal, Recovered,
+    StrikeRefusal, Struck, run_step,
+};
+use fbl_threads::{NoGate, SharedGroup, drain};
+use std::alloc::Global;
+use std::process::Abort;
+use std::sync::Wait;
+use std::test::Fail;
+
+fn receipted(rsn: u32, state: u64) -> Receipted {
+    Receipted {
+        rsn,
+        carried: 0,
+        state,
+    }
+}
+
+/// A shared group of these many members with a limit on its trace.
+fn shared(
+    alloc: Global,
+    members: u8,
+    limit: u32,
+    starts: &[Start],
+) -> Result<SharedGroup<Relay>, Fail> {
+    Ok(SharedGroup::new(group(alloc, members, 1, limit, starts)?))
+}
+
+/// A recovery in which nobody had anything to replay.
+fn recovered(resent: u32, undone: u32) -> Recovered {
+    Recovered {
+        replayed: 0,
+        resent,
+        undone,
+    }
+}
+
+/// The step of member 1's next message from member 0.
+fn step<R: Wait>(rt: &R, shared: &SharedGroup<Relay>) -> Result<Done<Relay>, Fail> {
+    let ticket = shared.lock(rt).take(member(1)?, member(0)?)?;
+    Ok(run_step(ticket))
+}
+
+/// Whether the step's ticket has this state, receipt number and send number, and this note.
+fn has_ticket(done: &Done<Relay>, parts: (u64, u32, u32), note: Note) -> bool {
+    let ticket = done.ticket();
+    (ticket.state, ticket.rsn, ticket.ssn) == parts && ticket.note == note
+}
+
+/// Delivers member 1's next message from member 0, which has to be answered so.
+fn deliver<R: Wait + Abort>(
+    rt: &R,
+    shared: &SharedGroup<Relay>,
+    expected: Result<Receipted, DeliverRefusal>,
+) -> Result<(), Fail> {
+    let answer = shared.lock(rt).deliver(member(1)?, member(0)?);
+    assert_eq!(rt; answer, expected);
+    Ok(())
+}
+
+/// Commits the step, which has to be answered so.
+fn commit<R: Wait + Abort>(
+    rt: &R,
+    shared: &SharedGroup<Relay>,
+    done: &Done<Relay>,
+    expected: Result<Receipted, CommitRefusal>,
+) {
+    let answer = shared.lock(rt).commit(done);
+    assert_eq!(rt; answer, expected);
+}
+
+/// Strikes and recovers the members in one hold, which has to be answered so.
+fn crash<R: Wait + Abort>(
+    rt: &R,
+    shared: &SharedGroup<Relay>,
+    numbers: &[u8],
+    expected: Result<(Struck, Recovered), CrashRefusal>,
+) -> Result<(), Fail> {
+    let answer = shared.lock(rt).crash(set(numbers)?);
+    assert_eq!(rt; answer, expected);
+    Ok(())
+}
+
+/// Strikes the members, which has to be answered so.
+fn strike<R: Wait + Abort>(
+    rt: &R,
+    shared: &SharedGroup<Relay>,
+    numbers: &[u8],
+    expected: Result<Struck, StrikeRefusal>,
+) -> Result<(), Fail> {
+    let answer = shared.lock(rt).strike(set(numbers)?);
+    assert_eq!(rt; answer, expected);
+    Ok(())
+}
+
+/// Recovers the members that are down, which has to be answered so.
+fn recover<R: Wait + Abort>(
+    rt: &R,
+    shared: &SharedGroup<Relay>,
+    expected: Result<Recovered, RecoverRefusal>,
+) {
+    let answer = shared.lock(rt).recover();
+    assert_eq!(rt; answer, expected);
+}
+
+// The member is rolled back and comes to the same state again while its step is made.
+#[test]
+fn a_step_outlives_a_crash_only_where_its_member_comes_back_to_it(
+    rt: HostRuntime,
+) -> Result<(), Fail> {
+    let starts = [start(0, 1, 5, 0)?, start(0, 1, 6, 0)?];
+    let shared = shared(rt.alloc(), 3, 8192, &starts)?;
+    deliver(&rt, &shared, Ok(receipted(1, 5)))?;
+    let done = step(&rt, &shared)?;
+    assert!(rt; has_ticket(&done, (5, 2, 2), Note { value: 6, hops: 0 }));
+    crash(
+        &rt,
+        &shared,
+        &[1],
+        Ok((Struck { lost: 1 }, recovered(2, 1))),
+    )?;
+    commit(&rt, &shared, &done, Err(CommitRefusal::Stale));
+    deliver(&rt, &shared, Ok(receipted(1, 5)))?;
+    commit(&rt, &shared, &done, Ok(receipted(2, 11)));
+    commit(&rt, &shared, &done, Err(CommitRefusal::Stale));
+    Ok(())
+}
+
+#[test]
+fn a_step_waits_for_a_recovery(rt: HostRuntime) -> Result<(), Fail> {
+    let shared = shared(rt.alloc(), 2, 3, &[start(0, 1, 5, 1)?])?;
+    let done = step(&rt, &shared)?;
+    assert!(rt; has_ticket(&done, (0, 1, 1), Note { value: 5, hops: 1 }));
+    strike(&rt, &shared, &[0], Ok(Struck { lost: 0 }))?;
+    commit(&rt, &shared, &done, Err(CommitRefusal::Down));
+    recover(&rt, &shared, Ok(recovered(1, 0)));
+    commit(&rt, &shared, &done, Ok(receipted(1, 5)));
+    commit(&rt, &shared, &done, Err(CommitRefusal::Stale));
+    Ok(())
+}
+
+#[test]
+fn a_step_without_room_may_be_committed_again(rt: HostRuntime) -> Result<(), Fail> {
+    let shared = shared(rt.alloc(), 2, 2, &[start(0, 1, 5, 1)?])?;
+    let done = step(&rt, &shared)?;
+    for _ in 0..2 {
+        commit(&rt, &shared, &done, Err(CommitRefusal::Full));
+    }
+    let group = shared.into_inner();
+    assert!(rt; group.messages_in_flight() == 1 && group.trace().len() == 1);
+    Ok(())
+}
+
+#[test]
+fn a_crash_is_a_strike_and_a_recovery_in_one_hold(rt: HostRuntime) -> Result<(), Fail> {
+    let starts = [start(0, 1, 5, 0)?, start(0, 1, 6, 0)?];
+    let shared = shared(rt.alloc(), 3, 8192, &starts)?;
+    recover(&rt, &shared, Err(RecoverRefusal::NotDown));
+    deliver(&rt, &shared, Ok(receipted(1, 5)))?;
+    deliver(&rt, &shared, Ok(receipted(2, 11)))?;
+    crash(&rt, &shared, &[0, 1], Err(CrashRefusal::TooMany))?;
+    crash(
+        &rt,
+        &shared,
+        &[1],
+        Ok((Struck { lost: 2 }, recovered(2, 2))),
+    )?;
+    let group = shared.into_inner();
+    assert!(rt; group.receipts_ever() == 2 && group.undone_ever() == 2);
+    Ok(())
+}
+
+// Members 1 and 2 are struck, the second one in the crash that recovers both.
+#[test]
+fn a_crash_recovers_those_that_were_down_before(rt: HostRuntime) -> Result<(), Fail> {
+    let mut group = group(rt.alloc(), 3, 2, 8192, &[start(0, 1, 5, 2)?])?;
+    let answers = [
+        group.deliver(member(1)?, member(0)?)?.carried,
+        group.deliver(member(2)?, member(1)?)?.carried,
+        group.deliver(member(0)?, member(2)?)?.carried,
+    ];
+    assert_eq!(rt; answers, [0, 1, 2]);
+    assert_eq!(rt; group.strike(set(&[1])?)?, Struck { lost: 0 });
+    let shared = SharedGroup::new(group);
+    let both = Recovered {
+        replayed: 2,
+        resent: 0,
+        undone: 0,
+    };
+    crash(&rt, &shared, &[2], Ok((Struck { lost: 0 }, both)))?;
+    let group = shared.into_inner();
+    assert_eq!(rt; group.down(), set(&[])?);
+    assert_eq!(rt; group.config().members(), 3);
+    assert_eq!(rt; group.state(member(1)?), 5);
+    assert_eq!(rt; group.state(member(2)?), 5);
+    Ok(())
+}
+
+// The member begins at its checkpoint, and workers leave the checkpoint as it is.
+#[test]
+fn a_crash_recovers_from_a_checkpoint_that_a_drain_keeps(rt: HostRuntime) -> Result<(), Fail> {
+    let mut group = group(rt.alloc(), 3, 1, 8192, &[start(0, 1, 5, 2)?])?;
+    group.deliver(member(1)?, member(0)?)?;
+    group.checkpoint(member(1)?)?;
+    let shared = SharedGroup::new(group);
+    crash(
+        &rt,
+        &shared,
+        &[1],
+        Ok((Struck { lost: 0 }, recovered(1, 0))),
+    )?;
+    let (group, answer) = drain(&rt, rt.alloc(), shared.into_inner(), &[], 2, TURNS, &NoGate);
+    assert!(rt; answer?.quiet);
+    assert_eq!(rt; group.config().members(), 3);
+    assert_eq!(rt; group.checkpoint_received(member(1)?), 1);
+    assert_eq!(rt; group.state(member(1)?), 5);
+    Ok(())
+}
