@@ -1,10 +1,10 @@
 -- Which receipts are unsafe, and that the run is safe where none is.
 use Rattle.fbl_audit.proofs.Common.{ℕ, Bool, true, false, ◌≡◌, ◌<◌, ◌≤◌, ◌+◌, ◌==◌, ◌↔◌, inl, inr, List, [], ◌∷◌, ◌++◌, length, take, map, Some}
-use Rattle.fbl_audit.proofs.Common.{None, refl, sym, ap, ◌∙◌, arith, get_or, max, zero, suc, slice_get, filter, filter_map, nat_cmp_total, slice_get_read, false≢true, Members}
+use Rattle.fbl_audit.proofs.Common.{refl, sym, ap, ◌∙◌, arith, get_or, max, zero, suc, slice_get, filter, filter_map, nat_cmp_total, slice_get_read, false≢true, Members}
 use Rattle.fbl_audit.proofs.Common.{Determinant, Mark, Send, Receipt, Parts, IsDump, IsDumpOrphan, IsLost, At, determinant_of, receipt_of, same_determinant, Depends, depends-from_places}
 use Rattle.fbl_audit.proofs.Common.{places-from_depends, Has-first, Decides-same_determinant, len-remove_one, len-within, some_member, IsSafe, SaysUnsafe, receipts_of_dump, Dependents}
 use Rattle.fbl_audit.proofs.Common.{AreDependents, WellFormed, holders_of}
-use Rattle.std.proofs.Common.{◌&&◌, append-nil}
+use Rattle.std.proofs.Common.{◌&&◌}
 use Rattle.std.specs.List.{Contains, cons_option, list_any}
 use Rattle.std.specs.FinSet as set
 use Rattle.std.proofs.lemmas.List.{take_more}
@@ -128,42 +128,24 @@ says_more dump (d ∷ ds) more said said' first last = elim first [
 said_is_unsafe : (dump : Parts) (d : Determinant) (said : UnsafeReceipt) → IsSaidOf dump d said → IsUnsafe dump d
 said_is_unsafe dump d said is = (said.strike, is.may, is.loses, (is.some.0, (is.orphans is.some.0).0 is.some.1))
 
--- the events go on by one: a receipt of which something is said, a receipt that is not unsafe, or no receipt
-module _ (dump : Parts) (events : List Mark) (i : ℕ) (e : Mark) (within : i < length events) (is : e ≡ get_or events i e) (said : List UnsafeReceipt)
-    (says : SaysUnsafe dump (filter_map determinant_of (take i events)) said) where
-  one_more : filter_map determinant_of (take (i + 1) events) ≡ filter_map determinant_of (take i events) ++ cons_option (determinant_of e) []
-  one_more = rw (take_more events i e within, ← is, filter_map-append determinant_of (take i events) (e ∷ []))
+-- the events go on by one
+pub says_next : (dump : Parts) (events : List Mark) (i : ℕ) (e : Mark) → i < length events → e ≡ get_or events i e → (said said' : List UnsafeReceipt)
+    → SaysUnsafe dump (filter_map determinant_of (take i events)) said → SaysUnsafe dump (cons_option (determinant_of e) []) said'
+    → SaysUnsafe dump (filter_map determinant_of (take (i + 1) events)) (said ++ said')
+says_next dump events i e within is said said' says here =
+    rw (take_more events i e within, ← is, filter_map-append determinant_of (take i events) (e ∷ [])) (says_more dump _ _ said said' says here)
 
-  pub says_unsafe : (d : Determinant) (first : UnsafeReceipt) → determinant_of e ≡ Some d → IsSaidOf dump d first
-      → SaysUnsafe dump (filter_map determinant_of (take (i + 1) events)) (said ++ first ∷ [])
-  says_unsafe d first of_e is_said = rw (one_more, of_e) (says_more dump _ (d ∷ []) said (first ∷ []) says (inr (first, [], refl, is_said, refl)))
-
-  pub says_nothing : (d : Determinant) → determinant_of e ≡ Some d → ¬ (IsUnsafe dump d) → SaysUnsafe dump (filter_map determinant_of (take (i + 1) events)) said
-  says_nothing d of_e safe =
-      let all : SaysUnsafe dump (filter_map determinant_of (take i events) ++ d ∷ []) (said ++ []) = says_more dump _ (d ∷ []) said [] says (inl (safe, refl)) in
-      rw (one_more, of_e) (rw (append-nil said) at all)
-
-  pub says_no_receipt : determinant_of e ≡ None → SaysUnsafe dump (filter_map determinant_of (take (i + 1) events)) said
-  says_no_receipt none = rw (one_more, none, append-nil) says
-
--- nothing is said where no receipt is unsafe, and where nothing is said none is
-says_none : (dump : Parts) (ds : List Determinant) (said : List UnsafeReceipt) → SaysUnsafe dump ds said → ((d : Determinant) → ¬ (IsUnsafe dump d)) → said ≡ []
-says_none dump [] said says none = says
-says_none dump (d ∷ ds) said says none = elim says [
-  | inl safe ↦ says_none dump ds said safe.1 none
-  | inr un ↦ absurd (none d (said_is_unsafe dump d un.0 un.3))
-]
-
-none_said : (dump : Parts) (ds : List Determinant) (said : List UnsafeReceipt) → SaysUnsafe dump ds said → said ≡ [] → (i : ℕ) (d : Determinant)
-    → slice_get ds i ≡ Some d → ¬ (IsUnsafe dump d)
-none_said dump [] said says none i d at = cc
-none_said dump (e ∷ ds) said says none zero d at = elim says [
-  | inl safe ↦ (let same : e ≡ d = cc in rw same at safe.0)
-  | inr un ↦ (let no : [] ≡ un.0 ∷ un.1 = sym none ∙ un.2 in cc)
-]
-none_said dump (e ∷ ds) said says none (suc i) d at = elim says [
-  | inl safe ↦ none_said dump ds said safe.1 none i d at
-  | inr un ↦ (let no : [] ≡ un.0 ∷ un.1 = sym none ∙ un.2 in cc)
+-- nothing is said exactly where no receipt is unsafe
+says_none : (dump : Parts) (ds : List Determinant) (said : List UnsafeReceipt) → SaysUnsafe dump ds said
+    → (said ≡ []) ↔ ((i : ℕ) (d : Determinant) → slice_get ds i ≡ Some d → ¬ (IsUnsafe dump d))
+says_none dump [] said says = (λ none i d at. cc, λ none. says)
+says_none dump (e ∷ ds) said says = elim says [
+  | inl safe ↦
+      let rest = says_none dump ds said safe.1 in (
+        λ none. elim [ zero ↦ λ d at. (let same : e ≡ d = cc in rw same at safe.0) | suc i ↦ rest.0 none i ],
+        λ none. rest.1 (λ i. none (suc i)),
+      )
+  | inr un ↦ (λ none. absurd (let no : [] ≡ un.0 ∷ un.1 = sym none ∙ un.2 in cc), λ none. absurd (none zero e refl (said_is_unsafe dump e un.0 un.3)))
 ]
 
 -- whom the loss of the members leaves as an orphan, it leaves as one of some receipt
@@ -180,8 +162,8 @@ says_safe dump said says = (
       let left = left_of_receipt dump members q orphan in
       let has = Has-first left.2.1.1 in
       let among = filter_map-At determinant_of dump.events has.0 (receipt_of left.0) left.0 has.1 refl in
-      none_said dump (receipts_of_dump dump) said says none among.0 left.0 among.1 (members, may, left.1, (q, left.2)),
-  λ safe. says_none dump (receipts_of_dump dump) said says (λ d u. safe u.0 u.1 u.3.0 (u.3.1.0, (receipt_of d, u.2, u.3.1.1))),
+      (says_none dump (receipts_of_dump dump) said says).0 none among.0 left.0 among.1 (members, may, left.1, (q, left.2)),
+  λ safe. (says_none dump (receipts_of_dump dump) said says).1 (λ i d at u. safe u.0 u.1 u.3.0 (u.3.1.0, (receipt_of d, u.2, u.3.1.1))),
 )
 
 -- who is found to depend on a receipt's place depends on the receipt

@@ -1,9 +1,10 @@
 -- A pass from the end of a trace finds who depends on each event.
-use Rattle.fbl_audit.proofs.Common.{ℕ, Bool, true, false, ◌≡◌, ◌<◌, ◌≤◌, ◌+◌, ◌⊎◌, ◌↔◌, inl, inr, List, length, Some, None, refl, sym, ap, ◌∙◌, arith}
-use Rattle.fbl_audit.proofs.Common.{get_or, get_or-set_same, get_or-set_other, length-set, length-append, ◌-◌, ◌++◌, [], ◌∷◌, cond, replicate, Decides, nat_tests, false≢true}
+use Rattle.fbl_audit.proofs.Common.{ℕ, Bool, true, false, ◌≡◌, ◌<◌, ◌≤◌, ◌+◌, ◌⊎◌, ◌↔◌, inl, inr, List, length, Some, refl, sym, ap, ◌∙◌, arith}
+use Rattle.fbl_audit.proofs.Common.{get_or, length-set, length-append, ◌-◌, ◌++◌, [], ◌∷◌, cond, replicate, Decides, nat_tests, false≢true}
 use Rattle.fbl_audit.proofs.Common.{cases_eq, nat_cmp_total, Mark, Send, Receipt, At, member_of, send_of, WellFormed, PlaceLeads, PlacePrecedes, same_place, place_step, Members, At-below}
 use Rattle.fbl_audit.proofs.Common.{get_or-same, Message, Dependents, AreDependents, message_taken_by, same_addressed_message}
-use Rattle.std.proofs.Common.{set as set_at}
+use Rattle.std.proofs.Common.{◌==◌, set as set_at}
+use Rattle.std.proofs.lemmas.Grind.{common_steps}
 use Rattle.std.specs.Cmp.{unsigned_tied}
 use Rattle.std.proofs.lemmas.List.{get_or_push, get_or_append_left}
 use Rattle.std.specs.Ordering.{nat_cmp}
@@ -20,17 +21,34 @@ first_step (place_step {j} {k} p l) = elim (first_step p) [
   | inr more ↦ inr (more.0, more.1, place_step more.2 l)
 ]
 
--- the member depends on some event at one of these places of which P holds
-abbrev pub DependsAmong : List Mark → (ℕ → Type 0) → (Mark → Type 0) → ℕ → Type 0
-DependsAmong t Places P member = (j : ℕ) × (b : Mark) × Places j × At t j b × P b × DependsOnPlace t member j
+-- the members are those that something at one of these places reaches
+abbrev pub AreReached : (ℕ → Type 0) → (ℕ → ℕ → Type 0) → Members → Type 0
+AreReached Places Reaches members = (q : ℕ) → (set.contains members q ≡ true) ↔ ((j : ℕ) × Places j × Reaches j q)
 
--- and at place i or later
-abbrev pub DependsOnLater : List Mark → (Mark → Type 0) → ℕ → ℕ → Type 0
-DependsOnLater t P i = DependsAmong t (λ j. i ≤ j) P
+pub AreReached-none : (Places : ℕ → Type 0) (Reaches : ℕ → ℕ → Type 0) → ((j q : ℕ) → Places j → ¬ (Reaches j q)) → AreReached Places Reaches set.empty
+AreReached-none Places Reaches none q = (λ h. absurd (false≢true (sym (set.contains-empty nat_cmp q) ∙ h)), λ w. absurd (none w.0 q w.1 w.2))
 
--- the members are those that depend on an event at one of these places of which P holds
-abbrev pub AreAmong : List Mark → (ℕ → Type 0) → (Mark → Type 0) → Members → Type 0
-AreAmong t Places P members = (q : ℕ) → (set.contains members q ≡ true) ↔ DependsAmong t Places P q
+-- one place more: those that it reaches join
+pub AreReached-next : (Old New : ℕ → Type 0) (i : ℕ) → ((j : ℕ) → New j ↔ Old j ⊎ (j ≡ i)) → (Reaches : ℕ → ℕ → Type 0) (old new : Members) → AreReached Old Reaches old
+    → ((q : ℕ) → (set.contains new q ≡ true) ↔ (set.contains old q ≡ true) ⊎ Reaches i q) → AreReached New Reaches new
+AreReached-next Old New i places Reaches old new are joined q = (
+  λ h. elim ((joined q).0 h) [
+    | inl before ↦ (let w = (are q).0 before in (w.0, (places w.0).1 (inl w.1), w.2))
+    | inr here ↦ (i, (places i).1 (inr refl), here)
+  ],
+  λ w. (joined q).1 (elim ((places w.0).0 w.1) [
+    | inl before ↦ inl ((are q).1 (w.0, before, w.2))
+    | inr here ↦ inr (rw here at w.2)
+  ]),
+)
+
+-- P holds of the event at the place, and the member depends on it
+abbrev pub DependsBy : List Mark → (Mark → Type 0) → ℕ → ℕ → Type 0
+DependsBy t P j member = (b : Mark) × At t j b × P b × DependsOnPlace t member j
+
+-- the member depends on some event of which P holds, at place i or later
+pub DependsOnLater : List Mark → (Mark → Type 0) → ℕ → ℕ → Type 0
+DependsOnLater t P i member = (j : ℕ) × (i ≤ j) × DependsBy t P j member
 
 -- one place has one event
 pub same_event : (t : List Mark) (i j : ℕ) (a b : Mark) → i ≡ j → At t i a → At t j b → a ≡ b
@@ -40,6 +58,7 @@ same_event t i j a b here at_i at_j = (let e : Some a ≡ Some b = sym at_i ∙ 
 -- event sends
 depends_here : (t : List Mark) (i member : ℕ) (e : Mark) → At t i e
     → DependsOnPlace t member i ↔ (member_of e ≡ member) ⊎ DependsOnLater t (λ b. member_of b ≡ member_of e) (i + 1) member ⊎ DependsOnLater t (λ b. send_of b ≡ Some e) (i + 1) member
+unfolding DependsOnLater
 depends_here t i member e at = (
   λ d. elim (first_step d.2) [
     | inl here ↦ inl ((let same : e ≡ d.1 = same_event t i d.0 e d.1 here at d.3 in (rw same d.4)))
@@ -47,15 +66,15 @@ depends_here t i member e at = (
         let from : s.1.0 ≡ e = same_event t i i s.1.0 e refl s.1.3 at in
         let after : DependsOnPlace t member s.0 = (d.0, d.1, s.2, d.3, d.4) in
         inr (elim s.1.5 [
-          | inl own ↦ inl (s.0, s.1.1, omega (arith, s.1.2), s.1.4, sym own ∙ ap member_of from, after)
-          | inr sends ↦ inr (s.0, s.1.1, omega (arith, s.1.2), s.1.4, sends ∙ ap Some from, after)
+          | inl own ↦ inl (s.0, omega (arith, s.1.2), (s.1.1, s.1.4, sym own ∙ ap member_of from, after))
+          | inr sends ↦ inr (s.0, omega (arith, s.1.2), (s.1.1, s.1.4, sends ∙ ap Some from, after))
         ])
   ],
   elim [
     | inl own ↦ (i, e, same_place at, at, own)
     | inr later ↦ elim later [
-      | inl d ↦ joined d.0 (e, d.1, omega (arith, d.2), at, d.3, inl (sym d.4)) d.5
-      | inr d ↦ joined d.0 (e, d.1, omega (arith, d.2), at, d.3, inr d.4) d.5
+      | inl d ↦ joined d.0 (e, d.2.0, omega (arith, d.1), at, d.2.1, inl (sym d.2.2)) d.2.3
+      | inr d ↦ joined d.0 (e, d.2.0, omega (arith, d.1), at, d.2.1, inr d.2.2) d.2.3
     ]
   ],
 ) where
@@ -66,9 +85,9 @@ depends_here t i member e at = (
 abbrev pub Takes : Message → Mark → Type 0
 Takes m b = send_of b ≡ Some (Send m.from m.ssn m.to)
 
--- and at place i or later
-abbrev pub AreLater : List Mark → (Mark → Type 0) → ℕ → Members → Type 0
-AreLater t P i = AreAmong t (λ j. i ≤ j) P
+-- the members are those that depend on some event of which P holds, at place i or later
+abbrev AreLater : List Mark → (Mark → Type 0) → ℕ → Members → Type 0
+AreLater t P i members = (q : ℕ) → (set.contains members q ≡ true) ↔ DependsOnLater t P i q
 
 -- the pass knows who depends on an event at place i or later: of each member, and of each message that is received
 pub record Knows (t : List Mark) (i : ℕ) (by_member : List Members) (by_message : Message → Members) : Type 0 where
@@ -87,6 +106,10 @@ no_receipt_sent : (to rsn from ssn : ℕ) (b : Mark) → send_of b ≡ Some (Rec
 no_receipt_sent to rsn from ssn (Send from' ssn' to') h = cc
 no_receipt_sent to rsn from ssn (Receipt to' rsn' from' ssn') h = cc
 
+takes_no_receipt : (t : List Mark) (i q to rsn from ssn : ℕ) → ¬ (DependsOnLater t (λ b. send_of b ≡ Some (Receipt to rsn from ssn)) i q)
+unfolding DependsOnLater
+takes_no_receipt t i q to rsn from ssn d = no_receipt_sent to rsn from ssn d.2.0 d.2.2
+
 -- what the pass answers of the event at i, by what it knows of those behind
 pub dependents_right : (t : List Mark) (i : ℕ) (by_member : List Members) (by_message : Message → Members) (e : Mark)
     → At t i e → member_of e < 16 → Knows t (i + 1) by_member by_message → (q : ℕ) → (set.contains (dependents_by by_member by_message e) q ≡ true) ↔ DependsOnPlace t q i
@@ -101,81 +124,41 @@ dependents_right t i by_member by_message (Receipt to rsn from ssn) at below kno
     let here = depends_here t i q (Receipt to rsn from ssn) at in
     let own = contains-one_more (get_or by_member to set.empty) to q in
     let later = knows.members to below q in
-    let none = λ (x : DependsOnLater t (λ b. send_of b ≡ Some (Receipt to rsn from ssn)) (i + 1) q). no_receipt_sent to rsn from ssn x.1 x.4 in
+    let none = takes_no_receipt t (i + 1) q to rsn from ssn in
     grind (arith, here, own, later, none)
 
-pub Decides-same_message : (a b : Message) → Decides (same_addressed_message a b) (a ≡ b)
-Decides-same_message a b = grind (arith, nat_tests)
+-- whether the event takes the message
+abbrev takes : Message → Mark → Bool
+takes m (Send from ssn to) = false
+takes m (Receipt to rsn from ssn) = same_addressed_message (record { from = from; ssn = ssn; to = to }) m
 
--- one place more: who depends on the event there takes its place among those that depend on the others
-module _ (t : List Mark) (Old New : ℕ → Type 0) (i : ℕ) (places : (j : ℕ) → New j ↔ Old j ⊎ (j ≡ i)) (e : Mark) (at : At t i e)
-    (P : Mark → Type 0) (members : Members) (are : AreAmong t Old P members) where
-  among_more : (member : ℕ) → DependsAmong t New P member ↔ DependsAmong t Old P member ⊎ (P e × DependsOnPlace t member i)
-  among_more member = (
-    λ d. elim ((places d.0).0 d.2) [
-      | inl old ↦ inl (d.0, d.1, old, d.3, d.4, d.5)
-      | inr here ↦ inr ((let same : d.1 ≡ e = same_event t d.0 i d.1 e here d.3 at in (rw same at d.4)), (rw here at d.5))
-    ],
-    elim [
-      | inl d ↦ (d.0, d.1, (places d.0).1 (inl d.2), d.3, d.4, d.5)
-      | inr d ↦ (i, e, (places i).1 (inr refl), at, d.0, d.1)
-    ],
-  )
+Decides-takes : (m : Message) (e : Mark) → Decides (takes m e) (Takes m e)
+Decides-takes m (Send from ssn to) = (λ h. cc, λ h. cc)
+Decides-takes m (Receipt to rsn from ssn) = grind (arith, nat_tests)
 
-  -- where P does not hold of the event, those of P stay the same, and else they join
-  pub AreAmong-same : ¬ (P e) → AreAmong t New P members
-  AreAmong-same other q =
-      let more = among_more q in
-      let old = are q in
-      grind (arith, more, old, other)
+known_by_test : (known : Message → Members) (e : Mark) (found : Members) (m : Message)
+    → known_after known (message_taken_by e) found m ≡ cond (takes m e) (set.union (known m) found) (known m)
+known_by_test known (Send from ssn to) found m = refl
+known_by_test known (Receipt to rsn from ssn) found m = refl
 
-  pub AreAmong-more : P e → (found : Members) → ((q : ℕ) → (set.contains found q ≡ true) ↔ DependsOnPlace t q i) → AreAmong t New P (set.union members found)
-  AreAmong-more here found right q =
-      let more = among_more q in
-      let both = contains-both members found q in
-      let old = are q in
-      let new = right q in
-      grind (arith, more, both, old, new, here)
-
--- nobody depends on an event behind the last one
-pub AreAmong-none : (t : List Mark) (Places : ℕ → Type 0) (P : Mark → Type 0) → ((j : ℕ) → j < length t → ¬ (Places j)) → AreAmong t Places P set.empty
-AreAmong-none t Places P none q = (λ h. absurd (false≢true (sym (set.contains-empty nat_cmp q) ∙ h)), λ d. absurd (none d.0 (At-below t d.0 d.1 d.3) d.2))
+-- an element that is changed in its place
+pub set_by_test : {X : Type 0} (xs : List X) (n m : ℕ) (f : X → X) (none : X) → n < length xs
+    → get_or (set_at xs n (f (get_or xs n none))) m none ≡ cond (n == m) (f (get_or xs m none)) (get_or xs m none)
+set_by_test xs n m f none within = grind (arith, nat_tests, common_steps)
 
 module _ (t : List Mark) (i : ℕ) (by_member : List Members) (by_message : Message → Members) (e : Mark) (at : At t i e)
     (knows : Knows t (i + 1) by_member by_message) (found : Members) (right : (q : ℕ) → (set.contains found q ≡ true) ↔ DependsOnPlace t q i) where
-  from : (j : ℕ) → (i ≤ j) ↔ (i + 1 ≤ j) ⊎ (j ≡ i)
-  from j = grind arith
+  -- one event more: who depends on it joins those that depend on later events of P where P holds of it
+  later_more : (P : Mark → Type 0) (test : Bool) → Decides test (P e) → (members : Members) → AreLater t P (i + 1) members
+      → AreLater t P i (cond test (set.union members found) members)
+  unfolding DependsOnLater
+  later_more P test decides members later = AreReached-next (λ j. i + 1 ≤ j) (λ j. i ≤ j) i (λ j. grind arith) (DependsBy t P) members _ later (joined test decides) where
+    here : (q : ℕ) → DependsBy t P i q ↔ P e × DependsOnPlace t q i
+    here q = (λ d. (let same : d.0 ≡ e = same_event t i i d.0 e refl d.1 at in (rw same at d.2, d.3)), λ d. (e, at, d.0, d.1))
 
-  found_more : (P : Mark → Type 0) (members : Members) → P e → AreLater t P (i + 1) members → AreLater t P i (set.union members found)
-  found_more P members here later = AreAmong-more t (λ j. i + 1 ≤ j) (λ j. i ≤ j) i from e at P members later here found right
-
-  found_same : (P : Mark → Type 0) (members : Members) → ¬ (P e) → AreLater t P (i + 1) members → AreLater t P i members
-  found_same P members other later = AreAmong-same t (λ j. i + 1 ≤ j) (λ j. i ≤ j) i from e at P members later other
-
-  members_more : member_of e < 16 → (m : ℕ) → m < 16
-      → AreLater t (λ b. member_of b ≡ m) i (get_or (set_at by_member (member_of e) (set.union (get_or by_member (member_of e) set.empty) found)) m set.empty)
-  members_more below m within = elim (cases_eq m (member_of e)) [
-    | inl is ↦
-        let room : member_of e < length by_member = omega (arith, below, knows.room) in
-        rw (is, get_or-set_same) (found_more (λ b. member_of b ≡ member_of e) _ refl (knows.members (member_of e) below))
-    | inr ne ↦ rw get_or-set_other (found_same (λ b. member_of b ≡ m) _ (λ own. ne (sym own)) (knows.members m within))
-  ]
-
-  messages_more : (m : Message) → AreLater t (Takes m) i (known_after by_message (message_taken_by e) found m)
-  messages_more m = by_event e refl where
-    by_event : (b : Mark) → b ≡ e → AreLater t (Takes m) i (known_after by_message (message_taken_by b) found m)
-    by_event (Send from ssn to) is = found_same (Takes m) _ (λ takes. (let none : None ≡ Some (Send m.from m.ssn m.to) = ap send_of is ∙ takes in cc)) (knows.messages m)
-    by_event (Receipt to rsn from ssn) is = at_message (same_addressed_message taken m) refl where
-      taken : Message
-      taken = record { from = from; ssn = ssn; to = to }
-
-      at_message : (b : Bool) → same_addressed_message taken m ≡ b → AreLater t (Takes m) i (cond b (set.union (by_message taken) found) (by_message m))
-      at_message true test = rw (← (Decides-same_message taken m).0 test) (found_more (Takes taken) _ (ap send_of (sym is)) (knows.messages taken))
-      at_message false test =
-          let other : ¬ (Takes m e) = λ takes.
-          let same : Some (Send from ssn to) ≡ Some (Send m.from m.ssn m.to) = ap send_of is ∙ takes in
-          grind (arith, nat_tests) in
-          found_same (Takes m) _ other (knows.messages m)
+    joined : (b : Bool) → Decides b (P e) → (q : ℕ) → (set.contains (cond b (set.union members found) members) q ≡ true) ↔ (set.contains members q ≡ true) ⊎ DependsBy t P i q
+    joined true is q = (let both = contains-both members found q in let new = right q in let same = here q in grind (arith, both, new, same, is))
+    joined false is q = (let same = here q in grind (arith, same, is))
 
   -- what is known with the event
   pub Knows-more : (by_member' : List Members) (by_message' : Message → Members) → member_of e < 16
@@ -183,20 +166,22 @@ module _ (t : List Mark) (i : ℕ) (by_member : List Members) (by_message : Mess
       → ((m : Message) → by_message' m ≡ known_after by_message (message_taken_by e) found m) → Knows t i by_member' by_message'
   Knows-more by_member' by_message' below own taken = record {
     room = rw own (length-set by_member (member_of e) _ ∙ knows.room);
-    members = rw own (members_more below);
-    messages = λ m. rw (taken m) (messages_more m);
+    members = λ m within. (rw (own, set_by_test by_member (member_of e) m (λ s. set.union s found) set.empty (omega (arith, below, knows.room)))
+        (later_more (λ b. member_of b ≡ m) (member_of e == m) (grind (arith, nat_tests)) _ (knows.members m within)));
+    messages = λ m. (rw (taken m, known_by_test by_message e found m) (later_more (Takes m) (takes m e) (Decides-takes m e) _ (knows.messages m)));
   }
 
 -- nothing is known behind the last event
 pub Knows-none : (t : List Mark) (by_member : List Members) (by_message : Message → Members) → by_member ≡ replicate 16 set.empty
     → ((m : Message) → by_message m ≡ set.empty) → Knows t (length t) by_member by_message
+unfolding DependsOnLater
 Knows-none t by_member by_message members messages = record {
   room = rw members refl;
   members = λ m within. (rw (members, get_or-same 16 m set.empty) (none (λ b. member_of b ≡ m)));
   messages = λ m. (rw (messages m) (none (Takes m)));
 } where
   none : (P : Mark → Type 0) → AreLater t P (length t) set.empty
-  none P = AreAmong-none t (λ j. length t ≤ j) P (λ j below behind. omega arith)
+  none P = AreReached-none (λ j. length t ≤ j) (DependsBy t P) (λ j q behind d. (let within = At-below t j d.0 d.1 in omega (arith, within, behind)))
 
 -- what the pass has when it has seen the events from place p on
 pub record Seen (t : List Mark) (p : ℕ) (by_member : List Members) (by_message : Message → Members) (from_the_end : List Members) : Type 0 where

@@ -1,14 +1,15 @@
 -- A search from the first event on finds a path to each member that depends on an event.
-use Rattle.fbl_audit.proofs.Common.{below_more, ℕ, zero, suc, Bool, true, false, ◌≡◌, ◌<◌, ◌+◌, ◌-◌, ◌⊎◌, inl, inr, List, [], ◌∷◌, ◌++◌, length, Option}
-use Rattle.fbl_audit.proofs.Common.{Some, None, refl, sym, ap, ◌∙◌, arith, get_or, get_or-set_same, get_or-set_other, length-set, length-append, replicate, reverse, slice_get, cond}
-use Rattle.fbl_audit.proofs.Common.{cases_eq, nat_tests, slice_get_read, Mark, Send, Receipt, At, member_of, send_of, PlaceLeads, PlacePrecedes, same_place, place_step, At-below}
+use Rattle.fbl_audit.proofs.Common.{below_more, ℕ, Bool, true, false, ◌≡◌, ◌<◌, ◌+◌, ◌⊎◌, inl, inr, List, [], ◌∷◌, ◌++◌, length, Option}
+use Rattle.fbl_audit.proofs.Common.{Some, None, refl, sym, ap, ◌∙◌, arith, get_or, length-set, length-append, replicate, reverse, slice_get, cond}
+use Rattle.fbl_audit.proofs.Common.{nat_tests, slice_get_read, Mark, Send, Receipt, At, member_of, send_of, PlaceLeads, PlacePrecedes, same_place, place_step, At-below}
 use Rattle.fbl_audit.proofs.Common.{get_or-same, Message, message_taken_by, same_addressed_message, ArePaths, IsBefore, IsEndBy, IsPath}
 use Rattle.std.proofs.Common.{◌≢◌, option_and_then}
 use Rattle.std.specs.Option.{is_some, option_or}
 use Rattle.std.proofs.lemmas.List.{reverse-append}
 use Rattle.fbl_base.proofs.Gets.{At-push}
-use Rattle.fbl_audit.specs.Paths.{IsSentBy, Origin, end_after, message_sent_by, place_before, sent_after}
-use Rattle.fbl_audit.proofs.Following.{Decides-same_message, same_event}
+use Rattle.fbl_audit.specs.Paths.{IsFoundBy, path_step, Origin, end_after, message_sent_by, place_before, sent_after}
+use Rattle.std.proofs.Common.{Decides, ◌==◌}
+use Rattle.fbl_audit.proofs.Following.{same_event, set_by_test}
 
 -- a path is empty, or ends with a step
 last_step : {t : List Mark} {i p : ℕ} → PlacePrecedes t i p → (p ≡ i) ⊎ ((j : ℕ) × PlacePrecedes t i j × PlaceLeads t j p)
@@ -18,6 +19,10 @@ last_step (place_step {j} q l) = inr (j, q, l)
 pub Precedes-has : {t : List Mark} {i p : ℕ} → PlacePrecedes t i p → (e : Mark) × At t p e
 Precedes-has (same_place {a} h) = (a, h)
 Precedes-has (place_step q l) = (l.1, l.4)
+
+-- the send of the message is found, if the event at i precedes it
+abbrev pub IsSentBy : List Mark → ℕ → ℕ → Message → Option ℕ → Type 0
+IsSentBy t i p m = IsFoundBy t i p (λ b. b ≡ Send m.from m.ssn m.to) (λ j. At t j (Send m.from m.ssn m.to) × PlacePrecedes t i j)
 
 -- what a search knows of the first p events: of each member and of each message
 pub record Knows (t : List Mark) (i p : ℕ) (ends : List (Option ℕ)) (sends : Message → Option ℕ) : Type 0 where
@@ -45,11 +50,10 @@ before_right t i p ends sends e at below knows = by_member (get_or ends (member_
   by_message none (Send from ssn to) is = only_here none (λ j a within at_j sends'. absurd (let taken : None ≡ Some a = ap send_of is ∙ sends' in cc))
   by_message none (Receipt to rsn from ssn) is = at_send (sends (record { from = from; ssn = ssn; to = to })) (knows.messages (record { from = from; ssn = ssn; to = to })) where
     at_send : (o : Option ℕ) → IsSentBy t i p (record { from = from; ssn = ssn; to = to }) o → IsBefore t i p o
-    at_send (Some k) sent = ((Send from ssn to, e, sent.0, sent.1, at, inr (ap send_of (sym is))), sent.2)
+    at_send (Some k) sent = ((Send from ssn to, e, sent.0, sent.1.0, at, inr (ap send_of (sym is))), sent.1.1)
     at_send None unsent = only_here none (λ j a within at_j sends'.
         let taken : Some (Send from ssn to) ≡ Some a = ap send_of is ∙ sends' in
-        let is_send : a ≡ Send from ssn to = cc in
-        unsent j within (rw is_send at at_j))
+        unsent j a within at_j cc)
 
   by_member : (o : Option ℕ) → IsEndBy t i p (member_of e) o → IsBefore t i p (option_or o (option_and_then sends (message_taken_by e)))
   by_member (Some k) found = (let b = found.1.own in ((b.0, e, found.0, b.1, at, inl b.2), found.1.depends))
@@ -57,15 +61,24 @@ before_right t i p ends sends e at below knows = by_member (get_or ends (member_
 
 -- ---- one more event
 
--- a member's first event stays where no path comes to one of it at place p
-End-kept : (t : List Mark) (i p m : ℕ) → ((b : Mark) → At t p b → member_of b ≡ m → ¬ (PlacePrecedes t i p)) → (o : Option ℕ) → IsEndBy t i p m o → IsEndBy t i (p + 1) m o
-End-kept t i p m none (Some j) found = (omega (arith, found.0), found.1)
-End-kept t i p m none None first = λ k b. below_more (λ j. At t j b → member_of b ≡ m → ¬ (PlacePrecedes t i j)) p (λ j. first j b) (none b) k
+-- what is found stays where no path comes to an event at p of which P holds
+found_kept : (t : List Mark) (i p : ℕ) (P : Mark → Type 0) (Found : ℕ → Type 0) → ((b : Mark) → At t p b → P b → ¬ (PlacePrecedes t i p)) → (o : Option ℕ)
+    → IsFoundBy t i p P Found o → IsFoundBy t i (p + 1) P Found o
+found_kept t i p P Found none (Some j) found = (omega (arith, found.0), found.1)
+found_kept t i p P Found none None first = λ k b. below_more (λ j. At t j b → P b → ¬ (PlacePrecedes t i j)) p (λ j. first j b) (none b) k
 
--- and the send of a message, where no path comes to one of it there
-Sent-kept : (t : List Mark) (i p : ℕ) (m : Message) → (At t p (Send m.from m.ssn m.to) → ¬ (PlacePrecedes t i p)) → (o : Option ℕ) → IsSentBy t i p m o → IsSentBy t i (p + 1) m o
-Sent-kept t i p m none (Some j) sent = (omega (arith, sent.0), sent.1, sent.2)
-Sent-kept t i p m none None unsent = below_more (λ j. At t j (Send m.from m.ssn m.to) → ¬ (PlacePrecedes t i j)) p unsent none
+-- whether the event sends the message
+abbrev sends_it : Message → Mark → Bool
+sends_it m (Send from ssn to) = same_addressed_message (record { from = from; ssn = ssn; to = to }) m
+sends_it m (Receipt to rsn from ssn) = false
+
+Decides-sends_it : (m : Message) (e : Mark) → Decides (sends_it m e) (e ≡ Send m.from m.ssn m.to)
+Decides-sends_it m (Send from ssn to) = grind (arith, nat_tests)
+Decides-sends_it m (Receipt to rsn from ssn) = (λ h. cc, λ h. cc)
+
+sent_by_test : (sends : Message → Option ℕ) (e : Mark) (p : ℕ) (m : Message) → sent_after sends (message_sent_by e) p m ≡ cond (sends_it m e) (Some p) (sends m)
+sent_by_test sends (Send from ssn to) p m = refl
+sent_by_test sends (Receipt to rsn from ssn) p m = refl
 
 -- a path comes to the event
 pub Knows-more : (t : List Mark) (i p : ℕ) (ends ends' : List (Option ℕ)) (sends sends' : Message → Option ℕ) (e : Mark) → At t p e → member_of e < 16
@@ -73,41 +86,28 @@ pub Knows-more : (t : List Mark) (i p : ℕ) (ends ends' : List (Option ℕ)) (s
     → ends' ≡ end_after ends p e → ((m : Message) → sends' m ≡ sent_after sends (message_sent_by e) p m) → Knows t i (p + 1) ends' sends'
 Knows-more t i p ends ends' sends sends' e at below pr knows ends_are sends_are = record {
   room = rw ends_are (length-set ends (member_of e) _ ∙ knows.room);
-  members = λ m within. (rw ends_are (elim (cases_eq m (member_of e)) [
-    | inl is ↦
-        let room : member_of e < length ends = omega (arith, below, knows.room) in
-        rw (is, get_or-set_same) (here_more _ (knows.members (member_of e) below))
-    | inr ne ↦ rw get_or-set_other
-        (End-kept t i p m (λ b at_p own. absurd (ne (sym own ∙ ap member_of (same_event t p p b e refl at_p at)))) _ (knows.members m within))
-  ]));
-  messages = λ m. (rw (sends_are m) (at_message m e refl));
+  members = λ m within. (rw (ends_are, set_by_test ends (member_of e) m (λ o. option_or o (Some p)) None (omega (arith, below, knows.room)))
+      (more (λ b. member_of b ≡ m) _ (member_of e == m) (grind (arith, nat_tests)) _ _ (knows.members m within) (λ own. here_more m own _ (knows.members m within))));
+  messages = λ m. (rw (sends_are m, sent_by_test sends e p m)
+      (more (λ b. b ≡ Send m.from m.ssn m.to) _ (sends_it m e) (Decides-sends_it m e) _ _ (knows.messages m) (λ is. (omega arith, (rw is at at, pr)))));
 } where
-  here_more : (o : Option ℕ) → IsEndBy t i p (member_of e) o → IsEndBy t i (p + 1) (member_of e) (option_or o (Some p))
-  here_more (Some j) found = (omega (arith, found.0), found.1)
-  here_more None none = (omega arith, record { own = (e, at, refl); depends = pr; first = none })
+  -- what P holds of is found anew
+  more : (P : Mark → Type 0) (Found : ℕ → Type 0) (test : Bool) → Decides test (P e) → (old new : Option ℕ) → IsFoundBy t i p P Found old
+      → (P e → IsFoundBy t i (p + 1) P Found new) → IsFoundBy t i (p + 1) P Found (cond test new old)
+  more P Found true decides old new found here = here (decides.0 refl)
+  more P Found false decides old new found here =
+      found_kept t i p P Found (λ b at_p holds. absurd (let no = decides.1 (rw (same_event t p p b e refl at_p at) at holds) in cc)) old found
 
-  -- an event that is not the send of the message
-  kept : (m : Message) → e ≢ Send m.from m.ssn m.to → IsSentBy t i (p + 1) m (sends m)
-  kept m ne = Sent-kept t i p m (λ at_p. absurd (ne (same_event t p p e (Send m.from m.ssn m.to) refl at at_p))) (sends m) (knows.messages m)
-
-  at_message : (m : Message) (e' : Mark) → e' ≡ e → IsSentBy t i (p + 1) m (sent_after sends (message_sent_by e') p m)
-  at_message m (Receipt to rsn from ssn) is = kept m (λ h. (let no : Receipt to rsn from ssn ≡ Send m.from m.ssn m.to = is ∙ h in cc))
-  at_message m (Send from ssn to) is = by_test (same_addressed_message sent m) refl where
-    sent : Message
-    sent = record { from = from; ssn = ssn; to = to }
-
-    by_test : (b : Bool) → same_addressed_message sent m ≡ b → IsSentBy t i (p + 1) m (cond b (Some p) (sends m))
-    by_test true test =
-        let here : e ≡ Send m.from m.ssn m.to = sym is ∙ ap (λ (x : Message). Send x.from x.ssn x.to) ((Decides-same_message sent m).0 test) in
-        (omega arith, (rw here at at), pr)
-    by_test false test = kept m (λ h. (let same : Send from ssn to ≡ Send m.from m.ssn m.to = is ∙ h in grind (arith, nat_tests)))
+  here_more : (m : ℕ) → member_of e ≡ m → (o : Option ℕ) → IsEndBy t i p m o → IsEndBy t i (p + 1) m (option_or o (Some p))
+  here_more m own (Some j) found = (omega (arith, found.0), found.1)
+  here_more m own None none = (omega arith, record { own = (e, at, own); depends = pr; first = none })
 
 -- no path comes to the event
 pub Knows-same : (t : List Mark) (i p : ℕ) (ends : List (Option ℕ)) (sends : Message → Option ℕ) → ¬ (PlacePrecedes t i p) → Knows t i p ends sends → Knows t i (p + 1) ends sends
 Knows-same t i p ends sends none_comes knows = record {
   room = knows.room;
-  members = λ m within. End-kept t i p m (λ b at_p own. none_comes) _ (knows.members m within);
-  messages = λ m. Sent-kept t i p m (λ at_p. none_comes) _ (knows.messages m);
+  members = λ m within. found_kept t i p _ _ (λ b at_p own. none_comes) _ (knows.members m within);
+  messages = λ m. found_kept t i p _ _ (λ b at_p is. none_comes) _ (knows.messages m);
 }
 
 -- nothing is known before the first event
@@ -116,7 +116,7 @@ pub Knows-none : (t : List Mark) (i : ℕ) (ends : List (Option ℕ)) (sends : M
 Knows-none t i ends sends ends_are sends_are = record {
   room = rw ends_are refl;
   members = λ m within. (rw (ends_are, get_or-same {X = Option ℕ} 16 m None) (λ k b before. absurd (omega (arith, before))));
-  messages = λ m. (rw (sends_are m) (λ k before. absurd (omega (arith, before))));
+  messages = λ m. (rw (sends_are m) (λ k b before. absurd (omega (arith, before))));
 }
 
 -- ---- the pass
@@ -159,27 +159,9 @@ Seen-all t i p ends sends earlier seen all = record {
 
 -- ---- walking back
 
-pub IsPath-more : (t : List Mark) (i k j : ℕ) (path : List ℕ) → PlaceLeads t i k → IsPath t k j path → IsPath t i j (i ∷ path)
-IsPath-more t i k j path leads is = record {
-  begins = refl;
-  steps = steps_more;
-  ends = last_more path is.begins is.ends;
-} where
-  steps_more : (n a b : ℕ) → slice_get (i ∷ path) n ≡ Some a → slice_get (i ∷ path) (n + 1) ≡ Some b → PlaceLeads t a b
-  steps_more zero a b at_n at_next =
-      let first : i ≡ a = cc in
-      let next : slice_get path 0 ≡ Some b = at_next in
-      let second : k ≡ b = (let e : Some k ≡ Some b = sym is.begins ∙ next in cc) in
-      (rw (← first, ← second) leads)
-  steps_more (suc n) a b at_n at_next = is.steps n a b at_n (rw (let e : suc n + 1 ≡ suc (n + 1) = omega arith in e) at at_next)
-
-  last_more : (path : List ℕ) → slice_get path 0 ≡ Some k → slice_get path (length path - 1) ≡ Some j → slice_get (i ∷ path) (length (i ∷ path) - 1) ≡ Some j
-  last_more [] begins ends = cc
-  last_more (x ∷ path) begins ends = (rw (let e : length (i ∷ x ∷ path) - 1 ≡ suc (length (x ∷ path) - 1) = omega arith in e) ends)
-
 -- one more step back
 pub IsPath-back : (t : List Mark) (i k j : ℕ) (path path' : List ℕ) → PlaceLeads t i k → IsPath t k j (reverse path) → path' ≡ path ++ i ∷ [] → IsPath t i j (reverse path')
-IsPath-back t i k j path path' leads is more = rw (more, reverse-append path (i ∷ [])) (IsPath-more t i k j (reverse path) leads is)
+IsPath-back t i k j path path' leads is more = rw (more, reverse-append path (i ∷ [])) (path_step leads is)
 
 -- what the list has of a place that a path comes to
 pub before_at : (origin : Origin) (earlier ends : List (Option ℕ)) → ArePaths origin earlier ends → (p : ℕ) (o : Option ℕ) → PlacePrecedes origin.events origin.place p

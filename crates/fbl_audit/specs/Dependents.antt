@@ -25,7 +25,7 @@ known_of map message = unwrap_or (hash_map.get same_addressed_message map messag
 -- what is known of messages after an event that takes this one, if it is a receipt, and on which these members depend
 abbrev pub known_after : (Message → Members) → Option Message → Members → Message → Members
 known_after known None members message = known message
-known_after known (Some taken) members message = if same_addressed_message taken message then set.union (known taken) members else known message
+known_after known (Some taken) members message = if same_addressed_message taken message then set.union (known message) members else known message
 
 -- the members that depend on an event: its own, those that depend on a later event of it, and those that depend on a
 -- receipt of the message, if it sends one

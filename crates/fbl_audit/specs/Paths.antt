@@ -1,5 +1,5 @@
 -- Why a member depends on an event: a path of steps from the one to the other.
-use Rattle.std.specs.Prelude.{ℕ, ◌≡◌, ◌+◌, ◌-◌, ◌<◌, List, Option, Some, None, option_and_then, if◌then◌else◌, length, slice_get, slice_index_or, slice_set}
+use Rattle.std.specs.Prelude.{ℕ, ◌≡◌, ◌<◌, List, [], ◌∷◌, Option, Some, None, option_and_then, if◌then◌else◌, length, slice_get, slice_index_or, slice_set}
 use Rattle.std.specs.Option.{option_or}
 use Rattle.fbl_base.specs.declared.trace.Mark.{Mark}
 use Rattle.fbl_base.specs.declared.trace.Mark.TheVariants.{Send, Receipt}
@@ -16,10 +16,9 @@ pub record Origin : Type 0 where
 
 -- the places begin at i and end at j, and each leads to the next by one step: to a later event of the same member, or from a
 -- send to its receipt
-pub record IsPath (trace : List Mark) (i j : ℕ) (path : List ℕ) : Type 0 where
-  pub begins : slice_get path 0 ≡ Some i
-  pub steps : (k a b : ℕ) → slice_get path k ≡ Some a → slice_get path (k + 1) ≡ Some b → PlaceLeads trace a b
-  pub ends : slice_get path (length path - 1) ≡ Some j
+pub data IsPath (trace : List Mark) : ℕ → ℕ → List ℕ → Type 0 where
+  path_end : {j : ℕ} → IsPath trace j j (j ∷ [])
+  path_step : {i k j : ℕ} {path : List ℕ} → PlaceLeads trace i k → IsPath trace k j path → IsPath trace i j (i ∷ path)
 
 -- j is the place of the member's first event that the event at i precedes
 pub record IsFirstDependent (trace : List Mark) (i member j : ℕ) : Type 0 where
@@ -71,15 +70,14 @@ abbrev pub IsBefore : List Mark → ℕ → ℕ → Option ℕ → Type 0
 IsBefore trace i p None = PlacePrecedes trace i p → p ≡ i
 IsBefore trace i p (Some k) = PlaceLeads trace k p × PlacePrecedes trace i k
 
--- among the first p events the member's first one that the event at i precedes is here, or there is none
-abbrev pub IsEndBy : List Mark → ℕ → ℕ → ℕ → Option ℕ → Type 0
-IsEndBy trace i p member None = (k : ℕ) (b : Mark) → k < p → At trace k b → member_of b ≡ member → ¬ (PlacePrecedes trace i k)
-IsEndBy trace i p member (Some j) = (j < p) × IsFirstDependent trace i member j
+-- among the first p events this one is found, as Found says, or the event at i precedes none of them of which P holds
+abbrev pub IsFoundBy : List Mark → ℕ → ℕ → (Mark → Type 0) → (ℕ → Type 0) → Option ℕ → Type 0
+IsFoundBy trace i p P Found None = (k : ℕ) (b : Mark) → k < p → At trace k b → P b → ¬ (PlacePrecedes trace i k)
+IsFoundBy trace i p P Found (Some j) = (j < p) × Found j
 
--- among the first p events the send of the message is here, if the event at i precedes it, or there is none
-abbrev pub IsSentBy : List Mark → ℕ → ℕ → Message → Option ℕ → Type 0
-IsSentBy trace i p m None = (k : ℕ) → k < p → At trace k (Send m.from m.ssn m.to) → ¬ (PlacePrecedes trace i k)
-IsSentBy trace i p m (Some j) = (j < p) × At trace j (Send m.from m.ssn m.to) × PlacePrecedes trace i j
+-- the member's first one that the event at i precedes is found
+abbrev pub IsEndBy : List Mark → ℕ → ℕ → ℕ → Option ℕ → Type 0
+IsEndBy trace i p member = IsFoundBy trace i p (λ b. member_of b ≡ member) (IsFirstDependent trace i member)
 
 -- of each event it is known from where a path comes to it, and of each member to which of its events one comes
 pub record ArePaths (origin : Origin) (earlier : List (Option ℕ)) (ends : List (Option ℕ)) : Type 0 where

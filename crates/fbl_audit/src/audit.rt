@@ -1,8 +1,8 @@
 //! The audit of a dump: which receipts are lost, and which members depend on one.
 
-ghost use Rattle.std.specs.Prelude.{◌≡◌, ◌<◌, ◌↔◌, ℕ, true, not, length, IfNone, IfOk, IfSome, IsTrue, MatchOption};
+ghost use Rattle.std.specs.Prelude.{◌≡◌, ◌<◌, ◌↔◌, ℕ, true, not, length, IfNone, IfOk, IfSome, MatchOption};
 ghost use Rattle.std.specs.FinSet as set;
-ghost use Rattle.fbl_base.specs.Audit.{IsDump, IsDumpOrphan, is_held_outside, lost_determinants};
+ghost use Rattle.fbl_base.specs.Audit.{IsDump, IsDumpOrphan, IsLost, is_held_outside, lost_determinants};
 ghost use Rattle.fbl_audit.specs.Holders.{holders_of};
 ghost use Rattle.fbl_audit.specs.Paths.{IsCause, IsFirstCause, IsOrphanPath};
 
@@ -10,7 +10,7 @@ use crate::dependents::Dependents;
 use crate::holders::Holders;
 use crate::paths::Paths;
 use fbl_base::audit::Dump;
-use fbl_base::{Determinant, Member, MemberSet};
+use fbl_base::{Determinant, Mark, Member, MemberSet};
 use std::alloc::{AllocError, Global};
 use std::marker::Model;
 
@@ -99,33 +99,39 @@ impl<'a> Audit<'a> {
         Ok(lost)
     }
 
+    /// Whether the event is a lost receipt.
+    #[tactic(auto, using(crate::proofs::Auditing::lost_receipt, crate::proofs::Auditing::send_is_kept))]
+    fn is_lost_receipt(&self, event: &Mark) -> bool
+        ensures { (result ≡ true) ↔ IsLost self.now event.now }
+    {
+        match event.determinant() {
+            Some(determinant) => self.is_lost(&determinant),
+            None => false,
+        }
+    }
+
+    /// The members that depend on the event at the place, if it is a lost receipt, and else nobody.
+    fn dependents_of_lost(&self, place: usize) -> MemberSet
+        requires { place < length self.now.events }
+        ensures { (q : ℕ) → (set.contains result q ≡ true) ↔ IsCause self.now q place }
+    {
+        if self.is_lost_receipt(&self.dump.events()[place]) {
+            self.dependents.at(place)
+        } else {
+            MemberSet::empty()
+        }
+    }
+
     /// The members outside the strike set that depend on a lost receipt.
     pub fn orphans(&self) -> MemberSet
         ensures { (q : ℕ) → (set.contains result q ≡ true) ↔ IsDumpOrphan self.now q }
     {
         let dump = self.dump;
         let mut reached = MemberSet::empty();
-        for (place, event) in dump.events().iter().enumerate() {
-            if let Some(determinant) = event.determinant() {
-                if self.is_lost(&determinant) {
-                    reached = reached.union(self.dependents.at(place));
-                }
-            }
+        for place in 0..dump.events().len() {
+            reached = reached.union(self.dependents_of_lost(place));
         }
         reached.without(dump.strike())
-    }
-
-    /// Whether the event at the place is a lost receipt on which the member depends.
-    fn is_cause(&self, member: Member, place: usize) -> bool
-        requires { place < length self.now.events }
-        ensures { IsTrue result ↔ IsCause self.now member place }
-    {
-        match self.dump.events()[place].determinant() {
-            Some(determinant) => {
-                self.is_lost(&determinant) && self.dependents.at(place).has(member)
-            }
-            None => false,
-        }
     }
 
     /// The place of the first lost receipt on which the member depends.
@@ -134,7 +140,7 @@ impl<'a> Audit<'a> {
         ensures rules { IsDump self.now }
     {
         for place in 0..self.dump.events().len() {
-            if self.is_cause(member, place) {
+            if self.dependents_of_lost(place).has(member) {
                 return Some(place);
             }
         }

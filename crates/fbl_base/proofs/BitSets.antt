@@ -1,6 +1,6 @@
 -- Operations on bits as operations on sets.
 use Rattle.fbl_base.proofs.Common.{◌≡◌, ◌≢◌, ℕ, zero, suc, ◌+◌, ◌-◌, ◌*◌, ◌<◌, ◌≤◌, true, ◌&&◌, not, cond, refl, sym, ap, ◌∙◌, arith, inl, inr}
-use Rattle.fbl_base.proofs.Common.{◌⊎◌, ◌↔◌, count_by, cases_eq, nat_tests, sum_by-cons, nat_cmp_total, same_from_contains, contains-insert_other}
+use Rattle.fbl_base.proofs.Common.{◌⊎◌, ◌↔◌, count_by, cases_eq, nat_tests, sum_by-cons, nat_cmp, nat_cmp_total, same_from_contains, contains-insert_other}
 use Rattle.std.proofs.Common.{◌/◌, ◌%◌, ◌^◌, min, eqb, bit_and, bit_or, w16}
 use Rattle.std.proofs.lemmas.Bool.{cases_lt}
 use Rattle.std.proofs.lemmas.Nat.Bits.{bit_at-lt, bit_at_or, bit_at_and, bit_at_not, bit_at_above, bit_at_set_same, bit_at_set_other, shr_and_one, same_from_bits, bit_at-zero}
@@ -12,41 +12,38 @@ use Rattle.std.specs.FinSet as set
 use Rattle.fbl_base.specs.MemberSets.{len-flagged, contains-insert_same, AllBelow}
 use Rattle.fbl_base.specs.Bits.{digits, set_of, contains-set_of, parity}
 
+same-bits : (b : ℕ) (s : set.FinSet nat_cmp) → b < 65536 → ((q : ℕ) → eqb (bit_at b q) 1 ≡ set.contains s q) → set_of b ≡ s
+same-bits b s within same = same_from_contains _ _ (λ q. contains-set_of b q within ∙ same q)
+
 pub empty_bits : set_of 0 ≡ set.empty
-empty_bits = same_from_contains _ _ (λ q. contains-set_of 0 q (omega arith) ∙ ap (λ x. eqb x 1) (bit_at-zero q) ∙ sym (set.contains-empty _ q))
+empty_bits = same-bits 0 set.empty (omega arith) (λ q. ap (λ x. eqb x 1) (bit_at-zero q) ∙ sym (set.contains-empty _ q))
 
 pub has_bits : (b q : ℕ) → b < 65536 → eqb (bit_and (b / 2 ^ q) 1) 1 ≡ set.contains (set_of b) q
 has_bits b q within = ap (λ x. eqb x 1) (shr_and_one b q) ∙ sym (contains-set_of b q within)
 
 pub union_bits : (a b : ℕ) → a < 65536 → b < 65536 → set_of (bit_or a b) ≡ set.union (set_of a) (set_of b)
-union_bits a b wa wb = same_from_contains _ _
-    (λ q. rw (
-      set.contains-union nat_cmp_total,
-      contains-set_of (bit_or a b) q (or_lt 16 a b wa wb),
-      contains-set_of a q wa,
-      contains-set_of b q wb,
-      bit_at_or a b q,
-    ) (let x = bit_at-lt a q in let y = bit_at-lt b q in grind (arith, nat_tests, x, y)))
+union_bits a b wa wb = same-bits (bit_or a b) _ (or_lt 16 a b wa wb) (λ q.
+    let x = bit_at-lt a q in
+    let y = bit_at-lt b q in
+    rw (set.contains-union nat_cmp_total, contains-set_of a q wa, contains-set_of b q wb, bit_at_or a b q) (grind (arith, nat_tests, x, y)))
 
 pub difference_bits : (a b : ℕ) → a < 65536 → b < 65536 → set_of (bit_and a (65535 - b)) ≡ set.difference (set_of a) (set_of b)
-difference_bits a b wa wb = same_from_contains _ _
-    (λ q. rw (
-      set.contains-difference nat_cmp_total,
-      contains-set_of (bit_and a (65535 - b)) q (omega (arith, wa, and_le_l a (65535 - b))),
-      contains-set_of a q wa,
-      contains-set_of b q wb,
-      bit_at_and a (65535 - b) q,
-    ) (at q (cases_lt q 16))) where
-      at : (q : ℕ) → (q < 16) ⊎ (16 ≤ q) → eqb (min (bit_at a q) (bit_at (65535 - b) q)) 1 ≡ (eqb (bit_at a q) 1 && not (eqb (bit_at b q) 1))
-      at q (inl below) = rw (bit_at_not w16 b q wb below) (let x = bit_at-lt a q in let y = bit_at-lt b q in grind (arith, nat_tests, x, y))
-      at q (inr past) = rw (bit_at_above a 16 q wa past) (grind (arith, nat_tests))
+difference_bits a b wa wb = same-bits (bit_and a (65535 - b)) _ (omega (arith, wa, and_le_l a (65535 - b))) (λ q.
+    let x = bit_at-lt a q in
+    let y = bit_at-lt b q in
+    let past = bit_at_above a 16 q wa in
+    let other = bit_at_not w16 b q wb in
+    rw (set.contains-difference nat_cmp_total, contains-set_of a q wa, contains-set_of b q wb, bit_at_and a (65535 - b) q) (elim (cases_lt q 16) [
+      | inl below ↦ grind (arith, nat_tests, x, y, other below)
+      | inr above ↦ grind (arith, nat_tests, past above)
+    ]))
 
 pub insert_bits : (b m : ℕ) → b < 65536 → m < 16 → set_of (bit_or b (1 * 2 ^ m % 65536)) ≡ set.insert (set_of b) m
-insert_bits b m wb wm = same_from_contains _ _
-    (λ q. contains-set_of (bit_or b (1 * 2 ^ m % 65536)) q (or_lt 16 b (1 * 2 ^ m % 65536) wb (mod-lt (1 * 2 ^ m) (let z : 0 < 65536 = omega arith in z))) ∙ at q (cases_eq q m)) where
-      at : (q : ℕ) → (q ≡ m) ⊎ (q ≢ m) → eqb (bit_at (bit_or b (1 * 2 ^ m % 65536)) q) 1 ≡ set.contains (set.insert (set_of b) m) q
-      at q (inl is) = rw is (ap (λ x. eqb x 1) (bit_at_set_same w16 b m wm) ∙ sym (contains-insert_same _ m))
-      at q (inr ne) = ap (λ x. eqb x 1) (bit_at_set_other w16 b m wm q ne) ∙ sym (contains-set_of b q wb) ∙ sym (contains-insert_other _ m q ne)
+insert_bits b m wb wm = same-bits (bit_or b (1 * 2 ^ m % 65536)) _ (or_lt 16 b (1 * 2 ^ m % 65536) wb (mod-lt (1 * 2 ^ m) (let z : 0 < 65536 = omega arith in z))) (λ q.
+    elim (cases_eq q m) [
+      | inl is ↦ rw is (ap (λ x. eqb x 1) (bit_at_set_same w16 b m wm) ∙ sym (contains-insert_same _ m))
+      | inr ne ↦ ap (λ x. eqb x 1) (bit_at_set_other w16 b m wm q ne) ∙ sym (contains-insert_other _ m q ne ∙ contains-set_of b q wb)
+    ])
 
 ones-none : ones 0 ≡ 0
 unfolding ones ones_in

@@ -14,7 +14,7 @@ pub use Rattle.std.specs.Cmp.{nat_cmp_total, unsigned_tied}
 pub use Rattle.std.specs.List.{cons_option, filter, filter_map, fold, list_any, range_with_len}
 pub use Rattle.std.specs.Ordering.{nat_cmp}
 pub use Rattle.fbl_base.specs.Audit.{HeldAt, IsDumpOrphan, IsLost, Parts, first_events, is_held_outside}
-pub use Rattle.fbl_base.specs.Breaches.{BreaksAt, BreaksEvent, first_in_flight}
+pub use Rattle.fbl_base.specs.Breaches.{BreaksEvent, first_in_flight}
 pub use Rattle.fbl_base.specs.Configs.{Settings}
 pub use Rattle.fbl_base.specs.Counted.{Counted}
 pub use Rattle.fbl_base.specs.DumpParts.{is_received, parts_of}

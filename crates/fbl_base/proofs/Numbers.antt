@@ -1,16 +1,8 @@
 -- The numbers below another.
-use Rattle.fbl_base.proofs.Common.{ℕ, ◌+◌, ◌<◌, ◌≡◌, List, ◌++◌, take, get_or, sym, ap, ◌∙◌, arith, range_with_len, take_more, get_or-range_with_len}
-use Rattle.std.specs.List.{flat_map}
-use Rattle.std.proofs.lemmas.List.{flat_map_more}
-use Rattle.std.proofs.lemmas.List.FromFn.{length-range_with_len}
+use Rattle.std.proofs.Common.{ℕ, ◌+◌, ◌-◌, ◌<◌, ◌≡◌, ◌∙◌, List, ◌++◌, append_assoc, arith, suc}
+use Rattle.std.specs.List.{flat_map, range_with_len}
 
--- what is made of each number, of one more number
-pub rows_more : {X : Type 0} (f : ℕ → List X) (before : List X) (n i : ℕ) → i < n
-    → (before ++ flat_map f (take i (range_with_len 0 n))) ++ f i ≡ before ++ flat_map f (take (i + 1) (range_with_len 0 n))
-rows_more f before n i lt =
-    let r : List ℕ = range_with_len 0 n in
-    let at : get_or r i 0 ≡ i = omega (arith, get_or-range_with_len 0 n i 0 lt) in
-    let more = take_more r i 0 (omega (arith, length-range_with_len 0 n)) in
-    ap (λ k. (before ++ flat_map f (take i r)) ++ f k) (sym at)
-    ∙ flat_map_more f before (take i r) (get_or r i 0)
-    ∙ ap (λ l. before ++ flat_map f l) (sym more)
+-- what is made of each number from one on, once that of this one is there
+pub rows_on : {X : Type 0} (f : ℕ → List X) (n i : ℕ) (before all : List X) → i < n → before ++ flat_map f (range_with_len i (n - i)) ≡ all
+    → (before ++ f i) ++ flat_map f (range_with_len (i + 1) (n - (i + 1))) ≡ all
+rows_on f n i before all below so_far = (let more : n - i ≡ suc (n - (i + 1)) = omega (arith, below) in append_assoc before (f i) _ ∙ (rw more at so_far))

@@ -7,7 +7,6 @@ use Rattle.std.proofs.lemmas.List.{take-append-drop}
 use Rattle.std.proofs.lemmas.Option.{slice_get-get_or}
 use Rattle.fbl_base.specs.declared.trace.Mark.TheVariants.{Send, Receipt}
 use Rattle.fbl_base.specs.Events.{receipt_of}
-use Rattle.fbl_base.proofs.Breached.{room}
 use Rattle.fbl_base.proofs.Gets.{At-front, At-below, At-filter_map, filter_map-At}
 use Rattle.fbl_base.proofs.Recorded.{Decides-same_determinant}
 
@@ -46,10 +45,3 @@ WellFormed-below n t i obeyed j e at =
 
 pub WellFormed-all : (n : ℕ) (t : List Mark) (i : ℕ) → length t ≤ i → ((j : ℕ) → j < i → ObeysAt n t j) → WellFormed n t
 WellFormed-all n t i all obeyed j e at = obeyed j (omega (arith, At-below t j e at, all)) e at
-
--- no event may come after 8192 others
-pub too_many : (n : ℕ) (t : List Mark) (place : ℕ) → place < length t → 8192 ≤ place → ¬ (ObeysAt n t place)
-too_many n (e ∷ t) place below most obeys =
-    let may = obeys (get_or (e ∷ t) place e) (slice_get-get_or (e ∷ t) place e below) in
-    omega (arith, room n (take place (e ∷ t)) (get_or (e ∷ t) place e) may, length-take place (e ∷ t), below, most)
-too_many n [] place below most obeys = omega arith

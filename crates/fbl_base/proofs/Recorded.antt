@@ -1,13 +1,12 @@
 -- Which determinants are recorded.
 use Rattle.fbl_base.proofs.Common.{ℕ, ◌≡◌, Bool, true, false, not, cond, ◌&&◌, ◌||◌, List, refl, sym, Decides, ◌↔◌, arith, list_any, nat_cmp, nat_tests}
-use Rattle.fbl_base.proofs.Common.{Any-from_list_any, list_any-from_Any, Determinant, and_parts, Mark, Parts, is_held_outside, IsLost, IsDumpOrphan, same_determinant, nat_cmp_total}
+use Rattle.fbl_base.proofs.Common.{Any-from_list_any, list_any-from_Any, Determinant, and_parts, Mark, Parts, is_held_outside, IsDumpOrphan, first_events, same_determinant, nat_cmp_total}
 use Rattle.std.specs.FinSet as set
 use Rattle.std.proofs.Math.Bool.{or-false, or-true}
 use Rattle.std.proofs.lemmas.Bool.{not-true}
-use Rattle.fbl_base.specs.declared.trace.Mark.TheVariants.{Send, Receipt}
-use Rattle.fbl_base.specs.Reach.{is_lost_test}
+use Rattle.fbl_base.specs.Reach.{Follows, IsReached}
+use Rattle.fbl_base.specs.declared.audit.Reach.{Reach}
 use Rattle.fbl_base.specs.Audit.{IsHeldOutside}
-use Rattle.fbl_base.proofs.ReachLaws.{Tracks}
 
 abbrev holds_it : set.FinSet nat_cmp → Determinant → ℕ × Determinant → Bool
 holds_it strike d h = not (set.contains strike h.0) && same_determinant h.1 d
@@ -32,20 +31,15 @@ Decides-is_held_outside dump d = (
   λ r. list_any-from_Any (holds_it dump.strike d) dump.held (r.1.0, (r.0, d), r.1.1, r.1.2, rw (r.2, (Decides-same_determinant d d).1 refl)),
 )
 
--- what the test of the code says
-pub Decides-is_lost : (dump : Parts) (recorded : List Determinant)
-    → ((d : Determinant) → list_any (same_determinant d) recorded ≡ is_held_outside dump d) → (e : Mark) → Decides (is_lost_test same_determinant recorded e) (IsLost dump e)
-Decides-is_lost dump recorded is (Send from ssn to) = (λ h. cc, λ x. absurd x)
-Decides-is_lost dump recorded is (Receipt to rsn from ssn) =
-    let decides = Decides-is_held_outside dump (record { from = from; ssn = ssn; to = to; rsn = rsn }) in
-    rw is (grind (arith, decides))
-
 -- at the end of the pass, the members reached outside the strike set are the orphans
-pub Tracks-orphans : (dump : Parts) (reached : set.FinSet nat_cmp) (clean : List ℕ) → Tracks (IsLost dump) dump.events reached clean → (q : ℕ)
-    → (set.contains (set.difference reached dump.strike) q ≡ true) ↔ IsDumpOrphan dump q
-Tracks-orphans dump reached clean tracks q =
-    let left = set.contains-difference nat_cmp_total reached dump.strike q in
-    let reaches = tracks.members q in (
+pub orphans_by : (dump : Parts) (n : ℕ) (reach : Reach) → Follows dump n reach → (q : ℕ)
+    → (set.contains (set.difference reach.reached dump.strike) q ≡ true) ↔ IsDumpOrphan (first_events n dump) q
+unfolding IsReached
+orphans_by dump n reach follows q =
+    let left = set.contains-difference nat_cmp_total reach.reached dump.strike q in
+    let reaches = follows.members q in (
       λ h. (grind (arith, left), reaches.0 (grind (arith, left))),
       λ o. (let is = reaches.1 o.1 in grind (arith, left, is, o.0)),
     )
+
+pub ruleset held_outside = (Decides-is_held_outside)

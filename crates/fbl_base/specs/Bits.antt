@@ -3,6 +3,7 @@ use Rattle.std.specs.Prelude.{◌≡◌, ℕ, ◌+◌, ◌*◌, ◌/◌, ◌%◌
 use Rattle.std.specs.Int.{bit_at}
 use Rattle.std.proofs.Common.{zero, suc, get_or, refl, sym, ap, ◌∙◌, arith, eqb, ◌⊎◌, inl, inr}
 use Rattle.std.proofs.lemmas.List.{get_or_past}
+use Rattle.std.proofs.lemmas.Bool.Decides.{nat_tests}
 use Rattle.std.proofs.lemmas.Nat.Bits.{bit_at_lowest, bit_at-suc, bit_at_above}
 use Rattle.std.specs.Ordering.{nat_cmp}
 use Rattle.std.specs.FinSet as set
@@ -45,11 +46,7 @@ contains-set_of b q within = contains-flagged (digits 16 b) q ∙ at (split q) w
   at (inr past) = get_or_past (digits 16 b) q false (rw (length-digits 16 b) past) ∙ ap (λ x. eqb x 1) (sym (bit_at_above b 16 q within past))
 
 pub parity : (b : ℕ) → cond (eqb (b % 2) 1) 1 0 ≡ b % 2
-parity b = at (b % 2) (omega arith) where
-  at : (r : ℕ) → r < 2 → cond (eqb r 1) 1 0 ≡ r
-  at zero below = refl
-  at (suc zero) below = refl
-  at (suc (suc r)) below = absurd (omega (arith, below))
+parity b = grind (arith, nat_tests)
 
 bits_of-same : (n k b : ℕ) (s : set.FinSet nat_cmp) → b < 2 ^ n → ((j : ℕ) → j < n → set.contains s (j + k) ≡ eqb (bit_at b j) 1) → bits_of n k s ≡ b
 unfolding bits_of

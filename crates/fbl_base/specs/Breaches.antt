@@ -118,10 +118,6 @@ abbrev pub BreaksEvent : ℕ → List Mark → Mark → EventRule → Type 0
 BreaksEvent n trace e event_rule.TooMany = 8192 ≤ length trace
 BreaksEvent n trace e rule = (length trace < 8192) × Breaks n e (next_number trace e) (first_in_flight trace e) rule
 
--- the event at the place breaks this rule behind those before it
-abbrev pub BreaksAt : ℕ → List Mark → ℕ → EventRule → Type 0
-BreaksAt n trace place rule = (e : Mark) × At trace place e × BreaksEvent n (take place trace) e rule
-
 -- the event at the fault's place is the fault's, and breaks its rule behind those before it
 abbrev pub IsEventFault : ℕ → List Mark → EventFault → Type 0
 IsEventFault n trace fault = At trace fault.place fault.event × BreaksEvent n (take fault.place trace) fault.event fault.rule

@@ -1,6 +1,6 @@
 -- Sets of members.
 use Rattle.std.specs.Prelude.{◌≡◌, ℕ, ◌+◌, ◌<◌, Bool, true, false, cond, List, [], ◌∷◌, ◌≢◌}
-use Rattle.std.proofs.Common.{zero, suc, get_or, ◌∙◌, arith, count_by, add-zero}
+use Rattle.std.proofs.Common.{zero, suc, get_or, ◌∙◌, arith, count_by}
 use Rattle.std.proofs.lemmas.Bool.Decides.{nat_tests}
 use Rattle.std.proofs.lemmas.List.Sums.{sum_by-cons}
 use Rattle.std.specs.Ordering.{nat_cmp}
@@ -35,41 +35,31 @@ pub contains-flagged_below : (flags : List Bool) (k q : ℕ) → q < k → set.c
 unfolding flagged
 contains-flagged_below [] k q below = set.contains-empty nat_cmp q
 contains-flagged_below (flag ∷ flags) k q below =
-    let ih : set.contains (flagged (suc k) flags) q ≡ false = contains-flagged_below flags (suc k) q (omega arith) in
-    elim flag as (λ b. set.contains (cond b (set.insert (flagged (suc k) flags) k) (flagged (suc k) flags)) q ≡ false) [
-      | true ↦ contains-insert_other _ k q (λ e. absurd (omega arith)) ∙ ih
-      | false ↦ ih
-    ]
+    (let rest = contains-flagged_below flags (suc k) q (omega arith) in let other = contains-insert_other (flagged (suc k) flags) k q in grind (arith, rest, other))
 
-contains-flagged_at : (flags : List Bool) (k j : ℕ) → set.contains (flagged k flags) (j + k) ≡ get_or flags j false
+contains-flagged_at : (flags : List Bool) (k q j : ℕ) → q ≡ j + k → set.contains (flagged k flags) q ≡ get_or flags j false
 unfolding flagged
-contains-flagged_at [] k j = set.contains-empty nat_cmp (j + k)
-contains-flagged_at (flag ∷ flags) k zero =
-    let ih : set.contains (flagged (suc k) flags) k ≡ false = contains-flagged_below flags (suc k) k (omega arith) in
-    rw (let e : 0 + k ≡ k = omega arith in e) elim flag as (λ b. set.contains (cond b (set.insert (flagged (suc k) flags) k) (flagged (suc k) flags)) k ≡ b) [
-      | true ↦ contains-insert_same _ k
-      | false ↦ ih
-    ]
-contains-flagged_at (flag ∷ flags) k (suc j) =
-    let ih : set.contains (flagged (suc k) flags) (suc j + k) ≡ get_or flags j false = rw (let e : suc j + k ≡ j + suc k = omega arith in e) (contains-flagged_at flags (suc k) j) in
-    elim flag as (λ b. set.contains (cond b (set.insert (flagged (suc k) flags) k) (flagged (suc k) flags)) (suc j + k) ≡ get_or flags j false) [
-      | true ↦ contains-insert_other _ k (suc j + k) (λ e. absurd (omega arith)) ∙ ih
-      | false ↦ ih
-    ]
+contains-flagged_at [] k q j is = set.contains-empty nat_cmp q
+contains-flagged_at (flag ∷ flags) k q zero is =
+    let rest = contains-flagged_below flags (suc k) q (omega (arith, is)) in
+    let same : q ≡ k = omega (arith, is) in
+    rw (← same) (grind (arith, rest, contains-insert_same (flagged (suc q) flags) q))
+contains-flagged_at (flag ∷ flags) k q (suc j) is =
+    let rest = contains-flagged_at flags (suc k) q j (omega (arith, is)) in
+    let other = contains-insert_other (flagged (suc k) flags) k q (λ e. omega (arith, is, e)) in
+    grind (arith, rest, other)
 
 -- whether a member is among the flagged ones
 pub contains-flagged : (flags : List Bool) (q : ℕ) → set.contains (flagged 0 flags) q ≡ get_or flags q false
-contains-flagged flags q = (rw add-zero at (contains-flagged_at flags 0 q))
+contains-flagged flags q = contains-flagged_at flags 0 q q (omega arith)
 
 -- how many are flagged
 pub len-flagged : (flags : List Bool) (k : ℕ) → set.len (flagged k flags) ≡ count_by (λ b. b) flags
 unfolding flagged
 len-flagged [] k = set.len-empty nat_cmp
 len-flagged (flag ∷ flags) k =
-    rw (sum_by-cons (λ b. cond b 1 0) flag flags) elim flag as (λ b. set.len (cond b (set.insert (flagged (suc k) flags) k) (flagged (suc k) flags)) ≡ cond b 1 0 + count_by (λ b. b) flags) [
-      | true ↦ set.len-insert nat_cmp_total (flagged (suc k) flags) k ∙ (rw (contains-flagged_below flags (suc k) k (omega arith), len-flagged flags (suc k)) omega arith)
-      | false ↦ rw (len-flagged flags (suc k)) omega arith
-    ]
+    let one = set.len-insert nat_cmp_total (flagged (suc k) flags) k in
+    grind (arith, one, sum_by-cons (λ b. cond b 1 0) flag flags, contains-flagged_below flags (suc k) k (omega arith), len-flagged flags (suc k))
 
 -- two sets with the same members are equal
 pub same_from_contains : (s t : set.FinSet nat_cmp) → ((q : ℕ) → set.contains s q ≡ set.contains t q) → s ≡ t

@@ -5,17 +5,17 @@
 //! are those of Alvisi and Marzullo (1998): a receipt is recorded while a member outside the strike set holds its
 //! determinant.
 
-ghost use Rattle.std.specs.Prelude.{◌≡◌, ◌<◌, ◌≤◌, ◌↔◌, ℕ, true, IfOk, IfErr, IfSome, MatchOption, replicate, length, IsTrue};
+ghost use Rattle.std.specs.Prelude.{◌≡◌, ◌<◌, ◌≤◌, ◌↔◌, ◌+◌, ℕ, true, IfOk, IfErr, IfSome, MatchOption, length};
 ghost use Rattle.std.specs.FinSet as set;
-ghost use Rattle.fbl_base.specs.Audit.{HeldAt, IsDump, IsFirstBreach, IsLost, IsDumpOrphan, IsOrphanStart, RefusesDump, is_held_outside, lost_determinants, orphan_start_in};
+ghost use Rattle.fbl_base.specs.Audit.{HeldAt, IsDump, Parts, IsFirstBreach, IsLost, IsDumpOrphan, IsOrphanStart, RefusesDump, first_events, is_held_outside, lost_determinants, orphan_start_in};
 ghost use Rattle.fbl_base.specs.Breaches.{BreaksPair, FitsPair, IsEventFault, IsOfDump, IsPairFault, dump_refusal};
 ghost use Rattle.fbl_base.specs.Events.{same_determinant};
 ghost use Rattle.std.specs.HashSet as hash_set;
 ghost use Rattle.fbl_base.specs.DumpParts.{parts_of, is_received};
 ghost use Rattle.fbl_base.specs.Rules.{ObeysAt, WellFormed};
-ghost use Rattle.fbl_base.specs.Reach.{reached_after, unreached_sends_after, is_lost_test};
+ghost use Rattle.fbl_base.specs.Reach.{Follows, StartsBy, reached_after, unreached_sends_after};
 
-use crate::fault::{DumpFault, EventFault, EventRule, Outsider, PairFault, PairRule};
+use crate::fault::{DumpFault, EventFault, Outsider, PairFault, PairRule};
 use crate::member::Member;
 use crate::member_set::MemberSet;
 use crate::raw_dump::RawDump;
@@ -111,9 +111,9 @@ struct Reach {
 }
 
 impl Reach {
+    #[tactic(auto, using(crate::proofs::ReachLaws::Tracks_none))]
     fn new() -> Reach
-        ensures reached { result.reached ≡ set.empty }
-        ensures unreached_sends { result.unreached_sends ≡ replicate 16 0 }
+        ensures { (dump : Parts) → Follows dump 0 result }
     {
         Reach {
             reached: MemberSet::empty(),
@@ -121,11 +121,48 @@ impl Reach {
         }
     }
 
-    /// Whether the member is outside the strike set and reached.
-    fn has_orphan(&self, member: Member, strike: MemberSet) -> bool
-        ensures { result ≡ set.contains (set.difference self.now.reached strike) member }
+    /// The members outside the strike set that are reached: the orphans by so many of the events as were followed.
+    fn orphans<A: Allocator>(&self, dump: &Dump<A>) -> MemberSet
+        ensures { (n : ℕ) → Follows dump.now n self.now → (q : ℕ) → (set.contains result q ≡ true) ↔ IsDumpOrphan (first_events n dump.now) q }
     {
-        self.reached.without(strike).has(member)
+        self.reached.without(dump.strike())
+    }
+
+    /// The start of the member at which the event at the place happened, which was followed last, by its start before that.
+    fn start<A: Allocator>(
+        &self,
+        dump: &Dump<A>,
+        place: usize,
+        member: Member,
+        before: Option<usize>,
+    ) -> Option<usize>
+        requires within { place < length dump.now.events }
+        requires follows { Follows dump.now (place + 1) self.now }
+        requires before { StartsBy dump.now place member before }
+        ensures { StartsBy dump.now (place + 1) member result }
+    {
+        match before {
+            Some(first) => Some(first),
+            None if self.orphans(dump).has(member) => Some(place),
+            None => None,
+        }
+    }
+
+    /// Takes in the event at the place.
+    fn follow_at<A: Allocator>(
+        &mut self,
+        dump: &Dump<A>,
+        recorded: &DeterminantSet<A>,
+        place: usize,
+    )
+        requires within { place < length dump.now.events }
+        requires recorded { (d : _) → hash_set.contains same_determinant recorded.now d ≡ is_held_outside dump.now d }
+        requires follows { Follows dump.now place self.old }
+        ensures { Follows dump.now (place + 1) self.new }
+    {
+        let event = &dump.events()[place];
+        let lost = is_lost(dump, recorded, *event);
+        self.follow(*event, lost);
     }
 
     /// Takes in the next event.
@@ -193,8 +230,10 @@ pub fn lost<A: Allocator + Copy>(
 }
 
 /// Whether the event is a receipt whose determinant isn't among those recorded.
-fn is_lost<A: Allocator>(recorded: &DeterminantSet<A>, event: Mark) -> bool
-    ensures { result ≡ is_lost_test same_determinant recorded.now.keys event }
+#[tactic(auto, using(crate::proofs::Recorded::held_outside))]
+fn is_lost<A: Allocator>(dump: &Dump<A>, recorded: &DeterminantSet<A>, event: Mark) -> bool
+    requires { (d : _) → hash_set.contains same_determinant recorded.now d ≡ is_held_outside dump.now d }
+    ensures { (result ≡ true) ↔ IsLost dump.now event }
 {
     match event {
         Mark::Send { .. } => false,
@@ -215,11 +254,10 @@ pub fn orphans<A: Allocator + Copy>(alloc: A, dump: &Dump<A>) -> Result<MemberSe
 {
     let recorded = recorded_determinants(alloc, dump)?;
     let mut reach = Reach::new();
-    for event in dump.events() {
-        let lost = is_lost(&recorded, *event);
-        reach.follow(*event, lost);
+    for place in 0..dump.events().len() {
+        reach.follow_at(dump, &recorded, place);
     }
-    Ok(reach.reached.without(dump.strike()))
+    Ok(reach.orphans(dump))
 }
 
 /// For each member's number, the place of its first event that depends on a lost receipt, if the member is an orphan.
@@ -231,17 +269,13 @@ pub fn orphan_starts<A: Allocator + Copy>(
     ensures { IfOk result (λ starts. (q : ℕ) → q < 16 → IsOrphanStart dump.now q (orphan_start_in starts q)) }
 {
     let recorded = recorded_determinants(alloc, dump)?;
-    let strike = dump.strike();
     let mut reach = Reach::new();
     let mut starts = [None; 16];
-    for (place, mark) in dump.events().iter().enumerate() {
-        let member = mark.member();
-        let was_orphan = reach.has_orphan(member, strike);
-        let lost = is_lost(&recorded, *mark);
-        reach.follow(*mark, lost);
-        if reach.has_orphan(member, strike) && !was_orphan {
-            starts[member.number() as usize] = Some(place);
-        }
+    for place in 0..dump.events().len() {
+        reach.follow_at(dump, &recorded, place);
+        let member = dump.events()[place].member();
+        let number = member.number() as usize;
+        starts[number] = reach.start(dump, place, member, starts[number]);
     }
     Ok(starts)
 }
@@ -257,20 +291,9 @@ fn first_bad_event<A: Allocator + Copy>(
     ensures fault { IfOk result (λ r. IfSome r (IsEventFault n events.now)) }
 {
     let mut counts = Counts::new(alloc)?;
-    for (place, event) in events.iter().enumerate() {
-        if place >= 8192 {
-            return Ok(Some(EventFault {
-                place,
-                event: *event,
-                rule: EventRule::TooMany,
-            }));
-        }
-        if let Some(rule) = counts.admit(n, events, place)? {
-            return Ok(Some(EventFault {
-                place,
-                event: *event,
-                rule,
-            }));
+    for place in 0..events.len() {
+        if let Some(fault) = counts.admit(n, events, place)? {
+            return Ok(Some(fault));
         }
     }
     Ok(None)
@@ -297,7 +320,9 @@ fn broken_rule<A: Allocator>(
     pair: &(Member, Determinant),
 ) -> Option<PairRule>
     requires { (d : _) → hash_set.contains same_determinant receipts.now d ≡ is_received raw.now.events.items d }
-    ensures { MatchOption result (FitsPair raw.now.members raw.now.events.items place pair.now.0 pair.now.1) (BreaksPair raw.now.members raw.now.events.items place pair.now.0 pair.now.1) }
+    ensures broken { IfSome result (BreaksPair raw.now.members raw.now.events.items place pair.now.0 pair.now.1) }
+    ensures fits { MatchOption result (FitsPair raw.now.members raw.now.events.items place pair.now.0 pair.now.1)
+        (λ _. ¬ (FitsPair raw.now.members raw.now.events.items place pair.now.0 pair.now.1)) }
 {
     let members = raw.members;
     if place >= 131_072 {

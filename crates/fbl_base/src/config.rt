@@ -1,8 +1,8 @@
 //! The parameters of a group.
 
-ghost use Rattle.std.specs.Prelude.{◌≡◌, ◌↔◌, IsTrue, IfOk, IfErr, IfNone, IfSome, MatchResult, length};
+ghost use Rattle.std.specs.Prelude.{◌≡◌, ◌↔◌, ◌<◌, ℕ, IsTrue, IfOk, IfErr, IfNone, IfSome, MatchResult, length};
 ghost use Rattle.fbl_base.specs.Breaches.{IsOfConfig, IsStartFault, config_refusal};
-ghost use Rattle.fbl_base.specs.Configs.{AreAllowed, AreAllowedBefore, IsConfig, RefusesConfig};
+ghost use Rattle.fbl_base.specs.Configs.{IsConfig, RefusesConfig, StartAllowedAt};
 
 use crate::fault::{ConfigFault, StartFault};
 use crate::trace::Start;
@@ -192,8 +192,8 @@ impl<A: Allocator + Copy> Config<A> {
 
 /// The first start that breaks a rule in a group of so many members.
 fn first_bad_start(members: u8, starts: &[Start]) -> Option<StartFault>
-    ensures all { IfNone result (AreAllowed members starts.now) }
-    ensures first { IfSome result (λ fault. AreAllowedBefore members starts.now fault.place) }
+    ensures all { IfNone result ((i : ℕ) → StartAllowedAt members starts.now i) }
+    ensures first { IfSome result (λ fault. (i : ℕ) → i < fault.place → StartAllowedAt members starts.now i) }
     ensures fault { IfSome result (IsStartFault members starts.now) }
 {
     for (place, start) in starts.iter().enumerate() {

@@ -1,13 +1,13 @@
 //! The rules of events, checked in one pass: how many sends and receipts each member has had, and what is in flight on each
 //! channel.
 
-ghost use Rattle.std.specs.Prelude.{◌≡◌, ◌<◌, ◌≤◌, ◌+◌, ◌*◌, ◌++◌, ◌∷◌, [], ℕ, IfNone, IfOk, OnOk, MatchOption, length, take, drop, slice_get, slice_index, vec_len};
-ghost use Rattle.fbl_base.specs.Breaches.{Breaks, BreaksAt, FitsEvent};
+ghost use Rattle.std.specs.Prelude.{◌≡◌, ◌<◌, ◌≤◌, ◌+◌, ◌*◌, ◌++◌, ◌∷◌, [], ℕ, IfNone, IfOk, IfSome, OnOk, MatchOption, length, take, drop, slice_get, slice_index, vec_len};
+ghost use Rattle.fbl_base.specs.Breaches.{Breaks, FitsEvent, IsEventFault};
 ghost use Rattle.fbl_base.specs.Events.{destination_of, source_of};
 ghost use Rattle.fbl_base.specs.Counted.{Counted, CountsEvent, first_by, next_by};
 ghost use Rattle.fbl_base.specs.Rules.{ObeysAt, WellFormed};
 
-use crate::fault::EventRule;
+use crate::fault::{EventFault, EventRule};
 use crate::member::Member;
 use crate::trace::{Mark, end_outside};
 use std::alloc::{AllocError, Allocator, Global};
@@ -119,36 +119,51 @@ impl<A: Allocator + Copy> Counts<A> {
         Ok(())
     }
 
-    /// Counts the event at `place`, if it obeys the rules after those before it, and else answers the first rule that it breaks.
+    /// Counts the event at `place`, if it obeys the rules after those before it, and else answers it with the first rule that it
+    /// breaks.
     pub(crate) fn admit(
         &mut self,
         n: u8,
         events: &[Mark],
         place: usize,
-    ) -> Result<Option<EventRule>, AllocError>
+    ) -> Result<Option<EventFault>, AllocError>
         requires members { n ≤ 16 }
         requires within { place < length events.now }
-        requires few { place < 8192 }
         requires rules { WellFormed n (take place events.now) }
         requires counted { Counted (take place events.now) self.old }
-        ensures verdict { IfOk result (λ found. MatchOption found (ObeysAt n events.now place) (BreaksAt n events.now place)) }
+        ensures verdict { IfOk result (λ found. MatchOption found (ObeysAt n events.now place) (λ fault. (fault.place ≡ place) × ¬ (ObeysAt n events.now place))) }
+        ensures fault { IfOk result (λ found. IfSome found (IsEventFault n events.now)) }
         ensures counted { IfOk result (λ found. IfNone found (Counted (take (place + 1) events.now) self.new)) }
     {
         let event = &events[place];
+        if place >= 8192 {
+            return Ok(Some(EventFault {
+                place,
+                event: *event,
+                rule: EventRule::TooMany,
+            }));
+        }
         let next = self.next_number(event);
         let first = self.first_in_flight(event);
-        if let Some(rule) = broken_rule(n, event, next, first) {
-            return Ok(Some(rule));
+        match broken_rule(n, event, next, first) {
+            Some(rule) => Ok(Some(EventFault {
+                place,
+                event: *event,
+                rule,
+            })),
+            None => {
+                self.count(event)?;
+                Ok(None)
+            }
         }
-        self.count(event)?;
-        Ok(None)
     }
 }
 
 /// The first rule that an event breaks in a group of `n`, where its number has to be `next`, and `first` is the first message
 /// in flight on its channel.
 fn broken_rule(n: u8, event: &Mark, next: u32, first: Option<u32>) -> Option<EventRule>
-    ensures { MatchOption result (FitsEvent n event.now next first) (Breaks n event.now next first) }
+    ensures broken { IfSome result (Breaks n event.now next first) }
+    ensures fits { MatchOption result (FitsEvent n event.now next first) (λ _. ¬ (FitsEvent n event.now next first)) }
 {
     let from = event.source();
     let to = event.destination();

@@ -1,17 +1,8 @@
--- The shapes of members, one after another.
-use Rattle.std.proofs.Common.{ℕ, ◌<◌, ◌≤◌, ◌≡◌, ◌++◌, ◌∙◌, List, Some, Vec, Global, inl, inr, ap, length, slice_get, take, arith}
-use Rattle.std.specs.List.{flat_map, range_with_len}
-use Rattle.std.proofs.lemmas.List.{take_all}
-use Rattle.std.proofs.lemmas.List.FromFn.{length-range_with_len}
+-- The paths of members, one for each.
+use Rattle.std.proofs.Common.{ℕ, ◌<◌, ◌≡◌, List, Some, Vec, Global, inl, inr, length, slice_get, arith}
 use Rattle.std.proofs.lemmas.Option.{slice_get_cases}
 use Rattle.fbl_base.specs.Audit.{Parts}
-use Rattle.fbl_shapes.specs.declared.shape.Shape.{Shape}
 use Rattle.fbl_draw.specs.Paths.{IsPathDrawn, places_in}
-
--- the shapes of all members, where those of each that a pass over them has come to are there
-pub rows_all : (row : ℕ → List Shape) (front shapes : List Shape) (n i : ℕ) → n ≤ i → shapes ≡ front ++ flat_map row (take i (range_with_len 0 n))
-    → shapes ≡ front ++ flat_map row (range_with_len 0 n)
-rows_all row front shapes n i all so_far = so_far ∙ ap (λ l. front ++ flat_map row l) (take_all i (range_with_len 0 n) (omega (arith, all, length-range_with_len 0 n)))
 
 -- what holds of each path of a list holds of what the list has for each member
 pub each_path : (dump : Parts) (paths : List (Vec ℕ Global)) → length paths ≡ 16

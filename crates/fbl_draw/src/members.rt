@@ -83,10 +83,9 @@ pub(crate) fn push_members(
     let strike = dump.strike();
     let columns = dump.events().len();
     for number in 0..dump.members() {
-        if let Some(member) = Member::new(number) {
-            let start = start_in(starts, number);
-            push_member(shapes, columns, member, strike.has(member), start)?;
-        }
+        let member = Member::at(number);
+        let start = start_in(starts, number);
+        push_member(shapes, columns, member, strike.has(member), start)?;
     }
     Ok(())
 }

@@ -31,6 +31,7 @@ fn audit_dump<W: Write>(alloc: Global, writer: &mut W, dump: &Dump) -> Result<()
 /// Audits the dump that the bytes spell, and writes how many receipts are lost, the determinant of each, and the orphans.
 /// It is `Ok` whatever the audit finds. Nothing is written where the fault is another than `Write`, and after `Write` a
 /// prefix of the text. `Read` is no answer.
+#[tactic(auto, using(crate::proofs::Answers::answers_fault))]
 pub fn audit_bytes<W: Write>(alloc: Global, input: &[u8], writer: &mut W) -> Result<(), RunFault>
     ensures { Audits input.now (W.contents writer.old) (W.contents writer.new) result }
 {
@@ -41,6 +42,7 @@ pub fn audit_bytes<W: Write>(alloc: Global, input: &[u8], writer: &mut W) -> Res
 }
 
 /// Audits the dump that the reader has, as `audit_bytes` does. Where a read fails nothing is written.
+#[tactic(auto, using(crate::proofs::Answers::answers_unread, fbl_input::proofs::Inputs::read_whole))]
 pub fn audit<R: Read, W: Write>(
     alloc: Global,
     reader: &mut R,

@@ -59,6 +59,7 @@ fn check_dump<W: Write>(alloc: Global, writer: &mut W, dump: &Dump) -> Result<Ve
 /// Checks the dump that the bytes spell, and writes a line for each receipt that some members may lose with an orphan left, or
 /// that there is none; answers which of the two it is. Nothing is written where the fault is another than `Write`, and after
 /// `Write` a prefix of the text. `Read` is no answer.
+#[tactic(auto, using(crate::proofs::Answers::answers_fault))]
 pub fn check_bytes<W: Write>(
     alloc: Global,
     input: &[u8],
@@ -73,6 +74,7 @@ pub fn check_bytes<W: Write>(
 }
 
 /// Checks the dump that the reader has, as `check_bytes` does. Where a read fails nothing is written.
+#[tactic(auto, using(crate::proofs::Answers::answers_unread, fbl_input::proofs::Inputs::read_whole))]
 pub fn check<R: Read, W: Write>(
     alloc: Global,
     reader: &mut R,

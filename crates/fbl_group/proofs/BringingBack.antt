@@ -3,7 +3,8 @@ use Rattle.fbl_group.proofs.Common.{◌||◌, ◌⊎◌, ◌≡◌, ℕ, ◌+◌
 use Rattle.fbl_group.proofs.Common.{Result, Fits, slice_index_or, count_by, is_some, filter, get_or_past, sum_by-cons, Members, Event, mark_of, determinant_of, Next, Message, MemberRecord}
 use Rattle.fbl_group.proofs.Common.{blank, IsUp, IsDown, GroupRecord, channel_in, channel, member, knowledge, marks, receipts, IsSound, recovery_table, count_in, sent_again, working}
 use Rattle.fbl_group.proofs.Common.{length-left, sum_below-agree, Recovers, AreReplaced, IsReady, IsPutBack}
-use Rattle.std.proofs.Common.{w64, ◌^◌}
+use Rattle.std.proofs.Common.{w32, w64, ◌^◌}
+use Rattle.fbl_group.proofs.Reading.{received-twice}
 use Rattle.std.specs.Result.{OnErr}
 use Rattle.std.specs.FinSet as set
 use Rattle.fbl_base.specs.declared.trace.Event.TheVariants as event
@@ -11,7 +12,7 @@ use Rattle.fbl_law.specs.Groups.{messages_in}
 use Rattle.fbl_law.specs.GroupSteps.{IsRecovery}
 use Rattle.fbl_law.specs.Replaying.{is_replayed, stays_by, recovered_trace, resent_to, IsRebuilt}
 use Rattle.fbl_law.proofs.GroupRecovery.{group_recovery_keeps}
-use Rattle.fbl_law.proofs.RecoveryLaws.{cut-undone}
+use Rattle.fbl_law.proofs.GroupRecovery.{cut-undone}
 use Rattle.fbl_law.proofs.CutInOnePass.{recovered_trace-cut}
 use Rattle.fbl_law.proofs.ChannelCounts.{sent_again-short}
 use Rattle.fbl_law.proofs.ReplayLaws.{with-table, working-log, replayed_in-all, recovered_trace-rebuilt, rebuilt_is_recovered}
@@ -44,13 +45,9 @@ module _ {next : Next} {old now : GroupRecord} {rebuilt : List MemberRecord} (so
   left-is : left ≡ recovered_trace old
   left-is = recovered_trace-rebuilt next old sound rebuilt ready.replayed.replaying ready.replayed.waiting
 
-  few-left : length left ≤ 8192
-  few-left =
-      omega (arith, sound.room, sound.config.limit.1, length-left (λ e. stays_by old.down (λ p. slice_index_or rebuilt p blank) (mark_of e)) old.trace)
-
   -- no more receipts are left than there were
   fewer-receipts : length (receipts (map mark_of left)) ≤ length (receipts (map mark_of old.trace))
-  fewer-receipts = rw left-is (let undone = cut-undone next old sound (recovered_trace old) (recovered_trace-cut next old sound) in omega (arith, undone))
+  fewer-receipts = rw left-is (let undone = cut-undone sound (recovered_trace-cut next old sound) in omega (arith, undone))
 
   -- the channels of n members that are made again
   module _ {n : ℕ} {records : List MemberRecord} (again : List (List (List Message))) (all : n ≡ old.config.members) (same : records ≡ rebuilt) (each : AreSentAgain now records again) where
@@ -71,12 +68,12 @@ module _ {next : Next} {old now : GroupRecord} {rebuilt : List MemberRecord} (so
     cut-left : rest ≡ left
     cut-left = (rw same-down at is_cut)
 
-    pub short-rest : {events : List Event} → events ≡ rest → length events ≤ 8192
-    short-rest is = omega (arith, ap length (is ∙ cut-left), few-left)
-
     -- its receipts, counted before and after
     module _ {before after : ℕ} {last : List Event} (counts_first : before ≡ length (receipts (marks now)))
         (counts_last : after ≡ length (receipts (map mark_of last))) (is_last : last ≡ rest) where
+      abbrev undone : ℕ
+      undone = before - after
+
       first-counted : before ≡ length (receipts (marks old))
       first-counted = rw view counts_first
 
@@ -86,71 +83,74 @@ module _ {next : Next} {old now : GroupRecord} {rebuilt : List MemberRecord} (so
       pub fewer : after ≤ before
       fewer = omega (arith, first-counted, last-counted, fewer-receipts)
 
-      module _ {undone : ℕ} (is_undone : undone ≡ before - after) where
-        undone-left : undone + length (receipts (map mark_of left)) ≡ length (receipts (map mark_of old.trace))
-        undone-left = omega (arith, is_undone, fewer, first-counted, last-counted)
+      undone-left : undone + length (receipts (map mark_of left)) ≡ length (receipts (map mark_of old.trace))
+      undone-left = omega (arith, fewer, first-counted, last-counted)
 
-        -- the counter of undone receipts stays within that of all receipts
-        pub undone-fits : old.receipts_ever < 2 ^ 64 → Fits w64 (old.undone_ever + undone)
-        undone-fits fits = omega (arith, fits, undone-left, sound.counted)
+      -- they are few, and the counter of undone receipts stays within that of all receipts
+      pub undone-few : Fits w32 undone
+      undone-few = omega (arith, undone-left, sound.counted, received-twice next old sound, sound.room, sound.config.limit.1)
 
-        -- the group that is left
-        module _ {new : GroupRecord} {n : ℕ} {records : List MemberRecord} (again : List (List (List Message))) (all : n ≡ old.config.members)
-            (same : records ≡ rebuilt) (each : AreSentAgain now records again)
-            (put : IsPutBack s rebuilt old.members new.members) (replaced : AreReplaced n old.down (channel_in again) old.channels new.channels) (config : new.config ≡ old.config)
-            (trace : new.trace ≡ rest) (checkpoints : new.checkpoints ≡ old.checkpoints) (down : new.down ≡ set.empty)
-            (receipts_ever : new.receipts_ever ≡ old.receipts_ever) (undone_ever : new.undone_ever ≡ old.undone_ever + undone) where
-          again-is : AreSentAgain old rebuilt again
-          again-is = made again all same each
+      pub undone-fits : old.receipts_ever < 2 ^ 64 → Fits w64 (old.undone_ever + undone)
+      undone-fits fits = omega (arith, fits, undone-left, sound.counted)
 
-          members : IsPutBack old.down rebuilt old.members new.members
-          members = (rw same-down at put)
+      -- the group that is left
+      module _ {members : List MemberRecord} {channels : List (List (List Message))} {down : Members} {n : ℕ} {records : List MemberRecord} (again : List (List (List Message)))
+          (all : n ≡ old.config.members) (same : records ≡ rebuilt) (each : AreSentAgain now records again) (put : IsPutBack s rebuilt old.members members)
+          (replaced : AreReplaced n old.down (channel_in again) old.channels channels) (nobody_down : down ≡ set.empty) where
+        abbrev new : GroupRecord
+        new = record old { members = members; channels = channels; trace = rest; down = down; undone_ever = old.undone_ever + undone }
 
-          channels : AreReplaced old.config.members old.down (channel_in again) old.channels new.channels
-          channels = (rw all at replaced)
+        again-is : AreSentAgain old rebuilt again
+        again-is = made again all same each
 
-          works : (q : ℕ) → q < old.config.members → member new q ≡ working old rebuilt q
-          works q below = grind (arith, members.put q, members.kept q, sound.members)
+        placed : IsPutBack old.down rebuilt old.members members
+        placed = (rw same-down at put)
 
-          -- a channel with an end that was down has what its sender sends again
-          resent_on : (q p : ℕ) → IsDown (knowledge old) q ⊎ IsDown (knowledge old) p → q < old.config.members → p < old.config.members
-              → channel new q p ≡ resent_to old.config.f q p (member new q) (member new p)
-          resent_on q p down below_q below_p = grind (arith, channels.each q p, again-is q p, works q, works p)
+        remade : AreReplaced old.config.members old.down (channel_in again) old.channels channels
+        remade = (rw all at replaced)
 
-          -- the others stay
-          survive : (q p : ℕ) → IsUp (knowledge old) q → IsUp (knowledge old) p → channel new q p ≡ channel old q p
-          survive q p up_q up_p = grind (arith, get_or_past, channels.each q p, channels.shape, sound.shape)
+        works : (q : ℕ) → q < old.config.members → member new q ≡ working old rebuilt q
+        works q below = grind (arith, placed.put q, placed.kept q, sound.members)
 
-          -- how many messages are sent again
-          counted : messages_in old.config.members again ≡ messages_at old.down new
-          counted = rw config (sum_below-agree old.config.members _ _ (λ q below_q. sum_below-agree old.config.members _ _ (λ p below_p. one q p below_q below_p))) where
-            one : (q p : ℕ) → q < old.config.members → p < old.config.members
-                → length (channel_in again q p) ≡ cond (set.contains old.down q || set.contains old.down p) (length (channel new q p)) 0
-            one q p below_q below_p = grind (arith, channels.each q p, again-is q p)
+        -- a channel with an end that was down has what its sender sends again
+        resent_on : (q p : ℕ) → IsDown (knowledge old) q ⊎ IsDown (knowledge old) p → q < old.config.members → p < old.config.members
+            → channel new q p ≡ resent_to old.config.f q p (member new q) (member new p)
+        resent_on q p down below_q below_p = grind (arith, remade.each q p, again-is q p, works q, works p)
 
-          marks_left : length (receipts (marks new)) ≡ length (receipts (map mark_of left))
-          marks_left = ap (λ (es : List Event). length (receipts (map mark_of es))) (trace ∙ cut-left)
+        -- the others stay
+        survive : (q p : ℕ) → IsUp (knowledge old) q → IsUp (knowledge old) p → channel new q p ≡ channel old q p
+        survive q p up_q up_p = grind (arith, get_or_past, remade.each q p, remade.shape, sound.shape)
 
-          is_rebuilt : IsRebuilt old new rebuilt
-          is_rebuilt =
-              let table = λ (m : ℕ). with-table (slice_index_or rebuilt m blank) (recovery_table (knowledge old)) in
-              grind (arith, down, members, channels.shape, survive, config, trace, cut-left, left-is, undone-left, marks_left, ready.tables, table, sound.members, resent_on)
+        -- how many messages are sent again
+        counted : messages_in old.config.members again ≡ messages_at old.down new
+        counted = sum_below-agree old.config.members _ _ (λ q below_q. sum_below-agree old.config.members _ _ (λ p below_p. one q p below_q below_p)) where
+          one : (q p : ℕ) → q < old.config.members → p < old.config.members
+              → length (channel_in again q p) ≡ cond (set.contains old.down q || set.contains old.down p) (length (channel new q p)) 0
+          one q p below_q below_p = grind (arith, remade.each q p, again-is q p)
 
-          is_recovery : IsRecovery next old new
-          is_recovery = rebuilt_is_recovered next old sound rebuilt ready.replayed.replaying ready.replayed.waiting new is_rebuilt
+        marks_left : length (receipts (marks new)) ≡ length (receipts (map mark_of left))
+        marks_left = ap (λ (es : List Event). length (receipts (map mark_of es))) cut-left
 
-          pub is_sound : IsSound next new
-          is_sound = group_recovery_keeps next old new is_recovery sound
+        is_rebuilt : IsRebuilt old new rebuilt
+        is_rebuilt =
+            let table = λ (m : ℕ). with-table (slice_index_or rebuilt m blank) (recovery_table (knowledge old)) in
+            grind (arith, nobody_down, placed, remade.shape, survive, cut-left, left-is, undone-left, marks_left, ready.tables, table, sound.members, resent_on)
 
-          -- what is answered, from the number of receipts that were replayed and of messages that are sent again
-          pub recovers : {replays messages : ℕ} {saved : List MemberRecord}
-              → replays ≡ count_in s (λ p. (slice_index_or rebuilt p blank).received - (slice_index_or saved p blank).received) n
-              → saved ≡ old.checkpoints → messages ≡ messages_in n again
-              → Recovers next now new (record { replayed = replays; resent = messages; undone = before - after })
-          recovers replayed is_saved resent = rw (← view) (record {
-            recovery = is_recovery;
-            replayed = (rw (same-down, all, is_saved) at replayed) ∙ replayed_in-all next old sound rebuilt ready.replayed.replaying ready.replayed.waiting
-                ∙ ap (λ (es : List Event). length (filter (is_replayed old) (receipts (map mark_of es)))) (sym (trace ∙ cut-left ∙ left-is));
-            resent = (rw all at resent) ∙ counted;
-            undone = omega (arith, is_undone, undone-left, marks_left);
-          })
+        is_recovery : IsRecovery next old new
+        is_recovery = rebuilt_is_recovered next old sound rebuilt ready.replayed.replaying ready.replayed.waiting new is_rebuilt
+
+        pub is_sound : IsSound next new
+        is_sound = group_recovery_keeps next old new is_recovery sound
+
+        -- what is answered, from the number of receipts that were replayed and of messages that are sent again
+        pub recovers : {replays messages : ℕ} {saved : List MemberRecord}
+            → replays ≡ count_in s (λ p. (slice_index_or rebuilt p blank).received - (slice_index_or saved p blank).received) n
+            → saved ≡ old.checkpoints → messages ≡ messages_in n again
+            → Recovers next now new (record { replayed = replays; resent = messages; undone = undone })
+        recovers replayed is_saved resent = rw (← view) (record {
+          recovery = is_recovery;
+          replayed = (rw (same-down, all, is_saved) at replayed) ∙ replayed_in-all next old sound rebuilt ready.replayed.replaying ready.replayed.waiting
+              ∙ ap (λ (es : List Event). length (filter (is_replayed old) (receipts (map mark_of es)))) (sym (cut-left ∙ left-is));
+          resent = (rw all at resent) ∙ counted;
+          undone = omega (arith, undone-left, marks_left);
+        })

@@ -24,11 +24,12 @@ pub use Rattle.fbl_group.specs.Channels.{AreReplaced, each, front_message, room_
 pub use Rattle.fbl_group.specs.Deliveries.{IsPlanned}
 pub use Rattle.fbl_group.specs.Rebuilding.{IsPutBack, IsReady}
 pub use Rattle.fbl_group.specs.Recoveries.{Recovers}
-pub use Rattle.fbl_group.specs.Strikes.{is_lost_receipt_of, lost_receipts, unrecorded_among}
+pub use Rattle.fbl_group.specs.Strikes.{is_lost_receipt_of, lost_receipts}
 pub use Rattle.fbl_group.specs.Tickets.{is_full}
 pub use Rattle.fbl_law.proofs.ChannelCounts.{sum_below-agree}
-pub use Rattle.fbl_law.proofs.GroupFacts.{all_up, front_flight, receipts_fit}
-pub use Rattle.fbl_law.proofs.Promises.{sound_has_no_orphan, sound_records_first}
+pub use Rattle.fbl_law.proofs.GroupFacts.{front_flight, receipts_fit}
+pub use Rattle.fbl_law.proofs.Promises.{sound_records_first}
+pub use Rattle.fbl_law.proofs.Safe.{no_orphan, up_if_none}
 pub use Rattle.fbl_law.specs.Dumps.{pairs_from, pairs_of}
 pub use Rattle.fbl_law.specs.GroupSteps.{IsStrike, message_of_send, start_events, step_of}
 pub use Rattle.fbl_law.specs.Groups.{GroupRecord, HasChannels, channel, channel_in, knowledge, marks, member, member_checkpoint, receipts, sum_below}

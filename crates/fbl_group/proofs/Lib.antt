@@ -1,16 +1,13 @@
 pub mod Common
 pub mod Queues
-pub mod Views
 pub mod Planning
 pub mod Deciding
 pub mod Striking
-pub mod Unrecorded
 pub mod Promised
 pub mod Checkpointing
 pub mod Reading
 pub mod Starting
 pub mod Dumping
-pub mod Again
 pub mod Recovering
 pub mod PuttingBack
 pub mod BringingBack

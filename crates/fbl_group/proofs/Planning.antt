@@ -1,7 +1,7 @@
 -- What is known of a delivery that is planned.
 use Rattle.fbl_group.proofs.Common.{Some, None, ◌≡◌, ◌≢◌, ℕ, ◌+◌, ◌<◌, ◌≤◌, false, List, [], ◌∷◌, ◌++◌, length, map, refl, sym, subst, ap, ◌∙◌}
 use Rattle.fbl_group.proofs.Common.{append_assoc, arith, get_or, length-append, Fits, w32, slice_get, slice_set, All, nat_tests, Event, Outcome, Note, Next, Entry, piggybacked, Message}
-use Rattle.fbl_group.proofs.Common.{MemberRecord, messages_from, IsUp, taken_off, between, GroupRecord, HasChannels, member, channel, channel_in, knowledge, IsSound, step_of, all_up}
+use Rattle.fbl_group.proofs.Common.{MemberRecord, messages_from, IsUp, taken_off, between, GroupRecord, HasChannels, member, channel, channel_in, knowledge, IsSound, step_of, up_if_none}
 use Rattle.fbl_group.proofs.Common.{receipts_fit, front_flight, IsOnce, front_message, send_of_message, taken_and_sent, IsPlanned, set-get_or}
 use Rattle.fbl_base.specs.declared.trace.Event.TheVariants.{Receipt}
 use Rattle.fbl_base.specs.Steps.{SendsAllowed}
@@ -17,10 +17,6 @@ use Rattle.fbl_group.specs.Deliveries.{Delivered}
 use Rattle.fbl_group.specs.Tickets.{has_no_room}
 use Rattle.fbl_group.proofs.Queues.{first-is, messages-all, sends-messages, settled-in}
 use Rattle.fbl_group.proofs.Recovering.{read_at}
-
--- where there is room, the limit holds and the counter can rise
-pub has_room : (limit len ever sends : ℕ) → has_no_room limit len ever sends ≡ false → (len + 1 + sends ≤ limit) × (ever ≢ 18446744073709551615)
-has_room limit len ever sends room = (grind (arith, nat_tests), λ is. grind (arith, nat_tests))
 
 -- what the receiver's step asks of the message that is read at the front, and of the record at the receiver's place
 pub record Reads (next : Next) (n p : ℕ) (outcome : Outcome) (w : Message) (x : MemberRecord) : Type 0 where
@@ -56,18 +52,15 @@ module _ {next : Next} {r now : GroupRecord} {q p : ℕ} {outcome : Outcome} (we
   flies : IsInFlight (knowledge r) v
   flies = (front_flight next r sound q p v plan.first).0
 
-  pub apart : q ≢ p
-  apart same = (flight_ends next r sound v flies).2 (of_sender ∙ same ∙ sym to_receiver)
-
   up : IsUp (knowledge r) p
-  up = all_up next r sound plan.nobody_down p
+  up = up_if_none plan.nobody_down p
 
   -- its step is the receiver's
   step : outcome ≡ next p r.config.members m.state v.note
   step = rw to_receiver at plan.step
 
   pub room : (length r.trace + 1 + length outcome.sends.items ≤ r.config.limit) × (r.receipts_ever ≢ 18446744073709551615)
-  room = has_room r.config.limit (length r.trace) r.receipts_ever (length outcome.sends.items) plan.room
+  room = (grind (arith, nat_tests, plan.room), λ is. grind (arith, nat_tests, plan.room))
 
   allowed : SendsAllowed p r.config.members outcome
   allowed = rw step (well p r.config.members m.state v.note sound.config.members.0 plan.to_member)
@@ -84,9 +77,6 @@ module _ {next : Next} {r now : GroupRecord} {q p : ℕ} {outcome : Outcome} (we
 
     rows : (a : ℕ) → a < r.config.members → length (get_or cs a []) ≡ r.config.members
     rows a below = rw same (sound.shape.receivers a below)
-
-    pub below_receiver : p < length (get_or cs q [])
-    below_receiver = omega (arith, rows q plan.from_member, plan.to_member)
 
     pub not_empty : slice_get (channel_in cs q p) 0 ≡ None → ⊥
     not_empty none = (let first = rw none at (rw (← same) at plan.first) in cc)
@@ -117,7 +107,7 @@ module _ {next : Next} {r now : GroupRecord} {q p : ℕ} {outcome : Outcome} (we
         pub reads : {n : ℕ} → n ≡ r.config.members → Reads next n p outcome w x
         reads is =
             let new = receipt_is_new next r sound p q v.ssn plan.to_member up in
-            let newer = front_is_later next r sound q p v plan.first in
+            let newer = (rw (of_sender, to_receiver) at (front_is_later next r sound v (rw (of_sender, to_receiver) plan.first))) in
             let not_held = new_not_held next r sound p _ new in
             let not_carried = new_not_carried next r sound v _ flies new in
             let receipts = receipts_fit next r sound p plan.to_member up in

@@ -3,22 +3,15 @@ use Rattle.fbl_group.proofs.Common.{◌≡◌, length, inr, arith, Members, Next
 use Rattle.fbl_law.specs.Knowledge.{table}
 use Rattle.fbl_law.specs.Promises.{SurvivorsHold, RecordsCauses, LeavesRecorded, GainsHolders, KeepsHolders}
 use Rattle.fbl_law.proofs.Safe.{down_or_up, IsRecorded-before}
-use Rattle.fbl_law.proofs.Promises.{sound_survivors_hold}
-use Rattle.fbl_law.proofs.RecoveryLaws.{recovery_undoes_lost}
+use Rattle.fbl_law.proofs.Promises.{any_survivors_hold}
+use Rattle.fbl_law.proofs.GroupRecovery.{cut-undone}
 use Rattle.fbl_group.specs.declared.answers.Recovered.{Recovered}
-
--- survivors are those that are not down
-pub survivors_hold : (next : Next) (r : GroupRecord) → IsSound next r → SurvivorsHold (knowledge r) r.down
-survivors_hold next r sound = sound_survivors_hold next r r.down sound (λ q down. down) sound.causes.down.few
-
-pub records_causes : (next : Next) (r : GroupRecord) → IsSound next r → RecordsCauses (knowledge r)
-records_causes next r sound = IsRecorded-before r.config.f (knowledge r) sound.causes.closed
 
 -- a recovery undoes the lost receipts
 pub undoes_lost : (next : Next) (old new : GroupRecord) (answer : Recovered)
     → IsSound next old → Recovers next old new answer → answer.undone ≡ length (lost_receipts old)
 undoes_lost next old new answer sound recovers =
-    let lost = recovery_undoes_lost next old new recovers.recovery sound in
+    let lost = cut-undone sound recovers.recovery.trace in
     let undone = recovers.undone in
     omega (arith, lost, undone)
 

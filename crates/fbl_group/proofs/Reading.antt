@@ -1,7 +1,7 @@
 -- How large the parts of a sound group are.
 use Rattle.fbl_group.proofs.Common.{◌≡◌, ℕ, ◌+◌, ◌-◌, ◌*◌, ◌≤◌, ◌==◌, not, Bool, List, [], ◌∷◌, length, map, refl, sym, ap, ◌∙◌, arith, length-map}
 use Rattle.fbl_group.proofs.Common.{sum_by-cons, length-left, determinant_of, mark_of, Next, IsOnce, IsUp, GroupRecord, member, channel, marks, knowledge, receipts, sum_below, IsSound}
-use Rattle.fbl_group.proofs.Common.{all_up, sum_below-agree, inl, inr}
+use Rattle.fbl_group.proofs.Common.{up_if_none, sum_below-agree, inl, inr}
 use Rattle.std.specs.Prelude.{sum_by}
 use Rattle.std.specs.List.{filter_map, list_any}
 use Rattle.std.specs.FinSet as set
@@ -61,7 +61,7 @@ module _ (next : Next) (r : GroupRecord) (sound : IsSound next r) where
   pub unreceived-fly : set.len r.down ≡ 0 → length r.trace - 2 * (r.receipts_ever - r.undone_ever) ≡ messages_in_flight r
   unreceived-fly nobody =
       let n = r.config.members in
-      let up : (m : ℕ) → IsUp (knowledge r) m = all_up next r sound (set.empty_of_len r.down nobody) in
+      let up : (m : ℕ) → IsUp (knowledge r) m = up_if_none (set.empty_of_len r.down nobody) in
       let all = sum_below-agree n (λ q. sum_below n (λ p. length (channel r q p))) (λ q. sum_below n (weight_in n one (marks r) q))
       (λ q below. sum_below-agree n (λ p. length (channel r q p)) (weight_in n one (marks r) q)
       (λ p below_p. as-in-flight q p (up q) (up p) ∙ sym (weighs-length q (in_flight (marks r) q p)))) in

@@ -1,5 +1,5 @@
 -- The steps of a recovery before it changes the group: gathering, replay in rounds, tables given.
-use Rattle.fbl_group.proofs.Common.{nat_lt, ◌≡◌, ℕ, ◌+◌, ◌<◌, ◌≤◌, Bool, true, false, List, [], ◌∷◌, ◌++◌, length, map, take, Option, Some, None, get_or}
+use Rattle.fbl_group.proofs.Common.{◌||◌, nat_lt, ◌≡◌, ℕ, ◌+◌, ◌<◌, ◌≤◌, Bool, true, false, List, [], ◌∷◌, ◌++◌, length, map, take, Option, Some, None, get_or}
 use Rattle.fbl_group.proofs.Common.{refl, sym, ap, ◌∙◌, arith, add-one, slice_index_or, slice_set, nat_tests, get_or_default, Determinant, Note, Next, Entry, gathered, marked}
 use Rattle.fbl_group.proofs.Common.{MemberRecord, blank, IsDown, gathered_all, saved_tables, recovery_table, GroupRecord, member_checkpoint, knowledge, IsSound, working, IsReplaying}
 use Rattle.fbl_group.proofs.Common.{replayed_in, IsReady}
@@ -51,16 +51,6 @@ module _ (r : GroupRecord) (first : List Entry) {i x : ℕ} {before : List Entry
       let here = (rw same at up) in
       rw (add-one, here, was) (ap (gathered_all first) (sym (append-nil (saved_tables r.down r.checkpoints i))))
 
--- what the replay of a receipt asks
-pub record MayReplay (next : Next) (n p : ℕ) (d : Determinant) (note : Note) (x : MemberRecord) : Type 0 where
-  pub least : 2 ≤ n
-  pub most : n ≤ 16
-  pub member : p < n
-  pub to_me : d.to ≡ p
-  pub number : d.rsn ≡ x.received + 1
-  pub receipts : x.received < 8192
-  pub sends : length x.log + length (next p n x.state note).sends.items ≤ 8192
-
 -- a round so far: what is so of the replay, and of the tries of the members below i
 pub record Rounding (next : Next) (r : GroupRecord) (i : ℕ) (first now : List MemberRecord) (moved : Bool) : Type 0 where
   pub replaying : IsReplaying next r now
@@ -68,9 +58,9 @@ pub record Rounding (next : Next) (r : GroupRecord) (i : ℕ) (first now : List 
 
 module _ {next : Next} {r : GroupRecord} {i : ℕ} {first before : List MemberRecord} where
   -- one more member that replays or waits
-  pub round-step : {k : ℕ} {moved b b' : Bool} (after : List MemberRecord) → k ≡ i → Rounding next r i first before moved → Tries next r k before after b → b ≡ b'
-      → Rounding next r (i + 1) first after (if b' then true else moved)
-  round-step {moved = moved} {b' = b'} after is_k so_far tried is = grind arith
+  pub round-step : {k : ℕ} {moved : Bool} (b : Bool) (after : List MemberRecord) → k ≡ i → Rounding next r i first before moved → Tries next r k before after b
+      → Rounding next r (i + 1) first after (moved || b)
+  round-step {moved = moved} b after is_k so_far tried = grind arith
 
   -- one more that is up
   pub round-up : {moved : Bool} → Rounding next r i first before moved → set.contains r.down i ≡ false → Rounding next r (i + 1) first before moved
@@ -80,60 +70,35 @@ module _ {next : Next} {r : GroupRecord} (sound : IsSound next r) where
   pub begun : {rebuilt : List MemberRecord} {i : ℕ} → i ≡ r.config.members
       → Made blank (λ p x. set.contains r.down p ≡ true → x ≡ record (member_checkpoint r p) { table = [] }) i rebuilt → IsReplaying next r rebuilt
   begun {rebuilt = rebuilt} all made =
-      replaying-tables next r sound r.checkpoints rebuilt [] (replay_begins next r sound r.checkpoints sound.checkpoints (λ p below down. refl))
+      replaying-tables next r sound r.checkpoints (replay_begins next r sound r.checkpoints sound.checkpoints (λ p below down. refl)) rebuilt []
       (made.size ∙ all ∙ sym sound.checkpoints) (λ p below down. made.each p (omega (arith, all, below)) down)
 
   -- what one try needs, and what it leaves
-  module _ {rebuilt : List MemberRecord} {p place : ℕ} (replaying : IsReplaying next r rebuilt) (down : set.contains r.down p ≡ true) (is_place : place ≡ p) where
-    pub at-place : place < length rebuilt
-    at-place = omega (arith, sound.down p down, replaying.size, is_place)
+  module _ {rebuilt : List MemberRecord} {p place : ℕ} {m : MemberRecord} (replaying : IsReplaying next r rebuilt) (down : set.contains r.down p ≡ true) (is_place : place ≡ p)
+      (read : m ≡ get_or rebuilt place m) where
+    pub is-record : m ≡ slice_index_or rebuilt p blank
+    is-record = read_at rebuilt is_place (omega (arith, sound.down p down, replaying.size)) read
 
-    is-record : {m : MemberRecord} → m ≡ get_or rebuilt place m → m ≡ slice_index_or rebuilt p blank
-    is-record read = read_at rebuilt is_place (omega (arith, sound.down p down, replaying.size)) read
-
-    -- the receipt that is sought by its number
-    module _ {m : MemberRecord} {numbered : List (List (Option Determinant))} {rsn : ℕ} {answer : Option Determinant} (read : m ≡ get_or rebuilt place m) (by_number : AreByNumber r numbered)
+    -- the receipt that is sought by its number: the next one is beyond the checkpoint
+    module _ {numbered : List (List (Option Determinant))} {rsn : ℕ} {answer : Option Determinant} (by_number : AreByNumber r numbered)
         (sought : answer ≡ receipt_at (slice_index_or numbered p []) (rsn + 1)) (is_rsn : rsn ≡ m.received) where
-      is-received : rsn ≡ (slice_index_or rebuilt p blank).received
-      is-received = is_rsn ∙ ap (λ (x : MemberRecord). x.received) (is-record read)
+      pub looked-up : answer ≡ found p ((slice_index_or rebuilt p blank).received + 1) (recovery_table (knowledge r))
+      looked-up =
+          let received : rsn ≡ (slice_index_or rebuilt p blank).received = is_rsn ∙ ap (λ (x : MemberRecord). x.received) is-record in
+          let beyond : nat_lt (member_checkpoint r p).received (rsn + 1) ≡ true = grind (arith, nat_tests, replaying.begun p (sound.down p down) down) in
+          rw (← received) (sought ∙ by_number.each p (sound.down p down) down (rsn + 1) ∙ rw beyond refl)
 
-      -- the next receipt is beyond the checkpoint
-      is-beyond : nat_lt (member_checkpoint r p).received (rsn + 1) ≡ true
-      is-beyond = grind (arith, nat_tests, replaying.begun p (sound.down p down) down, is-received)
+      pub from-member : {d : Determinant} → answer ≡ Some d → d.from < r.config.members
+      from-member {d} is = (replaying-next next r sound rebuilt replaying p (sound.down p down) down d (sym looked-up ∙ is)).from
 
-      is-looked-up : answer ≡ found p ((slice_index_or rebuilt p blank).received + 1) (recovery_table (knowledge r))
-      is-looked-up = rw (← is-received) (sought ∙ by_number.each p (sound.down p down) down (rsn + 1) ∙ rw is-beyond refl)
-
-      module _ {d : Determinant} (is : answer ≡ Some d) where
-        is-found : found p ((slice_index_or rebuilt p blank).received + 1) (recovery_table (knowledge r)) ≡ Some d
-        is-found = sym is-looked-up ∙ is
-
-        its-next : IsNextReplay r.config.members p (slice_index_or rebuilt p blank) d
-        its-next = replaying-next next r sound rebuilt p d replaying (sound.down p down) down is-found
-
-        pub from-member : d.from < r.config.members
-        from-member = its-next.from
-
-        -- the log of its sender
-        module _ {records : List MemberRecord} {sent : Option Note} (same : records ≡ rebuilt) (looked : sent ≡ logged_note (working r records d.from).log d.ssn) where
-          logged : sent ≡ logged_note (working r rebuilt d.from).log d.ssn
-          logged = (rw same at looked)
-
-          -- its message is not sent again yet
-          pub waits-unsent : sent ≡ None → Tries next r p rebuilt rebuilt false
-          waits-unsent none = (refl, λ c found_c. grind (arith, is-found, logged))
-
-          module _ {n : ℕ} {note : Note} {x : MemberRecord} (all : n ≡ r.config.members) (named : sent ≡ Some note) (here : x ≡ get_or rebuilt place x) where
-            pub may-replay : MayReplay next n p d note x
-            may-replay =
-                let room = replaying-room next r sound rebuilt p d note replaying (sound.down p down) down is-found (sym logged ∙ named) in
-                rw (all, is-record here) grind (arith, sound.config, sound.down p down, its-next)
-
-            pub replays-one : {after : MemberRecord} → after ≡ replayed_by next p n x d note → Tries next r p rebuilt (slice_set rebuilt place after) true
-            replays-one is_after = rw (is_place, is_after, all, is-record here) (
-              replay_is_right next r sound rebuilt p d note replaying (sound.down p down) down is-found (sym logged ∙ named),
-              replayed_in-step next r sound rebuilt p d note replaying (sound.down p down) down,
-            )
+    -- it is there, and its message is sent again
+    module _ {d : Determinant} {note : Note} {n : ℕ} (is-found : found p ((slice_index_or rebuilt p blank).received + 1) (recovery_table (knowledge r)) ≡ Some d)
+        (logged : logged_note (working r rebuilt d.from).log d.ssn ≡ Some note) (all : n ≡ r.config.members) where
+      pub replays-one : {after : MemberRecord} → after ≡ replayed_by next p n m d note → Tries next r p rebuilt (slice_set rebuilt place after) true
+      replays-one is_after = rw (is_place, is_after, all, is-record) (
+        replay_is_right next r sound rebuilt replaying p (sound.down p down) down d is-found note logged,
+        replayed_in-step next r sound rebuilt replaying p (sound.down p down) down d note,
+      )
 
   -- rounds end
   pub round-more : (before after : List MemberRecord) → Rounds next r r.config.members before after true → replayed_in r before < replayed_in r after
@@ -153,11 +118,11 @@ module _ {next : Next} {r : GroupRecord} (sound : IsSound next r) where
 
     still-waits : (p : ℕ) → p < r.config.members → IsDown (knowledge r) p → IsWaiting r after p
     still-waits p below down d is =
-        let next_one = replaying-next next r sound before p d replayed.replaying below down in
+        let next_one = replaying-next next r sound before replayed.replaying p below down d in
         grind (arith, given p below down, same-log d.from, next_one, replayed.waiting p below down d)
 
     pub tables-given : IsReady next r after
     tables-given = record {
-      replayed = record { replaying = replaying-tables next r sound before after (recovery_table (knowledge r)) replayed.replaying size given; waiting = still-waits };
+      replayed = record { replaying = replaying-tables next r sound before replayed.replaying after (recovery_table (knowledge r)) size given; waiting = still-waits };
       tables = λ p below down. ap (λ (m : MemberRecord). m.table) (given p below down);
     }

@@ -1,12 +1,13 @@
 -- When a strike is refused, and what it leaves.
 use Rattle.fbl_group.proofs.Common.{◌≡◌, ◌≢◌, ℕ, suc, ◌<◌, ◌≤◌, ◌==◌, ◌||◌, true, false, cond, List, [], ◌∷◌, length, map, None, refl, sym, ◌∙◌}
 use Rattle.fbl_group.proofs.Common.{arith, nat_lt, count_by, slice_index_or, nat_tests, get_or_default, get_or_past, sum_by-cons, Determinant, Event, mark_of, Members, Next, MemberRecord}
-use Rattle.fbl_group.proofs.Common.{blank, IsUp, GroupRecord, channel, marks, knowledge, IsSound, IsStrike, sound_has_no_orphan, AreReplaced, unrecorded_among, lost_receipts}
-use Rattle.fbl_group.proofs.Common.{is_lost_receipt_of}
+use Rattle.fbl_group.proofs.Common.{blank, IsUp, GroupRecord, channel, marks, knowledge, IsSound, IsStrike, AreReplaced, lost_receipts, filter, not, receipts}
+use Rattle.fbl_group.proofs.Common.{is_lost_receipt_of, Message, no_orphan}
 use Rattle.std.specs.Ordering.{nat_cmp, eq_by_cmp}
 use Rattle.std.specs.Cmp.{unsigned_tied, nat_cmp_total}
 use Rattle.std.specs.FinSet as sets
 use Rattle.std.proofs.lemmas.Bool.{false≢true, true_from_ne_false}
+use Rattle.std.specs.Prelude.{◌↔◌, Bool}
 use Rattle.std.proofs.lemmas.List.Folds.{Any-from_list_any, list_any-from_Any}
 use Rattle.std.proofs.lemmas.List.Sums.{AllPass-from_list_all, list_all-from_AllPass}
 use Rattle.fbl_base.specs.declared.trace.Event.TheVariants as event
@@ -20,20 +21,24 @@ use Rattle.fbl_law.proofs.GroupStrike.{group_strike_keeps, recorded_test}
 use Rattle.fbl_group.specs.Strikes.{is_within, strike_refusal, IsBlanked}
 
 -- the test of who is below n
-pub within-below : (s : Members) (n : ℕ) → is_within s n ≡ true → AllBelow s n
+within-below : (s : Members) (n : ℕ) → is_within s n ≡ true → AllBelow s n
 within-below s n within q among =
     let one = Any-from_list_any (eq_by_cmp nat_cmp q) (sets.items s) (sym (sets.contains-items s q) ∙ among) in
     let below : nat_lt one.1 n ≡ true = rw one.3 at (AllPass-from_list_all (λ m. nat_lt m n) (sets.items s) within one.0 one.1 one.2) in
     let same : (q == one.1) ≡ true = sym (unsigned_tied q one.1) ∙ one.4 in
     grind (arith, nat_tests)
 
-pub below-within : (s : Members) (n : ℕ) → AllBelow s n → is_within s n ≡ true
+below-within : (s : Members) (n : ℕ) → AllBelow s n → is_within s n ≡ true
 below-within s n below = list_all-from_AllPass (λ m. nat_lt m n) (sets.items s) (λ k d less.
     let m : ℕ = slice_index_or (sets.items s) k d in
     let itself : eq_by_cmp nat_cmp m m ≡ true = unsigned_tied m m ∙ eqb-self m in
     let among = list_any-from_Any (eq_by_cmp nat_cmp m) (sets.items s) (k, m, less, get_or_default (sets.items s) k m d less, itself) in
     let within : m < n = below m (sets.contains-items s m ∙ among) in
     grind (arith, nat_tests))
+
+pub within-tested : (s : Members) (n : ℕ) (b : Bool) → (b ≡ true) ↔ AllBelow s n → b ≡ is_within s n
+within-tested s n true is = sym (below-within s n (is.0 refl))
+within-tested s n false is = grind (arith, within-below s n)
 
 -- a strike of some members of the group is allowed where with those that are down they are few
 pub is_allowed : (struck : Members) {r now : GroupRecord} → r ≡ now → {n : ℕ} → n ≡ r.config.members → AllBelow struck n → sets.len struck ≢ 0
@@ -42,33 +47,30 @@ is_allowed struck {r = r} view {n = n} all below some joined few =
     let inside : is_within struck r.config.members ≡ true = rw (← all) (below-within struck n below) in
     rw (← view) grind (arith, nat_tests)
 
-module _ {next : Next} {old : GroupRecord} (new : GroupRecord) {struck : Members} (sound : IsSound next old) (allowed : strike_refusal old struck ≡ None)
-    (blanked : IsBlanked struck old.members new.members) (channels : AreReplaced old.config.members struck (λ q p. []) old.channels new.channels)
-    (down : new.down ≡ sets.union old.down struck) (trace : new.trace ≡ old.trace) (checkpoints : new.checkpoints ≡ old.checkpoints)
-    (config : new.config ≡ old.config) (receipts_ever : new.receipts_ever ≡ old.receipts_ever) (undone_ever : new.undone_ever ≡ old.undone_ever) where
+-- what a strike that is allowed leaves
+module _ {next : Next} {old : GroupRecord} {struck down : Members} {members : List MemberRecord} {channels : List (List (List Message))} (sound : IsSound next old)
+    (allowed : strike_refusal old struck ≡ None) (blanked : IsBlanked struck old.members members)
+    (emptied : AreReplaced old.config.members struck (λ q p. []) old.channels channels) (joined : down ≡ sets.union old.down struck) where
+  abbrev new : GroupRecord
+  new = record old { members = members; channels = channels; down = down }
+
   below : AllBelow struck old.config.members
   below = within-below struck old.config.members (grind (arith, nat_tests))
 
   -- who is down was down before or is struck
-  both_down : (m : ℕ) → sets.contains new.down m ≡ (sets.contains old.down m || sets.contains struck m)
-  both_down m = rw down (sets.contains-union {R = nat_cmp} nat_cmp_total old.down struck m)
+  both_down : (m : ℕ) → sets.contains down m ≡ (sets.contains old.down m || sets.contains struck m)
+  both_down m = rw joined (sets.contains-union {R = nat_cmp} nat_cmp_total old.down struck m)
 
   -- a channel is emptied where one of its ends is struck, and no other is
   emptied_where : (q p : ℕ) → channel new q p ≡ cond (sets.contains struck q || sets.contains struck p) [] (channel old q p)
-  emptied_where q p = grind (arith, get_or_past, channels.each q p)
+  emptied_where q p = grind (arith, get_or_past, emptied.each q p)
 
   pub is_strike : IsStrike old new struck
   is_strike =
-      grind (arith, blanked, channels, emptied_where, both_down, sound.blanks, sound.down, sound.causes.down.channels)
-
-  pub few_down : sets.len new.down ≤ old.config.f
-  few_down = rw down (grind (arith, nat_tests))
+      grind (arith, blanked, emptied, emptied_where, both_down, sound.blanks, sound.down, sound.causes.down.channels)
 
   pub is_sound : IsSound next new
-  is_sound = group_strike_keeps next old new struck is_strike below few_down sound
-
-  pub no_orphan : (m : ℕ) → ¬ (IsOrphan (knowledge new) m)
-  no_orphan m = sound_has_no_orphan next new m is_sound
+  is_sound = group_strike_keeps next old new struck is_strike below (rw joined (grind (arith, nat_tests))) sound
 
 -- the records of the members named below k are made blank, and the others are as they were
 pub record IsBlankedBelow (k : ℕ) (struck : Members) (old new : List MemberRecord) : Type 0 where
@@ -81,11 +83,11 @@ pub record IsBlankedBelow (k : ℕ) (struck : Members) (old new : List MemberRec
 up-recorded : (next : Next) (r : GroupRecord) (d : Determinant) → IsSound next r → Has (marks r) (receipt_of d) → IsUp (knowledge r) d.to → is_recorded r d ≡ true
 up-recorded next r d sound there up =
     true_from_ne_false (is_recorded r d)
-    (λ is. sound_has_no_orphan next r d.to sound (up, (d, (receipt_of d, itself there, refl), λ recorded. false≢true (sym is ∙ (recorded_test next r d sound).1 recorded))))
+    (λ is. no_orphan r.config.f (knowledge r) sound.causes.closed d.to (up, (d, (receipt_of d, itself there, refl), λ recorded. false≢true (sym is ∙ (recorded_test next r d sound).1 recorded))))
 
 -- so the receipts that nobody has recorded are all of members that are down
 lost-counted : (r : GroupRecord) (events : List Event) → ((d : Determinant) → Has (map mark_of events) (receipt_of d) → IsUp (knowledge r) d.to → is_recorded r d ≡ true)
-    → count_by (is_lost_receipt_of r.down r.members r.checkpoints) events ≡ length (unrecorded_among r.members r.checkpoints events)
+    → count_by (is_lost_receipt_of r.down r.members r.checkpoints) events ≡ length (filter (λ d. not (is_recorded r d)) (receipts (map mark_of events)))
 lost-counted r [] up = refl
 lost-counted r (event.Send q k p note ∷ events) up =
     let later = lost-counted r events (λ d there. up d (suc there.0, there.1)) in

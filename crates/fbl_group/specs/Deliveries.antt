@@ -1,5 +1,5 @@
 -- When a delivery is refused, and what it leaves and answers.
-use Rattle.std.specs.Prelude.{◌≡◌, ℕ, ◌+◌, ◌<◌, false, length, Option, Some, None, if◌then◌else◌}
+use Rattle.std.specs.Prelude.{◌≡◌, ◌≢◌, ℕ, ◌+◌, ◌<◌, false, [], length, slice_index_or, Option, Some, None, if◌then◌else◌}
 use Rattle.std.specs.FinSet as set
 use Rattle.fbl_base.specs.declared.outcome.Outcome.{Outcome}
 use Rattle.fbl_base.specs.Fold.{Next}
@@ -65,6 +65,8 @@ pub record IsPlanned (next : Next) (r : GroupRecord) (q p : ℕ) (outcome : Outc
   pub nobody_down : r.down ≡ set.empty
   pub to_member : p < r.config.members
   pub from_member : q < r.config.members
+  pub apart : q ≢ p
+  pub channel : p < length (slice_index_or r.channels q [])
   pub first : front r q p ≡ Some (front_message r q p)
   pub step : outcome ≡ step_of next r (front_message r q p)
   pub room : is_full r (length outcome.sends.items) ≡ false

@@ -7,7 +7,7 @@ use Rattle.fbl_base.specs.declared.trace.Determinant.{Determinant}
 use Rattle.fbl_base.specs.declared.trace.Event.{Event}
 use Rattle.fbl_base.specs.Events.{determinant_of, mark_of}
 use Rattle.fbl_member.specs.Members.{MemberRecord, blank}
-use Rattle.fbl_law.specs.Groups.{GroupRecord, receipts, is_recorded_among}
+use Rattle.fbl_law.specs.Groups.{GroupRecord, marks, receipts, is_recorded, is_recorded_among}
 use Rattle.fbl_law.specs.GroupSteps.{IsStrike}
 use Rattle.fbl_group.specs.declared.refusals.StrikeRefusal.{StrikeRefusal}
 use Rattle.fbl_group.specs.declared.refusals.StrikeRefusal.TheVariants.{BadMember, Nobody, TooMany}
@@ -25,13 +25,9 @@ strike_refusal r struck =
     else (if set.len struck == 0 then Some Nobody
     else (if nat_lt r.config.f (set.len (set.union r.down struck)) then Some TooMany else None))
 
--- the determinants of those receipts among the events that no table of these members and checkpoints has, in order
-abbrev pub unrecorded_among : List MemberRecord → List MemberRecord → List Event → List Determinant
-unrecorded_among members checkpoints events = filter (λ d. not (is_recorded_among members checkpoints d)) (receipts (map mark_of events))
-
--- the determinants of the lost receipts: those that no survivor and no checkpoint has recorded
+-- the determinants of the lost receipts, in order: those that no survivor and no checkpoint has recorded
 abbrev pub lost_receipts : GroupRecord → List Determinant
-lost_receipts r = unrecorded_among r.members r.checkpoints r.trace
+lost_receipts r = filter (λ d. not (is_recorded r d)) (receipts (marks r))
 
 -- whether there is a determinant of a member of the set, and none of these members' and checkpoints' tables has it
 abbrev pub is_unheld : Members → List MemberRecord → List MemberRecord → Option Determinant → Bool

@@ -1,6 +1,7 @@
 //! Checkpoints: a member's record is kept where no strike empties it, and a recovery of the member begins there.
 
 ghost use Rattle.std.specs.Prelude.{◌≡◌, ℕ, ◌<◌, ◌≤◌, IfErr, OnErr, OnOk, None, Some};
+ghost use Rattle.std.specs.FinSet as set;
 ghost use Rattle.fbl_base.specs.declared.trace.Determinant.{Determinant};
 ghost use Rattle.fbl_base.specs.Events.{receipt_of};
 ghost use Rattle.fbl_base.specs.Precedence.{Has};
@@ -20,6 +21,7 @@ impl<B: Behaviour, A: Allocator + Copy> Group<B, A> {
     /// are the fold of the receipts that it has had, and its table. What the checkpoint has recorded is never lost, and a
     /// recovery of the member replays only the receipts after it. Strikes and recoveries leave it as it is. A member that
     /// has received nothing may be checkpointed. After a refusal the older checkpoint stands, and nothing has changed.
+    #[tactic(auto, using(std::proofs::lemmas::Bool::Decides::nat_tests))]
     pub fn checkpoint(&mut self, member: Member) -> Result<(), CheckpointRefusal>
         ensures taken { OnOk result ((checkpoint_refusal self.old member ≡ None) × IsCheckpoint self.old self.new member) }
         ensures fold { OnOk result (IsCheckpointFold B.next self.new member) }
@@ -60,7 +62,8 @@ impl<B: Behaviour, A: Allocator + Copy> Group<B, A> {
 
     /// Copies the member's record, and then puts the copy in its place.
     fn save(&mut self, member: Member) -> Result<(), AllocError>
-        requires { checkpoint_refusal self.old member ≡ None }
+        requires below { member < self.old.config.members }
+        requires nobody_down { set.len self.old.down ≡ 0 }
         ensures saved { OnOk result (IsCheckpoint self.old self.new member) }
         ensures fold { OnOk result (IsCheckpointFold B.next self.new member) }
         ensures unchanged { OnErr result (self.new ≡ self.old) }

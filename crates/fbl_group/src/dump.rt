@@ -62,11 +62,7 @@ impl<B: Behaviour, A: Allocator + Copy> Group<B, A> {
 fn marks<A: Allocator>(alloc: A, trace: &[Event]) -> Result<Vec<Mark, A>, AllocError>
     ensures { IfOk result (λ marks. marks.items ≡ map mark_of trace.now) }
 {
-    let mut marks = Vec::with_capacity(alloc, trace.len())?;
-    for event in trace {
-        marks.push_reserved(event.mark());
-    }
-    Ok(marks)
+    trace.iter().map(|event| event.mark()).collect(alloc)
 }
 
 /// Each member with each determinant of its table: the members in order, and each table in its order.

@@ -9,8 +9,10 @@ ghost use Rattle.std.specs.FinSet as set;
 ghost use Rattle.fbl_law.specs.Sound.{IsSound, received_notes};
 ghost use Rattle.fbl_law.specs.StepLaws.{weight_held, weight_flying};
 ghost use Rattle.fbl_law.specs.Promises.{HoldsEachReceipt, SurvivorsHold, RecordsFirst, RecordsCauses};
+ghost use Rattle.fbl_group.specs.Channels.{values_in};
 ghost use Rattle.fbl_group.specs.Readers.{is_quiet as is_quiet_now};
 
+use crate::channels::Contents;
 use crate::group::Group;
 use fbl_base::{Behaviour, Config, Event, Member, MemberSet};
 use fbl_member::MemberRec;
@@ -150,7 +152,7 @@ impl<B: Behaviour, A: Allocator + Copy> Group<B, A> {
         if self.down().count() == 0 {
             self.unreceived()
         } else {
-            self.channels.contents(self.config.members()).messages
+            self.contents().messages
         }
     }
 
@@ -163,17 +165,25 @@ impl<B: Behaviour, A: Allocator + Copy> Group<B, A> {
     }
 
     /// How many receipts the trace has: those ever made but those undone.
-    pub(crate) fn receipt_count(&self) -> u32
+    pub(crate) fn receipt_count(&self) -> u64
         ensures { result ≡ length (receipts (marks self.now)) }
     {
-        (self.receipts_ever - self.undone_ever) as u32
+        self.receipts_ever - self.undone_ever
     }
 
     /// What the messages in flight hold, on all channels: the sum of their values.
     pub fn value_in_flight(&self) -> u64
         ensures { result ≡ weight_flying (λ note. note.value) self.now }
     {
-        self.channels.contents(self.config.members()).value
+        self.contents().value
+    }
+
+    /// What is in flight, on all channels.
+    fn contents(&self) -> Contents
+        ensures messages { result.messages ≡ messages_in_flight_of self.now }
+        ensures value { result.value ≡ values_in self.now.config.members self.now.channels }
+    {
+        self.channels.contents(self.config.members())
     }
 
     /// How many receipts were ever made, also those that recoveries have undone. It never falls.

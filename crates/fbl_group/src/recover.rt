@@ -1,6 +1,6 @@
 //! Recovery of the members that are down.
 
-ghost use Rattle.std.specs.Prelude.{◌≡◌, ℕ, ◌<◌, ◌≤◌, length, map, IfOk, IfErr, OnErr, OnOk};
+ghost use Rattle.std.specs.Prelude.{◌≡◌, ℕ, ◌<◌, ◌≤◌, length, map, IfOk, IfErr, OnErr, OnOk, IsTrue, ◌↔◌};
 ghost use Rattle.std.specs.Option.{is_some};
 ghost use Rattle.std.specs.FinSet as set;
 ghost use Rattle.fbl_base.specs.Events.{mark_of, determinant_of};
@@ -36,13 +36,20 @@ impl<B: Behaviour, A: Allocator + Copy> Group<B, A> {
     {
         // what is so of each group, of the one that is recovered, too
         self.promises();
-        if self.down().count() == 0 {
+        if self.all_are_up() {
             return Err(RecoverRefusal::NotDown);
         }
         match self.bring_back() {
             Ok(recovered) => Ok(recovered),
             Err(_) => Err(RecoverRefusal::Memory),
         }
+    }
+
+    /// Whether nobody is down.
+    fn all_are_up(&self) -> bool
+        ensures { IsTrue result ↔ (self.now.down ≡ set.empty) }
+    {
+        self.down().count() == 0
     }
 
     /// Makes all that the recovery needs, and then puts it in place.
@@ -61,22 +68,21 @@ impl<B: Behaviour, A: Allocator + Copy> Group<B, A> {
         rebuilt.put_back(&mut self.members, n);
         self.channels.replace(again, self.down, n);
         self.down = MemberSet::empty();
-        self.undone_ever += u64::from(undone);
+        self.undone_ever += undone;
         Ok(Recovered {
             replayed,
             resent,
-            undone,
+            undone: undone as u32,
         })
     }
 }
 
 /// How many receipts the trace has.
-fn count_receipts(trace: &[Event]) -> u32
-    requires { length trace.now ≤ 8192 }
+fn count_receipts(trace: &[Event]) -> u64
     ensures { result ≡ length (receipts (map mark_of trace.now)) }
 {
     let received = trace.iter().filter(|event| is_receipt(**event));
-    received.count() as u32
+    received.count() as u64
 }
 
 /// Whether the event is a receipt.

@@ -1,13 +1,14 @@
 //! Replay: the records of the members that are down are made again from what the survivors' tables and the logs have.
 
-ghost use Rattle.std.specs.Prelude.{◌≡◌, ℕ, ◌<◌, [], true, false, length, slice_index_or, IfOk, OnOk};
+ghost use Rattle.std.specs.Prelude.{◌≡◌, ℕ, ◌+◌, ◌<◌, [], true, false, length, slice_index_or, IfOk, IfSome, IfNone, OnOk, Some};
 ghost use Rattle.std.specs.FinSet as set;
 ghost use Rattle.fbl_table.specs.Receipts.{receipt_at, IsByNumber};
-ghost use Rattle.fbl_member.specs.Members.{logged_note};
+ghost use Rattle.fbl_table.specs.Tables.{found};
+ghost use Rattle.fbl_member.specs.Members.{blank, logged_note};
 ghost use Rattle.fbl_law.specs.Groups.{member_checkpoint, knowledge};
 ghost use Rattle.fbl_law.specs.Steps.{gathered_all, saved_tables, recovery_table};
 ghost use Rattle.fbl_law.specs.Sound.{IsSound};
-ghost use Rattle.fbl_law.specs.Replaying.{working, IsReplaying};
+ghost use Rattle.fbl_law.specs.Replaying.{working, IsReplaying, IsWaiting};
 ghost use Rattle.fbl_group.specs.Rebuilding.{AreByNumber, IsGathered, Tries, Rounds, HasReplayed, IsReady};
 
 use crate::group::Group;
@@ -161,9 +162,7 @@ impl<B: Behaviour, A: Allocator + Copy> Group<B, A> {
         for number in 0..self.size() {
             let member = Member::at(number);
             if self.down().has(member) {
-                if self.replay_next(gathered, member, rebuilt)? {
-                    moved = true;
-                }
+                moved |= self.replay_next(gathered, member, rebuilt)?;
             }
         }
         Ok(moved)
@@ -181,19 +180,39 @@ impl<B: Behaviour, A: Allocator + Copy> Group<B, A> {
         requires replaying { IsReplaying B.next self.now rebuilt.old.items }
         ensures { IfOk result (λ moved. Tries B.next self.now member rebuilt.old.items rebuilt.new.items moved) }
     {
+        let Some((determinant, note)) = self.next_replay(gathered, member, rebuilt) else {
+            return Ok(false);
+        };
+        let record = &mut rebuilt[usize::from(member.number())];
+        record.replay_one::<B>(member, self.size(), &determinant, note)?;
+        Ok(true)
+    }
+
+    /// The member's next receipt, if the gathered table has it, and the content of its message, if that is sent again.
+    fn next_replay(
+        &self,
+        gathered: &Gathered<A>,
+        member: Member,
+        rebuilt: &Vec<MemberRec<A>, A>,
+    ) -> Option<(Determinant, Note)>
+        requires gathered { IsGathered self.now gathered.now.table gathered.now.receipts.items }
+        requires down { set.contains self.now.down member ≡ true }
+        requires replaying { IsReplaying B.next self.now rebuilt.now.items }
+        ensures found { IfSome result (λ next. found member ((slice_index_or rebuilt.now.items member blank).received + 1) (recovery_table (knowledge self.now)) ≡ Some next.0) }
+        ensures sent { IfSome result (λ next. logged_note (working self.now rebuilt.now.items next.0.from).log next.0.ssn ≡ Some next.1) }
+        ensures waits { IfNone result (IsWaiting self.now rebuilt.now.items member) }
+        ensures sound { IsSound B.next self.now }
+    {
         // the group is sound
         self.recoverable();
-        let n = self.size();
-        let place = usize::from(member.number());
-        let rsn = rebuilt[place].received() + 1;
+        let rsn = rebuilt[usize::from(member.number())].received() + 1;
         let Some(determinant) = gathered.receipt(member, rsn) else {
-            return Ok(false);
+            return None;
         };
         let Some(note) = self.note_sent(rebuilt.as_slice(), &determinant) else {
-            return Ok(false);
+            return None;
         };
-        rebuilt[place].replay_one::<B>(member, n, &determinant, note)?;
-        Ok(true)
+        Some((determinant, note))
     }
 
     /// The content of the message that the receipt took, where its sender's log has it.

@@ -1,11 +1,10 @@
 //! Messages that are sent again: those of the members that were down, and those that these have not received.
 
-ghost use Rattle.std.specs.Prelude.{◌≡◌, ℕ, ◌<◌, ◌++◌, [], length, map, slice_index_or, vec_len, IfOk, IfSome, OnOk};
+ghost use Rattle.std.specs.Prelude.{◌≡◌, ℕ, ◌<◌, [], length, map, slice_index_or, vec_len, IfOk, IfSome};
 ghost use Rattle.std.specs.VecDeque.{deque_items};
 ghost use Rattle.fbl_table.specs.Tables.{piggybacked};
-ghost use Rattle.fbl_member.specs.Carried.{IsOnce};
 ghost use Rattle.fbl_law.specs.Groups.{HasChannels, channel_in};
-ghost use Rattle.fbl_law.specs.Replaying.{working, resent, resent_to, sent_again};
+ghost use Rattle.fbl_law.specs.Replaying.{working, resent, sent_again};
 ghost use Rattle.fbl_group.specs.Channels.{rows};
 
 use crate::channels::{Channel, Channels, has_either};
@@ -67,34 +66,14 @@ impl<B: Behaviour, A: Allocator + Copy> Group<B, A> {
         ensures passed { IfSome passed.new (λ carried. carried ≡ piggybacked self.now.config.f (working self.now rebuilt.now from).table) }
         ensures made { IfOk result (λ channel. channel.items ≡ sent_again self.now.config.f self.now.down (working self.now rebuilt.now) from to) }
     {
-        let mut wires = VecDeque::new(*self.members.allocator());
-        if has_either(self.down(), from, to) {
-            self.resend_to(rebuilt, from, to, passed, &mut wires)?;
+        if !has_either(self.down(), from, to) {
+            return Ok(VecDeque::new(*self.members.allocator()));
         }
-        Ok(wires)
-    }
-
-    /// Puts in the messages of the sender's log beyond the last one that the receiver has had.
-    fn resend_to(
-        &self,
-        rebuilt: &[MemberRec<A>],
-        from: Member,
-        to: Member,
-        passed: &mut Option<Carried<A>>,
-        wires: &mut VecDeque<Wire<A>, A>,
-    ) -> Result<(), AllocError>
-        requires size { length rebuilt.now ≡ self.now.config.members }
-        requires from { from < self.now.config.members }
-        requires to { to < self.now.config.members }
-        requires passed { IfSome passed.old (λ carried. carried ≡ piggybacked self.now.config.f (working self.now rebuilt.now from).table) }
-        ensures passed { IfSome passed.new (λ carried. carried ≡ piggybacked self.now.config.f (working self.now rebuilt.now from).table) }
-        ensures put { OnOk result (wires.new.items ≡ wires.old.items ++ resent_to self.now.config.f from to (working self.now rebuilt.now from) (working self.now rebuilt.now to)) }
-    {
         let sender = self.working(rebuilt, from);
         let last = self.working(rebuilt, to).last_from(from);
         let unsent = sender.unsent_beyond(to, last)?;
         put_again(
-            wires,
+            *self.members.allocator(),
             from,
             to,
             unsent.as_slice(),
@@ -105,30 +84,31 @@ impl<B: Behaviour, A: Allocator + Copy> Group<B, A> {
     }
 }
 
-/// Puts in these messages, each with what the sender's table passes on: one list for all of them, where there is memory to
-/// share it.
+/// These messages, each with what the sender's table passes on: one list for all of them, where there is memory to share it.
 fn put_again<A: Allocator + Copy>(
-    wires: &mut VecDeque<Wire<A>, A>,
+    alloc: A,
     from: Member,
     to: Member,
     unsent: &[(u32, Note)],
     table: &Table<A>,
     f: u8,
     passed: &mut Option<Carried<A>>,
-) -> Result<(), AllocError>
+) -> Result<Channel<A>, AllocError>
     requires { IfSome passed.old (λ carried. carried ≡ piggybacked f table.now) }
     ensures passed { IfSome passed.new (λ carried. carried ≡ piggybacked f table.now) }
-    ensures put { OnOk result (wires.new.items ≡ wires.old.items ++ resent from to (piggybacked f table.now) unsent.now) }
+    ensures made { IfOk result (λ channel. channel.items ≡ resent from to (piggybacked f table.now) unsent.now) }
 {
+    // `len` says that no two of the table's determinants are the same, as each message must carry them
+    let _distinct_entries = table.len();
+    let mut wires = VecDeque::new(alloc);
     for send in unsent {
         let carried = pass_on(passed, table, f)?;
         wires.push_back(Wire::new(from, to, send.0, send.1, carried))?;
     }
-    Ok(())
+    Ok(wires)
 }
 
-/// What the table passes on, for one message more: no determinant twice, as the table has none twice. The list is made for
-/// the first message, and lent for the others.
+/// What the table passes on, for one message more. The list is made for the first message, and lent for the others.
 fn pass_on<A: Allocator + Copy>(
     passed: &mut Option<Carried<A>>,
     table: &Table<A>,
@@ -137,10 +117,7 @@ fn pass_on<A: Allocator + Copy>(
     requires { IfSome passed.old (λ carried. carried ≡ piggybacked f table.now) }
     ensures passed { IfSome passed.new (λ carried. carried ≡ piggybacked f table.now) }
     ensures value { IfOk result (λ carried. carried ≡ piggybacked f table.now) }
-    ensures once { IfOk result (λ carried. IsOnce carried) }
 {
-    // `len` says that no two of the table's determinants are the same
-    let _distinct_entries = table.len();
     if let Some(carried) = passed {
         return carried.another();
     }

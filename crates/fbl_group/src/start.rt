@@ -1,10 +1,10 @@
 //! Groups in which nothing is received yet.
 
-ghost use Rattle.std.specs.Prelude.{◌≡◌, ℕ, ◌<◌, ◌≤◌, ◌++◌, [], length, map, IfOk, OnOk, slice_index_or};
+ghost use Rattle.std.specs.Prelude.{◌≡◌, ℕ, ◌<◌, ◌≤◌, [], length, map, IfOk, slice_index_or};
 ghost use Rattle.std.specs.List.{filter_map};
 ghost use Rattle.fbl_member.specs.Members.{fresh, blank};
 ghost use Rattle.fbl_base.specs.Events.{mark_of};
-ghost use Rattle.fbl_base.specs.Rules.{WellFormed};
+ghost use Rattle.fbl_base.specs.Rules.{is_send_of, sends_of};
 ghost use Rattle.fbl_law.specs.Steps.{between};
 ghost use Rattle.fbl_law.specs.Groups.{HasChannels, channel_in};
 ghost use Rattle.fbl_group.specs.Channels.{rows};
@@ -25,9 +25,7 @@ impl<B: Behaviour, A: Allocator + Copy> Group<B, A> {
     {
         let members = fresh_members(alloc, &config)?;
         let checkpoints = fresh_members(alloc, &config)?;
-        let trace = start_sends(alloc, config.starts())?;
-        let mut channels = empty_channels(alloc, config.members())?;
-        send_starts(alloc, &trace, &mut channels, config.members())?;
+        let (trace, channels) = send_starts(alloc, &config)?;
         Ok(Group {
             config,
             members,
@@ -58,58 +56,48 @@ fn fresh_members<A: Allocator + Copy>(
     Ok(members)
 }
 
-/// The starts' sends in their order, each with its sender's next number.
-fn start_sends<A: Allocator>(alloc: A, starts: &[Start]) -> Result<Vec<Event, A>, AllocError>
-    requires { length starts.now ≤ 64 }
-    ensures { IfOk result (λ trace. trace.items ≡ start_events [] starts.now) }
-{
-    let mut sent = [0u32; 16];
-    let mut trace = Vec::with_capacity(alloc, starts.len())?;
-    for start in starts {
-        let from = usize::from(start.from.number());
-        let ssn = sent[from] + 1;
-        sent[from] = ssn;
-        trace.push_reserved(Event::Send {
-            from: start.from,
-            ssn,
-            to: start.to,
-            note: start.note,
-        });
-    }
-    Ok(trace)
-}
-
-/// Puts the messages of the sends among the events into their channels. They carry nothing.
+/// The starts' sends in their order, each with its sender's next number, and channels with their messages. These carry
+/// nothing.
 fn send_starts<A: Allocator + Copy>(
     alloc: A,
-    events: &[Event],
-    channels: &mut Channels<A>,
-    n: u8,
-) -> Result<(), AllocError>
-    requires shape { HasChannels n (rows channels.old) }
-    requires rules { WellFormed n (map mark_of events.now) }
-    ensures shape { OnOk result (HasChannels n (rows channels.new)) }
-    ensures sent { OnOk result ((q p : ℕ) → channel_in (rows channels.new) q p ≡ channel_in (rows channels.old) q p ++ between q p (filter_map message_of_send events.now)) }
+    config: &Config<A>,
+) -> Result<(Vec<Event, A>, Channels<A>), AllocError>
+    ensures trace { IfOk result (λ sent. sent.0.items ≡ start_events [] config.now.starts) }
+    ensures shape { IfOk result (λ sent. HasChannels config.now.members (rows sent.1)) }
+    ensures channels { IfOk result (λ sent. (q p : ℕ) → channel_in (rows sent.1) q p ≡ between q p (filter_map message_of_send sent.0.items)) }
 {
-    for event in events {
-        if let Some(wire) = message(alloc, *event) {
-            channels.send(wire)?;
-        }
-    }
-    Ok(())
-}
-
-/// The message of a send. It carries nothing.
-fn message<A: Allocator + Copy>(alloc: A, event: Event) -> Option<Wire<A>>
-    ensures { result ≡ message_of_send event }
-{
-    match event {
-        Event::Send {
+    let mut channels = empty_channels(alloc, config.members())?;
+    let mut trace = Vec::with_capacity(alloc, config.starts().len())?;
+    for start in config.starts() {
+        let Start { from, to, note } = *start;
+        let ssn = count_sends(&trace, from) + 1;
+        trace.push(Event::Send {
             from,
             ssn,
             to,
             note,
-        } => Some(Wire::new(from, to, ssn, note, Carried::none(alloc))),
-        Event::Receipt { .. } => None,
+        })?;
+        channels.send(Wire::new(from, to, ssn, note, Carried::none(alloc)))?;
+    }
+    Ok((trace, channels))
+}
+
+/// How many of the events are sends of the member.
+fn count_sends(events: &[Event], member: Member) -> u32
+    requires { length events.now ≤ 64 }
+    ensures value { result ≡ sends_of (map mark_of events.now) member }
+    ensures few { result ≤ 64 }
+{
+    let sent = events.iter().filter(|event| is_send_of(**event, member));
+    sent.count() as u32
+}
+
+/// Whether the event is a send of the member.
+fn is_send_of(event: Event, member: Member) -> bool
+    ensures { result ≡ is_send_of member (mark_of event) }
+{
+    match event {
+        Event::Send { from, .. } => from == member,
+        Event::Receipt { .. } => false,
     }
 }

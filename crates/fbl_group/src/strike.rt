@@ -8,7 +8,7 @@ ghost use Rattle.fbl_law.specs.Knowledge.{IsOrphan};
 ghost use Rattle.fbl_law.specs.Promises.{SurvivorsHold, RecordsFirst, RecordsCauses};
 ghost use Rattle.fbl_law.specs.Groups.{HasChannels, is_recorded_among as is_recorded_among_of, knowledge};
 ghost use Rattle.fbl_group.specs.Channels.{rows, AreReplaced};
-ghost use Rattle.fbl_group.specs.Strikes.{strike_refusal, Strikes, IsBlanked, is_lost_receipt_of, lost_receipts, unrecorded_among};
+ghost use Rattle.fbl_group.specs.Strikes.{strike_refusal, Strikes, IsBlanked, is_within, is_lost_receipt_of, lost_receipts};
 
 use crate::answers::Struck;
 use crate::channels::{Channels, has_either};
@@ -32,7 +32,7 @@ impl<B: Behaviour, A: Allocator + Copy> Group<B, A> {
         ensures first { RecordsFirst (knowledge self.new) }
         ensures causes { RecordsCauses (knowledge self.new) }
     {
-        // what is so of each group stays so where the strike is refused
+        // what is so of each group stays so where the strike is refused, and is so of the one that it leaves
         self.promises();
         self.allow_strike(set)?;
         blank_members(
@@ -43,6 +43,7 @@ impl<B: Behaviour, A: Allocator + Copy> Group<B, A> {
         );
         self.channels.drop_at(set, self.config.members());
         self.down = self.down.union(set);
+        self.promises();
         // Each receipt of a member that is up is held, so that those of members that are down are counted alone.
         Ok(Struck {
             lost: count_lost(self.down, &self.members, &self.checkpoints, &self.trace),
@@ -55,15 +56,22 @@ impl<B: Behaviour, A: Allocator + Copy> Group<B, A> {
     pub fn lost_receipts(&self, alloc: A) -> Result<Vec<Determinant, A>, AllocError>
         ensures { IfOk result (λ v. v.items ≡ lost_receipts self.now) }
     {
-        unrecorded(alloc, &self.members, &self.checkpoints, &self.trace)
+        let members = self.members.as_slice();
+        let checkpoints = self.checkpoints.as_slice();
+        let marks = self.trace.iter().map(|event| event.mark());
+        marks
+            .filter_map(|mark| mark.determinant())
+            .filter(|determinant| !is_recorded_among(members, checkpoints, determinant))
+            .collect(alloc)
     }
 
     /// Whether these members may be struck.
+    #[tactic(auto, using(std::proofs::lemmas::Bool::Decides::nat_tests))]
     fn allow_strike(&self, set: MemberSet) -> Result<(), StrikeRefusal>
         ensures allowed { OnOk result (strike_refusal self.now set ≡ None) }
         ensures refused { IfErr result (λ refusal. strike_refusal self.now set ≡ Some refusal) }
     {
-        if !set.within(self.size()) {
+        if !are_within(set, self.size()) {
             return Err(StrikeRefusal::BadMember);
         }
         if set.count() == 0 {
@@ -74,6 +82,13 @@ impl<B: Behaviour, A: Allocator + Copy> Group<B, A> {
         }
         Ok(())
     }
+}
+
+/// Whether each of these members is below `n`.
+fn are_within(set: MemberSet, n: u8) -> bool
+    ensures { result ≡ is_within set n }
+{
+    set.within(n)
 }
 
 /// How many of the events are receipts of members of the set whose determinant no member's table and no checkpoint's
@@ -95,26 +110,6 @@ fn count_lost<A: Allocator + Copy>(
         }
     }
     lost
-}
-
-/// The determinants of those receipts among the events that no member's table and no checkpoint's table holds.
-fn unrecorded<A: Allocator + Copy>(
-    alloc: A,
-    members: &[MemberRec<A>],
-    checkpoints: &[MemberRec<A>],
-    trace: &[Event],
-) -> Result<Vec<Determinant, A>, AllocError>
-    ensures { IfOk result (λ v. v.items ≡ unrecorded_among members.now checkpoints.now trace.now) }
-{
-    let mut unrecorded = Vec::new(alloc);
-    for event in trace {
-        if let Some(determinant) = event.mark().determinant() {
-            if !is_recorded_among(members, checkpoints, &determinant) {
-                unrecorded.push(determinant)?;
-            }
-        }
-    }
-    Ok(unrecorded)
 }
 
 /// Whether the table of some of these members or checkpoints holds the determinant.

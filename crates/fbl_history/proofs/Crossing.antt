@@ -43,6 +43,6 @@ stays_or_crossed : (column : Column) (trace : List Column)
     → (column_then column trace ≡ column) ⊎ ((is_standing column ≡ true) × (column_then column trace ≡ crossed column))
 stays_or_crossed column trace = grind arith
 
-pub goes-on : (columns trace : List Column) → GoesOnFrom columns (go_on columns trace)
-goes-on [] trace = tt
-goes-on (column ∷ columns) trace = (stays_or_crossed column trace, goes-on columns (trace_then column trace))
+pub goes_on : (columns trace : List Column) → GoesOnFrom columns (go_on columns trace)
+goes_on [] trace = tt
+goes_on (column ∷ columns) trace = (stays_or_crossed column trace, goes_on columns (trace_then column trace))

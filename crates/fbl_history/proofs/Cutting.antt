@@ -69,9 +69,9 @@ lies-past column trace lies = false_from_ne_true (is_next column trace) (λ is. 
 abbrev CrossesOthers : List Column → List Column → Type 0
 CrossesOthers columns trace = go_on columns trace ≡ map (crossed_without trace) columns
 
-pub others-crossed : (columns : List Column) (stays : Column → Bool) → HasEachOnce (standing columns) → CrossesOthers columns (filter stays (standing columns))
-others-crossed [] stays once = refl
-others-crossed (column ∷ columns) stays once = at (is_standing column) (stays column) refl refl (others-crossed columns stays) where
+pub others_crossed : (columns : List Column) (stays : Column → Bool) → HasEachOnce (standing columns) → CrossesOthers columns (filter stays (standing columns))
+others_crossed [] stays once = refl
+others_crossed (column ∷ columns) stays once = at (is_standing column) (stays column) refl refl (others_crossed columns stays) where
   at : (s b : Bool) → is_standing column ≡ s → stays column ≡ b → (HasEachOnce (standing columns) → CrossesOthers columns (filter stays (standing columns)))
       → CrossesOthers (column ∷ columns) (filter stays (standing (column ∷ columns)))
   at false b lies stay later =

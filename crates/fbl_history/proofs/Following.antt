@@ -1,9 +1,9 @@
 -- Members that replay a trace come to its states.
-use Rattle.fbl_history.proofs.Common.{◌≡◌, ℕ, suc, ◌<◌, ◌≤◌, true, cond, List, length, take, drop, map, get_or, Some, refl, sym, ap, ◌∙◌, arith, nat_tests, mark_of}
+use Rattle.fbl_history.proofs.Common.{◌≡◌, ℕ, ◌<◌, ◌≤◌, true, cond, List, length, take, get_or, Some, refl, sym, ap, ◌∙◌, arith, nat_tests, mark_of}
 use Rattle.fbl_history.proofs.Common.{Next, MemberRecord, blank, logged_note, GroupRecord, marks, IsSound, filter, mark-at, HaveReplayed}
 use Rattle.std.proofs.Common.{◌+◌, length-append, slice_get}
 use Rattle.std.specs.Prelude.{slice_set, slice_index_or}
-use Rattle.std.proofs.lemmas.List.{take-map, take-take, length-set, get_or-set_same, get_or-set_other, get_or_default, length-map}
+use Rattle.std.proofs.lemmas.List.{take-take, length-set, get_or-set_same, get_or-set_other, get_or_default, length-map}
 use Rattle.std.proofs.lemmas.List.Sums.{count_by-le-length, sum_by-take-le}
 use Rattle.std.proofs.lemmas.Option.{get_or_from_slice_get}
 use Rattle.fbl_base.specs.declared.trace.Determinant.{Determinant}
@@ -13,9 +13,8 @@ use Rattle.fbl_base.specs.declared.trace.Mark.{Mark}
 use Rattle.fbl_base.specs.declared.trace.Mark.TheVariants.{Send, Receipt}
 use Rattle.fbl_base.specs.Events.{At}
 use Rattle.fbl_base.specs.Rules.{is_receipt_of, is_send_of, receipts_of, MayFollow}
-use Rattle.fbl_base.specs.Fold.{Progress, after_notes, note_of, numbered}
+use Rattle.fbl_base.specs.Fold.{Progress, note_of, numbered}
 use Rattle.fbl_base.proofs.FoldLaws.{after_notes-state}
-use Rattle.fbl_base.proofs.Gets.{split-at}
 use Rattle.fbl_base.proofs.RulesLaws.{receipts-step, sent-before}
 use Rattle.fbl_table.proofs.Adding.{take-next}
 use Rattle.fbl_member.specs.Members.{replayed_by}
@@ -41,9 +40,9 @@ count-earlier t i j m before =
     omega (arith, sum_by-take-le (λ y. cond (is_receipt_of m y) 1 0) (take i t) j, ap (λ (u : List Mark). receipts_of u m) (take-take j i t before))
 
 -- a send is no receipt
-pub past-send : {next : Next} {r : GroupRecord} {members : List MemberRecord} {place : ℕ} → HaveReplayed next r place members
+pub past_send : {next : Next} {r : GroupRecord} {members : List MemberRecord} {place : ℕ} → HaveReplayed next r place members
     → (from ssn to : ℕ) (note : Note) → slice_get r.trace place ≡ Some (event.Send from ssn to note) → HaveReplayed next r (place + 1) members
-past-send {next} {r} {members} {place} replayed from ssn to note here = record {
+past_send {next} {r} {members} {place} replayed from ssn to note here = record {
   size = replayed.size;
   each = replayed.each;
   received = λ m below.
@@ -86,15 +85,9 @@ module _ {next : Next} {r : GroupRecord} {members : List MemberRecord} {place : 
   pub has-note : (note : Note) × (logged_note sender.log d.ssn ≡ Some note)
   has-note =
       let sent = sent-before r.config.members (marks r) known.sound.lawful.well_formed place d.to d.rsn d.from d.ssn at-mark in
-      let j = sent.0 in
-      let send = send-at r.trace j d.from d.ssn d.to sent.2 in
-      let cut = split-at r.trace j (event.Send d.from d.ssn d.to send.0) send.1 in
-      let front : take j (marks r) ≡ map mark_of (take j r.trace) = take-map mark_of j r.trace in
-      let few : receipts_of (map mark_of (take j r.trace)) d.from ≤ sender.received =
-      omega (arith, ap (λ (u : List Mark). receipts_of u d.from) front, count-earlier (marks r) place j d.from (omega (arith, sent.1)), known.replayed.received d.from may-follow.0) in
-      let logged = logged-by next r.config.members r.config.starts r.trace (take j r.trace) (drop (suc j) r.trace) d.from d.ssn d.to sender.received send.0 known.sound.lawful cut few in
-      let log = ap (λ (x : Progress). x.log) (known.replayed.each d.from may-follow.0).progress in
-      (logged.0, rw log logged.1)
+      let send = send-at r.trace sent.0 d.from d.ssn d.to sent.2 in
+      logged-by known.sound.lawful (known.replayed.each d.from may-follow.0) sent.0 d.ssn d.to send.0 send.1
+      (omega (arith, count-earlier (marks r) place sent.0 d.from (omega (arith, sent.1)), known.replayed.received d.from may-follow.0))
 
   -- the note that is read in the log at the sender's place
   pub note-read : {i : ℕ} (x : MemberRecord) → i ≡ d.from → logged_note (slice_index_or members i x).log d.ssn ≡ logged_note sender.log d.ssn
@@ -105,9 +98,7 @@ module _ {next : Next} {r : GroupRecord} {members : List MemberRecord} {place : 
     after = replayed_by next d.to r.config.members receiver d note
 
     noted : note_of r.trace d.from d.ssn ≡ Some note
-    noted =
-        let log = ap (λ (x : Progress). x.log) (known.replayed.each d.from may-follow.0).progress in
-        logged-noted next r.config.members r.config.starts r.trace d.from sender.received d.ssn note known.sound.lawful (rw log at named)
+    noted = logged-noted known.sound.lawful (known.replayed.each d.from may-follow.0) d.ssn note named
 
     is-replayed : IsReplayed next r.config.members r.config.starts r.trace d.to after
     is-replayed =
@@ -118,13 +109,9 @@ module _ {next : Next} {r : GroupRecord} {members : List MemberRecord} {place : 
     pub has-room : length receiver.log + length (next d.to r.config.members receiver.state note).sends.items ≤ 8192
     has-room =
         let items = (next d.to r.config.members receiver.state note).sends.items in
-        let notes = take (receiver.received + 1) (received_notes r.trace d.to) in
-        let log : length after.log ≡ length (after_notes next d.to r.config.members r.config.starts notes).log =
-        ap (λ (x : Progress). length x.log) is-replayed.progress in
-        let short = log-short next r.config.members r.config.starts r.trace d.to (receiver.received + 1) known.sound.lawful in
         let sends = count_by-le-length (is_send_of d.to) (marks r) in
         let made = length-append receiver.log (numbered (length receiver.log) items) in
-        omega (arith, log, short, sends, trace-short, made, length-numbered (length receiver.log) items)
+        omega (arith, log-short known.sound.lawful is-replayed, sends, trace-short, made, length-numbered (length receiver.log) items)
 
     -- the receiver comes to the state of the fold
     pub state-is : after.state ≡ state_after_receipt next r.config.members r.trace d.to d.rsn
@@ -150,9 +137,9 @@ module _ {next : Next} {r : GroupRecord} {members : List MemberRecord} {place : 
     }
 
 -- each of the members of a set is in it
-pub listed-in : (s : Members) (listed : List ℕ) (i m : ℕ) → listed ≡ member_list s → i < length listed → m ≡ get_or listed i m → set.contains s m ≡ true
+pub listed_in : (s : Members) (listed : List ℕ) (i m : ℕ) → listed ≡ member_list s → i < length listed → m ≡ get_or listed i m → set.contains s m ≡ true
 unfolding member_list
-listed-in s listed i m is below read =
+listed_in s listed i m is below read =
     let some = some-at listed i below in
     let same : m ≡ some.0 = read ∙ get_or_from_slice_get listed i some.0 m some.1 in
     let there : slice_get (filter (set.contains s) (range_with_len 0 16)) i ≡ Some some.0 = ap (λ (xs : List ℕ). slice_get xs i) (sym is) ∙ some.1 in

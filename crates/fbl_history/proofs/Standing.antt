@@ -11,8 +11,8 @@ columns-stand next n trace [] = refl
 columns-stand next n trace (Send q k p note ∷ events) = ap (λ (xs : List Column). event_column next n trace (Send q k p note) ∷ xs) (columns-stand next n trace events)
 columns-stand next n trace (Receipt p r q k ∷ events) = ap (λ (xs : List Column). event_column next n trace (Receipt p r q k) ∷ xs) (columns-stand next n trace events)
 
-pub standing-is-trace : (next : Next) (r : GroupRecord) (columns : List Column) → standing (go_on columns (trace_columns next r)) ≡ trace_columns next r
-standing-is-trace next r columns = standing-trace columns (trace_columns next r) (columns-stand next r.config.members r.trace r.trace)
+pub standing_is_trace : (next : Next) (r : GroupRecord) (columns : List Column) → standing (go_on columns (trace_columns next r)) ≡ trace_columns next r
+standing_is_trace next r columns = standing-trace columns (trace_columns next r) (columns-stand next r.config.members r.trace r.trace)
 
 -- events whose columns are equal have the same mark
 same-mark : (next : Next) (n : ℕ) (trace : List Event) (e e' : Event) → event_column next n trace e ≡ event_column next n trace e' → mark_of e ≡ mark_of e'
@@ -20,8 +20,8 @@ same-mark next n trace (Send q k p note) (Send q' k' p' note') same = cc
 same-mark next n trace (Receipt p r q k) (Receipt p' r' q' k') same = cc
 same-mark next n trace _ _ same = absurd cc
 
-pub trace-once : (next : Next) (r : GroupRecord) → IsSound next r → HasEachOnce (trace_columns next r)
-trace-once next r sound i j a b at_i at_j same =
+pub trace_once : (next : Next) (r : GroupRecord) → IsSound next r → HasEachOnce (trace_columns next r)
+trace_once next r sound i j a b at_i at_j same =
     let first = map-At (event_column next r.config.members r.trace) r.trace i a at_i in
     let second = map-At (event_column next r.config.members r.trace) r.trace j b at_j in
     let marked : mark_of first.0 ≡ mark_of second.0 =

@@ -1,5 +1,5 @@
 -- Precedence where several events are appended.
-use Rattle.fbl_law.proofs.Common.{append_assoc, ◌≡◌, ℕ, ◌<◌, List, [], ◌∷◌, ◌++◌, inl, inr, ◌⊎◌, arith, ◌∙◌, Some, Mark, At, member_of, send_of, Has}
+use Rattle.fbl_law.proofs.Common.{append_assoc, ◌≡◌, ℕ, List, [], ◌∷◌, ◌++◌, inl, inr, ◌⊎◌, arith, ◌∙◌, Some, Mark, member_of, send_of, Has}
 use Rattle.fbl_law.proofs.Common.{Earlier, Precedes, itself, step, MayFollow, WellFormed, At-front, At-below, one_place, WellFormed-front}
 use Rattle.fbl_base.proofs.RulesLaws.{MayFollow-last}
 use Rattle.fbl_law.proofs.Lists.{At-append, At-behind}
@@ -7,11 +7,6 @@ use Rattle.fbl_law.proofs.Lists.{At-append, At-behind}
 -- each event of a trace that obeys the rules may follow those before it
 pub MayFollow-seam : (n : ℕ) (t : List Mark) (e : Mark) (rest : List Mark) → WellFormed n (t ++ e ∷ rest) → MayFollow n t e
 MayFollow-seam n t e rest obeys = MayFollow-last n t e (WellFormed-front n (t ++ e ∷ []) rest (rw append_assoc obeys))
-
--- in a trace that obeys the rules no event stands at two places
-pub once : (n : ℕ) (t : List Mark) (e : Mark) (i j : ℕ) → WellFormed n t → At t i e → At t j e → ¬ (i < j)
-once n t e i j obeys here there below =
-    omega (arith, below, one_place n t obeys e i j here there)
 
 pub Earlier-joined : (n : ℕ) (t : List Mark) (a b c : Mark) → WellFormed n t → Earlier t a b → Earlier t b c → Earlier t a c
 Earlier-joined n t a b c obeys first second =
@@ -26,7 +21,7 @@ pub disjoint : (n : ℕ) (t added : List Mark) → WellFormed n (t ++ added) →
 disjoint n t added obeys e new old =
     let r = At-behind t added new.0 e new.1 in
     let below = At-below t old.0 e old.1 in
-    once n (t ++ added) e old.0 r.0 obeys (At-front t added old.0 e old.1) r.2 (omega (arith, below, r.1))
+    omega (arith, below, r.1, one_place n (t ++ added) obeys e old.0 r.0 (At-front t added old.0 e old.1) r.2)
 
 module _ (t added : List Mark) (apart : (e : Mark) → Has added e → ¬ (Has t e)) where
   Earlier-within : (a b : Mark) → Has t b → Earlier (t ++ added) a b → Earlier t a b

@@ -7,14 +7,10 @@ use Rattle.fbl_law.specs.Replaying.{sent_again}
 
 -- there is no channel but between members
 pub channel-outside : (n : ℕ) (channels : List (List (List Message))) (q p : ℕ) → HasChannels n channels → (n ≤ q) ⊎ (n ≤ p) → channel_in channels q p ≡ []
-channel-outside n channels q p shape out = at out (cases_lt q n) where
-  no_row : n ≤ q → channel_in channels q p ≡ []
-  no_row past = ap (λ (row : List (List Message)). get_or row p []) (get_or_past channels q [] (omega (arith, past, shape.senders)))
-
-  at : (n ≤ q) ⊎ (n ≤ p) → (q < n) ⊎ (n ≤ q) → channel_in channels q p ≡ []
-  at (inl past) either = no_row past
-  at (inr past) (inr beyond) = no_row beyond
-  at (inr past) (inl below) = get_or_past (get_or channels q []) p [] (omega (arith, past, shape.receivers q below))
+channel-outside n channels q p shape out = elim (cases_lt q n) [
+  | inr beyond ↦ ap (λ (row : List (List Message)). get_or row p []) (get_or_past channels q [] (omega (arith, beyond, shape.senders)))
+  | inl below ↦ elim out [ inl past ↦ absurd (omega arith) | inr past ↦ get_or_past (get_or channels q []) p [] (omega (arith, past, shape.receivers q below)) ]
+]
 
 -- sums of counts that agree
 pub sum_below-agree : (n : ℕ) (a b : ℕ → ℕ) → ((x : ℕ) → x < n → a x ≡ b x) → sum_below n a ≡ sum_below n b

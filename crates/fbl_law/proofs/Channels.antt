@@ -2,7 +2,7 @@
 use Rattle.fbl_law.proofs.Common.{option_map, ◌≡◌, ℕ, ◌==◌, ◌&&◌, not, Bool, true, false, cond, List, [], ◌∷◌, ◌++◌, map, drop, arith, refl, sym, ap, ◌∙◌}
 use Rattle.fbl_law.proofs.Common.{Some, append_assoc, Contains, filter_map, list_any, nat_tests, map-append, Mark, Has, sent_on, taken_on, in_flight, WellFormed, map-At, At-filter}
 use Rattle.fbl_law.proofs.Common.{At-filter_map, is_sent, WellFormed-front, in_flight-send, in_flight-receipt, Message, Knowledge, send_mark, IsInFlight, IsUp, MatchesTrace, IsDownEmpty}
-use Rattle.fbl_law.proofs.Common.{between, taken_off, slice_get-map}
+use Rattle.fbl_law.proofs.Common.{between, taken_off, slice_get-map, filter-append, is_on}
 use Rattle.std.proofs.lemmas.List.{drop-map, append-nil}
 use Rattle.fbl_base.specs.declared.trace.Mark.TheVariants.{Send, Receipt}
 use Rattle.fbl_law.proofs.Appended.{MayFollow-seam}
@@ -34,22 +34,23 @@ AreSent-matched f r matches empty v flies =
     let ends = up_at_ends r empty.channels v.from v.to v flies in
     matched-Has r v (matches v.from v.to ends.0 ends.1) flies
 
--- sends come last in flight
-in_flight-made : (n : ℕ) (u : List Mark) (made : List Message) (q p : ℕ) → WellFormed n (u ++ map send_mark made)
-    → in_flight (u ++ map send_mark made) q p ≡ in_flight u q p ++ filter_map (sent_on q p) (map send_mark made)
-in_flight-made n u [] q p obeys = simp append-nil
-in_flight-made n u (x ∷ made) q p obeys =
-    let next : WellFormed n ((u ++ send_mark x ∷ []) ++ map send_mark made) = rw append_assoc obeys in
-    let rest = in_flight-made n (u ++ send_mark x ∷ []) made q p next in
-    let one = in_flight-send n u (WellFormed-front n u _ obeys) x.from x.ssn x.to q p (MayFollow-seam n u (send_mark x) (map send_mark made) obeys) in
-    let joined : cond (x.from == q && x.to == p) (x.ssn ∷ []) [] ++ filter_map (sent_on q p) (map send_mark made)
-    ≡ filter_map (sent_on q p) (map send_mark (x ∷ made)) = grind arith in
-    rw append_assoc at rest ∙ rw one (append_assoc (in_flight u q p) _ _ ∙ ap (λ (ys : List ℕ). in_flight u q p ++ ys) joined)
-
 -- the messages made between two members, by their marks
 pub messages_between : (made : List Message) (q p : ℕ) → map send_mark (between q p made) ≡ map (λ ssn. Send q ssn p) (filter_map (sent_on q p) (map send_mark made))
 messages_between [] q p = refl
 messages_between (x ∷ made) q p = grind (arith, nat_tests, messages_between made q p)
+
+-- messages that are sent go to the ends of their channels, and the trace has them last in flight
+channel-made : (n : ℕ) (t : List Mark) (made channel : List Message) (q p : ℕ) → WellFormed n (t ++ map send_mark made)
+    → map send_mark channel ≡ map (λ ssn. Send q ssn p) (in_flight t q p)
+    → map send_mark (channel ++ between q p made) ≡ map (λ ssn. Send q ssn p) (in_flight (t ++ map send_mark made) q p)
+channel-made n t [] channel q p obeys was = rw (append-nil channel, append-nil t) was
+channel-made n t (x ∷ made) channel q p obeys was =
+    let one = in_flight-send n t (WellFormed-front n t _ obeys) x.from x.ssn x.to q p (MayFollow-seam n t (send_mark x) (map send_mark made) obeys) in
+    let sent : map send_mark (between q p (x ∷ [])) ≡ map (λ ssn. Send q ssn p) (cond (x.from == q && x.to == p) (x.ssn ∷ []) []) = grind (arith, nat_tests) in
+    let rest = channel-made n (t ++ send_mark x ∷ []) made (channel ++ between q p (x ∷ [])) q p (rw append_assoc obeys)
+    (rw (one, map-append send_mark, map-append (λ ssn. Send q ssn p), was, sent) refl) in
+    let joined : between q p (x ∷ []) ++ between q p made ≡ between q p (x ∷ made) = sym (filter-append (is_on q p) (x ∷ []) made) in
+    rw (append_assoc channel (between q p (x ∷ [])) (between q p made), append_assoc t (send_mark x ∷ []) (map send_mark made), joined) at rest
 
 -- a delivery keeps a channel that matches the trace so
 pub channel-delivered : (n : ℕ) (t : List Mark) (v : Message) (rsn : ℕ) (made channel : List Message) (q p : ℕ)
@@ -57,12 +58,9 @@ pub channel-delivered : (n : ℕ) (t : List Mark) (v : Message) (rsn : ℕ) (mad
     → map send_mark (taken_off v q p channel ++ between q p made) ≡ map (λ ssn. Send q ssn p) (in_flight (t ++ Receipt v.to rsn v.from v.ssn ∷ map send_mark made) q p)
 channel-delivered n t v rsn made channel q p obeys was =
     let R : Mark = Receipt v.to rsn v.from v.ssn in
-    let next : WellFormed n ((t ++ R ∷ []) ++ map send_mark made) = rw append_assoc obeys in
     let one = in_flight-receipt n t (WellFormed-front n t _ obeys) v.to rsn v.from v.ssn q p (MayFollow-seam n t R (map send_mark made) obeys) in
-    let all = rw append_assoc at (in_flight-made n (t ++ R ∷ []) made q p next) in
-    rw (all, one, map-append send_mark, map-append (λ ssn. Send q ssn p), messages_between made q p)
-    (ap (λ (ys : List Mark). ys ++ map (λ ssn. Send q ssn p) (filter_map (sent_on q p) (map send_mark made))) (old_part (v.from == q && v.to == p)))
+    rw append_assoc at (channel-made n (t ++ R ∷ []) made (taken_off v q p channel) q p (rw append_assoc obeys) (rw one (taken (v.from == q && v.to == p))))
   where
-    old_part : (b : Bool) → map send_mark (cond b (drop 1 channel) channel) ≡ map (λ ssn. Send q ssn p) (cond b (drop 1 (in_flight t q p)) (in_flight t q p))
-    old_part true = sym (drop-map send_mark 1 channel) ∙ ap (λ (ys : List Mark). drop 1 ys) was ∙ drop-map (λ ssn. Send q ssn p) 1 (in_flight t q p)
-    old_part false = was
+    taken : (b : Bool) → map send_mark (cond b (drop 1 channel) channel) ≡ map (λ ssn. Send q ssn p) (cond b (drop 1 (in_flight t q p)) (in_flight t q p))
+    taken true = sym (drop-map send_mark 1 channel) ∙ ap (λ (ys : List Mark). drop 1 ys) was ∙ drop-map (λ ssn. Send q ssn p) 1 (in_flight t q p)
+    taken false = was

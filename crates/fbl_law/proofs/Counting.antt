@@ -38,24 +38,20 @@ count_in-none s (suc n) = grind (arith, count_in-none s n)
 abbrev pub is_of : Members → Determinant → Bool
 is_of s d = set.contains s d.to
 
+-- how many of the receipts are the member's
+abbrev count_to : List Determinant → ℕ → ℕ
+count_to ds p = length (filter (λ (d : Determinant). d.to == p) ds)
+
 -- the receipts of the members of a set, counted member by member
-count_in-determinants : (s : Members) (n : ℕ) (ds : List Determinant) → AllBelow s n → count_in s (λ p. length (filter (λ (d : Determinant). d.to == p) ds)) n ≡ length (filter (is_of s) ds)
+count_in-determinants : (s : Members) (n : ℕ) (ds : List Determinant) → AllBelow s n → count_in s (count_to ds) n ≡ length (filter (is_of s) ds)
 count_in-determinants s n [] within = count_in-none s n
 count_in-determinants s n (d ∷ ds) within =
-    let ih : count_in s old n ≡ length (filter (is_of s) ds) = count_in-determinants s n ds within in
+    let ih = count_in-determinants s n ds within in
+    let others : (q : ℕ) → q ≢ d.to → count_to (d ∷ ds) q ≡ count_to ds q = λ q other. grind (arith, nat_tests) in
     elim (down_or_up s d.to) [
-      | inl is ↦ grind (arith, ih, count_in-step s old new n d.to (within d.to is) is (grind (arith, nat_tests)) others)
-      | inr is ↦ grind (arith, ih, count_in-same s new old n (λ q below here. others q (λ same. grind (arith, same, here))))
+      | inl is ↦ grind (arith, ih, count_in-step s (count_to ds) (count_to (d ∷ ds)) n d.to (within d.to is) is (grind (arith, nat_tests)) others)
+      | inr is ↦ grind (arith, ih, count_in-same s (count_to (d ∷ ds)) (count_to ds) n (λ q below here. others q (λ same. grind (arith, same, here))))
     ]
-  where
-    old : ℕ → ℕ
-    old p = length (filter (λ (x : Determinant). x.to == p) ds)
-
-    new : ℕ → ℕ
-    new p = length (filter (λ (x : Determinant). x.to == p) (d ∷ ds))
-
-    others : (q : ℕ) → q ≢ d.to → new q ≡ old q
-    others q other = grind (arith, nat_tests)
 
 -- the receipts of a member beyond a number of them
 abbrev beyond : (ℕ → ℕ) → Determinant → Bool
@@ -79,7 +75,7 @@ filter-both p q (d ∷ ds) = grind (arith, filter-both p q ds)
 pub count_in-beyond : (s : Members) (past : ℕ → ℕ) (n m : ℕ) (t : List Mark) → AllBelow s n → WellFormed m t
     → count_in s (λ p. length (receipts_at t p) - past p) n ≡ length (filter (λ d. set.contains s d.to && nat_lt (past d.to) d.rsn) (receipts t))
 count_in-beyond s past n m t within obeys =
-    count_in-same s (λ p. length (receipts_at t p) - past p) (λ p. length (filter (λ (d : Determinant). d.to == p) (filter (beyond past) (receipts t)))) n
+    count_in-same s (λ p. length (receipts_at t p) - past p) (count_to (filter (beyond past) (receipts t))) n
     (λ p below among. sym (ap length (beyond-of past p (receipts t))
     ∙ beyond-numbered (past p) 0 (receipts_at t p) (λ j d here. omega (arith, receipts_at-number m t p j d obeys here)) ∙ omega arith))
     ∙ count_in-determinants s n (filter (beyond past) (receipts t)) within ∙ ap length (filter-both (is_of s) (beyond past) (receipts t))

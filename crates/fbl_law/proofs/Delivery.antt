@@ -1,20 +1,21 @@
 -- A delivery keeps knowledge sound.
-use Rattle.fbl_law.proofs.Common.{◌≡◌, ℕ, arith, List, [], ◌∷◌, inl, inr, ◌⊎◌, refl, sym, subst, ap, ◌∙◌, zero, suc, Some, map, ◌&&◌, ◌==◌, Contains}
+use Rattle.fbl_law.proofs.Common.{◌≡◌, ℕ, List, [], ◌∷◌, inl, inr, ◌⊎◌, refl, sym, subst, ap, ◌∙◌, zero, suc, Some, map, ◌&&◌, ◌==◌, Contains}
 use Rattle.fbl_law.proofs.Common.{cases_eq, cases_Bool, contains-insert_same, Determinant, Mark, At, member_of, send_of, determinant_of, receipt_of, Has, Precedes, Contains-append_cases}
-use Rattle.fbl_law.proofs.Common.{is_send_of, is_receipt_of, At-front, Has-last, Entry, Message, Includes, Knowledge, Store, in_table, in_message, in_checkpoint, owner, IsThere, Owes, table}
+use Rattle.fbl_law.proofs.Common.{At-front, Has-last, Entry, Message, Includes, Knowledge, Store, in_table, in_message, in_checkpoint, owner, IsThere, Owes, table}
 use Rattle.fbl_law.proofs.Common.{send_mark, IsInFlight, IsUp, Names, Holds, IsHolder, IsTrueEntry, NamesCauses, IsSoundKnowledge, learned, IsDelivered, is_on, taken_off, between}
 use Rattle.fbl_law.proofs.Common.{determinant}
 use Rattle.std.specs.FinSet as set
-use Rattle.std.proofs.lemmas.Option.{same_Some}
 use Rattle.fbl_base.proofs.PrecedenceLaws.{Precedes-front}
 use Rattle.fbl_law.proofs.Appended.{Has-append, disjoint, Precedes-within, Precedes-entered}
 use Rattle.fbl_law.proofs.Lists.{At-behind, Contains-at, Contains-there, Contains-from_filter}
 use Rattle.fbl_law.proofs.Channels.{AreSent-matched, made-Has, channel-delivered}
-use Rattle.fbl_law.proofs.Numbered.{count-grown, added-later}
-use Rattle.fbl_law.proofs.Safe.{never_both, nobody_down_empty, up_if_none, recorded_holder, IsRecorded-held}
-use Rattle.fbl_law.proofs.Keeping.{KeepsKnowledge, IsSoundAt, NamesCauses-kept, IsTrueEntry-kept, sound_kept, sound_passed, truth_everywhere, closed_everywhere}
-use Rattle.fbl_law.proofs.Tables.{Includes-insert_cases, Includes-only, Includes-union, Includes-left, Names-learned_kept, Names-learned_gained, Names-noted_kept, Names-noted}
-use Rattle.fbl_law.proofs.Tables.{Contains-noted, Names-from_table, learned-keeps}
+use Rattle.fbl_law.proofs.Numbered.{added-later}
+use Rattle.fbl_law.proofs.Safe.{never_both, nobody_down_empty, up_if_none}
+use Rattle.fbl_law.proofs.Keeping.{KeepsKnowledge, IsSoundAt, NamesCauses-kept, IsTrueEntry-kept, sound_kept, sound_passed, checkpoint_kept, sound_after}
+use Rattle.fbl_law.proofs.Tables.{Includes-insert_cases, Includes-only, Includes-union, Includes-left, Names-table, learned-keeps, All-from}
+use Rattle.fbl_law.proofs.Common.{All, ◌↔◌}
+use Rattle.fbl_table.specs.Tables.{held_by}
+use Rattle.std.proofs.lemmas.List.Elements.{All-contains, All-push}
 
 -- what is left of a channel was in it
 pub taken_off-was : (v : Message) (q p : ℕ) (xs : List Message) (x : Message) → Contains (taken_off v q p xs) x → Contains xs x
@@ -37,10 +38,14 @@ module _ (n f : ℕ) (old new : Knowledge) (v : Message) (rsn : ℕ) (made : Lis
   flies : IsInFlight old v
   flies = Contains-at (old.channel v.from v.to) 0 v s.front
 
+  -- what the receiver has now
+  receiver_names : (d : Determinant) → Names (table new v.to) d ↔ (Names (table old v.to) d ⊎ (Names v.carried d ⊎ (own ≡ d)))
+  receiver_names d = rw s.receiver (Names-table v.to (table old v.to) v.carried own d)
+
   Names-delivered : (d : Determinant) (m : ℕ) → Names (table old m) d → Names (table new m) d
   Names-delivered d m named =
       elim (cases_eq m v.to) [
-        | inl same ↦ rw (same, s.receiver) (Names-noted_kept v.to _ own d (Names-learned_kept v.to (table old v.to) v.carried d (rw same at named)))
+        | inl same ↦ rw same ((receiver_names d).1 (inl (rw same at named)))
         | inr other ↦ rw (s.others m other) named
       ]
 
@@ -54,73 +59,62 @@ module _ (n f : ℕ) (old new : Knowledge) (v : Message) (rsn : ℕ) (made : Lis
   held : (d : Determinant) (m : ℕ) → IsHolder old d m → Holds new d m
   held d m holder = elim holder [ inl holds ↦ (up m, Names-delivered d m holds.1) | inr was ↦ never_both old.down m was.0 (was_up m) ]
 
-  keeps : KeepsKnowledge f old new
+  keeps : KeepsKnowledge n f old new
   keeps = record {
+    rules = s.rules;
     down = nobody_down_empty f new s.down;
+    channels = λ q p up_q up_p. rw (s.channels q p, s.trace) (channel-delivered n old.trace v rsn made (old.channel q p) q p (rw s.trace at s.rules) (sound.channels q p (was_up q) (was_up p)));
     held = λ d m up_m. held d m;
-    receipts = λ d recorded there. (there.0, rw s.trace (At-front old.trace added there.0 (receipt_of d) there.1));
+    left = λ b there recorded. (there.0, rw s.trace (At-front old.trace added there.0 b there.1));
     paths = λ there path. Precedes-within old.trace added apart there (rw s.trace at path);
   }
 
-  -- what the receiver has now
   gained : (d : Determinant) → Names v.carried d → Names (table new v.to) d
-  gained d named = rw s.receiver (Names-noted_kept v.to _ own d (Names-learned_gained v.to (table old v.to) v.carried d named))
+  gained d named = (receiver_names d).1 (inr (inl named))
 
   noted : Names (table new v.to) own
-  noted = rw s.receiver (Names-noted v.to _ own)
+  noted = (receiver_names own).1 (inr (inr refl))
 
   -- the new table's entries are true
   abbrev IsGood : Entry → Type 0
   IsGood e = IsTrueEntry new e × Includes e.known v.to
 
   still : (e : Entry) (m : ℕ) → Includes e.known m → IsTrueEntry old e → IsTrueEntry new e
-  still e m knows fact = IsTrueEntry-kept f old new keeps sound.truth sound.closed e (recorded_holder old e.det m (fact.1 m knows)) (IsRecorded-held new e.det m (held e.det m (fact.1 m knows))) fact
+  still e m knows fact = IsTrueEntry-kept keeps sound e m (fact.1 m knows) (inl (m, held e.det m (fact.1 m knows))) fact
 
-  good_learned : (e : Entry) → Contains (learned v.to (table old v.to) v.carried) e → IsGood e
-  good_learned =
-      learned-keeps IsGood
+  good_table : All IsGood (table new v.to)
+  good_table =
+      rw s.receiver (All-push IsGood (learned v.to (table old v.to) v.carried) _ (learned-keeps IsGood
       (λ x e q r same. ((q.0.0, λ m h. elim (Includes-union x.known e.known m h) [ inl here ↦ q.0.1 m here | inr there ↦ rw same (r.0.1 m there) ]), Includes-left x.known e.known v.to q.1))
       v.to (table old v.to) v.carried
-      (λ x h. let fact = sound.truth (in_table v.to) x (was_up v.to) h in (still x v.to fact.1 fact.0, fact.1))
-      (λ e h. let fact = sound.truth (in_message v) e flies h in let now = still e v.from fact.1 fact.0 in (
+      (All-from IsGood (table old v.to) (λ x h. let fact = sound.truth (in_table v.to) x (was_up v.to) h in (still x v.to fact.1 fact.0, fact.1)))
+      (All-from (λ e. IsGood (held_by v.to e)) v.carried (λ e h. let fact = sound.truth (in_message v) e flies h in let now = still e v.from fact.1 fact.0 in (
         (now.0, λ m k. elim (Includes-insert_cases e.known v.to m k) [ inl self ↦ rw self (inl (up v.to, gained e.det (e, h, refl))) | inr was ↦ now.1 m was ]),
         contains-insert_same e.known v.to,
-      ))
+      ))))
+      (((let r = At-behind old.trace added 0 (receipt_of own) refl in rw s.trace (r.0, r.2)), λ m h. rw (Includes-only v.to m h) (inl (up v.to, noted))), contains-insert_same set.empty v.to))
 
-  good_own : IsGood (record { det = own; known = set.insert set.empty v.to })
-  good_own = (((let r = At-behind old.trace added 0 (receipt_of own) refl in rw s.trace (r.0, r.2)), λ m h. rw (Includes-only v.to m h) (inl (up v.to, noted))), contains-insert_same set.empty v.to)
-
-  added_cases : (e : Mark) → Has added e → (receipt_of own ≡ e) ⊎ ((x : Message) × Contains made x × (send_mark x ≡ e))
-  added_cases e h = at_place h.0 h.1
-    where
-      at_place : (i : ℕ) → At added i e → (receipt_of own ≡ e) ⊎ ((x : Message) × Contains made x × (send_mark x ≡ e))
-      at_place zero is = inl cc
-      at_place (suc i) is = inr (made-Has made e (i, is))
-
+  -- each is the receiver's and receives nothing but the message, and the one receipt is the one delivered
   abbrev IsOurs : Mark → Type 0
-  IsOurs e = (member_of e ≡ v.to) × ((a : Mark) → send_of e ≡ Some a → send_mark v ≡ a)
+  IsOurs e = (member_of e ≡ v.to) × ((a : Mark) → send_of e ≡ Some a → send_mark v ≡ a) × ((d : Determinant) → determinant_of e ≡ Some d → own ≡ d)
 
-  ours : (e : Mark) → Has added e → (member_of e ≡ v.to) × ((a : Mark) → send_of e ≡ Some a → send_mark v ≡ a)
-  ours e h = elim (added_cases e h) [
-    | inl is ↦ subst IsOurs is (refl, λ a h. cc)
-    | inr is ↦ subst IsOurs is.2 ((s.messages is.0 is.1).0, λ a h. absurd cc)
-  ]
-
-  -- the one receipt that was added is the one delivered
-  is_own : (d : Determinant) → Has added (receipt_of d) → own ≡ d
-  is_own d h = elim (added_cases (receipt_of d) h) [ inl same ↦ same_Some own d (ap determinant_of same) | inr is ↦ absurd (let no : send_mark is.0 ≡ receipt_of d = is.2 in cc) ]
+  ours : (e : Mark) → Has added e → IsOurs e
+  ours e h = at h.0 h.1 where
+    at : (i : ℕ) → At added i e → IsOurs e
+    at zero is = (let same : receipt_of own ≡ e = cc in subst IsOurs same (refl, λ a h. cc, λ d h. cc))
+    at (suc i) is = let x = made-Has made e (i, is) in subst IsOurs x.2 ((s.messages x.0 x.1).0, λ a h. absurd cc, λ d h. absurd cc)
 
   -- the receiver's table names the causes of what it or the message named the causes of
   caught : (b : Mark) → Has old.trace b → NamesCauses f old (table old v.to) b ⊎ NamesCauses f old v.carried b → NamesCauses f new (table new v.to) b
   caught b there (inl had) d before =
-      elim (NamesCauses-kept f old new keeps (table old v.to) b there had d before) [ inl named ↦ inl (Names-delivered d v.to named) | inr stable ↦ inr stable ]
-  caught b there (inr came) d before = elim (NamesCauses-kept f old new keeps v.carried b there came d before) [ inl named ↦ inl (gained d named) | inr stable ↦ inr stable ]
+      elim (NamesCauses-kept keeps sound (table old v.to) b there had d before) [ inl named ↦ inl (Names-delivered d v.to named) | inr stable ↦ inr stable ]
+  caught b there (inr came) d before = elim (NamesCauses-kept keeps sound v.carried b there came d before) [ inl named ↦ inl (gained d named) | inr stable ↦ inr stable ]
 
   -- and of the events added
   mine : (b : Mark) → Has added b → NamesCauses f new (table new v.to) b
   mine b new_one d before =
-      elim (Precedes-entered old.trace added apart v.to (send_mark v) ours new_one (rw s.trace at before)) [
-        | inl late ↦ inl (subst (λ (c : Determinant). Names (table new v.to) c) (is_own d late) noted)
+      elim (Precedes-entered old.trace added apart v.to (send_mark v) (λ e h. let is = ours e h in (is.0, is.1)) new_one (rw s.trace at before)) [
+        | inl late ↦ inl (subst (λ (c : Determinant). Names (table new v.to) c) ((ours (receipt_of d) late).2 d refl) noted)
         | inr entered ↦
             let whole : Precedes new.trace (receipt_of d) entered.0 = rw s.trace (Precedes-front old.trace added entered.1) in
             elim entered.2 [
@@ -129,24 +123,18 @@ module _ (n f : ℕ) (old new : Knowledge) (v : Message) (rsn : ℕ) (made : Lis
             ]
       ]
 
+  either : (b : Mark) → (Has old.trace b → NamesCauses f new (table new v.to) b) → NamesCauses f new (table new v.to) b
+  either b of_old d before = elim (Has-cases b (Has-last before)) [ inl there ↦ of_old there d before | inr new_one ↦ mine b new_one d before ]
+
   good_receiver : IsSoundAt f new (in_table v.to)
   good_receiver = record {
-    truth = λ e among. elim (Contains-noted v.to (learned v.to (table old v.to) v.carried) own e (rw s.receiver at among)) [
-      | inl of_old ↦ good_learned e of_old
-      | inr last ↦ subst IsGood last good_own
-    ];
-    events = λ b at_to d before. elim (Has-cases b (Has-last before)) [
-      | inl old_one ↦ caught b old_one (inl (sound.closed.events (in_table v.to) b (was_up v.to) at_to)) d before
-      | inr new_one ↦ mine b new_one d before
-    ];
-    named = λ c named d before. elim (Has-cases (receipt_of c) (Has-last before)) [
-      | inr new_one ↦ mine (receipt_of c) new_one d before
-      | inl old_one ↦ elim (Names-from_table v.to (table old v.to) v.carried own c (rw s.receiver at named)) [
-        | inl had_it ↦ caught (receipt_of c) old_one (inl (sound.closed.named (in_table v.to) c (was_up v.to) had_it)) d before
-        | inr (inl carried) ↦ caught (receipt_of c) old_one (inr (sound.closed.named (in_message v) c flies carried)) d before
-        | inr (inr same) ↦ mine (receipt_of c) (0, ap (λ (x : Determinant). Some (receipt_of x)) same) d before
-      ]
-    ];
+    truth = λ e among. All-contains IsGood (table new v.to) e good_table among;
+    events = λ b at_to. either b (λ there. caught b there (inl (sound.closed.events (in_table v.to) b (was_up v.to) at_to)));
+    named = λ c named. either (receipt_of c) (λ there. elim ((receiver_names c).0 named) [
+      | inl had_it ↦ caught (receipt_of c) there (inl (sound.closed.named (in_table v.to) c (was_up v.to) had_it))
+      | inr (inl carried) ↦ caught (receipt_of c) there (inr (sound.closed.named (in_message v) c flies carried))
+      | inr (inr same) ↦ mine (receipt_of c) (0, ap (λ (x : Determinant). Some (receipt_of x)) same)
+    ]);
   }
 
   -- no other store owes the causes of an event that was added
@@ -160,40 +148,18 @@ module _ (n f : ℕ) (old new : Knowledge) (v : Message) (rsn : ℕ) (made : Lis
   good : (k : Store) → IsThere new k → IsSoundAt f new k
   good (in_table m) there = elim (cases_eq m v.to) [
     | inl same ↦ rw same good_receiver
-    | inr other ↦ sound_kept f old new keeps sound.truth sound.closed (in_table m) (in_table m) there (record {
-      there = was_up m;
-      owner = refl;
-      entries = s.others m other;
-      owes = still_owes (in_table m) (was_up m) (λ same. other (ap owner same));
-    })
+    | inr other ↦ sound_kept keeps sound (in_table m) there (was_up m, s.others m other, still_owes (in_table m) (was_up m) (λ same. other (ap owner same)))
   ]
-  good (in_message x) there = elim (Contains-append_cases (taken_off v x.from x.to (old.channel x.from x.to)) (between x.from x.to made) x (rw (s.channels x.from x.to) at there)) [
+  good (in_message x) flying = elim (Contains-append_cases (taken_off v x.from x.to (old.channel x.from x.to)) (between x.from x.to made) x (rw (s.channels x.from x.to) at flying)) [
     | inl before ↦
         let was = taken_off-was v x.from x.to (old.channel x.from x.to) x before in
-        sound_kept f old new keeps sound.truth sound.closed (in_message x) (in_message x) there
-        (record { there = was; owner = refl; entries = refl; owes = still_owes (in_message x) was (λ same. cc) })
+        sound_kept keeps sound (in_message x) flying (was, refl, still_owes (in_message x) was (λ same. cc))
     | inr after ↦
         let is = s.messages x (Contains-from_filter (is_on x.from x.to) made x after) in
         sound_passed f new x (rw is.0 good_receiver) (rw is.0 is.1)
   ]
   good (in_checkpoint m) there =
-      sound_kept f old new keeps sound.truth sound.closed (in_checkpoint m) (in_checkpoint m) tt (record {
-        there = tt;
-        owner = refl;
-        entries = rw s.checkpoints refl;
-        owes = λ b has owes. still_owes (in_checkpoint m) tt (λ same. cc) b has (rw s.checkpoints at owes);
-      })
+      sound_kept keeps sound (in_checkpoint m) tt (tt, rw s.checkpoints refl, λ b has owes. still_owes (in_checkpoint m) tt (λ same. cc) b has (rw s.checkpoints at owes))
 
   pub delivery_keeps : IsSoundKnowledge n f new
-  delivery_keeps = record {
-    rules = s.rules;
-    truth = truth_everywhere f new good;
-    closed = closed_everywhere f new good;
-    channels = λ q p up_q up_p. rw (s.channels q p, s.trace) (channel-delivered n old.trace v rsn made (old.channel q p) q p (rw s.trace at s.rules) (sound.channels q p (was_up q) (was_up p)));
-    down = keeps.down;
-    checkpoints = λ m. record {
-      receipts = rw (s.checkpoints, s.trace) (omega (arith, (sound.checkpoints m).receipts, count-grown (is_receipt_of m) old.trace added));
-      sends = rw (s.checkpoints, s.trace) (omega (arith, (sound.checkpoints m).sends, count-grown (is_send_of m) old.trace added));
-      table = λ d up_m named. Names-delivered d m ((sound.checkpoints m).table d (was_up m) (rw s.checkpoints at named));
-    };
-  }
+  delivery_keeps = sound_after keeps sound good (λ m. checkpoint_kept keeps sound m (rw s.checkpoints refl))

@@ -1,40 +1,34 @@
 -- What gathered tables have.
-use Rattle.fbl_law.proofs.Common.{◌≡◌, ℕ, zero, suc, ◌+◌, ◌<◌, cond, List, [], ◌∷◌, ◌++◌, length, take, map, inl, inr, ◌⊎◌, arith, refl, sym, get_or, subst}
-use Rattle.fbl_law.proofs.Common.{ap, ◌∙◌, cases_eq, slice_index_or, get_or_default, Contains-append_cases, Contains-append_left, Contains-append_right, Contains, fold, fold_push}
-use Rattle.fbl_law.proofs.Common.{Members, Determinant, Entry, MemberRecord, blank, Store, in_table, in_checkpoint, IsThere, entries, Includes, Names, Knowledge, table, checkpoint, IsDown}
-use Rattle.fbl_law.proofs.Common.{IsRecorded, IsDownEmpty, IsCheckpointKept, gathered, recovery_table}
+use Rattle.fbl_law.proofs.Common.{◌≡◌, ℕ, zero, suc, ◌+◌, ◌<◌, List, [], ◌∷◌, ◌++◌, length, take, map, inl, inr, arith, refl, get_or, subst}
+use Rattle.fbl_law.proofs.Common.{ap, ◌∙◌, cases_eq, slice_index_or, Contains-append_left, Contains-append_right, Contains, fold_push}
+use Rattle.fbl_law.proofs.Common.{Members, Determinant, Entry, MemberRecord, blank, in_table, in_checkpoint, Includes, Names, Knowledge, table, checkpoint, IsDown}
+use Rattle.fbl_law.proofs.Common.{IsRecorded, gathered, recovery_table}
 use Rattle.std.proofs.lemmas.List.{map_more}
-use Rattle.std.proofs.lemmas.List.Elements.{Contains-get_or}
+use Rattle.std.proofs.lemmas.List.Elements.{All-append, All-cons, All-contains, All-from_get_or, All-map, All-nil, Contains-get_or}
+use Rattle.std.proofs.lemmas.List.Folds.{list_any_at}
+use Rattle.fbl_table.proofs.Adding.{held-gathered}
 use Rattle.std.specs.FinSet as set
 use Rattle.fbl_law.specs.Steps.{gathered_all, saved_tables}
-use Rattle.fbl_law.proofs.Lists.{Contains-changed, Contains-map, Contains-here, Contains-there, Contains-cons_cases, Contains-none}
-use Rattle.fbl_law.proofs.Safe.{down_or_up, up_if_named, IsRecorded-held, IsRecorded-saved}
-use Rattle.fbl_law.proofs.Tables.{joined, Includes-union, Includes-right, Names-gathered, Names-gathered_kept, gathered-keeps, Names-changed, named_record}
-
--- what holds of a value at first, and which each step keeps, holds at the end
-fold-keeps : {A B : Type 0} (P : B → Type 0) (f : B → A → B) (b : B) (xs : List A) → P b → ((b : B) (x : A) → Contains xs x → P b → P (f b x)) → P (fold f b xs)
-fold-keeps P f b [] holds keeps = holds
-fold-keeps P f b (x ∷ xs) holds keeps = fold-keeps P f (f b x) xs (keeps b x (Contains-here x xs) holds) (λ c y among. keeps c y (Contains-there x xs y among))
+use Rattle.fbl_law.proofs.Lists.{Contains-changed, Contains-map, Contains-here}
+use Rattle.fbl_law.proofs.Safe.{down_or_up, up_if_named}
+use Rattle.fbl_law.proofs.Tables.{joined, All-from, Includes-union, Includes-right, gathered-keeps, held-Names, Names-held, named_record}
+use Rattle.fbl_law.proofs.Common.{All, All-head, All-tail, list_any, is_held, ◌||◌}
+use Rattle.fbl_law.proofs.Common.{IsHolder, IsSoundKnowledge}
 
 abbrev mark : Members → Entry → Entry
 mark s e = record { det = e.det; known = set.union e.known s }
 
 -- what one of the tables names, the gathered one names
-pub gathered_all-named : (xs : List Entry) (ts : List (List Entry)) (t : List Entry) (d : Determinant) → Contains ts t → Names t d → Names (gathered_all xs ts) d
-gathered_all-named xs [] t d among named = absurd (omega (arith, among.1))
-gathered_all-named xs (u ∷ ts) t d among named =
-    elim (Contains-cons_cases u ts t among) [
-      | inl first ↦ fold-keeps (λ es. Names es d) gathered (gathered xs u) ts (Names-gathered xs u d (subst (λ (v : List Entry). Names v d) (sym first) named))
-          (λ es v here. Names-gathered_kept es v d)
-      | inr later ↦ gathered_all-named (gathered xs u) ts t d later named
-    ]
+held-gathered_all : (xs : List Entry) (ts : List (List Entry)) (d : Determinant) → is_held (gathered_all xs ts) d ≡ (is_held xs d || list_any (λ t. is_held t d) ts)
+held-gathered_all xs [] d = grind arith
+held-gathered_all xs (t ∷ ts) d = rw (held-gathered_all (gathered xs t) ts d, held-gathered xs t d) grind arith
 
 -- what holds of each entry of the tables, and of two that are joined, holds of each that is gathered
 module _ (Q : Entry → Type 0) (join : (x e : Entry) → Q x → Q e → x.det ≡ e.det → Q (joined x e)) where
-  pub gathered_all-keeps : (xs : List Entry) (ts : List (List Entry)) → ((x : Entry) → Contains xs x → Q x)
-      → ((t : List Entry) (e : Entry) → Contains ts t → Contains t e → Q e) → (y : Entry) → Contains (gathered_all xs ts) y → Q y
-  gathered_all-keeps xs ts all each =
-      fold-keeps (λ es. (y : Entry) → Contains es y → Q y) gathered xs ts all (λ es t here keeps. gathered-keeps Q join es t keeps (λ e. each t e here))
+  gathered_all-keeps : (xs : List Entry) (ts : List (List Entry)) → All Q xs → All (λ t. All Q t) ts → All Q (gathered_all xs ts)
+  gathered_all-keeps xs [] all each = all
+  gathered_all-keeps xs (t ∷ ts) all each =
+      gathered_all-keeps (gathered xs t) ts (gathered-keeps Q join xs t all (All-head (λ t. All Q t) t ts each)) (All-tail (λ t. All Q t) t ts each)
 
 -- the tables of checkpoints are those of the members of the set
 Contains-saved : (s : Members) (checkpoints : List MemberRecord) (n m : ℕ) → m < n → Includes s m → Contains (saved_tables s checkpoints n) (get_or checkpoints m blank).table
@@ -46,74 +40,64 @@ Contains-saved s checkpoints (suc n) m below among =
       | inr other ↦ Contains-append_left (saved_tables s checkpoints n) _ (get_or checkpoints m blank).table (Contains-saved s checkpoints n m (omega arith) among)
     ]
 
-saved-Contains : (s : Members) (checkpoints : List MemberRecord) (n : ℕ) (t : List Entry) → Contains (saved_tables s checkpoints n) t → (m : ℕ) × ((get_or checkpoints m blank).table ≡ t)
-saved-Contains s checkpoints zero t among = absurd (Contains-none t among)
-saved-Contains s checkpoints (suc n) t among =
-    elim (Contains-append_cases (saved_tables s checkpoints n) (cond (set.contains s n) ((get_or checkpoints n blank).table ∷ []) []) t among) [
-      | inl before ↦ saved-Contains s checkpoints n t before
-      | inr last ↦ elim (down_or_up s n) [
-        | inl is ↦ elim (Contains-cons_cases (get_or checkpoints n blank).table [] t (rw is at last)) [ inl first ↦ (n, first) | inr none ↦ absurd (Contains-none t none) ]
-        | inr is ↦ absurd (Contains-none t (rw is at last))
-      ]
-    ]
-
--- a store knows that the member m holds the entry's determinant
-abbrev pub KnowsHolder : Knowledge → Entry → ℕ → Type 0
-KnowsHolder r e m = (k : Store) × (x : Entry) × IsThere r k × Contains (entries r k) x × (x.det ≡ e.det) × Includes x.known m
+saved-keeps : (P : List Entry → Type 0) (s : Members) (checkpoints : List MemberRecord) (n : ℕ) → ((m : ℕ) → P (get_or checkpoints m blank).table)
+    → All P (saved_tables s checkpoints n)
+saved-keeps P s checkpoints zero each = All-nil P
+saved-keeps P s checkpoints (suc n) each =
+    All-append P (saved_tables s checkpoints n) _ (saved-keeps P s checkpoints n each)
+    (elim (down_or_up s n) [ inl is ↦ rw is (All-cons P _ [] (each n) (All-nil P)) | inr is ↦ rw is (All-nil P) ])
 
 -- the entry unites what stores know of a recorded determinant, and names those that are down
 abbrev pub IsGathered : Knowledge → Entry → Type 0
-IsGathered r e = IsRecorded r e.det × ((m : ℕ) → IsDown r m → Includes e.known m) × ((m : ℕ) → Includes e.known m → IsDown r m ⊎ KnowsHolder r e m)
+IsGathered r e = IsRecorded r e.det × ((m : ℕ) → IsDown r m → Includes e.known m) × ((m : ℕ) → Includes e.known m → IsHolder r e.det m)
 
-module _ (f : ℕ) (r : Knowledge) (empty : IsDownEmpty f r) where
+module _ {n f : ℕ} {r : Knowledge} (sound : IsSoundKnowledge n f r) where
   -- the tables that are gathered
   abbrev sources : List (List Entry)
   sources = map (λ (m : MemberRecord). m.table) r.members ++ saved_tables r.down r.checkpoints (length r.checkpoints)
 
-  -- a store knows of each holder of a recorded determinant that the entry names
+  -- the determinant is recorded, and the entry names holders of it
   abbrev IsKnown : Entry → Type 0
-  IsKnown e = IsRecorded r e.det × ((m : ℕ) → Includes e.known m → KnowsHolder r e m)
+  IsKnown e = IsRecorded r e.det × ((m : ℕ) → Includes e.known m → IsHolder r e.det m)
 
-  join_known : (x e : Entry) → IsKnown x → IsKnown e → x.det ≡ e.det → IsKnown (record { det = x.det; known = set.union x.known e.known })
-  join_known x e a b same = (
-    a.0,
-    λ m h. elim (Includes-union x.known e.known m h) [
-      | inl left ↦ a.1 m left
-      | inr right ↦ let t = b.1 m right in (t.0, t.1, t.2, t.3, t.4 ∙ sym same, t.5)
-    ],
-  )
+  join_known : (x e : Entry) → IsKnown x → IsKnown e → x.det ≡ e.det → IsKnown (joined x e)
+  join_known x e a b same = (a.0, λ m h. elim (Includes-union x.known e.known m h) [ inl left ↦ a.1 m left | inr right ↦ rw same (b.1 m right) ])
 
-  table_known : (t : List Entry) (e : Entry) → Contains (map (λ (m : MemberRecord). m.table) r.members) t → Contains t e → IsKnown e
-  table_known t e among of_t =
-      let member = Contains-changed (λ (m : MemberRecord). m.table) r.members t among in
-      let at = member.1 in
-      let is : table r at.0 ≡ t = ap (λ (m : MemberRecord). m.table) (get_or_default r.members at.0 blank member.0 at.1 ∙ at.2) ∙ member.2 in
-      let here : Contains (table r at.0) e = rw is of_t in
-      let up = up_if_named f r empty at.0 e.det (e, here, refl) in
-      (IsRecorded-held r e.det at.0 (up, (e, here, refl)), λ m h. (in_table at.0, e, up, here, refl, h))
+  table_known : (m : ℕ) (e : Entry) → Contains (table r m) e → IsKnown e
+  table_known m e here =
+      let up = up_if_named f r sound.down m e.det (e, here, refl) in
+      (inl (m, (up, (e, here, refl))), (sound.truth (in_table m) e up here).0.1)
 
-  saved_known : (t : List Entry) (e : Entry) → Contains (saved_tables r.down r.checkpoints (length r.checkpoints)) t → Contains t e → IsKnown e
-  saved_known t e among of_t =
-      let saved = saved-Contains r.down r.checkpoints (length r.checkpoints) t among in
-      let here : Contains (checkpoint r saved.0).table e = rw saved.1 of_t in
-      (IsRecorded-saved r e.det saved.0 (e, here, refl), λ m h. (in_checkpoint saved.0, e, tt, here, refl, h))
+  saved_known : (m : ℕ) (e : Entry) → Contains (checkpoint r m).table e → IsKnown e
+  saved_known m e here = (inr (m, (e, here, refl)), (sound.truth (in_checkpoint m) e tt here).0.1)
+
+  all_known : All IsKnown (gathered_all [] sources)
+  all_known = gathered_all-keeps IsKnown join_known [] sources (All-nil IsKnown) (All-append AllKnown _ _
+      (All-map AllKnown (λ (m : MemberRecord). m.table) r.members
+      (All-from_get_or (λ (x : MemberRecord). AllKnown x.table) r.members blank (λ m below. All-from IsKnown (table r m) (table_known m))))
+      (saved-keeps AllKnown r.down r.checkpoints (length r.checkpoints) (λ m. All-from IsKnown (checkpoint r m).table (saved_known m))))
+    where
+      AllKnown : List Entry → Type 0
+      AllKnown t = All IsKnown t
 
   pub entries_gathered : (e : Entry) → Contains (recovery_table r) e → IsGathered r e
   entries_gathered e among =
       let was = Contains-changed (mark r.down) (gathered_all [] sources) e among in
-      let known = gathered_all-keeps IsKnown join_known [] sources (λ x h. absurd (Contains-none x h))
-      (λ t x h k. elim (Contains-append_cases (map (λ (m : MemberRecord). m.table) r.members) _ t h) [ inl one ↦ table_known t x one k | inr other ↦ saved_known t x other k ]) was.0 was.1 in
+      let known = All-contains IsKnown (gathered_all [] sources) was.0 all_known was.1 in
       subst (IsGathered r) was.2 (
         known.0,
         (λ m down. Includes-right was.0.known r.down m down),
-        λ m h. elim (Includes-union was.0.known r.down m h) [ inl told ↦ inr (known.1 m told) | inr down ↦ inl down ],
+        λ m h. elim (Includes-union was.0.known r.down m h) [ inl told ↦ known.1 m told | inr down ↦ inr (down, known.0) ],
       )
 
   pub gathered_recorded : (d : Determinant) → Names (recovery_table r) d → IsRecorded r d
   gathered_recorded d named = subst (λ (c : Determinant). IsRecorded r c) named.2 (entries_gathered named.0 named.1).0
 
   source_gathered : (t : List Entry) (d : Determinant) → Contains sources t → Names t d → Names (recovery_table r) d
-  source_gathered t d among named = Names-changed (mark r.down) (λ e. refl) (gathered_all [] sources) d (gathered_all-named [] sources t d among named)
+  source_gathered t d among named =
+      let held = list_any_at (λ u. is_held u d) sources among.0 t among.1 (rw among.2 (held-Names t d named)) in
+      let there = Names-held (gathered_all [] sources) d (rw held-gathered_all held) in
+      (mark r.down there.0, Contains-map (mark r.down) (gathered_all [] sources) there.0 there.1, there.2)
 
   table_gathered : (m : ℕ) (d : Determinant) → Names (table r m) d → Names (recovery_table r) d
   table_gathered m d named = source_gathered (table r m) d
@@ -121,11 +105,11 @@ module _ (f : ℕ) (r : Knowledge) (empty : IsDownEmpty f r) where
       (Contains-get_or r.members m blank (named_record r.members m d named)))) named
 
   -- what an up member's checkpoint names, the member's table names
-  pub recorded_gathered : ((m : ℕ) → IsCheckpointKept r m) → (d : Determinant) → IsRecorded r d → Names (recovery_table r) d
-  recorded_gathered kept d (inl held) = table_gathered held.0 d held.1.1
-  recorded_gathered kept d (inr saved) =
+  pub recorded_gathered : (d : Determinant) → IsRecorded r d → Names (recovery_table r) d
+  recorded_gathered d (inl held) = table_gathered held.0 d held.1.1
+  recorded_gathered d (inr saved) =
       elim (down_or_up r.down saved.0) [
-        | inr up ↦ table_gathered saved.0 d ((kept saved.0).table d up saved.1)
+        | inr up ↦ table_gathered saved.0 d ((sound.checkpoints saved.0).table d up saved.1)
         | inl down ↦
             source_gathered (checkpoint r saved.0).table d
             (Contains-append_right (map (λ (m : MemberRecord). m.table) r.members) _ (checkpoint r saved.0).table

@@ -10,6 +10,7 @@ use Rattle.fbl_law.proofs.ReplayedRecords.{fold-replayed}
 
 -- the receipts of a member's checkpoint are recorded
 pub checkpoint_is_recorded : CheckpointIsRecorded
+unfolding CheckpointIsRecorded
 checkpoint_is_recorded next r m sound below = (
   (sound.saved m below).within,
   λ d there to within. IsRecorded-reached r.config.f (knowledge r) sound.causes.closed d (receipt_of d) (rw to within) (itself there),
@@ -66,4 +67,5 @@ module _ (next : Next) (old new : GroupRecord) (p : ℕ) (s : IsCheckpoint old n
   }
 
 pub group_checkpoint_keeps : GroupCheckpointKeeps
+unfolding GroupCheckpointKeeps
 group_checkpoint_keeps next old new p s sound = subst (IsSound next) (sym s.saved) (IsSound-checkpoint next old new p s sound)

@@ -1,9 +1,9 @@
 -- A delivery keeps a group sound.
 use Rattle.fbl_law.proofs.Common.{◌≡◌, ◌≢◌, ℕ, suc, ◌+◌, ◌<◌, ◌≤◌, ◌==◌, false, cond, List, [], ◌∷◌, ◌++◌, length, map, inl, inr, Some, slice_get}
-use Rattle.fbl_law.proofs.Common.{refl, sym, ap, ◌∙◌, arith, length-append, Contains, filter_map, fold, cases_eq, ne_eqb, map-append, length-set, get_or-set_same, get_or-set_other}
-use Rattle.fbl_law.proofs.Common.{filter-append, filter_map-append, Contains-append_cases, Determinant, Note, Event, Mark, mark_of, determinant_of, receipt_of, sends_of, MayFollow, Next}
+use Rattle.fbl_law.proofs.Common.{refl, sym, ap, ◌∙◌, arith, length-append, Contains, filter_map, cases_eq, ne_eqb, map-append, length-set, get_or-set_same, get_or-set_other}
+use Rattle.fbl_law.proofs.Common.{filter-append, filter_map-append, Contains-append_cases, Determinant, Note, Event, mark_of, determinant_of, receipt_of, Next}
 use Rattle.fbl_law.proofs.Common.{Lawful, note_of, At-front, eqb-self, Entry, piggybacked, Message, MemberRecord, blank, send_mark, IsInFlight, IsUp, determinant, IsDelivered, is_on}
-use Rattle.fbl_law.proofs.Common.{between, taken_off, GroupRecord, member, member_checkpoint, channel, marks, knowledge, receipts, IsFold, IsReplayed, IsSound, received_notes, receipts_at}
+use Rattle.fbl_law.proofs.Common.{between, taken_off, GroupRecord, member, member_checkpoint, channel, marks, knowledge, receipts, IsFold, IsReplayed, IsSound, receipts_at}
 use Rattle.std.proofs.Common.{append-nil}
 use Rattle.std.specs.FinSet as sets
 use Rattle.fbl_base.specs.declared.trace.Event.TheVariants as event
@@ -62,40 +62,24 @@ module _ (next : Next) (old new : GroupRecord) (v : Message) (well : SendsWell n
   nobody_down : new.down ≡ sets.empty
   nobody_down = s.down ∙ s.nobody_down
 
-  flies : IsInFlight (knowledge old) v
-  flies = (front_flight next old sound v.from v.to v s.front).0
-
-  longer : length new.trace ≡ length old.trace + suc (length sends)
-  longer = rw (s.trace, length-append old.trace added, length-step_events v.to (length was.log) sends) refl
-
   room : length old.trace + 1 + length sends ≤ 8192
-  room = omega (arith, longer, s.room, sound.config.limit.1)
-
-  may : MayFollow n (marks old) (Receipt v.to (was.received + 1) v.from v.ssn)
-  may = front_may_follow next old sound v s.front (omega (arith, room))
+  room = omega (arith, ap length s.trace, length-append old.trace added, length-step_events v.to (length was.log) sends, s.room, sound.config.limit.1)
 
   noted : note_of old.trace v.from v.ssn ≡ Some v.note
-  noted = sound.notes v flies
+  noted = sound.notes v (front_flight next old sound v.from v.to v s.front).0
 
   fold_was : IsFold next old v.to
   fold_was = sound.folds v.to s.to_member (was_up v.to)
 
-  answer : sends ≡ (next v.to n (fold (λ state x. (next v.to n state x).state) 0 (received_notes old.trace v.to)) v.note).sends.items
-  answer = ap (λ (k : ℕ). (next v.to n k v.note).sends.items) (up_state next old sound v.to s.to_member (was_up v.to))
-
-  before : length was.log ≡ sends_of (marks old) v.to
-  before = log_counted next old sound v.to s.to_member (was_up v.to)
-
   is_lawful : Lawful next n old.config.starts new.trace
   is_lawful =
-      rw (s.trace, before)
-      (Lawful-deliver next n old.config.starts old.trace v.to (was.received + 1) v.from v.ssn v.note sends sound.lawful may noted answer
+      rw (s.trace, log_counted next old sound v.to s.to_member (was_up v.to))
+      (Lawful-deliver next n old.config.starts old.trace v.to (was.received + 1) v.from v.ssn v.note sends sound.lawful
+      (front_may_follow next old sound v s.front (omega (arith, room))) noted
+      (ap (λ (k : ℕ). (next v.to n k v.note).sends.items) (up_state next old sound v.to s.to_member (was_up v.to)))
       (well v.to n was.state v.note sound.config.members.0 s.to_member).0 room (Lawful-begun next n old.config.starts old.trace sound.lawful))
 
-  abbrev added_marks : List Mark
-  added_marks = map mark_of added
-
-  marks_split : marks new ≡ marks old ++ added_marks
+  marks_split : marks new ≡ marks old ++ map mark_of added
   marks_split = rw s.trace (map-append mark_of old.trace added)
 
   marks_now : marks new ≡ marks old ++ Receipt v.to (was.received + 1) v.from v.ssn ∷ map send_mark (made next old v)
@@ -128,18 +112,18 @@ module _ (next : Next) (old new : GroupRecord) (v : Message) (well : SendsWell n
   abbrev own : Determinant
   own = determinant v (was.received + 1)
 
-  receipts_added : receipts added_marks ≡ own ∷ []
-  receipts_added = rw (no_receipts v.to (length was.log) sends) refl
+  receipts_now : receipts (marks new) ≡ receipts (marks old) ++ own ∷ []
+  receipts_now = rw (marks_split, filter_map-append determinant_of (marks old) (map mark_of added), no_receipts v.to (length was.log) sends) refl
 
   receipts_at_now : (m : ℕ) → receipts_at (marks new) m ≡ receipts_at (marks old) m ++ cond (v.to == m) (own ∷ []) []
-  receipts_at_now m = rw (marks_split, filter_map-append determinant_of (marks old) added_marks, receipts_added, filter-append) refl
+  receipts_at_now m = rw (receipts_now, filter-append) refl
 
   -- who has replayed its first receipts of the trace before has replayed them of the new one
   grown : (m : ℕ) (x : MemberRecord) → IsReplayed next n old.config.starts old.trace m x → IsReplayed next n old.config.starts new.trace m x
   grown m x =
       replayed-kept next n old.config.starts old.trace new.trace m x sound.lawful.well_formed is_lawful.well_formed
       (λ q k y z was now. let kept : note_of new.trace q k ≡ Some y = rw s.trace (note_of-front old.trace added q k y was) in cc)
-      (λ d there to within. rw marks_split (there.0, At-front (marks old) added_marks there.0 (receipt_of d) there.1))
+      (λ d there to within. rw marks_split (there.0, At-front (marks old) (map mark_of added) there.0 (receipt_of d) there.1))
 
   other_fold : (m : ℕ) → m < n → m ≢ v.to → IsFold next new m
   other_fold m below other =
@@ -176,9 +160,6 @@ module _ (next : Next) (old new : GroupRecord) (v : Message) (well : SendsWell n
             sent-noted n new.trace is_lawful.well_formed place.0 x.from x.ssn x.to x.note (rw s.trace place.2)
       ]
 
-  receipts_now : length (receipts (marks new)) ≡ length (receipts (marks old)) + 1
-  receipts_now = rw (marks_split, filter_map-append determinant_of (marks old) added_marks, length-append, ap length receipts_added) refl
-
   pub group_delivery_keeps : IsSound next new
   group_delivery_keeps = record {
     config = rw s.config sound.config;
@@ -195,5 +176,5 @@ module _ (next : Next) (old new : GroupRecord) (v : Message) (well : SendsWell n
     blanks = λ m below down. never_both new.down m down (up_if_none nobody_down m);
     shape = rw s.config s.shape;
     notes = notes_kept;
-    counted = omega (arith, receipts_now, sound.counted, s.undone_ever, s.receipts_ever);
+    counted = omega (arith, ap length receipts_now, length-append (receipts (marks old)) (own ∷ []), sound.counted, s.undone_ever, s.receipts_ever);
   }

@@ -1,18 +1,27 @@
--- What stays in a recovery: what has its causes recorded; what is left is lawful, and the group stays sound.
+-- What stays in a recovery: what has its causes recorded; what is left is lawful, the group stays sound, and which receipts are undone.
 use Rattle.fbl_law.proofs.Common.{◌≡◌, ℕ, ◌<◌, ◌≤◌, inl, inr, List, length, map, Some, refl, ap, ◌∙◌, arith, ◌↔◌, Bool, true, subst, sym, Contains, Determinant}
 use Rattle.fbl_law.proofs.Common.{Event, mark_of, receipt_of, Has, itself, Next, Lawful, note_of, Message, MemberRecord, IsInFlight, IsUp, Knowledge, IsSoundKnowledge, Stays, IsCut}
 use Rattle.fbl_law.proofs.Common.{IsEventCut, IsRecovered, GroupRecord, member, member_checkpoint, channel, marks, knowledge, receipts_at, IsFold, IsReplayed, IsSound, IsRecovery}
-use Rattle.fbl_law.proofs.Common.{length-left, Mark, one_place}
+use Rattle.fbl_law.proofs.Common.{length-left, Mark, one_place, ◌+◌, not, slice_get, filter, determinant_of, receipts, is_receipt, recovered_trace, ◌-◌, nat_le, nat_tests, sends_of}
+use Rattle.fbl_law.proofs.Common.{receipts_of, Progress, sent-number, IsDown, stays_by}
+use Rattle.fbl_law.proofs.Logs.{log-length}
 use Rattle.fbl_law.proofs.Safe.{down_or_up, down_or_both_up, never_both, up_if_none, IsRecorded-reached}
-use Rattle.fbl_law.proofs.Recovery.{recovery_keeps, cut-causes, cut-was, cut-left, cut-obeys, cut-keeps_up, recorded-cut, Stays-recorded, recorded_before}
-use Rattle.fbl_law.proofs.ReplayedRecords.{replayed-kept, fold-replayed, replayed-fold}
-use Rattle.fbl_law.proofs.Receipts.{at-most}
-use Rattle.fbl_law.proofs.Numbered.{receipt-number}
+use Rattle.fbl_law.proofs.Recovery.{recovery_keeps, cut-recorded, cut_is_recorded, recovery_gains_holders, cut-causes, cut-was, cut-left, cut-obeys, cut-keeps_up, recorded-cut}
+use Rattle.fbl_law.proofs.Recovery.{Stays-recorded, recorded_before}
+use Rattle.fbl_law.proofs.ReplayedRecords.{all-taken, replayed-kept, fold-replayed, replayed-fold}
+use Rattle.fbl_law.proofs.Receipts.{at-most, Has-receipts_at, length-receipts_at}
+use Rattle.fbl_law.proofs.Numbered.{receipt-number, receipt-there, send-there}
 use Rattle.fbl_law.proofs.GroupFacts.{received_counted}
-use Rattle.fbl_law.proofs.CutLawful.{note-stays, note-was, KeepsResponses, Lawful-kept}
-use Rattle.fbl_base.specs.declared.trace.Mark.TheVariants.{Send}
+use Rattle.fbl_law.proofs.CutInOnePass.{recovered_trace-cut}
+use Rattle.fbl_law.proofs.CutLawful.{marks-filter, note-stays, note-was, KeepsResponses, Lawful-kept}
+use Rattle.fbl_base.specs.declared.trace.Mark.TheVariants.{Send, Receipt}
 use Rattle.fbl_law.specs.Laws.{CutIsLawful, StaysIsRecorded}
-use Rattle.fbl_law.proofs.CutWellFormed.{marks-filter}
+use Rattle.fbl_law.specs.Groups.{is_recorded}
+use Rattle.fbl_law.specs.RecoveryLaws.{GroupRecoveryGainsHolders, HoldersGainTheDown, RecoveryLeavesRecorded, RecoveryUndoesLost, CutIsOne}
+use Rattle.fbl_law.proofs.GroupStrike.{recorded_test}
+use Rattle.fbl_law.proofs.Lists.{filter-agree, filter_map-after, same-test}
+use Rattle.fbl_law.proofs.Notes.{one-send, mark-at}
+use Rattle.std.proofs.lemmas.List.Filters.{length-filter_both}
 
 module _ (n f : ℕ) (r : Knowledge) (sound : IsSoundKnowledge n f r) (keep : Mark → Bool) (tells : (e : Mark) → Has r.trace e → (keep e ≡ true) ↔ Stays r e) where
   cut_responses : KeepsResponses keep r.trace
@@ -79,6 +88,74 @@ module _ {next : Next} {old : GroupRecord} (sound : IsSound next old) {new : Lis
       let all = survivor-replays m below up in
       replayed-fold next r m (rw (config, trace) (cut-obeys sound.causes of_marks)) (rw (config, trace, same) all.0) (rw (trace, same) all.1)
 
+  kept-recorded : (i : ℕ) (e : Mark) (d : Determinant) → slice_get (marks old) i ≡ Some e → determinant_of e ≡ Some d → cut.0 e ≡ is_recorded old d
+  kept-recorded i e d here is =
+      let receipt = is_receipt e d is in
+      let there : Has (marks old) (receipt_of d) = (i, here ∙ ap Some receipt) in
+      ap cut.0 receipt ∙ same-test (cut.0 (receipt_of d)) (is_recorded old d)
+      (λ kept. (recorded_test next old d sound).1 (cut-recorded sound.causes of_marks d (cut-left sound.causes of_marks (receipt_of d) there kept)))
+      (λ recorded. (cut-was sound.causes of_marks (receipt_of d) (recorded-cut sound.causes of_marks d ((recorded_test next old d sound).0 recorded))).1)
+
+  -- the receipts of the cut are those that are recorded
+  pub cut-receipts : receipts (map mark_of new) ≡ filter (is_recorded old) (receipts (marks old))
+  cut-receipts = ap receipts of_marks.1 ∙ filter_map-after cut.0 (is_recorded old) determinant_of (marks old) kept-recorded
+
+  -- so the receipts that the trace loses are those that aren't
+  pub cut-undone : length (receipts (map mark_of new)) + length (filter (λ d. not (is_recorded old d)) (receipts (marks old))) ≡ length (receipts (marks old))
+  cut-undone = ap (λ (ds : List Determinant). length ds + length (filter (λ d. not (is_recorded old d)) (receipts (marks old)))) cut-receipts
+      ∙ length-filter_both (is_recorded old) (λ d. not (is_recorded old d)) (λ d. refl) (receipts (marks old))
+
+  -- the cut, by how far each member has come once all is replayed
+  module _ (work : ℕ → MemberRecord) (replays : (p : ℕ) → p < old.config.members → IsDown (knowledge old) p → IsReplayed next old.config.members old.config.starts new p (work p))
+      (all : (p : ℕ) → p < old.config.members → IsDown (knowledge old) p → (work p).received ≡ length (receipts_at (map mark_of new) p)) where
+    -- the log of each member that was down has its sends in the cut
+    log-sent : (p : ℕ) → p < old.config.members → IsDown (knowledge old) p → length (work p).log ≡ sends_of (map mark_of new) p
+    log-sent p below down =
+        let whole = (all-taken old.config.members new p (work p).received (cut-obeys sound.causes of_marks) (all p below down)).0 in
+        ap (λ (x : Progress). length x.log) (replays p below down).progress ∙ rw whole (log-length next old.config.members old.config.starts new p cut-lawful.0)
+
+    send-left : (q k to : ℕ) → Has (marks old) (Send q k to) → k ≤ sends_of (map mark_of new) q → cut.0 (Send q k to) ≡ true
+    send-left q k to there within =
+        let number = (sound.lawful.well_formed there.0 (Send q k to) there.1).3 in
+        let some = send-there old.config.members (map mark_of new) q k (cut-obeys sound.causes of_marks) (omega (arith, number)) within in
+        let left = cut-was sound.causes of_marks (Send q k some.0) some.1 in
+        rw (one-send old.config.members (marks old) sound.lawful.well_formed q k some.0 to left.0 there) at left.1
+
+    receipt-left : (p r q k : ℕ) → Has (marks old) (Receipt p r q k) → r ≤ receipts_of (map mark_of new) p → cut.0 (Receipt p r q k) ≡ true
+    receipt-left p r q k there within =
+        let number = (sound.lawful.well_formed there.0 (Receipt p r q k) there.1).3 in
+        let some = receipt-there old.config.members (map mark_of new) p r (cut-obeys sound.causes of_marks) (omega (arith, number)) within in
+        let left = cut-was sound.causes of_marks (Receipt p r some.0 some.1) some.2 in
+        let c : Determinant = record { from = some.0; ssn = some.1; to = p; rsn = r } in
+        let d : Determinant = record { from = q; ssn = k; to = p; rsn = r } in
+        let first = Has-receipts_at old.config.members (marks old) p (r - 1) d sound.lawful.well_formed there refl (omega (arith, number)) in
+        let second = Has-receipts_at old.config.members (marks old) p (r - 1) c sound.lawful.well_formed left.0 refl (omega (arith, number)) in
+        let same : c ≡ d = cc in
+        subst (λ (x : Determinant). cut.0 (receipt_of x) ≡ true) same left.1
+
+    -- an event is kept exactly where its number is at most a count, if it is left so and its number in the cut is
+    counted : (e : Mark) (k count : ℕ) → Has (marks old) e → (k ≤ count → cut.0 e ≡ true) → (Has (map mark_of new) e → k ≤ count) → nat_le k count ≡ cut.0 e
+    counted e k count there left number = same-test (nat_le k count) (cut.0 e) (λ within. left (grind (arith, nat_tests)))
+        (λ kept. let few = number (cut-left sound.causes of_marks e there kept) in grind (arith, nat_tests))
+
+    agrees : (e : Mark) → Has (marks old) e → stays_by old.down work e ≡ cut.0 e
+    agrees (Send q k to) there = elim (down_or_up old.down q) [
+      | inr up ↦ rw up (sym (cut-keeps_up sound.causes of_marks q up (Send q k to) there refl))
+      | inl down ↦ rw (down, log-sent q (sound.down q down) down) (counted (Send q k to) k (sends_of (map mark_of new) q) there (send-left q k to there)
+          (sent-number old.config.members (map mark_of new) (cut-obeys sound.causes of_marks) q k to))
+    ]
+    agrees (Receipt p r q k) there = elim (down_or_up old.down p) [
+      | inr up ↦ rw up (sym (cut-keeps_up sound.causes of_marks p up (Receipt p r q k) there refl))
+      | inl down ↦ rw (down, all p (sound.down p down) down, length-receipts_at) (counted (Receipt p r q k) r (receipts_of (map mark_of new) p) there (receipt-left p r q k there)
+          (receipt-number old.config.members (map mark_of new) p r q k (cut-obeys sound.causes of_marks)))
+    ]
+
+    -- the events that stay by the members' counts are the cut
+    pub stays_by-cut : filter (λ e. stays_by old.down work (mark_of e)) old.trace ≡ new
+    stays_by-cut =
+        filter-agree (λ e. stays_by old.down work (mark_of e)) (λ e. cut.0 (mark_of e)) old.trace (λ i e here. agrees (mark_of e) (i, mark-at old.trace i e here))
+        ∙ sym cut.1
+
 module _ (next : Next) (old new : GroupRecord) (step : IsRecovery next old new) (sound : IsSound next old) where
   -- the tables' part of the recovery
   pub recovery-knowledge : IsRecovered old.config.f (knowledge old) (knowledge new)
@@ -110,9 +187,6 @@ module _ (next : Next) (old new : GroupRecord) (step : IsRecovery next old new) 
     | inr up ↦ fold-survives sound step.trace new m below up refl step.rest.config (step.rest.survivors m up)
   ]
 
-  nobody : (m : ℕ) → IsUp (knowledge new) m
-  nobody = up_if_none step.rest.nobody_down
-
   pub group_recovery_keeps : IsSound next new
   group_recovery_keeps =
       record {
@@ -120,13 +194,51 @@ module _ (next : Next) (old new : GroupRecord) (step : IsRecovery next old new) 
         members = rw step.rest.config (step.rest.size ∙ sound.members);
         checkpoints = rw step.rest.config (ap length step.rest.checkpoints ∙ sound.checkpoints);
         saved = λ m below. rw (step.rest.config, step.rest.checkpoints) (checkpoint-survives sound step.trace m (rw step.rest.config at below));
-        down = λ m down. never_both new.down m down (nobody m);
+        down = λ m down. never_both new.down m down (up_if_none step.rest.nobody_down m);
         lawful = rw step.rest.config (cut-lawful sound step.trace).0;
         room = rw step.rest.config (omega (arith, cut-shorter sound step.trace, sound.room));
         causes = rw step.rest.config (recovery_keeps old.config.members old.config.f (knowledge old) (knowledge new) recovery-knowledge sound.causes);
         folds = λ m below up. folds-after m (rw step.rest.config at below);
-        blanks = λ m below down. never_both new.down m down (nobody m);
+        blanks = λ m below down. never_both new.down m down (up_if_none step.rest.nobody_down m);
         shape = rw step.rest.config step.rest.shape;
         notes = note-flies;
         counted = omega (arith, step.rest.undone_ever, sound.counted, step.rest.receipts_ever);
       }
+
+pub group_recovery_gains_holders : GroupRecoveryGainsHolders
+unfolding GroupRecoveryGainsHolders
+group_recovery_gains_holders next old new step sound =
+    recovery_gains_holders old.config.members old.config.f (knowledge old) (knowledge new) (recovery-knowledge next old new step sound) sound.causes
+
+pub holders_gain_the_down : HoldersGainTheDown
+unfolding HoldersGainTheDown GroupRecoveryGainsHolders
+holders_gain_the_down next old new d m step sound recorded =
+    let stay = group_recovery_gains_holders next old new step sound d m in (
+      λ holds. elim (stay.0 holds) [ inl was ↦ inl was | inr down ↦ inr down.0 ],
+      elim [ inl was ↦ stay.1 (inl was) | inr down ↦ stay.1 (inr (down, recorded)) ],
+    )
+
+pub recovery_leaves_recorded : RecoveryLeavesRecorded
+unfolding RecoveryLeavesRecorded
+recovery_leaves_recorded next old new step sound = record {
+  exactly = cut_is_recorded old.config.members old.config.f (knowledge old) (knowledge new) (recovery-knowledge next old new step sound) sound.causes;
+  order = cut-receipts sound step.trace;
+}
+
+pub recovery_undoes_lost : RecoveryUndoesLost
+unfolding RecoveryUndoesLost
+recovery_undoes_lost next old new step sound = cut-undone sound step.trace
+
+-- two cuts are the same
+pub cut_is_one : CutIsOne
+cut_is_one next old new step sound =
+    step.trace.1 ∙ filter-agree (λ e. step.trace.0 (mark_of e)) (λ e. cut.0 (mark_of e)) old.trace agree ∙ sym cut.1
+  where
+    cut : IsEventCut (Stays (knowledge old)) old.trace (recovered_trace old)
+    cut = recovered_trace-cut next old sound
+
+    agree : (i : ℕ) (e : Event) → slice_get old.trace i ≡ Some e → step.trace.0 (mark_of e) ≡ cut.0 (mark_of e)
+    agree i e here =
+        let there : Has (marks old) (mark_of e) = (i, mark-at old.trace i e here) in
+        same-test (step.trace.0 (mark_of e)) (cut.0 (mark_of e)) (λ kept. (cut.2 (mark_of e) there).1 ((step.trace.2 (mark_of e) there).0 kept))
+        (λ kept. (step.trace.2 (mark_of e) there).1 ((cut.2 (mark_of e) there).0 kept))

@@ -1,10 +1,10 @@
 -- A group in which nothing is received yet is sound.
 use Rattle.fbl_law.proofs.Common.{◌≡◌, ℕ, suc, ◌+◌, ◌<◌, ◌≤◌, ◌==◌, List, [], ◌∷◌, ◌++◌, length, get_or, map, inl, inr, Option, Some, None, slice_get}
 use Rattle.fbl_law.proofs.Common.{refl, sym, ap, ◌∙◌, arith, append_assoc, length-append, Contains, filter, filter_map, cons_option, cases_lt, length-map, map-append, take_all}
-use Rattle.fbl_law.proofs.Common.{get_or_past, filter_map-append, Note, Start, Determinant, Event, Mark, mark_of, determinant_of, receipt_of, Has, in_flight, sent_on, taken_on, sends_of}
-use Rattle.fbl_law.proofs.Common.{WellFormed, MayFollow, Next, Lawful, sent, action_of, actions_of, notes_of, start_of, starts_of, after_notes, filter_map-At, WellFormed-none}
-use Rattle.fbl_law.proofs.Common.{WellFormed-push, fresh, Message, MemberRecord, blank, length-numbered, send_mark, IsUp, MatchesTrace, starts, is_on, GroupRecord, member_checkpoint}
-use Rattle.fbl_law.proofs.Common.{channel, knowledge, receipts, IsFold, IsReplayed, IsSound, received_notes}
+use Rattle.fbl_law.proofs.Common.{get_or_past, filter_map-append, Start, Event, Mark, mark_of, determinant_of, receipt_of, in_flight, sent_on, taken_on, sends_of}
+use Rattle.fbl_law.proofs.Common.{WellFormed, MayFollow, Next, Lawful, sent, action_of, actions_of, notes_of, start_of, starts_of, filter_map-At, WellFormed-none}
+use Rattle.fbl_law.proofs.Common.{WellFormed-push, fresh, Message, MemberRecord, blank, send_mark, MatchesTrace, starts, is_on, GroupRecord}
+use Rattle.fbl_law.proofs.Common.{channel, knowledge, receipts, IsFold, IsSound, received_notes}
 use Rattle.std.proofs.Common.{append-nil, if◌then◌else◌}
 use Rattle.fbl_base.specs.declared.trace.Event.TheVariants as event
 use Rattle.fbl_base.specs.declared.trace.Mark.TheVariants.{Send, Receipt}
@@ -20,6 +20,7 @@ use Rattle.fbl_law.proofs.Notes.{sent-noted}
 use Rattle.fbl_law.proofs.Logs.{log-length}
 use Rattle.fbl_law.proofs.ReplayedRecords.{replayed-fresh, replayed-fold}
 use Rattle.fbl_law.proofs.Channels.{messages_between}
+use Rattle.fbl_law.specs.Laws.{RunIsSound}
 
 -- the send of a start after the events so far
 abbrev send_of : List Event → Start → Event
@@ -60,9 +61,6 @@ starts_obey n done (s ∷ ss) obeys allowed room =
 pub starts-obey : (config : Settings) → IsConfig config → WellFormed config.members (map mark_of (start_events [] config.starts))
 starts-obey config is = starts_obey config.members [] config.starts (WellFormed-none config.members) is.starts (omega (arith, is.few_starts))
 
-no_receipt : (t : List Mark) → filter_map determinant_of t ≡ [] → (d : Determinant) → ¬ (Has t (receipt_of d))
-no_receipt t none d has = let r = filter_map-At determinant_of t has.0 (receipt_of d) d has.1 refl in let here = rw none at r.1 in cc
-
 none_taken : (q p : ℕ) (t : List Mark) → filter_map determinant_of t ≡ [] → filter_map (taken_on q p) t ≡ []
 none_taken q p [] e = refl
 none_taken q p (Send from ssn to ∷ t) e = none_taken q p t e
@@ -96,9 +94,6 @@ module _ (next : Next) (config : Settings) (r : GroupRecord) (is : IsConfig conf
   abbrev events : List Event
   events = start_events [] config.starts
 
-  up : (m : ℕ) → IsUp (knowledge r) m
-  up = up_if_none s.nobody_down
-
   obeys : WellFormed n (map mark_of events)
   obeys = starts-obey config is
 
@@ -121,21 +116,16 @@ module _ (next : Next) (config : Settings) (r : GroupRecord) (is : IsConfig conf
   unreceived = no_receipts [] config.starts
 
   -- the starts of a member are its sends in the trace
-  starts_sent : (m : ℕ) → length (starts_of m config.starts) ≡ sends_of (map mark_of events) m
-  starts_sent m =
-      sym (length-numbered 0 (starts_of m config.starts))
-      ∙ ap (λ (notes : List Note). length (after_notes next m n config.starts notes).log) (sym (no_notes m)) ∙ log-length next n config.starts events m is_lawful
+  starts_sent : (m : ℕ) → length (fresh m config.starts).log ≡ sends_of (map mark_of events) m
+  starts_sent m = (rw (no_notes m) at (log-length next n config.starts events m is_lawful))
 
   -- the records of fresh members, and what is past them
   started : (xs : List MemberRecord) → length xs ≡ n → ((m : ℕ) → m < n → get_or xs m blank ≡ fresh m config.starts) → (m : ℕ)
       → ((get_or xs m blank).table ≡ []) × ((get_or xs m blank).received ≡ 0) × (length (get_or xs m blank).log ≤ sends_of (map mark_of r.trace) m)
   started xs size each m = elim (cases_lt m n) [
-    | inl below ↦ rw (each m below, s.trace) (refl, refl, omega (arith, length-numbered 0 (starts_of m config.starts), starts_sent m))
+    | inl below ↦ rw (each m below, s.trace) (refl, refl, omega (arith, starts_sent m))
     | inr above ↦ rw (get_or_past xs m blank (omega (arith, above, size))) (refl, refl, omega arith)
   ]
-
-  saved_now : (m : ℕ) → m < n → IsReplayed next n config.starts r.trace m (member_checkpoint r m)
-  saved_now m below = rw (s.saved m below) (replayed-fresh next n config.starts r.trace m)
 
   matches : (q p : ℕ) → MatchesTrace (knowledge r) q p
   matches q p =
@@ -149,7 +139,10 @@ module _ (next : Next) (config : Settings) (r : GroupRecord) (is : IsConfig conf
   is_start = record {
     rules = rw s.trace obeys;
     nobody_down = s.nobody_down;
-    unreceived = rw s.trace (no_receipt (map mark_of events) unreceived);
+    unreceived = rw s.trace (λ d has.
+        let place = filter_map-At determinant_of (map mark_of events) has.0 (receipt_of d) d has.1 refl in
+        let none = rw unreceived at place.1 in
+        cc);
     tables = λ m. (started r.members s.size s.members m).0;
     checkpoints = started r.checkpoints s.checkpoints s.saved;
     channels = matches;
@@ -162,17 +155,18 @@ module _ (next : Next) (config : Settings) (r : GroupRecord) (is : IsConfig conf
       (rw (s.members m below, s.trace, unreceived) refl)
 
   pub group_start_is_sound : IsSound next r
+  unfolding RunIsSound
   group_start_is_sound = record {
     config = rw s.parameters is;
     members = rw s.parameters s.size;
     checkpoints = rw s.parameters s.checkpoints;
-    saved = λ m below. rw s.parameters (saved_now m (rw s.parameters at below));
-    down = λ q down. never_both r.down q down (up q);
+    saved = λ m below. rw (s.parameters, s.saved m (rw s.parameters at below)) (replayed-fresh next n config.starts r.trace m);
+    down = λ q down. never_both r.down q down (up_if_none s.nobody_down q);
     lawful = rw (s.parameters, s.trace) is_lawful;
     room = rw (s.parameters, s.trace) omega (arith, length-starts [] config.starts, is.room);
     causes = rw s.parameters (run_is_sound n config.f (knowledge r) (knowledge r) is_start starts);
     folds = λ m below up_m. fold_now m (rw s.parameters at below);
-    blanks = λ m below down. never_both r.down m down (up m);
+    blanks = λ m below down. never_both r.down m down (up_if_none s.nobody_down m);
     shape = rw s.parameters s.shape;
     notes = λ v flying.
         let sent_at = (message_sent r.trace v (among_starts v flying)).1 in

@@ -6,14 +6,11 @@ use Rattle.std.specs.FinSet as sets
 use Rattle.std.proofs.lemmas.List.Folds.{list_any_at}
 use Rattle.fbl_law.specs.GroupSteps.{IsStrike}
 use Rattle.fbl_law.specs.GroupLaws.{RecordedTest}
-use Rattle.fbl_law.proofs.Safe.{down_or_up, never_both, up_at_ends, up_if_named, IsRecorded-held, IsRecorded-saved}
-use Rattle.fbl_law.proofs.Tables.{Names-held, held-Names, Includes-union, Includes-left, named_record}
-use Rattle.fbl_law.proofs.Strike.{strike_keeps}
+use Rattle.fbl_law.proofs.Safe.{up_at_ends, up_if_named}
+use Rattle.fbl_law.proofs.Tables.{Names-held, held-Names, Includes-union, named_record}
+use Rattle.fbl_law.proofs.Strike.{was_up, strike_keeps}
 
 module _ (next : Next) (old new : GroupRecord) (struck : Members) (s : IsStrike old new struck) where
-  was_up : (m : ℕ) → IsUp (knowledge new) m → IsUp (knowledge old) m
-  was_up m up = elim (down_or_up old.down m) [ inl down ↦ never_both new.down m (rw s.down (Includes-left old.down struck m down)) up | inr h ↦ h ]
-
   pub is_struck : IsStruck (knowledge old) (knowledge new) struck
   is_struck = record {
     down = s.down;
@@ -48,7 +45,7 @@ module _ (next : Next) (old new : GroupRecord) (struck : Members) (s : IsStrike 
     lawful = rw (s.config, s.trace) sound.lawful;
     room = rw (s.config, s.trace) sound.room;
     causes = rw s.config (strike_keeps old.config.members old.config.f (knowledge old) (knowledge new) struck is_struck few sound.causes);
-    folds = λ m below up. fold_kept m up (sound.folds m (rw s.config at below) (was_up m up));
+    folds = λ m below up. fold_kept m up (sound.folds m (rw s.config at below) (was_up old.down struck m (rw s.down at up)));
     blanks = λ m below down. s.blanks m down;
     shape = rw s.config s.shape;
     notes = notes_kept sound;
@@ -67,8 +64,8 @@ named_in xs k d named = list_any_at (λ (m : MemberRecord). is_held m.table d) x
 pub recorded_test : RecordedTest
 recorded_test next r d sound = (
   λ h. elim (or_cases _ _ h) [
-    | inl held ↦ let one = named_by r.members d held in IsRecorded-held (knowledge r) d one.0 (up_if_named r.config.f (knowledge r) sound.causes.down one.0 d one.1, one.1)
-    | inr saved ↦ let one = named_by r.checkpoints d saved in IsRecorded-saved (knowledge r) d one.0 one.1
+    | inl held ↦ let one = named_by r.members d held in inl (one.0, (up_if_named r.config.f (knowledge r) sound.causes.down one.0 d one.1, one.1))
+    | inr saved ↦ inr (named_by r.checkpoints d saved)
   ],
   λ recorded. elim recorded [ inl held ↦ or_left _ _ (named_in r.members held.0 d held.1.1) | inr saved ↦ or_right _ _ (named_in r.checkpoints saved.0 d saved.1) ],
 )

@@ -1,46 +1,29 @@
 -- Each channel is first in, first out: what is in flight was sent after all that was received on it.
 use Rattle.fbl_law.proofs.Common.{◌≡◌, ℕ, suc, ◌<◌, ◌≤◌, ◌==◌, ◌&&◌, nat_lt, Bool, true, false, cond, List, [], ◌∷◌, ◌++◌, drop, Some, None, slice_get}
-use Rattle.fbl_law.proofs.Common.{refl, ap, ◌∙◌, arith, append_assoc, filter, filter_map, cons_option, fold, and_parts, eqb-true, nat_tests, filter_map-append, Mark, taken_on, sent_on}
-use Rattle.fbl_law.proofs.Common.{in_flight, MayFollow, WellFormed, At-front, At-filter_map, WellFormed-keeps, is_sent, in_flight-send, in_flight-receipt, last_taken}
+use Rattle.fbl_law.proofs.Common.{refl, ap, ◌∙◌, arith, append_assoc, filter, filter_map, cons_option, fold, nat_tests, filter_map-append, Mark, taken_on, sent_on, in_flight}
+use Rattle.fbl_law.proofs.Common.{MayFollow, WellFormed, At-front, At-filter_map, WellFormed-keeps, is_sent, in_flight-send, in_flight-receipt, last_taken}
 use Rattle.std.proofs.lemmas.List.{append-nil}
 use Rattle.fbl_base.specs.declared.trace.Mark.TheVariants.{Send, Receipt}
 use Rattle.fbl_base.proofs.Gets.{Apart, Apart-later}
 use Rattle.fbl_base.proofs.InFlightLaws.{filter_all, sent-rises}
 use Rattle.fbl_law.proofs.Lists.{filter-passes}
 
--- what was sent stays what was taken and then what is in flight, where one more is sent, and where the first one is taken
-one-sent : (sent taken flying more : List ℕ) → sent ≡ taken ++ flying → sent ++ more ≡ (taken ++ []) ++ (flying ++ more)
-one-sent sent taken flying more was = rw (was, append-nil, append_assoc)
-
-one-taken : (b : Bool) (s : ℕ) (sent taken flying : List ℕ) → sent ≡ taken ++ flying → (b ≡ true → slice_get flying 0 ≡ Some s)
-    → sent ++ [] ≡ (taken ++ cons_option (cond b (Some s) None) []) ++ cond b (drop 1 flying) flying
-one-taken false s sent taken flying was first = rw (was, append-nil (taken ++ flying), append-nil taken)
-one-taken true s sent taken [] was first = absurd (let none = first refl in cc)
-one-taken true s sent taken (x ∷ flying) was first =
-    let same : x ≡ s = (let one = first refl in cc) in
-    rw (was, append-nil, append_assoc, same)
+-- what was sent stays what was taken and then what is in flight, where the first one is taken
+one-taken : (c : Bool) (s : ℕ) (sent taken flying : List ℕ) → sent ≡ taken ++ flying → (c ≡ true → slice_get flying 0 ≡ Some s)
+    → sent ++ [] ≡ (taken ++ cons_option (cond c (Some s) None) []) ++ cond c (drop 1 flying) flying
+one-taken c s sent taken [] was first = grind (arith, append-nil)
+one-taken c s sent taken (x ∷ flying) was first = grind (arith, append-nil, append_assoc)
 
 -- messages are taken in the order in which they were sent: what was sent is what was taken, and then what is in flight
-fifo-one : (n : ℕ) (t : List Mark) (e : Mark) (q p : ℕ) → WellFormed n t → MayFollow n t e → filter_map (sent_on q p) t ≡ filter_map (taken_on q p) t ++ in_flight t q p
-    → filter_map (sent_on q p) (t ++ e ∷ []) ≡ filter_map (taken_on q p) (t ++ e ∷ []) ++ in_flight (t ++ e ∷ []) q p
-fifo-one n t (Send q' s p') q p obeys may was =
-    let one : cons_option (cond (q' == q && p' == p) (Some s) None) [] ≡ cond (q' == q && p' == p) (s ∷ []) [] = grind arith in
-    rw (in_flight-send n t obeys q' s p' q p may, filter_map-append (sent_on q p) t (Send q' s p' ∷ []), filter_map-append (taken_on q p) t (Send q' s p' ∷ []), one)
-    (one-sent _ _ (in_flight t q p) _ was)
-fifo-one n t (Receipt p' r q' s) q p obeys may was =
-    rw (
-      in_flight-receipt n t obeys p' r q' s q p may,
-      filter_map-append (sent_on q p) t (Receipt p' r q' s ∷ []),
-      filter_map-append (taken_on q p) t (Receipt p' r q' s ∷ []),
-    ) (one-taken (q' == q && p' == p) s _ _ (in_flight t q p) was first)
-  where
-    first : (q' == q && p' == p) ≡ true → slice_get (in_flight t q p) 0 ≡ Some s
-    first is =
-        let parts = and_parts (q' == q) (p' == p) is in
-        rw (← eqb-true q' q parts.0, ← eqb-true p' p parts.1) may.5
-
 pub fifo : (n : ℕ) (t : List Mark) (q p : ℕ) → WellFormed n t → filter_map (sent_on q p) t ≡ filter_map (taken_on q p) t ++ in_flight t q p
-fifo n t q p obeys = WellFormed-keeps n (λ u. filter_map (sent_on q p) u ≡ filter_map (taken_on q p) u ++ in_flight u q p) refl (λ u e. fifo-one n u e q p) t obeys
+fifo n t q p obeys = WellFormed-keeps n (λ u. filter_map (sent_on q p) u ≡ filter_map (taken_on q p) u ++ in_flight u q p) refl more t obeys where
+  more : (u : List Mark) (e : Mark) → WellFormed n u → MayFollow n u e → filter_map (sent_on q p) u ≡ filter_map (taken_on q p) u ++ in_flight u q p
+      → filter_map (sent_on q p) (u ++ e ∷ []) ≡ filter_map (taken_on q p) (u ++ e ∷ []) ++ in_flight (u ++ e ∷ []) q p
+  more u (Send q' s p') obeys may was =
+      rw (in_flight-send n u obeys q' s p' q p may, filter_map-append (sent_on q p), filter_map-append (taken_on q p), was, append-nil, append_assoc) grind (arith)
+  more u (Receipt p' r q' s) obeys may was =
+      rw (in_flight-receipt n u obeys p' r q' s q p may, filter_map-append (sent_on q p), filter_map-append (taken_on q p))
+      (one-taken (q' == q && p' == p) s _ _ (in_flight u q p) was (λ is. grind (arith, nat_tests, may.5)))
 
 -- in a rising list whose front has been taken, the numbers beyond the last one taken are the rest
 abbrev last_of : ℕ → List ℕ → ℕ
@@ -59,19 +42,18 @@ beyond-last z (x ∷ xs) ys above rises =
     let not-beyond : nat_lt (last_of x xs) x ≡ false = grind (arith, nat_tests) in
     rw not-beyond (beyond-last x xs ys later (λ a b apart. rises a b (Apart-later x (xs ++ ys) a b apart)))
 
-sent-positive : (n : ℕ) (t : List Mark) (q p i x : ℕ) → WellFormed n t → slice_get (filter_map (sent_on q p) t) i ≡ Some x → 0 < x
-sent-positive n t q p i x obeys here =
-    let a = At-filter_map (sent_on q p) t i x here in
-    let is = is_sent q p x a.1 a.3 in
-    let may = obeys a.0 (Send q x p) (a.2 ∙ ap Some is) in
-    omega (arith, may.3)
-
 -- what is in flight are the numbers sent beyond the last one taken
 pub in_flight-beyond : (n : ℕ) (t : List Mark) (q p : ℕ) → WellFormed n t → filter (λ x. nat_lt (last_taken t q p) x) (filter_map (sent_on q p) t) ≡ in_flight t q p
 in_flight-beyond n t q p obeys =
-    let order = fifo n t q p obeys in
-    ap (filter (λ x. nat_lt (last_taken t q p) x)) order
-    ∙ (beyond-last 0 (filter_map (taken_on q p) t) (in_flight t q p) (λ i x here. sent-positive n t q p i x obeys (rw order here)) (λ x y apart. sent-rises n t obeys q p x y (rw order apart)))
+    ap (filter (λ x. nat_lt (last_taken t q p) x)) order ∙ beyond-last 0 (filter_map (taken_on q p) t) (in_flight t q p) positive (λ x y apart. sent-rises n t obeys q p x y (rw order apart))
+  where
+    order : filter_map (sent_on q p) t ≡ filter_map (taken_on q p) t ++ in_flight t q p
+    order = fifo n t q p obeys
+
+    positive : (i x : ℕ) → slice_get (filter_map (taken_on q p) t ++ in_flight t q p) i ≡ Some x → 0 < x
+    positive i x here =
+        let a = At-filter_map (sent_on q p) t i x (rw order here) in
+        omega (arith, (obeys a.0 (Send q x p) (a.2 ∙ ap Some (is_sent q p x a.1 a.3))).3)
 
 -- so each number in flight is beyond the last one taken
 pub in_flight-later : (n : ℕ) (t : List Mark) (q p j x : ℕ) → WellFormed n t → slice_get (in_flight t q p) j ≡ Some x → last_taken t q p < x

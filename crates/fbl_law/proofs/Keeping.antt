@@ -1,8 +1,13 @@
 -- What every step keeps that leaves up members what they were holders of.
-use Rattle.fbl_law.proofs.Common.{◌≡◌, ℕ, List, inl, inr, arith, subst, refl, Contains, Determinant, Mark, member_of, receipt_of, Has, Precedes, Has-last, some_outside, Entry}
-use Rattle.fbl_law.proofs.Common.{piggybacked, Message, Includes, Knowledge, Store, in_table, in_message, in_checkpoint, owner, entries, table, IsThere, Owes, IsUp, Names, Holds, IsRecorded}
-use Rattle.fbl_law.proofs.Common.{IsHolder, IsStable, IsTrueEntry, KnowsTruth, NamesCauses, IsClosed, IsDownEmpty}
-use Rattle.fbl_law.proofs.Safe.{down_or_up, up_at_ends, IsRecorded-held, IsRecorded-saved, recorded_holder}
+use Rattle.fbl_law.proofs.Common.{◌≡◌, ℕ, zero, suc, ◌≤◌, length, List, inl, inr, arith, subst, refl, Contains, Determinant}
+use Rattle.fbl_law.proofs.Common.{Mark, member_of, receipt_of, Has, Precedes, Has-last, some_outside, Entry}
+use Rattle.fbl_law.proofs.Common.{piggybacked, Message, Includes, Knowledge, Store, in_table, in_message, in_checkpoint, owner, entries, table, checkpoint}
+use Rattle.fbl_law.proofs.Common.{IsThere, Owes, IsUp, Names, Holds, IsRecorded}
+use Rattle.fbl_law.proofs.Common.{IsHolder, IsStable, IsTrueEntry, NamesCauses, IsDownEmpty, IsBeforeCheckpoint, IsCheckpointKept, IsSoundKnowledge, MatchesTrace, WellFormed}
+use Rattle.fbl_law.proofs.Common.{receipts_of, sends_of, sent-number}
+use Rattle.fbl_base.specs.declared.trace.Mark.TheVariants.{Send, Receipt}
+use Rattle.fbl_law.proofs.Numbered.{receipt-there, send-there, receipt-number}
+use Rattle.fbl_law.proofs.Safe.{down_or_up, up_at_ends, IsRecorded-before, IsRecorded-reached, recorded_holder}
 use Rattle.fbl_law.proofs.Tables.{Contains-piggybacked, passed_or_known}
 
 -- what is true of one store of a sound record
@@ -10,12 +15,6 @@ pub record IsSoundAt (f : ℕ) (r : Knowledge) (k : Store) : Type 0 where
   pub truth : (e : Entry) → Contains (entries r k) e → IsTrueEntry r e × Includes e.known (owner k)
   pub events : (b : Mark) → Owes r k b → NamesCauses f r (entries r k) b
   pub named : (c : Determinant) → Names (entries r k) c → NamesCauses f r (entries r k) (receipt_of c)
-
-pub truth_everywhere : (f : ℕ) (r : Knowledge) → ((k : Store) → IsThere r k → IsSoundAt f r k) → KnowsTruth r
-truth_everywhere f r good k e there = (good k there).truth e
-
-pub closed_everywhere : (f : ℕ) (r : Knowledge) → ((k : Store) → IsThere r k → IsSoundAt f r k) → IsClosed f r
-closed_everywhere f r good = record { events = λ k b there. (good k there).events b; named = λ k c there. (good k there).named c }
 
 -- what a member passes on of a table that names the causes of an event names them too
 causes_passed : (f : ℕ) (r : Knowledge) (m : ℕ) (b : Mark) → IsSoundAt f r (in_table m) → NamesCauses f r (table r m) b → NamesCauses f r (piggybacked f (table r m)) b
@@ -38,59 +37,98 @@ sound_passed f r v good is = record {
       rw is (causes_passed f r v.from (receipt_of c) good (good.named c (passed.0, Contains-piggybacked f (table r v.from) passed.0 passed.1, passed.2)));
 }
 
--- a step after which at most f members are down, up members hold what they were holders of, recorded receipts are left,
--- and each path to an old event is an old path
-pub record KeepsKnowledge (f : ℕ) (old new : Knowledge) : Type 0 where
+-- a step after which the trace obeys the rules, at most f members are down, and the channels match the trace: up members hold
+-- what they were holders of, an event is left where each receipt that precedes it is recorded, and each path to an old event is
+-- an old path
+pub record KeepsKnowledge (n f : ℕ) (old new : Knowledge) : Type 0 where
+  pub rules : WellFormed n new.trace
   pub down : IsDownEmpty f new
+  pub channels : (q p : ℕ) → IsUp new q → IsUp new p → MatchesTrace new q p
   pub held : (d : Determinant) (m : ℕ) → IsUp new m → IsHolder old d m → Holds new d m
-  pub receipts : (d : Determinant) → IsRecorded old d → Has old.trace (receipt_of d) → Has new.trace (receipt_of d)
+  pub left : (b : Mark) → Has old.trace b → ((c : Determinant) → Precedes old.trace (receipt_of c) b → IsRecorded old c) → Has new.trace b
   pub paths : {a b : Mark} → Has old.trace b → Precedes new.trace a b → Precedes old.trace a b
 
--- the new store has what the old one had, and owes the causes of no other old event
-pub record IsSameStore (old new : Knowledge) (was now : Store) : Type 0 where
-  pub there : IsThere old was
-  pub owner : owner now ≡ owner was
-  pub entries : entries new now ≡ entries old was
-  pub owes : (b : Mark) → Has new.trace b → Owes new now b → Has old.trace b × Owes old was b
+-- the store has what it had, and owes the causes of no other old event
+abbrev pub IsSameStore : Knowledge → Knowledge → Store → Type 0
+IsSameStore old new k =
+    IsThere old k × (entries new k ≡ entries old k) × ((b : Mark) → Has new.trace b → Owes new k b → Has old.trace b × Owes old k b)
 
-module _ (f : ℕ) (old new : Knowledge) (keeps : KeepsKnowledge f old new) where
-  pub IsHolder-kept : (d : Determinant) (m : ℕ) → IsRecorded new d → IsHolder old d m → IsHolder new d m
+module _ {n f : ℕ} {old new : Knowledge} (keeps : KeepsKnowledge n f old new) (sound : IsSoundKnowledge n f old) where
+  IsHolder-kept : (d : Determinant) (m : ℕ) → IsRecorded new d → IsHolder old d m → IsHolder new d m
   IsHolder-kept d m recorded holder = elim (down_or_up new.down m) [ inl down ↦ inr (down, recorded) | inr up ↦ inl (keeps.held d m up holder) ]
 
   -- of more than f holders one is up
-  pub IsStable-kept : (d : Determinant) → IsStable f old d → IsStable f new d
+  IsStable-kept : (d : Determinant) → IsStable f old d → IsStable f new d
   IsStable-kept d stable =
       let one = some_outside stable.0 new.down (omega (arith, keeps.down.few, stable.1)) in
-      let recorded = IsRecorded-held new d one.0 (keeps.held d one.0 one.2 (stable.2 one.0 one.1)) in
+      let recorded : IsRecorded new d = inl (one.0, keeps.held d one.0 one.2 (stable.2 one.0 one.1)) in
       (stable.0, stable.1, λ m h. IsHolder-kept d m recorded (stable.2 m h))
 
   pub NamesCauses-kept : (es : List Entry) (b : Mark) → Has old.trace b → NamesCauses f old es b → NamesCauses f new es b
   NamesCauses-kept es b there causes d before = elim (causes d (keeps.paths there before)) [ inl named ↦ inl named | inr stable ↦ inr (IsStable-kept d stable) ]
 
-  module _ (known : KnowsTruth old) (closed : IsClosed f old) where
-    -- what a store names is recorded still, where it is the same
-    still_recorded : (was now : Store) (e : Entry) → IsThere new now → IsSameStore old new was now → Contains (entries new now) e → IsHolder old e.det (owner now) → IsRecorded new e.det
-    still_recorded was (in_table m) e up same among holder = IsRecorded-held new e.det m (up, (e, among, refl))
-    still_recorded was (in_checkpoint m) e there same among holder = IsRecorded-saved new e.det m (e, among, refl)
-    still_recorded was (in_message v) e flies same among holder =
-        IsRecorded-held new e.det v.from (keeps.held e.det v.from (up_at_ends new keeps.down.channels v.from v.to v flies).0 holder)
+  -- what a store names is recorded still, where it has what it had
+  still_recorded : (k : Store) (e : Entry) → IsThere new k → Contains (entries new k) e → IsHolder old e.det (owner k) → IsRecorded new e.det
+  still_recorded (in_table m) e up among holder = inl (m, (up, (e, among, refl)))
+  still_recorded (in_checkpoint m) e there among holder = inr (m, (e, among, refl))
+  still_recorded (in_message v) e flies among holder = inl (v.from, keeps.held e.det v.from (up_at_ends new keeps.down.channels v.from v.to v flies).0 holder)
 
-    pub IsTrueEntry-kept : (e : Entry) → IsRecorded old e.det → IsRecorded new e.det → IsTrueEntry old e → IsTrueEntry new e
-    IsTrueEntry-kept e was now fact = (keeps.receipts e.det was fact.0, λ m h. IsHolder-kept e.det m now (fact.1 m h))
+  pub IsTrueEntry-kept : (e : Entry) (m : ℕ) → IsHolder old e.det m → IsRecorded new e.det → IsTrueEntry old e → IsTrueEntry new e
+  IsTrueEntry-kept e m holder now fact = (
+    keeps.left (receipt_of e.det) fact.0 (λ c. IsRecorded-before f old sound.closed c e.det (recorded_holder old e.det m holder)),
+    λ q h. IsHolder-kept e.det q now (fact.1 q h),
+  )
 
-    -- a store that stays is sound
-    pub sound_kept : (was now : Store) → IsThere new now → IsSameStore old new was now → IsSoundAt f new now
-    sound_kept was now there same = record {
-      truth = λ e among.
-          let fact = known was e same.there (rw same.entries at among) in
-          let holder = fact.0.1 (owner was) fact.1 in
-          (IsTrueEntry-kept e (recorded_holder old e.det (owner was) holder) (still_recorded was now e there same among (rw same.owner holder)) fact.0, rw same.owner fact.1);
-      events = λ b owes. rw same.entries (λ d before.
-          let one = same.owes b (Has-last before) owes in
-          NamesCauses-kept (entries old was) b one.0 (closed.events was b same.there one.1) d before);
-      named = λ c named.
-          let was_named : Names (entries old was) c = rw same.entries at named in
-          let fact = known was was_named.0 same.there was_named.1 in
-          rw same.entries (NamesCauses-kept (entries old was) (receipt_of c)
-          (subst (λ (x : Determinant). Has old.trace (receipt_of x)) was_named.2 fact.0.0) (closed.named was c same.there was_named));
-    }
+  -- a store that stays is sound
+  pub sound_kept : (k : Store) → IsThere new k → IsSameStore old new k → IsSoundAt f new k
+  sound_kept k there same = record {
+    truth = λ e among.
+        let fact = sound.truth k e same.0 (rw same.1 at among) in
+        let holder = fact.0.1 (owner k) fact.1 in
+        (IsTrueEntry-kept e (owner k) holder (still_recorded k e there among holder) fact.0, fact.1);
+    events = λ b owes. rw same.1 (λ d before.
+        let one = same.2 b (Has-last before) owes in
+        NamesCauses-kept (entries old k) b one.0 (sound.closed.events k b same.0 one.1) d before);
+    named = λ c named.
+        let was_named : Names (entries old k) c = rw same.1 at named in
+        let fact = sound.truth k was_named.0 same.0 was_named.1 in
+        rw same.1 (NamesCauses-kept (entries old k) (receipt_of c)
+        (subst (λ (x : Determinant). Has old.trace (receipt_of x)) was_named.2 fact.0.0) (sound.closed.named k c same.0 was_named));
+  }
+
+  -- an event from before its member's checkpoint is left, so a checkpoint that stays is kept
+  reached_left : (b : Mark) → Has old.trace b → IsBeforeCheckpoint old b → Has new.trace b
+  reached_left b there reached = keeps.left b there (λ c. IsRecorded-reached f old sound.closed c b reached)
+
+  receipts_left : (m k : ℕ) → k ≤ (checkpoint old m).received → k ≤ receipts_of new.trace m
+  receipts_left m zero within = omega arith
+  receipts_left m (suc k) within =
+      let there = receipt-there n old.trace m (suc k) sound.rules (omega arith) (omega (arith, within, (sound.checkpoints m).receipts)) in
+      receipt-number n new.trace m (suc k) there.0 there.1 keeps.rules (reached_left (Receipt m (suc k) there.0 there.1) there.2 within)
+
+  sends_left : (m k : ℕ) → k ≤ length (checkpoint old m).log → k ≤ sends_of new.trace m
+  sends_left m zero within = omega arith
+  sends_left m (suc k) within =
+      let there = send-there n old.trace m (suc k) sound.rules (omega arith) (omega (arith, within, (sound.checkpoints m).sends)) in
+      sent-number n new.trace keeps.rules m (suc k) there.0 (reached_left (Send m (suc k) there.0) there.1 within)
+
+  pub checkpoint_kept : (m : ℕ) → checkpoint new m ≡ checkpoint old m → IsCheckpointKept new m
+  checkpoint_kept m same = record {
+    receipts = rw same (receipts_left m (checkpoint old m).received (omega arith));
+    sends = rw same (sends_left m (length (checkpoint old m).log) (omega arith));
+    table = λ d up named. (keeps.held d m up (holder d (rw same at named))).1;
+  }
+    where
+      holder : (d : Determinant) → Names (checkpoint old m).table d → IsHolder old d m
+      holder d named = elim (down_or_up old.down m) [ inl down ↦ inr (down, inr (m, named)) | inr up ↦ inl (up, (sound.checkpoints m).table d up named) ]
+
+  -- a record of which each store is sound after the step, and each checkpoint kept, is sound
+  pub sound_after : ((k : Store) → IsThere new k → IsSoundAt f new k) → ((m : ℕ) → IsCheckpointKept new m) → IsSoundKnowledge n f new
+  sound_after good kept = record {
+    rules = keeps.rules;
+    truth = λ k e there. (good k there).truth e;
+    closed = record { events = λ k b there. (good k there).events b; named = λ k c there. (good k there).named c };
+    channels = keeps.channels;
+    down = keeps.down;
+    checkpoints = kept;
+  }

@@ -3,13 +3,17 @@ use Rattle.fbl_law.proofs.Common.{◌≡◌, ℕ, zero, suc, ◌+◌, ◌<◌, �
 use Rattle.fbl_law.proofs.Common.{sym, ap, ◌∙◌, arith, append_assoc, length-append, inl, inr, filter_map, fold, zero-add, cases_eq, nat_tests, map-append, take-append-drop}
 use Rattle.fbl_law.proofs.Common.{filter_map-append, sum_by-cons, Note, Start, Event, mark_of, is_send_of, is_receipt_of, sends_of, receipts_of, WellFormed, Next, Logged, Progress, Action}
 use Rattle.fbl_law.proofs.Common.{took, sent, numbered, starts_of, begun, advanced, after_notes, action_of, actions_of, notes_of, note_of, responses, Lawful, sends-step, receipts-step}
-use Rattle.fbl_law.proofs.Common.{eqb-self, logged_note, length-numbered, received_notes}
+use Rattle.fbl_law.proofs.Common.{eqb-self, logged_note, length-numbered, received_notes, slice_get, Mark, MemberRecord, IsReplayed}
 use Rattle.std.proofs.lemmas.List.{append-nil}
 use Rattle.std.proofs.lemmas.List.Sums.{fold-append}
 use Rattle.fbl_base.specs.declared.trace.Event.TheVariants.{Send, Receipt}
 use Rattle.fbl_base.specs.declared.trace.Mark.TheVariants as mark
 use Rattle.fbl_member.proofs.Logs.{numbered-append}
 use Rattle.fbl_law.proofs.Appended.{MayFollow-seam}
+use Rattle.fbl_base.proofs.Gets.{take-more}
+use Rattle.fbl_member.specs.Members.{progress_of}
+use Rattle.fbl_law.proofs.Notes.{mark-at}
+use Rattle.std.proofs.lemmas.List.{take-map}
 
 -- the sends among a member's actions
 abbrev pub sends_in : List Action → List (ℕ × Note)
@@ -52,21 +56,6 @@ pub log-after : (next : Next) (p n : ℕ) (starts : List Start) (notes : List No
 log-after next p n starts notes =
     log-fold next p n (begun p starts) notes ∙ simp (zero-add, length-numbered, sends_in-append, sends_in-sent, numbered-append)
 
-length-log : (next : Next) (p n : ℕ) (starts : List Start) (notes : List Note)
-    → length (after_notes next p n starts notes).log ≡ length (sends_in (map sent (starts_of p starts) ++ responses next p n 0 notes))
-length-log next p n starts notes = ap length (log-after next p n starts notes) ∙ length-numbered 0 _
-
--- the log after the first notes is a front of the log after all
-pub log-front : (next : Next) (p n : ℕ) (starts : List Start) (notes : List Note) (k : ℕ)
-    → (rest : List Logged) × ((after_notes next p n starts notes).log ≡ (after_notes next p n starts (take k notes)).log ++ rest)
-log-front next p n starts notes k =
-    let front = after_notes next p n starts (take k notes) in (
-      numbered (length front.log) (sends_in (responses next p n front.state (drop k notes))),
-      ap (λ (xs : List Note). (after_notes next p n starts xs).log) (sym (take-append-drop k notes))
-          ∙ ap (λ (x : Progress). x.log) (fold-append (advanced next p n) (begun p starts) (take k notes) (drop k notes))
-          ∙ log-fold next p n front (drop k notes),
-    )
-
 -- the send, as the member's log has it
 abbrev pub logged_of : ℕ → Event → Option Logged
 logged_of p (Send from ssn to note) = cond (from == p) (Some (record { ssn = ssn; to = to; note = note })) None
@@ -105,15 +94,6 @@ logged_note-front : (xs ys : List Logged) (ssn : ℕ) (note : Note) → logged_n
 logged_note-front [] ys ssn note is = cc
 logged_note-front (l ∷ xs) ys ssn note is = grind (arith, logged_note-front xs ys ssn note)
 
--- a message that a member's log names after its first notes has that note in the trace
-pub logged-noted : (next : Next) (n : ℕ) (starts : List Start) (t : List Event) (p k ssn : ℕ) (note : Note) → Lawful next n starts t
-    → logged_note (after_notes next p n starts (take k (received_notes t p))).log ssn ≡ Some note → note_of t p ssn ≡ Some note
-logged-noted next n starts t p k ssn note lawful named =
-    let front = log-front next p n starts (received_notes t p) k in
-    let whole : logged_note (after_notes next p n starts (received_notes t p)).log ssn ≡ Some note =
-    rw front.1 (logged_note-front (after_notes next p n starts (take k (received_notes t p))).log front.0 ssn note named) in
-    rw (← logged_note-trace t p ssn, ← log-sends next n starts t p lawful) whole
-
 -- how many sends a member's actions have
 sends-count : (all u : List Event) (p : ℕ) → length (sends_in (filter_map (action_of all p) u)) ≡ sends_of (map mark_of u) p
 sends-count all [] p = refl
@@ -124,27 +104,18 @@ sends-count all (Receipt to r q k ∷ u) p = grind (arith, sum_by-cons (λ y. co
 pub log-length : (next : Next) (n : ℕ) (starts : List Start) (t : List Event) (p : ℕ) → Lawful next n starts t
     → length (after_notes next p n starts (received_notes t p)).log ≡ sends_of (map mark_of t) p
 log-length next n starts t p lawful =
-    rw (length-log next p n starts (received_notes t p), ← lawful.responds p) (sends-count t t p)
-
--- that after the first notes is no longer
-pub log-short : (next : Next) (n : ℕ) (starts : List Start) (t : List Event) (p k : ℕ) → Lawful next n starts t
-    → length (after_notes next p n starts (take k (received_notes t p))).log ≤ sends_of (map mark_of t) p
-log-short next n starts t p k lawful =
-    let front = log-front next p n starts (received_notes t p) k in
-    omega (arith, log-length next n starts t p lawful, ap length front.1, length-append (after_notes next p n starts (take k (received_notes t p))).log front.0)
+    ap length (log-after next p n starts (received_notes t p)) ∙ length-numbered 0 _ ∙ rw (← lawful.responds p) (sends-count t t p)
 
 -- the sends of the first actions are among the responses to the notes taken in so far
 sends-by : (next : Next) (p n state k : ℕ) (sends : List (ℕ × Note)) (notes : List Note) (xs ys : List Action)
     → xs ++ ys ≡ map sent sends ++ responses next p n state notes → length (notes_of xs) ≤ k
     → length (sends_in xs) ≤ length (sends_in (map sent sends ++ responses next p n state (take k notes)))
 sends-by next p n state k sends notes [] ys is few = omega arith
-sends-by next p n state k [] [] (x ∷ xs) ys is few = absurd cc
-sends-by next p n state k [] (note ∷ notes) (sent s ∷ xs) ys is few = absurd cc
 sends-by next p n state zero [] (note ∷ notes) (took x ∷ xs) ys is few = absurd (omega arith)
 sends-by next p n state (suc k) [] (note ∷ notes) (took x ∷ xs) ys is few =
     sends-by next p n (next p n state note).state k (next p n state note).sends.items notes xs ys (cc) (omega (arith, few))
-sends-by next p n state k (s ∷ sends) notes (took x ∷ xs) ys is few = absurd cc
 sends-by next p n state k (s ∷ sends) notes (sent s' ∷ xs) ys is few = omega (arith, sends-by next p n state k sends notes xs ys (cc) few)
+sends-by _ _ _ _ _ _ _ _ _ is few = absurd cc
 
 -- at most how many notes a member's actions have
 notes-count : (all u : List Event) (p : ℕ) → length (notes_of (filter_map (action_of all p) u)) ≤ receipts_of (map mark_of u) p
@@ -152,20 +123,43 @@ notes-count all [] p = omega arith
 notes-count all (Send q k to x ∷ u) p = grind (arith, sum_by-cons (λ y. cond (is_receipt_of p y) 1 0) (mark.Send q k to) (map mark_of u), notes-count all u p)
 notes-count all (Receipt to r q k ∷ u) p = grind (arith, sum_by-cons (λ y. cond (is_receipt_of p y) 1 0) (mark.Receipt to r q k) (map mark_of u), notes-count all u p)
 
--- a send that comes after at most k of the member's receipts is in the log after the first k notes
-pub logged-by : (next : Next) (n : ℕ) (starts : List Start) (t u rest : List Event) (p ssn to k : ℕ) (x : Note) → Lawful next n starts t
-    → t ≡ u ++ Send p ssn to x ∷ rest → receipts_of (map mark_of u) p ≤ k
-    → (note : Note) × (logged_note (after_notes next p n starts (take k (received_notes t p))).log ssn ≡ Some note)
-logged-by next n starts t u rest p ssn to k x lawful is few =
-    let so_far : List Event = u ++ Send p ssn to x ∷ [] in
-    let may = MayFollow-seam n (map mark_of u) (mark.Send p ssn to) (map mark_of rest) (rw (is, map-append) at lawful.well_formed) in
-    let front = filter_map (action_of t p) so_far in
-    let back = filter_map (action_of t p) rest in
-    let cut : actions_of t p ≡ front ++ back = ap (filter_map (action_of t p)) (is ∙ sym (append_assoc u (Send p ssn to x ∷ []) rest))
-    ∙ filter_map-append (action_of t p) so_far rest in
-    let count : length (sends_in front) ≡ sends_of (map mark_of u) p + 1 = sends-count t so_far p ∙ sends-grown u (Send p ssn to x) p ∙ rw (eqb-self p) refl in
-    let received : receipts_of (map mark_of so_far) p ≡ receipts_of (map mark_of u) p + 0 =
-    rw (map-append mark_of u (Send p ssn to x ∷ [])) (receipts-step (map mark_of u) (mark.Send p ssn to) p) in
-    let taken : length (notes_of front) ≤ k = omega (arith, notes-count t so_far p, received, few) in
-    let enough = sends-by next p n 0 k (starts_of p starts) (received_notes t p) front back (sym cut ∙ lawful.responds p) taken in
-    rw (log-after next p n starts (take k (received_notes t p))) (numbered-has 0 ssn _ (omega (arith, may.3)) (omega (arith, may.3, count, enough)))
+-- the log of a member that has replayed its first receipts of a lawful trace
+module _ {next : Next} {n : ℕ} {starts : List Start} {t : List Event} (lawful : Lawful next n starts t) {p : ℕ} {m : MemberRecord} (replayed : IsReplayed next n starts t p m) where
+  the-log : m.log ≡ (after_notes next p n starts (take m.received (received_notes t p))).log
+  the-log = ap (λ (x : Progress). x.log) replayed.progress
+
+  -- with the rest it is the log after all the member's notes
+  whole-log : (rest : List Logged) × ((after_notes next p n starts (received_notes t p)).log ≡ m.log ++ rest)
+  whole-log = (
+    numbered (length m.log) (sends_in (responses next p n m.state (drop m.received (received_notes t p)))),
+    ap (λ (xs : List Note). (after_notes next p n starts xs).log) (sym (take-append-drop m.received (received_notes t p)))
+        ∙ ap (λ (x : Progress). x.log) (fold-append (advanced next p n) (begun p starts) (take m.received (received_notes t p)) (drop m.received (received_notes t p)))
+        ∙ rw (← replayed.progress) (log-fold next p n (progress_of m) (drop m.received (received_notes t p))),
+  )
+
+  -- a message that it names has that note in the trace
+  pub logged-noted : (ssn : ℕ) (note : Note) → logged_note m.log ssn ≡ Some note → note_of t p ssn ≡ Some note
+  logged-noted ssn note named =
+      rw (← logged_note-trace t p ssn, ← log-sends next n starts t p lawful, whole-log.1) (logged_note-front m.log whole-log.0 ssn note named)
+
+  -- it is no longer than the member's sends are many
+  pub log-short : length m.log ≤ sends_of (map mark_of t) p
+  log-short = omega (arith, log-length next n starts t p lawful, ap length whole-log.1, length-append m.log whole-log.0)
+
+  -- and it has a send that comes after no more receipts than the member has replayed
+  pub logged-by : (j ssn to : ℕ) (x : Note) → slice_get t j ≡ Some (Send p ssn to x) → receipts_of (take j (map mark_of t)) p ≤ m.received
+      → (note : Note) × (logged_note m.log ssn ≡ Some note)
+  logged-by j ssn to x here few =
+      let e : Mark = mark.Send p ssn to in
+      let at = mark-at t j (Send p ssn to x) here in
+      let front = filter_map (action_of t p) (take (suc j) t) in
+      let back = filter_map (action_of t p) (drop (suc j) t) in
+      let cut : actions_of t p ≡ front ++ back = ap (filter_map (action_of t p)) (sym (take-append-drop (suc j) t)) ∙ filter_map-append (action_of t p) (take (suc j) t) _ in
+      let grown : map mark_of (take (suc j) t) ≡ take j (map mark_of t) ++ e ∷ [] = rw (← take-map) (take-more (map mark_of t) j e at) in
+      let sends : sends_of (map mark_of (take (suc j) t)) p ≡ sends_of (take j (map mark_of t)) p + 1 = rw grown (sends-step (take j (map mark_of t)) e p ∙ rw (eqb-self p) refl) in
+      let receipts : receipts_of (map mark_of (take (suc j) t)) p ≡ receipts_of (take j (map mark_of t)) p + 0 = rw grown (receipts-step (take j (map mark_of t)) e p) in
+      let taken : length (notes_of front) ≤ m.received = omega (arith, notes-count t (take (suc j) t) p, receipts, few) in
+      let enough = sends-by next p n 0 m.received (starts_of p starts) (received_notes t p) front back (sym cut ∙ lawful.responds p) taken in
+      let number = (lawful.well_formed j e at).3 in
+      rw (the-log, log-after next p n starts (take m.received (received_notes t p)))
+      (numbered-has 0 ssn _ (omega (arith, number)) (omega (arith, number, sends-count t (take (suc j) t) p, sends, enough)))

@@ -55,7 +55,7 @@ receipt-at t i to r q k here = (let place = map-At mark_of t i (mark.Receipt to 
 -- in a trace that obeys the rules a send's note is the one that its number names
 pub sent-noted : (n : ℕ) (t : List Event) → WellFormed n (map mark_of t) → (i q k to : ℕ) (x : Note) → slice_get t i ≡ Some (Send q k to x) → note_of t q k ≡ Some x
 sent-noted n t obeys i q k to x here =
-    let some = sent-note t i q k to x here in
+    let some = sent-note t i q k to (mark-at t i (Send q k to x) here) in
     let first = noted-sent t q k some.0 some.1 in
     let e = one-place n (map mark_of t) obeys q k first.1 to first.0 i (mark-at t first.0 (Send q k first.1 some.0) first.2) (mark-at t i (Send q k to x) here) in
     let h : slice_get t i ≡ Some (Send q k first.1 some.0) = rw e at first.2 in

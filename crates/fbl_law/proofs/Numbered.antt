@@ -42,10 +42,6 @@ receipt-number n t p r q s obeys has =
     let count = count_at (is_receipt_of p) t has.0 (Receipt p r q s) has.1 (eqb-self p) in
     omega (arith, may.3, count)
 
--- counts grow with the trace
-pub count-grown : (p : Mark → Bool) (t s : List Mark) → count_by p t ≤ count_by p (t ++ s)
-count-grown p t s = omega (arith, sum_by-append (λ y. cond (p y) 1 0) t s)
-
 -- the events appended have numbers beyond those of the trace before
 module _ (n : ℕ) (r : Knowledge) (added : List Mark) (obeys : WellFormed n (r.trace ++ added)) (kept : (m : ℕ) → IsCheckpointKept r m) where
   -- an event appended may follow a trace that counts no less than the trace before
@@ -53,7 +49,7 @@ module _ (n : ℕ) (r : Knowledge) (added : List Mark) (obeys : WellFormed n (r.
   follows e new =
       let place = At-behind r.trace added new.0 e new.1 in
       let may = rw (place.1, take-append-add r.trace added new.0) at (obeys place.0 e place.2) in
-      (r.trace ++ take new.0 added, may, λ p. count-grown p r.trace (take new.0 added))
+      (r.trace ++ take new.0 added, may, λ p. omega (arith, sum_by-append (λ y. cond (p y) 1 0) r.trace (take new.0 added)))
 
   pub added-later : (e : Mark) → Has added e → ¬ (IsBeforeCheckpoint r e)
   added-later (Send q k p) new reached = (let after = follows (Send q k p) new in omega (arith, after.1.3, after.2 (is_send_of q), (kept q).sends, reached))

@@ -1,5 +1,5 @@
 -- What soundness promises.
-use Rattle.fbl_law.proofs.Common.{◌≡◌, ℕ, ◌<◌, inl, inr, arith, List, take, cases_order, Mark, At, receipt_of, Has, itself, step, WellFormed, slice_get-take, some_outside}
+use Rattle.fbl_law.proofs.Common.{◌≡◌, ℕ, inl, inr, arith, take, cases_order, At, receipt_of, itself, step, slice_get-take, some_outside}
 use Rattle.fbl_law.proofs.Common.{WellFormed-take, in_table, IsUp, IsHolder, member, knowledge}
 use Rattle.fbl_base.specs.declared.trace.Mark.TheVariants.{Receipt}
 use Rattle.fbl_law.specs.Promises.{IsHeldBy}
@@ -13,12 +13,15 @@ use Rattle.fbl_law.proofs.Strike.{strike_keeps}
 use Rattle.fbl_law.proofs.GroupStrike.{is_struck}
 
 pub sound_is_always_held : SoundIsAlwaysHeld
+unfolding SoundIsAlwaysHeld
 sound_is_always_held next r sound = IsAlwaysHeld-closed r.config.f (knowledge r) sound.causes.closed
 
 pub sound_has_no_orphan : SoundHasNoOrphan
+unfolding SoundHasNoOrphan
 sound_has_no_orphan next r m sound = no_orphan r.config.f (knowledge r) sound.causes.closed m
 
 pub sound_holds_each_receipt : SoundHoldsEachReceipt
+unfolding SoundHoldsEachReceipt SoundIsAlwaysHeld
 sound_holds_each_receipt next r sound nobody d there =
     elim (sound_is_always_held next r sound d there) [
       | inl stable ↦ inl (stable.0, stable.1, λ m among. holder m (stable.2 m among))
@@ -30,6 +33,7 @@ sound_holds_each_receipt next r sound nobody d there =
     holder m (inr down) = never_both r.down m down.0 (up_if_none nobody m)
 
 pub no_survivor_is_orphan : NoSurvivorIsOrphan
+unfolding NoSurvivorIsOrphan
 no_survivor_is_orphan next old new struck m sound s few =
     let keeps = strike_keeps old.config.members old.config.f (knowledge old) (knowledge new) struck (is_struck next old new struck s) few sound.causes in
     no_orphan old.config.f (knowledge new) keeps.closed m
@@ -46,33 +50,26 @@ any_survivors_hold n f r s sound covers few m d out depends =
     ]
 
 pub sound_survivors_hold : SoundSurvivorsHold
+unfolding SoundSurvivorsHold
 sound_survivors_hold next r s sound covers few =
     any_survivors_hold r.config.members r.config.f (knowledge r) s sound.causes covers few
 
--- the numbers of a member's receipts rise
-receipts_rise : (n : ℕ) (t : List Mark) (i j p a b q s q' s' : ℕ)
-    → WellFormed n t → At t i (Receipt p a q s) → At t j (Receipt p b q' s') → i < j → a < b
-receipts_rise n t i j p a b q s q' s' obeys first second below =
-    let before = receipt-number n (take j t) p a q s (WellFormed-take n j t obeys) (i, slice_get-take t j i (Receipt p a q s) below first) in
-    let later = obeys j (Receipt p b q' s') second in
-    omega (arith, before, later.3)
-
+-- the numbers of a member's receipts rise, so the one with the lower number comes first
 pub closed_records_first : ClosedRecordsFirst
 closed_records_first n f r rules truth closed c d there same before recorded =
-    let found : Has r.trace (receipt_of d) = Has-recorded r truth d recorded in
-    elim (cases_order there.0 found.0) [
+    let found = Has-recorded r truth d recorded in
+    IsRecorded-before f r closed c d recorded (elim (cases_order there.0 found.0) [
       | inl place ↦
           let here : At r.trace found.0 (receipt_of c) = rw (← place) there.1 in
           let one : receipt_of c ≡ receipt_of d = (let e1 = here in let e2 = found.1 in cc) in
-          IsRecorded-before f r closed c d recorded (rw one (itself found))
-      | inr (inl earlier) ↦
-          IsRecorded-before f r closed c d recorded (step (itself there) ((there.0, found.0, earlier, there.1, found.1), inl same))
+          rw one (itself found)
+      | inr (inl earlier) ↦ step (itself there) ((there.0, found.0, earlier, there.1, found.1), inl same)
       | inr (inr later) ↦
           let at_same : At r.trace there.0 (Receipt d.to c.rsn c.from c.ssn) = rw (← same) there.1 in
-          let rises =
-          receipts_rise n r.trace found.0 there.0 d.to d.rsn c.rsn d.from d.ssn c.from c.ssn rules found.1 at_same later in
-          absurd (omega (arith, rises, before))
-    ]
+          let first = slice_get-take r.trace there.0 found.0 (receipt_of d) later found.1 in
+          let number = receipt-number n (take there.0 r.trace) d.to d.rsn d.from d.ssn (WellFormed-take n there.0 r.trace rules) (found.0, first) in
+          absurd (omega (arith, before, number, (rules there.0 (Receipt d.to c.rsn c.from c.ssn) at_same).3))
+    ])
 
 pub sound_records_first : SoundRecordsFirst
 sound_records_first next r sound =

@@ -1,33 +1,33 @@
 -- A member's receipts in a trace, in order.
-use Rattle.fbl_law.proofs.Common.{◌≡◌, ℕ, zero, suc, ◌+◌, ◌≤◌, ◌==◌, inl, inr, Bool, true, false, cond, List, [], ◌∷◌, ◌++◌, length, map, Option, Some}
-use Rattle.fbl_law.proofs.Common.{option_map, slice_get, refl, sym, ap, ◌∙◌, arith, append_assoc, take, drop, ◌<◌, length-take, filter_map, fold, cases_lt, nat_tests, length-map}
-use Rattle.fbl_law.proofs.Common.{take-append-drop, sum_by-cons, slice_get-map, Determinant, Note, Event, Mark, At, mark_of, determinant_of, receipt_of, Has, is_receipt_of, receipts_of}
-use Rattle.fbl_law.proofs.Common.{taken_on, WellFormed, action_of, notes_of, note_of, At-front, At-below, filter_map-At, At-filter, At-filter_map, receipts-step, WellFormed-take}
-use Rattle.fbl_law.proofs.Common.{receipts-noted, received_notes, last_taken, receipts_at, last_among, is_receipt}
+use Rattle.fbl_law.proofs.Common.{◌≡◌, ℕ, suc, ◌+◌, ◌≤◌, ◌==◌, inl, inr, true, cond, List, [], ◌∷◌, ◌++◌, length, map, Option, Some, slice_get, refl, ap}
+use Rattle.fbl_law.proofs.Common.{◌∙◌, arith, take, drop, ◌<◌, length-take, filter_map, fold, cases_lt, nat_tests, length-map, take-append-drop, sum_by-cons, slice_get-map}
+use Rattle.fbl_law.proofs.Common.{Determinant, Note, Event, Mark, At, mark_of, determinant_of, receipt_of, Has, is_receipt_of, receipts_of, taken_on, WellFormed, action_of, notes_of}
+use Rattle.fbl_law.proofs.Common.{note_of, At-front, At-below, filter_map-At, At-filter, At-filter_map, WellFormed-take, receipts-noted, received_notes, last_taken, receipts_at, last_among}
+use Rattle.fbl_law.proofs.Common.{is_receipt, MayFollow, WellFormed-keeps, filter-append, filter_map-append, cases_Bool}
 use Rattle.fbl_base.specs.declared.trace.Event.TheVariants as event
 use Rattle.fbl_base.specs.declared.trace.Mark.TheVariants.{Send, Receipt}
-use Rattle.fbl_law.proofs.Appended.{MayFollow-seam}
+use Rattle.fbl_base.proofs.Gets.{At-push}
+use Rattle.std.proofs.lemmas.List.{append-nil}
 use Rattle.fbl_law.proofs.Lists.{some-at, filter-At, filter-passes}
 
-receipts-from : (n p : ℕ) (u rest : List Mark) → WellFormed n (u ++ rest) → (j : ℕ) (d : Determinant) → slice_get (receipts_at rest p) j ≡ Some d → d.rsn ≡ receipts_of u p + j + 1
-receipts-from n p u [] obeys j d here = absurd cc
-receipts-from n p u (Send q k to ∷ rest) obeys j d here =
-    let ih = receipts-from n p (u ++ Send q k to ∷ []) rest (rw append_assoc obeys) j d here in
-    omega (arith, ih, receipts-step u (Send q k to) p)
-receipts-from n p u (Receipt to r q k ∷ rest) obeys j d here =
-    let may = MayFollow-seam n u (Receipt to r q k) rest obeys in
-    at (to == p) refl may.3 (receipts-step u (Receipt to r q k) p) j here (receipts-from n p (u ++ Receipt to r q k ∷ []) rest (rw append_assoc obeys))
-  where
-    at : (b : Bool) → (to == p) ≡ b → r ≡ receipts_of u to + 1 → receipts_of (u ++ Receipt to r q k ∷ []) p ≡ receipts_of u p + cond (to == p) 1 0
-        → (j : ℕ) → slice_get (cond b (record { from = q; ssn = k; to = to; rsn = r } ∷ receipts_at rest p) (receipts_at rest p)) j ≡ Some d
-        → ((j : ℕ) (d : Determinant) → slice_get (receipts_at rest p) j ≡ Some d → d.rsn ≡ receipts_of (u ++ Receipt to r q k ∷ []) p + j + 1) → d.rsn ≡ receipts_of u p + j + 1
-    at true is number more zero g ih = grind (arith, nat_tests)
-    at true is number more (suc j) g ih = grind (arith, ih j d g)
-    at false is number more j g ih = grind (arith, ih j d g)
+-- how many they are
+pub length-receipts_at : (t : List Mark) (p : ℕ) → length (receipts_at t p) ≡ receipts_of t p
+length-receipts_at [] p = refl
+length-receipts_at (Send q k to ∷ t) p = grind (arith, sum_by-cons, length-receipts_at t p)
+length-receipts_at (Receipt to r q k ∷ t) p = grind (arith, sum_by-cons (λ y. cond (is_receipt_of p y) 1 0) (Receipt to r q k) t, length-receipts_at t p)
 
 -- a member's receipts are numbered from 1
 pub receipts_at-number : (n : ℕ) (t : List Mark) (p j : ℕ) (d : Determinant) → WellFormed n t → slice_get (receipts_at t p) j ≡ Some d → d.rsn ≡ j + 1
-receipts_at-number n t p j d obeys here = (let h = receipts-from n p [] t obeys j d here in omega (arith, h))
+receipts_at-number n t p j d obeys = WellFormed-keeps n (λ u. (j : ℕ) → slice_get (receipts_at u p) j ≡ Some d → d.rsn ≡ j + 1) (λ j here. absurd cc) more t obeys j where
+  more : (u : List Mark) (e : Mark) → WellFormed n u → MayFollow n u e → ((j : ℕ) → slice_get (receipts_at u p) j ≡ Some d → d.rsn ≡ j + 1)
+      → (j : ℕ) → slice_get (receipts_at (u ++ e ∷ []) p) j ≡ Some d → d.rsn ≡ j + 1
+  more u (Send q k to) obeys_u may before j here = before j (rw (filter_map-append determinant_of, append-nil) at here)
+  more u (Receipt to r q k) obeys_u may before j here =
+      let now : slice_get (receipts_at u p ++ receipts_at (Receipt to r q k ∷ []) p) j ≡ Some d = rw (filter_map-append determinant_of, filter-append) at here in
+      elim (cases_Bool (to == p)) [
+        | inl own ↦ elim (At-push (receipts_at u p) _ j d (rw own at now)) [ inl old ↦ before j old | inr new ↦ grind (arith, nat_tests, may.3, length-receipts_at u p, new) ]
+        | inr other ↦ before j (rw (other, append-nil) at now)
+      ]
 
 -- they are the member's, and in the trace
 pub receipts_at-Has : (t : List Mark) (p j : ℕ) (d : Determinant) → slice_get (receipts_at t p) j ≡ Some d → Has t (receipt_of d) × (d.to ≡ p)
@@ -58,12 +58,6 @@ at-most n t p k obeys all = elim (cases_lt k (length (receipts_at t p))) [
       absurd (omega (arith, all d.0 has.0 has.1, receipts_at-number n t p k d.0 obeys d.1))
 ]
 
--- how many they are
-pub length-receipts_at : (t : List Mark) (p : ℕ) → length (receipts_at t p) ≡ receipts_of t p
-length-receipts_at [] p = refl
-length-receipts_at (Send q k to ∷ t) p = grind (arith, sum_by-cons, length-receipts_at t p)
-length-receipts_at (Receipt to r q k ∷ t) p = grind (arith, sum_by-cons (λ y. cond (is_receipt_of p y) 1 0) (Receipt to r q k) t, length-receipts_at t p)
-
 -- so before a place too
 pub at-most-before : (n : ℕ) (t : List Mark) (p k j : ℕ) → WellFormed n t → ((i : ℕ) (d : Determinant) → i < j → At t i (receipt_of d) → d.to ≡ p → d.rsn ≤ k)
     → receipts_of (take j t) p ≤ k
@@ -88,16 +82,15 @@ received-notes n t p obeys = notes-at t t p (receipts-noted n t obeys)
 
 pub length-received_notes : (n : ℕ) (t : List Event) (p : ℕ) → WellFormed n (map mark_of t) → length (received_notes t p) ≡ length (receipts_at (map mark_of t) p)
 length-received_notes n t p obeys =
-    sym (length-map (received_notes t p) (λ (x : Note). Some x)) ∙ ap length (received-notes n t p obeys)
-    ∙ length-map (receipts_at (map mark_of t) p) (λ (d : Determinant). note_of t d.from d.ssn)
+    let noted = length-map (receipts_at (map mark_of t) p) (λ (d : Determinant). note_of t d.from d.ssn) in
+    omega (arith, ap length (received-notes n t p obeys), length-map (received_notes t p) (λ (x : Note). Some x), noted)
 
 pub note-at : (n : ℕ) (t : List Event) (p j : ℕ) (d : Determinant) (x : Note) → WellFormed n (map mark_of t)
     → slice_get (receipts_at (map mark_of t) p) j ≡ Some d → note_of t d.from d.ssn ≡ Some x → slice_get (received_notes t p) j ≡ Some x
 note-at n t p j d x obeys here noted =
-    let same : option_map (λ (y : Note). Some y) (slice_get (received_notes t p) j) ≡ Some (Some x) =
-    sym (slice_get-map (λ (y : Note). Some y) (received_notes t p) j) ∙ ap (λ (xs : List (Option Note)). slice_get xs j) (received-notes n t p obeys)
-    ∙ slice_get-map (λ (c : Determinant). note_of t c.from c.ssn) (receipts_at (map mark_of t) p) j ∙ (rw (here, noted) refl) in
-    grind (arith, same)
+    let named = slice_get-map (λ (c : Determinant). note_of t c.from c.ssn) (receipts_at (map mark_of t) p) j in
+    let same = ap (λ (xs : List (Option Note)). slice_get xs j) (received-notes n t p obeys) in
+    grind (arith, slice_get-map (λ (y : Note). Some y) (received_notes t p) j, same, named)
 
 -- the last message from q that the member's receipts take
 last-from : (q p z : ℕ) (t : List Mark) → fold (λ last ssn. ssn) z (filter_map (taken_on q p) t) ≡ fold (λ last (d : Determinant). cond (d.from == q) d.ssn last) z (receipts_at t p)

@@ -1,18 +1,17 @@
 -- A recovery keeps knowledge sound.
-use Rattle.fbl_law.proofs.Common.{List, ◌≡◌, ℕ, zero, suc, ◌≤◌, length, arith, ◌↔◌, Bool, true, inl, inr, refl, sym, ap, ◌∙◌, Some, Contains, filter, Determinant}
-use Rattle.fbl_law.proofs.Common.{Mark, member_of, send_of, receipt_of, Has, Earlier, Leads, Precedes, itself, step, WellFormed, sent_on, taken_on, receipts_of, sends_of, is_sent}
-use Rattle.fbl_law.proofs.Common.{sent-number, Has-first, Entry, Message, Knowledge, Store, in_table, in_message, in_checkpoint, IsThere, table, IsInFlight, IsDown, IsUp, Names, Holds}
-use Rattle.fbl_law.proofs.Common.{IsRecorded, IsHolder, IsClosed, MatchesTrace, checkpoint, IsBeforeCheckpoint, IsSoundKnowledge, NamesCauses, Stays, IsCut, IsRecovered}
+use Rattle.fbl_law.proofs.Common.{List, ◌≡◌, ℕ, ◌↔◌, Bool, true, inl, inr, refl, sym, ap, ◌∙◌, Some, filter, Determinant}
+use Rattle.fbl_law.proofs.Common.{Mark, member_of, send_of, receipt_of, Has, Earlier, Leads, Precedes, itself, step, WellFormed, sent_on, taken_on, is_sent}
+use Rattle.fbl_law.proofs.Common.{Has-first, Message, Knowledge, Store, in_table, in_message, in_checkpoint, IsThere, table, IsInFlight, IsDown, IsUp, Names, Holds}
+use Rattle.fbl_law.proofs.Common.{IsRecorded, IsHolder, IsClosed, MatchesTrace, IsSoundKnowledge, NamesCauses, Stays, IsCut, IsRecovered}
 use Rattle.fbl_base.specs.declared.trace.Mark.TheVariants.{Send, Receipt}
 use Rattle.fbl_base.proofs.PrecedenceLaws.{Has-filter, Precedes-filter}
-use Rattle.fbl_law.proofs.CutWellFormed.{KeepsCauses, Has-before, WellFormed-kept, map-kept, taken_at}
+use Rattle.fbl_law.proofs.CutLawful.{KeepsCauses, Has-before, WellFormed-kept, map-kept, taken_at}
 use Rattle.fbl_law.proofs.Lists.{filter-passes, filter-At}
 use Rattle.fbl_law.proofs.Appended.{Earlier-joined}
-use Rattle.fbl_law.proofs.GatheredTables.{IsGathered, entries_gathered, gathered_recorded, recorded_gathered}
-use Rattle.fbl_law.proofs.Numbered.{receipt-there, send-there, receipt-number}
-use Rattle.fbl_law.proofs.Safe.{down_or_up, down_or_both_up, never_both, nobody_down_empty, up_if_none, IsRecorded-depended, IsRecorded-before, IsRecorded-saved, IsRecorded-reached}
+use Rattle.fbl_law.proofs.GatheredTables.{entries_gathered, gathered_recorded, recorded_gathered}
+use Rattle.fbl_law.proofs.Safe.{down_or_up, down_or_both_up, never_both, nobody_down_empty, up_if_none, IsRecorded-depended, IsRecorded-before}
 use Rattle.fbl_law.proofs.Safe.{Has-recorded}
-use Rattle.fbl_law.proofs.Keeping.{KeepsKnowledge, IsSoundAt, sound_kept, sound_passed, truth_everywhere, closed_everywhere}
+use Rattle.fbl_law.proofs.Keeping.{KeepsKnowledge, IsSoundAt, sound_kept, sound_passed, checkpoint_kept, sound_after}
 
 -- an event with a send of its own is a receipt
 receives : (e b : Mark) → send_of e ≡ Some b → (d : Determinant) × (e ≡ receipt_of d)
@@ -93,10 +92,7 @@ module _ (n f : ℕ) (old new : Knowledge) (s : IsRecovered f old new) (sound : 
   keep = s.trace.0
 
   gathered : (m : ℕ) (d : Determinant) → IsDown old m → IsRecorded old d → Names (table new m) d
-  gathered m d down recorded = rw (s.gathered m down) (recorded_gathered f old sound.down sound.checkpoints d recorded)
-
-  entries : (m : ℕ) (e : Entry) → IsDown old m → Contains (table new m) e → IsGathered old e
-  entries m e down among = entries_gathered f old sound.down e (rw (s.gathered m down) at among)
+  gathered m d down recorded = rw (s.gathered m down) (recorded_gathered sound d recorded)
 
   up_now : (m : ℕ) → IsUp new m
   up_now = up_if_none s.nobody_down
@@ -117,58 +113,10 @@ module _ (n f : ℕ) (old new : Knowledge) (s : IsRecovered f old new) (sound : 
   recovery_gains_holders d m = (
     λ holds. elim (down_or_up old.down m) [
       | inr up ↦ inl (up, rw (s.tables m up) at holds.1)
-      | inl down ↦ inr (down, gathered_recorded f old sound.down d (rw (s.gathered m down) at holds.1))
+      | inl down ↦ inr (down, gathered_recorded sound d (rw (s.gathered m down) at holds.1))
     ],
     Holds-recovered d m,
   )
-
-  keeps : KeepsKnowledge f old new
-  keeps = record {
-    down = nobody_down_empty f new s.nobody_down;
-    held = λ d m up. Holds-recovered d m;
-    receipts = λ d recorded there. recorded-cut sound s.trace d recorded;
-    paths = λ there path. Precedes-filter keep old.trace (rw s.trace.1 at path);
-  }
-
-  -- the table of a member that was down has each receipt of the cut
-  has_all : (m : ℕ) (b : Mark) → IsDown old m → NamesCauses f new (table new m) b
-  has_all m b down d before = inl (gathered m d down (cut-recorded sound s.trace d (Has-first before)))
-
-  good_table : (m : ℕ) → IsSoundAt f new (in_table m)
-  good_table m = elim (down_or_up old.down m) [
-    | inr up ↦ sound_kept f old new keeps sound.truth sound.closed (in_table m) (in_table m) (up_now m)
-        (record { there = up; owner = refl; entries = s.tables m up; owes = λ b has owes. ((cut-was sound s.trace b has).0, owes) })
-    | inl down ↦ record {
-      truth = λ e among.
-          let g = entries m e down among in (
-            (
-              recorded-cut sound s.trace e.det g.0,
-              λ q h. elim (g.2 q h) [
-                | inl struck ↦ inl (Holds-recovered e.det q (inr (struck, g.0)))
-                | inr told ↦ inl (Holds-recovered e.det q (rw told.4 at ((sound.truth told.0 told.1 told.2 told.3).0.1 q told.5)))
-              ],
-            ),
-            g.1 m down,
-          );
-      events = λ b at_m. has_all m b down;
-      named = λ c named. has_all m (receipt_of c) down;
-    }
-  ]
-
-  -- a message in flight was made again, or it stayed in its channel
-  good_message : (v : Message) → IsInFlight new v → IsSoundAt f new (in_message v)
-  good_message v flies = elim (down_or_both_up old.down v.from v.to) [
-    | inl down ↦ sound_passed f new v (good_table v.from) (s.messages v flies down)
-    | inr up ↦ sound_kept f old new keeps sound.truth sound.closed (in_message v) (in_message v) flies
-        (record { there = rw (s.channels v.from v.to up.0 up.1) at flies; owner = refl; entries = refl; owes = λ b has owes. ((cut-was sound s.trace b has).0, owes) })
-  ]
-
-  good : (k : Store) → IsThere new k → IsSoundAt f new k
-  good (in_table m) there = good_table m
-  good (in_message v) flies = good_message v flies
-  good (in_checkpoint m) there =
-      sound_kept f old new keeps sound.truth sound.closed (in_checkpoint m) (in_checkpoint m) tt
-      (record { there = tt; owner = refl; entries = rw s.checkpoints refl; owes = λ b has owes. ((cut-was sound s.trace b has).0, rw s.checkpoints at owes) })
 
   -- the events of up members stay, so what is in flight between them stays
   MatchesTrace-recovered : (q p : ℕ) → MatchesTrace new q p
@@ -180,40 +128,48 @@ module _ (n f : ℕ) (old new : Knowledge) (s : IsRecovered f old new) (sound : 
         rw (s.channels q p up.0 up.1, s.trace.1, same_sent, same_taken) (sound.channels q p up.0 up.1)
   ]
 
-  -- an event from before its member's checkpoint stays
-  reached_left : (b : Mark) → Has old.trace b → IsBeforeCheckpoint old b → Has new.trace b
-  reached_left b there reached = left_if sound s.trace b there (λ c. IsRecorded-reached f old sound.closed c b reached)
+  keeps : KeepsKnowledge n f old new
+  keeps = record {
+    rules = cut-obeys sound s.trace;
+    down = nobody_down_empty f new s.nobody_down;
+    channels = λ q p up_q up_p. MatchesTrace-recovered q p;
+    held = λ d m up. Holds-recovered d m;
+    left = left_if sound s.trace;
+    paths = λ there path. Precedes-filter keep old.trace (rw s.trace.1 at path);
+  }
 
-  receipts_left : (m k : ℕ) → k ≤ (checkpoint old m).received → k ≤ receipts_of new.trace m
-  receipts_left m zero within = omega arith
-  receipts_left m (suc k) within =
-      let there = receipt-there n old.trace m (suc k) sound.rules (omega arith) (omega (arith, within, (sound.checkpoints m).receipts)) in
-      receipt-number n new.trace m (suc k) there.0 there.1 (cut-obeys sound s.trace) (reached_left (Receipt m (suc k) there.0 there.1) there.2 within)
+  -- the table of a member that was down has each receipt of the cut
+  has_all : (m : ℕ) (b : Mark) → IsDown old m → NamesCauses f new (table new m) b
+  has_all m b down d before = inl (gathered m d down (cut-recorded sound s.trace d (Has-first before)))
 
-  sends_left : (m k : ℕ) → k ≤ length (checkpoint old m).log → k ≤ sends_of new.trace m
-  sends_left m zero within = omega arith
-  sends_left m (suc k) within =
-      let there = send-there n old.trace m (suc k) sound.rules (omega arith) (omega (arith, within, (sound.checkpoints m).sends)) in
-      sent-number n new.trace (cut-obeys sound s.trace) m (suc k) there.0 (reached_left (Send m (suc k) there.0) there.1 within)
+  good_table : (m : ℕ) → IsSoundAt f new (in_table m)
+  good_table m = elim (down_or_up old.down m) [
+    | inr up ↦ sound_kept keeps sound (in_table m) (up_now m) (up, s.tables m up, λ b has owes. ((cut-was sound s.trace b has).0, owes))
+    | inl down ↦ record {
+      truth = λ e among.
+          let g = entries_gathered sound e (rw (s.gathered m down) at among) in
+          ((recorded-cut sound s.trace e.det g.0, λ q h. inl (Holds-recovered e.det q (g.2 q h))), g.1 m down);
+      events = λ b at_m. has_all m b down;
+      named = λ c named. has_all m (receipt_of c) down;
+    }
+  ]
+
+  -- a message in flight was made again, or it stayed in its channel
+  good_message : (v : Message) → IsInFlight new v → IsSoundAt f new (in_message v)
+  good_message v flies = elim (down_or_both_up old.down v.from v.to) [
+    | inl down ↦ sound_passed f new v (good_table v.from) (s.messages v flies down)
+    | inr up ↦ sound_kept keeps sound (in_message v) flies
+        (rw (s.channels v.from v.to up.0 up.1) at flies, refl, λ b has owes. ((cut-was sound s.trace b has).0, owes))
+  ]
+
+  good : (k : Store) → IsThere new k → IsSoundAt f new k
+  good (in_table m) there = good_table m
+  good (in_message v) flies = good_message v flies
+  good (in_checkpoint m) there =
+      sound_kept keeps sound (in_checkpoint m) tt (tt, rw s.checkpoints refl, λ b has owes. ((cut-was sound s.trace b has).0, rw s.checkpoints at owes))
 
   pub recovery_keeps : IsSoundKnowledge n f new
-  recovery_keeps = record {
-    rules = cut-obeys sound s.trace;
-    truth = truth_everywhere f new good;
-    closed = closed_everywhere f new good;
-    channels = λ q p up_q up_p. MatchesTrace-recovered q p;
-    down = keeps.down;
-    checkpoints = λ m. record {
-      receipts = rw s.checkpoints (receipts_left m (checkpoint old m).received (omega arith));
-      sends = rw s.checkpoints (sends_left m (length (checkpoint old m).log) (omega arith));
-      table = λ d up named.
-          let named_before : Names (checkpoint old m).table d = rw s.checkpoints at named in
-          elim (down_or_up old.down m) [
-            | inl down ↦ gathered m d down (IsRecorded-saved old d m named_before)
-            | inr up ↦ rw (s.tables m up) ((sound.checkpoints m).table d up named_before)
-          ];
-    };
-  }
+  recovery_keeps = sound_after keeps sound good (λ m. checkpoint_kept keeps sound m (rw s.checkpoints refl))
 
   pub cut_is_recorded : (d : Determinant) → Has new.trace (receipt_of d) ↔ (Has old.trace (receipt_of d) × IsRecorded old d)
   cut_is_recorded d = (λ there. ((cut-was sound s.trace (receipt_of d) there).0, cut-recorded sound s.trace d there), λ h. recorded-cut sound s.trace d h.1)

@@ -1,18 +1,48 @@
--- From the replay of the members that are down to a recovery.
-use Rattle.fbl_law.proofs.Common.{◌≡◌, ℕ, ◌+◌, ◌-◌, ◌<◌, ◌≤◌, ◌⊎◌, inl, inr, [], List, length, map, Some, refl, ap, ◌∙◌, arith, slice_set}
-use Rattle.fbl_law.proofs.Common.{slice_index_or, filter, cases_lt, cases_eq, length-set, get_or-set_same, get_or-set_other, Determinant, Note, mark_of, Next, Lawful, Entry, found}
-use Rattle.fbl_law.proofs.Common.{MemberRecord, blank, logged_note, replayed_by, IsDown, Stays, IsEventCut, recovery_table, GroupRecord, member_checkpoint, channel, knowledge, receipts}
-use Rattle.fbl_law.proofs.Common.{receipts_at, IsReplayed, IsFold, IsSound, IsRecovery, IsMadeAgain, IsNextReplay, recovered_trace, stays_by}
+-- How the members that are down replay what the survivors have recorded, and from there to a recovery.
+use Rattle.fbl_law.proofs.Common.{◌≡◌, ℕ, suc, ◌+◌, ◌-◌, ◌<◌, ◌≤◌, ◌⊎◌, inl, inr, List, [], ◌∷◌, length, map, Some, slice_get, refl, sym, subst, ap}
+use Rattle.fbl_law.proofs.Common.{◌∙◌, arith, slice_set, length-append, cases_Bool, cases_lt, cases_eq, nat_tests, length-map, length-set, get_or-set_same, get_or-set_other}
+use Rattle.fbl_law.proofs.Common.{count_by-le-length, slice_get_within, slice_index_or, filter, Determinant, Note, mark_of, receipt_of, Has, is_receipt_of, is_send_of, WellFormed, Next}
+use Rattle.fbl_law.proofs.Common.{Lawful, numbered, sent-before, Entry, found, MemberRecord, blank, logged_note, replayed_by, length-numbered, Names, IsDown, Stays, IsEventCut}
+use Rattle.fbl_law.proofs.Common.{recovery_table, GroupRecord, member_checkpoint, channel, knowledge, receipts, receipts_at, IsReplayed, IsFold, IsSound, IsRecovery, IsMadeAgain}
+use Rattle.fbl_law.proofs.Common.{IsSentAgain, IsStuck, IsNextReplay, recovered_trace, stays_by, Bool, true, false, cond, zero}
+use Rattle.fbl_base.specs.declared.trace.Mark.TheVariants.{Send}
+use Rattle.fbl_table.specs.Tables.{is_of_receipt}
 use Rattle.fbl_law.specs.Replaying.{is_replayed, working, IsReplaying, IsWaiting, replayed_in, IsRebuilt}
+use Rattle.std.specs.List.{find}
+use Rattle.fbl_law.proofs.Lists.{Contains-here, Contains-there, Contains-place}
 use Rattle.fbl_law.proofs.Safe.{down_or_up}
-use Rattle.fbl_law.proofs.GroupRecovery.{cut-lawful, survivor-replays, fold-survives, checkpoint-survives}
-use Rattle.fbl_law.proofs.ReplayedRecords.{replayed-table, replayed-fold}
-use Rattle.fbl_law.proofs.ReplayFromGathered.{found-next, replay-room, replayed-next, replays-log, all-replayed}
+use Rattle.fbl_law.proofs.GatheredTables.{gathered_recorded, recorded_gathered}
+use Rattle.fbl_law.proofs.NeverStuck.{never_stuck}
+use Rattle.fbl_law.proofs.Notes.{send-at}
+use Rattle.fbl_law.proofs.Recovery.{cut-recorded, recorded-cut}
+use Rattle.fbl_law.proofs.GroupRecovery.{stays_by-cut, marks-cut, cut-lawful, cut-shorter, survivor-replays, fold-survives, checkpoint-survives}
+use Rattle.fbl_law.proofs.Logs.{logged-noted, logged-by, log-short}
+use Rattle.fbl_law.proofs.Receipts.{at-most, at-most-before, receipts_at-number, receipts_at-Has, Has-receipts_at, length-receipts_at}
+use Rattle.fbl_law.proofs.ReplayedRecords.{replayed-step, replayed-table, replayed-fold}
 use Rattle.fbl_law.proofs.Counting.{count_in-most, count_in-step, replayed-most, replayed-count}
 use Rattle.fbl_law.proofs.CutInOnePass.{recovered_trace-cut}
-use Rattle.fbl_law.proofs.CutByCounts.{stays_by-cut}
 use Rattle.fbl_law.proofs.ChannelsMadeAgain.{made-again, made-again-outside}
 use Rattle.fbl_law.proofs.ChannelCounts.{channel-outside}
+
+-- what a table finds is one of its entries' determinants, of that receipt
+pub found-named : (p k : ℕ) (table : List Entry) (d : Determinant) → found p k table ≡ Some d → Names table d × (d.to ≡ p) × (d.rsn ≡ k)
+found-named p k [] d is = absurd cc
+found-named p k (e ∷ table) d is = elim (cases_Bool (is_of_receipt p k e)) [
+  | inl own ↦ ((e, Contains-here e table, grind arith), grind (arith, nat_tests), grind (arith, nat_tests))
+  | inr other ↦ let r = found-named p k table d (rw other at is) in ((r.0.0, Contains-there e table r.0.0 r.0.1, r.0.2), r.1, r.2)
+]
+
+-- of a receipt that the table names it finds one
+find-some : {X : Type 0} (p : X → Bool) (xs : List X) (i : ℕ) (x : X) → slice_get xs i ≡ Some x → p x ≡ true → (y : X) × (find p xs ≡ Some y)
+find-some p [] i x here passes = absurd cc
+find-some p (y ∷ xs) zero x here passes = (y, grind arith)
+find-some {X} p (y ∷ xs) (suc i) x here passes =
+    elim (p y) as (λ b. (z : X) × (cond b (Some y) (find p xs) ≡ Some z)) [ true ↦ (y, refl) | false ↦ find-some p xs i x here passes ]
+
+found-some : (p k : ℕ) (table : List Entry) (d : Determinant) → Names table d → d.to ≡ p → d.rsn ≡ k → (c : Determinant) × (found p k table ≡ Some c)
+found-some p k table d named to rsn =
+    let r = find-some (is_of_receipt p k) table named.1.0 named.0 (Contains-place table named.0 named.1) (rw (named.2, to, rsn) grind (arith, nat_tests)) in
+    (r.0.det, rw r.1 refl)
 
 -- a record with a table that it has
 pub with-table : (m : MemberRecord) (t : List Entry) → m.table ≡ t → m ≡ record m { table = t }
@@ -25,14 +55,32 @@ module _ (next : Next) (old : GroupRecord) (sound : IsSound next old) where
   abbrev lawful : Lawful next old.config.members old.config.starts (recovered_trace old)
   lawful = (cut-lawful sound cut).0
 
+  -- the member has come so far in its replay of the cut
   abbrev Replays : ℕ → MemberRecord → Type 0
   Replays p m = IsReplayed next old.config.members old.config.starts (recovered_trace old) p m
 
-  pub working-replays : (rebuilt : List MemberRecord) → IsReplaying next old rebuilt → (q : ℕ) → q < old.config.members → Replays q (working old rebuilt q)
-  working-replays rebuilt replaying q below = elim (down_or_up old.down q) [
-    | inl down ↦ rw down (replaying.replayed q below down)
-    | inr up ↦ rw up (survivor-replays sound cut q below up).0
-  ]
+  -- a member's receipts in the cut
+  abbrev left : ℕ → List Determinant
+  left p = receipts_at (map mark_of (recovered_trace old)) p
+
+  cut-short : length (map mark_of (recovered_trace old)) ≤ 8192
+  cut-short = omega (arith, cut-shorter sound cut, sound.room, sound.config.limit.1, length-map (recovered_trace old) mark_of)
+
+  -- what the gathered tables find of a member is its receipt in the cut with that number
+  found-receipt : (p k : ℕ) (d : Determinant) → found p (k + 1) (recovery_table (knowledge old)) ≡ Some d → slice_get (left p) k ≡ Some d
+  found-receipt p k d is =
+      let named = found-named p (k + 1) (recovery_table (knowledge old)) d is in
+      let recorded = gathered_recorded sound.causes d named.0 in
+      Has-receipts_at old.config.members (map mark_of (recovered_trace old)) p k d lawful.well_formed (recorded-cut sound.causes (marks-cut old.trace cut) d recorded) named.1 named.2
+
+  -- and they find each receipt of the cut
+  found-all : (p k : ℕ) (d : Determinant) → slice_get (left p) k ≡ Some d → found p (k + 1) (recovery_table (knowledge old)) ≡ Some d
+  found-all p k d here =
+      let has = receipts_at-Has (map mark_of (recovered_trace old)) p k d here in
+      let named = recorded_gathered sound.causes d (cut-recorded sound.causes (marks-cut old.trace cut) d has.0) in
+      let some =
+      found-some p (k + 1) (recovery_table (knowledge old)) d named has.1 (receipts_at-number old.config.members (map mark_of (recovered_trace old)) p k d lawful.well_formed here) in
+      some.1 ∙ sym (found-receipt p k some.0 some.1) ∙ here
 
   -- each member that is down begins at its checkpoint
   pub replay_begins : (rebuilt : List MemberRecord) → length rebuilt ≡ old.config.members
@@ -43,131 +91,177 @@ module _ (next : Next) (old : GroupRecord) (sound : IsSound next old) where
     begun = λ p below down. rw (begins p below down) (omega arith);
   }
 
-  -- what the gathered tables find is the next receipt
-  pub replaying-next : (rebuilt : List MemberRecord) (p : ℕ) (d : Determinant) → IsReplaying next old rebuilt → p < old.config.members → IsDown (knowledge old) p
-      → found p ((slice_index_or rebuilt p blank).received + 1) (recovery_table (knowledge old)) ≡ Some d → IsNextReplay old.config.members p (slice_index_or rebuilt p blank) d
-  replaying-next rebuilt p d replaying below down is = found-next sound cut p (slice_index_or rebuilt p blank) d (replaying.replayed p below down) is
+  module _ (rebuilt : List MemberRecord) (replaying : IsReplaying next old rebuilt) where
+    abbrev current : ℕ → MemberRecord
+    current p = slice_index_or rebuilt p blank
 
-  -- its step's sends have room in the log
-  pub replaying-room : (rebuilt : List MemberRecord) (p : ℕ) (d : Determinant) (note : Note) → IsReplaying next old rebuilt → p < old.config.members → IsDown (knowledge old) p
-      → found p ((slice_index_or rebuilt p blank).received + 1) (recovery_table (knowledge old)) ≡ Some d → logged_note (working old rebuilt d.from).log d.ssn ≡ Some note
-      → length (slice_index_or rebuilt p blank).log + length (next p old.config.members (slice_index_or rebuilt p blank).state note).sends.items ≤ 8192
-  replaying-room rebuilt p d note replaying below down is named =
-      replay-room sound cut p (slice_index_or rebuilt p blank) d (working old rebuilt d.from) note (replaying.replayed p below down) is
-      (working-replays rebuilt replaying d.from (replaying-next rebuilt p d replaying below down is).from) named
+    working-replays : (q : ℕ) → q < old.config.members → Replays q (working old rebuilt q)
+    working-replays q below = elim (down_or_up old.down q) [
+      | inl down ↦ rw down (replaying.replayed q below down)
+      | inr up ↦ rw up (survivor-replays sound cut q below up).0
+    ]
 
-  -- its replay
-  pub replay_is_right : (rebuilt : List MemberRecord) (p : ℕ) (d : Determinant) (note : Note) → IsReplaying next old rebuilt → p < old.config.members → IsDown (knowledge old) p
-      → found p ((slice_index_or rebuilt p blank).received + 1) (recovery_table (knowledge old)) ≡ Some d → logged_note (working old rebuilt d.from).log d.ssn ≡ Some note
-      → IsReplaying next old (slice_set rebuilt p (replayed_by next p old.config.members (slice_index_or rebuilt p blank) d note))
-  replay_is_right rebuilt p d note replaying below down is named = record {
-    size = length-set rebuilt p after ∙ replaying.size;
-    replayed = λ q below_q down_q. elim (cases_eq q p) [
-      | inl same ↦ rw (same, own) there
-      | inr other ↦ rw (get_or-set_other rebuilt p q after blank other) (replaying.replayed q below_q down_q)
-    ];
-    begun = λ q below_q down_q. elim (cases_eq q p) [
-      | inl same ↦ rw (same, own) (omega (arith, replaying.begun p below down))
-      | inr other ↦ rw (get_or-set_other rebuilt p q after blank other) (replaying.begun q below_q down_q)
-    ];
-  }
-    where
-      after : MemberRecord
-      after = replayed_by next p old.config.members (slice_index_or rebuilt p blank) d note
+    replays-log : (q : ℕ) (m : MemberRecord) → Replays q m → length m.log ≤ 8192
+    replays-log q m replays = omega (arith, log-short lawful replays, count_by-le-length (is_send_of q) (map mark_of (recovered_trace old)), cut-short)
 
-      there : Replays p after
-      there = replayed-next sound cut p (slice_index_or rebuilt p blank) d (working old rebuilt d.from) note (replaying.replayed p below down) is
-          (working-replays rebuilt replaying d.from (replaying-next rebuilt p d replaying below down is).from) named
+    -- the logs stay within their bound
+    pub working-log : (q : ℕ) → q < old.config.members → length (working old rebuilt q).log ≤ 8192
+    working-log q below = replays-log q (working old rebuilt q) (working-replays q below)
 
-      own : slice_index_or (slice_set rebuilt p after) p blank ≡ after
-      own = get_or-set_same rebuilt p after blank (omega (arith, replaying.size, below))
+    -- no more are replayed than the trace has
+    pub replayed_in-short : replayed_in old rebuilt ≤ 8192
+    replayed_in-short =
+        let fewer = count_in-most old.down (λ p. (current p).received - (member_checkpoint old p).received) (λ p. (current p).received) old.config.members (λ p below down. omega arith) in
+        omega (arith, fewer, replayed-most sound cut current replaying.replayed, sound.room, sound.config.limit.1)
 
-  -- one more is replayed
-  pub replayed_in-step : (rebuilt : List MemberRecord) (p : ℕ) (d : Determinant) (note : Note) → IsReplaying next old rebuilt → p < old.config.members → IsDown (knowledge old) p
-      → replayed_in old (slice_set rebuilt p (replayed_by next p old.config.members (slice_index_or rebuilt p blank) d note)) ≡ replayed_in old rebuilt + 1
-  replayed_in-step rebuilt p d note replaying below down =
-      let after = replayed_by next p old.config.members (slice_index_or rebuilt p blank) d note in
-      let own = ap (λ (m : MemberRecord). m.received) (get_or-set_same rebuilt p after blank (omega (arith, replaying.size, below))) in
-      count_in-step old.down (λ q. (slice_index_or rebuilt q blank).received - (member_checkpoint old q).received)
-      (λ q. (slice_index_or (slice_set rebuilt p after) q blank).received - (member_checkpoint old q).received) old.config.members p below down
-      (omega (arith, own, replaying.begun p below down))
-      (λ q other. ap (λ (m : MemberRecord). m.received - (member_checkpoint old q).received) (get_or-set_other rebuilt p q after blank other))
+    -- new tables change nothing of the replay
+    pub replaying-tables : (given : List MemberRecord) (t : List Entry) → length given ≡ length rebuilt
+        → ((p : ℕ) → p < old.config.members → IsDown (knowledge old) p → slice_index_or given p blank ≡ record (current p) { table = t }) → IsReplaying next old given
+    replaying-tables given t size same = record {
+      size = size ∙ replaying.size;
+      replayed = λ p below down. rw (same p below down)
+          (replayed-table next old.config.members old.config.starts (recovered_trace old) p (current p) t (replaying.replayed p below down));
+      begun = λ p below down. rw (same p below down) (replaying.begun p below down);
+    }
 
-  -- no more are replayed than the trace has
-  pub replayed_in-short : (rebuilt : List MemberRecord) → IsReplaying next old rebuilt → replayed_in old rebuilt ≤ 8192
-  replayed_in-short rebuilt replaying =
-      let fewer = count_in-most old.down (λ p. (slice_index_or rebuilt p blank).received - (member_checkpoint old p).received)
-      (λ p. (slice_index_or rebuilt p blank).received) old.config.members (λ p below down. omega arith) in
-      omega (arith, fewer, replayed-most sound cut (λ p. slice_index_or rebuilt p blank) replaying.replayed, sound.room, sound.config.limit.1)
+    -- a member that is down goes on with a receipt that the gathered tables find
+    module _ (p : ℕ) (below : p < old.config.members) (down : IsDown (knowledge old) p) (d : Determinant) where
+      module _ (note : Note) where
+        abbrev after : MemberRecord
+        after = replayed_by next p old.config.members (current p) d note
 
-  -- the logs stay within their bound
-  pub working-log : (rebuilt : List MemberRecord) → IsReplaying next old rebuilt → (q : ℕ) → q < old.config.members → length (working old rebuilt q).log ≤ 8192
-  working-log rebuilt replaying q below = replays-log sound cut q (working old rebuilt q) (working-replays rebuilt replaying q below)
+        own : slice_index_or (slice_set rebuilt p after) p blank ≡ after
+        own = get_or-set_same rebuilt p after blank (omega (arith, replaying.size, below))
 
-  -- new tables change nothing of the replay
-  pub replaying-tables : (rebuilt given : List MemberRecord) (t : List Entry) → IsReplaying next old rebuilt → length given ≡ length rebuilt
-      → ((p : ℕ) → p < old.config.members → IsDown (knowledge old) p → slice_index_or given p blank ≡ record (slice_index_or rebuilt p blank) { table = t }) → IsReplaying next old given
-  replaying-tables rebuilt given t replaying size same = record {
-    size = size ∙ replaying.size;
-    replayed = λ p below down. rw (same p below down)
-        (replayed-table next old.config.members old.config.starts (recovered_trace old) p (slice_index_or rebuilt p blank) t (replaying.replayed p below down));
-    begun = λ p below down. rw (same p below down) (replaying.begun p below down);
-  }
+        -- one more is replayed
+        pub replayed_in-step : replayed_in old (slice_set rebuilt p after) ≡ replayed_in old rebuilt + 1
+        replayed_in-step =
+            count_in-step old.down (λ q. (current q).received - (member_checkpoint old q).received)
+            (λ q. (slice_index_or (slice_set rebuilt p after) q blank).received - (member_checkpoint old q).received) old.config.members p below down
+            (omega (arith, ap (λ (m : MemberRecord). m.received) own, replaying.begun p below down))
+            (λ q other. ap (λ (m : MemberRecord). m.received - (member_checkpoint old q).received) (get_or-set_other rebuilt p q after blank other))
 
-  -- where each member that is down waits, all is replayed
-  module _ (rebuilt : List MemberRecord) (replaying : IsReplaying next old rebuilt) (waiting : (p : ℕ) → p < old.config.members → IsDown (knowledge old) p → IsWaiting old rebuilt p) where
-    pub replay_ends : (p : ℕ) → p < old.config.members → IsDown (knowledge old) p
-        → (slice_index_or rebuilt p blank).received ≡ length (receipts_at (map mark_of (recovered_trace old)) p)
-    replay_ends p below down = rw down at (
-        all-replayed sound cut (working old rebuilt) (working-replays rebuilt replaying) (λ q below_q up. rw up (survivor-replays sound cut q below_q up).1)
-        (λ q d below_q down_q is. waiting q below_q down_q d (rw down_q at is)) p below
-        )
+      module _ (is : found p ((current p).received + 1) (recovery_table (knowledge old)) ≡ Some d) where
+        -- it is that of the member's next number, from another member
+        pub replaying-next : IsNextReplay old.config.members p (current p) d
+        replaying-next =
+            let here = found-receipt p (current p).received d is in
+            let has = receipts_at-Has (map mark_of (recovered_trace old)) p (current p).received d here in
+            let may = lawful.well_formed has.0.0 (receipt_of d) has.0.1 in
+            let within = slice_get_within (left p) (current p).received d here in
+            record {
+              to = has.1;
+              rsn = receipts_at-number old.config.members (map mark_of (recovered_trace old)) p (current p).received d lawful.well_formed here;
+              from = may.0;
+              other = λ same. may.2 (same ∙ sym has.1);
+              room = omega (arith, within, length-receipts_at (map mark_of (recovered_trace old)) p, count_by-le-length (is_receipt_of p) (map mark_of (recovered_trace old)), cut-short);
+            }
 
-    -- as many are replayed as the trace has of the members that are down, beyond those of their checkpoints
-    pub replayed_in-all : replayed_in old rebuilt ≡ length (filter (is_replayed old) (receipts (map mark_of (recovered_trace old))))
-    replayed_in-all = replayed-count sound cut (λ p. slice_index_or rebuilt p blank) (λ p. (member_checkpoint old p).received) replay_ends
+        module _ (note : Note) (named : logged_note (working old rebuilt d.from).log d.ssn ≡ Some note) where
+          there : Replays p (after note)
+          there =
+              replayed-step next old.config.members old.config.starts (recovered_trace old) p (current p) d note lawful.well_formed (replaying.replayed p below down)
+              (found-receipt p (current p).received d is) (logged-noted lawful (working-replays d.from replaying-next.from) d.ssn note named)
 
-    -- the events that stay are those that the counts of the members that were down cover
-    pub recovered_trace-rebuilt : filter (λ e. stays_by old.down (λ p. slice_index_or rebuilt p blank) (mark_of e)) old.trace ≡ recovered_trace old
-    recovered_trace-rebuilt = stays_by-cut next old sound (recovered_trace old) cut (λ p. slice_index_or rebuilt p blank) replaying.replayed replay_ends
+          -- its step's sends have room in the log
+          pub replaying-room : length (current p).log + length (next p old.config.members (current p).state note).sends.items ≤ 8192
+          replaying-room =
+              let items = (next p old.config.members (current p).state note).sends.items in
+              omega (arith, replays-log p (after note) there, length-append (current p).log (numbered (length (current p).log) items), length-numbered (length (current p).log) items)
 
-    -- so a group with these records, and with channels made again, is the group recovered
-    module _ (new : GroupRecord) (step : IsRebuilt old new rebuilt) where
-      is-lawful : Lawful next new.config.members new.config.starts new.trace
-      is-lawful = rw (step.rest.config, step.trace) lawful
+          -- its replay
+          pub replay_is_right : IsReplaying next old (slice_set rebuilt p (after note))
+          replay_is_right = record {
+            size = length-set rebuilt p (after note) ∙ replaying.size;
+            replayed = λ q below_q down_q. elim (cases_eq q p) [
+              | inl same ↦ rw (same, own note) there
+              | inr other ↦ rw (get_or-set_other rebuilt p q (after note) blank other) (replaying.replayed q below_q down_q)
+            ];
+            begun = λ q below_q down_q. elim (cases_eq q p) [
+              | inl same ↦ rw (same, own note) (omega (arith, replaying.begun p below down))
+              | inr other ↦ rw (get_or-set_other rebuilt p q (after note) blank other) (replaying.begun q below_q down_q)
+            ];
+          }
 
-      rebuilt-fold : (m : ℕ) → m < old.config.members → IsDown (knowledge old) m → IsFold next new m
-      rebuilt-fold m below down =
-          replayed-fold next new m is-lawful.well_formed
-          (rw (step.rest.config, step.trace, step.rebuilt m below down)
-          (replayed-table next old.config.members old.config.starts (recovered_trace old) m (slice_index_or rebuilt m blank) (recovery_table (knowledge old)) (replaying.replayed m below down)))
-          (rw (step.trace, step.rebuilt m below down) (replay_ends m below down))
+    -- where each member that is down waits, all is replayed
+    module _ (waiting : (p : ℕ) → p < old.config.members → IsDown (knowledge old) p → IsWaiting old rebuilt p) where
+      -- a message whose sender has replayed all that comes before it is in the sender's log
+      sent-again : (q k to : ℕ) → q < old.config.members → Has (map mark_of (recovered_trace old)) (Send q k to)
+          → IsSentAgain (map mark_of (recovered_trace old)) (λ m. (working old rebuilt m).received) q k to → (note : Note) × (logged_note (working old rebuilt q).log k ≡ Some note)
+      sent-again q k to below has sent =
+          let here = send-at (recovered_trace old) has.0 q k to has.1 in
+          logged-by lawful (working-replays q below) has.0 k to here.0 here.1
+          (at-most-before old.config.members (map mark_of (recovered_trace old)) q (working old rebuilt q).received has.0 lawful.well_formed
+          (λ i c before there at_q. sent c at_q (i, has.0, before, there, has.1)))
 
-      fold-all : (m : ℕ) → m < old.config.members → IsFold next new m
-      fold-all m below = elim (down_or_up old.down m) [
-        | inl down ↦ rebuilt-fold m below down
-        | inr up ↦ fold-survives sound cut new m below up step.trace step.rest.config (step.rest.survivors m up)
-      ]
+      is-stuck : IsStuck (map mark_of (recovered_trace old)) (λ q. (working old rebuilt q).received)
+      is-stuck d has number sent =
+          let may = lawful.well_formed has.0 (receipt_of d) has.1 in
+          let here = Has-receipts_at old.config.members (map mark_of (recovered_trace old)) d.to (working old rebuilt d.to).received d lawful.well_formed has refl number in
+          elim (down_or_up old.down d.to) [
+            | inr up ↦
+                let within = rw up at (slice_get_within (left d.to) (working old rebuilt d.to).received d here) in
+                omega (arith, within, (survivor-replays sound cut d.to may.1 up).1)
+            | inl down ↦
+                let none = waiting d.to may.1 down d (rw down at (found-all d.to (working old rebuilt d.to).received d here)) in
+                let front = sent-before old.config.members (map mark_of (recovered_trace old)) lawful.well_formed has.0 d.to d.rsn d.from d.ssn has.1 in
+                let some = sent-again d.from d.ssn d.to may.0 (front.0, front.2) sent in
+                let some-is = some.1 in
+                cc
+          ]
 
-      outside : (q p : ℕ) → (old.config.members ≤ q) ⊎ (old.config.members ≤ p) → channel new q p ≡ []
-      outside q p out = channel-outside old.config.members new.channels q p step.rest.shape out
+      pub replay_ends : (p : ℕ) → p < old.config.members → IsDown (knowledge old) p → (current p).received ≡ length (left p)
+      replay_ends p below down =
+          let most = at-most old.config.members (map mark_of (recovered_trace old)) p (working old rebuilt p).received lawful.well_formed (λ d has to.
+          subst (λ (x : ℕ). d.rsn ≤ (working old rebuilt x).received) to
+          (never_stuck old.config.members (map mark_of (recovered_trace old)) (λ q. (working old rebuilt q).received) lawful.well_formed is-stuck d has)) in
+          omega (arith, rw down at most, (replaying.replayed p below down).within)
 
-      made : (q p : ℕ) → IsDown (knowledge old) q ⊎ IsDown (knowledge old) p → IsMadeAgain new q p
-      made q p down = elim (cases_lt q old.config.members) [
-        | inr past ↦ made-again-outside new q p is-lawful.well_formed (inl (rw step.rest.config past)) (outside q p (inl past))
-        | inl below_q ↦ elim (cases_lt p old.config.members) [
-          | inr past ↦ made-again-outside new q p is-lawful.well_formed (inr (rw step.rest.config past)) (outside q p (inr past))
-          | inl below_p ↦
-              made-again next new is-lawful q p (fold-all q below_q) (fold-all p below_p) (omega (arith, below_q, sound.config.members.1))
-              (step.resent q p down below_q below_p ∙ rw step.rest.config refl)
+      -- as many are replayed as the trace has of the members that are down, beyond those of their checkpoints
+      pub replayed_in-all : replayed_in old rebuilt ≡ length (filter (is_replayed old) (receipts (map mark_of (recovered_trace old))))
+      replayed_in-all = replayed-count sound cut current (λ p. (member_checkpoint old p).received) replay_ends
+
+      -- the events that stay are those that the counts of the members that were down cover
+      pub recovered_trace-rebuilt : filter (λ e. stays_by old.down current (mark_of e)) old.trace ≡ recovered_trace old
+      recovered_trace-rebuilt = stays_by-cut sound cut current replaying.replayed replay_ends
+
+      -- so a group with these records, and with channels made again, is the group recovered
+      module _ (new : GroupRecord) (step : IsRebuilt old new rebuilt) where
+        is-lawful : Lawful next new.config.members new.config.starts new.trace
+        is-lawful = rw (step.rest.config, step.trace) lawful
+
+        rebuilt-fold : (m : ℕ) → m < old.config.members → IsDown (knowledge old) m → IsFold next new m
+        rebuilt-fold m below down =
+            replayed-fold next new m is-lawful.well_formed
+            (rw (step.rest.config, step.trace, step.rebuilt m below down)
+            (replayed-table next old.config.members old.config.starts (recovered_trace old) m (slice_index_or rebuilt m blank) (recovery_table (knowledge old)) (replaying.replayed m below down)))
+            (rw (step.trace, step.rebuilt m below down) (replay_ends m below down))
+
+        fold-all : (m : ℕ) → m < old.config.members → IsFold next new m
+        fold-all m below = elim (down_or_up old.down m) [
+          | inl down ↦ rebuilt-fold m below down
+          | inr up ↦ fold-survives sound cut new m below up step.trace step.rest.config (step.rest.survivors m up)
         ]
-      ]
 
-      pub rebuilt_is_recovered : IsRecovery next old new
-      rebuilt_is_recovered = record {
-        rest = step.rest;
-        trace = rw step.trace cut;
-        folds = rebuilt-fold;
-        gathered = λ m below down. ap (λ (x : MemberRecord). x.table) (step.rebuilt m below down);
-        made_again = made;
-      }
+        outside : (q p : ℕ) → (old.config.members ≤ q) ⊎ (old.config.members ≤ p) → IsMadeAgain new q p
+        outside q p out = made-again-outside new q p is-lawful.well_formed (rw step.rest.config out) (channel-outside old.config.members new.channels q p step.rest.shape out)
+
+        made : (q p : ℕ) → IsDown (knowledge old) q ⊎ IsDown (knowledge old) p → IsMadeAgain new q p
+        made q p down = elim (cases_lt q old.config.members) [
+          | inr past ↦ outside q p (inl past)
+          | inl below_q ↦ elim (cases_lt p old.config.members) [
+            | inr past ↦ outside q p (inr past)
+            | inl below_p ↦
+                made-again next new is-lawful q p (fold-all q below_q) (fold-all p below_p) (omega (arith, below_q, sound.config.members.1))
+                (step.resent q p down below_q below_p ∙ rw step.rest.config refl)
+          ]
+        ]
+
+        pub rebuilt_is_recovered : IsRecovery next old new
+        rebuilt_is_recovered = record {
+          rest = step.rest;
+          trace = rw step.trace cut;
+          folds = rebuilt-fold;
+          gathered = λ m below down. ap (λ (x : MemberRecord). x.table) (step.rebuilt m below down);
+          made_again = made;
+        }

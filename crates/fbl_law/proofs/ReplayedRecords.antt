@@ -1,11 +1,11 @@
 -- A member that replays its receipts one after the other.
-use Rattle.fbl_law.proofs.Common.{◌≡◌, ℕ, zero, suc, ◌<◌, ◌≤◌, ◌==◌, cond, List, [], ◌∷◌, length, take, map, get_or, Some, slice_get, refl, sym, ap, ◌∙◌}
-use Rattle.fbl_law.proofs.Common.{arith, inl, inr, slice_set, cases_eq, eq-eqb, ne_eqb, take_all, length-set, get_or-set_same, get_or-set_other, fold_push, slice_get_within, Determinant}
-use Rattle.fbl_law.proofs.Common.{Note, Start, Event, mark_of, receipt_of, Has, WellFormed, Next, Progress, advanced, begun, after_notes, note_of, receipts-noted, Entry, MemberRecord, fresh}
-use Rattle.fbl_law.proofs.Common.{replayed_by, GroupRecord, member, marks, received_notes, IsFold, receipts_at, last_among, IsReplayed}
+use Rattle.fbl_law.proofs.Common.{◌≡◌, ℕ, zero, suc, ◌≤◌, ◌==◌, cond, List, length, take, map, Some, slice_get, refl, sym, ap, ◌∙◌, arith, nat_tests, take_all}
+use Rattle.fbl_law.proofs.Common.{length-set, get_or-set_same, get_or-set_other, slice_get_within, Determinant, Note, Start, Event, mark_of, receipt_of, Has, WellFormed, Next, Progress}
+use Rattle.fbl_law.proofs.Common.{advanced, begun, after_notes, note_of, receipts-noted, Entry, MemberRecord, fresh, replayed_by, GroupRecord, member, marks, received_notes, IsFold}
+use Rattle.fbl_law.proofs.Common.{receipts_at, IsReplayed}
 use Rattle.std.proofs.lemmas.List.{length-replicate, get_or-replicate}
-use Rattle.fbl_base.proofs.FoldLaws.{after_notes-push}
-use Rattle.fbl_table.proofs.Adding.{take-next}
+use Rattle.fbl_base.proofs.Gets.{take-more}
+use Rattle.fbl_table.proofs.Adding.{fold_next}
 use Rattle.fbl_law.proofs.Lists.{some-at}
 use Rattle.fbl_law.proofs.Logs.{received-fold}
 use Rattle.fbl_law.proofs.Notes.{receipt-at}
@@ -27,22 +27,13 @@ pub replayed-step : (next : Next) (n : ℕ) (starts : List Start) (trace : List 
 replayed-step next n starts trace p m d note obeys replayed here noted = record {
   within = (let below = slice_get_within (receipts_at (map mark_of trace) p) m.received d here in omega (arith, below));
   progress =
-      ap (λ (x : Progress). advanced next p n x note) replayed.progress ∙ sym (after_notes-push next p n starts (take m.received (received_notes trace p)) note)
-      ∙ ap (λ (xs : List Note). after_notes next p n starts xs) (sym (take-next (received_notes trace p) m.received note (note-at n trace p m.received d note obeys here noted)));
+      ap (λ (x : Progress). advanced next p n x note) replayed.progress
+      ∙ sym (fold_next (advanced next p n) (begun p starts) (received_notes trace p) m.received note (note-at n trace p m.received d note obeys here noted));
   places = length-set m.last d.from d.ssn ∙ replayed.places;
   last = λ q below.
-      at q below
-      ∙ sym (ap (λ (ds : List Determinant). last_among ds q) (take-next (receipts_at (map mark_of trace) p) m.received d here)
-      ∙ fold_push (λ last (x : Determinant). cond (x.from == q) x.ssn last) 0 (take m.received (receipts_at (map mark_of trace) p)) d);
+      grind (arith, nat_tests, get_or-set_same m.last d.from d.ssn 0, get_or-set_other m.last d.from q d.ssn 0, replayed.places, replayed.last q below)
+      ∙ sym (fold_next (λ last (x : Determinant). cond (x.from == q) x.ssn last) 0 (receipts_at (map mark_of trace) p) m.received d here);
 }
-  where
-    at : (q : ℕ) → q < 16 → get_or (slice_set m.last d.from d.ssn) q 0 ≡ cond (d.from == q) d.ssn (last_among (take m.received (receipts_at (map mark_of trace) p)) q)
-    at q below = elim (cases_eq d.from q) [
-      | inl same ↦
-          let is = eq-eqb d.from q same in
-          rw (is, ← same) (get_or-set_same m.last d.from d.ssn 0 (omega (arith, replayed.places, same, below)))
-      | inr other ↦ rw (ne_eqb d.from q other) (get_or-set_other m.last d.from q d.ssn 0 (λ same. other (sym same)) ∙ replayed.last q below)
-    ]
 
 -- the table is no part of a replay
 pub replayed-table : (next : Next) (n : ℕ) (starts : List Start) (trace : List Event) (p : ℕ) (m : MemberRecord) (t : List Entry)
@@ -52,9 +43,8 @@ replayed-table next n starts trace p m t replayed = record { within = replayed.w
 -- a member at the fold of its receipts has replayed them all
 pub fold-received : (next : Next) (r : GroupRecord) (m : ℕ) → WellFormed r.config.members (marks r) → IsFold next r m → (member r m).received ≡ length (receipts_at (marks r) m)
 fold-received next r m obeys fold' =
-    let count : (after_notes next m r.config.members r.config.starts (received_notes r.trace m)).received ≡ length (received_notes r.trace m) =
-    received-fold next m r.config.members (begun m r.config.starts) (received_notes r.trace m) ∙ omega arith in
-    ap (λ (x : Progress). x.received) fold'.progress ∙ count ∙ length-received_notes r.config.members r.trace m obeys
+    let count = received-fold next m r.config.members (begun m r.config.starts) (received_notes r.trace m) in
+    omega (arith, ap (λ (x : Progress). x.received) fold'.progress, count, length-received_notes r.config.members r.trace m obeys)
 
 -- a member with as many receipts as the trace has of it has them all
 pub all-taken : (n : ℕ) (t : List Event) (p k : ℕ) → WellFormed n (map mark_of t) → k ≡ length (receipts_at (map mark_of t) p)
@@ -84,16 +74,9 @@ replayed-fold next r m obeys replayed count =
       last = λ q below. rw all.1 at (replayed.last q below) ∙ sym (last_taken-among (marks r) q m);
     }
 
--- lists that agree on their first elements
-take-agree : {X : Type 0} (k : ℕ) (xs ys : List X) → k ≤ length xs → ((j : ℕ) (x : X) → j < k → slice_get xs j ≡ Some x → slice_get ys j ≡ Some x)
-    → (k ≤ length ys) × (take k xs ≡ take k ys)
-take-agree zero xs ys within agree = (omega arith, refl)
-take-agree (suc k) [] ys within agree = absurd (omega arith)
-take-agree (suc k) (x ∷ xs) [] within agree = (let e = agree 0 x (omega arith) refl in cc)
-take-agree (suc k) (x ∷ xs) (y ∷ ys) within agree =
-    let first = agree 0 x (omega arith) refl in
-    let rest = take-agree k xs ys (omega arith) (λ j z below at. agree (suc j) z (omega arith) at) in
-    (omega (arith, rest.0), cc)
+-- lists that agree on their first elements and on one more
+take-same : {X : Type 0} (k : ℕ) (xs ys : List X) (x : X) → slice_get xs k ≡ Some x → slice_get ys k ≡ Some x → take k xs ≡ take k ys → take (suc k) xs ≡ take (suc k) ys
+take-same k xs ys x at_xs at_ys same = rw (take-more xs k x at_xs, take-more ys k x at_ys, same)
 
 -- a member that has replayed its first receipts of a trace has replayed them of another trace that has them too, where the
 -- two agree on the notes
@@ -102,18 +85,12 @@ pub replayed-kept : (next : Next) (n : ℕ) (starts : List Start) (old new : Lis
     → ((d : Determinant) → Has (map mark_of old) (receipt_of d) → d.to ≡ p → d.rsn ≤ m.received → Has (map mark_of new) (receipt_of d))
     → IsReplayed next n starts old p m → IsReplayed next n starts new p m
 replayed-kept next n starts old new p m obeys_old obeys_new agree stays replayed = record {
-  within = receipts.0;
-  progress = rw notes.1 at replayed.progress;
+  within = (same m.received (omega arith)).0;
+  progress = rw (same m.received (omega arith)).2 at replayed.progress;
   places = replayed.places;
-  last = λ q below. rw receipts.1 at (replayed.last q below);
+  last = λ q below. rw (same m.received (omega arith)).1 at (replayed.last q below);
 }
   where
-    there : (j : ℕ) (d : Determinant) → j < m.received → slice_get (receipts_at (map mark_of old) p) j ≡ Some d → slice_get (receipts_at (map mark_of new) p) j ≡ Some d
-    there j d below here =
-        let has = receipts_at-Has (map mark_of old) p j d here in
-        let number = receipts_at-number n (map mark_of old) p j d obeys_old here in
-        Has-receipts_at n (map mark_of new) p j d obeys_new (stays d has.0 has.1 (omega (arith, number, below))) has.1 number
-
     noted : (t : List Event) → WellFormed n (map mark_of t) → (j : ℕ) (d : Determinant) → slice_get (receipts_at (map mark_of t) p) j ≡ Some d
         → (x : Note) × (note_of t d.from d.ssn ≡ Some x) × (slice_get (received_notes t p) j ≡ Some x)
     noted t obeys j d here =
@@ -121,16 +98,19 @@ replayed-kept next n starts old new p m obeys_old obeys_new agree stays replayed
         let note = receipts-noted n t obeys has.0.0 d.to d.rsn d.from d.ssn (receipt-at t has.0.0 d.to d.rsn d.from d.ssn has.0.1) in
         (note.0, note.1, note-at n t p j d note.0 obeys here note.1)
 
-    same_note : (j : ℕ) (x : Note) → j < m.received → slice_get (received_notes old p) j ≡ Some x → slice_get (received_notes new p) j ≡ Some x
-    same_note j x below here =
-        let receipt = some-at (receipts_at (map mark_of old) p) j (omega (arith, replayed.within, below)) in
-        let was = noted old obeys_old j receipt.0 receipt.1 in
-        let now = noted new obeys_new j receipt.0 (there j receipt.0 below receipt.1) in
-        let same = agree receipt.0.from receipt.0.ssn was.0 now.0 was.1 now.1 in
-        now.2 ∙ ap Some (sym same) ∙ sym was.2 ∙ here
-
-    receipts : (m.received ≤ length (receipts_at (map mark_of new) p)) × (take m.received (receipts_at (map mark_of old) p) ≡ take m.received (receipts_at (map mark_of new) p))
-    receipts = take-agree m.received (receipts_at (map mark_of old) p) (receipts_at (map mark_of new) p) replayed.within there
-
-    notes : (m.received ≤ length (received_notes new p)) × (take m.received (received_notes old p) ≡ take m.received (received_notes new p))
-    notes = take-agree m.received (received_notes old p) (received_notes new p) (omega (arith, replayed.within, length-received_notes n old p obeys_old)) same_note
+    same : (k : ℕ) → k ≤ m.received → (k ≤ length (receipts_at (map mark_of new) p)) × (take k (receipts_at (map mark_of old) p) ≡ take k (receipts_at (map mark_of new) p))
+        × (take k (received_notes old p) ≡ take k (received_notes new p))
+    same zero few = (omega arith, refl, refl)
+    same (suc k) few =
+        let before = same k (omega arith) in
+        let d = some-at (receipts_at (map mark_of old) p) k (omega (arith, replayed.within, few)) in
+        let has = receipts_at-Has (map mark_of old) p k d.0 d.1 in
+        let number = receipts_at-number n (map mark_of old) p k d.0 obeys_old d.1 in
+        let here = Has-receipts_at n (map mark_of new) p k d.0 obeys_new (stays d.0 has.0 has.1 (omega (arith, number, few))) has.1 number in
+        let was = noted old obeys_old k d.0 d.1 in
+        let now = noted new obeys_new k d.0 here in
+        let note = agree d.0.from d.0.ssn was.0 now.0 was.1 now.1 in (
+          slice_get_within (receipts_at (map mark_of new) p) k d.0 here,
+          take-same k (receipts_at (map mark_of old) p) (receipts_at (map mark_of new) p) d.0 d.1 here before.1,
+          take-same k (received_notes old p) (received_notes new p) now.0 (was.2 ∙ ap Some note) now.2 before.2,
+        )

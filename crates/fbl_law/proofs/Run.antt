@@ -11,6 +11,7 @@ use Rattle.fbl_law.proofs.Checkpoint.{checkpoint_keeps}
 use Rattle.fbl_law.proofs.Recovery.{recovery_keeps}
 
 pub run_is_sound : RunIsSound
+unfolding RunIsSound
 run_is_sound n f start r s starts = record {
   rules = s.rules;
   truth = λ k e there among. absurd (Contains-none e (nothing k e there among));
@@ -34,6 +35,7 @@ run_is_sound n f start r s (checkpoints {old = old} {p = p} run step) = checkpoi
 run_is_sound n f start r s (recovers {old = old} run step) = recovery_keeps n f old r step (run_is_sound n f start old s run)
 
 pub run_is_held : RunIsHeld
+unfolding RunIsHeld RunIsSound
 run_is_held n f start r s run =
     let sound = run_is_sound n f start r s run in
     (IsAlwaysHeld-closed f r sound.closed, no_orphan f r sound.closed)

@@ -1,6 +1,6 @@
 -- What a closed record promises.
 use Rattle.fbl_law.proofs.Common.{List, ◌≡◌, ℕ, false, [], inl, inr, ◌⊎◌, arith, subst, refl, nat_cmp, Contains, cases_Bool, Members, Determinant, Mark, Has, Precedes, Depends}
-use Rattle.fbl_law.proofs.Common.{member_of, receipt_of, some_member, IsTrueEntry, in_table, in_checkpoint, IsHolder, Includes, Knowledge, table, checkpoint, IsUp, IsDown, Names, Holds}
+use Rattle.fbl_law.proofs.Common.{member_of, receipt_of, some_member, IsTrueEntry, in_table, in_checkpoint, IsHolder, Includes, Knowledge, table, checkpoint, IsUp, IsDown, Names}
 use Rattle.fbl_law.proofs.Common.{IsRecorded, IsStable, KnowsTruth, IsBeforeCheckpoint, IsClosed, IsDownEmpty, Message, Entry}
 use Rattle.std.specs.FinSet as set
 use Rattle.fbl_law.specs.Knowledge.{IsOrphan}
@@ -33,26 +33,16 @@ up_at_ends r empty q p v among = elim (down_or_both_up r.down q p) [ inl down �
 pub up_if_named : (f : ℕ) (r : Knowledge) → IsDownEmpty f r → (m : ℕ) (d : Determinant) → Names (table r m) d → IsUp r m
 up_if_named f r empty m d named = elim (down_or_up r.down m) [ inl down ↦ absurd (Contains-none named.0 (rw (empty.tables m down) at named.1)) | inr up ↦ up ]
 
--- what a member holds is recorded
-pub IsRecorded-held : (r : Knowledge) (d : Determinant) (m : ℕ) → Holds r d m → IsRecorded r d
-IsRecorded-held r d m holds = inl (m, holds)
-
--- and so is what a checkpoint names
-pub IsRecorded-saved : (r : Knowledge) (d : Determinant) (m : ℕ) → Names (checkpoint r m).table d → IsRecorded r d
-IsRecorded-saved r d m named = inr (m, named)
-
--- and so is what has a holder
+-- what has a holder is recorded
 pub recorded_holder : (r : Knowledge) (d : Determinant) (m : ℕ) → IsHolder r d m → IsRecorded r d
-recorded_holder r d m holder = elim holder [ inl holds ↦ IsRecorded-held r d m holds | inr down ↦ down.1 ]
-
-pub IsRecorded-stable : (f : ℕ) (r : Knowledge) (d : Determinant) → IsStable f r d → IsRecorded r d
-IsRecorded-stable f r d s =
-    let one = some_member s.0 (omega (arith, s.1)) in
-    recorded_holder r d one.0 (s.2 one.0 one.1)
+recorded_holder r d m holder = elim holder [ inl holds ↦ inl (m, holds) | inr down ↦ down.1 ]
 
 -- what is named or stable is recorded, where what is named is
 recorded_or : (f : ℕ) (r : Knowledge) (d : Determinant) {N : Type 0} → (N → IsRecorded r d) → N ⊎ IsStable f r d → IsRecorded r d
-recorded_or f r d recorded cause = elim cause [ inl named ↦ recorded named | inr stable ↦ IsRecorded-stable f r d stable ]
+recorded_or f r d recorded cause = elim cause [
+  | inl named ↦ recorded named
+  | inr stable ↦ let one = some_member stable.0 (omega (arith, stable.1)) in recorded_holder r d one.0 (stable.2 one.0 one.1)
+]
 
 -- what true entries name is in the trace
 pub Has-named : (r : Knowledge) (entries : List Entry) → ((e : Entry) → Contains entries e → IsTrueEntry r e) → (d : Determinant) → Names entries d → Has r.trace (receipt_of d)
@@ -66,19 +56,19 @@ Has-recorded r known d (inr saved) = Has-named r (checkpoint r saved.0).table (�
 -- what an up member depends on is recorded
 pub IsRecorded-depended : (f : ℕ) (r : Knowledge) → IsClosed f r → (d : Determinant) (m : ℕ) → IsUp r m → Depends r.trace m (receipt_of d) → IsRecorded r d
 IsRecorded-depended f r closed d m up depends =
-    recorded_or f r d (λ named. IsRecorded-held r d m (up, named)) (closed.events (in_table m) depends.0 up depends.2 d depends.1)
+    recorded_or f r d (λ named. inl (m, (up, named))) (closed.events (in_table m) depends.0 up depends.2 d depends.1)
 
 -- what precedes a recorded receipt is recorded
 pub IsRecorded-before : (f : ℕ) (r : Knowledge) → IsClosed f r → RecordsCauses r
 IsRecorded-before f r closed c d (inl held) before =
-    recorded_or f r c (λ named. IsRecorded-held r c held.0 (held.1.0, named)) (closed.named (in_table held.0) d held.1.0 held.1.1 c before)
+    recorded_or f r c (λ named. inl (held.0, (held.1.0, named))) (closed.named (in_table held.0) d held.1.0 held.1.1 c before)
 IsRecorded-before f r closed c d (inr saved) before =
-    recorded_or f r c (IsRecorded-saved r c saved.0) (closed.named (in_checkpoint saved.0) d tt saved.1 c before)
+    recorded_or f r c (λ named. inr (saved.0, named)) (closed.named (in_checkpoint saved.0) d tt saved.1 c before)
 
 -- what precedes an event from before its member's checkpoint is recorded
 pub IsRecorded-reached : (f : ℕ) (r : Knowledge) → IsClosed f r → (d : Determinant) (b : Mark) → IsBeforeCheckpoint r b → Precedes r.trace (receipt_of d) b → IsRecorded r d
 IsRecorded-reached f r closed d b reached before =
-    recorded_or f r d (IsRecorded-saved r d (member_of b)) (closed.events (in_checkpoint (member_of b)) b tt (refl, reached) d before)
+    recorded_or f r d (λ named. inr (member_of b, named)) (closed.events (in_checkpoint (member_of b)) b tt (refl, reached) d before)
 
 -- in a closed record no up member is an orphan
 pub no_orphan : (f : ℕ) (r : Knowledge) → IsClosed f r → (m : ℕ) → ¬ (IsOrphan r m)

@@ -1,46 +1,35 @@
 -- A strike keeps knowledge sound.
-use Rattle.fbl_law.proofs.Common.{ℕ, ◌≤◌, inl, inr, refl, sym, subst, Members, Includes, Knowledge, Store, in_table, in_message, in_checkpoint, IsThere, IsDown, IsUp}
+use Rattle.fbl_law.proofs.Common.{ℕ, ◌≤◌, ◌≡◌, false, inl, inr, refl, Members, Knowledge, Store, in_table, in_message, in_checkpoint, IsThere, IsUp}
 use Rattle.fbl_law.proofs.Common.{IsSoundKnowledge, IsStruck}
 use Rattle.std.specs.FinSet as set
 use Rattle.fbl_law.proofs.Tables.{Includes-left}
 use Rattle.fbl_law.proofs.Safe.{down_or_up, never_both, up_at_ends}
-use Rattle.fbl_law.proofs.Keeping.{KeepsKnowledge, IsSameStore, IsSoundAt, sound_kept, truth_everywhere, closed_everywhere}
+use Rattle.fbl_law.proofs.Keeping.{KeepsKnowledge, IsSameStore, sound_kept, checkpoint_kept, sound_after}
+
+-- who is up after a strike was up before it
+pub was_up : (old struck : Members) (m : ℕ) → set.contains (set.union old struck) m ≡ false → set.contains old m ≡ false
+was_up old struck m up = elim (down_or_up old m) [ inl down ↦ never_both (set.union old struck) m (Includes-left old struck m down) up | inr h ↦ h ]
 
 module _ (n f : ℕ) (old new : Knowledge) (struck : Members) (s : IsStruck old new struck) (few : set.len new.down ≤ f) (sound : IsSoundKnowledge n f old) where
-  stays_down : (m : ℕ) → IsDown old m → IsDown new m
-  stays_down m down = subst (λ (d : Members). Includes d m) (sym s.down) (Includes-left old.down struck m down)
+  up : (m : ℕ) → IsUp new m → IsUp old m
+  up m now = was_up old.down struck m (rw s.down at now)
 
-  was_up : (m : ℕ) → IsUp new m → IsUp old m
-  was_up m up = elim (down_or_up old.down m) [ inl down ↦ never_both new.down m (stays_down m down) up | inr h ↦ h ]
-
-  keeps : KeepsKnowledge f old new
+  keeps : KeepsKnowledge n f old new
   keeps = record {
+    rules = rw s.trace sound.rules;
     down = record { few = few; tables = s.blank; channels = s.emptied };
-    held = λ d m up holder. elim holder [ inl holds ↦ (up, rw (s.tables m up) holds.1) | inr was ↦ never_both new.down m (stays_down m was.0) up ];
-    receipts = λ d recorded there. rw s.trace there;
+    channels = λ q p up_q up_p. rw (s.channels q p up_q up_p, s.trace) (sound.channels q p (up q up_q) (up p up_p));
+    held = λ d m now holder. elim holder [ inl holds ↦ (now, rw (s.tables m now) holds.1) | inr was ↦ never_both old.down m was.0 (up m now) ];
+    left = λ b there recorded. rw s.trace there;
     paths = λ there path. rw s.trace at path;
   }
 
-  same : (k : Store) → IsThere new k → IsSameStore old new k k
-  same (in_table m) up = record { there = was_up m up; owner = refl; entries = s.tables m up; owes = λ b there owes. (rw s.trace at there, owes) }
+  same : (k : Store) → IsThere new k → IsSameStore old new k
+  same (in_table m) now = (up m now, s.tables m now, λ b there owes. (rw s.trace at there, owes))
   same (in_message v) flies =
       let ends = up_at_ends new s.emptied v.from v.to v flies in
-      record { there = rw (s.channels v.from v.to ends.0 ends.1) at flies; owner = refl; entries = refl; owes = λ b there owes. (rw s.trace at there, owes) }
-  same (in_checkpoint m) there = record { there = tt; owner = refl; entries = rw s.checkpoints refl; owes = λ b there owes. (rw s.trace at there, rw s.checkpoints at owes) }
-
-  good : (k : Store) → IsThere new k → IsSoundAt f new k
-  good k there = sound_kept f old new keeps sound.truth sound.closed k k there (same k there)
+      (rw (s.channels v.from v.to ends.0 ends.1) at flies, refl, λ b there owes. (rw s.trace at there, owes))
+  same (in_checkpoint m) there = (tt, rw s.checkpoints refl, λ b there owes. (rw s.trace at there, rw s.checkpoints at owes))
 
   pub strike_keeps : IsSoundKnowledge n f new
-  strike_keeps = record {
-    rules = rw s.trace sound.rules;
-    truth = truth_everywhere f new good;
-    closed = closed_everywhere f new good;
-    channels = λ q p up_q up_p. rw (s.channels q p up_q up_p, s.trace) (sound.channels q p (was_up q up_q) (was_up p up_p));
-    down = keeps.down;
-    checkpoints = λ m. record {
-      receipts = rw (s.checkpoints, s.trace) (sound.checkpoints m).receipts;
-      sends = rw (s.checkpoints, s.trace) (sound.checkpoints m).sends;
-      table = λ d up named. rw (s.tables m up) ((sound.checkpoints m).table d (was_up m up) (rw s.checkpoints at named));
-    };
-  }
+  strike_keeps = sound_after keeps sound (λ k there. sound_kept keeps sound k there (same k there)) (λ m. checkpoint_kept keeps sound m (rw s.checkpoints refl))

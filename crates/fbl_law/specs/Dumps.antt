@@ -36,13 +36,13 @@ abbrev pub HasDistinctTables : GroupRecord → Type 0
 HasDistinctTables r = (m : ℕ) → m < r.config.members → IsDistinct same_determinant (map (λ e. e.det) (member r m).table)
 
 -- a dump of a sound group, whose tables have no determinant twice, with a strike set of its members obeys the rules of dumps
-abbrev pub DumpObeysRules : Type 0
+unfoldable pub DumpObeysRules : Type 0
 DumpObeysRules =
     (next : Next) (r : GroupRecord) (strike : Members)
     → IsSound next r → HasDistinctTables r → AllBelow strike r.config.members → IsDump (dump_of r strike)
 
 -- whichever strike set has those that are down and at most f members in all, the dump of a sound group with it has no orphan
-abbrev pub DumpHasNoOrphan : Type 0
+unfoldable pub DumpHasNoOrphan : Type 0
 DumpHasNoOrphan =
     (next : Next) (r : GroupRecord) (strike : Members) (m : ℕ)
     → IsSound next r → ((q : ℕ) → IsDown (knowledge r) q → Includes strike q) → set.len strike ≤ r.config.f

@@ -38,7 +38,7 @@ GroupStrikeKeeps =
     → IsStrike old new struck → AllBelow struck old.config.members → set.len new.down ≤ old.config.f → IsSound next old → IsSound next new
 
 -- so does a checkpoint of a member
-abbrev pub GroupCheckpointKeeps : Type 0
+unfoldable pub GroupCheckpointKeeps : Type 0
 GroupCheckpointKeeps =
     (next : Next) (old new : GroupRecord) (p : ℕ)
     → IsCheckpoint old new p → IsSound next old → IsSound next new
@@ -57,7 +57,7 @@ RecordedTest =
 
 -- the receipts of a member's checkpoint are always recorded: the trace has them, and each of the member's first receipts,
 -- as many as the checkpoint has, is recorded
-abbrev pub CheckpointIsRecorded : Type 0
+unfoldable pub CheckpointIsRecorded : Type 0
 CheckpointIsRecorded =
     (next : Next) (r : GroupRecord) (m : ℕ)
     → IsSound next r → m < r.config.members

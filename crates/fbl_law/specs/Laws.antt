@@ -87,10 +87,10 @@ abbrev pub NeverStuck : Type 0
 NeverStuck = (n : ℕ) (t : List Mark) (done : ℕ → ℕ) → WellFormed n t → IsStuck t done → (d : Determinant) → Has t (receipt_of d) → d.rsn ≤ done d.to
 
 -- after every run the record is sound
-abbrev pub RunIsSound : Type 0
+unfoldable pub RunIsSound : Type 0
 RunIsSound = (n f : ℕ) (start r : Knowledge) → IsStart n start → Run n f start r → IsSoundKnowledge n f r
 
 -- after every run each receipt has more than f holders or is held by each up member that depends on it, and no up
 -- member is an orphan
-abbrev pub RunIsHeld : Type 0
+unfoldable pub RunIsHeld : Type 0
 RunIsHeld = (n f : ℕ) (start r : Knowledge) → IsStart n start → Run n f start r → IsAlwaysHeld f r × ((m : ℕ) → ¬ (IsOrphan r m))

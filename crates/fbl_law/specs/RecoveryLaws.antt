@@ -16,22 +16,22 @@ use Rattle.fbl_law.specs.GroupSteps.{IsRecovery}
 use Rattle.fbl_law.specs.Replaying.{recovered_trace, working, IsReplaying, IsWaiting, IsRebuilt}
 
 -- the holders of a receipt after a recovery are those before
-abbrev pub GroupRecoveryGainsHolders : Type 0
+unfoldable pub GroupRecoveryGainsHolders : Type 0
 GroupRecoveryGainsHolders =
     (next : Next) (old new : GroupRecord) → IsRecovery next old new → IsSound next old → GainsHolders (knowledge old) (knowledge new)
 
 -- so those of a recorded receipt are those before, and the members that were down
-abbrev pub HoldersGainTheDown : Type 0
+unfoldable pub HoldersGainTheDown : Type 0
 HoldersGainTheDown =
     (next : Next) (old new : GroupRecord) (d : Determinant) (m : ℕ)
     → IsRecovery next old new → IsSound next old → IsRecorded (knowledge old) d → Holds (knowledge new) d m ↔ Holds (knowledge old) d m ⊎ IsDown (knowledge old) m
 
 -- a recovery leaves exactly the recorded receipts, in their order
-abbrev pub RecoveryLeavesRecorded : Type 0
+unfoldable pub RecoveryLeavesRecorded : Type 0
 RecoveryLeavesRecorded = (next : Next) (old new : GroupRecord) → IsRecovery next old new → IsSound next old → LeavesRecorded old new
 
 -- and it undoes the others: the receipts left and the lost ones are as many as there were
-abbrev pub RecoveryUndoesLost : Type 0
+unfoldable pub RecoveryUndoesLost : Type 0
 RecoveryUndoesLost =
     (next : Next) (old new : GroupRecord)
     → IsRecovery next old new → IsSound next old

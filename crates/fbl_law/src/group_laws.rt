@@ -23,11 +23,13 @@ pub fn group_strike_law()
 
 /// A checkpoint of a member keeps a group sound: the member is at the fold of its receipts, and its table names what they
 /// depend on, but for stable receipts.
+#[tactic(auto, using(crate::proofs::GroupCheckpoint::group_checkpoint_keeps))]
 pub fn group_checkpoint_law()
     ensures { GroupCheckpointKeeps }
 {}
 
 /// The receipts of a member's checkpoint are always recorded.
+#[tactic(auto, using(crate::proofs::GroupCheckpoint::checkpoint_is_recorded))]
 pub fn checkpoint_recorded_law()
     ensures { CheckpointIsRecorded }
 {}

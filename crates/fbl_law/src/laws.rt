@@ -50,6 +50,7 @@ pub fn recovery_law()
 /// After every run of deliveries, strikes after which at most f members are down, checkpoints and recoveries the record is
 /// sound, each receipt has more than f holders or is held by each up member that depends on it, and no up member depends on
 /// a receipt that isn't recorded.
+#[tactic(auto, using(crate::proofs::Run::run_is_sound, crate::proofs::Run::run_is_held))]
 pub fn run_law()
     ensures sound { RunIsSound }
     ensures held { RunIsHeld }

@@ -10,12 +10,14 @@ pub fn group_recovery_law()
 {}
 
 /// The holders of a receipt after a recovery are those before it: of a recorded receipt, with all members that were down.
+#[tactic(auto, using(crate::proofs::GroupRecovery::group_recovery_gains_holders, crate::proofs::GroupRecovery::holders_gain_the_down))]
 pub fn recovered_holders_law()
     ensures stay { GroupRecoveryGainsHolders }
     ensures gain { HoldersGainTheDown }
 {}
 
 /// A recovery leaves the recorded receipts, in their order, and undoes the lost ones.
+#[tactic(auto, using(crate::proofs::GroupRecovery::recovery_leaves_recorded, crate::proofs::GroupRecovery::recovery_undoes_lost))]
 pub fn undone_law()
     ensures left { RecoveryLeavesRecorded }
     ensures undone { RecoveryUndoesLost }

@@ -110,7 +110,3 @@ pub bounded : (received q ssn : ℕ) (last : List ℕ) (log after sends : List (
 bounded received q ssn last log after sends lasts receipts grown room =
     let all : length after ≡ length log + length sends = ap length grown ∙ length-append log sends in
     (length-set last q ssn ∙ lasts, omega arith, omega (arith, all, length-numbered 0 log, room))
-
--- no send has a number past the last
-pub noted-past : (before : ℕ) (log : List (ℕ × Note)) (i n : ℕ) → n ≡ before + i + 1 → length log ≤ i → logged_note (numbered before log) n ≡ None
-noted-past before log i n is past = (let at = noted-at before log i n is in grind (arith, at, slice_get_past log i past))

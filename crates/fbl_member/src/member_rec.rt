@@ -1,6 +1,6 @@
 //! One member's volatile record: how it receives a message, and how it replays a receipt.
 
-ghost use Rattle.std.specs.Prelude.{◌≡◌, ◌+◌, ◌<◌, ◌≤◌, false, length, OnOk, OnErr, IfOk};
+ghost use Rattle.std.specs.Prelude.{◌≡◌, ◌+◌, ◌<◌, ◌≤◌, ◌==◌, ◌&&◌, nat_lt, false, length, OnOk, OnErr, IfOk};
 ghost use Rattle.fbl_table.specs.Tables.{is_held, piggybacked};
 ghost use Rattle.fbl_member.specs.Kept.{IsKept};
 ghost use Rattle.fbl_member.specs.Members.{fresh, blank, last_from, next_determinant, received_by, replayed_by, messages_from, logged_note, logged_beyond};
@@ -225,7 +225,7 @@ impl<A: Allocator + Copy> MemberRec<A> {
         for place in 0..self.log.len() {
             let send = self.log[place];
             let number = place as u32 + 1;
-            if send.0 == to && ssn < number {
+            if is_beyond(send.0, number, to, ssn) {
                 beyond.push((number, send.1))?;
             }
         }
@@ -261,4 +261,11 @@ impl<A: Allocator + Copy> MemberRec<A> {
     {
         self.last[from.number() as usize]
     }
+}
+
+/// Whether a send to this member with this number is one to `to` beyond `ssn`.
+fn is_beyond(receiver: Member, number: u32, to: Member, ssn: u32) -> bool
+    ensures { result ≡ ((receiver == to) && nat_lt ssn number) }
+{
+    receiver == to && ssn < number
 }

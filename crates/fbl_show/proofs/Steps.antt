@@ -1,21 +1,16 @@
--- One column more: of members' lines, and of messages that were sent or received.
-use Rattle.std.proofs.Common.{ℕ, suc, ◌+◌, ◌<◌, ◌≡◌, ◌||◌, not, Bool, true, false, cond, List, [], ◌∷◌, ◌++◌, length, take, drop, get_or, Option, Some, None}
+-- One column more of members' lines.
+use Rattle.std.proofs.Common.{ℕ, suc, ◌+◌, ◌<◌, ◌≡◌, not, Bool, true, false, cond, List, [], ◌∷◌, ◌++◌, length, take, drop, get_or, Option, Some, None}
 use Rattle.std.proofs.Common.{sym, ap, ◌∙◌, arith}
 use Rattle.std.specs.Bool.{beq}
 use Rattle.std.specs.Cmp.{booleans_Decides}
 use Rattle.std.specs.List.{fold}
 use Rattle.std.proofs.lemmas.Bool.{not-false}
 use Rattle.std.proofs.lemmas.List.{append_assoc, at_drop_more, take_more}
-use Rattle.std.proofs.lemmas.List.Folds.{list_any-append}
 use Rattle.std.proofs.lemmas.List.Sums.{fold_push}
-use Rattle.fbl_base.specs.Events.{same_message, is_message}
-use Rattle.fbl_base.proofs.Recorded.{or_cond, or_false}
 use Rattle.fbl_history.specs.declared.column.Column.{Column}
 use Rattle.fbl_shapes.specs.declared.shape.Shape.{Shape}
 use Rattle.fbl_shapes.specs.declared.shape.Shape.TheVariants.{Line}
-use Rattle.fbl_base.specs.declared.trace.MessageName.{MessageName}
 use Rattle.fbl_show.specs.Members.{differs, is_down, is_down_after, line_kind, line_part, turns}
-use Rattle.fbl_show.specs.Messages.{has_standing_receipt, taken_by_column}
 use Rattle.fbl_show.specs.Places.{drawn, last_before}
 
 -- the last place before the next one
@@ -34,25 +29,6 @@ module _ (columns : List Column) (i : ℕ) (c : Column) (within : i < length col
   pub drawn_on : (draw : ℕ → Column → List Shape) (front base : List Shape) → front ++ drawn draw i (drop i columns) ≡ base
       → (front ++ draw i c) ++ drawn draw (i + 1) (drop (i + 1) columns) ≡ base
   drawn_on draw front base drew = append_assoc front (draw i c) _ ∙ ap (λ s. front ++ s) (sym (drawn_more draw)) ∙ drew
-
-  -- whether a message is received behind it
-  pub received_more : (m : MessageName) → has_standing_receipt (take (i + 1) columns) m ≡ (has_standing_receipt (take i columns) m || is_message m (taken_by_column c))
-  received_more m =
-      ap (λ l. has_standing_receipt l m) before_more ∙ list_any-append (λ column. is_message m (taken_by_column column)) (take i columns) (c ∷ [])
-      ∙ ap (λ b. has_standing_receipt (take i columns) m || b) (sym (or_false (is_message m (taken_by_column c))))
-
-  -- the messages that are received behind it, where a set has those received before it
-  module _ (old : MessageName → Bool) (was : (m : MessageName) → old m ≡ has_standing_receipt (take i columns) m) where
-    pub added : (taken : MessageName) → taken_by_column c ≡ Some taken → (new : MessageName → Bool)
-        → ((m : MessageName) → new m ≡ cond (same_message taken m) true (old m)) → (m : MessageName) → new m ≡ has_standing_receipt (take (i + 1) columns) m
-    added taken some new put m =
-        put m ∙ or_cond (same_message taken m) (old m)
-        ∙ (λ j. was m j || is_message m (sym some j))
-        ∙ sym (received_more m)
-
-    pub not_added : taken_by_column c ≡ None → (m : MessageName) → old m ≡ has_standing_receipt (take (i + 1) columns) m
-    not_added none m =
-        was m ∙ or_false (has_standing_receipt (take i columns) m) ∙ ap (λ t. has_standing_receipt (take i columns) m || is_message m t) (sym none) ∙ sym (received_more m)
 
   module _ (m : ℕ) (down after : Bool) (was : down ≡ is_down columns m i) (then : after ≡ is_down_after m down c) where
     -- whether the member is down behind it

@@ -95,9 +95,7 @@ pub(crate) fn push_members(
     ensures { OnOk result (shapes.new.items ≡ shapes.old.items ++ members_shapes members columns.now) }
 {
     for number in 0..members {
-        if let Some(member) = Member::new(number) {
-            push_member(shapes, member, columns)?;
-        }
+        push_member(shapes, Member::at(number), columns)?;
     }
     Ok(())
 }

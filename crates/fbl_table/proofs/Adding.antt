@@ -4,6 +4,7 @@ use Rattle.fbl_table.proofs.Common.{◌++◌, map, Some, None, refl, sym, ap, �
 use Rattle.fbl_table.proofs.Common.{false≢true, find, fold, AllByRecursion, append-nil, length-map, take_all, take-append-drop, find-append, sum_by-cons, slice_get_cases, set_value_at}
 use Rattle.fbl_table.proofs.Common.{Determinant, same_determinant, insert_entry, Entry, HasInPlace, is_held, lacks, has_at, entry_of, gathered, learned, held_by, marked}
 use Rattle.std.proofs.Common.{is_some, add-one, position}
+use Rattle.std.proofs.Math.Seq.{drop-cons}
 use Rattle.std.proofs.lemmas.Bool.{false_from_ne_true, or_from, or_left, or_right}
 use Rattle.std.proofs.Math.Bool.{or_comm}
 use Rattle.std.specs.List.{position_or_len, IsDistinct}
@@ -62,34 +63,30 @@ has_set [] i v d j = refl
 has_set (e ∷ es) zero v d j = grind arith
 has_set (e ∷ es) (suc i) v d j = (let rest = has_set es i v d in grind (arith, rest))
 
--- what is known at the determinant's place, united with more
-pub added_at : (es : Pairs) (entry : Entry) (i : ℕ) (v : set.FinSet nat_cmp) → IsDistinct same_determinant (keys_of es)
-    → has_at (map entry_of es) entry.det i ≡ true → slice_get (values_of es) i ≡ Some v → map entry_of (set_value_at es i (set.union v entry.known)) ≡ added (map entry_of es) entry
-unfolding added IsDistinct
-added_at [] entry i v once has is = absurd (false≢true has)
-added_at (e ∷ es) entry zero v once has is = rw has cc
-added_at (e ∷ es) entry (suc i) v once has is =
-    rw (apart-at es e.0 entry.det i once.0 has) (ap (λ t. entry_of e ∷ t) (added_at es entry i v once.1 has is))
-
--- a value that is written over itself
-same-value : (es : Pairs) (i : ℕ) (v : set.FinSet nat_cmp) → slice_get (values_of es) i ≡ Some v → set_value_at es i v ≡ es
-same-value [] i v is = refl
-same-value (e ∷ es) zero v is = (let value : v ≡ e.1 = cc in λ j. (e.0, value j) ∷ es)
-same-value (e ∷ es) (suc i) v is = ap (λ t. e ∷ t) (same-value es i v is)
-
 -- where the determinant stands, or would stand next
 abbrev pub place_in : Pairs → Determinant → ℕ
 place_in es d = position_or_len (same_determinant d) (keys_of es)
 
--- the determinant has the value v at its place, and what is written there is written over what was inserted
-abbrev pub IsReplaced : Pairs → Determinant → set.FinSet nat_cmp → set.FinSet nat_cmp → set.FinSet nat_cmp → Type 0
-IsReplaced es d v k w =
-    (has_at (map entry_of es) d (place_in es d) ≡ true) × (slice_get (values_of es) (place_in es d) ≡ Some v)
-    × (set_value_at (insert_entry same_determinant es d k) (place_in es d) w ≡ set_value_at es (place_in es d) w)
+-- the place where it has an entry is that where it is looked up
+pub found_at : (es : Pairs) (d : Determinant) (i : ℕ) (v : set.FinSet nat_cmp) → IsDistinct same_determinant (keys_of es) → has_at (map entry_of es) d i ≡ true
+    → slice_get (values_of es) i ≡ Some v → (i ≡ place_in es d) × (lookup (same_determinant d) es ≡ Some v)
+unfolding IsDistinct
+found_at [] d i v once has is = absurd (false≢true has)
+found_at (e ∷ es) d zero v once has is = rw has (refl, is)
+found_at (e ∷ es) d (suc i) v once has is = (let rest = found_at es d i v once.1 has is in rw (apart-at es e.0 d i once.0 has) (omega (arith, rest.0), rest.1))
 
-pub replaced : (es : Pairs) (d : Determinant) (v k w : set.FinSet nat_cmp) → lookup (same_determinant d) es ≡ Some v → IsReplaced es d v k w
-replaced [] d v k w is = cc
-replaced (e ∷ es) d v k w is = (let rest = replaced es d v k w in grind (arith, rest))
+-- what is known there, united with more
+pub added_there : (es : Pairs) (entry : Entry) (v : set.FinSet nat_cmp) → lookup (same_determinant entry.det) es ≡ Some v
+    → map entry_of (set_value_at es (place_in es entry.det) (set.union v entry.known)) ≡ added (map entry_of es) entry
+unfolding added
+added_there [] entry v is = cc
+added_there (e ∷ es) entry v is = (let rest = added_there es entry v in grind (arith, rest))
+
+-- what is written there is written over what was inserted
+pub inserted_over : (es : Pairs) (d : Determinant) (v k w : set.FinSet nat_cmp) → lookup (same_determinant d) es ≡ Some v
+    → set_value_at (insert_entry same_determinant es d k) (place_in es d) w ≡ set_value_at es (place_in es d) w
+inserted_over [] d v k w is = cc
+inserted_over (e ∷ es) d v k w is = (let rest = inserted_over es d v k w in grind (arith, rest))
 
 -- a determinant that stands nowhere would stand last
 pub place-missing : (es : Pairs) (d : Determinant) → lookup (same_determinant d) es ≡ None → place_in es d ≡ length es
@@ -107,10 +104,14 @@ nothing-more s t none = same_from_contains (set.union s t) s (λ q.
     grind (arith, set.contains-union nat_cmp_total s t q, lacks))
 
 -- an entry that knows no more than what is known already
-pub added-nothing : (es : Pairs) (entry : Entry) (i : ℕ) (v : set.FinSet nat_cmp) → IsDistinct same_determinant (keys_of es)
-    → has_at (map entry_of es) entry.det i ≡ true → slice_get (values_of es) i ≡ Some v → set.len (set.difference entry.known v) ≡ 0 → map entry_of es ≡ added (map entry_of es) entry
-added-nothing es entry i v once has is none =
-    ap (map entry_of) (sym (same-value es i v is) ∙ ap (set_value_at es i) (sym (nothing-more v entry.known none))) ∙ added_at es entry i v once has is
+pub added-nothing : (es : Pairs) (entry : Entry) (v : set.FinSet nat_cmp) → lookup (same_determinant entry.det) es ≡ Some v → set.len (set.difference entry.known v) ≡ 0
+    → map entry_of es ≡ added (map entry_of es) entry
+unfolding added
+added-nothing [] entry v is none = cc
+added-nothing (e ∷ es) entry v is none =
+    let rest = added-nothing es entry v in
+    let same = nothing-more v entry.known none in
+    grind (arith, rest, same, none)
 
 pub take-next : {X : Type 0} (xs : List X) (i : ℕ) (x : X) → slice_get xs i ≡ Some x → take (i + 1) xs ≡ take i xs ++ x ∷ []
 take-next xs i x is = take_more xs i x (slice_get_within xs i x is) ∙ ap (λ y. take i xs ++ y ∷ []) (get_or_from_slice_get xs i x x is)
@@ -171,56 +172,27 @@ held-added (e ∷ table) entry d =
     let same = (Decides-same_determinant entry.det e.det).0 in
     grind (arith, rest, same)
 
--- a table with an entry more lacks no more of another
-lacks-fewer : (table : List Entry) (entry : Entry) (other : List Entry) → count_by (lacks (added table entry)) other ≤ count_by (lacks table) other
-lacks-fewer table entry [] = omega arith
-lacks-fewer table entry (e ∷ other) =
-    let count = λ (t : List Entry). sum_by-cons (λ x. cond (lacks t x) 1 0) e other in
-    let rest = lacks-fewer table entry other in
-    let held = held-added table entry e.det in
-    grind (arith, rest, count, held)
-
--- a table gets longer by no more than it lacks of what is gathered
-pub length-gathered : (table other : List Entry) → length (gathered table other) ≤ length table + count_by (lacks table) other
-length-gathered table [] = omega arith
-length-gathered table (e ∷ other) =
-    omega (arith, length-added table e, sum_by-cons (λ x. cond (lacks table x) 1 0) e other, lacks-fewer table e other, length-gathered (added table e) other)
-
--- while an entry is still lacking, the table is not yet as long as it gets
-pub length-gathering : (table other : List Entry) (i : ℕ) (e : Entry) → slice_get other i ≡ Some e → is_held (gathered table (take i other)) e.det ≡ false
-    → length (gathered table (take i other)) < length table + count_by (lacks table) other
-length-gathering table other i e at none =
-    let longer = ap length (fold_next added table other i e at) ∙ length-added (gathered table (take i other)) e in
-    let one = ap {B = ℕ} (λ b. cond (not b) 1 0) none in
-    omega (arith, longer, one, length-gathered table (take (i + 1) other), sum_by-take-le (λ x. cond (lacks table x) 1 0) other (i + 1))
-
 -- of one entry more at most one more is lacking, and none where it is held
 pub lacks-next : (table other : List Entry) (i : ℕ) (e : Entry) → slice_get other i ≡ Some e
-    → count_by (lacks table) (take (i + 1) other) ≡ count_by (lacks table) (take i other) + cond (lacks table e) 1 0
+    → count_by (lacks table) (drop i other) ≡ cond (lacks table e) 1 0 + count_by (lacks table) (drop (i + 1) other)
 lacks-next table other i e at =
-    sum_by_more (λ x. cond (lacks table x) 1 0) other i e (slice_get_within other i e at)
-    ∙ ap (λ x. count_by (lacks table) (take i other) + cond (lacks table x) 1 0) (get_or_from_slice_get other i e e at)
+    let within = slice_get_within other i e at in
+    let is = get_or_from_slice_get other i e e at in
+    rw (add-one, drop-cons other i e, is) (sum_by-cons (λ x. cond (lacks table x) 1 0) e (drop (suc i) other))
 
--- what has entries in place lacks none of them
-pub lacks-none : (k : ℕ) (table other : List Entry) → k ≤ length other → HasInPlace k table other → count_by (lacks table) (take k other) ≡ 0
-lacks-none zero table other within same = refl
-lacks-none (suc k) table other within same = elim (slice_get_cases other k).1 [
-  | inl here ↦
-      let held = held_at table (here.0).det k (same k here.0 (omega arith) here.2) in
-      let rest = lacks-none k table other (omega (arith, within)) (λ place e below. same place e (omega (arith, below))) in
-      let next = lacks-next table other k here.0 here.2 in
-      rw (← add-one k) (grind (arith, held, rest, next))
-  | inr past ↦ absurd (omega (arith, past.0, within))
-]
-
-held-gathered : (table other : List Entry) (d : Determinant) → is_held (gathered table other) d ≡ (is_held table d || is_held other d)
+pub held-gathered : (table other : List Entry) (d : Determinant) → is_held (gathered table other) d ≡ (is_held table d || is_held other d)
 held-gathered table [] d = sym (or_comm (is_held table d) false)
 held-gathered table (e ∷ other) d =
     let rest = held-gathered (added table e) other d in
     let first = held-added table e d in
     grind (arith, rest, first)
 
-held-carried : (me : ℕ) (carried : List Entry) (d : Determinant) → is_held (map (held_by me) carried) d ≡ is_held carried d
+-- while an entry is still lacking, it is one of those that lacked at first
+pub lacks-gathering : (table other : List Entry) (i : ℕ) (e : Entry) → slice_get other i ≡ Some e
+    → cond (lacks (gathered table (take i other)) e) 1 0 + count_by (lacks table) (drop (i + 1) other) ≤ count_by (lacks table) (drop i other)
+lacks-gathering table other i e at = (let next = lacks-next table other i e at in let held = held-gathered table (take i other) e.det in grind (arith, next, held))
+
+pub held-carried : (me : ℕ) (carried : List Entry) (d : Determinant) → is_held (map (held_by me) carried) d ≡ is_held carried d
 held-carried me [] d = refl
 held-carried me (e ∷ carried) d = ap (λ b. same_determinant d e.det || b) (held-carried me carried d)
 

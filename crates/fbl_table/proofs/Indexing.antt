@@ -1,17 +1,17 @@
 -- The open places of a table.
 use Rattle.fbl_table.proofs.Common.{◌≡◌, ℕ, zero, suc, ◌+◌, ◌<◌, Bool, true, false, cond, ◌||◌, List, [], ◌∷◌, ◌++◌, map, Option, Some, refl, sym, ap}
-use Rattle.fbl_table.proofs.Common.{◌∙◌, arith, length, slice_get, get_or, inl, inr, false≢true, nat_tests, filter, filter_map, slice_get_cases, keys_of, values_of, set_value_at}
+use Rattle.fbl_table.proofs.Common.{◌∙◌, arith, length, slice_get, get_or, inl, inr, false≢true, nat_tests, filter, filter_map, slice_get_cases, lookup}
 use Rattle.fbl_table.proofs.Common.{nat_cmp, nat_cmp_total, same_determinant, Entry, is_open, piggybacked, marked, is_held, has_at, entry_of, open_at, IsIndex}
-use Rattle.std.proofs.Common.{if◌then◌else◌, nat_le}
+use Rattle.std.proofs.Common.{if◌then◌else◌, is_some, nat_le}
 use Rattle.std.proofs.lemmas.Bool.{or_parts}
 use Rattle.std.proofs.lemmas.List.Elements.{All-get_or, AllZip-push, filter_passes, length_all_zip}
-use Rattle.std.specs.List.{AllZip, IsDistinct}
+use Rattle.std.specs.List.{AllZip}
 use Rattle.std.specs.Option.{option_map_or}
 use Rattle.std.specs.FinSet as set
 use Rattle.fbl_base.proofs.Sizes.{len-within}
 use Rattle.fbl_table.specs.Tables.{added}
 use Rattle.fbl_table.specs.Index.{places_of_open}
-use Rattle.fbl_table.proofs.Adding.{Pairs, added_at, held_at}
+use Rattle.fbl_table.proofs.Adding.{Pairs, held_lookup}
 
 -- an entry of the one table is open only where the other's at its place is
 abbrev AreGrown : ℕ → List Entry → List Entry → Type 0
@@ -58,6 +58,11 @@ places_of_open-push f k n [] e last = (let same : k ≡ n = omega (arith, last) 
 places_of_open-push f k n (x ∷ table) e last =
     let rest = places_of_open-push f (suc k) n table e (omega (arith, last)) in
     grind (arith, rest)
+
+length-open : (f k : ℕ) (table : List Entry) → length (places_of_open f k table) ≡ length (piggybacked f table)
+unfolding places_of_open
+length-open f k [] = refl
+length-open f k (e ∷ table) = (let rest = length-open f (suc k) table in grind (arith, rest))
 
 pub index-none : (f : ℕ) → IsIndex f [] [] false
 unfolding places_of_open
@@ -124,6 +129,10 @@ index-piggybacked f table open_places stale index = rw (open_now f table open_pl
 pub open-piggybacked : (f : ℕ) (table : List Entry) (open_places : List ℕ) → IsIndex f table open_places false → filter_map (slice_get table) open_places ≡ piggybacked f table
 open-piggybacked f table open_places index = rw (index.exact refl) (entries_at_open f 0 (slice_get table) table (λ i. ap (slice_get table) (omega arith)))
 
+-- there are as many
+pub open-length : (f : ℕ) (table : List Entry) (open_places : List ℕ) → IsIndex f table open_places false → length open_places ≡ length (piggybacked f table)
+open-length f table open_places index = rw (index.exact refl) (length-open f 0 table)
+
 -- each of which is a place of the table
 pub open-within : (f : ℕ) (table : List Entry) (open_places : List ℕ) → IsIndex f table open_places false → (i : ℕ) → i < length open_places → get_or open_places i 0 < length table
 open-within f table open_places index i below =
@@ -136,26 +145,23 @@ open-within f table open_places index i below =
     ]
 
 -- where one entry is known to more members, and is as open as before, the same places are open
-open-set : (f k : ℕ) (es : Pairs) (i : ℕ) (v w : set.FinSet nat_cmp) → slice_get (values_of es) i ≡ Some v → nat_le (set.len w) f ≡ nat_le (set.len v) f
-    → places_of_open f k (map entry_of (set_value_at es i w)) ≡ places_of_open f k (map entry_of es)
-unfolding places_of_open
-open-set f k [] i v w is same = refl
-open-set f k (e ∷ es) zero v w is same = grind arith
-open-set f k (e ∷ es) (suc i) v w is same = ap (λ places. cond (is_open f (entry_of e)) (k ∷ places) places) (open-set f (suc k) es i v w is same)
+open-united : (f k : ℕ) (es : Pairs) (entry : Entry) (v : set.FinSet nat_cmp) → lookup (same_determinant entry.det) es ≡ Some v
+    → nat_le (set.len (set.union v entry.known)) f ≡ nat_le (set.len v) f → places_of_open f k (added (map entry_of es) entry) ≡ places_of_open f k (map entry_of es)
+unfolding places_of_open added
+open-united f k [] entry v is same = cc
+open-united f k (e ∷ es) entry v is same = (let rest = open-united f (suc k) es entry v in grind (arith, rest, same))
 
--- where more is known of the determinant at a place
-pub index-united : (f : ℕ) (es : Pairs) (entry : Entry) (place : ℕ) (v w : set.FinSet nat_cmp) → IsDistinct same_determinant (keys_of es)
-    → has_at (map entry_of es) entry.det place ≡ true → slice_get (values_of es) place ≡ Some v → w ≡ set.union v entry.known
-    → (stale closed : Bool) → (closed ≡ false → nat_le (set.len v) f ≡ true → nat_le (set.len w) f ≡ true)
-    → (open_places : List ℕ) → IsIndex f (map entry_of es) open_places stale → IsIndex f (map entry_of (set_value_at es place w)) open_places (stale || closed)
-index-united f es entry place v w once has is more stale closed stays open_places index = record {
+-- where more is known of a determinant
+pub index-united : (f : ℕ) (es : Pairs) (entry : Entry) (v : set.FinSet nat_cmp) → lookup (same_determinant entry.det) es ≡ Some v
+    → (stale closed : Bool) → (closed ≡ false → nat_le (set.len v) f ≡ true → nat_le (set.len (set.union v entry.known)) f ≡ true)
+    → (open_places : List ℕ) → IsIndex f (map entry_of es) open_places stale → IsIndex f (added (map entry_of es) entry) open_places (stale || closed)
+index-united f es entry v is stale closed stays open_places index = record {
   before = index.before;
-  grown = rw (more, added_at es entry place v once has is) (grown-added f (map entry_of es) index.before entry (held_at (map entry_of es) entry.det place has) index.grown);
+  grown = grown-added f (map entry_of es) index.before entry (sym (held_lookup es entry.det) ∙ ap is_some is) index.grown;
   places = index.places;
   exact = λ fresh.
       let parts = or_parts stale closed fresh in
-      let less : nat_le (set.len w) f ≡ true → nat_le (set.len v) f ≡ true = (rw more (open-less f v entry.known)) in
+      let less = open-less f v entry.known in
       let stays' = stays parts.1 in
-      let same : nat_le (set.len w) f ≡ nat_le (set.len v) f = grind (arith, less, stays') in
-      index.exact parts.0 ∙ sym (open-set f 0 es place v w is same);
+      index.exact parts.0 ∙ sym (open-united f 0 es entry v is (grind (arith, less, stays')));
 }

@@ -5,7 +5,7 @@ use Rattle.fbl_table.proofs.Common.{learned, held_by, open_at, IsIndex}
 use Rattle.std.proofs.Common.{append_assoc}
 use Rattle.std.proofs.lemmas.List.{length-append}
 use Rattle.std.specs.List.{cons_option}
-use Rattle.std.proofs.lemmas.List.Sums.{length-filter}
+use Rattle.std.proofs.lemmas.List.Sums.{length-filter, sum_by-take-le}
 use Rattle.std.specs.FinSet as set
 use Rattle.fbl_base.proofs.Sifted.{length-filter_map}
 use Rattle.fbl_table.specs.Tables.{added, noted}
@@ -41,28 +41,11 @@ open-within limit table ps stale index =
     let picked = filter (open_at limit table) ps in
     omega (arith, sym (ap length (index-piggybacked limit table ps stale index)), length-filter_map (slice_get table) picked, length-left (open_at limit table) ps)
 
--- what is made of a list is made of its parts in turn
-abbrev IsByParts : {X Y : Type 0} → (List X → List Y) → Type 0
-IsByParts {X} make = (front back : List X) → make (front ++ back) ≡ make front ++ make back
+-- what is passed on of one entry more, and of the first ones
+pub passed-next : (f : ℕ) (table : List Entry) (i : ℕ) (e : Entry) → slice_get table i ≡ Some e
+    → piggybacked f (take (i + 1) table) ≡ piggybacked f (take i table) ++ piggybacked f (e ∷ [])
+passed-next f table i e at = rw (take-next table i e at) (filter-append (is_open f) (take i table) (e ∷ []))
 
--- what is made of one more element, put at the end of what was made so far
-pub pushed : {X : Type 0} (make : List X → List Entry) → IsByParts make → (xs : List X) (i : ℕ) (x : X) → slice_get xs i ≡ Some x
-    → (old now next : List Entry) → now ≡ old ++ make (take i xs) → next ≡ now ++ make (x ∷ []) → next ≡ old ++ make (take (i + 1) xs)
-pushed make parts xs i x at old now next so_far push =
-    push ∙ ap (λ t. t ++ make (x ∷ [])) so_far ∙ append_assoc old (make (take i xs)) (make (x ∷ []))
-    ∙ ap (λ t. old ++ t) (sym (parts (take i xs) (x ∷ [])) ∙ ap make (sym (take-next xs i x at)))
-
--- there is room for it, where there is room for what is made of all
-pub fits : {X : Type 0} (make : List X → List Entry) → IsByParts make → (xs : List X) (i : ℕ) (x : X) → slice_get xs i ≡ Some x
-    → (old now : List Entry) → now ≡ old ++ make (take i xs) → (room : ℕ) → length old + length (make xs) ≤ room → length now + length (make (x ∷ [])) ≤ room
-fits make parts xs i x at old now so_far room enough =
-    let front = take (i + 1) xs in
-    let back = drop (i + 1) xs in
-    let whole : length (make xs) ≡ length (make front) + length (make back) =
-    ap (λ t. length (make t)) (sym (take-append-drop (i + 1) xs)) ∙ ap length (parts front back) ∙ length-append (make front) (make back) in
-    let more : now ++ make (x ∷ []) ≡ old ++ make front = pushed make parts xs i x at old now (now ++ make (x ∷ [])) so_far refl in
-    omega (arith, whole, enough, ap length more ∙ length-append old (make front), length-append now (make (x ∷ [])))
-
--- the entry at one place
-pub picked-one : (table : List Entry) (p : ℕ) (e : Entry) → slice_get table p ≡ Some e → e ∷ [] ≡ filter_map (slice_get table) (p ∷ [])
-picked-one table p e at = sym (ap (λ o. cons_option o []) at)
+pub passed-first : (f : ℕ) (table : List Entry) (i : ℕ) → length (piggybacked f (take i table)) ≤ length (piggybacked f table)
+passed-first f table i =
+    omega (arith, length-filter (is_open f) (take i table), length-filter (is_open f) table, sum_by-take-le (λ e. cond (is_open f e) 1 0) table i)

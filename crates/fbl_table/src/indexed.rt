@@ -1,12 +1,12 @@
 //! A table's entries, with the places of those that few members are known to hold.
 
-ghost use Rattle.std.specs.Prelude.{◌≡◌, ℕ, ◌+◌, ◌^◌, ◌<◌, ◌≤◌, ◌++◌, [], ◌∷◌, take, length, count_by, OnOk, OnErr, IfOk, IfSome, IfNone, Some, true, false, nat_le, slice_get, map, vec_len, vec_capacity};
+ghost use Rattle.std.specs.Prelude.{◌≡◌, ℕ, ◌+◌, ◌-◌, ◌^◌, ◌<◌, ◌≤◌, ◌++◌, [], ◌∷◌, take, drop, length, count_by, OnOk, OnErr, IfOk, IfSome, IfNone, Some, true, false, nat_le, slice_get, map, vec_len, vec_capacity, if◌then◌else◌};
 ghost use Rattle.std.specs.FinSet as set;
 ghost use Rattle.std.specs.List.{IsDistinct};
 ghost use Rattle.fbl_base.specs.Events.{same_determinant};
 ghost use Rattle.fbl_table.specs.Index.{open_at};
 ghost use Rattle.fbl_table.specs.Indexed.{listed, IsIndexed, room, KeepsIndex};
-ghost use Rattle.fbl_table.specs.Tables.{HasInPlace, is_held, lacks, has_at, learned, noted, piggybacked, gathered, marked, added, entry_of};
+ghost use Rattle.fbl_table.specs.Tables.{HasInPlace, is_held, is_open, lacks, has_at, learned, noted, piggybacked, gathered, marked, added, entry_of};
 
 use crate::entry::Entry;
 use crate::likely::LikelyPlaces;
@@ -224,20 +224,16 @@ impl<A: Allocator + Copy> IndexedEntries<A> {
         other.len()
     }
 
-    /// How many of the other's determinants there may be no entry of: at least as many as there are. Of those at the first
-    /// places there are all. What is not at its likely place counts as lacking: to hash each new one here and once more when it
-    /// is added would cost more than the room.
+    /// How many of the other's determinants beyond the first places there may be no entry of: at least as many as there are.
+    /// What is not at its likely place counts as lacking: to hash each new one here and once more when it is added would cost
+    /// more than the room.
     fn lacking_beyond(&self, other: &IndexedEntries<A>, shared: usize) -> usize
-        requires len { shared ≤ length (listed other.now) }
-        requires same { HasInPlace shared (listed self.now) (listed other.now) }
-        ensures { count_by (lacks (listed self.now)) (listed other.now) ≤ result }
+        ensures { count_by (lacks (listed self.now)) (drop shared (listed other.now)) ≤ result }
     {
         let mut lacking = 0;
         for place in shared..other.len() {
             let entry = other.entry_at(place);
-            if self.likely_place_of(&entry.det).is_none() {
-                lacking += 1;
-            }
+            lacking += usize::from(self.likely_place_of(&entry.det).is_none());
         }
         lacking
     }
@@ -249,6 +245,7 @@ impl<A: Allocator + Copy> IndexedEntries<A> {
         requires same { HasInPlace shared (listed self.old) (listed other.now) }
         ensures entries { listed self.new ≡ gathered (listed self.old) (take shared (listed other.now)) }
         ensures kept { KeepsIndex self.old self.new }
+        ensures room { room self.old ≤ room self.new }
     {
         for place in 0..shared {
             let entry = other.entry_at(place);
@@ -286,12 +283,13 @@ impl<A: Allocator + Copy> IndexedEntries<A> {
     /// Unites what is known of the determinant, which has an entry at the place, with this. It is written only where more is
     /// known.
     #[inline(always)]
-    #[tactic(auto, using(crate::proofs::Adding::added_at, crate::proofs::Adding::has_set, crate::proofs::Adding::within_at))]
+    #[tactic(auto, using(crate::proofs::Adding::has_set, crate::proofs::Adding::within_at))]
     fn unite(&mut self, det: &Determinant, known: MemberSet, place: usize)
         requires { has_at (listed self.old) det.now place ≡ true }
         ensures entries { listed self.new ≡ added (listed self.old) (record { det = det.now; known = known }) }
         ensures same { (d : Determinant) (at : ℕ) → has_at (listed self.new) d at ≡ has_at (listed self.old) d at }
         ensures kept { KeepsIndex self.old self.new }
+        ensures room { room self.old ≤ room self.new }
     {
         // `len` says that no two of the determinants are the same
         let _distinct = self.entries.len();
@@ -323,9 +321,7 @@ impl<A: Allocator + Copy> IndexedEntries<A> {
             }
             None => {
                 self.likely_places.keep(&entry.det, place);
-                if entry.is_open(self.limit) {
-                    self.open_places.push_reserved(place);
-                }
+                push_place_if_open(&mut self.open_places, place, entry, self.limit);
             }
         }
     }
@@ -416,6 +412,22 @@ fn push_if_open<A: Allocator>(carried: &mut Vec<Entry, A>, entry: Entry, f: u8)
 {
     if entry.is_open(f) {
         carried.push_reserved(entry);
+    }
+}
+
+/// Puts the entry's place at the end of the list, which has room for it, if at most `limit` members are known to hold it.
+fn push_place_if_open<A: Allocator>(
+    places: &mut Vec<usize, A>,
+    place: usize,
+    entry: Entry,
+    limit: u8,
+)
+    requires { vec_len places.old < vec_capacity places.old }
+    ensures items { places.new.items ≡ places.old.items ++ (if is_open limit entry then place ∷ [] else []) }
+    ensures room { vec_capacity places.old - vec_len places.old ≤ vec_capacity places.new - vec_len places.new + 1 }
+{
+    if entry.is_open(limit) {
+        places.push_reserved(place);
     }
 }
 

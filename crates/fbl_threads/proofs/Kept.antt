@@ -30,8 +30,8 @@ module _ {next : Next} {plan : List Strike} {workers : ℕ} {old new : GroupReco
       ∥∥₁_elim run (Prim.hlevel (Coded-set, codes, content.the_row.coded, entry.the_row.coded, beginning.the_row.coded, event.the_row.coded, set.code {R = nat_cmp} coded_ℕ))
       (kept next plan workers old new counts)
 
-  pub places : {w : ℕ} → w < workers → (w < length counts.by_worker) × (w < length counts.undone_by_worker)
-  places below = omega (arith, kept_by_some.places)
+  pub places : (length counts.by_worker ≡ workers) × (length counts.undone_by_worker ≡ workers)
+  places = kept_by_some.places
 
   pub sums : (sum counts.by_worker ≤ new.receipts_ever) × (sum counts.undone_by_worker ≤ new.undone_ever)
   sums = omega (arith, kept_by_some.receipts, kept_by_some.undone)

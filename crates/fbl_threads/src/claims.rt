@@ -236,6 +236,7 @@ impl Claim {
 }
 
 /// The law that while the rule holds, no member is claimed by two passes.
+#[tactic(auto, using(crate::proofs::Exclusion::one_holder))]
 pub fn one_holder()
     ensures { HasOneHolder }
 {}

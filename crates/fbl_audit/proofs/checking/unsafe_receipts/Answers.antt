@@ -1,6 +1,7 @@
 use Rattle.fbl_audit.proofs.Common.{◌≡◌, arith, ap, sym, ◌∙◌, take, filter_map, determinant_of, WellFormed, AreDependents, receipts_of_dump}
-use Rattle.std.proofs.lemmas.List.{take_all}
-use Rattle.fbl_audit.proofs.Checks.{dependents_of_receipt, says_safe, says_unsafe, says_nothing, says_no_receipt}
+use Rattle.std.proofs.Common.{[], ◌∷◌, inl, inr, refl}
+use Rattle.std.proofs.lemmas.List.{append-nil, take_all}
+use Rattle.fbl_audit.proofs.Checks.{dependents_of_receipt, says_next, says_safe}
 use Rattle.fbl_audit.proofs.checking.unsafe_receipts.Goals as goal
 use Rattle.fbl_audit.proofs.checking.unsafe_receipts.Goals.{in-Some+in-Some-said_of+in_ok-push, in-Some+in_default-said_of, in_default}
 
@@ -16,15 +17,13 @@ said_of-requires-clause-dependents c =
 pub loop-place-preserved : goal.loop-place-preserved
 loop-place-preserved c =
     let dump = c.args.dump.now in
-    let events = c.events-event-items.result.now in
-    let i = c.loop-place.place in
-    let e = c.event-item.result in
+    let next = says_next dump c.events-event-items.result.now c.loop-place.place c.event-item.result (omega arith) c.event-item.is _ in
     elim c.match-determinant.branch [
       | in-Some+in-Some-said_of+in_ok-push w ↦ rw (w.unsafe_receipts-is, w.in_ok-push.ensures.items)
-          (says_unsafe dump events i e (omega arith) c.event-item.is _ c.loop-place.invariant w.in-Some.determinant _ (sym w.in-Some.ensures) w.in-Some-said_of.ensures)
-      | in-Some+in_default-said_of w ↦ rw w.unsafe_receipts-is
-          (says_nothing dump events i e (omega arith) c.event-item.is _ c.loop-place.invariant w.in-Some.determinant (sym w.in-Some.ensures) w.in_default-said_of.ensures)
-      | in_default w ↦ rw w.unsafe_receipts-is (says_no_receipt dump events i e (omega arith) c.event-item.is _ c.loop-place.invariant (sym w.in_default.ensures))
+          (next (w.in-Some-said_of.said ∷ []) c.loop-place.invariant (rw (← w.in-Some.ensures) (inr (_, [], refl, w.in-Some-said_of.ensures, refl))))
+      | in-Some+in_default-said_of w ↦ rw (w.unsafe_receipts-is, ← append-nil c.loop-place.unsafe_receipts.items)
+          (next [] c.loop-place.invariant (rw (← w.in-Some.ensures) (inl (w.in_default-said_of.ensures, refl))))
+      | in_default w ↦ rw (w.unsafe_receipts-is, ← append-nil c.loop-place.unsafe_receipts.items) (next [] c.loop-place.invariant (rw (← w.in_default.ensures) refl))
     ]
 
 pub returns-clause-said : goal.returns-clause-said

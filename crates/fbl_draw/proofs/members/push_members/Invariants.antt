@@ -1,8 +1,8 @@
-use Rattle.std.proofs.Common.{◌≡◌, ◌++◌, take}
+use Rattle.std.proofs.Common.{◌≡◌, ◌++◌, ◌-◌}
 use Rattle.std.specs.List.{flat_map, range_with_len}
-use Rattle.fbl_draw.specs.Members.{shapes_of_member}
+use Rattle.fbl_draw.specs.Members.{members_drawn, shapes_of_member}
 use Rattle.fbl_draw.proofs.members.push_members.Given as goal
 
 abbrev pub invariant-loop-number : goal.invariant-loop-number
 invariant-loop-number l =
-    l.shapes.items ≡ l.fn.shapes.items ++ flat_map (shapes_of_member l.dump l.starts) (take l.number (range_with_len 0 l.dump.members))
+    l.shapes.items ++ flat_map (shapes_of_member l.dump l.starts) (range_with_len l.number (l.dump.members - l.number)) ≡ l.fn.shapes.items ++ members_drawn l.dump l.starts

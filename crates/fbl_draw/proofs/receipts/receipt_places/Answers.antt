@@ -1,23 +1,32 @@
-use Rattle.fbl_base.specs.Events.{same_message}
-use Rattle.fbl_base.specs.declared.trace.MessageName.{MessageName}
-use Rattle.std.proofs.Common.{ℕ, Option, ◌<◌, ◌∙◌, sym, arith, length}
+use Rattle.std.proofs.Common.{ℕ, Option, Some, None, ◌≡◌, ◌∙◌, ◌+◌, ◌∷◌, cond, sym, ap, arith, drop, append-nil}
 use Rattle.std.specs.HashMap as hash_map
-use Rattle.fbl_draw.proofs.Indexing.{no_message, old_message, new_message}
+use Rattle.std.specs.List.{position_from}
+use Rattle.std.specs.Option.{option_or}
+use Rattle.std.proofs.lemmas.List.{at_drop_more}
+use Rattle.fbl_base.specs.Events.{same_message, is_message}
+use Rattle.fbl_base.specs.declared.trace.MessageName.{MessageName}
+use Rattle.fbl_draw.specs.Receipts.{takes, taken_by}
+use Rattle.fbl_draw.proofs.Indexing.{old_message, new_message}
 use Rattle.fbl_draw.proofs.receipts.receipt_places.Goals as goal
 use Rattle.fbl_draw.proofs.receipts.receipt_places.Goals.{in-Some+then-not-contains_key+in_ok-insert, in-Some+else-not-contains_key, in_default}
 
 pub loop-place-preserved : goal.loop-place-preserved
-loop-place-preserved c =
+loop-place-preserved c m =
     let events = c.events-events.result.now in
     let i = c.loop-place.place in
     let e = c.index-events-place.result in
     let old : MessageName → Option ℕ = λ m. hash_map.get same_message c.loop-place.places m in
-    let within : i < length events = omega arith in
+    let later = position_from (takes m) (i + 1) (drop (i + 1) events) in
+    let here : position_from (takes m) i (drop i events) ≡ cond (is_message m (taken_by e)) (Some i) later =
+    at_drop_more (position_from (takes m) i) events i e (omega arith) ∙ ap (λ x. position_from (takes m) i (x ∷ drop (i + 1) events)) (sym c.index-events-place.is) in
+    let was = ap (option_or (old m)) (sym here) ∙ c.loop-place.invariant m in
+    let by : Option MessageName → Option ℕ = λ t. option_or (old m) (cond (is_message m t) (Some i) later) in
+    let taken : (found : Option MessageName) → found ≡ taken_by e → by found ≡ by (taken_by e) = λ found is. ap by is in
     elim c.match-message_taken.branch [
       | in-Some+then-not-contains_key+in_ok-insert w ↦
-          rw w.places-is (new_message old events i e within c.index-events-place.is c.loop-place.invariant w.in-Some.message (sym w.in-Some.ensures)
-          (sym w.contains_key.ensures ∙ w.if-not-contains_key.true) (λ m. hash_map.get same_message w.insert.new.self m) w.in_ok-insert.ensures.updates.0)
-      | in-Some+else-not-contains_key w ↦ rw w.places-is
-          (old_message old events i e within c.index-events-place.is c.loop-place.invariant w.in-Some.message (sym w.in-Some.ensures) (sym w.contains_key.ensures ∙ w.if-not-contains_key.false))
-      | in_default w ↦ rw w.places-is (no_message old events i e within c.index-events-place.is c.loop-place.invariant (sym w.in_default.ensures))
+          rw (w.places-is, w.in_ok-insert.ensures.updates.0 m)
+          (new_message old w.in-Some.message m i later (sym w.contains_key.ensures ∙ w.if-not-contains_key.true) ∙ taken (Some w.in-Some.message) w.in-Some.ensures ∙ was)
+      | in-Some+else-not-contains_key w ↦
+          rw w.places-is (old_message old w.in-Some.message m i later (sym w.contains_key.ensures ∙ w.if-not-contains_key.false) ∙ taken (Some w.in-Some.message) w.in-Some.ensures ∙ was)
+      | in_default w ↦ rw w.places-is (taken None w.in_default.ensures ∙ was)
     ]

@@ -1,10 +1,7 @@
 use Rattle.fbl_dump.specs.Auditing.{IsAuditText}
 use Rattle.fbl_dump.specs.Answering.{TextAlone}
-use Rattle.fbl_dump.proofs.Answers.{answers_dump, answers_fault}
+use Rattle.fbl_dump.proofs.Answers.{answers_dump}
 use Rattle.fbl_dump.proofs.auditing.audit_bytes.Goals as goal
 
 pub returns-in-Ok : goal.returns-in-Ok
 returns-in-Ok g c = answers_dump (TextAlone IsAuditText) _ _ _ _ _ c.in-Ok.ensures.dump c.audit_dump.ensures
-
-pub returns-in-Err : goal.returns-in-Err
-returns-in-Err g c = answers_fault (TextAlone IsAuditText) _ _ _ c.in-Err.ensures.fault

@@ -1,38 +1,35 @@
-use Rattle.fbl_group.proofs.Common.{◌≡◌, sym, ◌∙◌, arith, None, Some, message_of_send, rows}
-use Rattle.fbl_group.proofs.Queues.{written-shape}
-use Rattle.fbl_group.proofs.Starting.{event-ends, sent-more, sent-none}
+use Rattle.fbl_group.proofs.Common.{arith, rows, refl, get_or, suc, ◌+◌, ◌≡◌, ◌∙◌}
+use Rattle.fbl_group.proofs.Queues.{none-shape, none-in}
+use Rattle.fbl_group.proofs.Starting.{once-none, starts-more, start-places, start-shape, start-sent}
 use Rattle.fbl_group.proofs.start.send_starts.Goals as goal
-use Rattle.fbl_group.proofs.start.send_starts.Goals.{in-Some+in_ok-send, in_default}
+
+pub loop-start-init : goal.loop-start-init
+loop-start-init g c =
+    let none = rw c.members.ensures.value at c.in_ok-channels.ensures in
+    rw c.in_ok-trace.ensures.items (record { so_far = refl; made = c.in_ok-trace.ensures.len; shape = none-shape _ _ none; sent = λ q p. none-in _ _ q p none })
+
+pub new-requires : goal.new-requires
+new-requires g c = rw c.none.ensures once-none
 
 pub send-requires-clause-from : goal.send-requires-clause-from
 send-requires-clause-from g c =
-    let ends = event-ends c.args.n c.args.events.now c.loop-event.event-index c.requires.rules c.loop-event-test.true c.event-item.is
-    (sym c.message.ensures ∙ c.in-Some.is) in
-    omega (arith, ends.0, c.loop-event.invariant.shape.senders)
+    rw c.new.ensures (start-places c.members.ensures.rules c.starts-start-items.ensures c.loop-start-test.true c.start-item.is c.loop-start.invariant.shape).0
 
 pub send-requires-clause-to : goal.send-requires-clause-to
 send-requires-clause-to g c =
-    let ends = event-ends c.args.n c.args.events.now c.loop-event.event-index c.requires.rules c.loop-event-test.true c.event-item.is
-    (sym c.message.ensures ∙ c.in-Some.is) in
-    omega (arith, ends.1, c.loop-event.invariant.shape.receivers c.in-Some.wire.from ends.0)
+    rw c.new.ensures (start-places c.members.ensures.rules c.starts-start-items.ensures c.loop-start-test.true c.start-item.is c.loop-start.invariant.shape).1
 
-pub loop-event-preserved : goal.loop-event-preserved
-loop-event-preserved g c =
-    elim c.match-message.branch [
-      | in-Some+in_ok-send w ↦
-          let is : message_of_send c.event-item.result ≡ Some w.in-Some.wire = sym c.message.ensures ∙ w.in-Some.is in
-          let ends = event-ends c.args.n c.args.events.now c.loop-event.event-index c.requires.rules c.loop-event-test.true c.event-item.is is in
-          let put = w.in_ok-send.ensures in
-          rw w.channels-is (record {
-            shape = rw put (written-shape _ c.loop-event.invariant.shape ends.0 ends.1);
-            sent = λ q p. sent-more q p (rows c.args.channels.now) c.args.events.now c.loop-event.event-index
-                c.loop-event.invariant.shape ends.0 ends.1 c.loop-event-test.true c.event-item.is is put (c.loop-event.invariant.sent q p);
-          })
-      | in_default w ↦
-          let is : message_of_send c.event-item.result ≡ None = sym c.message.ensures ∙ w.in_default.is in
-          rw w.channels-is (record {
-            shape = c.loop-event.invariant.shape;
-            sent = λ q p. sent-none q p (rows c.args.channels.now) (rows c.loop-event.channels) c.args.events.now c.loop-event.event-index c.loop-event-test.true
-                c.event-item.is is (c.loop-event.invariant.sent q p);
-          })
-    ]
+pub loop-start-preserved : goal.loop-start-preserved
+loop-start-preserved g c =
+    let so_far = c.loop-start.invariant in
+    let next : c.loop-start.start-index + 1 ≡ suc c.loop-start.start-index = omega arith in
+    let number = rw c.deref.ensures.value at c.count_sends-ssn.ensures.value in
+    let put = rw (c.new.ensures, c.none.ensures) at c.in_ok-send.ensures in
+    rw (c.in_ok-push.ensures.items, number) (record {
+      so_far = rw next (starts-more c.loop-start.trace.items c.starts-start-items.result.now c.loop-start.start-index c.start-item.result c.loop-start-test.true c.start-item.is ∙ so_far.so_far);
+      made = omega (arith, c.in_ok-push.ensures.len, so_far.made);
+      shape = start-shape c.members.ensures.rules c.starts-start-items.ensures c.loop-start-test.true c.start-item.is so_far.shape _ put;
+      sent = λ q p.
+          start-sent c.members.ensures.rules c.starts-start-items.ensures c.loop-start-test.true c.start-item.is so_far.shape _ (rw number at put) q p
+          c.loop-start.trace.items (so_far.sent q p);
+    })

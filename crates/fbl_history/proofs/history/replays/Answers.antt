@@ -1,5 +1,5 @@
 use Rattle.fbl_history.proofs.Common.{◌<◌}
-use Rattle.fbl_history.proofs.Following.{listed-in}
+use Rattle.fbl_history.proofs.Following.{listed_in}
 use Rattle.fbl_history.proofs.history.replays.Given.{Over}
 use Rattle.fbl_history.proofs.history.replays.Goals as goal
 use Rattle.fbl_history.proofs.history.replays.Goals.{After-member-item}
@@ -7,7 +7,7 @@ use Rattle.fbl_history.proofs.history.replays.Goals.{After-member-item}
 within : (g : Over) (c : After-member-item g) → c.member-item.result < c.args.group.now.config.members
 within g c =
     c.requires c.member-item.result
-    (listed-in c.args.members c.deref-member-items.result.now c.loop-member.member-index c.member-item.result
+    (listed_in c.args.members c.deref-member-items.result.now c.loop-member.member-index c.member-item.result
     c.loop-member.invariant.listed c.loop-member-test.true c.member-item.is)
 
 pub received-received-requires : goal.received-received-requires

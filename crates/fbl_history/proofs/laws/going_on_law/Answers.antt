@@ -1,9 +1,5 @@
-use Rattle.fbl_history.proofs.Crossing.{goes-on}
-use Rattle.fbl_history.proofs.Standing.{standing-is-trace}
+use Rattle.fbl_history.proofs.Standing.{standing_is_trace}
 use Rattle.fbl_history.proofs.laws.going_on_law.Goals as goal
 
-pub returns : goal.returns
-returns c = record {
-  standing = standing-is-trace;
-  nothing_comes_back = goes-on;
-}
+pub returns-clause-standing : goal.returns-clause-standing
+returns-clause-standing c = standing_is_trace

@@ -1,7 +1,8 @@
-use Rattle.std.proofs.Common.{◌≡◌, ◌++◌, take}
+use Rattle.std.proofs.Common.{◌≡◌, ◌++◌, ◌-◌}
 use Rattle.std.specs.List.{flat_map, range_with_len}
-use Rattle.fbl_show.specs.Members.{history_member_shapes}
+use Rattle.fbl_show.specs.Members.{history_member_shapes, members_shapes}
 use Rattle.fbl_show.proofs.members.push_members.Given as goal
 
 abbrev pub invariant-loop-number : goal.invariant-loop-number
-invariant-loop-number l = l.shapes.items ≡ l.initial.shapes.items ++ flat_map (history_member_shapes l.columns) (take l.number (range_with_len 0 l.members))
+invariant-loop-number l =
+    l.shapes.items ++ flat_map (history_member_shapes l.columns) (range_with_len l.number (l.members - l.number)) ≡ l.initial.shapes.items ++ members_shapes l.members l.columns

@@ -1,16 +1,21 @@
-use Rattle.std.proofs.Common.{◌<◌, sym, arith, length}
-use Rattle.fbl_show.proofs.Steps.{added, not_added}
+use Rattle.std.proofs.Common.{◌≡◌, ◌||◌, ◌+◌, ◌∙◌, sym, ap, drop, arith, ◌∷◌}
+use Rattle.std.proofs.lemmas.List.{at_drop_more}
+use Rattle.fbl_base.specs.Events.{is_message}
+use Rattle.fbl_base.specs.declared.trace.MessageName.{MessageName}
+use Rattle.fbl_show.specs.Messages.{has_standing_receipt, taken_by_column}
 use Rattle.fbl_show.proofs.messages.received_in.Goals as goal
 use Rattle.fbl_show.proofs.messages.received_in.Goals.{in-Some+in_ok-insert, in_default}
 
 pub loop-column-preserved : goal.loop-column-preserved
-loop-column-preserved c =
+loop-column-preserved c m =
     let columns = c.args.columns.now in
     let i = c.loop-column.column-index in
     let x = c.column-item.result in
-    let within : i < length columns = omega arith in
+    let rest = drop (i + 1) columns in
+    let here : has_standing_receipt (drop i columns) m ≡ (is_message m (taken_by_column x) || has_standing_receipt rest m) =
+    at_drop_more (λ l. has_standing_receipt l m) columns i x (omega arith) ∙ ap (λ y. has_standing_receipt (y ∷ rest) m) (sym c.column-item.is) in
+    let was = c.loop-column.invariant m in
     elim c.match-message_taken.branch [
-      | in-Some+in_ok-insert w ↦
-          rw w.received-is (added columns i x within c.column-item.is _ c.loop-column.invariant w.in-Some.message (sym w.in-Some.ensures) _ w.in_ok-insert.ensures.updates.0)
-      | in_default w ↦ rw w.received-is (not_added columns i x within c.column-item.is _ c.loop-column.invariant (sym w.in_default.ensures))
+      | in-Some+in_ok-insert w ↦ (let now = w.in_ok-insert.ensures.updates.0 m in grind (arith, here, was, now))
+      | in_default w ↦ grind (arith, here, was)
     ]

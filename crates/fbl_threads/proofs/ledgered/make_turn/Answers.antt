@@ -1,5 +1,5 @@
 use Rattle.fbl_threads.proofs.Common.{sym, ap, ◌∙◌, struck_at}
-use Rattle.fbl_threads.proofs.Reaching.{met_full, met_no_memory, was_late, committed, crashed, left_down}
+use Rattle.fbl_threads.proofs.Reaching.{met_full, met_no_memory, committed, crashed, left_down}
 use Rattle.fbl_threads.proofs.ledgered.make_turn.Goals as goal
 
 pub returns-in-Full : goal.returns-in-Full
@@ -7,9 +7,6 @@ returns-in-Full g c = record { turn = met_full c.in-Full.is c.in-Err.ensures.ref
 
 pub returns-in-Memory : goal.returns-in-Memory
 returns-in-Memory g c = record { turn = met_no_memory c.in-Memory.is c.in-Err.ensures.refused c.in-Err.ensures.unchanged }
-
-pub returns-in-Down : goal.returns-in-Down
-returns-in-Down g c = record { turn = was_late c.in-Down.is c.in-Err.ensures.refused c.in-Err.ensures.unchanged }
 
 pub returns-in_default-planned : goal.returns-in_default-planned
 returns-in_default-planned g c = record {

@@ -2,7 +2,7 @@ use Rattle.fbl_audit.proofs.Common.{◌≡◌, ◌<◌, length, ap, ◌∙◌, s
 use Rattle.fbl_audit.proofs.audit.Audit.first_cause.Goals as goal
 
 pub loop-place-preserved : goal.loop-place-preserved
-loop-place-preserved c = below_more _ _ c.loop-place.invariant (λ cause. false≢true (sym c.if-is_cause.false ∙ c.is_cause.ensures.1 cause))
+loop-place-preserved c = below_more _ _ c.loop-place.invariant (λ cause. false≢true (sym c.if-has.false ∙ c.has.ensures ∙ (c.dependents_of_lost.ensures c.args.member).1 cause))
 
 pub returns-clause-first : goal.returns-clause-first
 returns-clause-first c i cause =

@@ -3,11 +3,11 @@ use Rattle.std.specs.FinSet as set
 use Rattle.std.proofs.lemmas.Option.{IfSome_then}
 use Rattle.std.proofs.lemmas.Result.{IfOk-weaker}
 use Rattle.fbl_audit.specs.Paths.{IsFirstCause}
-use Rattle.fbl_audit.proofs.Causes.{cause_orphan, no_cause}
+use Rattle.fbl_audit.proofs.Causes.{orphan_by_cause}
 use Rattle.fbl_audit.proofs.audit.Audit.orphan_path.Goals as goal
 
 pub returns-in_default-clause-to_all : goal.returns-in_default-clause-to_all
-returns-in_default-clause-to_all c = no_cause c.args.self.now c.args.member c.first_cause.ensures.rules.events c.in_default.ensures.first
+returns-in_default-clause-to_all c = λ orphan. (let why = (orphan_by_cause c.args.self.now c.args.member c.first_cause.ensures.rules.events).0 orphan in c.in_default.ensures.first why.1.0 why.1.1)
 
 pub of-requires : goal.of-requires
 of-requires c =
@@ -23,4 +23,5 @@ returns-clause-paths c =
     let strike = c.strike.ensures ∙ ap (λ x. x.strike) c.self.view_is in
     let left : set.contains dump.strike c.args.member ≡ false = ap (λ s. set.contains s c.args.member) (sym strike) ∙ sym c.has.ensures ∙ c.if-has.false in
     let origin : c.in_ok-paths.paths ≡ record { events = dump.events; place = i } = rw c.self.view_is at c.in_ok-paths.ensures in
-    IfOk-weaker c.to.result _ _ (λ found path_to. IfSome_then found path_to (λ path to. (cause_orphan dump c.args.member i left first.0, (i, first, (rw origin at to))))) c.to.ensures.paths
+    let orphan = (orphan_by_cause dump c.args.member c.first_cause.ensures.rules.events).1 (left, (i, first.0)) in
+    IfOk-weaker c.to.result _ _ (λ found path_to. IfSome_then found path_to (λ path to. (orphan, (i, first, (rw origin at to))))) c.to.ensures.paths

@@ -1,39 +1,34 @@
-use Rattle.fbl_audit.proofs.Common.{◌≡◌, ◌<◌, ◌+◌, length, arith, ◌∙◌, ap, sym, refl, false≢true, slice_get_read, At, IsDump, IsLost, AreDependents}
-use Rattle.fbl_audit.proofs.Auditing.{AreReached, AreReached-none, AreReached-orphans, below_next, Decides-lost, send_is_kept}
-use Rattle.fbl_audit.proofs.Following.{AreAmong-more, AreAmong-same}
+use Rattle.fbl_audit.proofs.Common.{◌≡◌, ◌<◌, ◌+◌, length, arith, ◌∙◌, ap, nat_cmp_total, At-below, IsCause, IsDump}
+use Rattle.std.specs.FinSet as set
+use Rattle.fbl_audit.proofs.Causes.{orphan_by_cause}
+use Rattle.fbl_audit.proofs.Following.{AreReached-next, AreReached-none, contains-both}
 use Rattle.fbl_audit.proofs.audit.Audit.orphans.Goals as goal
-use Rattle.fbl_audit.proofs.audit.Audit.orphans.Goals.{in-Some+then-is_lost, in-Some+else-is_lost, in_default}
 
 pub loop-place-init : goal.loop-place-init
-loop-place-init c = rw c.empty-reached.ensures (AreReached-none c.args.self.now)
+loop-place-init c = rw c.empty-reached.ensures (AreReached-none _ _ (λ j q below. absurd (omega (arith, below))))
 
 pub loop-place-preserved : goal.loop-place-preserved
 loop-place-preserved c =
-    let dump = c.args.self.now in
-    let events : c.events-event-items.result.now ≡ dump.events = c.events-event-items.ensures.events ∙ ap (λ x. x.events) c.self.view_is in
     let p = c.loop-place.place in
-    let e = c.event-item.result in
-    let within : p < length c.events-event-items.result.now = omega arith in
-    let at : At dump.events p e = rw events at (slice_get_read c.events-event-items.result.now (length c.events-event-items.result.now) p e refl within c.event-item.is) in
-    let found : AreDependents dump.events c.self.inside.dependents = rw c.self.view_is at c.self.invariant.1 in
-    let same = AreAmong-same dump.events (λ j. j < p) (λ j. j < p + 1) p (below_next p) e at (IsLost dump) c.loop-place.reached c.loop-place.invariant in
-    let more = AreAmong-more dump.events (λ j. j < p) (λ j. j < p + 1) p (below_next p) e at (IsLost dump) c.loop-place.reached c.loop-place.invariant in
-    elim c.match-determinant.branch [
-      | in-Some+then-is_lost w ↦
-          let lost = (Decides-lost dump e w.in-Some.determinant (sym w.in-Some.ensures)).0 (sym w.is_lost.ensures ∙ w.if-is_lost.true) in
-          rw (w.reached-is, w.union-reached.ensures, w.at.ensures) (more lost _ (λ q. found.members p q (rw (← events) within)))
-      | in-Some+else-is_lost w ↦
-          let lost = (Decides-lost dump e w.in-Some.determinant (sym w.in-Some.ensures)).1 in
-          rw w.reached-is (same (λ is. false≢true (sym w.if-is_lost.false ∙ w.is_lost.ensures ∙ lost is)))
-      | in_default w ↦ rw w.reached-is (same (send_is_kept dump e (sym w.in_default.ensures)))
-    ]
+    rw c.union-reached.ensures (AreReached-next (λ j. j < p) (λ j. j < p + 1) p (λ j. grind arith) (λ j q. IsCause c.args.self.now q j) _ _ c.loop-place.invariant (λ q.
+    let both = contains-both c.loop-place.reached c.dependents_of_lost.result q in
+    let here = c.dependents_of_lost.ensures q in
+    grind (arith, both, here)))
 
 pub returns : goal.returns
-returns c =
+returns c q =
     let dump = c.args.self.now in
-    let rules : IsDump dump = rw c.self.view_is at c.events-event-items.ensures.rules in
-    let events : c.events-event-items.result.now ≡ dump.events = c.events-event-items.ensures.events ∙ ap (λ x. x.events) c.self.view_is in
-    let all : c.loop-place.place ≡ length dump.events = omega (arith, ap length events) in
-    let reached : AreReached dump (length dump.events) c.loop-place.reached = rw all at c.loop-place.invariant in
+    let rules : IsDump dump = rw c.self.view_is at c.events-place-end.ensures.rules in
+    let events : c.events-place-end.result.now ≡ dump.events = c.events-place-end.ensures.events ∙ ap (λ x. x.events) c.self.view_is in
     let strike : c.strike.result ≡ dump.strike = c.strike.ensures ∙ ap (λ x. x.strike) c.self.view_is in
-    rw (c.without.ensures, strike) (AreReached-orphans dump c.loop-place.reached rules.events reached)
+    let orphan = orphan_by_cause dump q rules.events in
+    let left = set.contains-difference nat_cmp_total c.loop-place.reached dump.strike q in
+    let reached = c.loop-place.invariant q in
+    rw (c.without.ensures, strike) (
+      λ h. (let w = reached.0 (grind (arith, left)) in orphan.1 (grind (arith, left), (w.0, w.2))),
+      λ o.
+          let why = orphan.0 o in
+          let within : why.1.0 < c.loop-place.place = omega (arith, At-below dump.events why.1.0 why.1.1.0 why.1.1.1, ap length events) in
+          let is = reached.1 (why.1.0, within, why.1.1) in
+          grind (arith, left, is, why.0),
+    )

@@ -1,7 +1,6 @@
-use Rattle.fbl_group.proofs.Common.{arith}
+use Rattle.fbl_group.proofs.Common.{subst, IsSound, arith}
 use Rattle.fbl_group.proofs.Queues.{made-more, made-none}
 use Rattle.fbl_group.proofs.Recovering.{begun}
-use Rattle.fbl_group.proofs.Views.{sound_now}
 use Rattle.fbl_group.proofs.group.Group.begin.Goals as goal
 
 pub loop-number-init : goal.loop-number-init
@@ -13,4 +12,4 @@ loop-number-preserved g c =
 
 pub returns : goal.returns
 returns g c =
-    begun (sound_now c.self.view_is c.self.invariant) (grind (arith, c.self.view_is, c.loop-number.auto.number-end)) c.loop-number.invariant
+    begun (subst (IsSound g.B.Behaviour.next) c.self.view_is c.self.invariant) (grind (arith, c.self.view_is, c.loop-number.auto.number-end)) c.loop-number.invariant

@@ -1,15 +1,18 @@
 use Rattle.fbl_group.proofs.Common.{sym, subst, ◌∙◌}
 use Rattle.fbl_base.specs.Audit.{Parts, IsDumpOrphan}
+use Rattle.fbl_law.specs.Dumps.{DumpObeysRules, DumpHasNoOrphan}
 use Rattle.fbl_law.proofs.DumpLaws.{dump_obeys_rules, dump_has_no_orphan}
 use Rattle.fbl_group.proofs.group.Group.dump.Goals as goal
 
 pub lawful-requires : goal.lawful-requires
+unfolding DumpObeysRules
 lawful-requires g c =
     let below = (rw c.size.ensures.value at (c.within.ensures.0 c.if-not-within.false)) in
     rw c.in-Ok.ensures.parts
     (dump_obeys_rules g.B.Behaviour.next c.args.self.now c.args.strike c.promises.ensures.sound c.in-Ok.ensures.distinct below)
 
 pub returns-in-Ok-clause-no_orphan : goal.returns-in-Ok-clause-no_orphan
+unfolding DumpHasNoOrphan
 returns-in-Ok-clause-no_orphan g c covers few m =
     subst (λ (d : Parts). ¬ (IsDumpOrphan d m)) (sym (c.lawful.ensures ∙ c.in-Ok.ensures.parts))
     (dump_has_no_orphan g.B.Behaviour.next c.args.self.now c.args.strike m c.promises.ensures.sound covers few)

@@ -1,6 +1,5 @@
-use Rattle.fbl_group.proofs.Common.{◌≡◌, [], List, take, map, length, refl, ap, ◌∙◌, arith, Entry, gathered, marked, MemberRecord, GroupRecord, gathered_all}
+use Rattle.fbl_group.proofs.Common.{subst, IsSound, ◌≡◌, [], List, take, map, length, refl, ap, ◌∙◌, arith, Entry, gathered, marked, MemberRecord, GroupRecord, gathered_all}
 use Rattle.fbl_group.proofs.Recovering.{read_at, gathered-step, gathered-end}
-use Rattle.fbl_group.proofs.Views.{sound_now}
 use Rattle.fbl_group.proofs.group.Group.gather_table.Goals as goal
 
 pub loop-record-preserved : goal.loop-record-preserved
@@ -13,6 +12,6 @@ pub returns-clause-table : goal.returns-clause-table
 returns-clause-table g c =
     let items : c.deref-record-items.result.now ≡ c.args.self.now.members = c.deref-record-items.ensures.value ∙ ap (λ (r : GroupRecord). r.members) c.self.view_is in
     gathered-end c.args.self.now c.loop-record.record-index c.args.self.now.config.members c.loop-record.gathered c.gather_saved.new.gathered
-    c.mark_all.new.self (omega (arith, c.loop-record-test.false, ap length items)) (sound_now c.self.view_is c.self.invariant).checkpoints
+    c.mark_all.new.self (omega (arith, c.loop-record-test.false, ap length items)) (subst (IsSound g.B.Behaviour.next) c.self.view_is c.self.invariant).checkpoints
     (c.loop-record.invariant ∙ ap (λ (ms : List MemberRecord). gathered_all [] (map (λ (m : MemberRecord). m.table) (take c.loop-record.record-index ms))) items)
     c.in_ok-gather_saved.ensures (c.mark_all.ensures ∙ ap (λ (r : GroupRecord). marked r.down c.gather_saved.new.gathered) c.self.view_is)

@@ -1,17 +1,19 @@
-use Rattle.fbl_group.proofs.Common.{sound_has_no_orphan, sound_records_first}
-use Rattle.fbl_law.proofs.Promises.{sound_holds_each_receipt}
-use Rattle.fbl_group.proofs.Promised.{survivors_hold, records_causes}
-use Rattle.fbl_group.proofs.Views.{sound_now}
+use Rattle.fbl_group.proofs.Common.{subst, IsSound, knowledge, no_orphan, sound_records_first}
+use Rattle.fbl_law.specs.Headline.{SoundHoldsEachReceipt}
+use Rattle.fbl_law.proofs.Promises.{sound_holds_each_receipt, any_survivors_hold}
+use Rattle.fbl_law.proofs.Safe.{IsRecorded-before}
 use Rattle.fbl_group.proofs.group.Group.promises.Goals as goal
 
 pub returns : goal.returns
+unfolding SoundHoldsEachReceipt
 returns g c =
-    let sound = sound_now c.self.view_is c.self.invariant in
+    let r = c.args.self.now in
+    let sound = subst (IsSound g.B.Behaviour.next) c.self.view_is c.self.invariant in
     record {
       sound = sound;
       held = sound_holds_each_receipt g.B.Behaviour.next _ sound;
-      no_orphan = λ m. sound_has_no_orphan g.B.Behaviour.next _ m sound;
-      survivors = survivors_hold g.B.Behaviour.next _ sound;
+      no_orphan = λ m. no_orphan _ _ sound.causes.closed m;
+      survivors = any_survivors_hold r.config.members r.config.f (knowledge r) r.down sound.causes (λ q down. down) sound.causes.down.few;
       first = sound_records_first g.B.Behaviour.next _ sound;
-      causes = records_causes g.B.Behaviour.next _ sound;
+      causes = IsRecorded-before r.config.f (knowledge r) sound.causes.closed;
     }

@@ -8,9 +8,6 @@ pub reserve_from-requires-clause-receivers : goal.reserve_from-requires-clause-r
 reserve_from-requires-clause-receivers g c =
     planning.receivers_in g.met.B.Behaviour.sends_allowed c.self.invariant c.self.view_is c.requires refl c.as_slice-sends.ensures.value
 
-pub front-requires-clause-to : goal.front-requires-clause-to
-front-requires-clause-to g c = planning.below_receiver g.met.B.Behaviour.sends_allowed c.self.invariant c.self.view_is c.requires c.reserve_from.ensures.same
-
 pub unwrap-wire-requires : goal.unwrap-wire-requires
 unwrap-wire-requires g c =
     is-there c.front.result (planning.not_empty g.met.B.Behaviour.sends_allowed c.self.invariant c.self.view_is c.requires c.reserve_from.ensures.same) c.front.ensures.none
@@ -35,12 +32,6 @@ pub returns-in_err-made-clause-unchanged : goal.returns-in_err-made-clause-uncha
 returns-in_err-made-clause-unchanged g c =
     on_err c.from_residual-in_err-made.result (planning.stays g.met.B.Behaviour.sends_allowed c.self.invariant c.self.view_is c.requires c.reserve_from.ensures.same c.from.result
     c.in_err-made.ensures.unchanged c.index_mut-member.ensures.value c.reserve.ensures.items ∙ c.self.view_is)
-
-pub take_and_send-requires-clause-channel : goal.take_and_send-requires-clause-channel
-take_and_send-requires-clause-channel g c = planning.below_receiver g.met.B.Behaviour.sends_allowed c.self.invariant c.self.view_is c.requires c.reserve_from.ensures.same
-
-pub take_and_send-requires-clause-apart : goal.take_and_send-requires-clause-apart
-take_and_send-requires-clause-apart g c = planning.apart g.met.B.Behaviour.sends_allowed c.self.invariant c.self.view_is c.requires
 
 pub take_and_send-requires-clause-receivers : goal.take_and_send-requires-clause-receivers
 take_and_send-requires-clause-receivers g c =

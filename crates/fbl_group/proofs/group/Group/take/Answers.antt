@@ -1,5 +1,5 @@
-use Rattle.fbl_group.proofs.Common.{arith, ℕ, ◌+◌, refl, ap, nat_tests}
-use Rattle.fbl_group.proofs.Deciding.{few_received, is_ticket}
+use Rattle.fbl_group.proofs.Common.{front_flight, arith, ℕ, ◌+◌, refl, ap, nat_tests}
+use Rattle.fbl_group.proofs.Deciding.{few_received}
 use Rattle.fbl_group.proofs.group.Group.take.Goals as goal
 
 pub overflow_add-result : goal.overflow_add-result
@@ -8,6 +8,5 @@ overflow_add-result g c =
 
 pub returns-clause-taken : goal.returns-clause-taken
 returns-clause-taken g c =
-    let ticket = is_ticket c.record-member.ensures.sound c.record-member.ensures.value c.in-Some.wire.now _ c.in-Some.ensures.some
-    c.size-n.ensures.value refl refl c.state.ensures (ap (λ (k : ℕ). k + 1) c.received.ensures.value) c.ssn.ensures c.note.ensures in
-    (grind (arith, nat_tests), (c.in-Some.wire.now, c.in-Some.ensures.some, ticket))
+    let flies = front_flight g.B.Behaviour.next _ c.record-member.ensures.sound c.args.from c.args.to c.in-Some.wire.now c.in-Some.ensures.some in
+    (grind (arith, nat_tests), (c.in-Some.wire.now, c.in-Some.ensures.some, grind (arith, flies)))

@@ -1,11 +1,7 @@
-use Rattle.fbl_group.proofs.Common.{◌≡◌, length, ◌∙◌, ap, arith, GroupRecord, marks, receipts}
+use Rattle.fbl_group.proofs.Common.{◌∙◌, ap, arith, GroupRecord}
 use Rattle.std.specs.FinSet as set
 use Rattle.fbl_group.proofs.Reading.{received-twice, unreceived-fly}
 use Rattle.fbl_group.proofs.group.Group.unreceived.Goals as goal
-
--- a group has as many receipts as its record
-counted : {r s : GroupRecord} → r ≡ s → length (receipts (marks r)) ≡ length (receipts (marks s))
-counted view = ap (λ (r : GroupRecord). length (receipts (marks r))) view
 
 pub overflow_mul-result : goal.overflow_mul-result
 overflow_mul-result g c = grind (arith, c.self.view_is, received-twice g.B.Behaviour.next _ c.self.invariant)

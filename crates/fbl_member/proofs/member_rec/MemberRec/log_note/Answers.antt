@@ -1,6 +1,6 @@
 use Rattle.fbl_member.proofs.Common.{◌-◌, ◌<◌, ◌≤◌, ap, sym, arith, length}
-use Rattle.std.proofs.lemmas.Option.{slice_get-get_or}
-use Rattle.fbl_member.proofs.Logs.{noted-at, noted-none, noted-past}
+use Rattle.std.proofs.lemmas.Option.{slice_get-get_or, slice_get_past}
+use Rattle.fbl_member.proofs.Logs.{noted-at, noted-none}
 use Rattle.fbl_member.proofs.member_rec.MemberRec.log_note.Goals as goal
 
 pub returns-then-ssn-eq0 : goal.returns-then-ssn-eq0
@@ -18,4 +18,5 @@ pub returns-else-place-log : goal.returns-else-place-log
 returns-else-place-log g c =
     let log = c.self.inside.log.items in
     let past : length log ≤ c.args.ssn - 1 = rw (ap length c.as_slice-log.ensures.value) at c.if-place-log.false in
-    rw (← c.self.view_is) (sym (noted-past 0 log (c.args.ssn - 1) c.args.ssn (omega (arith, c.if-ssn-eq0.false)) past))
+    let noted = noted-at 0 log (c.args.ssn - 1) c.args.ssn (omega (arith, c.if-ssn-eq0.false)) in
+    rw (← c.self.view_is) (grind (arith, noted, slice_get_past log (c.args.ssn - 1) past))

@@ -1,4 +1,0 @@
-use Rattle.fbl_group.proofs.group.Group.lost_receipts.Goals as goal
-
-pub returns : goal.returns
-returns g c = rw (← c.self.view_is, ← c.deref.ensures.value, ← c.deref-2.ensures.value, ← c.deref-3.ensures.value) c.unrecorded.ensures

@@ -1,6 +1,0 @@
-use Rattle.fbl_group.proofs.Queues.{made-more}
-use Rattle.fbl_group.proofs.group.Group.number_receipts.Goals as goal
-
-pub loop-number-preserved : goal.loop-number-preserved
-loop-number-preserved g c =
-    rw c.in_ok-push.ensures.items (made-more _ _ _ _ _ c.loop-number.invariant (rw c.at-member.ensures at c.in_ok-number_receipts_of.ensures))
