@@ -1,9 +1,8 @@
 -- The audit by its indexes.
-use Rattle.fbl_audit.proofs.Common.{Decides, ℕ, Bool, true, false, not, ◌≡◌, ◌==◌, ◌↔◌, inl, inr, Some, None, refl, sym, ◌∙◌}
-use Rattle.fbl_audit.proofs.Common.{arith, false≢true, cases_eq, nat_tests, nat_cmp_total, Members, Determinant, Mark, Send, Receipt, Parts, IsLost, is_held_outside}
-use Rattle.fbl_audit.proofs.Common.{determinant_of, len-remove_one, some_member, holders_of}
+use Rattle.fbl_audit.proofs.Common.{Decides, ℕ, Bool, true, false, not, ◌≡◌, ◌==◌, ◌↔◌, inl, inr, Some, None, refl, sym, ◌∙◌, arith, false≢true, cases_eq, nat_tests}
+use Rattle.fbl_audit.proofs.Common.{nat_cmp_total, Members, Determinant, Mark, Send, Receipt, Parts, IsLost, is_held_outside, determinant_of, len-remove_one, some_member, holders_of}
+use Rattle.fbl_audit.proofs.Common.{Decides-is_held_outside}
 use Rattle.std.specs.FinSet as set
-use Rattle.fbl_base.proofs.Recorded.{Decides-is_held_outside}
 use Rattle.fbl_audit.proofs.Checks.{holds}
 
 -- the determinant is lost exactly where nobody outside the strike set is among its holders

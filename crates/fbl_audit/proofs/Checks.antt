@@ -1,21 +1,11 @@
 -- Which receipts are unsafe, and that the run is safe where none is.
-use Rattle.fbl_audit.proofs.Common.{ℕ, Bool, true, false, ◌≡◌, ◌<◌, ◌≤◌, ◌+◌, ◌==◌, ◌↔◌, inl, inr, List, [], ◌∷◌, ◌++◌, length, take, map, Some}
-use Rattle.fbl_audit.proofs.Common.{refl, sym, ap, ◌∙◌, arith, get_or, max, zero, suc, slice_get, filter, filter_map, nat_cmp_total, slice_get_read, false≢true, Members}
-use Rattle.fbl_audit.proofs.Common.{Determinant, Mark, Send, Receipt, Parts, IsDump, IsDumpOrphan, IsLost, At, determinant_of, receipt_of, same_determinant, Depends, depends-from_places}
-use Rattle.fbl_audit.proofs.Common.{places-from_depends, Has-first, Decides-same_determinant, len-remove_one, len-within, some_member, IsSafe, SaysUnsafe, receipts_of_dump, Dependents}
-use Rattle.fbl_audit.proofs.Common.{AreDependents, WellFormed, holders_of}
-use Rattle.std.proofs.Common.{◌&&◌}
-use Rattle.std.specs.List.{Contains, cons_option, list_any}
+use Rattle.fbl_audit.proofs.Common.{ℕ, Bool, true, false, ◌≡◌, ◌<◌, ◌≤◌, ◌+◌, ◌==◌, ◌↔◌, inl, inr, List, [], ◌∷◌, ◌++◌, length, take, map, Some, refl, sym}
+use Rattle.fbl_audit.proofs.Common.{ap, ◌∙◌, arith, get_or, max, zero, suc, slice_get, filter, filter_map, nat_cmp_total, slice_get_read, false≢true, Members, Determinant, Mark, Send, Receipt}
+use Rattle.fbl_audit.proofs.Common.{Parts, IsDump, IsDumpOrphan, IsLost, At, determinant_of, receipt_of, same_determinant, Depends, depends-from_places, places-from_depends, Has-first}
+use Rattle.fbl_audit.proofs.Common.{Decides-same_determinant, len-remove_one, len-within, some_member, IsSafe, SaysUnsafe, receipts_of_dump, Dependents, AreDependents, WellFormed, holders_of}
+use Rattle.fbl_audit.proofs.Common.{◌&&◌, Contains, cons_option, list_any, take_more, filter_map-append, Any-from_list_any, list_any-from_Any, and_parts, eqb-true, filter_map-At, eqb-self}
+use Rattle.fbl_audit.proofs.Common.{UnsafeReceipt, IsLeftOrphan, IsSaidOf, IsUnsafe, LosesReceipt, MayBeLost, struck_by, dependents_at}
 use Rattle.std.specs.FinSet as set
-use Rattle.std.proofs.lemmas.List.{take_more}
-use Rattle.std.proofs.lemmas.List.Elements.{filter_map-append}
-use Rattle.std.proofs.lemmas.List.Folds.{Any-from_list_any, list_any-from_Any}
-use Rattle.std.proofs.lemmas.Bool.{and_parts, eqb-true}
-use Rattle.fbl_base.proofs.Gets.{filter_map-At}
-use Rattle.fbl_base.proofs.RulesLaws.{eqb-self}
-use Rattle.fbl_audit.specs.declared.checking.UnsafeReceipt.{UnsafeReceipt}
-use Rattle.fbl_audit.specs.Checking.{IsLeftOrphan, IsSaidOf, IsUnsafe, LosesReceipt, MayBeLost, struck_by}
-use Rattle.fbl_audit.specs.Dependents.{dependents_at}
 use Rattle.fbl_audit.proofs.Following.{contains-both}
 
 -- ---- who holds a determinant

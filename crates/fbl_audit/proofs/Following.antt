@@ -1,17 +1,11 @@
 -- A pass from the end of a trace finds who depends on each event.
-use Rattle.fbl_audit.proofs.Common.{ℕ, Bool, true, false, ◌≡◌, ◌<◌, ◌≤◌, ◌+◌, ◌⊎◌, ◌↔◌, inl, inr, List, length, Some, refl, sym, ap, ◌∙◌, arith}
-use Rattle.fbl_audit.proofs.Common.{get_or, length-set, length-append, ◌-◌, ◌++◌, [], ◌∷◌, cond, replicate, Decides, nat_tests, false≢true}
-use Rattle.fbl_audit.proofs.Common.{cases_eq, nat_cmp_total, Mark, Send, Receipt, At, member_of, send_of, WellFormed, PlaceLeads, PlacePrecedes, same_place, place_step, Members, At-below}
-use Rattle.fbl_audit.proofs.Common.{get_or-same, Message, Dependents, AreDependents, message_taken_by, same_addressed_message}
-use Rattle.std.proofs.Common.{◌==◌, set as set_at}
-use Rattle.std.proofs.lemmas.Grind.{common_steps}
-use Rattle.std.specs.Cmp.{unsigned_tied}
-use Rattle.std.proofs.lemmas.List.{get_or_push, get_or_append_left}
-use Rattle.std.specs.Ordering.{nat_cmp}
+use Rattle.fbl_audit.proofs.Common.{ℕ, Bool, true, false, ◌≡◌, ◌<◌, ◌≤◌, ◌+◌, ◌⊎◌, ◌↔◌, inl, inr, List, length, Some, refl, sym, ap, ◌∙◌, arith, get_or}
+use Rattle.fbl_audit.proofs.Common.{length-set, length-append, ◌-◌, ◌++◌, [], ◌∷◌, cond, replicate, Decides, nat_tests, false≢true, cases_eq, nat_cmp_total, Mark, Send, Receipt, At}
+use Rattle.fbl_audit.proofs.Common.{member_of, send_of, WellFormed, PlaceLeads, PlacePrecedes, same_place, place_step, Members, At-below, get_or-same, Message, Dependents, AreDependents}
+use Rattle.fbl_audit.proofs.Common.{message_taken_by, same_addressed_message, ◌==◌, common_steps, unsigned_tied, get_or_push, get_or_append_left, nat_cmp, DependsOnPlace, Precedes-joined}
+use Rattle.fbl_audit.proofs.Common.{dependents_by, known_after}
 use Rattle.std.specs.FinSet as set
-use Rattle.fbl_base.specs.Places.{DependsOnPlace}
-use Rattle.fbl_base.proofs.PlacesAndEvents.{Precedes-joined}
-use Rattle.fbl_audit.specs.Dependents.{dependents_by, known_after}
+use Rattle.std.proofs.Common.{set as set_at}
 
 -- a path is empty, or begins with a step
 first_step : {t : List Mark} {i k : ℕ} → PlacePrecedes t i k → (i ≡ k) ⊎ ((j : ℕ) × PlaceLeads t i j × PlacePrecedes t j k)

@@ -1,11 +1,8 @@
 -- How the index of holders is made.
-use Rattle.fbl_audit.proofs.Common.{ℕ, ◌+◌, ◌<◌, ◌≡◌, Bool, true, false, cond, List, [], ◌∷◌, ◌++◌, length, take, get_or, map, Option, Some, unwrap_or, refl, sym}
-use Rattle.fbl_audit.proofs.Common.{ap, ◌∙◌, filter, nat_cmp_total, Determinant, same_determinant, Decides-same_determinant}
-use Rattle.std.proofs.Common.{append-nil}
-use Rattle.std.specs.Ordering.{nat_cmp}
+use Rattle.fbl_audit.proofs.Common.{ℕ, ◌+◌, ◌<◌, ◌≡◌, Bool, true, false, cond, List, [], ◌∷◌, ◌++◌, length, take, get_or, map, Option, Some, unwrap_or, refl, sym, ap}
+use Rattle.fbl_audit.proofs.Common.{◌∙◌, filter, nat_cmp_total, Determinant, same_determinant, Decides-same_determinant, nat_cmp, map-append, filter_more}
 use Rattle.std.specs.FinSet as set
-use Rattle.std.proofs.lemmas.List.{map-append}
-use Rattle.std.proofs.lemmas.List.Elements.{filter_more}
+use Rattle.std.proofs.Common.{append-nil}
 
 -- the members that hold the determinant by these pairs
 abbrev held_by : Determinant → List (ℕ × Determinant) → set.FinSet nat_cmp

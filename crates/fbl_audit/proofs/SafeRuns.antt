@@ -1,11 +1,8 @@
 -- With nobody struck, a run is safe exactly by the always-no-orphans condition.
-use Rattle.fbl_audit.proofs.Common.{ℕ, true, false, ◌≡◌, ◌≤◌, inl, inr, refl, sym, ap, ◌∙◌, arith, false≢true, Determinant, Parts, IsDump, receipt_of, Depends}
-use Rattle.fbl_audit.proofs.Common.{Has-first, len-within, IsSafe, holders_of}
-use Rattle.std.proofs.Common.{nat_cmp}
+use Rattle.fbl_audit.proofs.Common.{ℕ, true, false, ◌≡◌, ◌≤◌, inl, inr, refl, sym, ap, ◌∙◌, arith, false≢true, Determinant, Parts, IsDump, receipt_of, Depends, Has-first}
+use Rattle.fbl_audit.proofs.Common.{len-within, IsSafe, holders_of, cases_lt, Has, HasAlwaysNoOrphans, SafeLaw}
 use Rattle.std.specs.FinSet as set
-use Rattle.std.proofs.lemmas.Bool.{cases_lt}
-use Rattle.fbl_base.specs.Precedence.{Has}
-use Rattle.fbl_audit.specs.Laws.{HasAlwaysNoOrphans, SafeLaw}
+use Rattle.std.proofs.Common.{nat_cmp}
 use Rattle.fbl_audit.proofs.Checks.{least_loses, least_may, least_of, left_of_receipt, loses_all}
 use Rattle.fbl_audit.proofs.Following.{contains-both}
 

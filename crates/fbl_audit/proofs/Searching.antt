@@ -1,14 +1,9 @@
 -- A search from the first event on finds a path to each member that depends on an event.
-use Rattle.fbl_audit.proofs.Common.{below_more, ℕ, Bool, true, false, ◌≡◌, ◌<◌, ◌+◌, ◌⊎◌, inl, inr, List, [], ◌∷◌, ◌++◌, length, Option}
-use Rattle.fbl_audit.proofs.Common.{Some, None, refl, sym, ap, ◌∙◌, arith, get_or, length-set, length-append, replicate, reverse, slice_get, cond}
-use Rattle.fbl_audit.proofs.Common.{nat_tests, slice_get_read, Mark, Send, Receipt, At, member_of, send_of, PlaceLeads, PlacePrecedes, same_place, place_step, At-below}
-use Rattle.fbl_audit.proofs.Common.{get_or-same, Message, message_taken_by, same_addressed_message, ArePaths, IsBefore, IsEndBy, IsPath}
-use Rattle.std.proofs.Common.{◌≢◌, option_and_then}
-use Rattle.std.specs.Option.{is_some, option_or}
-use Rattle.std.proofs.lemmas.List.{reverse-append}
-use Rattle.fbl_base.proofs.Gets.{At-push}
-use Rattle.fbl_audit.specs.Paths.{IsFoundBy, path_step, Origin, end_after, message_sent_by, place_before, sent_after}
-use Rattle.std.proofs.Common.{Decides, ◌==◌}
+use Rattle.fbl_audit.proofs.Common.{below_more, ℕ, Bool, true, false, ◌≡◌, ◌<◌, ◌+◌, ◌⊎◌, inl, inr, List, [], ◌∷◌, ◌++◌, length, Option, Some, None, refl, sym, ap}
+use Rattle.fbl_audit.proofs.Common.{◌∙◌, arith, get_or, length-set, length-append, replicate, reverse, slice_get, cond, nat_tests, slice_get_read, Mark, Send, Receipt, At, member_of, send_of}
+use Rattle.fbl_audit.proofs.Common.{PlaceLeads, PlacePrecedes, same_place, place_step, At-below, get_or-same, Message, message_taken_by, same_addressed_message, ArePaths, IsBefore, IsEndBy, IsPath}
+use Rattle.fbl_audit.proofs.Common.{◌≢◌, option_and_then, is_some, option_or, reverse-append, At-push, IsFoundBy, path_step, Origin, end_after, message_sent_by, place_before, sent_after}
+use Rattle.fbl_audit.proofs.Common.{Decides, ◌==◌}
 use Rattle.fbl_audit.proofs.Following.{same_event, set_by_test}
 
 -- a path is empty, or ends with a step

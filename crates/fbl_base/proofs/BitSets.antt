@@ -1,16 +1,12 @@
 -- Operations on bits as operations on sets.
-use Rattle.fbl_base.proofs.Common.{◌≡◌, ◌≢◌, ℕ, zero, suc, ◌+◌, ◌-◌, ◌*◌, ◌<◌, ◌≤◌, true, ◌&&◌, not, cond, refl, sym, ap, ◌∙◌, arith, inl, inr}
-use Rattle.fbl_base.proofs.Common.{◌⊎◌, ◌↔◌, count_by, cases_eq, nat_tests, sum_by-cons, nat_cmp, nat_cmp_total, same_from_contains, contains-insert_other}
-use Rattle.std.proofs.Common.{◌/◌, ◌%◌, ◌^◌, min, eqb, bit_and, bit_or, w16}
-use Rattle.std.proofs.lemmas.Bool.{cases_lt}
-use Rattle.std.proofs.lemmas.Nat.Bits.{bit_at-lt, bit_at_or, bit_at_and, bit_at_not, bit_at_above, bit_at_set_same, bit_at_set_other, shr_and_one, same_from_bits, bit_at-zero}
-use Rattle.std.proofs.Math.Nat.{div-add-mod, mod-lt, div-div-eq-div-mul}
-use Rattle.std.proofs.lemmas.Nat.{pow-add, pow_pos, or_lt, and_le_l}
-use Rattle.std.specs.Int.{bit_at}
-use Rattle.std.specs.Int.Count.{ones, ones_in, ones_step}
+use Rattle.fbl_base.proofs.Common.{◌≡◌, ◌≢◌, ℕ, zero, suc, ◌+◌, ◌-◌, ◌*◌, ◌<◌, ◌≤◌, true, ◌&&◌, not, cond, refl, sym, ap, ◌∙◌, arith, inl, inr, ◌⊎◌}
+use Rattle.fbl_base.proofs.Common.{◌↔◌, count_by, cases_eq, nat_tests, sum_by-cons, nat_cmp, nat_cmp_total, same_from_contains, contains-insert_other, ◌/◌, ◌%◌, ◌^◌, min, eqb}
+use Rattle.fbl_base.proofs.Common.{bit_and, bit_or, w16, cases_lt, bit_at-lt, bit_at_or, bit_at_and, bit_at_not, bit_at_above, bit_at_set_same, bit_at_set_other, shr_and_one, same_from_bits}
+use Rattle.fbl_base.proofs.Common.{bit_at-zero, div-add-mod, mod-lt, div-div-eq-div-mul, pow-add, pow_pos, or_lt, and_le_l, bit_at, ones_step, len-flagged, contains-insert_same, AllBelow}
+use Rattle.fbl_base.proofs.Common.{contains-set_of, parity}
 use Rattle.std.specs.FinSet as set
-use Rattle.fbl_base.specs.MemberSets.{len-flagged, contains-insert_same, AllBelow}
-use Rattle.fbl_base.specs.Bits.{digits, set_of, contains-set_of, parity}
+use Rattle.std.specs.Int.Count.{ones, ones_in}
+use Rattle.fbl_base.specs.Bits.{digits, set_of}
 
 same-bits : (b : ℕ) (s : set.FinSet nat_cmp) → b < 65536 → ((q : ℕ) → eqb (bit_at b q) 1 ≡ set.contains s q) → set_of b ≡ s
 same-bits b s within same = same_from_contains _ _ (λ q. contains-set_of b q within ∙ same q)

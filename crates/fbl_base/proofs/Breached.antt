@@ -1,7 +1,5 @@
 -- An event that may follow breaks no rule.
-use Rattle.fbl_base.proofs.Common.{ℕ, ◌<◌, List, length, Mark, MayFollow, first_in_flight}
-use Rattle.fbl_base.specs.declared.trace.Mark.TheVariants.{Send, Receipt}
-use Rattle.fbl_base.specs.Breaches.{FitsEvent, next_number}
+use Rattle.fbl_base.proofs.Common.{ℕ, ◌<◌, List, length, Mark, MayFollow, first_in_flight, Send, Receipt, FitsEvent, next_number}
 
 -- what an event that may follow has
 pub room : (n : ℕ) (t : List Mark) (e : Mark) → MayFollow n t e → length t < 8192

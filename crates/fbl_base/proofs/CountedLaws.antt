@@ -1,17 +1,10 @@
 -- What is counted, after one more event.
-use Rattle.fbl_base.proofs.Common.{ℕ, ◌≡◌, ◌≢◌, ◌<◌, ◌≤◌, ◌+◌, ◌*◌, List, [], ◌∷◌, ◌++◌, length, take, drop, Option, Some, None, slice_get}
-use Rattle.fbl_base.proofs.Common.{MatchOption, refl, ap, ◌∙◌, arith, get_or, get_or-set_same, get_or-set_other, length-set, nat_tests, take_more, slice_get_read, Mark, At, sends_of}
-use Rattle.fbl_base.proofs.Common.{receipts_of}
-use Rattle.fbl_base.proofs.Common.{in_flight, MayFollow, ObeysAt, WellFormed, Counted, BreaksEvent, first_in_flight, EventRule}
-use Rattle.std.proofs.Common.{add-one, IfSome}
-use Rattle.fbl_base.proofs.Gets.{take-more}
-use Rattle.std.proofs.lemmas.List.{append-nil}
-use Rattle.fbl_base.specs.declared.trace.Mark.TheVariants.{Send, Receipt}
-use Rattle.fbl_base.specs.declared.rules.Counts.{Counts}
-use Rattle.fbl_base.specs.Events.{destination_of, source_of}
-use Rattle.fbl_base.specs.Counted.{CountsEvent, first_by, next_by}
-use Rattle.fbl_base.specs.Breaches.{Breaks, FitsEvent, next_number}
+use Rattle.fbl_base.proofs.Common.{ℕ, ◌≡◌, ◌≢◌, ◌<◌, ◌≤◌, ◌+◌, ◌*◌, List, [], ◌∷◌, ◌++◌, length, take, drop, Option, Some, None, slice_get, MatchOption, refl}
+use Rattle.fbl_base.proofs.Common.{ap, ◌∙◌, arith, get_or, get_or-set_same, get_or-set_other, length-set, nat_tests, take_more, slice_get_read, Mark, At, sends_of, receipts_of, in_flight}
+use Rattle.fbl_base.proofs.Common.{MayFollow, ObeysAt, WellFormed, Counted, BreaksEvent, first_in_flight, EventRule, add-one, IfSome, append-nil, Send, Receipt, Counts, destination_of, source_of}
+use Rattle.fbl_base.proofs.Common.{CountsEvent, first_by, next_by, Breaks, FitsEvent, next_number}
 use Rattle.fbl_base.specs.declared.fault.EventRule.TheVariants as rules
+use Rattle.fbl_base.proofs.Gets.{take-more}
 use Rattle.fbl_base.proofs.Breached.{fits, may}
 use Rattle.fbl_base.proofs.InFlightLaws.{in_flight-send, in_flight-receipt}
 use Rattle.fbl_base.proofs.RulesLaws.{sends-step, receipts-step}

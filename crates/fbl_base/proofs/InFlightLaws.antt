@@ -1,9 +1,7 @@
 -- What is in flight after one more event.
-use Rattle.fbl_base.proofs.Common.{◌==◌, ◌&&◌, not, ℕ, suc, Bool, true, false, cond, ◌≡◌, ◌≢◌, ◌<◌, ◌≤◌, List, [], ◌∷◌, ◌++◌, take, drop, Some}
-use Rattle.fbl_base.proofs.Common.{None, refl, ap, ◌∙◌, arith, slice_get, filter, filter_map, list_any, cons_option, nat_tests, list_any-append, filter-append, filter_map-append, Mark}
-use Rattle.fbl_base.proofs.Common.{At, Has, is_send_of, sends_of, sent_on, taken_on, in_flight, MayFollow, WellFormed}
-use Rattle.std.proofs.lemmas.List.{append-nil}
-use Rattle.fbl_base.specs.declared.trace.Mark.TheVariants.{Send, Receipt}
+use Rattle.fbl_base.proofs.Common.{◌==◌, ◌&&◌, not, ℕ, suc, Bool, true, false, cond, ◌≡◌, ◌≢◌, ◌<◌, ◌≤◌, List, [], ◌∷◌, ◌++◌, take, drop, Some, None, refl}
+use Rattle.fbl_base.proofs.Common.{ap, ◌∙◌, arith, slice_get, filter, filter_map, list_any, cons_option, nat_tests, list_any-append, filter-append, filter_map-append, Mark, At, Has, is_send_of}
+use Rattle.fbl_base.proofs.Common.{sends_of, sent_on, taken_on, in_flight, MayFollow, WellFormed, append-nil, Send, Receipt}
 use Rattle.fbl_base.proofs.Gets.{At-filter_map, Apart, Apart-filter, Apart-filter_map, slice_get-take}
 use Rattle.fbl_base.proofs.RulesLaws.{on_channel, is_sent, sent-before, count_at, eqb-self, WellFormed-take}
 

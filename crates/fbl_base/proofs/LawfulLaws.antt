@@ -1,19 +1,11 @@
 -- A delivery keeps a trace lawful.
-use Rattle.fbl_base.proofs.Common.{◌≡◌, ◌≢◌, ℕ, zero, suc, ◌+◌, ◌<◌, ◌≤◌, ◌==◌, ◌&&◌, ◌⊎◌, inl, inr, true, false, cond, List, [], ◌∷◌}
-use Rattle.fbl_base.proofs.Common.{◌++◌, length, take, map, Some, subst, slice_get, refl, sym, ap, ◌∙◌, arith, filter_map, fold, cases_eq, nat_tests, take-append-le}
-use Rattle.fbl_base.proofs.Common.{filter_map-append, Note, Start, Mark, At, sends_of, is_send_of, MayFollow, WellFormed, Next, took, sent, responses}
-use Rattle.std.proofs.Common.{append_assoc, length-append, length-take}
-use Rattle.std.specs.List.{All}
-use Rattle.std.proofs.lemmas.List.{append-nil, map-append, length-map}
-use Rattle.std.proofs.lemmas.List.Sums.{sum_by-append}
-use Rattle.std.proofs.lemmas.List.Elements.{All-head, All-tail}
-use Rattle.std.proofs.lemmas.Option.{slice_get-map}
-use Rattle.fbl_base.proofs.Sifted.{length-filter_map}
-use Rattle.fbl_base.specs.declared.trace.Event.{Event}
-use Rattle.fbl_base.specs.declared.trace.Event.TheVariants.{Send, Receipt}
+use Rattle.fbl_base.proofs.Common.{◌≡◌, ◌≢◌, ℕ, zero, suc, ◌+◌, ◌<◌, ◌≤◌, ◌==◌, ◌&&◌, ◌⊎◌, inl, inr, true, false, cond, List, [], ◌∷◌, ◌++◌, length}
+use Rattle.fbl_base.proofs.Common.{take, map, Some, subst, slice_get, refl, sym, ap, ◌∙◌, arith, filter_map, fold, cases_eq, nat_tests, take-append-le, filter_map-append, Note, Start, Mark, At}
+use Rattle.fbl_base.proofs.Common.{sends_of, is_send_of, MayFollow, WellFormed, Next, took, sent, responses, append_assoc, length-append, length-take, All, append-nil, map-append, length-map}
+use Rattle.fbl_base.proofs.Common.{sum_by-append, All-head, All-tail, slice_get-map, Event, mark_of, Action, action_of, actions_of, notes_of, note_of, start_of, starts_of, step_events, Lawful}
 use Rattle.fbl_base.specs.declared.trace.Mark.TheVariants as mark
-use Rattle.fbl_base.specs.Events.{mark_of}
-use Rattle.fbl_base.specs.Fold.{Action, action_of, actions_of, notes_of, note_of, start_of, starts_of, step_events, Lawful}
+use Rattle.fbl_base.specs.declared.trace.Event.TheVariants.{Send, Receipt}
+use Rattle.fbl_base.proofs.Sifted.{length-filter_map}
 use Rattle.fbl_base.proofs.Gets.{filter_map-agree, map-At}
 use Rattle.fbl_base.proofs.RulesLaws.{WellFormed-push, sent-before, eqb-self}
 use Rattle.fbl_base.proofs.FoldLaws.{responses-push}

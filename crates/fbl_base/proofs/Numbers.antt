@@ -1,6 +1,5 @@
 -- The numbers below another.
-use Rattle.std.proofs.Common.{ℕ, ◌+◌, ◌-◌, ◌<◌, ◌≡◌, ◌∙◌, List, ◌++◌, append_assoc, arith, suc}
-use Rattle.std.specs.List.{flat_map, range_with_len}
+use Rattle.fbl_base.proofs.Common.{ℕ, ◌+◌, ◌-◌, ◌<◌, ◌≡◌, ◌∙◌, List, ◌++◌, append_assoc, arith, suc, flat_map, range_with_len}
 
 -- what is made of each number from one on, once that of this one is there
 pub rows_on : {X : Type 0} (f : ℕ → List X) (n i : ℕ) (before all : List X) → i < n → before ++ flat_map f (range_with_len i (n - i)) ≡ all

@@ -1,7 +1,6 @@
 -- Precedence between places and between events say the same of a trace that obeys the rules.
-use Rattle.fbl_base.proofs.Common.{ℕ, ◌≡◌, ◌<◌, inl, inr, List, take, Mark, At, Precedes, Depends, itself, step, WellFormed}
-use Rattle.std.proofs.lemmas.Bool.{cases_order}
-use Rattle.fbl_base.specs.Places.{DependsOnPlace, PlacePrecedes, place_step, same_place}
+use Rattle.fbl_base.proofs.Common.{ℕ, ◌≡◌, ◌<◌, inl, inr, List, take, Mark, At, Precedes, Depends, itself, step, WellFormed, cases_order, DependsOnPlace, PlacePrecedes, place_step}
+use Rattle.fbl_base.proofs.Common.{same_place}
 use Rattle.fbl_base.proofs.Gets.{slice_get-take}
 use Rattle.fbl_base.proofs.PrecedenceLaws.{Has-last}
 use Rattle.fbl_base.proofs.RulesLaws.{MayFollow-new, WellFormed-take}

@@ -1,9 +1,6 @@
 -- Laws of precedence between events.
-use Rattle.fbl_base.proofs.Common.{ℕ, Bool, ◌≡◌, ◌⊎◌, ◌↔◌, inl, inr, List, [], ◌∷◌, ◌++◌, length, Some, refl, sym, ap, ◌∙◌, arith, filter, Mark}
-use Rattle.fbl_base.proofs.Common.{member_of, Has, Precedes, itself, step, Depends}
-use Rattle.fbl_base.specs.declared.trace.Mark.TheVariants.{Send, Receipt}
-use Rattle.fbl_base.specs.Events.{send_of}
-use Rattle.fbl_base.specs.Precedence.{Earlier}
+use Rattle.fbl_base.proofs.Common.{ℕ, Bool, ◌≡◌, ◌⊎◌, ◌↔◌, inl, inr, List, [], ◌∷◌, ◌++◌, length, Some, refl, sym, ap, ◌∙◌, arith, filter, Mark, member_of, Has}
+use Rattle.fbl_base.proofs.Common.{Precedes, itself, step, Depends, Send, Receipt, send_of, Earlier}
 use Rattle.fbl_base.proofs.Gets.{At-front, At-new, At-below, At-push, At-filter, Apart-filter}
 
 pub Earlier-front : (t s : List Mark) (a b : Mark) → Earlier t a b → Earlier (t ++ s) a b

@@ -1,15 +1,11 @@
 -- A pass over the events finds what a lost receipt reaches.
-use Rattle.fbl_base.proofs.Common.{subst, replicate, take, length-set, ℕ, Bool, true, false, cond, ◌||◌, ◌≡◌, ◌<◌, ◌≤◌, ◌+◌, ◌⊎◌, ◌↔◌, inl, inr, List}
-use Rattle.fbl_base.proofs.Common.{[], ◌∷◌, ◌++◌, length, Option, Some, None, Decides, refl, sym, ap, ◌∙◌, arith, get_or, get_or-set_same, get_or-set_other, false≢true, take_more}
-use Rattle.fbl_base.proofs.Common.{slice_get_read, nat_cmp, nat_cmp_total, unsigned_tied, nat_tests, Mark, At, member_of, Has, itself, sends_of, MayFollow, WellFormed}
-use Rattle.fbl_base.proofs.Common.{reached_after}
-use Rattle.std.proofs.Common.{set as set_at, ltb, add-one}
+use Rattle.fbl_base.proofs.Common.{subst, replicate, take, length-set, ℕ, Bool, true, false, cond, ◌||◌, ◌≡◌, ◌<◌, ◌≤◌, ◌+◌, ◌⊎◌, ◌↔◌, inl, inr, List, []}
+use Rattle.fbl_base.proofs.Common.{◌∷◌, ◌++◌, length, Option, Some, None, Decides, refl, sym, ap, ◌∙◌, arith, get_or, get_or-set_same, get_or-set_other, false≢true, take_more}
+use Rattle.fbl_base.proofs.Common.{slice_get_read, nat_cmp, nat_cmp_total, unsigned_tied, nat_tests, Mark, At, member_of, Has, itself, sends_of, MayFollow, WellFormed, reached_after, ltb, add-one}
+use Rattle.fbl_base.proofs.Common.{Reach, Send, Receipt, IsDump, IsLost, Parts, send_of, Follows, Tracks, unreached_sends_after}
 use Rattle.std.specs.FinSet as set
-use Rattle.fbl_base.specs.declared.audit.Reach.{Reach}
-use Rattle.fbl_base.specs.declared.trace.Mark.TheVariants.{Send, Receipt}
-use Rattle.fbl_base.specs.Audit.{IsDump, IsLost, Parts}
-use Rattle.fbl_base.specs.Events.{send_of}
-use Rattle.fbl_base.specs.Reach.{Follows, IsPreceded, IsReached, Tracks, unreached_sends_after}
+use Rattle.std.proofs.Common.{set as set_at}
+use Rattle.fbl_base.specs.Reach.{IsPreceded, IsReached}
 use Rattle.fbl_base.proofs.Gets.{At-below, At-new, At-push, get_or-same, take-more}
 use Rattle.fbl_base.proofs.PrecedenceLaws.{Precedes-front, Precedes-push, Precedes-new, Depends-push, new-Precedes, Has-last}
 use Rattle.fbl_base.proofs.RulesLaws.{MayFollow-new, WellFormed-take, in_flight-sent, sends-step}

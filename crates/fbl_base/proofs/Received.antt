@@ -1,12 +1,8 @@
 -- Which determinants receipts have.
-use Rattle.fbl_base.proofs.Common.{drop, ℕ, ◌+◌, ◌<◌, ◌≤◌, ◌≡◌, true, ◌||◌, List, [], ◌∷◌, length, take, get_or, Some, refl, sym, ap, ◌∙◌, arith}
-use Rattle.fbl_base.proofs.Common.{Decides, list_any, filter_map, cons_option, take_more, take-append-le, list_any-append, Any-from_list_any, list_any-from_Any, filter_map-append}
-use Rattle.fbl_base.proofs.Common.{get_or_from_slice_get, Determinant, Mark, At, determinant_of, same_determinant, Has, ObeysAt, WellFormed, is_received}
-use Rattle.std.proofs.Common.{length-take}
-use Rattle.std.proofs.lemmas.List.{take-append-drop}
-use Rattle.std.proofs.lemmas.Option.{slice_get-get_or}
-use Rattle.fbl_base.specs.declared.trace.Mark.TheVariants.{Send, Receipt}
-use Rattle.fbl_base.specs.Events.{receipt_of}
+use Rattle.fbl_base.proofs.Common.{drop, ℕ, ◌+◌, ◌<◌, ◌≤◌, ◌≡◌, true, ◌||◌, List, [], ◌∷◌, length, take, get_or, Some, refl, sym, ap, ◌∙◌, arith, Decides}
+use Rattle.fbl_base.proofs.Common.{list_any, filter_map, cons_option, take_more, take-append-le, list_any-append, Any-from_list_any, list_any-from_Any, filter_map-append, get_or_from_slice_get}
+use Rattle.fbl_base.proofs.Common.{Determinant, Mark, At, determinant_of, same_determinant, Has, ObeysAt, WellFormed, is_received, length-take, take-append-drop, slice_get-get_or, Send, Receipt}
+use Rattle.fbl_base.proofs.Common.{receipt_of}
 use Rattle.fbl_base.proofs.Gets.{At-front, At-below, At-filter_map, filter_map-At}
 use Rattle.fbl_base.proofs.Recorded.{Decides-same_determinant}
 

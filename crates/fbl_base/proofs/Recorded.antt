@@ -1,12 +1,9 @@
 -- Which determinants are recorded.
-use Rattle.fbl_base.proofs.Common.{ℕ, ◌≡◌, Bool, true, false, not, cond, ◌&&◌, ◌||◌, List, refl, sym, Decides, ◌↔◌, arith, list_any, nat_cmp, nat_tests}
-use Rattle.fbl_base.proofs.Common.{Any-from_list_any, list_any-from_Any, Determinant, and_parts, Mark, Parts, is_held_outside, IsDumpOrphan, first_events, same_determinant, nat_cmp_total}
+use Rattle.fbl_base.proofs.Common.{ℕ, ◌≡◌, Bool, true, false, not, cond, ◌&&◌, ◌||◌, List, refl, sym, Decides, ◌↔◌, arith, list_any, nat_cmp, nat_tests, Any-from_list_any}
+use Rattle.fbl_base.proofs.Common.{list_any-from_Any, Determinant, and_parts, Mark, Parts, is_held_outside, IsDumpOrphan, first_events, same_determinant, nat_cmp_total, or-false, or-true, not-true}
+use Rattle.fbl_base.proofs.Common.{Follows, Reach, IsHeldOutside}
 use Rattle.std.specs.FinSet as set
-use Rattle.std.proofs.Math.Bool.{or-false, or-true}
-use Rattle.std.proofs.lemmas.Bool.{not-true}
-use Rattle.fbl_base.specs.Reach.{Follows, IsReached}
-use Rattle.fbl_base.specs.declared.audit.Reach.{Reach}
-use Rattle.fbl_base.specs.Audit.{IsHeldOutside}
+use Rattle.fbl_base.specs.Reach.{IsReached}
 
 abbrev holds_it : set.FinSet nat_cmp → Determinant → ℕ × Determinant → Bool
 holds_it strike d h = not (set.contains strike h.0) && same_determinant h.1 d

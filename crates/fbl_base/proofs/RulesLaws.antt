@@ -1,13 +1,9 @@
 -- Laws of the rules of events.
-use Rattle.fbl_base.proofs.Common.{◌+◌, ◌==◌, ◌&&◌, not, None, ℕ, zero, suc, Bool, true, cond, ◌≡◌, ◌<◌, inl, inr, List, [], ◌∷◌, ◌++◌, length, take, drop}
-use Rattle.fbl_base.proofs.Common.{Some, refl, ap, ◌∙◌, arith, count_by, slice_get, and_parts, nat_tests, filter_map, list_any, take-append-le, take_all, sum_by-cons, Mark, At, Has}
-use Rattle.fbl_base.proofs.Common.{is_send_of, sends_of, receipts_of, sent_on, taken_on, in_flight, MayFollow, WellFormed}
-use Rattle.std.proofs.lemmas.Bool.{eqb-true}
-use Rattle.std.proofs.lemmas.Option.{cond_some}
-use Rattle.std.proofs.lemmas.List.{length-take, append-nil, append_assoc, take-append-drop}
-use Rattle.std.proofs.lemmas.List.Sums.{sum_by_push}
-use Rattle.fbl_base.specs.declared.trace.Mark.TheVariants.{Send, Receipt}
-use Rattle.fbl_base.specs.Rules.{is_receipt_of}
+use Rattle.fbl_base.proofs.Common.{◌+◌, ◌==◌, ◌&&◌, not, None, ℕ, zero, suc, Bool, true, cond, ◌≡◌, ◌<◌, inl, inr, List, [], ◌∷◌, ◌++◌, length, take, drop, Some}
+use Rattle.fbl_base.proofs.Common.{refl, ap, ◌∙◌, arith, count_by, slice_get, and_parts, nat_tests, filter_map, list_any, take-append-le, take_all, sum_by-cons, Mark, At, Has, is_send_of}
+use Rattle.fbl_base.proofs.Common.{sends_of, receipts_of, sent_on, taken_on, in_flight, MayFollow, WellFormed, eqb-true, cond_some, append-nil, take-append-drop, sum_by_push, Send, Receipt}
+use Rattle.fbl_base.proofs.Common.{is_receipt_of}
+use Rattle.std.proofs.lemmas.List.{length-take, append_assoc}
 use Rattle.fbl_base.proofs.Gets.{At-front, At-new, At-below, At-push, At-filter, At-filter_map}
 
 -- the empty trace obeys the rules

@@ -1,8 +1,6 @@
 -- How many members sets have.
-use Rattle.fbl_base.proofs.Common.{ℕ, zero, suc, ◌+◌, ◌-◌, ◌<◌, ◌≤◌, ◌≡◌, ◌≢◌, true, false, cond, ◌||◌, List, [], ◌∷◌, refl, sym, ap, ◌∙◌}
-use Rattle.fbl_base.proofs.Common.{arith, inl, inr, nat_tests, cases_eq, false≢true, list_any, nat_cmp, unsigned_tied, nat_cmp_total, same_from_contains}
-use Rattle.std.proofs.lemmas.Bool.{eq-eqb}
-use Rattle.std.specs.Ordering.{eq_by_cmp}
+use Rattle.fbl_base.proofs.Common.{ℕ, zero, suc, ◌+◌, ◌-◌, ◌<◌, ◌≤◌, ◌≡◌, ◌≢◌, true, false, cond, ◌||◌, List, [], ◌∷◌, refl, sym, ap, ◌∙◌, arith, inl}
+use Rattle.fbl_base.proofs.Common.{inr, nat_tests, cases_eq, false≢true, list_any, nat_cmp, unsigned_tied, nat_cmp_total, same_from_contains, eq-eqb, eq_by_cmp}
 use Rattle.std.specs.FinSet as set
 
 -- a set that is not empty has a member

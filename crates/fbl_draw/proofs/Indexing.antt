@@ -1,9 +1,5 @@
 -- Where a message is received, as the first of its receipts tells.
-use Rattle.std.proofs.Common.{ℕ, ◌≡◌, ◌==◌, true, false, cond, Option, Some, Decides, ap, arith}
-use Rattle.std.specs.Option.{option_or, is_some}
-use Rattle.std.proofs.lemmas.Bool.Decides.{Decides-and, Decides-eqb}
-use Rattle.fbl_base.specs.Events.{same_message}
-use Rattle.fbl_base.specs.declared.trace.MessageName.{MessageName}
+use Rattle.fbl_draw.proofs.Common.{ℕ, ◌≡◌, ◌==◌, true, false, cond, Option, Some, Decides, ap, arith, option_or, is_some, Decides-and, Decides-eqb, same_message, MessageName}
 
 pub Decides-same_message : (a b : MessageName) → Decides (same_message a b) (a ≡ b)
 Decides-same_message a b =

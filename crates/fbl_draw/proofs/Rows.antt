@@ -1,8 +1,5 @@
 -- The paths of members, one for each.
-use Rattle.std.proofs.Common.{ℕ, ◌<◌, ◌≡◌, List, Some, Vec, Global, inl, inr, length, slice_get, arith}
-use Rattle.std.proofs.lemmas.Option.{slice_get_cases}
-use Rattle.fbl_base.specs.Audit.{Parts}
-use Rattle.fbl_draw.specs.Paths.{IsPathDrawn, places_in}
+use Rattle.fbl_draw.proofs.Common.{ℕ, ◌<◌, ◌≡◌, List, Some, Vec, Global, inl, inr, length, slice_get, arith, slice_get_cases, Parts, IsPathDrawn, places_in}
 
 -- what holds of each path of a list holds of what the list has for each member
 pub each_path : (dump : Parts) (paths : List (Vec ℕ Global)) → length paths ≡ 16

@@ -1,13 +1,7 @@
 -- How the parts of an answer about a dump fit together.
-use Rattle.std.proofs.Common.{◌≡◌, ℕ, ◌<◌, ◌⊎◌, List, Option, Result, Ok, Err, IfSome, length}
-use Rattle.fbl_base.specs.Audit.{Parts}
-use Rattle.fbl_input.specs.declared.fault.RunFault.{RunFault}
+use Rattle.fbl_dump.proofs.Common.{◌≡◌, ℕ, ◌<◌, ◌⊎◌, List, Option, Result, Ok, Err, IfSome, length, Parts, RunFault, longest, keeps_itself, too_long, unread, parts_of_data, IsDumpOf}
+use Rattle.fbl_dump.proofs.Common.{IsDumpFault, AnswersDump, AnswersBytes, ReadsAndAnswers}
 use Rattle.fbl_input.specs.declared.fault.RunFault.TheVariants as faults
-use Rattle.fbl_input.specs.Shapes.{longest}
-use Rattle.fbl_input.proofs.Bytes.{keeps_itself}
-use Rattle.fbl_input.proofs.Inputs.{too_long, unread}
-use Rattle.fbl_dump.specs.Dumps.{parts_of_data, IsDumpOf, IsDumpFault}
-use Rattle.fbl_dump.specs.Answering.{AnswersDump, AnswersBytes, ReadsAndAnswers}
 
 module _ {A : Type 0} (IsRight : Parts → A → List ℕ → Type 0) where
   -- an answer about the dump is one about the input

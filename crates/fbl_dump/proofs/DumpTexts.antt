@@ -1,20 +1,9 @@
 -- The text of a dump: it has no float, and its brackets nest to a depth of three.
-use Rattle.std.proofs.Common.{◌≡◌, ℕ, ◌≤◌, List, [], ◌∷◌, ◌++◌, map, length, false, refl, ap, sym, subst, ◌∙◌, arith, cond, nat_lt, Some, Ok, Err}
-use Rattle.std.proofs.lemmas.Bool.{le-ltb}
-use Rattle.std.specs.Str.{IsUtf8}
-use Rattle.serde_json.specs.Data.{Data, depth, items_depth}
-use Rattle.serde_json.specs.Read.{read, max_depth}
-use Rattle.serde_json.specs.View.{items_of}
-use Rattle.serde_json.specs.Written.{has_float, items_have_float, compact_text}
-use Rattle.fbl_base.specs.declared.trace.Determinant.{Determinant}
-use Rattle.fbl_base.specs.declared.trace.Mark.{Mark}
-use Rattle.fbl_base.specs.declared.trace.Mark.TheVariants.{Send, Receipt}
-use Rattle.fbl_base.specs.Audit.{Parts}
-use Rattle.fbl_base.specs.MemberSets.{member_list}
+use Rattle.fbl_dump.proofs.Common.{◌≡◌, ℕ, ◌≤◌, List, [], ◌∷◌, ◌++◌, map, length, false, refl, ap, sym, subst, ◌∙◌, arith, cond, nat_lt, Some, Ok, Err, le-ltb, IsUtf8}
+use Rattle.fbl_dump.proofs.Common.{Data, depth, items_depth, read, max_depth, items_of, has_float, items_have_float, compact_text, Determinant, Mark, Send, Receipt, Parts, member_list, json_of}
+use Rattle.fbl_dump.proofs.Common.{longest, or_fault, ◌>>=◌, parts_of_data, parts_of_input, ReadsBack, event_data, number_data, pair_data}
 use Rattle.fbl_input.specs.declared.fault.RunFault.TheVariants as faults
-use Rattle.fbl_input.specs.Shapes.{json_of, longest, or_fault, ◌>>=◌}
-use Rattle.fbl_dump.specs.Dumps.{parts_of_data, parts_of_input}
-use Rattle.fbl_dump.specs.DumpLines.{ReadsBack, dump_data, event_data, number_data, pair_data}
+use Rattle.fbl_dump.specs.DumpLines.{dump_data}
 use Rattle.fbl_dump.proofs.Newlines.{read_newline}
 
 -- the items have no float, and nest to a depth of one

@@ -1,23 +1,12 @@
 -- The values of a dump, and how they are read back.
-use Rattle.std.proofs.Common.{◌≡◌, ℕ, ◌+◌, ◌<◌, ◌≤◌, List, [], ◌∷◌, ◌++◌, map, take, get_or, length, suc, zero, refl, sym, ap, subst, ◌∙◌}
-use Rattle.std.proofs.Common.{arith, Bool, true, Option, Some, option_map, Ok, nat_cmp, nat_eq}
-use Rattle.std.proofs.lemmas.List.{take_more, map_push}
-use Rattle.std.proofs.lemmas.List.Elements.{All-push}
-use Rattle.std.proofs.lemmas.Map.Views.{any-filter_same}
-use Rattle.std.proofs.lemmas.Bool.{eqb-true, le-leb}
-use Rattle.std.specs.List.{All, filter, list_any, range_with_len}
-use Rattle.std.specs.Cmp.{nat_cmp_total}
+use Rattle.fbl_dump.proofs.Common.{◌≡◌, ℕ, ◌+◌, ◌<◌, ◌≤◌, List, [], ◌∷◌, ◌++◌, map, take, get_or, length, suc, zero, refl, sym, ap, subst, ◌∙◌, arith, Bool, true}
+use Rattle.fbl_dump.proofs.Common.{Option, Some, option_map, Ok, nat_cmp, nat_eq, take_more, map_push, All-push, any-filter_same, eqb-true, le-leb, All, filter, list_any, range_with_len}
+use Rattle.fbl_dump.proofs.Common.{nat_cmp_total, Data, view, Value, AllBelow, Parts, IsDump, all_shaped, number_within, list_of, member_shape, set_shape, dump_object, event_data, pair_data}
+use Rattle.fbl_dump.proofs.Common.{list_data, number_data, event_shape, pair_shape, elements_of}
 use Rattle.std.specs.FinSet as set
-use Rattle.serde_json.specs.Data.{Data}
-use Rattle.serde_json.specs.View.{view}
-use Rattle.serde_json.specs.declared.value.Value.{Value}
-use Rattle.fbl_base.specs.MemberSets.{AllBelow}
-use Rattle.fbl_base.specs.Audit.{Parts, IsDump}
 use Rattle.fbl_base.specs.MemberSets.{member_list}
-use Rattle.fbl_input.specs.Shapes.{all_shaped, number_within, list_of, member_shape, set_shape}
-use Rattle.fbl_dump.specs.DumpLines.{dump_data, dump_object, event_data, pair_data, list_data, number_data}
-use Rattle.fbl_dump.specs.Dumps.{event_shape, pair_shape, parts_of_data}
-use Rattle.fbl_input.proofs.Lists.{elements_of}
+use Rattle.fbl_dump.specs.DumpLines.{dump_data}
+use Rattle.fbl_dump.specs.Dumps.{parts_of_data}
 
 -- one more value
 pub next_value : {X : Type 0} (f : X → Data) (vs : List Value) (v : Value) (xs : List X) (i : ℕ) (x : X) → i < length xs

@@ -1,3 +1,4 @@
+pub mod Common
 pub mod Newlines
 pub mod DumpValues
 pub mod DumpTexts

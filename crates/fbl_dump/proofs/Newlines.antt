@@ -1,23 +1,15 @@
 -- A newline behind a text changes nothing of what JSON reads in it.
-use Rattle.std.proofs.Common.{◌≡◌, ℕ, ◌+◌, ◌-◌, true, false, cond, ◌&&◌, ◌==◌, nat_lt, List, [], ◌∷◌, ◌++◌, length, drop}
-use Rattle.std.proofs.Common.{Option, Some, None, option_map, option_and_then, refl, ap, ◌∙◌, arith, length-append, IsUtf8, nat_eq, not}
-use Rattle.std.proofs.Math.Bool.{and-false}
-use Rattle.std.proofs.lemmas.List.{take-append-le, drop-append-le}
-use Rattle.std.proofs.lemmas.List.Sums.{prefix_len-le-length}
-use Rattle.std.proofs.lemmas.Str.{IsUtf8-append}
-use Rattle.std.specs.Char.{encode_utf8, is_ascii_digit}
-use Rattle.std.specs.List.{list_all, prefix_len, starts_with}
-use Rattle.json.specs.Ascii.{false_text, null_text, true_text}
-use Rattle.json.specs.Json.{if_last, value}
-use Rattle.json.specs.Lex.{Class, Lexeme, Mode, between, class, in_escape, in_string, in_word, lex, lex_byte, fresh, other, punctuate, quote}
-use Rattle.json.specs.Lex.{string_token, token}
-use Rattle.json.specs.Text.{Within, after_backslash, after_high, after_u, code_unit, content, is_high_surrogate, is_low_surrogate, plain, prepend, short_escape, surrogate_pair}
-use Rattle.json.specs.Token.{Token, bad, boolean, null}
-use Rattle.json.specs.Word.{after_digits, after_exponent, after_fraction, after_minus, after_number, after_sign, after_whole, ends_word, head, literal, number_before, word}
-use Rattle.serde_json.specs.Data.{Data}
-use Rattle.serde_json.specs.Read.{max_depth, of_json, read}
-use Rattle.fbl_input.specs.Shapes.{json_of}
-use Rattle.fbl_input.proofs.Lists.{json_read}
+use Rattle.fbl_dump.proofs.Common.{◌≡◌, ℕ, ◌+◌, ◌-◌, true, false, cond, ◌&&◌, ◌==◌, nat_lt, List, [], ◌∷◌, ◌++◌, length, drop, Option, Some, None, option_map}
+use Rattle.fbl_dump.proofs.Common.{option_and_then, refl, ap, ◌∙◌, arith, length-append, nat_eq, not, and-false, take-append-le, drop-append-le, prefix_len-le-length, IsUtf8-append}
+use Rattle.fbl_dump.proofs.Common.{is_ascii_digit, list_all, prefix_len, starts_with, false_text, null_text, true_text, if_last, value, Class, Lexeme, Mode, between, class, in_escape, in_string}
+use Rattle.fbl_dump.proofs.Common.{in_word, lex_byte, fresh, other, punctuate, quote, string_token, token, Within, after_backslash, after_high, after_u, is_high_surrogate, is_low_surrogate, plain}
+use Rattle.fbl_dump.proofs.Common.{prepend, surrogate_pair, Token, bad, boolean, null, after_digits, after_exponent, after_fraction, after_minus, after_sign, after_whole, ends_word, head, literal}
+use Rattle.fbl_dump.proofs.Common.{number_before, Data, max_depth, of_json, read, json_of, json_read}
+use Rattle.std.proofs.Common.{IsUtf8}
+use Rattle.std.specs.Char.{encode_utf8}
+use Rattle.json.specs.Lex.{lex}
+use Rattle.json.specs.Text.{code_unit, content, short_escape}
+use Rattle.json.specs.Word.{after_number, word}
 
 abbrev newline : List ℕ
 newline = 10 ∷ []

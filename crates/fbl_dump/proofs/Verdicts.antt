@@ -1,11 +1,6 @@
 -- The verdict on a dump, by the receipts that are said to be unsafe.
-use Rattle.std.proofs.Common.{◌≡◌, ℕ, ◌↔◌, List, [], ◌∷◌, refl}
-use Rattle.fbl_base.specs.Audit.{Parts}
-use Rattle.fbl_audit.specs.Checking.{IsSafe, SaysUnsafe, receipts_of_dump}
-use Rattle.fbl_audit.specs.declared.checking.UnsafeReceipt.{UnsafeReceipt}
-use Rattle.fbl_dump.specs.Checking.{IsChecked, IsVerdict, check_lines}
-use Rattle.fbl_dump.specs.declared.checking.Verdict.{Verdict}
-use Rattle.fbl_dump.specs.declared.checking.Verdict.TheVariants.{Safe, Unsafe}
+use Rattle.fbl_dump.proofs.Common.{◌≡◌, ℕ, ◌↔◌, List, [], ◌∷◌, refl, Parts, IsSafe, SaysUnsafe, receipts_of_dump, UnsafeReceipt, IsChecked, IsVerdict, check_lines, Verdict, Safe}
+use Rattle.fbl_dump.proofs.Common.{Unsafe}
 
 abbrev pub verdict_of : List UnsafeReceipt → Verdict
 verdict_of [] = Safe

@@ -1,15 +1,9 @@
 -- What the first fault of an input says of another.
-use Rattle.std.proofs.Common.{◌≢◌, List, ℕ, refl, Result, Ok, Err}
-use Rattle.std.specs.Prelude.{IfOk, IfNone}
-use Rattle.std.specs.Result.{result_err}
-use Rattle.fbl_input.specs.declared.fault.RunFault.{RunFault}
+use Rattle.fbl_explain.proofs.Common.{◌≢◌, List, ℕ, refl, Result, Ok, Err, IfOk, IfNone, result_err, RunFault, InputFault, InputKind, run_fault, HasAnother, IsExplained, IsInputFault}
+use Rattle.fbl_explain.proofs.Common.{IsReason, IsUnexplained}
 use Rattle.fbl_input.specs.declared.fault.RunFault.TheVariants as faults
-use Rattle.fbl_input.specs.declared.input_fault.InputFault.{InputFault}
 use Rattle.fbl_input.specs.declared.input_fault.InputFault.TheVariants as inputs
-use Rattle.fbl_input.specs.declared.input_fault.InputKind.{InputKind}
 use Rattle.fbl_input.specs.declared.input_fault.InputKind.TheVariants as kinds
-use Rattle.fbl_input.specs.Misfits.{run_fault}
-use Rattle.fbl_explain.specs.Explanations.{HasAnother, IsExplained, IsInputFault, IsReason, IsUnexplained}
 
 -- a fault that isn't the input's, and of which there is a reason only where it is
 pub not_own : (IsFault : RunFault → Type 0) (IsTaken : Type 0) (e : RunFault) → e ≢ faults.TooLong → HasAnother IsFault IsTaken e → IsUnexplained IsFault IsTaken e

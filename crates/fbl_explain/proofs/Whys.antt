@@ -1,20 +1,7 @@
 -- How the paths from a receipt to its orphans are gathered, and reasons told.
-use Rattle.std.proofs.Common.{ℕ, ◌≡◌, ◌<◌, ◌≤◌, ◌+◌, inl, inr, List, [], ◌∷◌, ◌++◌, length, take, Some, slice_get, sym, ◌∙◌}
-use Rattle.std.proofs.Common.{arith, get_or}
-use Rattle.std.proofs.lemmas.Bool.{cases_eq}
-use Rattle.std.proofs.lemmas.List.{take_more}
-use Rattle.std.specs.List.{AllZip}
-use Rattle.fbl_base.specs.MemberSets.{Members}
-use Rattle.fbl_base.specs.declared.trace.Determinant.{Determinant}
-use Rattle.fbl_base.specs.Audit.{Parts}
-use Rattle.fbl_base.specs.Rules.{WellFormed}
-use Rattle.fbl_base.proofs.Gets.{At-below, At-front, At-new, At-push}
-use Rattle.fbl_base.proofs.PrecedenceLaws.{Has-last}
-use Rattle.fbl_audit.specs.Checking.{IsLeftOrphan}
-use Rattle.fbl_audit.proofs.Following.{member_within}
-use Rattle.fbl_explain.specs.declared.why.LossReason.{LossReason}
-use Rattle.fbl_explain.specs.declared.why.OrphanPath.{OrphanPath}
-use Rattle.fbl_explain.specs.Whys.{ArePathsTo, IsPathFrom}
+use Rattle.fbl_explain.proofs.Common.{ℕ, ◌≡◌, ◌<◌, ◌≤◌, ◌+◌, inl, inr, List, [], ◌∷◌, ◌++◌, length, take, Some, slice_get, sym, ◌∙◌, arith, get_or, cases_eq}
+use Rattle.fbl_explain.proofs.Common.{take_more, AllZip, Members, Determinant, Parts, WellFormed, At-below, At-front, At-new, At-push, Has-last, IsLeftOrphan, member_within, LossReason, OrphanPath}
+use Rattle.fbl_explain.proofs.Common.{ArePathsTo, IsPathFrom}
 
 -- ---- one receipt
 

@@ -1,22 +1,13 @@
 -- What a recovery leaves, once the records that were rebuilt are in place.
-use Rattle.fbl_group.proofs.Common.{◌||◌, ◌⊎◌, ◌≡◌, ℕ, ◌+◌, ◌-◌, ◌<◌, ◌≤◌, cond, List, [], ◌∷◌, length, map, refl, sym, ap, ◌∙◌, arith}
-use Rattle.fbl_group.proofs.Common.{Result, Fits, slice_index_or, count_by, is_some, filter, get_or_past, sum_by-cons, Members, Event, mark_of, determinant_of, Next, Message, MemberRecord}
-use Rattle.fbl_group.proofs.Common.{blank, IsUp, IsDown, GroupRecord, channel_in, channel, member, knowledge, marks, receipts, IsSound, recovery_table, count_in, sent_again, working}
-use Rattle.fbl_group.proofs.Common.{length-left, sum_below-agree, Recovers, AreReplaced, IsReady, IsPutBack}
-use Rattle.std.proofs.Common.{w32, w64, ◌^◌}
-use Rattle.fbl_group.proofs.Reading.{received-twice}
-use Rattle.std.specs.Result.{OnErr}
+use Rattle.fbl_group.proofs.Common.{◌||◌, ◌⊎◌, ◌≡◌, ℕ, ◌+◌, ◌-◌, ◌<◌, ◌≤◌, cond, List, [], ◌∷◌, length, map, refl, sym, ap, ◌∙◌, arith, Result, Fits}
+use Rattle.fbl_group.proofs.Common.{slice_index_or, count_by, is_some, filter, get_or_past, sum_by-cons, Members, Event, mark_of, determinant_of, Next, Message, MemberRecord, blank, IsUp, IsDown}
+use Rattle.fbl_group.proofs.Common.{GroupRecord, channel_in, channel, member, knowledge, marks, receipts, IsSound, recovery_table, count_in, sent_again, working, length-left, sum_below-agree}
+use Rattle.fbl_group.proofs.Common.{Recovers, AreReplaced, IsReady, IsPutBack, w32, w64, ◌^◌, OnErr, messages_in, IsRecovery, is_replayed, stays_by, recovered_trace, resent_to, IsRebuilt}
+use Rattle.fbl_group.proofs.Common.{group_recovery_keeps, cut-undone, recovered_trace-cut, sent_again-short, with-table, working-log, replayed_in-all, recovered_trace-rebuilt, rebuilt_is_recovered}
+use Rattle.fbl_group.proofs.Common.{messages_at}
 use Rattle.std.specs.FinSet as set
 use Rattle.fbl_base.specs.declared.trace.Event.TheVariants as event
-use Rattle.fbl_law.specs.Groups.{messages_in}
-use Rattle.fbl_law.specs.GroupSteps.{IsRecovery}
-use Rattle.fbl_law.specs.Replaying.{is_replayed, stays_by, recovered_trace, resent_to, IsRebuilt}
-use Rattle.fbl_law.proofs.GroupRecovery.{group_recovery_keeps}
-use Rattle.fbl_law.proofs.GroupRecovery.{cut-undone}
-use Rattle.fbl_law.proofs.CutInOnePass.{recovered_trace-cut}
-use Rattle.fbl_law.proofs.ChannelCounts.{sent_again-short}
-use Rattle.fbl_law.proofs.ReplayLaws.{with-table, working-log, replayed_in-all, recovered_trace-rebuilt, rebuilt_is_recovered}
-use Rattle.fbl_group.specs.Recoveries.{messages_at}
+use Rattle.fbl_group.proofs.Reading.{received-twice}
 
 -- receipts are counted event by event
 pub counted-receipts : (trace : List Event) → count_by (λ e. is_some (determinant_of (mark_of e))) trace ≡ length (receipts (map mark_of trace))

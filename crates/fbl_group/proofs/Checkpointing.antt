@@ -1,10 +1,8 @@
 -- When a checkpoint is taken, and what it leaves.
-use Rattle.fbl_group.proofs.Common.{◌≡◌, ℕ, ◌<◌, get_or, refl, ◌∙◌, arith, slice_set, Next, MemberRecord, GroupRecord, member, IsSound}
+use Rattle.fbl_group.proofs.Common.{◌≡◌, ℕ, ◌<◌, get_or, refl, ◌∙◌, arith, slice_set, Next, MemberRecord, GroupRecord, member, IsSound, IsCheckpointFold, IsCheckpoint}
+use Rattle.fbl_group.proofs.Common.{group_checkpoint_keeps}
 use Rattle.std.specs.FinSet as sets
-use Rattle.fbl_law.specs.Sound.{IsCheckpointFold}
-use Rattle.fbl_law.specs.GroupSteps.{IsCheckpoint}
 use Rattle.fbl_law.specs.GroupLaws.{GroupCheckpointKeeps}
-use Rattle.fbl_law.proofs.GroupCheckpoint.{group_checkpoint_keeps}
 use Rattle.fbl_group.proofs.Recovering.{read_at}
 
 -- a record that is read at the member's place is copied there, in a group as its contract has it

@@ -1,20 +1,11 @@
 -- Which refusal of a delivery, a ticket or a commit holds.
-use Rattle.fbl_group.proofs.Common.{◌≡◌, ℕ, ◌+◌, ◌<◌, Bool, true, false, ◌==◌, not, cond, length, arith, refl, sym, ap, ◌∙◌, Some, None, Fits, w32, nat_tests}
-use Rattle.fbl_group.proofs.Common.{Outcome, Next, Message, MemberRecord, GroupRecord, member, channel, step_of, front_message, IsPlanned, is_full, IsSound, up_if_none, receipts_fit}
-use Rattle.fbl_group.proofs.Common.{front_flight}
-use Rattle.std.proofs.Common.{option_map}
+use Rattle.fbl_group.proofs.Common.{◌≡◌, ℕ, ◌+◌, ◌<◌, Bool, true, false, ◌==◌, not, cond, length, arith, refl, sym, ap, ◌∙◌, Some, None, Fits, w32, nat_tests, Outcome, Next}
+use Rattle.fbl_group.proofs.Common.{Message, MemberRecord, GroupRecord, member, channel, step_of, front_message, IsPlanned, is_full, IsSound, up_if_none, receipts_fit, front_flight, option_map, front}
+use Rattle.fbl_group.proofs.Common.{deliver_refusal, of_take, of_commit, IsDeliverRefusal, Delivers, Receipted, Ticket, TakeRefusal, CommitRefusal, take_refusal, IsTicket, commit_refusal, is_current}
+use Rattle.fbl_group.proofs.Common.{IsCommitRefusal, eq-eqb, flight_ends}
 use Rattle.std.specs.FinSet as set
-use Rattle.fbl_group.specs.Channels.{front}
-use Rattle.fbl_group.specs.Deliveries.{deliver_refusal, of_take, of_commit, IsDeliverRefusal, Delivers}
-use Rattle.fbl_group.specs.declared.answers.Receipted.{Receipted}
-use Rattle.fbl_group.specs.declared.ticket.Ticket.{Ticket}
-use Rattle.fbl_group.specs.declared.refusals.TakeRefusal.{TakeRefusal}
-use Rattle.fbl_group.specs.declared.refusals.CommitRefusal.{CommitRefusal}
 use Rattle.fbl_group.specs.declared.refusals.CommitRefusal.TheVariants as commit
-use Rattle.fbl_group.specs.Tickets.{take_refusal, IsTicket, commit_refusal, is_current, IsCommitRefusal}
-use Rattle.std.proofs.lemmas.Bool.{eq-eqb}
 use Rattle.fbl_group.proofs.Queues.{first-is}
-use Rattle.fbl_law.proofs.GroupFacts.{flight_ends}
 
 -- the receiver's record has few receipts
 pub few_received : {next : Next} {r : GroupRecord} {p received : ℕ} {x : MemberRecord} → IsSound next r → x ≡ member r p → p < r.config.members → set.len r.down ≡ 0

@@ -1,10 +1,6 @@
 -- The parts of a dump.
-use Rattle.fbl_group.proofs.Common.{◌≡◌, ℕ, ◌+◌, ◌<◌, List, [], ◌∷◌, ◌++◌, length, take, get_or, Some, slice_get, refl, add-one, arith, slice_index_or, map-append}
-use Rattle.fbl_group.proofs.Common.{take_more, Entry, IsOnce, MemberRecord, blank, pairs_of, pairs_from}
-use Rattle.std.proofs.Common.{below_more}
-use Rattle.std.proofs.lemmas.List.{length-take-le, get_or_read_under}
-use Rattle.fbl_base.proofs.Gets.{take-more}
-use Rattle.fbl_law.proofs.DumpLaws.{pairs_from-push}
+use Rattle.fbl_group.proofs.Common.{◌≡◌, ℕ, ◌+◌, ◌<◌, List, [], ◌∷◌, ◌++◌, length, take, get_or, Some, slice_get, refl, add-one, arith, slice_index_or, map-append, take_more}
+use Rattle.fbl_group.proofs.Common.{Entry, IsOnce, MemberRecord, blank, pairs_of, pairs_from, below_more, length-take-le, get_or_read_under, take-more, pairs_from-push}
 
 -- one more entry
 pub pairs_of-more : (m : ℕ) (entries : List Entry) (i : ℕ) (e : Entry) → slice_get entries i ≡ Some e

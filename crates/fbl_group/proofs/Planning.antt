@@ -1,20 +1,11 @@
 -- What is known of a delivery that is planned.
 use Rattle.fbl_group.proofs.Common.{Some, None, ◌≡◌, ◌≢◌, ℕ, ◌+◌, ◌<◌, ◌≤◌, false, List, [], ◌∷◌, ◌++◌, length, map, refl, sym, subst, ap, ◌∙◌}
-use Rattle.fbl_group.proofs.Common.{append_assoc, arith, get_or, length-append, Fits, w32, slice_get, slice_set, All, nat_tests, Event, Outcome, Note, Next, Entry, piggybacked, Message}
-use Rattle.fbl_group.proofs.Common.{MemberRecord, messages_from, IsUp, taken_off, between, GroupRecord, HasChannels, member, channel, channel_in, knowledge, IsSound, step_of, up_if_none}
-use Rattle.fbl_group.proofs.Common.{receipts_fit, front_flight, IsOnce, front_message, send_of_message, taken_and_sent, IsPlanned, set-get_or}
-use Rattle.fbl_base.specs.declared.trace.Event.TheVariants.{Receipt}
-use Rattle.fbl_base.specs.Steps.{SendsAllowed}
-use Rattle.fbl_table.specs.Tables.{is_held}
-use Rattle.fbl_member.specs.Members.{last_from, received_by, table_after, next_determinant}
-use Rattle.fbl_law.specs.Knowledge.{IsInFlight}
-use Rattle.fbl_law.specs.GroupSteps.{made as made_by, delivery_events, IsDelivery}
-use Rattle.fbl_law.specs.GroupLaws.{SendsWell}
-use Rattle.fbl_law.proofs.GroupFacts.{sends_fit, receipt_is_new, new_not_held, new_not_carried, flight_ends, front_is_later}
-use Rattle.fbl_law.proofs.DumpLaws.{carried_fits}
-use Rattle.fbl_law.proofs.GroupDelivery.{length-step_events, group_delivery_keeps}
-use Rattle.fbl_group.specs.Deliveries.{Delivered}
-use Rattle.fbl_group.specs.Tickets.{has_no_room}
+use Rattle.fbl_group.proofs.Common.{append_assoc, arith, get_or, length-append, Fits, w32, slice_get, slice_set, All, nat_tests, Event, Outcome, Note, Next, Entry, piggybacked, Message, MemberRecord}
+use Rattle.fbl_group.proofs.Common.{messages_from, IsUp, taken_off, between, GroupRecord, HasChannels, member, channel, channel_in, knowledge, IsSound, step_of, up_if_none, receipts_fit, front_flight}
+use Rattle.fbl_group.proofs.Common.{IsOnce, front_message, send_of_message, taken_and_sent, IsPlanned, set-get_or, Receipt, SendsAllowed, is_held, last_from, received_by, table_after}
+use Rattle.fbl_group.proofs.Common.{next_determinant, IsInFlight, delivery_events, IsDelivery, SendsWell, sends_fit, receipt_is_new, new_not_held, new_not_carried, flight_ends, front_is_later}
+use Rattle.fbl_group.proofs.Common.{carried_fits, length-step_events, group_delivery_keeps, Delivered, has_no_room}
+use Rattle.fbl_law.specs.GroupSteps.{made as made_by}
 use Rattle.fbl_group.proofs.Queues.{first-is, messages-all, sends-messages, settled-in}
 use Rattle.fbl_group.proofs.Recovering.{read_at}
 

@@ -1,11 +1,6 @@
 -- What strikes and recoveries promise.
-use Rattle.fbl_group.proofs.Common.{◌≡◌, length, inr, arith, Members, Next, GroupRecord, knowledge, IsSound, IsStrike, lost_receipts, Recovers, inl}
-use Rattle.fbl_law.specs.Knowledge.{table}
-use Rattle.fbl_law.specs.Promises.{SurvivorsHold, RecordsCauses, LeavesRecorded, GainsHolders, KeepsHolders}
-use Rattle.fbl_law.proofs.Safe.{down_or_up, IsRecorded-before}
-use Rattle.fbl_law.proofs.Promises.{any_survivors_hold}
-use Rattle.fbl_law.proofs.GroupRecovery.{cut-undone}
-use Rattle.fbl_group.specs.declared.answers.Recovered.{Recovered}
+use Rattle.fbl_group.proofs.Common.{◌≡◌, length, inr, arith, Members, Next, GroupRecord, knowledge, IsSound, IsStrike, lost_receipts, Recovers, inl, table, SurvivorsHold, RecordsCauses}
+use Rattle.fbl_group.proofs.Common.{LeavesRecorded, GainsHolders, KeepsHolders, down_or_up, IsRecorded-before, any_survivors_hold, cut-undone, Recovered}
 
 -- a recovery undoes the lost receipts
 pub undoes_lost : (next : Next) (old new : GroupRecord) (answer : Recovered)

@@ -1,16 +1,10 @@
 -- Channels as queues: the loops over them, and what is left of them by a send, a delivery, a strike and a recovery.
-use Rattle.fbl_group.proofs.Common.{◌≡◌, ℕ, zero, suc, ◌+◌, ◌<◌, ◌≤◌, ◌⊎◌, Bool, true, false, cond, ◌-◌, List, [], ◌∷◌, ◌++◌, length, map, drop}
-use Rattle.fbl_group.proofs.Common.{replicate, refl, sym, ap, ◌∙◌, arith, ◌||◌, Option, Some, slice_get, get_or, append_assoc, deque_items, All, length-map, length-set, map-append}
-use Rattle.fbl_group.proofs.Common.{get_or_default, get_or-set_same, get_or-set_other, set-get_or, get_or_past, common_steps, nat_tests, filter-append, Members, Note, Entry, Message}
-use Rattle.fbl_group.proofs.Common.{messages_from, between, is_on, taken_off, HasChannels, channel_in, rows, rooms, room_in, each, with_sent, taken_and_sent, send_of_message}
-use Rattle.std.proofs.Common.{IfNone, IsSome, Vec, set, append-nil, deque_len, deque_capacity}
-use Rattle.std.specs.declared.collections.VecDeque.{VecDeque}
-use Rattle.std.proofs.lemmas.List.{get_or-replicate, length-replicate, map-set, get_or-map}
-use Rattle.fbl_group.specs.declared.channels.Channels.{Channels}
+use Rattle.fbl_group.proofs.Common.{◌≡◌, ℕ, zero, suc, ◌+◌, ◌<◌, ◌≤◌, ◌⊎◌, Bool, true, false, cond, ◌-◌, List, [], ◌∷◌, ◌++◌, length, map, drop, replicate}
+use Rattle.fbl_group.proofs.Common.{refl, sym, ap, ◌∙◌, arith, ◌||◌, Option, Some, slice_get, get_or, append_assoc, deque_items, All, length-map, length-set, map-append, get_or_default}
+use Rattle.fbl_group.proofs.Common.{get_or-set_same, get_or-set_other, set-get_or, get_or_past, common_steps, nat_tests, filter-append, Members, Note, Entry, Message, messages_from, between, is_on}
+use Rattle.fbl_group.proofs.Common.{taken_off, HasChannels, channel_in, rows, rooms, room_in, each, with_sent, taken_and_sent, send_of_message, IfNone, IsSome, Vec, set, append-nil, deque_len}
+use Rattle.fbl_group.proofs.Common.{deque_capacity, VecDeque, get_or-replicate, length-replicate, map-set, get_or-map, Channels, with_item, step_events, first_message, with_at}
 use Rattle.std.specs.FinSet as set
-use Rattle.std.specs.Vec.{with_item}
-use Rattle.fbl_base.specs.Fold.{step_events}
-use Rattle.fbl_group.specs.Channels.{first_message, with_at}
 
 -- the first of a list that has one
 pub first-is : (vs : List Message) (v : Message) → slice_get vs 0 ≡ Some v → first_message vs ≡ v

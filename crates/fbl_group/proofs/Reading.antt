@@ -1,20 +1,10 @@
 -- How large the parts of a sound group are.
 use Rattle.fbl_group.proofs.Common.{◌≡◌, ℕ, ◌+◌, ◌-◌, ◌*◌, ◌≤◌, ◌==◌, not, Bool, List, [], ◌∷◌, length, map, refl, sym, ap, ◌∙◌, arith, length-map}
-use Rattle.fbl_group.proofs.Common.{sum_by-cons, length-left, determinant_of, mark_of, Next, IsOnce, IsUp, GroupRecord, member, channel, marks, knowledge, receipts, sum_below, IsSound}
-use Rattle.fbl_group.proofs.Common.{up_if_none, sum_below-agree, inl, inr}
-use Rattle.std.specs.Prelude.{sum_by}
-use Rattle.std.specs.List.{filter_map, list_any}
+use Rattle.fbl_group.proofs.Common.{sum_by-cons, length-left, determinant_of, mark_of, Next, IsOnce, IsUp, GroupRecord, member, channel, marks, knowledge, receipts, sum_below, IsSound, up_if_none}
+use Rattle.fbl_group.proofs.Common.{sum_below-agree, inl, inr, sum_by, filter_map, list_any, length-filter_map, Mark, Send, in_flight, sent_on, taken_on, send_mark, MatchesTrace, messages_in_flight}
+use Rattle.fbl_group.proofs.Common.{down_or_both_up, trace_fits, weight_in, weight_on, into, out, flow, table_fits}
 use Rattle.std.specs.FinSet as set
-use Rattle.fbl_base.proofs.Sifted.{length-filter_map}
-use Rattle.fbl_base.specs.declared.trace.Mark.{Mark}
-use Rattle.fbl_base.specs.declared.trace.Mark.TheVariants.{Send, Receipt}
-use Rattle.fbl_base.specs.Rules.{in_flight, sent_on, taken_on}
-use Rattle.fbl_law.specs.Knowledge.{send_mark, MatchesTrace}
-use Rattle.fbl_law.specs.Groups.{messages_in_flight}
-use Rattle.fbl_law.proofs.Safe.{down_or_both_up}
-use Rattle.fbl_law.proofs.GroupFacts.{trace_fits}
-use Rattle.fbl_law.proofs.WeightKept.{weight_in, weight_on, into, out, flow}
-use Rattle.fbl_law.proofs.DumpLaws.{table_fits}
+use Rattle.fbl_base.specs.declared.trace.Mark.TheVariants.{Receipt}
 
 in_flight-fits : (t : List Mark) (q p : ℕ) → length (in_flight t q p) ≤ length t
 in_flight-fits t q p =

@@ -1,19 +1,11 @@
 -- The steps of a recovery before it changes the group: gathering, replay in rounds, tables given.
 use Rattle.fbl_group.proofs.Common.{◌||◌, nat_lt, ◌≡◌, ℕ, ◌+◌, ◌<◌, ◌≤◌, Bool, true, false, List, [], ◌∷◌, ◌++◌, length, map, take, Option, Some, None, get_or}
-use Rattle.fbl_group.proofs.Common.{refl, sym, ap, ◌∙◌, arith, add-one, slice_index_or, slice_set, nat_tests, get_or_default, Determinant, Note, Next, Entry, gathered, marked}
-use Rattle.fbl_group.proofs.Common.{MemberRecord, blank, IsDown, gathered_all, saved_tables, recovery_table, GroupRecord, member_checkpoint, knowledge, IsSound, working, IsReplaying}
-use Rattle.fbl_group.proofs.Common.{replayed_in, IsReady}
-use Rattle.std.proofs.Common.{if◌then◌else◌}
+use Rattle.fbl_group.proofs.Common.{refl, sym, ap, ◌∙◌, arith, add-one, slice_index_or, slice_set, nat_tests, get_or_default, Determinant, Note, Next, Entry, gathered, marked, MemberRecord}
+use Rattle.fbl_group.proofs.Common.{blank, IsDown, gathered_all, saved_tables, recovery_table, GroupRecord, member_checkpoint, knowledge, IsSound, working, IsReplaying, replayed_in, IsReady}
+use Rattle.fbl_group.proofs.Common.{if◌then◌else◌, take_all, found, receipt_at, logged_note, replayed_by, IsNextReplay, IsWaiting, fold_push, gathered_all-more, replay_begins, replaying-next}
+use Rattle.fbl_group.proofs.Common.{replaying-room, replay_is_right, replayed_in-step, replayed_in-short, replaying-tables, AreByNumber, Tries, Rounds, HasReplayed}
 use Rattle.std.specs.FinSet as set
-use Rattle.std.proofs.lemmas.List.{append-nil, take_all}
-use Rattle.fbl_table.specs.Tables.{found}
-use Rattle.fbl_table.specs.Receipts.{receipt_at}
-use Rattle.fbl_member.specs.Members.{logged_note, replayed_by}
-use Rattle.fbl_law.specs.Replaying.{IsNextReplay, IsWaiting}
-use Rattle.std.proofs.lemmas.List.Sums.{fold_push}
-use Rattle.fbl_law.proofs.GatheredTables.{gathered_all-more}
-use Rattle.fbl_law.proofs.ReplayLaws.{replay_begins, replaying-next, replaying-room, replay_is_right, replayed_in-step, replayed_in-short, replaying-tables}
-use Rattle.fbl_group.specs.Rebuilding.{AreByNumber, Tries, Rounds, HasReplayed}
+use Rattle.std.proofs.lemmas.List.{append-nil}
 use Rattle.fbl_group.proofs.Queues.{Made}
 
 -- a record that is read at a place of the list, whatever stands past its end

@@ -1,15 +1,10 @@
 -- What a group is made of at its start.
 use Rattle.fbl_group.proofs.Common.{◌≡◌, ℕ, zero, suc, ◌+◌, ◌<◌, ◌==◌, cond, List, [], ◌∷◌, ◌++◌, length, map, take, drop, get_or, Option, Some, None, refl, count_by}
-use Rattle.fbl_group.proofs.Common.{◌∙◌, arith, append_assoc, slice_get, slice_index, slice_index_or, slice_set, cons_option, nat_tests, map-append, get_or-set_same, get_or-set_other}
-use Rattle.fbl_group.proofs.Common.{take_more, filter-append, filter_map-append, Note, Event, mark_of, sends_of, Message, is_on, between, HasChannels, channel_in, start_events}
-use Rattle.fbl_group.proofs.Common.{message_of_send, sum_by-cons, with_sent}
-use Rattle.std.specs.List.{filter_map, IsDistinct}
-use Rattle.fbl_base.specs.declared.trace.Start.{Start}
-use Rattle.fbl_base.specs.declared.trace.Event.TheVariants.{Send, Receipt}
-use Rattle.fbl_base.specs.Events.{same_determinant}
-use Rattle.fbl_base.specs.Rules.{is_send_of}
-use Rattle.fbl_base.specs.Configs.{Settings, IsConfig, StartAllowed}
-use Rattle.std.proofs.lemmas.Option.{slice_get-get_or}
+use Rattle.fbl_group.proofs.Common.{◌∙◌, arith, append_assoc, slice_get, slice_index, slice_index_or, slice_set, cons_option, nat_tests, map-append, get_or-set_same, get_or-set_other, take_more}
+use Rattle.fbl_group.proofs.Common.{filter-append, filter_map-append, Note, Event, mark_of, sends_of, Message, is_on, between, HasChannels, channel_in, start_events, message_of_send, sum_by-cons}
+use Rattle.fbl_group.proofs.Common.{with_sent, filter_map, Start, Receipt, same_determinant, is_send_of, Settings, IsConfig, StartAllowed, slice_get-get_or}
+use Rattle.std.specs.List.{IsDistinct}
+use Rattle.fbl_base.specs.declared.trace.Event.TheVariants.{Send}
 use Rattle.fbl_group.proofs.Queues.{put-in, in-channels, written-shape}
 
 -- no two entries of none are equal

@@ -1,24 +1,12 @@
 -- When a strike is refused, and what it leaves.
-use Rattle.fbl_group.proofs.Common.{◌≡◌, ◌≢◌, ℕ, suc, ◌<◌, ◌≤◌, ◌==◌, ◌||◌, true, false, cond, List, [], ◌∷◌, length, map, None, refl, sym, ◌∙◌}
-use Rattle.fbl_group.proofs.Common.{arith, nat_lt, count_by, slice_index_or, nat_tests, get_or_default, get_or_past, sum_by-cons, Determinant, Event, mark_of, Members, Next, MemberRecord}
-use Rattle.fbl_group.proofs.Common.{blank, IsUp, GroupRecord, channel, marks, knowledge, IsSound, IsStrike, AreReplaced, lost_receipts, filter, not, receipts}
-use Rattle.fbl_group.proofs.Common.{is_lost_receipt_of, Message, no_orphan}
-use Rattle.std.specs.Ordering.{nat_cmp, eq_by_cmp}
-use Rattle.std.specs.Cmp.{unsigned_tied, nat_cmp_total}
+use Rattle.fbl_group.proofs.Common.{◌≡◌, ◌≢◌, ℕ, suc, ◌<◌, ◌≤◌, ◌==◌, ◌||◌, true, false, cond, List, [], ◌∷◌, length, map, None, refl, sym, ◌∙◌, arith}
+use Rattle.fbl_group.proofs.Common.{nat_lt, count_by, slice_index_or, nat_tests, get_or_default, get_or_past, sum_by-cons, Determinant, Event, mark_of, Members, Next, MemberRecord, blank, IsUp}
+use Rattle.fbl_group.proofs.Common.{GroupRecord, channel, marks, knowledge, IsSound, IsStrike, AreReplaced, lost_receipts, filter, not, receipts, is_lost_receipt_of, Message, no_orphan, nat_cmp}
+use Rattle.fbl_group.proofs.Common.{eq_by_cmp, unsigned_tied, nat_cmp_total, false≢true, true_from_ne_false, ◌↔◌, Any-from_list_any, list_any-from_Any, AllPass-from_list_all}
+use Rattle.fbl_group.proofs.Common.{list_all-from_AllPass, receipt_of, Has, itself, AllBelow, eqb-self, IsOrphan, is_recorded, group_strike_keeps, recorded_test, is_within, strike_refusal, IsBlanked}
 use Rattle.std.specs.FinSet as sets
-use Rattle.std.proofs.lemmas.Bool.{false≢true, true_from_ne_false}
-use Rattle.std.specs.Prelude.{◌↔◌, Bool}
-use Rattle.std.proofs.lemmas.List.Folds.{Any-from_list_any, list_any-from_Any}
-use Rattle.std.proofs.lemmas.List.Sums.{AllPass-from_list_all, list_all-from_AllPass}
 use Rattle.fbl_base.specs.declared.trace.Event.TheVariants as event
-use Rattle.fbl_base.specs.Events.{receipt_of}
-use Rattle.fbl_base.specs.Precedence.{Has, itself}
-use Rattle.fbl_base.specs.MemberSets.{AllBelow}
-use Rattle.fbl_base.proofs.RulesLaws.{eqb-self}
-use Rattle.fbl_law.specs.Knowledge.{IsOrphan}
-use Rattle.fbl_law.specs.Groups.{is_recorded}
-use Rattle.fbl_law.proofs.GroupStrike.{group_strike_keeps, recorded_test}
-use Rattle.fbl_group.specs.Strikes.{is_within, strike_refusal, IsBlanked}
+use Rattle.std.specs.Prelude.{Bool}
 
 -- the test of who is below n
 within-below : (s : Members) (n : ℕ) → is_within s n ≡ true → AllBelow s n

@@ -1,17 +1,43 @@
--- The names that proofs of this crate have in common: of the standard library, of the crates below, and of the definitions here.
-pub use Rattle.std.proofs.Common.{Bool, List, Some, [], ap, arith, cond, drop, false, get_or, length, map, refl, suc, sym, take, true, ℕ, ◌++◌, ◌<◌, ◌∙◌, ◌∷◌}
-pub use Rattle.std.proofs.Common.{◌≡◌, ◌≤◌}
+-- The names that proofs of this crate take from outside: of the standard library, of the crates below, and of the definitions here.
+pub use Rattle.std.proofs.Common.{Bool, List, Ok, Some, [], ap, arith, cond, drop, false, get_or, length, length-append, map, refl, rules, slice_get, subst, suc, sym, take, true, ℕ, ◌++◌}
+pub use Rattle.std.proofs.Common.{◌+◌, ◌<◌, ◌∙◌, ◌∷◌, ◌≡◌, ◌≤◌, ◌⊎◌}
+pub use Rattle.std.proofs.lemmas.Bool.{false_from_ne_true, or_parts}
 pub use Rattle.std.proofs.lemmas.Bool.Decides.{nat_tests}
-pub use Rattle.std.specs.List.{filter}
+pub use Rattle.std.proofs.lemmas.Iterator.Adapters.{YieldsList-from_skip, YieldsList-from_vec, items_from_extend}
+pub use Rattle.std.proofs.lemmas.Iterator.Consumers.{YieldsList-at}
+pub use Rattle.std.proofs.lemmas.List.{get_or-set_other, get_or-set_same, get_or_default, length-map, length-set, take-take}
+pub use Rattle.std.proofs.lemmas.List.Folds.{list_any_none}
+pub use Rattle.std.proofs.lemmas.List.Sums.{count_by-le-length, sum_by-take-le}
+pub use Rattle.std.proofs.lemmas.Option.{get_or_from_slice_get, slice_get-get_or}
+pub use Rattle.std.specs.List.{filter, list_any, range_with_len}
+pub use Rattle.std.specs.Prelude.{slice_index_or, slice_set}
+pub use Rattle.std.specs.declared.alloc.AllocError.{AllocError}
+pub use Rattle.fbl_base.proofs.FoldLaws.{after_notes-state}
+pub use Rattle.fbl_base.proofs.Gets.{map-At}
+pub use Rattle.fbl_base.proofs.PlacesAndEvents.{one_place}
+pub use Rattle.fbl_base.proofs.RulesLaws.{eqb-self, receipts-step, sent-before}
 pub use Rattle.fbl_base.specs.Configs.{Settings}
-pub use Rattle.fbl_base.specs.Events.{mark_of}
-pub use Rattle.fbl_base.specs.Fold.{Next}
+pub use Rattle.fbl_base.specs.Events.{At, mark_of}
+pub use Rattle.fbl_base.specs.Fold.{Next, Progress, note_of, numbered}
+pub use Rattle.fbl_base.specs.MemberSets.{Members, member_list}
+pub use Rattle.fbl_base.specs.Rules.{MayFollow, is_receipt_of, is_send_of, receipts_of}
+pub use Rattle.fbl_base.specs.declared.trace.Determinant.{Determinant}
 pub use Rattle.fbl_base.specs.declared.trace.Event.{Event}
-pub use Rattle.fbl_history.specs.Columns.{HasEachOnce, crossed, go_on, is_next, is_standing, same_standing, standing}
-pub use Rattle.fbl_history.specs.Replays.{HaveReplayed}
-pub use Rattle.fbl_history.specs.Traces.{event_column, trace_columns}
-pub use Rattle.fbl_history.specs.declared.column.Column.{Column}
-pub use Rattle.fbl_law.proofs.Notes.{mark-at}
+pub use Rattle.fbl_base.specs.declared.trace.Mark.{Mark}
+pub use Rattle.fbl_base.specs.declared.trace.Note.{Note}
+pub use Rattle.fbl_group.proofs.Queues.{Made, made-more}
+pub use Rattle.fbl_law.proofs.Lists.{filter-passes, some-at}
+pub use Rattle.fbl_law.proofs.Logs.{log-short, logged-by, logged-noted}
+pub use Rattle.fbl_law.proofs.Notes.{mark-at, send-at}
+pub use Rattle.fbl_law.proofs.Receipts.{Has-receipts_at}
+pub use Rattle.fbl_law.proofs.ReplayedRecords.{replayed-step}
 pub use Rattle.fbl_law.specs.Groups.{GroupRecord, marks}
-pub use Rattle.fbl_law.specs.Sound.{IsSound}
-pub use Rattle.fbl_member.specs.Members.{MemberRecord, blank, fresh, logged_note}
+pub use Rattle.fbl_law.specs.Sound.{IsReplayed, IsSound, received_notes}
+pub use Rattle.fbl_member.proofs.Logs.{length-numbered}
+pub use Rattle.fbl_member.specs.Members.{MemberRecord, blank, fresh, logged_note, replayed_by}
+pub use Rattle.fbl_table.proofs.Adding.{take-next}
+pub use Rattle.fbl_history.specs.Columns.{GoesOnFrom, HasEachOnce, column_then, crossed, crossed_without, go_on, is_next, is_standing, same_standing, standing, trace_then}
+pub use Rattle.fbl_history.specs.Replays.{HaveReplayed}
+pub use Rattle.fbl_history.specs.Traces.{event_column, replay_of, state_after_receipt, trace_columns}
+pub use Rattle.fbl_history.specs.declared.column.Column.{Column}
+pub use Rattle.fbl_history.specs.declared.column.Column.TheVariants.{Receipt, Send}

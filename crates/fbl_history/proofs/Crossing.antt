@@ -1,9 +1,6 @@
 -- How a history goes on to a trace.
-use Rattle.fbl_history.proofs.Common.{◌≡◌, Bool, true, false, List, [], ◌∷◌, drop, refl, sym, ap, ◌∙◌, arith, nat_tests, Column, is_standing, crossed, same_standing}
-use Rattle.fbl_history.proofs.Common.{standing, is_next, go_on}
-use Rattle.std.proofs.Common.{◌⊎◌}
-use Rattle.fbl_history.specs.declared.column.Column.TheVariants.{Send, Receipt}
-use Rattle.fbl_history.specs.Columns.{column_then, trace_then, GoesOnFrom}
+use Rattle.fbl_history.proofs.Common.{◌≡◌, Bool, true, false, List, [], ◌∷◌, drop, refl, sym, ap, ◌∙◌, arith, nat_tests, Column, is_standing, crossed, same_standing, standing}
+use Rattle.fbl_history.proofs.Common.{is_next, go_on, ◌⊎◌, Send, Receipt, column_then, trace_then, GoesOnFrom}
 
 -- columns of the same standing event are equal, and stand
 pub same-is : (a b : Column) → same_standing a b ≡ true → (a ≡ b) × (is_standing b ≡ true)

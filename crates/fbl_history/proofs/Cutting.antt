@@ -1,14 +1,6 @@
 -- A history that goes on to some of its standing events.
-use Rattle.fbl_history.proofs.Common.{◌≡◌, suc, Bool, true, false, cond, List, [], ◌∷◌, map, get_or, refl, ap, ◌∙◌, arith, filter, Column, is_standing, crossed}
-use Rattle.fbl_history.proofs.Common.{same_standing, standing, is_next, go_on, HasEachOnce}
-use Rattle.std.proofs.Common.{subst}
-use Rattle.std.specs.List.{list_any}
-use Rattle.std.proofs.lemmas.Bool.{false_from_ne_true, or_parts}
-use Rattle.fbl_base.proofs.RulesLaws.{eqb-self}
-use Rattle.std.proofs.lemmas.List.Folds.{list_any_none}
-use Rattle.std.proofs.lemmas.Option.{slice_get-get_or}
-use Rattle.fbl_history.specs.declared.column.Column.TheVariants.{Send, Receipt}
-use Rattle.fbl_history.specs.Columns.{crossed_without}
+use Rattle.fbl_history.proofs.Common.{◌≡◌, suc, Bool, true, false, cond, List, [], ◌∷◌, map, get_or, refl, ap, ◌∙◌, arith, filter, Column, is_standing, crossed, same_standing}
+use Rattle.fbl_history.proofs.Common.{standing, is_next, go_on, HasEachOnce, subst, list_any, false_from_ne_true, or_parts, eqb-self, list_any_none, slice_get-get_or, Send, Receipt, crossed_without}
 use Rattle.fbl_history.proofs.Crossing.{same-is, next-is}
 
 -- a standing event is the same as itself

@@ -1,34 +1,14 @@
 -- Members that replay a trace come to its states.
-use Rattle.fbl_history.proofs.Common.{◌≡◌, ℕ, ◌<◌, ◌≤◌, true, cond, List, length, take, get_or, Some, refl, sym, ap, ◌∙◌, arith, nat_tests, mark_of}
-use Rattle.fbl_history.proofs.Common.{Next, MemberRecord, blank, logged_note, GroupRecord, marks, IsSound, filter, mark-at, HaveReplayed}
-use Rattle.std.proofs.Common.{◌+◌, length-append, slice_get}
-use Rattle.std.specs.Prelude.{slice_set, slice_index_or}
-use Rattle.std.proofs.lemmas.List.{take-take, length-set, get_or-set_same, get_or-set_other, get_or_default, length-map}
-use Rattle.std.proofs.lemmas.List.Sums.{count_by-le-length, sum_by-take-le}
-use Rattle.std.proofs.lemmas.Option.{get_or_from_slice_get}
-use Rattle.fbl_base.specs.declared.trace.Determinant.{Determinant}
-use Rattle.fbl_base.specs.declared.trace.Note.{Note}
+use Rattle.fbl_history.proofs.Common.{◌≡◌, ℕ, ◌<◌, ◌≤◌, true, cond, List, length, take, get_or, Some, refl, sym, ap, ◌∙◌, arith, nat_tests, mark_of, Next, MemberRecord, blank}
+use Rattle.fbl_history.proofs.Common.{logged_note, GroupRecord, marks, IsSound, filter, mark-at, HaveReplayed, ◌+◌, length-append, slice_get, slice_set, slice_index_or, take-take, length-set}
+use Rattle.fbl_history.proofs.Common.{get_or-set_same, get_or-set_other, get_or_default, length-map, count_by-le-length, sum_by-take-le, get_or_from_slice_get, Determinant, Note, Mark, At}
+use Rattle.fbl_history.proofs.Common.{is_receipt_of, is_send_of, receipts_of, MayFollow, Progress, note_of, numbered, after_notes-state, receipts-step, sent-before, take-next, replayed_by}
+use Rattle.fbl_history.proofs.Common.{length-numbered, received_notes, IsReplayed, range_with_len, Members, send-at, filter-passes, some-at, logged-by, logged-noted, log-short, Has-receipts_at}
+use Rattle.fbl_history.proofs.Common.{replayed-step, state_after_receipt}
 use Rattle.fbl_base.specs.declared.trace.Event.TheVariants as event
-use Rattle.fbl_base.specs.declared.trace.Mark.{Mark}
-use Rattle.fbl_base.specs.declared.trace.Mark.TheVariants.{Send, Receipt}
-use Rattle.fbl_base.specs.Events.{At}
-use Rattle.fbl_base.specs.Rules.{is_receipt_of, is_send_of, receipts_of, MayFollow}
-use Rattle.fbl_base.specs.Fold.{Progress, note_of, numbered}
-use Rattle.fbl_base.proofs.FoldLaws.{after_notes-state}
-use Rattle.fbl_base.proofs.RulesLaws.{receipts-step, sent-before}
-use Rattle.fbl_table.proofs.Adding.{take-next}
-use Rattle.fbl_member.specs.Members.{replayed_by}
-use Rattle.fbl_member.proofs.Logs.{length-numbered}
-use Rattle.fbl_law.specs.Sound.{received_notes, IsReplayed}
 use Rattle.std.specs.FinSet as set
-use Rattle.std.specs.List.{range_with_len}
-use Rattle.fbl_base.specs.MemberSets.{member_list, Members}
-use Rattle.fbl_law.proofs.Notes.{send-at}
-use Rattle.fbl_law.proofs.Lists.{filter-passes, some-at}
-use Rattle.fbl_law.proofs.Logs.{logged-by, logged-noted, log-short}
-use Rattle.fbl_law.proofs.Receipts.{Has-receipts_at}
-use Rattle.fbl_law.proofs.ReplayedRecords.{replayed-step}
-use Rattle.fbl_history.specs.Traces.{state_after_receipt}
+use Rattle.fbl_base.specs.declared.trace.Mark.TheVariants.{Send, Receipt}
+use Rattle.fbl_base.specs.MemberSets.{member_list}
 
 -- how many receipts a member has with one event more
 count-more : (t : List Mark) (i m : ℕ) (e : Mark) → At t i e → receipts_of (take (i + 1) t) m ≡ receipts_of (take i t) m + cond (is_receipt_of m e) 1 0

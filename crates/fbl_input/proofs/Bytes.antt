@@ -1,8 +1,6 @@
 -- What writes and reads do to known bytes, one after another.
-use Rattle.std.proofs.Common.{◌≡◌, ℕ, List, ◌++◌, refl, sym, ap, ◌∙◌, append_assoc, ◌+◌, ◌-◌, take, drop, length, arith, length-drop, subst, Option, Some, None}
-use Rattle.std.proofs.Math.Seq.{take-add}
-use Rattle.std.proofs.lemmas.List.{take_all}
-use Rattle.std.specs.Io.KnownBytes.{Appends, Consumes, Keeps}
+use Rattle.fbl_input.proofs.Common.{◌≡◌, ℕ, List, ◌++◌, refl, sym, ap, ◌∙◌, append_assoc, ◌+◌, ◌-◌, take, drop, length, arith, length-drop, subst, Option, Some, None}
+use Rattle.fbl_input.proofs.Common.{take-add, take_all, Appends, Consumes, Keeps}
 
 pub appends_more : (a b c : Option (List ℕ)) (xs ys : List ℕ) → Appends a b xs → Appends b c ys → Appends a c (xs ++ ys)
 appends_more None b c xs ys p q = tt

@@ -1,10 +1,6 @@
 -- The first fault of an input, from those of its parts.
-use Rattle.std.proofs.Common.{◌≡◌, Result, Ok}
-use Rattle.fbl_base.specs.declared.config.ConfigRefusal.{ConfigRefusal}
-use Rattle.fbl_base.specs.declared.refusal.DumpRefusal.{DumpRefusal}
-use Rattle.fbl_input.specs.declared.fault.RunFault.{RunFault}
+use Rattle.fbl_input.proofs.Common.{◌≡◌, Result, Ok, ConfigRefusal, DumpRefusal, RunFault, IsFirstFault, IsReadRefused}
 use Rattle.fbl_input.specs.declared.fault.RunFault.TheVariants as faults
-use Rattle.fbl_input.specs.Faults.{IsFirstFault, IsReadRefused}
 
 pub refused : {A : Type 0} (asked : Result A RunFault) (RefusesConfig : A → ConfigRefusal → Type 0) (RefusesDump : A → DumpRefusal → Type 0) (a : A)
     (e : RunFault) → asked ≡ Ok a → IsReadRefused (RefusesConfig a) (RefusesDump a) e → IsFirstFault asked RefusesConfig RefusesDump e

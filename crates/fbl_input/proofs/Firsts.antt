@@ -1,10 +1,6 @@
 -- The first place of a list at which a shape is missing.
-use Rattle.std.proofs.Common.{◌≡◌, ℕ, ◌+◌, ◌<◌, List, [], ◌∷◌, ◌++◌, append_assoc, refl, option_and_then, map, get_or, length, sym, ap, ◌∙◌, suc, drop}
-use Rattle.std.proofs.Common.{drop-cons, add-one, below_more, true, Option, Some, None, slice_get, option_map}
-use Rattle.std.specs.Prelude.{is_some}
-use Rattle.serde_json.specs.Data.{Data}
-use Rattle.fbl_input.specs.Shapes.{all_shaped}
-use Rattle.std.proofs.lemmas.Option.{slice_get-get_or, slice_get-map}
+use Rattle.fbl_input.proofs.Common.{◌≡◌, ℕ, ◌+◌, ◌<◌, List, [], ◌∷◌, ◌++◌, append_assoc, refl, option_and_then, map, get_or, length, sym, ap, ◌∙◌, suc, drop, drop-cons}
+use Rattle.fbl_input.proofs.Common.{add-one, below_more, true, Option, Some, None, slice_get, option_map, is_some, Data, all_shaped, slice_get-get_or, slice_get-map}
 
 module _ {V A : Type 0} (view : V → Data) (shape : Data → Option A) where
   -- the value at a place, as it is seen

@@ -1,11 +1,7 @@
 -- Inputs that are no JSON value, and what is known of an answer over an input that was read whole, or not at all.
-use Rattle.std.proofs.Common.{◌≡◌, ℕ, ◌<◌, ◌⊎◌, inl, inr, List, ap, refl, Option, Some, None, Result, Err, IfSome, length, cond}
-use Rattle.std.proofs.lemmas.Bool.{lt-ltb}
-use Rattle.serde_json.specs.Data.{Data}
-use Rattle.fbl_input.specs.declared.fault.RunFault.{RunFault}
+use Rattle.fbl_input.proofs.Common.{◌≡◌, ℕ, ◌<◌, ◌⊎◌, inl, inr, List, ap, refl, Option, Some, None, Result, Err, IfSome, length, cond, lt-ltb, Data, RunFault, FailsToRead, ◌>>=◌}
+use Rattle.fbl_input.proofs.Common.{json_of, longest, or_fault, value_of_input}
 use Rattle.fbl_input.specs.declared.fault.RunFault.TheVariants as faults
-use Rattle.fbl_input.specs.Faults.{FailsToRead}
-use Rattle.fbl_input.specs.Shapes.{◌>>=◌, json_of, longest, or_fault, value_of_input}
 use Rattle.fbl_input.proofs.Bytes.{keeps_itself}
 
 -- one that is too long, whatever it is read as

@@ -1,16 +1,7 @@
 -- The items of a value as a list, its keys, and the bytes that it is read from.
-use Rattle.std.proofs.Common.{arith, ◌≡◌, List, [], ◌∷◌, refl, ap, ◌∙◌, map, String, string_bytes}
-use Rattle.std.specs.List.{find}
-use Rattle.std.specs.Str.{IsUtf8}
-use Rattle.std.specs.Prelude.{ℕ, not, Some, None, option_map, cond}
-use Rattle.std.proofs.lemmas.Str.{IsUtf8-from_is_utf8, is_utf8-from_IsUtf8}
-use Rattle.serde_json.specs.Read.{read}
-use Rattle.std.specs.declared.alloc.Global.{Global}
-use Rattle.serde_json.specs.declared.value.Value.{Value}
-use Rattle.serde_json.specs.Data.{Data}
-use Rattle.serde_json.specs.View.{items_of, members_view}
-use Rattle.fbl_input.specs.declared.fault.Key.{Key}
-use Rattle.fbl_input.specs.Shapes.{elements, is_key_of, other_key, json_of}
+use Rattle.fbl_input.proofs.Common.{arith, ◌≡◌, List, [], ◌∷◌, refl, ap, ◌∙◌, map, String, string_bytes, find, IsUtf8, not, IsUtf8-from_is_utf8, is_utf8-from_IsUtf8, read, Global}
+use Rattle.fbl_input.proofs.Common.{Value, Data, items_of, members_view, Key, elements, is_key_of, other_key, json_of}
+use Rattle.std.specs.Prelude.{ℕ, Some, None, option_map, cond}
 
 pub elements_of : (ds : List Data) → elements (items_of ds) ≡ ds
 elements_of [] = refl

@@ -1,21 +1,9 @@
 -- Faults of keys and of the items of lists.
-use Rattle.std.proofs.Common.{◌≡◌, ℕ, ◌<◌, List, length, map, get_or, sym, ap, ◌∙◌, subst, Option, Some, None, option_and_then}
-use Rattle.std.proofs.Common.{slice_get, Result, Ok, Err}
-use Rattle.std.specs.Prelude.{is_some}
-use Rattle.std.specs.Result.{IsErrAnd}
-use Rattle.serde_json.specs.Data.{Data}
-use Rattle.serde_json.specs.Find.{get}
-use Rattle.serde_json.specs.View.{view}
-use Rattle.serde_json.specs.declared.value.Value.{Value}
-use Rattle.fbl_input.specs.declared.fault.Key.{Key}
-use Rattle.fbl_input.specs.declared.fault.RunFault.{RunFault}
+use Rattle.fbl_input.proofs.Common.{◌≡◌, ℕ, ◌<◌, List, length, map, get_or, sym, ap, ◌∙◌, subst, Option, Some, None, option_and_then, slice_get, Result, Ok, Err, is_some, IsErrAnd}
+use Rattle.fbl_input.proofs.Common.{Data, get, view, Value, Key, RunFault, InputKind, InputFault, is_item, items_at, Gives, IsBadItem, IsFirstOther, IsMisfit, run_fault, Fails, all_shaped, as_list}
+use Rattle.fbl_input.proofs.Common.{field, list_of, name_of, or_fault}
 use Rattle.fbl_input.specs.declared.fault.RunFault.TheVariants as faults
-use Rattle.fbl_input.specs.declared.input_fault.InputKind.{InputKind}
-use Rattle.fbl_input.specs.declared.input_fault.InputFault.{InputFault}
 use Rattle.fbl_input.specs.declared.input_fault.InputFault.TheVariants as inputs
-use Rattle.fbl_input.specs.Items.{is_item, items_at}
-use Rattle.fbl_input.specs.Misfits.{Gives, IsBadItem, IsFirstOther, IsMisfit, run_fault}
-use Rattle.fbl_input.specs.Shapes.{Fails, all_shaped, as_list, field, list_of, name_of, or_fault}
 use Rattle.fbl_input.proofs.Firsts.{seen_at}
 
 -- what is no list is no list of a shape

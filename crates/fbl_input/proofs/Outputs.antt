@@ -1,10 +1,6 @@
 -- An answer whose text was put out, or a prefix of it.
-use Rattle.std.proofs.Common.{◌≡◌, ℕ, ◌<◌, List, Option, Result, Ok, Err, IfErr, OnOk, OnErr, refl, take, length}
-use Rattle.std.specs.Result.{IsErrAnd}
-use Rattle.std.specs.Io.KnownBytes.{Appends}
-use Rattle.fbl_input.specs.declared.fault.RunFault.{RunFault}
+use Rattle.fbl_input.proofs.Common.{◌≡◌, ℕ, ◌<◌, List, Option, Result, Ok, Err, IfErr, OnOk, OnErr, refl, take, length, IsErrAnd, Appends, RunFault, PutsOut}
 use Rattle.fbl_input.specs.declared.fault.RunFault.TheVariants as faults
-use Rattle.fbl_input.specs.Faults.{PutsOut}
 
 -- a prefix, and the fault is passed on
 pub puts_front : {A : Type 0} (IsRight : A → List ℕ → Type 0) (x : A) (text : List ℕ) → IsRight x text → (before after : Option (List ℕ)) (f : RunFault) (r : Result A RunFault)

@@ -1,7 +1,6 @@
 -- Precedence where several events are appended.
-use Rattle.fbl_law.proofs.Common.{append_assoc, ◌≡◌, ℕ, List, [], ◌∷◌, ◌++◌, inl, inr, ◌⊎◌, arith, ◌∙◌, Some, Mark, member_of, send_of, Has}
-use Rattle.fbl_law.proofs.Common.{Earlier, Precedes, itself, step, MayFollow, WellFormed, At-front, At-below, one_place, WellFormed-front}
-use Rattle.fbl_base.proofs.RulesLaws.{MayFollow-last}
+use Rattle.fbl_law.proofs.Common.{append_assoc, ◌≡◌, ℕ, List, [], ◌∷◌, ◌++◌, inl, inr, ◌⊎◌, arith, ◌∙◌, Some, Mark, member_of, send_of, Has, Earlier, Precedes, itself}
+use Rattle.fbl_law.proofs.Common.{step, MayFollow, WellFormed, At-front, At-below, one_place, WellFormed-front, MayFollow-last}
 use Rattle.fbl_law.proofs.Lists.{At-append, At-behind}
 
 -- each event of a trace that obeys the rules may follow those before it

@@ -1,9 +1,7 @@
 -- Channels by their places, how many messages they have, and what is sent again.
-use Rattle.fbl_law.proofs.Common.{◌≡◌, ℕ, zero, suc, ◌<◌, ◌≤◌, ◌==◌, ◌&&◌, ◌||◌, nat_lt, ◌⊎◌, inl, inr, Bool, true, false, cond, List, [], length, get_or}
-use Rattle.fbl_law.proofs.Common.{refl, ap, arith, cases_lt, length-map, get_or_past, Members, Logged, Message, MemberRecord, last_from, sum_below, resent_to, length-left}
+use Rattle.fbl_law.proofs.Common.{◌≡◌, ℕ, zero, suc, ◌<◌, ◌≤◌, ◌==◌, ◌&&◌, ◌||◌, nat_lt, ◌⊎◌, inl, inr, Bool, true, false, cond, List, [], length, get_or, refl, ap}
+use Rattle.fbl_law.proofs.Common.{arith, cases_lt, length-map, get_or_past, Members, Logged, Message, MemberRecord, last_from, sum_below, resent_to, length-left, HasChannels, channel_in, sent_again}
 use Rattle.std.specs.FinSet as set
-use Rattle.fbl_law.specs.Groups.{HasChannels, channel_in}
-use Rattle.fbl_law.specs.Replaying.{sent_again}
 
 -- there is no channel but between members
 pub channel-outside : (n : ℕ) (channels : List (List (List Message))) (q p : ℕ) → HasChannels n channels → (n ≤ q) ⊎ (n ≤ p) → channel_in channels q p ≡ []

@@ -1,10 +1,8 @@
 -- Channels and the trace.
-use Rattle.fbl_law.proofs.Common.{option_map, ◌≡◌, ℕ, ◌==◌, ◌&&◌, not, Bool, true, false, cond, List, [], ◌∷◌, ◌++◌, map, drop, arith, refl, sym, ap, ◌∙◌}
-use Rattle.fbl_law.proofs.Common.{Some, append_assoc, Contains, filter_map, list_any, nat_tests, map-append, Mark, Has, sent_on, taken_on, in_flight, WellFormed, map-At, At-filter}
-use Rattle.fbl_law.proofs.Common.{At-filter_map, is_sent, WellFormed-front, in_flight-send, in_flight-receipt, Message, Knowledge, send_mark, IsInFlight, IsUp, MatchesTrace, IsDownEmpty}
-use Rattle.fbl_law.proofs.Common.{between, taken_off, slice_get-map, filter-append, is_on}
-use Rattle.std.proofs.lemmas.List.{drop-map, append-nil}
-use Rattle.fbl_base.specs.declared.trace.Mark.TheVariants.{Send, Receipt}
+use Rattle.fbl_law.proofs.Common.{option_map, ◌≡◌, ℕ, ◌==◌, ◌&&◌, not, Bool, true, false, cond, List, [], ◌∷◌, ◌++◌, map, drop, arith, refl, sym, ap, ◌∙◌, Some}
+use Rattle.fbl_law.proofs.Common.{append_assoc, Contains, filter_map, list_any, nat_tests, map-append, Mark, Has, sent_on, taken_on, in_flight, WellFormed, map-At, At-filter, At-filter_map, is_sent}
+use Rattle.fbl_law.proofs.Common.{WellFormed-front, in_flight-send, in_flight-receipt, Message, Knowledge, send_mark, IsInFlight, IsUp, MatchesTrace, IsDownEmpty, between, taken_off, slice_get-map}
+use Rattle.fbl_law.proofs.Common.{filter-append, is_on, drop-map, append-nil, Send, Receipt}
 use Rattle.fbl_law.proofs.Appended.{MayFollow-seam}
 use Rattle.fbl_law.proofs.Lists.{Contains-at, Contains-place}
 use Rattle.fbl_law.proofs.Safe.{up_at_ends}

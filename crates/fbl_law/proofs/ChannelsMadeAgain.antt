@@ -1,12 +1,9 @@
 -- Channels that are made again from their sender's log.
-use Rattle.fbl_law.proofs.Common.{◌≡◌, ℕ, ◌<◌, ◌≤◌, ◌==◌, ◌&&◌, nat_lt, ◌⊎◌, inl, inr, List, [], ◌∷◌, map, Some, slice_get, subst, refl, sym, ap}
-use Rattle.fbl_law.proofs.Common.{◌∙◌, arith, Contains, filter, filter_map, nat_tests, Note, Event, Mark, mark_of, sent_on, in_flight, WellFormed, Next, Progress, Logged, Lawful}
-use Rattle.fbl_law.proofs.Common.{note_of, map-At, At-filter, At-filter_map, in_flight-sent, Entry, piggybacked, Message, last_from, send_mark, GroupRecord, member, channel, marks}
-use Rattle.fbl_law.proofs.Common.{last_taken, IsFold, IsMadeAgain, resent_to}
+use Rattle.fbl_law.proofs.Common.{◌≡◌, ℕ, ◌<◌, ◌≤◌, ◌==◌, ◌&&◌, nat_lt, ◌⊎◌, inl, inr, List, [], ◌∷◌, map, Some, slice_get, subst, refl, sym, ap, ◌∙◌}
+use Rattle.fbl_law.proofs.Common.{arith, Contains, filter, filter_map, nat_tests, Note, Event, Mark, mark_of, sent_on, in_flight, WellFormed, Next, Progress, Logged, Lawful, note_of, map-At}
+use Rattle.fbl_law.proofs.Common.{At-filter, At-filter_map, in_flight-sent, Entry, piggybacked, Message, last_from, send_mark, GroupRecord, member, channel, marks, last_taken, IsFold, IsMadeAgain}
+use Rattle.fbl_law.proofs.Common.{resent_to, Send, logged_beyond, resent}
 use Rattle.fbl_base.specs.declared.trace.Event.TheVariants as event
-use Rattle.fbl_base.specs.declared.trace.Mark.TheVariants.{Send}
-use Rattle.fbl_member.specs.Members.{logged_beyond}
-use Rattle.fbl_law.specs.Replaying.{resent}
 use Rattle.fbl_law.proofs.InOrder.{in_flight-beyond}
 use Rattle.fbl_law.proofs.Lists.{Contains-changed, Contains-none, Contains-place}
 use Rattle.fbl_law.proofs.Logs.{logged_of, log-sends}

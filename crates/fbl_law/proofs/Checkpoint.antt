@@ -1,7 +1,6 @@
 -- A checkpoint keeps knowledge sound.
-use Rattle.fbl_law.proofs.Common.{ℕ, ◌≡◌, inl, inr, refl, sym, ap, ◌∙◌, arith, cases_eq, MemberRecord, Knowledge}
-use Rattle.fbl_law.proofs.Common.{Store, in_table, in_message, in_checkpoint, IsThere, IsUp, IsCheckpointKept}
-use Rattle.fbl_law.proofs.Common.{IsSoundKnowledge, IsCheckpointed, checkpoint, table}
+use Rattle.fbl_law.proofs.Common.{ℕ, ◌≡◌, inl, inr, refl, sym, ap, ◌∙◌, arith, cases_eq, MemberRecord, Knowledge, Store, in_table, in_message, in_checkpoint, IsThere, IsUp}
+use Rattle.fbl_law.proofs.Common.{IsCheckpointKept, IsSoundKnowledge, IsCheckpointed, checkpoint, table}
 use Rattle.fbl_law.proofs.Safe.{never_both, nobody_down_empty, up_if_none}
 use Rattle.fbl_law.proofs.Keeping.{KeepsKnowledge, IsSoundAt, sound_kept, checkpoint_kept, sound_after}
 

@@ -1,10 +1,8 @@
 -- How many receipts are replayed.
-use Rattle.fbl_law.proofs.Common.{◌≡◌, ◌≢◌, ℕ, zero, suc, ◌+◌, ◌-◌, ◌<◌, ◌≤◌, ◌==◌, ◌&&◌, Some, slice_get, Bool, true, List, [], ◌∷◌, inl, inr}
-use Rattle.fbl_law.proofs.Common.{length, map, refl, sym, ap, ◌∙◌, arith, nat_lt, filter, cases_eq, nat_tests, length-map, Determinant, Event, Mark, mark_of, determinant_of, AllBelow}
-use Rattle.fbl_law.proofs.Common.{Members, WellFormed, Next, MemberRecord, Stays, IsEventCut, GroupRecord, knowledge, receipts, receipts_at, IsReplayed, IsSound, length-left}
-use Rattle.fbl_law.proofs.Common.{length-filter_map}
+use Rattle.fbl_law.proofs.Common.{◌≡◌, ◌≢◌, ℕ, zero, suc, ◌+◌, ◌-◌, ◌<◌, ◌≤◌, ◌==◌, ◌&&◌, Some, slice_get, Bool, true, List, [], ◌∷◌, inl, inr, length}
+use Rattle.fbl_law.proofs.Common.{map, refl, sym, ap, ◌∙◌, arith, nat_lt, filter, cases_eq, nat_tests, length-map, Determinant, Event, Mark, mark_of, determinant_of, AllBelow, Members}
+use Rattle.fbl_law.proofs.Common.{WellFormed, Next, MemberRecord, Stays, IsEventCut, GroupRecord, knowledge, receipts, receipts_at, IsReplayed, IsSound, length-left, length-filter_map, count_in}
 use Rattle.std.specs.FinSet as set
-use Rattle.fbl_law.specs.Replaying.{count_in}
 use Rattle.fbl_law.proofs.Recovery.{cut-obeys}
 use Rattle.fbl_law.proofs.GroupRecovery.{marks-cut, cut-shorter}
 use Rattle.fbl_law.proofs.Receipts.{receipts_at-number}

@@ -1,17 +1,10 @@
 -- The trace that recovery leaves, in one pass.
-use Rattle.fbl_law.proofs.Common.{◌≡◌, ℕ, suc, ◌<◌, ◌≤◌, ◌==◌, ◌&&◌, ◌||◌, not, inl, inr, Bool, true, false, List, [], ◌∷◌, cases_lt, get_or, nat_lt}
-use Rattle.fbl_law.proofs.Common.{length, map, Some, slice_get, refl, sym, ap, ◌∙◌, arith, filter, nat_cmp, cases_eq, cases_Bool, false_from_ne_true, nat_tests, Determinant, Event}
-use Rattle.fbl_law.proofs.Common.{Mark, At, mark_of, member_of, receipt_of, contains-insert_same, contains-insert_other, Members, Has, WellFormed, Next, At-below, eqb-self, Entry, is_held}
-use Rattle.fbl_law.proofs.Common.{Stays, IsEventCut, recovery_table, GroupRecord, marks, knowledge, IsSound, recovered_trace}
+use Rattle.fbl_law.proofs.Common.{◌≡◌, ℕ, suc, ◌<◌, ◌≤◌, ◌==◌, ◌&&◌, ◌||◌, not, inl, inr, Bool, true, false, List, [], ◌∷◌, cases_lt, get_or, nat_lt, length, map}
+use Rattle.fbl_law.proofs.Common.{Some, slice_get, refl, sym, ap, ◌∙◌, arith, filter, nat_cmp, cases_eq, cases_Bool, false_from_ne_true, nat_tests, Determinant, Event, Mark, At, mark_of}
+use Rattle.fbl_law.proofs.Common.{member_of, receipt_of, contains-insert_same, contains-insert_other, Members, Has, WellFormed, Next, At-below, eqb-self, Entry, is_held, Stays, IsEventCut}
+use Rattle.fbl_law.proofs.Common.{recovery_table, GroupRecord, marks, knowledge, IsSound, recovered_trace, position_or_len, Decides, position_or_len_is, fails_before_first, passes_at_first}
+use Rattle.fbl_law.proofs.Common.{get_or_from_slice_get, slice_get-get_or, Send, Receipt, UpTo, stops_at, cut_from, one_place}
 use Rattle.std.specs.FinSet as set
-use Rattle.std.specs.List.{position_or_len}
-use Rattle.std.proofs.Common.{Decides}
-use Rattle.std.proofs.lemmas.List.Sums.{position_or_len_is, fails_before_first, passes_at_first}
-use Rattle.std.proofs.lemmas.Option.{get_or_from_slice_get, slice_get-get_or}
-use Rattle.fbl_base.specs.declared.trace.Mark.TheVariants.{Send, Receipt}
-use Rattle.fbl_law.specs.Steps.{UpTo}
-use Rattle.fbl_law.specs.Replaying.{stops_at, cut_from}
-use Rattle.fbl_law.proofs.Common.{one_place}
 use Rattle.fbl_law.proofs.Notes.{mark-at}
 use Rattle.fbl_law.proofs.Tables.{Names-held, held-Names}
 use Rattle.fbl_law.proofs.GatheredTables.{gathered_recorded, recorded_gathered}

@@ -1,17 +1,12 @@
 -- What is left of a lawful trace is lawful, with its notes.
-use Rattle.fbl_law.proofs.Common.{◌≡◌, ℕ, zero, suc, ◌<◌, ◌≤◌, ◌==◌, ◌||◌, nat_lt, inl, inr, ◌⊎◌, Bool, true, false, cond, List, [], ◌∷◌, ◌++◌}
-use Rattle.fbl_law.proofs.Common.{length, take, map, Option, Some, None, slice_get, refl, sym, ap, ◌∙◌, arith, or_left, or_right, count_by, length-take, filter, filter_map, fold}
-use Rattle.fbl_law.proofs.Common.{eq-eqb, false_from_ne_true, nat_tests, filter-append, sum_by-cons, length-filter_map, length-left, Note, Start, Determinant, Event, Mark, At, mark_of}
-use Rattle.fbl_law.proofs.Common.{member_of, send_of, receipt_of, Has, Leads, Precedes, itself, step, is_send_of, is_receipt_of, sends_of, receipts_of, sent_on, taken_on, in_flight}
-use Rattle.fbl_law.proofs.Common.{MayFollow, WellFormed, At-front, At-below, WellFormed-keeps, WellFormed-none, WellFormed-push, is_sent, in_flight-sent, last_taken, Next, note_of, Action}
-use Rattle.fbl_law.proofs.Common.{took, sent, action_of, actions_of, notes_of, responses, start_of, starts_of, Lawful, At-filter, receipts-noted, eqb-self}
-use Rattle.std.proofs.lemmas.Bool.{true_from_ne_false}
-use Rattle.std.proofs.lemmas.List.{append-nil}
-use Rattle.fbl_base.specs.declared.trace.Event.TheVariants.{Send, Receipt}
+use Rattle.fbl_law.proofs.Common.{◌≡◌, ℕ, zero, suc, ◌<◌, ◌≤◌, ◌==◌, ◌||◌, nat_lt, inl, inr, ◌⊎◌, Bool, true, false, cond, List, [], ◌∷◌, ◌++◌, length, take}
+use Rattle.fbl_law.proofs.Common.{map, Option, Some, None, slice_get, refl, sym, ap, ◌∙◌, arith, or_left, or_right, count_by, length-take, filter, filter_map, fold, eq-eqb, false_from_ne_true}
+use Rattle.fbl_law.proofs.Common.{nat_tests, filter-append, sum_by-cons, length-filter_map, length-left, Note, Start, Determinant, Event, Mark, At, mark_of, member_of, send_of, receipt_of, Has, Leads}
+use Rattle.fbl_law.proofs.Common.{Precedes, itself, step, is_send_of, is_receipt_of, sends_of, receipts_of, sent_on, taken_on, in_flight, MayFollow, WellFormed, At-front, At-below, WellFormed-keeps}
+use Rattle.fbl_law.proofs.Common.{WellFormed-none, WellFormed-push, is_sent, in_flight-sent, last_taken, Next, note_of, Action, took, sent, action_of, actions_of, notes_of, responses, start_of}
+use Rattle.fbl_law.proofs.Common.{starts_of, Lawful, At-filter, receipts-noted, eqb-self, true_from_ne_false, append-nil, filter_map-agree, Earlier-front, on_channel}
 use Rattle.fbl_base.specs.declared.trace.Mark.TheVariants as mark
-use Rattle.fbl_base.proofs.Gets.{filter_map-agree}
-use Rattle.fbl_base.proofs.PrecedenceLaws.{Earlier-front}
-use Rattle.fbl_base.proofs.RulesLaws.{on_channel}
+use Rattle.fbl_base.specs.declared.trace.Event.TheVariants.{Send, Receipt}
 use Rattle.fbl_law.proofs.InOrder.{in_flight-beyond}
 use Rattle.fbl_law.proofs.Lists.{At-seam, filter-At}
 use Rattle.fbl_law.proofs.Notes.{noted-sent, sent-noted, mark-at, receipt-at}

@@ -1,11 +1,8 @@
 -- A closed record always has each receipt held.
 use Rattle.fbl_law.proofs.Common.{◌≡◌, ℕ, zero, suc, ◌↔◌, false, List, [], ◌∷◌, map, get_or, inl, inr, ◌⊎◌, arith, refl, sym, ◌∙◌, and_parts, cases_lt, Determinant}
-use Rattle.fbl_law.proofs.Common.{some_member, is_held, in_table, Includes, Knowledge, MemberRecord, blank, Names, Holds, IsRecorded, IsHolder, IsClosed, Members}
-use Rattle.std.specs.Cmp.{nat_cmp_total}
+use Rattle.fbl_law.proofs.Common.{some_member, is_held, in_table, Includes, Knowledge, MemberRecord, blank, Names, Holds, IsRecorded, IsHolder, IsClosed, Members, nat_cmp_total, flagged}
+use Rattle.fbl_law.proofs.Common.{contains-flagged, len-remove_one, len-within, IsAlwaysHeld}
 use Rattle.std.specs.FinSet as set
-use Rattle.fbl_base.specs.MemberSets.{flagged, contains-flagged}
-use Rattle.fbl_base.proofs.Sizes.{len-remove_one, len-within}
-use Rattle.fbl_law.specs.Knowledge.{IsAlwaysHeld}
 use Rattle.fbl_law.proofs.Safe.{down_or_up, IsRecorded-depended}
 use Rattle.fbl_law.proofs.Tables.{Names-held, held-Names, Includes-union, Includes-left, Includes-right}
 

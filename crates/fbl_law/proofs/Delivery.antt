@@ -1,11 +1,9 @@
 -- A delivery keeps knowledge sound.
-use Rattle.fbl_law.proofs.Common.{◌≡◌, ℕ, List, [], ◌∷◌, inl, inr, ◌⊎◌, refl, sym, subst, ap, ◌∙◌, zero, suc, Some, map, ◌&&◌, ◌==◌, Contains}
-use Rattle.fbl_law.proofs.Common.{cases_eq, cases_Bool, contains-insert_same, Determinant, Mark, At, member_of, send_of, determinant_of, receipt_of, Has, Precedes, Contains-append_cases}
-use Rattle.fbl_law.proofs.Common.{At-front, Has-last, Entry, Message, Includes, Knowledge, Store, in_table, in_message, in_checkpoint, owner, IsThere, Owes, table}
-use Rattle.fbl_law.proofs.Common.{send_mark, IsInFlight, IsUp, Names, Holds, IsHolder, IsTrueEntry, NamesCauses, IsSoundKnowledge, learned, IsDelivered, is_on, taken_off, between}
-use Rattle.fbl_law.proofs.Common.{determinant}
+use Rattle.fbl_law.proofs.Common.{◌≡◌, ℕ, List, [], ◌∷◌, inl, inr, ◌⊎◌, refl, sym, subst, ap, ◌∙◌, zero, suc, Some, map, ◌&&◌, ◌==◌, Contains, cases_eq, cases_Bool}
+use Rattle.fbl_law.proofs.Common.{contains-insert_same, Determinant, Mark, At, member_of, send_of, determinant_of, receipt_of, Has, Precedes, Contains-append_cases, At-front, Has-last, Entry, Message}
+use Rattle.fbl_law.proofs.Common.{Includes, Knowledge, Store, in_table, in_message, in_checkpoint, owner, IsThere, Owes, table, send_mark, IsInFlight, IsUp, Names, Holds, IsHolder, IsTrueEntry}
+use Rattle.fbl_law.proofs.Common.{NamesCauses, IsSoundKnowledge, learned, IsDelivered, is_on, taken_off, between, determinant, Precedes-front, All, ◌↔◌, held_by, All-contains, All-push}
 use Rattle.std.specs.FinSet as set
-use Rattle.fbl_base.proofs.PrecedenceLaws.{Precedes-front}
 use Rattle.fbl_law.proofs.Appended.{Has-append, disjoint, Precedes-within, Precedes-entered}
 use Rattle.fbl_law.proofs.Lists.{At-behind, Contains-at, Contains-there, Contains-from_filter}
 use Rattle.fbl_law.proofs.Channels.{AreSent-matched, made-Has, channel-delivered}
@@ -13,9 +11,6 @@ use Rattle.fbl_law.proofs.Numbered.{added-later}
 use Rattle.fbl_law.proofs.Safe.{never_both, nobody_down_empty, up_if_none}
 use Rattle.fbl_law.proofs.Keeping.{KeepsKnowledge, IsSoundAt, NamesCauses-kept, IsTrueEntry-kept, sound_kept, sound_passed, checkpoint_kept, sound_after}
 use Rattle.fbl_law.proofs.Tables.{Includes-insert_cases, Includes-only, Includes-union, Includes-left, Names-table, learned-keeps, All-from}
-use Rattle.fbl_law.proofs.Common.{All, ◌↔◌}
-use Rattle.fbl_table.specs.Tables.{held_by}
-use Rattle.std.proofs.lemmas.List.Elements.{All-contains, All-push}
 
 -- what is left of a channel was in it
 pub taken_off-was : (v : Message) (q p : ℕ) (xs : List Message) (x : Message) → Contains (taken_off v q p xs) x → Contains xs x

@@ -1,19 +1,12 @@
 -- Dumps of a sound group.
-use Rattle.fbl_law.proofs.Common.{◌≡◌, ℕ, zero, suc, ◌+◌, ◌<◌, ◌≤◌, List, [], ◌∷◌, ◌++◌, length, map, get_or, refl}
-use Rattle.fbl_law.proofs.Common.{arith, append_assoc, length-append, Contains, zero-add, length-map, Contains-append_left, Contains-append_right, length-filter_map}
-use Rattle.fbl_law.proofs.Common.{Members, Determinant, Mark, mark_of, determinant_of, same_determinant, receipt_of, Has, Depends, Next, filter_map-At, At-below}
-use Rattle.fbl_law.proofs.Common.{Decides-same_determinant, Entry, Message, MemberRecord, blank, IsInFlight, Names, GroupRecord, member, marks, knowledge, receipts, IsSound}
-use Rattle.std.proofs.Common.{◌*◌, append-nil}
-use Rattle.std.specs.List.{IsDistinct}
-use Rattle.std.specs.Cmp.{decided}
-use Rattle.std.proofs.Math.Nat.{add-zero}
-use Rattle.std.proofs.lemmas.List.Elements.{All-append, All-contains, All-map, All-nil}
-use Rattle.fbl_law.proofs.Common.{All}
+use Rattle.fbl_law.proofs.Common.{◌≡◌, ℕ, zero, suc, ◌+◌, ◌<◌, ◌≤◌, List, [], ◌∷◌, ◌++◌, length, map, get_or, refl, arith, append_assoc, length-append, Contains}
+use Rattle.fbl_law.proofs.Common.{zero-add, length-map, Contains-append_left, Contains-append_right, length-filter_map, Members, Determinant, Mark, mark_of, determinant_of, same_determinant}
+use Rattle.fbl_law.proofs.Common.{receipt_of, Has, Depends, Next, filter_map-At, At-below, Decides-same_determinant, Entry, Message, MemberRecord, blank, IsInFlight, Names, GroupRecord, member, marks}
+use Rattle.fbl_law.proofs.Common.{knowledge, receipts, IsSound, ◌*◌, IsDistinct, decided, add-zero, All-append, All-contains, All-map, All-nil, All, length-le_from_is_member, is_member-Decides}
+use Rattle.fbl_law.proofs.Common.{Send, Receipt, IsLost, HeldAt, pairs_of, pairs_from, held_pairs, dump_of, HasDistinctTables}
+use Rattle.std.proofs.Common.{append-nil}
+use Rattle.fbl_law.specs.Dumps.{DumpObeysRules, DumpHasNoOrphan}
 use Rattle.fbl_law.proofs.Tables.{All-from}
-use Rattle.std.proofs.lemmas.Map.Made.{length-le_from_is_member, is_member-Decides}
-use Rattle.fbl_base.specs.declared.trace.Mark.TheVariants.{Send, Receipt}
-use Rattle.fbl_base.specs.Audit.{IsLost, HeldAt}
-use Rattle.fbl_law.specs.Dumps.{pairs_of, pairs_from, held_pairs, dump_of, HasDistinctTables, DumpObeysRules, DumpHasNoOrphan}
 use Rattle.fbl_law.proofs.Lists.{Contains-at, Contains-map, Contains-changed, Contains-none}
 use Rattle.fbl_law.proofs.Promises.{any_survivors_hold}
 use Rattle.fbl_law.proofs.GroupFacts.{named_received, carried_received, trace_fits}

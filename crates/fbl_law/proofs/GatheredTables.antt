@@ -1,19 +1,12 @@
 -- What gathered tables have.
-use Rattle.fbl_law.proofs.Common.{◌≡◌, ℕ, zero, suc, ◌+◌, ◌<◌, List, [], ◌∷◌, ◌++◌, length, take, map, inl, inr, arith, refl, get_or, subst}
-use Rattle.fbl_law.proofs.Common.{ap, ◌∙◌, cases_eq, slice_index_or, Contains-append_left, Contains-append_right, Contains, fold_push}
-use Rattle.fbl_law.proofs.Common.{Members, Determinant, Entry, MemberRecord, blank, in_table, in_checkpoint, Includes, Names, Knowledge, table, checkpoint, IsDown}
-use Rattle.fbl_law.proofs.Common.{IsRecorded, gathered, recovery_table}
-use Rattle.std.proofs.lemmas.List.{map_more}
-use Rattle.std.proofs.lemmas.List.Elements.{All-append, All-cons, All-contains, All-from_get_or, All-map, All-nil, Contains-get_or}
-use Rattle.std.proofs.lemmas.List.Folds.{list_any_at}
-use Rattle.fbl_table.proofs.Adding.{held-gathered}
+use Rattle.fbl_law.proofs.Common.{◌≡◌, ℕ, zero, suc, ◌+◌, ◌<◌, List, [], ◌∷◌, ◌++◌, length, take, map, inl, inr, arith, refl, get_or, subst, ap, ◌∙◌, cases_eq}
+use Rattle.fbl_law.proofs.Common.{slice_index_or, Contains-append_left, Contains-append_right, Contains, fold_push, Members, Determinant, Entry, MemberRecord, blank, in_table, in_checkpoint, Includes}
+use Rattle.fbl_law.proofs.Common.{Names, Knowledge, table, checkpoint, IsDown, IsRecorded, gathered, recovery_table, map_more, All-append, All-cons, All-contains, All-from_get_or, All-map, All-nil}
+use Rattle.fbl_law.proofs.Common.{Contains-get_or, list_any_at, held-gathered, gathered_all, saved_tables, All, All-head, All-tail, list_any, is_held, ◌||◌, IsHolder, IsSoundKnowledge}
 use Rattle.std.specs.FinSet as set
-use Rattle.fbl_law.specs.Steps.{gathered_all, saved_tables}
 use Rattle.fbl_law.proofs.Lists.{Contains-changed, Contains-map, Contains-here}
 use Rattle.fbl_law.proofs.Safe.{down_or_up, up_if_named}
 use Rattle.fbl_law.proofs.Tables.{joined, All-from, Includes-union, Includes-right, gathered-keeps, held-Names, Names-held, named_record}
-use Rattle.fbl_law.proofs.Common.{All, All-head, All-tail, list_any, is_held, ◌||◌}
-use Rattle.fbl_law.proofs.Common.{IsHolder, IsSoundKnowledge}
 
 abbrev mark : Members → Entry → Entry
 mark s e = record { det = e.det; known = set.union e.known s }

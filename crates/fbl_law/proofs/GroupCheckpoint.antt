@@ -1,7 +1,6 @@
 -- What checkpoints of a group record, and that a checkpoint keeps a group sound.
-use Rattle.fbl_law.proofs.Common.{◌≡◌, ◌≢◌, ℕ, ◌<◌, inl, inr, refl, sym, ◌∙◌, arith, subst, slice_set, cases_eq, length-set, get_or-set_same, get_or-set_other}
-use Rattle.fbl_law.proofs.Common.{receipt_of, Next, itself, blank, IsUp, IsCheckpointed, GroupRecord, member, member_checkpoint, knowledge, IsReplayed, IsSound}
-use Rattle.fbl_law.specs.GroupSteps.{IsCheckpoint}
+use Rattle.fbl_law.proofs.Common.{◌≡◌, ◌≢◌, ℕ, ◌<◌, inl, inr, refl, sym, ◌∙◌, arith, subst, slice_set, cases_eq, length-set, get_or-set_same, get_or-set_other, receipt_of}
+use Rattle.fbl_law.proofs.Common.{Next, itself, blank, IsUp, IsCheckpointed, GroupRecord, member, member_checkpoint, knowledge, IsReplayed, IsSound, IsCheckpoint}
 use Rattle.fbl_law.specs.GroupLaws.{GroupCheckpointKeeps, CheckpointIsRecorded}
 use Rattle.fbl_law.proofs.Safe.{up_if_none, IsRecorded-reached}
 use Rattle.fbl_law.proofs.Checkpoint.{checkpoint_keeps}

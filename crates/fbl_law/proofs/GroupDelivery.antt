@@ -1,18 +1,13 @@
 -- A delivery keeps a group sound.
-use Rattle.fbl_law.proofs.Common.{◌≡◌, ◌≢◌, ℕ, suc, ◌+◌, ◌<◌, ◌≤◌, ◌==◌, false, cond, List, [], ◌∷◌, ◌++◌, length, map, inl, inr, Some, slice_get}
-use Rattle.fbl_law.proofs.Common.{refl, sym, ap, ◌∙◌, arith, length-append, Contains, filter_map, cases_eq, ne_eqb, map-append, length-set, get_or-set_same, get_or-set_other}
-use Rattle.fbl_law.proofs.Common.{filter-append, filter_map-append, Contains-append_cases, Determinant, Note, Event, mark_of, determinant_of, receipt_of, Next}
-use Rattle.fbl_law.proofs.Common.{Lawful, note_of, At-front, eqb-self, Entry, piggybacked, Message, MemberRecord, blank, send_mark, IsInFlight, IsUp, determinant, IsDelivered, is_on}
-use Rattle.fbl_law.proofs.Common.{between, taken_off, GroupRecord, member, member_checkpoint, channel, marks, knowledge, receipts, IsFold, IsReplayed, IsSound, receipts_at}
-use Rattle.std.proofs.Common.{append-nil}
+use Rattle.fbl_law.proofs.Common.{◌≡◌, ◌≢◌, ℕ, suc, ◌+◌, ◌<◌, ◌≤◌, ◌==◌, false, cond, List, [], ◌∷◌, ◌++◌, length, map, inl, inr, Some, slice_get, refl, sym}
+use Rattle.fbl_law.proofs.Common.{ap, ◌∙◌, arith, length-append, Contains, filter_map, cases_eq, ne_eqb, map-append, length-set, get_or-set_same, get_or-set_other, filter-append}
+use Rattle.fbl_law.proofs.Common.{filter_map-append, Contains-append_cases, Determinant, Note, Event, mark_of, determinant_of, receipt_of, Next, Lawful, note_of, At-front, eqb-self, Entry}
+use Rattle.fbl_law.proofs.Common.{piggybacked, Message, MemberRecord, blank, send_mark, IsInFlight, IsUp, determinant, IsDelivered, is_on, between, taken_off, GroupRecord, member, member_checkpoint}
+use Rattle.fbl_law.proofs.Common.{channel, marks, knowledge, receipts, IsFold, IsReplayed, IsSound, receipts_at, Send, Receipt, step_events, Lawful-deliver, Lawful-begun, note_of-front, messages_from}
+use Rattle.fbl_law.proofs.Common.{IsDelivery, step_of, receiver, made, delivery_events, SendsWell}
 use Rattle.std.specs.FinSet as sets
 use Rattle.fbl_base.specs.declared.trace.Event.TheVariants as event
-use Rattle.fbl_base.specs.declared.trace.Mark.TheVariants.{Send, Receipt}
-use Rattle.fbl_base.specs.Fold.{step_events}
-use Rattle.fbl_base.proofs.LawfulLaws.{Lawful-deliver, Lawful-begun, note_of-front}
-use Rattle.fbl_member.specs.Members.{messages_from}
-use Rattle.fbl_law.specs.GroupSteps.{IsDelivery, step_of, receiver, made, delivery_events}
-use Rattle.fbl_law.specs.GroupLaws.{SendsWell}
+use Rattle.std.proofs.Common.{append-nil}
 use Rattle.fbl_law.proofs.Lists.{At-seam, Contains-cons_cases, Contains-none, Contains-from_filter, At-behind}
 use Rattle.fbl_law.proofs.Safe.{never_both, up_if_none}
 use Rattle.fbl_law.proofs.Delivery.{taken_off-was, delivery_keeps}

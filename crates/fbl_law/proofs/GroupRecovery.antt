@@ -1,27 +1,23 @@
 -- What stays in a recovery: what has its causes recorded; what is left is lawful, the group stays sound, and which receipts are undone.
-use Rattle.fbl_law.proofs.Common.{◌≡◌, ℕ, ◌<◌, ◌≤◌, inl, inr, List, length, map, Some, refl, ap, ◌∙◌, arith, ◌↔◌, Bool, true, subst, sym, Contains, Determinant}
-use Rattle.fbl_law.proofs.Common.{Event, mark_of, receipt_of, Has, itself, Next, Lawful, note_of, Message, MemberRecord, IsInFlight, IsUp, Knowledge, IsSoundKnowledge, Stays, IsCut}
-use Rattle.fbl_law.proofs.Common.{IsEventCut, IsRecovered, GroupRecord, member, member_checkpoint, channel, marks, knowledge, receipts_at, IsFold, IsReplayed, IsSound, IsRecovery}
-use Rattle.fbl_law.proofs.Common.{length-left, Mark, one_place, ◌+◌, not, slice_get, filter, determinant_of, receipts, is_receipt, recovered_trace, ◌-◌, nat_le, nat_tests, sends_of}
-use Rattle.fbl_law.proofs.Common.{receipts_of, Progress, sent-number, IsDown, stays_by}
+use Rattle.fbl_law.proofs.Common.{◌≡◌, ℕ, ◌<◌, ◌≤◌, inl, inr, List, length, map, Some, refl, ap, ◌∙◌, arith, ◌↔◌, Bool, true, subst, sym, Contains, Determinant, Event}
+use Rattle.fbl_law.proofs.Common.{mark_of, receipt_of, Has, itself, Next, Lawful, note_of, Message, MemberRecord, IsInFlight, IsUp, Knowledge, IsSoundKnowledge, Stays, IsCut, IsEventCut, IsRecovered}
+use Rattle.fbl_law.proofs.Common.{GroupRecord, member, member_checkpoint, channel, marks, knowledge, receipts_at, IsFold, IsReplayed, IsSound, IsRecovery, length-left, Mark, one_place, ◌+◌, not}
+use Rattle.fbl_law.proofs.Common.{slice_get, filter, determinant_of, receipts, is_receipt, recovered_trace, ◌-◌, nat_le, nat_tests, sends_of, receipts_of, Progress, sent-number, IsDown, stays_by}
+use Rattle.fbl_law.proofs.Common.{Send, Receipt, CutIsLawful, StaysIsRecorded, is_recorded, CutIsOne, length-filter_both}
+use Rattle.fbl_law.specs.RecoveryLaws.{GroupRecoveryGainsHolders, HoldersGainTheDown, RecoveryLeavesRecorded, RecoveryUndoesLost}
 use Rattle.fbl_law.proofs.Logs.{log-length}
 use Rattle.fbl_law.proofs.Safe.{down_or_up, down_or_both_up, never_both, up_if_none, IsRecorded-reached}
-use Rattle.fbl_law.proofs.Recovery.{recovery_keeps, cut-recorded, cut_is_recorded, recovery_gains_holders, cut-causes, cut-was, cut-left, cut-obeys, cut-keeps_up, recorded-cut}
-use Rattle.fbl_law.proofs.Recovery.{Stays-recorded, recorded_before}
+use Rattle.fbl_law.proofs.Recovery.{recovery_keeps, cut-recorded, cut_is_recorded, recovery_gains_holders, cut-causes, cut-was, cut-left, cut-obeys, cut-keeps_up, recorded-cut, Stays-recorded}
+use Rattle.fbl_law.proofs.Recovery.{recorded_before}
 use Rattle.fbl_law.proofs.ReplayedRecords.{all-taken, replayed-kept, fold-replayed, replayed-fold}
 use Rattle.fbl_law.proofs.Receipts.{at-most, Has-receipts_at, length-receipts_at}
 use Rattle.fbl_law.proofs.Numbered.{receipt-number, receipt-there, send-there}
 use Rattle.fbl_law.proofs.GroupFacts.{received_counted}
 use Rattle.fbl_law.proofs.CutInOnePass.{recovered_trace-cut}
 use Rattle.fbl_law.proofs.CutLawful.{marks-filter, note-stays, note-was, KeepsResponses, Lawful-kept}
-use Rattle.fbl_base.specs.declared.trace.Mark.TheVariants.{Send, Receipt}
-use Rattle.fbl_law.specs.Laws.{CutIsLawful, StaysIsRecorded}
-use Rattle.fbl_law.specs.Groups.{is_recorded}
-use Rattle.fbl_law.specs.RecoveryLaws.{GroupRecoveryGainsHolders, HoldersGainTheDown, RecoveryLeavesRecorded, RecoveryUndoesLost, CutIsOne}
 use Rattle.fbl_law.proofs.GroupStrike.{recorded_test}
 use Rattle.fbl_law.proofs.Lists.{filter-agree, filter_map-after, same-test}
 use Rattle.fbl_law.proofs.Notes.{one-send, mark-at}
-use Rattle.std.proofs.lemmas.List.Filters.{length-filter_both}
 
 module _ (n f : ℕ) (r : Knowledge) (sound : IsSoundKnowledge n f r) (keep : Mark → Bool) (tells : (e : Mark) → Has r.trace e → (keep e ≡ true) ↔ Stays r e) where
   cut_responses : KeepsResponses keep r.trace

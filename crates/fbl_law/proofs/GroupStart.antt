@@ -1,17 +1,13 @@
 -- A group in which nothing is received yet is sound.
-use Rattle.fbl_law.proofs.Common.{◌≡◌, ℕ, suc, ◌+◌, ◌<◌, ◌≤◌, ◌==◌, List, [], ◌∷◌, ◌++◌, length, get_or, map, inl, inr, Option, Some, None, slice_get}
-use Rattle.fbl_law.proofs.Common.{refl, sym, ap, ◌∙◌, arith, append_assoc, length-append, Contains, filter, filter_map, cons_option, cases_lt, length-map, map-append, take_all}
-use Rattle.fbl_law.proofs.Common.{get_or_past, filter_map-append, Start, Event, Mark, mark_of, determinant_of, receipt_of, in_flight, sent_on, taken_on, sends_of}
-use Rattle.fbl_law.proofs.Common.{WellFormed, MayFollow, Next, Lawful, sent, action_of, actions_of, notes_of, start_of, starts_of, filter_map-At, WellFormed-none}
-use Rattle.fbl_law.proofs.Common.{WellFormed-push, fresh, Message, MemberRecord, blank, send_mark, MatchesTrace, starts, is_on, GroupRecord}
-use Rattle.fbl_law.proofs.Common.{channel, knowledge, receipts, IsFold, IsSound, received_notes}
-use Rattle.std.proofs.Common.{append-nil, if◌then◌else◌}
+use Rattle.fbl_law.proofs.Common.{◌≡◌, ℕ, suc, ◌+◌, ◌<◌, ◌≤◌, ◌==◌, List, [], ◌∷◌, ◌++◌, length, get_or, map, inl, inr, Option, Some, None, slice_get, refl, sym}
+use Rattle.fbl_law.proofs.Common.{ap, ◌∙◌, arith, append_assoc, length-append, Contains, filter, filter_map, cons_option, cases_lt, length-map, map-append, take_all, get_or_past}
+use Rattle.fbl_law.proofs.Common.{filter_map-append, Start, Event, Mark, mark_of, determinant_of, receipt_of, in_flight, sent_on, taken_on, sends_of, WellFormed, MayFollow, Next, Lawful, sent}
+use Rattle.fbl_law.proofs.Common.{action_of, actions_of, notes_of, start_of, starts_of, filter_map-At, WellFormed-none, WellFormed-push, fresh, Message, MemberRecord, blank, send_mark, MatchesTrace}
+use Rattle.fbl_law.proofs.Common.{starts, is_on, GroupRecord, channel, knowledge, receipts, IsFold, IsSound, received_notes, if◌then◌else◌, Send, Receipt, Settings, IsConfig, StartAllowed}
+use Rattle.fbl_law.proofs.Common.{notes_of-sent, IsStart, IsGroupStart, start_events, message_of_send}
 use Rattle.fbl_base.specs.declared.trace.Event.TheVariants as event
-use Rattle.fbl_base.specs.declared.trace.Mark.TheVariants.{Send, Receipt}
-use Rattle.fbl_base.specs.Configs.{Settings, IsConfig, StartAllowed}
-use Rattle.fbl_base.proofs.LawfulLaws.{notes_of-sent}
-use Rattle.fbl_law.specs.Run.{IsStart}
-use Rattle.fbl_law.specs.GroupSteps.{IsGroupStart, start_events, message_of_send}
+use Rattle.std.proofs.Common.{append-nil}
+use Rattle.fbl_law.specs.Laws.{RunIsSound}
 use Rattle.fbl_law.proofs.InOrder.{fifo}
 use Rattle.fbl_law.proofs.Lists.{Contains-cons_cases, Contains-from_filter, Contains-none}
 use Rattle.fbl_law.proofs.Safe.{never_both, up_if_none}
@@ -20,7 +16,6 @@ use Rattle.fbl_law.proofs.Notes.{sent-noted}
 use Rattle.fbl_law.proofs.Logs.{log-length}
 use Rattle.fbl_law.proofs.ReplayedRecords.{replayed-fresh, replayed-fold}
 use Rattle.fbl_law.proofs.Channels.{messages_between}
-use Rattle.fbl_law.specs.Laws.{RunIsSound}
 
 -- the send of a start after the events so far
 abbrev send_of : List Event → Start → Event

@@ -1,11 +1,8 @@
 -- A strike keeps a group sound, and what the tables of a sound group say of recorded receipts.
 use Rattle.fbl_law.proofs.Common.{◌≡◌, ℕ, ◌≤◌, true, List, inl, inr, Some, get_or, refl, ap, ◌∙◌, Contains, list_any, or_cases, or_left, or_right, get_or_default}
-use Rattle.fbl_law.proofs.Common.{Any-from_list_any, Determinant, AllBelow, Members, Next, note_of, is_held, Message, MemberRecord, blank, IsInFlight, IsUp, Names, IsStruck, GroupRecord}
-use Rattle.fbl_law.proofs.Common.{channel, knowledge, IsFold, IsSound}
+use Rattle.fbl_law.proofs.Common.{Any-from_list_any, Determinant, AllBelow, Members, Next, note_of, is_held, Message, MemberRecord, blank, IsInFlight, IsUp, Names, IsStruck, GroupRecord, channel}
+use Rattle.fbl_law.proofs.Common.{knowledge, IsFold, IsSound, list_any_at, IsStrike, RecordedTest}
 use Rattle.std.specs.FinSet as sets
-use Rattle.std.proofs.lemmas.List.Folds.{list_any_at}
-use Rattle.fbl_law.specs.GroupSteps.{IsStrike}
-use Rattle.fbl_law.specs.GroupLaws.{RecordedTest}
 use Rattle.fbl_law.proofs.Safe.{up_at_ends, up_if_named}
 use Rattle.fbl_law.proofs.Tables.{Names-held, held-Names, Includes-union, named_record}
 use Rattle.fbl_law.proofs.Strike.{was_up, strike_keeps}

@@ -1,11 +1,8 @@
 -- Each channel is first in, first out: what is in flight was sent after all that was received on it.
-use Rattle.fbl_law.proofs.Common.{◌≡◌, ℕ, suc, ◌<◌, ◌≤◌, ◌==◌, ◌&&◌, nat_lt, Bool, true, false, cond, List, [], ◌∷◌, ◌++◌, drop, Some, None, slice_get}
-use Rattle.fbl_law.proofs.Common.{refl, ap, ◌∙◌, arith, append_assoc, filter, filter_map, cons_option, fold, nat_tests, filter_map-append, Mark, taken_on, sent_on, in_flight}
-use Rattle.fbl_law.proofs.Common.{MayFollow, WellFormed, At-front, At-filter_map, WellFormed-keeps, is_sent, in_flight-send, in_flight-receipt, last_taken}
-use Rattle.std.proofs.lemmas.List.{append-nil}
-use Rattle.fbl_base.specs.declared.trace.Mark.TheVariants.{Send, Receipt}
-use Rattle.fbl_base.proofs.Gets.{Apart, Apart-later}
-use Rattle.fbl_base.proofs.InFlightLaws.{filter_all, sent-rises}
+use Rattle.fbl_law.proofs.Common.{◌≡◌, ℕ, suc, ◌<◌, ◌≤◌, ◌==◌, ◌&&◌, nat_lt, Bool, true, false, cond, List, [], ◌∷◌, ◌++◌, drop, Some, None, slice_get, refl, ap}
+use Rattle.fbl_law.proofs.Common.{◌∙◌, arith, append_assoc, filter, filter_map, cons_option, fold, nat_tests, filter_map-append, Mark, taken_on, sent_on, in_flight, MayFollow, WellFormed}
+use Rattle.fbl_law.proofs.Common.{At-front, At-filter_map, WellFormed-keeps, is_sent, in_flight-send, in_flight-receipt, last_taken, append-nil, Send, Receipt, Apart, Apart-later, filter_all}
+use Rattle.fbl_law.proofs.Common.{sent-rises}
 use Rattle.fbl_law.proofs.Lists.{filter-passes}
 
 -- what was sent stays what was taken and then what is in flight, where the first one is taken

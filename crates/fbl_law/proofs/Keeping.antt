@@ -1,11 +1,8 @@
 -- What every step keeps that leaves up members what they were holders of.
-use Rattle.fbl_law.proofs.Common.{◌≡◌, ℕ, zero, suc, ◌≤◌, length, List, inl, inr, arith, subst, refl, Contains, Determinant}
-use Rattle.fbl_law.proofs.Common.{Mark, member_of, receipt_of, Has, Precedes, Has-last, some_outside, Entry}
-use Rattle.fbl_law.proofs.Common.{piggybacked, Message, Includes, Knowledge, Store, in_table, in_message, in_checkpoint, owner, entries, table, checkpoint}
-use Rattle.fbl_law.proofs.Common.{IsThere, Owes, IsUp, Names, Holds, IsRecorded}
-use Rattle.fbl_law.proofs.Common.{IsHolder, IsStable, IsTrueEntry, NamesCauses, IsDownEmpty, IsBeforeCheckpoint, IsCheckpointKept, IsSoundKnowledge, MatchesTrace, WellFormed}
-use Rattle.fbl_law.proofs.Common.{receipts_of, sends_of, sent-number}
-use Rattle.fbl_base.specs.declared.trace.Mark.TheVariants.{Send, Receipt}
+use Rattle.fbl_law.proofs.Common.{◌≡◌, ℕ, zero, suc, ◌≤◌, length, List, inl, inr, arith, subst, refl, Contains, Determinant, Mark, member_of, receipt_of, Has, Precedes, Has-last}
+use Rattle.fbl_law.proofs.Common.{some_outside, Entry, piggybacked, Message, Includes, Knowledge, Store, in_table, in_message, in_checkpoint, owner, entries, table, checkpoint, IsThere, Owes, IsUp}
+use Rattle.fbl_law.proofs.Common.{Names, Holds, IsRecorded, IsHolder, IsStable, IsTrueEntry, NamesCauses, IsDownEmpty, IsBeforeCheckpoint, IsCheckpointKept, IsSoundKnowledge, MatchesTrace, WellFormed}
+use Rattle.fbl_law.proofs.Common.{receipts_of, sends_of, sent-number, Send, Receipt}
 use Rattle.fbl_law.proofs.Numbered.{receipt-there, send-there, receipt-number}
 use Rattle.fbl_law.proofs.Safe.{down_or_up, up_at_ends, IsRecorded-before, IsRecorded-reached, recorded_holder}
 use Rattle.fbl_law.proofs.Tables.{Contains-piggybacked, passed_or_known}

@@ -1,19 +1,13 @@
 -- What the log of a fold has.
-use Rattle.fbl_law.proofs.Common.{◌≡◌, ℕ, zero, suc, ◌+◌, ◌<◌, ◌≤◌, ◌==◌, cond, List, [], ◌∷◌, ◌++◌, length, take, drop, map, Option, Some, None, refl}
-use Rattle.fbl_law.proofs.Common.{sym, ap, ◌∙◌, arith, append_assoc, length-append, inl, inr, filter_map, fold, zero-add, cases_eq, nat_tests, map-append, take-append-drop}
-use Rattle.fbl_law.proofs.Common.{filter_map-append, sum_by-cons, Note, Start, Event, mark_of, is_send_of, is_receipt_of, sends_of, receipts_of, WellFormed, Next, Logged, Progress, Action}
-use Rattle.fbl_law.proofs.Common.{took, sent, numbered, starts_of, begun, advanced, after_notes, action_of, actions_of, notes_of, note_of, responses, Lawful, sends-step, receipts-step}
-use Rattle.fbl_law.proofs.Common.{eqb-self, logged_note, length-numbered, received_notes, slice_get, Mark, MemberRecord, IsReplayed}
-use Rattle.std.proofs.lemmas.List.{append-nil}
-use Rattle.std.proofs.lemmas.List.Sums.{fold-append}
-use Rattle.fbl_base.specs.declared.trace.Event.TheVariants.{Send, Receipt}
+use Rattle.fbl_law.proofs.Common.{◌≡◌, ℕ, zero, suc, ◌+◌, ◌<◌, ◌≤◌, ◌==◌, cond, List, [], ◌∷◌, ◌++◌, length, take, drop, map, Option, Some, None, refl, sym, ap}
+use Rattle.fbl_law.proofs.Common.{◌∙◌, arith, append_assoc, length-append, inl, inr, filter_map, fold, zero-add, cases_eq, nat_tests, map-append, take-append-drop, filter_map-append}
+use Rattle.fbl_law.proofs.Common.{sum_by-cons, Note, Start, Event, mark_of, is_send_of, is_receipt_of, sends_of, receipts_of, WellFormed, Next, Logged, Progress, Action, took, sent, numbered}
+use Rattle.fbl_law.proofs.Common.{starts_of, begun, advanced, after_notes, action_of, actions_of, notes_of, note_of, responses, Lawful, sends-step, receipts-step, eqb-self, logged_note}
+use Rattle.fbl_law.proofs.Common.{length-numbered, received_notes, slice_get, Mark, MemberRecord, IsReplayed, append-nil, fold-append, numbered-append, take-more, progress_of, take-map}
 use Rattle.fbl_base.specs.declared.trace.Mark.TheVariants as mark
-use Rattle.fbl_member.proofs.Logs.{numbered-append}
+use Rattle.fbl_base.specs.declared.trace.Event.TheVariants.{Send, Receipt}
 use Rattle.fbl_law.proofs.Appended.{MayFollow-seam}
-use Rattle.fbl_base.proofs.Gets.{take-more}
-use Rattle.fbl_member.specs.Members.{progress_of}
 use Rattle.fbl_law.proofs.Notes.{mark-at}
-use Rattle.std.proofs.lemmas.List.{take-map}
 
 -- the sends among a member's actions
 abbrev pub sends_in : List Action → List (ℕ × Note)

@@ -1,9 +1,7 @@
 -- Replay never gets stuck.
-use Rattle.fbl_law.proofs.Common.{ℕ, zero, suc, ◌<◌, ◌≤◌, List, inl, inr, arith, subst, cases_lt, Determinant, Mark, At, receipt_of, WellFormed, sent-before, IsSentAgain}
-use Rattle.fbl_law.proofs.Common.{IsStuck, one_place}
-use Rattle.fbl_base.specs.declared.trace.Mark.TheVariants.{Send}
+use Rattle.fbl_law.proofs.Common.{ℕ, zero, suc, ◌<◌, ◌≤◌, List, inl, inr, arith, subst, cases_lt, Determinant, Mark, At, receipt_of, WellFormed, sent-before, IsSentAgain, IsStuck}
+use Rattle.fbl_law.proofs.Common.{one_place, Send, NeverStuck}
 use Rattle.fbl_law.proofs.Receipts.{at-most-before}
-use Rattle.fbl_law.specs.Laws.{NeverStuck}
 
 module _ (n : ℕ) (t : List Mark) (done : ℕ → ℕ) (obeys : WellFormed n t) (stuck : IsStuck t done) where
   abbrev DoneBefore : ℕ → Type 0

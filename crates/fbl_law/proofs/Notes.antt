@@ -1,9 +1,8 @@
 -- The notes of a trace's messages.
-use Rattle.fbl_law.proofs.Common.{◌≡◌, ℕ, suc, ◌<◌, ◌==◌, ◌&&◌, inl, inr, List, [], ◌∷◌, take, map, Some, slice_get, refl, ap, ◌∙◌, arith, cases_Bool}
-use Rattle.fbl_law.proofs.Common.{cases_order, nat_tests, slice_get-map, Note, Event, Mark, At, mark_of, Has, WellFormed, note_of, slice_get-take, map-At, WellFormed-take, sent-number}
-use Rattle.fbl_base.specs.declared.trace.Event.TheVariants.{Send, Receipt}
+use Rattle.fbl_law.proofs.Common.{◌≡◌, ℕ, suc, ◌<◌, ◌==◌, ◌&&◌, inl, inr, List, [], ◌∷◌, take, map, Some, slice_get, refl, ap, ◌∙◌, arith, cases_Bool, cases_order}
+use Rattle.fbl_law.proofs.Common.{nat_tests, slice_get-map, Note, Event, Mark, At, mark_of, Has, WellFormed, note_of, slice_get-take, map-At, WellFormed-take, sent-number, sent-note}
 use Rattle.fbl_base.specs.declared.trace.Mark.TheVariants as mark
-use Rattle.fbl_base.proofs.LawfulLaws.{sent-note}
+use Rattle.fbl_base.specs.declared.trace.Event.TheVariants.{Send, Receipt}
 
 -- a note that the trace names was sent
 pub noted-sent : (t : List Event) (q k : ℕ) (x : Note) → note_of t q k ≡ Some x → (i : ℕ) × (to : ℕ) × (slice_get t i ≡ Some (Send q k to x))

@@ -1,11 +1,7 @@
 -- The numbers of a member's events in a trace.
-use Rattle.fbl_law.proofs.Common.{◌-◌, ◌≡◌, ℕ, ◌<◌, ◌≤◌, Bool, cond, List, [], ◌∷◌, ◌++◌, take, length, inl, inr, count_by, ap, arith, cases_eq, cases_lt}
-use Rattle.fbl_law.proofs.Common.{nat_tests, sum_by-append, Mark, Has, is_send_of, is_receipt_of, sends_of, receipts_of, MayFollow, WellFormed, WellFormed-keeps, sends-step, eqb-self}
-use Rattle.fbl_law.proofs.Common.{At-front, Knowledge, IsBeforeCheckpoint, IsCheckpointKept, receipts_at}
-use Rattle.std.proofs.Math.Seq.{take-append-add}
-use Rattle.fbl_base.specs.declared.trace.Mark.TheVariants.{Send, Receipt}
-use Rattle.fbl_base.proofs.RulesLaws.{count_at}
-use Rattle.fbl_base.proofs.Gets.{At-new}
+use Rattle.fbl_law.proofs.Common.{◌-◌, ◌≡◌, ℕ, ◌<◌, ◌≤◌, Bool, cond, List, [], ◌∷◌, ◌++◌, take, length, inl, inr, count_by, ap, arith, cases_eq, cases_lt, nat_tests}
+use Rattle.fbl_law.proofs.Common.{sum_by-append, Mark, Has, is_send_of, is_receipt_of, sends_of, receipts_of, MayFollow, WellFormed, WellFormed-keeps, sends-step, eqb-self, At-front, Knowledge}
+use Rattle.fbl_law.proofs.Common.{IsBeforeCheckpoint, IsCheckpointKept, receipts_at, take-append-add, Send, Receipt, count_at, At-new}
 use Rattle.fbl_law.proofs.Lists.{At-behind, some-at}
 use Rattle.fbl_law.proofs.Receipts.{receipts_at-number, receipts_at-Has, length-receipts_at}
 

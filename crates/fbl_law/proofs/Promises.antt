@@ -1,10 +1,7 @@
 -- What soundness promises.
-use Rattle.fbl_law.proofs.Common.{◌≡◌, ℕ, inl, inr, arith, take, cases_order, At, receipt_of, itself, step, slice_get-take, some_outside}
-use Rattle.fbl_law.proofs.Common.{WellFormed-take, in_table, IsUp, IsHolder, member, knowledge}
-use Rattle.fbl_base.specs.declared.trace.Mark.TheVariants.{Receipt}
-use Rattle.fbl_law.specs.Promises.{IsHeldBy}
-use Rattle.fbl_law.specs.Laws.{ClosedRecordsFirst, AnySurvivorsHold}
-use Rattle.fbl_law.specs.Headline.{SoundHoldsEachReceipt, SoundIsAlwaysHeld, SoundHasNoOrphan, NoSurvivorIsOrphan, SoundSurvivorsHold, SoundRecordsFirst}
+use Rattle.fbl_law.proofs.Common.{◌≡◌, ℕ, inl, inr, arith, take, cases_order, At, receipt_of, itself, step, slice_get-take, some_outside, WellFormed-take, in_table, IsUp, IsHolder, member}
+use Rattle.fbl_law.proofs.Common.{knowledge, Receipt, IsHeldBy, ClosedRecordsFirst, AnySurvivorsHold, SoundRecordsFirst}
+use Rattle.fbl_law.specs.Headline.{SoundHoldsEachReceipt, SoundIsAlwaysHeld, SoundHasNoOrphan, NoSurvivorIsOrphan, SoundSurvivorsHold}
 use Rattle.fbl_law.proofs.Tables.{held-Names}
 use Rattle.fbl_law.proofs.Numbered.{receipt-number}
 use Rattle.fbl_law.proofs.Safe.{down_or_up, never_both, up_if_none, no_orphan, IsRecorded-before, Has-recorded}

@@ -1,13 +1,10 @@
 -- A member's receipts in a trace, in order.
-use Rattle.fbl_law.proofs.Common.{◌≡◌, ℕ, suc, ◌+◌, ◌≤◌, ◌==◌, inl, inr, true, cond, List, [], ◌∷◌, ◌++◌, length, map, Option, Some, slice_get, refl, ap}
-use Rattle.fbl_law.proofs.Common.{◌∙◌, arith, take, drop, ◌<◌, length-take, filter_map, fold, cases_lt, nat_tests, length-map, take-append-drop, sum_by-cons, slice_get-map}
-use Rattle.fbl_law.proofs.Common.{Determinant, Note, Event, Mark, At, mark_of, determinant_of, receipt_of, Has, is_receipt_of, receipts_of, taken_on, WellFormed, action_of, notes_of}
-use Rattle.fbl_law.proofs.Common.{note_of, At-front, At-below, filter_map-At, At-filter, At-filter_map, WellFormed-take, receipts-noted, received_notes, last_taken, receipts_at, last_among}
-use Rattle.fbl_law.proofs.Common.{is_receipt, MayFollow, WellFormed-keeps, filter-append, filter_map-append, cases_Bool}
+use Rattle.fbl_law.proofs.Common.{◌≡◌, ℕ, suc, ◌+◌, ◌≤◌, ◌==◌, inl, inr, true, cond, List, [], ◌∷◌, ◌++◌, length, map, Option, Some, slice_get, refl, ap, ◌∙◌}
+use Rattle.fbl_law.proofs.Common.{arith, take, drop, ◌<◌, length-take, filter_map, fold, cases_lt, nat_tests, length-map, take-append-drop, sum_by-cons, slice_get-map, Determinant, Note, Event}
+use Rattle.fbl_law.proofs.Common.{Mark, At, mark_of, determinant_of, receipt_of, Has, is_receipt_of, receipts_of, taken_on, WellFormed, action_of, notes_of, note_of, At-front, At-below, filter_map-At}
+use Rattle.fbl_law.proofs.Common.{At-filter, At-filter_map, WellFormed-take, receipts-noted, received_notes, last_taken, receipts_at, last_among, is_receipt, MayFollow, WellFormed-keeps}
+use Rattle.fbl_law.proofs.Common.{filter-append, filter_map-append, cases_Bool, Send, Receipt, At-push, append-nil}
 use Rattle.fbl_base.specs.declared.trace.Event.TheVariants as event
-use Rattle.fbl_base.specs.declared.trace.Mark.TheVariants.{Send, Receipt}
-use Rattle.fbl_base.proofs.Gets.{At-push}
-use Rattle.std.proofs.lemmas.List.{append-nil}
 use Rattle.fbl_law.proofs.Lists.{some-at, filter-At, filter-passes}
 
 -- how many they are

@@ -1,16 +1,13 @@
 -- A recovery keeps knowledge sound.
-use Rattle.fbl_law.proofs.Common.{List, ◌≡◌, ℕ, ◌↔◌, Bool, true, inl, inr, refl, sym, ap, ◌∙◌, Some, filter, Determinant}
-use Rattle.fbl_law.proofs.Common.{Mark, member_of, send_of, receipt_of, Has, Earlier, Leads, Precedes, itself, step, WellFormed, sent_on, taken_on, is_sent}
-use Rattle.fbl_law.proofs.Common.{Has-first, Message, Knowledge, Store, in_table, in_message, in_checkpoint, IsThere, table, IsInFlight, IsDown, IsUp, Names, Holds}
-use Rattle.fbl_law.proofs.Common.{IsRecorded, IsHolder, IsClosed, MatchesTrace, IsSoundKnowledge, NamesCauses, Stays, IsCut, IsRecovered}
-use Rattle.fbl_base.specs.declared.trace.Mark.TheVariants.{Send, Receipt}
-use Rattle.fbl_base.proofs.PrecedenceLaws.{Has-filter, Precedes-filter}
+use Rattle.fbl_law.proofs.Common.{List, ◌≡◌, ℕ, ◌↔◌, Bool, true, inl, inr, refl, sym, ap, ◌∙◌, Some, filter, Determinant, Mark, member_of, send_of, receipt_of, Has, Earlier, Leads}
+use Rattle.fbl_law.proofs.Common.{Precedes, itself, step, WellFormed, sent_on, taken_on, is_sent, Has-first, Message, Knowledge, Store, in_table, in_message, in_checkpoint, IsThere, table, IsInFlight}
+use Rattle.fbl_law.proofs.Common.{IsDown, IsUp, Names, Holds, IsRecorded, IsHolder, IsClosed, MatchesTrace, IsSoundKnowledge, NamesCauses, Stays, IsCut, IsRecovered, Send, Receipt, Has-filter}
+use Rattle.fbl_law.proofs.Common.{Precedes-filter}
 use Rattle.fbl_law.proofs.CutLawful.{KeepsCauses, Has-before, WellFormed-kept, map-kept, taken_at}
 use Rattle.fbl_law.proofs.Lists.{filter-passes, filter-At}
 use Rattle.fbl_law.proofs.Appended.{Earlier-joined}
 use Rattle.fbl_law.proofs.GatheredTables.{entries_gathered, gathered_recorded, recorded_gathered}
-use Rattle.fbl_law.proofs.Safe.{down_or_up, down_or_both_up, never_both, nobody_down_empty, up_if_none, IsRecorded-depended, IsRecorded-before}
-use Rattle.fbl_law.proofs.Safe.{Has-recorded}
+use Rattle.fbl_law.proofs.Safe.{down_or_up, down_or_both_up, never_both, nobody_down_empty, up_if_none, IsRecorded-depended, IsRecorded-before, Has-recorded}
 use Rattle.fbl_law.proofs.Keeping.{KeepsKnowledge, IsSoundAt, sound_kept, sound_passed, checkpoint_kept, sound_after}
 
 -- an event with a send of its own is a receipt

@@ -1,14 +1,10 @@
 -- How the members that are down replay what the survivors have recorded, and from there to a recovery.
-use Rattle.fbl_law.proofs.Common.{◌≡◌, ℕ, suc, ◌+◌, ◌-◌, ◌<◌, ◌≤◌, ◌⊎◌, inl, inr, List, [], ◌∷◌, length, map, Some, slice_get, refl, sym, subst, ap}
-use Rattle.fbl_law.proofs.Common.{◌∙◌, arith, slice_set, length-append, cases_Bool, cases_lt, cases_eq, nat_tests, length-map, length-set, get_or-set_same, get_or-set_other}
-use Rattle.fbl_law.proofs.Common.{count_by-le-length, slice_get_within, slice_index_or, filter, Determinant, Note, mark_of, receipt_of, Has, is_receipt_of, is_send_of, WellFormed, Next}
-use Rattle.fbl_law.proofs.Common.{Lawful, numbered, sent-before, Entry, found, MemberRecord, blank, logged_note, replayed_by, length-numbered, Names, IsDown, Stays, IsEventCut}
-use Rattle.fbl_law.proofs.Common.{recovery_table, GroupRecord, member_checkpoint, channel, knowledge, receipts, receipts_at, IsReplayed, IsFold, IsSound, IsRecovery, IsMadeAgain}
-use Rattle.fbl_law.proofs.Common.{IsSentAgain, IsStuck, IsNextReplay, recovered_trace, stays_by, Bool, true, false, cond, zero}
-use Rattle.fbl_base.specs.declared.trace.Mark.TheVariants.{Send}
-use Rattle.fbl_table.specs.Tables.{is_of_receipt}
-use Rattle.fbl_law.specs.Replaying.{is_replayed, working, IsReplaying, IsWaiting, replayed_in, IsRebuilt}
-use Rattle.std.specs.List.{find}
+use Rattle.fbl_law.proofs.Common.{◌≡◌, ℕ, suc, ◌+◌, ◌-◌, ◌<◌, ◌≤◌, ◌⊎◌, inl, inr, List, [], ◌∷◌, length, map, Some, slice_get, refl, sym, subst, ap, ◌∙◌}
+use Rattle.fbl_law.proofs.Common.{arith, slice_set, length-append, cases_Bool, cases_lt, cases_eq, nat_tests, length-map, length-set, get_or-set_same, get_or-set_other, count_by-le-length}
+use Rattle.fbl_law.proofs.Common.{slice_get_within, slice_index_or, filter, Determinant, Note, mark_of, receipt_of, Has, is_receipt_of, is_send_of, WellFormed, Next, Lawful, numbered, sent-before}
+use Rattle.fbl_law.proofs.Common.{Entry, found, MemberRecord, blank, logged_note, replayed_by, length-numbered, Names, IsDown, Stays, IsEventCut, recovery_table, GroupRecord, member_checkpoint}
+use Rattle.fbl_law.proofs.Common.{channel, knowledge, receipts, receipts_at, IsReplayed, IsFold, IsSound, IsRecovery, IsMadeAgain, IsSentAgain, IsStuck, IsNextReplay, recovered_trace, stays_by, Bool}
+use Rattle.fbl_law.proofs.Common.{true, false, cond, zero, Send, is_of_receipt, is_replayed, working, IsReplaying, IsWaiting, replayed_in, IsRebuilt, find}
 use Rattle.fbl_law.proofs.Lists.{Contains-here, Contains-there, Contains-place}
 use Rattle.fbl_law.proofs.Safe.{down_or_up}
 use Rattle.fbl_law.proofs.GatheredTables.{gathered_recorded, recorded_gathered}

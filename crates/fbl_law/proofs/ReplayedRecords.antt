@@ -1,11 +1,8 @@
 -- A member that replays its receipts one after the other.
-use Rattle.fbl_law.proofs.Common.{◌≡◌, ℕ, zero, suc, ◌≤◌, ◌==◌, cond, List, length, take, map, Some, slice_get, refl, sym, ap, ◌∙◌, arith, nat_tests, take_all}
-use Rattle.fbl_law.proofs.Common.{length-set, get_or-set_same, get_or-set_other, slice_get_within, Determinant, Note, Start, Event, mark_of, receipt_of, Has, WellFormed, Next, Progress}
-use Rattle.fbl_law.proofs.Common.{advanced, begun, after_notes, note_of, receipts-noted, Entry, MemberRecord, fresh, replayed_by, GroupRecord, member, marks, received_notes, IsFold}
-use Rattle.fbl_law.proofs.Common.{receipts_at, IsReplayed}
-use Rattle.std.proofs.lemmas.List.{length-replicate, get_or-replicate}
-use Rattle.fbl_base.proofs.Gets.{take-more}
-use Rattle.fbl_table.proofs.Adding.{fold_next}
+use Rattle.fbl_law.proofs.Common.{◌≡◌, ℕ, zero, suc, ◌≤◌, ◌==◌, cond, List, length, take, map, Some, slice_get, refl, sym, ap, ◌∙◌, arith, nat_tests, take_all, length-set}
+use Rattle.fbl_law.proofs.Common.{get_or-set_same, get_or-set_other, slice_get_within, Determinant, Note, Start, Event, mark_of, receipt_of, Has, WellFormed, Next, Progress, advanced, begun}
+use Rattle.fbl_law.proofs.Common.{after_notes, note_of, receipts-noted, Entry, MemberRecord, fresh, replayed_by, GroupRecord, member, marks, received_notes, IsFold, receipts_at, IsReplayed}
+use Rattle.fbl_law.proofs.Common.{length-replicate, get_or-replicate, take-more, fold_next}
 use Rattle.fbl_law.proofs.Lists.{some-at}
 use Rattle.fbl_law.proofs.Logs.{received-fold}
 use Rattle.fbl_law.proofs.Notes.{receipt-at}

@@ -1,6 +1,5 @@
 -- What every run keeps.
-use Rattle.fbl_law.proofs.Common.{arith, [], Has-first, Contains, Entry, Store, IsThere, entries, in_table, in_message, in_checkpoint, starts}
-use Rattle.fbl_law.specs.Run.{delivers, strikes, checkpoints, recovers}
+use Rattle.fbl_law.proofs.Common.{arith, [], Has-first, Contains, Entry, Store, IsThere, entries, in_table, in_message, in_checkpoint, starts, delivers, strikes, checkpoints, recovers}
 use Rattle.fbl_law.specs.Laws.{RunIsSound, RunIsHeld}
 use Rattle.fbl_law.proofs.Lists.{Contains-none}
 use Rattle.fbl_law.proofs.Safe.{no_orphan, nobody_down_empty}

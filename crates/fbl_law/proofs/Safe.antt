@@ -1,10 +1,8 @@
 -- What a closed record promises.
 use Rattle.fbl_law.proofs.Common.{List, ◌≡◌, ℕ, false, [], inl, inr, ◌⊎◌, arith, subst, refl, nat_cmp, Contains, cases_Bool, Members, Determinant, Mark, Has, Precedes, Depends}
-use Rattle.fbl_law.proofs.Common.{member_of, receipt_of, some_member, IsTrueEntry, in_table, in_checkpoint, IsHolder, Includes, Knowledge, table, checkpoint, IsUp, IsDown, Names}
-use Rattle.fbl_law.proofs.Common.{IsRecorded, IsStable, KnowsTruth, IsBeforeCheckpoint, IsClosed, IsDownEmpty, Message, Entry}
+use Rattle.fbl_law.proofs.Common.{member_of, receipt_of, some_member, IsTrueEntry, in_table, in_checkpoint, IsHolder, Includes, Knowledge, table, checkpoint, IsUp, IsDown, Names, IsRecorded, IsStable}
+use Rattle.fbl_law.proofs.Common.{KnowsTruth, IsBeforeCheckpoint, IsClosed, IsDownEmpty, Message, Entry, IsOrphan, RecordsCauses}
 use Rattle.std.specs.FinSet as set
-use Rattle.fbl_law.specs.Knowledge.{IsOrphan}
-use Rattle.fbl_law.specs.Promises.{RecordsCauses}
 use Rattle.fbl_law.proofs.Lists.{Contains-none}
 
 -- a set has a member or has not

@@ -1,6 +1,5 @@
 -- A strike keeps knowledge sound.
-use Rattle.fbl_law.proofs.Common.{ℕ, ◌≤◌, ◌≡◌, false, inl, inr, refl, Members, Knowledge, Store, in_table, in_message, in_checkpoint, IsThere, IsUp}
-use Rattle.fbl_law.proofs.Common.{IsSoundKnowledge, IsStruck}
+use Rattle.fbl_law.proofs.Common.{ℕ, ◌≤◌, ◌≡◌, false, inl, inr, refl, Members, Knowledge, Store, in_table, in_message, in_checkpoint, IsThere, IsUp, IsSoundKnowledge, IsStruck}
 use Rattle.std.specs.FinSet as set
 use Rattle.fbl_law.proofs.Tables.{Includes-left}
 use Rattle.fbl_law.proofs.Safe.{down_or_up, never_both, up_at_ends}

@@ -1,15 +1,10 @@
 -- What tables name after they have learned.
-use Rattle.fbl_law.proofs.Common.{◌≡◌, ℕ, ◌<◌, ◌||◌, arith, length, get_or, true, false, List, [], ◌∷◌, inl, inr, ◌⊎◌, map, sym, ◌∙◌}
-use Rattle.fbl_law.proofs.Common.{Contains, nat_le, nat_cmp, cases_Bool, false_from_ne_true, cases_eq, cases_lt, or_cases, or_left, or_right, get_or_past, Any-from_list_any}
-use Rattle.fbl_law.proofs.Common.{Determinant, same_determinant, contains-insert_other, Members, Decides-same_determinant, Entry, MemberRecord, blank, Includes, Names}
-use Rattle.fbl_law.proofs.Common.{is_held, gathered, learned, piggybacked, ◌↔◌, All, All-head, All-tail}
-use Rattle.std.specs.Cmp.{nat_cmp_total}
+use Rattle.fbl_law.proofs.Common.{◌≡◌, ℕ, ◌<◌, ◌||◌, arith, length, get_or, true, false, List, [], ◌∷◌, inl, inr, ◌⊎◌, map, sym, ◌∙◌, Contains, nat_le, nat_cmp}
+use Rattle.fbl_law.proofs.Common.{cases_Bool, false_from_ne_true, cases_eq, cases_lt, or_cases, or_left, or_right, get_or_past, Any-from_list_any, Determinant, same_determinant, contains-insert_other}
+use Rattle.fbl_law.proofs.Common.{Members, Decides-same_determinant, Entry, MemberRecord, blank, Includes, Names, is_held, gathered, learned, piggybacked, ◌↔◌, All, All-head, All-tail}
+use Rattle.fbl_law.proofs.Common.{nat_cmp_total, leb_tells, list_any-append, list_any-from_Any, All-cons, All-contains_itself, All-map, All-weaker, held-carried, held-gathered, held_by, noted}
 use Rattle.std.specs.FinSet as set
-use Rattle.std.proofs.lemmas.Bool.Decides.{leb_tells}
-use Rattle.std.proofs.lemmas.List.Folds.{list_any-append, list_any-from_Any}
-use Rattle.std.proofs.lemmas.List.Elements.{All-cons, All-contains_itself, All-map, All-weaker}
-use Rattle.fbl_table.proofs.Adding.{held-carried, held-gathered}
-use Rattle.fbl_table.specs.Tables.{added, held_by, noted}
+use Rattle.fbl_table.specs.Tables.{added}
 use Rattle.fbl_law.proofs.Safe.{never_both}
 use Rattle.fbl_law.proofs.Lists.{Contains-none, Contains-filter, Contains-from_filter}
 

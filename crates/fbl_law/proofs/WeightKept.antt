@@ -1,20 +1,14 @@
 -- What the step keeps of a weight, the group keeps.
-use Rattle.fbl_law.proofs.Common.{◌≡◌, ℕ, zero, suc, ◌+◌, ◌<◌, ◌≤◌, ◌==◌, cond, List, [], ◌∷◌, ◌++◌, inl, inr, map, Option, Some, None, slice_get, refl}
-use Rattle.fbl_law.proofs.Common.{sym, ap, ◌∙◌, arith, nat_lt, All, filter_map, fold, nat_tests, All-head, All-tail, sum_by-cons, sum_by-append, Note, Event, Mark, mark_of, WellFormed}
-use Rattle.fbl_law.proofs.Common.{MayFollow, in_flight, Next, Action, took, sent, action_of, actions_of, note_of, responses, starts_of, in_flight-send, in_flight-receipt, receipts-noted}
-use Rattle.fbl_law.proofs.Common.{WellFormed-keeps, Message, send_mark, IsUp, StepKeeps, HoldsFirst, GroupRecord, member, channel, marks, knowledge, sum_below, IsSound, received_notes}
-use Rattle.std.specs.Prelude.{sum_by}
-use Rattle.std.specs.Option.{option_map_or}
+use Rattle.fbl_law.proofs.Common.{◌≡◌, ℕ, zero, suc, ◌+◌, ◌<◌, ◌≤◌, ◌==◌, cond, List, [], ◌∷◌, ◌++◌, inl, inr, map, Option, Some, None, slice_get, refl, sym, ap}
+use Rattle.fbl_law.proofs.Common.{◌∙◌, arith, nat_lt, All, filter_map, fold, nat_tests, All-head, All-tail, sum_by-cons, sum_by-append, Note, Event, Mark, mark_of, WellFormed, MayFollow}
+use Rattle.fbl_law.proofs.Common.{in_flight, Next, Action, took, sent, action_of, actions_of, note_of, responses, starts_of, in_flight-send, in_flight-receipt, receipts-noted, WellFormed-keeps}
+use Rattle.fbl_law.proofs.Common.{Message, send_mark, IsUp, StepKeeps, HoldsFirst, GroupRecord, member, channel, marks, knowledge, sum_below, IsSound, received_notes, sum_by, option_map_or, fold-map}
+use Rattle.fbl_law.proofs.Common.{sum_by_push, sum_by-drop_more, get_or_from_slice_get, slice_get_within, StepMakesNone, StepLosesNone, StepConserves, weight_after, weight_flying, weight_of}
+use Rattle.fbl_law.proofs.Common.{weight_of_starts, WeighsNoMore, WeighsNoLess, WeighsTheSame, messages_in_flight, nil_from_length}
 use Rattle.std.specs.FinSet as set
-use Rattle.std.proofs.lemmas.List.Folds.{fold-map}
-use Rattle.std.proofs.lemmas.List.Sums.{sum_by_push, sum_by-drop_more}
-use Rattle.std.proofs.lemmas.Option.{get_or_from_slice_get, slice_get_within}
-use Rattle.fbl_base.specs.declared.trace.Event.TheVariants.{Send, Receipt}
 use Rattle.fbl_base.specs.declared.trace.Mark.TheVariants as mark
-use Rattle.fbl_law.specs.StepLaws.{StepMakesNone, StepLosesNone, StepConserves, weight_after, weight_flying, weight_of, weight_of_starts, WeighsNoMore, WeighsNoLess, WeighsTheSame}
-use Rattle.fbl_law.specs.Groups.{messages_in_flight}
+use Rattle.fbl_base.specs.declared.trace.Event.TheVariants.{Send, Receipt}
 use Rattle.fbl_law.proofs.GroupFacts.{up_state, channel_ends}
-use Rattle.std.proofs.lemmas.List.{nil_from_length}
 use Rattle.fbl_law.proofs.Lists.{Contains-at}
 use Rattle.fbl_law.proofs.Safe.{down_or_up, down_or_both_up, up_if_none}
 use Rattle.fbl_law.proofs.KeptByStep.{Came, all-came}

@@ -1,19 +1,8 @@
 -- Logs of sends, which are numbered from 1.
-use Rattle.fbl_member.proofs.Common.{◌≡◌, ℕ, ◌+◌, ◌<◌, ◌≤◌, ◌==◌, ◌&&◌, nat_lt, cond, List, [], ◌∷◌, ◌++◌, map, Some, refl, sym, ap, ◌∙◌, arith}
-use Rattle.fbl_member.proofs.Common.{take, length, nat_tests, numbered, starts_of, Entry, messages_from, logged_beyond}
-use Rattle.std.proofs.Common.{zero, suc, if◌then◌else◌, Option, None, slice_get, slice_set, unwrap_or, IfSome, Bor}
-use Rattle.std.proofs.lemmas.List.{length-append, map-append, length-take-le}
-use Rattle.std.proofs.lemmas.List.Elements.{filter-append, filter_map-append}
-use Rattle.std.proofs.Math.ListN.{length-set}
-use Rattle.std.proofs.lemmas.Option.{slice_get_past}
-use Rattle.std.specs.Option.{option_map, option_copied}
-use Rattle.fbl_base.proofs.Sifted.{length-filter_map}
-use Rattle.fbl_base.specs.declared.trace.Note.{Note}
-use Rattle.fbl_base.specs.declared.trace.Start.{Start}
-use Rattle.fbl_base.specs.Fold.{Logged}
-use Rattle.fbl_table.proofs.Adding.{take-next}
-use Rattle.fbl_member.specs.Members.{Message, MemberRecord, logged_note}
-use Rattle.fbl_member.specs.Kept.{without_number, IsKept}
+use Rattle.fbl_member.proofs.Common.{◌≡◌, ℕ, ◌+◌, ◌<◌, ◌≤◌, ◌==◌, ◌&&◌, nat_lt, cond, List, [], ◌∷◌, ◌++◌, map, Some, refl, sym, ap, ◌∙◌, arith, take}
+use Rattle.fbl_member.proofs.Common.{length, nat_tests, numbered, starts_of, Entry, messages_from, logged_beyond, zero, suc, if◌then◌else◌, Option, None, slice_get, slice_set, unwrap_or, IfSome}
+use Rattle.fbl_member.proofs.Common.{Bor, length-append, map-append, length-take-le, filter-append, filter_map-append, length-set, slice_get_past, option_map, option_copied, length-filter_map, Note}
+use Rattle.fbl_member.proofs.Common.{Start, Logged, take-next, Message, MemberRecord, logged_note, without_number, IsKept}
 
 pub length-numbered : (before : ℕ) (sends : List (ℕ × Note)) → length (numbered before sends) ≡ length sends
 length-numbered before [] = refl

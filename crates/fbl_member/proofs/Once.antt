@@ -1,9 +1,6 @@
 -- What a table passes on has no determinant twice.
-use Rattle.fbl_member.proofs.Common.{◌≡◌, true, false, cond, List, [], ◌∷◌, map, Determinant, Entry, piggybacked}
-use Rattle.std.specs.List.{AllByRecursion, IsDistinct}
-use Rattle.fbl_base.specs.Events.{same_determinant}
-use Rattle.fbl_table.specs.Tables.{is_open}
-use Rattle.fbl_member.specs.Carried.{IsOnce}
+use Rattle.fbl_member.proofs.Common.{◌≡◌, true, false, cond, List, [], ◌∷◌, map, Determinant, Entry, piggybacked, AllByRecursion, same_determinant, is_open, IsOnce}
+use Rattle.std.specs.List.{IsDistinct}
 
 module _ (f : _) where
   -- what holds of each determinant of a table holds of each that it passes on

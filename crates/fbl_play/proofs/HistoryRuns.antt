@@ -1,17 +1,10 @@
 -- A history goes on by one command.
-use Rattle.fbl_play.proofs.Common.{◌≡◌, ℕ, ◌<◌, ◌≤◌, ◌+◌, inl, inr, List, [], ◌∷◌, ◌++◌, length, take, get_or, refl, ap, Some, None, Result, Ok, Err}
-use Rattle.fbl_play.proofs.Common.{take_all, IsErrAnd, Settings, Next, Account, RunFault, GroupRecord, IsGroupStart, IsSound, Command, Drains, Step, IsTold}
-use Rattle.fbl_group.specs.Checkpoints.{checkpoint_refusal}
-use Rattle.fbl_group.specs.Deliveries.{deliver_refusal}
-use Rattle.fbl_group.specs.Strikes.{strike_refusal}
-use Rattle.fbl_history.specs.declared.column.Column.{Column}
-use Rattle.fbl_history.specs.Traces.{trace_columns}
+use Rattle.fbl_play.proofs.Common.{◌≡◌, ℕ, ◌<◌, ◌≤◌, ◌+◌, inl, inr, List, [], ◌∷◌, ◌++◌, length, take, get_or, refl, ap, Some, None, Result, Ok, Err, take_all}
+use Rattle.fbl_play.proofs.Common.{IsErrAnd, Settings, Next, Account, RunFault, GroupRecord, IsGroupStart, IsSound, Command, Drains, Step, IsTold, checkpoint_refusal, deliver_refusal, strike_refusal}
+use Rattle.fbl_play.proofs.Common.{Column, trace_columns, ColumnsStep, HistoryStep, HistoryRun, HistoryTells, HistoryTellsOn, IsHistoryOfBytes, RunHistory, DeliveryBy, StrikeBy, CheckpointBy}
 use Rattle.fbl_input.specs.declared.fault.RunFault.TheVariants as faults
 use Rattle.fbl_script.specs.declared.script.Command.TheVariants as commands
 use Rattle.fbl_play.proofs.Steps.{along_next}
-use Rattle.fbl_play.specs.Histories.{ColumnsStep, HistoryStep, HistoryRun, HistoryTells, HistoryTellsOn, IsHistoryOfBytes}
-use Rattle.fbl_play.specs.declared.histories.RunHistory.{RunHistory}
-use Rattle.fbl_play.specs.Runs.{DeliveryBy, StrikeBy, CheckpointBy}
 use Rattle.fbl_play.proofs.Told.{told_next}
 
 -- ---- a command keeps the parameters

@@ -1,7 +1,6 @@
 -- How the parts of a play fit together.
-use Rattle.fbl_play.proofs.Common.{ℕ, List, inl, inr, Option, Result, Ok, Err, RunFault, keeps_itself, PlaysOn, Plays, next_of}
+use Rattle.fbl_play.proofs.Common.{ℕ, List, inl, inr, Option, Result, Ok, Err, RunFault, keeps_itself, PlaysOn, Plays, next_of, Outline, IsScriptOf, IsScriptFault}
 use Rattle.fbl_input.specs.declared.fault.RunFault.TheVariants as faults
-use Rattle.fbl_script.specs.Scripts.{Outline, IsScriptOf, IsScriptFault}
 
 -- a play of the script is one of the input
 pub plays_script : (workers : ℕ) (input : List ℕ) (s : Outline) (before after : Option (List ℕ)) (r : Result (Unit {0}) RunFault) → IsScriptOf input s

@@ -1,9 +1,6 @@
 -- A run goes on by one command.
-use Rattle.fbl_play.proofs.Common.{◌≡◌, ℕ, ◌<◌, ◌+◌, List, [], ◌∷◌, ◌++◌, length, take, get_or, refl, Option, Some, None, ◌≤◌, take_all, Appends, Settings}
-use Rattle.fbl_play.proofs.Common.{Next, Account, GroupRecord, IsGroupStart, IsSound, Command, Step}
-use Rattle.std.proofs.Common.{sym, append-nil}
-use Rattle.fbl_input.proofs.Bytes.{appends_more}
-use Rattle.fbl_play.specs.Runs.{CommandRun, IsCutAfter, IsWritten, TextStep}
+use Rattle.fbl_play.proofs.Common.{◌≡◌, ℕ, ◌<◌, ◌+◌, List, [], ◌∷◌, ◌++◌, length, take, get_or, refl, Option, Some, None, ◌≤◌, take_all, Appends, Settings, Next}
+use Rattle.fbl_play.proofs.Common.{Account, GroupRecord, IsGroupStart, IsSound, Command, Step, sym, append-nil, appends_more, CommandRun, IsCutAfter, IsWritten, TextStep}
 use Rattle.fbl_play.proofs.Steps.{along_next}
 
 -- the commands before a place have led here from a new group of the config, with these accounts, and their text is written

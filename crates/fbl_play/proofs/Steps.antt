@@ -1,7 +1,5 @@
 -- Steps along commands go on by one command.
-use Rattle.fbl_play.proofs.Common.{◌≡◌, ℕ, ◌<◌, ◌+◌, List, [], ◌∷◌, ◌++◌, length, take, get_or, refl, Account, Command}
-use Rattle.std.proofs.lemmas.List.{take_more}
-use Rattle.fbl_play.specs.Runs.{Along}
+use Rattle.fbl_play.proofs.Common.{◌≡◌, ℕ, ◌<◌, ◌+◌, List, [], ◌∷◌, ◌++◌, length, take, get_or, refl, Account, Command, take_more, Along}
 
 module _ {S : Type 0} (step : S → Command → Account → S → Type 0) where
   along_more : (cs : List Command) (accounts : List Account) (c : Command) (account : Account) (old mid new : S)

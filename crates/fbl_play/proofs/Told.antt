@@ -1,8 +1,7 @@
 -- How far a play came, and what its observer was told by then.
-use Rattle.fbl_play.proofs.Common.{◌≡◌, ℕ, ◌<◌, ◌≤◌, ◌+◌, ◌++◌, get_or, List, [], ◌∷◌, length, take, inl, inr, refl, Option, Result, Ok, Err, take_all}
-use Rattle.fbl_play.proofs.Common.{IsErrAnd, Settings, Next, Account, keeps_itself, RunFault, GroupRecord, Command, IsSound, Appends, PlaysOn, Step, IsTold}
+use Rattle.fbl_play.proofs.Common.{◌≡◌, ℕ, ◌<◌, ◌≤◌, ◌+◌, ◌++◌, get_or, List, [], ◌∷◌, length, take, inl, inr, refl, Option, Result, Ok, Err, take_all, IsErrAnd}
+use Rattle.fbl_play.proofs.Common.{Settings, Next, Account, keeps_itself, RunFault, GroupRecord, Command, IsSound, Appends, PlaysOn, Step, IsTold, TellsOn}
 use Rattle.fbl_input.specs.declared.fault.RunFault.TheVariants as faults
-use Rattle.fbl_play.specs.Telling.{TellsOn}
 use Rattle.fbl_play.proofs.Steps.{along_next}
 use Rattle.fbl_play.proofs.RunTexts.{IsPlayed, play_all, play_front, play_more}
 

@@ -1,17 +1,7 @@
 -- One column more of members' lines.
-use Rattle.std.proofs.Common.{ℕ, suc, ◌+◌, ◌<◌, ◌≡◌, not, Bool, true, false, cond, List, [], ◌∷◌, ◌++◌, length, take, drop, get_or, Option, Some, None}
-use Rattle.std.proofs.Common.{sym, ap, ◌∙◌, arith}
-use Rattle.std.specs.Bool.{beq}
-use Rattle.std.specs.Cmp.{booleans_Decides}
-use Rattle.std.specs.List.{fold}
-use Rattle.std.proofs.lemmas.Bool.{not-false}
-use Rattle.std.proofs.lemmas.List.{append_assoc, at_drop_more, take_more}
-use Rattle.std.proofs.lemmas.List.Sums.{fold_push}
-use Rattle.fbl_history.specs.declared.column.Column.{Column}
-use Rattle.fbl_shapes.specs.declared.shape.Shape.{Shape}
-use Rattle.fbl_shapes.specs.declared.shape.Shape.TheVariants.{Line}
-use Rattle.fbl_show.specs.Members.{differs, is_down, is_down_after, line_kind, line_part, turns}
-use Rattle.fbl_show.specs.Places.{drawn, last_before}
+use Rattle.fbl_show.proofs.Common.{ℕ, suc, ◌+◌, ◌<◌, ◌≡◌, not, Bool, true, false, cond, List, [], ◌∷◌, ◌++◌, length, take, drop, get_or, Option, Some, None, sym, ap}
+use Rattle.fbl_show.proofs.Common.{◌∙◌, arith, beq, booleans_Decides, fold, not-false, append_assoc, at_drop_more, take_more, fold_push, Column, Shape, Line, differs, is_down, is_down_after}
+use Rattle.fbl_show.proofs.Common.{line_kind, line_part, turns, drawn, last_before}
 
 -- the last place before the next one
 pub last_more : (test : ℕ → Bool) (i : ℕ) → last_before test (i + 1) ≡ cond (test i) (Some i) (last_before test i)

@@ -1,20 +1,12 @@
 -- Tables as a map has them, and what adding an entry does to them.
-use Rattle.fbl_table.proofs.Common.{not, count_by, ◌≡◌, ℕ, zero, inl, inr, suc, ◌+◌, ◌<◌, ◌≤◌, Bool, true, false, cond, ◌||◌, ◌&&◌, List, [], ◌∷◌}
-use Rattle.fbl_table.proofs.Common.{◌++◌, map, Some, None, refl, sym, ap, ◌∙◌, arith, take, drop, length, slice_get, lookup, values_of, keys_of, nat_cmp, nat_cmp_total, option_or}
-use Rattle.fbl_table.proofs.Common.{false≢true, find, fold, AllByRecursion, append-nil, length-map, take_all, take-append-drop, find-append, sum_by-cons, slice_get_cases, set_value_at}
-use Rattle.fbl_table.proofs.Common.{Determinant, same_determinant, insert_entry, Entry, HasInPlace, is_held, lacks, has_at, entry_of, gathered, learned, held_by, marked}
-use Rattle.std.proofs.Common.{is_some, add-one, position}
-use Rattle.std.proofs.Math.Seq.{drop-cons}
-use Rattle.std.proofs.lemmas.Bool.{false_from_ne_true, or_from, or_left, or_right}
-use Rattle.std.proofs.Math.Bool.{or_comm}
-use Rattle.std.specs.List.{position_or_len, IsDistinct}
-use Rattle.fbl_base.proofs.Recorded.{Decides-same_determinant}
-use Rattle.std.proofs.lemmas.List.{drop_all, take_more, map-append}
-use Rattle.std.proofs.lemmas.List.Sums.{fold_push, sum_by_more, sum_by-take-le}
-use Rattle.std.proofs.lemmas.Option.{slice_get_past, slice_get_within, get_or_from_slice_get}
+use Rattle.fbl_table.proofs.Common.{not, count_by, ◌≡◌, ℕ, zero, inl, inr, suc, ◌+◌, ◌<◌, ◌≤◌, Bool, true, false, cond, ◌||◌, ◌&&◌, List, [], ◌∷◌, ◌++◌, map}
+use Rattle.fbl_table.proofs.Common.{Some, None, refl, sym, ap, ◌∙◌, arith, take, drop, length, slice_get, lookup, values_of, keys_of, nat_cmp, nat_cmp_total, option_or, false≢true, find, fold}
+use Rattle.fbl_table.proofs.Common.{AllByRecursion, append-nil, length-map, take_all, take-append-drop, find-append, sum_by-cons, slice_get_cases, set_value_at, Determinant, same_determinant}
+use Rattle.fbl_table.proofs.Common.{insert_entry, Entry, HasInPlace, is_held, lacks, has_at, entry_of, gathered, learned, held_by, marked, is_some, add-one, position, drop-cons, false_from_ne_true}
+use Rattle.fbl_table.proofs.Common.{or_from, or_left, or_right, or_comm, position_or_len, Decides-same_determinant, drop_all, take_more, map-append, fold_push, sum_by_more, sum_by-take-le}
+use Rattle.fbl_table.proofs.Common.{slice_get_past, slice_get_within, get_or_from_slice_get, same_from_contains, absent_from_lookup, insert_entry-absent, or_len-absent}
 use Rattle.std.specs.FinSet as set
-use Rattle.fbl_base.specs.MemberSets.{same_from_contains}
-use Rattle.indexmap.proofs.MapLemmas.{absent_from_lookup, insert_entry-absent, or_len-absent}
+use Rattle.std.specs.List.{IsDistinct}
 use Rattle.fbl_table.specs.Tables.{added}
 
 -- the entries as the map has them

@@ -1,10 +1,7 @@
 -- A table's entries added in turn to none give the table.
-use Rattle.fbl_table.proofs.Common.{arith, ◌≡◌, false, List, [], ◌∷◌, ◌++◌, map, refl, sym, ap, ◌∙◌, append-nil, fold, AllByRecursion, same_determinant, Entry, is_held}
-use Rattle.fbl_table.proofs.Common.{gathered}
-use Rattle.std.proofs.lemmas.List.{append_assoc}
-use Rattle.std.proofs.lemmas.List.Folds.{list_any-append}
+use Rattle.fbl_table.proofs.Common.{arith, ◌≡◌, false, List, [], ◌∷◌, ◌++◌, map, refl, sym, ap, ◌∙◌, append-nil, fold, AllByRecursion, same_determinant, Entry, is_held, gathered}
+use Rattle.fbl_table.proofs.Common.{append_assoc, list_any-append, added}
 use Rattle.std.specs.List.{IsDistinct}
-use Rattle.fbl_table.specs.Tables.{added}
 use Rattle.fbl_table.proofs.Adding.{added_new, apart-turned}
 
 -- none of the rest is held by the first entries

@@ -1,14 +1,9 @@
 -- The open places of a table.
-use Rattle.fbl_table.proofs.Common.{◌≡◌, ℕ, zero, suc, ◌+◌, ◌<◌, Bool, true, false, cond, ◌||◌, List, [], ◌∷◌, ◌++◌, map, Option, Some, refl, sym, ap}
-use Rattle.fbl_table.proofs.Common.{◌∙◌, arith, length, slice_get, get_or, inl, inr, false≢true, nat_tests, filter, filter_map, slice_get_cases, lookup}
-use Rattle.fbl_table.proofs.Common.{nat_cmp, nat_cmp_total, same_determinant, Entry, is_open, piggybacked, marked, is_held, has_at, entry_of, open_at, IsIndex}
-use Rattle.std.proofs.Common.{if◌then◌else◌, is_some, nat_le}
-use Rattle.std.proofs.lemmas.Bool.{or_parts}
-use Rattle.std.proofs.lemmas.List.Elements.{All-get_or, AllZip-push, filter_passes, length_all_zip}
-use Rattle.std.specs.List.{AllZip}
-use Rattle.std.specs.Option.{option_map_or}
+use Rattle.fbl_table.proofs.Common.{◌≡◌, ℕ, zero, suc, ◌+◌, ◌<◌, Bool, true, false, cond, ◌||◌, List, [], ◌∷◌, ◌++◌, map, Option, Some, refl, sym, ap, ◌∙◌, arith}
+use Rattle.fbl_table.proofs.Common.{length, slice_get, get_or, inl, inr, false≢true, nat_tests, filter, filter_map, slice_get_cases, lookup, nat_cmp, nat_cmp_total, same_determinant, Entry, is_open}
+use Rattle.fbl_table.proofs.Common.{piggybacked, marked, is_held, has_at, entry_of, open_at, IsIndex, if◌then◌else◌, is_some, nat_le, or_parts, All-get_or, AllZip-push, filter_passes}
+use Rattle.fbl_table.proofs.Common.{length_all_zip, AllZip, option_map_or, len-within}
 use Rattle.std.specs.FinSet as set
-use Rattle.fbl_base.proofs.Sizes.{len-within}
 use Rattle.fbl_table.specs.Tables.{added}
 use Rattle.fbl_table.specs.Index.{places_of_open}
 use Rattle.fbl_table.proofs.Adding.{Pairs, held_lookup}

@@ -1,10 +1,6 @@
 -- A member's receipts by their numbers, entry by entry.
 use Rattle.fbl_table.proofs.Common.{◌≡◌, ℕ, ◌+◌, ◌&&◌, true, false, cond, List, [], ◌∷◌, Option, Some, None, take, slice_get, arith, nat_tests, option_or, find-append}
-use Rattle.fbl_table.proofs.Common.{Determinant, Entry, is_of_receipt, IsByNumber}
-use Rattle.std.proofs.Common.{◌==◌}
-use Rattle.std.specs.Prelude.{nat_lt}
-use Rattle.fbl_table.specs.Tables.{found}
-use Rattle.fbl_table.specs.Receipts.{receipt_at}
+use Rattle.fbl_table.proofs.Common.{Determinant, Entry, is_of_receipt, IsByNumber, ◌==◌, nat_lt, found, receipt_at}
 use Rattle.fbl_table.proofs.Adding.{take-next}
 
 -- what is found among one entry more

@@ -1,14 +1,10 @@
 -- How many entries are passed on, and that they are put into a list in turn.
-use Rattle.fbl_table.proofs.Common.{◌≡◌, ℕ, ◌+◌, ◌≤◌, Bool, cond, List, [], ◌∷◌, ◌++◌, map, count_by, Some, refl, sym, ap, ◌∙◌, arith, take, drop, length}
-use Rattle.fbl_table.proofs.Common.{slice_get, length-map, take-append-drop, filter-append, filter, filter_map, sum_by-cons, Determinant, length-left, Entry, is_open, piggybacked, gathered}
-use Rattle.fbl_table.proofs.Common.{learned, held_by, open_at, IsIndex}
-use Rattle.std.proofs.Common.{append_assoc}
-use Rattle.std.proofs.lemmas.List.{length-append}
-use Rattle.std.specs.List.{cons_option}
-use Rattle.std.proofs.lemmas.List.Sums.{length-filter, sum_by-take-le}
+use Rattle.fbl_table.proofs.Common.{◌≡◌, ℕ, ◌+◌, ◌≤◌, Bool, cond, List, [], ◌∷◌, ◌++◌, map, count_by, Some, refl, sym, ap, ◌∙◌, arith, take, drop, length, slice_get}
+use Rattle.fbl_table.proofs.Common.{length-map, take-append-drop, filter-append, filter, filter_map, sum_by-cons, Determinant, length-left, Entry, is_open, piggybacked, gathered, learned, held_by}
+use Rattle.fbl_table.proofs.Common.{open_at, IsIndex, length-append, cons_option, length-filter, sum_by-take-le, length-filter_map, noted}
 use Rattle.std.specs.FinSet as set
-use Rattle.fbl_base.proofs.Sifted.{length-filter_map}
-use Rattle.fbl_table.specs.Tables.{added, noted}
+use Rattle.std.proofs.Common.{append_assoc}
+use Rattle.fbl_table.specs.Tables.{added}
 use Rattle.fbl_table.proofs.Adding.{take-next}
 use Rattle.fbl_table.proofs.Indexing.{index-piggybacked}
 

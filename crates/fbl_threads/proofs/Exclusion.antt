@@ -1,15 +1,8 @@
 -- Each step of the claims keeps their rule, and the rule says what a step does to the words.
-use Rattle.fbl_threads.proofs.Common.{◌≡◌, ◌<◌, ◌↔◌, ℕ, suc, ◌⊎◌, inl, inr, List, [], ◌∷◌, ◌++◌, Some, None, cond, sym, refl, ap, ◌∙◌, arith}
-use Rattle.std.proofs.Common.{zero, Option, eqb, get_or, set, length-set, eq-eqb, ne_eqb, get_or-set_same, get_or-set_other}
-use Rattle.std.proofs.lemmas.List.{set-get_or, ext_get_or}
-use mathlib.Core.Logic.{dite}
-use mathlib.Core.Option.{some, some-ne-none}
-use native.Mathlib.Decide.{ℕ_discrete}
-use lib.ListN.{get_elem?}
-use prog.Atomic.{either}
-use Rattle.atomic_table.specs.Table.{State, keeps, Allows, Splits, Joins}
-use Rattle.atomic_table.proofs.Lists.{at_set, set_else, set_again, at_longer, at_snoc}
-use Rattle.fbl_threads.specs.Claims.{ViewHolds, IsFree, IsClaimed, IsExclusive, HasOneHolder, IsSaidBy, WordsFollowViews}
+use Rattle.fbl_threads.proofs.Common.{◌≡◌, ◌<◌, ◌↔◌, ℕ, suc, ◌⊎◌, inl, inr, List, [], ◌∷◌, ◌++◌, Some, None, cond, sym, refl, ap, ◌∙◌, arith, zero, Option, eqb}
+use Rattle.fbl_threads.proofs.Common.{get_or, set, length-set, eq-eqb, ne_eqb, get_or-set_same, get_or-set_other, set-get_or, ext_get_or, dite, some, some-ne-none, ℕ_discrete, get_elem?, either}
+use Rattle.fbl_threads.proofs.Common.{State, keeps, Allows, Splits, Joins, at_set, set_else, set_again, at_longer, at_snoc, ViewHolds, IsFree, IsClaimed, IsExclusive, HasOneHolder, IsSaidBy}
+use Rattle.fbl_threads.proofs.Common.{WordsFollowViews}
 
 abbrev St : Type 0
 St = State (Unit {0}) (Option ℕ)

@@ -1,13 +1,11 @@
 -- What a run of turns keeps, also where only that there is one is known.
-use Rattle.fbl_threads.proofs.Common.{◌≡◌, ℕ, ◌<◌, ◌≤◌, false, List, length, sum, arith, subst, sym, nat_cmp, Next, IsPlan, Strike, GroupRecord, Counts, Reached}
-use Rattle.std.proofs.Math.Logic.{∥∥₁_elim}
-use Rattle.std.specs.Coded.{codes, coded_ℕ, Coded-set}
+use Rattle.fbl_threads.proofs.Common.{◌≡◌, ℕ, ◌<◌, ◌≤◌, false, List, length, sum, arith, subst, sym, nat_cmp, Next, IsPlan, Strike, GroupRecord, Counts, Reached, ∥∥₁_elim}
+use Rattle.fbl_threads.proofs.Common.{codes, coded_ℕ, Coded-set, Keeps}
 use Rattle.std.specs.FinSet as set
 use Rattle.fbl_table.specs.contracts.entry.Entry as entry
 use Rattle.fbl_base.specs.contracts.trace.Note as content
 use Rattle.fbl_base.specs.contracts.trace.Start as beginning
 use Rattle.fbl_base.specs.contracts.trace.Event as event
-use Rattle.fbl_threads.specs.Pasts.{Keeps}
 use Rattle.fbl_threads.proofs.Keeping.{keeps_past, undoes_nothing}
 use Rattle.fbl_threads.proofs.Reaching.{counted, unmoved}
 

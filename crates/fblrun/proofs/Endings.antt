@@ -1,23 +1,8 @@
 -- The exit status of an answer, the answer where nothing could be read, and whether a play was refused something.
-use Rattle.std.proofs.Common.{◌≡◌, ℕ, ◌<◌, ◌⊎◌, ◌||◌, ◌&&◌, not, Bool, false, List, [], ◌∷◌, Option, Some, None, Result, Ok, Err, IfSome, length, inl}
-use Rattle.std.proofs.Common.{inr, arith, ap, ◌∙◌}
-use Rattle.std.specs.List.{list_any}
-use Rattle.fbl_input.specs.declared.fault.RunFault.{RunFault}
+use Rattle.fblrun.proofs.Common.{◌≡◌, ℕ, ◌<◌, ◌⊎◌, ◌||◌, ◌&&◌, not, Bool, false, List, [], ◌∷◌, Option, Some, None, Result, Ok, Err, IfSome, length, inl, inr, arith}
+use Rattle.fblrun.proofs.Common.{ap, ◌∙◌, list_any, RunFault, longest, keeps_itself, too_long, unread, or_false, parts_of_data, Account, is_refusal, IsTold, Tells, Command, outline_of, Task}
+use Rattle.fblrun.proofs.Common.{Play, Show, AnswersTask, EndsAfter, PlaysWell, ReadsAndAnswersTask, status_after}
 use Rattle.fbl_input.specs.declared.fault.RunFault.TheVariants as faults
-use Rattle.fbl_input.specs.Shapes.{longest}
-use Rattle.fbl_input.proofs.Bytes.{keeps_itself}
-use Rattle.fbl_input.proofs.Inputs.{too_long, unread}
-use Rattle.fbl_base.proofs.Recorded.{or_false}
-use Rattle.fbl_dump.specs.Dumps.{parts_of_data}
-use Rattle.fbl_explain.specs.declared.account.Account.{Account}
-use Rattle.fbl_explain.specs.Accounts.{is_refusal}
-use Rattle.fbl_play.specs.Telling.{IsTold, Tells}
-use Rattle.fbl_script.specs.declared.script.Command.{Command}
-use Rattle.fbl_script.specs.Scripts.{outline_of}
-use Rattle.fblrun.specs.declared.Task.{Task}
-use Rattle.fblrun.specs.declared.Task.TheVariants.{Play, Show}
-use Rattle.fblrun.specs.Orders.{AnswersTask, EndsAfter, PlaysWell, ReadsAndAnswersTask}
-use Rattle.fblrun.specs.Statuses.{status_after}
 
 -- what is known of an answer over an input is known of the status that it ends with
 pub ended : (known : Option (List ℕ)) (Answers : List ℕ → Result Bool RunFault → Type 0) (r : Result Bool RunFault) (status : ℕ)

@@ -1,25 +1,11 @@
 -- What the parser of command lines makes of the program's command lines.
-use Rattle.std.proofs.Common.{◌≡◌, ℕ, zero, suc, ◌+◌, ◌<◌, ◌&&◌, Bool, true, false, List, [], ◌∷◌, ◌++◌, Option, Some, None, option_map, Result, Ok, Err, IfErr}
-use Rattle.std.proofs.Common.{refl, sym, ap, ◌∙◌, arith, codes, decimal, drop, subst, unwrap_or}
-use Rattle.std.proofs.lemmas.Fmt.{decimal_digit, parse-decimal}
-use Rattle.std.specs.Prelude.{Box}
-use Rattle.std.specs.Box.{box_value}
-use Rattle.std.specs.Result.{IsErrAnd}
-use Rattle.std.specs.Str.Parse.{ParsesUnsigned}
-use Rattle.clap.specs.Simple.{built, entered, is_simple, names_of}
-use Rattle.clap.specs.Takes.{built_takes, takes}
-use Rattle.clap.specs.Walk.{nothing_held, stop_after}
-use Rattle.clap.specs.Words.{App, HasMatchesOf, ReadsOne, Row, Text, kind_of, one_of, subcommand_name_of, subcommand_rows, subcommand_rows_of}
-use Rattle.clap.specs.declared.error.Error.{Error}
-use Rattle.clap.specs.declared.error.kind.ErrorKind.TheVariants.{OutOfMemory}
-use Rattle.clap.specs.declared.parser.matches.ArgMatches.{ArgMatches}
-use Rattle.clap.specs.declared.parser.matches.ArgMatches.TheViews.{out-ArgMatches, out-SubCommand}
-use Rattle.clap.specs.declared.parser.matches.SubCommand.{SubCommand}
+use Rattle.fblrun.proofs.Common.{◌≡◌, ℕ, zero, suc, ◌+◌, ◌<◌, ◌&&◌, Bool, true, false, List, [], ◌∷◌, ◌++◌, Option, Some, None, option_map, Result, Ok, Err, IfErr, refl}
+use Rattle.fblrun.proofs.Common.{sym, ap, ◌∙◌, arith, codes, decimal, drop, subst, unwrap_or, decimal_digit, parse-decimal, Box, box_value, IsErrAnd, ParsesUnsigned, built, entered, is_simple}
+use Rattle.fblrun.proofs.Common.{names_of, built_takes, takes, nothing_held, stop_after, App, HasMatchesOf, ReadsOne, Row, Text, kind_of, one_of, subcommand_name_of, subcommand_rows}
+use Rattle.fblrun.proofs.Common.{subcommand_rows_of, Error, OutOfMemory, ArgMatches, out-ArgMatches, out-SubCommand, SubCommand, WorkersAllowed, Order, IsCommandLine, is_audit, is_check, is_draw}
+use Rattle.fblrun.proofs.Common.{is_play, is_show, is_show_workers, is_workers, IsOrderAt, IsOrderOf, audit_line, check_line, draw_line, flag_text, order_for, play_line, program, show_line}
+use Rattle.fblrun.proofs.Common.{with_explain, with_strict}
 use Rattle.clap.proofs.OnLiterals.{clap_on_literals}
-use Rattle.fbl_base.specs.Configs.{WorkersAllowed}
-use Rattle.fblrun.specs.declared.Order.{Order}
-use Rattle.fblrun.specs.CommandLines.{IsCommandLine, is_audit, is_check, is_draw, is_play, is_show, is_show_workers, is_workers, IsOrderAt, IsOrderOf, audit_line, check_line, draw_line}
-use Rattle.fblrun.specs.CommandLines.{flag_text, order_for, play_line, program, show_line, with_explain, with_strict}
 
 -- the subcommand that the words behind the program's name give, with what was found of it
 abbrev named : List Text → Option (Text × List Row)

@@ -1,16 +1,7 @@
 -- How the parts of a picture of a history fit together.
-use Rattle.std.proofs.Common.{ℕ, ◌⊎◌, List, inl, inr, Option, Result, Ok, Err}
-use Rattle.std.specs.Result.{IsErrAnd}
-use Rattle.fbl_explain.specs.declared.account.Account.{Account}
-use Rattle.fbl_input.specs.declared.fault.RunFault.{RunFault}
+use Rattle.fblrun.proofs.Common.{ℕ, ◌⊎◌, List, inl, inr, Option, Result, Ok, Err, IsErrAnd, Account, RunFault, PutsOut, keeps_itself, RunHistory, HistoryTells, HistoryTellsScript, Command}
+use Rattle.fblrun.proofs.Common.{IsScriptFault, IsScriptOf, Outline, IsShown, Shows}
 use Rattle.fbl_input.specs.declared.fault.RunFault.TheVariants as faults
-use Rattle.fbl_input.specs.Faults.{PutsOut}
-use Rattle.fbl_input.proofs.Bytes.{keeps_itself}
-use Rattle.fbl_play.specs.declared.histories.RunHistory.{RunHistory}
-use Rattle.fbl_play.specs.Histories.{HistoryTells, HistoryTellsScript}
-use Rattle.fbl_script.specs.declared.script.Command.{Command}
-use Rattle.fbl_script.specs.Scripts.{IsScriptFault, IsScriptOf, Outline}
-use Rattle.fblrun.specs.Showing.{IsShown, Shows}
 
 -- the picture of a history that the play of the input has
 pub shows_text : (IsText : List ℕ → Type 0) (workers : ℕ) (input : List ℕ) (before after : Option (List ℕ))

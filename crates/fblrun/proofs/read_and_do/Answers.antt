@@ -1,8 +1,5 @@
-use Rattle.std.proofs.Common.{Err}
-use Rattle.fbl_input.specs.Faults.{FailsToRead}
-use Rattle.fblrun.specs.Orders.{AnswersTask, ReadsAndAnswersTask}
+use Rattle.fblrun.proofs.Common.{Err, FailsToRead, AnswersTask, ReadsAndAnswersTask, read_whole}
 use Rattle.fblrun.proofs.Endings.{ended, not_read}
-use Rattle.fbl_input.proofs.Inputs.{read_whole}
 use Rattle.fblrun.proofs.read_and_do.Goals as goal
 
 pub returns-in-Ok : goal.returns-in-Ok

@@ -1,6 +1,5 @@
-use Rattle.fbl_audit.proofs.Common.{◌≡◌, arith, ap, sym, ◌∙◌, take, filter_map, determinant_of, WellFormed, AreDependents, receipts_of_dump}
-use Rattle.std.proofs.Common.{[], ◌∷◌, inl, inr, refl}
-use Rattle.std.proofs.lemmas.List.{append-nil, take_all}
+use Rattle.fbl_audit.proofs.Common.{◌≡◌, arith, ap, sym, ◌∙◌, take, filter_map, determinant_of, WellFormed, AreDependents, receipts_of_dump, [], ◌∷◌, inl, inr, refl, append-nil}
+use Rattle.fbl_audit.proofs.Common.{take_all}
 use Rattle.fbl_audit.proofs.Checks.{dependents_of_receipt, says_next, says_safe}
 use Rattle.fbl_audit.proofs.checking.unsafe_receipts.Goals as goal
 use Rattle.fbl_audit.proofs.checking.unsafe_receipts.Goals.{in-Some+in-Some-said_of+in_ok-push, in-Some+in_default-said_of, in_default}

@@ -1,5 +1,4 @@
-use Rattle.fbl_base.proofs.Common.{◌∙◌, sym, arith, false≢true, Has}
-use Rattle.fbl_base.specs.Events.{receipt_of}
+use Rattle.fbl_base.proofs.Common.{◌∙◌, sym, arith, false≢true, Has, receipt_of}
 use Rattle.fbl_base.proofs.Received.{Decides-is_received}
 use Rattle.fbl_base.proofs.audit.broken_rule.Goals as goal
 

@@ -1,7 +1,7 @@
 use Rattle.fbl_base.proofs.Common.{refl, ◌≡◌, below_more, arith, Some, slice_get, slice_get_read, HeldAt, parts_of}
 use Rattle.fbl_base.proofs.Gets.{At-below}
-use Rattle.fbl_base.proofs.audit.first_bad_pair.Given.{Over}
 use Rattle.fbl_base.proofs.audit.first_bad_pair.Goals as goal
+use Rattle.fbl_base.proofs.audit.first_bad_pair.Given.{Over}
 use Rattle.fbl_base.proofs.audit.first_bad_pair.Goals.{After-index-pair}
 
 -- the pair at the place

@@ -1,5 +1,4 @@
-use Rattle.fbl_base.proofs.Common.{not, arith, Determinant, determinant_of, is_held_outside}
-use Rattle.std.proofs.lemmas.List.{append-nil}
+use Rattle.fbl_base.proofs.Common.{not, arith, Determinant, determinant_of, is_held_outside, append-nil}
 use Rattle.fbl_base.proofs.Sifted.{more}
 use Rattle.fbl_base.proofs.audit.lost.Goals as goal
 use Rattle.fbl_base.proofs.audit.lost.Goals.{in-Some+then-not-contains+in_ok-push, in-Some+else-not-contains, in_default}

@@ -1,6 +1,4 @@
-use Rattle.fbl_base.proofs.Common.{◌≡◌, ℕ, ◌<◌, length}
-use Rattle.fbl_base.specs.Audit.{orphan_start_in}
-use Rattle.fbl_base.specs.Reach.{Follows, StartsBy}
+use Rattle.fbl_base.proofs.Common.{◌≡◌, ℕ, ◌<◌, length, orphan_start_in, Follows, StartsBy}
 use Rattle.fbl_base.proofs.audit.orphan_starts.Given as goal
 
 abbrev pub invariant-loop-place : goal.invariant-loop-place

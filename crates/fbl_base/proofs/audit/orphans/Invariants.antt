@@ -1,4 +1,4 @@
-use Rattle.fbl_base.specs.Reach.{Follows}
+use Rattle.fbl_base.proofs.Common.{Follows}
 use Rattle.fbl_base.proofs.audit.orphans.Given as goal
 
 abbrev pub invariant-loop-place : goal.invariant-loop-place

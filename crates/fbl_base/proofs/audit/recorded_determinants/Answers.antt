@@ -1,6 +1,5 @@
-use Rattle.fbl_base.proofs.Common.{◌&&◌, arith, not, ℕ, Determinant, same_determinant}
+use Rattle.fbl_base.proofs.Common.{◌&&◌, arith, not, ℕ, Determinant, same_determinant, list_any_more}
 use Rattle.std.specs.FinSet as set
-use Rattle.std.proofs.lemmas.List.Folds.{list_any_more}
 use Rattle.fbl_base.proofs.audit.recorded_determinants.Goals as goal
 use Rattle.fbl_base.proofs.audit.recorded_determinants.Goals.{then-not-has+in_ok-insert, else-not-has}
 

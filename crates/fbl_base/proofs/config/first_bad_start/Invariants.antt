@@ -1,5 +1,4 @@
-use Rattle.fbl_base.proofs.Common.{ℕ, ◌<◌}
-use Rattle.fbl_base.specs.Configs.{StartAllowedAt}
+use Rattle.fbl_base.proofs.Common.{ℕ, ◌<◌, StartAllowedAt}
 use Rattle.fbl_base.proofs.config.first_bad_start.Given as goal
 
 abbrev pub invariant-loop-place : goal.invariant-loop-place

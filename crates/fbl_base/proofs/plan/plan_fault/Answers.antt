@@ -1,8 +1,6 @@
-use Rattle.fbl_base.proofs.Common.{◌≡◌, ⊎_elim, ℕ, ◌<◌, ◌∷◌, ◌∙◌, ◌+◌, suc, List, get_or, sym, below_more, ap, arith, length, Settings, IsBad}
-use Rattle.std.proofs.lemmas.List.{get_or-map}
+use Rattle.fbl_base.proofs.Common.{◌≡◌, ⊎_elim, ℕ, ◌<◌, ◌∷◌, ◌∙◌, ◌+◌, suc, List, get_or, sym, below_more, ap, arith, length, Settings, IsBad, get_or-map, Strike}
+use Rattle.fbl_base.proofs.Common.{numbers, set_at, MayBeStruck}
 use Rattle.std.specs.FinSet as set
-use Rattle.fbl_base.specs.declared.strike.Strike.{Strike}
-use Rattle.fbl_base.specs.Plans.{numbers, set_at, MayBeStruck}
 use Rattle.fbl_base.proofs.plan.plan_fault.Goals as goal
 
 number_at : (plan : List Strike) (i : ℕ) (x : Strike) → i < length plan → x ≡ get_or plan i x → get_or (numbers plan) i 0 ≡ x.at

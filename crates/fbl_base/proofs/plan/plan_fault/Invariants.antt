@@ -1,5 +1,4 @@
-use Rattle.fbl_base.proofs.Common.{◌≡◌, ℕ, ◌<◌, IsBad}
-use Rattle.fbl_base.specs.Plans.{number_before}
+use Rattle.fbl_base.proofs.Common.{◌≡◌, ℕ, ◌<◌, IsBad, number_before}
 use Rattle.fbl_base.proofs.plan.plan_fault.Given as goal
 
 abbrev pub invariant-loop-place : goal.invariant-loop-place

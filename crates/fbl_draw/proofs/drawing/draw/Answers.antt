@@ -1,7 +1,4 @@
-use Rattle.fbl_draw.specs.Pictures.{IsPicture}
-use Rattle.fbl_dump.specs.Answering.{TextAlone}
-use Rattle.fbl_dump.proofs.Answers.{answers_unread}
-use Rattle.fbl_input.proofs.Inputs.{read_whole}
+use Rattle.fbl_draw.proofs.Common.{IsPicture, TextAlone, answers_unread, read_whole}
 use Rattle.fbl_draw.proofs.drawing.draw.Goals as goal
 
 pub returns-in-Ok : goal.returns-in-Ok

@@ -1,6 +1,4 @@
-use Rattle.fbl_draw.specs.Pictures.{IsPicture}
-use Rattle.fbl_dump.specs.Answering.{TextAlone}
-use Rattle.fbl_dump.proofs.Answers.{answers_dump, answers_fault}
+use Rattle.fbl_draw.proofs.Common.{IsPicture, TextAlone, answers_dump, answers_fault}
 use Rattle.fbl_draw.proofs.drawing.draw_bytes.Goals as goal
 
 pub returns-in-Ok : goal.returns-in-Ok

@@ -1,5 +1,4 @@
-use Rattle.fbl_input.proofs.Outputs.{puts_text}
-use Rattle.fbl_draw.specs.Pictures.{IsPicture}
+use Rattle.fbl_draw.proofs.Common.{puts_text, IsPicture}
 use Rattle.fbl_draw.proofs.drawing.draw_dump.Goals as goal
 
 pub returns : goal.returns

@@ -1,5 +1,4 @@
-use Rattle.std.proofs.Common.{◌≡◌, ◌++◌, drop}
-use Rattle.fbl_draw.specs.Events.{arrows}
+use Rattle.fbl_draw.proofs.Common.{◌≡◌, ◌++◌, drop, arrows}
 use Rattle.fbl_draw.proofs.events.push_arrows.Given as goal
 
 abbrev pub invariant-loop-place : goal.invariant-loop-place

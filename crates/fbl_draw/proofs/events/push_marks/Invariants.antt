@@ -1,5 +1,4 @@
-use Rattle.std.proofs.Common.{◌≡◌, ◌++◌, drop}
-use Rattle.fbl_draw.specs.Events.{shapes_of_events}
+use Rattle.fbl_draw.proofs.Common.{◌≡◌, ◌++◌, drop, shapes_of_events}
 use Rattle.fbl_draw.proofs.events.push_marks.Given as goal
 
 abbrev pub invariant-loop-place : goal.invariant-loop-place

@@ -1,7 +1,5 @@
-use Rattle.std.proofs.Common.{◌++◌, ◌∙◌, ap, length, arith}
+use Rattle.fbl_draw.proofs.Common.{◌++◌, ◌∙◌, ap, length, arith, rows_on, dump_member_shapes, shapes_of_member}
 use Rattle.std.specs.FinSet as set
-use Rattle.fbl_base.proofs.Numbers.{rows_on}
-use Rattle.fbl_draw.specs.Members.{dump_member_shapes, shapes_of_member}
 use Rattle.fbl_draw.proofs.members.push_members.Goals as goal
 
 pub loop-number-preserved : goal.loop-number-preserved

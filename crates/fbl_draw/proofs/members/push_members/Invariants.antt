@@ -1,6 +1,4 @@
-use Rattle.std.proofs.Common.{◌≡◌, ◌++◌, ◌-◌}
-use Rattle.std.specs.List.{flat_map, range_with_len}
-use Rattle.fbl_draw.specs.Members.{members_drawn, shapes_of_member}
+use Rattle.fbl_draw.proofs.Common.{◌≡◌, ◌++◌, ◌-◌, flat_map, range_with_len, members_drawn, shapes_of_member}
 use Rattle.fbl_draw.proofs.members.push_members.Given as goal
 
 abbrev pub invariant-loop-number : goal.invariant-loop-number

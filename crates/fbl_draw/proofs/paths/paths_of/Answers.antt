@@ -1,6 +1,4 @@
-use Rattle.std.proofs.Common.{◌≡◌, ◌+◌, inl, inr, length-append, sym, ap, ◌∙◌}
-use Rattle.fbl_base.proofs.Gets.{At-push}
-use Rattle.fbl_draw.specs.Paths.{IsPathDrawn}
+use Rattle.fbl_draw.proofs.Common.{◌≡◌, ◌+◌, inl, inr, length-append, sym, ap, ◌∙◌, At-push, IsPathDrawn}
 use Rattle.fbl_draw.proofs.paths.paths_of.Goals as goal
 
 pub loop-number-preserved : goal.loop-number-preserved

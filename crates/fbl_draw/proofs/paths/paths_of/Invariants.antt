@@ -1,5 +1,4 @@
-use Rattle.std.proofs.Common.{ℕ, ◌≡◌, Some, length, slice_get}
-use Rattle.fbl_draw.specs.Paths.{IsPathDrawn}
+use Rattle.fbl_draw.proofs.Common.{ℕ, ◌≡◌, Some, length, slice_get, IsPathDrawn}
 use Rattle.fbl_draw.proofs.paths.paths_of.Given as goal
 
 abbrev pub invariant-loop-number : goal.invariant-loop-number

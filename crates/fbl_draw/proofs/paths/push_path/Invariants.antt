@@ -1,5 +1,4 @@
-use Rattle.std.proofs.Common.{◌≡◌, ◌++◌, ◌∷◌, drop}
-use Rattle.fbl_draw.specs.Paths.{path_shapes}
+use Rattle.fbl_draw.proofs.Common.{◌≡◌, ◌++◌, ◌∷◌, drop, path_shapes}
 use Rattle.fbl_draw.proofs.paths.push_path.Given as goal
 
 abbrev pub invariant-loop-end : goal.invariant-loop-end

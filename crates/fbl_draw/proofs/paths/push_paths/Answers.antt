@@ -1,6 +1,4 @@
-use Rattle.std.proofs.Common.{◌++◌, ◌∙◌, arith}
-use Rattle.fbl_base.proofs.Numbers.{rows_on}
-use Rattle.fbl_draw.specs.Paths.{path_shapes, places_in}
+use Rattle.fbl_draw.proofs.Common.{◌++◌, ◌∙◌, arith, rows_on, path_shapes, places_in}
 use Rattle.fbl_draw.proofs.paths.push_paths.Goals as goal
 
 pub loop-number-preserved : goal.loop-number-preserved

@@ -1,6 +1,4 @@
-use Rattle.std.proofs.Common.{◌≡◌, ◌++◌, ◌-◌}
-use Rattle.std.specs.List.{flat_map, range_with_len}
-use Rattle.fbl_draw.specs.Paths.{path_shapes, paths_drawn, places_in}
+use Rattle.fbl_draw.proofs.Common.{◌≡◌, ◌++◌, ◌-◌, flat_map, range_with_len, path_shapes, paths_drawn, places_in}
 use Rattle.fbl_draw.proofs.paths.push_paths.Given as goal
 
 abbrev pub invariant-loop-number : goal.invariant-loop-number

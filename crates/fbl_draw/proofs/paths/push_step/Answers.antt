@@ -1,5 +1,4 @@
-use Rattle.std.proofs.Common.{◌≡◌, Some, None, length, slice_get, refl, append-nil}
-use Rattle.std.proofs.lemmas.Option.{slice_get_past, slice_get_read}
+use Rattle.fbl_draw.proofs.Common.{◌≡◌, Some, None, length, slice_get, refl, append-nil, slice_get_past, slice_get_read}
 use Rattle.fbl_draw.proofs.paths.push_step.Goals as goal
 
 pub returns-in_default-get : goal.returns-in_default-get

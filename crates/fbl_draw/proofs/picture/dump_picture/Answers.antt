@@ -1,10 +1,4 @@
-use Rattle.std.proofs.Common.{◌≡◌, ◌<◌, ◌∙◌, ℕ, List, ap, length, vec_len, rules}
-use Rattle.std.proofs.lemmas.Result.{IfOk-weaker}
-use Rattle.fbl_base.specs.Audit.{lost_determinants}
-use Rattle.fbl_shapes.specs.declared.shape.Legend.TheVariants.{Dump}
-use Rattle.fbl_shapes.specs.Pictures.{picture}
-use Rattle.fbl_draw.specs.Paths.{IsPathDrawn, places_in}
-use Rattle.fbl_draw.specs.Pictures.{dump_shapes, title}
+use Rattle.fbl_draw.proofs.Common.{◌≡◌, ◌<◌, ◌∙◌, ℕ, List, ap, length, vec_len, rules, IfOk-weaker, lost_determinants, Dump, picture, IsPathDrawn, places_in, dump_shapes, title}
 use Rattle.fbl_draw.proofs.Rows.{each_path}
 use Rattle.fbl_draw.proofs.picture.dump_picture.Goals as goal
 

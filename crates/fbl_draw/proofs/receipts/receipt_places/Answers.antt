@@ -1,11 +1,6 @@
-use Rattle.std.proofs.Common.{ℕ, Option, Some, None, ◌≡◌, ◌∙◌, ◌+◌, ◌∷◌, cond, sym, ap, arith, drop, append-nil}
+use Rattle.fbl_draw.proofs.Common.{ℕ, Option, Some, None, ◌≡◌, ◌∙◌, ◌+◌, ◌∷◌, cond, sym, ap, arith, drop, append-nil, position_from, option_or, at_drop_more, same_message}
+use Rattle.fbl_draw.proofs.Common.{is_message, MessageName, takes, taken_by}
 use Rattle.std.specs.HashMap as hash_map
-use Rattle.std.specs.List.{position_from}
-use Rattle.std.specs.Option.{option_or}
-use Rattle.std.proofs.lemmas.List.{at_drop_more}
-use Rattle.fbl_base.specs.Events.{same_message, is_message}
-use Rattle.fbl_base.specs.declared.trace.MessageName.{MessageName}
-use Rattle.fbl_draw.specs.Receipts.{takes, taken_by}
 use Rattle.fbl_draw.proofs.Indexing.{old_message, new_message}
 use Rattle.fbl_draw.proofs.receipts.receipt_places.Goals as goal
 use Rattle.fbl_draw.proofs.receipts.receipt_places.Goals.{in-Some+then-not-contains_key+in_ok-insert, in-Some+else-not-contains_key, in_default}

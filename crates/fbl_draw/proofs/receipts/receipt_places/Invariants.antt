@@ -1,10 +1,5 @@
-use Rattle.std.proofs.Common.{◌≡◌, drop}
+use Rattle.fbl_draw.proofs.Common.{◌≡◌, drop, position_from, option_or, same_message, MessageName, receipt_place, takes}
 use Rattle.std.specs.HashMap as hash_map
-use Rattle.std.specs.List.{position_from}
-use Rattle.std.specs.Option.{option_or}
-use Rattle.fbl_base.specs.Events.{same_message}
-use Rattle.fbl_base.specs.declared.trace.MessageName.{MessageName}
-use Rattle.fbl_draw.specs.Receipts.{receipt_place, takes}
 use Rattle.fbl_draw.proofs.receipts.receipt_places.Given as goal
 
 abbrev pub invariant-loop-place : goal.invariant-loop-place

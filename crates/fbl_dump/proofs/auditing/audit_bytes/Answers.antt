@@ -1,5 +1,4 @@
-use Rattle.fbl_dump.specs.Auditing.{IsAuditText}
-use Rattle.fbl_dump.specs.Answering.{TextAlone}
+use Rattle.fbl_dump.proofs.Common.{IsAuditText, TextAlone}
 use Rattle.fbl_dump.proofs.Answers.{answers_dump}
 use Rattle.fbl_dump.proofs.auditing.audit_bytes.Goals as goal
 

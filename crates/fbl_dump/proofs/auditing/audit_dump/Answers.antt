@@ -1,5 +1,4 @@
-use Rattle.fbl_input.proofs.Outputs.{puts_text}
-use Rattle.fbl_dump.specs.Auditing.{IsAuditText}
+use Rattle.fbl_dump.proofs.Common.{puts_text, IsAuditText}
 use Rattle.fbl_dump.proofs.auditing.audit_dump.Goals as goal
 
 pub returns : goal.returns

@@ -1,7 +1,4 @@
-use Rattle.std.proofs.Common.{ap, ◌∙◌, ◌≡◌}
-use Rattle.std.proofs.lemmas.Result.{IfOk-weaker}
-use Rattle.fbl_base.specs.Audit.{lost_determinants}
-use Rattle.fbl_lines.specs.Lines.{audit_lines}
+use Rattle.fbl_dump.proofs.Common.{ap, ◌∙◌, ◌≡◌, IfOk-weaker, lost_determinants, audit_lines}
 use Rattle.fbl_dump.proofs.auditing.text_of.Goals as goal
 
 pub returns : goal.returns

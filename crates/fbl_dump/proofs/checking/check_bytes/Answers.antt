@@ -1,4 +1,4 @@
-use Rattle.fbl_dump.specs.Checking.{IsChecked}
+use Rattle.fbl_dump.proofs.Common.{IsChecked}
 use Rattle.fbl_dump.proofs.Answers.{answers_dump}
 use Rattle.fbl_dump.proofs.checking.check_bytes.Goals as goal
 

@@ -1,6 +1,4 @@
-use Rattle.std.proofs.Common.{◌≡◌, ◌∙◌, ap}
-use Rattle.fbl_dump.specs.Checking.{IsChecked, check_lines}
-use Rattle.fbl_input.proofs.Outputs.{puts_front}
+use Rattle.fbl_dump.proofs.Common.{◌≡◌, ◌∙◌, ap, IsChecked, check_lines, puts_front}
 use Rattle.fbl_dump.proofs.Verdicts.{checked, verdict_of}
 use Rattle.fbl_dump.proofs.checking.check_dump.Goals as goal
 

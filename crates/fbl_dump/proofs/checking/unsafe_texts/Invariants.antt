@@ -1,5 +1,4 @@
-use Rattle.std.proofs.Common.{◌≡◌, take, string_bytes}
-use Rattle.fbl_dump.specs.Checking.{unsafe_lines}
+use Rattle.fbl_dump.proofs.Common.{◌≡◌, take, string_bytes, unsafe_lines}
 use Rattle.fbl_dump.proofs.checking.unsafe_texts.Given as goal
 
 abbrev pub invariant-loop-receipt : goal.invariant-loop-receipt

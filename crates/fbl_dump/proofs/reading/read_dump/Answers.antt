@@ -1,7 +1,4 @@
-use Rattle.std.proofs.lemmas.Result.{IfErr-weaker}
-use Rattle.fbl_base.specs.Audit.{RefusesDump}
-use Rattle.fbl_input.specs.Misfits.{run_fault}
-use Rattle.fbl_input.proofs.Faults.{refused}
+use Rattle.fbl_dump.proofs.Common.{IfErr-weaker, RefusesDump, run_fault, refused}
 use Rattle.fbl_dump.proofs.reading.read_dump.Goals as goal
 
 pub returns-clause-fault : goal.returns-clause-fault

@@ -1,11 +1,5 @@
-use Rattle.std.proofs.Common.{◌≡◌, ℕ, List, ap, ◌∙◌, subst, map, Some}
-use Rattle.std.specs.List.{All}
-use Rattle.std.proofs.lemmas.Result.{IfOk-weaker}
-use Rattle.fbl_base.specs.declared.trace.Determinant.{Determinant}
-use Rattle.fbl_base.specs.declared.trace.Mark.{Mark}
-use Rattle.fbl_base.specs.MemberSets.{member_list}
-use Rattle.fbl_dump.specs.Dumps.{event_shape, pair_shape}
-use Rattle.fbl_dump.specs.DumpLines.{event_data, list_data, number_data, pair_data}
+use Rattle.fbl_dump.proofs.Common.{◌≡◌, ℕ, List, ap, ◌∙◌, subst, map, Some, All, IfOk-weaker, Determinant, Mark, member_list, event_shape, pair_shape, event_data, list_data, number_data}
+use Rattle.fbl_dump.proofs.Common.{pair_data}
 use Rattle.fbl_dump.proofs.DumpValues.{dump_same, parts_read}
 use Rattle.fbl_dump.proofs.writing.dump_value.Goals as goal
 

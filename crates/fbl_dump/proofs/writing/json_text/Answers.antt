@@ -1,5 +1,4 @@
-use Rattle.std.proofs.Common.{subst}
-use Rattle.std.specs.Str.{IsUtf8}
+use Rattle.fbl_dump.proofs.Common.{subst, IsUtf8}
 use Rattle.fbl_dump.proofs.DumpTexts.{text_of_dump, text_reads_back}
 use Rattle.fbl_dump.proofs.writing.json_text.Goals as goal
 

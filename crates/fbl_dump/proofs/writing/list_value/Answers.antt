@@ -1,8 +1,4 @@
-use Rattle.std.proofs.Common.{◌≡◌, ap, ◌∙◌, Some, map}
-use Rattle.std.proofs.lemmas.List.{take_all}
-use Rattle.serde_json.specs.Data.{array}
-use Rattle.serde_json.specs.View.{view, items_of}
-use Rattle.serde_json.proofs.Views.{view-Array}
+use Rattle.fbl_dump.proofs.Common.{◌≡◌, ap, ◌∙◌, Some, map, take_all, array, view, items_of, view-Array}
 use Rattle.fbl_dump.proofs.DumpValues.{next_value, next_read}
 use Rattle.fbl_dump.proofs.writing.list_value.Goals as goal
 

@@ -1,7 +1,5 @@
 -- the values so far, and that they read back
-use Rattle.std.proofs.Common.{◌≡◌, map, take, Some}
-use Rattle.std.specs.List.{All}
-use Rattle.serde_json.specs.View.{view}
+use Rattle.fbl_dump.proofs.Common.{◌≡◌, map, take, Some, All, view}
 use Rattle.fbl_dump.proofs.writing.list_value.Given as goal
 
 abbrev pub invariant-loop-item : goal.invariant-loop-item

@@ -1,5 +1,4 @@
-use Rattle.std.proofs.Common.{inr, arith}
-use Rattle.std.proofs.lemmas.Grind.{common_steps}
+use Rattle.fbl_explain.proofs.Common.{inr, arith, common_steps}
 use Rattle.fbl_explain.proofs.Faults.{not_own, of_input}
 use Rattle.fbl_explain.proofs.explaining.explain.Goals as goal
 

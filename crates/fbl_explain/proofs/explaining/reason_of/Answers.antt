@@ -1,6 +1,5 @@
-use Rattle.std.proofs.Common.{sym, subst, IfNone}
-use Rattle.fbl_dump.specs.Dumps.{IsDumpOf}
-use Rattle.fbl_explain.specs.Explanations.{IsInput}
+use Rattle.fbl_explain.proofs.Common.{sym, subst, IsDumpOf, IsInput}
+use Rattle.std.proofs.Common.{IfNone}
 use Rattle.fbl_explain.proofs.Faults.{was_read}
 use Rattle.fbl_explain.proofs.explaining.reason_of.Goals as goal
 

@@ -1,16 +1,7 @@
-use Rattle.std.proofs.Common.{◌≡◌, true, false, arith, ap, sym, ◌∙◌}
+use Rattle.fbl_explain.proofs.Common.{◌≡◌, true, false, arith, ap, sym, ◌∙◌, IsDump, At, receipt_of, DependsOnPlace, Has, At-below, IsLeftOrphan, IsPathTo, false≢true}
+use Rattle.fbl_explain.proofs.Common.{depends-from_places, places-from_depends, Has-first}
 use Rattle.std.specs.FinSet as set
-use Rattle.fbl_base.specs.Audit.{IsDump}
-use Rattle.fbl_base.specs.Events.{At, receipt_of}
-use Rattle.fbl_base.specs.Places.{DependsOnPlace}
-use Rattle.fbl_base.specs.Precedence.{Has}
-use Rattle.fbl_base.proofs.Gets.{At-below}
-use Rattle.fbl_audit.specs.Checking.{IsLeftOrphan}
-use Rattle.fbl_audit.specs.Paths.{IsPathTo}
 use Rattle.fbl_explain.proofs.Whys.{PathsBy-all, PathsBy-more, PathsBy-none, PathsBy-same}
-use Rattle.std.proofs.lemmas.Bool.{false≢true}
-use Rattle.fbl_base.proofs.PlacesAndEvents.{depends-from_places, places-from_depends}
-use Rattle.fbl_base.proofs.PrecedenceLaws.{Has-first}
 use Rattle.fbl_explain.proofs.why.paths_to_orphans.Goals as goal
 use Rattle.fbl_explain.proofs.why.paths_to_orphans.Goals.{then-not-has+in_ok-places+in-Some-2+in_ok-push, then-not-has+in_ok-places+in_default-2, else-not-has}
 

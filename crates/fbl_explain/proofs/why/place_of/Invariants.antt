@@ -1,5 +1,4 @@
-use Rattle.std.proofs.Common.{ℕ, ◌<◌}
-use Rattle.fbl_base.specs.Events.{At, receipt_of}
+use Rattle.fbl_explain.proofs.Common.{ℕ, ◌<◌, At, receipt_of}
 use Rattle.fbl_explain.proofs.why.place_of.Given as goal
 
 abbrev pub invariant-loop-place : goal.invariant-loop-place

@@ -1,7 +1,4 @@
-use Rattle.std.proofs.Common.{◌≡◌, take, arith, ap, ◌∙◌}
-use Rattle.std.proofs.lemmas.List.{take_all}
-use Rattle.fbl_base.specs.Audit.{lost_determinants}
-use Rattle.fbl_explain.specs.Whys.{IsReasonOf}
+use Rattle.fbl_explain.proofs.Common.{◌≡◌, take, arith, ap, ◌∙◌, take_all, lost_determinants, IsReasonOf}
 use Rattle.fbl_explain.proofs.Whys.{reasons_more}
 use Rattle.fbl_explain.proofs.why.why_lost.Goals as goal
 

@@ -1,6 +1,4 @@
-use Rattle.std.proofs.Common.{take}
-use Rattle.std.specs.List.{AllZip}
-use Rattle.fbl_explain.specs.Whys.{IsReasonOf}
+use Rattle.fbl_explain.proofs.Common.{take, AllZip, IsReasonOf}
 use Rattle.fbl_explain.proofs.why.why_lost.Given as goal
 
 abbrev pub invariant-loop-determinant : goal.invariant-loop-determinant

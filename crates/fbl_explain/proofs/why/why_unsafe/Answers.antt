@@ -1,7 +1,4 @@
-use Rattle.std.proofs.Common.{◌≡◌, take, arith, ◌∙◌}
-use Rattle.std.proofs.lemmas.List.{take_all}
-use Rattle.fbl_audit.specs.declared.checking.UnsafeReceipt.{UnsafeReceipt}
-use Rattle.fbl_explain.specs.Whys.{IsReasonOf}
+use Rattle.fbl_explain.proofs.Common.{◌≡◌, take, arith, ◌∙◌, take_all, UnsafeReceipt, IsReasonOf}
 use Rattle.fbl_explain.proofs.Whys.{reasons_more}
 use Rattle.fbl_explain.proofs.why.why_unsafe.Goals as goal
 

@@ -1,5 +1,4 @@
-use Rattle.fbl_group.proofs.Common.{◌≡◌, count_by, rules, ◌∙◌, mark_of}
-use Rattle.fbl_base.specs.Rules.{is_send_of}
+use Rattle.fbl_group.proofs.Common.{◌≡◌, count_by, rules, ◌∙◌, mark_of, is_send_of}
 use Rattle.fbl_group.proofs.Starting.{counted-sends}
 use Rattle.fbl_group.proofs.start.count_sends.Goals as goal
 

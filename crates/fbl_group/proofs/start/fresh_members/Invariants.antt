@@ -1,5 +1,4 @@
-use Rattle.fbl_group.proofs.Common.{◌≡◌, blank}
-use Rattle.fbl_member.specs.Members.{fresh}
+use Rattle.fbl_group.proofs.Common.{◌≡◌, blank, fresh}
 use Rattle.fbl_group.proofs.Queues.{Made}
 use Rattle.fbl_group.proofs.start.fresh_members.Given as goal
 

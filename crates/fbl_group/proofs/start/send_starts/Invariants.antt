@@ -1,5 +1,4 @@
-use Rattle.fbl_group.proofs.Common.{◌≡◌, ℕ, vec_len, drop, [], rows, HasChannels, channel_in, between, message_of_send, start_events}
-use Rattle.std.specs.List.{filter_map}
+use Rattle.fbl_group.proofs.Common.{◌≡◌, ℕ, vec_len, drop, [], rows, HasChannels, channel_in, between, message_of_send, start_events, filter_map}
 use Rattle.fbl_group.proofs.start.send_starts.Given as goal
 
 abbrev pub invariant-loop-start : goal.invariant-loop-start

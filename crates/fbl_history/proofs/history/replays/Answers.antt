@@ -1,7 +1,7 @@
 use Rattle.fbl_history.proofs.Common.{◌<◌}
 use Rattle.fbl_history.proofs.Following.{listed_in}
-use Rattle.fbl_history.proofs.history.replays.Given.{Over}
 use Rattle.fbl_history.proofs.history.replays.Goals as goal
+use Rattle.fbl_history.proofs.history.replays.Given.{Over}
 use Rattle.fbl_history.proofs.history.replays.Goals.{After-member-item}
 
 within : (g : Over) (c : After-member-item g) → c.member-item.result < c.args.group.now.config.members

@@ -1,6 +1,4 @@
-use Rattle.fbl_history.proofs.Common.{◌≡◌, map, take}
-use Rattle.fbl_base.specs.MemberSets.{member_list}
-use Rattle.fbl_history.specs.Traces.{replay_of}
+use Rattle.fbl_history.proofs.Common.{◌≡◌, map, take, member_list, replay_of}
 use Rattle.fbl_history.proofs.history.replays.Given as goal
 
 abbrev pub invariant-loop-member : goal.invariant-loop-member

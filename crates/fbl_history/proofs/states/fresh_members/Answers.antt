@@ -1,5 +1,4 @@
-use Rattle.fbl_history.proofs.Common.{◌≡◌, ℕ, ap, ◌∙◌, Settings, fresh}
-use Rattle.fbl_group.proofs.Queues.{made-more}
+use Rattle.fbl_history.proofs.Common.{◌≡◌, ℕ, ap, ◌∙◌, Settings, fresh, made-more}
 use Rattle.fbl_history.proofs.states.fresh_members.Goals as goal
 
 pub loop-number-preserved : goal.loop-number-preserved

@@ -1,5 +1,4 @@
-use Rattle.fbl_history.proofs.Common.{◌≡◌, fresh, blank}
-use Rattle.fbl_group.proofs.Queues.{Made}
+use Rattle.fbl_history.proofs.Common.{◌≡◌, fresh, blank, Made}
 use Rattle.fbl_history.proofs.states.fresh_members.Given as goal
 
 abbrev pub invariant-loop-number : goal.invariant-loop-number

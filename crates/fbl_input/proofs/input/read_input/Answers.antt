@@ -1,5 +1,4 @@
-use Rattle.std.proofs.Common.{◌++◌, take, arith}
-use Rattle.std.proofs.lemmas.Grind.{common_steps}
+use Rattle.fbl_input.proofs.Common.{◌++◌, take, arith, common_steps}
 use Rattle.fbl_input.proofs.Bytes.{consumes_more}
 use Rattle.fbl_input.proofs.input.read_input.Goals as goal
 

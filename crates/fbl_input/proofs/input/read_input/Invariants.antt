@@ -1,5 +1,4 @@
-use Rattle.std.proofs.Common.{◌≡◌, ◌≤◌, ◌+◌, ◌-◌, true, cond, vec_len}
-use Rattle.std.specs.Io.KnownBytes.{Consumes, IsAtEnd}
+use Rattle.fbl_input.proofs.Common.{◌≡◌, ◌≤◌, ◌+◌, ◌-◌, true, cond, vec_len, Consumes, IsAtEnd}
 use Rattle.fbl_input.proofs.input.read_input.Given as goal
 
 abbrev pub invariant-loop-ended : goal.invariant-loop-ended

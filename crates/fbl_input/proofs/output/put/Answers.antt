@@ -1,4 +1,4 @@
-use Rattle.std.proofs.Common.{ℕ, length-take, length-drop, arith}
+use Rattle.fbl_input.proofs.Common.{ℕ, length-take, length-drop, arith}
 use Rattle.fbl_input.proofs.Bytes.{written_more}
 use Rattle.fbl_input.proofs.output.put.Goals as goal
 

@@ -1,6 +1,4 @@
-use Rattle.std.proofs.Common.{◌++◌, ◌∙◌, ap, drop, map, option_map, ◌+◌}
-use Rattle.serde_json.specs.View.{view}
-use Rattle.fbl_input.specs.Shapes.{all_shaped}
+use Rattle.fbl_input.proofs.Common.{◌++◌, ◌∙◌, ap, drop, map, option_map, ◌+◌, view, all_shaped}
 use Rattle.fbl_input.proofs.Firsts.{one_more, read_more}
 use Rattle.fbl_input.proofs.shapes.all_in.Goals as goal
 

@@ -1,6 +1,4 @@
-use Rattle.std.proofs.Common.{ap, ◌≡◌, false, true}
-use Rattle.fbl_input.specs.Shapes.{or_fault}
-use Rattle.fbl_input.specs.declared.fault.RunFault.TheVariants.{NotJson}
+use Rattle.fbl_input.proofs.Common.{ap, ◌≡◌, false, true, or_fault, NotJson}
 use Rattle.fbl_input.proofs.Lists.{json_read, json_refused}
 use Rattle.fbl_input.proofs.shapes.json_in.Goals as goal
 

@@ -1,4 +1,4 @@
-use Rattle.std.proofs.Common.{◌∙◌, ap, Some, option_map, string_bytes}
+use Rattle.fbl_input.proofs.Common.{◌∙◌, ap, Some, option_map, string_bytes}
 use Rattle.fbl_input.proofs.Lists.{other_key_of}
 use Rattle.fbl_input.proofs.shapes.other_key.Goals as goal
 

@@ -1,8 +1,5 @@
-use Rattle.std.proofs.Common.{[], ◌∷◌, ◌++◌, sym, ap, ◌∙◌}
-use Rattle.std.specs.Cmp.{nat_cmp_total}
+use Rattle.fbl_input.proofs.Common.{[], ◌∷◌, ◌++◌, sym, ap, ◌∙◌, nat_cmp_total, view, member_shape}
 use Rattle.std.specs.FinSet as set
-use Rattle.serde_json.specs.View.{view}
-use Rattle.fbl_input.specs.Shapes.{member_shape}
 use Rattle.fbl_input.proofs.Firsts.{one_more, read_more}
 use Rattle.fbl_input.proofs.shapes.set_of.Goals as goal
 

@@ -1,11 +1,6 @@
 -- the set is that of the members so far, and these and those of what is left are those of the list
-use Rattle.std.proofs.Common.{◌≡◌, ℕ, List, ◌++◌, ◌<◌, map, option_map, drop, slice_get, Some, true}
-use Rattle.std.specs.Prelude.{is_some}
-use Rattle.std.specs.Ordering.{nat_cmp}
+use Rattle.fbl_input.proofs.Common.{◌≡◌, ℕ, List, ◌++◌, ◌<◌, map, option_map, drop, slice_get, Some, true, is_some, nat_cmp, Data, view, all_shaped, member_shape}
 use Rattle.std.specs.FinSet as set
-use Rattle.serde_json.specs.Data.{Data}
-use Rattle.serde_json.specs.View.{view}
-use Rattle.fbl_input.specs.Shapes.{all_shaped, member_shape}
 use Rattle.fbl_input.proofs.shapes.set_of.Given as goal
 
 abbrev pub invariant-loop-place : goal.invariant-loop-place

@@ -1,5 +1,4 @@
-use Rattle.std.proofs.lemmas.List.{length-map}
-use Rattle.serde_json.specs.View.{view}
+use Rattle.fbl_input.proofs.Common.{length-map, view}
 use Rattle.fbl_input.proofs.Misfitting.{fails_list, gives_fault, misfit_item}
 use Rattle.fbl_input.proofs.shapes.values_field.Goals as goal
 

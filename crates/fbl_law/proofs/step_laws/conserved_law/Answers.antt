@@ -1,4 +1,4 @@
-use Rattle.fbl_law.specs.StepLaws.{AnyState, AnyNote}
+use Rattle.fbl_law.proofs.Common.{AnyState, AnyNote}
 use Rattle.fbl_law.proofs.WeightKept.{weighs_the_same}
 use Rattle.fbl_law.proofs.step_laws.conserved_law.Goals as goal
 

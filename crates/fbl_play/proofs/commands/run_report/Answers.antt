@@ -1,7 +1,4 @@
-use Rattle.fbl_play.proofs.Common.{ap}
-use Rattle.std.proofs.Common.{◌∙◌}
-use Rattle.std.proofs.lemmas.Result.{IfOk-weaker}
-use Rattle.fbl_lines.specs.Lines.{report_lines}
+use Rattle.fbl_play.proofs.Common.{ap, ◌∙◌, IfOk-weaker, report_lines}
 use Rattle.fbl_play.proofs.commands.run_report.Goals as goal
 
 pub returns : goal.returns

@@ -1,5 +1,4 @@
-use Rattle.fbl_play.proofs.Common.{◌≡◌, per_member}
-use Rattle.fbl_play.specs.Texts.{shown_state}
+use Rattle.fbl_play.proofs.Common.{◌≡◌, per_member, shown_state}
 use Rattle.fbl_play.proofs.commands.run_states.Given as goal
 
 abbrev pub invariant-loop-number : goal.invariant-loop-number

@@ -1,5 +1,4 @@
-use Rattle.fbl_play.proofs.Common.{◌≡◌, per_member}
-use Rattle.fbl_play.specs.Texts.{shown_status}
+use Rattle.fbl_play.proofs.Common.{◌≡◌, per_member, shown_status}
 use Rattle.fbl_play.proofs.commands.statuses.Given as goal
 
 abbrev pub invariant-loop-number : goal.invariant-loop-number

@@ -1,6 +1,4 @@
-use Rattle.fbl_play.proofs.Common.{inl, keeps_itself, Plays}
-use Rattle.fbl_input.proofs.Inputs.{read_whole, too_long, unread}
-use Rattle.fbl_script.specs.Scripts.{outline_of}
+use Rattle.fbl_play.proofs.Common.{inl, keeps_itself, Plays, read_whole, too_long, unread, outline_of}
 use Rattle.fbl_play.proofs.engine.play.Goals as goal
 
 pub returns-in-Ok : goal.returns-in-Ok

@@ -1,12 +1,5 @@
-use Rattle.fbl_play.proofs.Common.{ℕ, List, Result, Ok, Err, Next, GroupRecord, Drains}
-use Rattle.std.proofs.Common.{IfErr, string_bytes, IfOk}
-use Rattle.std.proofs.lemmas.Result.{IfOk-at_ok}
-use Rattle.fbl_base.specs.declared.strike.Strike.{Strike}
-use Rattle.fbl_threads.specs.declared.draining.Drained.{Drained}
-use Rattle.fbl_threads.specs.declared.draining.DrainRefusal.{DrainRefusal}
+use Rattle.fbl_play.proofs.Common.{ℕ, List, Result, Ok, Err, Next, GroupRecord, Drains, IfErr, string_bytes, IfOk, IfOk-at_ok, Strike, Drained, DrainRefusal, IsPlanRefused, IsRunAccount, IsRunText}
 use Rattle.fbl_threads.specs.declared.draining.DrainRefusal.TheVariants as drain
-use Rattle.fbl_play.specs.Reasons.{IsPlanRefused}
-use Rattle.fbl_play.specs.RunSteps.{IsRunAccount, IsRunText}
 use Rattle.fbl_play.proofs.runs.run_plan.Goals as goal
 
 -- what two clauses give together of a value, if there is one

@@ -1,6 +1,4 @@
-use Rattle.std.proofs.Common.{◌≡◌, ◌++◌, drop}
-use Rattle.fbl_show.specs.Marks.{column_marks}
-use Rattle.fbl_show.specs.Places.{drawn}
+use Rattle.fbl_show.proofs.Common.{◌≡◌, ◌++◌, drop, column_marks, drawn}
 use Rattle.fbl_show.proofs.marks.push_marks.Given as goal
 
 abbrev pub invariant-loop-place : goal.invariant-loop-place

@@ -1,5 +1,4 @@
-use Rattle.std.proofs.Common.{◌≡◌, ◌++◌, map, take}
-use Rattle.fbl_show.specs.Marks.{recovery_mark}
+use Rattle.fbl_show.proofs.Common.{◌≡◌, ◌++◌, map, take, recovery_mark}
 use Rattle.fbl_show.proofs.marks.push_recoveries.Given as goal
 
 abbrev pub invariant-loop-member : goal.invariant-loop-member

@@ -1,5 +1,4 @@
-use Rattle.std.proofs.Common.{◌≡◌, ◌++◌, map}
-use Rattle.fbl_show.specs.Marks.{strike_mark}
+use Rattle.fbl_show.proofs.Common.{◌≡◌, ◌++◌, map, strike_mark}
 use Rattle.fbl_show.proofs.marks.push_strikes.Given as goal
 
 abbrev pub invariant-loop-member : goal.invariant-loop-member

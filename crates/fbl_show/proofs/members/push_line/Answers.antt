@@ -1,7 +1,4 @@
-use Rattle.std.proofs.Common.{◌≡◌, ◌∷◌, ◌++◌, [], ◌<◌, append-nil, arith, ap, ◌∙◌, sym, length}
-use Rattle.fbl_shapes.specs.declared.shape.Shape.TheVariants.{Line}
-use Rattle.fbl_show.specs.Members.{line_part}
-use Rattle.fbl_show.specs.Places.{drawn}
+use Rattle.fbl_show.proofs.Common.{◌≡◌, ◌∷◌, ◌++◌, [], ◌<◌, append-nil, arith, ap, ◌∙◌, sym, length, Line, line_part, drawn}
 use Rattle.fbl_show.proofs.Steps.{agree, differs_is, down_more, line_on, start_on}
 use Rattle.fbl_show.proofs.members.push_line.Goals as goal
 use Rattle.fbl_show.proofs.members.push_line.Goals.{then-is_down_after-is_down+in_ok-push, else-is_down_after-is_down}

@@ -1,6 +1,4 @@
-use Rattle.std.proofs.Common.{◌≡◌, ◌++◌, drop}
-use Rattle.fbl_show.specs.Members.{is_down, line_part, turns}
-use Rattle.fbl_show.specs.Places.{drawn, last_before}
+use Rattle.fbl_show.proofs.Common.{◌≡◌, ◌++◌, drop, is_down, line_part, turns, drawn, last_before}
 use Rattle.fbl_show.proofs.members.push_line.Given as goal
 
 abbrev pub invariant-loop-place : goal.invariant-loop-place

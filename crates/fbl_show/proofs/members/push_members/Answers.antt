@@ -1,6 +1,4 @@
-use Rattle.std.proofs.Common.{◌++◌, ◌∙◌, ap, arith}
-use Rattle.fbl_base.proofs.Numbers.{rows_on}
-use Rattle.fbl_show.specs.Members.{history_member_shapes}
+use Rattle.fbl_show.proofs.Common.{◌++◌, ◌∙◌, ap, arith, rows_on, history_member_shapes}
 use Rattle.fbl_show.proofs.members.push_members.Goals as goal
 
 pub loop-number-preserved : goal.loop-number-preserved

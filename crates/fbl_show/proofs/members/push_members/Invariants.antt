@@ -1,6 +1,4 @@
-use Rattle.std.proofs.Common.{◌≡◌, ◌++◌, ◌-◌}
-use Rattle.std.specs.List.{flat_map, range_with_len}
-use Rattle.fbl_show.specs.Members.{history_member_shapes, members_shapes}
+use Rattle.fbl_show.proofs.Common.{◌≡◌, ◌++◌, ◌-◌, flat_map, range_with_len, history_member_shapes, members_shapes}
 use Rattle.fbl_show.proofs.members.push_members.Given as goal
 
 abbrev pub invariant-loop-number : goal.invariant-loop-number

@@ -1,9 +1,5 @@
-use Rattle.std.proofs.Common.{◌≡◌, ◌++◌, drop}
+use Rattle.fbl_show.proofs.Common.{◌≡◌, ◌++◌, drop, same_message, MessageName, receipt_arrow, sent_before, drawn}
 use Rattle.std.specs.HashMap as hash_map
-use Rattle.fbl_base.specs.Events.{same_message}
-use Rattle.fbl_base.specs.declared.trace.MessageName.{MessageName}
-use Rattle.fbl_show.specs.Messages.{receipt_arrow, sent_before}
-use Rattle.fbl_show.specs.Places.{drawn}
 use Rattle.fbl_show.proofs.messages.push_arrows.Given as goal
 
 abbrev pub invariant-loop-place : goal.invariant-loop-place

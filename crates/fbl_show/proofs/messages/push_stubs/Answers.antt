@@ -1,6 +1,4 @@
-use Rattle.std.proofs.Common.{◌<◌, ◌++◌, ◌+◌, drop, ◌∙◌, ap, arith, length}
-use Rattle.fbl_show.specs.Messages.{stub, stub_where}
-use Rattle.fbl_show.specs.Places.{drawn}
+use Rattle.fbl_show.proofs.Common.{◌<◌, ◌++◌, ◌+◌, drop, ◌∙◌, ap, arith, length, stub, stub_where, drawn}
 use Rattle.fbl_show.proofs.Steps.{drawn_on}
 use Rattle.fbl_show.proofs.messages.push_stubs.Goals as goal
 

@@ -1,6 +1,4 @@
-use Rattle.std.proofs.Common.{◌≡◌, ◌++◌, drop}
-use Rattle.fbl_show.specs.Messages.{stub}
-use Rattle.fbl_show.specs.Places.{drawn}
+use Rattle.fbl_show.proofs.Common.{◌≡◌, ◌++◌, drop, stub, drawn}
 use Rattle.fbl_show.proofs.messages.push_stubs.Given as goal
 
 abbrev pub invariant-loop-place : goal.invariant-loop-place

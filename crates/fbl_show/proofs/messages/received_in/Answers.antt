@@ -1,8 +1,4 @@
-use Rattle.std.proofs.Common.{◌≡◌, ◌||◌, ◌+◌, ◌∙◌, sym, ap, drop, arith, ◌∷◌}
-use Rattle.std.proofs.lemmas.List.{at_drop_more}
-use Rattle.fbl_base.specs.Events.{is_message}
-use Rattle.fbl_base.specs.declared.trace.MessageName.{MessageName}
-use Rattle.fbl_show.specs.Messages.{has_standing_receipt, taken_by_column}
+use Rattle.fbl_show.proofs.Common.{◌≡◌, ◌||◌, ◌+◌, ◌∙◌, sym, ap, drop, arith, ◌∷◌, at_drop_more, is_message, MessageName, has_standing_receipt, taken_by_column}
 use Rattle.fbl_show.proofs.messages.received_in.Goals as goal
 use Rattle.fbl_show.proofs.messages.received_in.Goals.{in-Some+in_ok-insert, in_default}
 

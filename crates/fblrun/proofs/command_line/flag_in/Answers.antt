@@ -1,6 +1,4 @@
-use Rattle.std.proofs.Common.{◌∙◌}
-use Rattle.clap.specs.Words.{found_of}
-use Rattle.clap.proofs.WalkLemmas.{one_text-rows}
+use Rattle.fblrun.proofs.Common.{◌∙◌, found_of, one_text-rows}
 use Rattle.fblrun.proofs.Lines.{flag_is}
 use Rattle.fblrun.proofs.command_line.flag_in.Goals as goal
 

@@ -1,4 +1,4 @@
-use Rattle.std.proofs.Common.{map, string_bytes}
+use Rattle.fblrun.proofs.Common.{map, string_bytes}
 use Rattle.fblrun.proofs.Lines.{none_is, order_is, refused, taken}
 use Rattle.fblrun.proofs.command_line.order_of.Goals as goal
 

@@ -1,7 +1,4 @@
-use Rattle.std.proofs.Common.{◌≡◌, rules, ap, ◌∙◌, codes}
-use Rattle.std.proofs.lemmas.Result.{IfOk-weaker}
-use Rattle.clap.specs.Words.{app_of, new_app, with_rule, with_subcommand}
-use Rattle.fblrun.specs.CommandLines.{play_app, strict_rule, workers_rule}
+use Rattle.fblrun.proofs.Common.{◌≡◌, rules, ap, ◌∙◌, codes, IfOk-weaker, app_of, new_app, with_rule, with_subcommand, play_app, strict_rule, workers_rule}
 use Rattle.fblrun.proofs.command_line.with_play.Goals as goal
 
 pub returns : goal.returns

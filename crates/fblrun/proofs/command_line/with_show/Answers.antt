@@ -1,7 +1,4 @@
-use Rattle.std.proofs.Common.{◌≡◌, rules, ap, ◌∙◌, codes}
-use Rattle.std.proofs.lemmas.Result.{IfOk-weaker}
-use Rattle.clap.specs.Words.{app_of, new_app, with_rule, with_subcommand}
-use Rattle.fblrun.specs.CommandLines.{show_app, workers_rule}
+use Rattle.fblrun.proofs.Common.{◌≡◌, rules, ap, ◌∙◌, codes, IfOk-weaker, app_of, new_app, with_rule, with_subcommand, show_app, workers_rule}
 use Rattle.fblrun.proofs.command_line.with_show.Goals as goal
 
 pub returns : goal.returns

@@ -1,7 +1,4 @@
-use Rattle.std.proofs.Common.{rules, ap, ◌∙◌, ◌≡◌, ◌∷◌, [], Some, codes}
-use Rattle.std.specs.Prelude.{pos}
-use Rattle.clap.specs.Words.{Rule, new_rule, rule_of}
-use Rattle.clap.specs.declared.builder.ArgAction.TheVariants.{Set}
+use Rattle.fblrun.proofs.Common.{rules, ap, ◌∙◌, ◌≡◌, ◌∷◌, [], Some, codes, pos, Rule, new_rule, rule_of, Set}
 use Rattle.clap.specs.declared.builder.value_parser.ValueParser.TheVariants as parsers
 use Rattle.fblrun.proofs.command_line.workers.Goals as goal
 

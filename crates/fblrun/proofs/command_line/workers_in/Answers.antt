@@ -1,7 +1,4 @@
-use Rattle.std.proofs.Common.{◌∙◌, codes, decimal}
-use Rattle.std.specs.Str.Parse.{ExplainsUnsignedError, HasUnsignedDigitsIfOk, ParsesUnsigned}
-use Rattle.clap.specs.Words.{found_of}
-use Rattle.clap.proofs.WalkLemmas.{one_text-rows}
+use Rattle.fblrun.proofs.Common.{◌∙◌, codes, decimal, ExplainsUnsignedError, HasUnsignedDigitsIfOk, ParsesUnsigned, found_of, one_text-rows}
 use Rattle.fblrun.proofs.Lines.{read_number}
 use Rattle.fblrun.proofs.command_line.workers_in.Goals as goal
 

@@ -1,7 +1,4 @@
-use Rattle.std.proofs.Common.{◌≡◌, ◌∙◌, List, ℕ}
-use Rattle.fbl_script.specs.Scripts.{behaviour_word}
-use Rattle.fbl_show.specs.HistoryPictures.{history_picture}
-use Rattle.fbl_input.proofs.Outputs.{puts_text}
+use Rattle.fblrun.proofs.Common.{◌≡◌, ◌∙◌, List, ℕ, behaviour_word, history_picture, puts_text}
 use Rattle.fblrun.proofs.showing.show_history.Goals as goal
 
 pub returns : goal.returns

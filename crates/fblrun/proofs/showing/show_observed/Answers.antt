@@ -1,6 +1,4 @@
-use Rattle.std.proofs.Common.{◌≡◌, ◌∙◌, List, ℕ, arith}
-use Rattle.fbl_script.specs.Scripts.{behaviour_word}
-use Rattle.fbl_show.specs.HistoryPictures.{history_picture}
+use Rattle.fblrun.proofs.Common.{◌≡◌, ◌∙◌, List, ℕ, arith, behaviour_word, history_picture}
 use Rattle.fblrun.proofs.Showings.{script_told, shows_fault, shows_text}
 use Rattle.fblrun.proofs.showing.show_observed.Goals as goal
 

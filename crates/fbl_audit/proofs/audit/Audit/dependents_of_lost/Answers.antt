@@ -1,6 +1,5 @@
-use Rattle.fbl_audit.proofs.Common.{◌≡◌, length, ap, ◌∙◌, sym, refl, false≢true, slice_get_read, At, AreDependents}
+use Rattle.fbl_audit.proofs.Common.{◌≡◌, length, ap, ◌∙◌, sym, refl, false≢true, slice_get_read, At, AreDependents, nat_cmp}
 use Rattle.std.specs.FinSet as set
-use Rattle.std.specs.Ordering.{nat_cmp}
 use Rattle.fbl_audit.proofs.Following.{same_event}
 use Rattle.fbl_audit.proofs.audit.Audit.dependents_of_lost.Goals as goal
 use Rattle.fbl_audit.proofs.audit.Audit.dependents_of_lost.Goals.{After-is_lost_receipt}

@@ -1,6 +1,4 @@
-use Rattle.fbl_audit.proofs.Common.{not, arith, Determinant, determinant_of, is_held_outside}
-use Rattle.std.proofs.lemmas.List.{append-nil}
-use Rattle.fbl_base.proofs.Sifted.{more}
+use Rattle.fbl_audit.proofs.Common.{not, arith, Determinant, determinant_of, is_held_outside, append-nil, more}
 use Rattle.fbl_audit.proofs.audit.Audit.lost.Goals as goal
 use Rattle.fbl_audit.proofs.audit.Audit.lost.Goals.{in-Some+then-is_lost+in_ok-push, in-Some+else-is_lost, in_default}
 

@@ -1,8 +1,5 @@
-use Rattle.fbl_audit.proofs.Common.{◌≡◌, false, ap, ◌∙◌, sym, At-below}
+use Rattle.fbl_audit.proofs.Common.{◌≡◌, false, ap, ◌∙◌, sym, At-below, IfSome_then, IfOk-weaker, IsFirstCause}
 use Rattle.std.specs.FinSet as set
-use Rattle.std.proofs.lemmas.Option.{IfSome_then}
-use Rattle.std.proofs.lemmas.Result.{IfOk-weaker}
-use Rattle.fbl_audit.specs.Paths.{IsFirstCause}
 use Rattle.fbl_audit.proofs.Causes.{orphan_by_cause}
 use Rattle.fbl_audit.proofs.audit.Audit.orphan_path.Goals as goal
 

@@ -1,4 +1,4 @@
-use Rattle.fbl_audit.specs.Dependents.{known_of}
+use Rattle.fbl_audit.proofs.Common.{known_of}
 use Rattle.fbl_audit.proofs.Following.{Seen}
 use Rattle.fbl_audit.proofs.dependents.Dependents.of.Given as goal
 

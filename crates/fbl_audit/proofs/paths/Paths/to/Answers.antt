@@ -1,5 +1,4 @@
-use Rattle.fbl_audit.proofs.Common.{◌≡◌, length, Some, None, arith, ap, ◌∙◌, get_or, At-below, ArePaths, IsBefore, IsEndBy}
-use Rattle.fbl_audit.specs.Paths.{path_end}
+use Rattle.fbl_audit.proofs.Common.{◌≡◌, length, Some, None, arith, ap, ◌∙◌, get_or, At-below, ArePaths, IsBefore, IsEndBy, path_end}
 use Rattle.fbl_audit.proofs.Searching.{IsPath-back, Precedes-has, before_at}
 use Rattle.fbl_audit.proofs.paths.Paths.to.Goals as goal
 use Rattle.fbl_audit.proofs.paths.Paths.to.Goals.{In-Some, After-index}

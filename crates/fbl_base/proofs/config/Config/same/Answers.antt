@@ -1,6 +1,4 @@
-use Rattle.fbl_base.proofs.Common.{◌≡◌, ap, sym, ◌∙◌, true, Settings}
-use Rattle.std.proofs.Common.{rules}
-use Rattle.std.proofs.lemmas.Slice.Eq.{slice_eq-Decides}
+use Rattle.fbl_base.proofs.Common.{◌≡◌, ap, sym, ◌∙◌, true, Settings, rules, slice_eq-Decides}
 use Rattle.fbl_base.proofs.SameStart.{Decides-same_start}
 use Rattle.fbl_base.proofs.config.Config.same.Goals as goal
 

@@ -1,8 +1,7 @@
-use Rattle.fbl_base.proofs.Common.{◌≡◌, ℕ, ◌+◌, ◌<◌, [], ◌∷◌, ◌++◌, Bool, cond, take, get_or, sym, ap, ◌∙◌, arith, filter, range_with_len}
-use Rattle.fbl_base.proofs.Common.{get_or-range_with_len}
-use Rattle.std.proofs.Common.{append-nil}
+use Rattle.fbl_base.proofs.Common.{◌≡◌, ℕ, ◌+◌, ◌<◌, [], ◌∷◌, ◌++◌, Bool, cond, take, get_or, sym, ap, ◌∙◌, arith, filter, range_with_len, get_or-range_with_len}
+use Rattle.fbl_base.proofs.Common.{filter_more}
 use Rattle.std.specs.FinSet as set
-use Rattle.std.proofs.lemmas.List.Elements.{filter_more}
+use Rattle.std.proofs.Common.{append-nil}
 use Rattle.fbl_base.proofs.member_set.MemberSet.members.Goals as goal
 use Rattle.fbl_base.proofs.member_set.MemberSet.members.Goals.{in-Some+then-has+in_ok-push, in-Some+else-has, in_default}
 

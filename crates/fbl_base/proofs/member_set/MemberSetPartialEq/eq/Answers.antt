@@ -1,4 +1,4 @@
-use Rattle.fbl_base.specs.Bits.{bits_of-set_of}
+use Rattle.fbl_base.proofs.Common.{bits_of-set_of}
 use Rattle.fbl_base.proofs.member_set.MemberSetPartialEq.eq.Goals as goal
 
 pub returns : goal.returns

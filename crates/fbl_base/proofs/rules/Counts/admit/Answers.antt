@@ -1,10 +1,8 @@
-use Rattle.fbl_base.proofs.Common.{◌≡◌, ◌<◌, List, MatchOption, MayFollow, Mark, At, length, take, refl, arith, slice_get_read}
-use Rattle.std.proofs.Common.{length-take}
-use Rattle.std.proofs.lemmas.Option.{MatchOption-at_none, MatchOption-at_some}
+use Rattle.fbl_base.proofs.Common.{◌≡◌, ◌<◌, List, MatchOption, MayFollow, Mark, At, length, take, refl, arith, slice_get_read, length-take, MatchOption-at_none, MatchOption-at_some}
 use Rattle.fbl_base.proofs.Breached.{room}
 use Rattle.fbl_base.proofs.CountedLaws.{judged, named, admitted}
-use Rattle.fbl_base.proofs.rules.Counts.admit.Given.{Over}
 use Rattle.fbl_base.proofs.rules.Counts.admit.Goals as goal
+use Rattle.fbl_base.proofs.rules.Counts.admit.Given.{Over}
 use Rattle.fbl_base.proofs.rules.Counts.admit.Goals.{After-broken_rule}
 
 pub returns-then-place-ge8192 : goal.returns-then-place-ge8192

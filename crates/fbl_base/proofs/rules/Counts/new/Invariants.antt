@@ -1,5 +1,4 @@
-use Rattle.fbl_base.proofs.Common.{◌≡◌, ℕ, [], length}
-use Rattle.std.proofs.Common.{slice_index_or}
+use Rattle.fbl_base.proofs.Common.{◌≡◌, ℕ, [], length, slice_index_or}
 use Rattle.fbl_base.proofs.rules.Counts.new.Given as goal
 
 abbrev pub invariant-loop : goal.invariant-loop

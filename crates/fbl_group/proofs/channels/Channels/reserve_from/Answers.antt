@@ -1,5 +1,4 @@
-use Rattle.fbl_group.proofs.Common.{◌-◌, length, ◌∙◌, arith, rooms}
-use Rattle.std.proofs.Common.{deque_len, deque_capacity}
+use Rattle.fbl_group.proofs.Common.{◌-◌, length, ◌∙◌, arith, rooms, deque_len, deque_capacity}
 use Rattle.fbl_group.proofs.Queues.{found, listed, reserved-more}
 use Rattle.fbl_group.proofs.channels.Channels.reserve_from.Goals as goal
 

@@ -1,5 +1,5 @@
-use Rattle.fbl_group.proofs.Common.{◌≡◌, ◌+◌, ◌-◌, ◌++◌, ◌∷◌, [], List, length, map, get_or, sym, ap, ◌∙◌, arith, append_assoc, into_iter_items, Event, Message}
-use Rattle.fbl_group.proofs.Common.{rows, rooms, with_sent, send_of_message}
+use Rattle.fbl_group.proofs.Common.{◌≡◌, ◌+◌, ◌-◌, ◌++◌, ◌∷◌, [], List, length, map, get_or, sym, ap, ◌∙◌, arith, append_assoc, into_iter_items, Event, Message, rows}
+use Rattle.fbl_group.proofs.Common.{rooms, with_sent, send_of_message}
 use Rattle.std.specs.VecDeque.{deque_len, deque_capacity}
 use Rattle.fbl_group.proofs.Queues.{Sending, sending-more, found, within_row}
 use Rattle.fbl_group.proofs.channels.Channels.send_all.Goals as goal

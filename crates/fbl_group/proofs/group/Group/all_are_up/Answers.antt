@@ -1,6 +1,6 @@
 use Rattle.fbl_group.proofs.Common.{arith, ap, ◌∙◌}
-use Rattle.std.proofs.Common.{nat_cmp}
 use Rattle.std.specs.FinSet as set
+use Rattle.std.proofs.Common.{nat_cmp}
 use Rattle.fbl_group.proofs.group.Group.all_are_up.Goals as goal
 
 pub returns : goal.returns

@@ -1,6 +1,5 @@
-use Rattle.fbl_group.proofs.Common.{arith}
+use Rattle.fbl_group.proofs.Common.{arith, checkpoint_is_recorded}
 use Rattle.fbl_law.specs.GroupLaws.{CheckpointIsRecorded}
-use Rattle.fbl_law.proofs.GroupCheckpoint.{checkpoint_is_recorded}
 use Rattle.fbl_group.proofs.group.Group.checkpoint_received.Goals as goal
 
 pub returns-clause-recorded : goal.returns-clause-recorded

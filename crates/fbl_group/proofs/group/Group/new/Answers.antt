@@ -1,5 +1,4 @@
-use Rattle.fbl_group.proofs.Common.{arith}
-use Rattle.fbl_law.proofs.GroupStart.{group_start_is_sound}
+use Rattle.fbl_group.proofs.Common.{arith, group_start_is_sound}
 use Rattle.fbl_group.proofs.group.Group.new.Goals as goal
 
 pub invariant_of-result : goal.invariant_of-result

@@ -1,6 +1,5 @@
-use Rattle.fbl_group.proofs.Common.{◌≡◌, ℕ, ◌<◌, length, slice_index_or, [], true, member_checkpoint}
+use Rattle.fbl_group.proofs.Common.{◌≡◌, ℕ, ◌<◌, length, slice_index_or, [], true, member_checkpoint, IsByNumber}
 use Rattle.std.specs.FinSet as set
-use Rattle.fbl_table.specs.Receipts.{IsByNumber}
 use Rattle.fbl_group.proofs.group.Group.number_receipts.Given as goal
 
 abbrev pub invariant-loop-number : goal.invariant-loop-number

@@ -1,7 +1,5 @@
-use Rattle.fbl_group.proofs.Common.{subst, IsSound, knowledge, no_orphan, sound_records_first}
+use Rattle.fbl_group.proofs.Common.{subst, IsSound, knowledge, no_orphan, sound_records_first, sound_holds_each_receipt, any_survivors_hold, IsRecorded-before}
 use Rattle.fbl_law.specs.Headline.{SoundHoldsEachReceipt}
-use Rattle.fbl_law.proofs.Promises.{sound_holds_each_receipt, any_survivors_hold}
-use Rattle.fbl_law.proofs.Safe.{IsRecorded-before}
 use Rattle.fbl_group.proofs.group.Group.promises.Goals as goal
 
 pub returns : goal.returns

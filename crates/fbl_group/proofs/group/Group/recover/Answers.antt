@@ -1,5 +1,5 @@
+use Rattle.fbl_group.proofs.Common.{recovery_leaves_recorded, group_recovery_gains_holders}
 use Rattle.fbl_law.specs.RecoveryLaws.{RecoveryLeavesRecorded, GroupRecoveryGainsHolders}
-use Rattle.fbl_law.proofs.GroupRecovery.{recovery_leaves_recorded, group_recovery_gains_holders}
 use Rattle.fbl_group.proofs.Promised.{undoes_lost}
 use Rattle.fbl_group.proofs.group.Group.recover.Goals as goal
 

@@ -1,6 +1,5 @@
-use Rattle.fbl_group.proofs.Common.{◌∙◌, arith, rules}
+use Rattle.fbl_group.proofs.Common.{◌∙◌, arith, rules, replaying-next, replaying-room}
 use Rattle.fbl_group.proofs.Recovering.{is-record, replays-one}
-use Rattle.fbl_law.proofs.ReplayLaws.{replaying-next, replaying-room}
 use Rattle.fbl_group.proofs.group.Group.replay_next.Goals as goal
 
 pub index_mut-record-requires : goal.index_mut-record-requires

@@ -1,6 +1,4 @@
-use Rattle.fbl_group.proofs.Common.{arith}
-use Rattle.fbl_base.proofs.FoldLaws.{after_notes-state}
-use Rattle.fbl_law.specs.Sound.{received_notes}
+use Rattle.fbl_group.proofs.Common.{arith, after_notes-state, received_notes}
 use Rattle.fbl_group.proofs.group.Group.state.Goals as goal
 
 pub returns-clause-causes : goal.returns-clause-causes

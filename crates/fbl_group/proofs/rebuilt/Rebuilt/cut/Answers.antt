@@ -1,5 +1,4 @@
-use Rattle.fbl_group.proofs.Common.{rules}
-use Rattle.std.proofs.lemmas.Fn.{filter_same}
+use Rattle.fbl_group.proofs.Common.{rules, filter_same}
 use Rattle.fbl_group.proofs.rebuilt.Rebuilt.cut.Goals as goal
 
 pub returns : goal.returns

@@ -1,8 +1,5 @@
-use Rattle.fbl_history.proofs.Common.{List, ◌++◌, drop, sym, ap, ◌∙◌, Column, go_on, trace_columns}
-use Rattle.std.proofs.Common.{Ok}
-use Rattle.std.proofs.lemmas.Iterator.Consumers.{YieldsList-at}
-use Rattle.std.proofs.lemmas.Iterator.Adapters.{YieldsList-from_skip, YieldsList-from_vec, items_from_extend}
-use Rattle.std.specs.declared.alloc.AllocError.{AllocError}
+use Rattle.fbl_history.proofs.Common.{List, ◌++◌, drop, sym, ap, ◌∙◌, Column, go_on, trace_columns, Ok, YieldsList-at, YieldsList-from_skip, YieldsList-from_vec, items_from_extend}
+use Rattle.fbl_history.proofs.Common.{AllocError}
 use Rattle.fbl_history.proofs.history.History.go_on.Goals as goal
 
 pub returns : goal.returns

@@ -1,5 +1,4 @@
-use Rattle.fbl_member.proofs.Common.{◌-◌, Some, ◌∙◌, arith, length, refl, take, piggybacked, slice_get_read, HasRoom}
-use Rattle.std.proofs.lemmas.List.Elements.{All-pop}
+use Rattle.fbl_member.proofs.Common.{◌-◌, Some, ◌∙◌, arith, length, refl, take, piggybacked, slice_get_read, HasRoom, All-pop}
 use Rattle.fbl_member.proofs.Logs.{messages-next, made-carried}
 use Rattle.fbl_member.proofs.Once.{IsOnce-piggybacked}
 use Rattle.fbl_member.proofs.buffers.Buffers.into_wires.Goals as goal

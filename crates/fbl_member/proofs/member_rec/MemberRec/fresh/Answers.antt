@@ -1,5 +1,4 @@
-use Rattle.fbl_member.proofs.Common.{refl, ◌≡◌, ap, ◌∙◌, arith, length, take, append-nil, starts_of, slice_get_read}
-use Rattle.std.proofs.lemmas.List.{take_all}
+use Rattle.fbl_member.proofs.Common.{refl, ◌≡◌, ap, ◌∙◌, arith, length, take, append-nil, starts_of, slice_get_read, take_all}
 use Rattle.fbl_member.proofs.Logs.{starts-step, few_starts}
 use Rattle.fbl_member.proofs.member_rec.MemberRec.fresh.Goals as goal
 use Rattle.fbl_member.proofs.member_rec.MemberRec.fresh.Goals.{then-eq+in_ok-push, else-eq}

@@ -1,5 +1,4 @@
-use Rattle.fbl_member.proofs.Common.{◌-◌, ◌<◌, ◌≤◌, ap, sym, arith, length}
-use Rattle.std.proofs.lemmas.Option.{slice_get-get_or, slice_get_past}
+use Rattle.fbl_member.proofs.Common.{◌-◌, ◌<◌, ◌≤◌, ap, sym, arith, length, slice_get-get_or, slice_get_past}
 use Rattle.fbl_member.proofs.Logs.{noted-at, noted-none}
 use Rattle.fbl_member.proofs.member_rec.MemberRec.log_note.Goals as goal
 

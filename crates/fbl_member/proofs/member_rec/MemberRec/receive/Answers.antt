@@ -1,8 +1,7 @@
-use Rattle.fbl_member.proofs.Common.{◌≡◌, ◌+◌, ◌≤◌, ◌++◌, ap, arith, length, refl, Determinant, piggybacked, HasRoom}
-use Rattle.std.proofs.lemmas.List.Elements.{All-weaker}
+use Rattle.fbl_member.proofs.Common.{◌≡◌, ◌+◌, ◌≤◌, ◌++◌, ap, arith, length, refl, Determinant, piggybacked, HasRoom, All-weaker}
 use Rattle.fbl_member.proofs.Logs.{bounded, numbered-more}
-use Rattle.fbl_member.proofs.member_rec.MemberRec.receive.Given.{Over}
 use Rattle.fbl_member.proofs.member_rec.MemberRec.receive.Goals as goal
+use Rattle.fbl_member.proofs.member_rec.MemberRec.receive.Given.{Over}
 use Rattle.fbl_member.proofs.member_rec.MemberRec.receive.Goals.{After-unwrap}
 
 -- the log with the step's sends at its end

@@ -1,9 +1,8 @@
-use Rattle.fbl_table.proofs.Common.{◌≡◌, ◌++◌, [], ◌∷◌, ◌∙◌, None, ap, sym, length, map, length-map, lookup, insert_entry, same_determinant}
-use Rattle.fbl_table.proofs.Common.{Entry, listed, entry_of}
+use Rattle.fbl_table.proofs.Common.{◌≡◌, ◌++◌, [], ◌∷◌, ◌∙◌, None, ap, sym, length, map, length-map, lookup, insert_entry, same_determinant, Entry, listed, entry_of}
 use Rattle.fbl_table.proofs.Adding.{Pairs, added_new, added_there, inserted, inserted_over, place_in, not_held-missing, place-missing}
 use Rattle.fbl_table.proofs.Indexing.{index-push, index-united}
-use Rattle.fbl_table.proofs.indexed.IndexedEntries.add_by_hash.Given.{Over}
 use Rattle.fbl_table.proofs.indexed.IndexedEntries.add_by_hash.Goals as goal
+use Rattle.fbl_table.proofs.indexed.IndexedEntries.add_by_hash.Given.{Over}
 use Rattle.fbl_table.proofs.indexed.IndexedEntries.add_by_hash.Goals.{After-unwrap-place}
 
 -- what the map did, once its answer is read

@@ -1,5 +1,4 @@
-use Rattle.fbl_table.proofs.Common.{rules, ◌≡◌}
-use Rattle.std.proofs.lemmas.Map.Entries.{entries_from_clone}
+use Rattle.fbl_table.proofs.Common.{rules, ◌≡◌, entries_from_clone}
 use Rattle.fbl_table.proofs.indexed.IndexedEntries.copy.Goals as goal
 
 pub returns-clause-indexed : goal.returns-clause-indexed

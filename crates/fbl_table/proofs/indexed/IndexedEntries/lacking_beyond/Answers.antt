@@ -1,6 +1,4 @@
-use Rattle.fbl_table.proofs.Common.{arith, listed}
-use Rattle.std.proofs.Common.{add-zero}
-use Rattle.std.proofs.lemmas.List.{drop_all}
+use Rattle.fbl_table.proofs.Common.{arith, listed, add-zero, drop_all}
 use Rattle.fbl_table.proofs.Adding.{held_at, lacks-next}
 use Rattle.fbl_table.proofs.indexed.IndexedEntries.lacking_beyond.Goals as goal
 

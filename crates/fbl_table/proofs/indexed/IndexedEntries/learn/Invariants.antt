@@ -1,5 +1,4 @@
-use Rattle.fbl_table.proofs.Common.{◌≡◌, ◌+◌, ◌≤◌, take, listed, room, learned}
-use Rattle.fbl_table.specs.Indexed.{IsIndexed}
+use Rattle.fbl_table.proofs.Common.{◌≡◌, ◌+◌, ◌≤◌, take, listed, room, learned, IsIndexed}
 use Rattle.fbl_table.proofs.indexed.IndexedEntries.learn.Given as goal
 
 abbrev pub invariant-loop-entry : goal.invariant-loop-entry

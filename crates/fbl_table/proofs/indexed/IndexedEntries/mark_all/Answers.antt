@@ -1,5 +1,4 @@
-use Rattle.fbl_table.proofs.Common.{◌≡◌, ◌∙◌, sym, ap, arith, length, true, length-map, listed, KeepsIndex, entry_of, marked}
-use Rattle.indexmap.specs.Layout.{length-set_value_at}
+use Rattle.fbl_table.proofs.Common.{◌≡◌, ◌∙◌, sym, ap, arith, length, true, length-map, listed, KeepsIndex, entry_of, marked, length-set_value_at}
 use Rattle.fbl_table.proofs.Adding.{mark-all, mark-at}
 use Rattle.fbl_table.proofs.Indexing.{index-marked}
 use Rattle.fbl_table.proofs.Keeping.{keeps_more}

@@ -1,5 +1,4 @@
-use Rattle.fbl_table.proofs.Common.{◌≡◌, length, listed}
-use Rattle.indexmap.specs.IndexMap.{spare}
+use Rattle.fbl_table.proofs.Common.{◌≡◌, length, listed, spare}
 use Rattle.fbl_table.proofs.Adding.{marked_first}
 use Rattle.fbl_table.proofs.indexed.IndexedEntries.mark_all.Given as goal
 

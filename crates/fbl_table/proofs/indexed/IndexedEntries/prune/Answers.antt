@@ -1,5 +1,4 @@
-use Rattle.fbl_table.proofs.Common.{◌≡◌, rules, arith, filter, listed, open_at}
-use Rattle.std.proofs.lemmas.Fn.{filter_same}
+use Rattle.fbl_table.proofs.Common.{◌≡◌, rules, arith, filter, listed, open_at, filter_same}
 use Rattle.fbl_table.proofs.Indexing.{index-pruned}
 use Rattle.fbl_table.proofs.indexed.IndexedEntries.prune.Goals as goal
 

@@ -1,5 +1,4 @@
-use Rattle.fbl_table.proofs.Common.{[], ◌∷◌, ◌+◌, ap, arith, length, ◌∙◌, refl, take, listed, piggybacked}
-use Rattle.std.proofs.lemmas.List.{append_assoc, length-append}
+use Rattle.fbl_table.proofs.Common.{[], ◌∷◌, ◌+◌, ap, arith, length, ◌∙◌, refl, take, listed, piggybacked, append_assoc, length-append}
 use Rattle.fbl_table.proofs.Passing.{passed-next, passed-first}
 use Rattle.fbl_table.proofs.indexed.IndexedEntries.push_all.Goals as goal
 

@@ -1,8 +1,5 @@
 use Rattle.fbl_table.proofs.Common.{◌≡◌, ◌<◌, [], ◌∷◌, ◌++◌, ◌∙◌, ℕ, List, Some, ap, refl, arith, get_or, length, slice_get, take, take_all, filter_map, vec_capacity}
-use Rattle.fbl_table.proofs.Common.{listed}
-use Rattle.std.proofs.lemmas.List.{append_assoc}
-use Rattle.std.proofs.lemmas.List.Elements.{filter_map-append}
-use Rattle.std.proofs.lemmas.Option.{slice_get-get_or}
+use Rattle.fbl_table.proofs.Common.{listed, append_assoc, filter_map-append, slice_get-get_or}
 use Rattle.fbl_table.proofs.Adding.{take-next}
 use Rattle.fbl_table.proofs.Indexing.{open-length, open-piggybacked, open-within}
 use Rattle.fbl_table.proofs.indexed.IndexedEntries.push_open.Goals as goal

@@ -1,5 +1,4 @@
-use Rattle.fbl_table.proofs.Common.{◌≡◌, ◌+◌, ◌++◌, take, slice_get, filter_map, vec_capacity, listed}
-use Rattle.std.specs.Vec.{vec_len}
+use Rattle.fbl_table.proofs.Common.{◌≡◌, ◌+◌, ◌++◌, take, slice_get, filter_map, vec_capacity, listed, vec_len}
 use Rattle.fbl_table.proofs.indexed.IndexedEntries.push_open.Given as goal
 
 abbrev pub invariant-loop-place : goal.invariant-loop-place

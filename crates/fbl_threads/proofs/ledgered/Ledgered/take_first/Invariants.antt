@@ -1,5 +1,4 @@
-use Rattle.fbl_threads.proofs.Common.{ℕ, ◌<◌}
-use Rattle.fbl_threads.specs.Turns.{MayTake}
+use Rattle.fbl_threads.proofs.Common.{ℕ, ◌<◌, MayTake}
 use Rattle.fbl_threads.proofs.ledgered.Ledgered.take_first.Given as goal
 
 abbrev pub invariant-loop-number : goal.invariant-loop-number

@@ -1,0 +1,34 @@
+-- The names that proofs of this crate take from outside: of the standard library, of the crates below, and of the definitions here.
+pub use Rattle.std.proofs.Common.{Err, IfErr, IfSome, List, None, Ok, OnErr, OnOk, Option, Result, Some, String, [], add-one, ap, append_assoc, arith, below_more, cond, drop, drop-cons, false, get_or}
+pub use Rattle.std.proofs.Common.{inl, inr, length, length-drop, length-take, map, option_and_then, option_map, refl, slice_get, string_bytes, subst, suc, sym, take, true, vec_len, ℕ, ◌++◌}
+pub use Rattle.std.proofs.Common.{◌+◌, ◌-◌, ◌<◌, ◌∙◌, ◌∷◌, ◌≡◌, ◌≤◌, ◌⊎◌}
+pub use Rattle.std.proofs.Math.Seq.{take-add}
+pub use Rattle.std.proofs.lemmas.Bool.{lt-ltb}
+pub use Rattle.std.proofs.lemmas.Grind.{common_steps}
+pub use Rattle.std.proofs.lemmas.List.{length-map, take_all}
+pub use Rattle.std.proofs.lemmas.Option.{slice_get-get_or, slice_get-map}
+pub use Rattle.std.proofs.lemmas.Str.{IsUtf8-from_is_utf8, is_utf8-from_IsUtf8}
+pub use Rattle.std.specs.Cmp.{nat_cmp_total}
+pub use Rattle.std.specs.Io.KnownBytes.{Appends, Consumes, IsAtEnd, Keeps}
+pub use Rattle.std.specs.List.{find}
+pub use Rattle.std.specs.Ordering.{nat_cmp}
+pub use Rattle.std.specs.Prelude.{is_some, not}
+pub use Rattle.std.specs.Result.{IsErrAnd}
+pub use Rattle.std.specs.Str.{IsUtf8}
+pub use Rattle.std.specs.declared.alloc.Global.{Global}
+pub use Rattle.fbl_base.specs.declared.config.ConfigRefusal.{ConfigRefusal}
+pub use Rattle.fbl_base.specs.declared.refusal.DumpRefusal.{DumpRefusal}
+pub use Rattle.serde_json.specs.Data.{Data}
+pub use Rattle.serde_json.specs.Find.{get}
+pub use Rattle.serde_json.specs.Read.{read}
+pub use Rattle.serde_json.specs.View.{items_of, members_view, view}
+pub use Rattle.serde_json.specs.declared.value.Value.{Value}
+pub use Rattle.fbl_input.specs.Faults.{FailsToRead, IsFirstFault, IsReadRefused, PutsOut}
+pub use Rattle.fbl_input.specs.Items.{is_item, items_at}
+pub use Rattle.fbl_input.specs.Misfits.{Gives, IsBadItem, IsFirstOther, IsMisfit, run_fault}
+pub use Rattle.fbl_input.specs.Shapes.{Fails, all_shaped, as_list, elements, field, is_key_of, json_of, list_of, longest, member_shape, name_of, or_fault, other_key, value_of_input, ◌>>=◌}
+pub use Rattle.fbl_input.specs.declared.fault.Key.{Key}
+pub use Rattle.fbl_input.specs.declared.fault.RunFault.{RunFault}
+pub use Rattle.fbl_input.specs.declared.fault.RunFault.TheVariants.{NotJson}
+pub use Rattle.fbl_input.specs.declared.input_fault.InputFault.{InputFault}
+pub use Rattle.fbl_input.specs.declared.input_fault.InputKind.{InputKind}
