@@ -27,14 +27,4 @@ lost_test dump d = by_test (is_held_outside dump d) refl where
         absurd (false≢true (sym is ∙ (Decides-is_held_outside dump d).1 (q.0, (holds dump d q.0).0 out.1, out.0)))
   ]
 
--- what the test of an event says
-pub lost_receipt : (dump : Parts) (e : Mark) (d : Determinant) → determinant_of e ≡ Some d → Decides (not (is_held_outside dump d)) (IsLost dump e)
-lost_receipt dump (Send from ssn to) d is = cc
-lost_receipt dump (Receipt to rsn from ssn) d is =
-    let same : record { from = from; ssn = ssn; to = to; rsn = rsn } ≡ d = cc in
-    let held = Decides-is_held_outside dump d in
-    rw same (grind (arith, held))
-
-pub send_is_kept : (dump : Parts) (e : Mark) → determinant_of e ≡ None → ¬ (IsLost dump e)
-send_is_kept dump (Send from ssn to) is lost = lost
-send_is_kept dump (Receipt to rsn from ssn) is lost = cc
+pub ruleset held_outside = (Decides-is_held_outside)

@@ -1,16 +1,15 @@
 -- Which receipts are unsafe, and that the run is safe where none is.
-use Rattle.fbl_audit.proofs.Common.{ℕ, Bool, true, false, ◌≡◌, ◌<◌, ◌≤◌, ◌+◌, ◌==◌, ◌↔◌, inl, inr, List, [], ◌∷◌, ◌++◌, length, take, map, Some, refl, sym}
-use Rattle.fbl_audit.proofs.Common.{ap, ◌∙◌, arith, get_or, max, zero, suc, slice_get, filter, filter_map, nat_cmp_total, slice_get_read, false≢true, Members, Determinant, Mark, Send, Receipt}
-use Rattle.fbl_audit.proofs.Common.{Parts, IsDump, IsDumpOrphan, IsLost, At, determinant_of, receipt_of, same_determinant, Depends, depends-from_places, places-from_depends, Has-first}
-use Rattle.fbl_audit.proofs.Common.{Decides-same_determinant, len-remove_one, len-within, some_member, IsSafe, SaysUnsafe, receipts_of_dump, Dependents, AreDependents, WellFormed, holders_of}
-use Rattle.fbl_audit.proofs.Common.{◌&&◌, Contains, cons_option, list_any, take_more, filter_map-append, Any-from_list_any, list_any-from_Any, and_parts, eqb-true, filter_map-At, eqb-self}
-use Rattle.fbl_audit.proofs.Common.{UnsafeReceipt, IsLeftOrphan, IsSaidOf, IsUnsafe, LosesReceipt, MayBeLost, struck_by, dependents_at}
+use Rattle.fbl_audit.proofs.Common.{ℕ, Bool, true, false, ◌≡◌, ◌<◌, ◌≤◌, ◌==◌, ◌↔◌, inl, inr, List, [], ◌∷◌, length, map, Some, refl, sym, ap, ◌∙◌, arith}
+use Rattle.fbl_audit.proofs.Common.{get_or, max, zero, suc, slice_get, filter, nat_cmp_total, slice_get_read, false≢true, Members, Determinant, Mark, Send, Receipt, Parts, IsDump, IsDumpOrphan}
+use Rattle.fbl_audit.proofs.Common.{IsLost, At, determinant_of, receipt_of, same_determinant, Depends, depends-from_places, places-from_depends, Has-first, Decides-same_determinant, len-remove_one}
+use Rattle.fbl_audit.proofs.Common.{len-within, some_member, IsSafe, SaysUnsafe, receipts_of_dump, Dependents, AreDependents, WellFormed, holders_of, ◌&&◌, Contains, list_any, Any-from_list_any}
+use Rattle.fbl_audit.proofs.Common.{list_any-from_Any, and_parts, eqb-true, filter_map-At, eqb-self, UnsafeReceipt, IsLeftOrphan, IsSaidOf, IsUnsafe, LosesReceipt, MayBeLost, struck_by, dependents_at}
 use Rattle.std.specs.FinSet as set
 use Rattle.fbl_audit.proofs.Following.{contains-both}
 
 -- ---- who holds a determinant
 
-abbrev is_pair : Determinant → ℕ → ℕ × Determinant → Bool
+abbrev pub is_pair : Determinant → ℕ → ℕ × Determinant → Bool
 is_pair d holder h = same_determinant h.1 d && (h.0 == holder)
 
 any_holder : (d : Determinant) (holder : ℕ) (held : List (ℕ × Determinant))
@@ -18,19 +17,20 @@ any_holder : (d : Determinant) (holder : ℕ) (held : List (ℕ × Determinant))
 any_holder d holder [] = refl
 any_holder d holder (x ∷ xs) = (let rest = any_holder d holder xs in grind (arith, rest))
 
+pub contains-holders : (dump : Parts) (d : Determinant) (holder : ℕ) → set.contains (holders_of dump d) holder ≡ list_any (is_pair d holder) dump.held
+contains-holders dump d holder = set.contains-from_list_nat _ holder ∙ any_holder d holder dump.held
+
 -- the index has exactly the holders that the pairs name
 pub holds : (dump : Parts) (d : Determinant) (holder : ℕ) → (set.contains (holders_of dump d) holder ≡ true) ↔ Contains dump.held (holder, d)
 holds dump d holder = (
   λ h.
-      let a = Any-from_list_any (is_pair d holder) dump.held (sym same ∙ h) in
+      let a = Any-from_list_any (is_pair d holder) dump.held (sym (contains-holders dump d holder) ∙ h) in
       let b = and_parts (same_determinant a.1.1 d) (a.1.0 == holder) a.4 in
       let det : a.1.1 ≡ d = (Decides-same_determinant a.1.1 d).0 b.0 in
       let member : a.1.0 ≡ holder = eqb-true a.1.0 holder b.1 in
       (a.0, a.2, (let pair : (holder, d) ≡ a.1 = (λ i. (sym member i, sym det i)) in rw pair a.3)),
-  λ r. same ∙ list_any-from_Any (is_pair d holder) dump.held (r.0, (holder, d), r.1, r.2, (rw ((Decides-same_determinant d d).1 refl, eqb-self holder))),
-) where
-  same : set.contains (holders_of dump d) holder ≡ list_any (is_pair d holder) dump.held
-  same = set.contains-from_list_nat _ holder ∙ any_holder d holder dump.held
+  λ r. contains-holders dump d holder ∙ list_any-from_Any (is_pair d holder) dump.held (r.0, (holder, d), r.1, r.2, (rw ((Decides-same_determinant d d).1 refl, eqb-self holder))),
+)
 
 -- ---- one receipt
 
@@ -105,25 +105,9 @@ module _ (dump : Parts) (rules : IsDump dump) (d : Determinant) (dependents : Me
 
 -- ---- all receipts
 
--- one more receipt
-pub says_more : (dump : Parts) (ds more : List Determinant) (said said' : List UnsafeReceipt) → SaysUnsafe dump ds said → SaysUnsafe dump more said'
-    → SaysUnsafe dump (ds ++ more) (said ++ said')
-says_more dump [] more said said' first last = (rw first last)
-says_more dump (d ∷ ds) more said said' first last = elim first [
-  | inl safe ↦ inl (safe.0, says_more dump ds more said said' safe.1 last)
-  | inr un ↦ inr (un.0, un.1 ++ said', (rw un.2 refl), un.3, says_more dump ds more un.1 said' un.4 last)
-]
-
 -- an unsafe receipt is one that is not safe
 said_is_unsafe : (dump : Parts) (d : Determinant) (said : UnsafeReceipt) → IsSaidOf dump d said → IsUnsafe dump d
 said_is_unsafe dump d said is = (said.strike, is.may, is.loses, (is.some.0, (is.orphans is.some.0).0 is.some.1))
-
--- the events go on by one
-pub says_next : (dump : Parts) (events : List Mark) (i : ℕ) (e : Mark) → i < length events → e ≡ get_or events i e → (said said' : List UnsafeReceipt)
-    → SaysUnsafe dump (filter_map determinant_of (take i events)) said → SaysUnsafe dump (cons_option (determinant_of e) []) said'
-    → SaysUnsafe dump (filter_map determinant_of (take (i + 1) events)) (said ++ said')
-says_next dump events i e within is said said' says here =
-    rw (take_more events i e within, ← is, filter_map-append determinant_of (take i events) (e ∷ [])) (says_more dump _ _ said said' says here)
 
 -- nothing is said exactly where no receipt is unsafe
 says_none : (dump : Parts) (ds : List Determinant) (said : List UnsafeReceipt) → SaysUnsafe dump ds said

@@ -1,29 +1,27 @@
 -- The names that proofs of this crate take from outside: of the standard library, of the crates below, and of the definitions here.
-pub use Rattle.std.proofs.Common.{Bool, Decides, List, None, Option, Some, [], ap, arith, below_more, cond, false, get_or, inl, inr, length, length-append, length-set, map, max, not, option_and_then}
-pub use Rattle.std.proofs.Common.{refl, replicate, reverse, slice_get, suc, sym, take, true, unwrap_or, zero, ℕ, ◌&&◌, ◌++◌, ◌+◌, ◌-◌, ◌<◌, ◌==◌, ◌↔◌, ◌∙◌}
-pub use Rattle.std.proofs.Common.{◌∷◌, ◌≡◌, ◌≢◌, ◌≤◌, ◌⊎◌}
+pub use Rattle.std.proofs.Common.{Bool, Decides, List, None, Option, Some, [], ap, append_assoc, arith, below_more, cond, drop, false, get_or, inl, inr, length, length-append, length-set, map, max}
+pub use Rattle.std.proofs.Common.{not, option_and_then, refl, replicate, reverse, slice_get, suc, sym, true, unwrap_or, zero, ℕ, ◌&&◌, ◌++◌, ◌+◌, ◌-◌, ◌<◌, ◌==◌, ◌||◌}
+pub use Rattle.std.proofs.Common.{◌↔◌, ◌∙◌, ◌∷◌, ◌≡◌, ◌≢◌, ◌≤◌, ◌⊎◌}
 pub use Rattle.std.proofs.lemmas.Bool.{and_parts, cases_eq, cases_lt, eqb-true, false≢true}
 pub use Rattle.std.proofs.lemmas.Bool.Decides.{nat_tests}
 pub use Rattle.std.proofs.lemmas.Grind.{common_steps}
-pub use Rattle.std.proofs.lemmas.List.{append-nil, get_or_append_left, get_or_push, map-append, reverse-append, take_all, take_more}
-pub use Rattle.std.proofs.lemmas.List.Elements.{filter_map-append, filter_more}
+pub use Rattle.std.proofs.lemmas.List.{append-nil, drop_all, get_or_append_left, get_or_push, reverse-append}
 pub use Rattle.std.proofs.lemmas.List.Folds.{Any-from_list_any, list_any-from_Any}
 pub use Rattle.std.proofs.lemmas.Option.{IfSome_then, slice_get_read}
 pub use Rattle.std.proofs.lemmas.Result.{IfOk-weaker}
 pub use Rattle.std.specs.Cmp.{nat_cmp_total, unsigned_tied}
-pub use Rattle.std.specs.List.{Contains, cons_option, filter, filter_map, list_any}
-pub use Rattle.std.specs.Option.{is_some, option_or}
+pub use Rattle.std.specs.List.{Contains, filter, filter_map, list_any}
+pub use Rattle.std.specs.Option.{is_some, option_map_or, option_or}
 pub use Rattle.std.specs.Ordering.{nat_cmp}
-pub use Rattle.fbl_base.proofs.Gets.{At-below, At-push, filter_map-At, get_or-same}
+pub use Rattle.fbl_base.proofs.Gets.{At-below, At-push, drop_next, filter_map-At, get_or-same}
 pub use Rattle.fbl_base.proofs.PlacesAndEvents.{Precedes-joined, depends-from_places, places-from_depends}
 pub use Rattle.fbl_base.proofs.PrecedenceLaws.{Has-first}
 pub use Rattle.fbl_base.proofs.Recorded.{Decides-is_held_outside, Decides-same_determinant}
 pub use Rattle.fbl_base.proofs.RulesLaws.{eqb-self}
-pub use Rattle.fbl_base.proofs.Sifted.{more}
 pub use Rattle.fbl_base.proofs.Sizes.{len-remove_one, len-within, some_member}
-pub use Rattle.fbl_base.specs.Audit.{IsDump, IsDumpOrphan, IsLost, Parts, is_held_outside}
+pub use Rattle.fbl_base.specs.Audit.{IsDump, IsDumpOrphan, IsLost, Parts, is_held_outside, lost_determinants}
 pub use Rattle.fbl_base.specs.Events.{At, determinant_of, member_of, receipt_of, same_determinant, send_of}
-pub use Rattle.fbl_base.specs.MemberSets.{Members}
+pub use Rattle.fbl_base.specs.MemberSets.{Members, same_from_contains}
 pub use Rattle.fbl_base.specs.Places.{DependsOnPlace, PlaceLeads, PlacePrecedes, place_step, same_place}
 pub use Rattle.fbl_base.specs.Precedence.{Depends, Has}
 pub use Rattle.fbl_base.specs.Rules.{WellFormed}
@@ -34,7 +32,7 @@ pub use Rattle.fbl_audit.specs.Checking.{IsLeftOrphan, IsSafe, IsSaidOf, IsUnsaf
 pub use Rattle.fbl_audit.specs.Dependents.{AreDependents, dependents_at, dependents_by, known_after, known_of, message_taken_by, same_addressed_message}
 pub use Rattle.fbl_audit.specs.Holders.{holders_of}
 pub use Rattle.fbl_audit.specs.Laws.{HasAlwaysNoOrphans, SafeLaw}
-pub use Rattle.fbl_audit.specs.Paths.{ArePaths, IsBefore, IsCause, IsEndBy, IsFirstCause, IsFoundBy, IsPath, Origin, end_after, message_sent_by, path_end, path_step, place_before, sent_after}
+pub use Rattle.fbl_audit.specs.Paths.{IsBefore, IsCause, IsEndBy, IsFirstCause, IsFoundBy, IsPath, end_after, message_sent_by, path_end, path_step, place_before, sent_after}
 pub use Rattle.fbl_audit.specs.declared.checking.UnsafeReceipt.{UnsafeReceipt}
 pub use Rattle.fbl_audit.specs.declared.dependents.Dependents.{Dependents}
 pub use Rattle.fbl_audit.specs.declared.dependents.Message.{Message}

@@ -1,9 +1,9 @@
 -- A pass from the end of a trace finds who depends on each event.
 use Rattle.fbl_audit.proofs.Common.{ℕ, Bool, true, false, ◌≡◌, ◌<◌, ◌≤◌, ◌+◌, ◌⊎◌, ◌↔◌, inl, inr, List, length, Some, refl, sym, ap, ◌∙◌, arith, get_or}
 use Rattle.fbl_audit.proofs.Common.{length-set, length-append, ◌-◌, ◌++◌, [], ◌∷◌, cond, replicate, Decides, nat_tests, false≢true, cases_eq, nat_cmp_total, Mark, Send, Receipt, At}
-use Rattle.fbl_audit.proofs.Common.{member_of, send_of, WellFormed, PlaceLeads, PlacePrecedes, same_place, place_step, Members, At-below, get_or-same, Message, Dependents, AreDependents}
-use Rattle.fbl_audit.proofs.Common.{message_taken_by, same_addressed_message, ◌==◌, common_steps, unsigned_tied, get_or_push, get_or_append_left, nat_cmp, DependsOnPlace, Precedes-joined}
-use Rattle.fbl_audit.proofs.Common.{dependents_by, known_after}
+use Rattle.fbl_audit.proofs.Common.{member_of, send_of, WellFormed, PlaceLeads, PlacePrecedes, same_place, place_step, Members, At-below, get_or-same, Message, message_taken_by, option_map_or}
+use Rattle.fbl_audit.proofs.Common.{same_addressed_message, ◌==◌, common_steps, unsigned_tied, get_or_push, get_or_append_left, nat_cmp, DependsOnPlace, Precedes-joined, dependents_by}
+use Rattle.fbl_audit.proofs.Common.{known_after}
 use Rattle.std.specs.FinSet as set
 use Rattle.std.proofs.Common.{set as set_at}
 
@@ -123,17 +123,11 @@ dependents_right t i by_member by_message (Receipt to rsn from ssn) at below kno
 
 -- whether the event takes the message
 abbrev takes : Message → Mark → Bool
-takes m (Send from ssn to) = false
-takes m (Receipt to rsn from ssn) = same_addressed_message (record { from = from; ssn = ssn; to = to }) m
+takes m e = option_map_or (λ taken. same_addressed_message taken m) (message_taken_by e) false
 
 Decides-takes : (m : Message) (e : Mark) → Decides (takes m e) (Takes m e)
 Decides-takes m (Send from ssn to) = (λ h. cc, λ h. cc)
 Decides-takes m (Receipt to rsn from ssn) = grind (arith, nat_tests)
-
-known_by_test : (known : Message → Members) (e : Mark) (found : Members) (m : Message)
-    → known_after known (message_taken_by e) found m ≡ cond (takes m e) (set.union (known m) found) (known m)
-known_by_test known (Send from ssn to) found m = refl
-known_by_test known (Receipt to rsn from ssn) found m = refl
 
 -- an element that is changed in its place
 pub set_by_test : {X : Type 0} (xs : List X) (n m : ℕ) (f : X → X) (none : X) → n < length xs
@@ -162,7 +156,7 @@ module _ (t : List Mark) (i : ℕ) (by_member : List Members) (by_message : Mess
     room = rw own (length-set by_member (member_of e) _ ∙ knows.room);
     members = λ m within. (rw (own, set_by_test by_member (member_of e) m (λ s. set.union s found) set.empty (omega (arith, below, knows.room)))
         (later_more (λ b. member_of b ≡ m) (member_of e == m) (grind (arith, nat_tests)) _ (knows.members m within)));
-    messages = λ m. (rw (taken m, known_by_test by_message e found m) (later_more (Takes m) (takes m e) (Decides-takes m e) _ (knows.messages m)));
+    messages = λ m. (rw (taken m) (later_more (Takes m) (takes m e) (Decides-takes m e) _ (knows.messages m)));
   }
 
 -- nothing is known behind the last event
@@ -208,13 +202,3 @@ Seen-more t p by_member by_member' by_message by_message' from_the_end e members
 pub member_within : (n : ℕ) (t : List Mark) (i : ℕ) (e : Mark) → WellFormed n t → n ≤ 16 → At t i e → member_of e < 16
 member_within n t i (Send from ssn to) obeys few at = omega (arith, (obeys i (Send from ssn to) at).0, few)
 member_within n t i (Receipt to rsn from ssn) obeys few at = omega (arith, (obeys i (Receipt to rsn from ssn) at).1, few)
-
--- at the end of the pass it has seen all
-pub Seen-all : (t : List Mark) (p : ℕ) (by_member : List Members) (by_message : Message → Members) (found : Dependents) → p ≤ 0
-    → Seen t p by_member by_message found.from_the_end.items → AreDependents t found
-Seen-all t p by_member by_message found none seen =
-    let all : length found.from_the_end.items ≡ length t = omega (arith, seen.count, none) in
-    record {
-      places = all;
-      members = λ i q within. rw all (seen.found i q (omega (arith, none)) within);
-    }

@@ -1,5 +1,4 @@
 pub mod Common
-pub mod Holding
 pub mod Following
 pub mod Checks
 pub mod Searching

@@ -1,19 +1,14 @@
 -- A search from the first event on finds a path to each member that depends on an event.
 use Rattle.fbl_audit.proofs.Common.{below_more, ℕ, Bool, true, false, ◌≡◌, ◌<◌, ◌+◌, ◌⊎◌, inl, inr, List, [], ◌∷◌, ◌++◌, length, Option, Some, None, refl, sym, ap}
-use Rattle.fbl_audit.proofs.Common.{◌∙◌, arith, get_or, length-set, length-append, replicate, reverse, slice_get, cond, nat_tests, slice_get_read, Mark, Send, Receipt, At, member_of, send_of}
-use Rattle.fbl_audit.proofs.Common.{PlaceLeads, PlacePrecedes, same_place, place_step, At-below, get_or-same, Message, message_taken_by, same_addressed_message, ArePaths, IsBefore, IsEndBy, IsPath}
-use Rattle.fbl_audit.proofs.Common.{◌≢◌, option_and_then, is_some, option_or, reverse-append, At-push, IsFoundBy, path_step, Origin, end_after, message_sent_by, place_before, sent_after}
-use Rattle.fbl_audit.proofs.Common.{Decides, ◌==◌}
+use Rattle.fbl_audit.proofs.Common.{◌∙◌, arith, get_or, length-set, length-append, reverse, slice_get, cond, nat_tests, Mark, Send, Receipt, At, member_of, send_of, PlaceLeads}
+use Rattle.fbl_audit.proofs.Common.{PlacePrecedes, same_place, place_step, Message, message_taken_by, option_map_or, same_addressed_message, IsBefore, IsEndBy, IsPath, ◌≢◌, option_and_then}
+use Rattle.fbl_audit.proofs.Common.{is_some, option_or, reverse-append, At-push, IsFoundBy, path_step, end_after, message_sent_by, place_before, sent_after, Decides, ◌==◌}
 use Rattle.fbl_audit.proofs.Following.{same_event, set_by_test}
 
 -- a path is empty, or ends with a step
 last_step : {t : List Mark} {i p : ℕ} → PlacePrecedes t i p → (p ≡ i) ⊎ ((j : ℕ) × PlacePrecedes t i j × PlaceLeads t j p)
 last_step (same_place h) = inl refl
 last_step (place_step {j} q l) = inr (j, q, l)
-
-pub Precedes-has : {t : List Mark} {i p : ℕ} → PlacePrecedes t i p → (e : Mark) × At t p e
-Precedes-has (same_place {a} h) = (a, h)
-Precedes-has (place_step q l) = (l.1, l.4)
 
 -- the send of the message is found, if the event at i precedes it
 abbrev pub IsSentBy : List Mark → ℕ → ℕ → Message → Option ℕ → Type 0
@@ -64,16 +59,11 @@ found_kept t i p P Found none None first = λ k b. below_more (λ j. At t j b �
 
 -- whether the event sends the message
 abbrev sends_it : Message → Mark → Bool
-sends_it m (Send from ssn to) = same_addressed_message (record { from = from; ssn = ssn; to = to }) m
-sends_it m (Receipt to rsn from ssn) = false
+sends_it m e = option_map_or (λ sent. same_addressed_message sent m) (message_sent_by e) false
 
 Decides-sends_it : (m : Message) (e : Mark) → Decides (sends_it m e) (e ≡ Send m.from m.ssn m.to)
 Decides-sends_it m (Send from ssn to) = grind (arith, nat_tests)
 Decides-sends_it m (Receipt to rsn from ssn) = (λ h. cc, λ h. cc)
-
-sent_by_test : (sends : Message → Option ℕ) (e : Mark) (p : ℕ) (m : Message) → sent_after sends (message_sent_by e) p m ≡ cond (sends_it m e) (Some p) (sends m)
-sent_by_test sends (Send from ssn to) p m = refl
-sent_by_test sends (Receipt to rsn from ssn) p m = refl
 
 -- a path comes to the event
 pub Knows-more : (t : List Mark) (i p : ℕ) (ends ends' : List (Option ℕ)) (sends sends' : Message → Option ℕ) (e : Mark) → At t p e → member_of e < 16
@@ -83,7 +73,7 @@ Knows-more t i p ends ends' sends sends' e at below pr knows ends_are sends_are 
   room = rw ends_are (length-set ends (member_of e) _ ∙ knows.room);
   members = λ m within. (rw (ends_are, set_by_test ends (member_of e) m (λ o. option_or o (Some p)) None (omega (arith, below, knows.room)))
       (more (λ b. member_of b ≡ m) _ (member_of e == m) (grind (arith, nat_tests)) _ _ (knows.members m within) (λ own. here_more m own _ (knows.members m within))));
-  messages = λ m. (rw (sends_are m, sent_by_test sends e p m)
+  messages = λ m. (rw (sends_are m)
       (more (λ b. b ≡ Send m.from m.ssn m.to) _ (sends_it m e) (Decides-sends_it m e) _ _ (knows.messages m) (λ is. (omega arith, (rw is at at, pr)))));
 } where
   -- what P holds of is found anew
@@ -103,15 +93,6 @@ Knows-same t i p ends sends none_comes knows = record {
   room = knows.room;
   members = λ m within. found_kept t i p _ _ (λ b at_p own. none_comes) _ (knows.members m within);
   messages = λ m. found_kept t i p _ _ (λ b at_p is. none_comes) _ (knows.messages m);
-}
-
--- nothing is known before the first event
-pub Knows-none : (t : List Mark) (i : ℕ) (ends : List (Option ℕ)) (sends : Message → Option ℕ) → ends ≡ replicate 16 None
-    → ((m : Message) → sends m ≡ None) → Knows t i 0 ends sends
-Knows-none t i ends sends ends_are sends_are = record {
-  room = rw ends_are refl;
-  members = λ m within. (rw (ends_are, get_or-same {X = Option ℕ} 16 m None) (λ k b before. absurd (omega (arith, before))));
-  messages = λ m. (rw (sends_are m) (λ k b before. absurd (omega (arith, before))));
 }
 
 -- ---- the pass
@@ -143,24 +124,8 @@ pub none_comes : (t : List Mark) (i p : ℕ) (o : Option ℕ) → IsBefore t i p
 none_comes t i p (Some k) before none ne pr = cc
 none_comes t i p None before none ne pr = ne (before pr)
 
-pub Seen-all : (t : List Mark) (i p : ℕ) (ends : List (Option ℕ)) (sends : Message → Option ℕ) (earlier : List (Option ℕ)) → Seen t i p ends sends earlier
-    → p ≡ length t → ArePaths (record { events = t; place = i }) earlier ends
-Seen-all t i p ends sends earlier seen all = record {
-  count = seen.count ∙ all;
-  room = seen.knows.room;
-  before = seen.before;
-  members = λ m within. (rw all at (seen.knows.members m within));
-}
-
 -- ---- walking back
 
 -- one more step back
 pub IsPath-back : (t : List Mark) (i k j : ℕ) (path path' : List ℕ) → PlaceLeads t i k → IsPath t k j (reverse path) → path' ≡ path ++ i ∷ [] → IsPath t i j (reverse path')
 IsPath-back t i k j path path' leads is more = rw (more, reverse-append path (i ∷ [])) (path_step leads is)
-
--- what the list has of a place that a path comes to
-pub before_at : (origin : Origin) (earlier ends : List (Option ℕ)) → ArePaths origin earlier ends → (p : ℕ) (o : Option ℕ) → PlacePrecedes origin.events origin.place p
-    → o ≡ get_or earlier p o → IsBefore origin.events origin.place p o
-before_at origin earlier ends are p o comes is =
-    let has = Precedes-has comes in
-    are.before p o (slice_get_read earlier (length earlier) p o refl (omega (arith, are.count, At-below origin.events p has.0 has.1)) is)

@@ -1,5 +1,6 @@
 -- Who depends on each event of a trace.
-use Rattle.std.specs.Prelude.{ℕ, ◌≡◌, ◌<◌, ◌-◌, ◌↔◌, ◌==◌, ◌&&◌, Bool, true, List, length, slice_index_or, Option, Some, None, unwrap_or, if◌then◌else◌}
+use Rattle.std.specs.Prelude.{ℕ, ◌≡◌, ◌<◌, ◌-◌, ◌↔◌, ◌==◌, ◌&&◌, Bool, true, false, List, length, slice_index_or, Option, Some, None, unwrap_or, if◌then◌else◌}
+use Rattle.std.specs.Option.{option_map_or}
 use Rattle.std.specs.FinSet as set
 use Rattle.std.specs.HashMap as hash_map
 use Rattle.fbl_base.specs.MemberSets.{Members}
@@ -24,8 +25,8 @@ known_of map message = unwrap_or (hash_map.get same_addressed_message map messag
 
 -- what is known of messages after an event that takes this one, if it is a receipt, and on which these members depend
 abbrev pub known_after : (Message → Members) → Option Message → Members → Message → Members
-known_after known None members message = known message
-known_after known (Some taken) members message = if same_addressed_message taken message then set.union (known message) members else known message
+known_after known taken members message =
+    if option_map_or (λ t. same_addressed_message t message) taken false then set.union (known message) members else known message
 
 -- the members that depend on an event: its own, those that depend on a later event of it, and those that depend on a
 -- receipt of the message, if it sends one

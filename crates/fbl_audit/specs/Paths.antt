@@ -1,6 +1,6 @@
 -- Why a member depends on an event: a path of steps from the one to the other.
-use Rattle.std.specs.Prelude.{ℕ, ◌≡◌, ◌<◌, List, [], ◌∷◌, Option, Some, None, option_and_then, if◌then◌else◌, length, slice_get, slice_index_or, slice_set}
-use Rattle.std.specs.Option.{option_or}
+use Rattle.std.specs.Prelude.{ℕ, ◌≡◌, ◌<◌, List, [], ◌∷◌, Option, Some, None, false, option_and_then, if◌then◌else◌, length, slice_get, slice_index_or, slice_set}
+use Rattle.std.specs.Option.{option_map_or, option_or}
 use Rattle.fbl_base.specs.declared.trace.Mark.{Mark}
 use Rattle.fbl_base.specs.declared.trace.Mark.TheVariants.{Send, Receipt}
 use Rattle.fbl_base.specs.Audit.{Parts, IsLost}
@@ -61,8 +61,7 @@ end_after ends place event = slice_set ends (member_of event) (option_or (slice_
 
 -- the places of sends, with one more at this place, if this message is sent there
 abbrev pub sent_after : (Message → Option ℕ) → Option Message → ℕ → Message → Option ℕ
-sent_after sends None place m = sends m
-sent_after sends (Some message) place m = if same_addressed_message message m then Some place else sends m
+sent_after sends sent place m = if option_map_or (λ s. same_addressed_message s m) sent false then Some place else sends m
 
 -- the place leads to the one at p, and the event at i precedes it; where there is none, the event at i precedes that at p only as
 -- the same

@@ -3,6 +3,8 @@
 ghost use Rattle.std.specs.Prelude.{◌≡◌, ◌<◌, ◌↔◌, ℕ, true, not, length, IfNone, IfOk, IfSome, MatchOption};
 ghost use Rattle.std.specs.FinSet as set;
 ghost use Rattle.fbl_base.specs.Audit.{IsDump, IsDumpOrphan, IsLost, is_held_outside, lost_determinants};
+ghost use Rattle.fbl_base.specs.Events.{At};
+ghost use Rattle.fbl_base.specs.Places.{DependsOnPlace};
 ghost use Rattle.fbl_audit.specs.Holders.{holders_of};
 ghost use Rattle.fbl_audit.specs.Paths.{IsCause, IsFirstCause, IsOrphanPath};
 
@@ -66,6 +68,37 @@ impl<'a> Audit<'a> {
         self.dump
     }
 
+    /// The dump's events.
+    fn events(&self) -> &[Mark]
+        ensures events { result.now ≡ self.now.events }
+        ensures rules { IsDump self.now }
+    {
+        self.dump.events()
+    }
+
+    /// The event at the place.
+    fn event_at(&self, place: usize) -> &Mark
+        requires { place < length self.now.events }
+        ensures { At self.now.events place result.now }
+    {
+        &self.events()[place]
+    }
+
+    /// The members that depend on the event at the place.
+    fn dependents_of(&self, place: usize) -> MemberSet
+        requires { place < length self.now.events }
+        ensures { (q : ℕ) → (set.contains result q ≡ true) ↔ DependsOnPlace self.now.events q place }
+    {
+        self.dependents.at(place)
+    }
+
+    /// The members that were struck.
+    fn strike(&self) -> MemberSet
+        ensures { result ≡ self.now.strike }
+    {
+        self.dump.strike()
+    }
+
     /// The members that hold the determinant, struck or not.
     pub fn holders(&self, determinant: &Determinant) -> MemberSet
         ensures { result ≡ holders_of self.now determinant.now }
@@ -78,7 +111,7 @@ impl<'a> Audit<'a> {
     pub fn is_lost(&self, determinant: &Determinant) -> bool
         ensures { result ≡ not (is_held_outside self.now determinant.now) }
     {
-        let strike = self.dump.strike();
+        let strike = self.strike();
         self.holders.get(determinant).without(strike).count() == 0
     }
 
@@ -87,9 +120,8 @@ impl<'a> Audit<'a> {
     pub fn lost(&self, alloc: Global) -> Result<Vec<Determinant>, AllocError>
         ensures { IfOk result (λ v. v.items ≡ lost_determinants self.now) }
     {
-        let dump = self.dump;
         let mut lost = Vec::new(alloc);
-        for event in dump.events() {
+        for event in self.events() {
             if let Some(determinant) = event.determinant() {
                 if self.is_lost(&determinant) {
                     lost.push(determinant)?;
@@ -100,13 +132,16 @@ impl<'a> Audit<'a> {
     }
 
     /// Whether the event is a lost receipt.
-    #[tactic(auto, using(crate::proofs::Auditing::lost_receipt, crate::proofs::Auditing::send_is_kept))]
+    #[tactic(auto, using(crate::proofs::Auditing::held_outside))]
     fn is_lost_receipt(&self, event: &Mark) -> bool
         ensures { (result ≡ true) ↔ IsLost self.now event.now }
     {
-        match event.determinant() {
-            Some(determinant) => self.is_lost(&determinant),
-            None => false,
+        match *event {
+            Mark::Send { .. } => false,
+            Mark::Receipt { to, rsn, from, ssn } => {
+                let determinant = Determinant { from, ssn, to, rsn };
+                self.is_lost(&determinant)
+            }
         }
     }
 
@@ -115,8 +150,8 @@ impl<'a> Audit<'a> {
         requires { place < length self.now.events }
         ensures { (q : ℕ) → (set.contains result q ≡ true) ↔ IsCause self.now q place }
     {
-        if self.is_lost_receipt(&self.dump.events()[place]) {
-            self.dependents.at(place)
+        if self.is_lost_receipt(self.event_at(place)) {
+            self.dependents_of(place)
         } else {
             MemberSet::empty()
         }
@@ -126,12 +161,11 @@ impl<'a> Audit<'a> {
     pub fn orphans(&self) -> MemberSet
         ensures { (q : ℕ) → (set.contains result q ≡ true) ↔ IsDumpOrphan self.now q }
     {
-        let dump = self.dump;
         let mut reached = MemberSet::empty();
-        for place in 0..dump.events().len() {
+        for place in 0..self.events().len() {
             reached = reached.union(self.dependents_of_lost(place));
         }
-        reached.without(dump.strike())
+        reached.without(self.strike())
     }
 
     /// The place of the first lost receipt on which the member depends.
@@ -139,7 +173,8 @@ impl<'a> Audit<'a> {
         ensures first { MatchOption result ((i : ℕ) → ¬ (IsCause self.now member i)) (IsFirstCause self.now member) }
         ensures rules { IsDump self.now }
     {
-        for place in 0..self.dump.events().len() {
+        let events = self.events();
+        for place in 0..events.len() {
             if self.dependents_of_lost(place).has(member) {
                 return Some(place);
             }
@@ -157,7 +192,7 @@ impl<'a> Audit<'a> {
         ensures paths { IfOk result (λ found. IfSome found (λ path. IsDumpOrphan self.now member × IsOrphanPath self.now member path.items)) }
         ensures to_all { IfOk result (λ found. IfNone found (¬ (IsDumpOrphan self.now member))) }
     {
-        if self.dump.strike().has(member) {
+        if self.strike().has(member) {
             return Ok(None);
         }
         let Some(place) = self.first_cause(member) else {

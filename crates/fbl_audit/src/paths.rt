@@ -3,9 +3,9 @@
 ghost use Rattle.std.specs.Prelude.{◌≡◌, ◌<◌, ℕ, Option, Some, None, IfOk, IfSome, IfNone, length, replicate, slice_get, slice_index_or, slice_set};
 ghost use Rattle.std.specs.HashMap as hash_map;
 ghost use Rattle.fbl_base.specs.Events.{member_of};
-ghost use Rattle.fbl_base.specs.Places.{DependsOnPlace};
+ghost use Rattle.fbl_base.specs.Places.{DependsOnPlace, PlacePrecedes};
 ghost use Rattle.fbl_audit.specs.Dependents.{message_taken_by, same_addressed_message};
-ghost use Rattle.fbl_audit.specs.Paths.{IsPathTo, end_after, message_sent_by, place_before, sent_after};
+ghost use Rattle.fbl_audit.specs.Paths.{IsBefore, IsEndBy, IsPathTo, end_after, message_sent_by, place_before, sent_after};
 
 use crate::dependents::{Message, message_taken};
 use fbl_base::audit::Dump;
@@ -131,17 +131,32 @@ impl<'a> Paths<'a> {
         ensures paths { IfOk result (λ found. IfSome found (λ path. IsPathTo self.now member path.items)) }
         ensures to_all { IfOk result (λ found. IfNone found (¬ (DependsOnPlace self.now.events member self.now.place))) }
     {
-        let Some(end) = self.ends[member.number() as usize] else {
+        let Some(end) = self.end(member) else {
             return Ok(None);
         };
         let mut path = Vec::new(alloc);
         path.push(end)?;
         let mut place = end;
-        while let Some(before) = self.earlier[place] {
+        while let Some(before) = self.before(place) {
             place = before;
             path.push(place)?;
         }
         path.reverse();
         Ok(Some(path))
+    }
+
+    /// The place of the member's first event to which a path comes, if there is one.
+    fn end(&self, member: Member) -> Option<usize>
+        ensures { IsEndBy self.now.events self.now.place (length self.now.events) member result }
+    {
+        self.ends[member.number() as usize]
+    }
+
+    /// The place from which a path comes to this one, unless it is where paths begin.
+    fn before(&self, place: usize) -> Option<usize>
+        requires { PlacePrecedes self.now.events self.now.place place }
+        ensures { IsBefore self.now.events self.now.place place result }
+    {
+        self.earlier[place]
     }
 }

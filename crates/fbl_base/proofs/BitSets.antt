@@ -1,8 +1,7 @@
 -- Operations on bits as operations on sets.
-use Rattle.fbl_base.proofs.Common.{◌≡◌, ◌≢◌, ℕ, zero, suc, ◌+◌, ◌-◌, ◌*◌, ◌<◌, ◌≤◌, true, ◌&&◌, not, cond, refl, sym, ap, ◌∙◌, arith, inl, inr, ◌⊎◌}
-use Rattle.fbl_base.proofs.Common.{◌↔◌, count_by, cases_eq, nat_tests, sum_by-cons, nat_cmp, nat_cmp_total, same_from_contains, contains-insert_other, ◌/◌, ◌%◌, ◌^◌, min, eqb}
-use Rattle.fbl_base.proofs.Common.{bit_and, bit_or, w16, cases_lt, bit_at-lt, bit_at_or, bit_at_and, bit_at_not, bit_at_above, bit_at_set_same, bit_at_set_other, shr_and_one, same_from_bits}
-use Rattle.fbl_base.proofs.Common.{bit_at-zero, div-add-mod, mod-lt, div-div-eq-div-mul, pow-add, pow_pos, or_lt, and_le_l, bit_at, ones_step, len-flagged, contains-insert_same, AllBelow}
+use Rattle.fbl_base.proofs.Common.{◌≡◌, ℕ, zero, suc, ◌+◌, ◌-◌, ◌*◌, ◌<◌, true, cond, refl, sym, ap, ◌∙◌, arith, inl, inr, count_by, cases_eq, nat_tests, sum_by-cons}
+use Rattle.fbl_base.proofs.Common.{nat_cmp, nat_cmp_total, same_from_contains, contains-insert_other, ◌/◌, ◌%◌, ◌^◌, eqb, bit_and, bit_or, w16, cases_lt, bit_at-lt, bit_at_or, bit_at_and}
+use Rattle.fbl_base.proofs.Common.{bit_at_not, bit_at_above, bit_at_set_same, bit_at_set_other, shr_and_one, bit_at-zero, mod-lt, or_lt, and_le_l, bit_at, ones_step, len-flagged, contains-insert_same}
 use Rattle.fbl_base.proofs.Common.{contains-set_of, parity}
 use Rattle.std.specs.FinSet as set
 use Rattle.std.specs.Int.Count.{ones, ones_in}
@@ -56,28 +55,8 @@ pub count_bits : (b : ℕ) → b < 65536 → ones b ≡ set.len (set_of b)
 unfolding set_of
 count_bits b within = sym (count-digits 16 b within) ∙ sym (len-flagged (digits 16 b) 0)
 
-pub below-bits : (b n q : ℕ) → b < 65536 → b < 2 ^ n → set.contains (set_of b) q ≡ true → q < n
-below-bits b n q within small has = elim (cases_lt q n) [
-  | inl below ↦ below
-  | inr past ↦
-      let none = bit_at_above b n q small past in
-      let one = contains-set_of b q within in
-      absurd (grind (arith, nat_tests, none, one, has))
-]
-
 pub below_sixteen : (b q : ℕ) → b < 65536 → set.contains (set_of b) q ≡ true → q < 16
-below_sixteen b q within has = below-bits b 16 q within within has
-
-high_bits : (b n : ℕ) → b < 65536 → AllBelow (set_of b) n → (i : ℕ) → bit_at (b / 2 ^ n) i ≡ 0
-high_bits b n within all i =
-    let moved : bit_at (b / 2 ^ n) i ≡ bit_at b (n + i) = ap (λ x. x % 2) (div-div-eq-div-mul b (2 ^ n) (2 ^ i) ∙ ap (λ x. b / x) (sym (pow-add 2 n i))) in
-    let below = bit_at-lt b (n + i) in
-    let is = contains-set_of b (n + i) within in
-    let small = all (n + i) in
-    grind (arith, nat_tests, moved, below, is, small)
-
-pub within-bits : (b n : ℕ) → b < 65536 → (b / 2 ^ n ≡ 0) ↔ AllBelow (set_of b) n
-within-bits b n within = (
-  λ none q has. below-bits b n q within (omega (arith, div-add-mod b (2 ^ n), mod-lt b (pow_pos n), ap (λ x. 2 ^ n * x) none)) has,
-  λ all. same_from_bits (b / 2 ^ n) 0 (λ i. high_bits b n within all i ∙ sym (bit_at-zero i)),
-)
+below_sixteen b q within has =
+    let past = bit_at_above b 16 q within in
+    let is = contains-set_of b q within in
+    grind (arith, nat_tests, past, is, has)

@@ -1,8 +1,7 @@
 -- What is counted, after one more event.
-use Rattle.fbl_base.proofs.Common.{ℕ, ◌≡◌, ◌≢◌, ◌<◌, ◌≤◌, ◌+◌, ◌*◌, List, [], ◌∷◌, ◌++◌, length, take, drop, Option, Some, None, slice_get, MatchOption, refl}
-use Rattle.fbl_base.proofs.Common.{ap, ◌∙◌, arith, get_or, get_or-set_same, get_or-set_other, length-set, nat_tests, take_more, slice_get_read, Mark, At, sends_of, receipts_of, in_flight}
-use Rattle.fbl_base.proofs.Common.{MayFollow, ObeysAt, WellFormed, Counted, BreaksEvent, first_in_flight, EventRule, add-one, IfSome, append-nil, Send, Receipt, Counts, destination_of, source_of}
-use Rattle.fbl_base.proofs.Common.{CountsEvent, first_by, next_by, Breaks, FitsEvent, next_number}
+use Rattle.fbl_base.proofs.Common.{ℕ, ◌≡◌, ◌<◌, ◌≤◌, ◌+◌, ◌*◌, List, [], ◌∷◌, ◌++◌, length, take, drop, Option, Some, None, slice_get, MatchOption, ap, ◌∙◌}
+use Rattle.fbl_base.proofs.Common.{arith, get_or, length-set, common_steps, nat_tests, Mark, At, sends_of, receipts_of, in_flight, MayFollow, WellFormed, Counted, BreaksEvent, first_in_flight}
+use Rattle.fbl_base.proofs.Common.{EventRule, add-one, IfSome, append-nil, Send, Receipt, Counts, destination_of, source_of, CountsEvent, first_by, next_by, Breaks, FitsEvent, next_number}
 use Rattle.fbl_base.specs.declared.fault.EventRule.TheVariants as rules
 use Rattle.fbl_base.proofs.Gets.{take-more}
 use Rattle.fbl_base.proofs.Breached.{fits, may}
@@ -44,19 +43,13 @@ module _ {A : Type 0} (n : ℕ) (t : List Mark) (c d : Counts A) (most : n ≤ 1
       record {
         sends = λ x below. rw counts.0 (
             let same = λ (here : x ≡ q). ap (sends_of t) here in
-            let set_here = get_or-set_same c.sends q s 0 (omega (arith, counted.sends_length)) in
-            let set_other = get_or-set_other c.sends q x s 0 in
-            grind (arith, nat_tests, counted.sends x below, may.3, same, sends-step t (Send q s p) x, set_here, set_other)
+            grind (arith, nat_tests, common_steps, counted.sends x below, may.3, same, sends-step t (Send q s p) x, counted.sends_length)
             );
         receipts = λ x below. rw counts.1 (omega (arith, counted.receipts x below, receipts-step t (Send q s p) x));
         channels = λ x y below_x below_y. rw counts.2 (
             let old = counted.channels x y below_x below_y in
             let step = in_flight-send n t obeys q s p x y may in
-            let new = get_or c.channels.items (16 * q + p) [] ++ s ∷ [] in
-            let set_here = get_or-set_same c.channels.items (16 * q + p) new [] (omega (arith, counted.channels_length)) in
-            let set_other = get_or-set_other c.channels.items (16 * q + p) (16 * x + y) new [] in
-            let none = append-nil (in_flight t x y) in
-            grind (arith, nat_tests, here, old, step, set_here, set_other, none)
+            grind (arith, nat_tests, common_steps, here, old, step, counted.channels_length)
             );
         sends_length = rw (counts.0, length-set) counted.sends_length;
         receipts_length = rw counts.1 counted.receipts_length;
@@ -73,17 +66,12 @@ module _ {A : Type 0} (n : ℕ) (t : List Mark) (c d : Counts A) (most : n ≤ 1
         sends = λ x below. rw counts.0 (omega (arith, counted.sends x below, sends-step t (Receipt p r q s) x));
         receipts = λ x below. rw counts.1 (
             let same = λ (here : x ≡ p). ap (receipts_of t) here in
-            let set_here = get_or-set_same c.receipts p r 0 (omega (arith, counted.receipts_length)) in
-            let set_other = get_or-set_other c.receipts p x r 0 in
-            grind (arith, nat_tests, counted.receipts x below, may.3, same, receipts-step t (Receipt p r q s) x, set_here, set_other)
+            grind (arith, nat_tests, common_steps, counted.receipts x below, may.3, same, receipts-step t (Receipt p r q s) x, counted.receipts_length)
             );
         channels = λ x y below_x below_y. rw counts.2 (
             let old = counted.channels x y below_x below_y in
             let step = in_flight-receipt n t obeys p r q s x y may in
-            let new = drop 1 (get_or c.channels.items (16 * q + p) []) in
-            let set_here = get_or-set_same c.channels.items (16 * q + p) new [] (omega (arith, counted.channels_length)) in
-            let set_other = get_or-set_other c.channels.items (16 * q + p) (16 * x + y) new [] in
-            grind (arith, nat_tests, here, old, step, set_here, set_other)
+            grind (arith, nat_tests, common_steps, here, old, step, counted.channels_length)
             );
         sends_length = rw counts.0 counted.sends_length;
         receipts_length = rw (counts.1, length-set) counted.receipts_length;

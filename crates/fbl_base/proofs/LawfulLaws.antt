@@ -1,12 +1,12 @@
 -- A delivery keeps a trace lawful.
-use Rattle.fbl_base.proofs.Common.{◌≡◌, ◌≢◌, ℕ, zero, suc, ◌+◌, ◌<◌, ◌≤◌, ◌==◌, ◌&&◌, ◌⊎◌, inl, inr, true, false, cond, List, [], ◌∷◌, ◌++◌, length}
-use Rattle.fbl_base.proofs.Common.{take, map, Some, subst, slice_get, refl, sym, ap, ◌∙◌, arith, filter_map, fold, cases_eq, nat_tests, take-append-le, filter_map-append, Note, Start, Mark, At}
-use Rattle.fbl_base.proofs.Common.{sends_of, is_send_of, MayFollow, WellFormed, Next, took, sent, responses, append_assoc, length-append, length-take, All, append-nil, map-append, length-map}
-use Rattle.fbl_base.proofs.Common.{sum_by-append, All-head, All-tail, slice_get-map, Event, mark_of, Action, action_of, actions_of, notes_of, note_of, start_of, starts_of, step_events, Lawful}
+use Rattle.fbl_base.proofs.Common.{◌≡◌, ◌≢◌, ℕ, zero, suc, ◌+◌, ◌<◌, ◌≤◌, ◌==◌, ◌&&◌, inl, inr, true, false, cond, List, [], ◌∷◌, ◌++◌, length, take, map}
+use Rattle.fbl_base.proofs.Common.{Some, slice_get, refl, sym, ap, ◌∙◌, arith, filter_map, fold, cases_eq, nat_tests, take-append-le, filter_map-append, Note, Start, Mark, At, sends_of}
+use Rattle.fbl_base.proofs.Common.{is_send_of, MayFollow, WellFormed, Next, took, sent, responses, append_assoc, length-append, length-take, All, append-nil, map-append, length-map, sum_by-append}
+use Rattle.fbl_base.proofs.Common.{All-head, All-tail, slice_get-map, Event, mark_of, Action, action_of, actions_of, notes_of, note_of, start_of, starts_of, step_events, Lawful}
 use Rattle.fbl_base.specs.declared.trace.Mark.TheVariants as mark
 use Rattle.fbl_base.specs.declared.trace.Event.TheVariants.{Send, Receipt}
 use Rattle.fbl_base.proofs.Sifted.{length-filter_map}
-use Rattle.fbl_base.proofs.Gets.{filter_map-agree, map-At}
+use Rattle.fbl_base.proofs.Gets.{filter_map-agree}
 use Rattle.fbl_base.proofs.RulesLaws.{WellFormed-push, sent-before, eqb-self}
 use Rattle.fbl_base.proofs.FoldLaws.{responses-push}
 

@@ -1,6 +1,6 @@
 -- The first events of orphans that depend on a lost receipt.
-use Rattle.fbl_base.proofs.Common.{ℕ, ◌+◌, ◌<◌, ◌≡◌, ◌≢◌, inl, inr, List, [], length, replicate, take, Option, Some, None, arith, refl, sym, get_or, get_or-set_same}
-use Rattle.fbl_base.proofs.Common.{get_or-set_other, cases_eq, Mark, At, Parts, first_events, member_of, add-one, IsDump, StartsBy}
+use Rattle.fbl_base.proofs.Common.{ℕ, ◌+◌, ◌<◌, ◌≢◌, inl, inr, List, [], length, replicate, take, Option, Some, None, arith, sym, get_or, get_or-set_same, get_or-set_other, cases_eq}
+use Rattle.fbl_base.proofs.Common.{Mark, At, Parts, member_of, add-one, IsDump, StartsBy}
 use Rattle.std.proofs.Common.{set as set_at}
 use Rattle.fbl_base.proofs.Gets.{At-below, get_or-same, take-more}
 use Rattle.fbl_base.proofs.PrecedenceLaws.{Depends-push, Has-last}

@@ -1,10 +1,8 @@
 -- A pass over the events finds what a lost receipt reaches.
-use Rattle.fbl_base.proofs.Common.{subst, replicate, take, length-set, ℕ, Bool, true, false, cond, ◌||◌, ◌≡◌, ◌<◌, ◌≤◌, ◌+◌, ◌⊎◌, ◌↔◌, inl, inr, List, []}
-use Rattle.fbl_base.proofs.Common.{◌∷◌, ◌++◌, length, Option, Some, None, Decides, refl, sym, ap, ◌∙◌, arith, get_or, get_or-set_same, get_or-set_other, false≢true, take_more}
-use Rattle.fbl_base.proofs.Common.{slice_get_read, nat_cmp, nat_cmp_total, unsigned_tied, nat_tests, Mark, At, member_of, Has, itself, sends_of, MayFollow, WellFormed, reached_after, ltb, add-one}
-use Rattle.fbl_base.proofs.Common.{Reach, Send, Receipt, IsDump, IsLost, Parts, send_of, Follows, Tracks, unreached_sends_after}
+use Rattle.fbl_base.proofs.Common.{◌<◌, replicate, take, length-set, ℕ, Bool, ◌≡◌, ◌≤◌, ◌+◌, ◌⊎◌, ◌↔◌, inl, inr, List, [], ◌∷◌, ◌++◌, length, Option, Some}
+use Rattle.fbl_base.proofs.Common.{None, Decides, refl, sym, ap, ◌∙◌, arith, common_steps, false≢true, nat_cmp, nat_cmp_total, unsigned_tied, nat_tests, Mark, At, member_of, Has, itself}
+use Rattle.fbl_base.proofs.Common.{sends_of, MayFollow, WellFormed, reached_after, add-one, Reach, Send, Receipt, IsDump, IsLost, Parts, send_of, Follows, Tracks, unreached_sends_after}
 use Rattle.std.specs.FinSet as set
-use Rattle.std.proofs.Common.{set as set_at}
 use Rattle.fbl_base.specs.Reach.{IsPreceded, IsReached}
 use Rattle.fbl_base.proofs.Gets.{At-below, At-new, At-push, get_or-same, take-more}
 use Rattle.fbl_base.proofs.PrecedenceLaws.{Precedes-front, Precedes-push, Precedes-new, Depends-push, new-Precedes, Has-last}
@@ -61,8 +59,7 @@ module _ (n : ℕ) (Lost : Mark → Type 0) (no_send : (q s p : ℕ) → Lost (S
       let new = MayFollow-new n t (Send q s p) obeys may in
       let preceded = preceded_new Lost t (Send q s p) new in
       let lost = no_send q s p in
-      let here = get_or-set_same unreached_sends q s 0 (omega (arith, may.0, most, tracks.room)) in
-      let there = λ (x : ℕ). get_or-set_other unreached_sends q x s 0 in
+      let within : q < length unreached_sends = omega (arith, may.0, most, tracks.room) in
       record {
         members = λ x.
             let push = reached_push Lost t (Send q s p) x new in
@@ -75,16 +72,16 @@ module _ (n : ℕ) (Lost : Mark → Type 0) (no_send : (q s p : ℕ) → Lost (S
               let was = tracks.sends q' s' p' old in
               let fewer = sent-number n t obeys q' s' p' old in
               let own = λ (is : q' ≡ q). ap (sends_of t) is in
-              grind (arith, nat_tests, same, was, fewer, own, preceded-reached Lost t (Send q' s' p'), tracks.members q', here, there q', may.3)
+              grind (arith, nat_tests, common_steps, same, was, fewer, own, preceded-reached Lost t (Send q' s' p'), tracks.members q', within, may.3)
           | inr a ↦
               let e1 : q' ≡ q = cc in
               let e2 : s' ≡ s = cc in
               let e3 : p' ≡ p = cc in
-              rw (e1, e2, e3) (grind (arith, preceded, tracks.members q, lost, may.3, tracks.counted q, here))
+              rw (e1, e2, e3) (grind (arith, preceded, common_steps, tracks.members q, lost, may.3, tracks.counted q, within))
         ];
         counted = λ x.
             let own = λ (is : x ≡ q). ap (sends_of t) is in
-            grind (arith, nat_tests, tracks.counted x, may.3, sends-step t (Send q s p) x, own, here, there x);
+            grind (arith, nat_tests, tracks.counted x, may.3, sends-step t (Send q s p) x, own, common_steps, within);
         room = grind (arith, tracks.room, length-set unreached_sends q s);
       }
 

@@ -1,7 +1,7 @@
 -- Which determinants are recorded.
-use Rattle.fbl_base.proofs.Common.{ℕ, ◌≡◌, Bool, true, false, not, cond, ◌&&◌, ◌||◌, List, refl, sym, Decides, ◌↔◌, arith, list_any, nat_cmp, nat_tests, Any-from_list_any}
-use Rattle.fbl_base.proofs.Common.{list_any-from_Any, Determinant, and_parts, Mark, Parts, is_held_outside, IsDumpOrphan, first_events, same_determinant, nat_cmp_total, or-false, or-true, not-true}
-use Rattle.fbl_base.proofs.Common.{Follows, Reach, IsHeldOutside}
+use Rattle.fbl_base.proofs.Common.{ℕ, ◌≡◌, Bool, true, false, not, cond, ◌&&◌, ◌||◌, refl, sym, Decides, ◌↔◌, arith, nat_cmp, nat_tests, Any-from_list_any, list_any-from_Any}
+use Rattle.fbl_base.proofs.Common.{Determinant, and_parts, Parts, is_held_outside, IsDumpOrphan, first_events, same_determinant, nat_cmp_total, or-false, or-true, not-true, Follows, Reach}
+use Rattle.fbl_base.proofs.Common.{IsHeldOutside}
 use Rattle.std.specs.FinSet as set
 use Rattle.fbl_base.specs.Reach.{IsReached}
 

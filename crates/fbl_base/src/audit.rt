@@ -9,9 +9,10 @@ ghost use Rattle.std.specs.Prelude.{◌≡◌, ◌<◌, ◌≤◌, ◌↔◌, �
 ghost use Rattle.std.specs.FinSet as set;
 ghost use Rattle.fbl_base.specs.Audit.{HeldAt, IsDump, Parts, IsFirstBreach, IsLost, IsDumpOrphan, IsOrphanStart, RefusesDump, first_events, is_held_outside, lost_determinants, orphan_start_in};
 ghost use Rattle.fbl_base.specs.Breaches.{BreaksPair, FitsPair, IsEventFault, IsOfDump, IsPairFault, dump_refusal};
-ghost use Rattle.fbl_base.specs.Events.{same_determinant};
+ghost use Rattle.fbl_base.specs.Events.{receipt_of, same_determinant};
 ghost use Rattle.std.specs.HashSet as hash_set;
 ghost use Rattle.fbl_base.specs.DumpParts.{parts_of, is_received};
+ghost use Rattle.fbl_base.specs.Precedence.{Has};
 ghost use Rattle.fbl_base.specs.Rules.{ObeysAt, WellFormed};
 ghost use Rattle.fbl_base.specs.Reach.{Follows, StartsBy, reached_after, unreached_sends_after};
 
@@ -143,9 +144,18 @@ impl Reach {
     {
         match before {
             Some(first) => Some(first),
-            None if self.orphans(dump).has(member) => Some(place),
+            None if self.is_orphan(dump, place, member) => Some(place),
             None => None,
         }
+    }
+
+    /// Whether the member is an orphan by the events up to the place, which was followed last.
+    fn is_orphan<A: Allocator>(&self, dump: &Dump<A>, place: usize, member: Member) -> bool
+        requires within { place < length dump.now.events }
+        requires follows { Follows dump.now (place + 1) self.now }
+        ensures { (result ≡ true) ↔ IsDumpOrphan (first_events (place + 1) dump.now) member }
+    {
+        self.orphans(dump).has(member)
     }
 
     /// Takes in the event at the place.
@@ -221,7 +231,7 @@ pub fn lost<A: Allocator + Copy>(
     let mut lost = Vec::new(alloc);
     for event in dump.events() {
         if let Some(determinant) = event.determinant() {
-            if !recorded.contains(&determinant) {
+            if !is_recorded(dump, &recorded, &determinant) {
                 lost.push(determinant)?;
             }
         }
@@ -237,13 +247,23 @@ fn is_lost<A: Allocator>(dump: &Dump<A>, recorded: &DeterminantSet<A>, event: Ma
 {
     match event {
         Mark::Send { .. } => false,
-        Mark::Receipt { to, rsn, from, ssn } => !recorded.contains(&Determinant {
-            from,
-            ssn,
-            to,
-            rsn,
-        }),
+        Mark::Receipt { to, rsn, from, ssn } => {
+            let determinant = Determinant { from, ssn, to, rsn };
+            !is_recorded(dump, recorded, &determinant)
+        }
     }
+}
+
+/// Whether the determinant is among those recorded.
+fn is_recorded<A: Allocator>(
+    dump: &Dump<A>,
+    recorded: &DeterminantSet<A>,
+    determinant: &Determinant,
+) -> bool
+    requires { (d : _) → hash_set.contains same_determinant recorded.now d ≡ is_held_outside dump.now d }
+    ensures { result ≡ is_held_outside dump.now determinant.now }
+{
+    recorded.contains(determinant)
 }
 
 /// The members outside the strike set that depend on a receipt whose determinant no such member
@@ -312,6 +332,18 @@ fn receipts<A: Allocator + Copy>(alloc: A, events: &[Mark]) -> Result<Determinan
     Ok(receipts)
 }
 
+/// Whether the trace has a receipt with the determinant, where these are the determinants of its receipts.
+fn has_receipt<A: Allocator>(
+    raw: &RawDump<A>,
+    receipts: &DeterminantSet<A>,
+    determinant: &Determinant,
+) -> bool
+    requires { (d : _) → hash_set.contains same_determinant receipts.now d ≡ is_received raw.now.events.items d }
+    ensures { (result ≡ true) ↔ Has raw.now.events.items (receipt_of determinant.now) }
+{
+    receipts.contains(determinant)
+}
+
 /// The first rule that the pair at `place` breaks, where these are the determinants of the receipts.
 fn broken_rule<A: Allocator>(
     raw: &RawDump<A>,
@@ -332,10 +364,31 @@ fn broken_rule<A: Allocator>(
         let member = pair.0;
         return Some(PairRule::Outside(Outsider { member, members }));
     }
-    if !receipts.contains(&pair.1) {
+    if !has_receipt(raw, receipts, &pair.1) {
         return Some(PairRule::NoReceipt(pair.1.receipt()));
     }
     None
+}
+
+/// The pair at `place` with the first rule that it breaks, if it breaks one, where these are the determinants of the receipts.
+fn pair_fault<A: Allocator>(
+    raw: &RawDump<A>,
+    receipts: &DeterminantSet<A>,
+    place: usize,
+) -> Option<PairFault>
+    requires within { place < length raw.now.held.items }
+    requires receipts { (d : _) → hash_set.contains same_determinant receipts.now d ≡ is_received raw.now.events.items d }
+    ensures place { MatchOption result (HeldAt (parts_of raw.now) place) (λ fault. (fault.place ≡ place) × ¬ (HeldAt (parts_of raw.now) place)) }
+    ensures fault { IfSome result (IsPairFault (parts_of raw.now)) }
+{
+    let pair = &raw.held[place];
+    let rule = broken_rule(raw, receipts, place, pair)?;
+    Some(PairFault {
+        place,
+        holder: pair.0,
+        determinant: pair.1,
+        rule,
+    })
 }
 
 /// The first pair that breaks a rule, and the first rule that it breaks.
@@ -348,14 +401,8 @@ fn first_bad_pair<A: Allocator + Copy>(
 {
     let receipts = receipts(alloc, raw.events.as_slice())?;
     for place in 0..raw.held.len() {
-        let pair = &raw.held[place];
-        if let Some(rule) = broken_rule(raw, &receipts, place, pair) {
-            return Ok(Some(PairFault {
-                place,
-                holder: pair.0,
-                determinant: pair.1,
-                rule,
-            }));
+        if let Some(fault) = pair_fault(raw, &receipts, place) {
+            return Ok(Some(fault));
         }
     }
     Ok(None)

@@ -77,10 +77,9 @@ impl MemberSet {
     {
         let mut members = Vec::new(alloc);
         for number in 0..16u8 {
-            if let Some(member) = Member::new(number) {
-                if self.has(member) {
-                    members.push(member)?;
-                }
+            let member = Member::at(number);
+            if self.has(member) {
+                members.push(member)?;
             }
         }
         Ok(members)
@@ -100,7 +99,7 @@ impl MemberSet {
     pub fn within(self, n: u8) -> bool
         ensures { IsTrue result ↔ AllBelow self n }
     {
-        n >= 16 || self.bits >> n == 0
+        self.outsider(n).is_none()
     }
 
     /// The least member that isn't below `n`, if there is one.
@@ -110,7 +109,7 @@ impl MemberSet {
         // the bits are 16: no member is above 15
         let _bits = self.bits;
         for number in n..16u8 {
-            let member = Member::new(number)?;
+            let member = Member::at(number);
             if self.has(member) {
                 return Some(Outsider { member, members: n });
             }

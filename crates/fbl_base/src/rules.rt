@@ -67,6 +67,7 @@ pub(crate) struct Counts<A: Allocator = Global> {
 
 impl<A: Allocator + Copy> Counts<A> {
     /// The counts of no events.
+    #[tactic(auto, using(crate::proofs::Gets::replicated))]
     pub(crate) fn new(alloc: A) -> Result<Counts<A>, AllocError>
         ensures { IfOk result (Counted []) }
     {

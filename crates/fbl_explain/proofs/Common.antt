@@ -1,6 +1,6 @@
 -- The names that proofs of this crate take from outside: of the standard library, of the crates below, and of the definitions here.
-pub use Rattle.std.proofs.Common.{Err, List, Ok, Result, Some, [], ap, arith, false, get_or, inl, inr, length, refl, slice_get, subst, sym, take, true, ℕ, ◌++◌, ◌+◌, ◌<◌, ◌∙◌}
-pub use Rattle.std.proofs.Common.{◌∷◌, ◌≡◌, ◌≢◌, ◌≤◌}
+pub use Rattle.std.proofs.Common.{Err, List, Ok, Result, [], ap, append-nil, append_assoc, arith, false, get_or, inl, inr, length, refl, subst, sym, take, true, ℕ, ◌++◌, ◌+◌, ◌<◌}
+pub use Rattle.std.proofs.Common.{◌∙◌, ◌∷◌, ◌≡◌, ◌≢◌, ◌≤◌}
 pub use Rattle.std.proofs.lemmas.Bool.{cases_eq, false≢true}
 pub use Rattle.std.proofs.lemmas.Grind.{common_steps}
 pub use Rattle.std.proofs.lemmas.List.{take_all, take_more}
@@ -11,7 +11,7 @@ pub use Rattle.fbl_audit.proofs.Following.{member_within}
 pub use Rattle.fbl_audit.specs.Checking.{IsLeftOrphan}
 pub use Rattle.fbl_audit.specs.Paths.{IsPathTo}
 pub use Rattle.fbl_audit.specs.declared.checking.UnsafeReceipt.{UnsafeReceipt}
-pub use Rattle.fbl_base.proofs.Gets.{At-below, At-front, At-new, At-push}
+pub use Rattle.fbl_base.proofs.Gets.{At-below}
 pub use Rattle.fbl_base.proofs.PlacesAndEvents.{depends-from_places, places-from_depends}
 pub use Rattle.fbl_base.proofs.PrecedenceLaws.{Has-first, Has-last}
 pub use Rattle.fbl_base.specs.Audit.{IsDump, Parts, lost_determinants}
@@ -27,6 +27,6 @@ pub use Rattle.fbl_input.specs.declared.fault.RunFault.{RunFault}
 pub use Rattle.fbl_input.specs.declared.input_fault.InputFault.{InputFault}
 pub use Rattle.fbl_input.specs.declared.input_fault.InputKind.{InputKind}
 pub use Rattle.fbl_explain.specs.Explanations.{HasAnother, IsExplained, IsInput, IsInputFault, IsReason, IsUnexplained}
-pub use Rattle.fbl_explain.specs.Whys.{ArePathsTo, IsPathFrom, IsReasonOf}
+pub use Rattle.fbl_explain.specs.Whys.{ArePathsFrom, IsPathFrom, IsReasonOf}
 pub use Rattle.fbl_explain.specs.declared.why.LossReason.{LossReason}
 pub use Rattle.fbl_explain.specs.declared.why.OrphanPath.{OrphanPath}

@@ -1,67 +1,39 @@
 -- How the paths from a receipt to its orphans are gathered, and reasons told.
-use Rattle.fbl_explain.proofs.Common.{ℕ, ◌≡◌, ◌<◌, ◌≤◌, ◌+◌, inl, inr, List, [], ◌∷◌, ◌++◌, length, take, Some, slice_get, sym, ◌∙◌, arith, get_or, cases_eq}
-use Rattle.fbl_explain.proofs.Common.{take_more, AllZip, Members, Determinant, Parts, WellFormed, At-below, At-front, At-new, At-push, Has-last, IsLeftOrphan, member_within, LossReason, OrphanPath}
-use Rattle.fbl_explain.proofs.Common.{ArePathsTo, IsPathFrom}
+use Rattle.fbl_explain.proofs.Common.{ℕ, ◌≡◌, ◌<◌, ◌≤◌, ◌+◌, inl, inr, List, [], ◌∷◌, ◌++◌, length, take, arith, get_or, cases_eq, append-nil, append_assoc, take_more}
+use Rattle.fbl_explain.proofs.Common.{AllZip, Members, Determinant, Parts, WellFormed, Has-last, IsLeftOrphan, member_within, LossReason, OrphanPath, ArePathsFrom, IsPathFrom}
 
 -- ---- one receipt
 
--- the paths to the members below n
-pub record PathsBy (dump : Parts) (d : Determinant) (members : Members) (n : ℕ) (paths : List OrphanPath) : Type 0 where
-  pub each : (k : ℕ) (p : OrphanPath) → slice_get paths k ≡ Some p → IsLeftOrphan dump members d p.orphan × IsPathFrom dump d p.orphan p.places.items
-  pub all : (q : ℕ) → q < n → IsLeftOrphan dump members d q → (k : ℕ) × (p : OrphanPath) × (slice_get paths k ≡ Some p) × (p.orphan ≡ q)
-  pub below : (k : ℕ) (p : OrphanPath) → slice_get paths k ≡ Some p → p.orphan < n
-  pub rising : (k l : ℕ) (p r : OrphanPath) → k < l → slice_get paths k ≡ Some p → slice_get paths l ≡ Some r → p.orphan < r.orphan
+module _ (dump : Parts) (d : Determinant) (members : Members) where
+  -- these paths, with any to the members from n on, are those to all
+  abbrev pub ArePathsUpTo : ℕ → List OrphanPath → Type 0
+  ArePathsUpTo n paths = (rest : List OrphanPath) → ArePathsFrom dump d members n rest → ArePathsFrom dump d members 0 (paths ++ rest)
 
-pub PathsBy-none : (dump : Parts) (d : Determinant) (members : Members) → PathsBy dump d members 0 []
-PathsBy-none dump d members = record {
-  each = λ k p at. cc;
-  all = λ q below. absurd (omega (arith, below));
-  below = λ k p at. cc;
-  rising = λ k l p r before at_k at_l. cc;
-}
+  -- the next member is struck, or does not depend on the receipt
+  passed : (n : ℕ) (rest : List OrphanPath) → ¬ (IsLeftOrphan dump members d n) → ArePathsFrom dump d members (n + 1) rest → ArePathsFrom dump d members n rest
+  passed n rest kept paths = at rest paths where
+    none : (q : ℕ) → n ≤ q → (n + 1 ≤ q → ¬ (IsLeftOrphan dump members d q)) → ¬ (IsLeftOrphan dump members d q)
+    none q least later left = elim (cases_eq q n) [ inl is ↦ kept (rw is at left) | inr ne ↦ later (omega (arith, least, ne)) left ]
 
--- the next member is struck, or does not depend on the receipt
-pub PathsBy-same : (dump : Parts) (d : Determinant) (members : Members) (n : ℕ) (paths : List OrphanPath) → ¬ (IsLeftOrphan dump members d n)
-    → PathsBy dump d members n paths → PathsBy dump d members (n + 1) paths
-PathsBy-same dump d members n paths kept by = record {
-  each = by.each;
-  all = λ q below left. elim (cases_eq q n) [ inl here ↦ absurd (kept (rw here at left)) | inr ne ↦ by.all q (omega (arith, below, ne)) left ];
-  below = λ k p at. (let old = by.below k p at in omega (arith, old));
-  rising = by.rising;
-}
+    at : (rest : List OrphanPath) → ArePathsFrom dump d members (n + 1) rest → ArePathsFrom dump d members n rest
+    at [] paths = λ q least. none q least (paths q)
+    at (p ∷ rest) paths = (omega (arith, paths.0), paths.1, paths.2, (λ q least less. none q least (λ more. paths.3 q more less)), paths.4)
 
--- there is a path to the next member
-pub PathsBy-more : (dump : Parts) (d : Determinant) (members : Members) (n : ℕ) (paths : List OrphanPath) (p : OrphanPath) → p.orphan ≡ n
-    → IsLeftOrphan dump members d n → IsPathFrom dump d n p.places.items
-    → PathsBy dump d members n paths → PathsBy dump d members (n + 1) (paths ++ p ∷ [])
-PathsBy-more dump d members n paths p is left path by = record {
-  each = λ k p' at. elim (At-push paths p k p' at) [
-    | inl old ↦ by.each k p' old
-    | inr new ↦ (rw (← new.1, is) (left, path))
-  ];
-  all = λ q below left'. elim (cases_eq q n) [
-    | inl here ↦ (length paths, p, At-new paths p, is ∙ sym here)
-    | inr ne ↦ (let old = by.all q (omega (arith, below, ne)) left' in (old.0, old.1, At-front paths (p ∷ []) old.0 old.1 old.2, old.3))
-  ];
-  below = λ k p' at. elim (At-push paths p k p' at) [
-    | inl old ↦ (let less = by.below k p' old in omega (arith, less))
-    | inr new ↦ (rw (← new.1, is) (omega arith))
-  ];
-  rising = λ k l p' r before at_k at_l. elim (At-push paths p l r at_l) [
-    | inl old ↦ by.rising k l p' r before (earlier k p' at_k (let end = At-below paths l r old in omega (arith, before, end))) old
-    | inr new ↦ (rw (← new.1, is) (by.below k p' (earlier k p' at_k (omega (arith, before, new.0)))))
-  ];
-} where
-  earlier : (k : ℕ) (p' : OrphanPath) → slice_get (paths ++ p ∷ []) k ≡ Some p' → k < length paths → slice_get paths k ≡ Some p'
-  earlier k p' at_k below = elim (At-push paths p k p' at_k) [ inl old ↦ old | inr new ↦ absurd (omega (arith, new.0, below)) ]
+  pub paths_same : (n : ℕ) (paths : List OrphanPath) → ¬ (IsLeftOrphan dump members d n) → ArePathsUpTo n paths → ArePathsUpTo (n + 1) paths
+  paths_same n paths kept by = λ rest next. by rest (passed n rest kept next)
 
-pub PathsBy-all : (dump : Parts) (d : Determinant) (members : Members) (paths : List OrphanPath) → WellFormed dump.members dump.events → dump.members ≤ 16
-    → PathsBy dump d members 16 paths → ArePathsTo dump d members paths
-PathsBy-all dump d members paths obeys few by = record {
-  each = by.each;
-  all = λ q left. (let last = Has-last left.1.1 in by.all q (rw left.1.2 at (member_within dump.members dump.events last.0 left.1.0 obeys few last.1)) left);
-  rising = by.rising;
-}
+  -- there is a path to the next member
+  pub paths_more : (n : ℕ) (paths : List OrphanPath) (p : OrphanPath) → p.orphan ≡ n → IsLeftOrphan dump members d n → IsPathFrom dump d n p.places.items
+      → ArePathsUpTo n paths → ArePathsUpTo (n + 1) (paths ++ p ∷ [])
+  paths_more n paths p is left path by = λ rest next.
+      rw append_assoc (by (p ∷ rest) (rw is (omega arith, left, path, (λ q least less. absurd (omega (arith, least, less))), next)))
+
+  -- nobody but the members of the dump depends on anything
+  pub paths_all : (paths : List OrphanPath) → WellFormed dump.members dump.events → dump.members ≤ 16 → ArePathsUpTo 16 paths → ArePathsFrom dump d members 0 paths
+  paths_all paths obeys few by = rw append-nil at (by [] (λ q least left.
+      (let last = Has-last left.1.1 in
+      let below = rw left.1.2 at (member_within dump.members dump.events last.0 left.1.0 obeys few last.1) in
+      omega (arith, least, below))))
 
 -- ---- all receipts
 

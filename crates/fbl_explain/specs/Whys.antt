@@ -1,5 +1,5 @@
 -- Why receipts are lost, or could be.
-use Rattle.std.specs.Prelude.{ℕ, ◌≡◌, ◌<◌, List, Some, slice_get}
+use Rattle.std.specs.Prelude.{ℕ, ◌≡◌, ◌<◌, ◌≤◌, ◌+◌, List, [], ◌∷◌}
 use Rattle.std.specs.List.{AllZip}
 use Rattle.fbl_base.specs.MemberSets.{Members}
 use Rattle.fbl_base.specs.declared.trace.Determinant.{Determinant}
@@ -16,18 +16,19 @@ use Rattle.fbl_explain.specs.declared.why.OrphanPath.{OrphanPath}
 abbrev pub IsPathFrom : Parts → Determinant → ℕ → List ℕ → Type 0
 IsPathFrom dump d member places = (i : ℕ) × At dump.events i (receipt_of d) × IsPathTo (record { events = dump.events; place = i }) member places
 
--- there is a path from the receipt to each member outside these that depends on it, and to no other; the members rise
-pub record ArePathsTo (dump : Parts) (d : Determinant) (members : Members) (paths : List OrphanPath) : Type 0 where
-  pub each : (k : ℕ) (p : OrphanPath) → slice_get paths k ≡ Some p → IsLeftOrphan dump members d p.orphan × IsPathFrom dump d p.orphan p.places.items
-  pub all : (q : ℕ) → IsLeftOrphan dump members d q → (k : ℕ) × (p : OrphanPath) × (slice_get paths k ≡ Some p) × (p.orphan ≡ q)
-  pub rising : (k l : ℕ) (p r : OrphanPath) → k < l → slice_get paths k ≡ Some p → slice_get paths l ≡ Some r → p.orphan < r.orphan
+-- there is a path from the receipt to each member from n on, outside these, that depends on it, and to no other; the members rise
+abbrev pub ArePathsFrom : Parts → Determinant → Members → ℕ → List OrphanPath → Type 0
+ArePathsFrom dump d members n [] = (q : ℕ) → n ≤ q → ¬ (IsLeftOrphan dump members d q)
+ArePathsFrom dump d members n (p ∷ paths) =
+    (n ≤ p.orphan) × IsLeftOrphan dump members d p.orphan × IsPathFrom dump d p.orphan p.places.items
+    × ((q : ℕ) → n ≤ q → q < p.orphan → ¬ (IsLeftOrphan dump members d q)) × ArePathsFrom dump d members (p.orphan + 1) paths
 
 -- who holds the receipt, and why it has orphans outside these
 pub record IsReasonOf (dump : Parts) (d : Determinant) (members : Members) (reason : LossReason) : Type 0 where
   pub determinant : reason.determinant ≡ d
   pub holders : reason.holders ≡ holders_of dump d
   pub strike : reason.strike ≡ members
-  pub orphans : ArePathsTo dump d members reason.orphans.items
+  pub orphans : ArePathsFrom dump d members 0 reason.orphans.items
 
 -- a reason is told of each lost receipt with the strike set, in their order
 abbrev pub TellsLost : Parts → List LossReason → Type 0

@@ -3,7 +3,7 @@
 ghost use Rattle.std.specs.Prelude.{◌≡◌, IfOk, MatchOption};
 ghost use Rattle.fbl_base.specs.Events.{At, receipt_of};
 ghost use Rattle.fbl_base.specs.Precedence.{Has};
-ghost use Rattle.fbl_explain.specs.Whys.{ArePathsTo, IsReasonOf, TellsLost, TellsUnsafe};
+ghost use Rattle.fbl_explain.specs.Whys.{ArePathsFrom, IsReasonOf, TellsLost, TellsUnsafe};
 
 use fbl_audit::{Audit, Paths, unsafe_receipts};
 use fbl_base::audit::Dump;
@@ -58,7 +58,7 @@ fn paths_to_orphans(
     determinant: &Determinant,
     strike: MemberSet,
 ) -> Result<Vec<OrphanPath>, AllocError>
-    ensures { IfOk result (λ paths. ArePathsTo dump.now determinant.now strike paths.items) }
+    ensures { IfOk result (λ paths. ArePathsFrom dump.now determinant.now strike 0 paths.items) }
 {
     let mut orphans = Vec::new(alloc);
     let Some(place) = place_of(dump.events(), determinant) else {

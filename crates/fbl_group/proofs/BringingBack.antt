@@ -1,22 +1,11 @@
 -- What a recovery leaves, once the records that were rebuilt are in place.
-use Rattle.fbl_group.proofs.Common.{◌||◌, ◌⊎◌, ◌≡◌, ℕ, ◌+◌, ◌-◌, ◌<◌, ◌≤◌, cond, List, [], ◌∷◌, length, map, refl, sym, ap, ◌∙◌, arith, Result, Fits}
-use Rattle.fbl_group.proofs.Common.{slice_index_or, count_by, is_some, filter, get_or_past, sum_by-cons, Members, Event, mark_of, determinant_of, Next, Message, MemberRecord, blank, IsUp, IsDown}
-use Rattle.fbl_group.proofs.Common.{GroupRecord, channel_in, channel, member, knowledge, marks, receipts, IsSound, recovery_table, count_in, sent_again, working, length-left, sum_below-agree}
-use Rattle.fbl_group.proofs.Common.{Recovers, AreReplaced, IsReady, IsPutBack, w32, w64, ◌^◌, OnErr, messages_in, IsRecovery, is_replayed, stays_by, recovered_trace, resent_to, IsRebuilt}
-use Rattle.fbl_group.proofs.Common.{group_recovery_keeps, cut-undone, recovered_trace-cut, sent_again-short, with-table, working-log, replayed_in-all, recovered_trace-rebuilt, rebuilt_is_recovered}
-use Rattle.fbl_group.proofs.Common.{messages_at}
+use Rattle.fbl_group.proofs.Common.{◌||◌, ◌⊎◌, ◌≡◌, ℕ, ◌+◌, ◌-◌, ◌<◌, ◌≤◌, cond, List, length, map, sym, ap, ◌∙◌, arith, Fits, slice_index_or, filter}
+use Rattle.fbl_group.proofs.Common.{get_or_past, Members, Event, mark_of, Next, Message, MemberRecord, blank, IsUp, IsDown, GroupRecord, channel_in, channel, member, knowledge, marks, receipts}
+use Rattle.fbl_group.proofs.Common.{IsSound, recovery_table, count_in, sent_again, working, sum_below-agree, Recovers, AreReplaced, IsReady, IsPutBack, w32, w64, ◌^◌, messages_in, IsRecovery}
+use Rattle.fbl_group.proofs.Common.{is_replayed, stays_by, recovered_trace, resent_to, IsRebuilt, group_recovery_keeps, cut-undone, recovered_trace-cut, sent_again-short, with-table, working-log}
+use Rattle.fbl_group.proofs.Common.{replayed_in-all, recovered_trace-rebuilt, rebuilt_is_recovered, messages_at}
 use Rattle.std.specs.FinSet as set
-use Rattle.fbl_base.specs.declared.trace.Event.TheVariants as event
 use Rattle.fbl_group.proofs.Reading.{received-twice}
-
--- receipts are counted event by event
-pub counted-receipts : (trace : List Event) → count_by (λ e. is_some (determinant_of (mark_of e))) trace ≡ length (receipts (map mark_of trace))
-counted-receipts [] = refl
-counted-receipts (event.Send q k p note ∷ trace) = omega (arith, sum_by-cons (λ e. cond (is_some (determinant_of (mark_of e))) 1 0) (event.Send q k p note) trace, counted-receipts trace)
-counted-receipts (event.Receipt p n q k ∷ trace) = omega (arith, sum_by-cons (λ e. cond (is_some (determinant_of (mark_of e))) 1 0) (event.Receipt p n q k) trace, counted-receipts trace)
-
-pub on_err : {X E : Type 0} {P : Type 0} (result : Result X E) → P → OnErr result P
-on_err result holds = grind arith
 
 -- the channels are made of what is sent again while these records stand for the members that are down
 abbrev AreSentAgain : GroupRecord → List MemberRecord → List (List (List Message)) → Type 0

@@ -1,6 +1,5 @@
 -- When a checkpoint is taken, and what it leaves.
-use Rattle.fbl_group.proofs.Common.{◌≡◌, ℕ, ◌<◌, get_or, refl, ◌∙◌, arith, slice_set, Next, MemberRecord, GroupRecord, member, IsSound, IsCheckpointFold, IsCheckpoint}
-use Rattle.fbl_group.proofs.Common.{group_checkpoint_keeps}
+use Rattle.fbl_group.proofs.Common.{◌≡◌, ℕ, ◌<◌, get_or, refl, arith, slice_set, Next, MemberRecord, GroupRecord, IsSound, IsCheckpoint, group_checkpoint_keeps}
 use Rattle.std.specs.FinSet as sets
 use Rattle.fbl_law.specs.GroupLaws.{GroupCheckpointKeeps}
 use Rattle.fbl_group.proofs.Recovering.{read_at}
@@ -14,11 +13,12 @@ module _ {next : Next} {old now : GroupRecord} (sound : IsSound next old) (view 
   within : p < old.config.members
   within = rw view below
 
-  it : copy ≡ member old p
-  it = same ∙ read_at old.members is_place (omega (arith, within, sound.members)) is
-
   kept : IsCheckpoint old new p
-  kept = record { nobody_down = sets.empty_of_len old.down (rw view nobody); below = within; saved = rw (is_place, it) refl }
+  kept = record {
+    nobody_down = sets.empty_of_len old.down (rw view nobody);
+    below = within;
+    saved = rw (is_place, same, read_at old.members is_place (omega (arith, within, sound.members)) is) refl;
+  }
 
   pub is_checkpoint : IsCheckpoint now new p
   is_checkpoint = rw (← view) kept
@@ -26,6 +26,3 @@ module _ {next : Next} {old now : GroupRecord} (sound : IsSound next old) (view 
   pub is_sound : IsSound next new
   unfolding GroupCheckpointKeeps
   is_sound = group_checkpoint_keeps next old new p kept sound
-
-  pub is_fold : IsCheckpointFold next new p
-  is_fold = is_sound.saved p within

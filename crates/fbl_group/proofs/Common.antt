@@ -1,37 +1,35 @@
 -- The names that proofs of this crate take from outside: of the standard library, of the crates below, and of the definitions here.
-pub use Rattle.std.proofs.Common.{All, Bool, Fits, IfNone, IfSome, IsSome, List, None, Option, Result, Some, Vec, [], add-one, ap, append-nil, append_assoc, arith, below_more, cond, count_by}
-pub use Rattle.std.proofs.Common.{deque_capacity, deque_items, deque_len, drop, false, get_or, if◌then◌else◌, inl, inr, is_some, length, length-append, map, nat_lt, not, option_map, refl}
-pub use Rattle.std.proofs.Common.{replicate, rules, set, slice_get, slice_index, slice_index_or, slice_set, subst, suc, sym, take, true, vec_capacity, vec_len, w32, w64, zero, ℕ, ◌*◌, ◌++◌}
-pub use Rattle.std.proofs.Common.{◌+◌, ◌-◌, ◌<◌, ◌==◌, ◌^◌, ◌||◌, ◌∙◌, ◌∷◌, ◌≡◌, ◌≢◌, ◌≤◌, ◌⊎◌}
+pub use Rattle.std.proofs.Common.{All, Bool, Fits, IfSome, List, None, Option, Some, Vec, [], add-one, ap, append-nil, append_assoc, arith, below_more, cond, count_by, deque_capacity, deque_items}
+pub use Rattle.std.proofs.Common.{deque_len, drop, false, get_or, inl, inr, length, length-append, map, nat_lt, not, option_map, refl, replicate, rules, set, slice_get, slice_index_or, slice_set}
+pub use Rattle.std.proofs.Common.{subst, suc, sym, take, true, vec_capacity, vec_len, w32, w64, zero, ℕ, ◌*◌, ◌++◌, ◌+◌, ◌-◌, ◌<◌, ◌==◌, ◌^◌, ◌||◌, ◌∙◌}
+pub use Rattle.std.proofs.Common.{◌∷◌, ◌≡◌, ◌≢◌, ◌≤◌, ◌⊎◌}
 pub use Rattle.std.proofs.lemmas.Bool.{eq-eqb, false≢true, true_from_ne_false}
 pub use Rattle.std.proofs.lemmas.Bool.Decides.{nat_tests}
 pub use Rattle.std.proofs.lemmas.Fn.{filter_same}
 pub use Rattle.std.proofs.lemmas.Grind.{common_steps}
-pub use Rattle.std.proofs.lemmas.List.{get_or-map, get_or-replicate, get_or-set_other, get_or-set_same, get_or_default, get_or_past, get_or_read_under, length-map, length-replicate, length-set}
-pub use Rattle.std.proofs.lemmas.List.{length-take-le, map-append, map-set, set-get_or, take_all, take_more}
+pub use Rattle.std.proofs.lemmas.List.{at_drop_more, get_or-map, get_or-replicate, get_or-set_other, get_or-set_same, get_or_default, get_or_past, get_or_read_under, length-map, length-replicate}
+pub use Rattle.std.proofs.lemmas.List.{length-set, map-append, map-set, set-get_or}
 pub use Rattle.std.proofs.lemmas.List.Elements.{filter-append, filter_map-append}
 pub use Rattle.std.proofs.lemmas.List.Folds.{Any-from_list_any, list_any-from_Any}
-pub use Rattle.std.proofs.lemmas.List.Sums.{AllPass-from_list_all, count_by_more_no, count_by_more_yes, fold_push, list_all-from_AllPass, sum_by-cons}
-pub use Rattle.std.proofs.lemmas.Option.{slice_get-get_or}
+pub use Rattle.std.proofs.lemmas.List.Sums.{AllPass-from_list_all, count_by_more_no, count_by_more_yes, fold-append, list_all-from_AllPass, sum_by-cons}
+pub use Rattle.std.proofs.lemmas.Option.{get_or_from_slice_get, slice_get-get_or}
 pub use Rattle.std.specs.Cmp.{nat_cmp_total, unsigned_tied}
-pub use Rattle.std.specs.List.{cons_option, filter, filter_map, list_any}
+pub use Rattle.std.specs.List.{filter, filter_map, list_any}
 pub use Rattle.std.specs.Ordering.{eq_by_cmp, nat_cmp}
 pub use Rattle.std.specs.Prelude.{sum_by, ◌↔◌}
-pub use Rattle.std.specs.Result.{OnErr}
 pub use Rattle.std.specs.Vec.{with_item}
 pub use Rattle.std.specs.Vec.Iter.{into_iter_items}
 pub use Rattle.std.specs.declared.collections.VecDeque.{VecDeque}
 pub use Rattle.fbl_base.proofs.FoldLaws.{after_notes-state}
-pub use Rattle.fbl_base.proofs.Gets.{take-more}
 pub use Rattle.fbl_base.proofs.RulesLaws.{eqb-self}
 pub use Rattle.fbl_base.proofs.Sifted.{length-filter_map, length-left}
 pub use Rattle.fbl_base.specs.Audit.{IsDumpOrphan, Parts}
 pub use Rattle.fbl_base.specs.Configs.{IsConfig, Settings, StartAllowed}
-pub use Rattle.fbl_base.specs.Events.{determinant_of, mark_of, receipt_of, same_determinant}
+pub use Rattle.fbl_base.specs.Events.{determinant_of, mark_of, receipt_of}
 pub use Rattle.fbl_base.specs.Fold.{Next, step_events}
 pub use Rattle.fbl_base.specs.MemberSets.{AllBelow, Members}
 pub use Rattle.fbl_base.specs.Precedence.{Has, itself}
-pub use Rattle.fbl_base.specs.Rules.{in_flight, is_send_of, sends_of, sent_on, taken_on}
+pub use Rattle.fbl_base.specs.Rules.{in_flight, sent_on, taken_on}
 pub use Rattle.fbl_base.specs.Steps.{SendsAllowed}
 pub use Rattle.fbl_base.specs.declared.outcome.Outcome.{Outcome}
 pub use Rattle.fbl_base.specs.declared.trace.Determinant.{Determinant}
@@ -43,8 +41,7 @@ pub use Rattle.fbl_base.specs.declared.trace.Note.{Note}
 pub use Rattle.fbl_base.specs.declared.trace.Start.{Start}
 pub use Rattle.fbl_law.proofs.ChannelCounts.{sent_again-short, sum_below-agree}
 pub use Rattle.fbl_law.proofs.CutInOnePass.{recovered_trace-cut}
-pub use Rattle.fbl_law.proofs.DumpLaws.{carried_fits, dump_has_no_orphan, dump_obeys_rules, pairs_from-push, table_fits}
-pub use Rattle.fbl_law.proofs.GatheredTables.{gathered_all-more}
+pub use Rattle.fbl_law.proofs.DumpLaws.{carried_fits, dump_has_no_orphan, dump_obeys_rules, table_fits}
 pub use Rattle.fbl_law.proofs.GroupCheckpoint.{checkpoint_is_recorded, group_checkpoint_keeps}
 pub use Rattle.fbl_law.proofs.GroupDelivery.{group_delivery_keeps, length-step_events}
 pub use Rattle.fbl_law.proofs.GroupFacts.{flight_ends, front_flight, front_is_later, new_not_carried, new_not_held, receipt_is_new, receipts_fit, sends_fit, trace_fits}
@@ -60,26 +57,22 @@ pub use Rattle.fbl_law.specs.Dumps.{pairs_from, pairs_of}
 pub use Rattle.fbl_law.specs.GroupLaws.{SendsWell}
 pub use Rattle.fbl_law.specs.GroupSteps.{IsCheckpoint, IsDelivery, IsRecovery, IsStrike, delivery_events, message_of_send, start_events, step_of}
 pub use Rattle.fbl_law.specs.Groups.{GroupRecord, HasChannels, channel, channel_in, is_recorded, knowledge, marks, member, member_checkpoint, messages_in, messages_in_flight, receipts, sum_below}
-pub use Rattle.fbl_law.specs.Knowledge.{IsDown, IsInFlight, IsOrphan, IsUp, MatchesTrace, send_mark, table}
-pub use Rattle.fbl_law.specs.Promises.{GainsHolders, KeepsHolders, LeavesRecorded, RecordsCauses, SurvivorsHold}
-pub use Rattle.fbl_law.specs.Replaying.{IsNextReplay, IsRebuilt, IsReplaying, IsWaiting, count_in, is_replayed, recovered_trace, replayed_in, resent, resent_to, sent_again, stays_by, working}
-pub use Rattle.fbl_law.specs.Sound.{IsCheckpointFold, IsSound, received_notes}
+pub use Rattle.fbl_law.specs.Knowledge.{IsDown, IsInFlight, IsUp, MatchesTrace, send_mark, table}
+pub use Rattle.fbl_law.specs.Replaying.{IsRebuilt, IsReplaying, IsWaiting, count_in, is_replayed, recovered_trace, replayed_in, resent, resent_to, sent_again, stays_by, working}
+pub use Rattle.fbl_law.specs.Sound.{IsSound, received_notes}
 pub use Rattle.fbl_law.specs.Steps.{between, gathered_all, is_on, recovery_table, saved_tables, taken_off}
-pub use Rattle.fbl_member.proofs.Once.{IsOnce-piggybacked}
 pub use Rattle.fbl_member.specs.Carried.{IsOnce}
 pub use Rattle.fbl_member.specs.Members.{MemberRecord, Message, blank, fresh, last_from, logged_note, messages_from, next_determinant, received_by, replayed_by, table_after}
 pub use Rattle.fbl_table.specs.Receipts.{IsByNumber, receipt_at}
-pub use Rattle.fbl_table.specs.Tables.{found, gathered, is_held, marked, piggybacked}
+pub use Rattle.fbl_table.specs.Tables.{found, is_held, piggybacked}
 pub use Rattle.fbl_table.specs.declared.entry.Entry.{Entry}
 pub use Rattle.fbl_group.specs.Channels.{AreReplaced, each, first_message, front, front_message, room_in, rooms, rows, send_of_message, taken_and_sent, value_of, with_at, with_sent}
-pub use Rattle.fbl_group.specs.Deliveries.{Delivered, Delivers, IsDeliverRefusal, IsPlanned, deliver_refusal, of_commit, of_take}
+pub use Rattle.fbl_group.specs.Deliveries.{Delivered, Delivers, IsDeliverRefusal, IsPlanned, deliver_refusal, of_commit}
 pub use Rattle.fbl_group.specs.Rebuilding.{AreByNumber, HasReplayed, IsPutBack, IsReady, Rounds, Tries}
 pub use Rattle.fbl_group.specs.Recoveries.{Recovers, messages_at}
 pub use Rattle.fbl_group.specs.Strikes.{IsBlanked, is_lost_receipt_of, is_within, lost_receipts, strike_refusal}
-pub use Rattle.fbl_group.specs.Tickets.{IsCommitRefusal, IsTicket, commit_refusal, has_no_room, is_current, is_full, take_refusal}
+pub use Rattle.fbl_group.specs.Tickets.{IsCommitRefusal, IsTicket, commit_refusal, is_current, is_full, take_refusal}
 pub use Rattle.fbl_group.specs.declared.answers.Receipted.{Receipted}
-pub use Rattle.fbl_group.specs.declared.answers.Recovered.{Recovered}
 pub use Rattle.fbl_group.specs.declared.channels.Channels.{Channels}
 pub use Rattle.fbl_group.specs.declared.refusals.CommitRefusal.{CommitRefusal}
-pub use Rattle.fbl_group.specs.declared.refusals.TakeRefusal.{TakeRefusal}
 pub use Rattle.fbl_group.specs.declared.ticket.Ticket.{Ticket}

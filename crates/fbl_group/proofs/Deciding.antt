@@ -1,18 +1,10 @@
 -- Which refusal of a delivery, a ticket or a commit holds.
-use Rattle.fbl_group.proofs.Common.{◌≡◌, ℕ, ◌+◌, ◌<◌, Bool, true, false, ◌==◌, not, cond, length, arith, refl, sym, ap, ◌∙◌, Some, None, Fits, w32, nat_tests, Outcome, Next}
-use Rattle.fbl_group.proofs.Common.{Message, MemberRecord, GroupRecord, member, channel, step_of, front_message, IsPlanned, is_full, IsSound, up_if_none, receipts_fit, front_flight, option_map, front}
-use Rattle.fbl_group.proofs.Common.{deliver_refusal, of_take, of_commit, IsDeliverRefusal, Delivers, Receipted, Ticket, TakeRefusal, CommitRefusal, take_refusal, IsTicket, commit_refusal, is_current}
-use Rattle.fbl_group.proofs.Common.{IsCommitRefusal, eq-eqb, flight_ends}
+use Rattle.fbl_group.proofs.Common.{◌≡◌, ℕ, Bool, true, false, ◌==◌, not, cond, length, arith, refl, sym, Some, None, nat_tests, Outcome, Next, Message, MemberRecord, GroupRecord, member}
+use Rattle.fbl_group.proofs.Common.{channel, step_of, front_message, IsPlanned, is_full, IsSound, front_flight, option_map, front, deliver_refusal, of_commit, IsDeliverRefusal, Delivers, Receipted}
+use Rattle.fbl_group.proofs.Common.{Ticket, CommitRefusal, take_refusal, IsTicket, commit_refusal, is_current, IsCommitRefusal, eq-eqb, flight_ends}
 use Rattle.std.specs.FinSet as set
 use Rattle.fbl_group.specs.declared.refusals.CommitRefusal.TheVariants as commit
 use Rattle.fbl_group.proofs.Queues.{first-is}
-
--- the receiver's record has few receipts
-pub few_received : {next : Next} {r : GroupRecord} {p received : ℕ} {x : MemberRecord} → IsSound next r → x ≡ member r p → p < r.config.members → set.len r.down ≡ 0
-    → received ≡ x.received → Fits w32 (received + 1)
-few_received {next} {r} {p} sound read below nobody is =
-    let fits = receipts_fit next r sound p below (up_if_none (set.empty_of_len r.down nobody) p) in
-    omega (arith, is, ap (λ (m : MemberRecord). m.received) read, fits, sound.room, sound.config.limit.1)
 
 -- a commit of a ticket of a group of as many members, nobody of which is down, is decided by the front of its channel and the record at the receiver's place
 module _ (next : Next) (r : GroupRecord) (t : Ticket) {w : Message} {x : MemberRecord} {outcome : Outcome} (nobody : set.len r.down ≡ 0) (size : r.config.members ≡ t.n)
@@ -61,7 +53,3 @@ module _ (next : Next) (r : GroupRecord) (p q : ℕ) (t : Ticket) (taken : (take
   pub delivers : (new : GroupRecord) (answer : Receipted) → (commit_refusal next r made ≡ None) × Delivers next r new made.to made.from answer
       → (deliver_refusal next r p q ≡ None) × Delivers next r new p q answer
   delivers new answer done = (rw (deliver_is, done.0) refl, (rw (same, ends.0, ends.1) at done.1))
-
--- a delivery is refused as its ticket is
-pub take_refused : (next : Next) (r : GroupRecord) (p q : ℕ) (refusal : TakeRefusal) → take_refusal r p q ≡ Some refusal → IsDeliverRefusal (deliver_refusal next r p q) (of_take refusal)
-take_refused next r p q refusal is = grind arith

@@ -3,11 +3,9 @@ pub mod Queues
 pub mod Planning
 pub mod Deciding
 pub mod Striking
-pub mod Promised
 pub mod Checkpointing
 pub mod Reading
 pub mod Starting
-pub mod Dumping
 pub mod Recovering
 pub mod PuttingBack
 pub mod BringingBack

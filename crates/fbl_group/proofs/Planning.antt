@@ -3,8 +3,8 @@ use Rattle.fbl_group.proofs.Common.{Some, None, ◌≡◌, ◌≢◌, ℕ, ◌+�
 use Rattle.fbl_group.proofs.Common.{append_assoc, arith, get_or, length-append, Fits, w32, slice_get, slice_set, All, nat_tests, Event, Outcome, Note, Next, Entry, piggybacked, Message, MemberRecord}
 use Rattle.fbl_group.proofs.Common.{messages_from, IsUp, taken_off, between, GroupRecord, HasChannels, member, channel, channel_in, knowledge, IsSound, step_of, up_if_none, receipts_fit, front_flight}
 use Rattle.fbl_group.proofs.Common.{IsOnce, front_message, send_of_message, taken_and_sent, IsPlanned, set-get_or, Receipt, SendsAllowed, is_held, last_from, received_by, table_after}
-use Rattle.fbl_group.proofs.Common.{next_determinant, IsInFlight, delivery_events, IsDelivery, SendsWell, sends_fit, receipt_is_new, new_not_held, new_not_carried, flight_ends, front_is_later}
-use Rattle.fbl_group.proofs.Common.{carried_fits, length-step_events, group_delivery_keeps, Delivered, has_no_room}
+use Rattle.fbl_group.proofs.Common.{next_determinant, IsInFlight, delivery_events, IsDelivery, SendsWell, sends_fit, receipt_is_new, new_not_held, new_not_carried, front_is_later, carried_fits}
+use Rattle.fbl_group.proofs.Common.{length-step_events, group_delivery_keeps, Delivered}
 use Rattle.fbl_law.specs.GroupSteps.{made as made_by}
 use Rattle.fbl_group.proofs.Queues.{first-is, messages-all, sends-messages, settled-in}
 use Rattle.fbl_group.proofs.Recovering.{read_at}
@@ -53,11 +53,10 @@ module _ {next : Next} {r now : GroupRecord} {q p : ℕ} {outcome : Outcome} (we
   pub room : (length r.trace + 1 + length outcome.sends.items ≤ r.config.limit) × (r.receipts_ever ≢ 18446744073709551615)
   room = (grind (arith, nat_tests, plan.room), λ is. grind (arith, nat_tests, plan.room))
 
-  allowed : SendsAllowed p r.config.members outcome
-  allowed = rw step (well p r.config.members m.state v.note sound.config.members.0 plan.to_member)
-
   receivers : All (λ (send : ℕ × Note). send.0 < r.config.members) outcome.sends.items
-  receivers k d below = (allowed.0 k d below).0
+  receivers k d below =
+      let allowed : SendsAllowed p r.config.members outcome = rw step (well p r.config.members m.state v.note sound.config.members.0 plan.to_member) in
+      (allowed.0 k d below).0
 
   -- of channels that are still the group's: there is a front, what is read there is the message, and receivers are members
   module _ {cs : List (List (List Message))} (same : cs ≡ r.channels) where
@@ -66,14 +65,11 @@ module _ {next : Next} {r now : GroupRecord} {q p : ℕ} {outcome : Outcome} (we
         → trace ≡ r.trace → record r { members = slice_set r.members place x; channels = cs; trace = trace } ≡ r
     stays place {before = before} unchanged read kept = rw (kept, same, unchanged, read, set-get_or r.members place before) refl
 
-    rows : (a : ℕ) → a < r.config.members → length (get_or cs a []) ≡ r.config.members
-    rows a below = rw same (sound.shape.receivers a below)
-
     pub not_empty : slice_get (channel_in cs q p) 0 ≡ None → ⊥
     not_empty none = (let first = rw none at (rw (← same) at plan.first) in cc)
 
     pub receivers_in : {given : List (ℕ × Note)} → given ≡ outcome.sends.items → All (λ (s : ℕ × Note). s.0 < length (get_or cs p [])) given
-    receivers_in is = rw is (λ k d below. omega (arith, receivers k d below, rows p plan.to_member))
+    receivers_in is = rw (is, same) (λ k d below. omega (arith, receivers k d below, sound.shape.receivers p plan.to_member))
 
     pub sent_in : {made : List Message} (before : ℕ) (carried : List Entry) → made ≡ messages_from p before carried outcome.sends.items
         → All (λ (w : Message). w.to < length (get_or cs p [])) made
@@ -123,11 +119,10 @@ module _ {next : Next} {r now : GroupRecord} {q p : ℕ} {outcome : Outcome} (we
           made_next : made ≡ made_by next r v
           made_next = made_is ∙ rw (plan.step, to_receiver) refl
 
-          ends : All (λ (u : Message). (u.from ≡ p) × (u.to < r.config.members)) made
-          ends = rw sent (messages-all (λ k. k < r.config.members) p _ _ outcome.sends.items receivers)
-
           settled : HasChannels r.config.members after_rows × ((a b : ℕ) → channel new a b ≡ taken_off v a b (channel r a b) ++ between a b (made_by next r v))
-          settled = rw (moved, same, ← made_next) (settled-in v made sound.shape plan.from_member plan.to_member of_sender to_receiver ends)
+          settled =
+              let ends : All (λ (u : Message). (u.from ≡ p) × (u.to < r.config.members)) made = rw sent (messages-all (λ k. k < r.config.members) p _ _ outcome.sends.items receivers) in
+              rw (moved, same, ← made_next) (settled-in v made sound.shape plan.from_member plan.to_member of_sender to_receiver ends)
 
           rsn_next : rsn ≡ m.received + 1
           rsn_next = rsn_is ∙ ap (λ (y : MemberRecord). y.received) receives

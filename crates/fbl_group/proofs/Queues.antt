@@ -1,19 +1,15 @@
 -- Channels as queues: the loops over them, and what is left of them by a send, a delivery, a strike and a recovery.
 use Rattle.fbl_group.proofs.Common.{◌≡◌, ℕ, zero, suc, ◌+◌, ◌<◌, ◌≤◌, ◌⊎◌, Bool, true, false, cond, ◌-◌, List, [], ◌∷◌, ◌++◌, length, map, drop, replicate}
-use Rattle.fbl_group.proofs.Common.{refl, sym, ap, ◌∙◌, arith, ◌||◌, Option, Some, slice_get, get_or, append_assoc, deque_items, All, length-map, length-set, map-append, get_or_default}
-use Rattle.fbl_group.proofs.Common.{get_or-set_same, get_or-set_other, set-get_or, get_or_past, common_steps, nat_tests, filter-append, Members, Note, Entry, Message, messages_from, between, is_on}
-use Rattle.fbl_group.proofs.Common.{taken_off, HasChannels, channel_in, rows, rooms, room_in, each, with_sent, taken_and_sent, send_of_message, IfNone, IsSome, Vec, set, append-nil, deque_len}
-use Rattle.fbl_group.proofs.Common.{deque_capacity, VecDeque, get_or-replicate, length-replicate, map-set, get_or-map, Channels, with_item, step_events, first_message, with_at}
+use Rattle.fbl_group.proofs.Common.{refl, sym, ap, ◌∙◌, arith, ◌||◌, Some, slice_get, get_or, append_assoc, deque_items, All, length-map, length-set, map-append, get_or-set_same}
+use Rattle.fbl_group.proofs.Common.{get_or-set_other, set-get_or, get_or_past, common_steps, nat_tests, filter-append, Members, Note, Entry, Message, messages_from, between, is_on, taken_off}
+use Rattle.fbl_group.proofs.Common.{HasChannels, channel_in, rows, rooms, room_in, each, with_sent, taken_and_sent, send_of_message, Vec, set, append-nil, deque_len, deque_capacity, VecDeque}
+use Rattle.fbl_group.proofs.Common.{get_or-replicate, length-replicate, map-set, get_or-map, Channels, with_item, step_events, first_message, with_at}
 use Rattle.std.specs.FinSet as set
 
 -- the first of a list that has one
 pub first-is : (vs : List Message) (v : Message) → slice_get vs 0 ≡ Some v → first_message vs ≡ v
 first-is [] v first = cc
 first-is (x ∷ vs) v first = cc
-
--- a front that is there, and the message that it is
-pub is-there : {X : Type 0} (o : Option X) → {P : Type 0} → ¬ P → IfNone o P → IsSome o
-is-there o not none = grind arith
 
 -- ---- lists that loops make
 
@@ -22,8 +18,8 @@ pub record Made {X : Type 0} (d : X) (Wanted : ℕ → X → Type 0) (i : ℕ) (
   pub size : length xs ≡ i
   pub each : (m : ℕ) → m < i → Wanted m (get_or xs m d)
 
-pub made-none : {X : Type 0} (d : X) (Wanted : ℕ → X → Type 0) → Made d Wanted 0 []
-made-none d Wanted = grind arith
+pub made_none : {X : Type 0} (d : X) (Wanted : ℕ → X → Type 0) → Made d Wanted 0 []
+made_none d Wanted = grind arith
 
 pub made-more : {X : Type 0} (d : X) (Wanted : ℕ → X → Type 0) (i : ℕ) (xs : List X) (x : X) → Made d Wanted i xs → Wanted i x → Made d Wanted (i + 1) (xs ++ x ∷ [])
 made-more d Wanted i xs x made wanted = grind (arith, common_steps)
@@ -39,7 +35,7 @@ pub record Turned {X : Type 0} (d : X) (Wanted : ℕ → X → Type 0) (i : ℕ)
   pub rest : (m : ℕ) → i ≤ m → get_or xs m d ≡ get_or old m d
 
 -- a channel is read after a channel was written, or a list of as many
-ruleset reads = (arith, nat_tests, get_or-set_same, get_or-set_other, length-set)
+pub ruleset reads = (arith, nat_tests, get_or-set_same, get_or-set_other, length-set)
 
 -- ---- what is seen of channels
 
@@ -178,18 +174,6 @@ sending-more {w = w} {rest = rest} left so_far places less = record {
   receivers = λ i d below. grind (reads, so_far.from, so_far.receivers (suc i) d);
   fits = λ i d below. grind (reads, so_far.fits 0 w, so_far.fits (suc i) d);
 }
-
--- a channel that a send needs is there, whatever room was made on others
-pub listed : {old now : List (List (List Message))} {from : ℕ} {s : ℕ × Note} (sends : List (ℕ × Note)) {i : ℕ} → now ≡ old → from < length old
-    → All (λ (x : ℕ × Note). x.0 < length (get_or old from [])) sends → i < length sends → s ≡ get_or sends i s → (from < length now) × (s.0 < length (get_or now from []))
-listed {s = s} sends {i = i} same below fits within read = grind (arith, fits i s)
-
--- room is made for one send more
-pub reserved-more : (room : List (List ℕ)) (from left need i : ℕ) (s : ℕ × Note) (sends : List (ℕ × Note))
-    (places : (from < length room) × (s.0 < length (get_or room from []))) → need ≤ left
-    → i < length sends → s ≡ get_or sends i s → ((j : ℕ) (d : ℕ × Note) → j < i → need ≤ get_or (get_or room from []) (get_or sends j d).0 0)
-    → (j : ℕ) (d : ℕ × Note) → j < i + 1 → need ≤ get_or (get_or (with_at room from s.0 left) from []) (get_or sends j d).0 0
-reserved-more room from left need i s sends places made below read so_far j d less = grind (reads, get_or_default, so_far j d)
 
 -- ---- channels that are replaced, one after the other
 

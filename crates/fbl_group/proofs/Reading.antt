@@ -6,6 +6,9 @@ use Rattle.fbl_group.proofs.Common.{down_or_both_up, trace_fits, weight_in, weig
 use Rattle.std.specs.FinSet as set
 use Rattle.fbl_base.specs.declared.trace.Mark.TheVariants.{Receipt}
 
+-- nobody is in the set exactly where its count is 0
+pub ruleset nobody_counted = (set.empty_of_len, set.len-empty)
+
 in_flight-fits : (t : List Mark) (q p : ℕ) → length (in_flight t q p) ≤ length t
 in_flight-fits t q p =
     let sent : List ℕ = filter_map (sent_on q p) t in

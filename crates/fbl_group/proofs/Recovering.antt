@@ -1,47 +1,14 @@
 -- The steps of a recovery before it changes the group: gathering, replay in rounds, tables given.
-use Rattle.fbl_group.proofs.Common.{◌||◌, nat_lt, ◌≡◌, ℕ, ◌+◌, ◌<◌, ◌≤◌, Bool, true, false, List, [], ◌∷◌, ◌++◌, length, map, take, Option, Some, None, get_or}
-use Rattle.fbl_group.proofs.Common.{refl, sym, ap, ◌∙◌, arith, add-one, slice_index_or, slice_set, nat_tests, get_or_default, Determinant, Note, Next, Entry, gathered, marked, MemberRecord}
-use Rattle.fbl_group.proofs.Common.{blank, IsDown, gathered_all, saved_tables, recovery_table, GroupRecord, member_checkpoint, knowledge, IsSound, working, IsReplaying, replayed_in, IsReady}
-use Rattle.fbl_group.proofs.Common.{if◌then◌else◌, take_all, found, receipt_at, logged_note, replayed_by, IsNextReplay, IsWaiting, fold_push, gathered_all-more, replay_begins, replaying-next}
-use Rattle.fbl_group.proofs.Common.{replaying-room, replay_is_right, replayed_in-step, replayed_in-short, replaying-tables, AreByNumber, Tries, Rounds, HasReplayed}
+use Rattle.fbl_group.proofs.Common.{◌||◌, nat_lt, ◌≡◌, ℕ, ◌+◌, ◌<◌, Bool, true, false, List, [], length, Option, Some, get_or, refl, sym, ap, ◌∙◌, arith, slice_index_or}
+use Rattle.fbl_group.proofs.Common.{slice_set, nat_tests, get_or_default, Determinant, Note, Next, MemberRecord, blank, IsDown, recovery_table, GroupRecord, member_checkpoint, knowledge, IsSound}
+use Rattle.fbl_group.proofs.Common.{working, IsReplaying, IsReady, found, receipt_at, logged_note, replayed_by, IsWaiting, replay_begins, replaying-next, replay_is_right, replayed_in-step}
+use Rattle.fbl_group.proofs.Common.{replaying-tables, AreByNumber, Tries, Rounds, HasReplayed}
 use Rattle.std.specs.FinSet as set
-use Rattle.std.proofs.lemmas.List.{append-nil}
 use Rattle.fbl_group.proofs.Queues.{Made}
 
 -- a record that is read at a place of the list, whatever stands past its end
 pub read_at : (ms : List MemberRecord) {place i : ℕ} {m : MemberRecord} → place ≡ i → i < length ms → m ≡ get_or ms place m → m ≡ slice_index_or ms i blank
 read_at ms {i = i} {m = m} is below read = grind (arith, get_or_default)
-
--- the table of one member more
-pub gathered-step : (ms : List MemberRecord) (i : ℕ) {before after : List Entry} {m : MemberRecord} → i < length ms → m ≡ slice_index_or ms i blank
-    → before ≡ gathered_all [] (map (λ (x : MemberRecord). x.table) (take i ms)) → after ≡ gathered before m.table
-    → after ≡ gathered_all [] (map (λ (x : MemberRecord). x.table) (take (i + 1) ms))
-gathered-step ms i below read was is = rw (is, was, read) (sym (gathered_all-more ms i below))
-
--- some tables, and then others
-gathered_all-then : (t : List Entry) (xs ys : List (List Entry)) → gathered_all t (xs ++ ys) ≡ gathered_all (gathered_all t xs) ys
-gathered_all-then t [] ys = refl
-gathered_all-then t (x ∷ xs) ys = gathered_all-then (gathered t x) xs ys
-
-pub gathered-end : (r : GroupRecord) (i n : ℕ) (before saved after : List Entry) → length r.members ≤ i → length r.checkpoints ≡ n
-    → before ≡ gathered_all [] (map (λ (x : MemberRecord). x.table) (take i r.members))
-    → saved ≡ gathered_all before (saved_tables r.down r.checkpoints n) → after ≡ marked r.down saved → after ≡ recovery_table (knowledge r)
-gathered-end r i n before saved after all size was adds is =
-    rw (is, adds, was, take_all i r.members all, ← size)
-    (ap (marked r.down) (sym (gathered_all-then [] (map (λ (x : MemberRecord). x.table) r.members) (saved_tables r.down r.checkpoints (length r.checkpoints)))))
-
--- the table of one checkpoint more
-module _ (r : GroupRecord) (first : List Entry) {i x : ℕ} {before : List Entry} (same : x ≡ i) where
-  pub saved-step : {after : List Entry} → set.contains r.down x ≡ true → before ≡ gathered_all first (saved_tables r.down r.checkpoints i)
-      → after ≡ gathered before (member_checkpoint r x).table → after ≡ gathered_all first (saved_tables r.down r.checkpoints (i + 1))
-  saved-step down was is =
-      let here = (rw same at down) in
-      rw (add-one, here, is, was, same) (sym (fold_push gathered first (saved_tables r.down r.checkpoints i) (member_checkpoint r i).table))
-
-  pub saved-skip : set.contains r.down x ≡ false → before ≡ gathered_all first (saved_tables r.down r.checkpoints i) → before ≡ gathered_all first (saved_tables r.down r.checkpoints (i + 1))
-  saved-skip up was =
-      let here = (rw same at up) in
-      rw (add-one, here, was) (ap (gathered_all first) (sym (append-nil (saved_tables r.down r.checkpoints i))))
 
 -- a round so far: what is so of the replay, and of the tries of the members below i
 pub record Rounding (next : Next) (r : GroupRecord) (i : ℕ) (first now : List MemberRecord) (moved : Bool) : Type 0 where
@@ -91,13 +58,6 @@ module _ {next : Next} {r : GroupRecord} (sound : IsSound next r) where
         replay_is_right next r sound rebuilt replaying p (sound.down p down) down d is-found note logged,
         replayed_in-step next r sound rebuilt replaying p (sound.down p down) down d note,
       )
-
-  -- rounds end
-  pub round-more : (before after : List MemberRecord) → Rounds next r r.config.members before after true → replayed_in r before < replayed_in r after
-  round-more before after round = round.1
-
-  pub few-replayed : (rebuilt : List MemberRecord) → IsReplaying next r rebuilt → replayed_in r rebuilt ≤ 8192
-  few-replayed rebuilt replaying = replayed_in-short next r sound rebuilt replaying
 
   pub round-last : {before after : List MemberRecord} → IsReplaying next r before → Rounds next r r.config.members before after false → HasReplayed next r after
   round-last replaying round = grind arith

@@ -3,7 +3,7 @@ use Rattle.fbl_group.proofs.Common.{◌≡◌, ◌≢◌, ℕ, suc, ◌<◌, ◌
 use Rattle.fbl_group.proofs.Common.{nat_lt, count_by, slice_index_or, nat_tests, get_or_default, get_or_past, sum_by-cons, Determinant, Event, mark_of, Members, Next, MemberRecord, blank, IsUp}
 use Rattle.fbl_group.proofs.Common.{GroupRecord, channel, marks, knowledge, IsSound, IsStrike, AreReplaced, lost_receipts, filter, not, receipts, is_lost_receipt_of, Message, no_orphan, nat_cmp}
 use Rattle.fbl_group.proofs.Common.{eq_by_cmp, unsigned_tied, nat_cmp_total, false≢true, true_from_ne_false, ◌↔◌, Any-from_list_any, list_any-from_Any, AllPass-from_list_all}
-use Rattle.fbl_group.proofs.Common.{list_all-from_AllPass, receipt_of, Has, itself, AllBelow, eqb-self, IsOrphan, is_recorded, group_strike_keeps, recorded_test, is_within, strike_refusal, IsBlanked}
+use Rattle.fbl_group.proofs.Common.{list_all-from_AllPass, receipt_of, Has, itself, AllBelow, eqb-self, is_recorded, group_strike_keeps, recorded_test, is_within, strike_refusal, IsBlanked}
 use Rattle.std.specs.FinSet as sets
 use Rattle.fbl_base.specs.declared.trace.Event.TheVariants as event
 use Rattle.std.specs.Prelude.{Bool}
@@ -42,9 +42,6 @@ module _ {next : Next} {old : GroupRecord} {struck down : Members} {members : Li
   abbrev new : GroupRecord
   new = record old { members = members; channels = channels; down = down }
 
-  below : AllBelow struck old.config.members
-  below = within-below struck old.config.members (grind (arith, nat_tests))
-
   -- who is down was down before or is struck
   both_down : (m : ℕ) → sets.contains down m ≡ (sets.contains old.down m || sets.contains struck m)
   both_down m = rw joined (sets.contains-union {R = nat_cmp} nat_cmp_total old.down struck m)
@@ -58,13 +55,12 @@ module _ {next : Next} {old : GroupRecord} {struck down : Members} {members : Li
       grind (arith, blanked, emptied, emptied_where, both_down, sound.blanks, sound.down, sound.causes.down.channels)
 
   pub is_sound : IsSound next new
-  is_sound = group_strike_keeps next old new struck is_strike below (rw joined (grind (arith, nat_tests))) sound
+  is_sound = group_strike_keeps next old new struck is_strike (within-below struck old.config.members (grind (arith, nat_tests))) (rw joined (grind (arith, nat_tests))) sound
 
 -- the records of the members named below k are made blank, and the others are as they were
 pub record IsBlankedBelow (k : ℕ) (struck : Members) (old new : List MemberRecord) : Type 0 where
   pub size : length new ≡ length old
   pub named : (m : ℕ) → m < k → sets.contains struck m ≡ true → slice_index_or new m blank ≡ blank
-  pub later : (m : ℕ) → k ≤ m → slice_index_or new m blank ≡ slice_index_or old m blank
   pub others : (m : ℕ) → sets.contains struck m ≡ false → slice_index_or new m blank ≡ slice_index_or old m blank
 
 -- in a sound group each receipt of a member that is up is recorded

@@ -30,7 +30,11 @@ impl<B: Behaviour, A: Allocator + Copy> Group<B, A> {
     {
         self.allow_checkpoint(member)?;
         match self.save(member) {
-            Ok(()) => Ok(()),
+            Ok(()) => {
+                // the group is sound, so that each checkpoint is at the fold of its receipts
+                self.recoverable();
+                Ok(())
+            }
             Err(_) => Err(CheckpointRefusal::Memory),
         }
     }
@@ -65,7 +69,6 @@ impl<B: Behaviour, A: Allocator + Copy> Group<B, A> {
         requires below { member < self.old.config.members }
         requires nobody_down { set.len self.old.down ≡ 0 }
         ensures saved { OnOk result (IsCheckpoint self.old self.new member) }
-        ensures fold { OnOk result (IsCheckpointFold B.next self.new member) }
         ensures unchanged { OnErr result (self.new ≡ self.old) }
     {
         let place = usize::from(member.number());

@@ -1,9 +1,8 @@
 //! Recovery of the members that are down.
 
 ghost use Rattle.std.specs.Prelude.{◌≡◌, ℕ, ◌<◌, ◌≤◌, length, map, IfOk, IfErr, OnErr, OnOk, IsTrue, ◌↔◌};
-ghost use Rattle.std.specs.Option.{is_some};
 ghost use Rattle.std.specs.FinSet as set;
-ghost use Rattle.fbl_base.specs.Events.{mark_of, determinant_of};
+ghost use Rattle.fbl_base.specs.Events.{mark_of};
 ghost use Rattle.fbl_law.specs.Groups.{HasChannels, channel_in, knowledge, receipts};
 ghost use Rattle.fbl_law.specs.Promises.{GainsHolders, LeavesRecorded, RecordsFirst};
 ghost use Rattle.fbl_group.specs.Channels.{rows, AreReplaced};
@@ -46,6 +45,7 @@ impl<B: Behaviour, A: Allocator + Copy> Group<B, A> {
     }
 
     /// Whether nobody is down.
+    #[tactic(auto, using(crate::proofs::Reading::nobody_counted))]
     fn all_are_up(&self) -> bool
         ensures { IsTrue result ↔ (self.now.down ≡ set.empty) }
     {
@@ -81,15 +81,8 @@ impl<B: Behaviour, A: Allocator + Copy> Group<B, A> {
 fn count_receipts(trace: &[Event]) -> u64
     ensures { result ≡ length (receipts (map mark_of trace.now)) }
 {
-    let received = trace.iter().filter(|event| is_receipt(**event));
-    received.count() as u64
-}
-
-/// Whether the event is a receipt.
-fn is_receipt(event: Event) -> bool
-    ensures { result ≡ is_some (determinant_of (mark_of event)) }
-{
-    event.mark().determinant().is_some()
+    let marks = trace.iter().map(|event| event.mark());
+    marks.filter_map(|mark| mark.determinant()).count() as u64
 }
 
 impl<A: Allocator> Channels<A> {

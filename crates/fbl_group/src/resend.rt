@@ -17,6 +17,7 @@ use std::collections::VecDeque;
 
 impl<B: Behaviour, A: Allocator + Copy> Group<B, A> {
     /// The channels made again: on each with an end that is down what its sender sends again, and nothing on the others.
+    #[tactic(auto, using(crate::proofs::Queues::made_none))]
     pub(crate) fn resend(&self, rebuilt: &[MemberRec<A>]) -> Result<Channels<A>, AllocError>
         requires { length rebuilt.now ≡ self.now.config.members }
         ensures shape { IfOk result (λ again. HasChannels self.now.config.members (rows again)) }
@@ -31,6 +32,7 @@ impl<B: Behaviour, A: Allocator + Copy> Group<B, A> {
     }
 
     /// The member's channels made again.
+    #[tactic(auto, using(crate::proofs::Queues::made_none))]
     fn resend_from(
         &self,
         rebuilt: &[MemberRec<A>],
@@ -85,6 +87,7 @@ impl<B: Behaviour, A: Allocator + Copy> Group<B, A> {
 }
 
 /// These messages, each with what the sender's table passes on: one list for all of them, where there is memory to share it.
+#[tactic(auto, using(fbl_member::proofs::Once::carried_once))]
 fn put_again<A: Allocator + Copy>(
     alloc: A,
     from: Member,

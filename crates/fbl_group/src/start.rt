@@ -12,7 +12,7 @@ ghost use Rattle.fbl_law.specs.GroupSteps.{IsGroupStart, start_events, message_o
 
 use crate::channels::{Channels, empty_channels};
 use crate::group::Group;
-use fbl_base::{Behaviour, Config, Event, Member, MemberSet, Start};
+use fbl_base::{Behaviour, Config, Event, Mark, Member, MemberSet, Start};
 use fbl_member::{Carried, MemberRec, Wire};
 use std::alloc::{AllocError, Allocator};
 use std::marker::PhantomData;
@@ -58,6 +58,7 @@ fn fresh_members<A: Allocator + Copy>(
 
 /// The starts' sends in their order, each with its sender's next number, and channels with their messages. These carry
 /// nothing.
+#[tactic(auto, using(fbl_member::proofs::Once::carried_once))]
 fn send_starts<A: Allocator + Copy>(
     alloc: A,
     config: &Config<A>,
@@ -88,16 +89,16 @@ fn count_sends(events: &[Event], member: Member) -> u32
     ensures value { result ≡ sends_of (map mark_of events.now) member }
     ensures few { result ≤ 64 }
 {
-    let sent = events.iter().filter(|event| is_send_of(**event, member));
-    sent.count() as u32
+    let marks = events.iter().map(|event| event.mark());
+    marks.filter(|mark| is_send_of(*mark, member)).count() as u32
 }
 
 /// Whether the event is a send of the member.
-fn is_send_of(event: Event, member: Member) -> bool
-    ensures { result ≡ is_send_of member (mark_of event) }
+fn is_send_of(mark: Mark, member: Member) -> bool
+    ensures { result ≡ is_send_of member mark }
 {
-    match event {
-        Event::Send { from, .. } => from == member,
-        Event::Receipt { .. } => false,
+    match mark {
+        Mark::Send { from, .. } => from == member,
+        Mark::Receipt { .. } => false,
     }
 }

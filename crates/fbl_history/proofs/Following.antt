@@ -82,7 +82,7 @@ module _ {next : Next} {r : GroupRecord} {members : List MemberRecord} {place : 
 
     is-replayed : IsReplayed next r.config.members r.config.starts r.trace d.to after
     is-replayed =
-        replayed-step next r.config.members r.config.starts r.trace d.to receiver d note known.sound.lawful.well_formed (known.replayed.each d.to may-follow.1)
+        replayed-step known.sound.lawful.well_formed (known.replayed.each d.to may-follow.1)
         (Has-receipts_at r.config.members (marks r) d.to receiver.received d known.sound.lawful.well_formed (place, at-mark) refl is-next) noted
 
     -- the log has room for the step's sends

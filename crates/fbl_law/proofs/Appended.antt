@@ -19,8 +19,7 @@ Has-append t added e h = elim (At-append t added h.0 e h.1) [ inl here ↦ inl (
 pub disjoint : (n : ℕ) (t added : List Mark) → WellFormed n (t ++ added) → (e : Mark) → Has added e → ¬ (Has t e)
 disjoint n t added obeys e new old =
     let r = At-behind t added new.0 e new.1 in
-    let below = At-below t old.0 e old.1 in
-    omega (arith, below, r.1, one_place n (t ++ added) obeys e old.0 r.0 (At-front t added old.0 e old.1) r.2)
+    omega (arith, At-below t old.0 e old.1, r.1, one_place n (t ++ added) obeys e old.0 r.0 (At-front t added old.0 e old.1) r.2)
 
 module _ (t added : List Mark) (apart : (e : Mark) → Has added e → ¬ (Has t e)) where
   Earlier-within : (a b : Mark) → Has t b → Earlier (t ++ added) a b → Earlier t a b

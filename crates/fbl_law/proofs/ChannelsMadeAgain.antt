@@ -2,7 +2,7 @@
 use Rattle.fbl_law.proofs.Common.{◌≡◌, ℕ, ◌<◌, ◌≤◌, ◌==◌, ◌&&◌, nat_lt, ◌⊎◌, inl, inr, List, [], ◌∷◌, map, Some, slice_get, subst, refl, sym, ap, ◌∙◌}
 use Rattle.fbl_law.proofs.Common.{arith, Contains, filter, filter_map, nat_tests, Note, Event, Mark, mark_of, sent_on, in_flight, WellFormed, Next, Progress, Logged, Lawful, note_of, map-At}
 use Rattle.fbl_law.proofs.Common.{At-filter, At-filter_map, in_flight-sent, Entry, piggybacked, Message, last_from, send_mark, GroupRecord, member, channel, marks, last_taken, IsFold, IsMadeAgain}
-use Rattle.fbl_law.proofs.Common.{resent_to, Send, logged_beyond, resent}
+use Rattle.fbl_law.proofs.Common.{resent_to, Send, logged_beyond, resent, get_or, get_or_past, HasChannels, destination_of, cases_lt}
 use Rattle.fbl_base.specs.declared.trace.Event.TheVariants as event
 use Rattle.fbl_law.proofs.InOrder.{in_flight-beyond}
 use Rattle.fbl_law.proofs.Lists.{Contains-changed, Contains-none, Contains-place}
@@ -13,12 +13,7 @@ use Rattle.fbl_law.proofs.Notes.{sent-noted}
 beyond-sent : (t : List Event) (q p k : ℕ) → map (λ (s : ℕ × Note). s.0) (logged_beyond (filter_map (logged_of q) t) p k)
     ≡ filter (λ x. nat_lt k x) (filter_map (sent_on q p) (map mark_of t))
 beyond-sent [] q p k = refl
-beyond-sent (event.Send q' s to x ∷ t) q p k = grind (arith, beyond-sent t q p k)
-beyond-sent (event.Receipt to r q' s ∷ t) q p k = beyond-sent t q p k
-
-logged-event : (q : ℕ) (e : Event) (l : Logged) → logged_of q e ≡ Some l → (to : ℕ) × (e ≡ event.Send q l.ssn to l.note)
-logged-event q (event.Send q' k to x) l is = (to, grind (arith, nat_tests))
-logged-event q (event.Receipt to r q' k) l is = absurd cc
+beyond-sent (e ∷ t) q p k = grind (arith, beyond-sent t q p k)
 
 -- what a member's log has beyond a number was sent with that note
 logged_beyond-sent : (t : List Event) (q p k i : ℕ) (s : ℕ × Note) → slice_get (logged_beyond (filter_map (logged_of q) t) p k) i ≡ Some s
@@ -27,14 +22,12 @@ logged_beyond-sent t q p k i s here =
     let a = map-At (λ (l : Logged). (l.ssn, l.note)) (filter (λ l. l.to == p && nat_lt k l.ssn) (filter_map (logged_of q) t)) i s here in
     let b = At-filter (λ (l : Logged). l.to == p && nat_lt k l.ssn) (filter_map (logged_of q) t) i a.0 a.1 in
     let c = At-filter_map (logged_of q) t b.0 a.0 b.1 in
-    let e = logged-event q c.1 a.0 c.3 in
-    let number : a.0.ssn ≡ s.0 = ap (λ (x : ℕ × Note). x.0) a.2 in
-    let note : a.0.note ≡ s.1 = ap (λ (x : ℕ × Note). x.1) a.2 in
-    (c.0, e.0, c.2 ∙ ap Some e.1 ∙ (rw (number, note) refl))
+    let is : c.1 ≡ event.Send q s.0 (destination_of (mark_of c.1)) s.1 = grind (arith, nat_tests, c.3, ap (λ (x : ℕ × Note). x.0) a.2, ap (λ (x : ℕ × Note). x.1) a.2) in
+    (c.0, destination_of (mark_of c.1), c.2 ∙ ap Some is)
 
 module _ (next : Next) (r : GroupRecord) (lawful : Lawful next r.config.members r.config.starts r.trace) (q p : ℕ) (sender : IsFold next r q) (receiver : IsFold next r p) (below : q < 16) where
   the-log : (member r q).log ≡ filter_map (logged_of q) r.trace
-  the-log = ap (λ (x : Progress). x.log) sender.progress ∙ log-sends next r.config.members r.config.starts r.trace q lawful
+  the-log = ap (λ (x : Progress). x.log) sender.progress ∙ log-sends lawful q
 
   -- the log has beyond the last message taken exactly what is in flight
   pub beyond-flight : map (λ (s : ℕ × Note). s.0) (logged_beyond (member r q).log p (last_from (member r p) q)) ≡ in_flight (marks r) q p
@@ -69,13 +62,21 @@ in_flight-outside n t q p obeys out = at (in_flight t q p) refl where
   at (x ∷ xs) is =
       let sent = in_flight-sent t q x p (ap (λ (ys : List ℕ). slice_get ys 0) is) in
       let may = obeys sent.0 (Send q x p) sent.1 in
-      absurd (elim out [ inl from ↦ (let f = from in let m = may.0 in omega arith) | inr to ↦ (let f = to in let m = may.1 in omega arith) ])
+      absurd (omega (arith, out, may.0, may.1))
 
--- so an empty channel outside is made again
-pub made-again-outside : (r : GroupRecord) (q p : ℕ) → WellFormed r.config.members (marks r) → (r.config.members ≤ q) ⊎ (r.config.members ≤ p)
-    → channel r q p ≡ [] → IsMadeAgain r q p
-made-again-outside r q p obeys out none = record {
-  sends = ap (map send_mark) none ∙ sym (ap (map (λ ssn. Send q ssn p)) (in_flight-outside r.config.members (marks r) q p obeys out));
-  notes = λ v among. absurd (Contains-none v (rw none at among));
-  carried = λ v among. absurd (Contains-none v (rw none at among));
-}
+-- and there is no channel but between them, so one is made again if it is where it is between members
+pub made-again-if : (r : GroupRecord) (q p : ℕ) → WellFormed r.config.members (marks r) → HasChannels r.config.members r.channels
+    → (q < r.config.members → p < r.config.members → IsMadeAgain r q p) → IsMadeAgain r q p
+made-again-if r q p obeys shape inside = elim (cases_lt q r.config.members) [
+  | inr past ↦ outside (inl past)
+  | inl below ↦ elim (cases_lt p r.config.members) [ inr past ↦ outside (inr past) | inl below_p ↦ inside below below_p ]
+]
+  where
+    outside : (r.config.members ≤ q) ⊎ (r.config.members ≤ p) → IsMadeAgain r q p
+    outside out =
+        let none : channel r q p ≡ [] = grind (arith, shape.senders, shape.receivers q, get_or_past r.channels q [], get_or_past (get_or r.channels q []) p []) in
+        record {
+          sends = ap (map send_mark) none ∙ sym (ap (map (λ ssn. Send q ssn p)) (in_flight-outside r.config.members (marks r) q p obeys out));
+          notes = λ v among. absurd (Contains-none v (rw none at among));
+          carried = λ v among. absurd (Contains-none v (rw none at among));
+        }

@@ -2,22 +2,23 @@
 pub use Rattle.std.proofs.Common.{Bool, Decides, List, None, Option, Some, [], ap, append_assoc, arith, cond, count_by, drop, false, get_or, if◌then◌else◌, inl, inr, length, length-append}
 pub use Rattle.std.proofs.Common.{length-take, map, nat_le, nat_lt, not, option_map, refl, slice_get, subst, suc, sym, take, true, zero, ℕ, ◌&&◌, ◌*◌, ◌++◌, ◌+◌, ◌-◌, ◌<◌}
 pub use Rattle.std.proofs.Common.{◌==◌, ◌||◌, ◌↔◌, ◌∙◌, ◌∷◌, ◌≡◌, ◌≢◌, ◌≤◌, ◌⊎◌}
+pub use Rattle.std.proofs.Math.ListN.{get_or-map}
 pub use Rattle.std.proofs.Math.Nat.{add-zero, zero-add}
 pub use Rattle.std.proofs.Math.Seq.{take-append-add}
-pub use Rattle.std.proofs.lemmas.Bool.{and_parts, cases_Bool, cases_eq, cases_lt, cases_order, eq-eqb, false_from_ne_true, ne_eqb, or_cases, or_left, or_right, true_from_ne_false}
-pub use Rattle.std.proofs.lemmas.Bool.Decides.{leb_tells, nat_tests, same_from_decides}
+pub use Rattle.std.proofs.lemmas.Bool.{and_parts, cases_Bool, cases_eq, cases_lt, cases_order, eq-eqb, false_from_ne_true, ne_eqb, true_from_ne_false}
+pub use Rattle.std.proofs.lemmas.Bool.Decides.{Decides-at, Decides-like, Decides-or, leb_tells, nat_tests, same_from_decides}
 pub use Rattle.std.proofs.lemmas.List.{append-nil, drop-map, get_or-replicate, get_or-set_other, get_or-set_same, get_or_default, get_or_past, length-map, length-replicate, length-set, map-append}
 pub use Rattle.std.proofs.lemmas.List.{map_more, nil_from_length, take-append-drop, take-map, take_all}
 pub use Rattle.std.proofs.lemmas.List.Elements.{All-append, All-cons, All-contains, All-contains_itself, All-from_get_or, All-head, All-map, All-nil, All-push, All-tail, All-take, All-weaker}
 pub use Rattle.std.proofs.lemmas.List.Elements.{Contains-append_cases, Contains-append_left, Contains-append_right, Contains-get_or, filter-append, filter_map-append, filter_passes}
 pub use Rattle.std.proofs.lemmas.List.Filters.{length-filter_both}
-pub use Rattle.std.proofs.lemmas.List.Folds.{Any-from_list_any, fold-map, list_any-append, list_any-from_Any, list_any_at}
+pub use Rattle.std.proofs.lemmas.List.Folds.{Any-from_list_any, find_at, fold-map, list_any-append, list_any-from_Any, list_any_at}
 pub use Rattle.std.proofs.lemmas.List.Sums.{count_by-le-length, fails_before_first, fold-append, fold_push, passes_at_first, position_or_len_is, sum_by-append, sum_by-cons, sum_by-drop_more}
 pub use Rattle.std.proofs.lemmas.List.Sums.{sum_by_push}
 pub use Rattle.std.proofs.lemmas.Map.Made.{is_member-Decides, length-le_from_is_member}
 pub use Rattle.std.proofs.lemmas.Option.{get_or_from_slice_get, slice_get-get_or, slice_get-map, slice_get_within}
 pub use Rattle.std.specs.Cmp.{decided, nat_cmp_total}
-pub use Rattle.std.specs.List.{All, Contains, IsDistinct, cons_option, filter, filter_map, find, fold, list_any, position_or_len}
+pub use Rattle.std.specs.List.{All, Contains, IsDistinct, cons_option, filter, filter_map, fold, list_any, position_or_len}
 pub use Rattle.std.specs.Option.{option_map_or}
 pub use Rattle.std.specs.Ordering.{nat_cmp}
 pub use Rattle.std.specs.Prelude.{slice_index_or, slice_set, sum_by}
@@ -30,12 +31,12 @@ pub use Rattle.fbl_base.proofs.PrecedenceLaws.{Earlier-front, Has-filter, Has-fi
 pub use Rattle.fbl_base.proofs.Received.{is_receipt}
 pub use Rattle.fbl_base.proofs.Recorded.{Decides-same_determinant}
 pub use Rattle.fbl_base.proofs.RulesLaws.{MayFollow-last, WellFormed-front, WellFormed-keeps, WellFormed-none, WellFormed-push, WellFormed-take, count_at, eqb-self, in_flight-sent, is_sent}
-pub use Rattle.fbl_base.proofs.RulesLaws.{on_channel, receipts-step, sends-step, sent-before}
+pub use Rattle.fbl_base.proofs.RulesLaws.{receipts-step, sends-step, sent-before}
 pub use Rattle.fbl_base.proofs.Sifted.{length-filter_map, length-left}
 pub use Rattle.fbl_base.proofs.Sizes.{len-remove_one, len-within, some_member, some_outside}
-pub use Rattle.fbl_base.specs.Audit.{HeldAt, IsLost}
+pub use Rattle.fbl_base.specs.Audit.{HeldAt}
 pub use Rattle.fbl_base.specs.Configs.{IsConfig, Settings, StartAllowed}
-pub use Rattle.fbl_base.specs.Events.{At, determinant_of, mark_of, member_of, receipt_of, same_determinant, send_of}
+pub use Rattle.fbl_base.specs.Events.{At, destination_of, determinant_of, mark_of, member_of, receipt_of, same_determinant, send_of}
 pub use Rattle.fbl_base.specs.Fold.{Action, Lawful, Logged, Next, Progress, action_of, actions_of, advanced, after_notes, begun, note_of, notes_of, numbered, responses, sent, start_of, starts_of}
 pub use Rattle.fbl_base.specs.Fold.{step_events, took}
 pub use Rattle.fbl_base.specs.MemberSets.{AllBelow, Members, contains-flagged, contains-insert_other, contains-insert_same, flagged}
@@ -55,7 +56,7 @@ pub use Rattle.fbl_table.specs.declared.entry.Entry.{Entry}
 pub use Rattle.fbl_law.specs.Dumps.{HasDistinctTables, dump_of, held_pairs, pairs_from, pairs_of}
 pub use Rattle.fbl_law.specs.GroupLaws.{RecordedTest, SendsWell}
 pub use Rattle.fbl_law.specs.GroupSteps.{IsCheckpoint, IsDelivery, IsGroupStart, IsMadeAgain, IsRecovery, IsStrike, delivery_events, made, message_of_send, receiver, start_events, step_of}
-pub use Rattle.fbl_law.specs.Groups.{GroupRecord, HasChannels, channel, channel_in, is_recorded, knowledge, marks, member, member_checkpoint, messages_in_flight, receipts, sum_below}
+pub use Rattle.fbl_law.specs.Groups.{GroupRecord, HasChannels, channel, is_recorded, knowledge, marks, member, member_checkpoint, messages_in_flight, receipts, sum_below}
 pub use Rattle.fbl_law.specs.Headline.{SoundRecordsFirst}
 pub use Rattle.fbl_law.specs.Knowledge.{Holds, Includes, IsAlwaysHeld, IsBeforeCheckpoint, IsCheckpointKept, IsClosed, IsDown, IsDownEmpty, IsHolder, IsInFlight, IsOrphan, IsRecorded}
 pub use Rattle.fbl_law.specs.Knowledge.{IsSoundKnowledge, IsStable, IsThere, IsTrueEntry, IsUp, Knowledge, KnowsTruth, MatchesTrace, Names, NamesCauses, Owes, Store, checkpoint, entries}

@@ -1,12 +1,12 @@
 -- How many receipts are replayed.
-use Rattle.fbl_law.proofs.Common.{◌≡◌, ◌≢◌, ℕ, zero, suc, ◌+◌, ◌-◌, ◌<◌, ◌≤◌, ◌==◌, ◌&&◌, Some, slice_get, Bool, true, List, [], ◌∷◌, inl, inr, length}
-use Rattle.fbl_law.proofs.Common.{map, refl, sym, ap, ◌∙◌, arith, nat_lt, filter, cases_eq, nat_tests, length-map, Determinant, Event, Mark, mark_of, determinant_of, AllBelow, Members}
-use Rattle.fbl_law.proofs.Common.{WellFormed, Next, MemberRecord, Stays, IsEventCut, GroupRecord, knowledge, receipts, receipts_at, IsReplayed, IsSound, length-left, length-filter_map, count_in}
+use Rattle.fbl_law.proofs.Common.{◌≡◌, ◌≢◌, ℕ, zero, suc, ◌+◌, ◌-◌, ◌<◌, ◌≤◌, ◌==◌, ◌&&◌, Some, slice_get, Bool, true, List, [], ◌∷◌, length, map, refl}
+use Rattle.fbl_law.proofs.Common.{sym, ap, ◌∙◌, arith, nat_lt, filter, nat_tests, length-map, Determinant, Event, Mark, mark_of, determinant_of, AllBelow, Members, WellFormed, Next}
+use Rattle.fbl_law.proofs.Common.{MemberRecord, Stays, IsEventCut, GroupRecord, knowledge, receipts, receipts_at, IsReplayed, IsSound, length-left, length-filter_map, count_in, cond}
 use Rattle.std.specs.FinSet as set
+use Rattle.fbl_law.proofs.ChannelCounts.{sum_below-agree, sum_below-none, sum_below-at}
 use Rattle.fbl_law.proofs.Recovery.{cut-obeys}
 use Rattle.fbl_law.proofs.GroupRecovery.{marks-cut, cut-shorter}
-use Rattle.fbl_law.proofs.Receipts.{receipts_at-number}
-use Rattle.fbl_law.proofs.Safe.{down_or_up}
+use Rattle.fbl_law.proofs.Receipts.{receipts_at-Has}
 
 -- counts that are no more on the set
 pub count_in-most : (s : Members) (a b : ℕ → ℕ) (n : ℕ) → ((q : ℕ) → q < n → set.contains s q ≡ true → a q ≤ b q) → count_in s a n ≤ count_in s b n
@@ -15,22 +15,13 @@ count_in-most s a b (suc n) most = grind (arith, most n, count_in-most s a b n (
 
 -- counts that agree on the set
 pub count_in-same : (s : Members) (a b : ℕ → ℕ) (n : ℕ) → ((q : ℕ) → q < n → set.contains s q ≡ true → a q ≡ b q) → count_in s a n ≡ count_in s b n
-count_in-same s a b zero agree = refl
-count_in-same s a b (suc n) agree = grind (arith, agree n, count_in-same s a b n (λ q below. agree q (omega arith)))
+count_in-same s a b n agree = sum_below-agree n _ _ (λ q below. grind (arith, agree q below))
 
 -- one more of a member of the set
 pub count_in-step : (s : Members) (a b : ℕ → ℕ) (n p : ℕ) → p < n → set.contains s p ≡ true → b p ≡ a p + 1 → ((q : ℕ) → q ≢ p → b q ≡ a q)
     → count_in s b n ≡ count_in s a n + 1
-count_in-step s a b zero p below in' one others = absurd (omega arith)
-count_in-step s a b (suc n) p below in' one others = elim (cases_eq n p) [
-  | inl same ↦ let rest : count_in s b n ≡ count_in s a n = count_in-same s b a n (λ q less here. others q (omega arith)) in grind (arith, rest)
-  | inr other ↦ grind (arith, others n other, count_in-step s a b n p (omega arith) in' one others)
-]
-
--- counts of nothing
-pub count_in-none : (s : Members) (n : ℕ) → count_in s (λ q. 0) n ≡ 0
-count_in-none s zero = refl
-count_in-none s (suc n) = grind (arith, count_in-none s n)
+count_in-step s a b n p below in' one others =
+    grind (arith, nat_tests, sum_below-at n p 1 (λ q. cond (set.contains s q) (a q) 0) (λ q. cond (set.contains s q) (b q) 0) (λ q. grind (arith, nat_tests, one, others q)))
 
 -- the determinant of a receipt of a member of the set
 abbrev pub is_of : Members → Determinant → Bool
@@ -42,14 +33,11 @@ count_to ds p = length (filter (λ (d : Determinant). d.to == p) ds)
 
 -- the receipts of the members of a set, counted member by member
 count_in-determinants : (s : Members) (n : ℕ) (ds : List Determinant) → AllBelow s n → count_in s (count_to ds) n ≡ length (filter (is_of s) ds)
-count_in-determinants s n [] within = count_in-none s n
+count_in-determinants s n [] within = sum_below-none n _ (λ q. grind arith)
 count_in-determinants s n (d ∷ ds) within =
-    let ih = count_in-determinants s n ds within in
-    let others : (q : ℕ) → q ≢ d.to → count_to (d ∷ ds) q ≡ count_to ds q = λ q other. grind (arith, nat_tests) in
-    elim (down_or_up s d.to) [
-      | inl is ↦ grind (arith, ih, count_in-step s (count_to ds) (count_to (d ∷ ds)) n d.to (within d.to is) is (grind (arith, nat_tests)) others)
-      | inr is ↦ grind (arith, ih, count_in-same s (count_to (d ∷ ds)) (count_to ds) n (λ q below here. others q (λ same. grind (arith, same, here))))
-    ]
+    let more = sum_below-at n d.to (cond (set.contains s d.to) 1 0) (λ q. cond (set.contains s q) (count_to ds q) 0) (λ q. cond (set.contains s q) (count_to (d ∷ ds) q) 0)
+    (λ q. grind (arith, nat_tests)) in
+    grind (arith, nat_tests, within d.to, more, count_in-determinants s n ds within)
 
 -- the receipts of a member beyond a number of them
 abbrev beyond : (ℕ → ℕ) → Determinant → Bool
@@ -75,7 +63,7 @@ pub count_in-beyond : (s : Members) (past : ℕ → ℕ) (n m : ℕ) (t : List M
 count_in-beyond s past n m t within obeys =
     count_in-same s (λ p. length (receipts_at t p) - past p) (count_to (filter (beyond past) (receipts t))) n
     (λ p below among. sym (ap length (beyond-of past p (receipts t))
-    ∙ beyond-numbered (past p) 0 (receipts_at t p) (λ j d here. omega (arith, receipts_at-number m t p j d obeys here)) ∙ omega arith))
+    ∙ beyond-numbered (past p) 0 (receipts_at t p) (λ j d here. omega (arith, (receipts_at-Has m t p j d obeys here).2)) ∙ omega arith))
     ∙ count_in-determinants s n (filter (beyond past) (receipts t)) within ∙ ap length (filter-both (is_of s) (beyond past) (receipts t))
 
 module _ {next : Next} {old : GroupRecord} (sound : IsSound next old) {new : List Event} (cut : IsEventCut (Stays (knowledge old)) old.trace new) where

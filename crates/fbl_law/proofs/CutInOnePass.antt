@@ -1,9 +1,9 @@
 -- The trace that recovery leaves, in one pass.
-use Rattle.fbl_law.proofs.Common.{◌≡◌, ℕ, suc, ◌<◌, ◌≤◌, ◌==◌, ◌&&◌, ◌||◌, not, inl, inr, Bool, true, false, List, [], ◌∷◌, cases_lt, get_or, nat_lt, length, map}
-use Rattle.fbl_law.proofs.Common.{Some, slice_get, refl, sym, ap, ◌∙◌, arith, filter, nat_cmp, cases_eq, cases_Bool, false_from_ne_true, nat_tests, Determinant, Event, Mark, At, mark_of}
-use Rattle.fbl_law.proofs.Common.{member_of, receipt_of, contains-insert_same, contains-insert_other, Members, Has, WellFormed, Next, At-below, eqb-self, Entry, is_held, Stays, IsEventCut}
-use Rattle.fbl_law.proofs.Common.{recovery_table, GroupRecord, marks, knowledge, IsSound, recovered_trace, position_or_len, Decides, position_or_len_is, fails_before_first, passes_at_first}
-use Rattle.fbl_law.proofs.Common.{get_or_from_slice_get, slice_get-get_or, Send, Receipt, UpTo, stops_at, cut_from, one_place}
+use Rattle.fbl_law.proofs.Common.{◌≡◌, ℕ, suc, ◌<◌, ◌≤◌, ◌==◌, ◌&&◌, ◌||◌, not, inl, inr, Bool, true, false, List, [], ◌∷◌, get_or, nat_lt, length, map, Some}
+use Rattle.fbl_law.proofs.Common.{slice_get, refl, sym, ap, ◌∙◌, arith, filter, nat_cmp, cases_eq, false_from_ne_true, nat_tests, Determinant, Event, Mark, At, mark_of, member_of, receipt_of}
+use Rattle.fbl_law.proofs.Common.{contains-insert_same, contains-insert_other, Members, Has, WellFormed, Next, At-below, eqb-self, Entry, is_held, Stays, IsEventCut, recovery_table, GroupRecord}
+use Rattle.fbl_law.proofs.Common.{marks, knowledge, IsSound, recovered_trace, position_or_len, Decides, position_or_len_is, fails_before_first, passes_at_first, get_or_from_slice_get}
+use Rattle.fbl_law.proofs.Common.{slice_get-get_or, Send, Receipt, UpTo, stops_at, cut_from, one_place}
 use Rattle.std.specs.FinSet as set
 use Rattle.fbl_law.proofs.Notes.{mark-at}
 use Rattle.fbl_law.proofs.Tables.{Names-held, held-Names}
@@ -16,10 +16,7 @@ same_mark a b = false
 
 Decides-same_mark : (a b : Mark) → Decides (same_mark a b) (a ≡ b)
 unfolding same_mark
-Decides-same_mark (Send q k to) (Send q' k' to') = grind (arith, nat_tests)
-Decides-same_mark (Send q k to) (Receipt to' r' q' k') = grind (arith, nat_tests)
-Decides-same_mark (Receipt to r q k) (Send q' k' to') = grind (arith, nat_tests)
-Decides-same_mark (Receipt to r q k) (Receipt to' r' q' k') = grind (arith, nat_tests)
+Decides-same_mark a b = grind (arith, nat_tests)
 
 -- in a trace that obeys the rules an event is first found at its place
 place-is : (n : ℕ) (t : List Mark) (i : ℕ) (e : Mark) → WellFormed n t → At t i e → position_or_len (same_mark e) t ≡ i
@@ -42,14 +39,10 @@ module _ (s : Members) (held : List Entry) (keep : Mark → Bool) where
   cut_from-filter : (rest : List Event) (stopped : Members) → IsKept stopped rest → cut_from s held stopped rest ≡ filter (λ e. keep (mark_of e)) rest
   cut_from-filter [] stopped kept = refl
   cut_from-filter (e ∷ rest) stopped kept =
-      elim (cases_Bool (set.contains stopped me)) [
-        | inl gone ↦ rw (told, gone) (cut_from-filter rest stopped (later stopped (λ m. grind (arith, nat_tests, gone))))
-        | inr going ↦ elim (cases_Bool (stops_at s held (mark_of e))) [
-          | inl lost ↦ rw (told, going, lost) (cut_from-filter rest (set.insert stopped me) (later (set.insert stopped me) (λ m.
-              grind (arith, nat_tests, lost, contains-insert_same stopped me, contains-insert_other stopped me m))))
-          | inr stays ↦ rw (told, going, stays) (ap (λ (xs : List Event). e ∷ xs) (cut_from-filter rest stopped (later stopped (λ m. grind (arith, stays)))))
-        ]
-      ]
+      let on = λ (is : (set.contains stopped me || not (stops_at s held (mark_of e))) ≡ true). cut_from-filter rest stopped (later stopped (λ m. grind (arith, nat_tests, is))) in
+      let stop = λ (lost : stops_at s held (mark_of e) ≡ true). cut_from-filter rest (set.insert stopped me) (later (set.insert stopped me) (λ m.
+      grind (arith, nat_tests, lost, contains-insert_same stopped me, contains-insert_other stopped me m))) in
+      grind (arith, told, on, stop)
     where
       me : ℕ
       me = member_of (mark_of e)
@@ -76,18 +69,16 @@ module _ (next : Next) (old : GroupRecord) (sound : IsSound next old) where
         before : (i j : ℕ) → i ≤ j → At (marks old) i (receipt_of c) → At (marks old) j e → is_held (recovery_table (knowledge old)) c ≡ true
         before i j below at_c there =
             let none = fails_before_first (λ x. lost x && (member_of x == member_of e)) (marks old) i (receipt_of c) (grind (arith, nat_tests, keep-at j e there)) in
-            let none_c = rw (get_or_from_slice_get (marks old) i (receipt_of c) (receipt_of c) at_c) at none in
-            grind (arith, nat_tests, none_c)
+            grind (arith, nat_tests, rw (get_or_from_slice_get (marks old) i (receipt_of c) (receipt_of c) at_c) at none)
 
         held : UpTo (marks old) (receipt_of c) e → is_held (recovery_table (knowledge old)) c ≡ true
         held (inl same) = before has.0 has.0 (omega arith) (rw same has.1) has.1
         held (inr earlier) = before earlier.0 earlier.1 (omega (arith, earlier.2)) earlier.3 earlier.4
 
   stays-keep : (e : Mark) → Has (marks old) e → Stays (knowledge old) e → keep e ≡ true
-  stays-keep e has stays = keep-at has.0 e has.1 ∙ elim (cases_lt has.0 first) [
-    | inl before ↦ grind (arith, nat_tests)
-    | inr past ↦ absurd (at (get_or (marks old) first e) past (slice_get-get_or (marks old) first e (within past)) (passes_at_first is_lost (marks old) e (within past)))
-  ]
+  stays-keep e has stays =
+      let none = λ (past : first ≤ has.0). at (get_or (marks old) first e) past (slice_get-get_or (marks old) first e (within past)) (passes_at_first is_lost (marks old) e (within past)) in
+      keep-at has.0 e has.1 ∙ grind (arith, nat_tests, none)
     where
       is_lost : Mark → Bool
       is_lost x = lost x && (member_of x == member_of e)
@@ -105,8 +96,7 @@ module _ (next : Next) (old : GroupRecord) (sound : IsSound next old) where
           let same : to ≡ member_of e = grind (arith, nat_tests) in
           let up_to : UpTo (marks old) (receipt_of d) e = elim (cases_eq first has.0) [ inl here ↦ inl (let h = has.1 in cc) | inr other ↦ inr (first, has.0, omega arith, there, has.1) ] in
           let recorded = stays (rw (← same) grind arith) d same up_to in
-          let held = held-Names (recovery_table (knowledge old)) d (recorded_gathered sound.causes d recorded) in
-          grind (arith, held)
+          grind (arith, held-Names (recovery_table (knowledge old)) d (recorded_gathered sound.causes d recorded))
 
   -- the trace that recovery leaves, computed in one pass, is the cut
   pub recovered_trace-cut : IsEventCut (Stays (knowledge old)) old.trace (recovered_trace old)

@@ -1,10 +1,10 @@
 -- What is left of a lawful trace is lawful, with its notes.
-use Rattle.fbl_law.proofs.Common.{◌≡◌, ℕ, zero, suc, ◌<◌, ◌≤◌, ◌==◌, ◌||◌, nat_lt, inl, inr, ◌⊎◌, Bool, true, false, cond, List, [], ◌∷◌, ◌++◌, length, take}
-use Rattle.fbl_law.proofs.Common.{map, Option, Some, None, slice_get, refl, sym, ap, ◌∙◌, arith, or_left, or_right, count_by, length-take, filter, filter_map, fold, eq-eqb, false_from_ne_true}
-use Rattle.fbl_law.proofs.Common.{nat_tests, filter-append, sum_by-cons, length-filter_map, length-left, Note, Start, Determinant, Event, Mark, At, mark_of, member_of, send_of, receipt_of, Has, Leads}
-use Rattle.fbl_law.proofs.Common.{Precedes, itself, step, is_send_of, is_receipt_of, sends_of, receipts_of, sent_on, taken_on, in_flight, MayFollow, WellFormed, At-front, At-below, WellFormed-keeps}
-use Rattle.fbl_law.proofs.Common.{WellFormed-none, WellFormed-push, is_sent, in_flight-sent, last_taken, Next, note_of, Action, took, sent, action_of, actions_of, notes_of, responses, start_of}
-use Rattle.fbl_law.proofs.Common.{starts_of, Lawful, At-filter, receipts-noted, eqb-self, true_from_ne_false, append-nil, filter_map-agree, Earlier-front, on_channel}
+use Rattle.fbl_law.proofs.Common.{◌≡◌, ℕ, zero, suc, ◌<◌, ◌≤◌, ◌==◌, nat_lt, inl, inr, ◌⊎◌, Bool, true, false, cond, List, [], ◌∷◌, ◌++◌, length, take, map}
+use Rattle.fbl_law.proofs.Common.{Option, Some, None, slice_get, refl, sym, ap, ◌∙◌, arith, count_by, length-take, filter, filter_map, fold, false_from_ne_true, nat_tests, filter-append}
+use Rattle.fbl_law.proofs.Common.{sum_by-cons, length-filter_map, length-left, Note, Start, Determinant, Event, Mark, At, mark_of, member_of, send_of, receipt_of, Has, Leads, Precedes, itself, step}
+use Rattle.fbl_law.proofs.Common.{is_send_of, is_receipt_of, sends_of, receipts_of, sent_on, taken_on, in_flight, MayFollow, WellFormed, At-front, At-below, WellFormed-keeps, WellFormed-none}
+use Rattle.fbl_law.proofs.Common.{WellFormed-push, is_sent, in_flight-sent, last_taken, Next, note_of, Action, took, sent, action_of, actions_of, notes_of, responses, start_of, starts_of, Lawful}
+use Rattle.fbl_law.proofs.Common.{At-filter, receipts-noted, eqb-self, true_from_ne_false, append-nil, filter_map-agree, Earlier-front}
 use Rattle.fbl_base.specs.declared.trace.Mark.TheVariants as mark
 use Rattle.fbl_base.specs.declared.trace.Event.TheVariants.{Send, Receipt}
 use Rattle.fbl_law.proofs.InOrder.{in_flight-beyond}
@@ -22,8 +22,7 @@ pub map-kept : {Y : Type 0} (keep : Mark → Bool) (g : Mark → Option Y) (u : 
     → filter_map g (filter keep u) ≡ filter_map g u
 map-kept keep g [] all = refl
 map-kept {Y} keep g (x ∷ u) all =
-    let here : (y : Y) → g x ≡ Some y → keep x ≡ true = λ y is. all x y (0, refl) is in
-    grind (arith, here, map-kept keep g u (λ e y h. all e y (suc h.0, h.1)))
+    grind (arith, λ (y : Y). all x y (0, refl), map-kept keep g u (λ e y h. all e y (suc h.0, h.1)))
 
 -- the two ways to leave events out
 pub marks-filter : (keep : Mark → Bool) (t : List Event) → map mark_of (filter (λ e. keep (mark_of e)) t) ≡ filter keep (map mark_of t)
@@ -45,16 +44,8 @@ first-left : (keep : Mark → Bool) (g : Mark → Option ℕ) (p : ℕ → Bool)
 first-left keep g p [] s kept first = first
 first-left keep g p (e ∷ u) s kept first = grind (arith, kept e, first-left keep g p u s kept)
 
-pub taken_at : (q p y : ℕ) (e : Mark) → taken_on q p e ≡ Some y → member_of e ≡ p
-taken_at q p y (mark.Send from ssn to) h = absurd cc
-taken_at q p y (mark.Receipt to rsn from ssn) h = (on_channel from to q p ssn y h).1
-
 -- an event that may follow a trace may follow what is left of it, where what leads to it is left
 module _ (n : ℕ) (keep : Mark → Bool) (u : List Mark) (obeys : WellFormed n u) (left : WellFormed n (filter keep u)) where
-  counted_at : (m : ℕ) (e : Mark) → (is_send_of m e || is_receipt_of m e) ≡ true → member_of e ≡ m
-  counted_at m (mark.Send from ssn to) h = grind (arith, nat_tests)
-  counted_at m (mark.Receipt to rsn from ssn) h = grind (arith, nat_tests)
-
   first-kept : (q s p : ℕ) → slice_get (in_flight u q p) 0 ≡ Some s → keep (mark.Send q s p) ≡ true
       → filter_map (taken_on q p) (filter keep u) ≡ filter_map (taken_on q p) u → slice_get (in_flight (filter keep u) q p) 0 ≡ Some s
   first-kept q s p first kept same =
@@ -64,17 +55,17 @@ module _ (n : ℕ) (keep : Mark → Bool) (u : List Mark) (obeys : WellFormed n 
 
   MayFollow-kept : (e : Mark) → MayFollow n u e → ((a : Mark) → Has u a → (member_of a ≡ member_of e) ⊎ (send_of e ≡ Some a) → keep a ≡ true) → MayFollow n (filter keep u) e
   MayFollow-kept (mark.Send from ssn to) may causes =
-      let count : sends_of (filter keep u) from ≡ sends_of u from = count-kept keep (is_send_of from) u (λ a h own. causes a h (inl (counted_at from a (or_left _ _ own)))) in
+      let count : sends_of (filter keep u) from ≡ sends_of u from = count-kept keep (is_send_of from) u (λ a h own. causes a h (inl (grind (arith, nat_tests)))) in
       (may.0, may.1, may.2, omega (arith, may.3, count), omega (arith, may.4, length-left keep u))
   MayFollow-kept (mark.Receipt to rsn from ssn) may causes =
-      let count : receipts_of (filter keep u) to ≡ receipts_of u to = count-kept keep (is_receipt_of to) u (λ a h own. causes a h (inl (counted_at to a (or_right _ _ own)))) in (
+      let count : receipts_of (filter keep u) to ≡ receipts_of u to = count-kept keep (is_receipt_of to) u (λ a h own. causes a h (inl (grind (arith, nat_tests)))) in (
         may.0,
         may.1,
         may.2,
         omega (arith, may.3, count),
         omega (arith, may.4, length-left keep u),
         first-kept from ssn to may.5 (causes (mark.Send from ssn to) (in_flight-sent u from ssn to may.5) (inr refl))
-            (map-kept keep (taken_on from to) u (λ a y h is. causes a h (inl (taken_at from to y a is)))),
+            (map-kept keep (taken_on from to) u (λ a y h is. causes a h (inl (grind (arith, nat_tests))))),
       )
 
 -- what is left of a trace that obeys the rules obeys them, where what leads to a kept event is kept
@@ -140,11 +131,8 @@ front_responds : (next : Next) (p n state : ℕ) (sends : List (ℕ × Note)) (n
 front_responds next p n state [] notes [] rest ends is = refl
 front_responds next p n state (s ∷ sends) notes [] rest ends is = absurd (ends (sent s) _ is)
 front_responds next p n state [] (note ∷ notes) (took x ∷ xs) rest ends is =
-    let same : x ≡ note = cc in
-    rw same (ap (λ (ys : List Action). took note ∷ ys) (front_responds next p n (next p n state note).state (next p n state note).sends.items notes xs rest ends (cc)))
-front_responds next p n state (s ∷ sends) notes (sent x ∷ xs) rest ends is =
-    let same : x ≡ s = cc in
-    rw same (ap (λ (ys : List Action). sent s ∷ ys) (front_responds next p n state sends notes xs rest ends (cc)))
+    cc (front_responds next p n (next p n state note).state (next p n state note).sends.items notes xs rest ends (cc))
+front_responds next p n state (s ∷ sends) notes (sent x ∷ xs) rest ends is = cc (front_responds next p n state sends notes xs rest ends (cc))
 front_responds _ _ _ _ _ _ _ _ ends is = absurd cc
 
 -- the notes of what is left
@@ -181,14 +169,10 @@ module _ (next : Next) (n : ℕ) (starts : List Start) (keep : Mark → Bool) (t
   abbrev keeps : Event → Bool
   keeps e = keep (mark_of e)
 
-  acts-at : (p : ℕ) (e : Event) (y : Action) → action_of t p e ≡ Some y → member_of (mark_of e) ≡ p
-  acts-at p (Send q k to x) y is = grind (arith, nat_tests)
-  acts-at p (Receipt to r q k) y is = grind (arith, nat_tests)
-
   -- a member's events that are kept come before its others, the first of which is a receipt
   kept_first : (p : ℕ) → KeptFirst (action_of t p) keeps IsNote t
   kept_first p i j a b x y below at_a at_b is_a is_b kept =
-      causes (mark_of a) (mark_of b) kept ((i, j, below, mark-at t i a at_a, mark-at t j b at_b), inl (acts-at p a x is_a ∙ sym (acts-at p b y is_b)))
+      causes (mark_of a) (mark_of b) kept ((i, j, below, mark-at t i a at_a, mark-at t j b at_b), inl (grind (arith, nat_tests, is_a, is_b)))
 
   stops_at : (p : ℕ) → StopsAt (action_of t p) keeps IsNote t
   stops_at p j b (took x) here is gone all = tt
@@ -197,7 +181,7 @@ module _ (next : Next) (n : ℕ) (starts : List Start) (keep : Mark → Bool) (t
       let kept = follow j q k to (mark-at t j (Send q k to x) here) (λ i d below at_d own.
       let at_i = receipt-at t i d.to d.rsn d.from d.ssn at_d in
       let noted = receipts-noted n t lawful.well_formed i d.to d.rsn d.from d.ssn at_i in
-      let own_p : (d.to == p) ≡ true = eq-eqb d.to p (own ∙ acts-at p (Send q k to x) (sent s) is) in
+      let own_p : (d.to == p) ≡ true = grind (arith, nat_tests, own, is) in
       all i (Receipt d.to d.rsn d.from d.ssn) (took noted.0) below at_i (rw (own_p, noted.1) refl)) in
       absurd cc
 

@@ -1,24 +1,19 @@
 -- A closed record always has each receipt held.
-use Rattle.fbl_law.proofs.Common.{◌≡◌, ℕ, zero, suc, ◌↔◌, false, List, [], ◌∷◌, map, get_or, inl, inr, ◌⊎◌, arith, refl, sym, ◌∙◌, and_parts, cases_lt, Determinant}
-use Rattle.fbl_law.proofs.Common.{some_member, is_held, in_table, Includes, Knowledge, MemberRecord, blank, Names, Holds, IsRecorded, IsHolder, IsClosed, Members, nat_cmp_total, flagged}
-use Rattle.fbl_law.proofs.Common.{contains-flagged, len-remove_one, len-within, IsAlwaysHeld}
+use Rattle.fbl_law.proofs.Common.{ℕ, ◌↔◌, List, map, get_or, inl, inr, ◌⊎◌, arith, refl, sym, ◌∙◌, and_parts, cases_lt, Determinant, some_member, is_held, in_table, Includes}
+use Rattle.fbl_law.proofs.Common.{Knowledge, MemberRecord, blank, Names, Holds, IsRecorded, IsHolder, IsClosed, Members, nat_cmp_total, flagged, contains-flagged, len-remove_one, len-within}
+use Rattle.fbl_law.proofs.Common.{IsAlwaysHeld, Decides-at, get_or-map}
 use Rattle.std.specs.FinSet as set
 use Rattle.fbl_law.proofs.Safe.{down_or_up, IsRecorded-depended}
-use Rattle.fbl_law.proofs.Tables.{Names-held, held-Names, Includes-union, Includes-left, Includes-right}
+use Rattle.fbl_law.proofs.Tables.{Names-held, held-Names, Includes-union}
 
 -- the members whose record in the list has the determinant in its table
 abbrev naming : List MemberRecord → Determinant → Members
 naming xs d = flagged 0 (map (λ (x : MemberRecord). is_held x.table d) xs)
 
-held_at : (xs : List MemberRecord) (d : Determinant) (m : ℕ) → get_or (map (λ (x : MemberRecord). is_held x.table d) xs) m false ≡ is_held (get_or xs m blank).table d
-held_at [] d m = refl
-held_at (x ∷ xs) d zero = refl
-held_at (x ∷ xs) d (suc m) = held_at xs d m
-
 Includes-naming : (xs : List MemberRecord) (d : Determinant) (m : ℕ) → Includes (naming xs d) m ↔ Names (get_or xs m blank).table d
 Includes-naming xs d m =
-    let has : set.contains (naming xs d) m ≡ is_held (get_or xs m blank).table d = contains-flagged (map (λ (x : MemberRecord). is_held x.table d) xs) m ∙ held_at xs d m in
-    (λ h. Names-held (get_or xs m blank).table d (sym has ∙ h), λ named. has ∙ held-Names (get_or xs m blank).table d named)
+    Decides-at _ _ (contains-flagged (map (λ (x : MemberRecord). is_held x.table d) xs) m ∙ get_or-map (λ (x : MemberRecord). is_held x.table d) xs m blank)
+    (Names-held (get_or xs m blank).table d, held-Names (get_or xs m blank).table d)
 
 -- a set has a member, or none
 some_or_none : (s : Members) → ((m : ℕ) × Includes s m) ⊎ ((m : ℕ) → ¬ (Includes s m))
@@ -36,13 +31,13 @@ module _ (r : Knowledge) (d : Determinant) where
   all = set.union (naming r.members d) r.down
 
   holder_all : (m : ℕ) → IsHolder r d m → Includes all m
-  holder_all m (inl holds) = Includes-left (naming r.members d) r.down m ((Includes-naming r.members d m).1 holds.1)
-  holder_all m (inr down) = Includes-right (naming r.members d) r.down m down.0
+  holder_all m (inl holds) = (Includes-union (naming r.members d) r.down m).1 (inl ((Includes-naming r.members d m).1 holds.1))
+  holder_all m (inr down) = (Includes-union (naming r.members d) r.down m).1 (inr down.0)
 
   all_holder : IsRecorded r d → (m : ℕ) → Includes all m → IsHolder r d m
   all_holder recorded m h = elim (down_or_up r.down m) [
     | inl down ↦ inr (down, recorded)
-    | inr up ↦ elim (Includes-union (naming r.members d) r.down m h) [ inl named ↦ inl (up, (Includes-naming r.members d m).0 named) | inr down ↦ inr (down, recorded) ]
+    | inr up ↦ elim ((Includes-union (naming r.members d) r.down m).0 h) [ inl named ↦ inl (up, (Includes-naming r.members d m).0 named) | inr down ↦ inr (down, recorded) ]
   ]
 
 -- each receipt of a closed record is stable, or held by each up member that depends on it

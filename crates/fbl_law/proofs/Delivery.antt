@@ -1,16 +1,16 @@
 -- A delivery keeps knowledge sound.
 use Rattle.fbl_law.proofs.Common.{◌≡◌, ℕ, List, [], ◌∷◌, inl, inr, ◌⊎◌, refl, sym, subst, ap, ◌∙◌, zero, suc, Some, map, ◌&&◌, ◌==◌, Contains, cases_eq, cases_Bool}
-use Rattle.fbl_law.proofs.Common.{contains-insert_same, Determinant, Mark, At, member_of, send_of, determinant_of, receipt_of, Has, Precedes, Contains-append_cases, At-front, Has-last, Entry, Message}
+use Rattle.fbl_law.proofs.Common.{contains-insert_same, Determinant, Mark, member_of, send_of, determinant_of, receipt_of, Has, Precedes, Contains-append_cases, At-front, Has-last, Entry, Message}
 use Rattle.fbl_law.proofs.Common.{Includes, Knowledge, Store, in_table, in_message, in_checkpoint, owner, IsThere, Owes, table, send_mark, IsInFlight, IsUp, Names, Holds, IsHolder, IsTrueEntry}
-use Rattle.fbl_law.proofs.Common.{NamesCauses, IsSoundKnowledge, learned, IsDelivered, is_on, taken_off, between, determinant, Precedes-front, All, ◌↔◌, held_by, All-contains, All-push}
+use Rattle.fbl_law.proofs.Common.{NamesCauses, IsSoundKnowledge, learned, IsDelivered, is_on, taken_off, between, determinant, Precedes-front, All, ◌↔◌, held_by, All-contains, All-push, map-At}
 use Rattle.std.specs.FinSet as set
 use Rattle.fbl_law.proofs.Appended.{Has-append, disjoint, Precedes-within, Precedes-entered}
 use Rattle.fbl_law.proofs.Lists.{At-behind, Contains-at, Contains-there, Contains-from_filter}
-use Rattle.fbl_law.proofs.Channels.{AreSent-matched, made-Has, channel-delivered}
+use Rattle.fbl_law.proofs.Channels.{AreSent-matched, channel-delivered}
 use Rattle.fbl_law.proofs.Numbered.{added-later}
 use Rattle.fbl_law.proofs.Safe.{never_both, nobody_down_empty, up_if_none}
 use Rattle.fbl_law.proofs.Keeping.{KeepsKnowledge, IsSoundAt, NamesCauses-kept, IsTrueEntry-kept, sound_kept, sound_passed, checkpoint_kept, sound_after}
-use Rattle.fbl_law.proofs.Tables.{Includes-insert_cases, Includes-only, Includes-union, Includes-left, Names-table, learned-keeps, All-from}
+use Rattle.fbl_law.proofs.Tables.{Includes-insert_cases, Includes-only, Includes-union, Names-table, learned-keeps, All-from}
 
 -- what is left of a channel was in it
 pub taken_off-was : (v : Message) (q p : ℕ) (xs : List Message) (x : Message) → Contains (taken_off v q p xs) x → Contains xs x
@@ -80,7 +80,7 @@ module _ (n f : ℕ) (old new : Knowledge) (v : Message) (rsn : ℕ) (made : Lis
   good_table : All IsGood (table new v.to)
   good_table =
       rw s.receiver (All-push IsGood (learned v.to (table old v.to) v.carried) _ (learned-keeps IsGood
-      (λ x e q r same. ((q.0.0, λ m h. elim (Includes-union x.known e.known m h) [ inl here ↦ q.0.1 m here | inr there ↦ rw same (r.0.1 m there) ]), Includes-left x.known e.known v.to q.1))
+      (λ x e q r same. let any = Includes-union x.known e.known in ((q.0.0, λ m h. elim ((any m).0 h) [ inl here ↦ q.0.1 m here | inr there ↦ rw same (r.0.1 m there) ]), (any v.to).1 (inl q.1)))
       v.to (table old v.to) v.carried
       (All-from IsGood (table old v.to) (λ x h. let fact = sound.truth (in_table v.to) x (was_up v.to) h in (still x v.to fact.1 fact.0, fact.1)))
       (All-from (λ e. IsGood (held_by v.to e)) v.carried (λ e h. let fact = sound.truth (in_message v) e flies h in let now = still e v.from fact.1 fact.0 in (
@@ -94,10 +94,8 @@ module _ (n f : ℕ) (old new : Knowledge) (v : Message) (rsn : ℕ) (made : Lis
   IsOurs e = (member_of e ≡ v.to) × ((a : Mark) → send_of e ≡ Some a → send_mark v ≡ a) × ((d : Determinant) → determinant_of e ≡ Some d → own ≡ d)
 
   ours : (e : Mark) → Has added e → IsOurs e
-  ours e h = at h.0 h.1 where
-    at : (i : ℕ) → At added i e → IsOurs e
-    at zero is = (let same : receipt_of own ≡ e = cc in subst IsOurs same (refl, λ a h. cc, λ d h. cc))
-    at (suc i) is = let x = made-Has made e (i, is) in subst IsOurs x.2 ((s.messages x.0 x.1).0, λ a h. absurd cc, λ d h. absurd cc)
+  ours e (zero, is) = (let same : receipt_of own ≡ e = cc in subst IsOurs same (refl, λ a h. cc, λ d h. cc))
+  ours e (suc i, is) = let x = map-At send_mark made i e is in subst IsOurs x.2 ((s.messages x.0 (Contains-at made i x.0 x.1)).0, λ a h. absurd cc, λ d h. absurd cc)
 
   -- the receiver's table names the causes of what it or the message named the causes of
   caught : (b : Mark) → Has old.trace b → NamesCauses f old (table old v.to) b ⊎ NamesCauses f old v.carried b → NamesCauses f new (table new v.to) b

@@ -1,9 +1,9 @@
 -- Dumps of a sound group.
 use Rattle.fbl_law.proofs.Common.{◌≡◌, ℕ, zero, suc, ◌+◌, ◌<◌, ◌≤◌, List, [], ◌∷◌, ◌++◌, length, map, get_or, refl, arith, append_assoc, length-append, Contains}
-use Rattle.fbl_law.proofs.Common.{zero-add, length-map, Contains-append_left, Contains-append_right, length-filter_map, Members, Determinant, Mark, mark_of, determinant_of, same_determinant}
-use Rattle.fbl_law.proofs.Common.{receipt_of, Has, Depends, Next, filter_map-At, At-below, Decides-same_determinant, Entry, Message, MemberRecord, blank, IsInFlight, Names, GroupRecord, member, marks}
-use Rattle.fbl_law.proofs.Common.{knowledge, receipts, IsSound, ◌*◌, IsDistinct, decided, add-zero, All-append, All-contains, All-map, All-nil, All, length-le_from_is_member, is_member-Decides}
-use Rattle.fbl_law.proofs.Common.{Send, Receipt, IsLost, HeldAt, pairs_of, pairs_from, held_pairs, dump_of, HasDistinctTables}
+use Rattle.fbl_law.proofs.Common.{zero-add, length-map, Contains-append_left, Contains-append_right, length-filter_map, Members, Determinant, mark_of, determinant_of, same_determinant, receipt_of}
+use Rattle.fbl_law.proofs.Common.{Has, Next, filter_map-At, At-below, Decides-same_determinant, Entry, Message, MemberRecord, blank, IsInFlight, Names, GroupRecord, member, marks, knowledge, receipts}
+use Rattle.fbl_law.proofs.Common.{IsSound, ◌*◌, IsDistinct, decided, add-zero, All-append, All-contains, All-map, All-nil, All, length-le_from_is_member, is_member-Decides, Send, Receipt, HeldAt}
+use Rattle.fbl_law.proofs.Common.{pairs_of, pairs_from, held_pairs, dump_of, HasDistinctTables}
 use Rattle.std.proofs.Common.{append-nil}
 use Rattle.fbl_law.specs.Dumps.{DumpObeysRules, DumpHasNoOrphan}
 use Rattle.fbl_law.proofs.Tables.{All-from}
@@ -37,23 +37,11 @@ pairs_from-Names m (x ∷ members) zero d named =
 pairs_from-Names m (x ∷ members) (suc j) d named =
     (let e : m + suc j ≡ m + 1 + j = omega arith in rw e (Contains-append_right (pairs_of m x.table) (pairs_from (m + 1) members) (m + 1 + j, d) (pairs_from-Names (m + 1) members j d named)))
 
--- a receipt of the trace is among its receipts
-Contains-receipts : (t : List Mark) (d : Determinant) → Has t (receipt_of d) → Contains (receipts t) d
-Contains-receipts t d has =
-    let place = filter_map-At determinant_of t has.0 (receipt_of d) d has.1 refl in
-    Contains-at (receipts t) place.0 d place.1
-
 pairs_fit : (m : ℕ) (members : List MemberRecord) → ((j : ℕ) → j < length members → length (get_or members j blank).table ≤ 8192)
     → length (pairs_from m members) ≤ 8192 * length members
 pairs_fit m [] fit = omega arith
 pairs_fit m (x ∷ members) fit =
-    omega (
-      arith,
-      length-append (pairs_of m x.table) (pairs_from (m + 1) members),
-      length-map {B = ℕ × Determinant} x.table (λ (e : Entry). (m, e.det)),
-      fit 0 (omega arith),
-      pairs_fit (m + 1) members (λ j below. fit (suc j) (omega arith)),
-    )
+    simp (length-append, length-map) (omega (arith, fit 0 (omega arith), pairs_fit (m + 1) members (λ j below. fit (suc j) (omega arith))))
 
 module _ (next : Next) (r : GroupRecord) (sound : IsSound next r) where
   -- entries in which no determinant stands twice, all of receipts of the trace, are at most as many as its receipts
@@ -62,8 +50,10 @@ module _ (next : Next) (r : GroupRecord) (sound : IsSound next r) where
   entries_fit entries distinct received =
       let dets : List Determinant = map (λ (e : Entry). e.det) entries in
       let fits : length dets ≤ length (receipts (marks r)) = length-le_from_is_member (decided same_determinant Decides-same_determinant) dets (receipts (marks r)) distinct
-      (λ q among. (is_member-Decides Decides-same_determinant (receipts (marks r)) q).1
-      (Contains-receipts (marks r) q (received q (Contains-changed (λ (e : Entry). e.det) entries q ((is_member-Decides Decides-same_determinant dets q).0 among))))) in
+      (λ q among.
+      let has = received q (Contains-changed (λ (e : Entry). e.det) entries q ((is_member-Decides Decides-same_determinant dets q).0 among)) in
+      let place = filter_map-At determinant_of (marks r) has.0 (receipt_of q) q has.1 refl in
+      (is_member-Decides Decides-same_determinant (receipts (marks r)) q).1 (Contains-at (receipts (marks r)) place.0 q place.1)) in
       omega (arith, fits, length-map entries (λ (e : Entry). e.det))
 
   -- so are those of a table, and those that a message in flight carries
@@ -82,26 +72,16 @@ module _ (next : Next) (r : GroupRecord) (sound : IsSound next r) where
       let fits : length (held_pairs r) ≤ 8192 * length r.members =
       pairs_fit 0 r.members (λ j below. (let t = table_fits j (distinct j (omega (arith, below, sound.members))) in
       omega (arith, t, length-filter_map determinant_of (marks r), trace_fits next r sound))) in
-      let below : i < length (held_pairs r) = At-below (held_pairs r) i h at in
-      let few : length r.members ≤ 16 = omega (arith, sound.members, sound.config.members.1) in
-      (omega (arith, fits, below, few), held.0, held.1)
+      (omega (arith, fits, At-below (held_pairs r) i h at, sound.members, sound.config.members.1), held.0, held.1)
 
 pub dump_obeys_rules : DumpObeysRules
 unfolding DumpObeysRules
-dump_obeys_rules next r strike sound distinct within = record {
-  members = sound.config.members;
-  f = sound.config.f;
-  events = sound.lawful.well_formed;
-  held = held_at next r sound distinct strike;
-  strike = within;
-}
+dump_obeys_rules next r strike sound distinct within = assumption (held_at next r sound distinct strike)
 
 pub dump_has_no_orphan : DumpHasNoOrphan
 unfolding DumpHasNoOrphan
-dump_has_no_orphan next r strike m sound covers few orphan = at orphan.1.0 orphan.1.1 orphan.1.2 where
-  at : (e : Mark) → IsLost (dump_of r strike) e → Depends (marks r) m e → ⊥
-  at (Send from ssn to) lost depends = absurd lost
-  at (Receipt to rsn from ssn) lost depends =
-      let d : Determinant = record { from = from; ssn = ssn; to = to; rsn = rsn } in
-      let one = any_survivors_hold r.config.members r.config.f (knowledge r) strike sound.causes covers few m d orphan.0 depends in
-      lost (one.0, rw (zero-add one.0) at (pairs_from-Names 0 r.members one.0 d one.2), one.1)
+dump_has_no_orphan next r strike m sound covers few (out, (Send from ssn to, lost, depends)) = absurd lost
+dump_has_no_orphan next r strike m sound covers few (out, (Receipt to rsn from ssn, lost, depends)) =
+    let d : Determinant = record { from = from; ssn = ssn; to = to; rsn = rsn } in
+    let one = any_survivors_hold r.config.members r.config.f (knowledge r) strike sound.causes covers few m d out depends in
+    lost (one.0, rw (zero-add one.0) at (pairs_from-Names 0 r.members one.0 d one.2), one.1)

@@ -6,7 +6,7 @@ use Rattle.fbl_law.proofs.Common.{Contains-get_or, list_any_at, held-gathered, g
 use Rattle.std.specs.FinSet as set
 use Rattle.fbl_law.proofs.Lists.{Contains-changed, Contains-map, Contains-here}
 use Rattle.fbl_law.proofs.Safe.{down_or_up, up_if_named}
-use Rattle.fbl_law.proofs.Tables.{joined, All-from, Includes-union, Includes-right, gathered-keeps, held-Names, Names-held, named_record}
+use Rattle.fbl_law.proofs.Tables.{joined, All-from, Includes-union, gathered-keeps, held-Names, Names-held, named_record}
 
 abbrev mark : Members → Entry → Entry
 mark s e = record { det = e.det; known = set.union e.known s }
@@ -54,7 +54,7 @@ module _ {n f : ℕ} {r : Knowledge} (sound : IsSoundKnowledge n f r) where
   IsKnown e = IsRecorded r e.det × ((m : ℕ) → Includes e.known m → IsHolder r e.det m)
 
   join_known : (x e : Entry) → IsKnown x → IsKnown e → x.det ≡ e.det → IsKnown (joined x e)
-  join_known x e a b same = (a.0, λ m h. elim (Includes-union x.known e.known m h) [ inl left ↦ a.1 m left | inr right ↦ rw same (b.1 m right) ])
+  join_known x e a b same = (a.0, λ m h. elim ((Includes-union x.known e.known m).0 h) [ inl left ↦ a.1 m left | inr right ↦ rw same (b.1 m right) ])
 
   table_known : (m : ℕ) (e : Entry) → Contains (table r m) e → IsKnown e
   table_known m e here =
@@ -79,8 +79,8 @@ module _ {n f : ℕ} {r : Knowledge} (sound : IsSoundKnowledge n f r) where
       let known = All-contains IsKnown (gathered_all [] sources) was.0 all_known was.1 in
       subst (IsGathered r) was.2 (
         known.0,
-        (λ m down. Includes-right was.0.known r.down m down),
-        λ m h. elim (Includes-union was.0.known r.down m h) [ inl told ↦ known.1 m told | inr down ↦ inr (down, known.0) ],
+        (λ m down. (Includes-union was.0.known r.down m).1 (inr down)),
+        λ m h. elim ((Includes-union was.0.known r.down m).0 h) [ inl told ↦ known.1 m told | inr down ↦ inr (down, known.0) ],
       )
 
   pub gathered_recorded : (d : Determinant) → Names (recovery_table r) d → IsRecorded r d

@@ -1,6 +1,6 @@
 -- What checkpoints of a group record, and that a checkpoint keeps a group sound.
-use Rattle.fbl_law.proofs.Common.{◌≡◌, ◌≢◌, ℕ, ◌<◌, inl, inr, refl, sym, ◌∙◌, arith, subst, slice_set, cases_eq, length-set, get_or-set_same, get_or-set_other, receipt_of}
-use Rattle.fbl_law.proofs.Common.{Next, itself, blank, IsUp, IsCheckpointed, GroupRecord, member, member_checkpoint, knowledge, IsReplayed, IsSound, IsCheckpoint}
+use Rattle.fbl_law.proofs.Common.{◌≡◌, ◌≢◌, ℕ, ◌<◌, inl, inr, sym, ◌∙◌, arith, subst, slice_set, cases_eq, length-set, get_or-set_same, get_or-set_other, receipt_of, Next}
+use Rattle.fbl_law.proofs.Common.{itself, blank, IsUp, IsCheckpointed, GroupRecord, member, member_checkpoint, knowledge, IsReplayed, IsSound, IsCheckpoint, MemberRecord, length, IsFold, ap}
 use Rattle.fbl_law.specs.GroupLaws.{GroupCheckpointKeeps, CheckpointIsRecorded}
 use Rattle.fbl_law.proofs.Safe.{up_if_none, IsRecorded-reached}
 use Rattle.fbl_law.proofs.Checkpoint.{checkpoint_keeps}
@@ -30,40 +30,29 @@ module _ (next : Next) (old new : GroupRecord) (p : ℕ) (s : IsCheckpoint old n
   other m apart = get_or-set_other old.checkpoints p m (member old p) blank apart
 
   is_checkpointed : IsCheckpointed (knowledge old) (knowledge now) p
-  is_checkpointed = record {
-    nobody_down = s.nobody_down;
-    down = refl;
-    trace = refl;
-    tables = λ m. refl;
-    channels = λ q m. refl;
-    table = rw own refl;
-    receipts = rw own (received_counted next old sound p s.below (up p));
-    sends = rw own (log_counted next old sound p s.below (up p));
-    others = other;
-  }
+  is_checkpointed = assumption (
+    ap (λ (x : MemberRecord). x.table) own,
+    ap (λ (x : MemberRecord). x.received) own ∙ received_counted next old sound p s.below (up p),
+    ap (λ (x : MemberRecord). length x.log) own ∙ log_counted next old sound p s.below (up p),
+    other,
+  )
 
   saved_now : (m : ℕ) → m < old.config.members → IsReplayed next old.config.members old.config.starts old.trace m (member_checkpoint now m)
   saved_now m below = elim (cases_eq m p) [
-    | inl same ↦ rw (same, own) (fold-replayed next old p sound.lawful.well_formed (sound.folds p s.below (up p)))
+    | inl same ↦ rw (same, own) (fold-replayed sound.lawful.well_formed (sound.folds p s.below (up p)))
     | inr apart ↦ rw (other m apart) (sound.saved m below)
   ]
 
+  still : (m : ℕ) → m < old.config.members → IsUp (knowledge old) m → IsFold next now m
+  still m below up_m = assumption (sound.folds m below up_m)
+
   IsSound-checkpoint : IsSound next now
-  IsSound-checkpoint = record {
-    config = sound.config;
-    members = sound.members;
-    checkpoints = length-set old.checkpoints p (member old p) ∙ sound.checkpoints;
-    down = sound.down;
-    lawful = sound.lawful;
-    room = sound.room;
-    causes = checkpoint_keeps old.config.members old.config.f (knowledge old) (knowledge now) p is_checkpointed sound.causes;
-    folds = λ m below up_m. let f = sound.folds m below up_m in record { progress = f.progress; places = f.places; last = f.last };
-    blanks = sound.blanks;
-    saved = saved_now;
-    shape = sound.shape;
-    notes = sound.notes;
-    counted = sound.counted;
-  }
+  IsSound-checkpoint = assumption (
+    length-set old.checkpoints p (member old p) ∙ sound.checkpoints,
+    checkpoint_keeps old.config.members old.config.f (knowledge old) (knowledge now) p is_checkpointed sound.causes,
+    still,
+    saved_now,
+  )
 
 pub group_checkpoint_keeps : GroupCheckpointKeeps
 unfolding GroupCheckpointKeeps

@@ -1,18 +1,18 @@
 -- A delivery keeps a group sound.
-use Rattle.fbl_law.proofs.Common.{◌≡◌, ◌≢◌, ℕ, suc, ◌+◌, ◌<◌, ◌≤◌, ◌==◌, false, cond, List, [], ◌∷◌, ◌++◌, length, map, inl, inr, Some, slice_get, refl, sym}
-use Rattle.fbl_law.proofs.Common.{ap, ◌∙◌, arith, length-append, Contains, filter_map, cases_eq, ne_eqb, map-append, length-set, get_or-set_same, get_or-set_other, filter-append}
-use Rattle.fbl_law.proofs.Common.{filter_map-append, Contains-append_cases, Determinant, Note, Event, mark_of, determinant_of, receipt_of, Next, Lawful, note_of, At-front, eqb-self, Entry}
-use Rattle.fbl_law.proofs.Common.{piggybacked, Message, MemberRecord, blank, send_mark, IsInFlight, IsUp, determinant, IsDelivered, is_on, between, taken_off, GroupRecord, member, member_checkpoint}
-use Rattle.fbl_law.proofs.Common.{channel, marks, knowledge, receipts, IsFold, IsReplayed, IsSound, receipts_at, Send, Receipt, step_events, Lawful-deliver, Lawful-begun, note_of-front, messages_from}
-use Rattle.fbl_law.proofs.Common.{IsDelivery, step_of, receiver, made, delivery_events, SendsWell}
+use Rattle.fbl_law.proofs.Common.{◌≡◌, ◌≢◌, ℕ, suc, ◌+◌, ◌<◌, ◌≤◌, ◌==◌, cond, List, [], ◌∷◌, ◌++◌, length, map, inl, inr, Some, slice_get, refl, sym, ap}
+use Rattle.fbl_law.proofs.Common.{◌∙◌, arith, length-append, Contains, filter_map, cases_eq, map-append, length-set, get_or-set_same, get_or-set_other, filter-append, filter_map-append}
+use Rattle.fbl_law.proofs.Common.{Contains-append_cases, Determinant, Note, Event, mark_of, determinant_of, receipt_of, Next, Lawful, note_of, At-front, eqb-self, Entry, piggybacked, Message}
+use Rattle.fbl_law.proofs.Common.{MemberRecord, blank, send_mark, IsInFlight, IsUp, determinant, IsDelivered, is_on, between, taken_off, GroupRecord, member, member_checkpoint, channel, marks}
+use Rattle.fbl_law.proofs.Common.{knowledge, receipts, IsFold, IsReplayed, IsSound, receipts_at, Send, Receipt, step_events, Lawful-deliver, Lawful-begun, note_of-front, messages_from, IsDelivery}
+use Rattle.fbl_law.proofs.Common.{step_of, receiver, made, delivery_events, SendsWell, zero, nat_tests}
 use Rattle.std.specs.FinSet as sets
 use Rattle.fbl_base.specs.declared.trace.Event.TheVariants as event
 use Rattle.std.proofs.Common.{append-nil}
-use Rattle.fbl_law.proofs.Lists.{At-seam, Contains-cons_cases, Contains-none, Contains-from_filter, At-behind}
+use Rattle.fbl_law.proofs.Lists.{At-seam, Contains-none, Contains-from_filter, At-behind}
 use Rattle.fbl_law.proofs.Safe.{never_both, up_if_none}
 use Rattle.fbl_law.proofs.Delivery.{taken_off-was, delivery_keeps}
 use Rattle.fbl_law.proofs.Notes.{sent-noted}
-use Rattle.fbl_law.proofs.ReplayedRecords.{replayed-kept, replayed-step, replayed-table, fold-replayed, fold-received, replayed-fold}
+use Rattle.fbl_law.proofs.ReplayedRecords.{replayed-kept, replayed-step, fold-replayed, fold-received, replayed-fold}
 use Rattle.fbl_law.proofs.GroupFacts.{up_state, log_counted, front_flight, front_may_follow}
 
 -- the events of a step are the sends of its messages
@@ -28,10 +28,8 @@ length-step_events p before (s ∷ sends) = ap suc (length-step_events p (before
 made_event : (p before : ℕ) (carried : List Entry) (sends : List (ℕ × Note)) (x : Message) → Contains (messages_from p before carried sends) x
     → (x.from ≡ p) × (x.carried ≡ carried) × ((i : ℕ) × (slice_get (step_events p before sends) i ≡ Some (event.Send x.from x.ssn x.to x.note)))
 made_event p before carried [] x among = absurd (Contains-none x among)
-made_event p before carried (s ∷ sends) x among = elim (Contains-cons_cases _ (messages_from p (before + 1) carried sends) x among) [
-  | inl first ↦ (sym (ap (λ (y : Message). y.from) first), sym (ap (λ (y : Message). y.carried) first), (0, ap (λ (y : Message). Some (event.Send y.from y.ssn y.to y.note)) first))
-  | inr later ↦ let r = made_event p (before + 1) carried sends x later in (r.0, r.1, (suc r.2.0, r.2.1))
-]
+made_event p before carried (s ∷ sends) x (zero, within, here) = (cc, cc, (0, cc))
+made_event p before carried (s ∷ sends) x (suc k, within, here) = let r = made_event p (before + 1) carried sends x (k, omega arith, here) in (r.0, r.1, (suc r.2.0, r.2.1))
 
 -- a step's sends are no receipts
 no_receipts : (p before : ℕ) (sends : List (ℕ × Note)) → filter_map determinant_of (map mark_of (step_events p before sends)) ≡ []
@@ -63,9 +61,6 @@ module _ (next : Next) (old new : GroupRecord) (v : Message) (well : SendsWell n
   noted : note_of old.trace v.from v.ssn ≡ Some v.note
   noted = sound.notes v (front_flight next old sound v.from v.to v s.front).0
 
-  fold_was : IsFold next old v.to
-  fold_was = sound.folds v.to s.to_member (was_up v.to)
-
   is_lawful : Lawful next n old.config.starts new.trace
   is_lawful =
       rw (s.trace, log_counted next old sound v.to s.to_member (was_up v.to))
@@ -76,11 +71,6 @@ module _ (next : Next) (old new : GroupRecord) (v : Message) (well : SendsWell n
 
   marks_split : marks new ≡ marks old ++ map mark_of added
   marks_split = rw s.trace (map-append mark_of old.trace added)
-
-  marks_now : marks new ≡ marks old ++ Receipt v.to (was.received + 1) v.from v.ssn ∷ map send_mark (made next old v)
-  marks_now =
-      marks_split
-      ∙ ap (λ ms. marks old ++ Receipt v.to (was.received + 1) v.from v.ssn ∷ ms) (marks_made v.to (length was.log) (piggybacked old.config.f (receiver next old v).table) sends)
 
   receiver_now : member new v.to ≡ receiver next old v
   receiver_now = rw s.members (get_or-set_same old.members v.to (receiver next old v) blank (omega (arith, s.to_member, sound.members)))
@@ -93,7 +83,9 @@ module _ (next : Next) (old new : GroupRecord) (v : Message) (well : SendsWell n
     nobody_down = s.nobody_down;
     down = nobody_down;
     front = s.front;
-    trace = marks_now;
+    trace =
+        marks_split
+        ∙ ap (λ ms. marks old ++ Receipt v.to (was.received + 1) v.from v.ssn ∷ ms) (marks_made v.to (length was.log) (piggybacked old.config.f (receiver next old v).table) sends);
     rules = is_lawful.well_formed;
     receiver = ap (λ (x : MemberRecord). x.table) receiver_now;
     others = λ m other. ap (λ (x : MemberRecord). x.table) (other_now m other);
@@ -123,28 +115,24 @@ module _ (next : Next) (old new : GroupRecord) (v : Message) (well : SendsWell n
   other_fold : (m : ℕ) → m < n → m ≢ v.to → IsFold next new m
   other_fold m below other =
       let fold = sound.folds m below (was_up m) in
-      let apart : (v.to == m) ≡ false = ne_eqb v.to m (λ e. other (sym e)) in
-      let same : receipts_at (marks new) m ≡ receipts_at (marks old) m = receipts_at_now m ∙ rw (apart, append-nil) refl in
-      replayed-fold next new m (rw s.config is_lawful.well_formed)
-      (rw (other_now m other, s.config) (grown m (member old m) (fold-replayed next old m sound.lawful.well_formed fold)))
-      (rw (other_now m other) (fold-received next old m sound.lawful.well_formed fold ∙ ap length (sym same)))
+      let same : receipts_at (marks new) m ≡ receipts_at (marks old) m = receipts_at_now m ∙ grind (arith, nat_tests, append-nil, other) in
+      replayed-fold (rw s.config is_lawful.well_formed) (rw (other_now m other, s.config) (grown m (member old m) (fold-replayed sound.lawful.well_formed fold)))
+      (rw (other_now m other) (fold-received sound.lawful.well_formed fold ∙ ap length (sym same)))
 
   own_fold : IsFold next new v.to
   own_fold =
-      let count = fold-received next old v.to sound.lawful.well_formed fold_was in
+      let fold_was = sound.folds v.to s.to_member (was_up v.to) in
+      let count = fold-received sound.lawful.well_formed fold_was in
       let more : receipts_at (marks new) v.to ≡ receipts_at (marks old) v.to ++ own ∷ [] = receipts_at_now v.to ∙ rw (eqb-self v.to) refl in
       let here : slice_get (receipts_at (marks new) v.to) was.received ≡ Some own = ap (slice_get (receipts_at (marks new) v.to)) count ∙ rw more (At-seam (receipts_at (marks old) v.to) own []) in
       let noted_now : note_of new.trace v.from v.ssn ≡ Some v.note = rw s.trace (note_of-front old.trace added v.from v.ssn v.note noted) in
-      let replayed = replayed-step next n old.config.starts new.trace v.to was own v.note is_lawful.well_formed
-      (grown v.to was (fold-replayed next old v.to sound.lawful.well_formed fold_was)) here noted_now in
-      replayed-fold next new v.to (rw s.config is_lawful.well_formed)
-      (rw (receiver_now, s.config) (replayed-table next n old.config.starts new.trace v.to _ (receiver next old v).table replayed))
+      let replayed = replayed-step is_lawful.well_formed (grown v.to was (fold-replayed sound.lawful.well_formed fold_was)) here noted_now in
+      replayed-fold (rw s.config is_lawful.well_formed) (rw (receiver_now, s.config) (assumption replayed))
       (rw receiver_now (omega (arith, count, ap length more, length-append (receipts_at (marks old) v.to) (own ∷ []))))
 
   notes_kept : (x : Message) → IsInFlight (knowledge new) x → note_of new.trace x.from x.ssn ≡ Some x.note
   notes_kept x flying =
-      let now : Contains (channel new x.from x.to) x = flying in
-      elim (Contains-append_cases (taken_off v x.from x.to (channel old x.from x.to)) (between x.from x.to (made next old v)) x (rw (s.channels x.from x.to) at now)) [
+      elim (Contains-append_cases (taken_off v x.from x.to (channel old x.from x.to)) (between x.from x.to (made next old v)) x (rw (s.channels x.from x.to) at flying)) [
         | inl left ↦
             let of_old = taken_off-was v x.from x.to (channel old x.from x.to) x left in
             rw s.trace (note_of-front old.trace added x.from x.ssn x.note (sound.notes x of_old))

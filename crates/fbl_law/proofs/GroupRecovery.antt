@@ -1,9 +1,9 @@
 -- What stays in a recovery: what has its causes recorded; what is left is lawful, the group stays sound, and which receipts are undone.
-use Rattle.fbl_law.proofs.Common.{◌≡◌, ℕ, ◌<◌, ◌≤◌, inl, inr, List, length, map, Some, refl, ap, ◌∙◌, arith, ◌↔◌, Bool, true, subst, sym, Contains, Determinant, Event}
-use Rattle.fbl_law.proofs.Common.{mark_of, receipt_of, Has, itself, Next, Lawful, note_of, Message, MemberRecord, IsInFlight, IsUp, Knowledge, IsSoundKnowledge, Stays, IsCut, IsEventCut, IsRecovered}
-use Rattle.fbl_law.proofs.Common.{GroupRecord, member, member_checkpoint, channel, marks, knowledge, receipts_at, IsFold, IsReplayed, IsSound, IsRecovery, length-left, Mark, one_place, ◌+◌, not}
-use Rattle.fbl_law.proofs.Common.{slice_get, filter, determinant_of, receipts, is_receipt, recovered_trace, ◌-◌, nat_le, nat_tests, sends_of, receipts_of, Progress, sent-number, IsDown, stays_by}
-use Rattle.fbl_law.proofs.Common.{Send, Receipt, CutIsLawful, StaysIsRecorded, is_recorded, CutIsOne, length-filter_both}
+use Rattle.fbl_law.proofs.Common.{◌≡◌, ℕ, ◌<◌, ◌≤◌, inl, inr, List, length, map, Some, refl, ap, ◌∙◌, arith, ◌↔◌, Bool, true, subst, sym, Determinant, Event, mark_of}
+use Rattle.fbl_law.proofs.Common.{receipt_of, Has, itself, Next, Lawful, note_of, Message, MemberRecord, IsInFlight, IsUp, Knowledge, IsSoundKnowledge, Stays, IsCut, IsEventCut, IsRecovered}
+use Rattle.fbl_law.proofs.Common.{GroupRecord, member, member_checkpoint, marks, knowledge, receipts_at, IsFold, IsReplayed, IsSound, IsRecovery, length-left, Mark, one_place, ◌+◌, not, slice_get}
+use Rattle.fbl_law.proofs.Common.{filter, determinant_of, receipts, is_receipt, recovered_trace, ◌-◌, nat_le, nat_tests, sends_of, receipts_of, Progress, sent-number, IsDown, stays_by, Send}
+use Rattle.fbl_law.proofs.Common.{Receipt, CutIsLawful, StaysIsRecorded, is_recorded, CutIsOne, length-filter_both, same_from_decides}
 use Rattle.fbl_law.specs.RecoveryLaws.{GroupRecoveryGainsHolders, HoldersGainTheDown, RecoveryLeavesRecorded, RecoveryUndoesLost}
 use Rattle.fbl_law.proofs.Logs.{log-length}
 use Rattle.fbl_law.proofs.Safe.{down_or_up, down_or_both_up, never_both, up_if_none, IsRecorded-reached}
@@ -16,7 +16,7 @@ use Rattle.fbl_law.proofs.GroupFacts.{received_counted}
 use Rattle.fbl_law.proofs.CutInOnePass.{recovered_trace-cut}
 use Rattle.fbl_law.proofs.CutLawful.{marks-filter, note-stays, note-was, KeepsResponses, Lawful-kept}
 use Rattle.fbl_law.proofs.GroupStrike.{recorded_test}
-use Rattle.fbl_law.proofs.Lists.{filter-agree, filter_map-after, same-test}
+use Rattle.fbl_law.proofs.Lists.{filter-agree, filter_map-after}
 use Rattle.fbl_law.proofs.Notes.{one-send, mark-at}
 
 module _ (n f : ℕ) (r : Knowledge) (sound : IsSoundKnowledge n f r) (keep : Mark → Bool) (tells : (e : Mark) → Has r.trace e → (keep e ≡ true) ↔ Stays r e) where
@@ -71,26 +71,30 @@ module _ {next : Next} {old : GroupRecord} (sound : IsSound next old) {new : Lis
   survivor-replays m below up =
       let replays = replay-survives m (member old m)
       (λ d there to within. cut-left sound.causes of_marks (receipt_of d) there (cut-keeps_up sound.causes of_marks m up (receipt_of d) there to))
-      (fold-replayed next old m sound.lawful.well_formed (sound.folds m below up)) in
+      (fold-replayed sound.lawful.well_formed (sound.folds m below up)) in
       let few = at-most old.config.members (map mark_of new) m (member old m).received (cut-obeys sound.causes of_marks) (λ d there to.
       let number = receipt-number old.config.members (marks old) d.to d.rsn d.from d.ssn sound.lawful.well_formed (cut-was sound.causes of_marks (receipt_of d) there).0 in
       omega (arith, rw to at number, received_counted next old sound m below up)) in
       (replays, omega (arith, replays.within, few))
 
-  -- so it is at their fold
-  pub fold-survives : (r : GroupRecord) (m : ℕ) → m < old.config.members → IsUp (knowledge old) m → r.trace ≡ new → r.config ≡ old.config → member r m ≡ member old m
-      → IsFold next r m
-  fold-survives r m below up trace config same =
-      let all = survivor-replays m below up in
-      replayed-fold next r m (rw (config, trace) (cut-obeys sound.causes of_marks)) (rw (config, trace, same) all.0) (rw (trace, same) all.1)
+  -- so it is at their fold; where the members that were down are too, each is
+  pub folds-all : (r : GroupRecord) → r.trace ≡ new → r.config ≡ old.config → ((m : ℕ) → IsUp (knowledge old) m → member r m ≡ member old m)
+      → ((m : ℕ) → m < old.config.members → IsDown (knowledge old) m → IsFold next r m) → (m : ℕ) → m < old.config.members → IsFold next r m
+  folds-all r trace config survivors rebuilt m below = elim (down_or_up old.down m) [
+    | inl down ↦ rebuilt m below down
+    | inr up ↦
+        let all = survivor-replays m below up in
+        replayed-fold (rw (config, trace) (cut-obeys sound.causes of_marks)) (rw (config, trace, survivors m up) all.0) (rw (trace, survivors m up) all.1)
+  ]
 
   kept-recorded : (i : ℕ) (e : Mark) (d : Determinant) → slice_get (marks old) i ≡ Some e → determinant_of e ≡ Some d → cut.0 e ≡ is_recorded old d
   kept-recorded i e d here is =
       let receipt = is_receipt e d is in
       let there : Has (marks old) (receipt_of d) = (i, here ∙ ap Some receipt) in
-      ap cut.0 receipt ∙ same-test (cut.0 (receipt_of d)) (is_recorded old d)
-      (λ kept. (recorded_test next old d sound).1 (cut-recorded sound.causes of_marks d (cut-left sound.causes of_marks (receipt_of d) there kept)))
-      (λ recorded. (cut-was sound.causes of_marks (receipt_of d) (recorded-cut sound.causes of_marks d ((recorded_test next old d sound).0 recorded))).1)
+      ap cut.0 receipt ∙ same_from_decides (cut.0 (receipt_of d)) (is_recorded old d) (
+        λ kept. cut-recorded sound.causes of_marks d (cut-left sound.causes of_marks (receipt_of d) there kept),
+        λ recorded. (cut-was sound.causes of_marks (receipt_of d) (recorded-cut sound.causes of_marks d recorded)).1,
+      ) (recorded_test next old d sound)
 
   -- the receipts of the cut are those that are recorded
   pub cut-receipts : receipts (map mark_of new) ≡ filter (is_recorded old) (receipts (marks old))
@@ -98,8 +102,7 @@ module _ {next : Next} {old : GroupRecord} (sound : IsSound next old) {new : Lis
 
   -- so the receipts that the trace loses are those that aren't
   pub cut-undone : length (receipts (map mark_of new)) + length (filter (λ d. not (is_recorded old d)) (receipts (marks old))) ≡ length (receipts (marks old))
-  cut-undone = ap (λ (ds : List Determinant). length ds + length (filter (λ d. not (is_recorded old d)) (receipts (marks old)))) cut-receipts
-      ∙ length-filter_both (is_recorded old) (λ d. not (is_recorded old d)) (λ d. refl) (receipts (marks old))
+  cut-undone = rw cut-receipts (length-filter_both (is_recorded old) (λ d. not (is_recorded old d)) (λ d. refl) (receipts (marks old)))
 
   -- the cut, by how far each member has come once all is replayed
   module _ (work : ℕ → MemberRecord) (replays : (p : ℕ) → p < old.config.members → IsDown (knowledge old) p → IsReplayed next old.config.members old.config.starts new p (work p))
@@ -108,7 +111,7 @@ module _ {next : Next} {old : GroupRecord} (sound : IsSound next old) {new : Lis
     log-sent : (p : ℕ) → p < old.config.members → IsDown (knowledge old) p → length (work p).log ≡ sends_of (map mark_of new) p
     log-sent p below down =
         let whole = (all-taken old.config.members new p (work p).received (cut-obeys sound.causes of_marks) (all p below down)).0 in
-        ap (λ (x : Progress). length x.log) (replays p below down).progress ∙ rw whole (log-length next old.config.members old.config.starts new p cut-lawful.0)
+        ap (λ (x : Progress). length x.log) (replays p below down).progress ∙ rw whole (log-length cut-lawful.0 p)
 
     send-left : (q k to : ℕ) → Has (marks old) (Send q k to) → k ≤ sends_of (map mark_of new) q → cut.0 (Send q k to) ≡ true
     send-left q k to there within =
@@ -131,20 +134,18 @@ module _ {next : Next} {old : GroupRecord} (sound : IsSound next old) {new : Lis
 
     -- an event is kept exactly where its number is at most a count, if it is left so and its number in the cut is
     counted : (e : Mark) (k count : ℕ) → Has (marks old) e → (k ≤ count → cut.0 e ≡ true) → (Has (map mark_of new) e → k ≤ count) → nat_le k count ≡ cut.0 e
-    counted e k count there left number = same-test (nat_le k count) (cut.0 e) (λ within. left (grind (arith, nat_tests)))
-        (λ kept. let few = number (cut-left sound.causes of_marks e there kept) in grind (arith, nat_tests))
+    counted e k count there left number =
+        same_from_decides (nat_le k count) (cut.0 e) (λ is. grind (arith, nat_tests), λ within. grind (arith, nat_tests)) (λ kept. number (cut-left sound.causes of_marks e there kept), left)
 
     agrees : (e : Mark) → Has (marks old) e → stays_by old.down work e ≡ cut.0 e
-    agrees (Send q k to) there = elim (down_or_up old.down q) [
-      | inr up ↦ rw up (sym (cut-keeps_up sound.causes of_marks q up (Send q k to) there refl))
-      | inl down ↦ rw (down, log-sent q (sound.down q down) down) (counted (Send q k to) k (sends_of (map mark_of new) q) there (send-left q k to there)
-          (sent-number old.config.members (map mark_of new) (cut-obeys sound.causes of_marks) q k to))
-    ]
-    agrees (Receipt p r q k) there = elim (down_or_up old.down p) [
-      | inr up ↦ rw up (sym (cut-keeps_up sound.causes of_marks p up (Receipt p r q k) there refl))
-      | inl down ↦ rw (down, all p (sound.down p down) down, length-receipts_at) (counted (Receipt p r q k) r (receipts_of (map mark_of new) p) there (receipt-left p r q k there)
-          (receipt-number old.config.members (map mark_of new) p r q k (cut-obeys sound.causes of_marks)))
-    ]
+    agrees (Send q k to) there =
+        let up = λ (up : IsUp (knowledge old) q). cut-keeps_up sound.causes of_marks q up (Send q k to) there refl in
+        let number = sent-number old.config.members (map mark_of new) (cut-obeys sound.causes of_marks) q k to in
+        grind (arith, up, log-sent q, sound.down q, counted (Send q k to) k (sends_of (map mark_of new) q) there (send-left q k to there) number)
+    agrees (Receipt p r q k) there =
+        let up = λ (up : IsUp (knowledge old) p). cut-keeps_up sound.causes of_marks p up (Receipt p r q k) there refl in
+        let number = receipt-number old.config.members (map mark_of new) p r q k (cut-obeys sound.causes of_marks) in
+        grind (arith, up, all p, sound.down p, length-receipts_at, counted (Receipt p r q k) r (receipts_of (map mark_of new) p) there (receipt-left p r q k there) number)
 
     -- the events that stay by the members' counts are the cut
     pub stays_by-cut : filter (λ e. stays_by old.down work (mark_of e)) old.trace ≡ new
@@ -168,38 +169,30 @@ module _ (next : Next) (old new : GroupRecord) (step : IsRecovery next old new) 
 
   note-flies : (v : Message) → IsInFlight (knowledge new) v → note_of new.trace v.from v.ssn ≡ Some v.note
   note-flies v among =
-      let on : Contains (channel new v.from v.to) v = among in
       elim (down_or_both_up old.down v.from v.to) [
-        | inl down ↦ (step.made_again v.from v.to down).notes v on
+        | inl down ↦ (step.made_again v.from v.to down).notes v among
         | inr up ↦
-            let was = sound.notes v (rw (step.rest.channels v.from v.to up.0 up.1) at on) in
+            let was = sound.notes v (rw (step.rest.channels v.from v.to up.0 up.1) at among) in
             rw step.trace.1 (note-stays old.config.members step.trace.0 old.trace sound.lawful.well_formed
             (cut-causes sound.causes (marks-cut old.trace step.trace)) v.from v.ssn v.note (cut-keeps_up sound.causes (marks-cut old.trace step.trace) v.from up.0) was)
       ]
 
-  folds-after : (m : ℕ) → m < old.config.members → IsFold next new m
-  folds-after m below = elim (down_or_up old.down m) [
-    | inl down ↦ step.folds m below down
-    | inr up ↦ fold-survives sound step.trace new m below up refl step.rest.config (step.rest.survivors m up)
-  ]
-
   pub group_recovery_keeps : IsSound next new
-  group_recovery_keeps =
-      record {
-        config = rw step.rest.config sound.config;
-        members = rw step.rest.config (step.rest.size ∙ sound.members);
-        checkpoints = rw step.rest.config (ap length step.rest.checkpoints ∙ sound.checkpoints);
-        saved = λ m below. rw (step.rest.config, step.rest.checkpoints) (checkpoint-survives sound step.trace m (rw step.rest.config at below));
-        down = λ m down. never_both new.down m down (up_if_none step.rest.nobody_down m);
-        lawful = rw step.rest.config (cut-lawful sound step.trace).0;
-        room = rw step.rest.config (omega (arith, cut-shorter sound step.trace, sound.room));
-        causes = rw step.rest.config (recovery_keeps old.config.members old.config.f (knowledge old) (knowledge new) recovery-knowledge sound.causes);
-        folds = λ m below up. folds-after m (rw step.rest.config at below);
-        blanks = λ m below down. never_both new.down m down (up_if_none step.rest.nobody_down m);
-        shape = rw step.rest.config step.rest.shape;
-        notes = note-flies;
-        counted = omega (arith, step.rest.undone_ever, sound.counted, step.rest.receipts_ever);
-      }
+  group_recovery_keeps = record {
+    config = rw step.rest.config sound.config;
+    members = rw step.rest.config (step.rest.size ∙ sound.members);
+    checkpoints = rw step.rest.config (ap length step.rest.checkpoints ∙ sound.checkpoints);
+    saved = λ m below. rw (step.rest.config, step.rest.checkpoints) (checkpoint-survives sound step.trace m (rw step.rest.config at below));
+    down = λ m down. never_both new.down m down (up_if_none step.rest.nobody_down m);
+    lawful = rw step.rest.config (cut-lawful sound step.trace).0;
+    room = rw step.rest.config (omega (arith, cut-shorter sound step.trace, sound.room));
+    causes = rw step.rest.config (recovery_keeps old.config.members old.config.f (knowledge old) (knowledge new) recovery-knowledge sound.causes);
+    folds = λ m below up. folds-all sound step.trace new refl step.rest.config step.rest.survivors step.folds m (rw step.rest.config at below);
+    blanks = λ m below down. never_both new.down m down (up_if_none step.rest.nobody_down m);
+    shape = rw step.rest.config step.rest.shape;
+    notes = note-flies;
+    counted = omega (arith, step.rest.undone_ever, sound.counted, step.rest.receipts_ever);
+  }
 
 pub group_recovery_gains_holders : GroupRecoveryGainsHolders
 unfolding GroupRecoveryGainsHolders
@@ -236,5 +229,4 @@ cut_is_one next old new step sound =
     agree : (i : ℕ) (e : Event) → slice_get old.trace i ≡ Some e → step.trace.0 (mark_of e) ≡ cut.0 (mark_of e)
     agree i e here =
         let there : Has (marks old) (mark_of e) = (i, mark-at old.trace i e here) in
-        same-test (step.trace.0 (mark_of e)) (cut.0 (mark_of e)) (λ kept. (cut.2 (mark_of e) there).1 ((step.trace.2 (mark_of e) there).0 kept))
-        (λ kept. (step.trace.2 (mark_of e) there).1 ((cut.2 (mark_of e) there).0 kept))
+        same_from_decides (step.trace.0 (mark_of e)) (cut.0 (mark_of e)) (step.trace.2 (mark_of e) there) (cut.2 (mark_of e) there)

@@ -1,7 +1,7 @@
 -- A strike keeps a group sound, and what the tables of a sound group say of recorded receipts.
-use Rattle.fbl_law.proofs.Common.{◌≡◌, ℕ, ◌≤◌, true, List, inl, inr, Some, get_or, refl, ap, ◌∙◌, Contains, list_any, or_cases, or_left, or_right, get_or_default}
-use Rattle.fbl_law.proofs.Common.{Any-from_list_any, Determinant, AllBelow, Members, Next, note_of, is_held, Message, MemberRecord, blank, IsInFlight, IsUp, Names, IsStruck, GroupRecord, channel}
-use Rattle.fbl_law.proofs.Common.{knowledge, IsFold, IsSound, list_any_at, IsStrike, RecordedTest}
+use Rattle.fbl_law.proofs.Common.{◌≡◌, ℕ, ◌≤◌, List, inl, inr, Some, get_or, ap, ◌∙◌, list_any, get_or_default, Any-from_list_any, Determinant, AllBelow, Members, Next, note_of}
+use Rattle.fbl_law.proofs.Common.{is_held, Message, MemberRecord, blank, IsInFlight, IsUp, Names, IsStruck, GroupRecord, knowledge, IsFold, IsSound, list_any_at, IsStrike, RecordedTest, map, mark_of}
+use Rattle.fbl_law.proofs.Common.{IsDown, Decides, Decides-like, Decides-or}
 use Rattle.std.specs.FinSet as sets
 use Rattle.fbl_law.proofs.Safe.{up_at_ends, up_if_named}
 use Rattle.fbl_law.proofs.Tables.{Names-held, held-Names, Includes-union, named_record}
@@ -9,21 +9,16 @@ use Rattle.fbl_law.proofs.Strike.{was_up, strike_keeps}
 
 module _ (next : Next) (old new : GroupRecord) (struck : Members) (s : IsStrike old new struck) where
   pub is_struck : IsStruck (knowledge old) (knowledge new) struck
-  is_struck = record {
-    down = s.down;
-    trace = rw s.trace refl;
-    tables = λ m up. ap (λ (x : MemberRecord). x.table) (s.survivors m up);
-    blank = λ m down. ap (λ (x : MemberRecord). x.table) (s.blanks m down);
-    channels = s.channels;
-    emptied = s.emptied;
-    checkpoints = s.checkpoints;
-  }
+  is_struck = assumption (
+    ap (map mark_of) s.trace,
+    λ (m : ℕ) (up : IsUp (knowledge new) m). ap (λ (x : MemberRecord). x.table) (s.survivors m up),
+    λ (m : ℕ) (down : IsDown (knowledge new) m). ap (λ (x : MemberRecord). x.table) (s.blanks m down),
+  )
 
   notes_kept : IsSound next old → (v : Message) → IsInFlight (knowledge new) v → note_of new.trace v.from v.ssn ≡ Some v.note
   notes_kept sound v flying =
       let ends = up_at_ends (knowledge new) s.emptied v.from v.to v flying in
-      let among : Contains (channel new v.from v.to) v = flying in
-      rw s.trace (sound.notes v (rw (s.channels v.from v.to ends.0 ends.1) at among))
+      rw s.trace (sound.notes v (rw (s.channels v.from v.to ends.0 ends.1) at flying))
 
   fold_kept : (m : ℕ) → IsUp (knowledge new) m → IsFold next old m → IsFold next new m
   fold_kept m up f = record {
@@ -38,7 +33,7 @@ module _ (next : Next) (old new : GroupRecord) (struck : Members) (s : IsStrike 
     members = rw s.config (s.size ∙ sound.members);
     checkpoints = rw (s.checkpoints, s.config) sound.checkpoints;
     saved = λ m below. rw (s.config, s.trace, s.checkpoints) (sound.saved m (rw s.config at below));
-    down = λ q down. rw s.config elim (Includes-union old.down struck q (rw s.down at down)) [ inl was ↦ sound.down q was | inr now ↦ within q now ];
+    down = λ q down. rw s.config elim ((Includes-union old.down struck q).0 (rw s.down at down)) [ inl was ↦ sound.down q was | inr now ↦ within q now ];
     lawful = rw (s.config, s.trace) sound.lawful;
     room = rw (s.config, s.trace) sound.room;
     causes = rw s.config (strike_keeps old.config.members old.config.f (knowledge old) (knowledge new) struck is_struck few sound.causes);
@@ -50,19 +45,15 @@ module _ (next : Next) (old new : GroupRecord) (struck : Members) (s : IsStrike 
   }
 
 -- some record's table has the determinant exactly where it names it
-named_by : (xs : List MemberRecord) (d : Determinant) → list_any (λ m. is_held m.table d) xs ≡ true → (k : ℕ) × Names (get_or xs k blank).table d
-named_by xs d held =
-    let some = Any-from_list_any (λ (m : MemberRecord). is_held m.table d) xs held in
-    (some.0, Names-held (get_or xs some.0 blank).table d (rw (← get_or_default xs some.0 some.1 blank some.2, some.3) some.4))
-
-named_in : (xs : List MemberRecord) (k : ℕ) (d : Determinant) → Names (get_or xs k blank).table d → list_any (λ m. is_held m.table d) xs ≡ true
-named_in xs k d named = list_any_at (λ (m : MemberRecord). is_held m.table d) xs k blank (named_record xs k d named) (held-Names (get_or xs k blank).table d named)
+Decides-named : (xs : List MemberRecord) (d : Determinant) → Decides (list_any (λ m. is_held m.table d) xs) ((k : ℕ) × Names (get_or xs k blank).table d)
+Decides-named xs d = (
+  λ held.
+      let some = Any-from_list_any (λ (m : MemberRecord). is_held m.table d) xs held in
+      (some.0, Names-held (get_or xs some.0 blank).table d (rw (← get_or_default xs some.0 some.1 blank some.2, some.3) some.4)),
+  λ named. list_any_at (λ (m : MemberRecord). is_held m.table d) xs named.0 blank (named_record xs named.0 d named.1) (held-Names (get_or xs named.0 blank).table d named.1),
+)
 
 pub recorded_test : RecordedTest
-recorded_test next r d sound = (
-  λ h. elim (or_cases _ _ h) [
-    | inl held ↦ let one = named_by r.members d held in inl (one.0, (up_if_named r.config.f (knowledge r) sound.causes.down one.0 d one.1, one.1))
-    | inr saved ↦ inr (named_by r.checkpoints d saved)
-  ],
-  λ recorded. elim recorded [ inl held ↦ or_left _ _ (named_in r.members held.0 d held.1.1) | inr saved ↦ or_right _ _ (named_in r.checkpoints saved.0 d saved.1) ],
-)
+recorded_test next r d sound = Decides-or _ _
+    (Decides-like _ (λ one. (one.0, (up_if_named r.config.f (knowledge r) sound.causes.down one.0 d one.1, one.1))) (λ held. (held.0, held.1.1)) (Decides-named r.members d))
+    (Decides-named r.checkpoints d)

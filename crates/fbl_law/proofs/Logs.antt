@@ -17,8 +17,7 @@ sends_in (sent s ∷ actions) = s ∷ sends_in actions
 
 pub sends_in-append : (xs ys : List Action) → sends_in (xs ++ ys) ≡ sends_in xs ++ sends_in ys
 sends_in-append [] ys = refl
-sends_in-append (took note ∷ xs) ys = sends_in-append xs ys
-sends_in-append (sent s ∷ xs) ys = ap (λ (zs : List (ℕ × Note)). s ∷ zs) (sends_in-append xs ys)
+sends_in-append (a ∷ xs) ys = grind (arith, sends_in-append xs ys)
 
 pub sends_in-sent : (sends : List (ℕ × Note)) → sends_in (map sent sends) ≡ sends
 sends_in-sent [] = refl
@@ -55,33 +54,25 @@ abbrev pub logged_of : ℕ → Event → Option Logged
 logged_of p (Send from ssn to note) = cond (from == p) (Some (record { ssn = ssn; to = to; note = note })) None
 logged_of p (Receipt to rsn from ssn) = None
 
--- one event more
-sends-grown : (u : List Event) (e : Event) (p : ℕ) → sends_of (map mark_of (u ++ e ∷ [])) p ≡ sends_of (map mark_of u) p + cond (is_send_of p (mark_of e)) 1 0
-sends-grown u e p = rw (map-append mark_of u (e ∷ [])) (sends-step (map mark_of u) (mark_of e) p)
-
 -- the sends of the rest of a trace that obeys the rules, numbered on
 log_from : (n p : ℕ) (all u rest : List Event) → WellFormed n (map mark_of u ++ map mark_of rest)
     → numbered (sends_of (map mark_of u) p) (sends_in (filter_map (action_of all p) rest)) ≡ filter_map (logged_of p) rest
 log_from n p all u [] obeys = refl
-log_from n p all u (Send q k to x ∷ rest) obeys =
-    let may = MayFollow-seam n (map mark_of u) (mark.Send q k to) (map mark_of rest) obeys in
-    let ih = log_from n p all (u ++ Send q k to x ∷ []) rest (rw (map-append, append_assoc) obeys) in
-    grind (arith, nat_tests, may.3, sends-grown u (Send q k to x) p, ih)
-log_from n p all u (Receipt to r q k ∷ rest) obeys =
-    let ih = log_from n p all (u ++ Receipt to r q k ∷ []) rest (rw (map-append, append_assoc) obeys) in
-    grind (arith, sends-grown u (Receipt to r q k) p, ih)
+log_from n p all u (e ∷ rest) obeys =
+    let may = MayFollow-seam n (map mark_of u) (mark_of e) (map mark_of rest) obeys in
+    let ih = log_from n p all (u ++ e ∷ []) rest (rw (map-append, append_assoc) obeys) in
+    grind (arith, nat_tests, may, map-append mark_of u (e ∷ []), sends-step (map mark_of u) (mark_of e) p, ih)
 
 -- in a lawful trace the log after all the member's notes has the member's sends
-pub log-sends : (next : Next) (n : ℕ) (starts : List Start) (t : List Event) (p : ℕ) → Lawful next n starts t
+pub log-sends : {next : Next} {n : ℕ} {starts : List Start} {t : List Event} (lawful : Lawful next n starts t) (p : ℕ)
     → (after_notes next p n starts (received_notes t p)).log ≡ filter_map (logged_of p) t
-log-sends next n starts t p lawful =
+log-sends {next} {n} {starts} {t} lawful p =
     rw (log-after next p n starts (received_notes t p), ← lawful.responds p) (log_from n p t [] t lawful.well_formed)
 
 -- the log of a trace's sends names the note of each
 pub logged_note-trace : (t : List Event) (p ssn : ℕ) → logged_note (filter_map (logged_of p) t) ssn ≡ note_of t p ssn
 logged_note-trace [] p ssn = refl
-logged_note-trace (Send q k to x ∷ t) p ssn = grind (arith, logged_note-trace t p ssn)
-logged_note-trace (Receipt to r q k ∷ t) p ssn = logged_note-trace t p ssn
+logged_note-trace (e ∷ t) p ssn = grind (arith, logged_note-trace t p ssn)
 
 -- what the front of a log names, the log names
 logged_note-front : (xs ys : List Logged) (ssn : ℕ) (note : Note) → logged_note xs ssn ≡ Some note → logged_note (xs ++ ys) ssn ≡ Some note
@@ -91,13 +82,12 @@ logged_note-front (l ∷ xs) ys ssn note is = grind (arith, logged_note-front xs
 -- how many sends a member's actions have
 sends-count : (all u : List Event) (p : ℕ) → length (sends_in (filter_map (action_of all p) u)) ≡ sends_of (map mark_of u) p
 sends-count all [] p = refl
-sends-count all (Send q k to x ∷ u) p = grind (arith, sum_by-cons (λ y. cond (is_send_of p y) 1 0) (mark.Send q k to) (map mark_of u), sends-count all u p)
-sends-count all (Receipt to r q k ∷ u) p = grind (arith, sum_by-cons (λ y. cond (is_send_of p y) 1 0) (mark.Receipt to r q k) (map mark_of u), sends-count all u p)
+sends-count all (e ∷ u) p = grind (arith, sum_by-cons (λ y. cond (is_send_of p y) 1 0) (mark_of e) (map mark_of u), sends-count all u p)
 
 -- the log after all notes is as long as the member's sends are many
-pub log-length : (next : Next) (n : ℕ) (starts : List Start) (t : List Event) (p : ℕ) → Lawful next n starts t
+pub log-length : {next : Next} {n : ℕ} {starts : List Start} {t : List Event} (lawful : Lawful next n starts t) (p : ℕ)
     → length (after_notes next p n starts (received_notes t p)).log ≡ sends_of (map mark_of t) p
-log-length next n starts t p lawful =
+log-length {next} {n} {starts} {t} lawful p =
     ap length (log-after next p n starts (received_notes t p)) ∙ length-numbered 0 _ ∙ rw (← lawful.responds p) (sends-count t t p)
 
 -- the sends of the first actions are among the responses to the notes taken in so far
@@ -114,14 +104,10 @@ sends-by _ _ _ _ _ _ _ _ _ is few = absurd cc
 -- at most how many notes a member's actions have
 notes-count : (all u : List Event) (p : ℕ) → length (notes_of (filter_map (action_of all p) u)) ≤ receipts_of (map mark_of u) p
 notes-count all [] p = omega arith
-notes-count all (Send q k to x ∷ u) p = grind (arith, sum_by-cons (λ y. cond (is_receipt_of p y) 1 0) (mark.Send q k to) (map mark_of u), notes-count all u p)
-notes-count all (Receipt to r q k ∷ u) p = grind (arith, sum_by-cons (λ y. cond (is_receipt_of p y) 1 0) (mark.Receipt to r q k) (map mark_of u), notes-count all u p)
+notes-count all (e ∷ u) p = grind (arith, sum_by-cons (λ y. cond (is_receipt_of p y) 1 0) (mark_of e) (map mark_of u), notes-count all u p)
 
 -- the log of a member that has replayed its first receipts of a lawful trace
 module _ {next : Next} {n : ℕ} {starts : List Start} {t : List Event} (lawful : Lawful next n starts t) {p : ℕ} {m : MemberRecord} (replayed : IsReplayed next n starts t p m) where
-  the-log : m.log ≡ (after_notes next p n starts (take m.received (received_notes t p))).log
-  the-log = ap (λ (x : Progress). x.log) replayed.progress
-
   -- with the rest it is the log after all the member's notes
   whole-log : (rest : List Logged) × ((after_notes next p n starts (received_notes t p)).log ≡ m.log ++ rest)
   whole-log = (
@@ -134,11 +120,11 @@ module _ {next : Next} {n : ℕ} {starts : List Start} {t : List Event} (lawful 
   -- a message that it names has that note in the trace
   pub logged-noted : (ssn : ℕ) (note : Note) → logged_note m.log ssn ≡ Some note → note_of t p ssn ≡ Some note
   logged-noted ssn note named =
-      rw (← logged_note-trace t p ssn, ← log-sends next n starts t p lawful, whole-log.1) (logged_note-front m.log whole-log.0 ssn note named)
+      rw (← logged_note-trace t p ssn, ← log-sends lawful p, whole-log.1) (logged_note-front m.log whole-log.0 ssn note named)
 
   -- it is no longer than the member's sends are many
   pub log-short : length m.log ≤ sends_of (map mark_of t) p
-  log-short = omega (arith, log-length next n starts t p lawful, ap length whole-log.1, length-append m.log whole-log.0)
+  log-short = omega (arith, log-length lawful p, ap length whole-log.1, length-append m.log whole-log.0)
 
   -- and it has a send that comes after no more receipts than the member has replayed
   pub logged-by : (j ssn to : ℕ) (x : Note) → slice_get t j ≡ Some (Send p ssn to x) → receipts_of (take j (map mark_of t)) p ≤ m.received
@@ -155,5 +141,5 @@ module _ {next : Next} {n : ℕ} {starts : List Start} {t : List Event} (lawful 
       let taken : length (notes_of front) ≤ m.received = omega (arith, notes-count t (take (suc j) t) p, receipts, few) in
       let enough = sends-by next p n 0 m.received (starts_of p starts) (received_notes t p) front back (sym cut ∙ lawful.responds p) taken in
       let number = (lawful.well_formed j e at).3 in
-      rw (the-log, log-after next p n starts (take m.received (received_notes t p)))
+      rw (ap (λ (x : Progress). x.log) replayed.progress, log-after next p n starts (take m.received (received_notes t p)))
       (numbered-has 0 ssn _ (omega (arith, number)) (omega (arith, number, sends-count t (take (suc j) t) p, sends, enough)))

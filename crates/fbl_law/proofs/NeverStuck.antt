@@ -1,6 +1,6 @@
 -- Replay never gets stuck.
-use Rattle.fbl_law.proofs.Common.{ℕ, zero, suc, ◌<◌, ◌≤◌, List, inl, inr, arith, subst, cases_lt, Determinant, Mark, At, receipt_of, WellFormed, sent-before, IsSentAgain, IsStuck}
-use Rattle.fbl_law.proofs.Common.{one_place, Send, NeverStuck}
+use Rattle.fbl_law.proofs.Common.{ℕ, zero, suc, ◌<◌, ◌≤◌, List, arith, subst, Determinant, Mark, At, receipt_of, WellFormed, sent-before, IsSentAgain, IsStuck, one_place, Send, NeverStuck}
+use Rattle.fbl_law.proofs.Common.{◌≡◌, ◌+◌}
 use Rattle.fbl_law.proofs.Receipts.{at-most-before}
 
 module _ (n : ℕ) (t : List Mark) (done : ℕ → ℕ) (obeys : WellFormed n t) (stuck : IsStuck t done) where
@@ -9,12 +9,8 @@ module _ (n : ℕ) (t : List Mark) (done : ℕ → ℕ) (obeys : WellFormed n t)
 
   done_at : (i : ℕ) (d : Determinant) → DoneBefore i → At t i (receipt_of d) → d.rsn ≤ done d.to
   done_at i d before here =
-      let may = obeys i (receipt_of d) here in
       let count = at-most-before n t d.to (done d.to) i obeys (λ j c below there to. subst (λ (x : ℕ). c.rsn ≤ done x) to (before j c below there)) in
-      elim (cases_lt (done d.to) d.rsn) [
-        | inr le ↦ le
-        | inl gt ↦ absurd (stuck d (i, here) (omega (arith, may.3, count, gt)) sent_again)
-      ]
+      omega (arith, (obeys i (receipt_of d) here).3, count, λ (next : d.rsn ≡ done d.to + 1). stuck d (i, here) next sent_again)
     where
       sent_again : IsSentAgain t done d.from d.ssn d.to
       sent_again c to earlier =

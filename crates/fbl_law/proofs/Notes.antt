@@ -1,6 +1,6 @@
 -- The notes of a trace's messages.
-use Rattle.fbl_law.proofs.Common.{◌≡◌, ℕ, suc, ◌<◌, ◌==◌, ◌&&◌, inl, inr, List, [], ◌∷◌, take, map, Some, slice_get, refl, ap, ◌∙◌, arith, cases_Bool, cases_order}
-use Rattle.fbl_law.proofs.Common.{nat_tests, slice_get-map, Note, Event, Mark, At, mark_of, Has, WellFormed, note_of, slice_get-take, map-At, WellFormed-take, sent-number, sent-note}
+use Rattle.fbl_law.proofs.Common.{◌≡◌, ℕ, suc, ◌<◌, ◌==◌, ◌&&◌, inl, inr, List, [], ◌∷◌, take, map, Some, slice_get, refl, ◌∙◌, arith, cases_Bool, nat_tests}
+use Rattle.fbl_law.proofs.Common.{slice_get-map, Note, Event, Mark, At, mark_of, Has, WellFormed, note_of, slice_get-take, map-At, WellFormed-take, sent-number, sent-note, ap}
 use Rattle.fbl_base.specs.declared.trace.Mark.TheVariants as mark
 use Rattle.fbl_base.specs.declared.trace.Event.TheVariants.{Send, Receipt}
 
@@ -16,23 +16,16 @@ noted-sent (Receipt to' r q' k' ∷ t) q k x is = let r = noted-sent t q k x is 
 -- the sends of a member have different numbers
 number-once : (n : ℕ) (t : List Mark) → WellFormed n t → (q k to to' i j : ℕ) → At t i (mark.Send q k to) → At t j (mark.Send q k to') → ¬ (i < j)
 number-once n t obeys q k to to' i j here there below =
-    let before = sent-number n (take j t) (WellFormed-take n j t obeys) q k to (i, slice_get-take t j i (mark.Send q k to) below here) in
-    omega (arith, before, (obeys j (mark.Send q k to') there).3)
+    omega (arith, sent-number n (take j t) (WellFormed-take n j t obeys) q k to (i, slice_get-take t j i (mark.Send q k to) below here), (obeys j (mark.Send q k to') there).3)
 
 one-place : (n : ℕ) (t : List Mark) → WellFormed n t → (q k to to' i j : ℕ) → At t i (mark.Send q k to) → At t j (mark.Send q k to') → i ≡ j
-one-place n t obeys q k to to' i j here there = elim (cases_order i j) [
-  | inl same ↦ same
-  | inr (inl below) ↦ absurd (number-once n t obeys q k to to' i j here there below)
-  | inr (inr above) ↦ absurd (number-once n t obeys q k to' to j i there here above)
-]
+one-place n t obeys q k to to' i j here there = omega (arith, number-once n t obeys q k to to' i j here there, number-once n t obeys q k to' to j i there here)
 
 -- so a sender's number names one message
 pub one-send : (n : ℕ) (t : List Mark) → WellFormed n t → (q k to to' : ℕ) → Has t (mark.Send q k to) → Has t (mark.Send q k to') → to ≡ to'
 one-send n t obeys q k to to' a b =
     let same = one-place n t obeys q k to to' a.0 b.0 a.1 b.1 in
-    let first : At t b.0 (mark.Send q k to) = rw same at a.1 in
-    let second = b.1 in
-    cc
+    cc (rw same at a.1, b.1)
 
 -- the mark of an event stands at its place
 pub mark-at : (t : List Event) (i : ℕ) (e : Event) → slice_get t i ≡ Some e → At (map mark_of t) i (mark_of e)
@@ -46,10 +39,7 @@ send-at t i q k to here = (let r = map-At mark_of t i (mark.Send q k to) here in
   is_event (Receipt to' r q' k') at same = absurd cc
 
 pub receipt-at : (t : List Event) (i to r q k : ℕ) → At (map mark_of t) i (mark.Receipt to r q k) → slice_get t i ≡ Some (Receipt to r q k)
-receipt-at t i to r q k here = (let place = map-At mark_of t i (mark.Receipt to r q k) here in is_event place.0 place.1 place.2) where
-  is_event : (e : Event) → slice_get t i ≡ Some e → mark_of e ≡ mark.Receipt to r q k → slice_get t i ≡ Some (Receipt to r q k)
-  is_event (Send q' k' to' x) at same = absurd cc
-  is_event (Receipt to' r' q' k') at same = cc
+receipt-at t i to r q k here = (let place = map-At mark_of t i (mark.Receipt to r q k) here in place.1 ∙ ap Some (grind (arith, place.2)))
 
 -- in a trace that obeys the rules a send's note is the one that its number names
 pub sent-noted : (n : ℕ) (t : List Event) → WellFormed n (map mark_of t) → (i q k to : ℕ) (x : Note) → slice_get t i ≡ Some (Send q k to x) → note_of t q k ≡ Some x
@@ -57,6 +47,4 @@ sent-noted n t obeys i q k to x here =
     let some = sent-note t i q k to (mark-at t i (Send q k to x) here) in
     let first = noted-sent t q k some.0 some.1 in
     let e = one-place n (map mark_of t) obeys q k first.1 to first.0 i (mark-at t first.0 (Send q k first.1 some.0) first.2) (mark-at t i (Send q k to x) here) in
-    let h : slice_get t i ≡ Some (Send q k first.1 some.0) = rw e at first.2 in
-    let same : some.0 ≡ x = cc in
-    some.1 ∙ ap Some same
+    cc (some.1, rw e at first.2)

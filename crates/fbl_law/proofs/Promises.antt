@@ -57,8 +57,7 @@ closed_records_first n f r rules truth closed c d there same before recorded =
     let found = Has-recorded r truth d recorded in
     IsRecorded-before f r closed c d recorded (elim (cases_order there.0 found.0) [
       | inl place ↦
-          let here : At r.trace found.0 (receipt_of c) = rw (← place) there.1 in
-          let one : receipt_of c ≡ receipt_of d = (let e1 = here in let e2 = found.1 in cc) in
+          let one : receipt_of c ≡ receipt_of d = cc (rw place at there.1, found.1) in
           rw one (itself found)
       | inr (inl earlier) ↦ step (itself there) ((there.0, found.0, earlier, there.1, found.1), inl same)
       | inr (inr later) ↦

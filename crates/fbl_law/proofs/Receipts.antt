@@ -1,59 +1,53 @@
 -- A member's receipts in a trace, in order.
-use Rattle.fbl_law.proofs.Common.{◌≡◌, ℕ, suc, ◌+◌, ◌≤◌, ◌==◌, inl, inr, true, cond, List, [], ◌∷◌, ◌++◌, length, map, Option, Some, slice_get, refl, ap, ◌∙◌}
-use Rattle.fbl_law.proofs.Common.{arith, take, drop, ◌<◌, length-take, filter_map, fold, cases_lt, nat_tests, length-map, take-append-drop, sum_by-cons, slice_get-map, Determinant, Note, Event}
-use Rattle.fbl_law.proofs.Common.{Mark, At, mark_of, determinant_of, receipt_of, Has, is_receipt_of, receipts_of, taken_on, WellFormed, action_of, notes_of, note_of, At-front, At-below, filter_map-At}
-use Rattle.fbl_law.proofs.Common.{At-filter, At-filter_map, WellFormed-take, receipts-noted, received_notes, last_taken, receipts_at, last_among, is_receipt, MayFollow, WellFormed-keeps}
-use Rattle.fbl_law.proofs.Common.{filter-append, filter_map-append, cases_Bool, Send, Receipt, At-push, append-nil}
+use Rattle.fbl_law.proofs.Common.{◌≡◌, ℕ, suc, ◌+◌, ◌≤◌, ◌==◌, true, cond, List, [], ◌∷◌, ◌++◌, length, map, Option, Some, slice_get, refl, ap, ◌∙◌, arith, take}
+use Rattle.fbl_law.proofs.Common.{drop, ◌<◌, length-take, filter_map, fold, nat_tests, length-map, take-append-drop, sum_by-cons, slice_get-map, Determinant, Note, Event, Mark, At, mark_of}
+use Rattle.fbl_law.proofs.Common.{determinant_of, receipt_of, Has, is_receipt_of, receipts_of, taken_on, WellFormed, action_of, notes_of, note_of, At-front, At-below, filter_map-At, At-filter}
+use Rattle.fbl_law.proofs.Common.{At-filter_map, WellFormed-take, receipts-noted, received_notes, last_taken, receipts_at, last_among, is_receipt, MayFollow, WellFormed-keeps, filter-append}
+use Rattle.fbl_law.proofs.Common.{filter_map-append, Send, Receipt, At-push, append-nil}
 use Rattle.fbl_base.specs.declared.trace.Event.TheVariants as event
 use Rattle.fbl_law.proofs.Lists.{some-at, filter-At, filter-passes}
 
 -- how many they are
 pub length-receipts_at : (t : List Mark) (p : ℕ) → length (receipts_at t p) ≡ receipts_of t p
 length-receipts_at [] p = refl
-length-receipts_at (Send q k to ∷ t) p = grind (arith, sum_by-cons, length-receipts_at t p)
-length-receipts_at (Receipt to r q k ∷ t) p = grind (arith, sum_by-cons (λ y. cond (is_receipt_of p y) 1 0) (Receipt to r q k) t, length-receipts_at t p)
+length-receipts_at (e ∷ t) p = grind (arith, sum_by-cons (λ y. cond (is_receipt_of p y) 1 0) e t, length-receipts_at t p)
 
 -- a member's receipts are numbered from 1
-pub receipts_at-number : (n : ℕ) (t : List Mark) (p j : ℕ) (d : Determinant) → WellFormed n t → slice_get (receipts_at t p) j ≡ Some d → d.rsn ≡ j + 1
+receipts_at-number : (n : ℕ) (t : List Mark) (p j : ℕ) (d : Determinant) → WellFormed n t → slice_get (receipts_at t p) j ≡ Some d → d.rsn ≡ j + 1
 receipts_at-number n t p j d obeys = WellFormed-keeps n (λ u. (j : ℕ) → slice_get (receipts_at u p) j ≡ Some d → d.rsn ≡ j + 1) (λ j here. absurd cc) more t obeys j where
   more : (u : List Mark) (e : Mark) → WellFormed n u → MayFollow n u e → ((j : ℕ) → slice_get (receipts_at u p) j ≡ Some d → d.rsn ≡ j + 1)
       → (j : ℕ) → slice_get (receipts_at (u ++ e ∷ []) p) j ≡ Some d → d.rsn ≡ j + 1
   more u (Send q k to) obeys_u may before j here = before j (rw (filter_map-append determinant_of, append-nil) at here)
   more u (Receipt to r q k) obeys_u may before j here =
       let now : slice_get (receipts_at u p ++ receipts_at (Receipt to r q k ∷ []) p) j ≡ Some d = rw (filter_map-append determinant_of, filter-append) at here in
-      elim (cases_Bool (to == p)) [
-        | inl own ↦ elim (At-push (receipts_at u p) _ j d (rw own at now)) [ inl old ↦ before j old | inr new ↦ grind (arith, nat_tests, may.3, length-receipts_at u p, new) ]
-        | inr other ↦ before j (rw (other, append-nil) at now)
-      ]
+      grind (arith, nat_tests, now, append-nil, before j, At-push (receipts_at u p) (record { from = q; ssn = k; to = to; rsn = r }) j d, may.3, length-receipts_at u p)
 
--- they are the member's, and in the trace
-pub receipts_at-Has : (t : List Mark) (p j : ℕ) (d : Determinant) → slice_get (receipts_at t p) j ≡ Some d → Has t (receipt_of d) × (d.to ≡ p)
-receipts_at-Has t p j d here =
+-- they are in the trace, and the member's
+pub receipts_at-Has : (n : ℕ) (t : List Mark) (p j : ℕ) (d : Determinant) → WellFormed n t → slice_get (receipts_at t p) j ≡ Some d
+    → Has t (receipt_of d) × (d.to ≡ p) × (d.rsn ≡ j + 1)
+receipts_at-Has n t p j d obeys here =
     let a = At-filter (λ (x : Determinant). x.to == p) (filter_map determinant_of t) j d here in
     let b = At-filter_map determinant_of t a.0 d a.1 in
     let passes : (d.to == p) ≡ true = filter-passes (λ (x : Determinant). x.to == p) (filter_map determinant_of t) j d here in
-    ((b.0, b.2 ∙ ap Some (is_receipt b.1 d b.3)), grind (arith, nat_tests))
+    ((b.0, b.2 ∙ ap Some (is_receipt b.1 d b.3)), grind (arith, nat_tests), receipts_at-number n t p j d obeys here)
 
 -- and each receipt of the member is among them, at its number
 pub Has-receipts_at : (n : ℕ) (t : List Mark) (p j : ℕ) (d : Determinant) → WellFormed n t → Has t (receipt_of d) → d.to ≡ p → d.rsn ≡ j + 1
     → slice_get (receipts_at t p) j ≡ Some d
 Has-receipts_at n t p j d obeys has to number =
     let a = filter_map-At determinant_of t has.0 (receipt_of d) d has.1 refl in
-    let is : (d.to == p) ≡ true = grind (arith, nat_tests) in
-    let b = filter-At (λ (x : Determinant). x.to == p) (filter_map determinant_of t) a.0 d a.1 is in
-    let place = receipts_at-number n t p b.0 d obeys b.1 in
-    let same : b.0 ≡ j = omega (arith, place, number) in
+    let b = filter-At (λ (x : Determinant). x.to == p) (filter_map determinant_of t) a.0 d a.1 (grind (arith, nat_tests)) in
+    let same : b.0 ≡ j = omega (arith, receipts_at-number n t p b.0 d obeys b.1, number) in
     rw same at b.1
 
 -- where each receipt of a member is numbered at most k, it has at most k
 pub at-most : (n : ℕ) (t : List Mark) (p k : ℕ) → WellFormed n t → ((d : Determinant) → Has t (receipt_of d) → d.to ≡ p → d.rsn ≤ k) → length (receipts_at t p) ≤ k
-at-most n t p k obeys all = elim (cases_lt k (length (receipts_at t p))) [
-  | inr few ↦ few
-  | inl more ↦
+at-most n t p k obeys all = omega (arith, few) where
+  few : ¬ (k < length (receipts_at t p))
+  few more =
       let d = some-at (receipts_at t p) k more in
-      let has = receipts_at-Has t p k d.0 d.1 in
-      absurd (omega (arith, all d.0 has.0 has.1, receipts_at-number n t p k d.0 obeys d.1))
-]
+      let has = receipts_at-Has n t p k d.0 obeys d.1 in
+      omega (arith, all d.0 has.0 has.1, has.2)
 
 -- so before a place too
 pub at-most-before : (n : ℕ) (t : List Mark) (p k j : ℕ) → WellFormed n t → ((i : ℕ) (d : Determinant) → i < j → At t i (receipt_of d) → d.to ≡ p → d.rsn ≤ k)
@@ -78,9 +72,7 @@ pub received-notes : (n : ℕ) (t : List Event) (p : ℕ) → WellFormed n (map 
 received-notes n t p obeys = notes-at t t p (receipts-noted n t obeys)
 
 pub length-received_notes : (n : ℕ) (t : List Event) (p : ℕ) → WellFormed n (map mark_of t) → length (received_notes t p) ≡ length (receipts_at (map mark_of t) p)
-length-received_notes n t p obeys =
-    let noted = length-map (receipts_at (map mark_of t) p) (λ (d : Determinant). note_of t d.from d.ssn) in
-    omega (arith, ap length (received-notes n t p obeys), length-map (received_notes t p) (λ (x : Note). Some x), noted)
+length-received_notes n t p obeys = simp length-map at (ap length (received-notes n t p obeys))
 
 pub note-at : (n : ℕ) (t : List Event) (p j : ℕ) (d : Determinant) (x : Note) → WellFormed n (map mark_of t)
     → slice_get (receipts_at (map mark_of t) p) j ≡ Some d → note_of t d.from d.ssn ≡ Some x → slice_get (received_notes t p) j ≡ Some x
@@ -92,8 +84,7 @@ note-at n t p j d x obeys here noted =
 -- the last message from q that the member's receipts take
 last-from : (q p z : ℕ) (t : List Mark) → fold (λ last ssn. ssn) z (filter_map (taken_on q p) t) ≡ fold (λ last (d : Determinant). cond (d.from == q) d.ssn last) z (receipts_at t p)
 last-from q p z [] = refl
-last-from q p z (Send q' k to ∷ t) = last-from q p z t
-last-from q p z (Receipt to r q' k ∷ t) = grind (arith, last-from q p z t, last-from q p k t)
+last-from q p z (e ∷ t) = grind (arith, last-from q p z t, λ (k : ℕ). last-from q p k t)
 
 pub last_taken-among : (t : List Mark) (q p : ℕ) → last_taken t q p ≡ last_among (receipts_at t p) q
 last_taken-among t q p = last-from q p 0 t

@@ -1,9 +1,8 @@
 -- A recovery keeps knowledge sound.
 use Rattle.fbl_law.proofs.Common.{List, ◌≡◌, ℕ, ◌↔◌, Bool, true, inl, inr, refl, sym, ap, ◌∙◌, Some, filter, Determinant, Mark, member_of, send_of, receipt_of, Has, Earlier, Leads}
-use Rattle.fbl_law.proofs.Common.{Precedes, itself, step, WellFormed, sent_on, taken_on, is_sent, Has-first, Message, Knowledge, Store, in_table, in_message, in_checkpoint, IsThere, table, IsInFlight}
-use Rattle.fbl_law.proofs.Common.{IsDown, IsUp, Names, Holds, IsRecorded, IsHolder, IsClosed, MatchesTrace, IsSoundKnowledge, NamesCauses, Stays, IsCut, IsRecovered, Send, Receipt, Has-filter}
-use Rattle.fbl_law.proofs.Common.{Precedes-filter}
-use Rattle.fbl_law.proofs.CutLawful.{KeepsCauses, Has-before, WellFormed-kept, map-kept, taken_at}
+use Rattle.fbl_law.proofs.Common.{Precedes, itself, step, WellFormed, sent_on, taken_on, Has-first, Knowledge, Store, in_table, in_message, in_checkpoint, IsThere, table, IsDown, IsUp, Names, Holds}
+use Rattle.fbl_law.proofs.Common.{IsRecorded, IsHolder, IsClosed, MatchesTrace, IsSoundKnowledge, NamesCauses, Stays, IsCut, IsRecovered, Send, Receipt, Has-filter, Precedes-filter, nat_tests, arith}
+use Rattle.fbl_law.proofs.CutLawful.{KeepsCauses, Has-before, WellFormed-kept, map-kept}
 use Rattle.fbl_law.proofs.Lists.{filter-passes, filter-At}
 use Rattle.fbl_law.proofs.Appended.{Earlier-joined}
 use Rattle.fbl_law.proofs.GatheredTables.{entries_gathered, gathered_recorded, recorded_gathered}
@@ -28,23 +27,19 @@ module _ (n f : ℕ) (old : Knowledge) (obeys : WellFormed n old.trace) (closed 
     | inr before ↦ inr (Earlier-joined n old.trace (receipt_of c) a b obeys before earlier)
   ])
 
+  -- what precedes an event of a member that is up is recorded
+  unless_down : (c : Determinant) {b : Mark} → Precedes old.trace (receipt_of c) b → (IsDown old (member_of b) → IsRecorded old c) → IsRecorded old c
+  unless_down c {b} path if_down = elim (down_or_up old.down (member_of b)) [ inr up ↦ IsRecorded-depended f old closed c (member_of b) up (b, path, refl) | inl down ↦ if_down down ]
+
   -- each receipt that precedes an event that stays is recorded
   pub recorded_before : (c : Determinant) {b : Mark} → Stays old b → Precedes old.trace (receipt_of c) b → IsRecorded old c
-  recorded_before c stays (itself h) =
-      elim (down_or_up old.down c.to) [
-        | inr up ↦ IsRecorded-depended f old closed c c.to up (receipt_of c, itself h, refl)
-        | inl down ↦ stays down c refl (inl refl)
-      ]
-  recorded_before c stays (step {b} {c = e} p l) =
-      elim (down_or_up old.down (member_of e)) [
-        | inr up ↦ IsRecorded-depended f old closed c (member_of e) up (e, step p l, refl)
-        | inl down ↦ elim l.1 [
-          | inl same ↦ recorded_before c (Stays-earlier b e stays l.0 same) p
-          | inr received ↦
-              let is = receives e b received in
-              IsRecorded-before f old closed c is.0 (stays down is.0 (ap member_of (sym is.1)) (inl (sym is.1))) (rw is.1 at (step p l))
-        ]
-      ]
+  recorded_before c stays (itself h) = unless_down c (itself h) (λ down. stays down c refl (inl refl))
+  recorded_before c stays (step {b} {c = e} p l) = unless_down c (step p l) (λ down. elim l.1 [
+    | inl same ↦ recorded_before c (Stays-earlier b e stays l.0 same) p
+    | inr received ↦
+        let is = receives e b received in
+        IsRecorded-before f old closed c is.0 (stays down is.0 (ap member_of (sym is.1)) (inl (sym is.1))) (rw is.1 at (step p l))
+  ])
 
   -- what leads to an event that stays stays
   Stays-leads : (a b : Mark) → Stays old b → Leads old.trace a b → Stays old a
@@ -99,11 +94,8 @@ module _ (n f : ℕ) (old new : Knowledge) (s : IsRecovered f old new) (sound : 
   cut_is_closed a b before there = rw s.trace.1 (Has-before keep old.trace (cut-causes sound s.trace) before (cut-was sound s.trace b there).1)
 
   Holds-recovered : (d : Determinant) (m : ℕ) → IsHolder old d m → Holds new d m
-  Holds-recovered d m holder =
-      elim holder [
-        | inl holds ↦ (up_now m, rw (s.tables m holds.0) holds.1)
-        | inr down ↦ (up_now m, gathered m d down.0 down.1)
-      ]
+  Holds-recovered d m (inl holds) = (up_now m, rw (s.tables m holds.0) holds.1)
+  Holds-recovered d m (inr down) = (up_now m, gathered m d down.0 down.1)
 
   -- the holders of a recorded receipt are those before
   pub recovery_gains_holders : (d : Determinant) (m : ℕ) → Holds new d m ↔ IsHolder old d m
@@ -120,8 +112,8 @@ module _ (n f : ℕ) (old new : Knowledge) (s : IsRecovered f old new) (sound : 
   MatchesTrace-recovered q p = elim (down_or_both_up old.down q p) [
     | inl down ↦ s.rebuilt q p down
     | inr up ↦
-        let same_sent = map-kept keep (sent_on q p) old.trace (λ e y there is. cut-keeps_up sound s.trace q up.0 e there (ap member_of (is_sent q p y e is))) in
-        let same_taken = map-kept keep (taken_on q p) old.trace (λ e y there is. cut-keeps_up sound s.trace p up.1 e there (taken_at q p y e is)) in
+        let same_sent = map-kept keep (sent_on q p) old.trace (λ e y there is. cut-keeps_up sound s.trace q up.0 e there (grind (arith, nat_tests))) in
+        let same_taken = map-kept keep (taken_on q p) old.trace (λ e y there is. cut-keeps_up sound s.trace p up.1 e there (grind (arith, nat_tests))) in
         rw (s.channels q p up.0 up.1, s.trace.1, same_sent, same_taken) (sound.channels q p up.0 up.1)
   ]
 
@@ -152,16 +144,13 @@ module _ (n f : ℕ) (old new : Knowledge) (s : IsRecovered f old new) (sound : 
   ]
 
   -- a message in flight was made again, or it stayed in its channel
-  good_message : (v : Message) → IsInFlight new v → IsSoundAt f new (in_message v)
-  good_message v flies = elim (down_or_both_up old.down v.from v.to) [
+  good : (k : Store) → IsThere new k → IsSoundAt f new k
+  good (in_table m) there = good_table m
+  good (in_message v) flies = elim (down_or_both_up old.down v.from v.to) [
     | inl down ↦ sound_passed f new v (good_table v.from) (s.messages v flies down)
     | inr up ↦ sound_kept keeps sound (in_message v) flies
         (rw (s.channels v.from v.to up.0 up.1) at flies, refl, λ b has owes. ((cut-was sound s.trace b has).0, owes))
   ]
-
-  good : (k : Store) → IsThere new k → IsSoundAt f new k
-  good (in_table m) there = good_table m
-  good (in_message v) flies = good_message v flies
   good (in_checkpoint m) there =
       sound_kept keeps sound (in_checkpoint m) tt (tt, rw s.checkpoints refl, λ b has owes. ((cut-was sound s.trace b has).0, rw s.checkpoints at owes))
 

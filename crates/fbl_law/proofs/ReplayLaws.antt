@@ -1,24 +1,23 @@
 -- How the members that are down replay what the survivors have recorded, and from there to a recovery.
-use Rattle.fbl_law.proofs.Common.{◌≡◌, ℕ, suc, ◌+◌, ◌-◌, ◌<◌, ◌≤◌, ◌⊎◌, inl, inr, List, [], ◌∷◌, length, map, Some, slice_get, refl, sym, subst, ap, ◌∙◌}
-use Rattle.fbl_law.proofs.Common.{arith, slice_set, length-append, cases_Bool, cases_lt, cases_eq, nat_tests, length-map, length-set, get_or-set_same, get_or-set_other, count_by-le-length}
-use Rattle.fbl_law.proofs.Common.{slice_get_within, slice_index_or, filter, Determinant, Note, mark_of, receipt_of, Has, is_receipt_of, is_send_of, WellFormed, Next, Lawful, numbered, sent-before}
-use Rattle.fbl_law.proofs.Common.{Entry, found, MemberRecord, blank, logged_note, replayed_by, length-numbered, Names, IsDown, Stays, IsEventCut, recovery_table, GroupRecord, member_checkpoint}
-use Rattle.fbl_law.proofs.Common.{channel, knowledge, receipts, receipts_at, IsReplayed, IsFold, IsSound, IsRecovery, IsMadeAgain, IsSentAgain, IsStuck, IsNextReplay, recovered_trace, stays_by, Bool}
-use Rattle.fbl_law.proofs.Common.{true, false, cond, zero, Send, is_of_receipt, is_replayed, working, IsReplaying, IsWaiting, replayed_in, IsRebuilt, find}
-use Rattle.fbl_law.proofs.Lists.{Contains-here, Contains-there, Contains-place}
+use Rattle.fbl_law.proofs.Common.{◌≡◌, ℕ, ◌+◌, ◌-◌, ◌<◌, ◌≤◌, ◌⊎◌, inl, inr, List, [], ◌∷◌, length, map, Some, slice_get, refl, sym, subst, ap, ◌∙◌, arith}
+use Rattle.fbl_law.proofs.Common.{slice_set, length-append, cases_Bool, cases_eq, nat_tests, length-map, length-set, get_or-set_same, get_or-set_other, count_by-le-length, slice_get_within}
+use Rattle.fbl_law.proofs.Common.{slice_index_or, filter, Determinant, Note, mark_of, receipt_of, Has, is_receipt_of, is_send_of, Next, Lawful, sent-before, Entry, found, MemberRecord, blank}
+use Rattle.fbl_law.proofs.Common.{logged_note, replayed_by, length-numbered, Names, IsDown, Stays, IsEventCut, recovery_table, GroupRecord, member_checkpoint, knowledge, receipts, receipts_at}
+use Rattle.fbl_law.proofs.Common.{IsReplayed, IsFold, IsSound, IsRecovery, IsMadeAgain, IsSentAgain, IsStuck, IsNextReplay, recovered_trace, stays_by, true, Send, is_of_receipt, is_replayed, working}
+use Rattle.fbl_law.proofs.Common.{IsReplaying, IsWaiting, replayed_in, IsRebuilt, position_or_len, fails_before_first, find_at, get_or, slice_get-get_or, option_map}
+use Rattle.fbl_law.proofs.Lists.{Contains-here, Contains-there}
 use Rattle.fbl_law.proofs.Safe.{down_or_up}
 use Rattle.fbl_law.proofs.GatheredTables.{gathered_recorded, recorded_gathered}
 use Rattle.fbl_law.proofs.NeverStuck.{never_stuck}
 use Rattle.fbl_law.proofs.Notes.{send-at}
 use Rattle.fbl_law.proofs.Recovery.{cut-recorded, recorded-cut}
-use Rattle.fbl_law.proofs.GroupRecovery.{stays_by-cut, marks-cut, cut-lawful, cut-shorter, survivor-replays, fold-survives, checkpoint-survives}
+use Rattle.fbl_law.proofs.GroupRecovery.{stays_by-cut, marks-cut, cut-lawful, cut-shorter, survivor-replays, folds-all, checkpoint-survives}
 use Rattle.fbl_law.proofs.Logs.{logged-noted, logged-by, log-short}
-use Rattle.fbl_law.proofs.Receipts.{at-most, at-most-before, receipts_at-number, receipts_at-Has, Has-receipts_at, length-receipts_at}
-use Rattle.fbl_law.proofs.ReplayedRecords.{replayed-step, replayed-table, replayed-fold}
+use Rattle.fbl_law.proofs.Receipts.{at-most, at-most-before, receipts_at-Has, Has-receipts_at, length-receipts_at}
+use Rattle.fbl_law.proofs.ReplayedRecords.{replayed-step, replayed-fold}
 use Rattle.fbl_law.proofs.Counting.{count_in-most, count_in-step, replayed-most, replayed-count}
 use Rattle.fbl_law.proofs.CutInOnePass.{recovered_trace-cut}
-use Rattle.fbl_law.proofs.ChannelsMadeAgain.{made-again, made-again-outside}
-use Rattle.fbl_law.proofs.ChannelCounts.{channel-outside}
+use Rattle.fbl_law.proofs.ChannelsMadeAgain.{made-again, made-again-if}
 
 -- what a table finds is one of its entries' determinants, of that receipt
 pub found-named : (p k : ℕ) (table : List Entry) (d : Determinant) → found p k table ≡ Some d → Names table d × (d.to ≡ p) × (d.rsn ≡ k)
@@ -29,16 +28,12 @@ found-named p k (e ∷ table) d is = elim (cases_Bool (is_of_receipt p k e)) [
 ]
 
 -- of a receipt that the table names it finds one
-find-some : {X : Type 0} (p : X → Bool) (xs : List X) (i : ℕ) (x : X) → slice_get xs i ≡ Some x → p x ≡ true → (y : X) × (find p xs ≡ Some y)
-find-some p [] i x here passes = absurd cc
-find-some p (y ∷ xs) zero x here passes = (y, grind arith)
-find-some {X} p (y ∷ xs) (suc i) x here passes =
-    elim (p y) as (λ b. (z : X) × (cond b (Some y) (find p xs) ≡ Some z)) [ true ↦ (y, refl) | false ↦ find-some p xs i x here passes ]
-
 found-some : (p k : ℕ) (table : List Entry) (d : Determinant) → Names table d → d.to ≡ p → d.rsn ≡ k → (c : Determinant) × (found p k table ≡ Some c)
 found-some p k table d named to rsn =
-    let r = find-some (is_of_receipt p k) table named.1.0 named.0 (Contains-place table named.0 named.1) (rw (named.2, to, rsn) grind (arith, nat_tests)) in
-    (r.0.det, rw r.1 refl)
+    let place = position_or_len (is_of_receipt p k) table in
+    let passes : is_of_receipt p k named.0 ≡ true = rw (named.2, to, rsn) grind (arith, nat_tests) in
+    let first : ¬ (named.1.0 < place) = λ before. (let fails = fails_before_first (is_of_receipt p k) table named.1.0 named.0 before in let is = named.1.2 in cc) in
+    ((get_or table place named.0).det, ap (option_map (λ (e : Entry). e.det)) (find_at (is_of_receipt p k) table ∙ slice_get-get_or table place named.0 (omega (arith, first, named.1.1))))
 
 -- a record with a table that it has
 pub with-table : (m : MemberRecord) (t : List Entry) → m.table ≡ t → m ≡ record m { table = t }
@@ -72,10 +67,9 @@ module _ (next : Next) (old : GroupRecord) (sound : IsSound next old) where
   -- and they find each receipt of the cut
   found-all : (p k : ℕ) (d : Determinant) → slice_get (left p) k ≡ Some d → found p (k + 1) (recovery_table (knowledge old)) ≡ Some d
   found-all p k d here =
-      let has = receipts_at-Has (map mark_of (recovered_trace old)) p k d here in
+      let has = receipts_at-Has old.config.members (map mark_of (recovered_trace old)) p k d lawful.well_formed here in
       let named = recorded_gathered sound.causes d (cut-recorded sound.causes (marks-cut old.trace cut) d has.0) in
-      let some =
-      found-some p (k + 1) (recovery_table (knowledge old)) d named has.1 (receipts_at-number old.config.members (map mark_of (recovered_trace old)) p k d lawful.well_formed here) in
+      let some = found-some p (k + 1) (recovery_table (knowledge old)) d named has.1 has.2 in
       some.1 ∙ sym (found-receipt p k some.0 some.1) ∙ here
 
   -- each member that is down begins at its checkpoint
@@ -115,8 +109,7 @@ module _ (next : Next) (old : GroupRecord) (sound : IsSound next old) where
         → ((p : ℕ) → p < old.config.members → IsDown (knowledge old) p → slice_index_or given p blank ≡ record (current p) { table = t }) → IsReplaying next old given
     replaying-tables given t size same = record {
       size = size ∙ replaying.size;
-      replayed = λ p below down. rw (same p below down)
-          (replayed-table next old.config.members old.config.starts (recovered_trace old) p (current p) t (replaying.replayed p below down));
+      replayed = λ p below down. rw (same p below down) (assumption (replaying.replayed p below down));
       begun = λ p below down. rw (same p below down) (replaying.begun p below down);
     }
 
@@ -132,9 +125,7 @@ module _ (next : Next) (old : GroupRecord) (sound : IsSound next old) where
         -- one more is replayed
         pub replayed_in-step : replayed_in old (slice_set rebuilt p after) ≡ replayed_in old rebuilt + 1
         replayed_in-step =
-            count_in-step old.down (λ q. (current q).received - (member_checkpoint old q).received)
-            (λ q. (slice_index_or (slice_set rebuilt p after) q blank).received - (member_checkpoint old q).received) old.config.members p below down
-            (omega (arith, ap (λ (m : MemberRecord). m.received) own, replaying.begun p below down))
+            count_in-step old.down _ _ old.config.members p below down (omega (arith, ap (λ (m : MemberRecord). m.received) own, replaying.begun p below down))
             (λ q other. ap (λ (m : MemberRecord). m.received - (member_checkpoint old q).received) (get_or-set_other rebuilt p q after blank other))
 
       module _ (is : found p ((current p).received + 1) (recovery_table (knowledge old)) ≡ Some d) where
@@ -142,12 +133,12 @@ module _ (next : Next) (old : GroupRecord) (sound : IsSound next old) where
         pub replaying-next : IsNextReplay old.config.members p (current p) d
         replaying-next =
             let here = found-receipt p (current p).received d is in
-            let has = receipts_at-Has (map mark_of (recovered_trace old)) p (current p).received d here in
+            let has = receipts_at-Has old.config.members (map mark_of (recovered_trace old)) p (current p).received d lawful.well_formed here in
             let may = lawful.well_formed has.0.0 (receipt_of d) has.0.1 in
             let within = slice_get_within (left p) (current p).received d here in
             record {
               to = has.1;
-              rsn = receipts_at-number old.config.members (map mark_of (recovered_trace old)) p (current p).received d lawful.well_formed here;
+              rsn = has.2;
               from = may.0;
               other = λ same. may.2 (same ∙ sym has.1);
               room = omega (arith, within, length-receipts_at (map mark_of (recovered_trace old)) p, count_by-le-length (is_receipt_of p) (map mark_of (recovered_trace old)), cut-short);
@@ -156,14 +147,12 @@ module _ (next : Next) (old : GroupRecord) (sound : IsSound next old) where
         module _ (note : Note) (named : logged_note (working old rebuilt d.from).log d.ssn ≡ Some note) where
           there : Replays p (after note)
           there =
-              replayed-step next old.config.members old.config.starts (recovered_trace old) p (current p) d note lawful.well_formed (replaying.replayed p below down)
-              (found-receipt p (current p).received d is) (logged-noted lawful (working-replays d.from replaying-next.from) d.ssn note named)
+              replayed-step lawful.well_formed (replaying.replayed p below down) (found-receipt p (current p).received d is)
+              (logged-noted lawful (working-replays d.from replaying-next.from) d.ssn note named)
 
           -- its step's sends have room in the log
           pub replaying-room : length (current p).log + length (next p old.config.members (current p).state note).sends.items ≤ 8192
-          replaying-room =
-              let items = (next p old.config.members (current p).state note).sends.items in
-              omega (arith, replays-log p (after note) there, length-append (current p).log (numbered (length (current p).log) items), length-numbered (length (current p).log) items)
+          replaying-room = simp (length-append, length-numbered) at (replays-log p (after note) there)
 
           -- its replay
           pub replay_is_right : IsReplaying next old (slice_set rebuilt p (after note))
@@ -173,10 +162,7 @@ module _ (next : Next) (old : GroupRecord) (sound : IsSound next old) where
               | inl same ↦ rw (same, own note) there
               | inr other ↦ rw (get_or-set_other rebuilt p q (after note) blank other) (replaying.replayed q below_q down_q)
             ];
-            begun = λ q below_q down_q. elim (cases_eq q p) [
-              | inl same ↦ rw (same, own note) (omega (arith, replaying.begun p below down))
-              | inr other ↦ rw (get_or-set_other rebuilt p q (after note) blank other) (replaying.begun q below_q down_q)
-            ];
+            begun = λ q below_q down_q. grind (arith, own note, get_or-set_other rebuilt p q (after note) blank, replaying.begun q below_q down_q);
           }
 
     -- where each member that is down waits, all is replayed
@@ -201,9 +187,7 @@ module _ (next : Next) (old : GroupRecord) (sound : IsSound next old) where
             | inl down ↦
                 let none = waiting d.to may.1 down d (rw down at (found-all d.to (working old rebuilt d.to).received d here)) in
                 let front = sent-before old.config.members (map mark_of (recovered_trace old)) lawful.well_formed has.0 d.to d.rsn d.from d.ssn has.1 in
-                let some = sent-again d.from d.ssn d.to may.0 (front.0, front.2) sent in
-                let some-is = some.1 in
-                cc
+                cc (none, (sent-again d.from d.ssn d.to may.0 (front.0, front.2) sent).1)
           ]
 
       pub replay_ends : (p : ℕ) → p < old.config.members → IsDown (knowledge old) p → (current p).received ≡ length (left p)
@@ -228,30 +212,18 @@ module _ (next : Next) (old : GroupRecord) (sound : IsSound next old) where
 
         rebuilt-fold : (m : ℕ) → m < old.config.members → IsDown (knowledge old) m → IsFold next new m
         rebuilt-fold m below down =
-            replayed-fold next new m is-lawful.well_formed
-            (rw (step.rest.config, step.trace, step.rebuilt m below down)
-            (replayed-table next old.config.members old.config.starts (recovered_trace old) m (slice_index_or rebuilt m blank) (recovery_table (knowledge old)) (replaying.replayed m below down)))
+            replayed-fold is-lawful.well_formed (rw (step.rest.config, step.trace, step.rebuilt m below down) (assumption (replaying.replayed m below down)))
             (rw (step.trace, step.rebuilt m below down) (replay_ends m below down))
 
         fold-all : (m : ℕ) → m < old.config.members → IsFold next new m
-        fold-all m below = elim (down_or_up old.down m) [
-          | inl down ↦ rebuilt-fold m below down
-          | inr up ↦ fold-survives sound cut new m below up step.trace step.rest.config (step.rest.survivors m up)
-        ]
-
-        outside : (q p : ℕ) → (old.config.members ≤ q) ⊎ (old.config.members ≤ p) → IsMadeAgain new q p
-        outside q p out = made-again-outside new q p is-lawful.well_formed (rw step.rest.config out) (channel-outside old.config.members new.channels q p step.rest.shape out)
+        fold-all = folds-all sound cut new step.trace step.rest.config step.rest.survivors rebuilt-fold
 
         made : (q p : ℕ) → IsDown (knowledge old) q ⊎ IsDown (knowledge old) p → IsMadeAgain new q p
-        made q p down = elim (cases_lt q old.config.members) [
-          | inr past ↦ outside q p (inl past)
-          | inl below_q ↦ elim (cases_lt p old.config.members) [
-            | inr past ↦ outside q p (inr past)
-            | inl below_p ↦
-                made-again next new is-lawful q p (fold-all q below_q) (fold-all p below_p) (omega (arith, below_q, sound.config.members.1))
-                (step.resent q p down below_q below_p ∙ rw step.rest.config refl)
-          ]
-        ]
+        made q p down = made-again-if new q p is-lawful.well_formed (rw step.rest.config step.rest.shape) (λ of_q of_p.
+            let below_q = rw step.rest.config at of_q in
+            let below_p = rw step.rest.config at of_p in
+            made-again next new is-lawful q p (fold-all q below_q) (fold-all p below_p) (omega (arith, below_q, sound.config.members.1))
+            (step.resent q p down below_q below_p ∙ rw step.rest.config refl))
 
         pub rebuilt_is_recovered : IsRecovery next old new
         rebuilt_is_recovered = record {

@@ -11,10 +11,7 @@ down_or_up s m = cases_Bool (set.contains s m)
 
 -- of two members one is down, or both are up
 pub down_or_both_up : (s : Members) (q p : ℕ) → (Includes s q ⊎ Includes s p) ⊎ ((set.contains s q ≡ false) × (set.contains s p ≡ false))
-down_or_both_up s q p = elim (down_or_up s q) [
-  | inl down ↦ inl (inl down)
-  | inr up ↦ elim (down_or_up s p) [ inl down ↦ inl (inr down) | inr up_p ↦ inr (up, up_p) ]
-]
+down_or_both_up s q p = grind (arith, down_or_up s q, down_or_up s p)
 
 pub never_both : {A : Type 0} (s : Members) (m : ℕ) → Includes s m → set.contains s m ≡ false → A
 never_both s m is is_not = absurd cc

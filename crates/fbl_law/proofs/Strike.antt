@@ -1,13 +1,13 @@
 -- A strike keeps knowledge sound.
 use Rattle.fbl_law.proofs.Common.{ℕ, ◌≤◌, ◌≡◌, false, inl, inr, refl, Members, Knowledge, Store, in_table, in_message, in_checkpoint, IsThere, IsUp, IsSoundKnowledge, IsStruck}
 use Rattle.std.specs.FinSet as set
-use Rattle.fbl_law.proofs.Tables.{Includes-left}
+use Rattle.fbl_law.proofs.Tables.{Includes-union}
 use Rattle.fbl_law.proofs.Safe.{down_or_up, never_both, up_at_ends}
 use Rattle.fbl_law.proofs.Keeping.{KeepsKnowledge, IsSameStore, sound_kept, checkpoint_kept, sound_after}
 
 -- who is up after a strike was up before it
 pub was_up : (old struck : Members) (m : ℕ) → set.contains (set.union old struck) m ≡ false → set.contains old m ≡ false
-was_up old struck m up = elim (down_or_up old m) [ inl down ↦ never_both (set.union old struck) m (Includes-left old struck m down) up | inr h ↦ h ]
+was_up old struck m up = elim (down_or_up old m) [ inl down ↦ never_both (set.union old struck) m ((Includes-union old struck m).1 (inl down)) up | inr h ↦ h ]
 
 module _ (n f : ℕ) (old new : Knowledge) (struck : Members) (s : IsStruck old new struck) (few : set.len new.down ≤ f) (sound : IsSoundKnowledge n f old) where
   up : (m : ℕ) → IsUp new m → IsUp old m

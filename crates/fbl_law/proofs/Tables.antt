@@ -1,8 +1,9 @@
 -- What tables name after they have learned.
 use Rattle.fbl_law.proofs.Common.{◌≡◌, ℕ, ◌<◌, ◌||◌, arith, length, get_or, true, false, List, [], ◌∷◌, inl, inr, ◌⊎◌, map, sym, ◌∙◌, Contains, nat_le, nat_cmp}
-use Rattle.fbl_law.proofs.Common.{cases_Bool, false_from_ne_true, cases_eq, cases_lt, or_cases, or_left, or_right, get_or_past, Any-from_list_any, Determinant, same_determinant, contains-insert_other}
-use Rattle.fbl_law.proofs.Common.{Members, Decides-same_determinant, Entry, MemberRecord, blank, Includes, Names, is_held, gathered, learned, piggybacked, ◌↔◌, All, All-head, All-tail}
-use Rattle.fbl_law.proofs.Common.{nat_cmp_total, leb_tells, list_any-append, list_any-from_Any, All-cons, All-contains_itself, All-map, All-weaker, held-carried, held-gathered, held_by, noted}
+use Rattle.fbl_law.proofs.Common.{cases_Bool, false_from_ne_true, cases_eq, get_or_past, Any-from_list_any, Determinant, same_determinant, contains-insert_other, Members, Decides-same_determinant}
+use Rattle.fbl_law.proofs.Common.{Entry, MemberRecord, blank, Includes, Names, is_held, gathered, learned, piggybacked, ◌↔◌, All, All-head, All-tail, nat_cmp_total, leb_tells, list_any-append}
+use Rattle.fbl_law.proofs.Common.{list_any-from_Any, All-cons, All-contains_itself, All-map, All-weaker, held-carried, held-gathered, held_by, noted, Decides, Decides-like, Decides-or, ◌≤◌}
+use Rattle.fbl_law.proofs.Common.{Decides-at}
 use Rattle.std.specs.FinSet as set
 use Rattle.fbl_table.specs.Tables.{added}
 use Rattle.fbl_law.proofs.Safe.{never_both}
@@ -14,14 +15,8 @@ Includes-insert_cases s p m h = elim (cases_eq m p) [ inl same ↦ inl same | in
 pub Includes-only : (p m : ℕ) → Includes (set.insert set.empty p) m → m ≡ p
 Includes-only p m h = elim (Includes-insert_cases set.empty p m h) [ inl same ↦ same | inr in_none ↦ never_both set.empty m in_none (set.contains-empty nat_cmp m) ]
 
-pub Includes-union : (s t : Members) (m : ℕ) → Includes (set.union s t) m → Includes s m ⊎ Includes t m
-Includes-union s t m h = or_cases (set.contains s m) (set.contains t m) (sym (set.contains-union nat_cmp_total s t m) ∙ h)
-
-pub Includes-left : (s t : Members) (m : ℕ) → Includes s m → Includes (set.union s t) m
-Includes-left s t m h = set.contains-union nat_cmp_total s t m ∙ or_left (set.contains s m) (set.contains t m) h
-
-pub Includes-right : (s t : Members) (m : ℕ) → Includes t m → Includes (set.union s t) m
-Includes-right s t m h = set.contains-union nat_cmp_total s t m ∙ or_right (set.contains s m) (set.contains t m) h
+pub Includes-union : (s t : Members) (m : ℕ) → Includes (set.union s t) m ↔ Includes s m ⊎ Includes t m
+Includes-union s t m = Decides-at _ _ (set.contains-union nat_cmp_total s t m) (Decides-or (set.contains s m) (set.contains t m) (λ h. h, λ h. h) (λ h. h, λ h. h))
 
 -- two entries of one determinant as one
 abbrev pub joined : Entry → Entry → Entry
@@ -33,10 +28,7 @@ All-from P xs each = All-weaker (Contains xs) P each xs (All-contains_itself xs)
 
 -- a record whose table names something is one of the list
 pub named_record : (xs : List MemberRecord) (m : ℕ) (d : Determinant) → Names (get_or xs m blank).table d → m < length xs
-named_record xs m d named = elim (cases_lt m (length xs)) [
-  | inl below ↦ below
-  | inr past ↦ (let none : Names [] d = rw (get_or_past xs m blank past) at named in absurd (Contains-none none.0 none.1))
-]
+named_record xs m d named = omega (arith, λ (past : length xs ≤ m). (let none : Names [] d = rw (get_or_past xs m blank past) at named in Contains-none none.0 none.1))
 
 -- a table that has a determinant names it
 pub Names-held : (entries : List Entry) (d : Determinant) → is_held entries d ≡ true → Names entries d
@@ -85,17 +77,11 @@ passed_or_known f xs e among =
 
 -- after a receipt a table names what it named, what it learned, and the receipt's own determinant
 pub Names-table : (p : ℕ) (xs es : List Entry) (own d : Determinant) → Names (noted p (learned p xs es) own) d ↔ (Names xs d ⊎ (Names es d ⊎ (own ≡ d)))
-Names-table p xs es own d = (
-  λ named. elim (or_cases (is_held xs d) _ (sym tells ∙ held-Names (noted p (learned p xs es) own) d named)) [
-    | inl had ↦ inl (Names-held xs d had)
-    | inr more ↦ inr (elim (or_cases (is_held es d) _ more) [ inl came ↦ inl (Names-held es d came) | inr same ↦ inr (sym ((Decides-same_determinant d own).0 same)) ])
-  ],
-  λ h. Names-held (noted p (learned p xs es) own) d (tells ∙ elim h [
-    | inl had ↦ or_left (is_held xs d) _ (held-Names xs d had)
-    | inr (inl came) ↦ or_right (is_held xs d) _ (or_left (is_held es d) _ (held-Names es d came))
-    | inr (inr same) ↦ or_right (is_held xs d) _ (or_right (is_held es d) _ ((Decides-same_determinant d own).1 (sym same)))
-  ]),
-)
+Names-table p xs es own d =
+    (λ named. told.0 (sym tells ∙ held-Names (noted p (learned p xs es) own) d named), λ h. Names-held (noted p (learned p xs es) own) d (tells ∙ told.1 h))
   where
+    told : Decides (is_held xs d || (is_held es d || same_determinant d own)) (Names xs d ⊎ (Names es d ⊎ (own ≡ d)))
+    told = Decides-or _ _ (Names-held xs d, held-Names xs d) (Decides-or _ _ (Names-held es d, held-Names es d) (Decides-like _ sym sym (Decides-same_determinant d own)))
+
     tells : is_held (noted p (learned p xs es) own) d ≡ (is_held xs d || (is_held es d || same_determinant d own))
     tells = rw (list_any-append, held-gathered xs (map (held_by p) es) d, held-carried p es d) grind arith

@@ -1,13 +1,14 @@
 -- What the step keeps of a weight, the group keeps.
-use Rattle.fbl_law.proofs.Common.{◌≡◌, ℕ, zero, suc, ◌+◌, ◌<◌, ◌≤◌, ◌==◌, cond, List, [], ◌∷◌, ◌++◌, inl, inr, map, Option, Some, None, slice_get, refl, sym, ap}
-use Rattle.fbl_law.proofs.Common.{◌∙◌, arith, nat_lt, All, filter_map, fold, nat_tests, All-head, All-tail, sum_by-cons, sum_by-append, Note, Event, Mark, mark_of, WellFormed, MayFollow}
-use Rattle.fbl_law.proofs.Common.{in_flight, Next, Action, took, sent, action_of, actions_of, note_of, responses, starts_of, in_flight-send, in_flight-receipt, receipts-noted, WellFormed-keeps}
-use Rattle.fbl_law.proofs.Common.{Message, send_mark, IsUp, StepKeeps, HoldsFirst, GroupRecord, member, channel, marks, knowledge, sum_below, IsSound, received_notes, sum_by, option_map_or, fold-map}
-use Rattle.fbl_law.proofs.Common.{sum_by_push, sum_by-drop_more, get_or_from_slice_get, slice_get_within, StepMakesNone, StepLosesNone, StepConserves, weight_after, weight_flying, weight_of}
-use Rattle.fbl_law.proofs.Common.{weight_of_starts, WeighsNoMore, WeighsNoLess, WeighsTheSame, messages_in_flight, nil_from_length}
+use Rattle.fbl_law.proofs.Common.{◌≡◌, ℕ, zero, suc, ◌+◌, ◌<◌, ◌≤◌, ◌==◌, cond, List, [], ◌∷◌, ◌++◌, map, Option, Some, None, slice_get, refl, sym, ap, ◌∙◌}
+use Rattle.fbl_law.proofs.Common.{arith, All, filter_map, fold, nat_tests, All-head, All-tail, sum_by-cons, sum_by-append, Note, Event, Mark, mark_of, WellFormed, MayFollow, in_flight, Next, Action}
+use Rattle.fbl_law.proofs.Common.{took, sent, action_of, actions_of, note_of, responses, starts_of, in_flight-send, in_flight-receipt, receipts-noted, WellFormed-keeps, Message, send_mark, IsUp}
+use Rattle.fbl_law.proofs.Common.{StepKeeps, HoldsFirst, GroupRecord, member, channel, marks, knowledge, sum_below, IsSound, received_notes, sum_by, option_map_or, fold-map, sum_by_push}
+use Rattle.fbl_law.proofs.Common.{sum_by-drop_more, get_or_from_slice_get, slice_get_within, StepMakesNone, StepLosesNone, StepConserves, weight_after, weight_flying, weight_of, weight_of_starts}
+use Rattle.fbl_law.proofs.Common.{WeighsNoMore, WeighsNoLess, WeighsTheSame, messages_in_flight, nil_from_length}
 use Rattle.std.specs.FinSet as set
 use Rattle.fbl_base.specs.declared.trace.Mark.TheVariants as mark
 use Rattle.fbl_base.specs.declared.trace.Event.TheVariants.{Send, Receipt}
+use Rattle.fbl_law.proofs.ChannelCounts.{sum_below-none, sum_below-at}
 use Rattle.fbl_law.proofs.GroupFacts.{up_state, channel_ends}
 use Rattle.fbl_law.proofs.Lists.{Contains-at}
 use Rattle.fbl_law.proofs.Safe.{down_or_up, down_or_both_up, up_if_none}
@@ -19,19 +20,10 @@ sum_below-plus : (n : ℕ) (a b : ℕ → ℕ) → sum_below n (λ x. a x + b x)
 sum_below-plus zero a b = refl
 sum_below-plus (suc n) a b = omega (arith, sum_below-plus n a b)
 
-sum_below-none : (n : ℕ) (a : ℕ → ℕ) → ((x : ℕ) → a x ≡ 0) → sum_below n a ≡ 0
-sum_below-none zero a none = refl
-sum_below-none (suc n) a none = omega (arith, none n, sum_below-none n a none)
-
 -- where each term of a sum of 0 has one of 0, the other sum is 0
 sum_below-nothing : (n : ℕ) (a b : ℕ → ℕ) → ((x : ℕ) → a x ≡ 0 → b x ≡ 0) → sum_below n a ≡ 0 → sum_below n b ≡ 0
 sum_below-nothing zero a b each none = refl
 sum_below-nothing (suc n) a b each none = omega (arith, sum_below-nothing n a b each (omega arith), each n (omega arith))
-
--- one member's term grows
-sum_below-at : (n k d : ℕ) (a b : ℕ → ℕ) → ((x : ℕ) → b x ≡ a x + cond (k == x) d 0) → sum_below n b ≡ sum_below n a + cond (nat_lt k n) d 0
-sum_below-at zero k d a b grows = grind (arith, nat_tests)
-sum_below-at (suc n) k d a b grows = grind (arith, nat_tests, grows n, sum_below-at n k d a b grows)
 
 -- one pair's term grows
 table-at : (n q p d : ℕ) (a b : ℕ → ℕ → ℕ) → q < n → p < n → ((x y : ℕ) → b x y ≡ a x y + cond (p == y) (cond (q == x) d 0) 0)
@@ -62,9 +54,9 @@ module _ (n : ℕ) (w : ℕ → ℕ → ℕ) where
   weight_on t = sum_below n (λ q. sum_below n (weight_in t q))
 
   pub flow : (t : List Mark) → WellFormed n t → weight_on t + sum_by into t ≡ sum_by out t
-  flow t obeys = WellFormed-keeps n (λ (t : List Mark). weight_on t + sum_by into t ≡ sum_by out t) none more t obeys where
-    none : weight_on [] + sum_by into [] ≡ sum_by out []
-    none = omega (arith, sum_below-none n (λ q. sum_below n (weight_in [] q)) (λ q. sum_below-none n (weight_in [] q) (λ p. refl)))
+  flow t obeys = WellFormed-keeps n (λ (t : List Mark). weight_on t + sum_by into t ≡ sum_by out t) (omega (arith, none)) more t obeys where
+    none : weight_on [] ≡ 0
+    none = sum_below-none n _ (λ q. sum_below-none n _ (λ p. refl))
 
     more : (t : List Mark) (e : Mark) → WellFormed n t → MayFollow n t e → weight_on t + sum_by into t ≡ sum_by out t
         → weight_on (t ++ e ∷ []) + sum_by into (t ++ e ∷ []) ≡ sum_by out (t ++ e ∷ [])
@@ -148,13 +140,11 @@ module _ (next : Next) (r : GroupRecord) (P : ℕ → ℕ → Type 0) (Q : ℕ �
     each : (i : ℕ) (e : Event) → slice_get r.trace i ≡ Some e → IsShared n (action_of r.trace) g (λ e. h (mark_of e)) e
     each i (Send q s p x) here =
         let may = sound.lawful.well_formed i (mark.Send q s p) (mark-at r.trace i (Send q s p x) here) in
-        let same = sends q s p x (sent-noted n r.trace sound.lawful.well_formed i q s p x here) in
-        (q, may.0, λ m. grind (arith, same))
+        (q, may.0, λ m. grind (arith, sends q s p x (sent-noted n r.trace sound.lawful.well_formed i q s p x here)))
     each i (Receipt p r' q s) here =
         let may = sound.lawful.well_formed i (mark.Receipt p r' q s) (mark-at r.trace i (Receipt p r' q s) here) in
         let noted = receipts-noted n r.trace sound.lawful.well_formed i p r' q s here in
-        let same = takes p r' q s noted.0 noted.1 in
-        (p, may.1, λ m. rw noted.1 grind (arith, same))
+        (p, may.1, λ m. rw noted.1 grind (arith, takes p r' q s noted.0 noted.1))
 
   -- what is in flight, and what the members took, is what they gave
   flows : weight_on n w (marks r) + sum_below n (λ m. sum_by taken (acts m)) ≡ sum_below n (λ m. sum_by given (acts m))
@@ -219,15 +209,10 @@ module _ (next : Next) (r : GroupRecord) (P : ℕ → ℕ → Type 0) (Q : ℕ �
 
   -- where each step makes no weight, the group weighs at most what its starts do
   pub weighs_no_more : StepMakesNone next n P Q mass weight → WeighsNoMore mass weight r
-  weighs_no_more law = group-related (λ a b. a ≤ b) (λ a b is. omega arith) (λ a b c d x y first second is. omega arith) law states cells where
-    states : (m : ℕ) → m < n → mass m (member r m).state ≤ by_trace m
-    states m below = elim (down_or_up r.down m) [ inl down ↦ rw (sound.blanks m below down, nothing m) (omega arith) | inr up ↦ omega (arith, up-weighs m below up) ]
-
-    cells : (q p : ℕ) → channel_weight weight r q p ≤ weight_in n w (marks r) q p
-    cells q p = elim (down_or_both_up r.down q p) [
-      | inl down ↦ rw (sound.causes.down.channels q p down) (omega arith)
-      | inr up ↦ omega (arith, channel-weighs q p up.0 up.1)
-    ]
+  weighs_no_more law =
+      group-related (λ a b. a ≤ b) (λ a b is. omega arith) (λ a b c d x y first second is. omega arith) law
+      (λ m below. grind (arith, down_or_up r.down m, sound.blanks m below, nothing m, up-weighs m below))
+      (λ q p. grind (arith, down_or_both_up r.down q p, sound.causes.down.channels q p, channel-weighs q p))
 
   -- where nothing is in flight, that weighs nothing
   none-flying : messages_in_flight r ≡ 0 → weight_flying weight r ≡ 0

@@ -1,5 +1,5 @@
 -- Where a member that replays its receipts has come.
-use Rattle.std.specs.Prelude.{◌≡◌, ◌≢◌, ℕ, zero, suc, ◌+◌, ◌-◌, ◌<◌, ◌≤◌, ◌&&◌, ◌||◌, ◌⊎◌, not, nat_le, nat_lt, Bool, false, List, [], ◌∷◌, length, map, slice_index_or, Some, None, if◌then◌else◌}
+use Rattle.std.specs.Prelude.{◌≡◌, ◌≢◌, ℕ, ◌+◌, ◌-◌, ◌<◌, ◌≤◌, ◌&&◌, ◌||◌, ◌⊎◌, not, nat_le, nat_lt, Bool, false, List, [], ◌∷◌, length, map, slice_index_or, Some, None, if◌then◌else◌}
 use Rattle.std.specs.FinSet as set
 use Rattle.fbl_base.specs.MemberSets.{Members}
 use Rattle.fbl_base.specs.declared.trace.Determinant.{Determinant}
@@ -14,7 +14,7 @@ use Rattle.fbl_table.specs.Tables.{is_held, found, piggybacked}
 use Rattle.fbl_member.specs.Members.{Message, MemberRecord, last_from, blank, logged_note, logged_beyond}
 use Rattle.fbl_law.specs.Knowledge.{IsDown}
 use Rattle.fbl_law.specs.Steps.{recovery_table}
-use Rattle.fbl_law.specs.Groups.{GroupRecord, member, member_checkpoint, channel, knowledge}
+use Rattle.fbl_law.specs.Groups.{GroupRecord, member, member_checkpoint, channel, knowledge, sum_below}
 use Rattle.fbl_law.specs.Sound.{IsReplayed}
 use Rattle.fbl_law.specs.GroupSteps.{IsBroughtBack}
 
@@ -28,8 +28,7 @@ pub record IsNextReplay (n p : ℕ) (m : MemberRecord) (d : Determinant) : Type 
 
 -- these counts of the members of the set that are below n, in all
 abbrev pub count_in : Members → (ℕ → ℕ) → ℕ → ℕ
-count_in s count zero = 0
-count_in s count (suc n) = count_in s count n + (if set.contains s n then count n else 0)
+count_in s count n = sum_below n (λ m. if set.contains s m then count m else 0)
 
 -- whether the receipt is one that a member that is down replays: one beyond those of its checkpoint
 abbrev pub is_replayed : GroupRecord → Determinant → Bool

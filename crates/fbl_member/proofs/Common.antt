@@ -1,21 +1,20 @@
 -- The names that proofs of this crate take from outside: of the standard library, of the crates below, and of the definitions here.
-pub use Rattle.std.proofs.Common.{Bor, IfSome, List, None, Option, Some, [], ap, arith, cond, false, if◌then◌else◌, length, map, nat_lt, refl, rules, slice_get, slice_set, suc, sym, take, true}
-pub use Rattle.std.proofs.Common.{unwrap_or, zero, ℕ, ◌&&◌, ◌++◌, ◌+◌, ◌-◌, ◌<◌, ◌==◌, ◌∙◌, ◌∷◌, ◌≡◌, ◌≤◌}
+pub use Rattle.std.proofs.Common.{Bor, IfSome, List, None, Option, Some, [], ap, arith, cond, drop, false, if◌then◌else◌, length, map, refl, rules, slice_get, slice_set, suc, sym, true, zero}
+pub use Rattle.std.proofs.Common.{ℕ, ◌++◌, ◌+◌, ◌-◌, ◌<◌, ◌==◌, ◌∙◌, ◌∷◌, ◌≡◌, ◌≤◌}
 pub use Rattle.std.proofs.Math.ListN.{length-set}
 pub use Rattle.std.proofs.lemmas.Bool.Decides.{nat_tests}
-pub use Rattle.std.proofs.lemmas.List.{append-nil, length-append, length-take-le, map-append, take_all}
-pub use Rattle.std.proofs.lemmas.List.Elements.{All-pop, All-weaker, filter-append, filter_map-append}
-pub use Rattle.std.proofs.lemmas.Option.{slice_get-get_or, slice_get_past, slice_get_read}
+pub use Rattle.std.proofs.lemmas.List.{append_assoc, at_drop_more, length-append}
+pub use Rattle.std.proofs.lemmas.List.Elements.{All-pop, All-push, All-weaker}
+pub use Rattle.std.proofs.lemmas.Option.{get_or_from_slice_get, slice_get-get_or, slice_get_past, slice_get_within}
 pub use Rattle.std.specs.List.{All, AllByRecursion}
 pub use Rattle.std.specs.Option.{option_copied, option_map}
 pub use Rattle.std.specs.Vec.{vec_capacity, vec_len}
 pub use Rattle.fbl_base.proofs.Sifted.{length-filter_map}
 pub use Rattle.fbl_base.specs.Events.{same_determinant}
-pub use Rattle.fbl_base.specs.Fold.{Logged, numbered, starts_of}
+pub use Rattle.fbl_base.specs.Fold.{numbered, starts_of}
 pub use Rattle.fbl_base.specs.declared.trace.Determinant.{Determinant}
 pub use Rattle.fbl_base.specs.declared.trace.Note.{Note}
 pub use Rattle.fbl_base.specs.declared.trace.Start.{Start}
-pub use Rattle.fbl_table.proofs.Adding.{take-next}
 pub use Rattle.fbl_table.specs.Tables.{is_open, piggybacked}
 pub use Rattle.fbl_table.specs.declared.entry.Entry.{Entry}
 pub use Rattle.fbl_member.specs.Carried.{IsOnce}

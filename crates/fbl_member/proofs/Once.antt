@@ -22,3 +22,6 @@ module _ (f : _) where
 pub IsOnce-none : IsOnce []
 unfolding IsDistinct
 IsOnce-none = tt
+
+-- what a table passes on, and what is nothing, has no determinant twice
+pub ruleset carried_once = (IsOnce-piggybacked, IsOnce-none)

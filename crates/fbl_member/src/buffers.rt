@@ -35,6 +35,7 @@ impl<A: Allocator + Copy> Buffers<A> {
     }
 
     /// Makes the messages of a step's sends, numbered from one more than `before`, each with what the table passes on.
+    #[tactic(auto, using(crate::proofs::Once::carried_once))]
     pub(crate) fn into_wires(
         self,
         me: Member,

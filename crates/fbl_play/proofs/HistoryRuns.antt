@@ -1,10 +1,11 @@
 -- A history goes on by one command.
 use Rattle.fbl_play.proofs.Common.{◌≡◌, ℕ, ◌<◌, ◌≤◌, ◌+◌, inl, inr, List, [], ◌∷◌, ◌++◌, length, take, get_or, refl, ap, Some, None, Result, Ok, Err, take_all}
 use Rattle.fbl_play.proofs.Common.{IsErrAnd, Settings, Next, Account, RunFault, GroupRecord, IsGroupStart, IsSound, Command, Drains, Step, IsTold, checkpoint_refusal, deliver_refusal, strike_refusal}
-use Rattle.fbl_play.proofs.Common.{Column, trace_columns, ColumnsStep, HistoryStep, HistoryRun, HistoryTells, HistoryTellsOn, IsHistoryOfBytes, RunHistory, DeliveryBy, StrikeBy, CheckpointBy}
+use Rattle.fbl_play.proofs.Common.{Column, trace_columns, ColumnsStep, HistoryStep, HistoryTells, HistoryTellsOn, IsHistoryOfBytes, RunHistory, DeliveryBy, StrikeBy, CheckpointBy, err_from_is_err_and}
+use Rattle.fbl_play.proofs.Common.{IsRun}
 use Rattle.fbl_input.specs.declared.fault.RunFault.TheVariants as faults
 use Rattle.fbl_script.specs.declared.script.Command.TheVariants as commands
-use Rattle.fbl_play.proofs.Steps.{along_next}
+use Rattle.fbl_play.proofs.Steps.{run_on}
 use Rattle.fbl_play.proofs.Told.{told_next}
 
 -- ---- a command keeps the parameters
@@ -38,63 +39,44 @@ step-config next workers old (commands.Checkpoint p) new text account = elim (ch
 
 -- ---- runs with their histories
 
--- the commands before a place have led here from a new group of the config, with these accounts and this history
-pub record HasHistory (next : Next) (workers : ℕ) (config : Settings) (cs : List Command) (place : ℕ) (accounts : List Account) (now : GroupRecord) (history : List Column) : Type 0 where
-  pub start : GroupRecord
-  pub is_start : IsGroupStart config start
-  pub sound : IsSound next start
-  pub run : HistoryRun next workers start (take place cs) now accounts (trace_columns next start) history
-
-pub has_none : (next : Next) (workers : ℕ) (config : Settings) (start : GroupRecord) (cs : List Command) (history : List Column)
-    → IsGroupStart config start → IsSound next start → history ≡ trace_columns next start → HasHistory next workers config cs 0 [] start history
-has_none next workers config start cs history is sound begins = record { start = start; is_start = is; sound = sound; run = (λ i. (start, begins i)) }
-
 module _ {O : Type 0} (before : O → Command → O → Type 0) (after : O → Command → Account → O → Type 0) where
-  -- no group could be made, or no history of it
-  pub history_none : (next : Next) (workers : ℕ) (config : Settings) (cs : List Command) (old : O) (r : Result (List Column) RunFault)
-      → IsErrAnd r (λ e. e ≡ faults.Memory) → HistoryTellsOn before after next workers config cs old old r
-  history_none next workers config cs old (Ok x) is = absurd is
-  history_none next workers config cs old (Err e) is = rw is (inl refl)
+  -- the commands before a place have led here from a new group of the config, with this history, and were told of
+  pub record HasHistory (next : Next) (workers : ℕ) (config : Settings) (cs : List Command) (place : ℕ) (now : GroupRecord) (history : List Column) (old told : O) : Type 0 where
+    pub accounts : List Account
+    pub run : IsRun next config (trace_columns next) (ColumnsStep next workers) (take place cs) accounts now history
+    pub heard : IsTold before after (take place cs) accounts old told
 
-  -- the commands before a place have a history, and were told of
-  module _ {next : Next} {workers : ℕ} {config : Settings} {cs : List Command} {i : ℕ} {accounts : List Account} {mid : GroupRecord} {history : List Column}
-      (h : HasHistory next workers config cs i accounts mid history) (old told : O) (heard : IsTold before after (take i cs) accounts old told) where
+  pub has_none : (next : Next) (workers : ℕ) (config : Settings) (start : GroupRecord) (cs : List Command) (history : List Column) (old : O)
+      → IsGroupStart config start → IsSound next start → history ≡ trace_columns next start → HasHistory next workers config cs 0 start history old old
+  has_none next workers config start cs history old is sound begins = record { accounts = []; run = (start, is, sound, (λ i. (start, begins i))); heard = refl }
+
+  module _ {next : Next} {workers : ℕ} {config : Settings} {cs : List Command} {i : ℕ} {mid : GroupRecord} {history : List Column} {old told : O}
+      (h : HasHistory next workers config cs i mid history old told) where
     -- and there is no other one
     pub history_all : length cs ≤ i → HistoryTellsOn before after next workers config cs old told (Ok history)
-    history_all all = (accounts, (h.start, mid, h.is_start, h.sound, (rw (take_all i cs all) at h.run)), (rw (take_all i cs all) at heard))
+    history_all all = (h.accounts, (mid, (rw (take_all i cs all) at h.run)), (rw (take_all i cs all) at h.heard))
 
     -- or the next one is to be run
     module _ (within : i < length cs) (d : Command) (at : d ≡ get_or cs i d) (begun : O) (first : before told d begun) where
       -- memory runs out for it
       pub history_short : (r : Result (List Column) RunFault) → IsErrAnd r (λ e. e ≡ faults.Memory) → HistoryTellsOn before after next workers config cs old begun r
-      history_short (Ok x) is = absurd is
-      history_short (Err e) is =
-          rw is (inr (i, accounts, (within, (history, (h.start, mid, h.is_start, h.sound, h.run))), (told, d, within, at, heard, first)))
+      history_short r is =
+          let e = err_from_is_err_and r is in
+          rw (e.1, e.2) (inr (i, h.accounts, (within, (history, (mid, h.run))), (told, d, within, at, h.heard, first)))
 
       -- it was run
       pub history_more : (new : GroupRecord) (account : Account) (line : List ℕ) (later : List Column) (last : O) → Step next workers mid d new line account → IsSound next new
-          → HistoryStep next mid.down d account new history later → after begun d account last
-          → (told' : List Account) × HasHistory next workers config cs (i + 1) told' new later × IsTold before after (take (i + 1) cs) told' old last
-      history_more new account line later last step sound follows ends = (
-        accounts ++ account ∷ [],
-        record {
-          start = h.start;
-          is_start = h.is_start;
-          sound = h.sound;
-          run = along_next (ColumnsStep next workers) cs i d accounts account (h.start, trace_columns next h.start) (mid, history) (new, later) within at h.run (line, step, sound, follows);
-        },
-        told_next before after cs i d accounts account old told begun last within at heard first ends,
-      )
+          → HistoryStep next mid.down d account new history later → after begun d account last → HasHistory next workers config cs (i + 1) new later old last
+      history_more new account line later last step sound follows ends = record {
+        accounts = h.accounts ++ account ∷ [];
+        run = run_on (trace_columns next) (ColumnsStep next workers) cs i d h.accounts account mid new history later within at (line, step, sound, follows) h.run;
+        heard = told_next before after cs i d h.accounts account old told begun last within at h.heard first ends;
+      }
 
--- what tells is a history
-pub told_history : {O : Type 0} (before : O → Command → O → Type 0) (after : O → Command → Account → O → Type 0) (workers : ℕ) (input : List ℕ) (old new : O)
-    (r : Result RunHistory RunFault) → HistoryTells before after workers input old new r → IsHistoryOfBytes workers input r
-told_history before after workers input old new (Ok answer) h = elim h [
-  | inl some ↦ (some.0, some.1, some.2.0, (some.2.1.0, some.2.1.1))
-  | inr none ↦ (let e = none.1 in absurd cc)
-]
-told_history before after workers input old new (Err faults.Memory) h = tt
-told_history before after workers input old new (Err fault) h = elim h [
-  | inl some ↦ absurd some.2
-  | inr none ↦ (let e = none.1 in let same : none.0 ≡ fault = cc in rw same at none.2)
-]
+  -- what tells is a history
+  pub told_history : (workers : ℕ) (input : List ℕ) (old new : O) (r : Result RunHistory RunFault) → HistoryTells before after workers input old new r → IsHistoryOfBytes workers input r
+  told_history workers input old new (Ok answer) (inl (s, is, told)) = (s, is, told.0, (told.1.0, told.1.1))
+  told_history workers input old new (Ok answer) (inr none) = absurd none
+  told_history workers input old new (Err faults.Memory) told = tt
+  told_history workers input old new (Err e) (inl told) = absurd told.2
+  told_history workers input old new (Err e) (inr fault) = fault.0

@@ -1,5 +1,5 @@
 -- Steps along commands go on by one command.
-use Rattle.fbl_play.proofs.Common.{◌≡◌, ℕ, ◌<◌, ◌+◌, List, [], ◌∷◌, ◌++◌, length, take, get_or, refl, Account, Command, take_more, Along}
+use Rattle.fbl_play.proofs.Common.{◌≡◌, ℕ, ◌<◌, ◌+◌, List, [], ◌∷◌, ◌++◌, length, take, get_or, refl, Account, Command, take_more, Along, Settings, Next, GroupRecord, IsRun}
 
 module _ {S : Type 0} (step : S → Command → Account → S → Type 0) where
   along_more : (cs : List Command) (accounts : List Account) (c : Command) (account : Account) (old mid new : S)
@@ -14,3 +14,11 @@ module _ {S : Type 0} (step : S → Command → Account → S → Type 0) where
       → Along step (take i cs) accounts old mid → step mid c account new → Along step (take (i + 1) cs) (accounts ++ account ∷ []) old new
   along_next cs i c accounts account old mid new within at is last =
       rw (take_more cs i c within, ← at) (along_more (take i cs) accounts c account old mid new is last)
+
+-- a run goes on by the command at a place
+pub run_on : {X : Type 0} {next : Next} {config : Settings} (first : GroupRecord → X) (step : GroupRecord × X → Command → Account → GroupRecord × X → Type 0)
+    (cs : List Command) (i : ℕ) (c : Command) (accounts : List Account) (account : Account) (mid new : GroupRecord) (x y : X) → i < length cs → c ≡ get_or cs i c
+    → step (mid, x) c account (new, y) → IsRun next config first step (take i cs) accounts mid x
+    → IsRun next config first step (take (i + 1) cs) (accounts ++ account ∷ []) new y
+run_on first step cs i c accounts account mid new x y within at last run =
+    (run.0, run.1, run.2, along_next step cs i c accounts account (run.0, first run.0) (mid, x) (new, y) within at run.3 last)

@@ -1,5 +1,6 @@
 -- The histories of scripts' runs.
 use Rattle.std.specs.Prelude.{◌≡◌, ℕ, ◌<◌, ◌⊎◌, List, [], ◌∷◌, ◌++◌, length, take, Result, Ok, Err}
+use Rattle.std.specs.Result.{IsErrAnd}
 use Rattle.fbl_base.specs.MemberSets.{Members}
 use Rattle.fbl_base.specs.Configs.{Settings}
 use Rattle.fbl_base.specs.Fold.{Next}
@@ -12,13 +13,12 @@ use Rattle.fbl_history.specs.Traces.{trace_columns, IsAfterRecovery}
 use Rattle.fbl_input.specs.declared.fault.RunFault.{RunFault}
 use Rattle.fbl_input.specs.declared.fault.RunFault.TheVariants as faults
 use Rattle.fbl_law.specs.Groups.{GroupRecord}
-use Rattle.fbl_law.specs.GroupSteps.{IsGroupStart}
 use Rattle.fbl_law.specs.Sound.{IsSound}
 use Rattle.fbl_script.specs.declared.script.Command.{Command}
 use Rattle.fbl_script.specs.declared.script.Command.TheVariants as commands
 use Rattle.fbl_script.specs.Scripts.{Outline, IsScriptOf, IsScriptFault}
 use Rattle.fbl_play.specs.declared.histories.RunHistory.{RunHistory}
-use Rattle.fbl_play.specs.Runs.{Along, Step, next_of}
+use Rattle.fbl_play.specs.Runs.{IsRun, Step, next_of}
 use Rattle.fbl_play.specs.Telling.{IsTold, IsToldUpTo}
 
 -- the history after a command that was not refused, before which these members were down, and which left the group like this:
@@ -41,16 +41,9 @@ abbrev pub ColumnsStep : Next → ℕ → GroupRecord × List Column → Command
 ColumnsStep next workers old c account new =
     (text : List ℕ) × Step next workers old.0 c new.0 text account × IsSound next new.0 × HistoryStep next old.0.down c account new.0 old.1 new.1
 
--- the commands may lead from old to new, one after another, with these accounts, and from the history before to the one
--- after; each record that a command leaves is sound
-abbrev pub HistoryRun : Next → ℕ → GroupRecord → List Command → GroupRecord → List Account → List Column → List Column → Type 0
-HistoryRun next workers old commands new accounts before after = Along (ColumnsStep next workers) commands accounts (old, before) (new, after)
-
--- some run of the commands, from a new group of this config, has these accounts and this history
+-- some run of the commands, from a new group of this config, has these accounts and this history; each record of the run is sound
 abbrev pub IsHistoryOf : Next → ℕ → Settings → List Command → List Account → List Column → Type 0
-IsHistoryOf next workers config commands accounts history =
-    (start : GroupRecord) × (end : GroupRecord) × IsGroupStart config start × IsSound next start
-    × HistoryRun next workers start commands end accounts (trace_columns next start) history
+IsHistoryOf next workers config commands accounts history = (end : GroupRecord) × IsRun next config (trace_columns next) (ColumnsStep next workers) commands accounts end history
 
 -- the first so many commands had this history, and one at least is left
 abbrev pub IsHistoryUpTo : Next → ℕ → Settings → List Command → ℕ → List Account → Type 0
@@ -91,4 +84,4 @@ module _ {O : Type 0} (before : O → Command → O → Type 0) (after : O → C
   abbrev pub HistoryTells : ℕ → List ℕ → O → O → Result RunHistory RunFault → Type 0
   HistoryTells workers input old new result =
       ((s : Outline) × IsScriptOf input s × HistoryTellsScript workers s old new result)
-      ⊎ ((fault : RunFault) × (result ≡ Err fault) × IsScriptFault input fault × (new ≡ old))
+      ⊎ IsErrAnd result (λ fault. IsScriptFault input fault × (new ≡ old))

@@ -138,16 +138,16 @@ Along step _ _ old new = ⊥
 abbrev pub TextStep : Next → ℕ → GroupRecord × List ℕ → Command → Account → GroupRecord × List ℕ → Type 0
 TextStep next workers old c account new = (line : List ℕ) × Step next workers old.0 c new.0 line account × IsSound next new.0 × (new.1 ≡ old.1 ++ line)
 
--- the commands may lead from old to new, one after another, print the text and have these accounts; each record that a command
--- leaves is sound
-abbrev pub CommandRun : Next → ℕ → GroupRecord → List Command → GroupRecord → List ℕ → List Account → Type 0
-CommandRun next workers old commands new text accounts = Along (TextStep next workers) commands accounts (old, []) (new, text)
+-- a new group of this config, which is sound, and what is carried beside it first may lead, by such steps along the commands, each with its
+-- account, to this group and to what is carried then
+abbrev pub IsRun : {X : Type 0} → Next → Settings → (GroupRecord → X) → (GroupRecord × X → Command → Account → GroupRecord × X → Type 0)
+    → List Command → List Account → GroupRecord → X → Type 0
+IsRun next config first step commands accounts end x = (start : GroupRecord) × IsGroupStart config start × IsSound next start × Along step commands accounts (start, first start) (end, x)
 
 -- some run of the commands, from a new group of this config, prints the text and has these accounts; each record of the run is
 -- sound, so that each state that is printed is the fold of the member's receipts in the trace
 abbrev pub IsTextOf : Next → ℕ → Settings → List Command → List ℕ → List Account → Type 0
-IsTextOf next workers config commands text accounts =
-    (start : GroupRecord) × (end : GroupRecord) × IsGroupStart config start × IsSound next start × CommandRun next workers start commands end text accounts
+IsTextOf next workers config commands text accounts = (end : GroupRecord) × IsRun next config (λ _. []) (TextStep next workers) commands accounts end text
 
 -- ---- what a play of the commands leaves in the writer
 

@@ -1,6 +1,7 @@
 -- What an observer of a play is told, and when.
 use Rattle.std.specs.Prelude.{◌≡◌, ℕ, ◌<◌, ◌⊎◌, List, length, take, slice_index_or, Option, Result, Ok, Err}
 use Rattle.std.specs.Io.KnownBytes.{Keeps}
+use Rattle.std.specs.Result.{IsErrAnd}
 use Rattle.fbl_base.specs.Configs.{Settings}
 use Rattle.fbl_base.specs.Fold.{Next}
 use Rattle.fbl_explain.specs.declared.account.Account.{Account}
@@ -39,4 +40,4 @@ module _ {O : Type 0} (before : O → Command → O → Type 0) (after : O → C
   abbrev pub Tells : ℕ → List ℕ → Option (List ℕ) → Option (List ℕ) → O → O → Result (Unit {0}) RunFault → Type 0
   Tells workers input had has old new result =
       ((s : Outline) × IsScriptOf input s × TellsOn (next_of s.behaviour) workers s.config s.commands had has old new result)
-      ⊎ ((fault : RunFault) × (result ≡ Err fault) × IsScriptFault input fault × Keeps had has × (new ≡ old))
+      ⊎ IsErrAnd result (λ fault. IsScriptFault input fault × Keeps had has × (new ≡ old))

@@ -1,10 +1,9 @@
 -- Tables as a map has them, and what adding an entry does to them.
-use Rattle.fbl_table.proofs.Common.{not, count_by, ◌≡◌, ℕ, zero, inl, inr, suc, ◌+◌, ◌<◌, ◌≤◌, Bool, true, false, cond, ◌||◌, ◌&&◌, List, [], ◌∷◌, ◌++◌, map}
-use Rattle.fbl_table.proofs.Common.{Some, None, refl, sym, ap, ◌∙◌, arith, take, drop, length, slice_get, lookup, values_of, keys_of, nat_cmp, nat_cmp_total, option_or, false≢true, find, fold}
-use Rattle.fbl_table.proofs.Common.{AllByRecursion, append-nil, length-map, take_all, take-append-drop, find-append, sum_by-cons, slice_get_cases, set_value_at, Determinant, same_determinant}
-use Rattle.fbl_table.proofs.Common.{insert_entry, Entry, HasInPlace, is_held, lacks, has_at, entry_of, gathered, learned, held_by, marked, is_some, add-one, position, drop-cons, false_from_ne_true}
-use Rattle.fbl_table.proofs.Common.{or_from, or_left, or_right, or_comm, position_or_len, Decides-same_determinant, drop_all, take_more, map-append, fold_push, sum_by_more, sum_by-take-le}
-use Rattle.fbl_table.proofs.Common.{slice_get_past, slice_get_within, get_or_from_slice_get, same_from_contains, absent_from_lookup, insert_entry-absent, or_len-absent}
+use Rattle.fbl_table.proofs.Common.{not, count_by, ◌≡◌, ℕ, zero, suc, ◌+◌, ◌<◌, ◌≤◌, true, false, cond, ◌||◌, ◌&&◌, List, [], ◌∷◌, ◌++◌, map, Some, None, refl}
+use Rattle.fbl_table.proofs.Common.{sym, ap, ◌∙◌, arith, take, drop, length, slice_get, lookup, values_of, keys_of, nat_cmp, nat_cmp_total, false≢true, fold, AllByRecursion, append-nil}
+use Rattle.fbl_table.proofs.Common.{length-map, take_all, sum_by-cons, set_value_at, Determinant, same_determinant, insert_entry, Entry, is_held, lacks, has_at, entry_of, gathered, learned, held_by}
+use Rattle.fbl_table.proofs.Common.{marked, is_some, position, drop_next, false_from_ne_true, or_from, or_left, or_right, or_comm, position_or_len, Decides-same_determinant, drop_all, take_more}
+use Rattle.fbl_table.proofs.Common.{map-append, fold_push, slice_get_past, slice_get_within, get_or_from_slice_get, same_from_contains, absent_from_lookup, insert_entry-absent, or_len-absent}
 use Rattle.std.specs.FinSet as set
 use Rattle.std.specs.List.{IsDistinct}
 use Rattle.fbl_table.specs.Tables.{added}
@@ -74,6 +73,10 @@ unfolding added
 added_there [] entry v is = cc
 added_there (e ∷ es) entry v is = (let rest = added_there es entry v in grind (arith, rest))
 
+pub value_there : (es : Pairs) (d : Determinant) (v : set.FinSet nat_cmp) → lookup (same_determinant d) es ≡ Some v → slice_get (values_of es) (place_in es d) ≡ Some v
+value_there [] d v is = cc
+value_there (e ∷ es) d v is = (let rest = value_there es d v in grind (arith, rest))
+
 -- what is written there is written over what was inserted
 pub inserted_over : (es : Pairs) (d : Determinant) (v k w : set.FinSet nat_cmp) → lookup (same_determinant d) es ≡ Some v
     → set_value_at (insert_entry same_determinant es d k) (place_in es d) w ≡ set_value_at es (place_in es d) w
@@ -111,15 +114,6 @@ take-next xs i x is = take_more xs i x (slice_get_within xs i x is) ∙ ap (λ y
 -- a fold over one element more
 pub fold_next : {X Y : Type 0} (f : Y → X → Y) (y : Y) (xs : List X) (i : ℕ) (x : X) → slice_get xs i ≡ Some x → fold f y (take (i + 1) xs) ≡ f (fold f y (take i xs)) x
 fold_next f y xs i x is = rw (take-next xs i x is) (fold_push f y (take i xs) x)
-
--- the search among the first places
-pub find_step : {X : Type 0} (p : X → Bool) (xs : List X) (i : ℕ) (x : X) → slice_get xs i ≡ Some x → find p (take i xs) ≡ None → find p (take (i + 1) xs) ≡ cond (p x) (Some x) None
-find_step p xs i x is none = rw (take-next xs i x is, find-append p (take i xs) (x ∷ []), none) refl
-
-pub find_here : {X : Type 0} (p : X → Bool) (xs : List X) (i : ℕ) (x : X) → slice_get xs i ≡ Some x → find p (take i xs) ≡ None → p x ≡ true → find p xs ≡ Some x
-find_here p xs i x is none passes =
-    let first : find p (take (i + 1) xs) ≡ Some x = find_step p xs i x is none ∙ ap (λ b. cond b (Some x) None) passes in
-    ap (find p) (sym (take-append-drop (i + 1) xs)) ∙ find-append p (take (i + 1) xs) (drop (i + 1) xs) ∙ ap (λ o. option_or o (find p (drop (i + 1) xs))) first
 
 -- the first `i` entries marked
 abbrev pub marked_first : ℕ → set.FinSet nat_cmp → List Entry → List Entry
@@ -167,10 +161,7 @@ held-added (e ∷ table) entry d =
 -- of one entry more at most one more is lacking, and none where it is held
 pub lacks-next : (table other : List Entry) (i : ℕ) (e : Entry) → slice_get other i ≡ Some e
     → count_by (lacks table) (drop i other) ≡ cond (lacks table e) 1 0 + count_by (lacks table) (drop (i + 1) other)
-lacks-next table other i e at =
-    let within = slice_get_within other i e at in
-    let is = get_or_from_slice_get other i e e at in
-    rw (add-one, drop-cons other i e, is) (sum_by-cons (λ x. cond (lacks table x) 1 0) e (drop (suc i) other))
+lacks-next table other i e at = rw (drop_next other i e at) (sum_by-cons (λ x. cond (lacks table x) 1 0) e (drop (i + 1) other))
 
 pub held-gathered : (table other : List Entry) (d : Determinant) → is_held (gathered table other) d ≡ (is_held table d || is_held other d)
 held-gathered table [] d = sym (or_comm (is_held table d) false)

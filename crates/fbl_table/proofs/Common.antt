@@ -1,25 +1,24 @@
 -- The names that proofs of this crate take from outside: of the standard library, of the crates below, and of the definitions here.
-pub use Rattle.std.proofs.Common.{Bool, List, None, Option, Some, [], add-one, add-zero, ap, arith, cond, count_by, drop, false, get_or, if◌then◌else◌, inl, inr, is_some, length, map, max}
-pub use Rattle.std.proofs.Common.{nat_le, not, position, refl, rules, slice_get, suc, sym, take, true, zero, ℕ, ◌&&◌, ◌++◌, ◌+◌, ◌<◌, ◌==◌, ◌||◌, ◌∙◌, ◌∷◌}
-pub use Rattle.std.proofs.Common.{◌≡◌, ◌≤◌}
+pub use Rattle.std.proofs.Common.{Bool, List, None, Option, Some, [], add-zero, ap, arith, cond, count_by, drop, false, get_or, if◌then◌else◌, inl, inr, is_some, length, map, max, nat_le, not}
+pub use Rattle.std.proofs.Common.{position, refl, rules, slice_get, suc, sym, take, true, zero, ℕ, ◌&&◌, ◌++◌, ◌+◌, ◌<◌, ◌||◌, ◌∙◌, ◌∷◌, ◌≡◌, ◌≤◌}
 pub use Rattle.std.proofs.Math.Bool.{or_comm}
-pub use Rattle.std.proofs.Math.Seq.{drop-cons}
 pub use Rattle.std.proofs.lemmas.Bool.{false_from_ne_true, false≢true, or_from, or_left, or_parts, or_right}
 pub use Rattle.std.proofs.lemmas.Bool.Decides.{nat_tests}
 pub use Rattle.std.proofs.lemmas.Fn.{filter_same}
-pub use Rattle.std.proofs.lemmas.List.{append-nil, append_assoc, drop_all, length-append, length-map, map-append, take-append-drop, take_all, take_more}
-pub use Rattle.std.proofs.lemmas.List.Elements.{All-get_or, AllZip-push, filter-append, filter_map-append, filter_passes, length_all_zip}
-pub use Rattle.std.proofs.lemmas.List.Folds.{find-append, list_any-append}
-pub use Rattle.std.proofs.lemmas.List.Sums.{fold_push, length-filter, sum_by-cons, sum_by-take-le, sum_by_more}
+pub use Rattle.std.proofs.lemmas.List.{append-nil, append_assoc, drop_all, length-append, length-map, map-append, take_all, take_more}
+pub use Rattle.std.proofs.lemmas.List.Elements.{All-get_or, AllZip-push, filter-append, filter_passes, length_all_zip}
+pub use Rattle.std.proofs.lemmas.List.Folds.{list_any-append}
+pub use Rattle.std.proofs.lemmas.List.Sums.{fold_push, length-filter, sum_by-cons}
 pub use Rattle.std.proofs.lemmas.Map.Entries.{entries_from_clone}
 pub use Rattle.std.proofs.lemmas.Option.{get_or_from_slice_get, slice_get-get_or, slice_get_cases, slice_get_past, slice_get_within}
 pub use Rattle.std.specs.Cmp.{nat_cmp_total}
-pub use Rattle.std.specs.List.{AllByRecursion, AllZip, cons_option, filter, filter_map, find, fold, position_or_len}
+pub use Rattle.std.specs.List.{AllByRecursion, AllZip, filter, filter_map, fold, position_or_len}
 pub use Rattle.std.specs.Map.{keys_of, lookup, values_of}
 pub use Rattle.std.specs.Option.{option_map_or, option_or}
 pub use Rattle.std.specs.Ordering.{nat_cmp}
 pub use Rattle.std.specs.Prelude.{nat_lt}
-pub use Rattle.std.specs.Vec.{vec_capacity, vec_len}
+pub use Rattle.std.specs.Vec.{vec_capacity}
+pub use Rattle.fbl_base.proofs.Gets.{drop_next}
 pub use Rattle.fbl_base.proofs.Recorded.{Decides-same_determinant}
 pub use Rattle.fbl_base.proofs.Sifted.{length-filter_map, length-left}
 pub use Rattle.fbl_base.proofs.Sizes.{len-within}
@@ -27,11 +26,11 @@ pub use Rattle.fbl_base.specs.Events.{same_determinant}
 pub use Rattle.fbl_base.specs.MemberSets.{same_from_contains}
 pub use Rattle.fbl_base.specs.declared.trace.Determinant.{Determinant}
 pub use Rattle.indexmap.proofs.MapLemmas.{absent_from_lookup, insert_entry-absent, or_len-absent}
-pub use Rattle.indexmap.specs.IndexMap.{insert_entry, spare}
+pub use Rattle.indexmap.specs.IndexMap.{insert_entry}
 pub use Rattle.indexmap.specs.Layout.{length-set_value_at, set_value_at}
 pub use Rattle.fbl_table.specs.Index.{IsIndex, open_at}
 pub use Rattle.fbl_table.specs.Indexed.{IsIndexed, KeepsIndex, listed, room}
-pub use Rattle.fbl_table.specs.Receipts.{IsByNumber, receipt_at}
-pub use Rattle.fbl_table.specs.Tables.{HasInPlace, added, entry_of, found, gathered, greatest_rsn, has_at, held_by, is_held, is_of_receipt, is_open, lacks, learned, marked, noted, piggybacked, rsn_of}
+pub use Rattle.fbl_table.specs.Receipts.{receipt_at}
+pub use Rattle.fbl_table.specs.Tables.{HasInPlace, added, entry_of, found, gathered, greatest_rsn, has_at, held_by, is_held, is_open, lacks, learned, marked, noted, piggybacked, rsn_of}
 pub use Rattle.fbl_table.specs.declared.entry.Entry.{Entry}
 pub use Rattle.fbl_table.specs.declared.indexed.IndexedEntries.{IndexedEntries}

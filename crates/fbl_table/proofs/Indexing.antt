@@ -1,12 +1,10 @@
 -- The open places of a table.
-use Rattle.fbl_table.proofs.Common.{◌≡◌, ℕ, zero, suc, ◌+◌, ◌<◌, Bool, true, false, cond, ◌||◌, List, [], ◌∷◌, ◌++◌, map, Option, Some, refl, sym, ap, ◌∙◌, arith}
-use Rattle.fbl_table.proofs.Common.{length, slice_get, get_or, inl, inr, false≢true, nat_tests, filter, filter_map, slice_get_cases, lookup, nat_cmp, nat_cmp_total, same_determinant, Entry, is_open}
-use Rattle.fbl_table.proofs.Common.{piggybacked, marked, is_held, has_at, entry_of, open_at, IsIndex, if◌then◌else◌, is_some, nat_le, or_parts, All-get_or, AllZip-push, filter_passes}
-use Rattle.fbl_table.proofs.Common.{length_all_zip, AllZip, option_map_or, len-within}
+use Rattle.fbl_table.proofs.Common.{zero, values_of, set_value_at, ◌≡◌, ℕ, suc, ◌+◌, ◌<◌, Bool, true, false, cond, ◌||◌, List, [], ◌∷◌, ◌++◌, map, Option, Some, refl}
+use Rattle.fbl_table.proofs.Common.{sym, ap, ◌∙◌, arith, length, slice_get, get_or, inl, inr, false≢true, nat_tests, filter, filter_map, slice_get_cases, nat_cmp, nat_cmp_total, Entry}
+use Rattle.fbl_table.proofs.Common.{is_open, piggybacked, entry_of, open_at, IsIndex, nat_le, All-get_or, AllZip-push, filter_passes, length_all_zip, AllZip, option_map_or, len-within}
 use Rattle.std.specs.FinSet as set
-use Rattle.fbl_table.specs.Tables.{added}
 use Rattle.fbl_table.specs.Index.{places_of_open}
-use Rattle.fbl_table.proofs.Adding.{Pairs, held_lookup}
+use Rattle.fbl_table.proofs.Adding.{Pairs}
 
 -- an entry of the one table is open only where the other's at its place is
 abbrev AreGrown : ℕ → List Entry → List Entry → Type 0
@@ -54,11 +52,6 @@ places_of_open-push f k n (x ∷ table) e last =
     let rest = places_of_open-push f (suc k) n table e (omega (arith, last)) in
     grind (arith, rest)
 
-length-open : (f k : ℕ) (table : List Entry) → length (places_of_open f k table) ≡ length (piggybacked f table)
-unfolding places_of_open
-length-open f k [] = refl
-length-open f k (e ∷ table) = (let rest = length-open f (suc k) table in grind (arith, rest))
-
 pub index-none : (f : ℕ) → IsIndex f [] [] false
 unfolding places_of_open
 index-none f = record { before = []; grown = tt; places = refl; exact = λ fresh. refl }
@@ -87,34 +80,18 @@ index-pruned f table open_places stale index =
     record { before = table; grown = same-grown f table; places = is; exact = λ fresh. is }
 
 -- what is open is open of less that is known too
-open-less : (f : ℕ) (a b : set.FinSet nat_cmp) → nat_le (set.len (set.union a b)) f ≡ true → nat_le (set.len a) f ≡ true
-open-less f a b is =
+pub open_less : (f : ℕ) (a b : set.FinSet nat_cmp) → nat_le (set.len (set.union a b)) f ≡ true → nat_le (set.len a) f ≡ true
+open_less f a b is =
     let more = len-within (set.len a) a (set.union a b) refl (λ q has. set.contains-union nat_cmp_total a b q ∙ ap (λ c. c || set.contains b q) has) in
     grind (arith, nat_tests)
 
-grown-added : (f : ℕ) (table before : List Entry) (entry : Entry) → is_held table entry.det ≡ true → AreGrown f table before → AreGrown f (added table entry) before
-unfolding added
-grown-added f [] before entry held grown = absurd (false≢true held)
-grown-added f (e ∷ table) [] entry held grown = absurd grown
-grown-added f (e ∷ table) (b ∷ before) entry held grown = at (λ h. grown-added f table before entry h grown.1) (same_determinant entry.det e.det) held where
-  at : (is_held table entry.det ≡ true → AreGrown f (added table entry) before) → (same : Bool) → (same || is_held table entry.det) ≡ true
-      → AreGrown f (if same then record { det = e.det; known = set.union e.known entry.known } ∷ table else e ∷ added table entry) (b ∷ before)
-  at rest true held = (λ is. grown.0 (open-less f e.known entry.known is), grown.1)
-  at rest false held = (grown.0, rest held)
-
-grown-marked : (f : ℕ) (members : set.FinSet nat_cmp) (table before : List Entry) → AreGrown f table before → AreGrown f (marked members table) before
-grown-marked f members [] before grown = grown
-grown-marked f members (e ∷ table) [] grown = absurd grown
-grown-marked f members (e ∷ table) (b ∷ before) grown = (λ is. grown.0 (open-less f e.known members is), grown-marked f members table before grown.1)
-
-pub index-marked : (f : ℕ) (members : set.FinSet nat_cmp) (table : List Entry) (open_places : List ℕ) (stale : Bool) → IsIndex f table open_places stale
-    → IsIndex f (marked members table) open_places true
-index-marked f members table open_places stale index = record {
-  before = index.before;
-  grown = grown-marked f members table index.before index.grown;
-  places = index.places;
-  exact = λ fresh. absurd (false≢true (sym fresh));
-}
+-- where one entry is known to more members, it is open only where it was
+grown-put : (f : ℕ) (es : Pairs) (before : List Entry) (i : ℕ) (v w : set.FinSet nat_cmp) → slice_get (values_of es) i ≡ Some v
+    → (nat_le (set.len w) f ≡ true → nat_le (set.len v) f ≡ true) → AreGrown f (map entry_of es) before → AreGrown f (map entry_of (set_value_at es i w)) before
+grown-put f [] before i v w is less grown = grown
+grown-put f (e ∷ es) [] i v w is less grown = absurd grown
+grown-put f (e ∷ es) (b ∷ before) zero v w is less grown = (λ opens. grown.0 (let same : v ≡ e.1 = cc in (rw same at (less opens))), grown.1)
+grown-put f (e ∷ es) (b ∷ before) (suc i) v w is less grown = (grown.0, grown-put f es before i v w is less grown.1)
 
 -- the open entries at the places, and all of them where the index is not stale
 pub index-piggybacked : (f : ℕ) (table : List Entry) (open_places : List ℕ) (stale : Bool) → IsIndex f table open_places stale
@@ -124,11 +101,7 @@ index-piggybacked f table open_places stale index = rw (open_now f table open_pl
 pub open-piggybacked : (f : ℕ) (table : List Entry) (open_places : List ℕ) → IsIndex f table open_places false → filter_map (slice_get table) open_places ≡ piggybacked f table
 open-piggybacked f table open_places index = rw (index.exact refl) (entries_at_open f 0 (slice_get table) table (λ i. ap (slice_get table) (omega arith)))
 
--- there are as many
-pub open-length : (f : ℕ) (table : List Entry) (open_places : List ℕ) → IsIndex f table open_places false → length open_places ≡ length (piggybacked f table)
-open-length f table open_places index = rw (index.exact refl) (length-open f 0 table)
-
--- each of which is a place of the table
+-- each open place is one of the table
 pub open-within : (f : ℕ) (table : List Entry) (open_places : List ℕ) → IsIndex f table open_places false → (i : ℕ) → i < length open_places → get_or open_places i 0 < length table
 open-within f table open_places index i below =
     let all : filter (open_at f table) open_places ≡ open_places = open_now f table open_places false index ∙ sym (index.exact refl) in
@@ -139,24 +112,20 @@ open-within f table open_places index i below =
       | inr past ↦ absurd (false≢true (rw past.1 at opens))
     ]
 
--- where one entry is known to more members, and is as open as before, the same places are open
-open-united : (f k : ℕ) (es : Pairs) (entry : Entry) (v : set.FinSet nat_cmp) → lookup (same_determinant entry.det) es ≡ Some v
-    → nat_le (set.len (set.union v entry.known)) f ≡ nat_le (set.len v) f → places_of_open f k (added (map entry_of es) entry) ≡ places_of_open f k (map entry_of es)
-unfolding places_of_open added
-open-united f k [] entry v is same = cc
-open-united f k (e ∷ es) entry v is same = (let rest = open-united f (suc k) es entry v in grind (arith, rest, same))
+-- where it is as open as before, the same places are open
+places-put : (f k : ℕ) (es : Pairs) (i : ℕ) (v w : set.FinSet nat_cmp) → slice_get (values_of es) i ≡ Some v → nat_le (set.len w) f ≡ nat_le (set.len v) f
+    → places_of_open f k (map entry_of (set_value_at es i w)) ≡ places_of_open f k (map entry_of es)
+unfolding places_of_open
+places-put f k [] i v w is same = refl
+places-put f k (e ∷ es) zero v w is same = grind (arith, is, same)
+places-put f k (e ∷ es) (suc i) v w is same = (let rest = places-put f (suc k) es i v w is same in grind (arith, rest))
 
--- where more is known of a determinant
-pub index-united : (f : ℕ) (es : Pairs) (entry : Entry) (v : set.FinSet nat_cmp) → lookup (same_determinant entry.det) es ≡ Some v
-    → (stale closed : Bool) → (closed ≡ false → nat_le (set.len v) f ≡ true → nat_le (set.len (set.union v entry.known)) f ≡ true)
-    → (open_places : List ℕ) → IsIndex f (map entry_of es) open_places stale → IsIndex f (added (map entry_of es) entry) open_places (stale || closed)
-index-united f es entry v is stale closed stays open_places index = record {
+pub index-put : (f : ℕ) (es : Pairs) (i : ℕ) (v w : set.FinSet nat_cmp) → slice_get (values_of es) i ≡ Some v → (nat_le (set.len w) f ≡ true → nat_le (set.len v) f ≡ true)
+    → (stale : Bool) → (stale ≡ false → nat_le (set.len v) f ≡ true → nat_le (set.len w) f ≡ true)
+    → (open_places : List ℕ) → IsIndex f (map entry_of es) open_places stale → IsIndex f (map entry_of (set_value_at es i w)) open_places stale
+index-put f es i v w is less stale stays open_places index = record {
   before = index.before;
-  grown = grown-added f (map entry_of es) index.before entry (sym (held_lookup es entry.det) ∙ ap is_some is) index.grown;
+  grown = grown-put f es index.before i v w is less index.grown;
   places = index.places;
-  exact = λ fresh.
-      let parts = or_parts stale closed fresh in
-      let less = open-less f v entry.known in
-      let stays' = stays parts.1 in
-      index.exact parts.0 ∙ sym (open-united f 0 es entry v is (grind (arith, less, stays')));
+  exact = λ fresh. index.exact fresh ∙ sym (places-put f 0 es i v w is (let stays' = stays fresh in grind (arith, less, stays')));
 }

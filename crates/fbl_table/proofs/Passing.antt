@@ -1,11 +1,9 @@
 -- How many entries are passed on, and that they are put into a list in turn.
-use Rattle.fbl_table.proofs.Common.{◌≡◌, ℕ, ◌+◌, ◌≤◌, Bool, cond, List, [], ◌∷◌, ◌++◌, map, count_by, Some, refl, sym, ap, ◌∙◌, arith, take, drop, length, slice_get}
-use Rattle.fbl_table.proofs.Common.{length-map, take-append-drop, filter-append, filter, filter_map, sum_by-cons, Determinant, length-left, Entry, is_open, piggybacked, gathered, learned, held_by}
-use Rattle.fbl_table.proofs.Common.{open_at, IsIndex, length-append, cons_option, length-filter, sum_by-take-le, length-filter_map, noted}
+use Rattle.fbl_table.proofs.Common.{drop, drop_next, ◌≡◌, ℕ, ◌+◌, ◌≤◌, Bool, cond, List, [], ◌∷◌, ◌++◌, map, count_by, Some, sym, ap, ◌∙◌, arith, length, slice_get}
+use Rattle.fbl_table.proofs.Common.{length-map, filter-append, filter, sum_by-cons, Determinant, length-left, Entry, is_open, piggybacked, gathered, learned, held_by, open_at, IsIndex, length-append}
+use Rattle.fbl_table.proofs.Common.{length-filter, length-filter_map, noted}
 use Rattle.std.specs.FinSet as set
-use Rattle.std.proofs.Common.{append_assoc}
 use Rattle.fbl_table.specs.Tables.{added}
-use Rattle.fbl_table.proofs.Adding.{take-next}
 use Rattle.fbl_table.proofs.Indexing.{index-piggybacked}
 
 -- an entry more makes at most one more to pass on
@@ -37,11 +35,7 @@ open-within limit table ps stale index =
     let picked = filter (open_at limit table) ps in
     omega (arith, sym (ap length (index-piggybacked limit table ps stale index)), length-filter_map (slice_get table) picked, length-left (open_at limit table) ps)
 
--- what is passed on of one entry more, and of the first ones
+-- what is passed on from a place on
 pub passed-next : (f : ℕ) (table : List Entry) (i : ℕ) (e : Entry) → slice_get table i ≡ Some e
-    → piggybacked f (take (i + 1) table) ≡ piggybacked f (take i table) ++ piggybacked f (e ∷ [])
-passed-next f table i e at = rw (take-next table i e at) (filter-append (is_open f) (take i table) (e ∷ []))
-
-pub passed-first : (f : ℕ) (table : List Entry) (i : ℕ) → length (piggybacked f (take i table)) ≤ length (piggybacked f table)
-passed-first f table i =
-    omega (arith, length-filter (is_open f) (take i table), length-filter (is_open f) table, sum_by-take-le (λ e. cond (is_open f e) 1 0) table i)
+    → piggybacked f (drop i table) ≡ piggybacked f (e ∷ []) ++ piggybacked f (drop (i + 1) table)
+passed-next f table i e at = rw (drop_next table i e at) (filter-append (is_open f) (e ∷ []) (drop (i + 1) table))

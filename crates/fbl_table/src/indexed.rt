@@ -3,6 +3,8 @@
 ghost use Rattle.std.specs.Prelude.{◌≡◌, ℕ, ◌+◌, ◌-◌, ◌^◌, ◌<◌, ◌≤◌, ◌++◌, [], ◌∷◌, take, drop, length, count_by, OnOk, OnErr, IfOk, IfSome, IfNone, Some, true, false, nat_le, slice_get, map, vec_len, vec_capacity, if◌then◌else◌};
 ghost use Rattle.std.specs.FinSet as set;
 ghost use Rattle.std.specs.List.{IsDistinct};
+ghost use Rattle.std.specs.Map.{values_of};
+ghost use Rattle.indexmap.specs.Layout.{set_value_at};
 ghost use Rattle.fbl_base.specs.Events.{same_determinant};
 ghost use Rattle.fbl_table.specs.Index.{open_at};
 ghost use Rattle.fbl_table.specs.Indexed.{listed, IsIndexed, room, KeepsIndex};
@@ -283,7 +285,7 @@ impl<A: Allocator + Copy> IndexedEntries<A> {
     /// Unites what is known of the determinant, which has an entry at the place, with this. It is written only where more is
     /// known.
     #[inline(always)]
-    #[tactic(auto, using(crate::proofs::Adding::has_set, crate::proofs::Adding::within_at))]
+    #[tactic(auto, using(crate::proofs::Adding::has_set, crate::proofs::Adding::within_at, crate::proofs::Indexing::open_less))]
     fn unite(&mut self, det: &Determinant, known: MemberSet, place: usize)
         requires { has_at (listed self.old) det.now place ≡ true }
         ensures entries { listed self.new ≡ added (listed self.old) (record { det = det.now; known = known }) }
@@ -298,8 +300,24 @@ impl<A: Allocator + Copy> IndexedEntries<A> {
             return;
         }
         let united = before.union(known);
-        self.entries[place] = united;
         self.stale |= closes(before, united, self.limit);
+        self.put(place, before, united);
+    }
+
+    /// Writes that these members are known to hold the determinant at the place, where fewer were known before. Where the entry
+    /// closes by it, the index is stale.
+    #[inline(always)]
+    fn put(&mut self, place: usize, before: MemberSet, known: MemberSet)
+        requires before { slice_get (values_of self.old.entries.entries) place ≡ Some before }
+        requires more { nat_le (set.len known) self.old.limit ≡ true → nat_le (set.len before) self.old.limit ≡ true }
+        requires stale { self.old.stale ≡ false → nat_le (set.len before) self.old.limit ≡ true → nat_le (set.len known) self.old.limit ≡ true }
+        ensures entries { self.new.entries.entries ≡ set_value_at self.old.entries.entries place known }
+        ensures kept { KeepsIndex self.old self.new }
+        ensures room { room self.old ≤ room self.new }
+        ensures stale { self.new.stale ≡ self.old.stale }
+        ensures limit { self.new.limit ≡ self.old.limit }
+    {
+        self.entries[place] = known;
     }
 
     /// Adds the entry, with room for one more. Its determinant is looked for by its hash, once.
@@ -327,15 +345,16 @@ impl<A: Allocator + Copy> IndexedEntries<A> {
     }
 
     /// Adds the members to those that are known to hold each determinant.
+    #[tactic(auto, using(crate::proofs::Indexing::open_less, crate::proofs::Keeping::keeps_more))]
     pub(crate) fn mark_all(&mut self, members: MemberSet)
         ensures entries { listed self.new ≡ marked members (listed self.old) }
         ensures kept { KeepsIndex self.old self.new }
     {
-        for place in 0..self.entries.len() {
-            let known = self.entries[place].union(members);
-            self.entries[place] = known;
-        }
         self.stale = true;
+        for place in 0..self.entries.len() {
+            let before = self.entries[place];
+            self.put(place, before, before.union(members));
+        }
         self.prune();
     }
 

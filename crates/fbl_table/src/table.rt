@@ -100,7 +100,7 @@ impl<A: Allocator + Copy> Table<A> {
     }
 
     /// The determinant of the member's receipt with this number, the first if there are several.
-    #[tactic(auto, using(crate::proofs::Adding::find_here))]
+    #[tactic(auto, using(crate::proofs::Common::drop_next))]
     pub fn find(&self, to: Member, rsn: u32) -> Option<Determinant>
         ensures { result ≡ found to rsn self.now }
     {

@@ -1,29 +1,25 @@
--- What a run of turns keeps, also where only that there is one is known.
-use Rattle.fbl_threads.proofs.Common.{◌≡◌, ℕ, ◌<◌, ◌≤◌, false, List, length, sum, arith, subst, sym, nat_cmp, Next, IsPlan, Strike, GroupRecord, Counts, Reached, ∥∥₁_elim}
-use Rattle.fbl_threads.proofs.Common.{codes, coded_ℕ, Coded-set, Keeps}
+-- What a run of turns keeps where only that there is one is known, and that it leaves the group where it counts nothing.
+use Rattle.fbl_threads.proofs.Common.{List, arith, false, length, refl, subst, sum, sym, true≢false, ℕ, ◌≡◌, ◌≤◌, Coded-set, coded_ℕ, codes, nat_cmp, Next, IsPlan, Strike}
+use Rattle.fbl_threads.proofs.Common.{GroupRecord, Keeps, Counts, Reached, starts, turns, is_full, is_late, wants, ∥∥₁_elim}
 use Rattle.std.specs.FinSet as set
 use Rattle.fbl_table.specs.contracts.entry.Entry as entry
 use Rattle.fbl_base.specs.contracts.trace.Note as content
 use Rattle.fbl_base.specs.contracts.trace.Start as beginning
 use Rattle.fbl_base.specs.contracts.trace.Event as event
-use Rattle.fbl_threads.proofs.Keeping.{keeps_past, undoes_nothing}
-use Rattle.fbl_threads.proofs.Reaching.{counted, unmoved}
+use Rattle.fbl_threads.proofs.Keeping.{kept, sum-more}
 
-pub kept : (next : Next) (plan : List Strike) (workers : ℕ) (old new : GroupRecord) (counts : Counts) → Reached next plan workers old new counts → Keeps plan workers old new counts
-kept next plan workers old new counts run =
-    let known = counted new counts run in
-    record {
-      config = known.config;
-      checkpoints = known.checkpoints;
-      past = keeps_past next plan workers old new counts run;
-      receipts = known.receipts;
-      undone = known.undone_ever;
-      empty = λ none. undoes_nothing next plan workers old new counts none run;
-      places = known.places;
-    }
+-- where nothing is counted no turn was made
+unmoved : (next : Next) (plan : List Strike) (workers : ℕ) (start r : GroupRecord) (c : Counts) → Reached next plan workers start r c
+    → sum c.by_worker ≡ 0 → c.full ≡ false → c.memory ≡ false → r ≡ start
+unmoved next plan workers start r c starts none room memory = refl
+unmoved next plan workers start r c (turns old _ before _ w ticket run below (is_full refused)) none room memory = absurd (true≢false room)
+unmoved next plan workers start r c (turns old _ before _ w ticket run below (wants free)) none room memory = absurd (true≢false memory)
+unmoved next plan workers start r c (turns old _ before _ w ticket run below (is_late refused)) none room memory = unmoved next plan workers start old before run none room memory
+unmoved next plan workers start r c (turns old _ before _ w ticket run below commit) none room memory =
+    absurd (omega (arith, none, below, (kept next plan workers start old before run).places.0, sum-more before.by_worker w 1))
 
 module _ {next : Next} {plan : List Strike} {workers : ℕ} {old new : GroupRecord} {counts : Counts} (run : ∥ Reached next plan workers old new counts ∥₁) where
-  pub kept_by_some : Keeps plan workers old new counts
+  pub kept_by_some : Keeps plan workers old new counts.by_worker counts.undone_by_worker
   kept_by_some =
       ∥∥₁_elim run (Prim.hlevel (Coded-set, codes, content.the_row.coded, entry.the_row.coded, beginning.the_row.coded, event.the_row.coded, set.code {R = nat_cmp} coded_ℕ))
       (kept next plan workers old new counts)
@@ -32,7 +28,7 @@ module _ {next : Next} {plan : List Strike} {workers : ℕ} {old new : GroupReco
   places = kept_by_some.places
 
   pub sums : (sum counts.by_worker ≤ new.receipts_ever) × (sum counts.undone_by_worker ≤ new.undone_ever)
-  sums = omega (arith, kept_by_some.receipts, kept_by_some.undone)
+  sums = omega (arith, kept_by_some.receipts, kept_by_some.undone_ever)
 
   pub fits : IsPlan plan old.config → IsPlan plan new.config
   fits p = subst (IsPlan plan) (sym kept_by_some.config) p

@@ -43,4 +43,4 @@ module _ {O : Type 0} (has : O → Bool) where
   plays_well workers strict input before after old new fresh (inl (s, is, (accounts, written, told))) =
       let kept : has new ≡ list_any is_refusal accounts = keeps_refusals s.commands accounts old new told ∙ ap (λ b. b || list_any is_refusal accounts) fresh in
       (s, accounts, is, written, ap (λ b. not (strict && b)) kept)
-  plays_well workers strict input before after old new fresh (inr (fault, is, other, keeps, same)) = absurd (cc)
+  plays_well workers strict input before after old new fresh (inr none) = absurd none

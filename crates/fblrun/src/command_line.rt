@@ -1,7 +1,8 @@
 //! The command line.
 
 ghost use Rattle.std.specs.Prelude.{◌≡◌, ℕ, ◌<◌, Bool, map, false, Some, IfOk, IfErr, codes, decimal, string_bytes};
-ghost use Rattle.clap.specs.Words.{app_of, found_of, kind_of, one_of, rows_of, rule_of, with_subcommand};
+ghost use Rattle.clap.specs.Words.{app_of, found_of, kind_of, one_of, rows_of, rule_of, with_rule, with_subcommand};
+ghost use Rattle.clap.specs.declared.builder.command.Command.TheViews.{out-Command as fields_of};
 ghost use Rattle.fblrun.specs.CommandLines.{IsCommandLine, IsFlagged, IsOrderAt, IsOrderOf, explain_rule, explained_app, play_app, program, show_app, strict_rule, top_app, workers_rule};
 
 use crate::{Order, Task};
@@ -118,6 +119,19 @@ fn explain<'a>(alloc: Global) -> Arg<'a>
         .help(EXPLAIN)
 }
 
+/// The program with this subcommand, which has the flag `--explain` too.
+fn with_explained<'a>(
+    alloc: Global,
+    command: Command<'a>,
+    sub: Command<'a>,
+) -> Result<Command<'a>, AllocError>
+    requires { (fields_of sub).has_globals ≡ false }
+    ensures { IfOk result (λ c. app_of c ≡ with_subcommand (app_of command.entry) (with_rule (app_of sub.entry) explain_rule).top) }
+{
+    let sub = sub.arg(explain(alloc))?;
+    command.subcommand(sub)
+}
+
 /// The program with the subcommand `play`, which has a number of workers, and may be strict.
 fn with_play<'a>(alloc: Global, command: Command<'a>) -> Result<Command<'a>, AllocError>
     ensures { IfOk result (λ c. app_of c ≡ with_subcommand (app_of command.entry) play_app.top) }
@@ -127,8 +141,7 @@ fn with_play<'a>(alloc: Global, command: Command<'a>) -> Result<Command<'a>, All
         .after_help(PLAY_EXAMPLE);
     let play = play.arg(workers(alloc))?;
     let play = play.arg(strict(alloc))?;
-    let play = play.arg(explain(alloc))?;
-    command.subcommand(play)
+    with_explained(alloc, command, play)
 }
 
 /// The program with the subcommand `show`, which has a number of workers.
@@ -139,8 +152,7 @@ fn with_show<'a>(alloc: Global, command: Command<'a>) -> Result<Command<'a>, All
         .about(SHOW)
         .after_help(SHOW_EXAMPLE);
     let show = show.arg(workers(alloc))?;
-    let show = show.arg(explain(alloc))?;
-    command.subcommand(show)
+    with_explained(alloc, command, show)
 }
 
 /// The program with a subcommand of this name, which has the flag alone.
@@ -154,8 +166,7 @@ fn with_reader<'a>(
     ensures { IfOk result (λ c. app_of c ≡ with_subcommand (app_of command.entry) (explained_app name.now).top) }
 {
     let reader = Command::new(alloc, name).about(about).after_help(example);
-    let reader = reader.arg(explain(alloc))?;
-    command.subcommand(reader)
+    with_explained(alloc, command, reader)
 }
 
 /// The program above its subcommands.

@@ -2,7 +2,7 @@ use Rattle.fbl_audit.proofs.Common.{arith, ap, ◌∙◌, ◌≡◌, max}
 use Rattle.std.specs.FinSet as set
 use Rattle.fbl_audit.proofs.Checks.{least_of, said_right, none_unsafe}
 use Rattle.fbl_audit.proofs.checking.said_of.Goals as goal
-use Rattle.fbl_audit.proofs.checking.said_of.Goals.{After-count-2, then-count-most-via-then-count-most, then-count-most-via-else-count-most+then-count-eq0}
+use Rattle.fbl_audit.proofs.checking.said_of.Goals.{After-count-2}
 
 strike_is_least : (c : After-count-2) → c.union-strike.result ≡ least_of c.args.dump.now c.args.determinant
 strike_is_least c = rw (← c.requires.holders, ← c.strike.ensures) c.union-strike.ensures
@@ -20,8 +20,8 @@ pub returns-then-count-most : goal.returns-then-count-most
 returns-then-count-most c =
     let found = (goal.at.returns-then-count-most c).After-count-2 in
     none_unsafe c.args.dump.now c.requires.rules c.args.determinant c.args.dependents c.requires.dependents (λ is. elim c.then-count-most.branch [
-      | then-count-most-via-then-count-most w ↦ omega (arith, w.if-count-most.true, most_is found, size_is found, is.0)
-      | then-count-most-via-else-count-most+then-count-eq0 w ↦
+      | goal.then-count-most-via-then-count-most w ↦ omega (arith, w.if-count-most.true, most_is found, size_is found, is.0)
+      | goal.then-count-most-via-else-count-most+then-count-eq0 w ↦
           omega (arith, is.1, ap set.len (orphans_are_left found), w.count-else-count-most.ensures, w.if-count-eq0.true)
     ])
 

@@ -1,5 +1,7 @@
-use Rattle.fbl_audit.proofs.Common.{take, filter_map, determinant_of, SaysUnsafe}
+-- what is said of the receipts so far, and what is to be said of the rest, is what is said of all
+use Rattle.fbl_audit.proofs.Common.{List, ◌++◌, drop, filter_map, determinant_of, SaysUnsafe, UnsafeReceipt}
 use Rattle.fbl_audit.proofs.checking.unsafe_receipts.Given as goal
 
 abbrev pub invariant-loop-place : goal.invariant-loop-place
-invariant-loop-place l = SaysUnsafe l.dump (filter_map determinant_of (take l.place l.event-items)) l.unsafe_receipts.items
+invariant-loop-place l = (rest : List UnsafeReceipt) → SaysUnsafe l.dump (filter_map determinant_of (drop l.place l.event-items)) rest
+    → SaysUnsafe l.dump (filter_map determinant_of l.event-items) (l.unsafe_receipts.items ++ rest)

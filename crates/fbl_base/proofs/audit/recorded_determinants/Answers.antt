@@ -1,7 +1,6 @@
 use Rattle.fbl_base.proofs.Common.{◌&&◌, arith, not, ℕ, Determinant, same_determinant, list_any_more}
 use Rattle.std.specs.FinSet as set
 use Rattle.fbl_base.proofs.audit.recorded_determinants.Goals as goal
-use Rattle.fbl_base.proofs.audit.recorded_determinants.Goals.{then-not-has+in_ok-insert, else-not-has}
 
 pub loop-holder-preserved : goal.loop-holder-preserved
 loop-holder-preserved g c d =
@@ -9,6 +8,6 @@ loop-holder-preserved g c d =
     let more = list_any_more holds c.held-holder-items.result.now c.loop-holder.holder-index c.loop-holder-item.result (omega arith) in
     let was = c.loop-holder.invariant d in
     elim c.if-not-has.branch [
-      | then-not-has+in_ok-insert w ↦ (let now = w.in_ok-insert.ensures.updates.0 d in grind (arith, more, was, now))
-      | else-not-has w ↦ grind (arith, more, was)
+      | goal.then-not-has+in_ok-insert w ↦ (let now = w.in_ok-insert.ensures.updates.0 d in grind (arith, more, was, now))
+      | goal.else-not-has w ↦ grind (arith, more, was)
     ]

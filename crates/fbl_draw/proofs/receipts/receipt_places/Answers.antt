@@ -3,7 +3,6 @@ use Rattle.fbl_draw.proofs.Common.{is_message, MessageName, takes, taken_by}
 use Rattle.std.specs.HashMap as hash_map
 use Rattle.fbl_draw.proofs.Indexing.{old_message, new_message}
 use Rattle.fbl_draw.proofs.receipts.receipt_places.Goals as goal
-use Rattle.fbl_draw.proofs.receipts.receipt_places.Goals.{in-Some+then-not-contains_key+in_ok-insert, in-Some+else-not-contains_key, in_default}
 
 pub loop-place-preserved : goal.loop-place-preserved
 loop-place-preserved c m =
@@ -18,10 +17,10 @@ loop-place-preserved c m =
     let by : Option MessageName → Option ℕ = λ t. option_or (old m) (cond (is_message m t) (Some i) later) in
     let taken : (found : Option MessageName) → found ≡ taken_by e → by found ≡ by (taken_by e) = λ found is. ap by is in
     elim c.match-message_taken.branch [
-      | in-Some+then-not-contains_key+in_ok-insert w ↦
+      | goal.in-Some+then-not-contains_key+in_ok-insert w ↦
           rw (w.places-is, w.in_ok-insert.ensures.updates.0 m)
           (new_message old w.in-Some.message m i later (sym w.contains_key.ensures ∙ w.if-not-contains_key.true) ∙ taken (Some w.in-Some.message) w.in-Some.ensures ∙ was)
-      | in-Some+else-not-contains_key w ↦
+      | goal.in-Some+else-not-contains_key w ↦
           rw w.places-is (old_message old w.in-Some.message m i later (sym w.contains_key.ensures ∙ w.if-not-contains_key.false) ∙ taken (Some w.in-Some.message) w.in-Some.ensures ∙ was)
-      | in_default w ↦ rw w.places-is (taken None w.in_default.ensures ∙ was)
+      | goal.in_default w ↦ rw w.places-is (taken None w.in_default.ensures ∙ was)
     ]

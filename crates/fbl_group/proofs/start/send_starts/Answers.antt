@@ -1,15 +1,12 @@
-use Rattle.fbl_group.proofs.Common.{arith, rows, refl, get_or, suc, ◌+◌, ◌≡◌, ◌∙◌}
+use Rattle.fbl_group.proofs.Common.{arith, at_drop_more, refl, sym, ◌∙◌, start_events}
 use Rattle.fbl_group.proofs.Queues.{none-shape, none-in}
-use Rattle.fbl_group.proofs.Starting.{once-none, starts-more, start-places, start-shape, start-sent}
+use Rattle.fbl_group.proofs.Starting.{start-places, start-shape, start-sent}
 use Rattle.fbl_group.proofs.start.send_starts.Goals as goal
 
 pub loop-start-init : goal.loop-start-init
 loop-start-init g c =
     let none = rw c.members.ensures.value at c.in_ok-channels.ensures in
     rw c.in_ok-trace.ensures.items (record { so_far = refl; made = c.in_ok-trace.ensures.len; shape = none-shape _ _ none; sent = λ q p. none-in _ _ q p none })
-
-pub new-requires : goal.new-requires
-new-requires g c = rw c.none.ensures once-none
 
 pub send-requires-clause-from : goal.send-requires-clause-from
 send-requires-clause-from g c =
@@ -22,11 +19,12 @@ send-requires-clause-to g c =
 pub loop-start-preserved : goal.loop-start-preserved
 loop-start-preserved g c =
     let so_far = c.loop-start.invariant in
-    let next : c.loop-start.start-index + 1 ≡ suc c.loop-start.start-index = omega arith in
+    let starts = c.starts-start-items.result.now in
+    let next = (rw (← c.start-item.is) at (at_drop_more (start_events c.loop-start.trace.items) starts c.loop-start.start-index c.start-item.result c.loop-start-test.true)) in
     let number = rw c.deref.ensures.value at c.count_sends-ssn.ensures.value in
     let put = rw (c.new.ensures, c.none.ensures) at c.in_ok-send.ensures in
     rw (c.in_ok-push.ensures.items, number) (record {
-      so_far = rw next (starts-more c.loop-start.trace.items c.starts-start-items.result.now c.loop-start.start-index c.start-item.result c.loop-start-test.true c.start-item.is ∙ so_far.so_far);
+      so_far = sym next ∙ so_far.so_far;
       made = omega (arith, c.in_ok-push.ensures.len, so_far.made);
       shape = start-shape c.members.ensures.rules c.starts-start-items.ensures c.loop-start-test.true c.start-item.is so_far.shape _ put;
       sent = λ q p.

@@ -1,6 +1,5 @@
 use Rattle.fbl_group.proofs.Common.{arith, is_lost_receipt_of, count_by_more_yes, count_by_more_no}
 use Rattle.fbl_group.proofs.strike.count_lost.Goals as goal
-use Rattle.fbl_group.proofs.strike.count_lost.Goals.{then-is_lost_receipt, else-is_lost_receipt}
 
 pub loop-event-preserved : goal.loop-event-preserved
 loop-event-preserved g c =

@@ -1,6 +1,5 @@
 use Rattle.fbl_group.proofs.Common.{arith, ◌≡◌, Some, sym, ap, ◌∙◌, determinant_of, mark_of}
 use Rattle.fbl_group.proofs.strike.is_lost_receipt.Goals as goal
-use Rattle.fbl_group.proofs.strike.is_lost_receipt.Goals.{then-is_likely_held, else-is_likely_held}
 
 pub returns-after-is_likely_held : goal.returns-after-is_likely_held
 returns-after-is_likely_held g c =

@@ -1,8 +1,8 @@
 use Rattle.fbl_history.proofs.Common.{◌≡◌, ap, ◌∙◌, sym, arith, refl, Settings, MemberRecord, logged_note, rules}
 use Rattle.fbl_history.proofs.Following.{IsNextReceipt, sender, may-follow, is-next, received-few, receiver-read, has-note, note-read, has-room, state-is, past-receipt}
 use Rattle.fbl_history.proofs.states.replay.Goals as goal
-use Rattle.fbl_history.proofs.states.replay.Given.{Over}
 use Rattle.fbl_history.proofs.states.replay.Goals.{After-recoverable, After-log_note, After-members}
+use Rattle.fbl_history.proofs.states.replay.Given.{Over}
 
 known : (g : Over) (c : After-recoverable g) → IsNextReceipt g.B.Behaviour.next c.args.group.now c.args.members.now c.args.place c.args.receipt
 known g c = record { sound = c.recoverable.ensures.sound; replayed = c.requires.before; here = c.requires.here }

@@ -4,12 +4,4 @@ use Rattle.fbl_law.proofs.NeverStuck.{never_stuck}
 use Rattle.fbl_law.proofs.laws.recovery_law.Goals as goal
 
 pub returns : goal.returns
-returns c = record {
-  sound = recovery_keeps;
-  closed = cut_is_closed;
-  recorded = cut_is_recorded;
-  holders = recovery_gains_holders;
-  lawful = cut_is_lawful;
-  replay = never_stuck;
-  stays = stays_is_recorded;
-}
+returns c = assumption (recovery_keeps, stays_is_recorded, cut_is_closed, cut_is_recorded, recovery_gains_holders, cut_is_lawful, never_stuck)

@@ -1,9 +1,7 @@
-use Rattle.fbl_play.proofs.Common.{List, take, Account, IsTold}
-use Rattle.fbl_play.proofs.RunTexts.{IsPlayed}
+use Rattle.fbl_play.proofs.Told.{IsPlayed}
 use Rattle.fbl_play.proofs.engine.play_with.Given as goal
 
 abbrev pub invariant-loop-command : goal.invariant-loop-command
 invariant-loop-command g l =
-    (accounts : List Account)
-    × IsPlayed g.B.Behaviour.next l.workers l.fn.config l.commands l.command-index accounts l.group (g.W.Write.contents l.fn.writer) (g.W.Write.contents l.writer)
-    × IsTold g.O.Observer.hears_before g.O.Observer.hears_after (take l.command-index l.commands) accounts l.fn.observer l.observer
+    IsPlayed g.O.Observer.hears_before g.O.Observer.hears_after g.B.Behaviour.next l.workers l.fn.config l.commands l.command-index l.group
+    (g.W.Write.contents l.fn.writer) (g.W.Write.contents l.writer) l.fn.observer l.observer

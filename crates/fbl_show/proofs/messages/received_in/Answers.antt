@@ -1,6 +1,5 @@
 use Rattle.fbl_show.proofs.Common.{◌≡◌, ◌||◌, ◌+◌, ◌∙◌, sym, ap, drop, arith, ◌∷◌, at_drop_more, is_message, MessageName, has_standing_receipt, taken_by_column}
 use Rattle.fbl_show.proofs.messages.received_in.Goals as goal
-use Rattle.fbl_show.proofs.messages.received_in.Goals.{in-Some+in_ok-insert, in_default}
 
 pub loop-column-preserved : goal.loop-column-preserved
 loop-column-preserved c m =
@@ -12,6 +11,6 @@ loop-column-preserved c m =
     at_drop_more (λ l. has_standing_receipt l m) columns i x (omega arith) ∙ ap (λ y. has_standing_receipt (y ∷ rest) m) (sym c.column-item.is) in
     let was = c.loop-column.invariant m in
     elim c.match-message_taken.branch [
-      | in-Some+in_ok-insert w ↦ (let now = w.in_ok-insert.ensures.updates.0 m in grind (arith, here, was, now))
-      | in_default w ↦ grind (arith, here, was)
+      | goal.in-Some+in_ok-insert w ↦ (let now = w.in_ok-insert.ensures.updates.0 m in grind (arith, here, was, now))
+      | goal.in_default w ↦ grind (arith, here, was)
     ]

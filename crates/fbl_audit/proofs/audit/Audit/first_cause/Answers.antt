@@ -1,4 +1,4 @@
-use Rattle.fbl_audit.proofs.Common.{◌≡◌, ◌<◌, length, ap, ◌∙◌, sym, arith, below_more, false≢true, At-below}
+use Rattle.fbl_audit.proofs.Common.{length, ap, ◌∙◌, sym, arith, below_more, false≢true, At-below}
 use Rattle.fbl_audit.proofs.audit.Audit.first_cause.Goals as goal
 
 pub loop-place-preserved : goal.loop-place-preserved
@@ -6,7 +6,4 @@ loop-place-preserved c = below_more _ _ c.loop-place.invariant (λ cause. false�
 
 pub returns-clause-first : goal.returns-clause-first
 returns-clause-first c i cause =
-    let dump = c.args.self.now in
-    let events : c.events-place-end.result.now ≡ dump.events = c.events-place-end.ensures.events ∙ ap (λ x. x.events) c.self.view_is in
-    let within : i < c.loop-place.place = omega (arith, At-below dump.events i cause.0 cause.1, ap length events) in
-    c.loop-place.invariant i within cause
+    c.loop-place.invariant i (omega (arith, At-below c.args.self.now.events i cause.0 cause.1, ap length c.events-events.ensures.events)) cause

@@ -17,8 +17,7 @@ returns-clause-paths c =
     let dump = c.args.self.now in
     let i = c.in-Some.place in
     let first : IsFirstCause dump c.args.member i = c.in-Some.ensures.first in
-    let strike = c.strike.ensures ∙ ap (λ x. x.strike) c.self.view_is in
-    let left : set.contains dump.strike c.args.member ≡ false = ap (λ s. set.contains s c.args.member) (sym strike) ∙ sym c.has.ensures ∙ c.if-has.false in
+    let left : set.contains dump.strike c.args.member ≡ false = ap (λ s. set.contains s c.args.member) (sym c.strike.ensures) ∙ sym c.has.ensures ∙ c.if-has.false in
     let origin : c.in_ok-paths.paths ≡ record { events = dump.events; place = i } = rw c.self.view_is at c.in_ok-paths.ensures in
     let orphan = (orphan_by_cause dump c.args.member c.first_cause.ensures.rules.events).1 (left, (i, first.0)) in
     IfOk-weaker c.to.result _ _ (λ found path_to. IfSome_then found path_to (λ path to. (orphan, (i, first, (rw origin at to))))) c.to.ensures.paths

@@ -1,4 +1,4 @@
-use Rattle.fbl_audit.proofs.Common.{◌≡◌, ◌<◌, ◌+◌, length, arith, ◌∙◌, ap, nat_cmp_total, At-below, IsCause, IsDump}
+use Rattle.fbl_audit.proofs.Common.{◌<◌, ◌+◌, length, arith, ap, nat_cmp_total, At-below, IsCause}
 use Rattle.std.specs.FinSet as set
 use Rattle.fbl_audit.proofs.Causes.{orphan_by_cause}
 use Rattle.fbl_audit.proofs.Following.{AreReached-next, AreReached-none, contains-both}
@@ -18,17 +18,14 @@ loop-place-preserved c =
 pub returns : goal.returns
 returns c q =
     let dump = c.args.self.now in
-    let rules : IsDump dump = rw c.self.view_is at c.events-place-end.ensures.rules in
-    let events : c.events-place-end.result.now ≡ dump.events = c.events-place-end.ensures.events ∙ ap (λ x. x.events) c.self.view_is in
-    let strike : c.strike.result ≡ dump.strike = c.strike.ensures ∙ ap (λ x. x.strike) c.self.view_is in
-    let orphan = orphan_by_cause dump q rules.events in
+    let orphan = orphan_by_cause dump q c.events-place-end.ensures.rules.events in
     let left = set.contains-difference nat_cmp_total c.loop-place.reached dump.strike q in
     let reached = c.loop-place.invariant q in
-    rw (c.without.ensures, strike) (
+    rw (c.without.ensures, c.strike.ensures) (
       λ h. (let w = reached.0 (grind (arith, left)) in orphan.1 (grind (arith, left), (w.0, w.2))),
       λ o.
           let why = orphan.0 o in
-          let within : why.1.0 < c.loop-place.place = omega (arith, At-below dump.events why.1.0 why.1.1.0 why.1.1.1, ap length events) in
+          let within : why.1.0 < c.loop-place.place = omega (arith, At-below dump.events why.1.0 why.1.1.0 why.1.1.1, ap length c.events-place-end.ensures.events) in
           let is = reached.1 (why.1.0, within, why.1.1) in
           grind (arith, left, is, why.0),
     )

@@ -1,6 +1,6 @@
-use Rattle.fbl_audit.proofs.Common.{ap, arith, length, refl, unwrap_or, ◌-◌, slice_get_read, At, WellFormed}
+use Rattle.fbl_audit.proofs.Common.{◌≡◌, ap, arith, length, refl, unwrap_or, ◌-◌, slice_get_read, At, WellFormed}
 use Rattle.std.specs.FinSet as set
-use Rattle.fbl_audit.proofs.Following.{Knows-none, Seen-all, Seen-more, member_within}
+use Rattle.fbl_audit.proofs.Following.{Knows-none, Seen-more, member_within}
 use Rattle.fbl_audit.proofs.dependents.Dependents.of.Goals as goal
 
 pub loop-place-init : goal.loop-place-init
@@ -23,5 +23,8 @@ loop-place-preserved c =
     c.dependents-members.result c.loop-place.invariant c.loop-place-test.true at within c.dependents-members.ensures c.in_ok-add.ensures.members c.in_ok-add.ensures.messages)
 
 pub returns : goal.returns
-returns c = rw (← c.events-events.ensures.events)
-    (Seen-all c.events-events.result.now c.loop-place.place _ _ (record { from_the_end = c.loop-place.from_the_end }) c.loop-place-test.false c.loop-place.invariant)
+returns c =
+    let seen = c.loop-place.invariant in
+    let none = c.loop-place-test.false in
+    let all : length c.loop-place.from_the_end.items ≡ length c.events-events.result.now = omega (arith, seen.count, none) in
+    rw (← c.events-events.ensures.events) (record { places = all; members = λ i q within. rw all (seen.found i q (omega (arith, none)) within) })

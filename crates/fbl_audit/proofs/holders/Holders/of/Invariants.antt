@@ -1,8 +1,11 @@
-use Rattle.fbl_audit.proofs.Common.{◌≡◌, map, take, unwrap_or, filter, Determinant, same_determinant}
+-- the holders found so far and those that the rest of the pairs name are all
+use Rattle.fbl_audit.proofs.Common.{◌≡◌, ◌||◌, ℕ, drop, list_any, unwrap_or, Determinant, same_determinant, holders_of}
 use Rattle.std.specs.FinSet as set
 use Rattle.std.specs.HashMap as hash_map
+use Rattle.fbl_audit.proofs.Checks.{is_pair}
 use Rattle.fbl_audit.proofs.holders.Holders.of.Given as goal
 
 abbrev pub invariant-loop-holder : goal.invariant-loop-holder
-invariant-loop-holder l = (d : Determinant) → unwrap_or (hash_map.get same_determinant l.index d) set.empty
-    ≡ set.from_list (map (λ h. h.0) (filter (λ h. same_determinant h.1 d) (take l.holder-index l.holder-items)))
+invariant-loop-holder l = (d : Determinant) (q : ℕ)
+    → (set.contains (unwrap_or (hash_map.get same_determinant l.index d) set.empty) q || list_any (is_pair d q) (drop l.holder-index l.holder-items))
+    ≡ set.contains (holders_of l.dump d) q

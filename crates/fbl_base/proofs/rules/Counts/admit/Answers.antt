@@ -2,8 +2,8 @@ use Rattle.fbl_base.proofs.Common.{◌≡◌, ◌<◌, List, MatchOption, MayFol
 use Rattle.fbl_base.proofs.Breached.{room}
 use Rattle.fbl_base.proofs.CountedLaws.{judged, named, admitted}
 use Rattle.fbl_base.proofs.rules.Counts.admit.Goals as goal
-use Rattle.fbl_base.proofs.rules.Counts.admit.Given.{Over}
 use Rattle.fbl_base.proofs.rules.Counts.admit.Goals.{After-broken_rule}
+use Rattle.fbl_base.proofs.rules.Counts.admit.Given.{Over}
 
 pub returns-then-place-ge8192 : goal.returns-then-place-ge8192
 returns-then-place-ge8192 g c =

@@ -2,7 +2,6 @@ use Rattle.fbl_group.proofs.Common.{◌≡◌, ◌||◌, arith, refl}
 use Rattle.std.specs.FinSet as set
 use Rattle.fbl_group.proofs.Queues.{found, in-channels, replacing-kept, replacing-other, within_row}
 use Rattle.fbl_group.proofs.channels.Channels.drop_at.Goals as goal
-use Rattle.fbl_group.proofs.channels.Channels.drop_at.Goals.{then-has_either, else-has_either}
 
 pub index_mut-requires-then-has_either : goal.index_mut-requires-then-has_either
 index_mut-requires-then-has_either g c =
@@ -16,9 +15,9 @@ loop-receiver-preserved g c =
     let asked : c.has_either.result ≡ (set.contains c.args.set c.loop-sender.sender || set.contains c.args.set c.loop-receiver.receiver) = cc in
     let places = in-channels so_far.shape c.loop-sender-test.true c.loop-receiver-test.true in
     elim c.if-has_either.branch [
-      | then-has_either w ↦
+      | goal.then-has_either w ↦
           let channel = found c.loop-receiver.self w.from.ensures w.from-then-has_either.ensures places w.index_mut.ensures.value w.index_mut-then-has_either.ensures.value in
           rw (w.self-is, channel.changed w.clear.new.self w.clear.ensures.items)
           (replacing-other so_far c.loop-sender-test.true c.loop-receiver-test.true asked w.if-has_either.true refl)
-      | else-has_either w ↦ rw w.self-is (replacing-kept so_far c.loop-sender-test.true c.loop-receiver-test.true asked w.if-has_either.false)
+      | goal.else-has_either w ↦ rw w.self-is (replacing-kept so_far c.loop-sender-test.true c.loop-receiver-test.true asked w.if-has_either.false)
     ]

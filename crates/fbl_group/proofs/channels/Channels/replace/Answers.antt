@@ -2,7 +2,6 @@ use Rattle.fbl_group.proofs.Common.{◌≡◌, ◌||◌, inr, refl, ap, ◌∙�
 use Rattle.std.specs.FinSet as set
 use Rattle.fbl_group.proofs.Queues.{found, in-channels, replacing-kept, replacing-other, within_row}
 use Rattle.fbl_group.proofs.channels.Channels.replace.Goals as goal
-use Rattle.fbl_group.proofs.channels.Channels.replace.Goals.{then-has_either, else-has_either}
 
 pub index_mut-requires-then-has_either : goal.index_mut-requires-then-has_either
 index_mut-requires-then-has_either g c =
@@ -26,7 +25,7 @@ loop-receiver-preserved g c =
     let theirs = c.loop-receiver.invariant.left in
     let asked : c.has_either.result ≡ (set.contains c.args.down q || set.contains c.args.down p) = cc in
     elim c.if-has_either.branch [
-      | then-has_either w ↦
+      | goal.then-has_either w ↦
           let channel = found c.loop-receiver.self w.from.ensures w.from-then-has_either.ensures (in-channels ours.shape below_q below_p)
           w.index_mut.ensures.value w.index_mut-then-has_either.ensures.value in
           let other = found c.loop-receiver.again w.from-then-has_either-2.ensures w.from-then-has_either-3.ensures (in-channels theirs.shape below_q below_p)
@@ -37,7 +36,7 @@ loop-receiver-preserved g c =
             replaced = replacing-other ours below_q below_p asked w.if-has_either.true refl;
             left = replacing-other theirs below_q below_p asked w.if-has_either.true refl;
           })
-      | else-has_either w ↦
+      | goal.else-has_either w ↦
           rw (w.self-is, w.again-is) (record {
             replaced = replacing-kept ours below_q below_p asked w.if-has_either.false;
             left = replacing-kept theirs below_q below_p asked w.if-has_either.false;

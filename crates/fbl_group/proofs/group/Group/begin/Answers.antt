@@ -1,10 +1,7 @@
 use Rattle.fbl_group.proofs.Common.{subst, IsSound, arith}
-use Rattle.fbl_group.proofs.Queues.{made-more, made-none}
+use Rattle.fbl_group.proofs.Queues.{made-more}
 use Rattle.fbl_group.proofs.Recovering.{begun}
 use Rattle.fbl_group.proofs.group.Group.begin.Goals as goal
-
-pub loop-number-init : goal.loop-number-init
-loop-number-init g c = rw c.new-rebuilt.ensures.items (made-none _ _)
 
 pub loop-number-preserved : goal.loop-number-preserved
 loop-number-preserved g c =

@@ -1,5 +1,12 @@
-use Rattle.fbl_group.proofs.Promised.{keeps_holders}
+use Rattle.fbl_group.proofs.Common.{inl, inr, table, down_or_up}
 use Rattle.fbl_group.proofs.group.Group.crash.Goals as goal
 
+-- the recovery takes no receipt that is left from anybody who held it before the strike: a survivor holds it still, and who is down gets it
 pub returns-in-Ok-recover-clause-holders : goal.returns-in-Ok-recover-clause-holders
-returns-in-Ok-recover-clause-holders g c = keeps_holders _ _ _ c.args.set c.in-Ok.ensures.struck.1.0 c.in-Ok-recover.ensures.left c.in-Ok-recover.ensures.holders
+returns-in-Ok-recover-clause-holders g c d m left holds =
+    let struck = c.in-Ok.ensures.struck.1.0 in
+    let gains = c.in-Ok-recover.ensures.holders d m in
+    elim (down_or_up c.strike.new.self.down m) [
+      | inl is ↦ gains.1 (inr (is, ((c.in-Ok-recover.ensures.left.exactly d).0 left).1))
+      | inr up ↦ gains.1 (inl (up, rw (struck.survivors m up, table) holds.1))
+    ]

@@ -1,3 +1,4 @@
+use Rattle.fbl_group.proofs.Common.{arith}
 use Rattle.fbl_group.proofs.Deciding as deciding
 use Rattle.fbl_group.proofs.group.Group.deliver.Goals as goal
 
@@ -13,6 +14,4 @@ returns-in-Err-commit-clause-refused g c =
     rw c.of_commit.ensures answered
 
 pub returns-in-Err-clause-refused : goal.returns-in-Err-clause-refused
-returns-in-Err-clause-refused g c =
-    let answered = deciding.take_refused g.B.Behaviour.next c.args.self.now c.args.to c.args.from c.in-Err.refusal c.in-Err.ensures.refused in
-    rw c.of_take.ensures answered
+returns-in-Err-clause-refused g c = rw c.of_take.ensures grind (arith, c.in-Err.ensures.refused)

@@ -2,18 +2,17 @@ use Rattle.fbl_group.proofs.Common.{List, ap, ◌∙◌, arith, Entry}
 use Rattle.fbl_group.proofs.Recovering.{tables-given}
 use Rattle.fbl_group.proofs.GivingTables.{give-one, give-none}
 use Rattle.fbl_group.proofs.group.Group.give_tables.Goals as goal
-use Rattle.fbl_group.proofs.group.Group.give_tables.Goals.{then-has+in_ok-table, else-has}
 
 pub loop-number-preserved : goal.loop-number-preserved
 loop-number-preserved g c =
     let member = c.at-member.ensures in
     elim c.if-has.branch [
-      | then-has+in_ok-table w ↦
+      | goal.then-has+in_ok-table w ↦
           rw (w.rebuilt-is, w.gathered-is) (give-one c.loop-number.invariant w.from.ensures
           (omega (arith, c.loop-number-test.true, c.size-number-end.ensures.value, c.requires.replayed.replaying.size)) (cc) w.index_mut.ensures.value
           (w.set_table.ensures ∙ ap (λ (t : List Entry). record w.index_mut.result.now { table = t }) w.in_ok-table.ensures.table)
           (λ p past there. w.in_ok-table.ensures.left p (omega (arith, past, member)) there))
-      | else-has w ↦ rw (w.rebuilt-is, w.gathered-is) (give-none c.loop-number.invariant (cc))
+      | goal.else-has w ↦ rw (w.rebuilt-is, w.gathered-is) (give-none c.loop-number.invariant (cc))
     ]
 
 pub returns : goal.returns

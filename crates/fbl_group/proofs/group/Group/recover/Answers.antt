@@ -1,6 +1,5 @@
-use Rattle.fbl_group.proofs.Common.{recovery_leaves_recorded, group_recovery_gains_holders}
+use Rattle.fbl_group.proofs.Common.{arith, cut-undone, recovery_leaves_recorded, group_recovery_gains_holders}
 use Rattle.fbl_law.specs.RecoveryLaws.{RecoveryLeavesRecorded, GroupRecoveryGainsHolders}
-use Rattle.fbl_group.proofs.Promised.{undoes_lost}
 use Rattle.fbl_group.proofs.group.Group.recover.Goals as goal
 
 pub returns-in-Ok-clause-left : goal.returns-in-Ok-clause-left
@@ -8,7 +7,7 @@ unfolding RecoveryLeavesRecorded
 returns-in-Ok-clause-left g c = recovery_leaves_recorded g.B.Behaviour.next _ _ c.in-Ok.ensures.recovered.recovery c.promises.ensures.sound
 
 pub returns-in-Ok-clause-undone : goal.returns-in-Ok-clause-undone
-returns-in-Ok-clause-undone g c = undoes_lost g.B.Behaviour.next _ _ _ c.promises.ensures.sound c.in-Ok.ensures.recovered
+returns-in-Ok-clause-undone g c = omega (arith, cut-undone c.promises.ensures.sound c.in-Ok.ensures.recovered.recovery.trace, c.in-Ok.ensures.recovered.undone)
 
 pub returns-in-Ok-clause-holders : goal.returns-in-Ok-clause-holders
 unfolding GroupRecoveryGainsHolders

@@ -1,4 +1,4 @@
-use Rattle.fbl_group.proofs.Common.{◌∙◌, arith, rules, replaying-next, replaying-room}
+use Rattle.fbl_group.proofs.Common.{◌∙◌, arith, replaying-next, replaying-room}
 use Rattle.fbl_group.proofs.Recovering.{is-record, replays-one}
 use Rattle.fbl_group.proofs.group.Group.replay_next.Goals as goal
 

@@ -1,11 +1,10 @@
 use Rattle.fbl_group.proofs.Recovering.{round-step, round-up}
 use Rattle.fbl_group.proofs.group.Group.replay_round.Goals as goal
-use Rattle.fbl_group.proofs.group.Group.replay_round.Goals.{then-has+in_ok-moved, else-has}
 
 pub loop-number-preserved : goal.loop-number-preserved
 loop-number-preserved g c =
     elim c.if-has.branch [
-      | then-has+in_ok-moved w ↦
+      | goal.then-has+in_ok-moved w ↦
           rw (w.rebuilt-is, w.moved-is) (round-step _ w.replay_next.new.rebuilt.items c.at-member.ensures c.loop-number.invariant w.in_ok-moved.ensures)
-      | else-has w ↦ rw (w.rebuilt-is, w.moved-is) (round-up c.loop-number.invariant (cc))
+      | goal.else-has w ↦ rw (w.rebuilt-is, w.moved-is) (round-up c.loop-number.invariant (cc))
     ]

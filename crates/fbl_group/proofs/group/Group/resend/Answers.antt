@@ -1,9 +1,6 @@
 use Rattle.fbl_group.proofs.Common.{map, sym, ap, ◌∙◌, arith, deque_items, length-map, working, sent_again}
-use Rattle.fbl_group.proofs.Queues.{made-mapped, made-none}
+use Rattle.fbl_group.proofs.Queues.{made-mapped}
 use Rattle.fbl_group.proofs.group.Group.resend.Goals as goal
-
-pub loop-number-init : goal.loop-number-init
-loop-number-init g c = rw c.new-rows.ensures.items (made-none _ _)
 
 pub loop-number-preserved : goal.loop-number-preserved
 loop-number-preserved g c =

@@ -1,12 +1,6 @@
 use Rattle.fbl_group.proofs.Common.{ap, ◌∙◌, arith, deque_items, length-map, working, sent_again}
-use Rattle.fbl_group.proofs.Queues.{made-none, made-mapped}
+use Rattle.fbl_group.proofs.Queues.{made-mapped}
 use Rattle.fbl_group.proofs.group.Group.resend_from.Goals as goal
-
-pub loop-number-init : goal.loop-number-init
-loop-number-init g c = record {
-  made = rw c.new-row.ensures.items (made-none _ _);
-  passed = tt;
-}
 
 pub loop-number-preserved : goal.loop-number-preserved
 loop-number-preserved g c =

@@ -1,5 +1,5 @@
 use Rattle.fbl_group.proofs.Common.{◌∙◌}
-use Rattle.fbl_group.proofs.Checkpointing.{is_checkpoint, is_sound, is_fold}
+use Rattle.fbl_group.proofs.Checkpointing.{is_checkpoint, is_sound}
 use Rattle.fbl_group.proofs.group.Group.save.Goals as goal
 
 pub invariant_of-self : goal.invariant_of-self
@@ -9,7 +9,3 @@ invariant_of-self g c =
 pub returns-clause-saved : goal.returns-clause-saved
 returns-clause-saved g c =
     is_checkpoint c.self.invariant c.self.view_is (c.from-place.ensures ∙ c.number.ensures.value) c.requires.below c.requires.nobody_down c.in_ok-copy.ensures c.index.ensures
-
-pub returns-clause-fold : goal.returns-clause-fold
-returns-clause-fold g c =
-    is_fold c.self.invariant c.self.view_is (c.from-place.ensures ∙ c.number.ensures.value) c.requires.below c.requires.nobody_down c.in_ok-copy.ensures c.index.ensures

@@ -1,6 +1,5 @@
 use Rattle.fbl_group.proofs.Common.{◌≡◌, length, arith, rules, refl, ap, ◌∙◌, room_in}
-use Rattle.fbl_group.proofs.BringingBack.{on_err}
-use Rattle.fbl_group.proofs.Queues.{is-there, length-messages, made-fits}
+use Rattle.fbl_group.proofs.Queues.{length-messages, made-fits}
 use Rattle.fbl_group.proofs.Planning as planning
 use Rattle.fbl_group.proofs.group.Group.settle.Goals as goal
 
@@ -10,7 +9,7 @@ reserve_from-requires-clause-receivers g c =
 
 pub unwrap-wire-requires : goal.unwrap-wire-requires
 unwrap-wire-requires g c =
-    is-there c.front.result (planning.not_empty g.met.B.Behaviour.sends_allowed c.self.invariant c.self.view_is c.requires c.reserve_from.ensures.same) c.front.ensures.none
+    grind (arith, planning.not_empty g.met.B.Behaviour.sends_allowed c.self.invariant c.self.view_is c.requires c.reserve_from.ensures.same, c.front.ensures.none)
 
 pub overflow_cast-carried : goal.overflow_cast-carried
 overflow_cast-carried g c =
@@ -30,8 +29,11 @@ invariant_of-self-in_err-made g c =
 
 pub returns-in_err-made-clause-unchanged : goal.returns-in_err-made-clause-unchanged
 returns-in_err-made-clause-unchanged g c =
-    on_err c.from_residual-in_err-made.result (planning.stays g.met.B.Behaviour.sends_allowed c.self.invariant c.self.view_is c.requires c.reserve_from.ensures.same c.from.result
-    c.in_err-made.ensures.unchanged c.index_mut-member.ensures.value c.reserve.ensures.items ∙ c.self.view_is)
+    grind (
+      arith,
+      planning.stays g.met.B.Behaviour.sends_allowed c.self.invariant c.self.view_is c.requires c.reserve_from.ensures.same c.from.result
+          c.in_err-made.ensures.unchanged c.index_mut-member.ensures.value c.reserve.ensures.items ∙ c.self.view_is,
+    )
 
 pub take_and_send-requires-clause-receivers : goal.take_and_send-requires-clause-receivers
 take_and_send-requires-clause-receivers g c =

@@ -2,18 +2,17 @@ use Rattle.fbl_group.proofs.Common.{◌≡◌, ◌∙◌, arith}
 use Rattle.std.specs.FinSet as set
 use Rattle.fbl_group.proofs.PuttingBack.{put-down, put-up, put-end}
 use Rattle.fbl_group.proofs.rebuilt.Rebuilt.put_back.Goals as goal
-use Rattle.fbl_group.proofs.rebuilt.Rebuilt.put_back.Goals.{then-has, else-has}
 
 pub loop-number-preserved : goal.loop-number-preserved
 loop-number-preserved g c =
     let asked : set.contains c.args.self.down c.loop-number.number ≡ c.has.result = cc in
     elim c.if-has.branch [
-      | then-has w ↦
+      | goal.then-has w ↦
           rw (w.members-is, w.records-is) (put-down c.loop-number.invariant w.swap.new.y c.from-place.ensures
           (omega (arith, c.loop-number-test.true, c.requires.members, c.args.members.now.ok.0))
           (omega (arith, c.loop-number-test.true, c.requires.records, c.args.self.records.ok.0))
           (asked ∙ w.if-has.true) (rw w.swap.ensures.x_after w.index_mut-then-has.ensures.value))
-      | else-has w ↦
+      | goal.else-has w ↦
           rw (w.members-is, w.records-is) (put-up c.loop-number.invariant (asked ∙ w.if-has.false))
     ]
 

@@ -1,40 +1,31 @@
-use Rattle.fbl_member.proofs.Common.{◌-◌, Some, ◌∙◌, arith, length, refl, take, piggybacked, slice_get_read, HasRoom, All-pop}
-use Rattle.fbl_member.proofs.Logs.{messages-next, made-carried}
-use Rattle.fbl_member.proofs.Once.{IsOnce-piggybacked}
+use Rattle.fbl_member.proofs.Common.{◌≡◌, ℕ, ◌+◌, List, Option, Some, None, Bor, IfSome, All, arith, length, sym, slice_get, option_copied, append_assoc, at_drop_more, messages_from}
+use Rattle.fbl_member.proofs.Common.{piggybacked, HasRoom, All-pop, All-push, Message, slice_get_within, get_or_from_slice_get}
 use Rattle.fbl_member.proofs.buffers.Buffers.into_wires.Goals as goal
+
+-- what is so of each is so of the one at a place
+so-at : {X : Type 0} (P : X → Type 0) (xs : List X) (i : ℕ) (read : Option (Bor X)) → All P xs → option_copied read ≡ slice_get xs i → IfSome read (λ x. P x.now)
+so-at P xs i None all at = tt
+so-at P xs i (Some x) all at = rw (get_or_from_slice_get xs i x.now x.now (sym at)) at (all i x.now (slice_get_within xs i x.now (sym at)))
+
+pub next_carried-carried-requires-clause-made : goal.next_carried-carried-requires-clause-made
+next_carried-carried-requires-clause-made g c =
+    so-at (λ (w : Message). w.carried ≡ piggybacked c.args.f c.args.table.now) c.deref.result.now _ _ (rw c.deref.ensures.value c.loop-place.invariant.carried) c.last.ensures.value
+
+pub next_carried-carried-requires-clause-room : goal.next_carried-carried-requires-clause-room
+next_carried-carried-requires-clause-room g c =
+    (All-pop (HasRoom (length (piggybacked c.args.f c.args.table.now))) _ c.take_last.new.self.items (Some c.take_last.result) c.take_last.ensures.items c.loop-place.invariant.room).1
 
 pub loop-place-preserved : goal.loop-place-preserved
 loop-place-preserved g c =
     let carried = piggybacked c.args.f c.args.table.now in
     let i = c.loop-place.place in
-    let s = c.index-sends-place.result in
-    let at = slice_get_read c.args.sends.now _ i s refl c.loop-place-test.true c.index-sends-place.is in
-    let next = messages-next c.args.me c.args.before carried c.args.sends.now i s at c.loop-place-test.true in
-    let popped =
-    All-pop (HasRoom (length carried)) c.loop-place.lists.items c.take_last.new.self.items (Some c.take_last.result)
-    c.take_last.ensures.items c.loop-place.invariant.room in
+    let next = at_drop_more (messages_from c.args.me (c.args.before + i) carried) c.args.sends.now i c.index-sends-place.result c.loop-place-test.true in
+    let is : c.new.result.carried ≡ carried = rw c.new.ensures c.next_carried-carried.ensures in
     record {
-      so_far = rw (c.push_reserved.ensures.items, next, c.loop-place.invariant.so_far, c.new.ensures, c.next_carried-carried.ensures) refl;
-      wires = omega (arith, c.push_reserved.ensures.len, c.loop-place.invariant.wires);
-      wires_room = omega (arith, c.push_reserved.ensures.capacity, c.loop-place.invariant.wires_room);
-      left = omega (arith, c.take_last.ensures.len, c.loop-place.invariant.left);
-      room = popped.0;
+      so_far = grind (arith, next, append_assoc);
+      carried = rw c.push_reserved.ensures.items (All-push (λ (w : Message). w.carried ≡ carried) c.loop-place.wires.items c.new.result c.loop-place.invariant.carried is);
+      wires = omega arith;
+      wires_room = omega arith;
+      left = omega arith;
+      room = (All-pop (HasRoom (length carried)) _ c.take_last.new.self.items (Some c.take_last.result) c.take_last.ensures.items c.loop-place.invariant.room).0;
     }
-
-pub new-requires : goal.new-requires
-new-requires g c = rw c.next_carried-carried.ensures (IsOnce-piggybacked c.args.f c.args.table.now c.len-distinct_entries.ensures.unique)
-
-pub next_carried-carried-requires-clause-made : goal.next_carried-carried-requires-clause-made
-next_carried-carried-requires-clause-made g c =
-    let carried = piggybacked c.args.f c.args.table.now in
-    let wires = c.deref.result.now in
-    let are = c.deref.ensures.value ∙ c.loop-place.invariant.so_far in
-    made-carried c.args.me c.args.before carried (take c.loop-place.place c.args.sends.now) wires (length wires - 1) c.last.result are c.last.ensures.value
-
-pub next_carried-carried-requires-clause-room : goal.next_carried-carried-requires-clause-room
-next_carried-carried-requires-clause-room g c =
-    let carried = piggybacked c.args.f c.args.table.now in
-    let popped =
-    All-pop (HasRoom (length carried)) c.loop-place.lists.items c.take_last.new.self.items (Some c.take_last.result)
-    c.take_last.ensures.items c.loop-place.invariant.room in
-    popped.1

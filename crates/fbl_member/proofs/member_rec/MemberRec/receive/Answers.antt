@@ -1,8 +1,8 @@
 use Rattle.fbl_member.proofs.Common.{◌≡◌, ◌+◌, ◌≤◌, ◌++◌, ap, arith, length, refl, Determinant, piggybacked, HasRoom, All-weaker}
 use Rattle.fbl_member.proofs.Logs.{bounded, numbered-more}
 use Rattle.fbl_member.proofs.member_rec.MemberRec.receive.Goals as goal
-use Rattle.fbl_member.proofs.member_rec.MemberRec.receive.Given.{Over}
 use Rattle.fbl_member.proofs.member_rec.MemberRec.receive.Goals.{After-unwrap}
+use Rattle.fbl_member.proofs.member_rec.MemberRec.receive.Given.{Over}
 
 -- the log with the step's sends at its end
 grown : (g : Over) (c : After-unwrap g) → c.extend_from_slice.new.self.items ≡ c.self.inside.log.items ++ c.args.outcome.now.sends.items

@@ -1,9 +1,10 @@
-use Rattle.fbl_table.proofs.Common.{◌≡◌, ◌++◌, [], ◌∷◌, ◌∙◌, None, ap, sym, length, map, length-map, lookup, insert_entry, same_determinant, Entry, listed, entry_of}
-use Rattle.fbl_table.proofs.Adding.{Pairs, added_new, added_there, inserted, inserted_over, place_in, not_held-missing, place-missing}
-use Rattle.fbl_table.proofs.Indexing.{index-push, index-united}
+use Rattle.fbl_table.proofs.Common.{◌≡◌, ◌++◌, [], ◌∷◌, ◌∙◌, None, ap, or_parts, sym, map, length-map, lookup, insert_entry, same_determinant, Entry, listed, entry_of}
+use Rattle.fbl_table.proofs.Adding.{Pairs, added_new, added_there, inserted, inserted_over, place_in, not_held-missing, place-missing, value_there}
+use Rattle.fbl_table.proofs.Indexing.{index-push, index-put, open_less}
+use Rattle.fbl_table.proofs.Keeping.{keeps_stale}
 use Rattle.fbl_table.proofs.indexed.IndexedEntries.add_by_hash.Goals as goal
-use Rattle.fbl_table.proofs.indexed.IndexedEntries.add_by_hash.Given.{Over}
 use Rattle.fbl_table.proofs.indexed.IndexedEntries.add_by_hash.Goals.{After-unwrap-place}
+use Rattle.fbl_table.proofs.indexed.IndexedEntries.add_by_hash.Given.{Over}
 
 -- what the map did, once its answer is read
 module _ (g : Over) (c : After-unwrap-place g) where
@@ -36,9 +37,11 @@ pub returns-in-Some-clause-indexed : goal.returns-in-Some-clause-indexed
 returns-in-Some-clause-indexed g c is =
     let at = (goal.at.returns-in-Some-clause-indexed g c).After-unwrap-place in
     let old = c.args.self.now in
-    rw (returns-in-Some-clause-entries g c)
-    (index-united old.limit old.entries.entries c.args.entry c.in-Some.before (looked_up g at ∙ c.in-Some.is) old.stale c.closes.result
-    (rw c.union-united.ensures at c.closes.ensures) old.open_places.items is)
+    let found = looked_up g at ∙ c.in-Some.is in
+    let parts = or_parts old.stale c.closes.result in
+    rw (written g at, place g at, c.union-united.ensures, inserted_over (es g at) (entry g at).det c.in-Some.before _ _ found)
+    (index-put old.limit (es g at) _ c.in-Some.before _ (value_there (es g at) (entry g at).det c.in-Some.before found) (open_less old.limit c.in-Some.before c.args.entry.known)
+    _ (λ fresh. (rw c.union-united.ensures at c.closes.ensures) (parts fresh).1) old.open_places.items ((keeps_stale old _ (λ fresh. (parts fresh).0)).index is))
 
 pub returns-in-None-clause-entries : goal.returns-in-None-clause-entries
 returns-in-None-clause-entries g c =

@@ -1,7 +1,7 @@
-use Rattle.fbl_table.proofs.Common.{◌≡◌, ◌∙◌, sym, ap, arith, length, Entry, listed}
+use Rattle.fbl_table.proofs.Common.{◌≡◌, ◌∙◌, sym, or_parts}
 use Rattle.std.specs.FinSet as set
-use Rattle.fbl_table.proofs.Adding.{added_there, added-nothing, found_at, held_at, length_added_held}
-use Rattle.fbl_table.proofs.Indexing.{index-united}
+use Rattle.fbl_table.proofs.Adding.{added_there, added-nothing, found_at}
+use Rattle.fbl_table.proofs.Keeping.{keeps_more, keeps_stale}
 use Rattle.fbl_table.proofs.indexed.IndexedEntries.unite.Goals as goal
 
 pub returns-then-count-eq0-clause-entries : goal.returns-then-count-eq0-clause-entries
@@ -14,16 +14,9 @@ pub returns-clause-entries : goal.returns-clause-entries
 returns-clause-entries g c =
     let es = c.args.self.now.entries.entries in
     let found = found_at es c.args.det.now c.args.place _ c.len-distinct.ensures.unique c.requires c.index-before.ensures in
-    rw (c.union-united.ensures, found.0) (added_there es (record { det = c.args.det.now; known = c.args.known }) _ found.1)
+    rw (c.put.ensures.entries, c.union-united.ensures, found.0) (added_there es (record { det = c.args.det.now; known = c.args.known }) _ found.1)
 
 pub returns-clause-kept : goal.returns-clause-kept
 returns-clause-kept g c =
     let old = c.args.self.now in
-    let entry : Entry = record { det = c.args.det.now; known = c.args.known } in
-    let found = found_at old.entries.entries entry.det c.args.place _ c.len-distinct.ensures.unique c.requires c.index-before.ensures in
-    record {
-      index = λ is.
-          rw (returns-clause-entries g c)
-          (index-united old.limit old.entries.entries entry _ found.1 old.stale c.closes.result (rw c.union-united.ensures at c.closes.ensures) old.open_places.items is);
-      room = omega (arith, ap length (returns-clause-entries g c), length_added_held (listed old) entry (held_at (listed old) entry.det c.args.place c.requires));
-    }
+    keeps_more (keeps_stale old _ (λ fresh. (or_parts old.stale c.closes.result fresh).0)) c.put.ensures.kept
