@@ -1,22 +1,14 @@
 -- Dumps of a sound group.
-use Rattle.fbl_law.proofs.Common.{◌≡◌, ℕ, zero, suc, ◌+◌, ◌<◌, ◌≤◌, List, [], ◌∷◌, ◌++◌, length, map, get_or, refl, arith, append_assoc, length-append, Contains}
+use Rattle.fbl_law.proofs.Common.{◌≡◌, ℕ, zero, suc, ◌+◌, ◌<◌, ◌≤◌, List, [], ◌∷◌, length, map, get_or, refl, arith, length-append, Contains}
 use Rattle.fbl_law.proofs.Common.{zero-add, length-map, Contains-append_left, Contains-append_right, length-filter_map, Members, Determinant, mark_of, determinant_of, same_determinant, receipt_of}
 use Rattle.fbl_law.proofs.Common.{Has, Next, filter_map-At, At-below, Decides-same_determinant, Entry, Message, MemberRecord, blank, IsInFlight, Names, GroupRecord, member, marks, knowledge, receipts}
 use Rattle.fbl_law.proofs.Common.{IsSound, ◌*◌, IsDistinct, decided, add-zero, All-append, All-contains, All-map, All-nil, All, length-le_from_is_member, is_member-Decides, Send, Receipt, HeldAt}
 use Rattle.fbl_law.proofs.Common.{pairs_of, pairs_from, held_pairs, dump_of, HasDistinctTables}
-use Rattle.std.proofs.Common.{append-nil}
 use Rattle.fbl_law.specs.Dumps.{DumpObeysRules, DumpHasNoOrphan}
 use Rattle.fbl_law.proofs.Tables.{All-from}
 use Rattle.fbl_law.proofs.Lists.{Contains-at, Contains-map, Contains-changed, Contains-none}
 use Rattle.fbl_law.proofs.Promises.{any_survivors_hold}
 use Rattle.fbl_law.proofs.GroupFacts.{named_received, carried_received, trace_fits}
-
--- one more member
-pub pairs_from-push : (m : ℕ) (members : List MemberRecord) (x : MemberRecord) → pairs_from m (members ++ x ∷ []) ≡ pairs_from m members ++ pairs_of (m + length members) x.table
-pairs_from-push m [] x = simp (append-nil, add-zero)
-pairs_from-push m (y ∷ members) x =
-    let next : m + suc (length members) ≡ m + 1 + length members = omega arith in
-    simp (next, pairs_from-push (m + 1) members x, append_assoc)
 
 -- what holds of each member with each determinant of its table holds of the held pairs
 pairs_from-all : (P : ℕ × Determinant → Type 0) (m : ℕ) (members : List MemberRecord)

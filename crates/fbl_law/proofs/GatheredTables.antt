@@ -1,7 +1,7 @@
 -- What gathered tables have.
-use Rattle.fbl_law.proofs.Common.{◌≡◌, ℕ, zero, suc, ◌+◌, ◌<◌, List, [], ◌∷◌, ◌++◌, length, take, map, inl, inr, arith, refl, get_or, subst, ap, ◌∙◌, cases_eq}
-use Rattle.fbl_law.proofs.Common.{slice_index_or, Contains-append_left, Contains-append_right, Contains, fold_push, Members, Determinant, Entry, MemberRecord, blank, in_table, in_checkpoint, Includes}
-use Rattle.fbl_law.proofs.Common.{Names, Knowledge, table, checkpoint, IsDown, IsRecorded, gathered, recovery_table, map_more, All-append, All-cons, All-contains, All-from_get_or, All-map, All-nil}
+use Rattle.fbl_law.proofs.Common.{◌≡◌, ℕ, zero, suc, ◌<◌, List, [], ◌∷◌, ◌++◌, length, map, inl, inr, arith, refl, get_or, subst, cases_eq}
+use Rattle.fbl_law.proofs.Common.{Contains-append_left, Contains-append_right, Contains, Members, Determinant, Entry, MemberRecord, blank, in_table, in_checkpoint, Includes}
+use Rattle.fbl_law.proofs.Common.{Names, Knowledge, table, checkpoint, IsDown, IsRecorded, gathered, recovery_table, All-append, All-cons, All-contains, All-from_get_or, All-map, All-nil}
 use Rattle.fbl_law.proofs.Common.{Contains-get_or, list_any_at, held-gathered, gathered_all, saved_tables, All, All-head, All-tail, list_any, is_held, ◌||◌, IsHolder, IsSoundKnowledge}
 use Rattle.std.specs.FinSet as set
 use Rattle.fbl_law.proofs.Lists.{Contains-changed, Contains-map, Contains-here}
@@ -109,11 +109,3 @@ module _ {n f : ℕ} {r : Knowledge} (sound : IsSoundKnowledge n f r) where
             (Contains-saved r.down r.checkpoints (length r.checkpoints) saved.0 (named_record r.checkpoints saved.0 d saved.1) down))
             saved.1
       ]
-
--- the table of one member more
-pub gathered_all-more : (members : List MemberRecord) (i : ℕ) → i < length members
-    → gathered_all [] (map (λ (m : MemberRecord). m.table) (take (i + 1) members))
-    ≡ gathered (gathered_all [] (map (λ (m : MemberRecord). m.table) (take i members))) (slice_index_or members i blank).table
-gathered_all-more members i below =
-    ap (gathered_all []) (map_more (λ (m : MemberRecord). m.table) members i blank below)
-    ∙ fold_push gathered [] (map (λ (m : MemberRecord). m.table) (take i members)) (slice_index_or members i blank).table
