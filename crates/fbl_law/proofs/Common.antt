@@ -8,13 +8,12 @@ pub use Rattle.std.proofs.Math.Seq.{take-append-add}
 pub use Rattle.std.proofs.lemmas.Bool.{and_parts, cases_Bool, cases_eq, cases_lt, cases_order, eq-eqb, false_from_ne_true, ne_eqb, true_from_ne_false}
 pub use Rattle.std.proofs.lemmas.Bool.Decides.{Decides-at, Decides-like, Decides-or, leb_tells, nat_tests, same_from_decides}
 pub use Rattle.std.proofs.lemmas.List.{append-nil, drop-map, get_or-replicate, get_or-set_other, get_or-set_same, get_or_default, get_or_past, length-map, length-replicate, length-set, map-append}
-pub use Rattle.std.proofs.lemmas.List.{map_more, nil_from_length, take-append-drop, take-map, take_all}
+pub use Rattle.std.proofs.lemmas.List.{nil_from_length, take-append-drop, take-map, take_all}
 pub use Rattle.std.proofs.lemmas.List.Elements.{All-append, All-cons, All-contains, All-contains_itself, All-from_get_or, All-head, All-map, All-nil, All-push, All-tail, All-take, All-weaker}
 pub use Rattle.std.proofs.lemmas.List.Elements.{Contains-append_cases, Contains-append_left, Contains-append_right, Contains-get_or, filter-append, filter_map-append, filter_passes}
 pub use Rattle.std.proofs.lemmas.List.Filters.{length-filter_both}
 pub use Rattle.std.proofs.lemmas.List.Folds.{Any-from_list_any, find_at, fold-map, list_any-append, list_any-from_Any, list_any_at}
-pub use Rattle.std.proofs.lemmas.List.Sums.{count_by-le-length, fails_before_first, fold-append, fold_push, passes_at_first, position_or_len_is, sum_by-append, sum_by-cons, sum_by-drop_more}
-pub use Rattle.std.proofs.lemmas.List.Sums.{sum_by_push}
+pub use Rattle.std.proofs.lemmas.List.Sums.{count_by-le-length, fails_before_first, fold-append, passes_at_first, position_or_len_is, sum_by-append, sum_by-cons, sum_by-drop_more, sum_by_push}
 pub use Rattle.std.proofs.lemmas.Map.Made.{is_member-Decides, length-le_from_is_member}
 pub use Rattle.std.proofs.lemmas.Option.{get_or_from_slice_get, slice_get-get_or, slice_get-map, slice_get_within}
 pub use Rattle.std.specs.Cmp.{decided, nat_cmp_total}

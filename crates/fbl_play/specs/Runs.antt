@@ -138,8 +138,8 @@ Along step _ _ old new = ⊥
 abbrev pub TextStep : Next → ℕ → GroupRecord × List ℕ → Command → Account → GroupRecord × List ℕ → Type 0
 TextStep next workers old c account new = (line : List ℕ) × Step next workers old.0 c new.0 line account × IsSound next new.0 × (new.1 ≡ old.1 ++ line)
 
--- a new group of this config, which is sound, and what is carried beside it first may lead, by such steps along the commands, each with its
--- account, to this group and to what is carried then
+-- a sound new group of this config, with a value made of it, comes by such steps along the commands, each with its account, to this
+-- group and this value
 abbrev pub IsRun : {X : Type 0} → Next → Settings → (GroupRecord → X) → (GroupRecord × X → Command → Account → GroupRecord × X → Type 0)
     → List Command → List Account → GroupRecord → X → Type 0
 IsRun next config first step commands accounts end x = (start : GroupRecord) × IsGroupStart config start × IsSound next start × Along step commands accounts (start, first start) (end, x)
