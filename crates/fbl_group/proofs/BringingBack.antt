@@ -1,7 +1,7 @@
 -- What a recovery leaves, once the records that were rebuilt are in place.
 use Rattle.fbl_group.proofs.Common.{◌||◌, ◌⊎◌, ◌≡◌, ℕ, ◌+◌, ◌-◌, ◌<◌, ◌≤◌, cond, List, length, map, sym, ap, ◌∙◌, arith, Fits, slice_index_or, filter}
 use Rattle.fbl_group.proofs.Common.{get_or_past, Members, Event, mark_of, Next, Message, MemberRecord, blank, IsUp, IsDown, GroupRecord, channel_in, channel, member, knowledge, marks, receipts}
-use Rattle.fbl_group.proofs.Common.{IsSound, recovery_table, count_in, sent_again, working, sum_below-agree, Recovers, AreReplaced, IsReady, IsPutBack, w32, w64, ◌^◌, messages_in, IsRecovery}
+use Rattle.fbl_group.proofs.Common.{IsSound, recovery_table, count_in, sent_again, working, sum_below-agree, Recovers, AreReplaced, IsReady, AreRecordsReplaced, w32, w64, ◌^◌, messages_in, IsRecovery}
 use Rattle.fbl_group.proofs.Common.{is_replayed, stays_by, recovered_trace, resent_to, IsRebuilt, group_recovery_keeps, cut-undone, recovered_trace-cut, sent_again-short, with-table, working-log}
 use Rattle.fbl_group.proofs.Common.{replayed_in-all, recovered_trace-rebuilt, rebuilt_is_recovered, messages_at}
 use Rattle.std.specs.FinSet as set
@@ -75,7 +75,7 @@ module _ {next : Next} {old now : GroupRecord} {rebuilt : List MemberRecord} (so
 
       -- the group that is left
       module _ {members : List MemberRecord} {channels : List (List (List Message))} {down : Members} {n : ℕ} {records : List MemberRecord} (again : List (List (List Message)))
-          (all : n ≡ old.config.members) (same : records ≡ rebuilt) (each : AreSentAgain now records again) (put : IsPutBack s rebuilt old.members members)
+          (all : n ≡ old.config.members) (same : records ≡ rebuilt) (each : AreSentAgain now records again) (put : AreRecordsReplaced s (λ m. slice_index_or rebuilt m blank) old.members members)
           (replaced : AreReplaced n old.down (channel_in again) old.channels channels) (nobody_down : down ≡ set.empty) where
         abbrev new : GroupRecord
         new = record old { members = members; channels = channels; trace = rest; down = down; undone_ever = old.undone_ever + undone }
@@ -83,14 +83,14 @@ module _ {next : Next} {old now : GroupRecord} {rebuilt : List MemberRecord} (so
         again-is : AreSentAgain old rebuilt again
         again-is = made again all same each
 
-        placed : IsPutBack old.down rebuilt old.members members
+        placed : AreRecordsReplaced old.down (λ m. slice_index_or rebuilt m blank) old.members members
         placed = (rw same-down at put)
 
         remade : AreReplaced old.config.members old.down (channel_in again) old.channels channels
         remade = (rw all at replaced)
 
         works : (q : ℕ) → q < old.config.members → member new q ≡ working old rebuilt q
-        works q below = grind (arith, placed.put q, placed.kept q, sound.members)
+        works q below = grind (arith, placed.replaced q, placed.others q, sound.members)
 
         -- a channel with an end that was down has what its sender sends again
         resent_on : (q p : ℕ) → IsDown (knowledge old) q ⊎ IsDown (knowledge old) p → q < old.config.members → p < old.config.members

@@ -3,7 +3,7 @@ use Rattle.fbl_group.proofs.Common.{◌≡◌, ◌≢◌, ℕ, suc, ◌<◌, ◌
 use Rattle.fbl_group.proofs.Common.{nat_lt, count_by, slice_index_or, nat_tests, get_or_default, get_or_past, sum_by-cons, Determinant, Event, mark_of, Members, Next, MemberRecord, blank, IsUp}
 use Rattle.fbl_group.proofs.Common.{GroupRecord, channel, marks, knowledge, IsSound, IsStrike, AreReplaced, lost_receipts, filter, not, receipts, is_lost_receipt_of, Message, no_orphan, nat_cmp}
 use Rattle.fbl_group.proofs.Common.{eq_by_cmp, unsigned_tied, nat_cmp_total, false≢true, true_from_ne_false, ◌↔◌, Any-from_list_any, list_any-from_Any, AllPass-from_list_all}
-use Rattle.fbl_group.proofs.Common.{list_all-from_AllPass, receipt_of, Has, itself, AllBelow, eqb-self, is_recorded, group_strike_keeps, recorded_test, is_within, strike_refusal, IsBlanked}
+use Rattle.fbl_group.proofs.Common.{list_all-from_AllPass, receipt_of, Has, itself, AllBelow, eqb-self, is_recorded, group_strike_keeps, recorded_test, is_within, strike_refusal, AreRecordsReplaced}
 use Rattle.std.specs.FinSet as sets
 use Rattle.fbl_base.specs.declared.trace.Event.TheVariants as event
 use Rattle.std.specs.Prelude.{Bool}
@@ -37,7 +37,7 @@ is_allowed struck {r = r} view {n = n} all below some joined few =
 
 -- what a strike that is allowed leaves
 module _ {next : Next} {old : GroupRecord} {struck down : Members} {members : List MemberRecord} {channels : List (List (List Message))} (sound : IsSound next old)
-    (allowed : strike_refusal old struck ≡ None) (blanked : IsBlanked struck old.members members)
+    (allowed : strike_refusal old struck ≡ None) (blanked : AreRecordsReplaced struck (λ m. blank) old.members members)
     (emptied : AreReplaced old.config.members struck (λ q p. []) old.channels channels) (joined : down ≡ sets.union old.down struck) where
   abbrev new : GroupRecord
   new = record old { members = members; channels = channels; down = down }
@@ -56,12 +56,6 @@ module _ {next : Next} {old : GroupRecord} {struck down : Members} {members : Li
 
   pub is_sound : IsSound next new
   is_sound = group_strike_keeps next old new struck is_strike (within-below struck old.config.members (grind (arith, nat_tests))) (rw joined (grind (arith, nat_tests))) sound
-
--- the records of the members named below k are made blank, and the others are as they were
-pub record IsBlankedBelow (k : ℕ) (struck : Members) (old new : List MemberRecord) : Type 0 where
-  pub size : length new ≡ length old
-  pub named : (m : ℕ) → m < k → sets.contains struck m ≡ true → slice_index_or new m blank ≡ blank
-  pub others : (m : ℕ) → sets.contains struck m ≡ false → slice_index_or new m blank ≡ slice_index_or old m blank
 
 -- in a sound group each receipt of a member that is up is recorded
 up-recorded : (next : Next) (r : GroupRecord) (d : Determinant) → IsSound next r → Has (marks r) (receipt_of d) → IsUp (knowledge r) d.to → is_recorded r d ≡ true

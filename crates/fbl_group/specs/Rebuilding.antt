@@ -41,9 +41,3 @@ pub record HasReplayed (next : Next) (r : GroupRecord) (rebuilt : List MemberRec
 pub record IsReady (next : Next) (r : GroupRecord) (rebuilt : List MemberRecord) : Type 0 where
   pub replayed : HasReplayed next r rebuilt
   pub tables : (p : ℕ) → p < r.config.members → IsDown (knowledge r) p → (slice_index_or rebuilt p blank).table ≡ recovery_table (knowledge r)
-
--- exactly the members of the set are put back, each with the record that was rebuilt
-pub record IsPutBack (down : Members) (rebuilt old new : List MemberRecord) : Type 0 where
-  pub size : length new ≡ length old
-  pub put : (m : ℕ) → m < length old → set.contains down m ≡ true → slice_index_or new m blank ≡ slice_index_or rebuilt m blank
-  pub kept : (m : ℕ) → set.contains down m ≡ false → slice_index_or new m blank ≡ slice_index_or old m blank

@@ -1,5 +1,5 @@
 -- When a strike is refused, and what it answers.
-use Rattle.std.specs.Prelude.{◌≡◌, ℕ, ◌==◌, ◌&&◌, not, nat_lt, Bool, true, false, length, Option, Some, None, if◌then◌else◌, List, map, slice_index_or}
+use Rattle.std.specs.Prelude.{◌≡◌, ℕ, ◌<◌, ◌==◌, ◌&&◌, not, nat_lt, Bool, true, false, length, Option, Some, None, if◌then◌else◌, List, map, slice_index_or}
 use Rattle.std.specs.List.{filter, list_all}
 use Rattle.std.specs.FinSet as set
 use Rattle.fbl_base.specs.MemberSets.{Members}
@@ -38,11 +38,11 @@ is_unheld s members checkpoints (Some d) = set.contains s d.to && not (is_record
 abbrev pub is_lost_receipt_of : Members → List MemberRecord → List MemberRecord → Event → Bool
 is_lost_receipt_of s members checkpoints event = is_unheld s members checkpoints (determinant_of (mark_of event))
 
--- exactly the records of the members named are made blank
-pub record IsBlanked (struck : Members) (old new : List MemberRecord) : Type 0 where
+-- exactly the records of the members of the set are replaced, by these
+pub record AreRecordsReplaced (s : Members) (by : ℕ → MemberRecord) (old new : List MemberRecord) : Type 0 where
   pub size : length new ≡ length old
-  pub named : (m : ℕ) → set.contains struck m ≡ true → slice_index_or new m blank ≡ blank
-  pub others : (m : ℕ) → set.contains struck m ≡ false → slice_index_or new m blank ≡ slice_index_or old m blank
+  pub replaced : (m : ℕ) → m < length old → set.contains s m ≡ true → slice_index_or new m blank ≡ by m
+  pub others : (m : ℕ) → set.contains s m ≡ false → slice_index_or new m blank ≡ slice_index_or old m blank
 
 -- a strike of these members leads from old to new, and answers how many receipts are lost
 abbrev pub Strikes : GroupRecord → GroupRecord → Members → Struck → Type 0

@@ -6,7 +6,7 @@ ghost use Rattle.std.specs.FinSet as set;
 ghost use Rattle.fbl_base.specs.Events.{mark_of};
 ghost use Rattle.fbl_member.specs.Members.{blank};
 ghost use Rattle.fbl_law.specs.Replaying.{stays_by, count_in};
-ghost use Rattle.fbl_group.specs.Rebuilding.{IsPutBack};
+ghost use Rattle.fbl_group.specs.Strikes.{AreRecordsReplaced};
 
 use fbl_base::{Event, Member, MemberSet};
 use fbl_member::MemberRec;
@@ -91,7 +91,7 @@ impl<A: Allocator + Copy> Rebuilt<A> {
         requires members { vec_len members.old ≡ n }
         requires records { vec_len self.records ≡ n }
         requires few { n ≤ 16 }
-        ensures { IsPutBack self.down self.records.items members.old.items members.new.items }
+        ensures { AreRecordsReplaced self.down (λ m. slice_index_or self.records.items m blank) members.old.items members.new.items }
     {
         let Rebuilt { down, mut records } = self;
         for number in 0..n {

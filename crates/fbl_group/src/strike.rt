@@ -8,7 +8,7 @@ ghost use Rattle.fbl_law.specs.Knowledge.{IsOrphan};
 ghost use Rattle.fbl_law.specs.Promises.{SurvivorsHold, RecordsFirst, RecordsCauses};
 ghost use Rattle.fbl_law.specs.Groups.{HasChannels, is_recorded_among as is_recorded_among_of, knowledge};
 ghost use Rattle.fbl_group.specs.Channels.{rows, AreReplaced};
-ghost use Rattle.fbl_group.specs.Strikes.{strike_refusal, Strikes, IsBlanked, is_within, is_lost_receipt_of, lost_receipts};
+ghost use Rattle.fbl_group.specs.Strikes.{strike_refusal, Strikes, AreRecordsReplaced, is_within, is_lost_receipt_of, lost_receipts};
 
 use crate::answers::Struck;
 use crate::channels::{Channels, has_either};
@@ -181,7 +181,7 @@ fn blank_members<A: Allocator + Copy>(
 )
     requires size { vec_len members.old ≡ n }
     requires few { n ≤ 16 }
-    ensures { IsBlanked set members.old.items members.new.items }
+    ensures { AreRecordsReplaced set (λ m. blank) members.old.items members.new.items }
 {
     let alloc = *members.allocator();
     for number in 0..n {

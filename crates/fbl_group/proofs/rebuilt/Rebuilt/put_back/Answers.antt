@@ -1,6 +1,6 @@
 use Rattle.fbl_group.proofs.Common.{◌≡◌, ◌∙◌, arith}
 use Rattle.std.specs.FinSet as set
-use Rattle.fbl_group.proofs.PuttingBack.{put-down, put-up, put-end}
+use Rattle.fbl_group.proofs.PuttingBack.{put-down, put-up, replaced-end}
 use Rattle.fbl_group.proofs.rebuilt.Rebuilt.put_back.Goals as goal
 
 pub loop-number-preserved : goal.loop-number-preserved
@@ -17,4 +17,4 @@ loop-number-preserved g c =
     ]
 
 pub returns : goal.returns
-returns g c = put-end c.loop-number.invariant (omega (arith, c.loop-number-test.false, c.requires.members, c.args.members.now.ok.0))
+returns g c = replaced-end c.loop-number.invariant.turned (omega (arith, c.loop-number-test.false, c.requires.members, c.args.members.now.ok.0))
