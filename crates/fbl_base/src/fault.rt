@@ -32,8 +32,7 @@ pub enum StartRule {
     TooManyHops(u8),
 }
 
-/// The first start of a configuration that breaks a rule: its place in the list, from 0, what it is, and the first rule that it
-/// breaks.
+/// The first start of a configuration that breaks a rule: its place, from 0, what it is, and the first rule that it breaks.
 #[derive(Clone, Copy, PartialEq, Eq, Debug, Error)]
 #[error("start {place} goes from {} to {}, and {rule}", .start.from, .start.to)]
 pub struct StartFault {

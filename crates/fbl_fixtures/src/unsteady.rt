@@ -5,8 +5,8 @@ ghost use Rattle.std.specs.Prelude.{◌≤◌};
 use std::alloc::Global;
 use std::io::{self, ErrorKind, Read, Write};
 
-/// Gives `rest`, at most `most` bytes a read. The first `interruptions` reads are interrupted, and the one with the number
-/// `fails_at`, from 1, fails; at 0 none does. `reads` counts them.
+/// Gives `rest`, at most `most` bytes a read. The first `interruptions` reads are interrupted, and the one with the
+/// number `fails_at`, from 1, fails; at 0 none does. `reads` counts them.
 #[derive(Drop)]
 pub struct UnsteadyReader<'a> {
     pub rest: &'a [u8],
@@ -54,8 +54,8 @@ pub enum FailedWrite {
     NoByte,
 }
 
-/// Takes at most `most` bytes a write, and keeps them in `held`. The write with the number `fails_at`, from 1, fails in the way
-/// of `failure`; at 0 none does. `writes` counts them.
+/// Takes at most `most` bytes a write, and keeps them in `held`. The write with the number `fails_at`, from 1, fails as
+/// `failure` says; at 0 none does. `writes` counts them.
 #[derive(Drop)]
 pub struct UnsteadyWriter {
     pub held: Vec<u8>,

@@ -50,8 +50,8 @@ pub trait Keeping: Behaviour {
 /// A behaviour with predicates that each step keeps, and with a weight, of which one of the traits below says what becomes in
 /// a step that starts from the predicates.
 ///
-/// `mass` is what a member's state weighs, `weight` what a note weighs, both by the group's parameters. `nothing` shows that a
-/// state 0 weighs nothing.
+/// `mass` is what a member's state weighs, `weight` what a note weighs, both by the group's parameters. `nothing` shows
+/// that a state 0 weighs nothing.
 pub trait Weighing: Keeping {
     ghost use Rattle.std.specs.Prelude.{◌≡◌, ℕ};
     ghost use Rattle.fbl_base.specs.declared.trace.Note.{Note};
