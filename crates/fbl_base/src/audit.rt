@@ -92,7 +92,7 @@ impl<A: Allocator> Dump<A> {
         self.raw.held.as_slice()
     }
 
-    /// The members that were struck.
+    /// The strike set: the members that are taken to be lost.
     pub fn strike(&self) -> MemberSet
         ensures { result ≡ self.now.strike }
     {

@@ -32,7 +32,7 @@ pub enum StartRule {
     TooManyHops(u8),
 }
 
-/// The first start of a configuration that breaks a rule.
+/// The first start of a configuration that breaks a rule: its place, from 0, what it is, and the first rule that it breaks.
 #[derive(Clone, Copy, PartialEq, Eq, Debug, Error)]
 #[error("start {place} goes from {} to {}, and {rule}", .start.from, .start.to)]
 pub struct StartFault {
@@ -41,7 +41,7 @@ pub struct StartFault {
     pub rule: StartRule,
 }
 
-/// The first rule that the parameters of a group break, in the order of the refusals.
+/// The first rule that the parameters of a group break, in the order of the refusals, with the numbers that were given.
 #[derive(Clone, Copy, PartialEq, Eq, Debug, Error)]
 pub enum ConfigFault {
     #[error("members is {members}, and must be 2 to 16")]
@@ -109,7 +109,7 @@ pub enum EventRule {
     },
 }
 
-/// The first event of a dump that breaks a rule.
+/// The first event of a dump that breaks a rule: its place, from 0, what it is, and the first rule that it breaks.
 #[derive(Clone, Copy, PartialEq, Eq, Debug, Error)]
 #[error("event {place} is {event}, and {rule}")]
 pub struct EventFault {
@@ -132,7 +132,7 @@ pub enum PairRule {
     NoReceipt(Mark),
 }
 
-/// The first held pair of a dump that breaks a rule.
+/// The first held pair of a dump that breaks a rule: its place, from 0, what it is, and the first rule that it breaks.
 #[derive(Clone, Copy, PartialEq, Eq, Debug, Error)]
 #[error("held pair {place} is [{holder},{},{},{},{}], and {rule}", .determinant.from, .determinant.ssn, .determinant.to, .determinant.rsn)]
 pub struct PairFault {
@@ -142,7 +142,7 @@ pub struct PairFault {
     pub rule: PairRule,
 }
 
-/// The first rule that a dump breaks, in the order of the refusals.
+/// The first rule that a dump breaks, in the order of the refusals, with the numbers that were given.
 #[derive(Clone, Copy, PartialEq, Eq, Debug, Error)]
 pub enum DumpFault {
     #[error("members is {members}, and must be 2 to 16")]
@@ -198,7 +198,7 @@ pub enum EntryRule {
     Outside(Outsider),
 }
 
-/// The first entry of a plan that breaks a rule.
+/// The first entry of a plan that breaks a rule: its place, from 0, what it is, and the first rule that it breaks.
 #[derive(Clone, Copy, PartialEq, Eq, Debug, Error)]
 #[error("entry {place} of the plan comes at {} and strikes {}, and {rule}", .entry.at, .entry.set)]
 pub struct PlanFault {

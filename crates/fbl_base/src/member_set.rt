@@ -1,3 +1,5 @@
+//! Sets of members, each kept as sixteen bits. Contracts see them as finite sets of numbers.
+
 ghost use Rattle.std.specs.Prelude.{◌≡◌, ◌<◌, ◌≤◌, ◌↔◌, ℕ, IfOk, IsTrue, true, ◌&&◌, not, MatchOption};
 ghost use Rattle.std.specs.FinSet as set;
 ghost use Rattle.fbl_base.specs.Breaches.{IsLeastOutside};

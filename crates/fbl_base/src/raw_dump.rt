@@ -5,7 +5,7 @@ use crate::member_set::MemberSet;
 use crate::trace::{Determinant, Mark};
 use std::alloc::{Allocator, Global};
 
-/// A recorded trace, who held which determinants, and who was struck, from any source and not yet checked.
+/// A recorded trace, who held which determinants, and who is taken to be lost, from any source and not yet checked.
 #[derive(Drop)]
 pub struct RawDump<A: Allocator = Global> {
     /// How many members the group had.
@@ -16,6 +16,6 @@ pub struct RawDump<A: Allocator = Global> {
     pub events: Vec<Mark, A>,
     /// Each pair says that the member held the determinant. A repeated pair counts once.
     pub held: Vec<(Member, Determinant), A>,
-    /// The members that were struck. It may be empty, and may have more than `f` members.
+    /// The strike set: the members that are taken to be lost. It may be empty, and may have more than `f` members.
     pub strike: MemberSet,
 }

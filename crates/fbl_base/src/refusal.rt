@@ -1,3 +1,5 @@
+//! Why a dump is refused.
+
 ghost use Rattle.std.specs.Prelude.{◌≡◌};
 
 use thiserror::Error;

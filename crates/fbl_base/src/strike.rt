@@ -1,3 +1,5 @@
+//! The entries of a plan of strikes.
+
 use crate::member_set::MemberSet;
 
 /// A strike of a plan: a set of members to strike when the receipts ever made by the group come to a number.

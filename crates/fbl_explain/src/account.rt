@@ -123,7 +123,7 @@ fn write_receipts<W: fmt::Write>(
 /// A command's place and words with its account, as in `command 7, deliver to 1 from 2: nothing is in flight from 2 to 1`.
 #[derive(Clone, Copy)]
 pub struct AccountOf<'a> {
-    /// The command's place in its script.
+    /// The command's place in its script, from 0.
     pub place: usize,
     pub command: &'a Command,
     pub account: &'a Account,

@@ -15,7 +15,8 @@ use std::fmt;
 #[derive(Drop, Debug)]
 pub struct OrphanPath {
     pub orphan: Member,
-    /// The places of the events on the path: the first is that of the receipt.
+    /// The places of the events on the path, from 0: the first is that of the receipt, the last that of the member's first
+    /// event that depends on it.
     pub places: Vec<usize>,
 }
 

@@ -1,5 +1,5 @@
 //! What the crates of tests share: members and what is made of their numbers, what became of a call that was refused memory,
-//! scripts that lack something, and readers and writers that stumble. No other crate uses it.
+//! scripts that lack something, and readers and writers that fail. No other crate uses it.
 #![tactic(auto)]
 
 mod members;

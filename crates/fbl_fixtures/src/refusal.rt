@@ -16,6 +16,8 @@ pub enum Refusal {
 }
 
 impl Refusal {
+    /// What became of the call: by whether a request was refused in it, whether it succeeded, and whether what it was made on
+    /// is as before.
     pub fn of(has_refused: bool, succeeded: bool, kept: bool) -> Refusal {
         match (has_refused, succeeded) {
             (false, true) => Refusal::NotAsked,

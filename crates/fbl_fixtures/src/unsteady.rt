@@ -1,11 +1,12 @@
-//! A reader and a writer that stumble, and a writer that takes no memory.
+//! A reader and a writer that fail, and a writer that takes no memory.
 
 ghost use Rattle.std.specs.Prelude.{◌≤◌};
 
 use std::alloc::Global;
 use std::io::{self, ErrorKind, Read, Write};
 
-/// Gives at most `most` bytes a read, is interrupted first, and fails at one read.
+/// Gives `rest`, at most `most` bytes a read. The first `interruptions` reads are interrupted, and the one with the
+/// number `fails_at`, from 1, fails; at 0 none does. `reads` counts them.
 #[derive(Drop)]
 pub struct UnsteadyReader<'a> {
     pub rest: &'a [u8],
@@ -16,7 +17,7 @@ pub struct UnsteadyReader<'a> {
 }
 
 impl<'a> UnsteadyReader<'a> {
-    /// No read is interrupted.
+    /// A reader of these bytes of which no read is interrupted.
     pub fn new(rest: &'a [u8], most: usize, fails_at: u32) -> UnsteadyReader<'a> {
         UnsteadyReader {
             rest,
@@ -45,7 +46,7 @@ impl Read for UnsteadyReader<'_> {
     }
 }
 
-/// What a write does where it fails.
+/// What a write does where it fails: it answers an error, is interrupted, or takes no byte.
 #[derive(Clone, Copy, PartialEq, Eq, Debug)]
 pub enum FailedWrite {
     Error,
@@ -53,7 +54,8 @@ pub enum FailedWrite {
     NoByte,
 }
 
-/// Takes at most `most` bytes a write, and fails at one write.
+/// Takes at most `most` bytes a write, and keeps them in `held`. The write with the number `fails_at`, from 1, fails as
+/// `failure` says; at 0 none does. `writes` counts them.
 #[derive(Drop)]
 pub struct UnsteadyWriter {
     pub held: Vec<u8>,
@@ -64,6 +66,7 @@ pub struct UnsteadyWriter {
 }
 
 impl UnsteadyWriter {
+    /// A writer that has taken nothing yet.
     pub fn new(alloc: Global, most: usize, fails_at: u32, failure: FailedWrite) -> UnsteadyWriter {
         UnsteadyWriter {
             held: Vec::new(alloc),
@@ -104,6 +107,7 @@ pub struct Page {
 }
 
 impl Page {
+    /// A writer that has taken nothing yet.
     pub fn new() -> Page {
         Page {
             held: [0; 8192],

@@ -1,6 +1,6 @@
 //! What calls of a group answer.
 
-/// A delivery.
+/// What a delivery answers.
 #[derive(Clone, Copy, PartialEq, Eq, Debug)]
 pub struct Receipted {
     /// The receipt's number, from 1 per receiver.
@@ -11,7 +11,7 @@ pub struct Receipted {
     pub state: u64,
 }
 
-/// A strike.
+/// What a strike answers.
 #[derive(Clone, Copy, PartialEq, Eq, Debug)]
 pub struct Struck {
     /// How many receipts of the trace neither a survivor's table nor a checkpoint has: those lost by this strike, and by
@@ -19,7 +19,7 @@ pub struct Struck {
     pub lost: u32,
 }
 
-/// A recovery.
+/// What a recovery answers.
 #[derive(Clone, Copy, PartialEq, Eq, Debug)]
 pub struct Recovered {
     /// How many receipts the struck members replayed: those beyond their checkpoints.

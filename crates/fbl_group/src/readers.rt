@@ -40,7 +40,7 @@ impl<B: Behaviour, A: Allocator + Copy> Group<B, A> {
         self.record(member).state()
     }
 
-    /// The sum of the members' states.
+    /// The sum of the members' states, of which that of a member that is down is 0.
     pub fn sum_of_states(&self) -> u128
         ensures value { result ≡ weight_held (λ me state. state) self.now }
         ensures bound { result ≤ 295147905179352825840 }

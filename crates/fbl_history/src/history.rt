@@ -13,7 +13,8 @@ use fbl_group::Group;
 use std::alloc::{AllocError, Global};
 use std::marker::Model;
 
-/// What came in a run of a group, in the order in which it came. Contracts see the list of its columns.
+/// What came in a run of a group, in the order in which it came. Contracts see the list of its columns. `Err` comes only
+/// where there is no memory for more columns; a call that was given the history has dropped it then.
 #[derive(Drop, Debug)]
 pub struct History {
     columns: Vec<Column>,

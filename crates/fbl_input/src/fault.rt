@@ -1,3 +1,5 @@
+//! The keys of scripts and dumps, and why one is not taken to its end.
+
 ghost use Rattle.std.specs.Prelude.{◌≡◌};
 ghost use Rattle.fbl_input.specs.declared.fault.RunFault.TheVariants.{Memory};
 

@@ -46,7 +46,7 @@ impl Shape<u8> for ByteShape {
     }
 }
 
-/// The longest input.
+/// How many bytes an input has at most.
 pub const LONGEST: usize = 1_048_576;
 
 /// A whole number from `low` to `high`.

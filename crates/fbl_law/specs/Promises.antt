@@ -1,4 +1,4 @@
--- What family-based logging promises of a group, each promise once, in the words of the headline: each receipt is held,
+-- What family-based logging promises of a group, each promise once, in the words of the theorem: each receipt is held,
 -- survivors hold what they depend on, what is recorded is closed under causes, a recovery leaves exactly what is recorded,
 -- and holders never lose it. Depend and Log (here: holders) are those of Alvisi and Marzullo, Message Logging (IEEE TSE
 -- 24(2), 1998).

@@ -10,7 +10,8 @@ use fbl_base::Behaviour;
 /// A behaviour whose steps keep a weight, from any state and at any note: what the new state and the sends weigh, the old
 /// state and the note did.
 ///
-/// `mass` is what a member's state weighs, `weight` what a note weighs.
+/// `mass` is what a member's state weighs, `weight` what a note weighs. `nothing` shows that a state 0 weighs nothing, and
+/// `conserves` that a step keeps the sum.
 pub trait Conserving: Behaviour {
     ghost use Rattle.std.specs.Prelude.{◌≡◌, ℕ};
     ghost use Rattle.fbl_base.specs.declared.trace.Note.{Note};
@@ -29,7 +30,8 @@ pub trait Conserving: Behaviour {
 /// A behaviour with predicates that each step keeps.
 ///
 /// `states` is of the group's parameters, a member and its state; `notes` is of the parameters, a message's sender, its
-/// receiver and its note. They hold of the states 0 and of the starts, whatever parameters a group has.
+/// receiver and its note. They hold of the states 0 and of the starts, whatever parameters a group has, as `first` shows;
+/// `keeps` shows that each step keeps them.
 pub trait Keeping: Behaviour {
     ghost use Rattle.std.specs.Prelude.{ℕ};
     ghost use Rattle.fbl_base.specs.declared.trace.Note.{Note};
@@ -48,7 +50,8 @@ pub trait Keeping: Behaviour {
 /// A behaviour with predicates that each step keeps, and with a weight, of which one of the traits below says what becomes in
 /// a step that starts from the predicates.
 ///
-/// `mass` is what a member's state weighs, `weight` what a note weighs, both by the group's parameters.
+/// `mass` is what a member's state weighs, `weight` what a note weighs, both by the group's parameters. `nothing` shows
+/// that a state 0 weighs nothing.
 pub trait Weighing: Keeping {
     ghost use Rattle.std.specs.Prelude.{◌≡◌, ℕ};
     ghost use Rattle.fbl_base.specs.declared.trace.Note.{Note};

@@ -1,3 +1,5 @@
+//! How a set of members is printed.
+
 ghost use Rattle.std.specs.Prelude.{◌≡◌, ◌++◌, IfOk, OnOk, string_bytes};
 ghost use Rattle.fbl_lines.specs.Sets.{after_commas, with_commas, set_words};
 

@@ -1,3 +1,5 @@
+//! One member's record: what it takes in, replays and copies, and each request for memory of its calls refused in turn.
+
 ghost use Rattle.std.specs.Prelude.{◌≡◌, ◌<◌, IfOk};
 
 use fbl_base::{Behaviour, Config, Determinant, Member, MemberSet, Mix, Note, Relay, Start};

@@ -1,5 +1,5 @@
 //! Tests of plays: the texts of scripts and the histories of their runs, with each number of workers, and over readers and
-//! writers that stumble. They stand apart from the crates that they test, so that these are proved once.
+//! writers that fail. They stand apart from the crates that they test, so that these are proved once.
 #![tactic(auto)]
 
 #[cfg(test)]

@@ -1,3 +1,5 @@
+//! What a script asks for: a group, the behaviour that it names, and commands, of which a run has a plan.
+
 ghost use Rattle.std.specs.Prelude.{◌≡◌};
 ghost use Rattle.fbl_script.specs.Scripts.{behaviour_word};
 

@@ -1,3 +1,5 @@
+//! Tables, and one member's receipts by their numbers.
+
 ghost use Rattle.std.specs.Prelude.{◌≡◌, ◌≤◌, IfOk};
 
 use fbl_base::{Determinant, Member, MemberSet};

@@ -1,3 +1,5 @@
+//! Dumps and their audits, as JSON and as lines, and over readers and writers that fail.
+
 use fbl_dump::{audit, audit_bytes, dump_of_bytes, dump_text};
 use fbl_fixtures::{FailedWrite, Page, UnsteadyReader, UnsteadyWriter};
 use fbl_input::{Key, RunFault};

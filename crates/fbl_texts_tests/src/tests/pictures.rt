@@ -1,3 +1,5 @@
+//! Pictures of dumps.
+
 use super::dumps::{LINE, LOST, audited, stopped_at, text_of};
 use fbl_draw::{draw, draw_bytes};
 use fbl_fixtures::{FailedWrite, Page, UnsteadyReader, UnsteadyWriter};

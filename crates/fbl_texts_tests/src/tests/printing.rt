@@ -1,3 +1,5 @@
+//! The printed lines.
+
 use fbl_base::MemberSet;
 use fbl_fixtures::{determinant, member, set};
 use fbl_lines::{

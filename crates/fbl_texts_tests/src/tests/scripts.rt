@@ -1,3 +1,5 @@
+//! Scripts as JSON, and their faults.
+
 use fbl_base::{MemberSet, Start, Strike};
 use fbl_fixtures::{INCOMPLETE_SCRIPTS, set, start, strike};
 use fbl_input::{Key, RunFault, put, read_input};
