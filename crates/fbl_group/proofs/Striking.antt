@@ -50,9 +50,13 @@ module _ {next : Next} {old : GroupRecord} {struck down : Members} {members : Li
   emptied_where : (q p : ℕ) → channel new q p ≡ cond (sets.contains struck q || sets.contains struck p) [] (channel old q p)
   emptied_where q p = grind (arith, get_or_past, emptied.each q p)
 
+  -- those that are struck are of the group, and have blank records
+  struck_blank : (m : ℕ) → sets.contains struck m ≡ true → slice_index_or members m blank ≡ blank
+  struck_blank m is = blanked.replaced m (omega (arith, sound.members, within-below struck old.config.members (grind (arith, nat_tests)) m is)) is
+
   pub is_strike : IsStrike old new struck
   is_strike =
-      grind (arith, blanked, emptied, emptied_where, both_down, sound.blanks, sound.down, sound.causes.down.channels)
+      grind (arith, struck_blank, blanked.size, blanked.others, emptied, emptied_where, both_down, sound.blanks, sound.down, sound.causes.down.channels)
 
   pub is_sound : IsSound next new
   is_sound = group_strike_keeps next old new struck is_strike (within-below struck old.config.members (grind (arith, nat_tests))) (rw joined (grind (arith, nat_tests))) sound

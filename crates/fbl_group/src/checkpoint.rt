@@ -29,14 +29,10 @@ impl<B: Behaviour, A: Allocator + Copy> Group<B, A> {
         ensures unchanged { OnErr result (self.new ≡ self.old) }
     {
         self.allow_checkpoint(member)?;
-        match self.save(member) {
-            Ok(()) => {
-                // the group is sound, so that each checkpoint is at the fold of its receipts
-                self.recoverable();
-                Ok(())
-            }
-            Err(_) => Err(CheckpointRefusal::Memory),
-        }
+        self.save(member)?;
+        // the group is sound, so that each checkpoint is at the fold of its receipts
+        self.recoverable();
+        Ok(())
     }
 
     /// How many receipts the member's checkpoint has, 0 where none was taken. They are the member's first ones, the

@@ -53,10 +53,7 @@ impl<B: Behaviour, A: Allocator + Copy> Group<B, A> {
         ensures unchanged { OnErr result (self.new ≡ self.old) }
     {
         self.plan_commit(done)?;
-        match self.settle(done) {
-            Ok(answer) => Ok(answer),
-            Err(_) => Err(CommitRefusal::Memory),
-        }
+        Ok(self.settle(done)?)
     }
 
     /// The front of the channel from one member to the other.

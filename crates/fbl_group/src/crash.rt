@@ -4,11 +4,11 @@ ghost use Rattle.std.specs.Prelude.{◌≡◌, IfOk, IfErr, OnOk, None};
 ghost use Rattle.fbl_law.specs.Groups.{knowledge};
 ghost use Rattle.fbl_law.specs.Promises.{KeepsHolders};
 ghost use Rattle.fbl_group.specs.Strikes.{strike_refusal};
-ghost use Rattle.fbl_group.specs.Crashes.{Crashes, CrashLeaves, of_strike};
+ghost use Rattle.fbl_group.specs.Crashes.{Crashes, CrashLeaves};
 
 use crate::answers::{Recovered, Struck};
 use crate::group::Group;
-use crate::refusals::{CrashRefusal, StrikeRefusal};
+use crate::refusals::CrashRefusal;
 use fbl_base::{Behaviour, MemberSet};
 use std::alloc::Allocator;
 
@@ -20,23 +20,10 @@ impl<B: Behaviour, A: Allocator + Copy> Group<B, A> {
         ensures holders { OnOk result (KeepsHolders (knowledge self.old) (knowledge self.new)) }
         ensures refused { IfErr result (CrashLeaves self.old self.new set) }
     {
-        match self.strike(set) {
-            Ok(struck) => match self.recover() {
-                Ok(recovered) => Ok((struck, recovered)),
-                Err(_) => Err(CrashRefusal::Memory),
-            },
-            Err(refusal) => Err(crash_refusal(refusal)),
+        let struck = self.strike(set)?;
+        match self.recover() {
+            Ok(recovered) => Ok((struck, recovered)),
+            Err(_) => Err(CrashRefusal::Memory),
         }
-    }
-}
-
-/// The refusal of a strike as one of a crash.
-fn crash_refusal(refusal: StrikeRefusal) -> CrashRefusal
-    ensures { result ≡ of_strike refusal }
-{
-    match refusal {
-        StrikeRefusal::BadMember => CrashRefusal::BadMember,
-        StrikeRefusal::Nobody => CrashRefusal::Nobody,
-        StrikeRefusal::TooMany => CrashRefusal::TooMany,
     }
 }

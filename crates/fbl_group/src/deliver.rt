@@ -2,11 +2,11 @@
 
 ghost use Rattle.std.specs.Prelude.{◌≡◌, IfOk, IfErr, OnErr, None};
 ghost use Rattle.fbl_group.specs.Channels.{front_message};
-ghost use Rattle.fbl_group.specs.Deliveries.{deliver_refusal, IsDeliverRefusal, IsPlanned, Delivers, Delivered, of_take as of_take_refusal, of_commit as of_commit_refusal};
+ghost use Rattle.fbl_group.specs.Deliveries.{deliver_refusal, IsDeliverRefusal, IsPlanned, Delivers, Delivered, of_commit as of_commit_refusal};
 
 use crate::answers::Receipted;
 use crate::group::Group;
-use crate::refusals::{CommitRefusal, DeliverRefusal, TakeRefusal};
+use crate::refusals::{CommitRefusal, DeliverRefusal};
 use crate::ticket::{Done, run_step};
 use fbl_base::{Behaviour, Event, Member};
 use std::alloc::{AllocError, Allocator};
@@ -20,12 +20,10 @@ impl<B: Behaviour, A: Allocator + Copy> Group<B, A> {
         ensures refused { IfErr result (IsDeliverRefusal (deliver_refusal B.next self.old to from)) }
         ensures unchanged { OnErr result (self.new ≡ self.old) }
     {
-        match self.take(to, from) {
-            Ok(ticket) => match self.commit(&run_step::<B>(ticket)) {
-                Ok(receipted) => Ok(receipted),
-                Err(refusal) => Err(of_commit(refusal)),
-            },
-            Err(refusal) => Err(of_take(refusal)),
+        let ticket = self.take(to, from)?;
+        match self.commit(&run_step::<B>(ticket)) {
+            Ok(receipted) => Ok(receipted),
+            Err(refusal) => Err(of_commit(refusal)),
         }
     }
 
@@ -57,17 +55,6 @@ impl<B: Behaviour, A: Allocator + Copy> Group<B, A> {
             carried,
             state: done.outcome.state,
         })
-    }
-}
-
-/// The refusal of a ticket as one of a delivery.
-fn of_take(refusal: TakeRefusal) -> DeliverRefusal
-    ensures { result ≡ of_take_refusal refusal }
-{
-    match refusal {
-        TakeRefusal::BadMember => DeliverRefusal::BadMember,
-        TakeRefusal::Down => DeliverRefusal::Down,
-        TakeRefusal::Empty => DeliverRefusal::Empty,
     }
 }
 

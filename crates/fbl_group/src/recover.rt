@@ -38,10 +38,7 @@ impl<B: Behaviour, A: Allocator + Copy> Group<B, A> {
         if self.all_are_up() {
             return Err(RecoverRefusal::NotDown);
         }
-        match self.bring_back() {
-            Ok(recovered) => Ok(recovered),
-            Err(_) => Err(RecoverRefusal::Memory),
-        }
+        Ok(self.bring_back()?)
     }
 
     /// Whether nobody is down.

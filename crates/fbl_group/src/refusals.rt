@@ -2,6 +2,7 @@
 
 ghost use Rattle.std.specs.Prelude.{◌≡◌};
 
+use std::alloc::AllocError;
 use thiserror::Error;
 
 /// Why a message is not delivered. The refusals are tested in this order, and nothing has changed then.
@@ -64,6 +65,21 @@ impl TakeRefusal {
     }
 }
 
+/// The refusal of a ticket as one of a delivery.
+impl From<TakeRefusal> for DeliverRefusal {
+    ghost use Rattle.fbl_group.specs.Deliveries.{of_take};
+
+    ghost from_gives = { λ refusal e. e ≡ of_take refusal };
+
+    fn from(refusal: TakeRefusal) -> DeliverRefusal {
+        match refusal {
+            TakeRefusal::BadMember => DeliverRefusal::BadMember,
+            TakeRefusal::Down => DeliverRefusal::Down,
+            TakeRefusal::Empty => DeliverRefusal::Empty,
+        }
+    }
+}
+
 /// Why a step is not committed. The refusals are tested in this order.
 #[derive(Clone, Copy, PartialEq, Eq, Debug, Error)]
 #[error("{}", self.name())]
@@ -92,6 +108,17 @@ impl CommitRefusal {
             CommitRefusal::Full => "Full",
             CommitRefusal::Memory => "Memory",
         }
+    }
+}
+
+/// Memory ran out.
+impl From<AllocError> for CommitRefusal {
+    ghost use Rattle.fbl_group.specs.declared.refusals.CommitRefusal.TheVariants.{Memory};
+
+    ghost from_gives = { λ _ e. e ≡ Memory };
+
+    fn from(_error: AllocError) -> CommitRefusal {
+        CommitRefusal::Memory
     }
 }
 
@@ -149,6 +176,17 @@ impl CheckpointRefusal {
     }
 }
 
+/// Memory ran out.
+impl From<AllocError> for CheckpointRefusal {
+    ghost use Rattle.fbl_group.specs.declared.refusals.CheckpointRefusal.TheVariants.{Memory};
+
+    ghost from_gives = { λ _ e. e ≡ Memory };
+
+    fn from(_error: AllocError) -> CheckpointRefusal {
+        CheckpointRefusal::Memory
+    }
+}
+
 /// Why nobody is recovered. The refusals are tested in this order.
 #[derive(Clone, Copy, PartialEq, Eq, Debug, Error)]
 #[error("{}", self.name())]
@@ -170,6 +208,17 @@ impl RecoverRefusal {
             RecoverRefusal::NotDown => "NotDown",
             RecoverRefusal::Memory => "Memory",
         }
+    }
+}
+
+/// Memory ran out.
+impl From<AllocError> for RecoverRefusal {
+    ghost use Rattle.fbl_group.specs.declared.refusals.RecoverRefusal.TheVariants.{Memory};
+
+    ghost from_gives = { λ _ e. e ≡ Memory };
+
+    fn from(_error: AllocError) -> RecoverRefusal {
+        RecoverRefusal::Memory
     }
 }
 
@@ -199,6 +248,21 @@ impl CrashRefusal {
             CrashRefusal::Nobody => "Nobody",
             CrashRefusal::TooMany => "TooMany",
             CrashRefusal::Memory => "Memory",
+        }
+    }
+}
+
+/// The refusal of a strike as one of a crash.
+impl From<StrikeRefusal> for CrashRefusal {
+    ghost use Rattle.fbl_group.specs.Crashes.{of_strike};
+
+    ghost from_gives = { λ refusal e. e ≡ of_strike refusal };
+
+    fn from(refusal: StrikeRefusal) -> CrashRefusal {
+        match refusal {
+            StrikeRefusal::BadMember => CrashRefusal::BadMember,
+            StrikeRefusal::Nobody => CrashRefusal::Nobody,
+            StrikeRefusal::TooMany => CrashRefusal::TooMany,
         }
     }
 }

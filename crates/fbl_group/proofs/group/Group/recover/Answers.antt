@@ -2,13 +2,13 @@ use Rattle.fbl_group.proofs.Common.{arith, cut-undone, recovery_leaves_recorded,
 use Rattle.fbl_law.specs.RecoveryLaws.{RecoveryLeavesRecorded, GroupRecoveryGainsHolders}
 use Rattle.fbl_group.proofs.group.Group.recover.Goals as goal
 
-pub returns-in-Ok-clause-left : goal.returns-in-Ok-clause-left
+pub returns-clause-left : goal.returns-clause-left
 unfolding RecoveryLeavesRecorded
-returns-in-Ok-clause-left g c = recovery_leaves_recorded g.B.Behaviour.next _ _ c.in-Ok.ensures.recovered.recovery c.promises.ensures.sound
+returns-clause-left g c = recovery_leaves_recorded g.B.Behaviour.next _ _ c.in_ok-bring_back.ensures.recovered.recovery c.promises.ensures.sound
 
-pub returns-in-Ok-clause-undone : goal.returns-in-Ok-clause-undone
-returns-in-Ok-clause-undone g c = omega (arith, cut-undone c.promises.ensures.sound c.in-Ok.ensures.recovered.recovery.trace, c.in-Ok.ensures.recovered.undone)
+pub returns-clause-undone : goal.returns-clause-undone
+returns-clause-undone g c = omega (arith, cut-undone c.promises.ensures.sound c.in_ok-bring_back.ensures.recovered.recovery.trace, c.in_ok-bring_back.ensures.recovered.undone)
 
-pub returns-in-Ok-clause-holders : goal.returns-in-Ok-clause-holders
+pub returns-clause-holders : goal.returns-clause-holders
 unfolding GroupRecoveryGainsHolders
-returns-in-Ok-clause-holders g c = group_recovery_gains_holders g.B.Behaviour.next _ _ c.in-Ok.ensures.recovered.recovery c.promises.ensures.sound
+returns-clause-holders g c = group_recovery_gains_holders g.B.Behaviour.next _ _ c.in_ok-bring_back.ensures.recovered.recovery c.promises.ensures.sound
