@@ -32,7 +32,7 @@ step-actions t p m before [] = grind arith
 step-actions t p m before (s ∷ sends) = (let rest = step-actions t p m (before + 1) sends in grind (arith, rest))
 
 -- the sends of a step obey the rules
-sends_obey : (n p before : ℕ) (u : List Mark) (sends : List (ℕ × Note)) → WellFormed n u → p < n → before ≡ sends_of u p
+pub sends_obey : (n p before : ℕ) (u : List Mark) (sends : List (ℕ × Note)) → WellFormed n u → p < n → before ≡ sends_of u p
     → All (λ (s : ℕ × Note). (s.0 < n) × (s.0 ≢ p)) sends → length u + length sends ≤ 8192 → WellFormed n (u ++ map mark_of (step_events p before sends))
 sends_obey n p before u [] obeys member count allowed room = rw append-nil obeys
 sends_obey n p before u (s ∷ sends) obeys member count allowed room =

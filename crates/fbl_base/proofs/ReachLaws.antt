@@ -90,7 +90,7 @@ module _ (n : ℕ) (Lost : Mark → Type 0) (no_send : (q s p : ℕ) → Lost (S
   tracks_receipt p r q s lost decides may =
       let new = MayFollow-new n t (Receipt p r q s) obeys may in
       let preceded = preceded_new Lost t (Receipt p r q s) new in
-      let message = tracks.sends q s p (in_flight-sent t q s p may.5) in
+      let message = tracks.sends q s p (in_flight-sent t q s p 0 may.5) in
       record {
         members = λ x.
             let has = set.contains-insert nat_cmp_total reached p x in

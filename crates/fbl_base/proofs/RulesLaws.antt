@@ -82,9 +82,9 @@ is_sent q p s (Send q' s' p') h = (let on = on_channel q' p' q p s' s h in rw (o
 is_sent q p s (Receipt p' r' q' s') h = cc
 
 -- a message in flight was sent
-pub in_flight-sent : (t : List Mark) (q s p : ℕ) → slice_get (in_flight t q p) 0 ≡ Some s → Has t (Send q s p)
-in_flight-sent t q s p first =
-    let a = At-filter (λ ssn. not (list_any (λ taken. taken == ssn) (filter_map (taken_on q p) t))) (filter_map (sent_on q p) t) 0 s first in
+pub in_flight-sent : (t : List Mark) (q s p i : ℕ) → slice_get (in_flight t q p) i ≡ Some s → Has t (Send q s p)
+in_flight-sent t q s p i here =
+    let a = At-filter (λ ssn. not (list_any (λ taken. taken == ssn) (filter_map (taken_on q p) t))) (filter_map (sent_on q p) t) i s here in
     let b = At-filter_map (sent_on q p) t a.0 s a.1 in
     (b.0, b.2 ∙ ap Some (is_sent q p s b.1 b.3))
 
@@ -92,6 +92,6 @@ in_flight-sent t q s p first =
 pub sent-before : (n : ℕ) (t : List Mark) → WellFormed n t → (i to rsn from ssn : ℕ) → At t i (Receipt to rsn from ssn) → (j : ℕ) × (j < i) × At t j (Send from ssn to)
 sent-before n t obeys i to rsn from ssn here =
     let may = obeys i (Receipt to rsn from ssn) here in
-    let sent = in_flight-sent (take i t) from ssn to may.5 in
+    let sent = in_flight-sent (take i t) from ssn to 0 may.5 in
     let below = At-below (take i t) sent.0 (Send from ssn to) sent.1 in
     (sent.0, omega (arith, below, length-take i t), (rw take-append-drop at (At-front (take i t) (drop i t) sent.0 (Send from ssn to) sent.1)))

@@ -1,5 +1,5 @@
 -- The names that proofs of this crate take from outside: of the standard library, of the crates below, and of the definitions here.
-pub use Rattle.std.proofs.Common.{All, Bool, Fits, IfSome, List, None, Option, Some, Vec, [], add-one, ap, append-nil, append_assoc, arith, below_more, cond, count_by, deque_capacity, deque_items}
+pub use Rattle.std.proofs.Common.{All, Bool, Fits, IfSome, List, None, Option, Some, Vec, [], add-one, ap, append-nil, append_assoc, arith, cond, count_by, deque_capacity, deque_items}
 pub use Rattle.std.proofs.Common.{deque_len, drop, false, get_or, inl, inr, length, length-append, map, nat_lt, not, option_map, refl, replicate, rules, set, slice_get, slice_index_or, slice_set}
 pub use Rattle.std.proofs.Common.{subst, suc, sym, take, true, vec_capacity, vec_len, w32, w64, zero, ℕ, ◌*◌, ◌++◌, ◌+◌, ◌-◌, ◌<◌, ◌==◌, ◌^◌, ◌||◌, ◌∙◌}
 pub use Rattle.std.proofs.Common.{◌∷◌, ◌≡◌, ◌≢◌, ◌≤◌, ◌⊎◌}
@@ -7,7 +7,7 @@ pub use Rattle.std.proofs.lemmas.Bool.{eq-eqb, false≢true, true_from_ne_false}
 pub use Rattle.std.proofs.lemmas.Bool.Decides.{nat_tests}
 pub use Rattle.std.proofs.lemmas.Fn.{filter_same}
 pub use Rattle.std.proofs.lemmas.Grind.{common_steps}
-pub use Rattle.std.proofs.lemmas.List.{at_drop_more, get_or-map, get_or-replicate, get_or-set_other, get_or-set_same, get_or_default, get_or_past, get_or_read_under, length-map, length-replicate}
+pub use Rattle.std.proofs.lemmas.List.{at_drop_more, get_or-map, get_or-replicate, get_or-set_other, get_or-set_same, get_or_default, get_or_past, length-map, length-replicate}
 pub use Rattle.std.proofs.lemmas.List.{length-set, map-append, map-set, set-get_or}
 pub use Rattle.std.proofs.lemmas.List.Elements.{filter-append, filter_map-append}
 pub use Rattle.std.proofs.lemmas.List.Folds.{Any-from_list_any, list_any-from_Any}
@@ -40,11 +40,12 @@ pub use Rattle.fbl_base.specs.declared.trace.Mark.TheVariants.{Send}
 pub use Rattle.fbl_base.specs.declared.trace.Note.{Note}
 pub use Rattle.fbl_base.specs.declared.trace.Start.{Start}
 pub use Rattle.fbl_law.proofs.ChannelCounts.{sent_again-short, sum_below-agree}
+pub use Rattle.fbl_law.proofs.Channels.{flight_at, flight_ends}
 pub use Rattle.fbl_law.proofs.CutInOnePass.{recovered_trace-cut}
 pub use Rattle.fbl_law.proofs.DumpLaws.{carried_fits, dump_has_no_orphan, dump_obeys_rules, table_fits}
 pub use Rattle.fbl_law.proofs.GroupCheckpoint.{checkpoint_is_recorded, group_checkpoint_keeps}
 pub use Rattle.fbl_law.proofs.GroupDelivery.{group_delivery_keeps, length-step_events}
-pub use Rattle.fbl_law.proofs.GroupFacts.{flight_ends, front_flight, front_is_later, new_not_carried, new_not_held, receipt_is_new, receipts_fit, sends_fit, trace_fits}
+pub use Rattle.fbl_law.proofs.GroupFacts.{front_is_later, new_not_carried, new_not_held, receipt_is_new, receipts_fit, sends_fit, trace_fits}
 pub use Rattle.fbl_law.proofs.GroupRecovery.{cut-undone, group_recovery_gains_holders, group_recovery_keeps, recovery_leaves_recorded}
 pub use Rattle.fbl_law.proofs.GroupStart.{group_start_is_sound}
 pub use Rattle.fbl_law.proofs.GroupStrike.{group_strike_keeps, recorded_test}

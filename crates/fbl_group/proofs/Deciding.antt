@@ -1,6 +1,6 @@
 -- Which refusal of a delivery, a ticket or a commit holds.
 use Rattle.fbl_group.proofs.Common.{◌≡◌, ℕ, Bool, true, false, ◌==◌, not, cond, length, arith, refl, sym, Some, None, nat_tests, Outcome, Next, Message, MemberRecord, GroupRecord, member}
-use Rattle.fbl_group.proofs.Common.{channel, step_of, front_message, IsPlanned, is_full, IsSound, front_flight, option_map, front, deliver_refusal, of_commit, IsDeliverRefusal, Delivers, Receipted}
+use Rattle.fbl_group.proofs.Common.{channel, step_of, front_message, IsPlanned, is_full, IsSound, flight_at, option_map, front, deliver_refusal, of_commit, IsDeliverRefusal, Delivers, Receipted}
 use Rattle.fbl_group.proofs.Common.{Ticket, CommitRefusal, take_refusal, IsTicket, commit_refusal, is_current, IsCommitRefusal, eq-eqb, flight_ends}
 use Rattle.std.specs.FinSet as set
 use Rattle.fbl_group.specs.declared.refusals.CommitRefusal.TheVariants as commit
@@ -19,8 +19,8 @@ module _ (next : Next) (r : GroupRecord) (t : Ticket) {w : Message} {x : MemberR
   pub is_planned : IsSound next r → true ≡ is_current x w t → is_full r (length outcome.sends.items) ≡ false → IsPlanned next r t.from t.to outcome
   is_planned sound current room =
       let first : front_message r t.from t.to ≡ w = first-is (channel r t.from t.to) w at in
-      let flight = front_flight next r sound t.from t.to w at in
-      let ends = flight_ends next r sound w flight.0 in
+      let flight = flight_at sound.causes t.from t.to 0 w at in
+      let ends = flight_ends sound.causes w flight.0 in
       let parts : (x.state ≡ t.state) × (w.note ≡ t.note) = grind (arith, nat_tests) in
       let steps : outcome ≡ next t.to r.config.members (member r t.to).state w.note = rw (size, ← read, parts.0, parts.1) step in
       grind (arith, set.empty_of_len r.down nobody, t.ends, flight, ends, sound.shape)

@@ -1,7 +1,7 @@
 -- What is known of a delivery that is planned.
 use Rattle.fbl_group.proofs.Common.{Some, None, ◌≡◌, ◌≢◌, ℕ, ◌+◌, ◌<◌, ◌≤◌, false, List, [], ◌∷◌, ◌++◌, length, map, refl, sym, subst, ap, ◌∙◌}
 use Rattle.fbl_group.proofs.Common.{append_assoc, arith, get_or, length-append, Fits, w32, slice_get, slice_set, All, nat_tests, Event, Outcome, Note, Next, Entry, piggybacked, Message, MemberRecord}
-use Rattle.fbl_group.proofs.Common.{messages_from, IsUp, taken_off, between, GroupRecord, HasChannels, member, channel, channel_in, knowledge, IsSound, step_of, up_if_none, receipts_fit, front_flight}
+use Rattle.fbl_group.proofs.Common.{messages_from, IsUp, taken_off, between, GroupRecord, HasChannels, member, channel, channel_in, knowledge, IsSound, step_of, up_if_none, receipts_fit, flight_at}
 use Rattle.fbl_group.proofs.Common.{IsOnce, front_message, send_of_message, taken_and_sent, IsPlanned, set-get_or, Receipt, SendsAllowed, is_held, last_from, received_by, table_after}
 use Rattle.fbl_group.proofs.Common.{next_determinant, IsInFlight, delivery_events, IsDelivery, SendsWell, sends_fit, receipt_is_new, new_not_held, new_not_carried, front_is_later, carried_fits}
 use Rattle.fbl_group.proofs.Common.{length-step_events, group_delivery_keeps, Delivered}
@@ -35,13 +35,13 @@ module _ {next : Next} {r now : GroupRecord} {q p : ℕ} {outcome : Outcome} (we
 
   -- it goes from the one to the other
   of_sender : v.from ≡ q
-  of_sender = (front_flight next r sound q p v plan.first).1
+  of_sender = (flight_at sound.causes q p 0 v plan.first).1
 
   to_receiver : v.to ≡ p
-  to_receiver = (front_flight next r sound q p v plan.first).2
+  to_receiver = (flight_at sound.causes q p 0 v plan.first).2
 
   flies : IsInFlight (knowledge r) v
-  flies = (front_flight next r sound q p v plan.first).0
+  flies = (flight_at sound.causes q p 0 v plan.first).0
 
   up : IsUp (knowledge r) p
   up = up_if_none plan.nobody_down p

@@ -1,6 +1,6 @@
 -- How large the parts of a sound group are.
 use Rattle.fbl_group.proofs.Common.{◌≡◌, ℕ, ◌+◌, ◌-◌, ◌*◌, ◌≤◌, ◌==◌, not, Bool, List, [], ◌∷◌, length, map, refl, sym, ap, ◌∙◌, arith, length-map}
-use Rattle.fbl_group.proofs.Common.{sum_by-cons, length-left, determinant_of, mark_of, Next, IsOnce, IsUp, GroupRecord, member, channel, marks, knowledge, receipts, sum_below, IsSound, up_if_none}
+use Rattle.fbl_group.proofs.Common.{sum_by-cons, length-left, determinant_of, mark_of, Next, IsUp, GroupRecord, member, channel, marks, knowledge, receipts, sum_below, IsSound, up_if_none}
 use Rattle.fbl_group.proofs.Common.{sum_below-agree, inl, inr, sum_by, filter_map, list_any, length-filter_map, Mark, Send, in_flight, sent_on, taken_on, send_mark, MatchesTrace, messages_in_flight}
 use Rattle.fbl_group.proofs.Common.{down_or_both_up, trace_fits, weight_in, weight_on, into, out, flow, table_fits}
 use Rattle.std.specs.FinSet as set
@@ -68,5 +68,5 @@ module _ (next : Next) (r : GroupRecord) (sound : IsSound next r) where
   ]
 
   -- and so has a table at most as many entries
-  pub held_fits : (m : ℕ) → IsOnce (member r m).table → length (member r m).table ≤ 8192
-  held_fits m once = omega (arith, table_fits next r sound m once, length-filter_map determinant_of (marks r), trace_fits next r sound)
+  pub held_fits : (m : ℕ) → length (member r m).table ≤ 8192
+  held_fits m = omega (arith, table_fits next r sound m, length-filter_map determinant_of (marks r), trace_fits next r sound)

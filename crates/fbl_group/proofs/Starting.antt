@@ -1,5 +1,5 @@
 -- What a group is made of at its start.
-use Rattle.fbl_group.proofs.Common.{◌≡◌, ℕ, ◌+◌, ◌<◌, List, [], ◌∷◌, ◌++◌, length, get_or, refl, filter-append, filter_map-append, Event, Message, is_on, between}
+use Rattle.fbl_group.proofs.Common.{◌≡◌, ℕ, ◌<◌, List, [], ◌∷◌, ◌++◌, length, get_or, refl, filter-append, filter_map-append, Event, Message, is_on, between}
 use Rattle.fbl_group.proofs.Common.{HasChannels, channel_in, message_of_send, with_sent, filter_map, Start, Settings, IsConfig, StartAllowed, slice_get-get_or}
 use Rattle.fbl_base.specs.declared.trace.Event.TheVariants.{Send}
 use Rattle.fbl_group.proofs.Queues.{put-in, in-channels, written-shape}

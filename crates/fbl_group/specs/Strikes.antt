@@ -1,5 +1,5 @@
 -- When a strike is refused, and what it answers.
-use Rattle.std.specs.Prelude.{◌≡◌, ℕ, ◌<◌, ◌==◌, ◌&&◌, not, nat_lt, Bool, true, false, length, Option, Some, None, if◌then◌else◌, List, map, slice_index_or}
+use Rattle.std.specs.Prelude.{◌≡◌, ℕ, ◌<◌, ◌==◌, ◌&&◌, not, nat_lt, Bool, true, false, length, Option, Some, None, if◌then◌else◌, List, slice_index_or}
 use Rattle.std.specs.List.{filter, list_all}
 use Rattle.std.specs.FinSet as set
 use Rattle.fbl_base.specs.MemberSets.{Members}

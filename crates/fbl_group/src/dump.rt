@@ -1,17 +1,15 @@
 //! Dumps of a group, for the audit.
 
-ghost use Rattle.std.specs.Prelude.{◌≡◌, ℕ, ◌<◌, ◌≤◌, ◌++◌, IfOk, IfErr, OnOk, length, map, slice_index_or};
+ghost use Rattle.std.specs.Prelude.{◌≡◌, ℕ, ◌≤◌, ◌++◌, IfOk, IfErr, OnOk, length, map};
 ghost use Rattle.std.specs.FinSet as set;
 ghost use Rattle.fbl_base.specs.Audit.{IsDumpOrphan};
 ghost use Rattle.fbl_base.specs.DumpParts.{parts_of};
 ghost use Rattle.fbl_base.specs.Events.{mark_of};
 ghost use Rattle.fbl_base.specs.MemberSets.{AllBelow};
-ghost use Rattle.fbl_member.specs.Carried.{IsOnce};
-ghost use Rattle.fbl_member.specs.Members.{blank};
 ghost use Rattle.fbl_law.specs.Knowledge.{Includes, IsDown};
 ghost use Rattle.fbl_law.specs.Groups.{knowledge};
 ghost use Rattle.fbl_law.specs.Sound.{IsSound};
-ghost use Rattle.fbl_law.specs.Dumps.{pairs_of, pairs_from, dump_of, HasDistinctTables};
+ghost use Rattle.fbl_law.specs.Dumps.{pairs_of, pairs_from, dump_of};
 ghost use Rattle.fbl_group.specs.Readers.{IsDumpRefusal};
 
 use crate::group::Group;
@@ -44,8 +42,7 @@ impl<B: Behaviour, A: Allocator + Copy> Group<B, A> {
 
     /// The parts of a dump.
     fn raw_dump(&self, strike: MemberSet) -> Result<RawDump<A>, AllocError>
-        ensures parts { IfOk result (λ raw. parts_of raw ≡ dump_of self.now strike) }
-        ensures distinct { IfOk result (λ raw. HasDistinctTables self.now) }
+        ensures { IfOk result (λ raw. parts_of raw ≡ dump_of self.now strike) }
     {
         let alloc = *self.trace.allocator();
         Ok(RawDump {
@@ -71,8 +68,7 @@ fn held_pairs<A: Allocator + Copy>(
     members: &[MemberRec<A>],
 ) -> Result<Vec<(Member, Determinant), A>, AllocError>
     requires { length members.now ≤ 16 }
-    ensures pairs { IfOk result (λ held. held.items ≡ pairs_from 0 members.now) }
-    ensures distinct { IfOk result (λ held. (m : ℕ) → m < length members.now → IsOnce (slice_index_or members.now m blank).table) }
+    ensures { IfOk result (λ held. held.items ≡ pairs_from 0 members.now) }
 {
     let mut held = Vec::new(alloc);
     for place in 0..members.len() {
@@ -88,8 +84,7 @@ fn push_pairs<A: Allocator + Copy>(
     holder: Member,
     table: &Table<A>,
 ) -> Result<(), AllocError>
-    ensures pairs { OnOk result (held.new.items ≡ held.old.items ++ pairs_of holder table.now) }
-    ensures distinct { IsOnce table.now }
+    ensures { OnOk result (held.new.items ≡ held.old.items ++ pairs_of holder table.now) }
 {
     held.reserve(table.len())?;
     for place in 0..table.len() {

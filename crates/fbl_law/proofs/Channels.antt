@@ -1,27 +1,42 @@
 -- Channels and the trace.
-use Rattle.fbl_law.proofs.Common.{◌≡◌, ℕ, ◌==◌, not, List, [], ◌∷◌, ◌++◌, map, arith, refl, ap, ◌∙◌, Some, append_assoc, filter_map, list_any, nat_tests, map-append, Mark}
-use Rattle.fbl_law.proofs.Common.{Has, sent_on, taken_on, in_flight, WellFormed, map-At, At-filter, At-filter_map, is_sent, WellFormed-front, in_flight-send, in_flight-receipt, Message, Knowledge}
-use Rattle.fbl_law.proofs.Common.{send_mark, IsInFlight, IsUp, MatchesTrace, IsDownEmpty, between, taken_off, drop-map, append-nil, Send, Receipt}
+use Rattle.fbl_law.proofs.Common.{◌≡◌, ◌≢◌, ℕ, ◌+◌, ◌<◌, List, [], ◌∷◌, ◌++◌, length, map, option_map, slice_get, arith, refl, sym, ap, ◌∙◌, Some}
+use Rattle.fbl_law.proofs.Common.{append_assoc, filter_map, nat_tests, map-append, slice_get-map, Mark, Has, sent_on, in_flight, receipts_of, MayFollow, WellFormed, map-At, WellFormed-front}
+use Rattle.fbl_law.proofs.Common.{in_flight-send, in_flight-receipt, in_flight-sent, Message, Knowledge, IsSoundKnowledge, send_mark, IsInFlight, IsUp, between, taken_off, drop-map, append-nil, Send}
+use Rattle.fbl_law.proofs.Common.{Receipt}
 use Rattle.fbl_law.proofs.Appended.{MayFollow-seam}
-use Rattle.fbl_law.proofs.Lists.{Contains-map, Contains-place}
+use Rattle.fbl_law.proofs.Lists.{Contains-at, Contains-place}
 use Rattle.fbl_law.proofs.Safe.{up_at_ends}
 
--- what the trace has in flight was sent
-in_flight-Has : (t : List Mark) (q p : ℕ) (e : Mark) → Has (map (λ ssn. Send q ssn p) (in_flight t q p)) e → Has t e
-in_flight-Has t q p e h =
-    let number = map-At (λ ssn. Send q ssn p) (in_flight t q p) h.0 e h.1 in
-    let a = At-filter (λ ssn. not (list_any (λ taken. taken == ssn) (filter_map (taken_on q p) t))) (filter_map (sent_on q p) t) h.0 number.0 number.1 in
-    let b = At-filter_map (sent_on q p) t a.0 number.0 a.1 in
-    (b.0, b.2 ∙ ap Some (is_sent q p number.0 b.1 b.3 ∙ number.2))
+module _ {n f : ℕ} {r : Knowledge} (sound : IsSoundKnowledge n f r) where
+  -- a message at a place of a channel has the number that the trace has there, goes from the one to the other, and both are up
+  pub channel-at : (q p i : ℕ) (v : Message) → slice_get (r.channel q p) i ≡ Some v
+      → ((slice_get (in_flight r.trace q p) i ≡ Some v.ssn) × (v.from ≡ q) × (v.to ≡ p)) × (IsUp r q × IsUp r p)
+  channel-at q p i v here =
+      let ends = up_at_ends r sound.down.channels q p v (Contains-at (r.channel q p) i v here) in
+      let place = map-At (λ ssn. Send q ssn p) (in_flight r.trace q p) i (send_mark v)
+      (ap (λ (ms : List Mark). slice_get ms i) (sym (sound.channels q p ends.0 ends.1)) ∙ slice_get-map send_mark (r.channel q p) i ∙ ap (option_map send_mark) here) in
+      let sent : Send q place.0 p ≡ send_mark v = place.2 in
+      ((place.1 ∙ ap Some cc, cc, cc), ends)
 
--- each message in flight was sent
-pub AreSent-matched : (f : ℕ) (r : Knowledge) → ((q p : ℕ) → IsUp r q → IsUp r p → MatchesTrace r q p) → IsDownEmpty f r
-    → (v : Message) → IsInFlight r v → Has r.trace (send_mark v)
-AreSent-matched f r matches empty v flies =
-    let ends = up_at_ends r empty.channels v.from v.to v flies in
-    let among = Contains-map send_mark (r.channel v.from v.to) v flies in
-    let marked : Has (map send_mark (r.channel v.from v.to)) (send_mark v) = (among.0, Contains-place (map send_mark (r.channel v.from v.to)) (send_mark v) among) in
-    in_flight-Has r.trace v.from v.to (send_mark v) (rw (matches v.from v.to ends.0 ends.1) at marked)
+  -- so it is in flight from the one to the other
+  pub flight_at : (q p i : ℕ) (v : Message) → slice_get (r.channel q p) i ≡ Some v → IsInFlight r v × (v.from ≡ q) × (v.to ≡ p)
+  flight_at q p i v here =
+      let ends = (channel-at q p i v here).0 in
+      (rw (← ends.1, ← ends.2) at (Contains-at (r.channel q p) i v here), ends.1, ends.2)
+
+  -- a message in flight was sent, from one member of the group to another
+  pub flight_sent : (v : Message) → IsInFlight r v → Has r.trace (send_mark v)
+  flight_sent v flies = in_flight-sent r.trace v.from v.ssn v.to flies.0 (channel-at v.from v.to flies.0 v (Contains-place (r.channel v.from v.to) v flies)).0.0
+
+  pub flight_ends : (v : Message) → IsInFlight r v → (v.from < n) × (v.to < n) × (v.from ≢ v.to)
+  flight_ends v flies = (let may = sound.rules (flight_sent v flies).0 (send_mark v) (flight_sent v flies).1 in (may.0, may.1, may.2))
+
+  -- the receipt of the front of a channel may come next, where the trace has room
+  pub front_may_follow : (v : Message) → slice_get (r.channel v.from v.to) 0 ≡ Some v → length r.trace < 8192
+      → MayFollow n r.trace (Receipt v.to (receipts_of r.trace v.to + 1) v.from v.ssn)
+  front_may_follow v front room =
+      let ends = flight_ends v (Contains-at (r.channel v.from v.to) 0 v front) in
+      (ends.0, ends.1, ends.2, refl, room, (channel-at v.from v.to 0 v front).0.0)
 
 -- the messages made between two members, by their marks
 messages_between : (made : List Message) (q p : ℕ) → map send_mark (between q p made) ≡ map (λ ssn. Send q ssn p) (filter_map (sent_on q p) (map send_mark made))

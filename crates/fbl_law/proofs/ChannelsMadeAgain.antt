@@ -60,7 +60,7 @@ in_flight-outside n t q p obeys out = at (in_flight t q p) refl where
   at : (xs : List ℕ) → in_flight t q p ≡ xs → in_flight t q p ≡ []
   at [] is = is
   at (x ∷ xs) is =
-      let sent = in_flight-sent t q x p (ap (λ (ys : List ℕ). slice_get ys 0) is) in
+      let sent = in_flight-sent t q x p 0 (ap (λ (ys : List ℕ). slice_get ys 0) is) in
       let may = obeys sent.0 (Send q x p) sent.1 in
       absurd (omega (arith, out, may.0, may.1))
 

@@ -14,17 +14,19 @@ pub use Rattle.std.proofs.lemmas.List.Elements.{Contains-append_cases, Contains-
 pub use Rattle.std.proofs.lemmas.List.Filters.{length-filter_both}
 pub use Rattle.std.proofs.lemmas.List.Folds.{Any-from_list_any, find_at, fold-map, list_any-append, list_any-from_Any, list_any_at}
 pub use Rattle.std.proofs.lemmas.List.Sums.{count_by-le-length, fails_before_first, fold-append, passes_at_first, position_or_len_is, sum_by-append, sum_by-cons, sum_by-drop_more, sum_by_push}
-pub use Rattle.std.proofs.lemmas.Map.Made.{is_member-Decides, length-le_from_is_member}
+pub use Rattle.std.proofs.lemmas.List.Quantifiers.{all_pairs_push}
+pub use Rattle.std.proofs.lemmas.Map.Made.{AllPairs-from_IsDistinct, IsDistinct-from_AllPairs, is_member-Decides, length-le_from_is_member}
 pub use Rattle.std.proofs.lemmas.Option.{get_or_from_slice_get, slice_get-get_or, slice_get-map, slice_get_within}
+pub use Rattle.std.proofs.lemmas.Simd.{map-map}
 pub use Rattle.std.specs.Cmp.{decided, nat_cmp_total}
-pub use Rattle.std.specs.List.{All, Contains, IsDistinct, cons_option, filter, filter_map, fold, list_any, position_or_len}
+pub use Rattle.std.specs.List.{All, Contains, cons_option, filter, filter_map, fold, list_any, position_or_len}
 pub use Rattle.std.specs.Option.{option_map_or}
 pub use Rattle.std.specs.Ordering.{nat_cmp}
 pub use Rattle.std.specs.Prelude.{slice_index_or, slice_set, sum_by}
 pub use Rattle.fbl_base.proofs.FoldLaws.{after_notes-state}
 pub use Rattle.fbl_base.proofs.Gets.{Apart, Apart-later, At-below, At-filter, At-filter_map, At-front, At-new, At-push, filter_map-At, filter_map-agree, map-At, slice_get-take, split-at, take-more}
 pub use Rattle.fbl_base.proofs.InFlightLaws.{filter_all, in_flight-receipt, in_flight-send, sent-number, sent-rises}
-pub use Rattle.fbl_base.proofs.LawfulLaws.{Lawful-begun, Lawful-deliver, note_of-front, notes_of-sent, receipts-noted, sent-note}
+pub use Rattle.fbl_base.proofs.LawfulLaws.{Lawful-begun, Lawful-deliver, note_of-front, notes_of-sent, receipts-noted, sends_obey, sent-note}
 pub use Rattle.fbl_base.proofs.PlacesAndEvents.{one_place}
 pub use Rattle.fbl_base.proofs.PrecedenceLaws.{Earlier-front, Has-filter, Has-first, Has-last, Precedes-filter, Precedes-front}
 pub use Rattle.fbl_base.proofs.Received.{is_receipt}
@@ -48,11 +50,13 @@ pub use Rattle.fbl_base.specs.declared.trace.Mark.TheVariants.{Receipt, Send}
 pub use Rattle.fbl_base.specs.declared.trace.Note.{Note}
 pub use Rattle.fbl_base.specs.declared.trace.Start.{Start}
 pub use Rattle.fbl_member.proofs.Logs.{length-numbered, numbered-append}
+pub use Rattle.fbl_member.proofs.Once.{IsOnce-none}
+pub use Rattle.fbl_member.specs.Carried.{IsOnce}
 pub use Rattle.fbl_member.specs.Members.{MemberRecord, Message, blank, fresh, last_from, logged_beyond, logged_note, messages_from, next_determinant, progress_of, replayed_by}
-pub use Rattle.fbl_table.proofs.Adding.{fold_next, held-carried, held-gathered}
+pub use Rattle.fbl_table.proofs.Adding.{added_new, fold_next, held-carried, held-gathered, not_held_learned}
 pub use Rattle.fbl_table.specs.Tables.{found, gathered, held_by, is_held, is_of_receipt, learned, noted, piggybacked}
 pub use Rattle.fbl_table.specs.declared.entry.Entry.{Entry}
-pub use Rattle.fbl_law.specs.Dumps.{HasDistinctTables, dump_of, held_pairs, pairs_from, pairs_of}
+pub use Rattle.fbl_law.specs.Dumps.{dump_of, held_pairs, pairs_from, pairs_of}
 pub use Rattle.fbl_law.specs.GroupLaws.{RecordedTest, SendsWell}
 pub use Rattle.fbl_law.specs.GroupSteps.{IsCheckpoint, IsDelivery, IsGroupStart, IsMadeAgain, IsRecovery, IsStrike, delivery_events, made, message_of_send, receiver, start_events, step_of}
 pub use Rattle.fbl_law.specs.Groups.{GroupRecord, HasChannels, channel, is_recorded, knowledge, marks, member, member_checkpoint, messages_in_flight, receipts, sum_below}
@@ -69,6 +73,6 @@ pub use Rattle.fbl_law.specs.Run.{IsStart, checkpoints, delivers, recovers, star
 pub use Rattle.fbl_law.specs.Sound.{IsFold, IsReplayed, IsSound, last_among, last_taken, receipts_at, received_notes}
 pub use Rattle.fbl_law.specs.StepLaws.{AnyNote, AnyState, HoldsFirst, HoldsOf, StepConserves, StepKeeps, StepLosesNone, StepMakesNone, WeighsNoLess, WeighsNoMore, WeighsTheSame, weight_after}
 pub use Rattle.fbl_law.specs.StepLaws.{weight_flying, weight_of, weight_of_starts}
-pub use Rattle.fbl_law.specs.Steps.{IsCheckpointed, IsCut, IsDelivered, IsEventCut, IsRecovered, IsStruck, Stays, UpTo, between, determinant, gathered_all, is_on, recovery_table, saved_tables}
-pub use Rattle.fbl_law.specs.Steps.{taken_off}
+pub use Rattle.fbl_law.specs.Steps.{IsCheckpointed, IsCut, IsDelivered, IsEventCut, IsRecovered, IsStruck, Stays, UpTo, between, gathered_all, is_on, messages_made, next_receipt, recovery_table}
+pub use Rattle.fbl_law.specs.Steps.{saved_tables, taken_off}
 pub use Rattle.fbl_law.specs.Stuck.{IsSentAgain, IsStuck}

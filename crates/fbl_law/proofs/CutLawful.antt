@@ -64,7 +64,7 @@ module _ (n : ℕ) (keep : Mark → Bool) (u : List Mark) (obeys : WellFormed n 
         may.2,
         omega (arith, may.3, count),
         omega (arith, may.4, length-left keep u),
-        first-kept from ssn to may.5 (causes (mark.Send from ssn to) (in_flight-sent u from ssn to may.5) (inr refl))
+        first-kept from ssn to may.5 (causes (mark.Send from ssn to) (in_flight-sent u from ssn to 0 may.5) (inr refl))
             (map-kept keep (taken_on from to) u (λ a y h is. causes a h (inl (grind (arith, nat_tests))))),
       )
 

@@ -1,12 +1,15 @@
 -- A delivery keeps knowledge sound.
-use Rattle.fbl_law.proofs.Common.{◌≡◌, ℕ, List, [], ◌∷◌, inl, inr, ◌⊎◌, refl, sym, subst, ap, ◌∙◌, zero, suc, Some, map, ◌&&◌, ◌==◌, Contains, cases_eq, cases_Bool}
-use Rattle.fbl_law.proofs.Common.{contains-insert_same, Determinant, Mark, member_of, send_of, determinant_of, receipt_of, Has, Precedes, Contains-append_cases, At-front, Has-last, Entry, Message}
-use Rattle.fbl_law.proofs.Common.{Includes, Knowledge, Store, in_table, in_message, in_checkpoint, owner, IsThere, Owes, table, send_mark, IsInFlight, IsUp, Names, Holds, IsHolder, IsTrueEntry}
-use Rattle.fbl_law.proofs.Common.{NamesCauses, IsSoundKnowledge, learned, IsDelivered, is_on, taken_off, between, determinant, Precedes-front, All, ◌↔◌, held_by, All-contains, All-push, map-At}
+use Rattle.fbl_law.proofs.Common.{◌≡◌, ℕ, ◌+◌, List, [], ◌∷◌, ◌++◌, inl, inr, ◌⊎◌, refl, sym, subst, ap, ◌∙◌, zero, suc, Some, map, ◌&&◌, ◌==◌, Contains}
+use Rattle.fbl_law.proofs.Common.{cases_eq, cases_Bool, slice_get, arith, append_assoc, length-append, contains-insert_same, Determinant, Mark, Note, member_of, mark_of, send_of, determinant_of}
+use Rattle.fbl_law.proofs.Common.{receipt_of, Has, Precedes, Contains-append_cases, At-front, Has-last, Entry, Message, Includes, Knowledge, Store, in_table, in_message, in_checkpoint, owner, IsThere}
+use Rattle.fbl_law.proofs.Common.{Owes, table, send_mark, IsInFlight, IsUp, Names, Holds, IsHolder, IsTrueEntry, NamesCauses, IsSoundKnowledge, learned, IsDelivered, is_on, taken_off, between}
+use Rattle.fbl_law.proofs.Common.{next_receipt, messages_made, Precedes-front, All, ◌↔◌, held_by, All-contains, All-push, map-At, piggybacked, messages_from, step_events, Send, WellFormed}
+use Rattle.fbl_law.proofs.Common.{WellFormed-push, sends_of, sends-step, sends_obey}
 use Rattle.std.specs.FinSet as set
+use Rattle.fbl_base.specs.declared.trace.Event.TheVariants as event
 use Rattle.fbl_law.proofs.Appended.{Has-append, disjoint, Precedes-within, Precedes-entered}
-use Rattle.fbl_law.proofs.Lists.{At-behind, Contains-at, Contains-there, Contains-from_filter}
-use Rattle.fbl_law.proofs.Channels.{AreSent-matched, channel-delivered}
+use Rattle.fbl_law.proofs.Lists.{At-behind, Contains-at, Contains-none, Contains-there, Contains-from_filter}
+use Rattle.fbl_law.proofs.Channels.{flight_sent, front_may_follow, channel-delivered}
 use Rattle.fbl_law.proofs.Numbered.{added-later}
 use Rattle.fbl_law.proofs.Safe.{never_both, nobody_down_empty, up_if_none}
 use Rattle.fbl_law.proofs.Keeping.{KeepsKnowledge, IsSoundAt, NamesCauses-kept, IsTrueEntry-kept, sound_kept, sound_passed, checkpoint_kept, sound_after}
@@ -17,12 +20,42 @@ pub taken_off-was : (v : Message) (q p : ℕ) (xs : List Message) (x : Message) 
 taken_off-was v q p [] x h = elim (cases_Bool (v.from == q && v.to == p)) [ inl is ↦ rw is at h | inr is ↦ rw is at h ]
 taken_off-was v q p (y ∷ xs) x h = elim (cases_Bool (v.from == q && v.to == p)) [ inl is ↦ Contains-there y xs x (rw is at h) | inr is ↦ rw is at h ]
 
-module _ (n f : ℕ) (old new : Knowledge) (v : Message) (rsn : ℕ) (made : List Message) (s : IsDelivered n f old new v rsn made) (sound : IsSoundKnowledge n f old) where
+-- the events of a step are the sends of its messages
+pub marks_made : (p before : ℕ) (carried : List Entry) (sends : List (ℕ × Note)) → map mark_of (step_events p before sends) ≡ map send_mark (messages_from p before carried sends)
+marks_made p before carried [] = refl
+marks_made p before carried (s ∷ sends) = ap (λ ms. Send p (before + 1) s.0 ∷ ms) (marks_made p (before + 1) carried sends)
+
+-- each message made is of the member, carries what it passes on, and is sent by an event
+pub made_event : (p before : ℕ) (carried : List Entry) (sends : List (ℕ × Note)) (x : Message) → Contains (messages_from p before carried sends) x
+    → (x.from ≡ p) × (x.carried ≡ carried) × ((i : ℕ) × (slice_get (step_events p before sends) i ≡ Some (event.Send x.from x.ssn x.to x.note)))
+made_event p before carried [] x among = absurd (Contains-none x among)
+made_event p before carried (s ∷ sends) x (zero, within, here) = (cc, cc, (0, cc))
+made_event p before carried (s ∷ sends) x (suc k, within, here) = let r = made_event p (before + 1) carried sends x (k, omega arith, here) in (r.0, r.1, (suc r.2.0, r.2.1))
+
+module _ (n f : ℕ) (old new : Knowledge) (v : Message) (sends : List (ℕ × Note)) (s : IsDelivered n f old new v sends) (sound : IsSoundKnowledge n f old) where
   abbrev own : Determinant
-  own = determinant v rsn
+  own = next_receipt old v
+
+  abbrev before : ℕ
+  before = sends_of old.trace v.to
+
+  abbrev passed : List Entry
+  passed = piggybacked f (table new v.to)
+
+  abbrev made : List Message
+  made = messages_made f old new v sends
 
   abbrev added : List Mark
   added = receipt_of own ∷ map send_mark made
+
+  -- the receipt may come next, and the sends after it
+  rules : WellFormed n new.trace
+  rules =
+      let t : List Mark = old.trace ++ receipt_of own ∷ [] in
+      let may = front_may_follow sound v s.front (omega (arith, s.room)) in
+      let all = sends_obey n v.to before t sends (WellFormed-push n old.trace (receipt_of own) sound.rules may) may.1 (omega (arith, sends-step old.trace (receipt_of own) v.to)) s.allowed
+      (omega (arith, s.room, length-append old.trace (receipt_of own ∷ []))) in
+      rw s.trace (rw (append_assoc, marks_made v.to before passed sends) at all)
 
   up : (m : ℕ) → IsUp new m
   up = up_if_none s.down
@@ -49,16 +82,16 @@ module _ (n f : ℕ) (old new : Knowledge) (v : Message) (rsn : ℕ) (made : Lis
 
   -- the events that were added
   apart : (e : Mark) → Has added e → ¬ (Has old.trace e)
-  apart = disjoint n old.trace added (rw s.trace at s.rules)
+  apart = disjoint n old.trace added (rw s.trace at rules)
 
   held : (d : Determinant) (m : ℕ) → IsHolder old d m → Holds new d m
   held d m holder = elim holder [ inl holds ↦ (up m, Names-delivered d m holds.1) | inr was ↦ never_both old.down m was.0 (was_up m) ]
 
   keeps : KeepsKnowledge n f old new
   keeps = record {
-    rules = s.rules;
+    rules = rules;
     down = nobody_down_empty f new s.down;
-    channels = λ q p up_q up_p. rw (s.channels q p, s.trace) (channel-delivered n old.trace v rsn made (old.channel q p) q p (rw s.trace at s.rules) (sound.channels q p (was_up q) (was_up p)));
+    channels = λ q p up_q up_p. rw (s.channels q p, s.trace) (channel-delivered n old.trace v own.rsn made (old.channel q p) q p (rw s.trace at rules) (sound.channels q p (was_up q) (was_up p)));
     held = λ d m up_m. held d m;
     left = λ b there recorded. (there.0, rw s.trace (At-front old.trace added there.0 b there.1));
     paths = λ there path. Precedes-within old.trace added apart there (rw s.trace at path);
@@ -95,7 +128,7 @@ module _ (n f : ℕ) (old new : Knowledge) (v : Message) (rsn : ℕ) (made : Lis
 
   ours : (e : Mark) → Has added e → IsOurs e
   ours e (zero, is) = (let same : receipt_of own ≡ e = cc in subst IsOurs same (refl, λ a h. cc, λ d h. cc))
-  ours e (suc i, is) = let x = map-At send_mark made i e is in subst IsOurs x.2 ((s.messages x.0 (Contains-at made i x.0 x.1)).0, λ a h. absurd cc, λ d h. absurd cc)
+  ours e (suc i, is) = let x = map-At send_mark made i e is in subst IsOurs x.2 ((made_event v.to before passed sends x.0 (Contains-at made i x.0 x.1)).0, λ a h. absurd cc, λ d h. absurd cc)
 
   -- the receiver's table names the causes of what it or the message named the causes of
   caught : (b : Mark) → Has old.trace b → NamesCauses f old (table old v.to) b ⊎ NamesCauses f old v.carried b → NamesCauses f new (table new v.to) b
@@ -135,8 +168,8 @@ module _ (n f : ℕ) (old new : Knowledge) (v : Message) (rsn : ℕ) (made : Lis
   still_owes k there other b has owes = elim (Has-cases b has) [ inl was ↦ (was, owes) | inr fresh ↦ absurd (none k there other b fresh owes) ] where
     none : (k : Store) → IsThere old k → ¬ (k ≡ in_table v.to) → (b : Mark) → Has added b → ¬ (Owes old k b)
     none (in_table m) there other b fresh at_m = other (ap in_table (sym at_m ∙ (ours b fresh).0))
-    none (in_message x) there other b fresh is = apart b fresh (subst (Has old.trace) is (AreSent-matched f old sound.channels sound.down x there))
-    none (in_checkpoint m) there other b fresh reached = added-later n old added (rw s.trace at s.rules) sound.checkpoints b fresh (rw reached.0 reached.1)
+    none (in_message x) there other b fresh is = apart b fresh (subst (Has old.trace) is (flight_sent sound x there))
+    none (in_checkpoint m) there other b fresh reached = added-later n old added (rw s.trace at rules) sound.checkpoints b fresh (rw reached.0 reached.1)
 
   good : (k : Store) → IsThere new k → IsSoundAt f new k
   good (in_table m) there = elim (cases_eq m v.to) [
@@ -148,7 +181,7 @@ module _ (n f : ℕ) (old new : Knowledge) (v : Message) (rsn : ℕ) (made : Lis
         let was = taken_off-was v x.from x.to (old.channel x.from x.to) x before in
         sound_kept keeps sound (in_message x) flying (was, refl, still_owes (in_message x) was (λ same. cc))
     | inr after ↦
-        let is = s.messages x (Contains-from_filter (is_on x.from x.to) made x after) in
+        let is = made_event v.to before passed sends x (Contains-from_filter (is_on x.from x.to) made x after) in
         sound_passed f new x (rw is.0 good_receiver) (rw is.0 is.1)
   ]
   good (in_checkpoint m) there =

@@ -1,9 +1,9 @@
 -- Dumps of a sound group.
-use Rattle.fbl_law.proofs.Common.{◌≡◌, ℕ, zero, suc, ◌+◌, ◌<◌, ◌≤◌, List, [], ◌∷◌, length, map, get_or, refl, arith, length-append, Contains}
-use Rattle.fbl_law.proofs.Common.{zero-add, length-map, Contains-append_left, Contains-append_right, length-filter_map, Members, Determinant, mark_of, determinant_of, same_determinant, receipt_of}
-use Rattle.fbl_law.proofs.Common.{Has, Next, filter_map-At, At-below, Decides-same_determinant, Entry, Message, MemberRecord, blank, IsInFlight, Names, GroupRecord, member, marks, knowledge, receipts}
-use Rattle.fbl_law.proofs.Common.{IsSound, ◌*◌, IsDistinct, decided, add-zero, All-append, All-contains, All-map, All-nil, All, length-le_from_is_member, is_member-Decides, Send, Receipt, HeldAt}
-use Rattle.fbl_law.proofs.Common.{pairs_of, pairs_from, held_pairs, dump_of, HasDistinctTables}
+use Rattle.fbl_law.proofs.Common.{◌≡◌, ℕ, zero, suc, ◌+◌, ◌<◌, ◌≤◌, List, [], ◌∷◌, length, map, get_or, refl, arith, length-append, Contains, zero-add, length-map}
+use Rattle.fbl_law.proofs.Common.{Contains-append_left, Contains-append_right, length-filter_map, Members, Determinant, mark_of, determinant_of, same_determinant, receipt_of, Has, Next, filter_map-At}
+use Rattle.fbl_law.proofs.Common.{At-below, Decides-same_determinant, Entry, Message, MemberRecord, blank, IsInFlight, Names, GroupRecord, member, marks, knowledge, receipts, IsSound, ◌*◌, IsOnce}
+use Rattle.fbl_law.proofs.Common.{decided, add-zero, All-append, All-contains, All-map, All-nil, All, length-le_from_is_member, is_member-Decides, Send, Receipt, HeldAt, pairs_of, pairs_from}
+use Rattle.fbl_law.proofs.Common.{held_pairs, dump_of}
 use Rattle.fbl_law.specs.Dumps.{DumpObeysRules, DumpHasNoOrphan}
 use Rattle.fbl_law.proofs.Tables.{All-from}
 use Rattle.fbl_law.proofs.Lists.{Contains-at, Contains-map, Contains-changed, Contains-none}
@@ -37,8 +37,7 @@ pairs_fit m (x ∷ members) fit =
 
 module _ (next : Next) (r : GroupRecord) (sound : IsSound next r) where
   -- entries in which no determinant stands twice, all of receipts of the trace, are at most as many as its receipts
-  entries_fit : (entries : List Entry) → IsDistinct same_determinant (map (λ (e : Entry). e.det) entries)
-      → ((d : Determinant) → Names entries d → Has (marks r) (receipt_of d)) → length entries ≤ length (receipts (marks r))
+  entries_fit : (entries : List Entry) → IsOnce entries → ((d : Determinant) → Names entries d → Has (marks r) (receipt_of d)) → length entries ≤ length (receipts (marks r))
   entries_fit entries distinct received =
       let dets : List Determinant = map (λ (e : Entry). e.det) entries in
       let fits : length dets ≤ length (receipts (marks r)) = length-le_from_is_member (decided same_determinant Decides-same_determinant) dets (receipts (marks r)) distinct
@@ -49,26 +48,25 @@ module _ (next : Next) (r : GroupRecord) (sound : IsSound next r) where
       omega (arith, fits, length-map entries (λ (e : Entry). e.det))
 
   -- so are those of a table, and those that a message in flight carries
-  pub table_fits : (m : ℕ) → IsDistinct same_determinant (map (λ (e : Entry). e.det) (member r m).table) → length (member r m).table ≤ length (receipts (marks r))
-  table_fits m distinct = entries_fit (member r m).table distinct (named_received next r sound m)
+  pub table_fits : (m : ℕ) → length (member r m).table ≤ length (receipts (marks r))
+  table_fits m = entries_fit (member r m).table (sound.distinct m) (named_received next r sound m)
 
-  pub carried_fits : (v : Message) → IsInFlight (knowledge r) v → IsDistinct same_determinant (map (λ (e : Entry). e.det) v.carried) → length v.carried ≤ length r.trace
+  pub carried_fits : (v : Message) → IsInFlight (knowledge r) v → IsOnce v.carried → length v.carried ≤ length r.trace
   carried_fits v flies distinct =
       omega (arith, entries_fit v.carried distinct (λ d. carried_received next r sound v d flies), length-filter_map determinant_of (marks r), length-map r.trace mark_of)
 
-  held_at : HasDistinctTables r → (strike : Members) (i : ℕ) → HeldAt (dump_of r strike) i
-  held_at distinct strike i h at =
+  held_at : (strike : Members) (i : ℕ) → HeldAt (dump_of r strike) i
+  held_at strike i h at =
       let all = pairs_from-all (λ x. (x.0 < r.config.members) × Has (marks r) (receipt_of x.1)) 0 r.members
       (λ j e below among. (omega (arith, below, sound.members), named_received next r sound j e.det (e, among, refl))) in
       let held = All-contains (λ x. (x.0 < r.config.members) × Has (marks r) (receipt_of x.1)) (held_pairs r) h all (Contains-at (held_pairs r) i h at) in
       let fits : length (held_pairs r) ≤ 8192 * length r.members =
-      pairs_fit 0 r.members (λ j below. (let t = table_fits j (distinct j (omega (arith, below, sound.members))) in
-      omega (arith, t, length-filter_map determinant_of (marks r), trace_fits next r sound))) in
+      pairs_fit 0 r.members (λ j below. (let t = table_fits j in omega (arith, t, length-filter_map determinant_of (marks r), trace_fits next r sound))) in
       (omega (arith, fits, At-below (held_pairs r) i h at, sound.members, sound.config.members.1), held.0, held.1)
 
 pub dump_obeys_rules : DumpObeysRules
 unfolding DumpObeysRules
-dump_obeys_rules next r strike sound distinct within = assumption (held_at next r sound distinct strike)
+dump_obeys_rules next r strike sound within = assumption (held_at next r sound strike)
 
 pub dump_has_no_orphan : DumpHasNoOrphan
 unfolding DumpHasNoOrphan

@@ -1,35 +1,25 @@
 -- A delivery keeps a group sound.
 use Rattle.fbl_law.proofs.Common.{◌≡◌, ◌≢◌, ℕ, suc, ◌+◌, ◌<◌, ◌≤◌, ◌==◌, cond, List, [], ◌∷◌, ◌++◌, length, map, inl, inr, Some, slice_get, refl, sym, ap}
-use Rattle.fbl_law.proofs.Common.{◌∙◌, arith, length-append, Contains, filter_map, cases_eq, map-append, length-set, get_or-set_same, get_or-set_other, filter-append, filter_map-append}
-use Rattle.fbl_law.proofs.Common.{Contains-append_cases, Determinant, Note, Event, mark_of, determinant_of, receipt_of, Next, Lawful, note_of, At-front, eqb-self, Entry, piggybacked, Message}
-use Rattle.fbl_law.proofs.Common.{MemberRecord, blank, send_mark, IsInFlight, IsUp, determinant, IsDelivered, is_on, between, taken_off, GroupRecord, member, member_checkpoint, channel, marks}
-use Rattle.fbl_law.proofs.Common.{knowledge, receipts, IsFold, IsReplayed, IsSound, receipts_at, Send, Receipt, step_events, Lawful-deliver, Lawful-begun, note_of-front, messages_from, IsDelivery}
-use Rattle.fbl_law.proofs.Common.{step_of, receiver, made, delivery_events, SendsWell, zero, nat_tests}
+use Rattle.fbl_law.proofs.Common.{◌∙◌, arith, length-append, length-map, filter_map, cases_eq, map-append, length-set, get_or-set_same, get_or-set_other, filter-append, filter_map-append, All}
+use Rattle.fbl_law.proofs.Common.{Contains-append_cases, Determinant, Note, Event, mark_of, determinant_of, receipt_of, Next, Lawful, note_of, At-front, eqb-self, piggybacked, Message, receipts_of}
+use Rattle.fbl_law.proofs.Common.{MemberRecord, blank, IsInFlight, IsUp, next_determinant, IsDelivered, is_on, between, taken_off, GroupRecord, member, member_checkpoint, channel, marks, knowledge}
+use Rattle.fbl_law.proofs.Common.{receipts, IsFold, IsReplayed, IsSound, receipts_at, step_events, Lawful-deliver, Lawful-begun, note_of-front, IsDelivery, sends_of, messages_from, messages_made}
+use Rattle.fbl_law.proofs.Common.{step_of, receiver, made, delivery_events, SendsWell, nat_tests, IsOnce}
 use Rattle.std.specs.FinSet as sets
 use Rattle.fbl_base.specs.declared.trace.Event.TheVariants as event
 use Rattle.std.proofs.Common.{append-nil}
-use Rattle.fbl_law.proofs.Lists.{At-seam, Contains-none, Contains-from_filter, At-behind}
+use Rattle.fbl_law.proofs.Lists.{At-seam, Contains-at, Contains-from_filter, At-behind}
 use Rattle.fbl_law.proofs.Safe.{never_both, up_if_none}
-use Rattle.fbl_law.proofs.Delivery.{taken_off-was, delivery_keeps}
+use Rattle.fbl_law.proofs.Channels.{front_may_follow}
+use Rattle.fbl_law.proofs.Delivery.{taken_off-was, marks_made, made_event, delivery_keeps}
 use Rattle.fbl_law.proofs.Notes.{sent-noted}
 use Rattle.fbl_law.proofs.ReplayedRecords.{replayed-kept, replayed-step, fold-replayed, fold-received, replayed-fold}
-use Rattle.fbl_law.proofs.GroupFacts.{up_state, log_counted, front_flight, front_may_follow}
-
--- the events of a step are the sends of its messages
-marks_made : (p before : ℕ) (carried : List Entry) (sends : List (ℕ × Note)) → map mark_of (step_events p before sends) ≡ map send_mark (messages_from p before carried sends)
-marks_made p before carried [] = refl
-marks_made p before carried (s ∷ sends) = ap (λ ms. Send p (before + 1) s.0 ∷ ms) (marks_made p (before + 1) carried sends)
+use Rattle.fbl_law.proofs.DistinctTables.{once_noted}
+use Rattle.fbl_law.proofs.GroupFacts.{up_state, received_counted, log_counted, receipt_is_new, new_not_held, new_not_carried}
 
 pub length-step_events : (p before : ℕ) (sends : List (ℕ × Note)) → length (step_events p before sends) ≡ length sends
 length-step_events p before [] = refl
 length-step_events p before (s ∷ sends) = ap suc (length-step_events p (before + 1) sends)
-
--- each message made is of the member, carries what it passes on, and is sent by an event
-made_event : (p before : ℕ) (carried : List Entry) (sends : List (ℕ × Note)) (x : Message) → Contains (messages_from p before carried sends) x
-    → (x.from ≡ p) × (x.carried ≡ carried) × ((i : ℕ) × (slice_get (step_events p before sends) i ≡ Some (event.Send x.from x.ssn x.to x.note)))
-made_event p before carried [] x among = absurd (Contains-none x among)
-made_event p before carried (s ∷ sends) x (zero, within, here) = (cc, cc, (0, cc))
-made_event p before carried (s ∷ sends) x (suc k, within, here) = let r = made_event p (before + 1) carried sends x (k, omega arith, here) in (r.0, r.1, (suc r.2.0, r.2.1))
 
 -- a step's sends are no receipts
 no_receipts : (p before : ℕ) (sends : List (ℕ × Note)) → filter_map determinant_of (map mark_of (step_events p before sends)) ≡ []
@@ -58,16 +48,26 @@ module _ (next : Next) (old new : GroupRecord) (v : Message) (well : SendsWell n
   room : length old.trace + 1 + length sends ≤ 8192
   room = omega (arith, ap length s.trace, length-append old.trace added, length-step_events v.to (length was.log) sends, s.room, sound.config.limit.1)
 
+  flies : IsInFlight (knowledge old) v
+  flies = Contains-at (channel old v.from v.to) 0 v s.front
+
   noted : note_of old.trace v.from v.ssn ≡ Some v.note
-  noted = sound.notes v (front_flight next old sound v.from v.to v s.front).0
+  noted = sound.notes v flies
+
+  allowed : All (λ (x : ℕ × Note). (x.0 < n) × (x.0 ≢ v.to)) sends
+  allowed = (well v.to n was.state v.note sound.config.members.0 s.to_member).0
+
+  -- the trace counts the receiver's receipts and sends as its record does
+  counts : (was.received ≡ receipts_of (marks old) v.to) × (length was.log ≡ sends_of (marks old) v.to)
+  counts = (received_counted next old sound v.to s.to_member (was_up v.to), log_counted next old sound v.to s.to_member (was_up v.to))
 
   is_lawful : Lawful next n old.config.starts new.trace
   is_lawful =
-      rw (s.trace, log_counted next old sound v.to s.to_member (was_up v.to))
-      (Lawful-deliver next n old.config.starts old.trace v.to (was.received + 1) v.from v.ssn v.note sends sound.lawful
-      (front_may_follow next old sound v s.front (omega (arith, room))) noted
+      rw (s.trace, counts.0, counts.1)
+      (Lawful-deliver next n old.config.starts old.trace v.to (receipts_of (marks old) v.to + 1) v.from v.ssn v.note sends sound.lawful
+      (front_may_follow sound.causes v s.front (omega (arith, room, length-map old.trace mark_of))) noted
       (ap (λ (k : ℕ). (next v.to n k v.note).sends.items) (up_state next old sound v.to s.to_member (was_up v.to)))
-      (well v.to n was.state v.note sound.config.members.0 s.to_member).0 room (Lawful-begun next n old.config.starts old.trace sound.lawful))
+      allowed room (Lawful-begun next n old.config.starts old.trace sound.lawful))
 
   marks_split : marks new ≡ marks old ++ map mark_of added
   marks_split = rw s.trace (map-append mark_of old.trace added)
@@ -78,26 +78,25 @@ module _ (next : Next) (old new : GroupRecord) (v : Message) (well : SendsWell n
   other_now : (m : ℕ) → m ≢ v.to → member new m ≡ member old m
   other_now m other = rw s.members (get_or-set_other old.members v.to m (receiver next old v) blank other)
 
-  pub is_delivered : IsDelivered n old.config.f (knowledge old) (knowledge new) v (was.received + 1) (made next old v)
+  made_same : made next old v ≡ messages_made old.config.f (knowledge old) (knowledge new) v sends
+  made_same = rw counts.1 (ap (λ (x : MemberRecord). messages_from v.to (sends_of (marks old) v.to) (piggybacked old.config.f x.table) sends) (sym receiver_now))
+
+  pub is_delivered : IsDelivered n old.config.f (knowledge old) (knowledge new) v sends
   is_delivered = record {
     nobody_down = s.nobody_down;
     down = nobody_down;
     front = s.front;
-    trace =
-        marks_split
-        ∙ ap (λ ms. marks old ++ Receipt v.to (was.received + 1) v.from v.ssn ∷ ms) (marks_made v.to (length was.log) (piggybacked old.config.f (receiver next old v).table) sends);
-    rules = is_lawful.well_formed;
-    receiver = ap (λ (x : MemberRecord). x.table) receiver_now;
+    allowed = allowed;
+    room = omega (arith, room, length-map old.trace mark_of);
+    trace = rw (marks_split, counts.0, marks_made v.to (length was.log) (piggybacked old.config.f (receiver next old v).table) sends, made_same) refl;
+    receiver = ap (λ (x : MemberRecord). x.table) receiver_now ∙ rw counts.0 refl;
     others = λ m other. ap (λ (x : MemberRecord). x.table) (other_now m other);
-    messages = λ x among.
-        let r = made_event v.to (length was.log) (piggybacked old.config.f (receiver next old v).table) sends x among in
-        (r.0, r.1 ∙ ap (λ (x : MemberRecord). piggybacked old.config.f x.table) (sym receiver_now));
-    channels = s.channels;
+    channels = λ q p. rw (← made_same) (s.channels q p);
     checkpoints = s.checkpoints;
   }
 
   abbrev own : Determinant
-  own = determinant v (was.received + 1)
+  own = next_determinant v.to was v.from v.ssn
 
   receipts_now : receipts (marks new) ≡ receipts (marks old) ++ own ∷ []
   receipts_now = rw (marks_split, filter_map-append determinant_of (marks old) (map mark_of added), no_receipts v.to (length was.log) sends) refl
@@ -130,6 +129,11 @@ module _ (next : Next) (old new : GroupRecord) (v : Message) (well : SendsWell n
       replayed-fold (rw s.config is_lawful.well_formed) (rw (receiver_now, s.config) (assumption replayed))
       (rw receiver_now (omega (arith, count, ap length more, length-append (receipts_at (marks old) v.to) (own ∷ []))))
 
+  own_distinct : IsOnce (receiver next old v).table
+  own_distinct =
+      let new_own = receipt_is_new next old sound v.to v.from v.ssn s.to_member (was_up v.to) in
+      once_noted v.to was.table v.carried own (sound.distinct v.to) (new_not_held next old sound v.to own new_own) (new_not_carried next old sound v own flies new_own)
+
   notes_kept : (x : Message) → IsInFlight (knowledge new) x → note_of new.trace x.from x.ssn ≡ Some x.note
   notes_kept x flying =
       elim (Contains-append_cases (taken_off v x.from x.to (channel old x.from x.to)) (between x.from x.to (made next old v)) x (rw (s.channels x.from x.to) at flying)) [
@@ -152,11 +156,12 @@ module _ (next : Next) (old new : GroupRecord) (v : Message) (well : SendsWell n
     down = λ q down. never_both new.down q down (up_if_none nobody_down q);
     lawful = rw s.config is_lawful;
     room = rw s.config s.room;
-    causes = rw s.config (delivery_keeps n old.config.f (knowledge old) (knowledge new) v (was.received + 1) (made next old v) is_delivered sound.causes);
+    causes = rw s.config (delivery_keeps n old.config.f (knowledge old) (knowledge new) v sends is_delivered sound.causes);
     folds = λ m below up.
         let within : m < n = (rw s.config at below) in
         elim (cases_eq m v.to) [ inl same ↦ rw same own_fold | inr other ↦ other_fold m within other ];
     blanks = λ m below down. never_both new.down m down (up_if_none nobody_down m);
+    distinct = λ m. elim (cases_eq m v.to) [ inl same ↦ rw (same, receiver_now) own_distinct | inr other ↦ rw (other_now m other) (sound.distinct m) ];
     shape = rw s.config s.shape;
     notes = notes_kept;
     counted = omega (arith, ap length receipts_now, length-append (receipts (marks old)) (own ∷ []), sound.counted, s.undone_ever, s.receipts_ever);

@@ -7,6 +7,7 @@ use Rattle.fbl_law.proofs.Common.{Receipt, CutIsLawful, StaysIsRecorded, is_reco
 use Rattle.fbl_law.specs.RecoveryLaws.{GroupRecoveryGainsHolders, HoldersGainTheDown, RecoveryLeavesRecorded, RecoveryUndoesLost}
 use Rattle.fbl_law.proofs.Logs.{log-length}
 use Rattle.fbl_law.proofs.Safe.{down_or_up, down_or_both_up, never_both, up_if_none, IsRecorded-reached}
+use Rattle.fbl_law.proofs.DistinctTables.{once_recovery_table}
 use Rattle.fbl_law.proofs.Recovery.{recovery_keeps, cut-recorded, cut_is_recorded, recovery_gains_holders, cut-causes, cut-was, cut-left, cut-obeys, cut-keeps_up, recorded-cut, Stays-recorded}
 use Rattle.fbl_law.proofs.Recovery.{recorded_before}
 use Rattle.fbl_law.proofs.ReplayedRecords.{all-taken, replayed-kept, fold-replayed, replayed-fold}
@@ -189,6 +190,10 @@ module _ (next : Next) (old new : GroupRecord) (step : IsRecovery next old new) 
     causes = rw step.rest.config (recovery_keeps old.config.members old.config.f (knowledge old) (knowledge new) recovery-knowledge sound.causes);
     folds = λ m below up. folds-all sound step.trace new refl step.rest.config step.rest.survivors step.folds m (rw step.rest.config at below);
     blanks = λ m below down. never_both new.down m down (up_if_none step.rest.nobody_down m);
+    distinct = λ m. elim (down_or_up old.down m) [
+      | inl down ↦ rw (step.gathered m (sound.down m down) down) (once_recovery_table (knowledge old))
+      | inr up ↦ rw (step.rest.survivors m up) (sound.distinct m)
+    ];
     shape = rw step.rest.config step.rest.shape;
     notes = note-flies;
     counted = omega (arith, step.rest.undone_ever, sound.counted, step.rest.receipts_ever);

@@ -4,7 +4,7 @@ use Rattle.fbl_law.proofs.Common.{◌∙◌, arith, append_assoc, length-append,
 use Rattle.fbl_law.proofs.Common.{Event, Mark, mark_of, determinant_of, receipt_of, in_flight, sent_on, taken_on, sends_of, WellFormed, MayFollow, Next, Lawful, sent, action_of, actions_of, notes_of}
 use Rattle.fbl_law.proofs.Common.{start_of, starts_of, filter_map-At, WellFormed-none, WellFormed-push, fresh, Message, MemberRecord, blank, send_mark, starts, is_on, GroupRecord, channel, knowledge}
 use Rattle.fbl_law.proofs.Common.{receipts, IsSound, received_notes, if◌then◌else◌, Send, Settings, IsConfig, StartAllowed, notes_of-sent, IsStart, IsGroupStart, start_events, message_of_send}
-use Rattle.fbl_law.proofs.Common.{At-filter_map, nat_tests}
+use Rattle.fbl_law.proofs.Common.{At-filter_map, nat_tests, IsOnce-none}
 use Rattle.fbl_base.specs.declared.trace.Event.TheVariants as event
 use Rattle.std.proofs.Common.{append-nil}
 use Rattle.fbl_law.specs.Laws.{RunIsSound}
@@ -130,6 +130,7 @@ module _ (next : Next) (config : Settings) (r : GroupRecord) (is : IsConfig conf
     members = rw s.parameters s.size;
     checkpoints = rw s.parameters s.checkpoints;
     saved = λ m below. rw (s.parameters, s.saved m (rw s.parameters at below)) (replayed-fresh next n config.starts r.trace m);
+    distinct = λ m. rw (started r.members s.size s.members m).0 IsOnce-none;
     down = λ q down. never_both r.down q down (up_if_none s.nobody_down q);
     lawful = rw (s.parameters, s.trace) is_lawful;
     room = rw (s.parameters, s.trace) omega (arith, length-starts [] config.starts, is.room);

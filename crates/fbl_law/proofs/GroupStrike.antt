@@ -1,9 +1,9 @@
 -- A strike keeps a group sound, and what the tables of a sound group say of recorded receipts.
 use Rattle.fbl_law.proofs.Common.{◌≡◌, ℕ, ◌≤◌, List, inl, inr, Some, get_or, ap, ◌∙◌, list_any, get_or_default, Any-from_list_any, Determinant, AllBelow, Members, Next, note_of}
 use Rattle.fbl_law.proofs.Common.{is_held, Message, MemberRecord, blank, IsInFlight, IsUp, Names, IsStruck, GroupRecord, knowledge, IsFold, IsSound, list_any_at, IsStrike, RecordedTest, map, mark_of}
-use Rattle.fbl_law.proofs.Common.{IsDown, Decides, Decides-like, Decides-or}
+use Rattle.fbl_law.proofs.Common.{IsDown, Decides, Decides-like, Decides-or, IsOnce-none}
 use Rattle.std.specs.FinSet as sets
-use Rattle.fbl_law.proofs.Safe.{up_at_ends, up_if_named}
+use Rattle.fbl_law.proofs.Safe.{down_or_up, up_at_ends, up_if_named}
 use Rattle.fbl_law.proofs.Tables.{Names-held, held-Names, Includes-union, named_record}
 use Rattle.fbl_law.proofs.Strike.{was_up, strike_keeps}
 
@@ -39,6 +39,7 @@ module _ (next : Next) (old new : GroupRecord) (struck : Members) (s : IsStrike 
     causes = rw s.config (strike_keeps old.config.members old.config.f (knowledge old) (knowledge new) struck is_struck few sound.causes);
     folds = λ m below up. fold_kept m up (sound.folds m (rw s.config at below) (was_up old.down struck m (rw s.down at up)));
     blanks = λ m below down. s.blanks m down;
+    distinct = λ m. elim (down_or_up new.down m) [ inl down ↦ rw (s.blanks m down) IsOnce-none | inr up ↦ rw (s.survivors m up) (sound.distinct m) ];
     shape = rw s.config s.shape;
     notes = notes_kept sound;
     counted = rw (s.trace, s.undone_ever, s.receipts_ever) sound.counted;

@@ -28,7 +28,7 @@ run_is_sound n f start r s starts = record {
     nothing (in_table m) e there among = rw (s.tables m) at among
     nothing (in_message v) e flies among = rw (s.messages v flies) at among
     nothing (in_checkpoint m) e there among = rw (s.checkpoints m).0 at among
-run_is_sound n f start r s (delivers {old = old} {v = v} {rsn = rsn} {made = made} run step) = delivery_keeps n f old r v rsn made step (run_is_sound n f start old s run)
+run_is_sound n f start r s (delivers {old = old} {v = v} {sends = sends} run step) = delivery_keeps n f old r v sends step (run_is_sound n f start old s run)
 run_is_sound n f start r s (strikes {old = old} {struck = struck} run step few) = strike_keeps n f old r struck step few (run_is_sound n f start old s run)
 run_is_sound n f start r s (checkpoints {old = old} {p = p} run step) = checkpoint_keeps n f old r p step (run_is_sound n f start old s run)
 run_is_sound n f start r s (recovers {old = old} run step) = recovery_keeps n f old r step (run_is_sound n f start old s run)

@@ -9,8 +9,8 @@ use Rattle.std.specs.FinSet as set
 use Rattle.fbl_base.specs.declared.trace.Mark.TheVariants as mark
 use Rattle.fbl_base.specs.declared.trace.Event.TheVariants.{Send, Receipt}
 use Rattle.fbl_law.proofs.ChannelCounts.{sum_below-none, sum_below-at}
-use Rattle.fbl_law.proofs.GroupFacts.{up_state, channel_ends}
-use Rattle.fbl_law.proofs.Lists.{Contains-at}
+use Rattle.fbl_law.proofs.Channels.{flight_at}
+use Rattle.fbl_law.proofs.GroupFacts.{up_state}
 use Rattle.fbl_law.proofs.Safe.{down_or_up, down_or_both_up, up_if_none}
 use Rattle.fbl_law.proofs.KeptByStep.{Came, all-came}
 use Rattle.fbl_law.proofs.Notes.{sent-noted, mark-at}
@@ -164,10 +164,7 @@ module _ (next : Next) (r : GroupRecord) (P : ℕ → ℕ → Type 0) (Q : ℕ �
       ∙ fold-map (λ a x. a + out n w x) (λ ssn. mark.Send q ssn p) 0 (in_flight (marks r) q p)
     where
       noted : (i : ℕ) (v : Message) → slice_get (channel r q p) i ≡ Some v → weight v.note ≡ w v.from v.ssn
-      noted i v here =
-          let among = Contains-at (channel r q p) i v here in
-          let ends = (channel_ends next r sound q p v among).0 in
-          rw (sound.notes v (rw (← ends.0, ← ends.1) at among)) refl
+      noted i v here = rw (sound.notes v (flight_at sound.causes q p i v here).0) refl
 
   -- a relation of what is weighed after and before, as `≤` and its converse, that equal weights have and that their sums keep
   module _ (R : ℕ → ℕ → Type 0) (same : (a b : ℕ) → a ≡ b → R a b) (joined : (a b c d x y : ℕ) → R a b → R c d → x + b + d ≡ a + c + y → R x y)

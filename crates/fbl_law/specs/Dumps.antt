@@ -1,16 +1,14 @@
 -- What a dump of a group has, for the audit.
-use Rattle.std.specs.Prelude.{ℕ, ◌+◌, ◌<◌, ◌≤◌, List, [], ◌∷◌, ◌++◌, map}
-use Rattle.std.specs.List.{IsDistinct}
+use Rattle.std.specs.Prelude.{ℕ, ◌+◌, ◌≤◌, List, [], ◌∷◌, ◌++◌, map}
 use Rattle.std.specs.FinSet as set
 use Rattle.fbl_base.specs.declared.trace.Determinant.{Determinant}
-use Rattle.fbl_base.specs.Events.{same_determinant}
 use Rattle.fbl_base.specs.MemberSets.{AllBelow, Members}
 use Rattle.fbl_base.specs.Fold.{Next}
 use Rattle.fbl_base.specs.Audit.{Parts, IsDump, IsDumpOrphan}
 use Rattle.fbl_table.specs.declared.entry.Entry.{Entry}
 use Rattle.fbl_member.specs.Members.{MemberRecord}
 use Rattle.fbl_law.specs.Knowledge.{Includes, IsDown}
-use Rattle.fbl_law.specs.Groups.{GroupRecord, member, marks, knowledge}
+use Rattle.fbl_law.specs.Groups.{GroupRecord, marks, knowledge}
 use Rattle.fbl_law.specs.Sound.{IsSound}
 
 -- the member with each determinant of its table, in order
@@ -31,15 +29,11 @@ abbrev pub dump_of : GroupRecord → Members → Parts
 dump_of r strike =
     record { members = r.config.members; f = r.config.f; events = marks r; held = held_pairs r; strike = strike }
 
--- no table has a determinant twice
-abbrev pub HasDistinctTables : GroupRecord → Type 0
-HasDistinctTables r = (m : ℕ) → m < r.config.members → IsDistinct same_determinant (map (λ e. e.det) (member r m).table)
-
--- a dump of a sound group, whose tables have no determinant twice, with a strike set of its members obeys the rules of dumps
+-- a dump of a sound group with a strike set of its members obeys the rules of dumps
 unfoldable pub DumpObeysRules : Type 0
 DumpObeysRules =
     (next : Next) (r : GroupRecord) (strike : Members)
-    → IsSound next r → HasDistinctTables r → AllBelow strike r.config.members → IsDump (dump_of r strike)
+    → IsSound next r → AllBelow strike r.config.members → IsDump (dump_of r strike)
 
 -- whichever strike set has those that are down and at most f members in all, the dump of a sound group with it has no orphan
 unfoldable pub DumpHasNoOrphan : Type 0

@@ -5,6 +5,7 @@ use Rattle.fbl_base.specs.MemberSets.{Members}
 use Rattle.fbl_base.specs.declared.trace.Determinant.{Determinant}
 use Rattle.fbl_base.specs.declared.trace.Mark.{Mark}
 use Rattle.fbl_base.specs.declared.trace.Event.{Event}
+use Rattle.fbl_base.specs.declared.trace.Note.{Note}
 use Rattle.fbl_base.specs.declared.trace.Start.{Start}
 use Rattle.fbl_base.specs.Events.{mark_of}
 use Rattle.fbl_base.specs.Fold.{Next, Lawful}
@@ -42,7 +43,7 @@ AnySurvivorsHold =
 
 -- a delivery keeps a record sound
 abbrev pub DeliveryKeeps : Type 0
-DeliveryKeeps = (n f : ℕ) (old new : Knowledge) (v : Message) (rsn : ℕ) (made : List Message) → IsDelivered n f old new v rsn made → IsSoundKnowledge n f old → IsSoundKnowledge n f new
+DeliveryKeeps = (n f : ℕ) (old new : Knowledge) (v : Message) (sends : List (ℕ × Note)) → IsDelivered n f old new v sends → IsSoundKnowledge n f old → IsSoundKnowledge n f new
 
 -- so does a strike after which at most f members are down, whoever was down before
 abbrev pub StrikeKeeps : Type 0

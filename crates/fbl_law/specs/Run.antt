@@ -3,6 +3,7 @@ use Rattle.std.specs.Prelude.{◌≡◌, ℕ, ◌≤◌, List, [], length}
 use Rattle.std.specs.FinSet as set
 use Rattle.fbl_base.specs.MemberSets.{Members}
 use Rattle.fbl_base.specs.declared.trace.Determinant.{Determinant}
+use Rattle.fbl_base.specs.declared.trace.Note.{Note}
 use Rattle.fbl_base.specs.Precedence.{Has}
 use Rattle.fbl_base.specs.Rules.{WellFormed, sends_of}
 use Rattle.fbl_base.specs.Events.{receipt_of}
@@ -23,7 +24,7 @@ pub record IsStart (n : ℕ) (r : Knowledge) : Type 0 where
 -- a run of deliveries, of strikes after which at most f members are down, of checkpoints, and of recoveries
 pub data Run (n f : ℕ) (start : Knowledge) : Knowledge → Type 0 where
   starts : Run n f start start
-  delivers : {old new : Knowledge} {v : Message} {rsn : ℕ} {made : List Message} → Run n f start old → IsDelivered n f old new v rsn made → Run n f start new
+  delivers : {old new : Knowledge} {v : Message} {sends : List (ℕ × Note)} → Run n f start old → IsDelivered n f old new v sends → Run n f start new
   strikes : {old new : Knowledge} {struck : Members} → Run n f start old → IsStruck old new struck → set.len new.down ≤ f → Run n f start new
   checkpoints : {old new : Knowledge} {p : ℕ} → Run n f start old → IsCheckpointed old new p → Run n f start new
   recovers : {old new : Knowledge} → Run n f start old → IsRecovered f old new → Run n f start new

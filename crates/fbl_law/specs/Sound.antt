@@ -11,6 +11,7 @@ use Rattle.fbl_base.specs.Events.{mark_of}
 use Rattle.fbl_base.specs.Fold.{Next, Lawful, actions_of, notes_of, note_of, after_notes}
 use Rattle.fbl_base.specs.MemberSets.{AllBelow}
 use Rattle.fbl_base.specs.Rules.{taken_on}
+use Rattle.fbl_member.specs.Carried.{IsOnce}
 use Rattle.fbl_member.specs.Members.{Message, MemberRecord, progress_of, last_from, blank}
 use Rattle.fbl_law.specs.Knowledge.{IsInFlight, IsUp, IsDown, IsSoundKnowledge}
 use Rattle.fbl_law.specs.Groups.{GroupRecord, HasChannels, member, member_checkpoint, marks, knowledge, receipts}
@@ -51,9 +52,9 @@ IsCheckpointFold next r m = IsReplayed next r.config.members r.config.starts r.t
 
 -- a group's record is sound: its parameters are allowed, each member has a record and a checkpoint, only members are
 -- down, its trace is lawful and within its limit, each up member is at the fold of its receipts and each down member is
--- blank, each checkpoint is at the fold of its member's first receipts, what the tables know is true and closed, there
--- are channels from each member to each, which have exactly the messages not yet received, each with the note with
--- which it was sent, at most f members are down, and the counters agree with the trace
+-- blank, each checkpoint is at the fold of its member's first receipts, no table names a determinant twice, what the tables
+-- know is true and closed, there are channels from each member to each, which have exactly the messages not yet received,
+-- each with the note with which it was sent, at most f members are down, and the counters agree with the trace
 pub record IsSound (next : Next) (r : GroupRecord) : Type 0 where
   pub config : IsConfig r.config
   pub members : length r.members ≡ r.config.members
@@ -65,6 +66,7 @@ pub record IsSound (next : Next) (r : GroupRecord) : Type 0 where
   pub folds : (m : ℕ) → m < r.config.members → IsUp (knowledge r) m → IsFold next r m
   pub blanks : (m : ℕ) → m < r.config.members → IsDown (knowledge r) m → member r m ≡ blank
   pub saved : (m : ℕ) → m < r.config.members → IsCheckpointFold next r m
+  pub distinct : (m : ℕ) → IsOnce (member r m).table
   pub shape : HasChannels r.config.members r.channels
   pub notes : (v : Message) → IsInFlight (knowledge r) v → note_of r.trace v.from v.ssn ≡ Some v.note
   pub counted : length (receipts (marks r)) + r.undone_ever ≡ r.receipts_ever

@@ -1,21 +1,22 @@
 -- The steps of what a group knows: a delivery, a strike, a checkpoint, a recovery. That determinants are piggybacked on
 -- messages until more than f members are known to hold them is family-based logging (Alvisi, Hoppe and Marzullo 1993);
 -- checkpoints, and recovery from them by replay, are those of Elnozahy and others (2002).
-use Rattle.std.specs.Prelude.{◌≡◌, ◌≢◌, ℕ, zero, suc, ◌⊎◌, ◌↔◌, ◌==◌, ◌&&◌, Bool, true, Some, List, [], ◌∷◌, ◌++◌, length, map, drop, slice_get, slice_index_or, if◌then◌else◌}
-use Rattle.std.specs.List.{Contains, filter, fold}
+use Rattle.std.specs.Prelude.{◌≡◌, ◌≢◌, ℕ, zero, suc, ◌+◌, ◌<◌, ◌≤◌, ◌⊎◌, ◌↔◌, ◌==◌, ◌&&◌, Bool, true, Some, List, [], ◌∷◌, ◌++◌, length, map, drop, slice_get, slice_index_or, if◌then◌else◌}
+use Rattle.std.specs.List.{All, filter, fold}
 use Rattle.std.specs.FinSet as set
 use Rattle.fbl_base.specs.MemberSets.{Members}
 use Rattle.fbl_base.specs.declared.trace.Determinant.{Determinant}
 use Rattle.fbl_base.specs.declared.trace.Mark.{Mark}
 use Rattle.fbl_base.specs.declared.trace.Event.{Event}
+use Rattle.fbl_base.specs.declared.trace.Note.{Note}
 use Rattle.fbl_base.specs.Events.{member_of, mark_of}
 use Rattle.fbl_base.specs.Precedence.{Has, Earlier}
-use Rattle.fbl_base.specs.Rules.{WellFormed, receipts_of, sends_of}
+use Rattle.fbl_base.specs.Rules.{receipts_of, sends_of}
 use Rattle.fbl_base.specs.Events.{receipt_of}
 use Rattle.fbl_law.specs.Knowledge.{Knowledge, table, send_mark, IsInFlight, IsDown, IsUp, IsRecorded, MatchesTrace, checkpoint}
 use Rattle.fbl_table.specs.declared.entry.Entry.{Entry}
 use Rattle.fbl_table.specs.Tables.{learned, noted, piggybacked, gathered, marked}
-use Rattle.fbl_member.specs.Members.{Message, MemberRecord, blank}
+use Rattle.fbl_member.specs.Members.{Message, MemberRecord, blank, messages_from}
 
 -- several tables' entries, one table after the other
 abbrev pub gathered_all : List Entry → List (List Entry) → List Entry
@@ -32,9 +33,9 @@ saved_tables s checkpoints (suc m) =
 abbrev pub recovery_table : Knowledge → List Entry
 recovery_table r = marked r.down (gathered_all [] (map (λ (m : MemberRecord). m.table) r.members ++ saved_tables r.down r.checkpoints (length r.checkpoints)))
 
--- the determinant of the receipt of a message
-abbrev pub determinant : Message → ℕ → Determinant
-determinant v rsn = record { from = v.from; ssn = v.ssn; to = v.to; rsn = rsn }
+-- the determinant of the message's receipt, where it is the next one of its receiver
+abbrev pub next_receipt : Knowledge → Message → Determinant
+next_receipt r v = record { from = v.from; ssn = v.ssn; to = v.to; rsn = receipts_of r.trace v.to + 1 }
 
 -- the message goes from q to p
 abbrev pub is_on : ℕ → ℕ → Message → Bool
@@ -48,20 +49,24 @@ between q p made = filter (is_on q p) made
 abbrev pub taken_off : Message → ℕ → ℕ → List Message → List Message
 taken_off v q p channel = if v.from == q && v.to == p then drop 1 channel else channel
 
--- what the delivery of the message v leaves, where nobody is down and the step makes these messages: v, the front of its
--- channel, is taken off, the trace has the receipt and the sends made and is well formed, the receiver has learned what v
--- carried and noted its receipt, the messages made are its own, carry what it then passes on and go to the ends of their
--- channels, and the other tables and the checkpoints stay
-pub record IsDelivered (n f : ℕ) (old new : Knowledge) (v : Message) (rsn : ℕ) (made : List Message) : Type 0 where
+-- the messages of these sends, which have the receiver's next numbers and carry what it passes on when it has received v
+abbrev pub messages_made : ℕ → Knowledge → Knowledge → Message → List (ℕ × Note) → List Message
+messages_made f old new v sends = messages_from v.to (sends_of old.trace v.to) (piggybacked f (table new v.to)) sends
+
+-- what the delivery of the message v leaves, where nobody is down and the receiver then makes these sends, to other members
+-- of the group: v, the front of its channel, is taken off, the trace, which has room, has the receipt, the next one of its
+-- receiver, and the sends, the receiver has learned what v carried and noted its receipt, the messages made go to the ends
+-- of their channels, and the other tables and the checkpoints stay
+pub record IsDelivered (n f : ℕ) (old new : Knowledge) (v : Message) (sends : List (ℕ × Note)) : Type 0 where
   pub nobody_down : old.down ≡ set.empty
   pub down : new.down ≡ set.empty
   pub front : slice_get (old.channel v.from v.to) 0 ≡ Some v
-  pub trace : new.trace ≡ old.trace ++ receipt_of (determinant v rsn) ∷ map send_mark made
-  pub rules : WellFormed n new.trace
-  pub receiver : table new v.to ≡ noted v.to (learned v.to (table old v.to) v.carried) (determinant v rsn)
+  pub allowed : All (λ s. (s.0 < n) × (s.0 ≢ v.to)) sends
+  pub room : length old.trace + 1 + length sends ≤ 8192
+  pub trace : new.trace ≡ old.trace ++ receipt_of (next_receipt old v) ∷ map send_mark (messages_made f old new v sends)
+  pub receiver : table new v.to ≡ noted v.to (learned v.to (table old v.to) v.carried) (next_receipt old v)
   pub others : (m : ℕ) → m ≢ v.to → table new m ≡ table old m
-  pub messages : (x : Message) → Contains made x → (x.from ≡ v.to) × (x.carried ≡ piggybacked f (table new v.to))
-  pub channels : (q p : ℕ) → new.channel q p ≡ taken_off v q p (old.channel q p) ++ between q p made
+  pub channels : (q p : ℕ) → new.channel q p ≡ taken_off v q p (old.channel q p) ++ between q p (messages_made f old new v sends)
   pub checkpoints : new.checkpoints ≡ old.checkpoints
 
 -- what a strike leaves: the members named are down beside those that were, what those that are down held and what was in

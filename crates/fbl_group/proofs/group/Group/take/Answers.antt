@@ -1,4 +1,4 @@
-use Rattle.fbl_group.proofs.Common.{front_flight, arith, ap, nat_tests, receipts_fit, up_if_none, MemberRecord}
+use Rattle.fbl_group.proofs.Common.{flight_at, arith, ap, nat_tests, receipts_fit, up_if_none, MemberRecord}
 use Rattle.std.specs.FinSet as set
 use Rattle.fbl_group.proofs.group.Group.take.Goals as goal
 
@@ -11,5 +11,5 @@ overflow_add-result g c =
 
 pub returns-clause-taken : goal.returns-clause-taken
 returns-clause-taken g c =
-    let flies = front_flight g.B.Behaviour.next _ c.record-member.ensures.sound c.args.from c.args.to c.in-Some.wire.now c.in-Some.ensures.some in
+    let flies = flight_at c.record-member.ensures.sound.causes c.args.from c.args.to 0 c.in-Some.wire.now c.in-Some.ensures.some in
     (grind (arith, nat_tests), (c.in-Some.wire.now, c.in-Some.ensures.some, grind (arith, flies)))
