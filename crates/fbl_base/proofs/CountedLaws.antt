@@ -1,7 +1,7 @@
 -- What is counted, after one more event.
-use Rattle.fbl_base.proofs.Common.{ℕ, ◌≡◌, ◌<◌, ◌≤◌, ◌+◌, ◌*◌, List, [], ◌∷◌, ◌++◌, length, take, drop, Option, Some, None, slice_get, MatchOption, ap, ◌∙◌}
-use Rattle.fbl_base.proofs.Common.{arith, get_or, length-set, common_steps, nat_tests, Mark, At, sends_of, receipts_of, in_flight, MayFollow, WellFormed, Counted, BreaksEvent, first_in_flight}
-use Rattle.fbl_base.proofs.Common.{EventRule, add-one, IfSome, append-nil, Send, Receipt, Counts, destination_of, source_of, CountsEvent, first_by, next_by, Breaks, FitsEvent, next_number}
+use Rattle.fbl_base.proofs.Common.{ℕ, ◌≡◌, ◌<◌, ◌≤◌, ◌+◌, List, [], ◌∷◌, ◌++◌, length, take, Option, Some, None, slice_get, MatchOption, ap, ◌∙◌}
+use Rattle.fbl_base.proofs.Common.{arith, length-set, common_steps, nat_tests, Mark, At, sends_of, receipts_of, MayFollow, WellFormed, Counted, BreaksEvent, first_in_flight}
+use Rattle.fbl_base.proofs.Common.{EventRule, add-one, IfSome, Send, Receipt, Counts, destination_of, source_of, CountsEvent, first_by, next_by, Breaks, FitsEvent, next_number}
 use Rattle.fbl_base.specs.declared.fault.EventRule.TheVariants as rules
 use Rattle.fbl_base.proofs.Gets.{take-more}
 use Rattle.fbl_base.proofs.Breached.{fits, may}
