@@ -2,10 +2,10 @@
 use Rattle.fbl_audit.proofs.Common.{ℕ, Bool, true, false, ◌≡◌, ◌<◌, ◌≤◌, ◌==◌, ◌↔◌, inl, inr, List, [], ◌∷◌, length, map, Some, refl, sym, ap, ◌∙◌, arith}
 use Rattle.fbl_audit.proofs.Common.{get_or, max, zero, suc, slice_get, filter, nat_cmp_total, slice_get_read, false≢true, Members, Determinant, Mark, Send, Receipt, Parts, IsDump, IsDumpOrphan}
 use Rattle.fbl_audit.proofs.Common.{IsLost, At, determinant_of, receipt_of, same_determinant, Depends, depends-from_places, places-from_depends, Has-first, Decides-same_determinant, len-remove_one}
-use Rattle.fbl_audit.proofs.Common.{len-within, some_member, IsSafe, SaysUnsafe, receipts_of_dump, Dependents, AreDependents, WellFormed, holders_of, ◌&&◌, Contains, list_any, Any-from_list_any}
+use Rattle.fbl_audit.proofs.Common.{some_member, IsSafe, SaysUnsafe, receipts_of_dump, Dependents, AreDependents, WellFormed, holders_of, ◌&&◌, Contains, list_any, Any-from_list_any}
+use Rattle.fbl_audit.proofs.Common.{contains-union, len-within}
 use Rattle.fbl_audit.proofs.Common.{list_any-from_Any, and_parts, eqb-true, filter_map-At, eqb-self, UnsafeReceipt, IsLeftOrphan, IsSaidOf, IsUnsafe, LosesReceipt, MayBeLost, struck_by, dependents_at}
 use Rattle.std.specs.FinSet as set
-use Rattle.fbl_audit.proofs.Following.{contains-both}
 
 -- ---- who holds a determinant
 
@@ -50,22 +50,22 @@ all_lose dump members d all held = false≢true (sym held.2 ∙ all held.0 ((hol
 -- whatever may be lost and loses the receipt has the least members
 has_least : (dump : Parts) (members : Members) (d : Determinant) → MayBeLost dump members → LosesReceipt dump members d → (q : ℕ)
     → set.contains (least_of dump d) q ≡ true → set.contains members q ≡ true
-has_least dump members d may loses q h = elim ((contains-both dump.strike (holders_of dump d) q).0 h) [
+has_least dump members d may loses q h = elim ((contains-union dump.strike (holders_of dump d) q).0 h) [
   | inl x ↦ may.struck q x
   | inr x ↦ loses_all dump members d loses q x
 ]
 
 -- the least members lose the receipt, and may be lost where they are few enough
 pub least_loses : (dump : Parts) (d : Determinant) → LosesReceipt dump (least_of dump d) d
-least_loses dump d = all_lose dump (least_of dump d) d (λ q has. (contains-both dump.strike (holders_of dump d) q).1 (inr has))
+least_loses dump d = all_lose dump (least_of dump d) d (λ q has. (contains-union dump.strike (holders_of dump d) q).1 (inr has))
 
 pub least_may : (dump : Parts) (d : Determinant) → IsDump dump → set.len (least_of dump d) ≤ max dump.f (set.len dump.strike) → MayBeLost dump (least_of dump d)
 least_may dump d rules few = record {
-  below = λ q h. elim ((contains-both dump.strike (holders_of dump d) q).0 h) [
+  below = λ q h. elim ((contains-union dump.strike (holders_of dump d) q).0 h) [
     | inl x ↦ rules.strike q x
     | inr x ↦ (let pair = (holds dump d q).0 x in (rules.held pair.0 (q, d) (slice_get_read dump.held (length dump.held) pair.0 (q, d) refl pair.1 (sym pair.2))).1)
   ];
-  struck = λ q h. (contains-both dump.strike (holders_of dump d) q).1 (inl h);
+  struck = λ q h. (contains-union dump.strike (holders_of dump d) q).1 (inl h);
   few = few;
 }
 

@@ -10,7 +10,7 @@ pub use Rattle.std.proofs.lemmas.List.Folds.{Any-from_list_any, list_any-from_An
 pub use Rattle.std.proofs.lemmas.Option.{IfSome_then, slice_get_read}
 pub use Rattle.std.proofs.lemmas.Result.{IfOk-weaker}
 pub use Rattle.std.specs.Cmp.{nat_cmp_total, unsigned_tied}
-pub use Rattle.std.specs.List.{Contains, filter, filter_map, list_any}
+pub use Rattle.std.specs.List.{Contains, filter, list_any}
 pub use Rattle.std.specs.Option.{is_some, option_map_or, option_or}
 pub use Rattle.std.specs.Ordering.{nat_cmp}
 pub use Rattle.fbl_base.proofs.Gets.{At-below, At-push, drop_next, filter_map-At, get_or-same}
@@ -20,8 +20,8 @@ pub use Rattle.fbl_base.proofs.Recorded.{Decides-is_held_outside, Decides-same_d
 pub use Rattle.fbl_base.proofs.RulesLaws.{eqb-self}
 pub use Rattle.fbl_base.proofs.Sizes.{len-remove_one, len-within, some_member}
 pub use Rattle.fbl_base.specs.Audit.{IsDump, IsDumpOrphan, IsLost, Parts, is_held_outside, lost_determinants}
-pub use Rattle.fbl_base.specs.Events.{At, determinant_of, member_of, receipt_of, same_determinant, send_of}
-pub use Rattle.fbl_base.specs.MemberSets.{Members, same_from_contains}
+pub use Rattle.fbl_base.specs.Events.{At, determinant_of, member_of, receipt_of, receipts, same_determinant, send_of}
+pub use Rattle.fbl_base.specs.MemberSets.{Members, contains-union, same_from_contains}
 pub use Rattle.fbl_base.specs.Places.{DependsOnPlace, PlaceLeads, PlacePrecedes, place_step, same_place}
 pub use Rattle.fbl_base.specs.Precedence.{Depends, Has}
 pub use Rattle.fbl_base.specs.Rules.{WellFormed}
@@ -35,4 +35,4 @@ pub use Rattle.fbl_audit.specs.Laws.{HasAlwaysNoOrphans, SafeLaw}
 pub use Rattle.fbl_audit.specs.Paths.{IsBefore, IsCause, IsEndBy, IsFirstCause, IsFoundBy, IsPath, end_after, message_sent_by, path_end, path_step, place_before, sent_after}
 pub use Rattle.fbl_audit.specs.declared.checking.UnsafeReceipt.{UnsafeReceipt}
 pub use Rattle.fbl_audit.specs.declared.dependents.Dependents.{Dependents}
-pub use Rattle.fbl_audit.specs.declared.dependents.Message.{Message}
+pub use Rattle.fbl_audit.specs.declared.dependents.AddressedMessage.{AddressedMessage}

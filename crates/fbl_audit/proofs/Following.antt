@@ -1,9 +1,9 @@
 -- A pass from the end of a trace finds who depends on each event.
 use Rattle.fbl_audit.proofs.Common.{ℕ, Bool, true, false, ◌≡◌, ◌<◌, ◌≤◌, ◌+◌, ◌⊎◌, ◌↔◌, inl, inr, List, length, Some, refl, sym, ap, ◌∙◌, arith, get_or}
 use Rattle.fbl_audit.proofs.Common.{length-set, length-append, ◌-◌, ◌++◌, [], ◌∷◌, cond, replicate, Decides, nat_tests, false≢true, cases_eq, nat_cmp_total, Mark, Send, Receipt, At}
-use Rattle.fbl_audit.proofs.Common.{member_of, send_of, WellFormed, PlaceLeads, PlacePrecedes, same_place, place_step, Members, At-below, get_or-same, Message, message_taken_by, option_map_or}
+use Rattle.fbl_audit.proofs.Common.{member_of, send_of, WellFormed, PlaceLeads, PlacePrecedes, same_place, place_step, Members, At-below, get_or-same, AddressedMessage, message_taken_by}
 use Rattle.fbl_audit.proofs.Common.{same_addressed_message, ◌==◌, common_steps, unsigned_tied, get_or_push, get_or_append_left, nat_cmp, DependsOnPlace, Precedes-joined, dependents_by}
-use Rattle.fbl_audit.proofs.Common.{known_after}
+use Rattle.fbl_audit.proofs.Common.{contains-union, known_after, option_map_or}
 use Rattle.std.specs.FinSet as set
 use Rattle.std.proofs.Common.{set as set_at}
 
@@ -76,7 +76,7 @@ depends_here t i member e at = (
   joined j leads d = (d.0, d.1, Precedes-joined (place_step (same_place at) leads) d.2, d.3, d.4)
 
 -- the event is a receipt of the message
-abbrev pub Takes : Message → Mark → Type 0
+abbrev pub Takes : AddressedMessage → Mark → Type 0
 Takes m b = send_of b ≡ Some (Send m.from m.ssn m.to)
 
 -- the members are those that depend on some event of which P holds, at place i or later
@@ -84,13 +84,10 @@ abbrev AreLater : List Mark → (Mark → Type 0) → ℕ → Members → Type 0
 AreLater t P i members = (q : ℕ) → (set.contains members q ≡ true) ↔ DependsOnLater t P i q
 
 -- the pass knows who depends on an event at place i or later: of each member, and of each message that is received
-pub record Knows (t : List Mark) (i : ℕ) (by_member : List Members) (by_message : Message → Members) : Type 0 where
+pub record Knows (t : List Mark) (i : ℕ) (by_member : List Members) (by_message : AddressedMessage → Members) : Type 0 where
   pub room : length by_member ≡ 16
   pub members : (m : ℕ) → m < 16 → AreLater t (λ b. member_of b ≡ m) i (get_or by_member m set.empty)
-  pub messages : (m : Message) → AreLater t (Takes m) i (by_message m)
-
-pub contains-both : (s t : Members) (q : ℕ) → (set.contains (set.union s t) q ≡ true) ↔ (set.contains s q ≡ true) ⊎ (set.contains t q ≡ true)
-contains-both s t q = grind (arith, set.contains-union nat_cmp_total s t q)
+  pub messages : (m : AddressedMessage) → AreLater t (Takes m) i (by_message m)
 
 contains-one_more : (s : Members) (m q : ℕ) → (set.contains (set.insert s m) q ≡ true) ↔ (m ≡ q) ⊎ (set.contains s q ≡ true)
 contains-one_more s m q = grind (arith, nat_tests, set.contains-insert nat_cmp_total s m q, unsigned_tied q m)
@@ -105,11 +102,11 @@ unfolding DependsOnLater
 takes_no_receipt t i q to rsn from ssn d = no_receipt_sent to rsn from ssn d.2.0 d.2.2
 
 -- what the pass answers of the event at i, by what it knows of those behind
-pub dependents_right : (t : List Mark) (i : ℕ) (by_member : List Members) (by_message : Message → Members) (e : Mark)
+pub dependents_right : (t : List Mark) (i : ℕ) (by_member : List Members) (by_message : AddressedMessage → Members) (e : Mark)
     → At t i e → member_of e < 16 → Knows t (i + 1) by_member by_message → (q : ℕ) → (set.contains (dependents_by by_member by_message e) q ≡ true) ↔ DependsOnPlace t q i
 dependents_right t i by_member by_message (Send from ssn to) at below knows q =
     let here = depends_here t i q (Send from ssn to) at in
-    let both = contains-both (set.insert (get_or by_member from set.empty) from) (by_message (record { from = from; ssn = ssn; to = to })) q in
+    let both = contains-union (set.insert (get_or by_member from set.empty) from) (by_message (record { from = from; ssn = ssn; to = to })) q in
     let own = contains-one_more (get_or by_member from set.empty) from q in
     let later = knows.members from below q in
     let taken = knows.messages (record { from = from; ssn = ssn; to = to }) q in
@@ -122,10 +119,10 @@ dependents_right t i by_member by_message (Receipt to rsn from ssn) at below kno
     grind (arith, here, own, later, none)
 
 -- whether the event takes the message
-abbrev takes : Message → Mark → Bool
+abbrev takes : AddressedMessage → Mark → Bool
 takes m e = option_map_or (λ taken. same_addressed_message taken m) (message_taken_by e) false
 
-Decides-takes : (m : Message) (e : Mark) → Decides (takes m e) (Takes m e)
+Decides-takes : (m : AddressedMessage) (e : Mark) → Decides (takes m e) (Takes m e)
 Decides-takes m (Send from ssn to) = (λ h. cc, λ h. cc)
 Decides-takes m (Receipt to rsn from ssn) = grind (arith, nat_tests)
 
@@ -134,7 +131,7 @@ pub set_by_test : {X : Type 0} (xs : List X) (n m : ℕ) (f : X → X) (none : X
     → get_or (set_at xs n (f (get_or xs n none))) m none ≡ cond (n == m) (f (get_or xs m none)) (get_or xs m none)
 set_by_test xs n m f none within = grind (arith, nat_tests, common_steps)
 
-module _ (t : List Mark) (i : ℕ) (by_member : List Members) (by_message : Message → Members) (e : Mark) (at : At t i e)
+module _ (t : List Mark) (i : ℕ) (by_member : List Members) (by_message : AddressedMessage → Members) (e : Mark) (at : At t i e)
     (knows : Knows t (i + 1) by_member by_message) (found : Members) (right : (q : ℕ) → (set.contains found q ≡ true) ↔ DependsOnPlace t q i) where
   -- one event more: who depends on it joins those that depend on later events of P where P holds of it
   later_more : (P : Mark → Type 0) (test : Bool) → Decides test (P e) → (members : Members) → AreLater t P (i + 1) members
@@ -145,13 +142,13 @@ module _ (t : List Mark) (i : ℕ) (by_member : List Members) (by_message : Mess
     here q = (λ d. (let same : d.0 ≡ e = same_event t i i d.0 e refl d.1 at in (rw same at d.2, d.3)), λ d. (e, at, d.0, d.1))
 
     joined : (b : Bool) → Decides b (P e) → (q : ℕ) → (set.contains (cond b (set.union members found) members) q ≡ true) ↔ (set.contains members q ≡ true) ⊎ DependsBy t P i q
-    joined true is q = (let both = contains-both members found q in let new = right q in let same = here q in grind (arith, both, new, same, is))
+    joined true is q = (let both = contains-union members found q in let new = right q in let same = here q in grind (arith, both, new, same, is))
     joined false is q = (let same = here q in grind (arith, same, is))
 
   -- what is known with the event
-  pub Knows-more : (by_member' : List Members) (by_message' : Message → Members) → member_of e < 16
+  pub Knows-more : (by_member' : List Members) (by_message' : AddressedMessage → Members) → member_of e < 16
       → by_member' ≡ set_at by_member (member_of e) (set.union (get_or by_member (member_of e) set.empty) found)
-      → ((m : Message) → by_message' m ≡ known_after by_message (message_taken_by e) found m) → Knows t i by_member' by_message'
+      → ((m : AddressedMessage) → by_message' m ≡ known_after by_message (message_taken_by e) found m) → Knows t i by_member' by_message'
   Knows-more by_member' by_message' below own taken = record {
     room = rw own (length-set by_member (member_of e) _ ∙ knows.room);
     members = λ m within. (rw (own, set_by_test by_member (member_of e) m (λ s. set.union s found) set.empty (omega (arith, below, knows.room)))
@@ -160,8 +157,8 @@ module _ (t : List Mark) (i : ℕ) (by_member : List Members) (by_message : Mess
   }
 
 -- nothing is known behind the last event
-pub Knows-none : (t : List Mark) (by_member : List Members) (by_message : Message → Members) → by_member ≡ replicate 16 set.empty
-    → ((m : Message) → by_message m ≡ set.empty) → Knows t (length t) by_member by_message
+pub Knows-none : (t : List Mark) (by_member : List Members) (by_message : AddressedMessage → Members) → by_member ≡ replicate 16 set.empty
+    → ((m : AddressedMessage) → by_message m ≡ set.empty) → Knows t (length t) by_member by_message
 unfolding DependsOnLater
 Knows-none t by_member by_message members messages = record {
   room = rw members refl;
@@ -172,17 +169,17 @@ Knows-none t by_member by_message members messages = record {
   none P = AreReached-none (λ j. length t ≤ j) (DependsBy t P) (λ j q behind d. (let within = At-below t j d.0 d.1 in omega (arith, within, behind)))
 
 -- what the pass has when it has seen the events from place p on
-pub record Seen (t : List Mark) (p : ℕ) (by_member : List Members) (by_message : Message → Members) (from_the_end : List Members) : Type 0 where
+pub record Seen (t : List Mark) (p : ℕ) (by_member : List Members) (by_message : AddressedMessage → Members) (from_the_end : List Members) : Type 0 where
   pub knows : Knows t p by_member by_message
   pub count : length from_the_end + p ≡ length t
   pub found : (i q : ℕ) → p ≤ i → i < length t → (set.contains (get_or from_the_end (length t - 1 - i) set.empty) q ≡ true) ↔ DependsOnPlace t q i
 
 -- one event more
-pub Seen-more : (t : List Mark) (p : ℕ) (by_member by_member' : List Members) (by_message by_message' : Message → Members) (from_the_end : List Members) (e : Mark) (members : Members)
+pub Seen-more : (t : List Mark) (p : ℕ) (by_member by_member' : List Members) (by_message by_message' : AddressedMessage → Members) (from_the_end : List Members) (e : Mark) (members : Members)
     → Seen t p by_member by_message from_the_end → 0 < p → At t (p - 1) e → member_of e < 16
     → members ≡ dependents_by by_member by_message e
     → by_member' ≡ set_at by_member (member_of e) (set.union (get_or by_member (member_of e) set.empty) members)
-    → ((m : Message) → by_message' m ≡ known_after by_message (message_taken_by e) members m)
+    → ((m : AddressedMessage) → by_message' m ≡ known_after by_message (message_taken_by e) members m)
     → Seen t (p - 1) by_member' by_message' (from_the_end ++ members ∷ [])
 Seen-more t p by_member by_member' by_message by_message' from_the_end e members seen some at below are own taken =
     let next : p - 1 + 1 ≡ p = omega (arith, some) in

@@ -1,10 +1,9 @@
 -- With nobody struck, a run is safe exactly by the always-no-orphans condition.
 use Rattle.fbl_audit.proofs.Common.{ℕ, true, false, ◌≡◌, ◌≤◌, inl, inr, refl, sym, ap, ◌∙◌, arith, false≢true, Determinant, Parts, IsDump, receipt_of, Depends, Has-first}
-use Rattle.fbl_audit.proofs.Common.{len-within, IsSafe, holders_of, cases_lt, Has, HasAlwaysNoOrphans, SafeLaw}
+use Rattle.fbl_audit.proofs.Common.{contains-union, len-within, IsSafe, holders_of, cases_lt, Has, HasAlwaysNoOrphans, SafeLaw}
 use Rattle.std.specs.FinSet as set
 use Rattle.std.proofs.Common.{nat_cmp}
 use Rattle.fbl_audit.proofs.Checks.{least_loses, least_may, least_of, left_of_receipt, loses_all}
-use Rattle.fbl_audit.proofs.Following.{contains-both}
 
 module _ (dump : Parts) (rules : IsDump dump) (nobody : dump.strike ≡ set.empty) where
   none_struck : (q : ℕ) → set.contains dump.strike q ≡ false
@@ -15,7 +14,7 @@ module _ (dump : Parts) (rules : IsDump dump) (nobody : dump.strike ≡ set.empt
 
   -- the least members that lose a receipt are its holders
   in_least : (d : Determinant) (q : ℕ) → set.contains (least_of dump d) q ≡ true → set.contains (holders_of dump d) q ≡ true
-  in_least d q has = grind (arith, contains-both dump.strike (holders_of dump d) q, none_struck q, has)
+  in_least d q has = grind (arith, contains-union dump.strike (holders_of dump d) q, none_struck q, has)
 
   -- who depends on a receipt of which few enough know, in a safe run, holds it
   dependents_hold : IsSafe dump → (d : Determinant) → Has dump.events (receipt_of d) → set.len (holders_of dump d) ≤ dump.f

@@ -1,8 +1,9 @@
 -- A search from the first event on finds a path to each member that depends on an event.
 use Rattle.fbl_audit.proofs.Common.{below_more, ℕ, Bool, true, false, ◌≡◌, ◌<◌, ◌+◌, ◌⊎◌, inl, inr, List, [], ◌∷◌, ◌++◌, length, Option, Some, None, refl, sym, ap}
 use Rattle.fbl_audit.proofs.Common.{◌∙◌, arith, get_or, length-set, length-append, reverse, slice_get, cond, nat_tests, Mark, Send, Receipt, At, member_of, send_of, PlaceLeads}
-use Rattle.fbl_audit.proofs.Common.{PlacePrecedes, same_place, place_step, Message, message_taken_by, option_map_or, same_addressed_message, IsBefore, IsEndBy, IsPath, ◌≢◌, option_and_then}
+use Rattle.fbl_audit.proofs.Common.{PlacePrecedes, same_place, place_step, AddressedMessage, message_taken_by, option_map_or, same_addressed_message, IsBefore, IsEndBy, IsPath}
 use Rattle.fbl_audit.proofs.Common.{is_some, option_or, reverse-append, At-push, IsFoundBy, path_step, end_after, message_sent_by, place_before, sent_after, Decides, ◌==◌}
+use Rattle.fbl_audit.proofs.Common.{◌≢◌, option_and_then}
 use Rattle.fbl_audit.proofs.Following.{same_event, set_by_test}
 
 -- a path is empty, or ends with a step
@@ -11,17 +12,17 @@ last_step (same_place h) = inl refl
 last_step (place_step {j} q l) = inr (j, q, l)
 
 -- the send of the message is found, if the event at i precedes it
-abbrev pub IsSentBy : List Mark → ℕ → ℕ → Message → Option ℕ → Type 0
+abbrev pub IsSentBy : List Mark → ℕ → ℕ → AddressedMessage → Option ℕ → Type 0
 IsSentBy t i p m = IsFoundBy t i p (λ b. b ≡ Send m.from m.ssn m.to) (λ j. At t j (Send m.from m.ssn m.to) × PlacePrecedes t i j)
 
 -- what a search knows of the first p events: of each member and of each message
-pub record Knows (t : List Mark) (i p : ℕ) (ends : List (Option ℕ)) (sends : Message → Option ℕ) : Type 0 where
+pub record Knows (t : List Mark) (i p : ℕ) (ends : List (Option ℕ)) (sends : AddressedMessage → Option ℕ) : Type 0 where
   pub room : length ends ≡ 16
   pub members : (m : ℕ) → m < 16 → IsEndBy t i p m (get_or ends m None)
-  pub messages : (m : Message) → IsSentBy t i p m (sends m)
+  pub messages : (m : AddressedMessage) → IsSentBy t i p m (sends m)
 
 -- where a path comes from to the event at p
-pub before_right : (t : List Mark) (i p : ℕ) (ends : List (Option ℕ)) (sends : Message → Option ℕ) (e : Mark) → At t p e → member_of e < 16
+pub before_right : (t : List Mark) (i p : ℕ) (ends : List (Option ℕ)) (sends : AddressedMessage → Option ℕ) (e : Mark) → At t p e → member_of e < 16
     → Knows t i p ends sends → IsBefore t i p (place_before ends sends e)
 before_right t i p ends sends e at below knows = by_member (get_or ends (member_of e) None) (knows.members (member_of e) below) where
   -- a path to the event is empty where none comes to an earlier one of its member, nor to a send that it takes
@@ -58,17 +59,17 @@ found_kept t i p P Found none (Some j) found = (omega (arith, found.0), found.1)
 found_kept t i p P Found none None first = λ k b. below_more (λ j. At t j b → P b → ¬ (PlacePrecedes t i j)) p (λ j. first j b) (none b) k
 
 -- whether the event sends the message
-abbrev sends_it : Message → Mark → Bool
+abbrev sends_it : AddressedMessage → Mark → Bool
 sends_it m e = option_map_or (λ sent. same_addressed_message sent m) (message_sent_by e) false
 
-Decides-sends_it : (m : Message) (e : Mark) → Decides (sends_it m e) (e ≡ Send m.from m.ssn m.to)
+Decides-sends_it : (m : AddressedMessage) (e : Mark) → Decides (sends_it m e) (e ≡ Send m.from m.ssn m.to)
 Decides-sends_it m (Send from ssn to) = grind (arith, nat_tests)
 Decides-sends_it m (Receipt to rsn from ssn) = (λ h. cc, λ h. cc)
 
 -- a path comes to the event
-pub Knows-more : (t : List Mark) (i p : ℕ) (ends ends' : List (Option ℕ)) (sends sends' : Message → Option ℕ) (e : Mark) → At t p e → member_of e < 16
+pub Knows-more : (t : List Mark) (i p : ℕ) (ends ends' : List (Option ℕ)) (sends sends' : AddressedMessage → Option ℕ) (e : Mark) → At t p e → member_of e < 16
     → PlacePrecedes t i p → Knows t i p ends sends
-    → ends' ≡ end_after ends p e → ((m : Message) → sends' m ≡ sent_after sends (message_sent_by e) p m) → Knows t i (p + 1) ends' sends'
+    → ends' ≡ end_after ends p e → ((m : AddressedMessage) → sends' m ≡ sent_after sends (message_sent_by e) p m) → Knows t i (p + 1) ends' sends'
 Knows-more t i p ends ends' sends sends' e at below pr knows ends_are sends_are = record {
   room = rw ends_are (length-set ends (member_of e) _ ∙ knows.room);
   members = λ m within. (rw (ends_are, set_by_test ends (member_of e) m (λ o. option_or o (Some p)) None (omega (arith, below, knows.room)))
@@ -88,7 +89,8 @@ Knows-more t i p ends ends' sends sends' e at below pr knows ends_are sends_are 
   here_more m own None none = (omega arith, record { own = (e, at, own); depends = pr; first = none })
 
 -- no path comes to the event
-pub Knows-same : (t : List Mark) (i p : ℕ) (ends : List (Option ℕ)) (sends : Message → Option ℕ) → ¬ (PlacePrecedes t i p) → Knows t i p ends sends → Knows t i (p + 1) ends sends
+pub Knows-same : (t : List Mark) (i p : ℕ) (ends : List (Option ℕ)) (sends : AddressedMessage → Option ℕ) → ¬ (PlacePrecedes t i p) → Knows t i p ends sends
+    → Knows t i (p + 1) ends sends
 Knows-same t i p ends sends none_comes knows = record {
   room = knows.room;
   members = λ m within. found_kept t i p _ _ (λ b at_p own. none_comes) _ (knows.members m within);
@@ -98,12 +100,12 @@ Knows-same t i p ends sends none_comes knows = record {
 -- ---- the pass
 
 -- what the pass has when it has seen the first p events
-pub record Seen (t : List Mark) (i p : ℕ) (ends : List (Option ℕ)) (sends : Message → Option ℕ) (earlier : List (Option ℕ)) : Type 0 where
+pub record Seen (t : List Mark) (i p : ℕ) (ends : List (Option ℕ)) (sends : AddressedMessage → Option ℕ) (earlier : List (Option ℕ)) : Type 0 where
   pub knows : Knows t i p ends sends
   pub count : length earlier ≡ p
   pub before : (k : ℕ) (o : Option ℕ) → slice_get earlier k ≡ Some o → IsBefore t i k o
 
-pub Seen-push : (t : List Mark) (i p : ℕ) (ends ends' : List (Option ℕ)) (sends sends' : Message → Option ℕ) (earlier : List (Option ℕ)) (o : Option ℕ)
+pub Seen-push : (t : List Mark) (i p : ℕ) (ends ends' : List (Option ℕ)) (sends sends' : AddressedMessage → Option ℕ) (earlier : List (Option ℕ)) (o : Option ℕ)
     → Seen t i p ends sends earlier → IsBefore t i p o → Knows t i (p + 1) ends' sends' → Seen t i (p + 1) ends' sends' (earlier ++ o ∷ [])
 Seen-push t i p ends ends' sends sends' earlier o seen here knows = record {
   knows = knows;

@@ -1,10 +1,9 @@
 -- Whether a recorded run is safe, whichever members are lost.
 use Rattle.std.specs.Prelude.{ℕ, ◌≡◌, ◌≤◌, ◌↔◌, ◌⊎◌, true, false, List, [], ◌∷◌, max}
-use Rattle.std.specs.List.{filter_map}
 use Rattle.std.specs.FinSet as set
 use Rattle.fbl_base.specs.declared.trace.Determinant.{Determinant}
 use Rattle.fbl_base.specs.Audit.{Parts, IsHeldOutside, IsDumpOrphan}
-use Rattle.fbl_base.specs.Events.{determinant_of, receipt_of}
+use Rattle.fbl_base.specs.Events.{receipt_of, receipts}
 use Rattle.fbl_base.specs.MemberSets.{AllBelow, Members}
 use Rattle.fbl_base.specs.Precedence.{Depends}
 use Rattle.fbl_audit.specs.declared.checking.UnsafeReceipt.{UnsafeReceipt}
@@ -57,4 +56,4 @@ SaysUnsafe dump (d ∷ ds) said =
 
 -- the receipts of a dump, in the order of the events
 abbrev pub receipts_of_dump : Parts → List Determinant
-receipts_of_dump dump = filter_map determinant_of dump.events
+receipts_of_dump dump = receipts dump.events

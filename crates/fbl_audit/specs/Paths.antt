@@ -6,7 +6,7 @@ use Rattle.fbl_base.specs.declared.trace.Mark.TheVariants.{Send, Receipt}
 use Rattle.fbl_base.specs.Audit.{Parts, IsLost}
 use Rattle.fbl_base.specs.Events.{At, member_of}
 use Rattle.fbl_base.specs.Places.{DependsOnPlace, PlaceLeads, PlacePrecedes}
-use Rattle.fbl_audit.specs.declared.dependents.Message.{Message}
+use Rattle.fbl_audit.specs.declared.dependents.AddressedMessage.{AddressedMessage}
 use Rattle.fbl_audit.specs.Dependents.{message_taken_by, same_addressed_message}
 
 -- a place of a trace, where paths begin
@@ -47,12 +47,12 @@ IsOrphanPath dump member path = (i : ℕ) × IsFirstCause dump member i × IsPat
 -- ---- how paths are found
 
 -- the message that the event sends, if it is a send
-abbrev pub message_sent_by : Mark → Option Message
+abbrev pub message_sent_by : Mark → Option AddressedMessage
 message_sent_by (Send from ssn to) = Some (record { from = from; ssn = ssn; to = to })
 message_sent_by (Receipt to rsn from ssn) = None
 
 -- the place from which a path comes to the event, where these are the members' first ones that one comes to, and these the sends
-abbrev pub place_before : List (Option ℕ) → (Message → Option ℕ) → Mark → Option ℕ
+abbrev pub place_before : List (Option ℕ) → (AddressedMessage → Option ℕ) → Mark → Option ℕ
 place_before ends sends event = option_or (slice_index_or ends (member_of event) None) (option_and_then sends (message_taken_by event))
 
 -- the members' first events, with one more at this place
@@ -60,7 +60,7 @@ abbrev pub end_after : List (Option ℕ) → ℕ → Mark → List (Option ℕ)
 end_after ends place event = slice_set ends (member_of event) (option_or (slice_index_or ends (member_of event) None) (Some place))
 
 -- the places of sends, with one more at this place, if this message is sent there
-abbrev pub sent_after : (Message → Option ℕ) → Option Message → ℕ → Message → Option ℕ
+abbrev pub sent_after : (AddressedMessage → Option ℕ) → Option AddressedMessage → ℕ → AddressedMessage → Option ℕ
 sent_after sends sent place m = if option_map_or (λ s. same_addressed_message s m) sent false then Some place else sends m
 
 -- the place leads to the one at p, and the event at i precedes it; where there is none, the event at i precedes that at p only as

@@ -112,7 +112,7 @@ impl<'a> Audit<'a> {
         ensures { result ≡ not (is_held_outside self.now determinant.now) }
     {
         let strike = self.strike();
-        self.holders.get(determinant).without(strike).count() == 0
+        self.holders.get(determinant).without(strike).is_empty()
     }
 
     /// The determinants of the lost receipts, in the order of the events. `Err` comes only where there is no memory for the
@@ -136,12 +136,9 @@ impl<'a> Audit<'a> {
     fn is_lost_receipt(&self, event: &Mark) -> bool
         ensures { (result ≡ true) ↔ IsLost self.now event.now }
     {
-        match *event {
-            Mark::Send { .. } => false,
-            Mark::Receipt { to, rsn, from, ssn } => {
-                let determinant = Determinant { from, ssn, to, rsn };
-                self.is_lost(&determinant)
-            }
+        match event.determinant() {
+            Some(determinant) => self.is_lost(&determinant),
+            None => false,
         }
     }
 

@@ -41,7 +41,7 @@ fn said_of(
     let strike = dump.strike().union(holders);
     let orphans = dependents.without(strike);
     let most = u32::from(dump.f()).max(dump.strike().count());
-    if strike.count() > most || orphans.count() == 0 {
+    if strike.count() > most || orphans.is_empty() {
         return None;
     }
     Some(UnsafeReceipt {

@@ -14,7 +14,7 @@ use std::hash::{BuildHasherDefault, FoldHasher};
 
 /// What names a message with its receiver.
 #[derive(Clone, Copy, PartialEq, Eq, Hash, Debug)]
-pub(crate) struct Message {
+pub(crate) struct AddressedMessage {
     pub(crate) from: Member,
     /// Which of the sender's sends it is.
     pub(crate) ssn: u32,
@@ -22,9 +22,9 @@ pub(crate) struct Message {
 }
 
 /// For each message that is received, the members that depend on a receipt of it.
-type ByMessage = HashMap<Message, MemberSet, BuildHasherDefault<FoldHasher>>;
+type ByMessage = HashMap<AddressedMessage, MemberSet, BuildHasherDefault<FoldHasher>>;
 
-fn found_by(by_message: &ByMessage, message: &Message) -> MemberSet
+fn found_by(by_message: &ByMessage, message: &AddressedMessage) -> MemberSet
     ensures { result ≡ known_of by_message.now message.now }
 {
     match by_message.get(message) {
@@ -34,12 +34,12 @@ fn found_by(by_message: &ByMessage, message: &Message) -> MemberSet
 }
 
 /// The message that the event takes, if it is a receipt.
-pub(crate) fn message_taken(event: &Mark) -> Option<Message>
+pub(crate) fn message_taken(event: &Mark) -> Option<AddressedMessage>
     ensures { result ≡ message_taken_by event.now }
 {
     match *event {
         Mark::Send { .. } => None,
-        Mark::Receipt { to, from, ssn, .. } => Some(Message { from, ssn, to }),
+        Mark::Receipt { to, from, ssn, .. } => Some(AddressedMessage { from, ssn, to }),
     }
 }
 
@@ -70,7 +70,7 @@ impl Later {
         match *event {
             Mark::Send { from, ssn, to } => {
                 let later = self.by_member[from.number() as usize].with(from);
-                later.union(found_by(&self.by_message, &Message { from, ssn, to }))
+                later.union(found_by(&self.by_message, &AddressedMessage { from, ssn, to }))
             }
             Mark::Receipt { to, .. } => self.by_member[to.number() as usize].with(to),
         }

@@ -7,7 +7,7 @@ ghost use Rattle.fbl_base.specs.Places.{DependsOnPlace, PlacePrecedes};
 ghost use Rattle.fbl_audit.specs.Dependents.{message_taken_by, same_addressed_message};
 ghost use Rattle.fbl_audit.specs.Paths.{IsBefore, IsEndBy, IsPathTo, end_after, message_sent_by, place_before, sent_after};
 
-use crate::dependents::{Message, message_taken};
+use crate::dependents::{AddressedMessage, message_taken};
 use fbl_base::audit::Dump;
 use fbl_base::{Mark, Member};
 use std::alloc::{AllocError, Global};
@@ -16,14 +16,14 @@ use std::hash::{BuildHasherDefault, FoldHasher};
 use std::marker::Model;
 
 /// For each message whose send a path comes to, the place of the send.
-type SendPlaces = HashMap<Message, usize, BuildHasherDefault<FoldHasher>>;
+type SendPlaces = HashMap<AddressedMessage, usize, BuildHasherDefault<FoldHasher>>;
 
 /// The message that the event sends, if it is a send.
-fn message_sent(event: &Mark) -> Option<Message>
+fn message_sent(event: &Mark) -> Option<AddressedMessage>
     ensures { result ≡ message_sent_by event.now }
 {
     match *event {
-        Mark::Send { from, ssn, to } => Some(Message { from, ssn, to }),
+        Mark::Send { from, ssn, to } => Some(AddressedMessage { from, ssn, to }),
         Mark::Receipt { .. } => None,
     }
 }
@@ -125,8 +125,7 @@ impl<'a> Paths<'a> {
 
     /// The places of a path to the member, if it depends on the event: the first is the event's, each next one is that of a later
     /// event of the same member or of the receipt of what was sent, and the last is that of the member's first event that
-    /// depends on the event. A path that comes to a member goes on from that member's first event. `Err` comes only where there is
-    /// no memory for the places.
+    /// depends on the event. `Err` comes only where there is no memory for the places.
     pub fn to(&self, alloc: Global, member: Member) -> Result<Option<Vec<usize>>, AllocError>
         ensures paths { IfOk result (λ found. IfSome found (λ path. IsPathTo self.now member path.items)) }
         ensures to_all { IfOk result (λ found. IfNone found (¬ (DependsOnPlace self.now.events member self.now.place))) }

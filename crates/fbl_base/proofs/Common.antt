@@ -3,7 +3,7 @@ pub use Rattle.std.proofs.Common.{Bool, Decides, IfSome, List, MatchOption, None
 pub use Rattle.std.proofs.Common.{get_or, get_or-set_other, get_or-set_same, inl, inr, length, length-append, length-set, length-take, map, not, refl, replicate, rules, slice_get, suc, sym, take}
 pub use Rattle.std.proofs.Common.{true, w16, zero, ℕ, ◌%◌, ◌&&◌, ◌*◌, ◌++◌, ◌+◌, ◌-◌, ◌/◌, ◌<◌, ◌==◌, ◌^◌, ◌||◌, ◌↔◌, ◌∙◌, ◌∷◌}
 pub use Rattle.std.proofs.Common.{◌≡◌, ◌≢◌, ◌≤◌, ◌⊎◌}
-pub use Rattle.std.proofs.Math.Bool.{or-false, or-true}
+pub use Rattle.std.proofs.Math.Bool.{or-false}
 pub use Rattle.std.proofs.Math.Nat.{mod-lt}
 pub use Rattle.std.proofs.Math.Seq.{drop-cons, take-suc}
 pub use Rattle.std.proofs.lemmas.Bool.{and_parts, cases_eq, cases_lt, cases_order, eq-eqb, eqb-true, false≢true, not-true}
@@ -28,7 +28,7 @@ pub use Rattle.fbl_base.specs.Breaches.{Breaks, BreaksEvent, FitsEvent, first_in
 pub use Rattle.fbl_base.specs.Configs.{Settings, StartAllowedAt}
 pub use Rattle.fbl_base.specs.Counted.{Counted, CountsEvent, first_by, next_by}
 pub use Rattle.fbl_base.specs.DumpParts.{is_received, parts_of}
-pub use Rattle.fbl_base.specs.Events.{At, destination_of, determinant_of, mark_of, member_of, receipt_of, same_determinant, send_of, source_of}
+pub use Rattle.fbl_base.specs.Events.{At, destination_of, determinant_of, mark_of, member_of, receipt_of, receipts, same_determinant, send_of, source_of}
 pub use Rattle.fbl_base.specs.Fold.{Action, Lawful, Next, Progress, action_of, actions_of, advanced, after_notes, begun, note_of, notes_of, responses, sent, start_of, starts_of, step_events, took}
 pub use Rattle.fbl_base.specs.MemberSets.{contains-insert_other, contains-insert_same, len-flagged, member_list, same_from_contains}
 pub use Rattle.fbl_base.specs.Places.{DependsOnPlace, PlacePrecedes, place_step, same_place}

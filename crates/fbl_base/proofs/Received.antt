@@ -1,8 +1,8 @@
 -- Which determinants receipts have.
 use Rattle.fbl_base.proofs.Common.{drop, ℕ, ◌+◌, ◌<◌, ◌≤◌, ◌≡◌, true, ◌||◌, List, [], ◌∷◌, length, take, get_or, Some, refl, sym, ap, ◌∙◌, arith, Decides}
-use Rattle.fbl_base.proofs.Common.{list_any, filter_map, cons_option, take_more, take-append-le, list_any-append, Any-from_list_any, list_any-from_Any, filter_map-append, get_or_from_slice_get}
+use Rattle.fbl_base.proofs.Common.{list_any, cons_option, take_more, take-append-le, list_any-append, Any-from_list_any, list_any-from_Any, filter_map-append, get_or_from_slice_get}
 use Rattle.fbl_base.proofs.Common.{Determinant, Mark, At, determinant_of, same_determinant, Has, ObeysAt, WellFormed, is_received, length-take, take-append-drop, slice_get-get_or, Send, Receipt}
-use Rattle.fbl_base.proofs.Common.{receipt_of}
+use Rattle.fbl_base.proofs.Common.{receipt_of, receipts}
 use Rattle.fbl_base.proofs.Gets.{At-front, At-below, At-filter_map, filter_map-At}
 use Rattle.fbl_base.proofs.Recorded.{Decides-same_determinant}
 
@@ -19,16 +19,16 @@ pub Decides-is_received : (events : List Mark) (d : Determinant) → Decides (is
 Decides-is_received events d = (has, received) where
   has : is_received events d ≡ true → Has events (receipt_of d)
   has h =
-      let a = Any-from_list_any (λ x. same_determinant x d) (filter_map determinant_of events) h in
+      let a = Any-from_list_any (λ x. same_determinant x d) (receipts events) h in
       let same : a.1 ≡ d = (Decides-same_determinant a.1 d).0 a.4 in
-      let b = At-filter_map determinant_of events a.0 a.1 (slice_get-get_or (filter_map determinant_of events) a.0 a.1 a.2 ∙ ap Some a.3) in
+      let b = At-filter_map determinant_of events a.0 a.1 (slice_get-get_or (receipts events) a.0 a.1 a.2 ∙ ap Some a.3) in
       (b.0, b.2 ∙ ap Some (is_receipt b.1 a.1 b.3 ∙ ap receipt_of same))
 
   received : Has events (receipt_of d) → is_received events d ≡ true
   received has' =
       let a = filter_map-At determinant_of events has'.0 (receipt_of d) d has'.1 refl in
-      list_any-from_Any (λ x. same_determinant x d) (filter_map determinant_of events)
-      (a.0, d, At-below _ a.0 d a.1, get_or_from_slice_get (filter_map determinant_of events) a.0 d d a.1, (Decides-same_determinant d d).1 refl)
+      list_any-from_Any (λ x. same_determinant x d) (receipts events)
+      (a.0, d, At-below _ a.0 d a.1, get_or_from_slice_get (receipts events) a.0 d d a.1, (Decides-same_determinant d d).1 refl)
 
 -- the front of a trace whose places obey the rules
 pub WellFormed-below : (n : ℕ) (t : List Mark) (i : ℕ) → ((j : ℕ) → j < i → ObeysAt n t j) → WellFormed n (take i t)

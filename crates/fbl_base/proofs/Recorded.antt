@@ -1,16 +1,12 @@
 -- Which determinants are recorded.
-use Rattle.fbl_base.proofs.Common.{ℕ, ◌≡◌, Bool, true, false, not, cond, ◌&&◌, ◌||◌, refl, sym, Decides, ◌↔◌, arith, nat_cmp, nat_tests, Any-from_list_any, list_any-from_Any}
-use Rattle.fbl_base.proofs.Common.{Determinant, and_parts, Parts, is_held_outside, IsDumpOrphan, first_events, same_determinant, nat_cmp_total, or-false, or-true, not-true, Follows, Reach}
+use Rattle.fbl_base.proofs.Common.{ℕ, ◌≡◌, Bool, true, false, not, ◌&&◌, ◌||◌, refl, sym, Decides, ◌↔◌, arith, nat_cmp, nat_tests, Any-from_list_any, list_any-from_Any}
+use Rattle.fbl_base.proofs.Common.{Determinant, and_parts, Parts, is_held_outside, IsDumpOrphan, first_events, same_determinant, nat_cmp_total, or-false, not-true, Follows, Reach}
 use Rattle.fbl_base.proofs.Common.{IsHeldOutside}
 use Rattle.std.specs.FinSet as set
 use Rattle.fbl_base.specs.Reach.{IsReached}
 
 abbrev holds_it : set.FinSet nat_cmp → Determinant → ℕ × Determinant → Bool
 holds_it strike d h = not (set.contains strike h.0) && same_determinant h.1 d
-
-pub or_cond : (a b : Bool) → cond a true b ≡ (b || a)
-or_cond true b = sym (or-true b)
-or_cond false b = sym (or-false b)
 
 pub or_false : (b : Bool) → b ≡ (b || false)
 or_false b = sym (or-false b)

@@ -1,15 +1,15 @@
 -- What an audit says of a dump.
 use Rattle.std.specs.Prelude.{◌≡◌, Option, Some, None, slice_get, slice_index_or, take, length, ℕ, ◌+◌, ◌<◌, Bool, false, not, ◌&&◌, List}
-use Rattle.std.specs.List.{Contains, list_any, filter, filter_map}
+use Rattle.std.specs.List.{Contains, list_any, filter}
 use Rattle.std.specs.Ordering.{nat_cmp}
 use Rattle.std.specs.FinSet as set
 use Rattle.fbl_base.specs.declared.trace.Determinant.{Determinant}
 use Rattle.fbl_base.specs.declared.trace.Mark.{Mark}
 use Rattle.fbl_base.specs.declared.trace.Mark.TheVariants.{Send, Receipt}
-use Rattle.fbl_base.specs.Events.{determinant_of, receipt_of, same_determinant}
+use Rattle.fbl_base.specs.Events.{receipt_of, receipts, same_determinant}
 use Rattle.fbl_base.specs.Precedence.{Has, Depends}
 use Rattle.fbl_base.specs.Rules.{ObeysAt, WellFormed}
-use Rattle.fbl_base.specs.Configs.{MembersAllowed, FAllowed}
+use Rattle.fbl_base.specs.Configs.{MembersAllowed, FAllowed, IsFirstBreach}
 use Rattle.fbl_base.specs.MemberSets.{AllBelow}
 use Rattle.fbl_base.specs.declared.refusal.DumpRefusal.{DumpRefusal}
 use Rattle.fbl_base.specs.declared.refusal.DumpRefusal.TheVariants.{BadMembers, BadF, BadEvent, BadHeld, BadStrike, Memory}
@@ -33,7 +33,7 @@ is_held_outside dump d = list_any (λ h. not (set.contains dump.strike h.0) && s
 
 -- the determinants of the lost receipts, in the order of the events
 abbrev pub lost_determinants : Parts → List Determinant
-lost_determinants dump = filter (λ d. not (is_held_outside dump d)) (filter_map determinant_of dump.events)
+lost_determinants dump = filter (λ d. not (is_held_outside dump d)) (receipts dump.events)
 
 -- the event is a receipt whose determinant no member outside the strike set holds
 abbrev pub IsLost : Parts → Mark → Type 0
@@ -49,21 +49,29 @@ IsDumpOrphan dump member =
 abbrev pub first_events : ℕ → Parts → Parts
 first_events n dump = record dump { events = take n dump.events }
 
--- the member is no orphan; or the place is that of its first event that depends on a lost receipt: by the events before
--- it the member would be no orphan, and with it the member is one
+-- the place is that of the member's first event that depends on a lost receipt: by the events before it the member would be
+-- no orphan, and with it the member is one
+abbrev pub IsOrphanFrom : Parts → ℕ → ℕ → Type 0
+IsOrphanFrom dump member place =
+    (place < length dump.events) × ¬ (IsDumpOrphan (first_events place dump) member) × IsDumpOrphan (first_events (place + 1) dump) member
+
+-- the member is no orphan; or it is one from the place on
 abbrev pub IsOrphanStart : Parts → ℕ → Option ℕ → Type 0
 IsOrphanStart dump member None = ¬ (IsDumpOrphan dump member)
-IsOrphanStart dump member (Some place) =
-    (place < length dump.events) × ¬ (IsDumpOrphan (first_events place dump) member) × IsDumpOrphan (first_events (place + 1) dump) member
+IsOrphanStart dump member (Some place) = IsOrphanFrom dump member place
 
 -- what a list has for a member, if it has anything
 abbrev pub orphan_start_in : List (Option ℕ) → ℕ → Option ℕ
 orphan_start_in starts member = slice_index_or starts member None
 
--- the pair at the place, if there is one, is among the first 131,072, and has a member of the group and a receipt of the trace
+-- the pair at the place breaks no rule in a group of n: it is among the first 131,072, and has a member of the group and a
+-- receipt of the trace
+abbrev pub FitsPair : ℕ → List Mark → ℕ → ℕ → Determinant → Type 0
+FitsPair n trace place holder d = (place < 131072) × (holder < n) × Has trace (receipt_of d)
+
+-- the pair at the place, if there is one, breaks no rule
 abbrev pub HeldAt : Parts → ℕ → Type 0
-HeldAt dump i =
-    (h : ℕ × Determinant) → slice_get dump.held i ≡ Some h → (i < 131072) × (h.0 < dump.members) × Has dump.events (receipt_of h.1)
+HeldAt dump i = (h : ℕ × Determinant) → slice_get dump.held i ≡ Some h → FitsPair dump.members dump.events i h.0 h.1
 
 -- the rules of a dump: its parameters are allowed, its trace is well formed, and each pair and the strike set fit them
 pub record IsDump (dump : Parts) : Type 0 where
@@ -72,10 +80,6 @@ pub record IsDump (dump : Parts) : Type 0 where
   pub events : WellFormed dump.members dump.events
   pub held : (i : ℕ) → HeldAt dump i
   pub strike : AllBelow dump.strike dump.members
-
--- P holds at each place before this one, and not here
-abbrev pub IsFirstBreach : (ℕ → Type 0) → ℕ → Type 0
-IsFirstBreach P place = ((i : ℕ) → i < place → P i) × ¬ (P place)
 
 -- the refusal is the first that fits; memory may run out once the parameters are allowed, whether or not another fits
 abbrev pub RefusesDump : Parts → DumpRefusal → Type 0

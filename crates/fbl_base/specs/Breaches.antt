@@ -124,10 +124,6 @@ IsEventFault n trace fault = At trace fault.place fault.event × BreaksEvent n (
 
 -- ---- held pairs and dumps
 
--- the pair at the place breaks no rule in a group of n
-abbrev pub FitsPair : ℕ → List Mark → ℕ → ℕ → Determinant → Type 0
-FitsPair n trace place holder d = (place < 131072) × (holder < n) × Has trace (receipt_of d)
-
 -- the pair at the place breaks this rule in a group of n
 abbrev pub BreaksPair : ℕ → List Mark → ℕ → ℕ → Determinant → PairRule → Type 0
 BreaksPair n trace place holder d pair_rule.TooMany = 131072 ≤ place

@@ -1,12 +1,11 @@
 -- The parts of a raw dump.
 use Rattle.std.specs.Prelude.{Bool, List}
-use Rattle.std.specs.List.{list_any, filter_map}
+use Rattle.std.specs.List.{list_any}
 use Rattle.fbl_base.specs.declared.trace.Determinant.{Determinant}
 use Rattle.fbl_base.specs.declared.trace.Mark.{Mark}
 use Rattle.fbl_base.specs.declared.raw_dump.RawDump.{RawDump}
-use Rattle.fbl_base.specs.Events.{determinant_of}
 use Rattle.fbl_base.specs.Audit.{Parts}
-use Rattle.fbl_base.specs.Events.{same_determinant}
+use Rattle.fbl_base.specs.Events.{receipts, same_determinant}
 
 -- the parts, as contracts see them
 abbrev pub parts_of : {A : Type 0} → RawDump A → Parts
@@ -14,4 +13,4 @@ parts_of raw = record { members = raw.members; f = raw.f; events = raw.events.it
 
 -- whether some receipt among the events has the determinant
 abbrev pub is_received : List Mark → Determinant → Bool
-is_received events d = list_any (λ x. same_determinant x d) (filter_map determinant_of events)
+is_received events d = list_any (λ x. same_determinant x d) (receipts events)

@@ -1,6 +1,7 @@
 -- The events of a trace. A determinant names a receipt, by the message's source and send sequence number and by the
 -- destination and its receive sequence number (Alvisi and Marzullo 1998).
 use Rattle.std.specs.Prelude.{ℕ, Bool, false, ◌==◌, ◌&&◌, Option, Some, None, List, slice_get, ◌≡◌}
+use Rattle.std.specs.List.{filter_map}
 use Rattle.fbl_base.specs.declared.trace.Event.{Event}
 use Rattle.fbl_base.specs.declared.trace.Event.TheVariants as event
 use Rattle.fbl_base.specs.declared.trace.Determinant.{Determinant}
@@ -37,6 +38,10 @@ number_of (Receipt to rsn from ssn) = rsn
 abbrev pub determinant_of : Mark → Option Determinant
 determinant_of (Send from ssn to) = None
 determinant_of (Receipt to rsn from ssn) = Some (record { from = from; ssn = ssn; to = to; rsn = rsn })
+
+-- the determinants of the receipts of a trace, in order
+abbrev pub receipts : List Mark → List Determinant
+receipts trace = filter_map determinant_of trace
 
 -- the receipt that a determinant names
 abbrev pub receipt_of : Determinant → Mark

@@ -1,5 +1,5 @@
 -- Sets of members.
-use Rattle.std.specs.Prelude.{◌≡◌, ℕ, ◌+◌, ◌<◌, Bool, true, false, cond, List, [], ◌∷◌, ◌≢◌}
+use Rattle.std.specs.Prelude.{◌≡◌, ℕ, ◌+◌, ◌<◌, ◌↔◌, ◌⊎◌, Bool, true, false, cond, List, [], ◌∷◌, ◌≢◌}
 use Rattle.std.proofs.Common.{zero, suc, get_or, ◌∙◌, arith, count_by}
 use Rattle.std.proofs.lemmas.Bool.Decides.{nat_tests}
 use Rattle.std.proofs.lemmas.List.Sums.{sum_by-cons}
@@ -30,6 +30,9 @@ contains-insert_same s k = set.contains-insert nat_cmp_total s k k ∙ (rw (unsi
 
 pub contains-insert_other : (s : set.FinSet nat_cmp) (k q : ℕ) → q ≢ k → set.contains (set.insert s k) q ≡ set.contains s q
 contains-insert_other s k q ne = set.contains-insert nat_cmp_total s k q ∙ (rw (unsigned_tied q k) grind (arith, nat_tests))
+
+pub contains-union : (s t : set.FinSet nat_cmp) (q : ℕ) → (set.contains (set.union s t) q ≡ true) ↔ (set.contains s q ≡ true) ⊎ (set.contains t q ≡ true)
+contains-union s t q = grind (arith, set.contains-union nat_cmp_total s t q)
 
 pub contains-flagged_below : (flags : List Bool) (k q : ℕ) → q < k → set.contains (flagged k flags) q ≡ false
 unfolding flagged

@@ -1,11 +1,11 @@
 -- How a pass over the events follows what a lost receipt reaches.
-use Rattle.std.specs.Prelude.{◌≡◌, ◌<◌, ◌≤◌, ◌+◌, ◌↔◌, ℕ, Bool, true, ◌||◌, List, Option, Some, None, length, take, if◌then◌else◌, nat_lt, slice_set, slice_index}
+use Rattle.std.specs.Prelude.{◌≡◌, ◌<◌, ◌≤◌, ◌↔◌, ℕ, Bool, true, ◌||◌, List, Option, Some, None, length, take, if◌then◌else◌, nat_lt, slice_set, slice_index}
 use Rattle.std.specs.Ordering.{nat_cmp}
 use Rattle.std.specs.FinSet as set
 use Rattle.fbl_base.specs.declared.audit.Reach.{Reach}
 use Rattle.fbl_base.specs.declared.trace.Mark.{Mark}
 use Rattle.fbl_base.specs.declared.trace.Mark.TheVariants.{Send, Receipt}
-use Rattle.fbl_base.specs.Audit.{Parts, IsLost, IsDumpOrphan, first_events}
+use Rattle.fbl_base.specs.Audit.{Parts, IsLost, IsDumpOrphan, IsOrphanFrom, first_events}
 use Rattle.fbl_base.specs.Precedence.{Has, Precedes, Depends}
 use Rattle.fbl_base.specs.Rules.{sends_of}
 
@@ -31,8 +31,7 @@ Follows dump n reach = Tracks (IsLost dump) (take n dump.events) reach.reached r
 -- what `IsOrphanStart` says, as far as the first n events tell
 abbrev pub StartsBy : Parts → ℕ → ℕ → Option ℕ → Type 0
 StartsBy dump n member None = ¬ (IsDumpOrphan (first_events n dump) member)
-StartsBy dump n member (Some place) =
-    (place < length dump.events) × ¬ (IsDumpOrphan (first_events place dump) member) × IsDumpOrphan (first_events (place + 1) dump) member
+StartsBy dump n member (Some place) = IsOrphanFrom dump member place
 
 -- the members reached, after one more event
 abbrev pub reached_after : Mark → Bool → set.FinSet nat_cmp → List ℕ → set.FinSet nat_cmp

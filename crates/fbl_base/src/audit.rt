@@ -7,8 +7,9 @@
 
 ghost use Rattle.std.specs.Prelude.{◌≡◌, ◌<◌, ◌≤◌, ◌↔◌, ◌+◌, ℕ, true, IfOk, IfErr, IfSome, MatchOption, length};
 ghost use Rattle.std.specs.FinSet as set;
-ghost use Rattle.fbl_base.specs.Audit.{HeldAt, IsDump, Parts, IsFirstBreach, IsLost, IsDumpOrphan, IsOrphanStart, RefusesDump, first_events, is_held_outside, lost_determinants, orphan_start_in};
-ghost use Rattle.fbl_base.specs.Breaches.{BreaksPair, FitsPair, IsEventFault, IsOfDump, IsPairFault, dump_refusal};
+ghost use Rattle.fbl_base.specs.Audit.{FitsPair, HeldAt, IsDump, Parts, IsLost, IsDumpOrphan, IsOrphanStart, RefusesDump, first_events, is_held_outside, lost_determinants, orphan_start_in};
+ghost use Rattle.fbl_base.specs.Breaches.{BreaksPair, IsEventFault, IsOfDump, IsPairFault, dump_refusal};
+ghost use Rattle.fbl_base.specs.Configs.{IsFirstBreach};
 ghost use Rattle.fbl_base.specs.Events.{receipt_of, same_determinant};
 ghost use Rattle.std.specs.HashSet as hash_set;
 ghost use Rattle.fbl_base.specs.DumpParts.{parts_of, is_received};
@@ -17,7 +18,7 @@ ghost use Rattle.fbl_base.specs.Rules.{ObeysAt, WellFormed};
 ghost use Rattle.fbl_base.specs.Reach.{Follows, StartsBy, reached_after, unreached_sends_after};
 
 use crate::fault::{DumpFault, EventFault, Outsider, PairFault, PairRule};
-use crate::member::Member;
+use crate::member::{LEAST_MEMBERS, MOST_MEMBERS, Member};
 use crate::member_set::MemberSet;
 use crate::raw_dump::RawDump;
 use crate::refusal::DumpRefusal;
@@ -27,6 +28,9 @@ use std::alloc::{AllocError, Allocator, Global};
 use std::collections::HashSet;
 use std::hash::{BuildHasherDefault, FoldHasher};
 use std::marker::Model;
+
+/// The most pairs of holder and determinant that a dump may have.
+const MOST_PAIRS: usize = 131_072;
 
 /// A dump that obeys the rules. Contracts see its five parts.
 #[derive(Drop)]
@@ -245,12 +249,9 @@ fn is_lost<A: Allocator>(dump: &Dump<A>, recorded: &DeterminantSet<A>, event: Ma
     requires { (d : _) → hash_set.contains same_determinant recorded.now d ≡ is_held_outside dump.now d }
     ensures { (result ≡ true) ↔ IsLost dump.now event }
 {
-    match event {
-        Mark::Send { .. } => false,
-        Mark::Receipt { to, rsn, from, ssn } => {
-            let determinant = Determinant { from, ssn, to, rsn };
-            !is_recorded(dump, recorded, &determinant)
-        }
+    match event.determinant() {
+        Some(determinant) => !is_recorded(dump, recorded, &determinant),
+        None => false,
     }
 }
 
@@ -357,7 +358,7 @@ fn broken_rule<A: Allocator>(
         (λ _. ¬ (FitsPair raw.now.members raw.now.events.items place pair.now.0 pair.now.1)) }
 {
     let members = raw.members;
-    if place >= 131_072 {
+    if place >= MOST_PAIRS {
         return Some(PairRule::TooMany);
     }
     if pair.0.number() >= members {
@@ -409,8 +410,8 @@ fn first_bad_pair<A: Allocator + Copy>(
 }
 
 /// The dump, if it obeys the rules. A refused one is dropped. Where several refusals hold, the first in the order of
-/// `DumpRefusal` is answered, but for `Memory`: the indexes that the check builds may want it before any other is
-/// found. The time taken is linear in the events and the held pairs.
+/// `DumpRefusal` is answered, but for `Memory`, which may come once the members and `f` are allowed: the indexes that the
+/// check builds want it then. The time taken is linear in the events and the held pairs.
 pub fn check_dump<A: Allocator + Copy>(alloc: A, raw: RawDump<A>) -> Result<Dump<A>, DumpRefusal>
     ensures accepted { IfOk result (λ d. d ≡ parts_of raw) }
     ensures rules { IfOk result IsDump }
@@ -430,7 +431,7 @@ pub fn checked_dump<A: Allocator + Copy>(alloc: A, raw: RawDump<A>) -> Result<Du
     ensures fault { IfErr result (IsOfDump (parts_of raw)) }
 {
     let members = raw.members;
-    if members < 2 || members > 16 {
+    if members < LEAST_MEMBERS || members > MOST_MEMBERS {
         return Err(DumpFault::BadMembers { members });
     }
     if raw.f < 1 || raw.f >= members {

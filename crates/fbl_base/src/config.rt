@@ -5,10 +5,14 @@ ghost use Rattle.fbl_base.specs.Breaches.{IsOfConfig, IsStartFault, config_refus
 ghost use Rattle.fbl_base.specs.Configs.{IsConfig, RefusesConfig, StartAllowedAt};
 
 use crate::fault::{ConfigFault, StartFault};
-use crate::trace::Start;
+use crate::member::{LEAST_MEMBERS, MOST_MEMBERS};
+use crate::trace::{MOST_EVENTS, Start};
 use std::alloc::{AllocError, Allocator, Global};
 use std::marker::Model;
 use thiserror::Error;
+
+/// The most messages that members send before anything is received.
+const MOST_STARTS: usize = 64;
 
 /// Why there is no configuration of these parameters. The refusals are tested in this order.
 #[derive(Clone, Copy, PartialEq, Eq, Debug, Error)]
@@ -104,17 +108,17 @@ impl<A: Allocator + Copy> Config<A> {
         ensures refused { IfErr result (λ fault. RefusesConfig (record { members = members; f = f; limit = limit; starts = starts.now }) (config_refusal fault)) }
         ensures fault { IfErr result (IsOfConfig (record { members = members; f = f; limit = limit; starts = starts.now })) }
     {
-        if members < 2 || members > 16 {
+        if members < LEAST_MEMBERS || members > MOST_MEMBERS {
             return Err(ConfigFault::BadMembers { members });
         }
         if f < 1 || f >= members {
             return Err(ConfigFault::BadF { f, members });
         }
-        if limit < 1 || limit > 8192 {
+        if limit < 1 || limit > MOST_EVENTS {
             return Err(ConfigFault::BadLimit { limit });
         }
         let count = starts.len();
-        if count > 64 {
+        if count > MOST_STARTS {
             return Err(ConfigFault::TooManyStarts { starts: count });
         }
         if let Some(fault) = first_bad_start(members, starts) {

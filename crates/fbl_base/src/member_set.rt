@@ -1,12 +1,12 @@
 //! Sets of members, each kept as sixteen bits. Contracts see them as finite sets of numbers.
 
-ghost use Rattle.std.specs.Prelude.{◌≡◌, ◌<◌, ◌≤◌, ◌↔◌, ℕ, IfOk, IsTrue, true, ◌&&◌, not, MatchOption};
+ghost use Rattle.std.specs.Prelude.{◌≡◌, ◌==◌, ◌<◌, ◌≤◌, ◌↔◌, ℕ, IfOk, IsTrue, true, ◌&&◌, not, MatchOption};
 ghost use Rattle.std.specs.FinSet as set;
 ghost use Rattle.fbl_base.specs.Breaches.{IsLeastOutside};
 ghost use Rattle.fbl_base.specs.MemberSets.{AllBelow, member_list};
 
 use crate::fault::Outsider;
-use crate::member::Member;
+use crate::member::{MOST_MEMBERS, Member};
 use std::alloc::{AllocError, Allocator};
 use std::fmt;
 use std::marker::Model;
@@ -72,13 +72,20 @@ impl MemberSet {
         self.bits.count_ones()
     }
 
+    /// Whether there is no member in it.
+    pub fn is_empty(self) -> bool
+        ensures { result ≡ (set.len self == 0) }
+    {
+        self.count() == 0
+    }
+
     /// The members, rising. `Err` comes only where there is no memory for the list.
     #[tactic(auto, unfolding(crate::specs::MemberSets::member_list))]
     pub fn members<A: Allocator + Copy>(self, alloc: A) -> Result<Vec<Member, A>, AllocError>
         ensures { IfOk result (λ v. v.items ≡ member_list self) }
     {
         let mut members = Vec::new(alloc);
-        for number in 0..16u8 {
+        for number in 0..MOST_MEMBERS {
             let member = Member::at(number);
             if self.has(member) {
                 members.push(member)?;
@@ -110,7 +117,7 @@ impl MemberSet {
     {
         // the bits are 16: no member is above 15
         let _bits = self.bits;
-        for number in n..16u8 {
+        for number in n..MOST_MEMBERS {
             let member = Member::at(number);
             if self.has(member) {
                 return Some(Outsider { member, members: n });
@@ -135,7 +142,7 @@ impl fmt::Display for MemberSet {
     fn fmt<W: fmt::Write>(&self, f: &mut fmt::Formatter<W>) -> fmt::Result {
         f.write_str("[")?;
         let mut end = "";
-        for number in 0..16u8 {
+        for number in 0..MOST_MEMBERS {
             if (self.bits >> number) & 1 == 1 {
                 write!(f, "{end}{number}")?;
                 end = ",";

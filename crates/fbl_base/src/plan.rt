@@ -48,11 +48,10 @@ fn broken_rule(config: &Config, place: usize, before: u64, entry: Strike) -> Opt
     if entry.at <= before {
         return Some(EntryRule::NotLater(before));
     }
-    let count = entry.set.count();
-    if count == 0 {
+    if entry.set.is_empty() {
         return Some(EntryRule::Nobody);
     }
-    if count > u32::from(config.f()) {
+    if entry.set.count() > u32::from(config.f()) {
         return Some(EntryRule::TooManyMembers(config.f()));
     }
     entry.set.outsider(config.members()).map(EntryRule::Outside)

@@ -4,7 +4,8 @@ ghost use Rattle.std.specs.Prelude.{◌≡◌};
 
 use thiserror::Error;
 
-/// Why a dump is refused. The refusals are tested in this order, but for lack of memory, which may come at any time.
+/// Why a dump is refused. The refusals are tested in this order, but for lack of memory, which may come once the members and
+/// `f` are allowed.
 #[derive(Clone, Copy, PartialEq, Eq, Debug, Error)]
 #[error("{}", self.name())]
 pub enum DumpRefusal {

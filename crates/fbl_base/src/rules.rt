@@ -8,11 +8,14 @@ ghost use Rattle.fbl_base.specs.Counted.{Counted, CountsEvent, first_by, next_by
 ghost use Rattle.fbl_base.specs.Rules.{ObeysAt, WellFormed};
 
 use crate::fault::{EventFault, EventRule};
-use crate::member::Member;
-use crate::trace::{Mark, end_outside};
+use crate::member::{MOST_MEMBERS, Member};
+use crate::trace::{MOST_EVENTS, Mark, end_outside};
 use std::alloc::{AllocError, Allocator, Global};
 use std::collections::VecDeque;
 use std::marker::Model;
+
+/// How many channels are kept: one from each member that there may be to each.
+const CHANNELS: usize = 256;
 
 /// The numbers of the messages in flight on one channel.
 #[derive(Drop)]
@@ -72,7 +75,7 @@ impl<A: Allocator + Copy> Counts<A> {
         ensures { IfOk result (Counted []) }
     {
         let mut channels = Vec::new(alloc);
-        for _ in 0..256usize {
+        for _ in 0..CHANNELS {
             channels.push(Channel::new(alloc))?;
         }
         Ok(Counts {
@@ -137,7 +140,7 @@ impl<A: Allocator + Copy> Counts<A> {
         ensures counted { IfOk result (λ found. IfNone found (Counted (take (place + 1) events.now) self.new)) }
     {
         let event = &events[place];
-        if place >= 8192 {
+        if place >= MOST_EVENTS as usize {
             return Ok(Some(EventFault {
                 place,
                 event: *event,
@@ -191,5 +194,5 @@ fn channel_index(from: Member, to: Member) -> usize
     ensures value { result ≡ 16 * from + to }
     ensures bound { result < 256 }
 {
-    16 * from.number() as usize + to.number() as usize
+    MOST_MEMBERS as usize * from.number() as usize + to.number() as usize
 }

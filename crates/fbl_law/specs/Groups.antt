@@ -1,12 +1,13 @@
 -- A group's record as data.
 use Rattle.std.specs.Prelude.{◌≡◌, ℕ, zero, suc, ◌+◌, ◌<◌, List, [], length, map, slice_index_or, Bool, ◌||◌}
-use Rattle.std.specs.List.{filter_map, list_any}
+use Rattle.std.specs.List.{list_any}
 use Rattle.fbl_base.specs.MemberSets.{Members}
 use Rattle.fbl_base.specs.declared.trace.Determinant.{Determinant}
 use Rattle.fbl_base.specs.declared.trace.Event.{Event}
 use Rattle.fbl_base.specs.declared.trace.Mark.{Mark}
 use Rattle.fbl_base.specs.Configs.{Settings}
-use Rattle.fbl_base.specs.Events.{determinant_of, mark_of}
+use Rattle.fbl_base.specs.Events.{mark_of}
+pub use Rattle.fbl_base.specs.Events.{receipts}
 use Rattle.fbl_table.specs.Tables.{is_held}
 use Rattle.fbl_member.specs.Members.{Message, MemberRecord, blank}
 use Rattle.fbl_law.specs.Knowledge.{Knowledge}
@@ -74,7 +75,3 @@ is_recorded_among members checkpoints d =
 -- whether some member's table (that of a member that is down is empty) or some checkpoint's has the determinant
 abbrev pub is_recorded : GroupRecord → Determinant → Bool
 is_recorded r d = is_recorded_among r.members r.checkpoints d
-
--- the determinants of the receipts of a trace, in order
-abbrev pub receipts : List Mark → List Determinant
-receipts trace = filter_map determinant_of trace

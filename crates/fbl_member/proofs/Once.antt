@@ -16,7 +16,7 @@ module _ (f : _) where
   IsOnce-piggybacked (e ∷ table) once =
       let others = kept_all (λ d. same_determinant e.det d ≡ false) table once.0 in
       let rest = IsOnce-piggybacked table once.1 in
-      elim (is_open f e) as (λ b. IsDistinct same_determinant (map (λ (x : Entry). x.det) (cond b (e ∷ piggybacked f table) (piggybacked f table)))) [ true ↦ (others, rest) | false ↦ rest ]
+      elim (is_open f e) as (λ b. IsOnce (cond b (e ∷ piggybacked f table) (piggybacked f table))) [ true ↦ (others, rest) | false ↦ rest ]
 
 -- no two entries of none are alike
 pub IsOnce-none : IsOnce []

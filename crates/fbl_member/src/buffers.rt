@@ -54,11 +54,10 @@ impl<A: Allocator + Copy> Buffers<A> {
             mut wires,
             mut lists,
         } = self;
-        for place in 0..sends.len() {
-            let send = sends[place];
+        for (place, (to, note)) in sends.iter().enumerate() {
             let number = before + place as u32 + 1;
             let carried = next_carried(lists.take_last(), wires.last(), table, f, sends.len());
-            wires.push_reserved(Wire::new(me, send.0, number, send.1, carried));
+            wires.push_reserved(Wire::new(me, *to, number, *note, carried));
         }
         wires
     }

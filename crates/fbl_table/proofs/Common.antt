@@ -2,7 +2,7 @@
 pub use Rattle.std.proofs.Common.{Bool, List, None, Option, Some, [], add-zero, ap, arith, cond, count_by, drop, false, get_or, if◌then◌else◌, inl, inr, is_some, length, map, max, nat_le, not}
 pub use Rattle.std.proofs.Common.{position, refl, rules, slice_get, suc, sym, take, true, zero, ℕ, ◌&&◌, ◌++◌, ◌+◌, ◌<◌, ◌||◌, ◌∙◌, ◌∷◌, ◌≡◌, ◌≤◌}
 pub use Rattle.std.proofs.Math.Bool.{or_comm}
-pub use Rattle.std.proofs.lemmas.Bool.{false_from_ne_true, false≢true, or_from, or_left, or_parts, or_right}
+pub use Rattle.std.proofs.lemmas.Bool.{eqb-true, false_from_ne_true, false≢true, or_from, or_left, or_parts, or_right}
 pub use Rattle.std.proofs.lemmas.Bool.Decides.{nat_tests}
 pub use Rattle.std.proofs.lemmas.Fn.{filter_same}
 pub use Rattle.std.proofs.lemmas.List.{append-nil, append_assoc, drop_all, length-append, length-map, map-append, take_all, take_more}
@@ -31,6 +31,6 @@ pub use Rattle.indexmap.specs.Layout.{length-set_value_at, set_value_at}
 pub use Rattle.fbl_table.specs.Index.{IsIndex, open_at}
 pub use Rattle.fbl_table.specs.Indexed.{IsIndexed, KeepsIndex, listed, room}
 pub use Rattle.fbl_table.specs.Receipts.{receipt_at}
-pub use Rattle.fbl_table.specs.Tables.{HasInPlace, added, entry_of, found, gathered, greatest_rsn, has_at, held_by, is_held, is_open, lacks, learned, marked, noted, piggybacked, rsn_of}
+pub use Rattle.fbl_table.specs.Tables.{HasInPlace, IsOnce, added, entry_of, found, gathered, greatest_rsn, has_at, held_by, is_held, is_open, lacks, learned, marked, noted, piggybacked, rsn_of}
 pub use Rattle.fbl_table.specs.declared.entry.Entry.{Entry}
 pub use Rattle.fbl_table.specs.declared.indexed.IndexedEntries.{IndexedEntries}

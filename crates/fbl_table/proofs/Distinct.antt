@@ -1,6 +1,6 @@
 -- A table's entries added in turn to none give the table.
 use Rattle.fbl_table.proofs.Common.{arith, ◌≡◌, false, List, [], ◌∷◌, ◌++◌, map, refl, sym, ap, ◌∙◌, append-nil, fold, AllByRecursion, same_determinant, Entry, is_held, gathered}
-use Rattle.fbl_table.proofs.Common.{append_assoc, list_any-append, added}
+use Rattle.fbl_table.proofs.Common.{IsOnce, append_assoc, list_any-append, added}
 use Rattle.std.specs.List.{IsDistinct}
 use Rattle.fbl_table.proofs.Adding.{added_new, apart-turned}
 
@@ -16,7 +16,7 @@ apart-more first (x ∷ rest) e apart once =
     grind (arith, list_any-append (λ (y : Entry). same_determinant x.det y.det) first (e ∷ []), apart.0, apart-turned e.det x.det once.0) in
     (one, apart-more first rest e apart.1 once.1)
 
-added-apart : (first rest : List Entry) → Apart first rest → IsDistinct same_determinant (map (λ (e : Entry). e.det) rest) → fold added first rest ≡ first ++ rest
+added-apart : (first rest : List Entry) → Apart first rest → IsOnce rest → fold added first rest ≡ first ++ rest
 unfolding IsDistinct
 added-apart first [] apart once = sym (append-nil first)
 added-apart first (e ∷ rest) apart once =
@@ -27,5 +27,5 @@ none-held : (rest : List Entry) → Apart [] rest
 none-held [] = tt
 none-held (e ∷ rest) = (refl, none-held rest)
 
-pub gathered_first : (table : List Entry) → IsDistinct same_determinant (map (λ (e : Entry). e.det) table) → gathered [] table ≡ table
+pub gathered_first : (table : List Entry) → IsOnce table → gathered [] table ≡ table
 gathered_first table once = added-apart [] table (none-held table) once

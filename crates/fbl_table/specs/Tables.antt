@@ -3,13 +3,17 @@
 -- on with messages until more than f members are known to hold them is called family-based logging (Alvisi, Hoppe and
 -- Marzullo 1993).
 use Rattle.std.specs.Prelude.{◌≡◌, ◌<◌, ℕ, Bool, true, false, not, ◌&&◌, ◌==◌, nat_le, if◌then◌else◌, List, [], ◌∷◌, ◌++◌, map, max, Option, Some, slice_get}
-use Rattle.std.specs.List.{filter, fold, find, list_any}
+use Rattle.std.specs.List.{IsDistinct, filter, fold, find, list_any}
 use Rattle.std.specs.Option.{option_map, option_map_or}
 use Rattle.std.specs.Ordering.{nat_cmp}
 use Rattle.std.specs.FinSet as set
 use Rattle.fbl_base.specs.declared.trace.Determinant.{Determinant}
 use Rattle.fbl_base.specs.Events.{same_determinant}
 use Rattle.fbl_table.specs.declared.entry.Entry.{Entry}
+
+-- no two entries have the same determinant
+abbrev pub IsOnce : List Entry → Type 0
+IsOnce entries = IsDistinct same_determinant (map (λ e. e.det) entries)
 
 -- the table with the entry added: what is known of its determinant is united, and a new determinant goes last
 unfoldable pub added : List Entry → Entry → List Entry

@@ -2,13 +2,11 @@
 
 ghost use Rattle.std.specs.Prelude.{◌≡◌, ℕ, ◌+◌, ◌-◌, ◌^◌, ◌<◌, ◌≤◌, ◌++◌, [], ◌∷◌, take, drop, length, count_by, OnOk, OnErr, IfOk, IfSome, IfNone, Some, true, false, nat_le, slice_get, map, vec_len, vec_capacity, if◌then◌else◌};
 ghost use Rattle.std.specs.FinSet as set;
-ghost use Rattle.std.specs.List.{IsDistinct};
 ghost use Rattle.std.specs.Map.{values_of};
 ghost use Rattle.indexmap.specs.Layout.{set_value_at};
-ghost use Rattle.fbl_base.specs.Events.{same_determinant};
 ghost use Rattle.fbl_table.specs.Index.{open_at};
 ghost use Rattle.fbl_table.specs.Indexed.{listed, IsIndexed, room, KeepsIndex};
-ghost use Rattle.fbl_table.specs.Tables.{HasInPlace, is_held, is_open, lacks, has_at, learned, noted, piggybacked, gathered, marked, added, entry_of};
+ghost use Rattle.fbl_table.specs.Tables.{HasInPlace, IsOnce, is_held, is_open, lacks, has_at, learned, noted, piggybacked, gathered, marked, added, entry_of};
 
 use crate::entry::Entry;
 use crate::likely::LikelyPlaces;
@@ -54,6 +52,7 @@ impl<A: Allocator + Copy> IndexedEntries<A> {
     pub(crate) fn copy(&self) -> Result<IndexedEntries<A>, AllocError>
         requires { IsIndexed self.now }
         ensures entries { IfOk result (λ copy. listed copy ≡ listed self.now) }
+        ensures limit { IfOk result (λ copy. copy.limit ≡ self.now.limit) }
         ensures indexed { IfOk result IsIndexed }
     {
         let mut open_places = Vec::new(*self.entries.allocator());
@@ -83,7 +82,7 @@ impl<A: Allocator + Copy> IndexedEntries<A> {
     #[tactic(auto, using(crate::proofs::Adding::keys_view))]
     pub(crate) fn len(&self) -> usize
         ensures len { result ≡ length (listed self.now) }
-        ensures unique { IsDistinct same_determinant (map (λ e. e.det) (listed self.now)) }
+        ensures unique { IsOnce (listed self.now) }
         ensures small { result < 2 ^ 63 }
     {
         self.entries.len()
@@ -296,7 +295,7 @@ impl<A: Allocator + Copy> IndexedEntries<A> {
         // `len` says that no two of the determinants are the same
         let _distinct = self.entries.len();
         let before = self.entries[place];
-        if known.without(before).count() == 0 {
+        if known.without(before).is_empty() {
             return;
         }
         let united = before.union(known);

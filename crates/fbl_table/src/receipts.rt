@@ -63,11 +63,9 @@ impl<A: Allocator + Copy> Receipts<A> {
     pub fn determinant(&self, rsn: u32) -> Option<Determinant>
         ensures { result ≡ receipt_at self.now rsn }
     {
-        let place = rsn as usize;
-        if place < self.places.len() {
-            self.places[place]
-        } else {
-            None
+        match self.places.get(rsn as usize) {
+            Some(determinant) => *determinant,
+            None => None,
         }
     }
 }

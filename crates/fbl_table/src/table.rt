@@ -2,9 +2,7 @@
 //! logging: Alvisi, Hoppe and Marzullo 1993).
 
 ghost use Rattle.std.specs.Prelude.{◌≡◌, ℕ, ◌+◌, ◌^◌, ◌<◌, ◌≤◌, ◌++◌, [], length, OnOk, OnErr, IfOk, IfSome, Some, true, false, slice_get, map, vec_len, vec_capacity};
-ghost use Rattle.std.specs.List.{IsDistinct};
-ghost use Rattle.fbl_base.specs.Events.{same_determinant};
-ghost use Rattle.fbl_table.specs.Tables.{is_held, found, greatest_rsn, learned, noted, piggybacked, gathered, marked};
+ghost use Rattle.fbl_table.specs.Tables.{IsOnce, is_held, found, greatest_rsn, learned, noted, piggybacked, gathered, marked};
 
 use crate::entry::Entry;
 use crate::indexed::IndexedEntries;
@@ -63,7 +61,7 @@ impl<A: Allocator + Copy> Table<A> {
     /// How many entries there are.
     pub fn len(&self) -> usize
         ensures len { result ≡ length self.now }
-        ensures unique { IsDistinct same_determinant (map (λ e. e.det) self.now) }
+        ensures unique { IsOnce self.now }
         ensures small { result < 2 ^ 63 }
     {
         self.entries.len()

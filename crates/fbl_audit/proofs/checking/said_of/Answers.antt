@@ -1,4 +1,4 @@
-use Rattle.fbl_audit.proofs.Common.{arith, ap, ◌∙◌, ◌≡◌, max}
+use Rattle.fbl_audit.proofs.Common.{arith, ap, sym, ◌∙◌, ◌≡◌, max, eqb-true, nat_tests}
 use Rattle.std.specs.FinSet as set
 use Rattle.fbl_audit.proofs.Checks.{least_of, said_right, none_unsafe}
 use Rattle.fbl_audit.proofs.checking.said_of.Goals as goal
@@ -21,8 +21,8 @@ returns-then-count-most c =
     let found = (goal.at.returns-then-count-most c).After-count-2 in
     none_unsafe c.args.dump.now c.requires.rules c.args.determinant c.args.dependents c.requires.dependents (λ is. elim c.then-count-most.branch [
       | goal.then-count-most-via-then-count-most w ↦ omega (arith, w.if-count-most.true, most_is found, size_is found, is.0)
-      | goal.then-count-most-via-else-count-most+then-count-eq0 w ↦
-          omega (arith, is.1, ap set.len (orphans_are_left found), w.count-else-count-most.ensures, w.if-count-eq0.true)
+      | goal.then-count-most-via-else-count-most+then-is_empty w ↦
+          omega (arith, is.1, ap set.len (orphans_are_left found), eqb-true (set.len found.without-orphans.result) 0 (sym w.is_empty.ensures ∙ w.if-is_empty.true))
     ])
 
 pub returns : goal.returns
@@ -30,4 +30,4 @@ returns c =
     let found = (goal.at.returns c).After-count-2 in
     said_right c.args.dump.now c.requires.rules c.args.determinant c.args.dependents c.requires.dependents _
     (λ i. record { determinant = c.args.determinant; strike = strike_is_least found i; orphans = orphans_are_left found i })
-    (omega (arith, c.if-count-most.false, most_is found, size_is found)) (omega (arith, ap set.len (orphans_are_left found), c.count-else-count-most.ensures, c.if-count-eq0.false))
+    (omega (arith, c.if-count-most.false, most_is found, size_is found)) (grind (arith, nat_tests, ap set.len (orphans_are_left found), c.is_empty.ensures, c.if-is_empty.false))

@@ -1,7 +1,7 @@
-use Rattle.fbl_audit.proofs.Common.{◌<◌, ◌+◌, length, arith, ap, nat_cmp_total, At-below, IsCause}
+use Rattle.fbl_audit.proofs.Common.{◌<◌, ◌+◌, length, arith, ap, nat_cmp_total, At-below, IsCause, contains-union}
 use Rattle.std.specs.FinSet as set
 use Rattle.fbl_audit.proofs.Causes.{orphan_by_cause}
-use Rattle.fbl_audit.proofs.Following.{AreReached-next, AreReached-none, contains-both}
+use Rattle.fbl_audit.proofs.Following.{AreReached-next, AreReached-none}
 use Rattle.fbl_audit.proofs.audit.Audit.orphans.Goals as goal
 
 pub loop-place-init : goal.loop-place-init
@@ -11,7 +11,7 @@ pub loop-place-preserved : goal.loop-place-preserved
 loop-place-preserved c =
     let p = c.loop-place.place in
     rw c.union-reached.ensures (AreReached-next (λ j. j < p) (λ j. j < p + 1) p (λ j. grind arith) (λ j q. IsCause c.args.self.now q j) _ _ c.loop-place.invariant (λ q.
-    let both = contains-both c.loop-place.reached c.dependents_of_lost.result q in
+    let both = contains-union c.loop-place.reached c.dependents_of_lost.result q in
     let here = c.dependents_of_lost.ensures q in
     grind (arith, both, here)))
 

@@ -5,14 +5,14 @@ use Rattle.fbl_base.proofs.rules.Counts.admit.Goals as goal
 use Rattle.fbl_base.proofs.rules.Counts.admit.Goals.{After-broken_rule}
 use Rattle.fbl_base.proofs.rules.Counts.admit.Given.{Over}
 
-pub returns-then-place-ge8192 : goal.returns-then-place-ge8192
-returns-then-place-ge8192 g c =
+pub returns-then-place : goal.returns-then-place
+returns-then-place g c =
     let events = c.args.events.now in
     let at = slice_get_read events _ c.args.place _ refl c.requires.within c.index-events-place.is in
     let most = length-take c.args.place events in
     record {
-      verdict = (refl, λ obeys. omega (arith, room c.args.n (take c.args.place events) _ (obeys _ at), most, c.requires.within, c.if-place-ge8192.true));
-      fault = (at, omega (arith, most, c.requires.within, c.if-place-ge8192.true));
+      verdict = (refl, λ obeys. omega (arith, room c.args.n (take c.args.place events) _ (obeys _ at), most, c.requires.within, c.if-place.true));
+      fault = (at, omega (arith, most, c.requires.within, c.if-place.true));
       counted = tt;
     }
 
@@ -25,7 +25,7 @@ module _ (g : Over) (c : After-broken_rule g) where
   at = slice_get_read _ _ c.args.place _ refl c.requires.within c.index-events-place.is
 
   few : length t < 8192
-  few = omega (arith, length-take c.args.place c.args.events.now, c.if-place-ge8192.false)
+  few = omega (arith, length-take c.args.place c.args.events.now, c.if-place.false)
 
   verdict : MatchOption c.broken_rule.result (MayFollow c.args.n t c.index-events-place.result) (λ _. ¬ (MayFollow c.args.n t c.index-events-place.result))
   verdict =

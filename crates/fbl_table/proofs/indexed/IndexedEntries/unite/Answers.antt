@@ -1,13 +1,14 @@
-use Rattle.fbl_table.proofs.Common.{◌≡◌, ◌∙◌, sym, or_parts}
+use Rattle.fbl_table.proofs.Common.{◌≡◌, ◌∙◌, sym, eqb-true, or_parts}
 use Rattle.std.specs.FinSet as set
 use Rattle.fbl_table.proofs.Adding.{added_there, added-nothing, found_at}
 use Rattle.fbl_table.proofs.Keeping.{keeps_more, keeps_stale}
 use Rattle.fbl_table.proofs.indexed.IndexedEntries.unite.Goals as goal
 
-pub returns-then-count-eq0-clause-entries : goal.returns-then-count-eq0-clause-entries
-returns-then-count-eq0-clause-entries g c =
+pub returns-then-is_empty-clause-entries : goal.returns-then-is_empty-clause-entries
+returns-then-is_empty-clause-entries g c =
     let es = c.args.self.now.entries.entries in
-    let none : set.len (set.difference c.args.known c.index-before.result.now) ≡ 0 = rw c.without.ensures at (sym c.count.ensures ∙ c.if-count-eq0.true) in
+    let empty = eqb-true (set.len c.without.result) 0 (sym c.is_empty.ensures ∙ c.if-is_empty.true) in
+    let none : set.len (set.difference c.args.known c.index-before.result.now) ≡ 0 = rw c.without.ensures at empty in
     added-nothing es (record { det = c.args.det.now; known = c.args.known }) _ (found_at es c.args.det.now c.args.place _ c.len-distinct.ensures.unique c.requires c.index-before.ensures).1 none
 
 pub returns-clause-entries : goal.returns-clause-entries
