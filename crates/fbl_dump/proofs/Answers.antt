@@ -1,6 +1,6 @@
 -- How the parts of an answer about a dump fit together.
-use Rattle.fbl_dump.proofs.Common.{◌≡◌, ℕ, ◌<◌, ◌⊎◌, List, Option, Result, Ok, Err, IfSome, IsErrAnd, length, Parts, RunFault, longest, keeps_itself, too_long, unread, parts_of_data, IsDumpOf}
-use Rattle.fbl_dump.proofs.Common.{IsDumpFault, AnswersDump, AnswersBytes, ReadsAndAnswers}
+use Rattle.fbl_dump.proofs.Common.{◌≡◌, ℕ, ◌<◌, ◌⊎◌, List, Option, Result, Ok, Err, IfSome, length, Parts, RunFault, longest, keeps_itself, too_long, unread, parts_of_data, IsDumpOf}
+use Rattle.fbl_dump.proofs.Common.{IsErrAnd, IsDumpFault, AnswersDump, AnswersBytes, ReadsAndAnswers}
 use Rattle.fbl_input.specs.declared.fault.RunFault.TheVariants as faults
 
 module _ {A : Type 0} (IsRight : Parts → A → List ℕ → Type 0) where
