@@ -17,8 +17,9 @@ pub use Rattle.fbl_dump.specs.Answering.{TextAlone}
 pub use Rattle.fbl_input.proofs.Inputs.{read_whole}
 pub use Rattle.fbl_input.proofs.Outputs.{puts_text}
 pub use Rattle.fbl_shapes.specs.Pictures.{picture}
+pub use Rattle.fbl_shapes.specs.Places.{drawn}
 pub use Rattle.fbl_shapes.specs.declared.shape.Legend.TheVariants.{Dump}
-pub use Rattle.fbl_draw.specs.Events.{arrows, shapes_of_events}
+pub use Rattle.fbl_draw.specs.Events.{event_arrow, event_marks}
 pub use Rattle.fbl_draw.specs.Members.{dump_member_shapes, members_drawn, shapes_of_member}
 pub use Rattle.fbl_draw.specs.Paths.{IsPathDrawn, path_shapes, paths_drawn, places_in}
 pub use Rattle.fbl_draw.specs.Pictures.{IsPicture, dump_shapes, title}

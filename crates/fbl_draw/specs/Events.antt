@@ -1,5 +1,5 @@
 -- The shapes of events: a mark for each, and an arrow for each message. The column of an event is its place in the trace.
-use Rattle.std.specs.Prelude.{ℕ, ◌+◌, false, List, [], ◌∷◌, ◌++◌, Option, Some, None}
+use Rattle.std.specs.Prelude.{ℕ, false, List, [], ◌∷◌, Option, Some, None}
 use Rattle.fbl_base.specs.declared.trace.Mark.{Mark}
 use Rattle.fbl_base.specs.declared.trace.Mark.TheVariants.{Send, Receipt}
 use Rattle.fbl_base.specs.declared.trace.Determinant.{Determinant}
@@ -10,17 +10,15 @@ use Rattle.fbl_shapes.specs.declared.shape.Shape.{Shape}
 use Rattle.fbl_shapes.specs.declared.shape.Shape.TheVariants as shape
 use Rattle.fbl_draw.specs.Receipts.{kind_of, receipt_place}
 
--- the shape of an event: that of a receipt tells of which kind it is, and who holds it
-abbrev pub shape_of_event : Parts → ℕ → Mark → Shape
-shape_of_event dump place (Send from ssn to) = shape.Send place from ssn to false
-shape_of_event dump place (Receipt to rsn from ssn) =
+-- the mark of an event: that of a receipt tells of which kind it is, and who holds it
+abbrev pub event_mark : Parts → ℕ → Mark → Shape
+event_mark dump place (Send from ssn to) = shape.Send place from ssn to false
+event_mark dump place (Receipt to rsn from ssn) =
     let d : Determinant = record { from = from; ssn = ssn; to = to; rsn = rsn } in
     shape.Held place to rsn from ssn (kind_of dump d) (holders_of dump d)
 
--- the shapes of events, the first of which is at this place
-abbrev pub shapes_of_events : Parts → ℕ → List Mark → List Shape
-shapes_of_events dump place [] = []
-shapes_of_events dump place (e ∷ es) = shape_of_event dump place e ∷ shapes_of_events dump (place + 1) es
+abbrev pub event_marks : Parts → ℕ → Mark → List Shape
+event_marks dump place e = event_mark dump place e ∷ []
 
 -- the arrow of a message that is received at a place, or that of one in flight
 abbrev pub message_arrow : ℕ → ℕ → ℕ → Option ℕ → Shape
@@ -31,8 +29,3 @@ message_arrow place from to None = shape.InFlight from place to
 abbrev pub event_arrow : List Mark → ℕ → Mark → List Shape
 event_arrow trace place (Send from ssn to) = message_arrow place from to (receipt_place trace (record { from = from; ssn = ssn })) ∷ []
 event_arrow trace place (Receipt to rsn from ssn) = []
-
--- the arrows of events of the trace, the first of which is at this place
-abbrev pub arrows : List Mark → ℕ → List Mark → List Shape
-arrows trace place [] = []
-arrows trace place (e ∷ es) = event_arrow trace place e ++ arrows trace (place + 1) es

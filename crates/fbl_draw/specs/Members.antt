@@ -3,13 +3,13 @@ use Rattle.std.specs.Prelude.{ℕ, Bool, true, false, List, [], ◌∷◌, ◌++
 use Rattle.std.specs.List.{flat_map, range_with_len}
 use Rattle.std.specs.FinSet as set
 use Rattle.fbl_base.specs.Audit.{Parts, orphan_start_in}
-use Rattle.fbl_shapes.specs.declared.shape.LineKind.{LineKind}
 use Rattle.fbl_shapes.specs.declared.shape.LineKind.TheVariants as line_kind
 use Rattle.fbl_shapes.specs.declared.shape.Shape.{Shape}
 use Rattle.fbl_shapes.specs.declared.shape.Shape.TheVariants.{Label, Line}
 use Rattle.fbl_shapes.specs.declared.shape.Status.{Status}
 use Rattle.fbl_shapes.specs.declared.shape.Status.TheVariants.{Struck, Orphan, Up}
 use Rattle.fbl_shapes.specs.Names.{names}
+use Rattle.fbl_shapes.specs.Words.{line_kind_of}
 
 -- whether a member is struck, and else whether it is an orphan from some place on
 abbrev pub dump_status : Bool → Option ℕ → Status
@@ -17,17 +17,12 @@ dump_status true start = Struck
 dump_status false (Some place) = Orphan
 dump_status false None = Up
 
--- a struck member is down
-abbrev pub line_kind_of : Bool → LineKind
-line_kind_of true = line_kind.Down
-line_kind_of false = line_kind.Up
-
 -- an orphan's line from the first event that depends on a lost receipt
 abbrev pub orphan_line : ℕ → ℕ → Option ℕ → List Shape
 orphan_line columns member None = []
 orphan_line columns member (Some place) = Line member (Some place) columns line_kind.Orphan ∷ []
 
--- a member's label, its number again in a wide picture, and its line, which goes by all columns
+-- a member's label, its number again in a wide picture, and its line, which goes by all columns; a struck member is down
 abbrev pub dump_member_shapes : ℕ → ℕ → Bool → Option ℕ → List Shape
 dump_member_shapes columns member struck start =
     Label member (Some (dump_status struck start)) ∷ [] ++ names columns member ++ Line member None columns (line_kind_of struck) ∷ [] ++ orphan_line columns member start

@@ -8,7 +8,8 @@ use Rattle.fbl_shapes.specs.declared.shape.Legend.TheVariants.{Dump}
 use Rattle.fbl_shapes.specs.declared.shape.Shape.{Shape}
 use Rattle.fbl_shapes.specs.Marks.{joined}
 use Rattle.fbl_shapes.specs.Pictures.{picture}
-use Rattle.fbl_draw.specs.Events.{arrows, shapes_of_events}
+use Rattle.fbl_shapes.specs.Places.{drawn}
+use Rattle.fbl_draw.specs.Events.{event_arrow, event_marks}
 use Rattle.fbl_draw.specs.Members.{members_drawn}
 use Rattle.fbl_draw.specs.Paths.{IsPathDrawn, paths_drawn}
 
@@ -19,7 +20,7 @@ title dump lost orphans =
 
 -- the members' lines, the arrows, over them the paths and over these the marks
 unfoldable pub dump_shapes : Parts → List (Option ℕ) → (ℕ → List ℕ) → List Shape
-dump_shapes dump starts paths = members_drawn dump starts ++ arrows dump.events 0 dump.events ++ paths_drawn dump paths ++ shapes_of_events dump 0 dump.events
+dump_shapes dump starts paths = members_drawn dump starts ++ drawn (event_arrow dump.events) 0 dump.events ++ paths_drawn dump paths ++ drawn (event_marks dump) 0 dump.events
 
 -- the text is the picture of the dump, with its orphans, where they start, and a path to each of them
 abbrev pub IsPicture : Parts → List ℕ → Type 0

@@ -24,10 +24,8 @@ fn draw_dump<W: Write>(alloc: Global, writer: &mut W, dump: &Dump) -> Result<(),
 pub fn draw_bytes<W: Write>(alloc: Global, input: &[u8], writer: &mut W) -> Result<(), RunFault>
     ensures { Draws input.now (W.contents writer.old) (W.contents writer.new) result }
 {
-    match dump_of_bytes(alloc, input) {
-        Ok(dump) => draw_dump(alloc, writer, &dump),
-        Err(fault) => Err(fault),
-    }
+    let dump = dump_of_bytes(alloc, input)?;
+    draw_dump(alloc, writer, &dump)
 }
 
 /// Draws the dump that the reader has, as `draw_bytes` does. Where a read fails nothing is written.
@@ -38,8 +36,6 @@ pub fn draw<R: Read, W: Write>(
 ) -> Result<(), RunFault>
     ensures { IfSome (R.remaining reader.old) (λ input. ReadsAndDraws input (W.contents writer.old) (W.contents writer.new) result) }
 {
-    match read_input(alloc, reader) {
-        Ok(input) => draw_bytes(alloc, input.as_slice(), writer),
-        Err(fault) => Err(fault),
-    }
+    let input = read_input(alloc, reader)?;
+    draw_bytes(alloc, input.as_slice(), writer)
 }

@@ -1,8 +1,9 @@
 //! The marks of events and the arrows of messages.
 
 ghost use Rattle.std.specs.Prelude.{◌≡◌, ◌++◌, OnOk};
-ghost use Rattle.fbl_draw.specs.Events.{message_arrow, arrows, event_arrow, shape_of_event, shapes_of_events};
+ghost use Rattle.fbl_draw.specs.Events.{event_arrow, event_mark, event_marks, message_arrow};
 ghost use Rattle.fbl_draw.specs.Receipts.{IsPlacesOf};
+ghost use Rattle.fbl_shapes.specs.Places.{drawn};
 
 use crate::receipts::{ReceiptPlaces, place_of, receipt_kind, receipt_places};
 use fbl_audit::Audit;
@@ -13,7 +14,7 @@ use std::alloc::{AllocError, Global};
 
 /// The mark of an event of the dump.
 fn mark(audit: &Audit, place: usize, event: Mark) -> Shape
-    ensures { result ≡ shape_of_event audit.now place event }
+    ensures { result ≡ event_mark audit.now place event }
 {
     match event {
         Mark::Send { from, ssn, to } => Shape::Send {
@@ -40,7 +41,7 @@ fn mark(audit: &Audit, place: usize, event: Mark) -> Shape
 
 /// Adds the marks of all events.
 pub(crate) fn push_marks(shapes: &mut Vec<Shape>, audit: &Audit) -> Result<(), AllocError>
-    ensures { OnOk result (shapes.new.items ≡ shapes.old.items ++ shapes_of_events audit.now 0 audit.now.events) }
+    ensures { OnOk result (shapes.new.items ≡ shapes.old.items ++ drawn (event_marks audit.now) 0 audit.now.events) }
 {
     let events = audit.dump().events();
     for place in 0..events.len() {
@@ -94,7 +95,7 @@ pub(crate) fn push_arrows(
     alloc: Global,
     dump: &Dump,
 ) -> Result<(), AllocError>
-    ensures { OnOk result (shapes.new.items ≡ shapes.old.items ++ arrows dump.now.events 0 dump.now.events) }
+    ensures { OnOk result (shapes.new.items ≡ shapes.old.items ++ drawn (event_arrow dump.now.events) 0 dump.now.events) }
 {
     let places = receipt_places(alloc, dump)?;
     let events = dump.events();

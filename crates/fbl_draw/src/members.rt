@@ -2,7 +2,7 @@
 
 ghost use Rattle.std.specs.Prelude.{◌≡◌, ◌<◌, ◌++◌, ℕ, OnOk, length};
 ghost use Rattle.fbl_base.specs.Audit.{orphan_start_in};
-ghost use Rattle.fbl_draw.specs.Members.{line_kind_of, dump_member_shapes, members_drawn, dump_status};
+ghost use Rattle.fbl_draw.specs.Members.{dump_member_shapes, members_drawn, dump_status};
 
 use fbl_base::Member;
 use fbl_base::audit::Dump;
@@ -17,17 +17,6 @@ fn status(is_struck: bool, start: Option<usize>) -> Status
         _ if is_struck => Status::Struck,
         Some(_) => Status::Orphan,
         None => Status::Up,
-    }
-}
-
-/// How a member's line is drawn.
-fn line_kind(is_struck: bool) -> LineKind
-    ensures { result ≡ line_kind_of is_struck }
-{
-    if is_struck {
-        LineKind::Down
-    } else {
-        LineKind::Up
     }
 }
 
@@ -50,7 +39,7 @@ fn push_member(
         member,
         start: None,
         end: columns,
-        kind: line_kind(is_struck),
+        kind: LineKind::of(is_struck),
     })?;
     if let Some(place) = start {
         shapes.push(Shape::Line {

@@ -6,23 +6,24 @@ use Rattle.fbl_base.specs.Audit.{Parts, IsDump, RefusesDump}
 use Rattle.fbl_input.specs.declared.fault.Key.TheVariants as keys
 use Rattle.fbl_input.specs.declared.fault.RunFault.{RunFault}
 use Rattle.fbl_input.specs.declared.fault.RunFault.TheVariants as faults
-pub use Rattle.fbl_input.specs.Items.{dump_keys, event_from, event_shape, pair_from, pair_shape, receipt_from, send_from}
+use Rattle.fbl_input.specs.Items.{known_keys}
+pub use Rattle.fbl_input.specs.Items.{event_from, event_shape, pair_from, pair_shape, receipt_from, send_from}
 use Rattle.fbl_input.specs.declared.input_fault.InputFault.{InputFault}
 use Rattle.fbl_input.specs.declared.input_fault.InputKind.TheVariants as kinds
 use Rattle.fbl_input.specs.Misfits.{IsMisfit, IsOfParts}
 use Rattle.fbl_input.specs.Faults.{IsFirstFault, IsReadRefused}
-use Rattle.fbl_input.specs.Shapes.{◌>>=◌, or_fault, number_within, list_of, set_shape, field, has_other_key, value_of_input}
+use Rattle.fbl_input.specs.Shapes.{◌>>=◌, or_fault, byte_shape, list_of, set_shape, field, has_other_key, value_of_input}
 
 -- the parts of a dump that a value gives, or its first fault
 unfoldable pub parts_of_data : Data → Result Parts RunFault
 parts_of_data d = do
   object ← or_fault faults.NotObject (as_object d)
-  members ← field keys.Members (number_within 0 255) d
-  f ← field keys.F (number_within 0 255) d
+  members ← field keys.Members byte_shape d
+  f ← field keys.F byte_shape d
   events ← field keys.Events (list_of event_shape) d
   held ← field keys.Held (list_of pair_shape) d
   strike ← field keys.Strike set_shape d
-  if has_other_key dump_keys object then Err faults.UnknownKey else Ok (record { members = members; f = f; events = events; held = held; strike = strike })
+  if has_other_key (known_keys kinds.Dump) object then Err faults.UnknownKey else Ok (record { members = members; f = f; events = events; held = held; strike = strike })
 
 -- the parts of a dump that an input gives, or its first fault
 abbrev pub parts_of_input : List ℕ → Result Parts RunFault

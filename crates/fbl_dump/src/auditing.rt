@@ -35,10 +35,8 @@ fn audit_dump<W: Write>(alloc: Global, writer: &mut W, dump: &Dump) -> Result<()
 pub fn audit_bytes<W: Write>(alloc: Global, input: &[u8], writer: &mut W) -> Result<(), RunFault>
     ensures { Audits input.now (W.contents writer.old) (W.contents writer.new) result }
 {
-    match dump_of_bytes(alloc, input) {
-        Ok(dump) => audit_dump(alloc, writer, &dump),
-        Err(fault) => Err(fault),
-    }
+    let dump = dump_of_bytes(alloc, input)?;
+    audit_dump(alloc, writer, &dump)
 }
 
 /// Audits the dump that the reader has, as `audit_bytes` does. Where a read fails nothing is written.
@@ -50,8 +48,6 @@ pub fn audit<R: Read, W: Write>(
 ) -> Result<(), RunFault>
     ensures { IfSome (R.remaining reader.old) (λ input. ReadsAndAudits input (W.contents writer.old) (W.contents writer.new) result) }
 {
-    match read_input(alloc, reader) {
-        Ok(input) => audit_bytes(alloc, input.as_slice(), writer),
-        Err(fault) => Err(fault),
-    }
+    let input = read_input(alloc, reader)?;
+    audit_bytes(alloc, input.as_slice(), writer)
 }

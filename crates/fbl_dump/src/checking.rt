@@ -67,10 +67,8 @@ pub fn check_bytes<W: Write>(
 ) -> Result<Verdict, RunFault>
     ensures { Checks input.now (W.contents writer.old) (W.contents writer.new) result }
 {
-    match dump_of_bytes(alloc, input) {
-        Ok(dump) => check_dump(alloc, writer, &dump),
-        Err(fault) => Err(fault),
-    }
+    let dump = dump_of_bytes(alloc, input)?;
+    check_dump(alloc, writer, &dump)
 }
 
 /// Checks the dump that the reader has, as `check_bytes` does. Where a read fails nothing is written.
@@ -82,8 +80,6 @@ pub fn check<R: Read, W: Write>(
 ) -> Result<Verdict, RunFault>
     ensures { IfSome (R.remaining reader.old) (λ input. ReadsAndChecks input (W.contents writer.old) (W.contents writer.new) result) }
 {
-    match read_input(alloc, reader) {
-        Ok(input) => check_bytes(alloc, input.as_slice(), writer),
-        Err(fault) => Err(fault),
-    }
+    let input = read_input(alloc, reader)?;
+    check_bytes(alloc, input.as_slice(), writer)
 }

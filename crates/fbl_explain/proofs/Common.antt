@@ -27,6 +27,6 @@ pub use Rattle.fbl_input.specs.declared.fault.RunFault.{RunFault}
 pub use Rattle.fbl_input.specs.declared.input_fault.InputFault.{InputFault}
 pub use Rattle.fbl_input.specs.declared.input_fault.InputKind.{InputKind}
 pub use Rattle.fbl_explain.specs.Explanations.{HasAnother, IsExplained, IsInput, IsInputFault, IsReason, IsUnexplained}
-pub use Rattle.fbl_explain.specs.Whys.{ArePathsFrom, IsPathFrom, IsReasonOf}
+pub use Rattle.fbl_explain.specs.Whys.{ArePathsFrom, IsPathFrom, IsLossReason}
 pub use Rattle.fbl_explain.specs.declared.why.LossReason.{LossReason}
 pub use Rattle.fbl_explain.specs.declared.why.OrphanPath.{OrphanPath}

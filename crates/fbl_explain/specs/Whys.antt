@@ -24,7 +24,7 @@ ArePathsFrom dump d members n (p ∷ paths) =
     × ((q : ℕ) → n ≤ q → q < p.orphan → ¬ (IsLeftOrphan dump members d q)) × ArePathsFrom dump d members (p.orphan + 1) paths
 
 -- who holds the receipt, and why it has orphans outside these
-pub record IsReasonOf (dump : Parts) (d : Determinant) (members : Members) (reason : LossReason) : Type 0 where
+pub record IsLossReason (dump : Parts) (d : Determinant) (members : Members) (reason : LossReason) : Type 0 where
   pub determinant : reason.determinant ≡ d
   pub holders : reason.holders ≡ holders_of dump d
   pub strike : reason.strike ≡ members
@@ -32,9 +32,9 @@ pub record IsReasonOf (dump : Parts) (d : Determinant) (members : Members) (reas
 
 -- a reason is told of each lost receipt with the strike set, in their order
 abbrev pub TellsLost : Parts → List LossReason → Type 0
-TellsLost dump reasons = AllZip (λ d. IsReasonOf dump d dump.strike) (lost_determinants dump) reasons
+TellsLost dump reasons = AllZip (λ d. IsLossReason dump d dump.strike) (lost_determinants dump) reasons
 
 -- a reason is told of each unsafe receipt with the least members that may be lost and lose it, in their order
 abbrev pub TellsUnsafe : Parts → List LossReason → Type 0
 TellsUnsafe dump reasons =
-    (said : List UnsafeReceipt) × SaysUnsafe dump (receipts_of_dump dump) said × AllZip (λ u. IsReasonOf dump u.determinant u.strike) said reasons
+    (said : List UnsafeReceipt) × SaysUnsafe dump (receipts_of_dump dump) said × AllZip (λ u. IsLossReason dump u.determinant u.strike) said reasons

@@ -3,7 +3,7 @@
 ghost use Rattle.std.specs.Prelude.{◌≡◌, IfOk, MatchOption};
 ghost use Rattle.fbl_base.specs.Events.{At, receipt_of};
 ghost use Rattle.fbl_base.specs.Precedence.{Has};
-ghost use Rattle.fbl_explain.specs.Whys.{ArePathsFrom, IsReasonOf, TellsLost, TellsUnsafe};
+ghost use Rattle.fbl_explain.specs.Whys.{ArePathsFrom, IsLossReason, TellsLost, TellsUnsafe};
 
 use fbl_audit::{Audit, Paths, unsafe_receipts};
 use fbl_base::audit::Dump;
@@ -78,13 +78,13 @@ fn paths_to_orphans(
 }
 
 /// Why the strike loses the receipt.
-fn reason_of(
+fn loss_reason(
     alloc: Global,
     audit: &Audit,
     determinant: &Determinant,
     strike: MemberSet,
 ) -> Result<LossReason, AllocError>
-    ensures { IfOk result (IsReasonOf audit.now determinant.now strike) }
+    ensures { IfOk result (IsLossReason audit.now determinant.now strike) }
 {
     let orphans = paths_to_orphans(alloc, audit.dump(), determinant, strike)?;
     Ok(LossReason {
@@ -106,7 +106,7 @@ pub fn why_lost<'a>(alloc: Global, dump: &'a Dump) -> Result<Why<'a>, AllocError
     let strike = dump.strike();
     let mut receipts = Vec::new(alloc);
     for determinant in &lost {
-        receipts.push(reason_of(alloc, &audit, determinant, strike)?)?;
+        receipts.push(loss_reason(alloc, &audit, determinant, strike)?)?;
     }
     Ok(Why { dump, receipts })
 }
@@ -122,7 +122,7 @@ pub fn why_unsafe<'a>(alloc: Global, dump: &'a Dump) -> Result<Why<'a>, AllocErr
     let found = unsafe_receipts(alloc, dump)?;
     let mut receipts = Vec::new(alloc);
     for receipt in &found {
-        receipts.push(reason_of(alloc, &audit, &receipt.determinant, receipt.strike)?)?;
+        receipts.push(loss_reason(alloc, &audit, &receipt.determinant, receipt.strike)?)?;
     }
     Ok(Why { dump, receipts })
 }

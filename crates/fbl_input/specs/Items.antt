@@ -10,14 +10,14 @@ use Rattle.fbl_input.specs.declared.fault.Key.{Key}
 use Rattle.fbl_input.specs.declared.fault.Key.TheVariants as keys
 use Rattle.fbl_input.specs.declared.input_fault.InputKind.{InputKind}
 use Rattle.fbl_input.specs.declared.input_fault.InputKind.TheVariants as kinds
-use Rattle.fbl_input.specs.Shapes.{as_list, count_shape, is_text, member_shape, name_of, number_within, other_key}
+use Rattle.fbl_input.specs.Shapes.{as_list, byte_shape, count_shape, is_text, member_shape, name_of, other_key}
 
 -- `[from, to, value, hops]`
 abbrev pub start_from : List Data → Option Start
 start_from (from ∷ to ∷ value ∷ hops ∷ []) =
     option_and_then (λ p. option_and_then (λ q. option_and_then (λ v. option_map (λ h.
     record { from = p; to = q; note = record { value = v; hops = h } })
-    (number_within 0 255 hops)) (count_shape value)) (member_shape to)) (member_shape from)
+    (byte_shape hops)) (count_shape value)) (member_shape to)) (member_shape from)
 start_from _ = None
 
 abbrev pub start_shape : Data → Option Start
@@ -62,16 +62,10 @@ is_item keys.Held d = is_some (pair_shape d)
 is_item keys.Strike d = is_some (member_shape d)
 is_item key d = true
 
-abbrev pub script_keys : List Key
-script_keys = keys.Version ∷ keys.Members ∷ keys.F ∷ keys.Behaviour ∷ keys.Limit ∷ keys.Start ∷ keys.Commands ∷ []
-
-abbrev pub dump_keys : List Key
-dump_keys = keys.Members ∷ keys.F ∷ keys.Events ∷ keys.Held ∷ keys.Strike ∷ []
-
 -- the keys that an input of this kind may have
 abbrev pub known_keys : InputKind → List Key
-known_keys kinds.Script = script_keys
-known_keys kinds.Dump = dump_keys
+known_keys kinds.Script = keys.Version ∷ keys.Members ∷ keys.F ∷ keys.Behaviour ∷ keys.Limit ∷ keys.Start ∷ keys.Commands ∷ []
+known_keys kinds.Dump = keys.Members ∷ keys.F ∷ keys.Events ∷ keys.Held ∷ keys.Strike ∷ []
 
 -- the first key of the value that an input of this kind may not have
 abbrev pub unknown_key : InputKind → Data → Option (List ℕ)

@@ -1,5 +1,6 @@
 -- What a fault says of the value that an input is.
 use Rattle.std.specs.Prelude.{◌≡◌, ℕ, ◌<◌, ◌==◌, List, [], ◌∷◌, length, Bool, true, false, Option, Some, None, is_some, option_and_then, option_map, Result, Ok, Err, slice_get, string_bytes, codes, if◌then◌else◌}
+use Rattle.std.specs.List.{AllPass}
 use Rattle.serde_json.specs.Data.{Data}
 use Rattle.serde_json.specs.Find.{get}
 use Rattle.serde_json.specs.View.{view}
@@ -102,14 +103,15 @@ abbrev pub IsFirstMisfit : Key → List Data → ℕ → Data → Type 0
 IsFirstMisfit key items place found =
     (slice_get items place ≡ Some found) × (is_item key found ≡ false) × ((i : ℕ) (d : Data) → i < place → slice_get items i ≡ Some d → is_item key d ≡ true)
 
--- what the fault says of the value is so: what stands at its key or place, what is wanted there, and which key is unknown
+-- what the fault says of the value is so: what stands at its key, where no item of a list is to blame, or at its place, what is
+-- wanted there, and which key is unknown
 abbrev pub IsMisfit : InputKind → Data → InputFault → Type 0
 IsMisfit kind d (inputs.NotObject found) = view found ≡ d
 IsMisfit kind d (inputs.MissingKey key unknown) = (get (name_of key) d ≡ None) × (option_map string_bytes unknown ≡ unknown_key kind d)
-IsMisfit kind d (inputs.BadValue key found) = get (name_of key) d ≡ Some (view found)
+IsMisfit kind d (inputs.BadValue key found) = (get (name_of key) d ≡ Some (view found)) × AllPass (is_item key) (items_at key d)
 IsMisfit kind d (inputs.BadItem key place found) = IsFirstMisfit key (items_at key d) place (view found)
 IsMisfit kind d (inputs.BadCommand place found wanted) =
-    (slice_get (items_at keys.Commands d) place ≡ Some (view found)) × (wanted ≡ wanted_form (is_second d) (view found))
+    (place < 1024) × (slice_get (items_at keys.Commands d) place ≡ Some (view found)) × (wanted ≡ wanted_form (is_second d) (view found))
 IsMisfit kind d (inputs.UnknownKey named name) = (named ≡ kind) × (unknown_key kind d ≡ Some (string_bytes name))
 IsMisfit kind d fault = Unit {0}
 

@@ -63,7 +63,7 @@ impl fmt::Display for Key {
 
 /// Why a script or a dump was not taken to its end. The faults of the input are tested in the order in which they stand
 /// here, but for lack of memory, which may come before any of them. The message is the text of the fault.
-#[derive(PartialEq, Eq, Debug, Drop, Error)]
+#[derive(Clone, Copy, PartialEq, Eq, Debug, Error)]
 pub enum RunFault {
     /// A read failed. An interrupted read is tried again, at most 1000 times in all, and then counts as failed.
     #[error("read")]

@@ -11,6 +11,9 @@ use std::alloc::{AllocError, AllocFailed};
 use std::fmt;
 use thiserror::Error;
 
+/// The most commands that a script may have.
+pub const MOST_COMMANDS: usize = 1024;
+
 /// What an input is read as.
 #[derive(Clone, Copy, PartialEq, Eq, Debug, Error)]
 pub enum InputKind {
@@ -222,7 +225,7 @@ impl InputFault {
             InputFault::MissingKey { key, .. }
             | InputFault::BadValue { key, .. }
             | InputFault::BadItem { key, .. } => RunFault::BadField(*key),
-            InputFault::TooManyCommands => RunFault::BadCommand(1024),
+            InputFault::TooManyCommands => RunFault::BadCommand(MOST_COMMANDS),
             InputFault::BadCommand { place, .. } => RunFault::BadCommand(*place),
             InputFault::UnknownKey { .. } => RunFault::UnknownKey,
             InputFault::Config(fault) => RunFault::from(fault.refusal()),

@@ -11,5 +11,5 @@ mod shown;
 
 pub use fault::{Key, RunFault};
 pub use input::read_input;
-pub use input_fault::{CommandForm, InputFault, InputKind};
+pub use input_fault::{CommandForm, InputFault, InputKind, MOST_COMMANDS};
 pub use output::put;

@@ -1,6 +1,6 @@
 //! Shapes of JSON values, as scripts and dumps ask for them.
 
-ghost use Rattle.std.specs.Prelude.{◌≡◌, ◌≤◌, ◌<◌, ℕ, find, map, IfOk, IfErr, Ok, Err, Some, None, not, is_some, option_map, string_bytes, if◌then◌else◌};
+ghost use Rattle.std.specs.Prelude.{◌≡◌, ◌≤◌, ◌<◌, ℕ, find, map, true, IfOk, IfErr, Ok, Err, Some, None, not, is_some, option_map, string_bytes, if◌then◌else◌};
 ghost use Rattle.std.specs.FinSet as set;
 ghost use Rattle.std.specs.Result.{result_ok};
 ghost use Rattle.std.specs.BTreeMap.{keys};
@@ -41,7 +41,7 @@ impl Shape<u8> for ByteShape {
     ghost shape = { byte_shape };
 
     fn in_value(value: &Value) -> Option<u8> {
-        let number = number_in(value, 0, 255)?;
+        let number = number_in(value, 0, u64::from(u8::MAX))?;
         Some(number as u8)
     }
 }
@@ -60,7 +60,7 @@ pub fn number_in(value: &Value, low: u64, high: u64) -> Option<u64>
 pub fn count_in(value: &Value) -> Option<u32>
     ensures { result ≡ count_shape (view value.now) }
 {
-    let number = number_in(value, 0, 4_294_967_295)?;
+    let number = number_in(value, 0, u64::from(u32::MAX))?;
     Some(number as u32)
 }
 
@@ -248,13 +248,15 @@ fn value_at<'a>(
     }
 }
 
-/// What the value at the key gives, if it has the shape, and else `MissingKey` or `BadValue`.
+/// What the value at the key gives, if it has the shape, and else `MissingKey` or `BadValue`. No item of a list at this key
+/// can be to blame.
 pub fn value_field<T: Copy, S: Shape<T>>(
     alloc: Global,
     kind: InputKind,
     value: &Value,
     key: Key,
 ) -> Result<T, InputFault>
+    requires { (d : Data) → is_item key d ≡ true }
     ensures exact { Gives (λ x. x) result (field key S.shape (view value.now)) }
     ensures faults { IfErr result IsOfShape }
     ensures misfit { IfErr result (IsMisfit kind (view value.now)) }

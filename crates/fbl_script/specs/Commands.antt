@@ -1,5 +1,5 @@
 -- What a fault says of a list of commands.
-use Rattle.std.specs.Prelude.{◌≡◌, ℕ, List, Bool, true, false, Some, slice_get}
+use Rattle.std.specs.Prelude.{◌≡◌, ◌<◌, ℕ, List, Bool, true, false, Some, slice_get}
 use Rattle.serde_json.specs.Data.{Data}
 use Rattle.serde_json.specs.View.{view}
 use Rattle.fbl_input.specs.declared.input_fault.InputFault.{InputFault}
@@ -18,10 +18,11 @@ IsBadCommand version place d (inputs.BadCommand at found wanted) = (at ≡ place
 IsBadCommand version place d inputs.Memory = Unit {0}
 IsBadCommand version place d fault = ⊥
 
--- the fault is of this list of commands: there are too many, or the one at its place has not the form that is wanted there
+-- the fault is of this list of commands: there are too many, or the one at its place, which may stand there, has not the form
+-- that is wanted
 abbrev pub IsBadAmong : Version → List Data → InputFault → Type 0
 IsBadAmong version items inputs.TooManyCommands = Unit {0}
 IsBadAmong version items (inputs.BadCommand place found wanted) =
-    (slice_get items place ≡ Some (view found)) × (wanted ≡ wanted_form (is_second_version version) (view found))
+    (place < 1024) × (slice_get items place ≡ Some (view found)) × (wanted ≡ wanted_form (is_second_version version) (view found))
 IsBadAmong version items inputs.Memory = Unit {0}
 IsBadAmong version items fault = ⊥

@@ -20,9 +20,10 @@ use Rattle.fbl_script.specs.declared.script_reading.Request.{Request}
 use Rattle.fbl_input.specs.declared.input_fault.InputFault.{InputFault}
 use Rattle.fbl_input.specs.declared.input_fault.InputKind.TheVariants as kinds
 use Rattle.fbl_input.specs.Misfits.{IsMisfit, IsOfSettings}
-pub use Rattle.fbl_input.specs.Items.{script_keys, start_from, start_shape}
+use Rattle.fbl_input.specs.Items.{known_keys}
+pub use Rattle.fbl_input.specs.Items.{start_from, start_shape}
 use Rattle.fbl_input.specs.Faults.{IsFirstFault, IsReadRefused}
-use Rattle.fbl_input.specs.Shapes.{◌>>=◌, or_fault, number_within, count_shape, member_shape, as_list, is_text, list_of, set_shape, name_of, field, field_or, has_other_key, value_of_input}
+use Rattle.fbl_input.specs.Shapes.{◌>>=◌, or_fault, number_within, byte_shape, count_shape, member_shape, as_list, is_text, list_of, set_shape, name_of, field, field_or, has_other_key, value_of_input}
 
 -- what a script asks for
 pub record Outline : Type 0 where
@@ -117,14 +118,14 @@ commands_at version d = field keys.Commands as_list d >>= commands_from (version
 -- what an object asks for as a script once its version is read, where commands have this shape, or its first fault
 unfoldable pub outline_by : (Data → Option Command) → Members → Data → Result Outline RunFault
 outline_by shape object d = do
-  members ← field keys.Members (number_within 0 255) d
-  f ← field keys.F (number_within 0 255) d
+  members ← field keys.Members byte_shape d
+  f ← field keys.F byte_shape d
   behaviour ← field keys.Behaviour behaviour_shape d
   limit ← field_or 8192 keys.Limit count_shape (get (name_of keys.Limit) d)
   starts ← field keys.Start (list_of start_shape) d
   listed ← field keys.Commands as_list d
   commands ← commands_from shape 0 listed
-  if has_other_key script_keys object then Err faults.UnknownKey else Ok (record { behaviour = behaviour; config = record { members = members; f = f; limit = limit; starts = starts }; commands = commands })
+  if has_other_key (known_keys kinds.Script) object then Err faults.UnknownKey else Ok (record { behaviour = behaviour; config = record { members = members; f = f; limit = limit; starts = starts }; commands = commands })
 
 -- what a value asks for as a script, or its first fault
 unfoldable pub outline_of : Data → Result Outline RunFault

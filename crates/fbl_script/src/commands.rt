@@ -10,7 +10,7 @@ ghost use Rattle.fbl_script.specs.Scripts.{checkpoint_from, command_from, comman
 use crate::script::{Command, Plan, Version};
 use fbl_base::Strike;
 use fbl_input::shapes::{Shape, all_in, count_in, is_named, list_in, member_in, set_in};
-use fbl_input::{CommandForm, InputFault};
+use fbl_input::{CommandForm, InputFault, MOST_COMMANDS};
 use serde_json::Value;
 use std::alloc::{AllocError, Global};
 
@@ -212,7 +212,7 @@ pub(crate) fn commands_in(
     let mut commands = Vec::new(alloc);
     let mut place = 0;
     for value in list {
-        if place == 1024 {
+        if place == MOST_COMMANDS {
             return Err(InputFault::TooManyCommands);
         }
         match command_in(alloc, version, value)? {

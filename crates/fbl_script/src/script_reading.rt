@@ -16,8 +16,8 @@ use crate::commands::commands_in;
 use crate::script::{BehaviourName, Command, Script, Version};
 use fbl_base::{Config, Note, Start};
 use fbl_input::shapes::{
-    ByteShape, Shape, count_in, is_named, list_field, list_in, member_in, no_other_key, number_in,
-    object_in, value_field, value_in, values_field,
+    ByteShape, Shape, count_in, is_named, list_field, list_in, member_in, no_other_key, object_in,
+    value_field, value_in, values_field,
 };
 use fbl_input::{InputFault, InputKind, Key, RunFault};
 use serde_json::Value;
@@ -64,7 +64,7 @@ fn start_of(list: &[Value]) -> Option<Start>
             let from = member_in(from)?;
             let to = member_in(to)?;
             let value = count_in(value)?;
-            let hops = number_in(hops, 0, 255)? as u8;
+            let hops = ByteShape::in_value(hops)?;
             Some(Start {
                 from,
                 to,
@@ -127,6 +127,9 @@ impl Shape<u32> for CountShape {
     }
 }
 
+/// The limit of a script that names none.
+const LIMIT: u32 = 8192;
+
 /// The limit, which may be missing.
 fn limit_field(alloc: Global, value: &Value) -> Result<u32, InputFault>
     ensures exact { Gives (λ n. n) result (field_or 8192 keys.Limit count_shape (get (name_of keys.Limit) (view value.now))) }
@@ -134,7 +137,7 @@ fn limit_field(alloc: Global, value: &Value) -> Result<u32, InputFault>
     ensures misfit { IfErr result (IsMisfit kinds.Script (view value.now)) }
 {
     match value.get(Key::Limit.name()) {
-        None => Ok(8192),
+        None => Ok(LIMIT),
         Some(_) => value_field::<u32, CountShape>(alloc, InputKind::Script, value, Key::Limit),
     }
 }

@@ -1,7 +1,8 @@
--- Where shapes stand, counted from the left and from the top.
-use Rattle.std.specs.Prelude.{ℕ, ◌+◌, ◌-◌, ◌*◌, max, nat_lt, Option, Some, None, if◌then◌else◌}
+-- Where shapes stand, counted from the left and from the top, and shapes in columns one after another.
+use Rattle.std.specs.Prelude.{ℕ, ◌+◌, ◌-◌, ◌*◌, max, nat_lt, List, [], ◌∷◌, ◌++◌, Option, Some, None, if◌then◌else◌}
 use Rattle.fbl_shapes.specs.declared.shape.Legend.{Legend}
 use Rattle.fbl_shapes.specs.declared.shape.Legend.TheVariants.{History, Dump}
+use Rattle.fbl_shapes.specs.declared.shape.Shape.{Shape}
 
 -- where a column stands
 abbrev pub x : ℕ → ℕ
@@ -32,3 +33,8 @@ legend_height Dump = 90
 -- below the members' lines there is room for the legend
 abbrev pub height : ℕ → Legend → ℕ
 height members legend = y members + legend_height legend
+
+-- what is drawn of each of these in turn, the first of which stands in this column
+abbrev pub drawn : {A : Type 0} → (ℕ → A → List Shape) → ℕ → List A → List Shape
+drawn draw column [] = []
+drawn draw column (item ∷ items) = draw column item ++ drawn draw (column + 1) items

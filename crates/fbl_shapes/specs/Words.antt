@@ -16,6 +16,11 @@ status_words (Some status.Struck) = codes " struck"
 status_words (Some status.Orphan) = codes " orphan"
 status_words (Some status.Up) = codes " up"
 
+-- how a part of a member's line is drawn where the member is down, and where it isn't
+abbrev pub line_kind_of : Bool → LineKind
+line_kind_of true = line_kind.Down
+line_kind_of false = line_kind.Up
+
 -- the class of a part of a member's line
 abbrev pub line_class : LineKind → List ℕ
 line_class line_kind.Up = codes "line"

@@ -13,3 +13,4 @@ mod words;
 pub use names::push_names;
 pub use picture::picture_text;
 pub use shape::{ArrowKind, Kind, Legend, LineKind, Shape, Status};
+pub use words::receipts_word;

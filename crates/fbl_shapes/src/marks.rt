@@ -178,7 +178,7 @@ pub(crate) fn recovery_text(
     let x = x(column);
     let y = y(member);
     let top = y - 9;
-    let word = receipts_word(receipts);
+    let word = receipts_word(receipts as usize);
     let mut text = format!(in alloc;
         "<path class='recovery' d='M{x} {top}l9 16h-18z'><title>member {member} is recovered, "
     )?;

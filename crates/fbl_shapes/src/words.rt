@@ -2,7 +2,7 @@
 
 ghost use Rattle.std.specs.Prelude.{◌≡◌};
 ghost use Rattle.fbl_shapes.specs.Marks.{drawn_outline};
-ghost use Rattle.fbl_shapes.specs.Words.{arrow_class, gone_class as gone_class_of, kind_class, line_class, receipts_word as receipts_word_of, status_words as status_words_of, undone_class as undone_class_of, undone_words as undone_words_of};
+ghost use Rattle.fbl_shapes.specs.Words.{arrow_class, gone_class as gone_class_of, kind_class, line_class, line_kind_of, receipts_word as receipts_word_of, status_words as status_words_of, undone_class as undone_class_of, undone_words as undone_words_of};
 
 use crate::shape::{ArrowKind, Kind, LineKind, Status};
 
@@ -19,6 +19,17 @@ pub(crate) fn status_words(status: Option<Status>) -> &'static str
 }
 
 impl LineKind {
+    /// How a part of a member's line is drawn where the member is down, or where it isn't.
+    pub fn of(is_down: bool) -> LineKind
+        ensures { result ≡ line_kind_of is_down }
+    {
+        if is_down {
+            LineKind::Down
+        } else {
+            LineKind::Up
+        }
+    }
+
     /// The class of a part of a member's line.
     pub(crate) fn class(self) -> &'static str
         ensures { result.now ≡ line_class self }
@@ -91,7 +102,7 @@ pub(crate) fn gone_class(undone: bool) -> &'static str
 }
 
 /// The word for so many receipts.
-pub(crate) fn receipts_word(count: u32) -> &'static str
+pub fn receipts_word(count: usize) -> &'static str
     ensures { result.now ≡ receipts_word_of count }
 {
     if count == 1 { "receipt" } else { "receipts" }

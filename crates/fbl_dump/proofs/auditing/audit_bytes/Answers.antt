@@ -2,5 +2,5 @@ use Rattle.fbl_dump.proofs.Common.{IsAuditText, TextAlone}
 use Rattle.fbl_dump.proofs.Answers.{answers_dump}
 use Rattle.fbl_dump.proofs.auditing.audit_bytes.Goals as goal
 
-pub returns-in-Ok : goal.returns-in-Ok
-returns-in-Ok g c = answers_dump (TextAlone IsAuditText) _ _ _ _ _ c.in-Ok.ensures.dump c.audit_dump.ensures
+pub returns : goal.returns
+returns g c = answers_dump (TextAlone IsAuditText) _ _ _ _ _ c.in_ok-dump.ensures.dump c.audit_dump.ensures

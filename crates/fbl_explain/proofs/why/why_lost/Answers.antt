@@ -1,12 +1,12 @@
-use Rattle.fbl_explain.proofs.Common.{◌≡◌, take, arith, ap, ◌∙◌, take_all, lost_determinants, IsReasonOf}
+use Rattle.fbl_explain.proofs.Common.{◌≡◌, take, arith, ap, ◌∙◌, take_all, lost_determinants, IsLossReason}
 use Rattle.fbl_explain.proofs.Whys.{reasons_more}
 use Rattle.fbl_explain.proofs.why.why_lost.Goals as goal
 
 pub loop-determinant-preserved : goal.loop-determinant-preserved
 loop-determinant-preserved c =
     let dump = c.args.dump.now in
-    rw c.in_ok-push.ensures.items (reasons_more (λ d. IsReasonOf dump d dump.strike) c.deref-determinant-items.result.now _ c.determinant-item.result _ _ (omega arith)
-    c.determinant-item.is c.loop-determinant.invariant (rw (c.in_ok-audit.ensures, c.strike-strike.ensures) at c.in_ok-reason_of.ensures))
+    rw c.in_ok-push.ensures.items (reasons_more (λ d. IsLossReason dump d dump.strike) c.deref-determinant-items.result.now _ c.determinant-item.result _ _ (omega arith)
+    c.determinant-item.is c.loop-determinant.invariant (rw (c.in_ok-audit.ensures, c.strike-strike.ensures) at c.in_ok-loss_reason.ensures))
 
 pub returns-clause-lost : goal.returns-clause-lost
 returns-clause-lost c =

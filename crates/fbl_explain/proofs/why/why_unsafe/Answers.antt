@@ -1,12 +1,12 @@
-use Rattle.fbl_explain.proofs.Common.{◌≡◌, take, arith, ◌∙◌, take_all, UnsafeReceipt, IsReasonOf}
+use Rattle.fbl_explain.proofs.Common.{◌≡◌, take, arith, ◌∙◌, take_all, UnsafeReceipt, IsLossReason}
 use Rattle.fbl_explain.proofs.Whys.{reasons_more}
 use Rattle.fbl_explain.proofs.why.why_unsafe.Goals as goal
 
 pub loop-receipt-preserved : goal.loop-receipt-preserved
 loop-receipt-preserved c =
     let dump = c.args.dump.now in
-    rw c.in_ok-push.ensures.items (reasons_more (λ (u : UnsafeReceipt). IsReasonOf dump u.determinant u.strike) c.deref-receipt-items.result.now _ c.receipt-item.result _ _
-    (omega arith) c.receipt-item.is c.loop-receipt.invariant (rw c.in_ok-audit.ensures at c.in_ok-reason_of.ensures))
+    rw c.in_ok-push.ensures.items (reasons_more (λ (u : UnsafeReceipt). IsLossReason dump u.determinant u.strike) c.deref-receipt-items.result.now _ c.receipt-item.result _ _
+    (omega arith) c.receipt-item.is c.loop-receipt.invariant (rw c.in_ok-audit.ensures at c.in_ok-loss_reason.ensures))
 
 pub returns-clause-not_safe : goal.returns-clause-not_safe
 returns-clause-not_safe c =
