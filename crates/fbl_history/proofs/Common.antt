@@ -36,7 +36,7 @@ pub use Rattle.fbl_law.specs.Sound.{IsReplayed, IsSound, received_notes}
 pub use Rattle.fbl_member.proofs.Logs.{length-numbered}
 pub use Rattle.fbl_member.specs.Members.{MemberRecord, blank, fresh, logged_note, replayed_by}
 pub use Rattle.fbl_table.proofs.Adding.{take-next}
-pub use Rattle.fbl_history.specs.Columns.{GoesOnFrom, HasEachOnce, column_then, crossed, crossed_without, go_on, is_next, is_standing, same_standing, standing, trace_then}
+pub use Rattle.fbl_history.specs.Columns.{GoesOnFrom, HasEachOnce, column_then, undo, undone_without, go_on, is_next, is_standing, same_standing, standing, trace_then}
 pub use Rattle.fbl_history.specs.Replays.{HaveReplayed}
 pub use Rattle.fbl_history.specs.Traces.{event_column, replay_of, state_after_receipt, trace_columns}
 pub use Rattle.fbl_history.specs.declared.column.Column.{Column}

@@ -1,5 +1,5 @@
 pub mod Common
 pub mod Following
-pub mod Crossing
+pub mod Undoing
 pub mod Standing
 pub mod Cutting

@@ -2,7 +2,7 @@
 use Rattle.fbl_history.proofs.Common.{◌≡◌, ℕ, List, [], ◌∷◌, map, Some, refl, sym, ap, ◌∙◌, Event, mark_of, Next, GroupRecord, marks, IsSound, mark-at, Column, standing, go_on}
 use Rattle.fbl_history.proofs.Common.{HasEachOnce, event_column, trace_columns, map-At, one_place}
 use Rattle.fbl_base.specs.declared.trace.Event.TheVariants.{Send, Receipt}
-use Rattle.fbl_history.proofs.Crossing.{same-is, standing-trace}
+use Rattle.fbl_history.proofs.Undoing.{same-is, standing-trace}
 
 columns-stand : (next : Next) (n : ℕ) (trace events : List Event) → standing (map (event_column next n trace) events) ≡ map (event_column next n trace) events
 columns-stand next n trace [] = refl

@@ -10,11 +10,11 @@ is_standing (Send from ssn to undone) = not undone
 is_standing (Receipt to rsn from ssn state undone) = not undone
 is_standing _ = false
 
--- the column crossed: its event is undone
-abbrev pub crossed : Column → Column
-crossed (Send from ssn to undone) = Send from ssn to true
-crossed (Receipt to rsn from ssn state undone) = Receipt to rsn from ssn state true
-crossed column = column
+-- the column, its event undone
+abbrev pub undo : Column → Column
+undo (Send from ssn to undone) = Send from ssn to true
+undo (Receipt to rsn from ssn state undone) = Receipt to rsn from ssn state true
+undo column = column
 
 -- whether both columns are of the same standing event, with the same state
 abbrev pub same_standing : Column → Column → Bool
@@ -32,30 +32,30 @@ abbrev pub is_next : Column → List Column → Bool
 is_next column [] = false
 is_next column (event ∷ trace) = same_standing column event
 
--- a column, where this is left of the trace: a standing event that is not the next one is crossed
+-- a column, where this is left of the trace: a standing event that is not the next one is undone
 abbrev pub column_then : Column → List Column → Column
-column_then column trace = if is_standing column && not (is_next column trace) then crossed column else column
+column_then column trace = if is_standing column && not (is_next column trace) then undo column else column
 
 -- what the column leaves of the trace: its next event is taken
 abbrev pub trace_then : Column → List Column → List Column
 trace_then column trace = if is_next column trace then drop 1 trace else trace
 
 -- the history goes on to a trace: in turn each standing event that is the next of the trace stays and each other one is
--- crossed, and what the trace has left was made
+-- undone, and what the trace has left was made
 abbrev pub go_on : List Column → List Column → List Column
 go_on [] trace = trace
 go_on (column ∷ columns) trace = column_then column trace ∷ go_on columns (trace_then column trace)
 
--- the second columns are the first ones, of which standing events may be crossed, and then any others
+-- the second columns are the first ones, of which standing events may be undone, and then any others
 abbrev pub GoesOnFrom : List Column → List Column → Type 0
 GoesOnFrom [] new = Unit {0}
 GoesOnFrom (column ∷ columns) [] = ⊥
 GoesOnFrom (column ∷ columns) (c ∷ new) =
-    ((c ≡ column) ⊎ ((is_standing column ≡ true) × (c ≡ crossed column))) × GoesOnFrom columns new
+    ((c ≡ column) ⊎ ((is_standing column ≡ true) × (c ≡ undo column))) × GoesOnFrom columns new
 
--- the column, crossed where it is a standing event that the trace hasn't
-abbrev pub crossed_without : List Column → Column → Column
-crossed_without trace column = if is_standing column && not (list_any (same_standing column) trace) then crossed column else column
+-- the column, undone where it is a standing event that the trace hasn't
+abbrev pub undone_without : List Column → Column → Column
+undone_without trace column = if is_standing column && not (list_any (same_standing column) trace) then undo column else column
 
 -- no two of the columns are of the same standing event
 abbrev pub HasEachOnce : List Column → Type 0

@@ -5,23 +5,23 @@ use Rattle.fbl_base.specs.Fold.{Next}
 use Rattle.fbl_law.specs.Groups.{GroupRecord}
 use Rattle.fbl_law.specs.Sound.{IsSound}
 use Rattle.fbl_history.specs.declared.column.Column.{Column}
-use Rattle.fbl_history.specs.Columns.{standing, go_on, crossed_without, GoesOnFrom, HasEachOnce}
+use Rattle.fbl_history.specs.Columns.{standing, go_on, undone_without, GoesOnFrom, HasEachOnce}
 use Rattle.fbl_history.specs.Traces.{trace_columns}
 
 -- the standing events of a history that went on to a group's trace are exactly that trace, in its order
 abbrev pub StandingIsTrace : Type 0
 StandingIsTrace = (next : Next) (r : GroupRecord) (columns : List Column) → standing (go_on columns (trace_columns next r)) ≡ trace_columns next r
 
--- a history that goes on changes nothing but that standing events are crossed, and adds at its end
+-- a history that goes on changes nothing but that standing events are undone, and adds at its end
 abbrev pub NothingComesBack : Type 0
 NothingComesBack = (columns trace : List Column) → GoesOnFrom columns (go_on columns trace)
 
 -- a history of whose standing events no two are the same goes on to some of these, in their order, as at a recovery: exactly
--- the others are crossed, and nothing is added
-abbrev pub OthersAreCrossed : Type 0
-OthersAreCrossed =
+-- the others are undone, and nothing is added
+abbrev pub OthersAreUndone : Type 0
+OthersAreUndone =
     (columns : List Column) (stays : Column → Bool) → HasEachOnce (standing columns)
-    → go_on columns (filter stays (standing columns)) ≡ map (crossed_without (filter stays (standing columns))) columns
+    → go_on columns (filter stays (standing columns)) ≡ map (undone_without (filter stays (standing columns))) columns
 
 -- of the columns of a sound group's trace no two are the same standing event
 abbrev pub TraceHasEachOnce : Type 0

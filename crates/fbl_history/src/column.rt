@@ -1,7 +1,7 @@
 //! The columns of a history.
 
 ghost use Rattle.std.specs.Prelude.{◌≡◌};
-ghost use Rattle.fbl_history.specs.Columns.{crossed, is_standing as stands, same_standing};
+ghost use Rattle.fbl_history.specs.Columns.{is_standing as stands, same_standing, undo as undone_column};
 
 use fbl_base::{Member, MemberSet};
 
@@ -67,52 +67,12 @@ impl Column {
     pub(crate) fn is_same_standing(&self, other: &Column) -> bool
         ensures { result ≡ same_standing self.now other.now }
     {
-        match (self, other) {
-            (
-                Column::Send {
-                    from,
-                    ssn,
-                    to,
-                    undone: false,
-                },
-                Column::Send {
-                    from: other_from,
-                    ssn: other_ssn,
-                    to: other_to,
-                    undone: false,
-                },
-            ) => from == other_from && ssn == other_ssn && to == other_to,
-            (
-                Column::Receipt {
-                    to,
-                    rsn,
-                    from,
-                    ssn,
-                    state,
-                    undone: false,
-                },
-                Column::Receipt {
-                    to: other_to,
-                    rsn: other_rsn,
-                    from: other_from,
-                    ssn: other_ssn,
-                    state: other_state,
-                    undone: false,
-                },
-            ) => {
-                to == other_to
-                    && rsn == other_rsn
-                    && from == other_from
-                    && ssn == other_ssn
-                    && state == other_state
-            }
-            _ => false,
-        }
+        self.is_standing() && self == other
     }
 
     /// Makes an event one that is undone.
-    pub(crate) fn cross(&mut self)
-        ensures { self.new ≡ crossed self.old }
+    pub(crate) fn undo(&mut self)
+        ensures { self.new ≡ undone_column self.old }
     {
         match self {
             Column::Send { undone, .. } => *undone = true,

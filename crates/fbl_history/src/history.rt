@@ -58,7 +58,7 @@ impl History {
     {
         let History { mut columns } = self;
         let trace = trace_columns(alloc, group)?;
-        let kept = cross(&mut columns, trace.as_slice());
+        let kept = undo_others(&mut columns, trace.as_slice());
         columns.extend(trace.into_iter().skip(kept))?;
         Ok(History { columns })
     }
@@ -122,17 +122,17 @@ fn replays<B: Behaviour>(
     Ok(replays)
 }
 
-/// Crosses the standing events that are not the next ones of the trace, and answers how many of the trace's are.
-fn cross(columns: &mut Vec<Column>, trace: &[Column]) -> usize
+/// Undoes the standing events that are not the next ones of the trace, and answers how many of the trace's are.
+fn undo_others(columns: &mut Vec<Column>, trace: &[Column]) -> usize
     ensures within { result ≤ length trace.now }
-    ensures crossed { columns.new.items ++ drop result trace.now ≡ gone_on columns.old.items trace.now }
+    ensures undone { columns.new.items ++ drop result trace.now ≡ gone_on columns.old.items trace.now }
 {
     let mut kept = 0;
     for column in columns.iter_mut() {
         if kept < trace.len() && column.is_same_standing(&trace[kept]) {
             kept += 1;
         } else if column.is_standing() {
-            column.cross();
+            column.undo();
         }
     }
     kept

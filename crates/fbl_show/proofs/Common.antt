@@ -11,9 +11,11 @@ pub use Rattle.fbl_base.proofs.Numbers.{rows_on}
 pub use Rattle.fbl_base.specs.Events.{is_message, same_message}
 pub use Rattle.fbl_base.specs.declared.trace.MessageName.{MessageName}
 pub use Rattle.fbl_history.specs.declared.column.Column.{Column}
+pub use Rattle.fbl_shapes.specs.Places.{drawn}
+pub use Rattle.fbl_shapes.specs.Words.{line_kind_of}
 pub use Rattle.fbl_shapes.specs.declared.shape.Shape.{Shape}
 pub use Rattle.fbl_shapes.specs.declared.shape.Shape.TheVariants.{Line}
 pub use Rattle.fbl_show.specs.Marks.{column_marks, recovery_mark, strike_mark}
-pub use Rattle.fbl_show.specs.Members.{differs, history_member_shapes, is_down, is_down_after, line_kind, line_part, members_shapes, turns}
+pub use Rattle.fbl_show.specs.Members.{history_member_shapes, is_down, is_down_after, line_part, members_shapes, turns}
 pub use Rattle.fbl_show.specs.Messages.{has_standing_receipt, receipt_arrow, sent_before, stub, stub_where, taken_by_column}
-pub use Rattle.fbl_show.specs.Places.{drawn, last_before}
+pub use Rattle.fbl_show.specs.Places.{last_before}

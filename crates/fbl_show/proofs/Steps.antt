@@ -1,7 +1,7 @@
 -- One column more of members' lines.
 use Rattle.fbl_show.proofs.Common.{ℕ, suc, ◌+◌, ◌<◌, ◌≡◌, not, Bool, true, false, cond, List, [], ◌∷◌, ◌++◌, length, take, drop, get_or, Option, Some, None, sym, ap}
-use Rattle.fbl_show.proofs.Common.{◌∙◌, arith, beq, booleans_Decides, fold, not-false, append_assoc, at_drop_more, take_more, fold_push, Column, Shape, Line, differs, is_down, is_down_after}
-use Rattle.fbl_show.proofs.Common.{line_kind, line_part, turns, drawn, last_before}
+use Rattle.fbl_show.proofs.Common.{◌∙◌, arith, beq, booleans_Decides, fold, not-false, append_assoc, at_drop_more, take_more, fold_push, Column, Shape, Line, is_down, is_down_after}
+use Rattle.fbl_show.proofs.Common.{line_kind_of, line_part, turns, drawn, last_before}
 
 -- the last place before the next one
 pub last_more : (test : ℕ → Bool) (i : ℕ) → last_before test (i + 1) ≡ cond (test i) (Some i) (last_before test i)
@@ -27,24 +27,20 @@ module _ (columns : List Column) (i : ℕ) (c : Column) (within : i < length col
         then ∙ ap (λ b. is_down_after m b c) was
         ∙ sym (ap (fold (is_down_after m) false) before_more ∙ fold_push (is_down_after m) false (take i columns) c)
 
-    pub turns_is : turns columns m i ≡ differs down after
-    turns_is = sym (λ j. differs (was j) (down_more j))
+    pub turns_is : turns columns m i ≡ not (beq after down)
+    turns_is = sym (λ j. not (beq (down_more j) (was j)))
 
     -- what is drawn of the member's line from the column on
     pub line_on : (front base : List Shape) (start : Option ℕ) → start ≡ last_before (turns columns m) i → front ++ drawn (line_part columns m) i (drop i columns) ≡ base
-        → (front ++ cond (differs down after) (Line m start i (line_kind down) ∷ []) []) ++ drawn (line_part columns m) (i + 1) (drop (i + 1) columns) ≡ base
+        → (front ++ cond (not (beq after down)) (Line m start i (line_kind_of down) ∷ []) []) ++ drawn (line_part columns m) (i + 1) (drop (i + 1) columns) ≡ base
     line_on front base start starts drew =
-        let part : cond (differs down after) (Line m start i (line_kind down) ∷ []) [] ≡ line_part columns m i c =
-        λ j. cond (sym turns_is j) (Line m (starts j) i (line_kind (was j)) ∷ []) [] in
+        let part : cond (not (beq after down)) (Line m start i (line_kind_of down) ∷ []) [] ≡ line_part columns m i c =
+        λ j. cond (sym turns_is j) (Line m (starts j) i (line_kind_of (was j)) ∷ []) [] in
         ap (λ p. (front ++ p) ++ drawn (line_part columns m) (i + 1) (drop (i + 1) columns)) part ∙ drawn_on (line_part columns m) front base drew
 
     -- where the member last turned, behind the column
-    pub start_on : last_before (turns columns m) (i + 1) ≡ cond (differs down after) (Some i) (last_before (turns columns m) i)
+    pub start_on : last_before (turns columns m) (i + 1) ≡ cond (not (beq after down)) (Some i) (last_before (turns columns m) i)
     start_on = last_more (turns columns m) i ∙ ap (λ b. cond b (Some i) (last_before (turns columns m) i)) turns_is
-
--- two that are not the same, and two that are
-pub differs_is : (a b : Bool) → differs b a ≡ not (beq a b)
-differs_is a b = grind arith
 
 pub agree : (a b : Bool) → not (beq a b) ≡ false → a ≡ b
 agree a b test = (booleans_Decides a b).0 (not-false (beq a b) test)

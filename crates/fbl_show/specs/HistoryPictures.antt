@@ -5,13 +5,13 @@ use Rattle.fbl_history.specs.declared.column.Column.{Column}
 use Rattle.fbl_history.specs.declared.column.Column.TheVariants as columns
 use Rattle.fbl_shapes.specs.Marks.{joined}
 use Rattle.fbl_shapes.specs.Pictures.{picture}
+use Rattle.fbl_shapes.specs.Places.{drawn}
 use Rattle.fbl_shapes.specs.declared.shape.Legend.TheVariants as legends
 use Rattle.fbl_shapes.specs.declared.shape.Shape.{Shape}
 use Rattle.fbl_shapes.specs.Words.{receipts_word}
 use Rattle.fbl_show.specs.Marks.{column_marks}
 use Rattle.fbl_show.specs.Members.{members_shapes}
 use Rattle.fbl_show.specs.Messages.{receipt_arrow, stub}
-use Rattle.fbl_show.specs.Places.{drawn}
 
 -- ---- the heading
 

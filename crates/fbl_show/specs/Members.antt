@@ -1,16 +1,17 @@
 -- The members' lines: when each is down.
-use Rattle.std.specs.Prelude.{ℕ, ◌+◌, Bool, true, false, not, ◌==◌, ◌&&◌, ◌||◌, List, [], ◌∷◌, ◌++◌, length, take, None, if◌then◌else◌}
+use Rattle.std.specs.Prelude.{ℕ, ◌+◌, Bool, false, not, ◌==◌, ◌&&◌, ◌||◌, List, [], ◌∷◌, ◌++◌, length, take, None, if◌then◌else◌}
+use Rattle.std.specs.Bool.{beq}
 use Rattle.std.specs.List.{fold, flat_map, list_any, range_with_len}
 use Rattle.std.specs.FinSet as set
 use Rattle.fbl_history.specs.declared.column.Column.{Column}
 use Rattle.fbl_history.specs.declared.column.Column.TheVariants as columns
 use Rattle.fbl_history.specs.declared.column.Replay.{Replay}
-use Rattle.fbl_shapes.specs.declared.shape.LineKind.{LineKind}
-use Rattle.fbl_shapes.specs.declared.shape.LineKind.TheVariants as lines
 use Rattle.fbl_shapes.specs.declared.shape.Shape.{Shape}
 use Rattle.fbl_shapes.specs.declared.shape.Shape.TheVariants as shapes
 use Rattle.fbl_shapes.specs.Names.{names}
-use Rattle.fbl_show.specs.Places.{drawn, last_before}
+use Rattle.fbl_shapes.specs.Places.{drawn}
+use Rattle.fbl_shapes.specs.Words.{line_kind_of}
+use Rattle.fbl_show.specs.Places.{last_before}
 
 -- whether a member is among those that came back
 abbrev pub is_back : ℕ → List Replay → Bool
@@ -27,23 +28,14 @@ is_down_after member was_down _ = was_down
 abbrev pub is_down : List Column → ℕ → ℕ → Bool
 is_down columns member place = fold (is_down_after member) false (take place columns)
 
--- whether one of the two holds, and the other doesn't
-abbrev pub differs : Bool → Bool → Bool
-differs true other = not other
-differs false other = other
-
 -- whether the member goes down at the column, or comes back there
 abbrev pub turns : List Column → ℕ → ℕ → Bool
-turns columns member place = differs (is_down columns member place) (is_down columns member (place + 1))
-
-abbrev pub line_kind : Bool → LineKind
-line_kind true = lines.Down
-line_kind false = lines.Up
+turns columns member place = not (beq (is_down columns member (place + 1)) (is_down columns member place))
 
 -- the part of a member's line that ends at a column: it begins where the member last went down or came back, or else at
 -- the left end, and is dashed where the member was down
 abbrev pub line_to : List Column → ℕ → ℕ → Shape
-line_to columns member place = shapes.Line member (last_before (turns columns member) place) place (line_kind (is_down columns member place))
+line_to columns member place = shapes.Line member (last_before (turns columns member) place) place (line_kind_of (is_down columns member place))
 
 -- a part of the line ends at each column at which the member goes down or comes back
 abbrev pub line_part : List Column → ℕ → ℕ → Column → List Shape

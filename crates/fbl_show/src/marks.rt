@@ -3,7 +3,7 @@
 ghost use Rattle.std.specs.Prelude.{◌≡◌, ◌++◌, OnOk, map};
 ghost use Rattle.fbl_base.specs.MemberSets.{member_list};
 ghost use Rattle.fbl_show.specs.Marks.{column_marks, strike_mark, recovery_mark};
-ghost use Rattle.fbl_show.specs.Places.{drawn};
+ghost use Rattle.fbl_shapes.specs.Places.{drawn};
 
 use fbl_base::MemberSet;
 use fbl_history::{Column, Replay};

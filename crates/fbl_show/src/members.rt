@@ -1,8 +1,8 @@
 //! The lines of the members.
 
 ghost use Rattle.std.specs.Prelude.{◌≡◌, ◌++◌, ◌≤◌, OnOk, length, ◌∷◌, []};
-ghost use Rattle.fbl_show.specs.Members.{is_back, is_down_after, line_kind, line_part, line_to, history_member_shapes, members_shapes};
-ghost use Rattle.fbl_show.specs.Places.{drawn};
+ghost use Rattle.fbl_show.specs.Members.{is_back, is_down_after, line_part, line_to, history_member_shapes, members_shapes};
+ghost use Rattle.fbl_shapes.specs.Places.{drawn};
 
 use fbl_base::Member;
 use fbl_history::{Column, Replay};
@@ -27,17 +27,6 @@ fn after(member: Member, was_down: bool, column: &Column) -> bool
     }
 }
 
-/// How a part of a line is drawn.
-fn kind_of_line(is_down: bool) -> LineKind
-    ensures { result ≡ line_kind is_down }
-{
-    if is_down {
-        LineKind::Down
-    } else {
-        LineKind::Up
-    }
-}
-
 /// Draws a member's line, dashed where the member is down.
 fn push_line(shapes: &mut Vec<Shape>, member: Member, columns: &[Column]) -> Result<(), AllocError>
     ensures { OnOk result (shapes.new.items ≡ shapes.old.items ++ drawn (line_part columns.now member) 0 columns.now ++ line_to columns.now member (length columns.now) ∷ []) }
@@ -47,7 +36,7 @@ fn push_line(shapes: &mut Vec<Shape>, member: Member, columns: &[Column]) -> Res
     for (place, column) in columns.iter().enumerate() {
         let is_down_after = after(member, is_down, column);
         if is_down_after != is_down {
-            let kind = kind_of_line(is_down);
+            let kind = LineKind::of(is_down);
             shapes.push(Shape::Line {
                 member,
                 start,
@@ -59,7 +48,7 @@ fn push_line(shapes: &mut Vec<Shape>, member: Member, columns: &[Column]) -> Res
         }
     }
     let end = columns.len();
-    let kind = kind_of_line(is_down);
+    let kind = LineKind::of(is_down);
     shapes.push(Shape::Line {
         member,
         start,

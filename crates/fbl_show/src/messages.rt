@@ -5,7 +5,7 @@ ghost use Rattle.std.specs.HashMap as hash_map;
 ghost use Rattle.std.specs.HashSet as hash_set;
 ghost use Rattle.fbl_base.specs.Events.{same_message};
 ghost use Rattle.fbl_show.specs.Messages.{receipt_arrow, arrow_between, arrow_from, arrow_kind, has_standing_receipt, sent_before, sent_by_column, stub, stub_unless, stub_where, taken_by_column};
-ghost use Rattle.fbl_show.specs.Places.{drawn};
+ghost use Rattle.fbl_shapes.specs.Places.{drawn};
 
 use fbl_base::{Member, MessageName};
 use fbl_history::Column;

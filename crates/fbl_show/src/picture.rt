@@ -2,13 +2,12 @@
 
 ghost use Rattle.std.specs.Prelude.{◌≡◌, ◌≤◌, IfOk, count_by, string_bytes};
 ghost use Rattle.fbl_show.specs.HistoryPictures.{history_title, history_picture, is_receipt, is_undone_receipt, history_shapes};
-ghost use Rattle.fbl_shapes.specs.Words.{receipts_word};
 
 use crate::marks::push_marks;
 use crate::members::push_members;
 use crate::messages::{push_arrows, push_stubs};
 use fbl_history::Column;
-use fbl_shapes::{Legend, Shape, picture_text};
+use fbl_shapes::{Legend, Shape, picture_text, receipts_word};
 use std::alloc::{AllocError, Global};
 
 /// How many receipts were ever made.
@@ -31,13 +30,6 @@ fn receipts_undone(columns: &[Column]) -> usize
         .count()
 }
 
-/// The word for so many receipts.
-fn word_for(count: usize) -> &'static str
-    ensures { result.now ≡ receipts_word count }
-{
-    if count == 1 { "receipt" } else { "receipts" }
-}
-
 /// The heading: the numbers of the group, the behaviour, and how many receipts were made and undone.
 fn heading_text(
     alloc: Global,
@@ -50,7 +42,7 @@ fn heading_text(
 {
     let made = receipts_made(columns);
     let undone = receipts_undone(columns);
-    let word = word_for(made);
+    let word = receipts_word(made);
     format!(in alloc; "{members} members, f {f}, {behaviour}: {made} {word} made, {undone} undone")
 }
 

@@ -1,5 +1,5 @@
 use Rattle.fbl_show.proofs.Common.{◌≡◌, ◌∷◌, ◌++◌, [], ◌<◌, append-nil, arith, ap, ◌∙◌, sym, length, Line, line_part, drawn}
-use Rattle.fbl_show.proofs.Steps.{agree, differs_is, down_more, line_on, start_on}
+use Rattle.fbl_show.proofs.Steps.{agree, down_more, line_on, start_on}
 use Rattle.fbl_show.proofs.members.push_line.Goals as goal
 
 pub loop-place-preserved : goal.loop-place-preserved
@@ -20,12 +20,12 @@ loop-place-preserved c =
     let start = start_on columns i x within c.index-columns-place.is m down after was c.after-is_down_after.ensures in
     elim c.if-is_down_after-is_down.branch [
       | goal.then-is_down_after-is_down+in_ok-push w ↦
-          let turn = differs_is after down ∙ w.if-is_down_after-is_down.true in
+          let turn = w.if-is_down_after-is_down.true in
           let pushed : w.push.new.self.items ≡ c.loop-place.shapes.items ++ Line m c.loop-place.start i _ ∷ [] =
-          w.in_ok-push.ensures.items ∙ ap (λ k. c.loop-place.shapes.items ++ Line m c.loop-place.start i k ∷ []) w.kind_of_line-kind.ensures in
+          w.in_ok-push.ensures.items ∙ ap (λ k. c.loop-place.shapes.items ++ Line m c.loop-place.start i k ∷ []) w.of-kind.ensures in
           rw (w.shapes-is, w.is_down-is, w.start-is, pushed) (next, sym (rw turn at start), (rw turn at (line _ base _ starts drew)))
       | goal.else-is_down_after-is_down w ↦
-          let turn = differs_is after down ∙ w.if-is_down_after-is_down.false in
+          let turn = w.if-is_down_after-is_down.false in
           rw (w.shapes-is, w.is_down-is, w.start-is) (
             sym (agree after down w.if-is_down_after-is_down.false) ∙ next,
             starts ∙ sym (rw turn at start),

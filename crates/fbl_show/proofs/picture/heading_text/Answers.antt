@@ -2,4 +2,4 @@ use Rattle.fbl_show.proofs.picture.heading_text.Goals as goal
 
 pub returns : goal.returns
 returns c =
-    rw (c.word_for-word.ensures, c.receipts_made-made.ensures, c.receipts_undone-undone.ensures) at c.format.ensures.ok
+    rw (c.receipts_word-word.ensures, c.receipts_made-made.ensures, c.receipts_undone-undone.ensures) at c.format.ensures.ok

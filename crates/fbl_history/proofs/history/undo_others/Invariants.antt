@@ -1,5 +1,5 @@
 use Rattle.fbl_history.proofs.Common.{◌≡◌, ◌≤◌, ◌++◌, drop, take, length, go_on}
-use Rattle.fbl_history.proofs.history.cross.Given as goal
+use Rattle.fbl_history.proofs.history.undo_others.Given as goal
 
 abbrev pub invariant-loop-column : goal.invariant-loop-column
 invariant-loop-column l = record {

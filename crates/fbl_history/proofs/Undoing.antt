@@ -1,5 +1,5 @@
 -- How a history goes on to a trace.
-use Rattle.fbl_history.proofs.Common.{◌≡◌, Bool, true, false, List, [], ◌∷◌, drop, refl, sym, ap, ◌∙◌, arith, nat_tests, Column, is_standing, crossed, same_standing, standing}
+use Rattle.fbl_history.proofs.Common.{◌≡◌, Bool, true, false, List, [], ◌∷◌, drop, refl, sym, ap, ◌∙◌, arith, nat_tests, Column, is_standing, undo, same_standing, standing}
 use Rattle.fbl_history.proofs.Common.{is_next, go_on, ◌⊎◌, Send, Receipt, column_then, trace_then, GoesOnFrom}
 
 -- columns of the same standing event are equal, and stand
@@ -8,11 +8,11 @@ same-is (Send q k p false) (Send q' k' p' false) h = grind (arith, nat_tests)
 same-is (Receipt p r q k s false) (Receipt p' r' q' k' s' false) h = grind (arith, nat_tests)
 same-is _ _ h = absurd cc
 
--- a crossed column does not stand
-pub crossed-lies : (column : Column) → is_standing (crossed column) ≡ false
-crossed-lies (Send q k p undone) = refl
-crossed-lies (Receipt p r q k s undone) = refl
-crossed-lies _ = refl
+-- a undone column does not stand
+pub undone-lies : (column : Column) → is_standing (undo column) ≡ false
+undone-lies (Send q k p undone) = refl
+undone-lies (Receipt p r q k s undone) = refl
+undone-lies _ = refl
 
 -- what is next stands
 pub next-is : (column : Column) (trace : List Column) → is_next column trace ≡ true → (trace ≡ column ∷ drop 1 trace) × (is_standing column ≡ true)
@@ -32,14 +32,14 @@ standing-trace (column ∷ columns) trace stand = at (is_next column trace) (is_
       let whole : standing (column ∷ drop 1 trace) ≡ column ∷ drop 1 trace = ap standing (sym next.0) ∙ stand ∙ next.0 in
       let rest : standing (drop 1 trace) ≡ drop 1 trace = ap (drop 1) (rw next.1 at whole) in
       rw (is, next.1, next.1) (ap (λ xs. column ∷ xs) (later (drop 1 trace) rest) ∙ sym next.0)
-  at false true is stands later = rw (is, stands, crossed-lies column) (later trace stand)
+  at false true is stands later = rw (is, stands, undone-lies column) (later trace stand)
   at false false is stands later = rw (is, stands, stands) (later trace stand)
 
--- nothing but what stands is crossed, and nothing that is crossed comes back
-stays_or_crossed : (column : Column) (trace : List Column)
-    → (column_then column trace ≡ column) ⊎ ((is_standing column ≡ true) × (column_then column trace ≡ crossed column))
-stays_or_crossed column trace = grind arith
+-- nothing but what stands is undone, and nothing that is undone comes back
+stays_or_undone : (column : Column) (trace : List Column)
+    → (column_then column trace ≡ column) ⊎ ((is_standing column ≡ true) × (column_then column trace ≡ undo column))
+stays_or_undone column trace = grind arith
 
 pub goes_on : (columns trace : List Column) → GoesOnFrom columns (go_on columns trace)
 goes_on [] trace = tt
-goes_on (column ∷ columns) trace = (stays_or_crossed column trace, goes_on columns (trace_then column trace))
+goes_on (column ∷ columns) trace = (stays_or_undone column trace, goes_on columns (trace_then column trace))
