@@ -27,6 +27,6 @@ pub returns-in-Err-crash : goal.returns-in-Err-crash
 returns-in-Err-crash g c =
     let at = ap (struck_at c.args.plan.now) (sym c.receipts_ever-ever.ensures) ∙ sym c.planned.ensures ∙ c.in-Some.is in
     record {
-      turn = left_down (c.in_default.ensures.delivered.0, (c.in_default.field-0, c.in_default.ensures.delivered.1)) at c.in-Err-crash.refusal
+      turn = left_down (c.in_default.ensures.delivered.0, (c.in_default.field-0, c.in_default.ensures.delivered.1)) at c.in-Err-crash.field-0
           (c.requires.plan) c.in-Err-crash.ensures.refused c.add.ensures;
     }
