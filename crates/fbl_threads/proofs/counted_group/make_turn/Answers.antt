@@ -1,6 +1,6 @@
 use Rattle.fbl_threads.proofs.Common.{sym, ap, ◌∙◌, struck_at}
 use Rattle.fbl_threads.proofs.Reaching.{met_full, met_no_memory, committed, crashed, left_down}
-use Rattle.fbl_threads.proofs.ledgered.make_turn.Goals as goal
+use Rattle.fbl_threads.proofs.counted_group.make_turn.Goals as goal
 
 pub returns-in-Full : goal.returns-in-Full
 returns-in-Full g c = record { turn = met_full c.in-Full.is c.in-Err.ensures.refused c.in-Err.ensures.unchanged }
