@@ -2,10 +2,10 @@
 //! it is struck and recovered, and then two workers deliver the rest, and strike and recover another member on the way.
 #![tactic(auto)]
 
-ghost use Rattle.std.specs.Prelude.{◌≡◌, ◌≤◌, ◌<◌, ℕ};
+ghost use Rattle.std.specs.Prelude.{◌≡◌, ◌≤◌, ◌<◌, ℕ, IsTrue};
+ghost use Rattle.fbl_group.specs.Readers.{is_quiet};
 ghost use Rattle.fbl_law.specs.Groups.{member as record_of};
 ghost use Rattle.fbl_law.specs.StepLaws.{HoldsOf};
-ghost use Rattle.fbl_threads.specs.Drains.{IsQuiet};
 ghost use Rattle.fbl_election.specs.Elections.{HasTaken, IsPassedOn, ReachesAll, greatest};
 
 mod candidate;
@@ -34,7 +34,7 @@ fn bringing(from: Member, to: Member, value: u32) -> Start
 fn elected(group: &Group<Candidate>)
     ensures brought { HoldsOf group.now (HasTaken group.now.config) (IsPassedOn group.now.config) }
     ensures most { HoldsOf group.now (λ m state. state ≤ greatest group.now.config.starts) (λ from to note. note.value ≤ greatest group.now.config.starts) }
-    ensures agreed { ReachesAll group.now.config → IsQuiet group.now → (m : ℕ) → m < group.now.config.members → (record_of group.now m).state ≡ greatest group.now.config.starts }
+    ensures agreed { ReachesAll group.now.config → IsTrue (is_quiet group.now) → (m : ℕ) → m < group.now.config.members → (record_of group.now m).state ≡ greatest group.now.config.starts }
 {
     group.kept();
     group.none_lost();
@@ -59,7 +59,7 @@ fn report<R: Print>(rt: &R, when: &str, group: &Group<Candidate>) -> Result<()>
 fn declare<R: Print>(rt: &R, group: &Group<Candidate>) -> Result<()>
     requires greatest { greatest group.now.config.starts ≡ 9 }
     requires reaches { ReachesAll group.now.config }
-    requires quiet { IsQuiet group.now }
+    requires quiet { IsTrue (is_quiet group.now) }
 {
     elected(group);
     for number in 0..group.config().members() {

@@ -26,7 +26,11 @@ of_strike strike.TooMany = crash.TooMany
 abbrev pub IsStrikeRefused : GroupRecord → GroupRecord → Members → CrashRefusal → Type 0
 IsStrikeRefused old new set refusal = (reason : StrikeRefusal) × (strike_refusal old set ≡ Some reason) × (of_strike reason ≡ refusal) × (new ≡ old)
 
+-- the strike of the members leads from old to new, in which they are down
+abbrev pub IsStrikeAlone : GroupRecord → GroupRecord → Members → Type 0
+IsStrikeAlone old new set = (strike_refusal old set ≡ None) × ((struck : Struck) × Strikes old new set struck)
+
 -- what a refused crash leaves: for lack of memory the strike stands, else nothing has changed
 abbrev pub CrashLeaves : GroupRecord → GroupRecord → Members → CrashRefusal → Type 0
-CrashLeaves old new set crash.Memory = (strike_refusal old set ≡ None) × ((struck : Struck) × Strikes old new set struck)
+CrashLeaves old new set crash.Memory = IsStrikeAlone old new set
 CrashLeaves old new set refusal = IsStrikeRefused old new set refusal

@@ -37,7 +37,7 @@ IsRunText (Ok drained) text = IsDrainedText drained text
 IsRunText (Err refusal) text = IsRefusedRunText refusal text
 
 -- what is told beside the line of a run with this plan, where the group had made and undone so many receipts and is now like this: the counts of the
--- group, and those of each worker as the drain answered them; or that it was refused
+-- group, and those of each worker as the drain answered them; or why it was refused
 abbrev pub IsRunAccount : List Strike → ℕ → ℕ → GroupRecord → Result Drained DrainRefusal → Account → Type 0
 IsRunAccount plan made undone now (Ok drained) account =
     account ≡ Ran (record {
@@ -48,7 +48,7 @@ IsRunAccount plan made undone now (Ok drained) account =
       by_worker = drained.by_worker;
       undone_by_worker = drained.undone_by_worker;
     })
-IsRunAccount plan made undone now (Err refusal) account = IsRunRefusal plan now account
+IsRunAccount plan made undone now (Err refusal) account = IsRunRefusal plan now refusal account
 
 -- a run with this plan by this many workers may lead from old to new, print the text and have the account: it follows by an
 -- answer of the workers' drain, whose line the text is, and whose counts the account has

@@ -24,7 +24,8 @@ use Rattle.fbl_group.specs.Deliveries.{deliver_refusal, Delivers}
 use Rattle.fbl_group.specs.Names.{checkpoint_name, deliver_name, dump_group_name, recover_name, strike_name}
 use Rattle.fbl_group.specs.Recoveries.{Recovers}
 use Rattle.fbl_explain.specs.declared.account.Account.{Account}
-use Rattle.fbl_explain.specs.declared.account.Account.TheVariants.{Done, Lost, Undone}
+use Rattle.fbl_explain.specs.declared.account.Account.TheVariants.{Done, Lost, Refused, Undone}
+use Rattle.fbl_explain.specs.declared.reason.Reason.TheVariants as reasons
 use Rattle.fbl_group.specs.Strikes.{lost_receipts, strike_refusal, Strikes}
 use Rattle.fbl_lines.specs.declared.lines.Totals.{Totals}
 use Rattle.fbl_lines.specs.Lines.{checkpoint_line, deliver_line, refused_line, states_line, report_lines, strike_line, recover_line}
@@ -38,7 +39,7 @@ use Rattle.fbl_script.specs.declared.script.Command.TheVariants as commands
 use Rattle.fbl_input.specs.Faults.{FailsToRead}
 use Rattle.fbl_script.specs.Scripts.{Outline, IsScriptOf, IsScriptFault}
 use Rattle.fbl_play.specs.Texts.{shown_states, shown_statuses, AreTotals}
-use Rattle.fbl_play.specs.Reasons.{IsRefusal}
+use Rattle.fbl_play.specs.Reasons.{checkpoint_reason, deliver_reason, no_such_member, strike_reason}
 use Rattle.fbl_play.specs.RunSteps.{RunStep}
 
 -- ---- one command
@@ -48,7 +49,7 @@ abbrev pub DeliveryBy : Option DeliverRefusal → Next → GroupRecord → ℕ �
 DeliveryBy None next old to from new text account =
     (answer : Receipted) × Delivers next old new to from answer × (text ≡ deliver_line to from answer.rsn answer.carried answer.state) × (account ≡ Done)
 DeliveryBy (Some refusal) next old to from new text account =
-    (new ≡ old) × (text ≡ refused_line (codes "deliver") (deliver_name refusal)) × IsRefusal old account
+    (new ≡ old) × (text ≡ refused_line (codes "deliver") (deliver_name refusal)) × (account ≡ Refused (deliver_reason old to from refusal))
 
 abbrev pub DeliverStep : Next → GroupRecord → ℕ → ℕ → GroupRecord → List ℕ → Account → Type 0
 DeliverStep next old to from new text account = DeliveryBy (deliver_refusal next old to from) next old to from new text account
@@ -77,7 +78,8 @@ NamesUndone receipts _ = ⊥
 abbrev pub StrikeBy : Option StrikeRefusal → GroupRecord → Members → GroupRecord → List ℕ → Account → Type 0
 StrikeBy None old struck new text account =
     (answer : Struck) × Strikes old new struck answer × (text ≡ strike_line struck answer.lost) × NamesLost (lost_receipts new) account
-StrikeBy (Some refusal) old struck new text account = (new ≡ old) × (text ≡ refused_line (codes "strike") (strike_name refusal)) × IsRefusal old account
+StrikeBy (Some refusal) old struck new text account =
+    (new ≡ old) × (text ≡ refused_line (codes "strike") (strike_name refusal)) × (account ≡ Refused (strike_reason old struck refusal))
 
 abbrev pub StrikeStep : GroupRecord → Members → GroupRecord → List ℕ → Account → Type 0
 StrikeStep old struck new text account = StrikeBy (strike_refusal old struck) old struck new text account
@@ -85,7 +87,7 @@ StrikeStep old struck new text account = StrikeBy (strike_refusal old struck) ol
 -- a recovery where nobody is down
 abbrev pub RefusedRecovery : GroupRecord → GroupRecord → List ℕ → Account → Type 0
 RefusedRecovery old new text account =
-    (old.down ≡ set.empty) × (new ≡ old) × (text ≡ refused_line (codes "recover") (recover_name NotDown)) × IsRefusal old account
+    (old.down ≡ set.empty) × (new ≡ old) × (text ≡ refused_line (codes "recover") (recover_name NotDown)) × (account ≡ Refused reasons.NotDown)
 
 -- a recovery of those that are down
 abbrev pub AcceptedRecovery : Next → GroupRecord → GroupRecord → List ℕ → Account → Type 0
@@ -101,7 +103,7 @@ RecoverStep next old new text account = RefusedRecovery old new text account ⊎
 abbrev pub IsDumpText : GroupRecord → Members → List ℕ → Account → Type 0
 IsDumpText r strike text account =
     (AllBelow strike r.config.members × (text ≡ dump_line (dump_of r strike)) × (account ≡ Done))
-    ⊎ (¬ (AllBelow strike r.config.members) × (text ≡ refused_line (codes "dump") (dump_group_name BadStrike)) × IsRefusal r account)
+    ⊎ (¬ (AllBelow strike r.config.members) × (text ≡ refused_line (codes "dump") (dump_group_name BadStrike)) × (account ≡ Refused (no_such_member r strike)))
 
 abbrev pub DumpStep : GroupRecord → Members → GroupRecord → List ℕ → Account → Type 0
 DumpStep old strike new text account = (new ≡ old) × IsDumpText old strike text account
@@ -110,7 +112,7 @@ DumpStep old strike new text account = (new ≡ old) × IsDumpText old strike te
 abbrev pub CheckpointBy : Option CheckpointRefusal → GroupRecord → ℕ → GroupRecord → List ℕ → Account → Type 0
 CheckpointBy None old p new text account = IsCheckpoint old new p × (text ≡ checkpoint_line p (member_checkpoint new p).received) × (account ≡ Done)
 CheckpointBy (Some refusal) old p new text account =
-    (new ≡ old) × (text ≡ refused_line (codes "checkpoint") (checkpoint_name refusal)) × IsRefusal old account
+    (new ≡ old) × (text ≡ refused_line (codes "checkpoint") (checkpoint_name refusal)) × (account ≡ Refused (checkpoint_reason old p refusal))
 
 abbrev pub CheckpointStep : GroupRecord → ℕ → GroupRecord → List ℕ → Account → Type 0
 CheckpointStep old p new text account = CheckpointBy (checkpoint_refusal old p) old p new text account

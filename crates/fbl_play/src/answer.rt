@@ -2,7 +2,7 @@
 
 ghost use Rattle.std.specs.Prelude.{◌≡◌, IfOk, Ok};
 
-use fbl_explain::{Account, Reason};
+use fbl_explain::Account;
 use std::alloc::AllocError;
 
 /// The lines that a command prints, and what it did beside what they say.

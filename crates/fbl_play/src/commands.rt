@@ -1,6 +1,6 @@
 //! The commands of a script, each with the lines that it prints.
 
-ghost use Rattle.std.specs.Prelude.{◌≡◌, ◌≤◌, ◌<◌, IfOk, OnErr, string_bytes};
+ghost use Rattle.std.specs.Prelude.{◌≡◌, ◌<◌, IfOk, string_bytes};
 ghost use Rattle.fbl_play.specs.Runs.{Step, CheckpointStep, DeliverStep, IsReport, IsDumpText, StrikeStep, RecoverStep};
 ghost use Rattle.fbl_play.specs.Texts.{shown_state as shown_state_of, shown_states, shown_status as shown_status_of, shown_statuses, AreTotals};
 ghost use Rattle.fbl_lines.specs.Lines.{states_line};
@@ -211,8 +211,6 @@ pub(crate) fn run_command<B: Behaviour + Send + Sync, T: Threads + Wait + Sync>(
     mut group: Group<B>,
     command: &Command,
 ) -> (Group<B>, Result<Answer, AllocError>)
-    requires some { 1 ≤ workers }
-    requires few { workers ≤ 8 }
     ensures { IfOk result.1 (λ answer. Step B.next workers group command.now result.0 (string_bytes answer.text) answer.account) }
 {
     let answer = match command {

@@ -1,7 +1,7 @@
 //! Plays a script.
 
-ghost use Rattle.std.specs.Prelude.{◌≡◌, ◌≤◌, ℕ, length, IfOk, OnErr, IfSome, string_bytes};
-ghost use Rattle.fbl_script.specs.Scripts.{outline};
+ghost use Rattle.std.specs.Prelude.{IfSome};
+ghost use Rattle.fbl_base.specs.Configs.{WorkersAllowed};
 ghost use Rattle.fbl_play.specs.Runs.{Plays, ReadsAndPlays, next_of};
 ghost use Rattle.fbl_play.specs.Telling.{Tells, TellsOn};
 
@@ -26,8 +26,6 @@ fn play_with<B: Behaviour + Send + Sync, T: Threads + Wait + Sync, W: Write, O: 
     commands: &[Command],
     observer: &mut O,
 ) -> Result<(), RunFault>
-    requires some { 1 ≤ workers }
-    requires few { workers ≤ 8 }
     ensures { TellsOn O.hears_before O.hears_after B.next workers config commands.now (W.contents writer.old) (W.contents writer.new) observer.old observer.new result }
 {
     let mut group: Group<B> = Group::new(alloc, config)?;
@@ -55,8 +53,6 @@ fn play_script<T: Threads + Wait + Sync, W: Write, O: Observer>(
     script: Script,
     observer: &mut O,
 ) -> Result<(), RunFault>
-    requires some { 1 ≤ workers }
-    requires few { workers ≤ 8 }
     ensures { TellsOn O.hears_before O.hears_after (next_of script.behaviour) workers script.config script.commands.items (W.contents writer.old) (W.contents writer.new) observer.old observer.new result }
 {
     let Script {
@@ -93,8 +89,7 @@ pub fn play_observed<T: Threads + Wait + Sync, W: Write, O: Observer>(
     workers: u8,
     observer: &mut O,
 ) -> Result<(), RunFault>
-    requires some { 1 ≤ workers }
-    requires few { workers ≤ 8 }
+    requires { WorkersAllowed workers }
     ensures plays { Plays workers input.now (W.contents writer.old) (W.contents writer.new) result }
     ensures tells { Tells O.hears_before O.hears_after workers input.now (W.contents writer.old) (W.contents writer.new) observer.old observer.new result }
 {
@@ -112,8 +107,7 @@ pub fn play_bytes<T: Threads + Wait + Sync, W: Write>(
     writer: &mut W,
     workers: u8,
 ) -> Result<(), RunFault>
-    requires some { 1 ≤ workers }
-    requires few { workers ≤ 8 }
+    requires { WorkersAllowed workers }
     ensures { Plays workers input.now (W.contents writer.old) (W.contents writer.new) result }
 {
     play_observed(rt, alloc, input, writer, workers, &mut NoObserver)
@@ -127,8 +121,7 @@ pub fn play<T: Threads + Wait + Sync, R: Read, W: Write>(
     writer: &mut W,
     workers: u8,
 ) -> Result<(), RunFault>
-    requires some { 1 ≤ workers }
-    requires few { workers ≤ 8 }
+    requires { WorkersAllowed workers }
     ensures { IfSome (R.remaining reader.old) (λ input. ReadsAndPlays workers input (W.contents writer.old) (W.contents writer.new) result) }
 {
     match read_input(alloc, reader) {

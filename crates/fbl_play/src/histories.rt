@@ -1,6 +1,6 @@
 //! The history of a script's run.
 
-ghost use Rattle.std.specs.Prelude.{◌≡◌, IfOk};
+ghost use Rattle.std.specs.Prelude.{IfOk};
 ghost use Rattle.fbl_base.specs.Configs.{WorkersAllowed};
 ghost use Rattle.fbl_base.specs.MemberSets.{AllBelow};
 ghost use Rattle.fbl_play.specs.Histories.{HistoryStep, HistoryTells, HistoryTellsOn, HistoryTellsScript, IsHistoryOfBytes};
@@ -65,7 +65,6 @@ fn history_with<B: Behaviour + Send + Sync, T: Threads + Wait + Sync, O: Observe
     commands: &[Command],
     observer: &mut O,
 ) -> Result<History, RunFault>
-    requires { WorkersAllowed workers }
     ensures { HistoryTellsOn O.hears_before O.hears_after B.next workers config commands.now observer.old observer.new result }
 {
     let mut group: Group<B> = Group::new(alloc, config)?;
@@ -96,7 +95,6 @@ fn history_under<T: Threads + Wait + Sync, O: Observer>(
     commands: &[Command],
     observer: &mut O,
 ) -> Result<History, RunFault>
-    requires { WorkersAllowed workers }
     ensures { HistoryTellsOn O.hears_before O.hears_after (next_of behaviour) workers config commands.now observer.old observer.new result }
 {
     match behaviour {
@@ -117,7 +115,6 @@ fn history_of_script<T: Threads + Wait + Sync, O: Observer>(
     script: Script,
     observer: &mut O,
 ) -> Result<RunHistory, RunFault>
-    requires { WorkersAllowed workers }
     ensures { HistoryTellsScript O.hears_before O.hears_after workers (outline script) observer.old observer.new result }
 {
     let Script {

@@ -1,6 +1,6 @@
 //! Runs by workers.
 
-ghost use Rattle.std.specs.Prelude.{◌≡◌, ◌≤◌, false, IfErr, IfOk, string_bytes};
+ghost use Rattle.std.specs.Prelude.{◌≡◌, false, IfErr, IfOk, string_bytes};
 ghost use Rattle.fbl_lines.specs.Lines.{run_line};
 ghost use Rattle.fbl_play.specs.Reasons.{IsPlanRefused};
 ghost use Rattle.fbl_play.specs.RunSteps.{RunStep, IsRefusedRunText, IsRunAccount, IsRunText, end_of as end_of_run};

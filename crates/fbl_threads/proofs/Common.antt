@@ -1,11 +1,11 @@
 -- The names that proofs of this crate take from outside: of the standard library, of the crates below, and of the definitions here.
-pub use Rattle.std.proofs.Common.{Bool, Decides, List, None, Option, Some, [], ap, append-nil, arith, cond, eq-eqb, eqb, false, filter, find, get_or, get_or-set_other, get_or-set_same, inl, inr}
+pub use Rattle.std.proofs.Common.{Bool, List, None, Option, Some, [], ap, append-nil, arith, cond, eq-eqb, eqb, false, filter, find, get_or, get_or-set_other, get_or-set_same, inl, inr}
 pub use Rattle.std.proofs.Common.{length, length-set, map, ne_eqb, option_map, refl, rules, set, slice_index, subst, suc, sum, sym, take, true, true≢false, zero, ℕ, ◌++◌, ◌+◌, ◌<◌}
 pub use Rattle.std.proofs.Common.{◌==◌, ◌||◌, ◌↔◌, ◌∙◌, ◌∷◌, ◌≡◌, ◌≤◌, ◌⊎◌}
 pub use Rattle.std.proofs.Math.ListN.{replicate}
 pub use Rattle.std.proofs.Math.Logic.{∥∥₁_elim, ∥∥₁_map}
 pub use Rattle.std.proofs.lemmas.Bool.{cases_lt, not-true}
-pub use Rattle.std.proofs.lemmas.Bool.Decides.{Decides-and, Decides-eqb, nat_tests}
+pub use Rattle.std.proofs.lemmas.Bool.Decides.{nat_tests}
 pub use Rattle.std.proofs.lemmas.List.{ext_get_or, length-replicate, set-get_or, take_all}
 pub use Rattle.std.proofs.lemmas.List.Elements.{filter-append}
 pub use Rattle.std.proofs.lemmas.List.Folds.{sum_by-replicate}
@@ -26,7 +26,6 @@ pub use Rattle.fbl_base.specs.declared.trace.Event.{Event}
 pub use Rattle.fbl_base.specs.declared.trace.Mark.{Mark}
 pub use Rattle.fbl_group.proofs.Striking.{is_allowed}
 pub use Rattle.fbl_group.specs.Crashes.{CrashLeaves, Crashes}
-pub use Rattle.fbl_group.specs.Readers.{is_quiet}
 pub use Rattle.fbl_group.specs.Recoveries.{Recovers}
 pub use Rattle.fbl_group.specs.Strikes.{strike_refusal}
 pub use Rattle.fbl_group.specs.Tickets.{IsCommitRefusal, commit_refusal}
@@ -37,7 +36,7 @@ pub use Rattle.fbl_group.specs.declared.refusals.CommitRefusal.TheVariants.{Down
 pub use Rattle.fbl_group.specs.declared.refusals.CrashRefusal.{CrashRefusal}
 pub use Rattle.fbl_group.specs.declared.ticket.Ticket.{Ticket}
 pub use Rattle.fbl_law.specs.GroupSteps.{IsDelivery, IsStrike, delivery_events}
-pub use Rattle.fbl_law.specs.Groups.{GroupRecord, knowledge, messages_in_flight}
+pub use Rattle.fbl_law.specs.Groups.{GroupRecord, knowledge}
 pub use Rattle.fbl_law.specs.Promises.{KeepsHolders}
 pub use Rattle.fbl_law.specs.Steps.{IsEventCut, Stays}
 pub use Rattle.fbl_member.specs.Members.{Message}
@@ -49,7 +48,7 @@ pub use prog.Atomic.{either}
 pub use Rattle.fbl_threads.specs.Claims.{HasOneHolder, IsClaimed, IsExclusive, IsFree, IsSaidBy, ViewHolds, WordsFollowViews}
 pub use Rattle.fbl_threads.specs.Counted.{counts_of}
 pub use Rattle.fbl_threads.specs.Crossing.{StrikesAsPlanned, planned_at, struck_in, struck_on}
-pub use Rattle.fbl_threads.specs.Drains.{IsAccepted, IsQuiet}
+pub use Rattle.fbl_threads.specs.Drains.{IsAccepted}
 pub use Rattle.fbl_threads.specs.Pasts.{Keeps, TurnsKeep, events_of}
 pub use Rattle.fbl_threads.specs.Plans.{is_named, struck_at}
 pub use Rattle.fbl_threads.specs.Runs.{Commits, Counts, Reached, Turn, lacks_memory, meets_full, more_at}

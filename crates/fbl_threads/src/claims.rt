@@ -77,7 +77,7 @@ impl Join<View> for NoPass {
 #[derive(Clone, Copy, PartialEq, Eq, Debug, Error)]
 #[error("{}", self.name())]
 pub enum ClaimRefusal {
-    /// The table of words is refused for another cause than lack of memory. The present table never does so.
+    /// The table of words is refused for another cause than lack of memory. Nothing answers it: no other cause is known.
     NoTable,
     /// There is no memory for the words.
     Memory,
@@ -143,11 +143,11 @@ impl Model for Claim {
 }
 
 impl<A: Allocator> Claims<A> {
-    /// A word for each of `n` members, 2 to 16, none of whom is claimed, and the first pass. `Err` comes only where the words
-    /// can't be had.
+    /// A word for each of `n` members, 2 to 16, none of whom is claimed, and the first pass.
     pub fn new(alloc: A, n: u8) -> Result<(Claims<A>, Pass), ClaimRefusal>
         requires { (2 ≤ n) × (n ≤ 16) }
-        ensures { IfOk result (λ r. (r.0.words ≡ n) × (r.1 ≡ r.0)) }
+        ensures made { IfOk result (λ r. (r.0.words ≡ n) × (r.1 ≡ r.0)) }
+        ensures refused { IfErr result (λ refusal. refusal ≡ ClaimRefusal.Memory) }
     {
         let words = [0u64; 16];
         match Table::of_words(alloc, &words[..usize::from(n)], &n) {

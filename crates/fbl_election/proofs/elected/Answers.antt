@@ -1,8 +1,9 @@
 use Rattle.std.proofs.Common.{◌≡◌, ℕ, zero, suc, ◌<◌, ◌≤◌, ◌⊎◌, inl, inr, ap, arith}
 use Rattle.std.proofs.lemmas.Bool.{cases_lt}
+use Rattle.std.specs.FinSet as set
 use Rattle.std.proofs.lemmas.Bool.Decides.{nat_tests}
 use Rattle.fbl_base.specs.Configs.{Settings}
-use Rattle.fbl_law.specs.Groups.{member, member_checkpoint, sum_below}
+use Rattle.fbl_law.specs.Groups.{member, member_checkpoint, messages_in_flight, sum_below}
 use Rattle.fbl_election.specs.Elections.{greatest, has_greatest, brought-most, taken-most}
 use Rattle.fbl_election.proofs.elected.Goals as goal
 
@@ -39,6 +40,7 @@ returns-clause-most c =
 pub returns-clause-agreed : goal.returns-clause-agreed
 returns-clause-agreed c reaches quiet m below =
     let r = c.args.group.now in
-    let held = c.none_lost.ensures.settled quiet.1 quiet.0 in
+    let none : (set.len r.down ≡ 0) × (messages_in_flight r ≡ 0) = (grind (arith, nat_tests, quiet), grind (arith, nat_tests, quiet)) in
+    let held = c.none_lost.ensures.settled (set.empty_of_len r.down none.0) none.1 in
     counted r.config m (member r m).state (each-one r.config.members (λ k. has_greatest r.config k (member r k).state)
     (λ k. counts-once r.config k (member r k).state) (omega (arith, reaches, held)) m below)

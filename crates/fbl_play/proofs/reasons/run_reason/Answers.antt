@@ -1,3 +1,4 @@
+use Rattle.fbl_play.proofs.Common.{refl}
 use Rattle.fbl_play.proofs.reasons.run_reason.Goals as goal
 
 pub unreachable-requires : goal.unreachable-requires
@@ -6,5 +7,5 @@ unreachable-requires g c =
     let fits = rw c.config.ensures at c.in-None.ensures in
     fits c.in-BadPlan.field-0 first.0 first.1
 
-pub returns-in-Some-clause-plan : goal.returns-in-Some-clause-plan
-returns-in-Some-clause-plan g c = rw c.config.ensures at c.in-Some.ensures
+pub returns-in-Some : goal.returns-in-Some
+returns-in-Some g c = rw c.in-BadPlan.is (c.in-Some.fault, (rw c.config.ensures at c.in-Some.ensures), refl)

@@ -1,6 +1,6 @@
 use Rattle.fbl_threads.proofs.Common.{sym, ap, ◌∙◌, struck_at}
 use Rattle.fbl_threads.proofs.Reaching.{met_full, met_no_memory, committed, crashed, left_down}
-use Rattle.fbl_threads.proofs.ledgered.make_turn.Goals as goal
+use Rattle.fbl_threads.proofs.counted_group.make_turn.Goals as goal
 
 pub returns-in-Full : goal.returns-in-Full
 returns-in-Full g c = record { turn = met_full c.in-Full.is c.in-Err.ensures.refused c.in-Err.ensures.unchanged }
@@ -27,6 +27,6 @@ pub returns-in-Err-crash : goal.returns-in-Err-crash
 returns-in-Err-crash g c =
     let at = ap (struck_at c.args.plan.now) (sym c.receipts_ever-ever.ensures) ∙ sym c.planned.ensures ∙ c.in-Some.is in
     record {
-      turn = left_down (c.in_default.ensures.delivered.0, (c.in_default.field-0, c.in_default.ensures.delivered.1)) at c.in-Err-crash.refusal
+      turn = left_down (c.in_default.ensures.delivered.0, (c.in_default.field-0, c.in_default.ensures.delivered.1)) at c.in-Err-crash.field-0
           (c.requires.plan) c.in-Err-crash.ensures.refused c.add.ensures;
     }
