@@ -42,7 +42,7 @@ ChecksWell input before after (Ok true) = Checks input before after (Ok Safe)
 ChecksWell input before after (Ok false) = Checks input before after (Ok Unsafe)
 ChecksWell input before after (Err e) = Checks input before after (Err e)
 
--- the task can be done
+-- the task can be done: there can be so many workers
 abbrev pub CanBeDone : Task → Type 0
 CanBeDone (Play workers strict) = WorkersAllowed workers
 CanBeDone (Show workers) = WorkersAllowed workers
@@ -60,27 +60,9 @@ AnswersTask Draw input before after = IsWellDone (Draws input before after)
 abbrev pub ReadsAndAnswersTask : Task → List ℕ → Option (List ℕ) → Option (List ℕ) → Result Bool RunFault → Type 0
 ReadsAndAnswersTask task input before after result = FailsToRead before after result ⊎ AnswersTask task input before after result
 
--- so many workers do a task; where there can't be so many, the command line has a fault, and nothing is written
-abbrev pub IsDoneBy : ℕ → (ℕ → Type 0) → Option (List ℕ) → Option (List ℕ) → ℕ → Type 0
-IsDoneBy workers Ends before after status =
-    (WorkersAllowed workers × Ends status) ⊎ (¬ (WorkersAllowed workers) × (status ≡ 2) × Keeps before after)
-
--- what is left in the writer, and the exit status, where the task is done over an input
-abbrev pub Does : Task → List ℕ → Option (List ℕ) → Option (List ℕ) → ℕ → Type 0
--- a play with so many workers
-Does (Play workers strict) input before after status =
-    IsDoneBy workers (EndsAfter (ReadsAndAnswersTask (Play workers strict) input before after)) before after status
--- the picture of the history of such a play
-Does (Show workers) input before after status =
-    IsDoneBy workers (EndsAfter (ReadsAndAnswersTask (Show workers) input before after)) before after status
--- an audit
-Does Audit input before after status = EndsAfter (ReadsAndAnswersTask Audit input before after) status
--- a check
-Does Check input before after status = EndsAfter (ReadsAndAnswersTask Check input before after) status
--- a drawing
-Does Draw input before after status = EndsAfter (ReadsAndAnswersTask Draw input before after) status
-
--- what is left in the writer, and the exit status, where the order is obeyed over an input: whether it is to explain
--- makes no difference to them
+-- what is left in the writer, and the exit status, where the order is obeyed over an input, whether it is to explain or not:
+-- where its task can't be done, the command line has a fault, and nothing is written
 abbrev pub Obeys : Order → List ℕ → Option (List ℕ) → Option (List ℕ) → ℕ → Type 0
-Obeys order = Does order.task
+Obeys order input before after status =
+    (CanBeDone order.task × EndsAfter (ReadsAndAnswersTask order.task input before after) status)
+    ⊎ (¬ (CanBeDone order.task) × (status ≡ 2) × Keeps before after)

@@ -1,6 +1,7 @@
 //! Draws the history of a script.
 
 ghost use Rattle.std.specs.Prelude.{◌≡◌, ◌≤◌};
+ghost use Rattle.fbl_base.specs.Configs.{WorkersAllowed};
 ghost use Rattle.fbl_script.specs.Scripts.{behaviour_word};
 ghost use Rattle.fbl_show.specs.HistoryPictures.{history_picture};
 ghost use Rattle.fblrun.specs.Showing.{Shows};
@@ -39,8 +40,7 @@ pub(crate) fn show_observed<T: Threads + Wait + Sync, W: Write, O: Observer>(
     workers: u8,
     observer: &mut O,
 ) -> Result<(), RunFault>
-    requires some { 1 ≤ workers }
-    requires few { workers ≤ 8 }
+    requires { WorkersAllowed workers }
     ensures { Shows workers input.now (W.contents writer.old) (W.contents writer.new) result }
 {
     match history_observed(rt, alloc, input, workers, observer) {
