@@ -70,6 +70,6 @@ fn no_claims_are_made_without_memory(rt: HostRuntime) {
             assert!(rt; request > 1, "no request was refused");
             return;
         }
-        assert!(rt; matches!(made, Err(ClaimRefusal::Memory | ClaimRefusal::NoTable)));
+        assert!(rt; matches!(made, Err(ClaimRefusal::Memory)));
     }
 }

@@ -135,7 +135,7 @@ fn is_fair(
                 && drained.quiet == group.is_quiet()
                 && !drained.full
         }
-        Err(DrainRefusal::Memory | DrainRefusal::NoTable | DrainRefusal::NoThread) => {
+        Err(DrainRefusal::Memory | DrainRefusal::NoThread) => {
             before.is_some() && reading_of(group) == before
         }
         Err(refusal) => *refusal == DrainRefusal::Down
