@@ -1,9 +1,9 @@
 -- What a recovery leaves, once the records that were rebuilt are in place.
 use Rattle.fbl_group.proofs.Common.{◌||◌, ◌⊎◌, ◌≡◌, ℕ, ◌+◌, ◌-◌, ◌<◌, ◌≤◌, cond, List, length, map, sym, ap, ◌∙◌, arith, Fits, slice_index_or, filter}
 use Rattle.fbl_group.proofs.Common.{get_or_past, Members, Event, mark_of, Next, Message, MemberRecord, blank, IsUp, IsDown, GroupRecord, channel_in, channel, member, knowledge, marks, receipts}
-use Rattle.fbl_group.proofs.Common.{IsSound, recovery_table, count_in, sent_again, working, sum_below-agree, Recovers, AreReplaced, IsReady, AreRecordsReplaced, w32, w64, ◌^◌, messages_in, IsRecovery}
+use Rattle.fbl_group.proofs.Common.{IsSound, recovery_table, count_in, sent_again, working, sum_below-agree, Recovers, AreReplaced, IsReady, AreRecordsReplaced, w32, w64, ◌^◌, messages_in}
 use Rattle.fbl_group.proofs.Common.{is_replayed, stays_by, recovered_trace, resent_to, IsRebuilt, group_recovery_keeps, cut-undone, recovered_trace-cut, sent_again-short, with-table, working-log}
-use Rattle.fbl_group.proofs.Common.{replayed_in-all, recovered_trace-rebuilt, rebuilt_is_recovered, messages_at}
+use Rattle.fbl_group.proofs.Common.{replayed_in-all, recovered_trace-rebuilt, rebuilt_is_recovered, messages_at, IsRecovery}
 use Rattle.std.specs.FinSet as set
 use Rattle.fbl_group.proofs.Reading.{received-twice}
 
