@@ -2,7 +2,7 @@
 //! deliver the rest, and strike and recover another account on the way. No money is made or lost.
 #![tactic(auto)]
 
-ghost use Rattle.std.specs.Prelude.{◌≡◌, ◌≤◌};
+ghost use Rattle.std.specs.Prelude.{◌≡◌, ◌≤◌, true};
 ghost use Rattle.std.specs.FinSet as set;
 ghost use Rattle.fbl_accounts.specs.Accounts.{opened};
 
@@ -48,6 +48,13 @@ fn report<R: Print>(rt: &R, when: &str, group: &Group<Account>) -> Result<()>
     Ok(())
 }
 
+/// Whether no payment is in flight, and no account is down.
+fn is_settled(group: &Group<Account>) -> bool
+    ensures { result ≡ true → group.now.down ≡ set.empty }
+{
+    group.is_quiet()
+}
+
 /// Runs the accounts until no payment is in flight.
 fn run<R: Print + Threads + Wait + Sync>(rt: &R, alloc: Global) -> Result<()> {
     let a = Member::at(0);
@@ -67,7 +74,8 @@ fn run<R: Print + Threads + Wait + Sync>(rt: &R, alloc: Global) -> Result<()> {
     let set = MemberSet::empty().with(c);
     let plan = [Strike { at: 20, set }];
     let (group, drained) = drain(rt, alloc, group, &plan, 2, 1_000_000, &NoGate);
-    ensure!(drained?.quiet, "payments are left in flight");
+    drained?;
+    ensure!(is_settled(&group), "payments are left in flight");
     report(rt, "drained", &group)?;
     Ok(())
 }

@@ -495,46 +495,56 @@ fn fails_where_help_cannot_be_printed(rt: HostRuntime) -> Result<(), Fail> {
     Ok(())
 }
 
+/// Whether nothing is told, and the status is this one, where all was done, and is well or not.
+fn tells_nothing(alloc: Global, is_well: bool, status: u8) -> bool {
+    let told = told_after(alloc, Ok(is_well));
+    told.has(status, "", "") && told.err.as_str() == ""
+}
+
+/// Whether the fault is told on standard error, in this line alone, and the status is this one.
+fn faults(alloc: Global, fault: RunFault, status: u8, line: &str) -> bool {
+    let told = told_after(alloc, Err(fault));
+    told.has(status, "", line) && told.err.as_str() == line
+}
+
 #[test]
 fn ends_with_the_status_of_each_fault(rt: HostRuntime) {
-    let rows = [
-        (Ok(true), 0, ""),
-        (Ok(false), 1, ""),
-        (Err(RunFault::Read), 3, "fault: read\n"),
-        (Err(RunFault::TooLong), 2, "fault: too long\n"),
-        (Err(RunFault::NotJson), 2, "fault: not json\n"),
-        (Err(RunFault::NotObject), 2, "fault: not an object\n"),
-        (
-            Err(RunFault::BadField(Key::Held)),
+    let alloc = rt.alloc();
+    assert!(rt; tells_nothing(alloc, true, 0) && tells_nothing(alloc, false, 1));
+    let bad_start = ConfigRefusal::BadStart(63);
+    let bad_pair = DumpRefusal::BadHeld(7);
+    assert!(rt; faults(alloc, RunFault::Read, 3, "fault: read\n"));
+    assert!(rt; faults(alloc, RunFault::TooLong, 2, "fault: too long\n"));
+    assert!(rt; faults(alloc, RunFault::NotJson, 2, "fault: not json\n"));
+    assert!(rt; faults(alloc, RunFault::NotObject, 2, "fault: not an object\n"));
+    assert!(rt;
+        faults(
+            alloc,
+            RunFault::BadField(Key::Held),
             2,
-            "fault: bad field held\n",
-        ),
-        (
-            Err(RunFault::BadCommand(1024)),
+            "fault: bad field held\n"
+        )
+    );
+    assert!(rt;
+        faults(
+            alloc,
+            RunFault::BadCommand(1024),
             2,
-            "fault: bad command 1024\n",
-        ),
-        (Err(RunFault::UnknownKey), 2, "fault: unknown key\n"),
-        (
-            Err(RunFault::Config(ConfigRefusal::BadStart(63))),
+            "fault: bad command 1024\n"
+        )
+    );
+    assert!(rt; faults(alloc, RunFault::UnknownKey, 2, "fault: unknown key\n"));
+    assert!(rt;
+        faults(
+            alloc,
+            RunFault::Config(bad_start),
             2,
-            "fault: BadStart 63\n",
-        ),
-        (
-            Err(RunFault::Dump(DumpRefusal::BadHeld(7))),
-            2,
-            "fault: BadHeld 7\n",
-        ),
-        (Err(RunFault::Write), 3, "fault: write\n"),
-        (Err(RunFault::Memory), 4, "fault: memory\n"),
-    ];
-    for (done, status, line) in rows {
-        let told = told_after(rt.alloc(), done);
-        assert!(rt;
-            told.has(status, "", line) && told.err.as_str() == line,
-            "{line}"
-        );
-    }
+            "fault: BadStart 63\n"
+        )
+    );
+    assert!(rt; faults(alloc, RunFault::Dump(bad_pair), 2, "fault: BadHeld 7\n"));
+    assert!(rt; faults(alloc, RunFault::Write, 3, "fault: write\n"));
+    assert!(rt; faults(alloc, RunFault::Memory, 4, "fault: memory\n"));
 }
 
 #[test]
