@@ -2,7 +2,7 @@
 use Rattle.fbl_audit.proofs.Common.{ℕ, Bool, true, false, ◌≡◌, ◌<◌, ◌≤◌, ◌==◌, ◌↔◌, inl, inr, List, [], ◌∷◌, length, map, Some, refl, sym, ap, ◌∙◌, arith}
 use Rattle.fbl_audit.proofs.Common.{get_or, max, zero, suc, slice_get, filter, nat_cmp_total, slice_get_read, false≢true, Members, Determinant, Mark, Send, Receipt, Parts, IsDump, IsDumpOrphan}
 use Rattle.fbl_audit.proofs.Common.{IsLost, At, determinant_of, receipt_of, same_determinant, Depends, depends-from_places, places-from_depends, Has-first, Decides-same_determinant, len-remove_one}
-use Rattle.fbl_audit.proofs.Common.{some_member, IsSafe, SaysUnsafe, receipts_of_dump, Dependents, AreDependents, WellFormed, holders_of, ◌&&◌, Contains, list_any, Any-from_list_any}
+use Rattle.fbl_audit.proofs.Common.{some_member, IsSafe, SaysUnsafe, receipts, Dependents, AreDependents, WellFormed, holders_of, ◌&&◌, Contains, list_any, Any-from_list_any}
 use Rattle.fbl_audit.proofs.Common.{contains-union, len-within}
 use Rattle.fbl_audit.proofs.Common.{list_any-from_Any, and_parts, eqb-true, filter_map-At, eqb-self, UnsafeReceipt, IsLeftOrphan, IsSaidOf, IsUnsafe, LosesReceipt, MayBeLost, struck_by, dependents_at}
 use Rattle.std.specs.FinSet as set
@@ -130,14 +130,14 @@ left_of_receipt dump members q orphan = of_event orphan.1.0 orphan.1.1 orphan.1.
   of_event (Receipt to rsn from ssn) lost depends = (record { from = from; ssn = ssn; to = to; rsn = rsn }, lost, (orphan.0, depends))
 
 -- the run is safe exactly where no receipt of it is unsafe
-pub says_safe : (dump : Parts) (said : List UnsafeReceipt) → SaysUnsafe dump (receipts_of_dump dump) said → (said ≡ []) ↔ IsSafe dump
+pub says_safe : (dump : Parts) (said : List UnsafeReceipt) → SaysUnsafe dump (receipts dump.events) said → (said ≡ []) ↔ IsSafe dump
 says_safe dump said says = (
   λ none members may q orphan.
       let left = left_of_receipt dump members q orphan in
       let has = Has-first left.2.1.1 in
       let among = filter_map-At determinant_of dump.events has.0 (receipt_of left.0) left.0 has.1 refl in
-      (says_none dump (receipts_of_dump dump) said says).0 none among.0 left.0 among.1 (members, may, left.1, (q, left.2)),
-  λ safe. (says_none dump (receipts_of_dump dump) said says).1 (λ i d at u. safe u.0 u.1 u.3.0 (u.3.1.0, (receipt_of d, u.2, u.3.1.1))),
+      (says_none dump (receipts dump.events) said says).0 none among.0 left.0 among.1 (members, may, left.1, (q, left.2)),
+  λ safe. (says_none dump (receipts dump.events) said says).1 (λ i d at u. safe u.0 u.1 u.3.0 (u.3.1.0, (receipt_of d, u.2, u.3.1.1))),
 )
 
 -- who is found to depend on a receipt's place depends on the receipt

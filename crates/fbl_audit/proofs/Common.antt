@@ -28,7 +28,7 @@ pub use Rattle.fbl_base.specs.Rules.{WellFormed}
 pub use Rattle.fbl_base.specs.declared.trace.Determinant.{Determinant}
 pub use Rattle.fbl_base.specs.declared.trace.Mark.{Mark}
 pub use Rattle.fbl_base.specs.declared.trace.Mark.TheVariants.{Receipt, Send}
-pub use Rattle.fbl_audit.specs.Checking.{IsLeftOrphan, IsSafe, IsSaidOf, IsUnsafe, LosesReceipt, MayBeLost, SaysUnsafe, receipts_of_dump, struck_by}
+pub use Rattle.fbl_audit.specs.Checking.{IsLeftOrphan, IsSafe, IsSaidOf, IsUnsafe, LosesReceipt, MayBeLost, SaysUnsafe, struck_by}
 pub use Rattle.fbl_audit.specs.Dependents.{AreDependents, dependents_at, dependents_by, known_after, known_of, message_taken_by, same_addressed_message}
 pub use Rattle.fbl_audit.specs.Holders.{holders_of}
 pub use Rattle.fbl_audit.specs.Laws.{HasAlwaysNoOrphans, SafeLaw}

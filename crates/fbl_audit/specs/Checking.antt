@@ -3,7 +3,7 @@ use Rattle.std.specs.Prelude.{ℕ, ◌≡◌, ◌≤◌, ◌↔◌, ◌⊎◌, t
 use Rattle.std.specs.FinSet as set
 use Rattle.fbl_base.specs.declared.trace.Determinant.{Determinant}
 use Rattle.fbl_base.specs.Audit.{Parts, IsHeldOutside, IsDumpOrphan}
-use Rattle.fbl_base.specs.Events.{receipt_of, receipts}
+use Rattle.fbl_base.specs.Events.{receipt_of}
 use Rattle.fbl_base.specs.MemberSets.{AllBelow, Members}
 use Rattle.fbl_base.specs.Precedence.{Depends}
 use Rattle.fbl_audit.specs.declared.checking.UnsafeReceipt.{UnsafeReceipt}
@@ -53,7 +53,3 @@ SaysUnsafe dump [] said = said ≡ []
 SaysUnsafe dump (d ∷ ds) said =
     (¬ (IsUnsafe dump d) × SaysUnsafe dump ds said)
     ⊎ ((first : UnsafeReceipt) × (rest : List UnsafeReceipt) × (said ≡ first ∷ rest) × IsSaidOf dump d first × SaysUnsafe dump ds rest)
-
--- the receipts of a dump, in the order of the events
-abbrev pub receipts_of_dump : Parts → List Determinant
-receipts_of_dump dump = receipts dump.events

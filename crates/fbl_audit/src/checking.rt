@@ -3,9 +3,9 @@
 ghost use Rattle.std.specs.Prelude.{◌≡◌, ◌↔◌, ℕ, true, [], IfOk, MatchOption};
 ghost use Rattle.std.specs.FinSet as set;
 ghost use Rattle.fbl_base.specs.Audit.{IsDump};
-ghost use Rattle.fbl_base.specs.Events.{receipt_of};
+ghost use Rattle.fbl_base.specs.Events.{receipt_of, receipts};
 ghost use Rattle.fbl_base.specs.Precedence.{Depends};
-ghost use Rattle.fbl_audit.specs.Checking.{IsSafe, IsSaidOf, IsUnsafe, SaysUnsafe, receipts_of_dump};
+ghost use Rattle.fbl_audit.specs.Checking.{IsSafe, IsSaidOf, IsUnsafe, SaysUnsafe};
 ghost use Rattle.fbl_audit.specs.Holders.{holders_of};
 
 use crate::dependents::Dependents;
@@ -58,7 +58,7 @@ fn said_of(
 /// The time taken is linear in the events and the held pairs. `Err` comes only where there is no memory for the indexes or for
 /// the answer.
 pub fn unsafe_receipts(alloc: Global, dump: &Dump) -> Result<Vec<UnsafeReceipt>, AllocError>
-    ensures said { IfOk result (λ v. SaysUnsafe dump.now (receipts_of_dump dump.now) v.items) }
+    ensures said { IfOk result (λ v. SaysUnsafe dump.now (receipts dump.now.events) v.items) }
     ensures safe { IfOk result (λ v. (v.items ≡ []) ↔ IsSafe dump.now) }
 {
     let holders = Holders::of(alloc, dump)?;

@@ -15,7 +15,7 @@ abbrev pub event_mark : Parts → ℕ → Mark → Shape
 event_mark dump place (Send from ssn to) = shape.Send place from ssn to false
 event_mark dump place (Receipt to rsn from ssn) =
     let d : Determinant = record { from = from; ssn = ssn; to = to; rsn = rsn } in
-    shape.Held place to rsn from ssn (kind_of dump d) (holders_of dump d)
+    shape.Held place d (kind_of dump d) (holders_of dump d)
 
 abbrev pub event_marks : Parts → ℕ → Mark → List Shape
 event_marks dump place e = event_mark dump place e ∷ []

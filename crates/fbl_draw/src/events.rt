@@ -28,10 +28,7 @@ fn mark(audit: &Audit, place: usize, event: Mark) -> Shape
             let determinant = Determinant { from, ssn, to, rsn };
             Shape::Held {
                 column: place,
-                to,
-                rsn,
-                from,
-                ssn,
+                determinant,
                 kind: receipt_kind(audit, &determinant),
                 holders: audit.holders(&determinant),
             }

@@ -15,9 +15,10 @@ pub use Rattle.std.specs.Char.{is_ascii_digit}
 pub use Rattle.std.specs.Cmp.{nat_cmp_total}
 pub use Rattle.std.specs.List.{All, filter, list_all, list_any, prefix_len, range_with_len, starts_with}
 pub use Rattle.std.specs.Str.{IsUtf8}
-pub use Rattle.fbl_audit.specs.Checking.{IsSafe, SaysUnsafe, receipts_of_dump}
+pub use Rattle.fbl_audit.specs.Checking.{IsSafe, SaysUnsafe}
 pub use Rattle.fbl_audit.specs.declared.checking.UnsafeReceipt.{UnsafeReceipt}
 pub use Rattle.fbl_base.specs.Audit.{IsDump, Parts, RefusesDump, lost_determinants}
+pub use Rattle.fbl_base.specs.Events.{receipts}
 pub use Rattle.fbl_base.specs.MemberSets.{AllBelow, member_list}
 pub use Rattle.fbl_base.specs.declared.trace.Determinant.{Determinant}
 pub use Rattle.fbl_base.specs.declared.trace.Mark.{Mark}

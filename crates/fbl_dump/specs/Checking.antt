@@ -2,7 +2,8 @@
 use Rattle.std.specs.Prelude.{◌≡◌, ℕ, List, [], ◌∷◌, Option, Result}
 use Rattle.std.specs.List.{flat_map}
 use Rattle.fbl_base.specs.Audit.{Parts}
-use Rattle.fbl_audit.specs.Checking.{IsSafe, SaysUnsafe, receipts_of_dump}
+use Rattle.fbl_base.specs.Events.{receipts}
+use Rattle.fbl_audit.specs.Checking.{IsSafe, SaysUnsafe}
 use Rattle.fbl_audit.specs.declared.checking.UnsafeReceipt.{UnsafeReceipt}
 use Rattle.fbl_lines.specs.Lines.{safe_line, unsafe_line}
 use Rattle.fbl_input.specs.declared.fault.RunFault.{RunFault}
@@ -26,7 +27,7 @@ check_lines (first ∷ rest) = unsafe_lines (first ∷ rest)
 
 -- the lines of the check of a dump: exactly its unsafe receipts are said
 abbrev pub IsCheckText : Parts → List ℕ → Type 0
-IsCheckText dump text = (said : List UnsafeReceipt) × SaysUnsafe dump (receipts_of_dump dump) said × (text ≡ check_lines said)
+IsCheckText dump text = (said : List UnsafeReceipt) × SaysUnsafe dump (receipts dump.events) said × (text ≡ check_lines said)
 
 -- the verdict on the dump, with the lines of its check
 abbrev pub IsChecked : Parts → Verdict → List ℕ → Type 0

@@ -13,8 +13,8 @@ ghost use Rattle.fbl_dump.specs.Dumps.{IsDumpOf, IsDumpFault, IsDumpMisfit, IsDu
 use fbl_base::audit::{Dump, checked_dump};
 use fbl_base::{Determinant, Mark, Member, RawDump};
 use fbl_input::shapes::{
-    ByteShape, Shape, count_in, is_named, list_in, member_in, no_other_key, object_in, set_field,
-    value_field, value_in, values_field,
+    ByteShape, JsonShape, count_in, is_named, list_in, member_in, no_other_key, object_in,
+    set_field, value_field, value_in, values_field,
 };
 use fbl_input::{InputFault, InputKind, Key, RunFault};
 use serde_json::Value;
@@ -58,7 +58,7 @@ fn event_of(list: &[Value]) -> Option<Mark>
 /// An event: a list that begins with its name.
 struct EventShape;
 
-impl Shape<Mark> for EventShape {
+impl JsonShape<Mark> for EventShape {
     ghost use Rattle.fbl_input.specs.Items.{event_shape};
 
     ghost shape = { event_shape };
@@ -87,7 +87,7 @@ fn pair_of(list: &[Value]) -> Option<(Member, Determinant)>
 /// A held pair: a list of the holder and the parts of the determinant.
 struct PairShape;
 
-impl Shape<(Member, Determinant)> for PairShape {
+impl JsonShape<(Member, Determinant)> for PairShape {
     ghost use Rattle.fbl_input.specs.Items.{pair_shape};
 
     ghost shape = { pair_shape };

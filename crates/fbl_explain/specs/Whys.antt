@@ -4,9 +4,9 @@ use Rattle.std.specs.List.{AllZip}
 use Rattle.fbl_base.specs.MemberSets.{Members}
 use Rattle.fbl_base.specs.declared.trace.Determinant.{Determinant}
 use Rattle.fbl_base.specs.Audit.{Parts, lost_determinants}
-use Rattle.fbl_base.specs.Events.{At, receipt_of}
+use Rattle.fbl_base.specs.Events.{At, receipt_of, receipts}
 use Rattle.fbl_audit.specs.declared.checking.UnsafeReceipt.{UnsafeReceipt}
-use Rattle.fbl_audit.specs.Checking.{IsLeftOrphan, SaysUnsafe, receipts_of_dump}
+use Rattle.fbl_audit.specs.Checking.{IsLeftOrphan, SaysUnsafe}
 use Rattle.fbl_audit.specs.Holders.{holders_of}
 use Rattle.fbl_audit.specs.Paths.{IsPathTo}
 use Rattle.fbl_explain.specs.declared.why.LossReason.{LossReason}
@@ -37,4 +37,4 @@ TellsLost dump reasons = AllZip (λ d. IsLossReason dump d dump.strike) (lost_de
 -- a reason is told of each unsafe receipt with the least members that may be lost and lose it, in their order
 abbrev pub TellsUnsafe : Parts → List LossReason → Type 0
 TellsUnsafe dump reasons =
-    (said : List UnsafeReceipt) × SaysUnsafe dump (receipts_of_dump dump) said × AllZip (λ u. IsLossReason dump u.determinant u.strike) said reasons
+    (said : List UnsafeReceipt) × SaysUnsafe dump (receipts dump.events) said × AllZip (λ u. IsLossReason dump u.determinant u.strike) said reasons

@@ -1,7 +1,7 @@
 //! What a command did beside what its lines say.
 
 ghost use Rattle.std.specs.Prelude.{◌≡◌};
-ghost use Rattle.fbl_explain.specs.Accounts.{is_refusal as is_refusal_of};
+ghost use Rattle.fbl_explain.specs.Accounts.{is_refusal as is_refusal_of, is_told as is_told_of};
 
 use crate::reason::Reason;
 use crate::words::{ReceiptWords, Words};
@@ -12,7 +12,7 @@ use std::fmt;
 
 /// What a command did beside what its lines say.
 #[derive(Drop, PartialEq, Debug)]
-pub enum Account {
+pub enum CommandAccount {
     /// Nothing more.
     Done,
     /// It was refused.
@@ -25,23 +25,26 @@ pub enum Account {
     Ran(RunCounts),
 }
 
-impl Account {
+impl CommandAccount {
     /// Whether the command was refused.
     pub fn is_refusal(&self) -> bool
         ensures { result ≡ is_refusal_of self.now }
     {
         match self {
-            Account::Refused(_) => true,
+            CommandAccount::Refused(_) => true,
             _ => false,
         }
     }
 
     /// Whether there is something to tell beside what the command's lines say.
-    pub fn is_told(&self) -> bool {
+    pub fn is_told(&self) -> bool
+        ensures { result ≡ is_told_of self.now }
+    {
         match self {
-            Account::Done => false,
-            Account::Lost(receipts) | Account::Undone(receipts) => !receipts.is_empty(),
-            Account::Refused(_) | Account::Ran(_) => true,
+            CommandAccount::Done => false,
+            CommandAccount::Lost(receipts) | CommandAccount::Undone(receipts) =>
+                !receipts.is_empty(),
+            CommandAccount::Refused(_) | CommandAccount::Ran(_) => true,
         }
     }
 }
@@ -126,7 +129,7 @@ pub struct AccountOf<'a> {
     /// The command's place in its script, from 0.
     pub place: usize,
     pub command: &'a Command,
-    pub account: &'a Account,
+    pub account: &'a CommandAccount,
 }
 
 impl fmt::Display for AccountOf<'_> {
@@ -135,12 +138,12 @@ impl fmt::Display for AccountOf<'_> {
         let words = Words(self.command);
         write!(f, "command {place}, {words}: ")?;
         match (self.account, self.command) {
-            (Account::Done, _) => f.write_str("done"),
-            (Account::Refused(reason), _) => write!(f, "{reason}"),
-            (Account::Lost(receipts), _) => write_receipts(f, "lost", receipts),
-            (Account::Undone(receipts), _) => write_receipts(f, "undone", receipts),
-            (Account::Ran(counts), Command::Run(plan)) => counts.write(f, plan.strikes()),
-            (Account::Ran(counts), _) => counts.write(f, &[]),
+            (CommandAccount::Done, _) => f.write_str("done"),
+            (CommandAccount::Refused(reason), _) => write!(f, "{reason}"),
+            (CommandAccount::Lost(receipts), _) => write_receipts(f, "lost", receipts),
+            (CommandAccount::Undone(receipts), _) => write_receipts(f, "undone", receipts),
+            (CommandAccount::Ran(counts), Command::Run(plan)) => counts.write(f, plan.strikes()),
+            (CommandAccount::Ran(counts), _) => counts.write(f, &[]),
         }
     }
 }

@@ -8,7 +8,7 @@ mod reason;
 mod why;
 mod words;
 
-pub use account::{Account, AccountOf, RunCounts};
+pub use account::{AccountOf, CommandAccount, RunCounts};
 pub use explaining::explain;
 pub use reason::{NamedMembers, Reason};
 pub use why::{LossReason, OrphanPath, Why, why_lost, why_unsafe};

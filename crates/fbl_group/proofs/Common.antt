@@ -62,6 +62,7 @@ pub use Rattle.fbl_law.specs.Knowledge.{IsDown, IsInFlight, IsUp, MatchesTrace, 
 pub use Rattle.fbl_law.specs.Replaying.{IsRebuilt, IsReplaying, IsWaiting, count_in, is_replayed, recovered_trace, replayed_in, resent, resent_to, sent_again, stays_by, working}
 pub use Rattle.fbl_law.specs.Sound.{IsSound, received_notes}
 pub use Rattle.fbl_law.specs.Steps.{between, gathered_all, is_on, recovery_table, saved_tables, taken_off}
+pub use Rattle.fbl_member.proofs.Made.{Made, made-more}
 pub use Rattle.fbl_member.specs.Carried.{IsOnce}
 pub use Rattle.fbl_member.specs.Members.{MemberRecord, Message, blank, fresh, last_from, logged_note, messages_from, next_determinant, received_by, replayed_by, table_after}
 pub use Rattle.fbl_table.specs.Receipts.{IsByNumber, receipt_at}

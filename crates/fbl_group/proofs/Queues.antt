@@ -1,9 +1,9 @@
 -- Channels as queues: the loops over them, and what is left of them by a send, a delivery, a strike and a recovery.
 use Rattle.fbl_group.proofs.Common.{◌≡◌, ℕ, zero, suc, ◌+◌, ◌<◌, ◌≤◌, ◌⊎◌, Bool, true, false, cond, ◌-◌, List, [], ◌∷◌, ◌++◌, length, map, drop, replicate}
 use Rattle.fbl_group.proofs.Common.{refl, sym, ap, ◌∙◌, arith, ◌||◌, Some, slice_get, get_or, append_assoc, deque_items, All, length-map, length-set, map-append, get_or-set_same}
-use Rattle.fbl_group.proofs.Common.{get_or-set_other, set-get_or, get_or_past, common_steps, nat_tests, filter-append, Members, Note, Entry, Message, messages_from, between, is_on, taken_off}
+use Rattle.fbl_group.proofs.Common.{get_or-set_other, set-get_or, get_or_past, nat_tests, filter-append, Members, Note, Entry, Message, messages_from, between, is_on, taken_off}
 use Rattle.fbl_group.proofs.Common.{HasChannels, channel_in, rows, rooms, room_in, each, with_sent, taken_and_sent, send_of_message, Vec, set, append-nil, deque_len, deque_capacity, VecDeque}
-use Rattle.fbl_group.proofs.Common.{get_or-replicate, length-replicate, map-set, get_or-map, Channels, with_item, step_events, first_message, with_at}
+use Rattle.fbl_group.proofs.Common.{get_or-replicate, length-replicate, map-set, get_or-map, Channels, with_item, step_events, first_message, with_at, Made, made-more}
 use Rattle.std.specs.FinSet as set
 
 -- the first of a list that has one
@@ -13,17 +13,7 @@ first-is (x ∷ vs) v first = cc
 
 -- ---- lists that loops make
 
--- the elements of a list of i are those wanted at their places
-pub record Made {X : Type 0} (d : X) (Wanted : ℕ → X → Type 0) (i : ℕ) (xs : List X) : Type 0 where
-  pub size : length xs ≡ i
-  pub each : (m : ℕ) → m < i → Wanted m (get_or xs m d)
-
-pub made_none : {X : Type 0} (d : X) (Wanted : ℕ → X → Type 0) → Made d Wanted 0 []
-made_none d Wanted = grind arith
-
-pub made-more : {X : Type 0} (d : X) (Wanted : ℕ → X → Type 0) (i : ℕ) (xs : List X) (x : X) → Made d Wanted i xs → Wanted i x → Made d Wanted (i + 1) (xs ++ x ∷ [])
-made-more d Wanted i xs x made wanted = grind (arith, common_steps)
-
+-- one more element, where the list is of what is seen of each
 pub made-mapped : {X Y : Type 0} (f : X → Y) {d : Y} {Wanted : ℕ → Y → Type 0} {i : ℕ} (xs : List X) (x : X) → Made d Wanted i (map f xs) → Wanted i (f x)
     → Made d Wanted (i + 1) (map f (xs ++ x ∷ []))
 made-mapped f {i = i} xs x made wanted = rw (map-append f xs (x ∷ [])) (made-more _ _ i (map f xs) (f x) made wanted)

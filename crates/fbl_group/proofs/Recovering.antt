@@ -2,9 +2,8 @@
 use Rattle.fbl_group.proofs.Common.{◌||◌, nat_lt, ◌≡◌, ℕ, ◌+◌, ◌<◌, Bool, true, false, List, [], length, Option, Some, get_or, refl, sym, ap, ◌∙◌, arith, slice_index_or}
 use Rattle.fbl_group.proofs.Common.{slice_set, nat_tests, get_or_default, Determinant, Note, Next, MemberRecord, blank, IsDown, recovery_table, GroupRecord, member_checkpoint, knowledge, IsSound}
 use Rattle.fbl_group.proofs.Common.{working, IsReplaying, IsReady, found, receipt_at, logged_note, replayed_by, IsWaiting, replay_begins, replaying-next, replay_is_right, replayed_in-step}
-use Rattle.fbl_group.proofs.Common.{replaying-tables, AreByNumber, Tries, Rounds, HasReplayed}
+use Rattle.fbl_group.proofs.Common.{replaying-tables, AreByNumber, Tries, Rounds, HasReplayed, Made}
 use Rattle.std.specs.FinSet as set
-use Rattle.fbl_group.proofs.Queues.{Made}
 
 -- a record that is read at a place of the list, whatever stands past its end
 pub read_at : (ms : List MemberRecord) {place i : ℕ} {m : MemberRecord} → place ≡ i → i < length ms → m ≡ get_or ms place m → m ≡ slice_index_or ms i blank

@@ -123,7 +123,7 @@ impl<B: Behaviour, A: Allocator + Copy> Group<B, A> {
     }
 
     /// The records before any replay.
-    #[tactic(auto, using(crate::proofs::Queues::made_none))]
+    #[tactic(auto, using(fbl_member::proofs::Made::made_none))]
     fn begin(&self) -> Result<Vec<MemberRec<A>, A>, AllocError>
         ensures { IfOk result (λ rebuilt. IsReplaying B.next self.now rebuilt.items) }
     {

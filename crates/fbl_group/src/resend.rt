@@ -17,7 +17,7 @@ use std::collections::VecDeque;
 
 impl<B: Behaviour, A: Allocator + Copy> Group<B, A> {
     /// The channels made again: on each with an end that is down what its sender sends again, and nothing on the others.
-    #[tactic(auto, using(crate::proofs::Queues::made_none))]
+    #[tactic(auto, using(fbl_member::proofs::Made::made_none))]
     pub(crate) fn resend(&self, rebuilt: &[MemberRec<A>]) -> Result<Channels<A>, AllocError>
         requires { length rebuilt.now ≡ self.now.config.members }
         ensures shape { IfOk result (λ again. HasChannels self.now.config.members (rows again)) }
@@ -32,7 +32,7 @@ impl<B: Behaviour, A: Allocator + Copy> Group<B, A> {
     }
 
     /// The member's channels made again.
-    #[tactic(auto, using(crate::proofs::Queues::made_none))]
+    #[tactic(auto, using(fbl_member::proofs::Made::made_none))]
     fn resend_from(
         &self,
         rebuilt: &[MemberRec<A>],

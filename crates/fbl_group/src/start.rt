@@ -1,8 +1,7 @@
 //! Groups in which nothing is received yet.
 
-ghost use Rattle.std.specs.Prelude.{◌≡◌, ℕ, ◌<◌, ◌≤◌, [], length, map, IfOk, slice_index_or};
+ghost use Rattle.std.specs.Prelude.{◌≡◌, ℕ, ◌<◌, ◌≤◌, [], length, map, IfOk};
 ghost use Rattle.std.specs.List.{filter_map};
-ghost use Rattle.fbl_member.specs.Members.{fresh, blank};
 ghost use Rattle.fbl_base.specs.Events.{mark_of};
 ghost use Rattle.fbl_base.specs.Rules.{is_send_of, sends_of};
 ghost use Rattle.fbl_law.specs.Steps.{between};
@@ -13,7 +12,7 @@ ghost use Rattle.fbl_law.specs.GroupSteps.{IsGroupStart, start_events, message_o
 use crate::channels::{Channels, empty_channels};
 use crate::group::Group;
 use fbl_base::{Behaviour, Config, Event, Mark, Member, MemberSet, Start};
-use fbl_member::{Carried, MemberRec, Wire};
+use fbl_member::{Carried, Wire, fresh_members};
 use std::alloc::{AllocError, Allocator};
 use std::marker::PhantomData;
 
@@ -38,22 +37,6 @@ impl<B: Behaviour, A: Allocator + Copy> Group<B, A> {
             behaviour: PhantomData,
         })
     }
-}
-
-/// The members, none of which has received anything.
-fn fresh_members<A: Allocator + Copy>(
-    alloc: A,
-    config: &Config<A>,
-) -> Result<Vec<MemberRec<A>, A>, AllocError>
-    ensures size { IfOk result (λ members. length members.items ≡ config.now.members) }
-    ensures fresh { IfOk result (λ members. (m : ℕ) → m < config.now.members → slice_index_or members.items m blank ≡ fresh m config.now.starts) }
-{
-    let mut members = Vec::new(alloc);
-    for number in 0..config.members() {
-        let member = Member::at(number);
-        members.push(MemberRec::fresh(alloc, config, member)?)?;
-    }
-    Ok(members)
 }
 
 /// The starts' sends in their order, each with its sender's next number, and channels with their messages. These carry

@@ -25,7 +25,6 @@ pub use Rattle.fbl_base.specs.declared.trace.Determinant.{Determinant}
 pub use Rattle.fbl_base.specs.declared.trace.Event.{Event}
 pub use Rattle.fbl_base.specs.declared.trace.Mark.{Mark}
 pub use Rattle.fbl_base.specs.declared.trace.Note.{Note}
-pub use Rattle.fbl_group.proofs.Queues.{Made, made-more}
 pub use Rattle.fbl_law.proofs.Lists.{filter-passes, some-at}
 pub use Rattle.fbl_law.proofs.Logs.{log-short, logged-by, logged-noted}
 pub use Rattle.fbl_law.proofs.Notes.{mark-at, send-at}
@@ -34,7 +33,7 @@ pub use Rattle.fbl_law.proofs.ReplayedRecords.{replayed-step}
 pub use Rattle.fbl_law.specs.Groups.{GroupRecord, marks}
 pub use Rattle.fbl_law.specs.Sound.{IsReplayed, IsSound, received_notes}
 pub use Rattle.fbl_member.proofs.Logs.{length-numbered}
-pub use Rattle.fbl_member.specs.Members.{MemberRecord, blank, fresh, logged_note, replayed_by}
+pub use Rattle.fbl_member.specs.Members.{MemberRecord, blank, logged_note, replayed_by}
 pub use Rattle.fbl_table.proofs.Adding.{take-next}
 pub use Rattle.fbl_history.specs.Columns.{GoesOnFrom, HasEachOnce, column_then, undo, undone_without, go_on, is_next, is_standing, same_standing, standing, trace_then}
 pub use Rattle.fbl_history.specs.Replays.{HaveReplayed}

@@ -6,26 +6,10 @@ ghost use Rattle.fbl_history.specs.Replays.{HaveReplayed};
 ghost use Rattle.fbl_history.specs.Traces.{trace_columns as columns_of_trace, event_column, state_after_receipt};
 
 use crate::column::Column;
-use fbl_base::{Behaviour, Determinant, Event, Member};
+use fbl_base::{Behaviour, Determinant, Event};
 use fbl_group::Group;
-use fbl_member::MemberRec;
+use fbl_member::{MemberRec, fresh_members};
 use std::alloc::{AllocError, Global};
-
-/// The members of the group, before they received anything.
-fn fresh_members<B: Behaviour>(
-    alloc: Global,
-    group: &Group<B>,
-) -> Result<Vec<MemberRec>, AllocError>
-    ensures { IfOk result (λ members. HaveReplayed B.next group.now 0 members.items) }
-{
-    let config = group.config();
-    let mut members = Vec::new(alloc);
-    for number in 0..config.members() {
-        let member = Member::at(number);
-        members.push(MemberRec::fresh(alloc, config, member)?)?;
-    }
-    Ok(members)
-}
 
 /// Lets the receipt at this place of the group's trace be replayed, and answers the receiver's state after it.
 fn replay<B: Behaviour>(
@@ -96,7 +80,7 @@ pub(crate) fn trace_columns<B: Behaviour>(
     ensures { IfOk result (λ columns. columns.items ≡ columns_of_trace B.next group.now) }
 {
     let trace = group.trace();
-    let mut members = fresh_members(alloc, group)?;
+    let mut members = fresh_members(alloc, group.config())?;
     let mut columns = Vec::with_capacity(alloc, trace.len())?;
     for (place, event) in trace.iter().enumerate() {
         columns.push(column_at(group, &mut members, place, *event)?)?;

@@ -20,7 +20,7 @@ use serde_json::{Map, Value};
 use std::alloc::{AllocError, Global};
 
 /// How a value of a type is read from JSON.
-pub trait Shape<T> {
+pub trait JsonShape<T> {
     ghost use Rattle.std.specs.Prelude.{◌≡◌, Option};
     ghost use Rattle.serde_json.specs.Data.{Data};
     ghost use Rattle.serde_json.specs.View.{view};
@@ -35,7 +35,7 @@ pub trait Shape<T> {
 /// A number that a byte holds.
 pub struct ByteShape;
 
-impl Shape<u8> for ByteShape {
+impl JsonShape<u8> for ByteShape {
     ghost use Rattle.fbl_input.specs.Shapes.{byte_shape};
 
     ghost shape = { byte_shape };
@@ -140,7 +140,7 @@ pub fn set_in(value: &Value) -> Option<MemberSet>
 
 /// What the values of a list give, if each has the shape, or the first place of one that hasn't. `Err` comes only where
 /// there is no memory for it.
-pub fn all_in<T: Copy, S: Shape<T>>(
+pub fn all_in<T: Copy, S: JsonShape<T>>(
     alloc: Global,
     list: &[Value],
 ) -> Result<Result<Vec<T>, usize>, AllocError>
@@ -248,18 +248,16 @@ fn value_at<'a>(
     }
 }
 
-/// What the value at the key gives, if it has the shape, and else `MissingKey` or `BadValue`. No item of a list at this key
-/// can be to blame.
-pub fn value_field<T: Copy, S: Shape<T>>(
+/// What the value at the key gives, if it has the shape, and else `MissingKey` or `BadValue`.
+pub fn value_field<T: Copy, S: JsonShape<T>>(
     alloc: Global,
     kind: InputKind,
     value: &Value,
     key: Key,
 ) -> Result<T, InputFault>
-    requires { (d : Data) → is_item key d ≡ true }
     ensures exact { Gives (λ x. x) result (field key S.shape (view value.now)) }
     ensures faults { IfErr result IsOfShape }
-    ensures misfit { IfErr result (IsMisfit kind (view value.now)) }
+    ensures misfit { ((d : Data) → is_item key d ≡ true) → IfErr result (IsMisfit kind (view value.now)) }
 {
     let found = value_at(alloc, kind, value, key)?;
     match S::in_value(found) {
@@ -289,7 +287,7 @@ pub fn list_field<'a>(
 
 /// What the list at the key gives, if each of its values has the shape, and else a fault of the key. `Memory` comes only
 /// where there is none for what it gives or for the fault.
-pub fn values_field<T: Copy, S: Shape<T>>(
+pub fn values_field<T: Copy, S: JsonShape<T>>(
     alloc: Global,
     kind: InputKind,
     value: &Value,

@@ -1,8 +1,9 @@
 -- The names that proofs of this crate take from outside: of the standard library, of the crates below, and of the definitions here.
 pub use Rattle.std.proofs.Common.{Bor, IfSome, List, None, Option, Some, [], ap, arith, cond, drop, false, if◌then◌else◌, length, map, refl, rules, slice_get, slice_set, suc, sym, true, zero}
-pub use Rattle.std.proofs.Common.{ℕ, ◌++◌, ◌+◌, ◌-◌, ◌<◌, ◌==◌, ◌∙◌, ◌∷◌, ◌≡◌, ◌≤◌}
+pub use Rattle.std.proofs.Common.{get_or, ℕ, ◌++◌, ◌+◌, ◌-◌, ◌<◌, ◌==◌, ◌∙◌, ◌∷◌, ◌≡◌, ◌≤◌}
 pub use Rattle.std.proofs.Math.ListN.{length-set}
 pub use Rattle.std.proofs.lemmas.Bool.Decides.{nat_tests}
+pub use Rattle.std.proofs.lemmas.Grind.{common_steps}
 pub use Rattle.std.proofs.lemmas.List.{append_assoc, at_drop_more, length-append}
 pub use Rattle.std.proofs.lemmas.List.Elements.{All-pop, All-push, All-weaker}
 pub use Rattle.std.proofs.lemmas.Option.{get_or_from_slice_get, slice_get-get_or, slice_get_past, slice_get_within}
@@ -19,5 +20,5 @@ pub use Rattle.fbl_table.specs.Tables.{is_open, piggybacked}
 pub use Rattle.fbl_table.specs.declared.entry.Entry.{Entry}
 pub use Rattle.fbl_member.specs.Carried.{IsOnce}
 pub use Rattle.fbl_member.specs.Kept.{IsKept, without_number}
-pub use Rattle.fbl_member.specs.Members.{MemberRecord, Message, logged_beyond, logged_note, messages_from}
+pub use Rattle.fbl_member.specs.Members.{MemberRecord, Message, blank, fresh, logged_beyond, logged_note, messages_from}
 pub use Rattle.fbl_member.specs.Rooms.{HasRoom}

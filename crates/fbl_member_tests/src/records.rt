@@ -4,7 +4,7 @@ ghost use Rattle.std.specs.Prelude.{◌≡◌, ◌<◌, IfOk};
 
 use fbl_base::{Behaviour, Config, Determinant, Member, MemberSet, Mix, Note, Relay, Start};
 use fbl_fixtures::{Refusal, first_receipt, member};
-use fbl_member::{Carried, MemberRec, Wire};
+use fbl_member::{Carried, MemberRec, Wire, fresh_members};
 use fbl_table::{Entry, Table};
 use refusing_allocator::Refusing;
 use std::alloc::{AllocError, Allocator, Global};
@@ -155,6 +155,19 @@ fn a_fresh_member_has_sent_its_starts(rt: HostRuntime) -> Result<(), Fail> {
 }
 
 #[test]
+fn fresh_members_have_sent_their_starts(rt: HostRuntime) -> Result<(), Fail> {
+    let (first, second) = (member(0)?, member(1)?);
+    let group = config(rt.alloc(), first, second)?;
+    let members = fresh_members(rt.alloc(), &group)?;
+    let has_sent = match members.as_slice() {
+        [starter, other, last] => (starter.sent(), other.sent(), last.sent()),
+        _ => (0, 0, 0),
+    };
+    assert!(rt; has_sent == (1, 0, 0));
+    Ok(())
+}
+
+#[test]
 fn a_member_replays_a_receipt(rt: HostRuntime) -> Result<(), Fail> {
     let (first, second, third) = (member(0)?, member(1)?, member(2)?);
     let note = Note { value: 5, hops: 2 };
@@ -299,7 +312,7 @@ fn a_copy_without_memory(rt: HostRuntime) -> Result<(), Fail> {
 /// The calls that take memory.
 #[derive(Clone, Copy, Debug)]
 enum Call {
-    Fresh,
+    FreshMembers,
     Receive,
     ReplayOne,
     UnsentBeyond,
@@ -309,7 +322,7 @@ impl Call {
     /// The member whose record the call is made on: the first, or, where the log has to be empty to grow, the second.
     fn member(self, first: Member, second: Member) -> Member {
         match self {
-            Call::Fresh | Call::UnsentBeyond => first,
+            Call::FreshMembers | Call::UnsentBeyond => first,
             Call::Receive | Call::ReplayOne => second,
         }
     }
@@ -327,8 +340,8 @@ impl Call {
         let receipt = first_receipt(first, second);
         let note = Note { value: 5, hops: 2 };
         match self {
-            Call::Fresh => {
-                MemberRec::fresh(alloc, group, first)?;
+            Call::FreshMembers => {
+                fresh_members(alloc, group)?;
             }
             Call::Receive => {
                 deliver::<Relay, A>(alloc, member_record, second, receipt, note)?;
@@ -385,7 +398,7 @@ fn refuse_each(alloc: Global, call: Call, first: Member, second: Member) -> Resu
 fn each_request_for_memory_may_be_refused(rt: HostRuntime) -> Result<(), Fail> {
     let (first, second) = (member(0)?, member(1)?);
     for call in [
-        Call::Fresh,
+        Call::FreshMembers,
         Call::Receive,
         Call::ReplayOne,
         Call::UnsentBeyond,

@@ -8,7 +8,7 @@ pub use Rattle.std.specs.Result.{IsErrAnd}
 pub use Rattle.fbl_base.specs.Configs.{Settings}
 pub use Rattle.fbl_base.specs.Fold.{Next}
 pub use Rattle.fbl_base.specs.declared.strike.Strike.{Strike}
-pub use Rattle.fbl_explain.specs.declared.account.Account.{Account}
+pub use Rattle.fbl_explain.specs.declared.account.CommandAccount.{CommandAccount}
 pub use Rattle.fbl_group.specs.Checkpoints.{checkpoint_refusal}
 pub use Rattle.fbl_group.specs.Deliveries.{deliver_refusal}
 pub use Rattle.fbl_group.specs.Strikes.{strike_refusal}

@@ -1,6 +1,7 @@
 -- A history goes on by one command.
 use Rattle.fbl_play.proofs.Common.{◌≡◌, ℕ, ◌<◌, ◌≤◌, ◌+◌, inl, inr, List, [], ◌∷◌, ◌++◌, length, take, get_or, refl, ap, Some, None, Result, Ok, Err, take_all}
-use Rattle.fbl_play.proofs.Common.{IsErrAnd, Settings, Next, Account, RunFault, GroupRecord, IsGroupStart, IsSound, Command, Drains, Step, IsTold, checkpoint_refusal, deliver_refusal, strike_refusal}
+use Rattle.fbl_play.proofs.Common.{IsErrAnd, Settings, Next, CommandAccount, RunFault, GroupRecord, IsGroupStart, IsSound}
+use Rattle.fbl_play.proofs.Common.{Command, Drains, Step, IsTold, checkpoint_refusal, deliver_refusal, strike_refusal}
 use Rattle.fbl_play.proofs.Common.{Column, trace_columns, ColumnsStep, HistoryStep, HistoryTells, HistoryTellsOn, IsHistoryOfBytes, RunHistory, DeliveryBy, StrikeBy, CheckpointBy, err_from_is_err_and}
 use Rattle.fbl_play.proofs.Common.{IsRun}
 use Rattle.fbl_input.specs.declared.fault.RunFault.TheVariants as faults
@@ -10,7 +11,7 @@ use Rattle.fbl_play.proofs.Told.{told_next}
 
 -- ---- a command keeps the parameters
 
-pub step-config : (next : Next) (workers : ℕ) (old : GroupRecord) (c : Command) (new : GroupRecord) (text : List ℕ) (account : Account)
+pub step-config : (next : Next) (workers : ℕ) (old : GroupRecord) (c : Command) (new : GroupRecord) (text : List ℕ) (account : CommandAccount)
     → Step next workers old c new text account → new.config ≡ old.config
 step-config next workers old (commands.Deliver to from) new text account =
     elim (deliver_refusal next old to from) as (λ o. DeliveryBy o next old to from new text account → new.config ≡ old.config) [
@@ -39,10 +40,10 @@ step-config next workers old (commands.Checkpoint p) new text account = elim (ch
 
 -- ---- runs with their histories
 
-module _ {O : Type 0} (before : O → Command → O → Type 0) (after : O → Command → Account → O → Type 0) where
+module _ {O : Type 0} (before : O → Command → O → Type 0) (after : O → Command → CommandAccount → O → Type 0) where
   -- the commands before a place have led here from a new group of the config, with this history, and were told of
   pub record HasHistory (next : Next) (workers : ℕ) (config : Settings) (cs : List Command) (place : ℕ) (now : GroupRecord) (history : List Column) (old told : O) : Type 0 where
-    pub accounts : List Account
+    pub accounts : List CommandAccount
     pub run : IsRun next config (trace_columns next) (ColumnsStep next workers) (take place cs) accounts now history
     pub heard : IsTold before after (take place cs) accounts old told
 
@@ -65,7 +66,7 @@ module _ {O : Type 0} (before : O → Command → O → Type 0) (after : O → C
           rw (e.1, e.2) (inr (i, h.accounts, (within, (history, (mid, h.run))), (told, d, within, at, h.heard, first)))
 
       -- it was run
-      pub history_more : (new : GroupRecord) (account : Account) (line : List ℕ) (later : List Column) (last : O) → Step next workers mid d new line account → IsSound next new
+      pub history_more : (new : GroupRecord) (account : CommandAccount) (line : List ℕ) (later : List Column) (last : O) → Step next workers mid d new line account → IsSound next new
           → HistoryStep next mid.down d account new history later → after begun d account last → HasHistory next workers config cs (i + 1) new later old last
       history_more new account line later last step sound follows ends = record {
         accounts = h.accounts ++ account ∷ [];

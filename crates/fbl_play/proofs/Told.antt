@@ -1,6 +1,7 @@
 -- How far a play came, and what its observer was told by then.
 use Rattle.fbl_play.proofs.Common.{Err, List, None, Ok, Option, Result, Some, [], append-nil, get_or, inl, inr, length, refl, sym, take, ℕ, ◌++◌, ◌+◌, ◌<◌, ◌∷◌, ◌≡◌}
-use Rattle.fbl_play.proofs.Common.{◌≤◌, take_all, err_from_is_err_and, Appends, IsErrAnd, Settings, Next, Account, appends_more, RunFault, IsGroupStart, GroupRecord, IsSound, Command, IsRun}
+use Rattle.fbl_play.proofs.Common.{◌≤◌, take_all, err_from_is_err_and, Appends, IsErrAnd, Settings, Next, CommandAccount}
+use Rattle.fbl_play.proofs.Common.{appends_more, RunFault, IsGroupStart, GroupRecord, IsSound, Command, IsRun}
 use Rattle.fbl_play.proofs.Common.{Plays, Step, TextStep, IsTold, Tells, TellsOn}
 use Rattle.fbl_input.specs.declared.fault.RunFault.TheVariants as faults
 use Rattle.fbl_play.proofs.Steps.{along_next, run_on}
@@ -9,16 +10,16 @@ appends_nothing : (known : Option (List ℕ)) → Appends known known []
 appends_nothing None = tt
 appends_nothing (Some xs) = sym (append-nil xs)
 
-module _ {O : Type 0} (before : O → Command → O → Type 0) (after : O → Command → Account → O → Type 0) where
+module _ {O : Type 0} (before : O → Command → O → Type 0) (after : O → Command → CommandAccount → O → Type 0) where
   -- an observer is told of the command at a place, after those before it
-  pub told_next : (cs : List Command) (i : ℕ) (c : Command) (accounts : List Account) (account : Account) (old mid begun new : O) → i < length cs → c ≡ get_or cs i c
+  pub told_next : (cs : List Command) (i : ℕ) (c : Command) (accounts : List CommandAccount) (account : CommandAccount) (old mid begun new : O) → i < length cs → c ≡ get_or cs i c
       → IsTold before after (take i cs) accounts old mid → before mid c begun → after begun c account new → IsTold before after (take (i + 1) cs) (accounts ++ account ∷ []) old new
   told_next cs i c accounts account old mid begun new within at is first last =
       along_next (λ o c account o'. (begun : O) × before o c begun × after begun c account o') cs i c accounts account old mid new within at is (begun, first, last)
 
   -- the commands before a place have led here from a new group of the config, their text is written, and they were told of
   pub record IsPlayed (next : Next) (workers : ℕ) (config : Settings) (cs : List Command) (place : ℕ) (now : GroupRecord) (had has : Option (List ℕ)) (old told : O) : Type 0 where
-    pub accounts : List Account
+    pub accounts : List CommandAccount
     pub text : List ℕ
     pub run : IsRun next config (λ _. []) (TextStep next workers) (take place cs) accounts now text
     pub written : Appends had has text
@@ -44,7 +45,7 @@ module _ {O : Type 0} (before : O → Command → O → Type 0) (after : O → C
           let e = err_from_is_err_and r is in
           rw (e.1, e.2) (inr (i, p.accounts, (within, (p.text, (mid, p.run), p.written)), (told, d, within, at, p.heard, first)))
 
-      module _ (new : GroupRecord) (account : Account) (line : List ℕ) (step : Step next workers mid d new line account) (sound : IsSound next new) (now : Option (List ℕ)) where
+      module _ (new : GroupRecord) (account : CommandAccount) (line : List ℕ) (step : Step next workers mid d new line account) (sound : IsSound next new) (now : Option (List ℕ)) where
         run : IsRun next config (λ _. []) (TextStep next workers) (take (i + 1) cs) (p.accounts ++ account ∷ []) new (p.text ++ line)
         run = run_on (λ _. []) (TextStep next workers) cs i d p.accounts account mid new p.text (p.text ++ line) within at (line, step, sound, refl) p.run
 

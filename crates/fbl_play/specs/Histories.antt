@@ -4,8 +4,8 @@ use Rattle.std.specs.Result.{IsErrAnd}
 use Rattle.fbl_base.specs.MemberSets.{Members}
 use Rattle.fbl_base.specs.Configs.{Settings}
 use Rattle.fbl_base.specs.Fold.{Next}
-use Rattle.fbl_explain.specs.declared.account.Account.{Account}
-use Rattle.fbl_explain.specs.declared.account.Account.TheVariants.{Refused}
+use Rattle.fbl_explain.specs.declared.account.CommandAccount.{CommandAccount}
+use Rattle.fbl_explain.specs.declared.account.CommandAccount.TheVariants.{Refused}
 use Rattle.fbl_history.specs.declared.column.Column.{Column}
 use Rattle.fbl_history.specs.declared.column.Column.TheVariants as columns
 use Rattle.fbl_history.specs.Columns.{go_on}
@@ -32,21 +32,21 @@ IsAfterCommand next down (commands.Checkpoint p) r old new = new ≡ old ++ colu
 IsAfterCommand next down _ r old new = new ≡ old
 
 -- the history after a command with this account: a refused command adds no column
-abbrev pub HistoryStep : Next → Members → Command → Account → GroupRecord → List Column → List Column → Type 0
+abbrev pub HistoryStep : Next → Members → Command → CommandAccount → GroupRecord → List Column → List Column → Type 0
 HistoryStep next down command (Refused reason) r old new = new ≡ old
 HistoryStep next down command _ r old new = IsAfterCommand next down command r old new
 
 -- a command as one step of a group and of its history
-abbrev pub ColumnsStep : Next → ℕ → GroupRecord × List Column → Command → Account → GroupRecord × List Column → Type 0
+abbrev pub ColumnsStep : Next → ℕ → GroupRecord × List Column → Command → CommandAccount → GroupRecord × List Column → Type 0
 ColumnsStep next workers old c account new =
     (text : List ℕ) × Step next workers old.0 c new.0 text account × IsSound next new.0 × HistoryStep next old.0.down c account new.0 old.1 new.1
 
 -- some run of the commands, from a new group of this config, has these accounts and this history; each record of the run is sound
-abbrev pub IsHistoryOf : Next → ℕ → Settings → List Command → List Account → List Column → Type 0
+abbrev pub IsHistoryOf : Next → ℕ → Settings → List Command → List CommandAccount → List Column → Type 0
 IsHistoryOf next workers config commands accounts history = (end : GroupRecord) × IsRun next config (trace_columns next) (ColumnsStep next workers) commands accounts end history
 
 -- the first so many commands had this history, and one at least is left
-abbrev pub IsHistoryUpTo : Next → ℕ → Settings → List Command → ℕ → List Account → Type 0
+abbrev pub IsHistoryUpTo : Next → ℕ → Settings → List Command → ℕ → List CommandAccount → Type 0
 IsHistoryUpTo next workers config commands done accounts =
     (done < length commands) × ((history : List Column) × IsHistoryOf next workers config (take done commands) accounts history)
 
@@ -58,20 +58,20 @@ IsOfOutline s answer = (answer.members ≡ s.config.members) × (answer.f ≡ s.
 abbrev pub IsHistoryOfBytes : ℕ → List ℕ → Result RunHistory RunFault → Type 0
 IsHistoryOfBytes workers input (Ok answer) =
     (s : Outline) × IsScriptOf input s × IsOfOutline s answer
-    × ((accounts : List Account) × IsHistoryOf (next_of s.behaviour) workers s.config s.commands accounts answer.history)
+    × ((accounts : List CommandAccount) × IsHistoryOf (next_of s.behaviour) workers s.config s.commands accounts answer.history)
 IsHistoryOfBytes workers input (Err faults.Memory) = Unit {0}
 IsHistoryOfBytes workers input (Err fault) = IsScriptFault input fault
 
 -- an observer, by what it is after it was told that a command is to be run, and that it was run with an account
-module _ {O : Type 0} (before : O → Command → O → Type 0) (after : O → Command → Account → O → Type 0) where
+module _ {O : Type 0} (before : O → Command → O → Type 0) (after : O → Command → CommandAccount → O → Type 0) where
   -- the history of a run of the commands is answered, and each is told of as it was run
   abbrev pub HistoryTellsOn : Next → ℕ → Settings → List Command → O → O → Result (List Column) RunFault → Type 0
   HistoryTellsOn next workers config commands old new (Ok history) =
-      (accounts : List Account) × IsHistoryOf next workers config commands accounts history × IsTold before after commands accounts old new
+      (accounts : List CommandAccount) × IsHistoryOf next workers config commands accounts history × IsTold before after commands accounts old new
   -- nothing is told where there is no memory for the group or its first events, else up to the command that met the want
   HistoryTellsOn next workers config commands old new (Err faults.Memory) =
       (new ≡ old)
-      ⊎ ((done : ℕ) × (accounts : List Account) × IsHistoryUpTo next workers config commands done accounts × IsToldUpTo before after commands done accounts old new)
+      ⊎ ((done : ℕ) × (accounts : List CommandAccount) × IsHistoryUpTo next workers config commands done accounts × IsToldUpTo before after commands done accounts old new)
   HistoryTellsOn next workers config commands old new (Err e) = ⊥
 
   -- the same for a script, whose parameters are answered beside the history

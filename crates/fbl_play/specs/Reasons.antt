@@ -6,8 +6,8 @@ use Rattle.fbl_base.specs.MemberSets.{Members}
 use Rattle.fbl_base.specs.Plans.{IsFirstBad, IsPlanFault}
 use Rattle.fbl_base.specs.declared.fault.PlanFault.{PlanFault}
 use Rattle.fbl_base.specs.declared.strike.Strike.{Strike}
-use Rattle.fbl_explain.specs.declared.account.Account.{Account}
-use Rattle.fbl_explain.specs.declared.account.Account.TheVariants.{Refused}
+use Rattle.fbl_explain.specs.declared.account.CommandAccount.{CommandAccount}
+use Rattle.fbl_explain.specs.declared.account.CommandAccount.TheVariants.{Refused}
 use Rattle.fbl_explain.specs.declared.reason.Reason.{Reason}
 use Rattle.fbl_explain.specs.declared.reason.Reason.TheVariants as reasons
 use Rattle.fbl_group.specs.declared.refusals.CheckpointRefusal.{CheckpointRefusal}
@@ -52,7 +52,7 @@ IsRunReason plan r drain.Uneven reason = reason ≡ reasons.Uneven
 IsRunReason plan r _ reason = reason ≡ reasons.NoTable
 
 -- the account is that of workers with this plan who were refused so
-abbrev pub IsRunRefusal : List Strike → GroupRecord → DrainRefusal → Account → Type 0
+abbrev pub IsRunRefusal : List Strike → GroupRecord → DrainRefusal → CommandAccount → Type 0
 IsRunRefusal plan r refusal (Refused reason) = IsRunReason plan r refusal reason
 IsRunRefusal plan r refusal _ = ⊥
 

@@ -3,8 +3,8 @@ use Rattle.std.specs.Prelude.{◌≡◌, ℕ, Bool, true, false, List, codes, Re
 use Rattle.fbl_base.specs.declared.strike.Strike.{Strike}
 use Rattle.fbl_base.specs.Fold.{Next}
 use Rattle.fbl_law.specs.Groups.{GroupRecord}
-use Rattle.fbl_explain.specs.declared.account.Account.{Account}
-use Rattle.fbl_explain.specs.declared.account.Account.TheVariants.{Ran}
+use Rattle.fbl_explain.specs.declared.account.CommandAccount.{CommandAccount}
+use Rattle.fbl_explain.specs.declared.account.CommandAccount.TheVariants.{Ran}
 use Rattle.fbl_lines.specs.declared.lines.RunEnd.{RunEnd}
 use Rattle.fbl_lines.specs.declared.lines.RunEnd.TheVariants.{Quiet, Full, Stopped}
 use Rattle.fbl_lines.specs.Lines.{run_line, refused_at_line, refused_line}
@@ -38,7 +38,7 @@ IsRunText (Err refusal) text = IsRefusedRunText refusal text
 
 -- what is told beside the line of a run with this plan, where the group had made and undone so many receipts and is now like this: the counts of the
 -- group, and those of each worker as the drain answered them; or why it was refused
-abbrev pub IsRunAccount : List Strike → ℕ → ℕ → GroupRecord → Result Drained DrainRefusal → Account → Type 0
+abbrev pub IsRunAccount : List Strike → ℕ → ℕ → GroupRecord → Result Drained DrainRefusal → CommandAccount → Type 0
 IsRunAccount plan made undone now (Ok drained) account =
     account ≡ Ran (record {
       ever_before = made;
@@ -52,6 +52,6 @@ IsRunAccount plan made undone now (Err refusal) account = IsRunRefusal plan now 
 
 -- a run with this plan by this many workers may lead from old to new, print the text and have the account: it follows by an
 -- answer of the workers' drain, whose line the text is, and whose counts the account has
-abbrev pub RunStep : Next → ℕ → List Strike → GroupRecord → GroupRecord → List ℕ → Account → Type 0
+abbrev pub RunStep : Next → ℕ → List Strike → GroupRecord → GroupRecord → List ℕ → CommandAccount → Type 0
 RunStep next workers plan old new text account =
     (answer : Result Drained DrainRefusal) × Drains next workers plan old new answer × IsRunText answer text × IsRunAccount plan old.receipts_ever old.undone_ever new answer account

@@ -11,7 +11,7 @@ use crate::runs::run_plan;
 use fbl_audit::Audit;
 use fbl_base::{Behaviour, Member, MemberSet};
 use fbl_dump::dump_text;
-use fbl_explain::{Account, Reason};
+use fbl_explain::{CommandAccount, Reason};
 use fbl_group::{CheckpointRefusal, DeliverRefusal, DumpGroupRefusal, Group, RecoverRefusal};
 use fbl_lines::{
     MemberStatus, Totals, checkpoint_text, deliver_text, recover_text, refused_text, report_text,
@@ -34,12 +34,12 @@ fn run_deliver<B: Behaviour>(
     match group.deliver(to, from) {
         Ok(answer) => answer_with(
             deliver_text(alloc, to, from, answer.rsn, answer.carried, answer.state),
-            Account::Done,
+            CommandAccount::Done,
         ),
         Err(DeliverRefusal::Memory) => Err(AllocError),
         Err(refusal) => answer_with(
             refused_text(alloc, "deliver", refusal.name()),
-            Account::Refused(deliver_reason(group, to, from, refusal)),
+            CommandAccount::Refused(deliver_reason(group, to, from, refusal)),
         ),
     }
 }
@@ -137,11 +137,14 @@ fn run_strike<B: Behaviour>(
     match group.strike(set) {
         Ok(struck) => {
             let lost = group.lost_receipts(alloc)?;
-            answer_with(strike_text(alloc, set, struck.lost), Account::Lost(lost))
+            answer_with(
+                strike_text(alloc, set, struck.lost),
+                CommandAccount::Lost(lost),
+            )
         }
         Err(refusal) => answer_with(
             refused_text(alloc, "strike", refusal.name()),
-            Account::Refused(strike_reason(group, set, refusal)),
+            CommandAccount::Refused(strike_reason(group, set, refusal)),
         ),
     }
 }
@@ -154,12 +157,12 @@ fn run_recover<B: Behaviour>(alloc: Global, group: &mut Group<B>) -> Result<Answ
     match group.recover() {
         Ok(answer) => answer_with(
             recover_text(alloc, answer.replayed, answer.resent, answer.undone),
-            Account::Undone(undone),
+            CommandAccount::Undone(undone),
         ),
         Err(RecoverRefusal::Memory) => Err(AllocError),
         Err(refusal) => answer_with(
             refused_text(alloc, "recover", refusal.name()),
-            Account::Refused(Reason::NotDown),
+            CommandAccount::Refused(Reason::NotDown),
         ),
     }
 }
@@ -175,12 +178,12 @@ fn run_checkpoint<B: Behaviour>(
     match group.checkpoint(member) {
         Ok(()) => answer_with(
             checkpoint_text(alloc, member, group.checkpoint_received(member)),
-            Account::Done,
+            CommandAccount::Done,
         ),
         Err(CheckpointRefusal::Memory) => Err(AllocError),
         Err(refusal) => answer_with(
             refused_text(alloc, "checkpoint", refusal.name()),
-            Account::Refused(checkpoint_reason(group, member, refusal)),
+            CommandAccount::Refused(checkpoint_reason(group, member, refusal)),
         ),
     }
 }
@@ -194,11 +197,11 @@ fn run_dump<B: Behaviour>(
     ensures { IfOk result (λ answer. IsDumpText group.now strike (string_bytes answer.text) answer.account) }
 {
     match group.dump(strike) {
-        Ok(dump) => answer_with(dump_text(alloc, &dump), Account::Done),
+        Ok(dump) => answer_with(dump_text(alloc, &dump), CommandAccount::Done),
         Err(DumpGroupRefusal::Memory) => Err(AllocError),
         Err(refusal) => answer_with(
             refused_text(alloc, "dump", refusal.name()),
-            Account::Refused(no_such_member(group, strike)),
+            CommandAccount::Refused(no_such_member(group, strike)),
         ),
     }
 }
@@ -215,8 +218,8 @@ pub(crate) fn run_command<B: Behaviour + Send + Sync, T: Threads + Wait + Sync>(
 {
     let answer = match command {
         Command::Deliver { to, from } => run_deliver(alloc, &mut group, *to, *from),
-        Command::States => answer_with(run_states(alloc, &group), Account::Done),
-        Command::Report => answer_with(run_report(alloc, &group), Account::Done),
+        Command::States => answer_with(run_states(alloc, &group), CommandAccount::Done),
+        Command::Report => answer_with(run_report(alloc, &group), CommandAccount::Done),
         Command::Strike(set) => run_strike(alloc, &mut group, *set),
         Command::Recover => run_recover(alloc, &mut group),
         Command::Dump(strike) => run_dump(alloc, &group, *strike),

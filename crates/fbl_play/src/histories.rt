@@ -10,7 +10,7 @@ ghost use Rattle.fbl_script.specs.Scripts.{outline};
 use crate::commands::run_command;
 use crate::observer::{NoObserver, Observer};
 use fbl_base::{Behaviour, Config, MemberSet, Mix, Relay};
-use fbl_explain::Account;
+use fbl_explain::CommandAccount;
 use fbl_group::Group;
 use fbl_history::History;
 use fbl_input::RunFault;
@@ -39,7 +39,7 @@ fn history_after<B: Behaviour>(
     group: &Group<B>,
     down: MemberSet,
     command: &Command,
-    account: &Account,
+    account: &CommandAccount,
 ) -> Result<History, AllocError>
     requires { AllBelow down group.now.config.members }
     ensures { IfOk result (HistoryStep B.next down command.now account.now group.now history) }

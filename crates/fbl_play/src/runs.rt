@@ -8,7 +8,7 @@ ghost use Rattle.fbl_play.specs.RunSteps.{RunStep, IsRefusedRunText, IsRunAccoun
 use crate::answer::{Answer, answer_with};
 use crate::reasons::run_reason;
 use fbl_base::Behaviour;
-use fbl_explain::{Account, RunCounts};
+use fbl_explain::{CommandAccount, RunCounts};
 use fbl_group::Group;
 use fbl_lines::{RunEnd, refused_at_text, refused_text, run_text};
 use fbl_script::Plan;
@@ -72,12 +72,12 @@ fn account_of<B: Behaviour>(
     ever_before: u64,
     undone_before: u64,
     answer: Result<Drained, DrainRefusal>,
-) -> Account
+) -> CommandAccount
     requires { IfErr answer (IsPlanRefused plan.now group.now.config) }
     ensures { IsRunAccount plan.now ever_before undone_before group.now answer result }
 {
     match answer {
-        Ok(drained) => Account::Ran(RunCounts {
+        Ok(drained) => CommandAccount::Ran(RunCounts {
             ever_before,
             ever_after: group.receipts_ever(),
             undone_before,
@@ -85,7 +85,7 @@ fn account_of<B: Behaviour>(
             by_worker: drained.by_worker,
             undone_by_worker: drained.undone_by_worker,
         }),
-        Err(refusal) => Account::Refused(run_reason(group, plan.strikes(), &refusal)),
+        Err(refusal) => CommandAccount::Refused(run_reason(group, plan.strikes(), &refusal)),
     }
 }
 

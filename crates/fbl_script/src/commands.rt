@@ -9,7 +9,7 @@ ghost use Rattle.fbl_script.specs.Scripts.{checkpoint_from, command_from, comman
 
 use crate::script::{Command, Plan, Version};
 use fbl_base::Strike;
-use fbl_input::shapes::{Shape, all_in, count_in, is_named, list_in, member_in, set_in};
+use fbl_input::shapes::{JsonShape, all_in, count_in, is_named, list_in, member_in, set_in};
 use fbl_input::{CommandForm, InputFault, MOST_COMMANDS};
 use serde_json::Value;
 use std::alloc::{AllocError, Global};
@@ -30,7 +30,7 @@ fn planned_of(list: &[Value]) -> Option<Strike>
 /// A strike of a plan: a list of the count at which it comes and its members.
 struct PlannedShape;
 
-impl Shape<Strike> for PlannedShape {
+impl JsonShape<Strike> for PlannedShape {
     ghost use Rattle.fbl_script.specs.Scripts.{planned_shape};
 
     ghost shape = { planned_shape };

@@ -16,8 +16,8 @@ use crate::commands::commands_in;
 use crate::script::{BehaviourName, Command, Script, Version};
 use fbl_base::{Config, Note, Start};
 use fbl_input::shapes::{
-    ByteShape, Shape, count_in, is_named, list_field, list_in, member_in, no_other_key, object_in,
-    value_field, value_in, values_field,
+    ByteShape, JsonShape, count_in, is_named, list_field, list_in, member_in, no_other_key,
+    object_in, value_field, value_in, values_field,
 };
 use fbl_input::{InputFault, InputKind, Key, RunFault};
 use serde_json::Value;
@@ -78,7 +78,7 @@ fn start_of(list: &[Value]) -> Option<Start>
 /// A start: a list of its sender, its receiver, its value and its hops.
 struct StartShape;
 
-impl Shape<Start> for StartShape {
+impl JsonShape<Start> for StartShape {
     ghost use Rattle.fbl_input.specs.Items.{start_shape};
 
     ghost shape = { start_shape };
@@ -91,7 +91,7 @@ impl Shape<Start> for StartShape {
 /// A version, by its number.
 struct VersionShape;
 
-impl Shape<Version> for VersionShape {
+impl JsonShape<Version> for VersionShape {
     ghost use Rattle.fbl_script.specs.Scripts.{version_shape};
 
     ghost shape = { version_shape };
@@ -104,7 +104,7 @@ impl Shape<Version> for VersionShape {
 /// A behaviour, by its name.
 struct BehaviourShape;
 
-impl Shape<BehaviourName> for BehaviourShape {
+impl JsonShape<BehaviourName> for BehaviourShape {
     ghost use Rattle.fbl_script.specs.Scripts.{behaviour_shape};
 
     ghost shape = { behaviour_shape };
@@ -117,7 +117,7 @@ impl Shape<BehaviourName> for BehaviourShape {
 /// A count, a place or a value.
 struct CountShape;
 
-impl Shape<u32> for CountShape {
+impl JsonShape<u32> for CountShape {
     ghost use Rattle.fbl_input.specs.Shapes.{count_shape};
 
     ghost shape = { count_shape };

@@ -2,6 +2,7 @@
 use Rattle.std.specs.Prelude.{ℕ, ◌+◌, ◌-◌, Bool, true, false, List, [], ◌∷◌, ◌++◌, codes, decimal}
 use Rattle.std.specs.Ordering.{nat_cmp}
 use Rattle.std.specs.FinSet as set
+use Rattle.fbl_base.specs.declared.trace.Determinant.{Determinant}
 use Rattle.fbl_lines.specs.Lines.{line}
 use Rattle.fbl_lines.specs.Sets.{set_words}
 use Rattle.fbl_shapes.specs.declared.shape.Kind.{Kind}
@@ -35,18 +36,18 @@ drawn_send column from ssn to undone =
     ++ number (x column) (y from - 11) undone (decimal ssn)
 
 -- what names a receipt, in a title
-unfoldable pub receipt_words : ℕ → ℕ → ℕ → ℕ → List ℕ
-receipt_words to rsn from ssn =
-    joined (codes "<title>member " ∷ decimal to ∷ codes " receipt " ∷ decimal rsn ∷ codes ": message " ∷ decimal ssn ∷ codes " of " ∷ decimal from ∷ [])
+unfoldable pub receipt_words : Determinant → List ℕ
+receipt_words d =
+    joined (codes "<title>member " ∷ decimal d.to ∷ codes " receipt " ∷ decimal d.rsn ∷ codes ": message " ∷ decimal d.ssn ∷ codes " of " ∷ decimal d.from ∷ [])
 
 -- a receipt of a history: a square on its receiver's line, with its number and the state after it below
-unfoldable pub drawn_receipt : ℕ → ℕ → ℕ → ℕ → ℕ → ℕ → Bool → List ℕ
-drawn_receipt column to rsn from ssn state undone =
-    joined (codes "<rect class='receipt" ∷ undone_class undone ∷ codes "' x='" ∷ decimal (x column - 7) ∷ codes "' y='" ∷ decimal (y to - 7) ∷ codes "' width='14' height='14'>" ∷ [])
-    ++ receipt_words to rsn from ssn
+unfoldable pub drawn_receipt : ℕ → Determinant → ℕ → Bool → List ℕ
+drawn_receipt column d state undone =
+    joined (codes "<rect class='receipt" ∷ undone_class undone ∷ codes "' x='" ∷ decimal (x column - 7) ∷ codes "' y='" ∷ decimal (y d.to - 7) ∷ codes "' width='14' height='14'>" ∷ [])
+    ++ receipt_words d
     ++ line (codes ", state " ∷ decimal state ∷ undone_words undone ∷ codes "</title></rect>" ∷ [])
-    ++ cross column to undone
-    ++ number (x column) (y to + 22) undone (joined (decimal rsn ∷ codes ": " ∷ decimal state ∷ []))
+    ++ cross column d.to undone
+    ++ number (x column) (y d.to + 22) undone (joined (decimal d.rsn ∷ codes ": " ∷ decimal state ∷ []))
 
 -- the outline of the mark of a receipt of a dump: a square where it is stable, a rhomb where it is recorded, and else two
 -- strokes, one across the other
@@ -56,12 +57,12 @@ drawn_outline Recorded = codes "m-8 0l8 -8l8 8l-8 8z"
 drawn_outline Lost = codes "m-7 -7l14 14m0 -14l-14 14"
 
 -- a receipt of a dump: its outline on its receiver's line, with its number below
-unfoldable pub drawn_held_receipt : ℕ → ℕ → ℕ → ℕ → ℕ → Kind → set.FinSet nat_cmp → List ℕ
-drawn_held_receipt column to rsn from ssn kind holders =
-    joined (codes "<path class='" ∷ kind_class kind ∷ codes "' d='M" ∷ decimal (x column) ∷ codes " " ∷ decimal (y to) ∷ drawn_outline kind ∷ codes "'>" ∷ [])
-    ++ receipt_words to rsn from ssn
+unfoldable pub drawn_held_receipt : ℕ → Determinant → Kind → set.FinSet nat_cmp → List ℕ
+drawn_held_receipt column d kind holders =
+    joined (codes "<path class='" ∷ kind_class kind ∷ codes "' d='M" ∷ decimal (x column) ∷ codes " " ∷ decimal (y d.to) ∷ drawn_outline kind ∷ codes "'>" ∷ [])
+    ++ receipt_words d
     ++ line (codes ", held by " ∷ set_words holders ∷ codes "</title></path>" ∷ [])
-    ++ number (x column) (y to + 22) false (decimal rsn)
+    ++ number (x column) (y d.to + 22) false (decimal d.rsn)
 
 -- a strike: a bolt on the line of a member that it strikes
 unfoldable pub drawn_strike : ℕ → ℕ → List ℕ

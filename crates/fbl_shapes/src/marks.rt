@@ -79,7 +79,7 @@ pub(crate) fn send_text(
 /// The start of the title of a receipt.
 #[tactic(auto, unfolding(crate::specs::Marks::receipt_words))]
 fn receipt_title_text(alloc: Global, determinant: &Determinant) -> Result<String, AllocError>
-    ensures { IfOk result (λ text. string_bytes text ≡ receipt_words determinant.now.to determinant.now.rsn determinant.now.from determinant.now.ssn) }
+    ensures { IfOk result (λ text. string_bytes text ≡ receipt_words determinant.now) }
 {
     let from = determinant.from.number();
     let ssn = determinant.ssn;
@@ -97,7 +97,7 @@ pub(crate) fn receipt_text(
     state: u64,
     undone: bool,
 ) -> Result<String, AllocError>
-    ensures { IfOk result (λ text. string_bytes text ≡ drawn_receipt column determinant.now.to determinant.now.rsn determinant.now.from determinant.now.ssn state undone) }
+    ensures { IfOk result (λ text. string_bytes text ≡ drawn_receipt column determinant.now state undone) }
 {
     let rsn = determinant.rsn;
     let x = x(column);
@@ -129,7 +129,7 @@ pub(crate) fn held_text(
     kind: Kind,
     holders: MemberSet,
 ) -> Result<String, AllocError>
-    ensures { IfOk result (λ text. string_bytes text ≡ drawn_held_receipt column determinant.now.to determinant.now.rsn determinant.now.from determinant.now.ssn kind holders) }
+    ensures { IfOk result (λ text. string_bytes text ≡ drawn_held_receipt column determinant.now kind holders) }
 {
     let rsn = determinant.rsn;
     let x = x(column);

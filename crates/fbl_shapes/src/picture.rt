@@ -10,7 +10,6 @@ use crate::marks::{
 };
 use crate::places::{height, width, y};
 use crate::shape::{Legend, Shape};
-use fbl_base::Determinant;
 use std::alloc::{AllocError, Global};
 
 /// The text of a shape.
@@ -43,28 +42,16 @@ fn shape_text(alloc: Global, shape: Shape) -> Result<String, AllocError>
         } => send_text(alloc, column, from, ssn, to, undone),
         Shape::Receipt {
             column,
-            to,
-            rsn,
-            from,
-            ssn,
+            determinant,
             state,
             undone,
-        } => {
-            let determinant = Determinant { from, ssn, to, rsn };
-            receipt_text(alloc, column, &determinant, state, undone)
-        }
+        } => receipt_text(alloc, column, &determinant, state, undone),
         Shape::Held {
             column,
-            to,
-            rsn,
-            from,
-            ssn,
+            determinant,
             kind,
             holders,
-        } => {
-            let determinant = Determinant { from, ssn, to, rsn };
-            held_text(alloc, column, &determinant, kind, holders)
-        }
+        } => held_text(alloc, column, &determinant, kind, holders),
         Shape::Strike { column, member } => strike_text(alloc, column, member),
         Shape::Recovery {
             column,

@@ -1,6 +1,6 @@
 //! Shapes, and what tells those of one sort apart.
 
-use fbl_base::{Member, MemberSet};
+use fbl_base::{Determinant, Member, MemberSet};
 
 /// What a label says of a member of a dump.
 #[derive(Clone, Copy, PartialEq, Eq, Debug)]
@@ -109,12 +109,7 @@ pub enum Shape {
     /// The mark of a receipt of a history, its number and the state after it.
     Receipt {
         column: usize,
-        to: Member,
-        /// Which of its receiver's receipts it is, from 1.
-        rsn: u32,
-        from: Member,
-        /// The number of the message among its sender's sends.
-        ssn: u32,
+        determinant: Determinant,
         /// The receiver's state after it.
         state: u64,
         /// Whether a recovery or a run took it out of the trace: it is crossed then.
@@ -123,12 +118,7 @@ pub enum Shape {
     /// The mark of a receipt of a dump, and its number.
     Held {
         column: usize,
-        to: Member,
-        /// Which of its receiver's receipts it is, from 1.
-        rsn: u32,
-        from: Member,
-        /// The number of the message among its sender's sends.
-        ssn: u32,
+        determinant: Determinant,
         kind: Kind,
         /// The members that hold its determinant, struck or not.
         holders: MemberSet,

@@ -17,7 +17,7 @@ recovery_mark place replay = shapes.Recovery place replay.member replay.receipts
 -- brought back
 abbrev pub column_marks : ℕ → Column → List Shape
 column_marks place (columns.Send from ssn to undone) = shapes.Send place from ssn to undone ∷ []
-column_marks place (columns.Receipt to rsn from ssn state undone) = shapes.Receipt place to rsn from ssn state undone ∷ []
+column_marks place (columns.Receipt to rsn from ssn state undone) = shapes.Receipt place (record { from = from; ssn = ssn; to = to; rsn = rsn }) state undone ∷ []
 column_marks place (columns.Strike struck) = map (strike_mark place) (member_list struck)
 column_marks place (columns.Recovery replays) = map (recovery_mark place) replays.items
 column_marks place (columns.Checkpoint member) = shapes.Checkpoint place member ∷ []

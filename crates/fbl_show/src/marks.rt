@@ -5,7 +5,7 @@ ghost use Rattle.fbl_base.specs.MemberSets.{member_list};
 ghost use Rattle.fbl_show.specs.Marks.{column_marks, strike_mark, recovery_mark};
 ghost use Rattle.fbl_shapes.specs.Places.{drawn};
 
-use fbl_base::MemberSet;
+use fbl_base::{Determinant, MemberSet};
 use fbl_history::{Column, Replay};
 use fbl_shapes::Shape;
 use std::alloc::{AllocError, Global};
@@ -58,16 +58,13 @@ fn push_mark(
             ssn,
             to,
             undone,
-        } => {
-            shapes.push(Shape::Send {
-                column: place,
-                from: *from,
-                ssn: *ssn,
-                to: *to,
-                undone: *undone,
-            })?;
-            Ok(())
-        }
+        } => shapes.push(Shape::Send {
+            column: place,
+            from: *from,
+            ssn: *ssn,
+            to: *to,
+            undone: *undone,
+        })?,
         Column::Receipt {
             to,
             rsn,
@@ -76,27 +73,22 @@ fn push_mark(
             state,
             undone,
         } => {
+            let (from, ssn, to, rsn) = (*from, *ssn, *to, *rsn);
             shapes.push(Shape::Receipt {
                 column: place,
-                to: *to,
-                rsn: *rsn,
-                from: *from,
-                ssn: *ssn,
+                determinant: Determinant { from, ssn, to, rsn },
                 state: *state,
                 undone: *undone,
-            })?;
-            Ok(())
+            })?
         }
-        Column::Strike(struck) => push_strikes(shapes, alloc, place, *struck),
-        Column::Recovery(replays) => push_recoveries(shapes, place, replays.as_slice()),
-        Column::Checkpoint(member) => {
-            shapes.push(Shape::Checkpoint {
-                column: place,
-                member: *member,
-            })?;
-            Ok(())
-        }
+        Column::Strike(struck) => push_strikes(shapes, alloc, place, *struck)?,
+        Column::Recovery(replays) => push_recoveries(shapes, place, replays.as_slice())?,
+        Column::Checkpoint(member) => shapes.push(Shape::Checkpoint {
+            column: place,
+            member: *member,
+        })?,
     }
+    Ok(())
 }
 
 /// Draws the marks of all columns.

@@ -2,13 +2,13 @@
 use Rattle.std.specs.Prelude.{ℕ, ◌+◌, ◌/◌, ◌%◌, ◌==◌, ◌&&◌, nat_lt, min, List, Option, Some, None, slice_index, slice_set, if◌then◌else◌}
 use Rattle.std.specs.Int.{w64, to_le_bytes, from_le_bytes}
 use Rattle.fbl_base.specs.declared.trace.Note.{Note}
-use Rattle.fbl_store.specs.declared.command.Command.{Command}
+use Rattle.fbl_store.specs.declared.command.KeyCommand.{KeyCommand}
 use Rattle.fbl_store.specs.declared.command.Change.{Change}
 use Rattle.fbl_store.specs.declared.command.Change.TheVariants.{Put, Add}
 
 -- the command that a number spells, if it spells one: its lowest byte is the amount, the next is the key, and what is above is
 -- 0 to put the amount there and 1 to add it
-abbrev pub command_of : ℕ → Option Command
+abbrev pub command_of : ℕ → Option KeyCommand
 command_of number =
     let amount = number % 256 in
     let key = number / 256 % 256 in
@@ -35,7 +35,7 @@ amount_of (Put value) = value
 amount_of (Add amount) = amount
 
 -- that of the command that a number spells, 0 where it spells none
-abbrev pub amount_in : Option Command → ℕ
+abbrev pub amount_in : Option KeyCommand → ℕ
 amount_in (Some command) = amount_of command.change
 amount_in None = 0
 
@@ -44,6 +44,6 @@ abbrev pub brought : Note → ℕ
 brought note = amount_in (command_of note.value)
 
 -- the state with the value of the command's key changed
-abbrev pub applied : Command → ℕ → ℕ
+abbrev pub applied : KeyCommand → ℕ → ℕ
 applied command state =
     from_le_bytes w64 (slice_set (values state) command.key (changed command.change (value_at state command.key)))

@@ -13,15 +13,15 @@ use Rattle.fbl_base.specs.declared.outcome.Outcome.{Outcome}
 use Rattle.fbl_law.specs.StepLaws.{AnyNote, HoldsFirst, StepKeeps, StepMakesNone}
 use Rattle.fbl_store.specs.Commands.{amount_in, amount_of, applied, brought, changed, command_of, value_at, values}
 use Rattle.fbl_store.specs.Shards.{HoldsItsOwn, answer, key_owner, shard_step, silent_at}
-use Rattle.fbl_store.specs.declared.command.Command.{Command}
+use Rattle.fbl_store.specs.declared.command.KeyCommand.{KeyCommand}
 use Rattle.fbl_store.specs.declared.command.Change.{Change}
 use Rattle.fbl_store.specs.declared.command.Change.TheVariants.{Put, Add}
 
 -- a command for one of the keys, with an amount of a byte
-abbrev Fits : Command → Type 0
+abbrev Fits : KeyCommand → Type 0
 Fits command = (command.key < 8) × (amount_of command.change < 256)
 
-spelled-fits : (number : ℕ) (command : Command) → command_of number ≡ Some command → Fits command
+spelled-fits : (number : ℕ) (command : KeyCommand) → command_of number ≡ Some command → Fits command
 spelled-fits number command is = (grind (arith, nat_tests), grind (arith, nat_tests))
 
 byte-below : (i n : ℕ) → byte_at i n < 256
@@ -42,10 +42,10 @@ changed-most (Put value) old = omega arith
 changed-most (Add amount) old = omega arith
 
 -- the values with that of the command's key changed
-abbrev values_after : Command → ℕ → List ℕ
+abbrev values_after : KeyCommand → ℕ → List ℕ
 values_after command state = slice_set (values state) command.key (changed command.change (value_at state command.key))
 
-values-applied : (command : Command) (state : ℕ) → Fits command → values (applied command state) ≡ values_after command state
+values-applied : (command : KeyCommand) (state : ℕ) → Fits command → values (applied command state) ≡ values_after command state
 values-applied command state fits =
     le_bytes_8 (values_after command state) (applied command state) (length-set (values state) command.key after) byte refl where
       after : ℕ
@@ -58,12 +58,12 @@ values-applied command state fits =
             rw same (rw (get_or-set_same (values state) command.key after 0 fits.0) (changed-below command.change (value_at state command.key) fits.1))
         at (inr other) = rw (get_or-set_other (values state) command.key i after 0 other) (bytes-below 0 8 state i)
 
-value-kept : (command : Command) (state key : ℕ) → Fits command → key ≢ command.key → value_at (applied command state) key ≡ value_at state key
+value-kept : (command : KeyCommand) (state key : ℕ) → Fits command → key ≢ command.key → value_at (applied command state) key ≡ value_at state key
 value-kept command state key fits other =
     ap (λ vs. slice_index vs key) (values-applied command state fits)
     ∙ get_or-set_other (values state) command.key key (changed command.change (value_at state command.key)) 0 other
 
-sum-after : (command : Command) (state : ℕ) → Fits command → sum (values (applied command state)) ≤ sum (values state) + amount_of command.change
+sum-after : (command : KeyCommand) (state : ℕ) → Fits command → sum (values (applied command state)) ≤ sum (values state) + amount_of command.change
 sum-after command state fits =
     let after : ℕ = changed command.change (value_at state command.key) in
     omega (
@@ -80,7 +80,7 @@ shard_first c config =
 -- the values of other keys stay as they are
 pub shard_keeps : (c : Settings) → IsConfig c → StepKeeps shard_step c.members (HoldsItsOwn c) AnyNote
 shard_keeps c config me from state note member own any = (at (command_of note.value) refl, λ i default within. tt) where
-  at : (read : Option Command) → command_of note.value ≡ read → HoldsItsOwn c me (answer me c.members state note read).state
+  at : (read : Option KeyCommand) → command_of note.value ≡ read → HoldsItsOwn c me (answer me c.members state note read).state
   at None is = own
   at (Some command) is = here (key_owner c.members command.key == me) refl where
     passed : Outcome
@@ -99,7 +99,7 @@ shard_makes_none c config me from state note member own any = at (command_of not
   weight : Outcome → ℕ
   weight outcome = sum (values outcome.state) + sum_by (λ s. brought s.1) outcome.sends.items
 
-  at : (read : Option Command) → command_of note.value ≡ read → weight (answer me c.members state note read) ≤ sum (values state) + amount_in read
+  at : (read : Option KeyCommand) → command_of note.value ≡ read → weight (answer me c.members state note read) ≤ sum (values state) + amount_in read
   at None is = omega arith
   at (Some command) is = here (key_owner c.members command.key == me) (note.hops == 0) where
     passed : Bool → Outcome

@@ -8,7 +8,7 @@ use Rattle.fbl_base.specs.declared.trace.Note.{Note}
 use Rattle.fbl_base.specs.declared.outcome.Outcome.{Outcome}
 use Rattle.fbl_law.specs.StepLaws.{weight_of_starts}
 use Rattle.fbl_store.specs.Commands.{applied, brought, command_of, value_at}
-use Rattle.fbl_store.specs.declared.command.Command.{Command}
+use Rattle.fbl_store.specs.declared.command.KeyCommand.{KeyCommand}
 
 -- the new state, and nothing sent
 abbrev pub silent_at : ℕ → Outcome
@@ -20,7 +20,7 @@ key_owner n key = key % n
 
 -- the owner applies a command to its key, another member passes it on to the next if hops are left, and what spells no command
 -- is dropped
-abbrev pub answer : ℕ → ℕ → ℕ → Note → Option Command → Outcome
+abbrev pub answer : ℕ → ℕ → ℕ → Note → Option KeyCommand → Outcome
 answer me n state note (Some command) = if key_owner n command.key == me then silent_at (applied command state) else onward state ((me + 1) % n) note.value note.hops
 answer me n state note None = silent_at state
 
@@ -42,6 +42,6 @@ elsewhere me n least member = grind (arith, nat_tests)
 
 pub shard_sends_allowed : (me n state : ℕ) (note : Note) → 2 ≤ n → me < n → SendsAllowed me n (shard_step me n state note)
 shard_sends_allowed me n state note least member = at (command_of note.value) where
-  at : (read : Option Command) → SendsAllowed me n (answer me n state note read)
+  at : (read : Option KeyCommand) → SendsAllowed me n (answer me n state note read)
   at (Some command) = (grind (arith, nat_tests, elsewhere me n), grind (arith, nat_tests))
   at None = (grind arith, grind arith)

@@ -2,7 +2,7 @@
 
 /// A command for one of the eight keys.
 #[derive(Clone, Copy, PartialEq, Eq, Debug)]
-pub struct Command {
+pub struct KeyCommand {
     /// The key, 0 to 7.
     pub key: u8,
     /// What becomes of its value.
@@ -18,21 +18,21 @@ pub enum Change {
     Add(u8),
 }
 
-impl Command {
+impl KeyCommand {
     ghost use Rattle.std.specs.Prelude.{◌≡◌, ◌<◌, IfSome};
     ghost use Rattle.fbl_store.specs.Commands.{applied, command_of};
 
     /// The command that a note's value spells, if it spells one.
-    pub fn read(value: u32) -> Option<Command>
+    pub fn read(value: u32) -> Option<KeyCommand>
         ensures value { result ≡ command_of value }
         ensures key { IfSome result (λ command. command.key < 8) }
     {
         match value.to_le_bytes() {
-            [amount, key @ 0..=7, 0, 0] => Some(Command {
+            [amount, key @ 0..=7, 0, 0] => Some(KeyCommand {
                 key,
                 change: Change::Put(amount),
             }),
-            [amount, key @ 0..=7, 1, 0] => Some(Command {
+            [amount, key @ 0..=7, 1, 0] => Some(KeyCommand {
                 key,
                 change: Change::Add(amount),
             }),

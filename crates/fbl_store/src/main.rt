@@ -12,7 +12,7 @@ mod command;
 mod shard;
 
 use anyhow::{Result, ensure};
-use command::{Change, Command};
+use command::{Change, KeyCommand};
 use fbl_base::{Config, Member, MemberSet, Note, Start, Strike};
 use fbl_group::Group;
 use fbl_threads::{NoGate, drain};
@@ -26,7 +26,7 @@ fn asking(from: Member, to: Member, key: u8, change: Change) -> Start
     requires { key < 8 }
     ensures { brought result.note ≡ amount_of change }
 {
-    let value = Command { key, change }.write();
+    let value = KeyCommand { key, change }.write();
     let note = Note { value, hops: 2 };
     Start { from, to, note }
 }

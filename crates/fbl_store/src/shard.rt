@@ -1,7 +1,7 @@
 ghost use Rattle.std.specs.Prelude.{◌≡◌};
 ghost use Rattle.fbl_store.specs.Shards.{silent_at};
 
-use crate::command::Command;
+use crate::command::KeyCommand;
 use arrayvec::ArrayVec;
 use fbl_base::{Behaviour, Member, Note, Outcome};
 use fbl_law::step_laws::{Keeping, MakingNone, Weighing};
@@ -25,7 +25,7 @@ impl Behaviour for Shard {
         ensures step { result ≡ shard_step me n state note }
     {
         let next = me.after(1, n);
-        match Command::read(note.value) {
+        match KeyCommand::read(note.value) {
             Some(command) if command.key % n == me.number() => silent(command.apply(state)),
             Some(_) => Outcome::with_onward(state, next, note.value, note.hops),
             None => silent(state),

@@ -5,13 +5,13 @@ use std::sync::atomic::{AtomicU64, Ordering};
 use std::time::Duration;
 
 /// How many microseconds the first sleep in a row takes.
-const FIRST_NAP: u64 = 50;
+const FIRST_SLEEP: u64 = 50;
 
 /// How many microseconds a sleep takes at most.
-const LONGEST_NAP: u64 = 1000;
+const LONGEST_SLEEP: u64 = 1000;
 
 /// After how many sleeps in a row the longest comes.
-const NAPS: u32 = 5;
+const SLEEPS: u32 = 5;
 
 /// How many workers have ended.
 #[derive(Drop)]
@@ -40,9 +40,9 @@ impl Endings {
 
     /// Sleeps while as many have ended as were seen to, for a time that is twice as long for each sleep in a row before this
     /// one, up to a bound.
-    pub(crate) fn nap<R: Wait>(&self, rt: &R, seen: u32, naps_before: u32) {
-        let long = FIRST_NAP << naps_before.min(NAPS);
-        let nap = Duration::from_micros(LONGEST_NAP.min(long));
-        self.count.park_timeout(rt, seen, nap);
+    pub(crate) fn sleep<R: Wait>(&self, rt: &R, seen: u32, sleeps_before: u32) {
+        let long = FIRST_SLEEP << sleeps_before.min(SLEEPS);
+        let duration = Duration::from_micros(LONGEST_SLEEP.min(long));
+        self.count.park_timeout(rt, seen, duration);
     }
 }

@@ -9,7 +9,7 @@ use std::sync::{Mutex, MutexGuard, Wait};
 const IDLE_TRIES: u32 = 24;
 
 /// How often it sleeps then between two tries, before it sleeps on the lock.
-const IDLE_NAPS: u32 = 1000;
+const IDLE_SLEEPS: u32 = 1000;
 
 /// How often the lock is tried with spins between the tries by a worker that has claimed a member.
 const TRIES: u32 = 1024;
@@ -32,7 +32,7 @@ pub(crate) fn hold_idle<'a, T, R: Wait>(
         }
         backoff.spin();
     }
-    for number in 0..IDLE_NAPS {
+    for number in 0..IDLE_SLEEPS {
         let seen = endings.count();
         if let Some(guard) = lock.try_lock() {
             return guard;
@@ -40,7 +40,7 @@ pub(crate) fn hold_idle<'a, T, R: Wait>(
         if seen != 0 {
             break;
         }
-        endings.nap(rt, seen, number);
+        endings.sleep(rt, seen, number);
     }
     lock.lock(rt)
 }

@@ -22,7 +22,7 @@ pub use Rattle.fbl_base.proofs.Recorded.{or_false}
 pub use Rattle.fbl_base.specs.Configs.{WorkersAllowed}
 pub use Rattle.fbl_dump.specs.Dumps.{parts_of_data}
 pub use Rattle.fbl_explain.specs.Accounts.{is_refusal}
-pub use Rattle.fbl_explain.specs.declared.account.Account.{Account}
+pub use Rattle.fbl_explain.specs.declared.account.CommandAccount.{CommandAccount}
 pub use Rattle.fbl_input.proofs.Bytes.{keeps_itself}
 pub use Rattle.fbl_input.proofs.Inputs.{read_whole, too_long, unread}
 pub use Rattle.fbl_input.proofs.Outputs.{puts_text}

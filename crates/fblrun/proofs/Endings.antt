@@ -1,6 +1,7 @@
 -- The exit status of an answer, the answer where nothing could be read, and whether a play was refused something.
 use Rattle.fblrun.proofs.Common.{◌≡◌, ℕ, ◌<◌, ◌⊎◌, ◌||◌, ◌&&◌, not, Bool, false, List, [], ◌∷◌, Option, Some, None, Result, Ok, Err, IfSome, length, inl, inr, arith}
-use Rattle.fblrun.proofs.Common.{ap, ◌∙◌, list_any, RunFault, longest, keeps_itself, too_long, unread, or_false, parts_of_data, Account, is_refusal, IsTold, Tells, Command, outline_of, Task}
+use Rattle.fblrun.proofs.Common.{ap, ◌∙◌, list_any, RunFault, longest, keeps_itself, too_long, unread, or_false}
+use Rattle.fblrun.proofs.Common.{parts_of_data, CommandAccount, is_refusal, IsTold, Tells, Command, outline_of, Task}
 use Rattle.fblrun.proofs.Common.{Play, Show, AnswersTask, EndsAfter, PlaysWell, ReadsAndAnswersTask, status_after}
 use Rattle.fbl_input.specs.declared.fault.RunFault.TheVariants as faults
 
@@ -29,7 +30,7 @@ not_read task known before f is long =
 
 -- an observer that keeps whether some account was a refusal's has it in the end, or had it before
 module _ {O : Type 0} (has : O → Bool) where
-  pub keeps_refusals : (cs : List Command) (accounts : List Account) (old new : O)
+  pub keeps_refusals : (cs : List Command) (accounts : List CommandAccount) (old new : O)
       → IsTold (λ o c p. has p ≡ has o) (λ o c account p. has p ≡ (has o || is_refusal account)) cs accounts old new → has new ≡ (has old || list_any is_refusal accounts)
   keeps_refusals [] [] old new told = ap has told ∙ or_false (has old)
   keeps_refusals (c ∷ cs) (account ∷ accounts) old new told = grind (arith, keeps_refusals cs accounts told.0 new told.2, told.1.1, told.1.2)

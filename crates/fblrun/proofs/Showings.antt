@@ -1,9 +1,10 @@
 -- How the parts of a picture of a history fit together.
-use Rattle.fblrun.proofs.Common.{Err, List, Ok, Option, Result, arith, inl, inr, ℕ, ◌∙◌, ◌≡◌, ◌≤◌, Account, keeps_itself, PutsOut, RunFault, HistoryTells, HistoryTellsScript}
+use Rattle.fblrun.proofs.Common.{Err, List, Ok, Option, Result, arith, inl, inr, ℕ, ◌∙◌}
+use Rattle.fblrun.proofs.Common.{◌≡◌, ◌≤◌, CommandAccount, keeps_itself, PutsOut, RunFault, HistoryTells, HistoryTellsScript}
 use Rattle.fblrun.proofs.Common.{RunHistory, IsScriptOf, Outline, behaviour_word, Command, history_picture, IsShown, Shows}
 use Rattle.fbl_input.specs.declared.fault.RunFault.TheVariants as faults
 
-module _ {O : Type 0} (hears_before : O → Command → O → Type 0) (hears_after : O → Command → Account → O → Type 0) (workers : ℕ) (input : List ℕ) (old new : O) where
+module _ {O : Type 0} (hears_before : O → Command → O → Type 0) (hears_after : O → Command → CommandAccount → O → Type 0) (workers : ℕ) (input : List ℕ) (old new : O) where
   -- a history was answered: it is one of the script that the input spells
   module _ (played : RunHistory) (told : HistoryTells hears_before hears_after workers input old new (Ok played)) where
     script_told : (s : Outline) × IsScriptOf input s × HistoryTellsScript hears_before hears_after workers s old new (Ok played)

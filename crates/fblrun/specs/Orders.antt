@@ -9,7 +9,7 @@ use Rattle.fbl_draw.specs.Drawing.{Draws}
 use Rattle.fbl_dump.specs.Auditing.{Audits}
 use Rattle.fbl_dump.specs.Checking.{Checks}
 use Rattle.fbl_dump.specs.declared.checking.Verdict.TheVariants.{Safe, Unsafe}
-use Rattle.fbl_explain.specs.declared.account.Account.{Account}
+use Rattle.fbl_explain.specs.declared.account.CommandAccount.{CommandAccount}
 use Rattle.fbl_explain.specs.Accounts.{is_refusal}
 use Rattle.fbl_play.specs.Runs.{IsWritten, Plays, next_of}
 use Rattle.fbl_script.specs.Scripts.{Outline, IsScriptOf}
@@ -31,7 +31,7 @@ IsWellDone Answers (Err e) = Answers (Err e)
 -- a play, after which all is well but where it is strict and some command was refused
 abbrev pub PlaysWell : ℕ → Bool → List ℕ → Option (List ℕ) → Option (List ℕ) → Result Bool RunFault → Type 0
 PlaysWell workers strict input before after (Ok is_well) =
-    (s : Outline) × (accounts : List Account) × IsScriptOf input s
+    (s : Outline) × (accounts : List CommandAccount) × IsScriptOf input s
     × IsWritten (next_of s.behaviour) workers s.config s.commands accounts before after
     × (is_well ≡ not (strict && list_any is_refusal accounts))
 PlaysWell workers strict input before after (Err e) = Plays workers input before after (Err e)

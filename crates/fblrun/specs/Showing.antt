@@ -1,7 +1,7 @@
 -- What the picture of the history of a script leaves in the writer.
 use Rattle.std.specs.Prelude.{◌≡◌, ℕ, List, Option, Result, Ok, Err}
 use Rattle.std.specs.Io.KnownBytes.{Keeps}
-use Rattle.fbl_explain.specs.declared.account.Account.{Account}
+use Rattle.fbl_explain.specs.declared.account.CommandAccount.{CommandAccount}
 use Rattle.fbl_history.specs.declared.column.Column.{Column}
 use Rattle.fbl_input.specs.declared.fault.RunFault.{RunFault}
 use Rattle.fbl_input.specs.declared.fault.RunFault.TheVariants as faults
@@ -14,7 +14,7 @@ use Rattle.fbl_show.specs.HistoryPictures.{history_picture}
 -- the text is the picture of a history of the script that the input spells, where so many workers make its runs
 abbrev pub IsShown : ℕ → List ℕ → List ℕ → Type 0
 IsShown workers input text =
-    (s : Outline) × (accounts : List Account) × (columns : List Column) × IsScriptOf input s
+    (s : Outline) × (accounts : List CommandAccount) × (columns : List Column) × IsScriptOf input s
     × IsHistoryOf (next_of s.behaviour) workers s.config s.commands accounts columns
     × (text ≡ history_picture s.config.members s.config.f (behaviour_word s.behaviour) columns)
 

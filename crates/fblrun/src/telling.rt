@@ -6,7 +6,7 @@ ghost use Rattle.fblrun.specs.Statuses.{status_after as status_after_result};
 use crate::{Order, Task, status_after};
 use fbl_base::audit::Dump;
 use fbl_dump::dump_of_bytes;
-use fbl_explain::{Account, AccountOf, Why, Words, explain, why_lost, why_unsafe};
+use fbl_explain::{AccountOf, CommandAccount, Why, Words, explain, why_lost, why_unsafe};
 use fbl_input::{InputFault, InputKind, RunFault};
 use fbl_play::Observer;
 use fbl_script::Command;
@@ -61,7 +61,7 @@ impl<R: Eprint> Observer for Teller<'_, R> {
         }
     }
 
-    fn after(&mut self, command: &Command, account: &Account) {
+    fn after(&mut self, command: &Command, account: &CommandAccount) {
         let place = self.place;
         self.place = place.saturating_add(1);
         self.has_refused = self.has_refused || account.is_refusal();

@@ -213,7 +213,7 @@ fn a_drain_without_turns_leaves_the_group_as_it_was(rt: HostRuntime) -> Result<(
 
 /// With one turn each, worker 0 looks for messages to member 0, to whom none is in flight, and worker 1 for those to member 1.
 #[test]
-fn what_a_worker_does_is_booked_to_its_place(rt: HostRuntime) -> Result<(), Fail> {
+fn what_a_worker_does_is_counted_at_its_place(rt: HostRuntime) -> Result<(), Fail> {
     let starts = [start(0, 1, 5, 0)?, start(0, 1, 6, 0)?];
     let group = group(rt.alloc(), 2, 1, 8192, &starts)?;
     let plan = [strike(1, &[1])?];

@@ -9,7 +9,7 @@ loop-place-preserved g c =
     let item = c.index-list-place.result in
     let is = c.index-list-place.is in
     let within = c.loop-place-test.true in (
-      ap (λ items. option_map (λ rest. items ++ rest) (all_shaped g.S.Shape.shape (map view (drop (i + 1) list)))) c.in_ok-push-in-Some.ensures.items
-          ∙ read_more view g.S.Shape.shape list i item c.in-Some.one c.loop-place.all.items _ within is c.in-Some.ensures c.loop-place.invariant.0,
-      one_more view g.S.Shape.shape list i item c.in-Some.one within is c.in-Some.ensures c.loop-place.invariant.1,
+      ap (λ items. option_map (λ rest. items ++ rest) (all_shaped g.S.JsonShape.shape (map view (drop (i + 1) list)))) c.in_ok-push-in-Some.ensures.items
+          ∙ read_more view g.S.JsonShape.shape list i item c.in-Some.one c.loop-place.all.items _ within is c.in-Some.ensures c.loop-place.invariant.0,
+      one_more view g.S.JsonShape.shape list i item c.in-Some.one within is c.in-Some.ensures c.loop-place.invariant.1,
     )

@@ -4,5 +4,5 @@ use Rattle.fbl_input.proofs.shapes.all_in.Given as goal
 
 abbrev pub invariant-loop-place : goal.invariant-loop-place
 invariant-loop-place g l =
-    (option_map (λ rest. l.all.items ++ rest) (all_shaped g.S.Shape.shape (map view (drop l.place l.list))) ≡ all_shaped g.S.Shape.shape (map view l.list))
-    × ((i : ℕ) (d : Data) → i < l.place → slice_get (map view l.list) i ≡ Some d → is_some (g.S.Shape.shape d) ≡ true)
+    (option_map (λ rest. l.all.items ++ rest) (all_shaped g.S.JsonShape.shape (map view (drop l.place l.list))) ≡ all_shaped g.S.JsonShape.shape (map view l.list))
+    × ((i : ℕ) (d : Data) → i < l.place → slice_get (map view l.list) i ≡ Some d → is_some (g.S.JsonShape.shape d) ≡ true)

@@ -1,5 +1,4 @@
-use Rattle.fbl_group.proofs.Common.{subst, IsSound, arith}
-use Rattle.fbl_group.proofs.Queues.{made-more}
+use Rattle.fbl_group.proofs.Common.{subst, IsSound, arith, made-more}
 use Rattle.fbl_group.proofs.Recovering.{begun}
 use Rattle.fbl_group.proofs.group.Group.begin.Goals as goal
 

@@ -1,6 +1,5 @@
-use Rattle.fbl_group.proofs.Common.{◌≡◌, [], true, blank, member_checkpoint}
+use Rattle.fbl_group.proofs.Common.{◌≡◌, [], true, blank, member_checkpoint, Made}
 use Rattle.std.specs.FinSet as set
-use Rattle.fbl_group.proofs.Queues.{Made}
 use Rattle.fbl_group.proofs.group.Group.begin.Given as goal
 
 abbrev pub invariant-loop-number : goal.invariant-loop-number

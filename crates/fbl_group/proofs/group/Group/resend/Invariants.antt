@@ -1,5 +1,4 @@
-use Rattle.fbl_group.proofs.Common.{each, ◌≡◌, ℕ, ◌<◌, [], length, deque_items, slice_index_or, working, sent_again}
-use Rattle.fbl_group.proofs.Queues.{Made}
+use Rattle.fbl_group.proofs.Common.{each, ◌≡◌, ℕ, ◌<◌, [], length, deque_items, slice_index_or, working, sent_again, Made}
 use Rattle.fbl_group.proofs.group.Group.resend.Given as goal
 
 abbrev pub invariant-loop-number : goal.invariant-loop-number

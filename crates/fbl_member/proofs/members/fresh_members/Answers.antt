@@ -1,5 +1,5 @@
-use Rattle.fbl_group.proofs.Queues.{made-more}
-use Rattle.fbl_group.proofs.start.fresh_members.Goals as goal
+use Rattle.fbl_member.proofs.Made.{made-more}
+use Rattle.fbl_member.proofs.members.fresh_members.Goals as goal
 
 pub loop-number-preserved : goal.loop-number-preserved
 loop-number-preserved g c =

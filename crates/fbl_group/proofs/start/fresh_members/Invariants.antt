@@ -1,6 +1,0 @@
-use Rattle.fbl_group.proofs.Common.{◌≡◌, blank, fresh}
-use Rattle.fbl_group.proofs.Queues.{Made}
-use Rattle.fbl_group.proofs.start.fresh_members.Given as goal
-
-abbrev pub invariant-loop-number : goal.invariant-loop-number
-invariant-loop-number g l = Made blank (λ m x. x ≡ fresh m l.config.starts) l.number l.members.items

@@ -1,0 +1,6 @@
+use Rattle.fbl_member.proofs.Common.{◌≡◌, blank, fresh}
+use Rattle.fbl_member.proofs.Made.{Made}
+use Rattle.fbl_member.proofs.members.fresh_members.Given as goal
+
+abbrev pub invariant-loop-number : goal.invariant-loop-number
+invariant-loop-number g l = Made blank (λ m x. x ≡ fresh m l.config.starts) l.number l.members.items
