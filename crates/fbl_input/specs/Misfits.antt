@@ -69,6 +69,13 @@ IsBadItem key place d (inputs.BadItem named at found) = (named ≡ key) × (at �
 IsBadItem key place d inputs.Memory = Unit {0}
 IsBadItem key place d fault = ⊥
 
+-- the fault of the one value at this key: there is none there, or this stands there; or memory ran out
+abbrev pub IsOfField : InputKind → Key → Data → InputFault → Type 0
+IsOfField kind key d (inputs.MissingKey named unknown) = (named ≡ key) × (get (name_of key) d ≡ None) × (option_map string_bytes unknown ≡ unknown_key kind d)
+IsOfField kind key d (inputs.BadValue named found) = (named ≡ key) × (get (name_of key) d ≡ Some (view found))
+IsOfField kind key d inputs.Memory = Unit {0}
+IsOfField kind key d fault = ⊥
+
 -- the form of the command that a list's first item names, where there is one; a checkpoint is of version 2 alone
 abbrev pub form_of : Bool → Data → CommandForm
 form_of is_second name =

@@ -8,7 +8,7 @@ ghost use Rattle.serde_json.specs.Data.{Data};
 ghost use Rattle.serde_json.specs.Find.{as_object, get};
 ghost use Rattle.serde_json.specs.View.{view, members_view};
 ghost use Rattle.fbl_input.specs.Items.{is_item, items_at, known_keys, unknown_key};
-ghost use Rattle.fbl_input.specs.Misfits.{Gives, IsBadItem, IsBadValue, IsFirstOther, IsNotObject, IsMisfit, IsOfShape, run_fault};
+ghost use Rattle.fbl_input.specs.Misfits.{Gives, IsBadItem, IsBadValue, IsFirstOther, IsNotObject, IsMisfit, IsOfField, IsOfShape, run_fault};
 ghost use Rattle.fbl_input.specs.Shapes.{Fails, all_shaped, as_list, count_shape, field, has_other_key as has_other_key_of, is_key_of, is_text, json_of, list_of, member_shape, name_of, number_within, or_fault, other_key as other_key_of, set_shape, value_of_input};
 ghost use Rattle.fbl_input.specs.declared.fault.Key.TheVariants.{Strike};
 ghost use Rattle.fbl_input.specs.declared.fault.RunFault.TheVariants.{BadField, NotJson, NotObject, UnknownKey};
@@ -179,6 +179,7 @@ fn missing(alloc: Global, kind: InputKind, value: &Value, key: Key) -> InputFaul
     requires { get (name_of key) (view value.now) ≡ None }
     ensures exact { Fails {Y = ℕ} (run_fault result) (Err (BadField key)) }
     ensures faults { IsOfShape result }
+    ensures field { IsOfField kind key (view value.now) result }
     ensures misfit { IsMisfit kind (view value.now) result }
 {
     match unknown_key_in(alloc, kind, value) {
@@ -240,6 +241,7 @@ fn value_at<'a>(
     ensures found { IfOk result (λ v. get (name_of key) (view value.now) ≡ Some (view v.now)) }
     ensures exact { IfErr result (λ fault. (get (name_of key) (view value.now) ≡ None) × Fails {Y = ℕ} (run_fault fault) (Err (BadField key))) }
     ensures faults { IfErr result IsOfShape }
+    ensures field { IfErr result (IsOfField kind key (view value.now)) }
     ensures misfit { IfErr result (IsMisfit kind (view value.now)) }
 {
     match value.get(key.name()) {
@@ -257,6 +259,7 @@ pub fn value_field<T: Copy, S: JsonShape<T>>(
 ) -> Result<T, InputFault>
     ensures exact { Gives (λ x. x) result (field key S.shape (view value.now)) }
     ensures faults { IfErr result IsOfShape }
+    ensures field { IfErr result (IsOfField kind key (view value.now)) }
     ensures misfit { ((d : Data) → is_item key d ≡ true) → IfErr result (IsMisfit kind (view value.now)) }
 {
     let found = value_at(alloc, kind, value, key)?;
