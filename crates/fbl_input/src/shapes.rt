@@ -177,10 +177,7 @@ fn unknown_key_in(
 /// The fault of a key at which nothing stands, or lack of memory.
 fn missing(alloc: Global, kind: InputKind, value: &Value, key: Key) -> InputFault
     requires { get (name_of key) (view value.now) ≡ None }
-    ensures exact { Fails {Y = ℕ} (run_fault result) (Err (BadField key)) }
-    ensures faults { IsOfShape result }
-    ensures field { IsOfField kind key (view value.now) result }
-    ensures misfit { IsMisfit kind (view value.now) result }
+    ensures { IsOfField kind key (view value.now) result }
 {
     match unknown_key_in(alloc, kind, value) {
         Ok(unknown) => InputFault::MissingKey { key, unknown },
@@ -239,10 +236,7 @@ fn value_at<'a>(
     key: Key,
 ) -> Result<&'a Value, InputFault>
     ensures found { IfOk result (λ v. get (name_of key) (view value.now) ≡ Some (view v.now)) }
-    ensures exact { IfErr result (λ fault. (get (name_of key) (view value.now) ≡ None) × Fails {Y = ℕ} (run_fault fault) (Err (BadField key))) }
-    ensures faults { IfErr result IsOfShape }
-    ensures field { IfErr result (IsOfField kind key (view value.now)) }
-    ensures misfit { IfErr result (IsMisfit kind (view value.now)) }
+    ensures missing { IfErr result (λ fault. (get (name_of key) (view value.now) ≡ None) × IsOfField kind key (view value.now) fault) }
 {
     match value.get(key.name()) {
         Some(found) => Ok(found),
