@@ -271,6 +271,15 @@ fn a_copy_is_an_equal_record(rt: HostRuntime) -> Result<(), Fail> {
     Ok(())
 }
 
+/// How many requests for memory it takes to make the record that is copied.
+fn requests_to_receive(alloc: Global, first: Member, second: Member) -> Result<u64, AllocError>
+    requires { second < 3 }
+{
+    let heap = Refusing::new(alloc, 0);
+    received(&heap, first, second)?;
+    Ok(heap.requests())
+}
+
 /// Copies a record, refuses the request with this number, counted from 1, and copies it again.
 fn refuse_copy(
     alloc: Global,
@@ -280,9 +289,8 @@ fn refuse_copy(
 ) -> Result<Refusal, AllocError>
     requires { second < 3 }
 {
-    let counting = Refusing::new(alloc, 0);
-    let _received = received(&counting, first, second)?;
-    let heap = Refusing::new(alloc, counting.requests().saturating_add(request));
+    let earlier = requests_to_receive(alloc, first, second)?;
+    let heap = Refusing::new(alloc, earlier.saturating_add(request));
     let member_record = received(&heap, first, second)?;
     let before = readings(&member_record, first);
     let done = member_record.copy().is_ok();

@@ -86,11 +86,9 @@ fn gathered(
     carried: &[Entry],
     det: Determinant,
 ) -> Result<Table, AllocError> {
-    let told = table_of(alloc, told, carried)?;
-    let own = own_table(alloc, det.to, det)?;
     let mut table = Table::new(alloc);
-    table.gather(&told)?;
-    table.gather(&own)?;
+    table.gather(&table_of(alloc, told, carried)?)?;
+    table.gather(&own_table(alloc, det.to, det)?)?;
     Ok(table)
 }
 
@@ -237,8 +235,8 @@ fn twenty(me: Member) -> [Entry; 20] {
 /// How many requests for memory it takes to make the scene's two tables.
 fn requests(alloc: Global, scene: &Scene) -> Result<u64, AllocError> {
     let heap = Refusing::new(alloc, 0);
-    let _table = table_of(&heap, scene.me, scene.before)?;
-    let _other = table_of(&heap, scene.me, scene.others)?;
+    table_of(&heap, scene.me, scene.before)?;
+    table_of(&heap, scene.me, scene.others)?;
     Ok(heap.requests())
 }
 
