@@ -41,10 +41,11 @@ fn a_group_keeps_its_parameters(rt: HostRuntime) -> Result<(), Fail> {
         limit: 100,
         ..ROUND
     };
+    let starts = [start(0, 1, 5, 2)?];
     let group: Group<Relay> = setting.group(rt.alloc())?;
     let config = group.config();
     assert_eq!(rt; (config.members(), config.f(), config.limit()), (3, 1, 100));
-    assert!(rt; config.starts() == [start(0, 1, 5, 2)?].as_slice());
+    assert!(rt; config.starts() == starts.as_slice());
     Ok(())
 }
 

@@ -196,6 +196,16 @@ fn has_events(trace: &[Event], expected: &[Happening]) -> Result<bool, Fail> {
     Ok(trace.len() == expected.len())
 }
 
+/// Whether these are the determinants, in order.
+fn are_determinants(found: &[Determinant], expected: &[(u8, u32, u8, u32)]) -> Result<bool, Fail> {
+    for place in 0..expected.len() {
+        if place >= found.len() || found[place] != determinant(expected[place])? {
+            return Ok(false);
+        }
+    }
+    Ok(found.len() == expected.len())
+}
+
 /// Whether the audit of the group's dump, with these members struck, finds these lost receipts, in order, and these orphans.
 pub(crate) fn is_audited<B: Behaviour>(
     alloc: Global,
@@ -204,10 +214,7 @@ pub(crate) fn is_audited<B: Behaviour>(
     expected: &[(u8, u32, u8, u32)],
     expected_orphans: &[u8],
 ) -> Result<bool, Fail> {
-    let mut expected_lost = Vec::new(alloc);
-    for parts in expected {
-        expected_lost.push(determinant(*parts)?)?;
-    }
     let dump = group.dump(set(struck)?)?;
-    Ok(lost(alloc, &dump)? == expected_lost && orphans(alloc, &dump)? == set(expected_orphans)?)
+    let has_lost = are_determinants(lost(alloc, &dump)?.as_slice(), expected)?;
+    Ok(has_lost && orphans(alloc, &dump)? == set(expected_orphans)?)
 }

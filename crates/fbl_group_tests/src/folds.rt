@@ -267,21 +267,30 @@ fn is_checkpointed<B: Behaviour>(group: &mut Group<B>, number: u8) -> Result<boo
 }
 
 /// Makes the case's deliveries and its checkpoint, strikes the member, recovers it, and delivers what is left.
-fn strike_in<B: Formula>(rt: &(impl Abort + AllocGlobal), case: Case) -> Result<(), Fail> {
-    let mut group: Group<B> = FOUR.group(rt.alloc())?;
-    assert!(rt; is_delivered(&mut group, case.earlier)?, "{case:?}");
+fn strike_as<B: Formula>(
+    rt: &(impl Abort + AllocGlobal),
+    group: &mut Group<B>,
+    case: Case,
+) -> Result<(), Fail> {
+    assert!(rt; is_delivered(group, case.earlier)?, "{case:?}");
     if let Some(number) = case.checkpointed {
-        assert!(rt; is_checkpointed(&mut group, number)?, "{case:?}");
+        assert!(rt; is_checkpointed(group, number)?, "{case:?}");
     }
-    let checkpointed = checkpoint_received(&group, case.checkpointed.unwrap_or(0));
-    assert!(rt; is_delivered(&mut group, case.later)?, "{case:?}");
-    strike(rt, &mut group, case.struck)?;
+    let checkpointed = checkpoint_received(group, case.checkpointed.unwrap_or(0));
+    assert!(rt; is_delivered(group, case.later)?, "{case:?}");
+    strike(rt, group, case.struck)?;
     assert!(rt;
-        checkpoint_received(&group, case.checkpointed.unwrap_or(0)) == checkpointed,
+        checkpoint_received(group, case.checkpointed.unwrap_or(0)) == checkpointed,
         "{case:?}"
     );
-    assert!(rt; is_finished(&mut group)?, "{case:?}");
+    assert!(rt; is_finished(group)?, "{case:?}");
     Ok(())
+}
+
+/// Strikes a member of a new group in this case.
+fn strike_in<B: Formula>(rt: &(impl Abort + AllocGlobal), case: Case) -> Result<(), Fail> {
+    let mut group: Group<B> = FOUR.group(rt.alloc())?;
+    strike_as(rt, &mut group, case)
 }
 
 /// Each member is struck after each delivery.

@@ -18,7 +18,7 @@ pub(crate) fn play<B: Behaviour>(
     setting: &Setting,
     steps: &[Step],
 ) -> Result<(), Fail> {
-    let _group: Group<B> = played(rt.alloc(), setting, &mut None, steps)?;
+    played::<B, _>(rt.alloc(), setting, &mut None, steps)?;
     for place in 0..steps.len() {
         let (before, call) = (&steps[..place], steps[place]);
         let requests = refuse_each::<B>(rt, setting, before, call)?;
@@ -50,7 +50,7 @@ pub(crate) fn heap<B: Behaviour>(
     request: u64,
 ) -> Result<Refusing<Global>, Fail> {
     let heap = Refusing::new(alloc, 0);
-    let _group: Group<B, _> = played(&heap, setting, &mut None, steps)?;
+    played::<B, _>(&heap, setting, &mut None, steps)?;
     Ok(Refusing::new(alloc, heap.requests().saturating_add(request)))
 }
 
@@ -70,8 +70,32 @@ pub(crate) fn is_as<B: Behaviour, A: Allocator + Copy>(
     Ok(is_same(group, &other))
 }
 
-/// Makes the call, to which a request for memory may be refused. Where it is, the call succeeds in spite of it, or the group is
-/// as before the call, but struck by a crash, and the call or the crash's recovery then has its answer.
+/// Makes the call on a group on which those before it were made, and answers its verdict. Where memory is refused to it, the
+/// group is as before the call, but struck by a crash, and the call or the crash's recovery then has its answer.
+fn verdict_of<B: Behaviour, A: Allocator + Copy>(
+    alloc: Global,
+    setting: &Setting,
+    before: &[Step],
+    call: Step,
+    group: &mut Group<B, A>,
+    made: &mut Option<Done<B>>,
+) -> Result<Verdict, Fail> {
+    let verdict = call.make(group, made)?;
+    if verdict == Verdict::WithoutMemory {
+        if !is_as(alloc, setting, before, call.done_when_refused(), group)? {
+            return Ok(Verdict::Unexpected);
+        }
+        make_all(group, made, &[call.left_when_refused()])?;
+    }
+    Ok(if is_as(alloc, setting, before, Some(call), group)? {
+        verdict
+    } else {
+        Verdict::Unexpected
+    })
+}
+
+/// Makes the call, to which a request for memory may be refused, and answers whether it succeeds in spite of it, or tells it
+/// and then has its answer.
 fn make_again<B: Behaviour>(
     alloc: Global,
     setting: &Setting,
@@ -81,19 +105,12 @@ fn make_again<B: Behaviour>(
 ) -> Result<bool, Fail> {
     let mut made = None;
     let mut group: Group<B, _> = played(heap, setting, &mut made, before)?;
-    let verdict = call.make(&mut group, &mut made)?;
-    if verdict == Verdict::WithoutMemory {
-        if !is_as(alloc, setting, before, call.done_when_refused(), &group)? {
-            return Ok(false);
-        }
-        make_all(&mut group, &mut made, &[call.left_when_refused()])?;
-    }
-    let is_told = verdict != Verdict::WithoutMemory || heap.has_refused();
-    Ok(
-        is_told
-            && verdict != Verdict::Unexpected
-            && is_as(alloc, setting, before, Some(call), &group)?,
-    )
+    let verdict = verdict_of(alloc, setting, before, call, &mut group, &mut made);
+    verdict.map(|verdict| match verdict {
+        Verdict::AsExpected => true,
+        Verdict::WithoutMemory => heap.has_refused(),
+        Verdict::Unexpected => false,
+    })
 }
 
 /// Refuses each request of the call in turn, and answers how many there were.

@@ -7,13 +7,14 @@ use crate::steps::{Verdict, make_all};
 use fbl_base::{Behaviour, Mix, Relay};
 use fbl_group::Group;
 use refusing_allocator::Refusing;
-use std::alloc::Global;
+use std::alloc::{Allocator, Global};
+use std::process::Abort;
 use std::test::Fail;
 
 /// How many requests for memory a group's parameters make.
 fn requests_of_config(alloc: Global, setting: &Setting) -> Result<u64, Fail> {
     let heap = Refusing::new(alloc, 0);
-    let _config = setting.config(&heap)?;
+    setting.config(&heap)?;
     Ok(heap.requests())
 }
 
@@ -36,19 +37,27 @@ const ANSWERED: Setting = Setting {
     ..ROUND
 };
 
-#[test]
-fn a_new_group_without_memory(rt: HostRuntime) -> Result<(), Fail> {
-    let whole: Group<Mix> = ANSWERED.group(rt.alloc())?;
+/// Makes the group anew with each request refused in turn, until none is.
+fn refuse_each_of_new<B: Behaviour>(
+    rt: &(impl Abort + AllocGlobal),
+    whole: &Group<B>,
+) -> Result<(), Fail> {
     let earlier = requests_of_config(rt.alloc(), &ANSWERED)?;
     for request in 1..u64::MAX {
         let heap = Refusing::new(rt.alloc(), earlier.saturating_add(request));
-        assert!(rt; is_made(&heap, &ANSWERED, &whole)?, "request {request}");
+        assert!(rt; is_made(&heap, &ANSWERED, whole)?, "request {request}");
         if !heap.has_refused() {
             assert!(rt; request > 3, "few requests: {request}");
             return Ok(());
         }
     }
     Ok(())
+}
+
+#[test]
+fn a_new_group_without_memory(rt: HostRuntime) -> Result<(), Fail> {
+    let whole: Group<Mix> = ANSWERED.group(rt.alloc())?;
+    refuse_each_of_new(&rt, &whole)
 }
 
 #[test]
@@ -69,8 +78,23 @@ fn receipts_and_a_checkpoint_without_memory(rt: HostRuntime) -> Result<(), Fail>
     Ok(())
 }
 
-/// Makes the call, to which a request for memory may be refused. Where it is, the later call is made, and the group is then
-/// as if the refused one had not been made.
+/// Makes the call, to which a request for memory may be refused. Where it is, the later call is made, and the answer is whether
+/// the group is then as if the refused one had not been made.
+fn forgets<B: Behaviour, A: Allocator + Copy>(
+    alloc: Global,
+    setting: &Setting,
+    call: Step,
+    later: Step,
+    group: &mut Group<B, A>,
+) -> Result<Option<bool>, Fail> {
+    if call.make(group, &mut None)? != Verdict::WithoutMemory {
+        return Ok(None);
+    }
+    make_all(group, &mut None, &[later])?;
+    Ok(Some(is_as(alloc, setting, &[], Some(later), group)?))
+}
+
+/// Whether a refused call is forgotten, or none is refused.
 fn is_forgotten<B: Behaviour>(
     alloc: Global,
     setting: &Setting,
@@ -78,13 +102,9 @@ fn is_forgotten<B: Behaviour>(
     later: Step,
     heap: &Refusing<Global>,
 ) -> Result<bool, Fail> {
-    let mut made = None;
     let mut group: Group<B, _> = setting.group(heap)?;
-    if call.make(&mut group, &mut made)? != Verdict::WithoutMemory {
-        return Ok(!heap.has_refused());
-    }
-    make_all(&mut group, &mut made, &[later])?;
-    is_as(alloc, setting, &[], Some(later), &group)
+    let forgotten = forgets(alloc, setting, call, later, &mut group);
+    forgotten.map(|forgotten| forgotten.unwrap_or(!heap.has_refused()))
 }
 
 #[test]
