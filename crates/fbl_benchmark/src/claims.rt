@@ -2,8 +2,8 @@
 
 ghost use Rattle.std.specs.Prelude.{◌≡◌, ◌<◌};
 
-use crate::failure::Failure;
 use crate::times::{microseconds_since, print_rate};
+use anyhow::Result;
 use fbl_base::Member;
 use fbl_threads::{Claims, Pass};
 use std::sync::{Mutex, Wait};
@@ -16,7 +16,7 @@ const COUNT: u32 = 1_000_000;
 const MEMBERS: u8 = 16;
 
 /// Times both, on one thread.
-pub fn time_claims<W: Wait>(rt: &HostRuntime, waits: &W) -> Result<(), Failure> {
+pub fn time_claims<W: Wait>(rt: &HostRuntime, waits: &W) -> Result<()> {
     let (claims, pass) = Claims::new(rt.alloc(), MEMBERS)?;
     let start = Instant::now(rt)?;
     let won = claim_often(&claims, pass);
@@ -46,7 +46,7 @@ fn claim_often(claims: &Claims, pass: Pass) -> u32
 }
 
 /// Times the lock of a number, and its unlock.
-fn time_locks<W: Wait>(rt: &HostRuntime, waits: &W) -> Result<(), Failure> {
+fn time_locks<W: Wait>(rt: &HostRuntime, waits: &W) -> Result<()> {
     let number = Mutex::new(0u32);
     let start = Instant::now(rt)?;
     for _ in 0..COUNT {

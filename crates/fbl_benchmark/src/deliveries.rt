@@ -1,15 +1,15 @@
 //! Deliveries of one message that goes round a group, and crashes after them.
 
 use crate::circulate::Circulate;
-use crate::failure::Failure;
 use crate::ring::{deliver_many, group_of, next_member};
 use crate::times::{TRIES, microseconds_since, print_rate};
+use anyhow::Result;
 use fbl_base::{Member, MemberSet};
 use fbl_group::Group;
 use std::time::Instant;
 
 /// The sizes of the groups, each with how many members may be lost at once.
-const GROUPS: [(u8, u8); 4] = [(2, 1), (3, 1), (3, 2), (16, 15)];
+const GROUPS: &[(u8, u8)] = &[(2, 1), (3, 1), (3, 2), (16, 15)];
 
 /// How many deliveries are timed once each member was recovered.
 const AFTERWARDS: u32 = 80;
@@ -35,8 +35,8 @@ struct Tried {
 }
 
 /// Times each group with fewer and with more deliveries, so that what a delivery takes can be compared.
-pub fn time_groups(rt: &HostRuntime) -> Result<(), Failure> {
-    for (members, f) in GROUPS {
+pub fn time_groups(rt: &HostRuntime) -> Result<()> {
+    for &(members, f) in GROUPS {
         time_group(rt, members, f, 1000)?;
         time_group(rt, members, f, 4000)?;
     }
@@ -46,7 +46,7 @@ pub fn time_groups(rt: &HostRuntime) -> Result<(), Failure> {
 /// Times so many deliveries, then the crash of each member in turn, and then a few deliveries more. A recovered member
 /// knows that everybody holds what it holds, so that the last deliveries meet long tables in which hardly an entry is
 /// still to be passed on.
-fn time_group(rt: &HostRuntime, members: u8, f: u8, count: u32) -> Result<(), Failure> {
+fn time_group(rt: &HostRuntime, members: u8, f: u8, count: u32) -> Result<()> {
     let mut tried = try_group(rt, members, f, count)?;
     for _ in 1..TRIES {
         tried = with_least_times(tried, try_group(rt, members, f, count)?);
@@ -55,16 +55,26 @@ fn time_group(rt: &HostRuntime, members: u8, f: u8, count: u32) -> Result<(), Fa
 }
 
 /// Does it once.
-fn try_group(rt: &HostRuntime, members: u8, f: u8, count: u32) -> Result<Tried, Failure> {
+fn try_group(rt: &HostRuntime, members: u8, f: u8, count: u32) -> Result<Tried> {
     let mut group = group_of::<Circulate>(rt.alloc(), members, f)?;
+    try_on(rt, &mut group, members, count)
+}
+
+/// Does it once on this group.
+fn try_on(
+    rt: &HostRuntime,
+    group: &mut Group<Circulate>,
+    members: u8,
+    count: u32,
+) -> Result<Tried> {
     let start = Instant::now(rt)?;
-    let carried = deliver_many(&mut group, members, count)?;
+    let carried = deliver_many(group, members, count)?;
     let delivering = microseconds_since(rt, start)?;
     let start = Instant::now(rt)?;
-    let crashes = crash_each(&mut group, members)?;
+    let crashes = crash_each(group, members)?;
     let crashing = microseconds_since(rt, start)?;
     let start = Instant::now(rt)?;
-    let carried_more = deliver_many(&mut group, members, AFTERWARDS)?;
+    let carried_more = deliver_many(group, members, AFTERWARDS)?;
     let delivering_more = microseconds_since(rt, start)?;
     Ok(Tried {
         carried,
@@ -87,43 +97,32 @@ fn with_least_times(first: Tried, second: Tried) -> Tried {
 }
 
 /// Prints what was counted and the times.
-fn print_group(
-    rt: &HostRuntime,
-    members: u8,
-    f: u8,
-    count: u32,
-    tried: Tried,
-) -> Result<(), Failure> {
+fn print_group(rt: &HostRuntime, members: u8, f: u8, count: u32, tried: Tried) -> Result<()> {
     let name = format!(in rt.alloc(); "members {members} f {f} after {count}")?;
+    print_tried(rt, name.as_str(), members, count, tried)
+}
+
+/// Prints it under this name.
+fn print_tried(rt: &HostRuntime, name: &str, members: u8, count: u32, tried: Tried) -> Result<()> {
+    let crashes = tried.crashes;
     println!(rt; "{name}: delivered {count} carried {}", tried.carried)?;
     println!(rt;
         "{name}: lost {} replayed {} resent {} undone {}",
-        tried.crashes.lost, tried.crashes.replayed, tried.crashes.resent, tried.crashes.undone
+        crashes.lost, crashes.replayed, crashes.resent, crashes.undone
     )?;
     println!(rt;
         "{name}: delivered {AFTERWARDS} more carried {}",
         tried.carried_more
     )?;
-    print_rate(rt, &name, "deliveries", count, tried.delivering)?;
-    let crashes = u32::from(members);
-    print_rate(
-        rt,
-        &name,
-        "strikes with recoveries",
-        crashes,
-        tried.crashing,
-    )?;
-    print_rate(
-        rt,
-        &name,
-        "deliveries more",
-        AFTERWARDS,
-        tried.delivering_more,
-    )
+    let struck = u32::from(members);
+    let more = tried.delivering_more;
+    print_rate(rt, name, "deliveries", count, tried.delivering)?;
+    print_rate(rt, name, "strikes with recoveries", struck, tried.crashing)?;
+    print_rate(rt, name, "deliveries more", AFTERWARDS, more)
 }
 
 /// Strikes and recovers each member in turn, and counts what that did.
-fn crash_each(group: &mut Group<Circulate>, members: u8) -> Result<Crashes, Failure> {
+fn crash_each(group: &mut Group<Circulate>, members: u8) -> Result<Crashes> {
     let mut crashes = Crashes::default();
     let mut member = Member::default();
     for _ in 0..members {

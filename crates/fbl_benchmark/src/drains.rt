@@ -1,11 +1,11 @@
 //! Drains by one and by several workers.
 
 use crate::circulate::Circulate;
-use crate::failure::Failure;
 use crate::load::beside_load;
 use crate::long_circulate::LongCirculate;
 use crate::ring::LIMIT;
 use crate::times::{TRIES, microseconds_since, print_rate};
+use anyhow::Result;
 use fbl_base::{Behaviour, Config, Member, Note, Start};
 use fbl_group::Group;
 use fbl_threads::{NoGate, drain};
@@ -25,10 +25,7 @@ const TURNS: u32 = 1_000_000;
 
 /// Times the drain of equal groups by 1, 2, 4 and 8 workers in threads, by a step that takes no time and by one that does;
 /// of groups with one message by 1 and 8; and of the first ones beside a load.
-pub fn time_workers<T: Threads + Wait + Sync>(
-    rt: &HostRuntime,
-    threads: &T,
-) -> Result<(), Failure> {
+pub fn time_workers<T: Threads + Wait + Sync>(rt: &HostRuntime, threads: &T) -> Result<()> {
     time_drains::<Circulate, T>(rt, threads, "short step", MEMBERS, &[1, 2, 4, 8])?;
     time_drains::<LongCirculate, T>(rt, threads, "long step", MEMBERS, &[1, 2, 4, 8])?;
     time_drains::<Circulate, T>(rt, threads, "sparse drain", 1, &[1, 8])?;
@@ -36,10 +33,7 @@ pub fn time_workers<T: Threads + Wait + Sync>(
 }
 
 /// Times the drains that are timed beside a load.
-fn time_loaded_drains<T: Threads + Wait + Sync>(
-    rt: &HostRuntime,
-    threads: &T,
-) -> Result<(), Failure> {
+fn time_loaded_drains<T: Threads + Wait + Sync>(rt: &HostRuntime, threads: &T) -> Result<()> {
     time_drains::<Circulate, T>(rt, threads, "loaded drain short step", MEMBERS, &[1, 8])?;
     time_drains::<LongCirculate, T>(rt, threads, "loaded drain long step", MEMBERS, &[1, 8])
 }
@@ -52,7 +46,7 @@ struct Drain {
 }
 
 /// A group in which each of the first so many members has sent a message to the next.
-fn ring<B: Behaviour>(alloc: Global, messages: u8) -> Result<Group<B>, Failure> {
+fn ring<B: Behaviour>(alloc: Global, messages: u8) -> Result<Group<B>> {
     let mut starts = Vec::new(alloc);
     for number in 0..messages {
         let from = Member::new(number).unwrap_or_default();
@@ -73,7 +67,7 @@ fn time_drains<B: Behaviour + Send + Sync, T: Threads + Wait + Sync>(
     name: &str,
     messages: u8,
     numbers: &[u8],
-) -> Result<(), Failure> {
+) -> Result<()> {
     for workers in numbers {
         time_drain::<B, T>(rt, threads, name, messages, *workers)?;
     }
@@ -87,7 +81,7 @@ fn time_drain<B: Behaviour + Send + Sync, T: Threads + Wait + Sync>(
     name: &str,
     messages: u8,
     workers: u8,
-) -> Result<(), Failure> {
+) -> Result<()> {
     let (mut least, drained) = try_drain::<B, T>(rt, threads, messages, workers)?;
     for _ in 1..TRIES {
         let (taken, _again) = try_drain::<B, T>(rt, threads, messages, workers)?;
@@ -107,7 +101,7 @@ fn try_drain<B: Behaviour + Send + Sync, T: Threads + Wait + Sync>(
     threads: &T,
     messages: u8,
     workers: u8,
-) -> Result<(u128, Drain), Failure> {
+) -> Result<(u128, Drain)> {
     let alloc = rt.alloc();
     let group = ring::<B>(alloc, messages)?;
     let start = Instant::now(rt)?;

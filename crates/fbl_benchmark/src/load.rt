@@ -1,16 +1,16 @@
 //! A load on every core.
 
-use crate::failure::Failure;
+use anyhow::Result;
 use std::sync::Wait;
 use std::sync::atomic::{AtomicBool, Ordering};
 use std::thread;
 use std::thread::Threads;
 
 /// Does the work beside threads that compute until it is done, as many as there are cores.
-pub fn beside_load<T: Threads + Wait + Sync, F: FnOnce() -> Result<(), Failure>>(
+pub fn beside_load<T: Threads + Wait + Sync, F: FnOnce() -> Result<()>>(
     threads: &T,
     work: F,
-) -> Result<(), Failure>
+) -> Result<()>
     requires { F.pre work }
 {
     let cores = thread::available_parallelism(threads)?.get();
@@ -19,7 +19,7 @@ pub fn beside_load<T: Threads + Wait + Sync, F: FnOnce() -> Result<(), Failure>>
     thread::scope(
         thread::scope_env(),
         threads,
-        move |scope| -> Result<(), Failure>
+        move |scope| -> Result<()>
             requires { F.pre work }
         {
             for _core in 0..cores {

@@ -6,7 +6,6 @@ mod circulate;
 mod claims;
 mod deliveries;
 mod drains;
-mod failure;
 mod load;
 mod long_circulate;
 mod recoveries;
@@ -15,16 +14,12 @@ mod spread;
 mod spreads;
 mod times;
 
-use failure::Failure;
-use std::process::ExitCode;
+use anyhow::Result;
 use std::sync::Wait;
 use std::thread::Threads;
 
-/// The exit status of a run in which a call was refused or a line could not be printed.
-const FAILED: u8 = 1;
-
 /// Everything that is timed, in turn.
-fn run<T: Threads + Wait + Sync>(rt: &HostRuntime, threads: &T) -> Result<(), Failure> {
+fn run<T: Threads + Wait + Sync>(rt: &HostRuntime, threads: &T) -> Result<()> {
     deliveries::time_groups(rt)?;
     spreads::time_spreads(rt)?;
     recoveries::time_recoveries(rt)?;
@@ -32,12 +27,6 @@ fn run<T: Threads + Wait + Sync>(rt: &HostRuntime, threads: &T) -> Result<(), Fa
     claims::time_claims(rt, threads)
 }
 
-fn main(rt: HostRuntime) -> ExitCode {
-    match run(&rt, &rt) {
-        Ok(()) => ExitCode::from(0),
-        Err(failure) => {
-            let _ = eprintln!(rt; "failed: {failure}");
-            ExitCode::from(FAILED)
-        }
-    }
+fn main(rt: HostRuntime) -> Result<()> {
+    run(&rt, &rt)
 }

@@ -1,10 +1,10 @@
 //! Recoveries of one member, from its checkpoint and from its start.
 
 use crate::circulate::Circulate;
-use crate::failure::Failure;
 use crate::long_circulate::LongCirculate;
 use crate::ring::{deliver_many, group_of, next_member};
 use crate::times::{TRIES, microseconds_since, print_rate};
+use anyhow::Result;
 use fbl_base::{Behaviour, Member, MemberSet};
 use fbl_group::{Group, Recovered};
 use std::time::Instant;
@@ -22,7 +22,7 @@ const BEFORE: u32 = 3900;
 const SINCE: u32 = 100;
 
 /// Times recoveries with and without checkpoints, by a step that takes no time and by one that does.
-pub fn time_recoveries(rt: &HostRuntime) -> Result<(), Failure> {
+pub fn time_recoveries(rt: &HostRuntime) -> Result<()> {
     time_recovery::<Circulate>(rt, "short step without checkpoint", false)?;
     time_recovery::<Circulate>(rt, "short step with checkpoint", true)?;
     time_recovery::<LongCirculate>(rt, "long step without checkpoint", false)?;
@@ -30,23 +30,10 @@ pub fn time_recoveries(rt: &HostRuntime) -> Result<(), Failure> {
 }
 
 /// Times the recovery of the member that has received last.
-fn time_recovery<B: Behaviour>(
-    rt: &HostRuntime,
-    name: &str,
-    checkpointed: bool,
-) -> Result<(), Failure> {
+fn time_recovery<B: Behaviour>(rt: &HostRuntime, name: &str, checkpointed: bool) -> Result<()> {
     let mut group = group_of::<B>(rt.alloc(), MEMBERS, LOST)?;
-    deliver_many(&mut group, MEMBERS, BEFORE)?;
-    if checkpointed {
-        checkpoint_each(&mut group)?;
-    }
-    deliver_many(&mut group, MEMBERS, SINCE)?;
-    let member = next_member(Member::default(), MEMBERS);
-    let (recovered, mut least) = crash(rt, &mut group, member)?;
-    for _ in 1..TRIES {
-        let (_again, taken) = crash(rt, &mut group, member)?;
-        least = least.min(taken);
-    }
+    deliver_and_checkpoint(&mut group, checkpointed)?;
+    let (recovered, least) = try_recoveries(rt, &mut group)?;
     println!(rt;
         "{name}: replayed {} undone {}",
         recovered.replayed, recovered.undone
@@ -54,8 +41,33 @@ fn time_recovery<B: Behaviour>(
     print_rate(rt, name, "recoveries", 1, least)
 }
 
+/// Makes the group's receipts, with a checkpoint of each member before the last ones, or with none.
+fn deliver_and_checkpoint<B: Behaviour>(group: &mut Group<B>, checkpointed: bool) -> Result<()> {
+    deliver_many(group, MEMBERS, BEFORE)?;
+    if checkpointed {
+        checkpoint_each(group)?;
+    }
+    deliver_many(group, MEMBERS, SINCE)?;
+    Ok(())
+}
+
+/// Strikes and recovers the member that has received last several times, and answers what its first recovery did and the least
+/// time that one took.
+fn try_recoveries<B: Behaviour>(
+    rt: &HostRuntime,
+    group: &mut Group<B>,
+) -> Result<(Recovered, u128)> {
+    let member = next_member(Member::default(), MEMBERS);
+    let (recovered, mut least) = crash(rt, group, member)?;
+    for _ in 1..TRIES {
+        let (_again, taken) = crash(rt, group, member)?;
+        least = least.min(taken);
+    }
+    Ok((recovered, least))
+}
+
 /// Takes a checkpoint of each member.
-fn checkpoint_each<B: Behaviour>(group: &mut Group<B>) -> Result<(), Failure> {
+fn checkpoint_each<B: Behaviour>(group: &mut Group<B>) -> Result<()> {
     for number in 0..MEMBERS {
         group.checkpoint(Member::new(number).unwrap_or_default())?;
     }
@@ -67,7 +79,7 @@ fn crash<B: Behaviour>(
     rt: &HostRuntime,
     group: &mut Group<B>,
     member: Member,
-) -> Result<(Recovered, u128), Failure> {
+) -> Result<(Recovered, u128)> {
     group.strike(MemberSet::empty().with(member))?;
     let start = Instant::now(rt)?;
     let recovered = group.recover()?;

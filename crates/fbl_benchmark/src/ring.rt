@@ -1,6 +1,6 @@
 //! One message that goes round a group.
 
-use crate::failure::Failure;
+use anyhow::Result;
 use fbl_base::{Behaviour, Config, Member, Note, Start};
 use fbl_group::{DeliverRefusal, Group, Receipted};
 use std::alloc::Global;
@@ -9,7 +9,7 @@ use std::alloc::Global;
 pub const LIMIT: u32 = 8192;
 
 /// A group with one message in flight, from member 0 to member 1.
-pub fn group_of<B: Behaviour>(alloc: Global, members: u8, f: u8) -> Result<Group<B>, Failure> {
+pub fn group_of<B: Behaviour>(alloc: Global, members: u8, f: u8) -> Result<Group<B>> {
     let start = Start {
         from: Member::default(),
         to: next_member(Member::default(), members),
@@ -20,11 +20,7 @@ pub fn group_of<B: Behaviour>(alloc: Global, members: u8, f: u8) -> Result<Group
 }
 
 /// Delivers the message, wherever it is, so many times, and counts the determinants that were carried.
-pub fn deliver_many<B: Behaviour>(
-    group: &mut Group<B>,
-    members: u8,
-    count: u32,
-) -> Result<u64, Failure> {
+pub fn deliver_many<B: Behaviour>(group: &mut Group<B>, members: u8, count: u32) -> Result<u64> {
     let mut carried: u64 = 0;
     let mut from = Member::default();
     for _ in 0..count {
@@ -40,7 +36,7 @@ fn deliver_next<B: Behaviour>(
     group: &mut Group<B>,
     members: u8,
     first: Member,
-) -> Result<(Member, Receipted), Failure> {
+) -> Result<(Member, Receipted)> {
     let mut from = first;
     for _ in 1..members {
         let to = next_member(from, members);

@@ -4,7 +4,7 @@ use crate::facts::Fact::{AllHave, Checkpointed, Down, Ever, Flight, Has, Holds, 
 use crate::facts::is_audited;
 use crate::memory::{play, played};
 use crate::setting::{CHECKPOINTED, GONE_ROUND, HALF_ROUND_OF_TWO, MEETING, ROUND, TWICE};
-use crate::steps::Step::{Checkpoint, Crash, Deliver, Recover, Show, Strike};
+use crate::steps::Step::{self, Checkpoint, Crash, Deliver, Recover, Show, Strike};
 use fbl_base::{Mix, Relay};
 use fbl_group::{CheckpointRefusal, Group};
 use std::test::Fail;
@@ -12,7 +12,7 @@ use std::test::Fail;
 // The audit knows no checkpoints, so it finds both receipts lost.
 #[test]
 fn a_checkpointed_receipt_is_not_lost(rt: HostRuntime) -> Result<(), Fail> {
-    let steps = [
+    const STEPS: &[Step] = &[
         Deliver((2, 1), Ok((1, 0, 8))),
         Checkpoint(2, Ok(1)),
         Deliver((2, 0), Ok((2, 0, 253))),
@@ -28,16 +28,16 @@ fn a_checkpointed_receipt_is_not_lost(rt: HostRuntime) -> Result<(), Fail> {
         Deliver((2, 0), Ok((2, 0, 253))),
         Checkpoint(3, Err(CheckpointRefusal::BadMember)),
     ];
-    play::<Mix>(&rt, &MEETING, &steps)?;
-    let group: Group<Mix> = played(rt.alloc(), &MEETING, &mut None, &steps[..4])?;
-    let lost = [(1, 1, 2, 1), (0, 1, 2, 2)];
-    assert!(rt; is_audited(rt.alloc(), &group, &[2], &lost, &[])?);
+    const LOST: &[(u8, u32, u8, u32)] = &[(1, 1, 2, 1), (0, 1, 2, 2)];
+    play::<Mix>(&rt, &MEETING, STEPS)?;
+    let group: Group<Mix> = played(rt.alloc(), &MEETING, &mut None, &STEPS[..4])?;
+    assert!(rt; is_audited(rt.alloc(), &group, &[2], LOST, &[])?);
     Ok(())
 }
 
 #[test]
 fn messages_that_a_checkpoint_has_are_sent_again(rt: HostRuntime) -> Result<(), Fail> {
-    let steps = [
+    const STEPS: &[Step] = &[
         Checkpoint(0, Ok(0)),
         Deliver((1, 0), Ok((1, 0, 5))),
         Checkpoint(1, Ok(1)),
@@ -47,12 +47,12 @@ fn messages_that_a_checkpoint_has_are_sent_again(rt: HostRuntime) -> Result<(), 
         Show(InFlight((1, 2), 1)),
         Deliver((2, 1), Ok((1, 1, 5))),
     ];
-    play::<Relay>(&rt, &ROUND, &steps)
+    play::<Relay>(&rt, &ROUND, STEPS)
 }
 
 #[test]
 fn a_crash_recovers_from_a_checkpoint(rt: HostRuntime) -> Result<(), Fail> {
-    let steps = [
+    const STEPS: &[Step] = &[
         Checkpoint(0, Ok(0)),
         Deliver((1, 0), Ok((1, 0, 5))),
         Checkpoint(1, Ok(1)),
@@ -60,12 +60,12 @@ fn a_crash_recovers_from_a_checkpoint(rt: HostRuntime) -> Result<(), Fail> {
         Show(Checkpointed(&[0, 1, 0])),
         Deliver((2, 1), Ok((1, 1, 5))),
     ];
-    play::<Relay>(&rt, &ROUND, &steps)
+    play::<Relay>(&rt, &ROUND, STEPS)
 }
 
 #[test]
 fn a_checkpoint_records_what_two_strikes_would_lose(rt: HostRuntime) -> Result<(), Fail> {
-    let steps = [
+    const STEPS: &[Step] = &[
         Checkpoint(2, Ok(1)),
         Strike(&[2], Ok(0)),
         Strike(&[1], Ok(0)),
@@ -76,12 +76,12 @@ fn a_checkpoint_records_what_two_strikes_would_lose(rt: HostRuntime) -> Result<(
         Show(InFlight((2, 0), 1)),
         Deliver((0, 2), Ok((1, 2, 5))),
     ];
-    play::<Relay>(&rt, &HALF_ROUND_OF_TWO, &steps)
+    play::<Relay>(&rt, &HALF_ROUND_OF_TWO, STEPS)
 }
 
 #[test]
 fn checkpoints_are_refused_in_order(rt: HostRuntime) -> Result<(), Fail> {
-    let steps = [
+    const STEPS: &[Step] = &[
         Checkpoint(3, Err(CheckpointRefusal::BadMember)),
         Checkpoint(15, Err(CheckpointRefusal::BadMember)),
         Deliver((1, 0), Ok((1, 0, 5))),
@@ -96,13 +96,13 @@ fn checkpoints_are_refused_in_order(rt: HostRuntime) -> Result<(), Fail> {
         Checkpoint(1, Ok(1)),
         Checkpoint(2, Ok(0)),
     ];
-    play::<Relay>(&rt, &ROUND, &steps)
+    play::<Relay>(&rt, &ROUND, STEPS)
 }
 
 // After the first checkpoint the second receipt is lost, and after the second one nothing is.
 #[test]
 fn a_checkpoint_takes_the_place_of_the_older_one(rt: HostRuntime) -> Result<(), Fail> {
-    let steps = [
+    const STEPS: &[Step] = &[
         Show(Checkpointed(&[0, 0, 0])),
         Deliver((1, 0), Ok((1, 0, 5))),
         Checkpoint(1, Ok(1)),
@@ -116,13 +116,13 @@ fn a_checkpoint_takes_the_place_of_the_older_one(rt: HostRuntime) -> Result<(), 
         Show(Has(1, (11, 2, 0, 2))),
         Show(Checkpointed(&[0, 2, 0])),
     ];
-    play::<Relay>(&rt, &TWICE, &steps)
+    play::<Relay>(&rt, &TWICE, STEPS)
 }
 
 // The second receipt is known to its member's successor, which took the message that followed from it.
 #[test]
 fn the_receipts_after_a_checkpoint_are_replayed(rt: HostRuntime) -> Result<(), Fail> {
-    let steps = [
+    const STEPS: &[Step] = &[
         Strike(&[1], Ok(0)),
         Show(Has(1, (0, 0, 0, 0))),
         Show(Checkpointed(&[0, 1, 0])),
@@ -137,12 +137,12 @@ fn the_receipts_after_a_checkpoint_are_replayed(rt: HostRuntime) -> Result<(), F
         Show(Has(1, (11, 2, 1, 3))),
         Show(Checkpointed(&[0, 2, 0])),
     ];
-    play::<Relay>(&rt, &CHECKPOINTED, &steps)
+    play::<Relay>(&rt, &CHECKPOINTED, STEPS)
 }
 
 #[test]
 fn a_member_that_received_nothing_is_checkpointed(rt: HostRuntime) -> Result<(), Fail> {
-    let steps = [
+    const STEPS: &[Step] = &[
         Checkpoint(1, Ok(0)),
         Checkpoint(2, Ok(0)),
         Deliver((1, 0), Ok((1, 0, 5))),
@@ -155,5 +155,5 @@ fn a_member_that_received_nothing_is_checkpointed(rt: HostRuntime) -> Result<(),
         Show(AllHave(&[(5, 1, 1, 2), (5, 1, 1, 3), (5, 1, 1, 3)])),
         Show(Checkpointed(&[0, 0, 0])),
     ];
-    play::<Relay>(&rt, &ROUND, &steps)
+    play::<Relay>(&rt, &ROUND, STEPS)
 }

@@ -4,7 +4,7 @@ use crate::facts::Fact::{Ever, Has, InFlight, Length, Trace};
 use crate::facts::Happening::{Received, Sent};
 use crate::memory::play;
 use crate::setting::{ROUND, Setting, TWICE};
-use crate::steps::Step::{Commit, Crash, Deliver, Recover, Show, Strike, Take};
+use crate::steps::Step::{self, Commit, Crash, Deliver, Recover, Show, Strike, Take};
 use fbl_base::Relay;
 use fbl_fixtures::member;
 use fbl_group::{CommitRefusal, Done, Group, TakeRefusal, run_step};
@@ -20,7 +20,7 @@ const SMALL: Setting = Setting {
 
 #[test]
 fn a_step_is_committed_after_a_crash(rt: HostRuntime) -> Result<(), Fail> {
-    let steps = [
+    const STEPS: &[Step] = &[
         Deliver((1, 0), Ok((1, 0, 5))),
         Take((1, 0), Ok((5, 2, 2, 6, 0))),
         Show(InFlight((0, 1), 1)),
@@ -41,12 +41,12 @@ fn a_step_is_committed_after_a_crash(rt: HostRuntime) -> Result<(), Fail> {
         ])),
         Show(Ever(3, 1)),
     ];
-    play::<Relay>(&rt, &TWICE, &steps)
+    play::<Relay>(&rt, &TWICE, STEPS)
 }
 
 #[test]
 fn a_step_is_committed_once_nobody_is_down(rt: HostRuntime) -> Result<(), Fail> {
-    let steps = [
+    const STEPS: &[Step] = &[
         Take((1, 0), Ok((0, 1, 1, 5, 1))),
         Strike(&[0], Ok(0)),
         Commit(Err(CommitRefusal::Down)),
@@ -56,13 +56,13 @@ fn a_step_is_committed_once_nobody_is_down(rt: HostRuntime) -> Result<(), Fail> 
         Show(Has(1, (5, 1, 1, 1))),
         Show(InFlight((1, 0), 1)),
     ];
-    play::<Relay>(&rt, &SMALL, &steps)
+    play::<Relay>(&rt, &SMALL, STEPS)
 }
 
 #[test]
 fn a_full_trace_refuses_a_commit(rt: HostRuntime) -> Result<(), Fail> {
-    let setting = Setting { limit: 2, ..SMALL };
-    let steps = [
+    const SETTING: Setting = Setting { limit: 2, ..SMALL };
+    const STEPS: &[Step] = &[
         Take((1, 0), Ok((0, 1, 1, 5, 1))),
         Commit(Err(CommitRefusal::Full)),
         Commit(Err(CommitRefusal::Full)),
@@ -71,7 +71,7 @@ fn a_full_trace_refuses_a_commit(rt: HostRuntime) -> Result<(), Fail> {
         Show(Length(1)),
         Show(Ever(0, 0)),
     ];
-    play::<Relay>(&rt, &setting, &steps)
+    play::<Relay>(&rt, &SETTING, STEPS)
 }
 
 /// A step of member 1 in a group of three, which sends to the third.
@@ -98,7 +98,7 @@ fn a_step_of_a_larger_group_is_stale(rt: HostRuntime) -> Result<(), Fail> {
 
 #[test]
 fn tickets_are_refused_in_order(rt: HostRuntime) -> Result<(), Fail> {
-    let steps = [
+    const STEPS: &[Step] = &[
         Take((2, 0), Err(TakeRefusal::BadMember)),
         Take((0, 2), Err(TakeRefusal::BadMember)),
         Take((0, 1), Err(TakeRefusal::Empty)),
@@ -107,5 +107,5 @@ fn tickets_are_refused_in_order(rt: HostRuntime) -> Result<(), Fail> {
         Take((2, 0), Err(TakeRefusal::BadMember)),
         Take((1, 0), Err(TakeRefusal::Down)),
     ];
-    play::<Relay>(&rt, &SMALL, &steps)
+    play::<Relay>(&rt, &SMALL, STEPS)
 }

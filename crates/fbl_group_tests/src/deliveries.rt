@@ -4,7 +4,7 @@ use crate::facts::Fact::{AllHave, Down, Ever, Flight, Holds, InFlight, Length, T
 use crate::facts::Happening::{Received, Sent};
 use crate::memory::play;
 use crate::setting::{MEETING, ROUND, Setting};
-use crate::steps::Step::{Deliver, Show};
+use crate::steps::Step::{self, Deliver, Show};
 use fbl_base::{Mix, Relay};
 use fbl_fixtures::start;
 use fbl_group::{DeliverRefusal, Group};
@@ -12,11 +12,11 @@ use std::test::Fail;
 
 #[test]
 fn a_new_group_has_sent_its_starts(rt: HostRuntime) -> Result<(), Fail> {
-    let setting = Setting {
+    const SETTING: Setting = Setting {
         starts: &[(0, 1, 5, 2), (2, 1, 6, 0), (0, 2, 7, 1)],
         ..ROUND
     };
-    let steps = [
+    const STEPS: &[Step] = &[
         Show(AllHave(&[(0, 0, 2, 0), (0, 0, 0, 0), (0, 0, 1, 0)])),
         Show(Holds(0, &[])),
         Show(InFlight((0, 1), 1)),
@@ -32,17 +32,17 @@ fn a_new_group_has_sent_its_starts(rt: HostRuntime) -> Result<(), Fail> {
         Show(Down(&[])),
         Show(Ever(0, 0)),
     ];
-    play::<Relay>(&rt, &setting, &steps)
+    play::<Relay>(&rt, &SETTING, STEPS)
 }
 
 #[test]
 fn a_group_keeps_its_parameters(rt: HostRuntime) -> Result<(), Fail> {
-    let setting = Setting {
+    const SETTING: Setting = Setting {
         limit: 100,
         ..ROUND
     };
     let starts = [start(0, 1, 5, 2)?];
-    let group: Group<Relay> = setting.group(rt.alloc())?;
+    let group: Group<Relay> = SETTING.group(rt.alloc())?;
     let config = group.config();
     assert_eq!(rt; (config.members(), config.f(), config.limit()), (3, 1, 100));
     assert!(rt; config.starts() == starts.as_slice());
@@ -51,28 +51,28 @@ fn a_group_keeps_its_parameters(rt: HostRuntime) -> Result<(), Fail> {
 
 #[test]
 fn a_group_without_starts_is_quiet(rt: HostRuntime) -> Result<(), Fail> {
-    let setting = Setting {
+    const SETTING: Setting = Setting {
         n: 2,
         starts: &[],
         ..ROUND
     };
-    let steps = [
+    const STEPS: &[Step] = &[
         Show(Flight(0, true)),
         Show(Trace(&[])),
         Show(AllHave(&[(0, 0, 0, 0), (0, 0, 0, 0)])),
     ];
-    play::<Relay>(&rt, &setting, &steps)
+    play::<Relay>(&rt, &SETTING, STEPS)
 }
 
 // The states are 4 + 1 and 5 + 1.
 #[test]
 fn a_message_is_answered(rt: HostRuntime) -> Result<(), Fail> {
-    let setting = Setting {
+    const SETTING: Setting = Setting {
         n: 2,
         starts: &[(0, 1, 4, 1)],
         ..ROUND
     };
-    let steps = [
+    const STEPS: &[Step] = &[
         Deliver((1, 0), Ok((1, 0, 5))),
         Show(Holds(1, &[((0, 1, 1, 1), &[1])])),
         Show(Flight(1, false)),
@@ -88,43 +88,43 @@ fn a_message_is_answered(rt: HostRuntime) -> Result<(), Fail> {
         Show(Flight(0, true)),
         Show(Ever(2, 0)),
     ];
-    play::<Mix>(&rt, &setting, &steps)
+    play::<Mix>(&rt, &SETTING, STEPS)
 }
 
 // 7 + 1 and then 31 * 8 + 4 + 1; in the other order 4 + 1 and then 31 * 5 + 7 + 1.
 #[test]
 fn the_order_of_deliveries_decides_the_state(rt: HostRuntime) -> Result<(), Fail> {
-    let steps = [
+    const FROM_ONE_FIRST: &[Step] = &[
         Deliver((2, 1), Ok((1, 0, 8))),
         Deliver((2, 0), Ok((2, 0, 253))),
     ];
-    play::<Mix>(&rt, &MEETING, &steps)?;
-    let steps = [
+    const FROM_ZERO_FIRST: &[Step] = &[
         Deliver((2, 0), Ok((1, 0, 5))),
         Deliver((2, 1), Ok((2, 0, 163))),
     ];
-    play::<Mix>(&rt, &MEETING, &steps)
+    play::<Mix>(&rt, &MEETING, FROM_ONE_FIRST)?;
+    play::<Mix>(&rt, &MEETING, FROM_ZERO_FIRST)
 }
 
 #[test]
 fn a_channel_gives_its_messages_in_order(rt: HostRuntime) -> Result<(), Fail> {
-    let setting = Setting {
+    const SETTING: Setting = Setting {
         starts: &[(0, 1, 4, 0), (0, 1, 7, 0)],
         ..ROUND
     };
-    let steps = [
+    const STEPS: &[Step] = &[
         Show(InFlight((0, 1), 2)),
         Deliver((1, 0), Ok((1, 0, 5))),
         Show(InFlight((0, 1), 1)),
         Deliver((1, 0), Ok((2, 0, 163))),
         Deliver((1, 0), Err(DeliverRefusal::Empty)),
     ];
-    play::<Mix>(&rt, &setting, &steps)
+    play::<Mix>(&rt, &SETTING, STEPS)
 }
 
 #[test]
 fn a_message_goes_round(rt: HostRuntime) -> Result<(), Fail> {
-    let steps = [
+    const STEPS: &[Step] = &[
         Deliver((1, 0), Ok((1, 0, 5))),
         Deliver((2, 1), Ok((1, 1, 5))),
         Deliver((0, 2), Ok((1, 1, 5))),
@@ -135,40 +135,40 @@ fn a_message_goes_round(rt: HostRuntime) -> Result<(), Fail> {
         Show(Flight(0, true)),
         Show(Length(6)),
     ];
-    play::<Relay>(&rt, &ROUND, &steps)
+    play::<Relay>(&rt, &ROUND, STEPS)
 }
 
 #[test]
 fn a_full_trace_refuses(rt: HostRuntime) -> Result<(), Fail> {
-    let setting = Setting {
+    const WITHOUT_ROOM: Setting = Setting {
         n: 2,
         limit: 1,
         starts: &[(0, 1, 5, 0)],
         ..ROUND
     };
-    let steps = [
+    const WITH_ROOM: Setting = Setting {
+        limit: 2,
+        ..WITHOUT_ROOM
+    };
+    const REFUSED: &[Step] = &[
         Deliver((1, 0), Err(DeliverRefusal::Full)),
         Show(InFlight((0, 1), 1)),
         Show(Trace(&[Sent(0, 1, 1, 5, 0)])),
         Show(Ever(0, 0)),
     ];
-    play::<Relay>(&rt, &setting, &steps)?;
-    let setting = Setting {
-        limit: 2,
-        ..setting
-    };
-    let steps = [Deliver((1, 0), Ok((1, 0, 5)))];
-    play::<Relay>(&rt, &setting, &steps)
+    const DELIVERED: &[Step] = &[Deliver((1, 0), Ok((1, 0, 5)))];
+    play::<Relay>(&rt, &WITHOUT_ROOM, REFUSED)?;
+    play::<Relay>(&rt, &WITH_ROOM, DELIVERED)
 }
 
 // 4294967295 is 4 * 1000000007 and 294967267.
 #[test]
 fn a_state_wraps(rt: HostRuntime) -> Result<(), Fail> {
-    let setting = Setting {
+    const SETTING: Setting = Setting {
         n: 2,
         starts: &[(0, 1, 4_294_967_295, 0)],
         ..ROUND
     };
-    let steps = [Deliver((1, 0), Ok((1, 0, 294_967_267)))];
-    play::<Relay>(&rt, &setting, &steps)
+    const STEPS: &[Step] = &[Deliver((1, 0), Ok((1, 0, 294_967_267)))];
+    play::<Relay>(&rt, &SETTING, STEPS)
 }

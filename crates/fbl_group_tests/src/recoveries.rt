@@ -6,14 +6,14 @@ use crate::memory::play;
 use crate::setting::{
     GONE_ROUND, GONE_ROUND_OF_TWO, HALF_ROUND_OF_TWO, MEETING, ROUND, Setting, TWICE,
 };
-use crate::steps::Step::{Crash, Deliver, Recover, Show, Strike};
+use crate::steps::Step::{self, Crash, Deliver, Recover, Show, Strike};
 use fbl_base::{Mix, Relay};
 use fbl_group::{CrashRefusal, DeliverRefusal, RecoverRefusal, StrikeRefusal};
 use std::test::Fail;
 
 #[test]
 fn receipts_that_nobody_else_knows_are_made_again(rt: HostRuntime) -> Result<(), Fail> {
-    let steps = [
+    const STEPS: &[Step] = &[
         Deliver((2, 1), Ok((1, 0, 8))),
         Deliver((2, 0), Ok((2, 0, 253))),
         Strike(&[2], Ok(2)),
@@ -22,16 +22,16 @@ fn receipts_that_nobody_else_knows_are_made_again(rt: HostRuntime) -> Result<(),
         Deliver((2, 1), Ok((2, 0, 163))),
         Show(Ever(4, 2)),
     ];
-    play::<Mix>(&rt, &MEETING, &steps)
+    play::<Mix>(&rt, &MEETING, STEPS)
 }
 
 #[test]
 fn a_receipt_that_a_survivor_knows_is_replayed(rt: HostRuntime) -> Result<(), Fail> {
-    let setting = Setting {
+    const SETTING: Setting = Setting {
         starts: &[(0, 2, 4, 0), (1, 2, 7, 1)],
         ..ROUND
     };
-    let steps = [
+    const STEPS: &[Step] = &[
         Deliver((2, 1), Ok((1, 0, 8))),
         Deliver((2, 0), Ok((2, 0, 253))),
         Deliver((0, 2), Ok((1, 1, 9))),
@@ -56,12 +56,12 @@ fn a_receipt_that_a_survivor_knows_is_replayed(rt: HostRuntime) -> Result<(), Fa
         Show(Ever(3, 1)),
         Deliver((2, 0), Ok((2, 1, 253))),
     ];
-    play::<Mix>(&rt, &setting, &steps)
+    play::<Mix>(&rt, &SETTING, STEPS)
 }
 
 #[test]
 fn a_member_that_took_the_first_message_is_struck(rt: HostRuntime) -> Result<(), Fail> {
-    let steps = [
+    const STEPS: &[Step] = &[
         Strike(&[1], Ok(0)),
         Recover(Ok((1, 0, 0))),
         Show(AllHave(&[(5, 1, 1, 2), (5, 1, 1, 3), (5, 1, 1, 2)])),
@@ -76,29 +76,26 @@ fn a_member_that_took_the_first_message_is_struck(rt: HostRuntime) -> Result<(),
         Show(Flight(0, true)),
         Show(Length(6)),
     ];
-    play::<Relay>(&rt, &GONE_ROUND, &steps)
+    play::<Relay>(&rt, &GONE_ROUND, STEPS)
 }
 
 #[test]
 fn a_sender_and_its_receiver_are_struck(rt: HostRuntime) -> Result<(), Fail> {
-    let steps = [
+    const STEPS: &[Step] = &[
         Strike(&[1, 2], Ok(0)),
         Recover(Ok((2, 0, 0))),
         Show(AllHave(&[(5, 1, 1, 3), (5, 1, 1, 3), (5, 1, 1, 3)])),
         Show(Flight(0, true)),
         Show(Length(6)),
     ];
-    play::<Relay>(&rt, &GONE_ROUND_OF_TWO, &steps)?;
-    play::<Relay>(
-        &rt,
-        &GONE_ROUND_OF_TWO,
-        &[Crash(&[1, 2], Ok((0, (2, 0, 0))))],
-    )
+    const CRASH: &[Step] = &[Crash(&[1, 2], Ok((0, (2, 0, 0))))];
+    play::<Relay>(&rt, &GONE_ROUND_OF_TWO, STEPS)?;
+    play::<Relay>(&rt, &GONE_ROUND_OF_TWO, CRASH)
 }
 
 #[test]
 fn one_member_is_struck_after_another(rt: HostRuntime) -> Result<(), Fail> {
-    let steps = [
+    const STEPS: &[Step] = &[
         Strike(&[2], Ok(0)),
         Recover(Ok((1, 0, 0))),
         Strike(&[1], Ok(0)),
@@ -109,12 +106,12 @@ fn one_member_is_struck_after_another(rt: HostRuntime) -> Result<(), Fail> {
         Recover(Ok((1, 0, 0))),
         Show(AllHave(&[(5, 1, 1, 2), (5, 1, 1, 3), (5, 1, 1, 3)])),
     ];
-    play::<Relay>(&rt, &GONE_ROUND, &steps)
+    play::<Relay>(&rt, &GONE_ROUND, STEPS)
 }
 
 #[test]
 fn all_that_know_of_receipts_are_struck(rt: HostRuntime) -> Result<(), Fail> {
-    let steps = [
+    const STEPS: &[Step] = &[
         Strike(&[1, 2], Ok(2)),
         Recover(Ok((0, 1, 2))),
         Show(AllHave(&[(0, 0, 1, 0), (0, 0, 0, 0), (0, 0, 0, 0)])),
@@ -123,12 +120,12 @@ fn all_that_know_of_receipts_are_struck(rt: HostRuntime) -> Result<(), Fail> {
         Show(Trace(&[Sent(0, 1, 1, 5, 2)])),
         Show(Ever(2, 2)),
     ];
-    play::<Relay>(&rt, &HALF_ROUND_OF_TWO, &steps)
+    play::<Relay>(&rt, &HALF_ROUND_OF_TWO, STEPS)
 }
 
 #[test]
 fn strikes_and_recoveries_are_refused_in_order(rt: HostRuntime) -> Result<(), Fail> {
-    let steps = [
+    const STEPS: &[Step] = &[
         Strike(&[], Err(StrikeRefusal::Nobody)),
         Strike(&[0, 1], Err(StrikeRefusal::TooMany)),
         Strike(&[3], Err(StrikeRefusal::BadMember)),
@@ -151,12 +148,12 @@ fn strikes_and_recoveries_are_refused_in_order(rt: HostRuntime) -> Result<(), Fa
         Recover(Err(RecoverRefusal::NotDown)),
         Deliver((1, 0), Ok((1, 0, 5))),
     ];
-    play::<Relay>(&rt, &ROUND, &steps)
+    play::<Relay>(&rt, &ROUND, STEPS)
 }
 
 #[test]
 fn a_crash_is_a_strike_and_a_recovery(rt: HostRuntime) -> Result<(), Fail> {
-    let steps = [
+    const STEPS: &[Step] = &[
         Recover(Err(RecoverRefusal::NotDown)),
         Deliver((1, 0), Ok((1, 0, 5))),
         Deliver((1, 0), Ok((2, 0, 11))),
@@ -174,12 +171,12 @@ fn a_crash_is_a_strike_and_a_recovery(rt: HostRuntime) -> Result<(), Fail> {
         Crash(&[2], Ok((0, (0, 0, 0)))),
         Show(Down(&[])),
     ];
-    play::<Relay>(&rt, &TWICE, &steps)
+    play::<Relay>(&rt, &TWICE, STEPS)
 }
 
 #[test]
 fn members_are_struck_while_others_are_down(rt: HostRuntime) -> Result<(), Fail> {
-    let steps = [
+    const STEPS: &[Step] = &[
         Strike(&[1], Ok(0)),
         Strike(&[2], Ok(0)),
         Show(Down(&[1, 2])),
@@ -194,24 +191,24 @@ fn members_are_struck_while_others_are_down(rt: HostRuntime) -> Result<(), Fail>
         Show(AllHave(&[(5, 1, 1, 3), (5, 1, 1, 3), (5, 1, 1, 3)])),
         Show(Down(&[])),
     ];
-    play::<Relay>(&rt, &GONE_ROUND_OF_TWO, &steps)
+    play::<Relay>(&rt, &GONE_ROUND_OF_TWO, STEPS)
 }
 
 #[test]
 fn each_strike_counts_all_lost_receipts(rt: HostRuntime) -> Result<(), Fail> {
-    let steps = [
+    const STEPS: &[Step] = &[
         Strike(&[2], Ok(1)),
         Strike(&[1], Ok(2)),
         Recover(Ok((0, 1, 2))),
         Show(AllHave(&[(0, 0, 1, 0), (0, 0, 0, 0), (0, 0, 0, 0)])),
         Show(Ever(2, 2)),
     ];
-    play::<Relay>(&rt, &HALF_ROUND_OF_TWO, &steps)
+    play::<Relay>(&rt, &HALF_ROUND_OF_TWO, STEPS)
 }
 
 #[test]
 fn a_crash_recovers_those_that_were_down_before(rt: HostRuntime) -> Result<(), Fail> {
-    let steps = [
+    const STEPS: &[Step] = &[
         Strike(&[1], Ok(0)),
         Crash(&[0, 2], Err(CrashRefusal::TooMany)),
         Show(Down(&[1])),
@@ -219,5 +216,5 @@ fn a_crash_recovers_those_that_were_down_before(rt: HostRuntime) -> Result<(), F
         Show(Down(&[])),
         Show(AllHave(&[(5, 1, 1, 3), (5, 1, 1, 3), (5, 1, 1, 3)])),
     ];
-    play::<Relay>(&rt, &GONE_ROUND_OF_TWO, &steps)
+    play::<Relay>(&rt, &GONE_ROUND_OF_TWO, STEPS)
 }

@@ -62,19 +62,17 @@ fn a_new_group_without_memory(rt: HostRuntime) -> Result<(), Fail> {
 
 #[test]
 fn receipts_and_a_checkpoint_without_memory(rt: HostRuntime) -> Result<(), Fail> {
-    let first = Deliver((1, 0), Ok((1, 0, 5)));
-    let second = Deliver((0, 1), Ok((1, 1, 6)));
-    assert!(rt; refuse_each::<Mix>(&rt, &ANSWERED, &[], first)? > 5);
-    assert!(rt; refuse_each::<Mix>(&rt, &ANSWERED, &[first], second)? > 2);
-    let setting = Setting {
+    const RELAYED: Setting = Setting {
         starts: &[(0, 1, 5, 1)],
         ..ANSWERED
     };
-    let take = Take((1, 0), Ok((0, 1, 1, 5, 1)));
-    let call = Commit(Ok((1, 0, 5)));
-    assert!(rt; refuse_each::<Relay>(&rt, &setting, &[take], call)? > 5);
-    let call = Checkpoint(1, Ok(2));
-    assert!(rt; refuse_each::<Relay>(&rt, &CHECKPOINTED, &[], call)? > 2);
+    const FIRST: Step = Deliver((1, 0), Ok((1, 0, 5)));
+    const SECOND: Step = Deliver((0, 1), Ok((1, 1, 6)));
+    const TAKEN: &[Step] = &[Take((1, 0), Ok((0, 1, 1, 5, 1)))];
+    assert!(rt; refuse_each::<Mix>(&rt, &ANSWERED, &[], FIRST)? > 5);
+    assert!(rt; refuse_each::<Mix>(&rt, &ANSWERED, &[FIRST], SECOND)? > 2);
+    assert!(rt; refuse_each::<Relay>(&rt, &RELAYED, TAKEN, Commit(Ok((1, 0, 5))))? > 5);
+    assert!(rt; refuse_each::<Relay>(&rt, &CHECKPOINTED, &[], Checkpoint(1, Ok(2)))? > 2);
     Ok(())
 }
 
@@ -109,11 +107,11 @@ fn is_forgotten<B: Behaviour>(
 
 #[test]
 fn an_older_checkpoint_stands_without_memory(rt: HostRuntime) -> Result<(), Fail> {
-    let call = Checkpoint(1, Ok(2));
-    let later = Crash(&[1], Ok((0, (1, 0, 0))));
+    const CALL: Step = Checkpoint(1, Ok(2));
+    const LATER: Step = Crash(&[1], Ok((0, (1, 0, 0))));
     for request in 1..u64::MAX {
         let heap = heap::<Relay>(rt.alloc(), &CHECKPOINTED, &[], request)?;
-        let is_forgotten = is_forgotten::<Relay>(rt.alloc(), &CHECKPOINTED, call, later, &heap)?;
+        let is_forgotten = is_forgotten::<Relay>(rt.alloc(), &CHECKPOINTED, CALL, LATER, &heap)?;
         assert!(rt; is_forgotten, "request {request}");
         if !heap.has_refused() {
             assert!(rt; request > 3, "few requests: {request}");

@@ -1,7 +1,8 @@
 //! Dumps and their audits, as JSON and as lines, and over readers and writers that fail.
 
+use super::plays::FAILURES;
 use fbl_dump::{audit, audit_bytes, dump_of_bytes, dump_text};
-use fbl_fixtures::{FailedWrite, Page, UnsteadyReader, UnsteadyWriter};
+use fbl_fixtures::{Page, UnsteadyReader, UnsteadyWriter};
 use fbl_input::{Key, RunFault};
 use std::alloc::{AllocError, Global};
 use std::io::{self, Read};
@@ -78,7 +79,7 @@ fn says(rt: &impl Abort, alloc: Global, input: &[u8], told: &str) -> Result<(), 
 }
 
 /// Strike sets, with what comes behind them, and what the audit says.
-const STRIKES: [(&str, &str, &str); 9] = [
+const STRIKES: &[(&str, &str, &str)] = &[
     ("[1]", "", "lost 0\norphans none\n"),
     ("[2,1]", "", "lost 1\ndeterminant 0 1 1 1\norphans 0\n"),
     ("[]", "", "lost 0\norphans none\n"),
@@ -92,7 +93,7 @@ const STRIKES: [(&str, &str, &str); 9] = [
 
 #[test]
 fn audits_each_strike_set(rt: HostRuntime) -> Result<(), Fail> {
-    for (strike, tail, told) in STRIKES {
+    for &(strike, tail, told) in STRIKES {
         let text = dump(rt.alloc(), 1, EVENTS, HELD, strike, tail)?;
         says(&rt, rt.alloc(), text.as_bytes(), told)?;
     }
@@ -100,7 +101,7 @@ fn audits_each_strike_set(rt: HostRuntime) -> Result<(), Fail> {
 }
 
 /// Events and held pairs, and what the audit says where nobody was struck.
-const PARTS: [(&str, &str, &str); 9] = [
+const PARTS: &[(&str, &str, &str)] = &[
     (
         EVENTS,
         "",
@@ -122,7 +123,7 @@ const PARTS: [(&str, &str, &str); 9] = [
 
 #[test]
 fn audits_other_events_and_pairs(rt: HostRuntime) -> Result<(), Fail> {
-    for (events, held, told) in PARTS {
+    for &(events, held, told) in PARTS {
         let text = dump(rt.alloc(), 1, events, held, "[]", "")?;
         says(&rt, rt.alloc(), text.as_bytes(), told)?;
     }
@@ -268,11 +269,7 @@ pub(crate) fn stopped_at(
 
 #[test]
 fn stops_at_a_failed_write(rt: HostRuntime) {
-    for failure in [
-        FailedWrite::Error,
-        FailedWrite::Interruption,
-        FailedWrite::NoByte,
-    ] {
+    for &failure in FAILURES {
         for fails_at in 1..=8u32 {
             let mut reader = LOST.as_bytes();
             let mut writer = UnsteadyWriter::new(rt.alloc(), 7, fails_at, failure);

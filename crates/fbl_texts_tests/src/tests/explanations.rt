@@ -8,7 +8,7 @@ use std::alloc::{AllocError, Global};
 use std::test::Fail;
 
 /// Scripts with a fault, and what is said of each.
-const SCRIPTS: [(&str, &str); 19] = [
+const SCRIPTS: &[(&str, &str)] = &[
     (
         "{",
         "the input must be one JSON object, and is no JSON: EOF while parsing at line 1 column 1",
@@ -85,7 +85,7 @@ const SCRIPTS: [(&str, &str); 19] = [
 ];
 
 /// Dumps with a fault, and what is said of each.
-const DUMPS: [(&str, &str); 12] = [
+const DUMPS: &[(&str, &str)] = &[
     (
         r#"{"members":17,"f":1,"events":[],"held":[],"strike":[]}"#,
         "members is 17, and must be 2 to 16",
@@ -146,7 +146,7 @@ fn text_of(alloc: Global, found: Option<InputFault>) -> Result<String, AllocErro
 
 #[test]
 fn explains_the_faults_of_scripts(rt: HostRuntime) -> Result<(), Fail> {
-    for (script, said) in SCRIPTS {
+    for &(script, said) in SCRIPTS {
         let input = script.as_bytes();
         let fault = script_of_bytes(rt.alloc(), input).err().ok_or("no fault")?;
         let found = explain(rt.alloc(), InputKind::Script, input, &fault)?;
@@ -158,7 +158,7 @@ fn explains_the_faults_of_scripts(rt: HostRuntime) -> Result<(), Fail> {
 
 #[test]
 fn explains_the_faults_of_dumps(rt: HostRuntime) -> Result<(), Fail> {
-    for (dump, said) in DUMPS {
+    for &(dump, said) in DUMPS {
         let input = dump.as_bytes();
         let fault = dump_of_bytes(rt.alloc(), input).err().ok_or("no fault")?;
         let found = explain(rt.alloc(), InputKind::Dump, input, &fault)?;
@@ -192,7 +192,7 @@ orphan 2 depends on it: receipt 1 of member 1, send 1 of member 1, receipt 1 of 
 ";
 
 /// Dumps, why receipts of each are lost, and why some are unsafe.
-const REASONS: [(&str, &str, &str); 5] = [
+const REASONS: &[(&str, &str, &str)] = &[
     (ROUND, "", ROUND_WHY),
     (ROUND_STRUCK, ROUND_WHY, ROUND_WHY),
     (
@@ -214,7 +214,7 @@ const REASONS: [(&str, &str, &str); 5] = [
 
 #[test]
 fn tells_why_receipts_are_lost_or_unsafe(rt: HostRuntime) -> Result<(), Fail> {
-    for (input, lost, not_safe) in REASONS {
+    for &(input, lost, not_safe) in REASONS {
         let dump = dump_of_bytes(rt.alloc(), input.as_bytes())
             .ok()
             .ok_or("no dump")?;

@@ -69,15 +69,11 @@ fn marks(text: &str, class: &str) -> usize {
 }
 
 /// Dumps, and how many receipts of each are stable, recorded and lost.
-const KINDS: [(&str, usize, usize, usize); 3] = [
-    (SMALL, 0, 0, 1),
-    (LINE, 2, 1, 0),
-    (LOST, 1, 1, 1),
-];
+const KINDS: &[(&str, usize, usize, usize)] = &[(SMALL, 0, 0, 1), (LINE, 2, 1, 0), (LOST, 1, 1, 1)];
 
 #[test]
 fn draws_a_mark_for_each_event(rt: HostRuntime) -> Result<(), Fail> {
-    for (dump, stable, recorded, lost) in KINDS {
+    for &(dump, stable, recorded, lost) in KINDS {
         let text = drawn(rt.alloc(), dump.as_bytes())?;
         let text = text.as_str();
         assert_eq!(rt; marks(text, " class='receipt stable'"), stable, "{text}");
@@ -126,7 +122,7 @@ fn draws_a_path_to_each_orphan(rt: HostRuntime) -> Result<(), Fail> {
 }
 
 /// Inputs that are no dump.
-const FAULTY: [&str; 9] = [
+const FAULTY: &[&str] = &[
     "",
     "[]",
     "{}",
@@ -148,7 +144,7 @@ fn faults_agree(rt: &impl Abort, alloc: Global, input: &[u8]) -> Result<(), Fail
 
 #[test]
 fn has_the_faults_of_the_audit(rt: HostRuntime) -> Result<(), Fail> {
-    for input in FAULTY {
+    for &input in FAULTY {
         faults_agree(&rt, rt.alloc(), input.as_bytes())?;
     }
     for end in 0..40usize {

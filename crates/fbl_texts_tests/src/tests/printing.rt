@@ -102,14 +102,16 @@ fn prints_strikes_and_recoveries(rt: HostRuntime) -> Result<(), Fail> {
     Ok(())
 }
 
+/// How runs end, and the line of each.
+const ENDS: &[(RunEnd, &str)] = &[
+    (RunEnd::Quiet, "run quiet\n"),
+    (RunEnd::Full, "run full\n"),
+    (RunEnd::Stopped, "run stopped\n"),
+];
+
 #[test]
 fn prints_runs(rt: HostRuntime) -> Result<(), Fail> {
-    let ends = [
-        (RunEnd::Quiet, "run quiet\n"),
-        (RunEnd::Full, "run full\n"),
-        (RunEnd::Stopped, "run stopped\n"),
-    ];
-    for (end, line) in ends {
+    for &(end, line) in ENDS {
         let text = run_text(rt.alloc(), end)?;
         is_text(&rt, text.as_str(), line);
     }

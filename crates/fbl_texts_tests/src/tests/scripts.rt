@@ -34,7 +34,7 @@ fn fault_of(alloc: Global, input: &[u8]) -> Result<String, AllocError> {
 }
 
 /// Changes of the head, and their faults.
-const HEADS: [(&str, &str); 9] = [
+const HEADS: &[(&str, &str)] = &[
     (
         r#""version":1,"members":256,"f":1,"behaviour":"mix""#,
         "bad field members",
@@ -71,7 +71,7 @@ const HEADS: [(&str, &str); 9] = [
 ];
 
 /// Changes of the starts, and their faults.
-const STARTS: [(&str, &str); 8] = [
+const STARTS: &[(&str, &str)] = &[
     ("[0,16,4,1]", "bad field start"),
     ("[0,1,4,256]", "bad field start"),
     ("[0,1,4]", "bad field start"),
@@ -83,7 +83,7 @@ const STARTS: [(&str, &str); 8] = [
 ];
 
 /// Changes of the commands, and their faults.
-const COMMAND_LISTS: [(&str, &str); 10] = [
+const COMMAND_LISTS: &[(&str, &str)] = &[
     (
         r#"["deliver",1,0],["deliver",1],["report"]"#,
         "bad command 1",
@@ -100,7 +100,7 @@ const COMMAND_LISTS: [(&str, &str); 10] = [
 ];
 
 /// What stands behind the commands, and the faults.
-const TAILS: [(&str, &str); 8] = [
+const TAILS: &[(&str, &str)] = &[
     (r#","limit":0"#, "BadLimit"),
     (r#","limit":8193"#, "BadLimit"),
     (r#","limit":null"#, "bad field limit"),
@@ -131,23 +131,23 @@ pub(crate) fn has_script_fault(
 
 #[test]
 fn names_the_fault_of_each_changed_script(rt: HostRuntime) -> Result<(), Fail> {
-    for (head, fault) in HEADS {
+    for &(head, fault) in HEADS {
         has_script_fault(&rt, rt.alloc(), [head, START, COMMANDS, ""], fault)?;
     }
-    for (start, fault) in STARTS {
+    for &(start, fault) in STARTS {
         has_script_fault(&rt, rt.alloc(), [HEAD, start, COMMANDS, ""], fault)?;
     }
-    for (commands, fault) in COMMAND_LISTS {
+    for &(commands, fault) in COMMAND_LISTS {
         has_script_fault(&rt, rt.alloc(), [HEAD, START, commands, ""], fault)?;
     }
-    for (tail, fault) in TAILS {
+    for &(tail, fault) in TAILS {
         has_script_fault(&rt, rt.alloc(), [HEAD, START, COMMANDS, tail], fault)?;
     }
     Ok(())
 }
 
 /// Scripts with two faults, and the one that is told.
-const TWO_FAULTS: [([&str; 4], &str); 4] = [
+const TWO_FAULTS: &[([&str; 4], &str)] = &[
     ([HEAD, START, r#"["fly"]"#, r#","x":0"#], "bad command 0"),
     ([HEAD, "[0,0,4,1]", COMMANDS, r#","x":0"#], "unknown key"),
     (
@@ -162,7 +162,7 @@ const TWO_FAULTS: [([&str; 4], &str); 4] = [
 
 #[test]
 fn tells_the_first_of_two_faults(rt: HostRuntime) -> Result<(), Fail> {
-    for (parts, fault) in TWO_FAULTS {
+    for &(parts, fault) in TWO_FAULTS {
         has_script_fault(&rt, rt.alloc(), parts, fault)?;
     }
     Ok(())
@@ -270,7 +270,7 @@ pub(crate) fn read_script(alloc: Global, parts: [&str; 4]) -> Result<Script, Fai
 }
 
 /// The heads of a script in either version.
-const EACH_VERSION: [&str; 2] = [
+const EACH_VERSION: &[&str] = &[
     r#""version":1,"members":4,"f":2,"behaviour":"relay""#,
     r#""version":2,"members":4,"f":2,"behaviour":"relay""#,
 ];
@@ -293,7 +293,7 @@ fn has_parameters(script: &Script, starts: &[Start]) -> bool {
 #[test]
 fn reads_the_parameters(rt: HostRuntime) -> Result<(), Fail> {
     let starts = [start(0, 1, 5, 6)?, start(2, 3, 7, 3)?];
-    for head in EACH_VERSION {
+    for &head in EACH_VERSION {
         let script = each_command(rt.alloc(), head)?;
         assert!(rt; has_parameters(&script, &starts));
     }
@@ -329,7 +329,7 @@ fn is_each_command(
 fn reads_each_command(rt: HostRuntime) -> Result<(), Fail> {
     let planned = [strike(7, &[0, 3])?, strike(9, &[1])?];
     let (struck, dumped) = (set(&[1, 2])?, set(&[])?);
-    for head in EACH_VERSION {
+    for &head in EACH_VERSION {
         let script = each_command(rt.alloc(), head)?;
         assert!(rt; is_each_command(script.commands.as_slice(), struck, dumped, &planned));
     }

@@ -20,7 +20,7 @@ const CHECKPOINTS: &str =
     r#"["checkpoint",0],["deliver",1,0],["checkpoint",1],["strike",[1]],["recover"],["deliver",2,1]"#;
 
 /// Versions of a script with these commands, what stands behind them, and the faults.
-const HEADS: [(&str, &str, &str); 9] = [
+const HEADS: &[(&str, &str, &str)] = &[
     ("1", r#""members":3,"f":1"#, "bad command 0"),
     ("2", r#""members":3,"f":1"#, "none"),
     ("3", r#""members":3,"f":1"#, "bad field version"),
@@ -33,7 +33,7 @@ const HEADS: [(&str, &str, &str); 9] = [
 ];
 
 /// Commands of a script of version 2, what stands behind them, and the faults.
-const COMMAND_LISTS: [(&str, &str, &str); 10] = [
+const COMMAND_LISTS: &[(&str, &str, &str)] = &[
     (r#"["checkpoint",15]"#, "", "none"),
     (r#"["checkpoint",16]"#, "", "bad command 0"),
     (r#"["checkpoint",[0]]"#, "", "bad command 0"),
@@ -52,7 +52,7 @@ const COMMAND_LISTS: [(&str, &str, &str); 10] = [
 
 #[test]
 fn goes_by_the_version(rt: HostRuntime) -> Result<(), Fail> {
-    for (version, group, fault) in HEADS {
+    for &(version, group, fault) in HEADS {
         let head = format!(in rt.alloc(); r#""version":{version},{group},"behaviour":"relay""#)?;
         let parts = [head.as_str(), START, CHECKPOINTS, ""];
         has_script_fault(&rt, rt.alloc(), parts, fault)?;
@@ -64,7 +64,7 @@ fn goes_by_the_version(rt: HostRuntime) -> Result<(), Fail> {
         "",
     ];
     has_script_fault(&rt, rt.alloc(), none, "bad field version")?;
-    for (commands, tail, fault) in COMMAND_LISTS {
+    for &(commands, tail, fault) in COMMAND_LISTS {
         has_script_fault(&rt, rt.alloc(), [VERSION_2, START, commands, tail], fault)?;
     }
     let late = [VERSION_1, START, r#"["states"],["checkpoint",0]"#, ""];

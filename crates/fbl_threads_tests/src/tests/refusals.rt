@@ -55,7 +55,7 @@ fn refusals_come_in_their_order(rt: HostRuntime) -> Result<(), Fail> {
 }
 
 /// Plans, each with the place of its first bad entry.
-const PLANS: [(&[(u64, &[u8])], Option<usize>); 6] = [
+const PLANS: &[(&[(u64, &[u8])], Option<usize>)] = &[
     (&[(0, &[1])], Some(0)),
     (&[(3, &[1]), (3, &[2])], Some(1)),
     (&[(3, &[1]), (4, &[]), (4, &[])], Some(1)),
@@ -83,7 +83,7 @@ fn bad_place<R: Threads + Wait + Sync>(
 
 #[test]
 fn the_first_bad_entry_of_a_plan_is_named(rt: HostRuntime) -> Result<(), Fail> {
-    for (entries, place) in PLANS {
+    for &(entries, place) in PLANS {
         let plan = plan(rt.alloc(), entries)?;
         assert_eq!(rt; bad_place(&rt, rt.alloc(), &plan)?, place, "{entries:?}");
     }

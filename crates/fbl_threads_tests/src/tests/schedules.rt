@@ -149,6 +149,11 @@ fn round_plan(alloc: Global) -> Result<Vec<Strike>, Fail> {
     Ok(plan)
 }
 
+/// The states of the members once all of these messages are delivered.
+const STATES_OF_ROUND: &[u64] = &[
+    58, 46, 34, 22, 10, 14, 18, 22, 26, 30, 34, 38, 42, 46, 50, 54,
+];
+
 /// Whether these messages are all delivered in spite of 64 strikes.
 fn is_delivered<R: Threads + Wait + Sync>(
     rt: &R,
@@ -158,10 +163,7 @@ fn is_delivered<R: Threads + Wait + Sync>(
     let group = group(alloc, 16, 15, 8192, &round_starts(alloc)?)?;
     let plan = round_plan(alloc)?;
     let (group, answer) = drain_by(rt, alloc, group, &plan, workers);
-    let states = [
-        58, 46, 34, 22, 10, 14, 18, 22, 26, 30, 34, 38, 42, 46, 50, 54,
-    ];
-    Ok(answer?.quiet && has_states(&group, &states))
+    Ok(answer?.quiet && has_states(&group, STATES_OF_ROUND))
 }
 
 #[test]

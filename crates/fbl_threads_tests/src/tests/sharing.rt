@@ -1,8 +1,8 @@
 //! A group under a lock, each call of it in a hold of its own.
 
 use super::fixtures::{TURNS, group};
-use fbl_base::{Note, Relay, Start};
-use fbl_fixtures::{member, set, start};
+use fbl_base::{Member, MemberSet, Note, Relay, Start};
+use fbl_fixtures::{set, start};
 use fbl_group::{
     CommitRefusal, CrashRefusal, DeliverRefusal, Done, Receipted, RecoverRefusal, Recovered,
     StrikeRefusal, Struck, run_step,
@@ -42,7 +42,7 @@ fn recovered(resent: u32, undone: u32) -> Recovered {
 
 /// The step of member 1's next message from member 0.
 fn step<R: Wait>(rt: &R, shared: &SharedGroup<Relay>) -> Result<Done<Relay>, Fail> {
-    let ticket = shared.lock(rt).take(member(1)?, member(0)?)?;
+    let ticket = shared.lock(rt).take(Member::at(1), Member::at(0))?;
     Ok(run_step(ticket))
 }
 
@@ -58,7 +58,7 @@ fn deliver<R: Wait + Abort>(
     shared: &SharedGroup<Relay>,
     expected: Result<Receipted, DeliverRefusal>,
 ) -> Result<(), Fail> {
-    let answer = shared.lock(rt).deliver(member(1)?, member(0)?);
+    let answer = shared.lock(rt).deliver(Member::at(1), Member::at(0));
     assert_eq!(rt; answer, expected);
     Ok(())
 }
@@ -81,7 +81,8 @@ fn crash<R: Wait + Abort>(
     numbers: &[u8],
     expected: Result<(Struck, Recovered), CrashRefusal>,
 ) -> Result<(), Fail> {
-    let answer = shared.lock(rt).crash(set(numbers)?);
+    let struck = set(numbers)?;
+    let answer = shared.lock(rt).crash(struck);
     assert_eq!(rt; answer, expected);
     Ok(())
 }
@@ -93,7 +94,8 @@ fn strike<R: Wait + Abort>(
     numbers: &[u8],
     expected: Result<Struck, StrikeRefusal>,
 ) -> Result<(), Fail> {
-    let answer = shared.lock(rt).strike(set(numbers)?);
+    let struck = set(numbers)?;
+    let answer = shared.lock(rt).strike(struck);
     assert_eq!(rt; answer, expected);
     Ok(())
 }
@@ -180,12 +182,15 @@ fn a_crash_is_a_strike_and_a_recovery_in_one_hold(rt: HostRuntime) -> Result<(),
 fn a_crash_recovers_those_that_were_down_before(rt: HostRuntime) -> Result<(), Fail> {
     let mut group = group(rt.alloc(), 3, 2, 8192, &[start(0, 1, 5, 2)?])?;
     let answers = [
-        group.deliver(member(1)?, member(0)?)?.carried,
-        group.deliver(member(2)?, member(1)?)?.carried,
-        group.deliver(member(0)?, member(2)?)?.carried,
+        group.deliver(Member::at(1), Member::at(0))?.carried,
+        group.deliver(Member::at(2), Member::at(1))?.carried,
+        group.deliver(Member::at(0), Member::at(2))?.carried,
     ];
     assert_eq!(rt; answers, [0, 1, 2]);
-    assert_eq!(rt; group.strike(set(&[1])?)?, Struck { lost: 0 });
+    assert_eq!(rt;
+        group.strike(MemberSet::empty().with(Member::at(1)))?,
+        Struck { lost: 0 }
+    );
     let shared = SharedGroup::new(group);
     let both = Recovered {
         replayed: 2,
@@ -194,10 +199,10 @@ fn a_crash_recovers_those_that_were_down_before(rt: HostRuntime) -> Result<(), F
     };
     crash(&rt, &shared, &[2], Ok((Struck { lost: 0 }, both)))?;
     let group = shared.into_inner();
-    assert_eq!(rt; group.down(), set(&[])?);
+    assert_eq!(rt; group.down(), MemberSet::empty());
     assert_eq!(rt; group.config().members(), 3);
-    assert_eq!(rt; group.state(member(1)?), 5);
-    assert_eq!(rt; group.state(member(2)?), 5);
+    assert_eq!(rt; group.state(Member::at(1)), 5);
+    assert_eq!(rt; group.state(Member::at(2)), 5);
     Ok(())
 }
 
@@ -205,8 +210,8 @@ fn a_crash_recovers_those_that_were_down_before(rt: HostRuntime) -> Result<(), F
 #[test]
 fn a_crash_recovers_from_a_checkpoint_that_a_drain_keeps(rt: HostRuntime) -> Result<(), Fail> {
     let mut group = group(rt.alloc(), 3, 1, 8192, &[start(0, 1, 5, 2)?])?;
-    group.deliver(member(1)?, member(0)?)?;
-    group.checkpoint(member(1)?)?;
+    group.deliver(Member::at(1), Member::at(0))?;
+    group.checkpoint(Member::at(1))?;
     let shared = SharedGroup::new(group);
     crash(
         &rt,
@@ -217,7 +222,7 @@ fn a_crash_recovers_from_a_checkpoint_that_a_drain_keeps(rt: HostRuntime) -> Res
     let (group, answer) = drain(&rt, rt.alloc(), shared.into_inner(), &[], 2, TURNS, &NoGate);
     assert!(rt; answer?.quiet);
     assert_eq!(rt; group.config().members(), 3);
-    assert_eq!(rt; group.checkpoint_received(member(1)?), 1);
-    assert_eq!(rt; group.state(member(1)?), 5);
+    assert_eq!(rt; group.checkpoint_received(Member::at(1)), 1);
+    assert_eq!(rt; group.state(Member::at(1)), 5);
     Ok(())
 }

@@ -1,7 +1,7 @@
 //! Behaviours, configurations, sets and events.
 
 use fbl_base::{
-    Behaviour, Config, ConfigRefusal, Event, Mark, Member, MemberSet, Mix, Note, Relay, Start,
+    Behaviour, Config, ConfigRefusal, Event, Mark, Member, MemberSet, Mix, Note, Relay,
 };
 use fbl_fixtures::{determinant, member, set, start};
 use std::alloc::{AllocError, Global};
@@ -21,41 +21,65 @@ fn steps(rt: HostRuntime) -> Result<(), Fail> {
     Ok(())
 }
 
+/// Members, f, limit and starts, each a sender, a receiver, a value and a number of hops, and why there is no configuration of
+/// them, if there is none: each refusal, and which one comes first where several hold.
+const CONFIGURATIONS: [(u8, u8, u32, &[(u8, u8, u32, u8)], Option<ConfigRefusal>); 13] = [
+    (1, 0, 0, ITSELF, Some(ConfigRefusal::BadMembers)),
+    (17, 1, 8, TWO, Some(ConfigRefusal::BadMembers)),
+    (2, 0, 0, ITSELF, Some(ConfigRefusal::BadF)),
+    (2, 2, 8, TWO, Some(ConfigRefusal::BadF)),
+    (2, 1, 0, ITSELF, Some(ConfigRefusal::BadLimit)),
+    (2, 1, 8193, TWO, Some(ConfigRefusal::BadLimit)),
+    (
+        2,
+        1,
+        1,
+        &[(0, 1, 4, 15); 65],
+        Some(ConfigRefusal::TooManyStarts),
+    ),
+    (
+        2,
+        1,
+        1,
+        &[(0, 1, 4, 15), (1, 1, 4, 0)],
+        Some(ConfigRefusal::BadStart(1)),
+    ),
+    (2, 1, 8, &[(0, 2, 4, 1)], Some(ConfigRefusal::BadStart(0))),
+    (2, 1, 8, &[(0, 1, 4, 16)], Some(ConfigRefusal::BadStart(0))),
+    (2, 1, 1, TWO, Some(ConfigRefusal::LimitBelowStarts)),
+    (2, 1, 2, TWO, None),
+    (16, 15, 8192, TWO, None),
+];
+
+/// A start from a member to itself.
+const ITSELF: &[(u8, u8, u32, u8)] = &[(0, 0, 4, 1)];
+
+const TWO: &[(u8, u8, u32, u8)] = &[(0, 1, 4, 15), (0, 1, 4, 15)];
+
 /// Why there is no configuration of these parameters, if there is none.
 fn refusal(
     alloc: Global,
     members: u8,
     f: u8,
     limit: u32,
-    starts: &[Start],
-) -> Option<ConfigRefusal> {
-    Config::new(alloc, members, f, limit, starts).err()
+    parts: &[(u8, u8, u32, u8)],
+) -> Result<Option<ConfigRefusal>, Fail> {
+    let mut starts = Vec::new(alloc);
+    for (from, to, value, hops) in parts {
+        starts.push(start(*from, *to, *value, *hops)?)?;
+    }
+    Ok(Config::new(alloc, members, f, limit, &starts).err())
 }
 
-/// Each refusal of a configuration, and which one comes first where several hold.
 #[test]
 fn configurations(rt: HostRuntime) -> Result<(), Fail> {
-    let alloc = rt.alloc();
-    let fine = start(0, 1, 4, 15)?;
-    let itself = [start(0, 0, 4, 1)?];
-    let stranger = [start(0, 2, 4, 1)?];
-    let far = [start(0, 1, 4, 16)?];
-    let mixed = [fine, start(1, 1, 4, 0)?];
-    let two = [fine, fine];
-    let many = [fine; 65];
-    assert!(rt; refusal(alloc, 1, 0, 0, &itself) == Some(ConfigRefusal::BadMembers));
-    assert!(rt; refusal(alloc, 17, 1, 8, &two) == Some(ConfigRefusal::BadMembers));
-    assert!(rt; refusal(alloc, 2, 0, 0, &itself) == Some(ConfigRefusal::BadF));
-    assert!(rt; refusal(alloc, 2, 2, 8, &two) == Some(ConfigRefusal::BadF));
-    assert!(rt; refusal(alloc, 2, 1, 0, &itself) == Some(ConfigRefusal::BadLimit));
-    assert!(rt; refusal(alloc, 2, 1, 8193, &two) == Some(ConfigRefusal::BadLimit));
-    assert!(rt; refusal(alloc, 2, 1, 1, &many) == Some(ConfigRefusal::TooManyStarts));
-    assert!(rt; refusal(alloc, 2, 1, 1, &mixed) == Some(ConfigRefusal::BadStart(1)));
-    assert!(rt; refusal(alloc, 2, 1, 8, &stranger) == Some(ConfigRefusal::BadStart(0)));
-    assert!(rt; refusal(alloc, 2, 1, 8, &far) == Some(ConfigRefusal::BadStart(0)));
-    assert!(rt; refusal(alloc, 2, 1, 1, &two) == Some(ConfigRefusal::LimitBelowStarts));
-    assert!(rt; refusal(alloc, 2, 1, 2, &two) == None);
-    assert!(rt; refusal(alloc, 16, 15, 8192, &two) == None);
+    for (members, f, limit, starts, expected) in CONFIGURATIONS {
+        let refusal = refusal(rt.alloc(), members, f, limit, starts)?;
+        assert!(rt;
+            refusal == expected,
+            "{members} members, f {f}, limit {limit}: {refusal:?}"
+        );
+    }
     Ok(())
 }
 

@@ -121,29 +121,31 @@ const LARGEST_VALUE: (&str, &str) = (
     "deliver 1 0 receipt 1 carried 0 state 294967267\n",
 );
 
+/// Scripts, and the text that each prints.
+const SCRIPTS: &[(&str, &str)] = &[
+    MESSAGE_AND_ANSWER,
+    NO_STARTS,
+    TWO_SENDERS,
+    TWO_SENDERS_IN_THE_OTHER_ORDER,
+    LOST_RECEIPTS,
+    ONE_LOST_RECEIPT,
+    ROUND,
+    FIRST_RECEIVER_STRUCK,
+    SENDER_AND_RECEIVER_STRUCK,
+    TWO_STRIKES,
+    ALL_RECEIPTS_LOST,
+    REFUSALS,
+    STRIKES_WHILE_DOWN,
+    LOST_BY_TWO_STRIKES,
+    DUMPS_AND_STATES,
+    NO_ROOM,
+    ROOM,
+    LARGEST_VALUE,
+];
+
 #[test]
 fn prints_the_text_of_each_script(rt: HostRuntime) -> Result<(), Fail> {
-    let rows = [
-        MESSAGE_AND_ANSWER,
-        NO_STARTS,
-        TWO_SENDERS,
-        TWO_SENDERS_IN_THE_OTHER_ORDER,
-        LOST_RECEIPTS,
-        ONE_LOST_RECEIPT,
-        ROUND,
-        FIRST_RECEIVER_STRUCK,
-        SENDER_AND_RECEIVER_STRUCK,
-        TWO_STRIKES,
-        ALL_RECEIPTS_LOST,
-        REFUSALS,
-        STRIKES_WHILE_DOWN,
-        LOST_BY_TWO_STRIKES,
-        DUMPS_AND_STATES,
-        NO_ROOM,
-        ROOM,
-        LARGEST_VALUE,
-    ];
-    for (script, text) in rows {
+    for &(script, text) in SCRIPTS {
         prints(&rt, rt.alloc(), script, text, 2)?;
     }
     Ok(())
@@ -233,15 +235,17 @@ fn stops_at_a_failed_read(rt: HostRuntime) -> Result<(), Fail> {
     Ok(())
 }
 
+/// The ways in which a write fails.
+pub(crate) const FAILURES: &[FailedWrite] = &[
+    FailedWrite::Error,
+    FailedWrite::Interruption,
+    FailedWrite::NoByte,
+];
+
 #[test]
 fn stops_at_a_failed_write(rt: HostRuntime) -> Result<(), Fail> {
     let (script, text) = TWO_STRIKES;
-    let failures = [
-        FailedWrite::Error,
-        FailedWrite::Interruption,
-        FailedWrite::NoByte,
-    ];
-    for failure in failures {
+    for &failure in FAILURES {
         for fails_at in 1..u32::MAX {
             let mut input = script.as_bytes();
             let mut writer = UnsteadyWriter::new(rt.alloc(), 40, fails_at, failure);
@@ -259,7 +263,7 @@ fn stops_at_a_failed_write(rt: HostRuntime) -> Result<(), Fail> {
 }
 
 /// After how many lines a command of the two strikes' script ends: the report has seven.
-const COMMANDS_END_AT: [usize; 10] = [0, 1, 2, 3, 4, 5, 6, 13, 14, 15];
+const COMMANDS_END_AT: &[usize] = &[0, 1, 2, 3, 4, 5, 6, 13, 14, 15];
 
 /// Whether so many bytes of the script's text end where a command does.
 fn ends_a_command(held: &[u8]) -> bool {

@@ -1,6 +1,6 @@
 //! Scripts of version 2, in which members are checkpointed.
 
-use crate::plays::prints;
+use super::plays::prints;
 use fbl_play::play_bytes;
 use std::test::Fail;
 
@@ -28,15 +28,17 @@ const REFUSED_IN_ORDER: (&str, &str) = (
     "checkpoint refused BadMember\nstrike 1 lost 0\ncheckpoint refused BadMember\ncheckpoint refused Down\nrecover replayed 0 resent 1 undone 0\ncheckpoint 1 receipt 0\n",
 );
 
+/// Scripts, and the text that each prints.
+const SCRIPTS: &[(&str, &str)] = &[
+    LOST_AFTER_A_CHECKPOINT,
+    SENT_AGAIN_FROM_A_CHECKPOINT,
+    RECORDED_BY_A_CHECKPOINT,
+    REFUSED_IN_ORDER,
+];
+
 #[test]
 fn prints_the_text_of_scripts_with_checkpoints(rt: HostRuntime) -> Result<(), Fail> {
-    let rows = [
-        LOST_AFTER_A_CHECKPOINT,
-        SENT_AGAIN_FROM_A_CHECKPOINT,
-        RECORDED_BY_A_CHECKPOINT,
-        REFUSED_IN_ORDER,
-    ];
-    for (script, text) in rows {
+    for &(script, text) in SCRIPTS {
         prints(&rt, rt.alloc(), script, text, 2)?;
     }
     Ok(())

@@ -6,6 +6,7 @@ use fbl_base::audit::{Dump, check_dump, orphans};
 use fbl_base::{Determinant, Mark, Member, MemberSet, RawDump};
 use fbl_fixtures::member;
 use std::alloc::{AllocError, Global};
+use std::process::Abort;
 use std::test::Fail;
 
 /// A trace with who holds which determinants.
@@ -230,21 +231,22 @@ fn try_all(
     Ok(true)
 }
 
+/// Numbers of members and of receipts, and how many traces there are, as another program counted.
+const TRACES: [(u8, usize, u32); 9] = [
+    (2, 0, 1),
+    (2, 1, 1),
+    (2, 2, 3),
+    (2, 3, 9),
+    (2, 4, 28),
+    (3, 0, 1),
+    (3, 1, 1),
+    (3, 2, 9),
+    (3, 3, 75),
+];
+
 #[test]
 fn agrees_with_the_audit_of_each_set(rt: HostRuntime) -> Result<(), Fail> {
-    // how many traces there are was counted by another program
-    let rows = [
-        (2, 0, 1),
-        (2, 1, 1),
-        (2, 2, 3),
-        (2, 3, 9),
-        (2, 4, 28),
-        (3, 0, 1),
-        (3, 1, 1),
-        (3, 2, 9),
-        (3, 3, 75),
-    ];
-    for (members, messages, traces) in rows {
+    for (members, messages, traces) in TRACES {
         let sets = subsets(rt.alloc(), members)?;
         let choices = assignments(rt.alloc(), sets.as_slice(), messages)?;
         let mut tally = Tally::new();
@@ -291,46 +293,34 @@ fn try_four(alloc: Global, holders: u32, tally: &mut Tally) -> Result<bool, Fail
     )
 }
 
-#[test]
-fn agrees_where_nobody_holds_the_first_of_four_receipts(rt: HostRuntime) -> Result<(), Fail> {
+/// The check agrees with the audit on each of the 649 traces, where so many members hold the first receipt, of which there are so
+/// many sets.
+fn agree_on_four(rt: &(impl Abort + AllocGlobal), holders: u32, sets: u32) -> Result<(), Fail> {
     let mut tally = Tally::new();
-    let agrees = try_four(rt.alloc(), 0, &mut tally)?;
+    let agrees = try_four(rt.alloc(), holders, &mut tally)?;
     assert!(rt;
-        agrees && tally.traces == 649 && tally.checked == 649 * 512 * 2,
+        agrees && tally.traces == 649 && tally.checked == sets.saturating_mul(649 * 512 * 2),
         "{tally:?}"
     );
     Ok(())
+}
+
+#[test]
+fn agrees_where_nobody_holds_the_first_of_four_receipts(rt: HostRuntime) -> Result<(), Fail> {
+    agree_on_four(&rt, 0, 1)
 }
 
 #[test]
 fn agrees_where_one_holds_the_first_of_four_receipts(rt: HostRuntime) -> Result<(), Fail> {
-    let mut tally = Tally::new();
-    let agrees = try_four(rt.alloc(), 1, &mut tally)?;
-    assert!(rt;
-        agrees && tally.traces == 649 && tally.checked == 649 * 512 * 6,
-        "{tally:?}"
-    );
-    Ok(())
+    agree_on_four(&rt, 1, 3)
 }
 
 #[test]
 fn agrees_where_two_hold_the_first_of_four_receipts(rt: HostRuntime) -> Result<(), Fail> {
-    let mut tally = Tally::new();
-    let agrees = try_four(rt.alloc(), 2, &mut tally)?;
-    assert!(rt;
-        agrees && tally.traces == 649 && tally.checked == 649 * 512 * 6,
-        "{tally:?}"
-    );
-    Ok(())
+    agree_on_four(&rt, 2, 3)
 }
 
 #[test]
 fn agrees_where_all_hold_the_first_of_four_receipts(rt: HostRuntime) -> Result<(), Fail> {
-    let mut tally = Tally::new();
-    let agrees = try_four(rt.alloc(), 3, &mut tally)?;
-    assert!(rt;
-        agrees && tally.traces == 649 && tally.checked == 649 * 512 * 2,
-        "{tally:?}"
-    );
-    Ok(())
+    agree_on_four(&rt, 3, 1)
 }

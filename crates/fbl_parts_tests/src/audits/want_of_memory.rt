@@ -1,8 +1,8 @@
 //! Each request for memory of audits refused in turn, on worked examples.
 
-use super::audits::{Audit, audit, dump_of, pair, receipt, round_events, round_held};
+use super::dumps::{Audit, audit, dump_of, pair, receipt, round_events, round_held};
 use fbl_base::{Determinant, DumpRefusal, Mark, Member, MemberSet};
-use fbl_fixtures::{member, set};
+use fbl_fixtures::set;
 use refusing_allocator::Refusing;
 use std::alloc::{Allocator, Global};
 use std::test::Fail;
@@ -43,22 +43,24 @@ fn refuse_each_of_audit(
 }
 
 /// The lost receipt of the dumps that have one.
-fn lost_one() -> Result<Option<Determinant>, Fail> {
-    Ok(Some(pair(2, 0, 1, 1, 1)?.1))
+fn lost_one() -> Option<Determinant> {
+    Some(pair(2, 0, 1, 1, 1).1)
 }
+
+/// How many of the pairs a dump has, who is struck, how many receipts are lost then, and the orphans.
+const CASES: [(usize, &[u8], usize, &[u8]); 5] = [
+    (4, &[1], 1, &[0, 2]),
+    (5, &[1], 0, &[]),
+    (5, &[1, 2], 1, &[0]),
+    (5, &[], 0, &[]),
+    (0, &[], 3, &[0, 1, 2]),
+];
 
 #[test]
 fn audits(rt: HostRuntime) -> Result<(), Fail> {
-    let (events, held) = (round_events()?, round_held()?);
-    let cases: [(usize, &[u8], usize, &[u8]); 5] = [
-        (4, &[1], 1, &[0, 2]),
-        (5, &[1], 0, &[]),
-        (5, &[1, 2], 1, &[0]),
-        (5, &[], 0, &[]),
-        (0, &[], 3, &[0, 1, 2]),
-    ];
-    for (pairs, strike, lost, orphans) in cases {
-        let first = if lost > 0 { lost_one()? } else { None };
+    let (events, held) = (round_events(), round_held());
+    for (pairs, strike, lost, orphans) in CASES {
+        let first = if lost > 0 { lost_one() } else { None };
         let whole = Ok((lost, first, set(orphans)?));
         let requests = refuse_each_of_audit(
             rt.alloc(),
@@ -74,7 +76,7 @@ fn audits(rt: HostRuntime) -> Result<(), Fail> {
 
 #[test]
 fn audits_of_a_pair_that_stands_twice(rt: HostRuntime) -> Result<(), Fail> {
-    let (events, held) = (round_events()?, round_held()?);
+    let (events, held) = (round_events(), round_held());
     let twice = [held[0], held[1], held[2], held[2], held[3], held[4]];
     let whole = Ok((0, None, MemberSet::empty()));
     assert!(rt; refuse_each_of_audit(rt.alloc(), &events, &twice, set(&[1])?, &whole) > 2);
@@ -83,12 +85,12 @@ fn audits_of_a_pair_that_stands_twice(rt: HostRuntime) -> Result<(), Fail> {
 
 #[test]
 fn dumps_that_break_a_rule(rt: HostRuntime) -> Result<(), Fail> {
-    let (events, held) = (round_events()?, round_held()?);
-    let mut skipped = round_events()?;
-    skipped[1] = receipt(1, 2, 0, 1)?;
-    let mut unknown = round_held()?;
-    unknown[0] = pair(0, 1, 2, 2, 1)?;
-    let strike = MemberSet::empty().with(member(1)?);
+    let (events, held) = (round_events(), round_held());
+    let mut skipped = round_events();
+    skipped[1] = receipt(1, 2, 0, 1);
+    let mut unknown = round_held();
+    unknown[0] = pair(0, 1, 2, 2, 1);
+    let strike = MemberSet::empty().with(Member::at(1));
     let bad_strike = Err(DumpRefusal::BadStrike);
     assert!(rt; refuse_each_of_audit(rt.alloc(), &events, &held, set(&[3])?, &bad_strike) > 2);
     let bad_event = Err(DumpRefusal::BadEvent(1));

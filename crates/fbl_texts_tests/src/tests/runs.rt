@@ -1,6 +1,6 @@
 //! Scripts in which workers deliver. What they print is the same with each number of workers.
 
-use crate::plays::prints;
+use super::plays::prints;
 use std::test::Fail;
 
 const CRASHES_IN_THREE_PLACES: (&str, &str) = (
@@ -43,19 +43,21 @@ const A_STRIKE_AT_EACH_RECEIPT: (&str, &str) = (
     "run quiet\nstates 58 46 34 22 10 14 18 22 26 30 34 38 42 46 50 54\n",
 );
 
+/// Scripts, and the text that each prints with any number of workers.
+const SCRIPTS: &[(&str, &str)] = &[
+    CRASHES_IN_THREE_PLACES,
+    PLAN_THAT_STARTS_AT_NOTHING,
+    PLAN_THAT_DOES_NOT_RISE,
+    RUN_WITH_A_MEMBER_DOWN,
+    PLAN_THAT_IS_TOO_LONG,
+    ALL_BUT_ONE_STRUCK,
+    NO_ROOM_FOR_A_RECEIPT,
+    A_STRIKE_AT_EACH_RECEIPT,
+];
+
 #[test]
 fn prints_the_same_with_each_number_of_workers(rt: HostRuntime) -> Result<(), Fail> {
-    let rows = [
-        CRASHES_IN_THREE_PLACES,
-        PLAN_THAT_STARTS_AT_NOTHING,
-        PLAN_THAT_DOES_NOT_RISE,
-        RUN_WITH_A_MEMBER_DOWN,
-        PLAN_THAT_IS_TOO_LONG,
-        ALL_BUT_ONE_STRUCK,
-        NO_ROOM_FOR_A_RECEIPT,
-        A_STRIKE_AT_EACH_RECEIPT,
-    ];
-    for (script, text) in rows {
+    for &(script, text) in SCRIPTS {
         for workers in 1..=8 {
             prints(&rt, rt.alloc(), script, text, workers)?;
         }

@@ -1,36 +1,38 @@
 //! Audits of dumps, and the refusals of those that break a rule.
 
+ghost use Rattle.std.specs.Prelude.{◌<◌};
+
 use fbl_base::audit::{check_dump, lost, orphan_starts, orphans, recorded_determinants};
 use fbl_base::{Determinant, DumpRefusal, Mark, Member, MemberSet, RawDump};
-use fbl_fixtures::{determinant, member, set};
+use fbl_fixtures::set;
 use std::alloc::{AllocError, Allocator, Global};
 use std::test::Fail;
 
-pub(crate) fn send(from: u8, ssn: u32, to: u8) -> Result<Mark, Fail> {
-    Ok(Mark::Send {
-        from: member(from)?,
-        ssn,
-        to: member(to)?,
-    })
+pub(crate) fn send(from: u8, ssn: u32, to: u8) -> Mark
+    requires from { from < 16 }
+    requires to { to < 16 }
+{
+    let (from, to) = (Member::at(from), Member::at(to));
+    Mark::Send { from, ssn, to }
 }
 
-pub(crate) fn receipt(to: u8, rsn: u32, from: u8, ssn: u32) -> Result<Mark, Fail> {
-    Ok(Mark::Receipt {
-        to: member(to)?,
-        rsn,
-        from: member(from)?,
-        ssn,
-    })
+pub(crate) fn receipt(to: u8, rsn: u32, from: u8, ssn: u32) -> Mark
+    requires to { to < 16 }
+    requires from { from < 16 }
+{
+    let (to, from) = (Member::at(to), Member::at(from));
+    Mark::Receipt { to, rsn, from, ssn }
 }
 
-pub(crate) fn pair(
-    holder: u8,
-    from: u8,
-    ssn: u32,
-    to: u8,
-    rsn: u32,
-) -> Result<(Member, Determinant), Fail> {
-    Ok((member(holder)?, determinant((from, ssn, to, rsn))?))
+/// The member holds the determinant of the receipt with this sender, send number, receiver and receipt number.
+pub(crate) fn pair(holder: u8, from: u8, ssn: u32, to: u8, rsn: u32) -> (Member, Determinant)
+    requires holder { holder < 16 }
+    requires from { from < 16 }
+    requires to { to < 16 }
+{
+    let (from, to) = (Member::at(from), Member::at(to));
+    let determinant = Determinant { from, ssn, to, rsn };
+    (Member::at(holder), determinant)
 }
 
 /// How many receipts are lost, the first of them, and the orphans.
@@ -53,31 +55,31 @@ pub(crate) fn dump_of<A: Allocator + Copy>(
 }
 
 /// The events of a message that goes once round a group of three.
-pub(crate) fn round_events() -> Result<[Mark; 6], Fail> {
-    Ok([
-        send(0, 1, 1)?,
-        receipt(1, 1, 0, 1)?,
-        send(1, 1, 2)?,
-        receipt(2, 1, 1, 1)?,
-        send(2, 1, 0)?,
-        receipt(0, 1, 2, 1)?,
-    ])
+pub(crate) fn round_events() -> [Mark; 6] {
+    [
+        send(0, 1, 1),
+        receipt(1, 1, 0, 1),
+        send(1, 1, 2),
+        receipt(2, 1, 1, 1),
+        send(2, 1, 0),
+        receipt(0, 1, 2, 1),
+    ]
 }
 
 /// Who holds which of its receipts.
-pub(crate) fn round_held() -> Result<[(Member, Determinant); 5], Fail> {
-    Ok([
-        pair(0, 1, 1, 2, 1)?,
-        pair(0, 2, 1, 0, 1)?,
-        pair(1, 0, 1, 1, 1)?,
-        pair(2, 1, 1, 2, 1)?,
-        pair(2, 0, 1, 1, 1)?,
-    ])
+pub(crate) fn round_held() -> [(Member, Determinant); 5] {
+    [
+        pair(0, 1, 1, 2, 1),
+        pair(0, 2, 1, 0, 1),
+        pair(1, 0, 1, 1, 1),
+        pair(2, 1, 1, 2, 1),
+        pair(2, 0, 1, 1, 1),
+    ]
 }
 
 /// The dump of the message, with or without the last of the pairs.
 fn round(alloc: Global, whole: bool, strike: &[u8]) -> Result<RawDump, Fail> {
-    let (events, held) = (round_events()?, round_held()?);
+    let (events, held) = (round_events(), round_held());
     let pairs = if whole { 5 } else { 4 };
     Ok(dump_of(alloc, &events, &held[..pairs], set(strike)?)?)
 }
@@ -98,7 +100,7 @@ pub(crate) fn audit<A: Allocator + Copy>(alloc: A, raw: RawDump<A>) -> Result<Au
 #[test]
 fn audits(rt: HostRuntime) -> Result<(), Fail> {
     let alloc = rt.alloc();
-    let first = Some(pair(2, 0, 1, 1, 1)?.1);
+    let first = Some(pair(2, 0, 1, 1, 1).1);
     let answer = audit(alloc, round(alloc, false, &[1])?);
     assert!(rt; answer == Ok((1, first, set(&[0, 2])?)));
     let answer = audit(alloc, round(alloc, true, &[1])?);
@@ -119,7 +121,7 @@ fn tells_where_each_orphan_starts(rt: HostRuntime) -> Result<(), Fail> {
     let starts = orphan_starts(rt.alloc(), &dump)?;
     assert!(rt; starts[..4] == [Some(5), None, Some(3), None]);
     let recorded = recorded_determinants(rt.alloc(), &dump)?;
-    assert!(rt; recorded.len() == 2 && !recorded.contains(&pair(1, 0, 1, 1, 1)?.1));
+    assert!(rt; recorded.len() == 2 && !recorded.contains(&pair(1, 0, 1, 1, 1).1));
     Ok(())
 }
 
@@ -138,15 +140,15 @@ fn refuses(rt: HostRuntime) -> Result<(), Fail> {
     let mut raw = round(alloc, true, &[1])?;
     raw.f = 3;
     assert!(rt; refused(alloc, raw) == Some(DumpRefusal::BadF));
-    let skipped = receipt(1, 2, 0, 1)?;
+    let skipped = receipt(1, 2, 0, 1);
     let mut raw = round(alloc, true, &[1])?;
     put(raw.events.as_mut_slice(), 1, skipped);
     assert!(rt; refused(alloc, raw) == Some(DumpRefusal::BadEvent(1)));
-    let unknown = pair(0, 1, 2, 2, 1)?;
+    let unknown = pair(0, 1, 2, 2, 1);
     let mut raw = round(alloc, true, &[1])?;
     put(raw.held.as_mut_slice(), 0, unknown);
     assert!(rt; refused(alloc, raw) == Some(DumpRefusal::BadHeld(0)));
-    let again = pair(1, 0, 1, 1, 1)?;
+    let again = pair(1, 0, 1, 1, 1);
     let mut raw = round(alloc, true, &[1])?;
     raw.held.push(again)?;
     assert!(rt; refused(alloc, raw) == None);
@@ -159,7 +161,7 @@ fn large_dumps(rt: HostRuntime) -> Result<(), Fail> {
     let alloc = rt.alloc();
     let mut events = Vec::new(alloc);
     for number in 0..8193u32 {
-        events.push(send(0, number + 1, 1)?)?;
+        events.push(send(0, number + 1, 1))?;
     }
     let raw = RawDump {
         members: 2,
@@ -175,12 +177,12 @@ fn large_dumps(rt: HostRuntime) -> Result<(), Fail> {
     ] {
         let mut held = Vec::new(alloc);
         for _ in 0..pairs {
-            held.push(pair(0, 0, 1, 1, 1)?)?;
+            held.push(pair(0, 0, 1, 1, 1))?;
         }
         let raw = RawDump {
             members: 2,
             f: 1,
-            events: [send(0, 1, 1)?, receipt(1, 1, 0, 1)?].to_vec(alloc)?,
+            events: [send(0, 1, 1), receipt(1, 1, 0, 1)].to_vec(alloc)?,
             held,
             strike: MemberSet::empty(),
         };
@@ -190,13 +192,13 @@ fn large_dumps(rt: HostRuntime) -> Result<(), Fail> {
 }
 
 /// The events of a message from member 0 to member 1 and back, each the sender's and the receiver's next.
-fn there_and_back(number: u32) -> Result<[Mark; 4], Fail> {
-    Ok([
-        send(0, number, 1)?,
-        receipt(1, number, 0, number)?,
-        send(1, number, 0)?,
-        receipt(0, number, 1, number)?,
-    ])
+fn there_and_back(number: u32) -> [Mark; 4] {
+    [
+        send(0, number, 1),
+        receipt(1, number, 0, number),
+        send(1, number, 0),
+        receipt(0, number, 1, number),
+    ]
 }
 
 /// A message that goes round two members until the trace is full.
@@ -206,9 +208,9 @@ fn long(rt: HostRuntime) -> Result<(), Fail> {
     let mut events = Vec::new(alloc);
     let mut held = Vec::new(alloc);
     for number in 1..2049u32 {
-        events.extend_from_slice(&there_and_back(number)?)?;
-        held.push(pair(1, 0, number, 1, number)?)?;
-        held.push(pair(0, 1, number, 0, number)?)?;
+        events.extend_from_slice(&there_and_back(number))?;
+        held.push(pair(1, 0, number, 1, number))?;
+        held.push(pair(0, 1, number, 0, number))?;
     }
     let raw = RawDump {
         members: 2,
@@ -217,7 +219,7 @@ fn long(rt: HostRuntime) -> Result<(), Fail> {
         held,
         strike: set(&[0])?,
     };
-    let first = pair(0, 1, 1, 0, 1)?.1;
+    let first = pair(0, 1, 1, 0, 1).1;
     assert!(rt; audit(alloc, raw) == Ok((2048, Some(first), set(&[1])?)));
     Ok(())
 }
