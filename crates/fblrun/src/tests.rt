@@ -92,7 +92,7 @@ fn words_of(alloc: Global, line: &str) -> Result<Vec<String>, AllocError> {
 }
 
 /// Command lines that ask for a play, their workers, and whether they ask for a strict play and for explanations.
-const PLAYS: [(&str, u8, bool, bool); 10] = [
+const PLAYS: &[(&str, u8, bool, bool)] = &[
     ("play", 2, false, false),
     ("play --workers 1", 1, false, false),
     ("play --workers 8", 8, false, false),
@@ -113,7 +113,7 @@ fn order_in_line(alloc: Global, line: &str) -> Result<Option<Order>, Fail> {
 
 #[test]
 fn plays_with_the_workers_asked_for(rt: HostRuntime) -> Result<(), Fail> {
-    for (line, workers, strict, explain) in PLAYS {
+    for &(line, workers, strict, explain) in PLAYS {
         let order = order_in_line(rt.alloc(), line)?;
         let task = Task::Play { workers, strict };
         assert!(rt; order == Some(Order { task, explain }), "{line}");
@@ -122,7 +122,7 @@ fn plays_with_the_workers_asked_for(rt: HostRuntime) -> Result<(), Fail> {
 }
 
 /// Command lines that ask for a picture of a history, their workers, and whether they ask for explanations.
-const SHOWS: [(&str, u8, bool); 5] = [
+const SHOWS: &[(&str, u8, bool)] = &[
     ("show", 2, false),
     ("show --workers 8", 8, false),
     ("show --explain", 2, true),
@@ -132,7 +132,7 @@ const SHOWS: [(&str, u8, bool); 5] = [
 
 #[test]
 fn shows_with_the_workers_asked_for(rt: HostRuntime) -> Result<(), Fail> {
-    for (line, workers, explain) in SHOWS {
+    for &(line, workers, explain) in SHOWS {
         let order = order_in_line(rt.alloc(), line)?;
         let task = Task::Show { workers };
         assert!(rt; order == Some(Order { task, explain }), "{line}");
@@ -244,15 +244,18 @@ fn checks_where_a_check_is_asked_for(rt: HostRuntime) -> Result<(), Fail> {
     Ok(())
 }
 
+/// Command lines and scripts, with the exit status and the text of each.
+const STRICT_PLAYS: &[(&str, &str, u8, &str)] = &[
+    ("play", FULL, 0, FULL_TEXT),
+    ("play --strict", FULL, 1, FULL_TEXT),
+    ("play --strict", SCRIPT, 0, SCRIPT_TEXT),
+];
+
 #[test]
 fn a_strict_play_in_which_a_command_was_refused_ends_with_another_status(
     rt: HostRuntime,
 ) -> Result<(), Fail> {
-    for (line, script, status, said) in [
-        ("play", FULL, 0, FULL_TEXT),
-        ("play --strict", FULL, 1, FULL_TEXT),
-        ("play --strict", SCRIPT, 0, SCRIPT_TEXT),
-    ] {
+    for &(line, script, status, said) in STRICT_PLAYS {
         let (ended, text) = obeyed(&rt, rt.alloc(), line, script)?;
         assert!(rt; ended == status && text.as_str() == said, "{line}: {text}");
     }
@@ -288,7 +291,7 @@ fn draws_where_a_drawing_is_asked_for(rt: HostRuntime) -> Result<(), Fail> {
 }
 
 /// What the picture of the history of `LOST` says, in order.
-const LOST_SHOWN: [&str; 7] = [
+const LOST_SHOWN: &[&str] = &[
     "<svg ",
     "<title>3 members, f 1, relay: 1 receipt made, 1 undone</title>",
     "<title>member 0 sends its message 1 to 1</title>",
@@ -304,7 +307,7 @@ fn shows_where_a_history_is_asked_for(rt: HostRuntime) -> Result<(), Fail> {
         let (status, text) = obeyed(&rt, rt.alloc(), line, LOST)?;
         assert!(rt; status == 0, "{line}");
         let mut rest = text.as_str();
-        for part in LOST_SHOWN {
+        for &part in LOST_SHOWN {
             let (_, behind) = rest.split_once(part).ok_or("a part is missing")?;
             rest = behind;
         }
@@ -394,7 +397,7 @@ fn told_after(alloc: Global, done: Result<bool, RunFault>) -> Told {
 }
 
 /// Command lines that give no order, and a part of what is said of each.
-const MISTAKES: [(&str, &str); 20] = [
+const MISTAKES: &[(&str, &str)] = &[
     ("", "requires a subcommand"),
     ("fly", "unrecognized subcommand 'fly'"),
     ("Play", "unrecognized subcommand 'Play'"),
@@ -422,7 +425,7 @@ const MISTAKES: [(&str, &str); 20] = [
 
 #[test]
 fn refuses_another_command_line(rt: HostRuntime) -> Result<(), Fail> {
-    for (line, part) in MISTAKES {
+    for &(line, part) in MISTAKES {
         let told = told_of_line(rt.alloc(), line, false)?;
         assert!(rt; told.has(2, "", part), "{line}: {}", told.err);
     }
@@ -430,7 +433,7 @@ fn refuses_another_command_line(rt: HostRuntime) -> Result<(), Fail> {
 }
 
 /// Command lines that ask for help or the version, and a part of what is printed.
-const HELPS: [(&str, &str); 19] = [
+const HELPS: &[(&str, &str)] = &[
     ("--help", "Usage: fblrun"),
     (
         "--help",
@@ -472,23 +475,26 @@ const HELPS: [(&str, &str); 19] = [
 
 #[test]
 fn prints_help_on_the_standard_output(rt: HostRuntime) -> Result<(), Fail> {
-    for (line, part) in HELPS {
+    for &(line, part) in HELPS {
         let told = told_of_line(rt.alloc(), line, false)?;
         assert!(rt; told.has(0, part, ""), "{line}: {}", told.out);
     }
     Ok(())
 }
 
+/// Command lines that ask for help or the version.
+const HELP_WANTED: &[&str] = &[
+    "--help",
+    "-h",
+    "help",
+    "play --help",
+    "help audit",
+    "--version",
+];
+
 #[test]
 fn fails_where_help_cannot_be_printed(rt: HostRuntime) -> Result<(), Fail> {
-    for line in [
-        "--help",
-        "-h",
-        "help",
-        "play --help",
-        "help audit",
-        "--version",
-    ] {
+    for &line in HELP_WANTED {
         let told = told_of_line(rt.alloc(), line, true)?;
         assert!(rt; told.has(3, "", ""), "{line}");
     }
@@ -507,44 +513,36 @@ fn faults(alloc: Global, fault: RunFault, status: u8, line: &str) -> bool {
     told.has(status, "", line) && told.err.as_str() == line
 }
 
+/// Faults with the exit status of each, and the line that tells it.
+const FAULTS: &[(RunFault, u8, &str)] = &[
+    (RunFault::Read, 3, "fault: read\n"),
+    (RunFault::TooLong, 2, "fault: too long\n"),
+    (RunFault::NotJson, 2, "fault: not json\n"),
+    (RunFault::NotObject, 2, "fault: not an object\n"),
+    (RunFault::BadField(Key::Held), 2, "fault: bad field held\n"),
+    (RunFault::BadCommand(1024), 2, "fault: bad command 1024\n"),
+    (RunFault::UnknownKey, 2, "fault: unknown key\n"),
+    (
+        RunFault::Config(ConfigRefusal::BadStart(63)),
+        2,
+        "fault: BadStart 63\n",
+    ),
+    (
+        RunFault::Dump(DumpRefusal::BadHeld(7)),
+        2,
+        "fault: BadHeld 7\n",
+    ),
+    (RunFault::Write, 3, "fault: write\n"),
+    (RunFault::Memory, 4, "fault: memory\n"),
+];
+
 #[test]
 fn ends_with_the_status_of_each_fault(rt: HostRuntime) {
     let alloc = rt.alloc();
     assert!(rt; tells_nothing(alloc, true, 0) && tells_nothing(alloc, false, 1));
-    let bad_start = ConfigRefusal::BadStart(63);
-    let bad_pair = DumpRefusal::BadHeld(7);
-    assert!(rt; faults(alloc, RunFault::Read, 3, "fault: read\n"));
-    assert!(rt; faults(alloc, RunFault::TooLong, 2, "fault: too long\n"));
-    assert!(rt; faults(alloc, RunFault::NotJson, 2, "fault: not json\n"));
-    assert!(rt; faults(alloc, RunFault::NotObject, 2, "fault: not an object\n"));
-    assert!(rt;
-        faults(
-            alloc,
-            RunFault::BadField(Key::Held),
-            2,
-            "fault: bad field held\n"
-        )
-    );
-    assert!(rt;
-        faults(
-            alloc,
-            RunFault::BadCommand(1024),
-            2,
-            "fault: bad command 1024\n"
-        )
-    );
-    assert!(rt; faults(alloc, RunFault::UnknownKey, 2, "fault: unknown key\n"));
-    assert!(rt;
-        faults(
-            alloc,
-            RunFault::Config(bad_start),
-            2,
-            "fault: BadStart 63\n"
-        )
-    );
-    assert!(rt; faults(alloc, RunFault::Dump(bad_pair), 2, "fault: BadHeld 7\n"));
-    assert!(rt; faults(alloc, RunFault::Write, 3, "fault: write\n"));
-    assert!(rt; faults(alloc, RunFault::Memory, 4, "fault: memory\n"));
+    for &(fault, status, line) in FAULTS {
+        assert!(rt; faults(alloc, fault, status, line), "{line}");
+    }
 }
 
 #[test]
@@ -648,13 +646,16 @@ fn explained<T: Threads + Wait + Sync>(
     Ok((Told::of(console, status), String::from_utf8(writer)?))
 }
 
+/// Scripts, and what is told of each.
+const TOLD: &[(&str, &str)] = &[
+    (REFUSED, REFUSED_TOLD),
+    (FULL, FULL_TOLD),
+    (LOST, LOST_TOLD),
+];
+
 #[test]
 fn tells_of_each_command(rt: HostRuntime) -> Result<(), Fail> {
-    for (script, told) in [
-        (REFUSED, REFUSED_TOLD),
-        (FULL, FULL_TOLD),
-        (LOST, LOST_TOLD),
-    ] {
+    for &(script, told) in TOLD {
         let (found, _) = explained(&rt, rt.alloc(), script, 1, false)?;
         assert!(rt;
             found.status == 0 && found.err.as_str() == told,
