@@ -19,7 +19,8 @@ use std::thread::Threads;
 
 /// An opening balance: a message from another account, since each state begins at 0.
 fn opening(from: Member, to: Member, value: u32) -> Start
-    ensures { result.note.value ≡ value }
+    ensures ends { (result.from ≡ from) × (result.to ≡ to) }
+    ensures value { result.note.value ≡ value }
 {
     let note = Note { value, hops: 15 };
     Start { from, to, note }

@@ -24,7 +24,8 @@ use std::thread::Threads;
 /// A start that asks for a change of a key's value, and may be passed on twice.
 fn asking(from: Member, to: Member, key: u8, change: Change) -> Start
     requires { key < 8 }
-    ensures { brought result.note ≡ amount_of change }
+    ensures ends { (result.from ≡ from) × (result.to ≡ to) }
+    ensures amount { brought result.note ≡ amount_of change }
 {
     let value = KeyCommand { key, change }.write();
     let note = Note { value, hops: 2 };
