@@ -87,12 +87,15 @@ fn is_stale_in_two(alloc: Global, done: &Done<Relay>) -> Result<bool, Fail> {
     Ok(refusal == Some(CommitRefusal::Stale) && smaller.messages_in_flight() == 1)
 }
 
+/// Whether the step is that of a group of three, with its state and its one send.
+fn is_step_of_three(done: &Done<Relay>) -> bool {
+    done.ticket().n == 3 && done.outcome().state == 5 && done.outcome().sends.len() == 1
+}
+
 #[test]
 fn a_step_of_a_larger_group_is_stale(rt: HostRuntime) -> Result<(), Fail> {
     let done = step_of_three(rt.alloc())?;
-    assert!(rt; done.ticket().n == 3);
-    assert!(rt; done.outcome().state == 5 && done.outcome().sends.len() == 1);
-    assert!(rt; is_stale_in_two(rt.alloc(), &done)?);
+    assert!(rt; is_step_of_three(&done) && is_stale_in_two(rt.alloc(), &done)?);
     Ok(())
 }
 

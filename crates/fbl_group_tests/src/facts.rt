@@ -2,8 +2,8 @@
 
 ghost use Rattle.std.specs.Prelude.{◌<◌, IfSome};
 
-use fbl_base::audit::{lost, orphans};
-use fbl_base::{Behaviour, Determinant, Event, Member, Note};
+use fbl_base::audit::{Dump, lost, orphans};
+use fbl_base::{Behaviour, Determinant, Event, Member, MemberSet, Note};
 use fbl_fixtures::{determinant, member, set};
 use fbl_group::Group;
 use fbl_table::{Entry, Table};
@@ -206,6 +206,17 @@ fn are_determinants(found: &[Determinant], expected: &[(u8, u32, u8, u32)]) -> R
     Ok(found.len() == expected.len())
 }
 
+/// Whether the audit of the dump finds these lost receipts, in order, and these orphans.
+fn finds(
+    alloc: Global,
+    dump: &Dump,
+    expected: &[(u8, u32, u8, u32)],
+    expected_orphans: MemberSet,
+) -> Result<bool, Fail> {
+    let has_lost = are_determinants(lost(alloc, dump)?.as_slice(), expected)?;
+    Ok(has_lost && orphans(alloc, dump)? == expected_orphans)
+}
+
 /// Whether the audit of the group's dump, with these members struck, finds these lost receipts, in order, and these orphans.
 pub(crate) fn is_audited<B: Behaviour>(
     alloc: Global,
@@ -214,7 +225,7 @@ pub(crate) fn is_audited<B: Behaviour>(
     expected: &[(u8, u32, u8, u32)],
     expected_orphans: &[u8],
 ) -> Result<bool, Fail> {
-    let dump = group.dump(set(struck)?)?;
-    let has_lost = are_determinants(lost(alloc, &dump)?.as_slice(), expected)?;
-    Ok(has_lost && orphans(alloc, &dump)? == set(expected_orphans)?)
+    let (struck, expected_orphans) = (set(struck)?, set(expected_orphans)?);
+    let dump = group.dump(struck)?;
+    finds(alloc, &dump, expected, expected_orphans)
 }

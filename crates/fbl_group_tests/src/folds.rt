@@ -213,24 +213,32 @@ fn is_recovered<B: Behaviour>(group: &mut Group<B>, number: u8) -> Result<bool, 
     Ok(received == checkpointed as usize + recovered.replayed as usize)
 }
 
-/// Strikes the member and recovers it. Afterwards each member is at the fold of its receipts, and the others are where
-/// they were.
-fn strike<B: Formula>(
-    rt: &(impl Abort + AllocGlobal),
+/// Strikes the member and recovers it, and answers whether no orphan is told of before, and the counts are as they should be.
+fn is_brought_back<B: Behaviour>(
+    alloc: Global,
     group: &mut Group<B>,
     number: u8,
-) -> Result<(), Fail> {
+) -> Result<bool, Fail> {
     let struck = MemberSet::empty().with(member(number)?);
-    assert!(rt; is_safe_without(rt.alloc(), group, struck)?);
-    let mut expected = states(group)?;
-    assert!(rt; is_struck(rt.alloc(), group, struck)?);
-    assert!(rt; is_recovered(group, number)?);
-    assert!(rt; is_folded(group)?);
-    let after = states(group)?;
+    let is_safe = is_safe_without(alloc, group, struck)?;
+    Ok(is_safe && is_struck(alloc, group, struck)? && is_recovered(group, number)?)
+}
+
+/// Whether all states are the same but this member's.
+fn are_as_before(before: [u64; 4], after: [u64; 4], number: u8) -> bool {
     let place = usize::from(number).min(3);
+    let mut expected = before;
     expected[place] = after[place];
-    assert_eq!(rt; after, expected);
-    Ok(())
+    after == expected
+}
+
+/// Strikes the member and recovers it, and answers whether each member is then at the fold of its receipts, and the others are
+/// where they were.
+fn strike<B: Formula>(alloc: Global, group: &mut Group<B>, number: u8) -> Result<bool, Fail> {
+    let before = states(group)?;
+    let is_back = is_brought_back(alloc, group, number)?;
+    let after = states(group)?;
+    Ok(is_back && is_folded(group)? && are_as_before(before, after, number))
 }
 
 /// Makes so many deliveries, and answers whether there were so many, and whether each member is at the fold of its receipts.
@@ -266,61 +274,44 @@ fn is_checkpointed<B: Behaviour>(group: &mut Group<B>, number: u8) -> Result<boo
     Ok(checkpointed as usize == count_received(group.trace(), me))
 }
 
-/// Makes the case's deliveries and its checkpoint, strikes the member, recovers it, and delivers what is left.
-fn strike_as<B: Formula>(
-    rt: &(impl Abort + AllocGlobal),
-    group: &mut Group<B>,
-    case: Case,
-) -> Result<(), Fail> {
-    assert!(rt; is_delivered(group, case.earlier)?, "{case:?}");
+/// Makes the case's deliveries and its checkpoint, strikes the member, recovers it, and delivers what is left. Whether all is as
+/// it should be at each step.
+fn strike_as<B: Formula>(alloc: Global, group: &mut Group<B>, case: Case) -> Result<bool, Fail> {
+    let mut well = is_delivered(group, case.earlier)?;
     if let Some(number) = case.checkpointed {
-        assert!(rt; is_checkpointed(group, number)?, "{case:?}");
+        well = is_checkpointed(group, number)? && well;
     }
-    let checkpointed = checkpoint_received(group, case.checkpointed.unwrap_or(0));
-    assert!(rt; is_delivered(group, case.later)?, "{case:?}");
-    strike(rt, group, case.struck)?;
-    assert!(rt;
-        checkpoint_received(group, case.checkpointed.unwrap_or(0)) == checkpointed,
-        "{case:?}"
-    );
-    assert!(rt; is_finished(group)?, "{case:?}");
-    Ok(())
+    let number = case.checkpointed.unwrap_or(0);
+    let checkpointed = checkpoint_received(group, number);
+    well = is_delivered(group, case.later)? && well;
+    well = strike(alloc, group, case.struck)? && well;
+    well = checkpoint_received(group, number) == checkpointed && well;
+    Ok(is_finished(group)? && well)
 }
 
-/// Strikes a member of a new group in this case.
-fn strike_in<B: Formula>(rt: &(impl Abort + AllocGlobal), case: Case) -> Result<(), Fail> {
-    let mut group: Group<B> = FOUR.group(rt.alloc())?;
-    strike_as(rt, &mut group, case)
+/// Strikes a member of a new group in this case, and answers whether all is as it should be.
+fn strike_in<B: Formula>(alloc: Global, case: Case) -> Result<bool, Fail> {
+    let mut group: Group<B> = FOUR.group(alloc)?;
+    strike_as(alloc, &mut group, case)
 }
 
-/// Each member is struck after each delivery.
+/// Who is checkpointed, if one is.
+const CHECKPOINTED: &[Option<u8>] = &[None, Some(0), Some(1), Some(2), Some(3)];
+
+/// After each delivery each member is checkpointed, or none, and after each later one each member is struck.
 fn strike_each<B: Formula>(rt: &(impl Abort + AllocGlobal)) -> Result<(), Fail> {
     for earlier in 0..13 {
-        for struck in 0..4 {
-            let case = Case {
-                earlier,
-                checkpointed: None,
-                later: 0,
-                struck,
-            };
-            strike_in::<B>(rt, case)?;
-        }
-    }
-    Ok(())
-}
-
-/// Each member is checkpointed after each delivery, and each is struck after each later one.
-fn strike_each_after_checkpoint<B: Formula>(rt: &(impl Abort + AllocGlobal)) -> Result<(), Fail> {
-    for earlier in 0..13 {
         for later in 0..13 - earlier {
-            for pair in 0..16 {
-                let case = Case {
-                    earlier,
-                    checkpointed: Some(pair / 4),
-                    later,
-                    struck: pair % 4,
-                };
-                strike_in::<B>(rt, case)?;
+            for struck in 0..4 {
+                for &checkpointed in CHECKPOINTED {
+                    let case = Case {
+                        earlier,
+                        checkpointed,
+                        later,
+                        struck,
+                    };
+                    assert!(rt; strike_in::<B>(rt.alloc(), case)?, "{case:?}");
+                }
             }
         }
     }
@@ -335,14 +326,4 @@ fn members_that_add_up_are_struck_after_each_delivery(rt: HostRuntime) -> Result
 #[test]
 fn members_that_mix_are_struck_after_each_delivery(rt: HostRuntime) -> Result<(), Fail> {
     strike_each::<Mix>(&rt)
-}
-
-#[test]
-fn members_that_add_up_are_struck_after_each_checkpoint(rt: HostRuntime) -> Result<(), Fail> {
-    strike_each_after_checkpoint::<Relay>(&rt)
-}
-
-#[test]
-fn members_that_mix_are_struck_after_each_checkpoint(rt: HostRuntime) -> Result<(), Fail> {
-    strike_each_after_checkpoint::<Mix>(&rt)
 }

@@ -18,15 +18,18 @@ pub(crate) fn play<B: Behaviour>(
     setting: &Setting,
     steps: &[Step],
 ) -> Result<(), Fail> {
-    played::<B, _>(rt.alloc(), setting, &mut None, steps)?;
+    play_once::<B>(rt.alloc(), setting, steps)?;
     for place in 0..steps.len() {
-        let (before, call) = (&steps[..place], steps[place]);
-        let requests = refuse_each::<B>(rt, setting, before, call)?;
-        assert!(rt;
-            requests >= call.least_requests(),
-            "step {place}: {requests} requests"
-        );
+        let call = steps[place];
+        let requests = refuse_each::<B>(rt, setting, &steps[..place], call)?;
+        assert!(rt; requests >= call.least_requests(), "step {place}");
     }
+    Ok(())
+}
+
+/// Makes the calls in turn on a new group. Each has to answer as expected.
+fn play_once<B: Behaviour>(alloc: Global, setting: &Setting, steps: &[Step]) -> Result<(), Fail> {
+    let _played: Group<B> = played(alloc, setting, &mut None, steps)?;
     Ok(())
 }
 

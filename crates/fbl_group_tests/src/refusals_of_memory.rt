@@ -60,20 +60,41 @@ fn a_new_group_without_memory(rt: HostRuntime) -> Result<(), Fail> {
     refuse_each_of_new(&rt, &whole)
 }
 
+/// A setting, the calls before, a call, and how many requests for memory it makes at least.
+type Refused<'a> = (Setting<'a>, &'a [Step<'a>], Step<'a>, u64);
+
+/// Refuses each request of each of these calls in turn.
+fn refuse_each_of<B: Behaviour>(
+    rt: &(impl Abort + AllocGlobal),
+    calls: &[Refused],
+) -> Result<(), Fail> {
+    for (setting, before, call, least) in calls {
+        let requests = refuse_each::<B>(rt, setting, before, *call)?;
+        assert!(rt; requests >= *least, "{requests} requests");
+    }
+    Ok(())
+}
+
 #[test]
-fn receipts_and_a_checkpoint_without_memory(rt: HostRuntime) -> Result<(), Fail> {
+fn receipts_without_memory(rt: HostRuntime) -> Result<(), Fail> {
+    const FIRST: Step = Deliver((1, 0), Ok((1, 0, 5)));
+    const SECOND: Step = Deliver((0, 1), Ok((1, 1, 6)));
+    const CALLS: &[Refused] = &[(ANSWERED, &[], FIRST, 6), (ANSWERED, &[FIRST], SECOND, 3)];
+    refuse_each_of::<Mix>(&rt, CALLS)
+}
+
+#[test]
+fn a_commit_and_a_checkpoint_without_memory(rt: HostRuntime) -> Result<(), Fail> {
     const RELAYED: Setting = Setting {
         starts: &[(0, 1, 5, 1)],
         ..ANSWERED
     };
-    const FIRST: Step = Deliver((1, 0), Ok((1, 0, 5)));
-    const SECOND: Step = Deliver((0, 1), Ok((1, 1, 6)));
     const TAKEN: &[Step] = &[Take((1, 0), Ok((0, 1, 1, 5, 1)))];
-    assert!(rt; refuse_each::<Mix>(&rt, &ANSWERED, &[], FIRST)? > 5);
-    assert!(rt; refuse_each::<Mix>(&rt, &ANSWERED, &[FIRST], SECOND)? > 2);
-    assert!(rt; refuse_each::<Relay>(&rt, &RELAYED, TAKEN, Commit(Ok((1, 0, 5))))? > 5);
-    assert!(rt; refuse_each::<Relay>(&rt, &CHECKPOINTED, &[], Checkpoint(1, Ok(2)))? > 2);
-    Ok(())
+    const CALLS: &[Refused] = &[
+        (RELAYED, TAKEN, Commit(Ok((1, 0, 5))), 6),
+        (CHECKPOINTED, &[], Checkpoint(1, Ok(2)), 3),
+    ];
+    refuse_each_of::<Relay>(&rt, CALLS)
 }
 
 /// Makes the call, to which a request for memory may be refused. Where it is, the later call is made, and the answer is whether

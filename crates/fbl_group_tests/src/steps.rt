@@ -70,16 +70,15 @@ impl<'a> Step<'a> {
         made: &mut Option<Done<B>>,
     ) -> Result<Verdict, Fail> {
         match self {
-            Step::Deliver((to, from), expected) => {
-                let answer = group.deliver(member(to)?, member(from)?).map(receipt_parts);
+            Step::Deliver(channel, expected) => {
+                let answer = deliver(group, channel)?;
                 Ok(Verdict::of_answer(answer, expected, DeliverRefusal::Memory))
             }
             Step::Take(channel, expected) => {
                 Ok(Verdict::of(take(group, channel, made)? == expected))
             }
             Step::Commit(expected) => {
-                let done = made.as_ref().ok_or("no step was made")?;
-                let answer = group.commit(done).map(receipt_parts);
+                let answer = commit(group, made.as_ref().ok_or("no step was made")?);
                 Ok(Verdict::of_answer(answer, expected, CommitRefusal::Memory))
             }
             Step::Checkpoint(number, expected) => {
@@ -87,16 +86,14 @@ impl<'a> Step<'a> {
                 Ok(Verdict::of_answer(answer, expected, CheckpointRefusal::Memory))
             }
             Step::Strike(struck, expected) => {
-                let answer = group.strike(set(struck)?);
-                Ok(Verdict::of(answer.map(|struck| struck.lost) == expected))
+                Ok(Verdict::of(strike(group, struck)? == expected))
             }
             Step::Recover(expected) => {
-                let answer = group.recover().map(recovery_parts);
+                let answer = recover(group);
                 Ok(Verdict::of_answer(answer, expected, RecoverRefusal::Memory))
             }
             Step::Crash(struck, expected) => {
-                let answer = group.crash(set(struck)?);
-                let answer = answer.map(|(struck, parts)| (struck.lost, recovery_parts(parts)));
+                let answer = crash(group, struck)?;
                 Ok(Verdict::of_answer(answer, expected, CrashRefusal::Memory))
             }
             Step::Dump(struck, expected) => {
@@ -139,6 +136,52 @@ fn receipt_parts(receipted: Receipted) -> (u32, u32, u64) {
 
 fn recovery_parts(recovered: Recovered) -> (u32, u32, u32) {
     (recovered.replayed, recovered.resent, recovered.undone)
+}
+
+/// A delivery to the one from the other.
+fn deliver<B: Behaviour, A: Allocator + Copy>(
+    group: &mut Group<B, A>,
+    channel: (u8, u8),
+) -> Result<Result<(u32, u32, u64), DeliverRefusal>, Fail> {
+    let (to, from) = (member(channel.0)?, member(channel.1)?);
+    Ok(group.deliver(to, from).map(receipt_parts))
+}
+
+/// A commit of the step.
+fn commit<B: Behaviour, A: Allocator + Copy>(
+    group: &mut Group<B, A>,
+    done: &Done<B>,
+) -> Result<(u32, u32, u64), CommitRefusal> {
+    group.commit(done).map(receipt_parts)
+}
+
+/// A strike of the members with these numbers, and how many receipts are lost.
+fn strike<B: Behaviour, A: Allocator + Copy>(
+    group: &mut Group<B, A>,
+    numbers: &[u8],
+) -> Result<Result<u32, StrikeRefusal>, Fail> {
+    let set = set(numbers)?;
+    Ok(group.strike(set).map(|struck| struck.lost))
+}
+
+/// A recovery of all that are down.
+fn recover<B: Behaviour, A: Allocator + Copy>(
+    group: &mut Group<B, A>,
+) -> Result<(u32, u32, u32), RecoverRefusal> {
+    group.recover().map(recovery_parts)
+}
+
+/// A crash of the members with these numbers, and how many receipts are lost.
+fn crash<B: Behaviour, A: Allocator + Copy>(
+    group: &mut Group<B, A>,
+    numbers: &[u8],
+) -> Result<Result<(u32, (u32, u32, u32)), CrashRefusal>, Fail> {
+    let set = set(numbers)?;
+    Ok(
+        group
+            .crash(set)
+            .map(|(struck, parts)| (struck.lost, recovery_parts(parts))),
+    )
 }
 
 /// Takes a ticket, and makes and keeps its step. The answer is the ticket's state, receipt number, send number, value and

@@ -278,6 +278,3 @@ fn main(rt: HostRuntime) -> ExitCode {
         Err(status) => ExitCode::from(status),
     }
 }
-
-#[cfg(test)]
-mod tests;

@@ -6,7 +6,6 @@ use fbl_base::{Member, MemberSet};
 use fbl_history::{Column, Replay};
 use fbl_play::history_of_bytes;
 use std::alloc::Global;
-use std::process::Abort;
 use std::sync::Wait;
 use std::test::Fail;
 use std::thread::Threads;
@@ -49,16 +48,15 @@ fn replays(number: u8, receipts: u32) -> Replay
     Replay { member, receipts }
 }
 
-/// The script has these columns, with two workers.
-fn has_columns<T: Abort + Threads + Wait + Sync>(
+/// Whether the script has these columns, with two workers.
+fn has_columns<T: Threads + Wait + Sync>(
     rt: &T,
     alloc: Global,
     script: &str,
     columns: &[Column],
-) -> Result<(), Fail> {
+) -> Result<bool, Fail> {
     let answer = history_of_bytes(rt, alloc, script.as_bytes(), 2)?;
-    assert!(rt; answer.history.columns() == columns, "{script}");
-    Ok(())
+    Ok(answer.history.columns() == columns)
 }
 
 #[test]
@@ -79,7 +77,8 @@ fn a_lost_receipt_is_undone(rt: HostRuntime) -> Result<(), Fail> {
         receives(2, 2, 0, 1, 253, false),
         Column::Checkpoint(two),
     ];
-    has_columns(&rt, rt.alloc(), script, columns.as_slice())
+    assert!(rt; has_columns(&rt, rt.alloc(), script, columns.as_slice())?);
+    Ok(())
 }
 
 #[test]
@@ -102,7 +101,8 @@ fn two_members_are_struck_one_after_the_other(rt: HostRuntime) -> Result<(), Fai
         receives(2, 1, 1, 1, 5, false),
         sends(2, 1, 0, false),
     ];
-    has_columns(&rt, rt.alloc(), script, columns.as_slice())
+    assert!(rt; has_columns(&rt, rt.alloc(), script, columns.as_slice())?);
+    Ok(())
 }
 
 #[test]
@@ -115,5 +115,6 @@ fn workers_make_what_the_trace_has(rt: HostRuntime) -> Result<(), Fail> {
         sends(1, 1, 2, false),
         receives(2, 1, 1, 1, 5, false),
     ];
-    has_columns(&rt, rt.alloc(), script, columns.as_slice())
+    assert!(rt; has_columns(&rt, rt.alloc(), script, columns.as_slice())?);
+    Ok(())
 }
