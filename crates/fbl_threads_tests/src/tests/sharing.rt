@@ -4,7 +4,7 @@ use super::fixtures::{TURNS, group};
 use fbl_base::{Member, MemberSet, Note, Relay, Start};
 use fbl_fixtures::{set, start};
 use fbl_group::{
-    CommitRefusal, CrashRefusal, DeliverRefusal, Done, Receipted, RecoverRefusal, Recovered,
+    CommitRefusal, CrashRefusal, DeliverRefusal, Done, Group, Receipted, RecoverRefusal, Recovered,
     StrikeRefusal, Struck, run_step,
 };
 use fbl_threads::{NoGate, SharedGroup, drain};
@@ -177,20 +177,29 @@ fn a_crash_is_a_strike_and_a_recovery_in_one_hold(rt: HostRuntime) -> Result<(),
     Ok(())
 }
 
+/// Delivers a message that goes round three members, then strikes member 1. Whether each message carried what was known until then,
+/// and nothing is lost.
+fn goes_round(group: &mut Group<Relay>) -> Result<bool, Fail> {
+    let first = group.deliver(Member::at(1), Member::at(0))?;
+    let second = group.deliver(Member::at(2), Member::at(1))?;
+    let third = group.deliver(Member::at(0), Member::at(2))?;
+    let struck = group.strike(MemberSet::empty().with(Member::at(1)))?;
+    Ok((first.carried, second.carried, third.carried, struck.lost) == (0, 1, 2, 0))
+}
+
+/// Whether nobody of three is down, and the last two have this state.
+fn have_state(group: &Group<Relay>, state: u64) -> bool {
+    group.down() == MemberSet::empty()
+        && group.config().members() == 3
+        && group.state(Member::at(1)) == state
+        && group.state(Member::at(2)) == state
+}
+
 // Members 1 and 2 are struck, the second one in the crash that recovers both.
 #[test]
 fn a_crash_recovers_those_that_were_down_before(rt: HostRuntime) -> Result<(), Fail> {
     let mut group = group(rt.alloc(), 3, 2, 8192, &[start(0, 1, 5, 2)?])?;
-    let answers = [
-        group.deliver(Member::at(1), Member::at(0))?.carried,
-        group.deliver(Member::at(2), Member::at(1))?.carried,
-        group.deliver(Member::at(0), Member::at(2))?.carried,
-    ];
-    assert_eq!(rt; answers, [0, 1, 2]);
-    assert_eq!(rt;
-        group.strike(MemberSet::empty().with(Member::at(1)))?,
-        Struck { lost: 0 }
-    );
+    assert!(rt; goes_round(&mut group)?);
     let shared = SharedGroup::new(group);
     let both = Recovered {
         replayed: 2,
@@ -198,20 +207,27 @@ fn a_crash_recovers_those_that_were_down_before(rt: HostRuntime) -> Result<(), F
         undone: 0,
     };
     crash(&rt, &shared, &[2], Ok((Struck { lost: 0 }, both)))?;
-    let group = shared.into_inner();
-    assert_eq!(rt; group.down(), MemberSet::empty());
-    assert_eq!(rt; group.config().members(), 3);
-    assert_eq!(rt; group.state(Member::at(1)), 5);
-    assert_eq!(rt; group.state(Member::at(2)), 5);
+    assert!(rt; have_state(&shared.into_inner(), 5));
     Ok(())
+}
+
+/// Delivers member 1 its message, and checkpoints it.
+fn deliver_and_checkpoint(group: &mut Group<Relay>) -> Result<(), Fail> {
+    group.deliver(Member::at(1), Member::at(0))?;
+    group.checkpoint(Member::at(1))?;
+    Ok(())
+}
+
+/// Whether member 1 has a checkpoint of one receipt.
+fn keeps_its_checkpoint(group: &Group<Relay>) -> bool {
+    group.config().members() == 3 && group.checkpoint_received(Member::at(1)) == 1
 }
 
 // The member begins at its checkpoint, and workers leave the checkpoint as it is.
 #[test]
 fn a_crash_recovers_from_a_checkpoint_that_a_drain_keeps(rt: HostRuntime) -> Result<(), Fail> {
     let mut group = group(rt.alloc(), 3, 1, 8192, &[start(0, 1, 5, 2)?])?;
-    group.deliver(Member::at(1), Member::at(0))?;
-    group.checkpoint(Member::at(1))?;
+    deliver_and_checkpoint(&mut group)?;
     let shared = SharedGroup::new(group);
     crash(
         &rt,
@@ -220,9 +236,6 @@ fn a_crash_recovers_from_a_checkpoint_that_a_drain_keeps(rt: HostRuntime) -> Res
         Ok((Struck { lost: 0 }, recovered(1, 0))),
     )?;
     let (group, answer) = drain(&rt, rt.alloc(), shared.into_inner(), &[], 2, TURNS, &NoGate);
-    assert!(rt; answer?.quiet);
-    assert_eq!(rt; group.config().members(), 3);
-    assert_eq!(rt; group.checkpoint_received(Member::at(1)), 1);
-    assert_eq!(rt; group.state(Member::at(1)), 5);
+    assert!(rt; answer?.quiet && have_state(&group, 5) && keeps_its_checkpoint(&group));
     Ok(())
 }
