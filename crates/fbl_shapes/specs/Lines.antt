@@ -1,10 +1,10 @@
 -- The texts of labels, of lines and of arrows.
-use Rattle.std.specs.Prelude.{ℕ, ◌+◌, ◌-◌, Bool, List, [], ◌∷◌, ◌++◌, Option, codes, decimal}
+use Rattle.std.specs.Prelude.{ℕ, ◌+◌, ◌-◌, Bool, true, List, [], ◌∷◌, ◌++◌, Option, codes, decimal}
 use Rattle.fbl_lines.specs.Lines.{line}
 use Rattle.fbl_shapes.specs.declared.shape.Status.{Status}
 use Rattle.fbl_shapes.specs.declared.shape.LineKind.{LineKind}
 use Rattle.fbl_shapes.specs.declared.shape.ArrowKind.{ArrowKind}
-use Rattle.fbl_shapes.specs.Places.{left, towards, x, y}
+use Rattle.fbl_shapes.specs.Places.{below, left, towards, x, y}
 use Rattle.fbl_shapes.specs.Words.{arrow_class, in_flight_class, line_class, status_words}
 
 -- a member's name at the left end of its line
@@ -34,5 +34,6 @@ drawn_arrow from sent to received kind = segment (arrow_class kind) (x sent) (y 
 -- the send's own number
 unfoldable pub drawn_in_flight : ℕ → ℕ → ℕ → Bool → List ℕ
 drawn_in_flight from sent to again =
-    segment (in_flight_class again) (x sent) (y from) (x sent + towards from to 0 18) (towards from to (y from + 20) (y from - 20))
-    ++ line (codes "<text class='at' x='" ∷ decimal (x sent + towards from to 0 26) ∷ codes "' y='" ∷ decimal (towards from to (y from + 31) (y from - 22)) ∷ codes "'>to " ∷ decimal to ∷ codes "</text>" ∷ [])
+    let low = below sent from true in
+    segment (in_flight_class again) (x sent) (y from) (x sent + towards from to 0 18) (towards from to (low - 12) (y from - 20))
+    ++ line (codes "<text class='at' x='" ∷ decimal (x sent + towards from to 0 26) ∷ codes "' y='" ∷ decimal (towards from to low (y from - 22)) ∷ codes "'>to " ∷ decimal to ∷ codes "</text>" ∷ [])

@@ -1,5 +1,5 @@
 -- Where shapes stand, counted from the left and from the top, and shapes in columns one after another.
-use Rattle.std.specs.Prelude.{ℕ, ◌+◌, ◌*◌, ◌/◌, ◌%◌, ◌==◌, max, nat_lt, List, [], ◌∷◌, ◌++◌, Option, Some, None, if◌then◌else◌}
+use Rattle.std.specs.Prelude.{ℕ, ◌+◌, ◌*◌, ◌/◌, ◌%◌, ◌==◌, ◌&&◌, Bool, max, nat_lt, List, [], ◌∷◌, ◌++◌, Option, Some, None, if◌then◌else◌}
 use Rattle.fbl_shapes.specs.declared.shape.Shape.{Shape}
 
 -- where a column stands: before each that follows 24 others there is room for the members' names
@@ -15,9 +15,9 @@ left None = 170
 abbrev pub y : ℕ → ℕ
 y member = 74 + 80 * member
 
--- where the long words below a mark stand: lower in every other column, so that neighbours have room
-abbrev pub below : ℕ → ℕ → ℕ
-below column member = if column % 2 == 0 then y member + 32 else y member + 44
+-- where the second line of words below a mark stands: long words are lower in every other column, so that neighbours have room
+abbrev pub below : ℕ → ℕ → Bool → ℕ
+below column member long = if long && column % 2 == 1 then y member + 44 else y member + 32
 
 -- the first one where the other member's line is below the member's, and else the second one
 abbrev pub towards : ℕ → ℕ → ℕ → ℕ → ℕ

@@ -3,7 +3,7 @@
 ghost use Rattle.std.specs.Prelude.{◌≡◌, IfOk, string_bytes};
 ghost use Rattle.fbl_shapes.specs.Lines.{drawn_arrow, drawn_in_flight, drawn_label, drawn_line, drawn_name, segment};
 
-use crate::places::{left, towards, x, y};
+use crate::places::{below, left, towards, x, y};
 use crate::shape::{ArrowKind, LineKind, Status};
 use crate::words::{in_flight_class, status_words};
 use fbl_base::Member;
@@ -104,14 +104,15 @@ pub(crate) fn in_flight_text(
 {
     let left = x(sent);
     let line = y(from.number());
+    let low = below(sent, from.number(), true);
     let start = Point { x: left, y: line };
     let end = Point {
         x: left + towards(from, to, 0, 18) as u128,
-        y: towards(from, to, line + 20, line - 20),
+        y: towards(from, to, low - 12, line - 20),
     };
     let mut text = segment_text(alloc, in_flight_class(again), start, end)?;
     let x = left + towards(from, to, 0, 26) as u128;
-    let y = towards(from, to, line + 31, line - 22);
+    let y = towards(from, to, low, line - 22);
     let to = to.number();
     write!(text, "<text class='at' x='{x}' y='{y}'>to {to}</text>\n")?;
     Ok(text)

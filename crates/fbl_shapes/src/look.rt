@@ -62,16 +62,16 @@ pub(crate) const LOOK: &str = "<style>
 
 /// What the marks of a picture of a history mean.
 pub(crate) const HISTORY_LEGEND: &str =
-    "<circle class='send' cx='24' cy='-4' r='5'/><text class='note' x='44' y='0'>send: its number</text>
-<rect class='receipt' x='217' y='-11' width='14' height='14'/><text class='note' x='244' y='0'>receipt: its number, the state after it</text>
-<rect class='receipt undone' x='487' y='-11' width='14' height='14'/><path class='crossed' d='M485 5l18 -18'/><text class='note' x='514' y='0'>undone by a recovery or a run</text>
-<path class='message' d='M4 18h40'/><text class='note' x='44' y='22'>message, to its receipt</text>
-<path class='message undone' d='M204 18h40'/><text class='note' x='244' y='22'>message whose receipt was undone</text>
-<path class='message again' d='M472 18h40'/><text class='note' x='514' y='22'>message sent again by a recovery</text>
-<path class='message in-flight' d='M14 40h20'/><text class='note' x='44' y='44'>message in flight</text>
-<path class='strike' d='M227 27l-10 14h6l-3 12l11 -16h-7z'/><text class='note' x='244' y='44'>struck, down till</text>
-<path class='recovery' d='M362 31l9 16h-18z'/><text class='note' x='380' y='44'>its recovery</text>
-<rect class='checkpoint' x='492' y='30' width='5' height='20'/><text class='note' x='514' y='44'>checkpoint</text>
+    "<circle class='send' cx='28' cy='-4' r='5'/><text class='note' x='54' y='0'>send: its number</text>
+<rect class='receipt' x='221' y='-11' width='14' height='14'/><text class='note' x='254' y='0'>receipt: its number, the state after it</text>
+<rect class='receipt undone' x='497' y='-11' width='14' height='14'/><path class='crossed' d='M495 5l18 -18'/><text class='note' x='530' y='0'>undone by a recovery or a run</text>
+<path class='message' d='M8 18h32'/><rect class='receipt' x='33' y='11' width='14' height='14'/><text class='note' x='54' y='22'>message, to its receipt</text>
+<path class='message undone' d='M208 18h32'/><rect class='receipt undone' x='233' y='11' width='14' height='14'/><path class='crossed' d='M231 27l18 -18'/><text class='note' x='254' y='22'>message whose receipt was undone</text>
+<path class='message again' d='M480 18h36'/><rect class='receipt' x='509' y='11' width='14' height='14'/><text class='note' x='530' y='22'>message sent again by a recovery</text>
+<path class='message in-flight' d='M18 40h20'/><text class='note' x='54' y='44'>message in flight, to whom</text>
+<path class='strike' d='M231 27l-10 14h6l-3 12l11 -16h-7z'/><text class='note' x='254' y='44'>struck, down till</text>
+<path class='recovery' d='M374 31l9 16h-18z'/><text class='note' x='392' y='44'>its recovery</text>
+<rect class='checkpoint' x='502' y='30' width='5' height='20'/><text class='note' x='530' y='44'>checkpoint</text>
 ";
 
 /// What the marks of a picture of a dump mean.

@@ -10,7 +10,7 @@ use fbl_base::{Determinant, Member, MemberSet};
 use fbl_lines::set_text;
 use std::alloc::{AllocError, Global};
 
-/// The text of the stroke behind the number of an undone event, as wide as so many characters.
+/// The text of the stroke behind the number of an undone event, wider than so many characters.
 #[tactic(auto, unfolding(crate::specs::Marks::stroke))]
 fn stroke_text(
     alloc: Global,
@@ -25,11 +25,11 @@ fn stroke_text(
     if !undone {
         return Ok(String::new(alloc));
     }
-    let half = 4 * (characters as u128);
+    let half = 4 * (characters as u128) + 4;
     let left = x.saturating_sub(half);
-    let bottom = y + 2;
-    let width = 8 * (characters as u128);
-    format!(in alloc; "<path class='crossed' d='M{left} {bottom}l{width} -11'/>\n")
+    let bottom = y + 1;
+    let width = 8 * (characters as u128) + 8;
+    format!(in alloc; "<path class='crossed' d='M{left} {bottom}l{width} -9'/>\n")
 }
 
 /// The text of a number beside a mark.
@@ -145,7 +145,7 @@ pub(crate) fn receipt_text(
     let words = format!(in alloc; "{rsn}")?;
     let number = number_text(alloc, x, y + 20, undone, words.as_str())?;
     text.push_str(number.as_str())?;
-    let low = below(column, determinant.to.number());
+    let low = below(column, determinant.to.number(), 9999 < state);
     let words = format!(in alloc; "{state}")?;
     let number = number_text(alloc, x, low, undone, words.as_str())?;
     text.push_str(number.as_str())?;
@@ -216,7 +216,7 @@ pub(crate) fn recovery_text(
     )?;
     write!(text, "{receipts} {word} replayed</title></path>\n")?;
     let words = format!(in alloc; "replays {receipts}")?;
-    let low = below(column, member);
+    let low = below(column, member, true);
     let number = number_text(alloc, x, low, false, words.as_str())?;
     text.push_str(number.as_str())?;
     Ok(text)

@@ -32,15 +32,15 @@ pub(crate) fn y(member: u8) -> u32
     74 + 80 * u32::from(member)
 }
 
-/// How far from the top the long words below a mark stand.
-pub(crate) fn below(column: usize, member: u8) -> u32
-    ensures value { result ≡ below_of column member }
-    ensures bound { result < 21000 + 44 }
+/// How far from the top the second line of words below a mark stands, by whether they are long.
+pub(crate) fn below(column: usize, member: u8, long: bool) -> u32
+    ensures value { result ≡ below_of column member long }
+    ensures bounds { (74 ≤ result) × (result < 21100) }
 {
-    if column % 2 == 0 {
-        y(member) + 32
-    } else {
+    if long && column % 2 == 1 {
         y(member) + 44
+    } else {
+        y(member) + 32
     }
 }
 
