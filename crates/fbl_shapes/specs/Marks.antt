@@ -20,7 +20,7 @@ joined (piece ∷ next ∷ pieces) = piece ++ joined (next ∷ pieces)
 unfoldable pub stroke : ℕ → ℕ → Bool → ℕ → List ℕ
 stroke x y false characters = []
 stroke x y true characters =
-    line (codes "<path class='crossed' d='M" ∷ decimal (x - (4 * characters + 4)) ∷ codes " " ∷ decimal (y + 1) ∷ codes "l" ∷ decimal (8 * characters + 8) ∷ codes " -9'/>" ∷ [])
+    line (codes "<path class='crossed number' d='M" ∷ decimal (x - (4 * characters + 4)) ∷ codes " " ∷ decimal (y + 1) ∷ codes "l" ∷ decimal (8 * characters + 8) ∷ codes " -9'/>" ∷ [])
 
 -- a number beside a mark, with its middle at this point, struck out where what it numbers was undone: the stroke is behind it
 unfoldable pub number : ℕ → ℕ → Bool → List ℕ → List ℕ

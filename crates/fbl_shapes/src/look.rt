@@ -32,6 +32,7 @@ pub(crate) const LOOK: &str = "<style>
 .fbl .lost{fill:none;stroke:#c44e00;stroke-width:4}
 .fbl .crossed,.fbl .send.undone,.fbl .receipt.undone{fill:#fff;stroke:#767676;stroke-width:1.5}
 .fbl .crossed{pointer-events:none}
+.fbl .crossed.number{stroke:#919191;stroke-width:1}
 .fbl .strike{fill:#c44e00}
 .fbl .recovery{fill:#fff;stroke:#00795a;stroke-width:2.5}
 .fbl .checkpoint{fill:#222}
@@ -49,6 +50,7 @@ pub(crate) const LOOK: &str = "<style>
 .fbl .recorded{fill:#161616}
 .fbl .lost{fill:none;stroke:#ff8a3c}
 .fbl .crossed,.fbl .send.undone,.fbl .receipt.undone{fill:#161616;stroke:#9a9a9a}
+.fbl .crossed.number{stroke:#707070}
 .fbl .recovery{fill:#161616;stroke:#3fbf98}
 .fbl .checkpoint{fill:#eee}
 }
@@ -68,7 +70,7 @@ pub(crate) const HISTORY_LEGEND: &str =
 <path class='message' d='M8 18h32'/><rect class='receipt' x='33' y='11' width='14' height='14'/><text class='note' x='54' y='22'>message, to its receipt</text>
 <path class='message undone' d='M208 18h32'/><rect class='receipt undone' x='233' y='11' width='14' height='14'/><path class='crossed' d='M231 27l18 -18'/><text class='note' x='254' y='22'>message whose receipt was undone</text>
 <path class='message again' d='M480 18h36'/><rect class='receipt' x='509' y='11' width='14' height='14'/><text class='note' x='530' y='22'>message sent again by a recovery</text>
-<path class='message in-flight' d='M18 40h20'/><text class='note' x='54' y='44'>message in flight, to whom</text>
+<path class='message in-flight' d='M18 40h20'/><text class='note' x='54' y='44'>message in flight</text>
 <path class='strike' d='M231 27l-10 14h6l-3 12l11 -16h-7z'/><text class='note' x='254' y='44'>struck, down till</text>
 <path class='recovery' d='M374 31l9 16h-18z'/><text class='note' x='392' y='44'>its recovery</text>
 <rect class='checkpoint' x='502' y='30' width='5' height='20'/><text class='note' x='530' y='44'>checkpoint</text>

@@ -29,7 +29,7 @@ fn stroke_text(
     let left = x.saturating_sub(half);
     let bottom = y + 1;
     let width = 8 * (characters as u128) + 8;
-    format!(in alloc; "<path class='crossed' d='M{left} {bottom}l{width} -9'/>\n")
+    format!(in alloc; "<path class='crossed number' d='M{left} {bottom}l{width} -9'/>\n")
 }
 
 /// The text of a number beside a mark.
