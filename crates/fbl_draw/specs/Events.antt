@@ -23,7 +23,7 @@ event_marks dump place e = event_mark dump place e ∷ []
 -- the arrow of a message that is received at a place, or that of one in flight
 abbrev pub message_arrow : ℕ → ℕ → ℕ → Option ℕ → Shape
 message_arrow place from to (Some end) = shape.Arrow from place to end Message
-message_arrow place from to None = shape.InFlight from place to
+message_arrow place from to None = shape.InFlight from place to false
 
 -- the arrow of an event of the trace, if it is a send
 abbrev pub event_arrow : List Mark → ℕ → Mark → List Shape

@@ -63,6 +63,7 @@ fn arrow(place: usize, from: Member, to: Member, end: Option<usize>) -> Shape
             from,
             sent: place,
             to,
+            again: false,
         },
     }
 }

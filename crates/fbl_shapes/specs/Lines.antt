@@ -1,21 +1,21 @@
 -- The texts of labels, of lines and of arrows.
-use Rattle.std.specs.Prelude.{ℕ, ◌+◌, ◌-◌, List, [], ◌∷◌, ◌++◌, Option, codes, decimal}
+use Rattle.std.specs.Prelude.{ℕ, ◌+◌, ◌-◌, Bool, true, List, [], ◌∷◌, ◌++◌, Option, codes, decimal}
 use Rattle.fbl_lines.specs.Lines.{line}
 use Rattle.fbl_shapes.specs.declared.shape.Status.{Status}
 use Rattle.fbl_shapes.specs.declared.shape.LineKind.{LineKind}
 use Rattle.fbl_shapes.specs.declared.shape.ArrowKind.{ArrowKind}
-use Rattle.fbl_shapes.specs.Places.{left, towards, x, y}
-use Rattle.fbl_shapes.specs.Words.{arrow_class, line_class, status_words}
+use Rattle.fbl_shapes.specs.Places.{below, left, towards, x, y}
+use Rattle.fbl_shapes.specs.Words.{arrow_class, in_flight_class, line_class, status_words}
 
 -- a member's name at the left end of its line
 unfoldable pub drawn_label : ℕ → Option Status → List ℕ
 drawn_label member status =
     line (codes "<text x='16' y='" ∷ decimal (y member + 5) ∷ codes "'>member " ∷ decimal member ∷ status_words status ∷ codes "</text>" ∷ [])
 
--- a member's number, above its line, before a column
+-- a member's name, above its line, in the room before a column
 unfoldable pub drawn_name : ℕ → ℕ → List ℕ
 drawn_name column member =
-    line (codes "<text class='name' x='" ∷ decimal (x column - 27) ∷ codes "' y='" ∷ decimal (y member - 22) ∷ codes "'>" ∷ decimal member ∷ codes "</text>" ∷ [])
+    line (codes "<text class='name' x='" ∷ decimal (x column - 86) ∷ codes "' y='" ∷ decimal (y member - 6) ∷ codes "'>member " ∷ decimal member ∷ codes "</text>" ∷ [])
 
 -- a straight line of a class, from one point to another
 abbrev pub segment : List ℕ → ℕ → ℕ → ℕ → ℕ → List ℕ
@@ -30,8 +30,10 @@ drawn_line member start end kind = segment (line_class kind) (left start) (y mem
 unfoldable pub drawn_arrow : ℕ → ℕ → ℕ → ℕ → ArrowKind → List ℕ
 drawn_arrow from sent to received kind = segment (arrow_class kind) (x sent) (y from) (x received) (y to)
 
--- a message in flight: a stub from its send on its receiver's side, and the receiver's number
-unfoldable pub drawn_in_flight : ℕ → ℕ → ℕ → List ℕ
-drawn_in_flight from sent to =
-    segment (codes "message in-flight") (x sent) (y from) (x sent + 18) (towards from to 20 20)
-    ++ line (codes "<text class='at' x='" ∷ decimal (x sent + 26) ∷ codes "' y='" ∷ decimal (towards from to 32 22) ∷ codes "'>to " ∷ decimal to ∷ codes "</text>" ∷ [])
+-- a message in flight: a stub from its send on its receiver's side, and the receiver's number. Above the line it stands beside
+-- the send's own number
+unfoldable pub drawn_in_flight : ℕ → ℕ → ℕ → Bool → List ℕ
+drawn_in_flight from sent to again =
+    let low = below sent from true in
+    segment (in_flight_class again) (x sent) (y from) (x sent + towards from to 0 18) (towards from to (low - 12) (y from - 20))
+    ++ line (codes "<text class='at' x='" ∷ decimal (x sent + towards from to 0 26) ∷ codes "' y='" ∷ decimal (towards from to low (y from - 22)) ∷ codes "'>to " ∷ decimal to ∷ codes "</text>" ∷ [])

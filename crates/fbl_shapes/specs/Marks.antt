@@ -1,5 +1,5 @@
 -- The texts of marks. A mark is one element, whose title says what it stands for.
-use Rattle.std.specs.Prelude.{ℕ, ◌+◌, ◌-◌, Bool, true, false, List, [], ◌∷◌, ◌++◌, codes, decimal}
+use Rattle.std.specs.Prelude.{ℕ, ◌+◌, ◌-◌, ◌*◌, Bool, true, false, List, [], ◌∷◌, ◌++◌, length, nat_lt, codes, decimal}
 use Rattle.std.specs.Ordering.{nat_cmp}
 use Rattle.std.specs.FinSet as set
 use Rattle.fbl_base.specs.declared.trace.Determinant.{Determinant}
@@ -7,7 +7,7 @@ use Rattle.fbl_lines.specs.Lines.{line}
 use Rattle.fbl_lines.specs.Sets.{set_words}
 use Rattle.fbl_shapes.specs.declared.shape.Kind.{Kind}
 use Rattle.fbl_shapes.specs.declared.shape.Kind.TheVariants.{Stable, Recorded, Lost}
-use Rattle.fbl_shapes.specs.Places.{x, y}
+use Rattle.fbl_shapes.specs.Places.{below, x, y}
 use Rattle.fbl_shapes.specs.Words.{gone_class, kind_class, receipts_word, undone_class, undone_words}
 
 -- the pieces one after another
@@ -16,10 +16,17 @@ joined [] = []
 joined (piece ∷ []) = piece
 joined (piece ∷ next ∷ pieces) = piece ++ joined (next ∷ pieces)
 
--- a number beside a mark, with its middle at this point, struck out where what it numbers was undone
+-- the stroke behind the number of an undone event: wider than so many characters
+unfoldable pub stroke : ℕ → ℕ → Bool → ℕ → List ℕ
+stroke x y false characters = []
+stroke x y true characters =
+    line (codes "<path class='crossed number' d='M" ∷ decimal (x - (4 * characters + 4)) ∷ codes " " ∷ decimal (y + 1) ∷ codes "l" ∷ decimal (8 * characters + 8) ∷ codes " -9'/>" ∷ [])
+
+-- a number beside a mark, with its middle at this point, struck out where what it numbers was undone: the stroke is behind it
 unfoldable pub number : ℕ → ℕ → Bool → List ℕ → List ℕ
 number x y undone words =
-    line (codes "<text class='at" ∷ gone_class undone ∷ codes "' x='" ∷ decimal x ∷ codes "' y='" ∷ decimal y ∷ codes "'>" ∷ words ∷ codes "</text>" ∷ [])
+    stroke x y undone (length words)
+    ++ line (codes "<text class='at" ∷ gone_class undone ∷ codes "' x='" ∷ decimal x ∷ codes "' y='" ∷ decimal y ∷ codes "'>" ∷ words ∷ codes "</text>" ∷ [])
 
 -- the cross over the mark of an undone event
 unfoldable pub cross : ℕ → ℕ → Bool → List ℕ
@@ -40,14 +47,19 @@ unfoldable pub receipt_words : Determinant → List ℕ
 receipt_words d =
     joined (codes "<title>member " ∷ decimal d.to ∷ codes " receipt " ∷ decimal d.rsn ∷ codes ": message " ∷ decimal d.ssn ∷ codes " of " ∷ decimal d.from ∷ [])
 
--- a receipt of a history: a square on its receiver's line, with its number and the state after it below
+-- a state of five digits or more is long
+abbrev pub is_long : ℕ → Bool
+is_long state = nat_lt 9999 state
+
+-- a receipt of a history: a square on its receiver's line, below it its number, and under that the state after it
 unfoldable pub drawn_receipt : ℕ → Determinant → ℕ → Bool → List ℕ
 drawn_receipt column d state undone =
     joined (codes "<rect class='receipt" ∷ undone_class undone ∷ codes "' x='" ∷ decimal (x column - 7) ∷ codes "' y='" ∷ decimal (y d.to - 7) ∷ codes "' width='14' height='14'>" ∷ [])
     ++ receipt_words d
     ++ line (codes ", state " ∷ decimal state ∷ undone_words undone ∷ codes "</title></rect>" ∷ [])
     ++ cross column d.to undone
-    ++ number (x column) (y d.to + 22) undone (joined (decimal d.rsn ∷ codes ": " ∷ decimal state ∷ []))
+    ++ number (x column) (y d.to + 20) undone (decimal d.rsn)
+    ++ number (x column) (below column d.to (is_long state)) undone (decimal state)
 
 -- the outline of the mark of a receipt of a dump: a square where it is stable, a rhomb where it is recorded, and else two
 -- strokes, one across the other
@@ -62,7 +74,7 @@ drawn_held_receipt column d kind holders =
     joined (codes "<path class='" ∷ kind_class kind ∷ codes "' d='M" ∷ decimal (x column) ∷ codes " " ∷ decimal (y d.to) ∷ drawn_outline kind ∷ codes "'>" ∷ [])
     ++ receipt_words d
     ++ line (codes ", held by " ∷ set_words holders ∷ codes "</title></path>" ∷ [])
-    ++ number (x column) (y d.to + 22) false (decimal d.rsn)
+    ++ number (x column) (y d.to + 20) false (decimal d.rsn)
 
 -- a strike: a bolt on the line of a member that it strikes
 unfoldable pub drawn_strike : ℕ → ℕ → List ℕ
@@ -74,7 +86,7 @@ unfoldable pub drawn_recovery : ℕ → ℕ → ℕ → List ℕ
 drawn_recovery column member receipts =
     joined (codes "<path class='recovery' d='M" ∷ decimal (x column) ∷ codes " " ∷ decimal (y member - 9) ∷ codes "l9 16h-18z'><title>member " ∷ decimal member ∷ codes " is recovered, " ∷ [])
     ++ line (decimal receipts ∷ codes " " ∷ receipts_word receipts ∷ codes " replayed</title></path>" ∷ [])
-    ++ number (x column) (y member + 24) false (joined (codes "replays " ∷ decimal receipts ∷ []))
+    ++ number (x column) (below column member true) false (joined (codes "replays " ∷ decimal receipts ∷ []))
 
 -- a checkpoint: a bar across its member's line
 unfoldable pub drawn_checkpoint : ℕ → ℕ → List ℕ

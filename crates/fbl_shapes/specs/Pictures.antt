@@ -1,5 +1,5 @@
 -- A picture: a frame with a heading and a legend, and in it the texts of shapes.
-use Rattle.std.specs.Prelude.{ℕ, ◌+◌, List, [], ◌∷◌, ◌++◌, codes, decimal}
+use Rattle.std.specs.Prelude.{ℕ, ◌-◌, List, [], ◌∷◌, ◌++◌, codes, decimal}
 use Rattle.std.specs.List.{flat_map}
 use Rattle.fbl_lines.specs.Lines.{line}
 use Rattle.fbl_shapes.specs.declared.look.TheConstants.{DUMP_LEGEND, HISTORY_LEGEND, LOOK}
@@ -17,7 +17,7 @@ text_of (Label member status) = drawn_label member status
 text_of (Name column member) = drawn_name column member
 text_of (Line member start end kind) = drawn_line member start end kind
 text_of (Arrow from sent to received kind) = drawn_arrow from sent to received kind
-text_of (InFlight from sent to) = drawn_in_flight from sent to
+text_of (InFlight from sent to again) = drawn_in_flight from sent to again
 text_of (Send column from ssn to undone) = drawn_send column from ssn to undone
 text_of (Receipt column determinant state undone) = drawn_receipt column determinant state undone
 text_of (Held column determinant kind holders) = drawn_held_receipt column determinant kind holders
@@ -50,7 +50,7 @@ drawn_legend legend.Dump = DUMP_LEGEND.now
 -- the legend, below the members' lines, and the end of the picture
 unfoldable pub ending : ℕ → Legend → List ℕ
 ending members legend =
-    line (codes "<g transform='translate(0 " ∷ decimal (y members + 14) ∷ codes ")'>" ∷ [])
+    line (codes "<g transform='translate(0 " ∷ decimal (y members - 4) ∷ codes ")'>" ∷ [])
     ++ drawn_legend legend
     ++ line (codes "</g>" ∷ [])
     ++ line (codes "</svg>" ∷ [])
@@ -63,5 +63,5 @@ texts_of shapes = flat_map text_of shapes
 unfoldable pub picture : List ℕ → ℕ → ℕ → Legend → List Shape → List ℕ
 picture title members columns legend shapes =
     let wide = width columns in
-    let high = height members legend in
+    let high = height members in
     opening wide high ++ drawn_heading title wide high ++ texts_of shapes ++ ending members legend

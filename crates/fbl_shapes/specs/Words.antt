@@ -32,7 +32,14 @@ line_class line_kind.Path = codes "line path"
 abbrev pub arrow_class : ArrowKind → List ℕ
 arrow_class arrow_kind.Message = codes "message"
 arrow_class arrow_kind.Undone = codes "message undone"
+arrow_class arrow_kind.Again = codes "message again"
+arrow_class arrow_kind.AgainUndone = codes "message again undone"
 arrow_class arrow_kind.Path = codes "path"
+
+-- the class of the stub of a message in flight
+abbrev pub in_flight_class : Bool → List ℕ
+in_flight_class true = codes "message in-flight again"
+in_flight_class false = codes "message in-flight"
 
 -- what the class of an event has beside its sort
 abbrev pub undone_class : Bool → List ℕ

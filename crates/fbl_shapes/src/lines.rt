@@ -3,9 +3,9 @@
 ghost use Rattle.std.specs.Prelude.{◌≡◌, IfOk, string_bytes};
 ghost use Rattle.fbl_shapes.specs.Lines.{drawn_arrow, drawn_in_flight, drawn_label, drawn_line, drawn_name, segment};
 
-use crate::places::{left, towards, x, y};
+use crate::places::{below, left, towards, x, y};
 use crate::shape::{ArrowKind, LineKind, Status};
-use crate::words::status_words;
+use crate::words::{in_flight_class, status_words};
 use fbl_base::Member;
 use std::alloc::{AllocError, Global};
 
@@ -24,15 +24,15 @@ pub(crate) fn label_text(
     format!(in alloc; "<text x='16' y='{y}'>member {member}{status}</text>\n")
 }
 
-/// The text of a member's number before a column.
+/// The text of a member's name in the room before a column.
 #[tactic(auto, unfolding(crate::specs::Lines::drawn_name))]
 pub(crate) fn name_text(alloc: Global, column: usize, member: Member) -> Result<String, AllocError>
     ensures { IfOk result (λ text. string_bytes text ≡ drawn_name column member) }
 {
     let member = member.number();
-    let x = x(column) - 27;
-    let y = y(member) - 22;
-    format!(in alloc; "<text class='name' x='{x}' y='{y}'>{member}</text>\n")
+    let x = x(column) - 86;
+    let y = y(member) - 6;
+    format!(in alloc; "<text class='name' x='{x}' y='{y}'>member {member}</text>\n")
 }
 
 /// A point of a picture, in pixels from its left and from its top.
@@ -98,20 +98,21 @@ pub(crate) fn in_flight_text(
     from: Member,
     sent: usize,
     to: Member,
+    again: bool,
 ) -> Result<String, AllocError>
-    ensures { IfOk result (λ text. string_bytes text ≡ drawn_in_flight from sent to) }
+    ensures { IfOk result (λ text. string_bytes text ≡ drawn_in_flight from sent to again) }
 {
-    let start = Point {
-        x: x(sent),
-        y: y(from.number()),
-    };
+    let left = x(sent);
+    let line = y(from.number());
+    let low = below(sent, from.number(), true);
+    let start = Point { x: left, y: line };
     let end = Point {
-        x: x(sent) + 18,
-        y: towards(from, to, 20, 20),
+        x: left + towards(from, to, 0, 18) as u128,
+        y: towards(from, to, low - 12, line - 20),
     };
-    let mut text = segment_text(alloc, "message in-flight", start, end)?;
-    let x = x(sent) + 26;
-    let y = towards(from, to, 32, 22);
+    let mut text = segment_text(alloc, in_flight_class(again), start, end)?;
+    let x = left + towards(from, to, 0, 26) as u128;
+    let y = towards(from, to, low, line - 22);
     let to = to.number();
     write!(text, "<text class='at' x='{x}' y='{y}'>to {to}</text>\n")?;
     Ok(text)

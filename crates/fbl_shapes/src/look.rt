@@ -12,13 +12,14 @@ pub(crate) const LOOK: &str = "<style>
 .fbl text{fill:#222;font:14px system-ui,sans-serif}
 .fbl .head{font-weight:600}
 .fbl .note,.fbl .name{font-size:12px}
-.fbl .at{font-size:11px;text-anchor:middle;stroke:#fff;stroke-width:3px;paint-order:stroke}
-.fbl .gone{fill:#6b6b6b;text-decoration:line-through}
-.fbl .at.gone{stroke:none}
+.fbl .at{font-size:11px;text-anchor:middle}
+.fbl .at,.fbl .name{stroke:#fff;stroke-width:3px;paint-order:stroke}
+.fbl .at.gone{fill:#444;stroke:none}
 .fbl .line{stroke:#767676;stroke-width:1.5}
 .fbl .down{stroke-dasharray:6 5}
 .fbl .message{stroke:#767676;stroke-width:1.2;fill:none;marker-end:url(#fbl-tip)}
 .fbl .message.undone{stroke-dasharray:2 2}
+.fbl .message.again{marker-start:url(#fbl-dot)}
 .fbl .in-flight{stroke-dasharray:2 3;marker-end:none}
 .fbl .orphan{stroke:#c44e00;stroke-width:4}
 .fbl .path{stroke:#c44e00;stroke-width:2.5;marker-end:url(#fbl-path-tip)}
@@ -31,14 +32,15 @@ pub(crate) const LOOK: &str = "<style>
 .fbl .lost{fill:none;stroke:#c44e00;stroke-width:4}
 .fbl .crossed,.fbl .send.undone,.fbl .receipt.undone{fill:#fff;stroke:#767676;stroke-width:1.5}
 .fbl .crossed{pointer-events:none}
+.fbl .crossed.number{stroke:#919191;stroke-width:1}
 .fbl .strike{fill:#c44e00}
 .fbl .recovery{fill:#fff;stroke:#00795a;stroke-width:2.5}
 .fbl .checkpoint{fill:#222}
 @media(prefers-color-scheme:dark){
 .fbl .back{fill:#161616}
 .fbl text{fill:#eee}
-.fbl .at{stroke:#161616}
-.fbl .gone{fill:#a5a5a5}
+.fbl .at,.fbl .name{stroke:#161616}
+.fbl .at.gone{fill:#ccc;stroke:none}
 .fbl .line,.fbl .message{stroke:#9a9a9a}
 .fbl .tip{fill:#9a9a9a}
 .fbl .orphan,.fbl .path,.fbl .lost{stroke:#ff8a3c}
@@ -48,24 +50,30 @@ pub(crate) const LOOK: &str = "<style>
 .fbl .recorded{fill:#161616}
 .fbl .lost{fill:none;stroke:#ff8a3c}
 .fbl .crossed,.fbl .send.undone,.fbl .receipt.undone{fill:#161616;stroke:#9a9a9a}
+.fbl .crossed.number{stroke:#707070}
 .fbl .recovery{fill:#161616;stroke:#3fbf98}
 .fbl .checkpoint{fill:#eee}
 }
 </style>
 <defs>
 <marker id='fbl-tip' class='tip' viewBox='0 0 8 8' refX='14' refY='4' markerWidth='8' markerHeight='8' orient='auto'><path d='M0 0L8 4L0 8Z'/></marker>
+<marker id='fbl-dot' class='tip' viewBox='0 0 8 8' refX='-8' refY='4' markerWidth='8' markerHeight='8' orient='auto'><circle cx='4' cy='4' r='3'/></marker>
 <marker id='fbl-path-tip' class='path-tip' viewBox='0 0 8 8' refX='13' refY='4' markerWidth='5' markerHeight='5' orient='auto'><path d='M0 0L8 4L0 8Z'/></marker>
 </defs>
 ";
 
 /// What the marks of a picture of a history mean.
 pub(crate) const HISTORY_LEGEND: &str =
-    "<circle class='send' cx='24' cy='-4' r='5'/><text class='note' x='36' y='0'>send</text>
-<rect class='receipt' x='84' y='-11' width='14' height='14'/><text class='note' x='104' y='0'>receipt: its number, the state after it</text>
-<rect class='receipt undone' x='334' y='-11' width='14' height='14'/><path class='crossed' d='M332 5l18 -18'/><text class='note' x='356' y='0'>undone</text>
-<path class='strike' d='M425 -14l-10 14h6l-3 12l11 -16h-7z'/><text class='note' x='438' y='0'>struck, and down till</text>
-<path class='recovery' d='M578 -12l9 16h-18z'/><text class='note' x='594' y='0'>its recovery</text>
-<rect class='checkpoint' x='676' y='-14' width='5' height='20'/><text class='note' x='690' y='0'>checkpoint</text>
+    "<circle class='send' cx='28' cy='-4' r='5'/><text class='note' x='54' y='0'>send: its number</text>
+<rect class='receipt' x='221' y='-11' width='14' height='14'/><text class='note' x='254' y='0'>receipt: its number, the state after it</text>
+<rect class='receipt undone' x='497' y='-11' width='14' height='14'/><path class='crossed' d='M495 5l18 -18'/><text class='note' x='530' y='0'>undone by a recovery or a run</text>
+<path class='message' d='M8 18h32'/><rect class='receipt' x='33' y='11' width='14' height='14'/><text class='note' x='54' y='22'>message, to its receipt</text>
+<path class='message undone' d='M208 18h32'/><rect class='receipt undone' x='233' y='11' width='14' height='14'/><path class='crossed' d='M231 27l18 -18'/><text class='note' x='254' y='22'>message whose receipt was undone</text>
+<path class='message again' d='M480 18h36'/><rect class='receipt' x='509' y='11' width='14' height='14'/><text class='note' x='530' y='22'>message sent again by a recovery</text>
+<path class='message in-flight' d='M18 40h20'/><text class='note' x='54' y='44'>message in flight</text>
+<path class='strike' d='M231 27l-10 14h6l-3 12l11 -16h-7z'/><text class='note' x='254' y='44'>struck, down till</text>
+<path class='recovery' d='M374 31l9 16h-18z'/><text class='note' x='392' y='44'>its recovery</text>
+<rect class='checkpoint' x='502' y='30' width='5' height='20'/><text class='note' x='530' y='44'>checkpoint</text>
 ";
 
 /// What the marks of a picture of a dump mean.

@@ -1,14 +1,36 @@
 //! The texts of marks.
 
-ghost use Rattle.std.specs.Prelude.{◌≡◌, IfOk, string_bytes};
-ghost use Rattle.fbl_shapes.specs.Marks.{drawn_checkpoint, cross, drawn_held_receipt, number, drawn_receipt, receipt_words, drawn_recovery, drawn_send, drawn_strike};
+ghost use Rattle.std.specs.Prelude.{◌≡◌, ◌<◌, IfOk, length, string_bytes};
+ghost use Rattle.fbl_shapes.specs.Marks.{drawn_checkpoint, cross, drawn_held_receipt, number, drawn_receipt, receipt_words, drawn_recovery, drawn_send, drawn_strike, stroke};
 
-use crate::places::{x, y};
+use crate::places::{below, x, y};
 use crate::shape::Kind;
 use crate::words::{gone_class, receipts_word, undone_class, undone_words};
 use fbl_base::{Determinant, Member, MemberSet};
 use fbl_lines::set_text;
 use std::alloc::{AllocError, Global};
+
+/// The text of the stroke behind the number of an undone event, wider than so many characters.
+#[tactic(auto, unfolding(crate::specs::Marks::stroke))]
+fn stroke_text(
+    alloc: Global,
+    x: u128,
+    y: u32,
+    undone: bool,
+    characters: usize,
+) -> Result<String, AllocError>
+    requires { y < 30000 }
+    ensures { IfOk result (λ text. string_bytes text ≡ stroke x y undone characters) }
+{
+    if !undone {
+        return Ok(String::new(alloc));
+    }
+    let half = 4 * (characters as u128) + 4;
+    let left = x.saturating_sub(half);
+    let bottom = y + 1;
+    let width = 8 * (characters as u128) + 8;
+    format!(in alloc; "<path class='crossed number' d='M{left} {bottom}l{width} -9'/>\n")
+}
 
 /// The text of a number beside a mark.
 #[tactic(auto, unfolding(crate::specs::Marks::number))]
@@ -19,10 +41,16 @@ fn number_text(
     undone: bool,
     words: &str,
 ) -> Result<String, AllocError>
+    requires { y < 30000 }
     ensures { IfOk result (λ text. string_bytes text ≡ number x y undone words.now) }
 {
     let gone = gone_class(undone);
-    format!(in alloc; "<text class='at{gone}' x='{x}' y='{y}'>{words}</text>\n")
+    let mut text = stroke_text(alloc, x, y, undone, words.len())?;
+    write!(
+        text,
+        "<text class='at{gone}' x='{x}' y='{y}'>{words}</text>\n"
+    )?;
+    Ok(text)
 }
 
 /// The text of the cross over the mark of an undone event.
@@ -114,8 +142,12 @@ pub(crate) fn receipt_text(
     write!(text, ", state {state}{end}</title></rect>\n")?;
     let cross = cross_text(alloc, column, determinant.to, undone)?;
     text.push_str(cross.as_str())?;
-    let words = format!(in alloc; "{rsn}: {state}")?;
-    let number = number_text(alloc, x, y + 22, undone, words.as_str())?;
+    let words = format!(in alloc; "{rsn}")?;
+    let number = number_text(alloc, x, y + 20, undone, words.as_str())?;
+    text.push_str(number.as_str())?;
+    let low = below(column, determinant.to.number(), 9999 < state);
+    let words = format!(in alloc; "{state}")?;
+    let number = number_text(alloc, x, low, undone, words.as_str())?;
     text.push_str(number.as_str())?;
     Ok(text)
 }
@@ -142,7 +174,7 @@ pub(crate) fn held_text(
     let holders = set_text(alloc, holders)?;
     write!(text, ", held by {holders}</title></path>\n")?;
     let words = format!(in alloc; "{rsn}")?;
-    let number = number_text(alloc, x, y + 22, false, words.as_str())?;
+    let number = number_text(alloc, x, y + 20, false, words.as_str())?;
     text.push_str(number.as_str())?;
     Ok(text)
 }
@@ -184,7 +216,8 @@ pub(crate) fn recovery_text(
     )?;
     write!(text, "{receipts} {word} replayed</title></path>\n")?;
     let words = format!(in alloc; "replays {receipts}")?;
-    let number = number_text(alloc, x, y + 24, false, words.as_str())?;
+    let low = below(column, member, true);
+    let number = number_text(alloc, x, low, false, words.as_str())?;
     text.push_str(number.as_str())?;
     Ok(text)
 }

@@ -7,12 +7,11 @@ use crate::shape::Shape;
 use fbl_base::Member;
 use std::alloc::AllocError;
 
-/// Adds the member's number before each column whose place is a multiple of 24, but for the first column. `Err` comes only
-/// where there is no memory for more shapes.
+/// Adds the member's name behind each 24 columns. `Err` comes only where there is no memory for more shapes.
 pub fn push_names(shapes: &mut Vec<Shape>, columns: usize, member: Member) -> Result<(), AllocError>
     ensures { OnOk result (shapes.new.items ≡ shapes.old.items ++ names columns member) }
 {
-    for group in 0..columns.saturating_sub(1) / 24 {
+    for group in 0..columns / 24 {
         let column = 24 * (group + 1);
         shapes.push(Shape::Name { column, member })?;
     }

@@ -32,7 +32,12 @@ fn shape_text(alloc: Global, shape: Shape) -> Result<String, AllocError>
             received,
             kind,
         } => arrow_text(alloc, from, sent, to, received, kind),
-        Shape::InFlight { from, sent, to } => in_flight_text(alloc, from, sent, to),
+        Shape::InFlight {
+            from,
+            sent,
+            to,
+            again,
+        } => in_flight_text(alloc, from, sent, to, again),
         Shape::Send {
             column,
             from,
@@ -103,7 +108,7 @@ fn heading_text(alloc: Global, title: &str, width: u128, height: u32) -> Result<
 fn ending_text(alloc: Global, members: u8, legend: Legend) -> Result<String, AllocError>
     ensures { IfOk result (λ text. string_bytes text ≡ ending members legend) }
 {
-    let y = y(members) + 14;
+    let y = y(members) - 4;
     let mut text = format!(in alloc; "<g transform='translate(0 {y})'>\n")?;
     text.push_str(entries(legend))?;
     text.push_str("</g>\n</svg>\n")?;
@@ -127,7 +132,7 @@ pub fn picture_text(
     ensures { IfOk result (λ text. string_bytes text ≡ picture title.now members columns legend shapes.now) }
 {
     let width = width(columns);
-    let height = height(members, legend);
+    let height = height(members);
     let mut text = opening_text(alloc, width, height)?;
     let heading = heading_text(alloc, title, width, height)?;
     text.push_str(heading.as_str())?;

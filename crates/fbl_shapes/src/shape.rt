@@ -33,6 +33,10 @@ pub enum ArrowKind {
     Message,
     /// A message whose receipt was undone: dotted.
     Undone,
+    /// A message that a recovery sent again, and that was received: a dot near its start.
+    Again,
+    /// A message that a recovery sent again, and whose receipt was undone: dotted, with a dot near its start.
+    AgainUndone,
     /// A path from a lost receipt to an orphan goes along it: in the orphans' colour.
     Path,
 }
@@ -65,7 +69,7 @@ pub enum Shape {
         member: Member,
         status: Option<Status>,
     },
-    /// A member's number, above its line, before a column.
+    /// A member's name, above its line, in the room before a column.
     Name {
         column: usize,
         member: Member,
@@ -79,10 +83,10 @@ pub enum Shape {
         end: usize,
         kind: LineKind,
     },
-    /// An arrow from a send to a receipt of its message.
+    /// An arrow from where a message is sent to a receipt of it.
     Arrow {
         from: Member,
-        /// The column of the send.
+        /// The column of the send, or of the recovery that sent it again.
         sent: usize,
         to: Member,
         /// The column of the receipt.
@@ -95,6 +99,8 @@ pub enum Shape {
         /// The column of the send.
         sent: usize,
         to: Member,
+        /// Whether a recovery sent it again: there is a dot near the stub's start then.
+        again: bool,
     },
     /// The mark of a send, and its number.
     Send {

@@ -2,7 +2,7 @@
 
 ghost use Rattle.std.specs.Prelude.{◌≡◌};
 ghost use Rattle.fbl_shapes.specs.Marks.{drawn_outline};
-ghost use Rattle.fbl_shapes.specs.Words.{arrow_class, gone_class as gone_class_of, kind_class, line_class, line_kind_of, receipts_word as receipts_word_of, status_words as status_words_of, undone_class as undone_class_of, undone_words as undone_words_of};
+ghost use Rattle.fbl_shapes.specs.Words.{arrow_class, gone_class as gone_class_of, in_flight_class as in_flight_class_of, kind_class, line_class, line_kind_of, receipts_word as receipts_word_of, status_words as status_words_of, undone_class as undone_class_of, undone_words as undone_words_of};
 
 use crate::shape::{ArrowKind, Kind, LineKind, Status};
 
@@ -51,6 +51,8 @@ impl ArrowKind {
         match self {
             ArrowKind::Message => "message",
             ArrowKind::Undone => "message undone",
+            ArrowKind::Again => "message again",
+            ArrowKind::AgainUndone => "message again undone",
             ArrowKind::Path => "path",
         }
     }
@@ -77,6 +79,17 @@ impl Kind {
             Kind::Recorded => "m-8 0l8 -8l8 8l-8 8z",
             Kind::Lost => "m-7 -7l14 14m0 -14l-14 14",
         }
+    }
+}
+
+/// The class of the stub of a message in flight.
+pub(crate) fn in_flight_class(again: bool) -> &'static str
+    ensures { result.now ≡ in_flight_class_of again }
+{
+    if again {
+        "message in-flight again"
+    } else {
+        "message in-flight"
     }
 }
 

@@ -1,5 +1,5 @@
 pub mod Places
-pub mod Messages
 pub mod Members
+pub mod Messages
 pub mod Marks
 pub mod HistoryPictures

@@ -5,5 +5,6 @@ mod marks;
 mod members;
 mod messages;
 mod picture;
+mod recoveries;
 
 pub use picture::show_text;

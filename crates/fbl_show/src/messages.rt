@@ -1,12 +1,13 @@
 //! The arrows of messages, and the messages in flight.
 
-ghost use Rattle.std.specs.Prelude.{◌≡◌, ◌++◌, ◌+◌, ◌<◌, IfOk, OnOk, length, slice_get, Some};
+ghost use Rattle.std.specs.Prelude.{◌≡◌, ◌==◌, ◌++◌, ◌+◌, ◌<◌, IfOk, OnOk, length, slice_get, Some};
 ghost use Rattle.std.specs.HashMap as hash_map;
 ghost use Rattle.std.specs.HashSet as hash_set;
 ghost use Rattle.fbl_base.specs.Events.{same_message};
 ghost use Rattle.fbl_show.specs.Messages.{receipt_arrow, arrow_between, arrow_from, arrow_kind, has_standing_receipt, sent_before, sent_by_column, stub, stub_unless, stub_where, taken_by_column};
 ghost use Rattle.fbl_shapes.specs.Places.{drawn};
 
+use crate::recoveries::{Comebacks, comeback_of, comebacks_in, is_behind, note_comebacks};
 use fbl_base::{Member, MessageName};
 use fbl_history::Column;
 use fbl_shapes::{ArrowKind, Shape};
@@ -52,13 +53,14 @@ fn message_taken(column: &Column) -> Option<MessageName>
 }
 
 /// How the arrow to a receipt is drawn.
-fn kind_of_arrow(undone: bool) -> ArrowKind
-    ensures { result ≡ arrow_kind undone }
+fn kind_of_arrow(again: bool, undone: bool) -> ArrowKind
+    ensures { result ≡ arrow_kind again undone }
 {
-    if undone {
-        ArrowKind::Undone
-    } else {
-        ArrowKind::Message
+    match (again, undone) {
+        (false, false) => ArrowKind::Message,
+        (false, true) => ArrowKind::Undone,
+        (true, false) => ArrowKind::Again,
+        (true, true) => ArrowKind::AgainUndone,
     }
 }
 
@@ -70,24 +72,29 @@ fn place_of(places: &SendPlaces, from: Member, ssn: u32) -> Option<usize>
     places.get(&message).copied()
 }
 
-/// Draws the arrow to a receipt from where its message was sent, if it was.
+/// Draws the arrow to a receipt from where its message was sent, if it was, or from where a recovery sent it again.
 fn push_arrow_between(
     shapes: &mut Vec<Shape>,
     sent: Option<usize>,
+    back: Option<usize>,
     from: Member,
     to: Member,
     received: usize,
     undone: bool,
 ) -> Result<(), AllocError>
-    ensures { OnOk result (shapes.new.items ≡ shapes.old.items ++ arrow_between sent from to received undone) }
+    ensures { OnOk result (shapes.new.items ≡ shapes.old.items ++ arrow_between sent back from to received undone) }
 {
-    if let Some(sent) = sent {
+    if let Some(first) = sent {
+        let (start, again) = match back {
+            Some(back) => (first.max(back), first < back),
+            None => (first, false),
+        };
         shapes.push(Shape::Arrow {
             from,
-            sent,
+            sent: start,
             to,
             received,
-            kind: kind_of_arrow(undone),
+            kind: kind_of_arrow(again, undone),
         })?;
     }
     Ok(())
@@ -97,10 +104,11 @@ fn push_arrow_between(
 fn push_arrow(
     shapes: &mut Vec<Shape>,
     places: &SendPlaces,
+    comebacks: &Comebacks,
     place: usize,
     column: &Column,
 ) -> Result<(), AllocError>
-    ensures { OnOk result (shapes.new.items ≡ shapes.old.items ++ arrow_from (λ m. hash_map.get same_message places.now m) place column.now) }
+    ensures { OnOk result (shapes.new.items ≡ shapes.old.items ++ arrow_from (λ m. hash_map.get same_message places.now m) (λ q. hash_map.get ◌==◌ comebacks.now q) place column.now) }
 {
     match column {
         Column::Receipt {
@@ -111,7 +119,8 @@ fn push_arrow(
             ..
         } => {
             let sent = place_of(places, *from, *ssn);
-            push_arrow_between(shapes, sent, *from, *to, place, *undone)
+            let back = comeback_of(comebacks, *from, *to);
+            push_arrow_between(shapes, sent, back, *from, *to, place, *undone)
         }
         _ => Ok(()),
     }
@@ -138,9 +147,11 @@ pub(crate) fn push_arrows(
     ensures { OnOk result (shapes.new.items ≡ shapes.old.items ++ drawn (receipt_arrow columns.now) 0 columns.now) }
 {
     let mut places = HashMap::new(alloc);
+    let mut comebacks = HashMap::new(alloc);
     for (place, column) in columns.iter().enumerate() {
-        push_arrow(shapes, &places, place, column)?;
+        push_arrow(shapes, &places, &comebacks, place, column)?;
         note_send(&mut places, columns, place)?;
+        note_comebacks(&mut comebacks, columns, place)?;
     }
     Ok(())
 }
@@ -173,11 +184,17 @@ fn push_stub_unless(
     from: Member,
     sent: usize,
     to: Member,
+    again: bool,
 ) -> Result<(), AllocError>
-    ensures { OnOk result (shapes.new.items ≡ shapes.old.items ++ stub_unless taken from sent to) }
+    ensures { OnOk result (shapes.new.items ≡ shapes.old.items ++ stub_unless taken from sent to again) }
 {
     if !taken {
-        shapes.push(Shape::InFlight { from, sent, to })?;
+        shapes.push(Shape::InFlight {
+            from,
+            sent,
+            to,
+            again,
+        })?;
     }
     Ok(())
 }
@@ -186,10 +203,11 @@ fn push_stub_unless(
 fn push_stub(
     shapes: &mut Vec<Shape>,
     received: &Received,
+    comebacks: &Comebacks,
     place: usize,
     column: &Column,
 ) -> Result<(), AllocError>
-    ensures { OnOk result (shapes.new.items ≡ shapes.old.items ++ stub_where (λ m. hash_set.contains same_message received.now m) place column.now) }
+    ensures { OnOk result (shapes.new.items ≡ shapes.old.items ++ stub_where (λ m. hash_set.contains same_message received.now m) (λ q. hash_map.get ◌==◌ comebacks.now q) place column.now) }
 {
     match column {
         Column::Send {
@@ -199,7 +217,8 @@ fn push_stub(
             undone: false,
         } => {
             let taken = is_taken(received, *from, *ssn);
-            push_stub_unless(shapes, taken, *from, place, *to)
+            let again = is_behind(place, comeback_of(comebacks, *from, *to));
+            push_stub_unless(shapes, taken, *from, place, *to, again)
         }
         _ => Ok(()),
     }
@@ -214,8 +233,9 @@ pub(crate) fn push_stubs(
     ensures { OnOk result (shapes.new.items ≡ shapes.old.items ++ drawn (stub columns.now) 0 columns.now) }
 {
     let received = received_in(alloc, columns)?;
+    let comebacks = comebacks_in(alloc, columns)?;
     for (place, column) in columns.iter().enumerate() {
-        push_stub(shapes, &received, place, column)?;
+        push_stub(shapes, &received, &comebacks, place, column)?;
     }
     Ok(())
 }

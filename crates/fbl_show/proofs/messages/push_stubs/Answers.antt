@@ -9,5 +9,5 @@ loop-place-preserved c =
     let x = c.index-columns-place.result in
     let within : i < length columns = omega arith in
     ap (λ s. s ++ drawn (stub columns) (i + 1) (drop (i + 1) columns))
-    (c.in_ok-push_stub.ensures ∙ (λ j. c.loop-place.shapes.items ++ stub_where (λ m. c.in_ok-received.ensures m j) i x))
+    (c.in_ok-push_stub.ensures ∙ (λ j. c.loop-place.shapes.items ++ stub_where (λ m. c.in_ok-received.ensures m j) (λ q. c.in_ok-comebacks.ensures q j) i x))
     ∙ drawn_on columns i x within c.index-columns-place.is (stub columns) c.loop-place.shapes.items _ c.loop-place.invariant
