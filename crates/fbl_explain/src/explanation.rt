@@ -1,8 +1,10 @@
 //! The reason of an input's fault in words, with what stands in the input as it is written there.
 
-ghost use Rattle.std.specs.Prelude.{◌≡◌, IfOk, IfSome};
-ghost use Rattle.json.specs.Tree.{HasNumbers};
+ghost use Rattle.std.specs.Prelude.{◌≡◌, IfOk, IfSome, option_map, string_bytes};
+ghost use Rattle.json.specs.Print.{print};
+ghost use Rattle.json.specs.Tree.{HasNumbers, json_tokens};
 ghost use Rattle.json.specs.Value.{value_view};
+ghost use Rattle.fbl_explain.specs.Written.{IsWrittenIn, IsWrittenOf, part_at};
 
 use crate::not_json::NotJson;
 use crate::shown::Shown;
@@ -45,7 +47,8 @@ fn kind_in(value: &Value<'_>) -> Option<InputKind> {
 /// What stands at the place of the fault, where it names one.
 fn found_at<'v, 'a>(value: &'v Value<'a>, reason: &InputFault) -> Option<&'v Value<'a>>
     requires { HasNumbers (value_view value.now) }
-    ensures { IfSome result (λ found. HasNumbers (value_view found.now)) }
+    ensures part { option_map (λ found. value_view found.now) result ≡ part_at reason.now (value_view value.now) }
+    ensures numbers { IfSome result (λ found. HasNumbers (value_view found.now)) }
 {
     match reason {
         InputFault::NotObject(_) => Some(value),
@@ -59,6 +62,7 @@ fn found_at<'v, 'a>(value: &'v Value<'a>, reason: &InputFault) -> Option<&'v Val
 /// The text of a value, without spaces, with each number as it was written.
 fn text_of(alloc: Global, value: &Value<'_>) -> Result<String, AllocError>
     requires { HasNumbers (value_view value.now) }
+    ensures { IfOk result (λ text. string_bytes text ≡ print (json_tokens (value_view value.now))) }
 {
     let bytes = to_vec(alloc, value)?;
     match String::from_utf8(bytes) {
@@ -75,6 +79,7 @@ fn detail_in(
     reason: &InputFault,
 ) -> Result<Detail, AllocError>
     requires { HasNumbers (value_view value.now) }
+    ensures { IfOk result (IsWrittenOf reason.now (value_view value.now)) }
 {
     if let Some(other) = kind_in(value).filter(|found| *found != kind) {
         return Ok(Detail::OtherKind(other));
@@ -91,7 +96,9 @@ fn detail_of(
     kind: InputKind,
     input: &[u8],
     reason: &InputFault,
-) -> Result<Detail, AllocError> {
+) -> Result<Detail, AllocError>
+    ensures { IfOk result (IsWrittenIn reason.now input.now) }
+{
     match reason {
         InputFault::TooLong => return Ok(Detail::Nothing),
         InputFault::NotJson(error) => {
@@ -116,7 +123,8 @@ impl Explanation {
         input: &[u8],
         reason: InputFault,
     ) -> Result<Explanation, AllocError>
-        ensures { IfOk result (λ explanation. explanation.reason ≡ reason) }
+        ensures reason { IfOk result (λ explanation. explanation.reason ≡ reason) }
+        ensures written { IfOk result (λ explanation. IsWrittenIn reason input.now explanation.detail) }
     {
         let detail = detail_of(alloc, kind, input, &reason)?;
         Ok(Explanation { reason, detail })
