@@ -1,12 +1,17 @@
 -- The names that proofs of this crate take from outside: of the standard library, of the crates below, and of the definitions here.
-pub use Rattle.std.proofs.Common.{Err, List, Ok, Result, [], ap, append-nil, append_assoc, arith, false, get_or, inl, inr, length, refl, subst, sym, take, true, ℕ, ◌++◌, ◌+◌, ◌<◌}
+pub use Rattle.std.proofs.Common.{rules, Err, List, Ok, Result, [], ap, append-nil, append_assoc, arith, false, get_or, inl, inr, length, refl, subst, sym, take, true, ℕ, ◌++◌, ◌+◌, ◌<◌}
 pub use Rattle.std.proofs.Common.{◌∙◌, ◌∷◌, ◌≡◌, ◌≢◌, ◌≤◌}
 pub use Rattle.std.proofs.lemmas.Bool.{cases_eq, false≢true}
 pub use Rattle.std.proofs.lemmas.Grind.{common_steps}
 pub use Rattle.std.proofs.lemmas.List.{take_all, take_more}
 pub use Rattle.std.specs.List.{AllZip}
-pub use Rattle.std.specs.Prelude.{IfNone, IfOk}
+pub use Rattle.std.specs.Prelude.{IfNone, IfOk, IfSome, None, Option, Some, option_map}
 pub use Rattle.std.specs.Result.{result_err}
+pub use Rattle.json.proofs.Numbered.{HasNumbers-at, HasNumbers-get}
+pub use Rattle.json.specs.Find.{at, get}
+pub use Rattle.json.specs.Json.{Json}
+pub use Rattle.json.specs.Tree.{HasNumbers}
+pub use Rattle.json.specs.Value.{value_view}
 pub use Rattle.fbl_audit.proofs.Following.{member_within}
 pub use Rattle.fbl_audit.specs.Checking.{IsLeftOrphan}
 pub use Rattle.fbl_audit.specs.Paths.{IsPathTo}

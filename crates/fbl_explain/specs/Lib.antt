@@ -1,3 +1,4 @@
 pub mod Explanations
 pub mod Accounts
 pub mod Whys
+pub mod Written

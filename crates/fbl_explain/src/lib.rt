@@ -4,12 +4,16 @@
 
 mod account;
 mod explaining;
+mod explanation;
+mod not_json;
 mod reason;
+mod shown;
 mod why;
 mod words;
 
 pub use account::{AccountOf, CommandAccount, RunCounts};
 pub use explaining::explain;
+pub use explanation::Explanation;
 pub use reason::{NamedMembers, Reason};
 pub use why::{LossReason, OrphanPath, Why, why_lost, why_unsafe};
 pub use words::Words;

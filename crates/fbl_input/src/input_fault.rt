@@ -4,11 +4,9 @@ ghost use Rattle.std.specs.Prelude.{◌≡◌};
 ghost use Rattle.fbl_input.specs.declared.input_fault.InputFault.TheVariants.{Memory};
 
 use crate::fault::{Key, RunFault};
-use crate::shown::Shown;
 use fbl_base::{ConfigFault, DumpFault};
 use serde_json::{Error as JsonError, Value};
 use std::alloc::{AllocError, AllocFailed};
-use std::fmt;
 use thiserror::Error;
 
 /// The most commands that a script may have.
@@ -118,7 +116,7 @@ pub enum InputFault {
 
 impl InputFault {
     /// What is wanted at the key.
-    fn wanted_at(key: Key) -> &'static str {
+    pub fn wanted_at(key: Key) -> &'static str {
         match key {
             Key::Version => "1 or 2",
             Key::Members => "a number 2 to 16",
@@ -136,7 +134,7 @@ impl InputFault {
     }
 
     /// What an item of the list at the key is called, and what it has to be.
-    fn wanted_item(key: Key) -> (&'static str, &'static str) {
+    pub fn wanted_item(key: Key) -> (&'static str, &'static str) {
         match key {
             Key::Start => (
                 "start",
@@ -152,61 +150,6 @@ impl InputFault {
             ),
             Key::Strike => ("struck member", "a member 0 to 15"),
             _ => (key.name(), InputFault::wanted_at(key)),
-        }
-    }
-}
-
-impl fmt::Display for InputFault {
-    fn fmt<W: fmt::Write>(&self, f: &mut fmt::Formatter<W>) -> fmt::Result {
-        match self {
-            InputFault::TooLong => {
-                f.write_str("the input has more than 1048576 bytes, and may have no more")
-            }
-            InputFault::NotJson(error) => {
-                write!(
-                    f,
-                    "the input must be one JSON object, and is no JSON: {error}"
-                )
-            }
-            InputFault::NotObject(found) => {
-                let found = Shown(found);
-                write!(f, "the input must be one JSON object, and is {found}")
-            }
-            InputFault::MissingKey { key, unknown } => {
-                let wanted = InputFault::wanted_at(*key);
-                write!(f, "{key} is missing, and must be {wanted}")?;
-                match unknown {
-                    Some(name) => write!(f, "; the key {name:?} is unknown"),
-                    None => Ok(()),
-                }
-            }
-            InputFault::BadValue { key, found } => {
-                let wanted = InputFault::wanted_at(*key);
-                let found = Shown(found);
-                write!(f, "{key} is {found}, and must be {wanted}")
-            }
-            InputFault::BadItem { key, place, found } => {
-                let (name, wanted) = InputFault::wanted_item(*key);
-                let found = Shown(found);
-                write!(f, "{name} {place} is {found}, and must be {wanted}")
-            }
-            InputFault::TooManyCommands => {
-                f.write_str("command 1024 is one too many: there may be 1024, numbered from 0")
-            }
-            InputFault::BadCommand {
-                place,
-                found,
-                wanted,
-            } => {
-                let found = Shown(found);
-                write!(f, "command {place} is {found}, and must be {wanted}")
-            }
-            InputFault::UnknownKey { kind, name } => {
-                write!(f, "the key {name:?} is unknown: {kind}")
-            }
-            InputFault::Config(fault) => write!(f, "{fault}"),
-            InputFault::Dump(fault) => write!(f, "{fault}"),
-            InputFault::Memory => f.write_str("out of memory"),
         }
     }
 }

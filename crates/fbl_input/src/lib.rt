@@ -7,7 +7,6 @@ mod input;
 mod input_fault;
 mod output;
 pub mod shapes;
-mod shown;
 
 pub use fault::{Key, RunFault};
 pub use input::read_input;

@@ -1,17 +1,18 @@
 -- The names that proofs of this crate take from outside: of the standard library, of the crates below, and of the definitions here.
 pub use Rattle.std.proofs.Common.{Bool, Err, IfErr, IfSome, List, None, Ok, Option, Result, Some, [], ap, arith, codes, decimal, drop, false, inl, inr, length, map, not, option_map, refl, rules}
-pub use Rattle.std.proofs.Common.{string_bytes, subst, suc, sym, true, unwrap_or, zero, ℕ, ◌&&◌, ◌++◌, ◌+◌, ◌<◌, ◌||◌, ◌∙◌, ◌∷◌, ◌≡◌, ◌≤◌, ◌⊎◌}
+pub use Rattle.std.proofs.Common.{option_and_then, string_bytes, subst, suc, sym, true, unwrap_or, zero, ℕ, ◌&&◌, ◌++◌, ◌+◌, ◌<◌, ◌||◌, ◌∙◌, ◌∷◌, ◌≡◌, ◌≤◌, ◌⊎◌}
 pub use Rattle.std.proofs.lemmas.Fmt.{decimal_digit, parse-decimal}
+pub use Rattle.std.specs.Borrow.{Bor}
 pub use Rattle.std.specs.Box.{box_value}
 pub use Rattle.std.specs.List.{list_any}
 pub use Rattle.std.specs.Prelude.{Box, pos}
 pub use Rattle.std.specs.Result.{IsErrAnd}
 pub use Rattle.std.specs.Str.Parse.{ExplainsUnsignedError, HasUnsignedDigitsIfOk, ParsesUnsigned}
-pub use Rattle.clap.proofs.WalkLemmas.{one_text-rows}
+pub use Rattle.clap.proofs.WalkLemmas.{first_value-rows, one_text-rows}
 pub use Rattle.clap.specs.Simple.{built, entered, is_simple, names_of}
 pub use Rattle.clap.specs.Takes.{built_takes, takes}
 pub use Rattle.clap.specs.Walk.{nothing_held, stop_after}
-pub use Rattle.clap.specs.Words.{App, HasMatchesOf, ReadsOne, Row, Rule, Text, found_of, kind_of, new_rule, one_of, rule_of, subcommand_name_of, subcommand_rows, subcommand_rows_of}
+pub use Rattle.clap.specs.Words.{App, HasMatchesOf, ReadsOne, Row, Rule, Text, first_of, found_of, kind_of, new_rule, one_of, rule_of, subcommand_name_of, subcommand_of, subcommand_rows, subcommand_rows_of}
 pub use Rattle.clap.specs.declared.builder.ArgAction.TheVariants.{Set}
 pub use Rattle.clap.specs.declared.error.Error.{Error}
 pub use Rattle.clap.specs.declared.error.kind.ErrorKind.TheVariants.{OutOfMemory}
@@ -35,11 +36,15 @@ pub use Rattle.fbl_play.specs.declared.histories.RunHistory.{RunHistory}
 pub use Rattle.fbl_script.specs.Scripts.{IsScriptOf, Outline, behaviour_word, outline_of}
 pub use Rattle.fbl_script.specs.declared.script.Command.{Command}
 pub use Rattle.fbl_show.specs.HistoryPictures.{history_picture}
-pub use Rattle.fblrun.specs.CommandLines.{IsCommandLine, IsOrderAt, IsOrderOf, audit_line, check_line, draw_line, flag_text, is_audit, is_check, is_draw, is_play, is_show, is_show_workers, is_workers}
+pub use Rattle.fblrun.specs.CommandLines.{IsRefusedFor, IsRequestAt, IsRequestOf, Names, given_in, input_rule, output_rule}
+pub use Rattle.fblrun.specs.CommandLines.{IsCommandLine, IsOrderAt, audit_line, check_line, draw_line, flag_text, is_audit, is_check, is_draw, is_play, is_show, is_show_workers, is_workers}
 pub use Rattle.fblrun.specs.CommandLines.{order_for, play_line, program, show_line, with_explain, with_strict}
 pub use Rattle.fblrun.specs.Orders.{AnswersTask, EndsAfter, PlaysWell, ReadsAndAnswersTask}
 pub use Rattle.fblrun.specs.Showing.{IsShown, Shows}
 pub use Rattle.fblrun.specs.Statuses.{status_after}
 pub use Rattle.fblrun.specs.declared.Order.{Order}
 pub use Rattle.fblrun.specs.declared.Task.{Task}
+pub use Rattle.fblrun.specs.declared.command_line.Misuse.{Misuse}
+pub use Rattle.fblrun.specs.declared.command_line.Misuse.TheVariants.{Words}
+pub use Rattle.fblrun.specs.declared.command_line.Request.{Request}
 pub use Rattle.fblrun.specs.declared.Task.TheVariants.{Play, Show}

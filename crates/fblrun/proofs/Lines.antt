@@ -1,9 +1,10 @@
 -- What the parser of command lines makes of the program's command lines.
 use Rattle.fblrun.proofs.Common.{◌≡◌, ℕ, zero, suc, ◌+◌, ◌<◌, ◌&&◌, Bool, true, false, List, [], ◌∷◌, ◌++◌, Option, Some, None, option_map, Result, Ok, Err, IfErr, refl}
 use Rattle.fblrun.proofs.Common.{sym, ap, ◌∙◌, arith, codes, decimal, drop, subst, unwrap_or, decimal_digit, parse-decimal, Box, box_value, IsErrAnd, ParsesUnsigned, built, entered, is_simple}
+use Rattle.fblrun.proofs.Common.{Bor, Misuse, Words, IsRefusedFor, Names, Request, IsRequestAt, IsRequestOf, given_in, first_of, option_and_then, subcommand_of}
 use Rattle.fblrun.proofs.Common.{names_of, built_takes, takes, nothing_held, stop_after, App, HasMatchesOf, ReadsOne, Row, Text, kind_of, one_of, subcommand_name_of, subcommand_rows}
 use Rattle.fblrun.proofs.Common.{subcommand_rows_of, Error, OutOfMemory, ArgMatches, out-ArgMatches, out-SubCommand, SubCommand, WorkersAllowed, Order, IsCommandLine, is_audit, is_check, is_draw}
-use Rattle.fblrun.proofs.Common.{is_play, is_show, is_show_workers, is_workers, IsOrderAt, IsOrderOf, audit_line, check_line, draw_line, flag_text, order_for, play_line, program, show_line}
+use Rattle.fblrun.proofs.Common.{is_play, is_show, is_show_workers, is_workers, IsOrderAt, audit_line, check_line, draw_line, flag_text, order_for, play_line, program, show_line}
 use Rattle.fblrun.proofs.Common.{with_explain, with_strict}
 use Rattle.clap.proofs.OnLiterals.{clap_on_literals}
 
@@ -11,12 +12,13 @@ use Rattle.clap.proofs.OnLiterals.{clap_on_literals}
 abbrev named : List Text → Option (Text × List Row)
 named line = entered (built program) (stop_after (built program).top.rules (names_of (built program)) line)
 
--- its name, and the texts of the number of workers and of the two flags
+-- its name, the texts of the number of workers and of the two flags, and the names of the two files
 abbrev Asked : Type 0
-Asked = Text × Option Text × Option Text × Option Text
+Asked = Text × Option Text × Option Text × Option Text × Option Text × Option Text
 
 abbrev asked : Option (Text × List Row) → Option Asked
-asked found = option_map (λ p. (p.0, one_of (codes "workers") p.1, one_of (codes "strict") p.1, one_of (codes "explain") p.1)) found
+asked found =
+    option_map (λ p. (p.0, one_of (codes "workers") p.1, one_of (codes "strict") p.1, one_of (codes "explain") p.1, first_of (codes "input") p.1, first_of (codes "output") p.1)) found
 
 -- the words are taken
 abbrev IsTaken : List Text → Type 0
@@ -31,7 +33,7 @@ program_simple = refl
 -- the words of a line are taken, with or without `--explain`, and ask for this
 abbrev Gives : List Text → Text → Option Text → Option Text → Bool → Type 0
 Gives line name workers strict e =
-    (asked (named (with_explain e line)) ≡ Some (name, workers, strict, Some (flag_text e))) × IsTaken (with_explain e line)
+    (asked (named (with_explain e line)) ≡ Some (name, workers, strict, Some (flag_text e), None, None)) × IsTaken (with_explain e line)
 
 -- the same of a line of a play, with or without `--strict`
 abbrev PlayGives : List Text → Text → Bool → Bool → Type 0
@@ -72,13 +74,13 @@ workers_gives o e n is = subst (WordGives o e) (sym (decimal_digit n (omega (ari
 
 -- what a command line asks for
 abbrev asked_for : {words : List Text} → IsCommandLine words → Asked
-asked_for (is_audit line) = (codes "audit", None, None, Some (flag_text line.0))
-asked_for (is_check line) = (codes "check", None, None, Some (flag_text line.0))
-asked_for (is_draw line) = (codes "draw", None, None, Some (flag_text line.0))
-asked_for (is_play s line) = (codes "play", Some (codes "2"), Some (flag_text s), Some (flag_text line.0))
-asked_for (is_workers s n count line) = (codes "play", Some (decimal n), Some (flag_text s), Some (flag_text line.0))
-asked_for (is_show line) = (codes "show", Some (codes "2"), None, Some (flag_text line.0))
-asked_for (is_show_workers n count line) = (codes "show", Some (decimal n), None, Some (flag_text line.0))
+asked_for (is_audit line) = (codes "audit", None, None, Some (flag_text line.0), None, None)
+asked_for (is_check line) = (codes "check", None, None, Some (flag_text line.0), None, None)
+asked_for (is_draw line) = (codes "draw", None, None, Some (flag_text line.0), None, None)
+asked_for (is_play s line) = (codes "play", Some (codes "2"), Some (flag_text s), Some (flag_text line.0), None, None)
+asked_for (is_workers s n count line) = (codes "play", Some (decimal n), Some (flag_text s), Some (flag_text line.0), None, None)
+asked_for (is_show line) = (codes "show", Some (codes "2"), None, Some (flag_text line.0), None, None)
+asked_for (is_show_workers n count line) = (codes "show", Some (decimal n), None, Some (flag_text line.0), None, None)
 
 -- its words are taken, and ask for this
 line_gives : (words : List Text) (line : IsCommandLine words) → (asked (named (drop 1 words)) ≡ Some (asked_for line)) × IsTaken (drop 1 words)
@@ -97,10 +99,10 @@ line_gives words (is_show_workers n count line) = rw line.1 (workers_gives None 
 pub taken : (a : App) (words : List Text) → a ≡ program → IsCommandLine words → takes a words ≡ true
 taken a words is line = ap (λ p. takes p words) is ∙ (λ i. program_simple i && (line_gives words line).1 i)
 
-pub refused : {T : Type 0} (words : List Text) (e : Error) (r : Result T Error) → IsErrAnd r (λ f. f ≡ e)
-    → (IsCommandLine words → kind_of e ≡ OutOfMemory) → IfErr r (λ f. IsCommandLine words → kind_of f ≡ OutOfMemory)
+pub refused : {T : Type 0} (words : List Text) (e : Error) (r : Result T Misuse) → IsErrAnd r (λ f. f ≡ Words e)
+    → (IsCommandLine words → kind_of e ≡ OutOfMemory) → IfErr r (λ f. IsCommandLine words → IsRefusedFor f)
 refused words e (Ok x) is h = tt
-refused words e (Err f) is h = λ line. ap kind_of is ∙ h line
+refused words e (Err f) is h = λ line. subst IsRefusedFor (sym is) (h line)
 
 -- ---- orders
 
@@ -121,19 +123,21 @@ record IsFound (name : Text) (rows : List Row) (x : Asked) : Type 0 where
   pub workers : one_of (codes "workers") rows ≡ x.1
   pub strict : one_of (codes "strict") rows ≡ x.2
   pub explain : one_of (codes "explain") rows ≡ x.3
+  pub input : first_of (codes "input") rows ≡ x.4
+  pub output : first_of (codes "output") rows ≡ x.5
 
 found_asked : (o : Option (Text × List Row)) (name : Text) (rows : List Row) (x : Asked) → option_map (λ p. p.0) o ≡ Some name → option_map (λ p. p.1) o ≡ Some rows → asked o ≡ Some x
     → IsFound name rows x
 found_asked None name rows x is found e = absurd (cc)
-found_asked (Some p) name rows x is found e = record { named = cc; workers = cc; strict = cc; explain = cc }
+found_asked (Some p) name rows x is found e = record { named = cc; workers = cc; strict = cc; explain = cc; input = cc; output = cc }
 
 -- nothing was asked for, where none was found
 none_asked : {A : Type 0} (o : Option (Text × List Row)) (x : Asked) → option_map (λ p. p.0) o ≡ None → asked o ≡ Some x → A
 none_asked o x is e = grind arith
 
 -- what was found is what a command line asks for, so that the order at it is the line's
-order_found : {words : List Text} (name : Text) (rows : List Row) (order : Order) → IsOrderAt name rows order
-    → (line : IsCommandLine words) → IsFound name rows (asked_for line) → order ≡ order_for line
+order_found : {words : List Text} (name : Text) (rows : List Row) (order : Option Order) → IsOrderAt name rows order
+    → (line : IsCommandLine words) → IsFound name rows (asked_for line) → order ≡ Some (order_for line)
 order_found name rows order at (is_audit line) f = at.audit line.0 f.named f.explain
 order_found name rows order at (is_check line) f = at.check line.0 f.named f.explain
 order_found name rows order at (is_draw line) f = at.draw line.0 f.named f.explain
@@ -142,22 +146,65 @@ order_found name rows order at (is_workers s n count line) f = at.play s line.0 
 order_found name rows order at (is_show line) f = at.show line.0 2 (omega arith) f.named (f.workers ∙ ap Some (sym two)) f.explain
 order_found name rows order at (is_show_workers n count line) f = at.show line.0 n (omega (arith, count.1)) f.named f.workers f.explain
 
+-- no file is named by one of the lines
+no_input : {words : List Text} (line : IsCommandLine words) (name : Text) (rows : List Row) → IsFound name rows (asked_for line)
+    → (first_of (codes "input") rows ≡ None) × (first_of (codes "output") rows ≡ None)
+no_input (is_audit line) name rows f = (f.input, f.output)
+no_input (is_check line) name rows f = (f.input, f.output)
+no_input (is_draw line) name rows f = (f.input, f.output)
+no_input (is_play s line) name rows f = (f.input, f.output)
+no_input (is_workers s n count line) name rows f = (f.input, f.output)
+no_input (is_show line) name rows f = (f.input, f.output)
+no_input (is_show_workers n count line) name rows f = (f.input, f.output)
+
+-- a name that has no text is not given
+not_named : (name : Option (Bor Text)) (text : Option Text) → Names name text → text ≡ None → name ≡ None
+not_named None text is none = refl
+not_named (Some x) text is none = absurd (cc)
+
+-- the first value of an argument, at the rows of the subcommand that was found
+first_found : (id : Text) (o : Option (Text × List Row)) (rows : List Row) → Some rows ≡ option_map (λ p. p.1) o
+    → first_of id rows ≡ option_and_then (λ found. first_of id found.1) o
+first_found id None rows is = absurd (cc)
+first_found id (Some p) rows is = ap (λ o. option_and_then (first_of id) o) is
+
 -- the matches are those of the program on the words
 module _ (a : App) (words : List Text) (m : ArgMatches) (is : a ≡ program) (matches : HasMatchesOf a words m) where
-  line_asked : (line : IsCommandLine words) → asked (subcommand_rows_of m) ≡ Some (asked_for line)
-  line_asked line =
-      let rows : subcommand_rows_of m ≡ named (drop 1 words) = (subst (λ (p : App). HasMatchesOf p words m) is matches program_simple).1 in
-      ap asked rows ∙ (line_gives words line).0
+  rows_are : subcommand_rows_of m ≡ subcommand_of program words
+  rows_are = (subst (λ (p : App). HasMatchesOf p words m) is matches program_simple).1
 
-  -- a subcommand was found, and the order is the one at its name and rows
-  pub order_is : (name : Text) (rows : List Row) (order : Order) → Some name ≡ subcommand_name_of m
-      → Some rows ≡ option_map (λ p. p.1) (subcommand_rows_of m) → IsOrderAt name rows order → IsOrderOf words order
-  order_is name rows order name_of rows_of at line =
-      order_found name rows order at line (found_asked _ name rows (asked_for line) (matches_name m ∙ sym name_of) (sym rows_of) (line_asked line))
+  line_asked : (line : IsCommandLine words) → asked (subcommand_rows_of m) ≡ Some (asked_for line)
+  line_asked line = ap asked rows_are ∙ (line_gives words line).0
+
+  -- a subcommand was found, with these rows
+  module _ (name : Text) (rows : List Row) (named_so : Some name ≡ subcommand_name_of m) (has : Some rows ≡ option_map (λ p. p.1) (subcommand_rows_of m)) where
+    is_found : (line : IsCommandLine words) → IsFound name rows (asked_for line)
+    is_found line = found_asked _ name rows (asked_for line) (matches_name m ∙ sym named_so) (sym has) (line_asked line)
+
+    first_given : (id : Text) → first_of id rows ≡ given_in id words
+    first_given id = first_found id (subcommand_rows_of m) rows has ∙ ap (option_and_then (λ found. first_of id found.1)) rows_are
+
+    -- the request is the one at its name and rows
+    pub request_is : (request : Option Request) (r : Request) → request ≡ Some r → IsRequestAt name rows request → IsRequestOf words r
+    request_is request r e at = record {
+      order = λ line. let o : option_map (λ r. r.order) request ≡ Some (order_for line) = order_found name rows _ at.order line (is_found line) in cc;
+      none = λ line. (
+        not_named r.input _ (at.input r e) (no_input line name rows (is_found line)).0,
+        not_named r.output _ (at.output r e) (no_input line name rows (is_found line)).1,
+      );
+      input = at.input r e ∙ first_given (codes "input");
+      output = at.output r e ∙ first_given (codes "output");
+    }
+
+    -- where there is none at its name, the words are none of the lines
+    pub no_request : {A : Type 0} (request : Option Request) → request ≡ None → IsRequestAt name rows request → IsCommandLine words → A
+    no_request request e at line =
+        let o : option_map (λ r. r.order) request ≡ Some (order_for line) = order_found name rows _ at.order line (is_found line) in
+        let n : option_map (λ (r : Request). r.order) request ≡ None = ap (option_map (λ r. r.order)) e in absurd (cc)
 
   -- no subcommand was found, and the words are none of the lines
-  pub none_is : (order : Order) → None ≡ subcommand_name_of m → IsOrderOf words order
-  none_is order none line = none_asked _ _ (matches_name m ∙ sym none) (line_asked line)
+  pub none_is : {A : Type 0} → None ≡ subcommand_name_of m → IsCommandLine words → A
+  none_is none line = none_asked _ _ (matches_name m ∙ sym none) (line_asked line)
 
 -- ---- the number of workers
 

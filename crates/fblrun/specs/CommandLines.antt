@@ -1,11 +1,16 @@
 -- The program's command lines, and the orders that they give.
-use Rattle.std.specs.Prelude.{◌≡◌, ℕ, ◌<◌, Bool, true, false, List, [], ◌∷◌, ◌++◌, Some, codes, decimal, drop, pos}
+use Rattle.std.specs.Prelude.{◌≡◌, ℕ, ◌<◌, Bool, true, false, List, [], ◌∷◌, ◌++◌, Option, None, Some, codes, decimal, drop, option_and_then, option_map, pos}
+use Rattle.std.specs.Borrow.{Bor}
 use Rattle.clap.specs.Simple.{on_top}
-use Rattle.clap.specs.Words.{App, Row, Rule, Text, new_app, new_rule, one_of, with_rule, with_subcommand}
+use Rattle.clap.specs.Words.{App, Row, Rule, Text, first_of, kind_of, new_app, new_rule, one_of, subcommand_of, with_rule, with_subcommand}
 use Rattle.clap.specs.declared.builder.ArgAction.TheVariants.{Set, SetTrue}
 use Rattle.clap.specs.declared.builder.value_parser.ValueParser.TheVariants as parsers
 use Rattle.fbl_base.specs.Configs.{WorkersAllowed}
+use Rattle.clap.specs.declared.error.kind.ErrorKind.TheVariants.{OutOfMemory}
 use Rattle.fblrun.specs.declared.Order.{Order}
+use Rattle.fblrun.specs.declared.command_line.Misuse.{Misuse}
+use Rattle.fblrun.specs.declared.command_line.Misuse.TheVariants.{Words, NoCommand}
+use Rattle.fblrun.specs.declared.command_line.Request.{Request}
 use Rattle.fblrun.specs.declared.Task.TheVariants.{Play, Show, Audit, Check, Draw}
 
 -- ---- what the parser of command lines is told
@@ -22,29 +27,41 @@ explain_rule = record (new_rule (codes "explain")) { long = Some (codes "explain
 abbrev pub strict_rule : Rule
 strict_rule = record (new_rule (codes "strict")) { long = Some (codes "strict"); action = Some SetTrue }
 
+-- `FILE`, a word of its own, which is given or not
+abbrev pub input_rule : Rule
+input_rule = record (new_rule (codes "input")) { action = Some Set; value_names = 1 }
+
+-- `-o FILE` or `--output FILE`, which is given or not
+abbrev pub output_rule : Rule
+output_rule = record (new_rule (codes "output")) { short = Some 111; long = Some (codes "output"); action = Some Set; value_names = 1 }
+
+-- what each subcommand has: the two files, and `--explain`
+abbrev pub with_shared : App → App
+with_shared app = with_rule (with_rule (with_rule app input_rule) output_rule) explain_rule
+
 abbrev pub play_app : App
-play_app = with_rule (with_rule (with_rule (new_app (codes "play")) workers_rule) strict_rule) explain_rule
+play_app = with_shared (with_rule (with_rule (new_app (codes "play")) workers_rule) strict_rule)
 
 abbrev pub show_app : App
-show_app = with_rule (with_rule (new_app (codes "show")) workers_rule) explain_rule
+show_app = with_shared (with_rule (new_app (codes "show")) workers_rule)
 
--- a subcommand of this name with `--explain` alone
-abbrev pub explained_app : Text → App
-explained_app name = with_rule (new_app name) explain_rule
+-- a subcommand of this name with no more
+abbrev pub shared_app : Text → App
+shared_app name = with_shared (new_app name)
 
 -- a program with a version, which asks for a subcommand
 abbrev pub top_app : App
 top_app = on_top (λ s. record s { subcommand_required = true; has_version = true }) (new_app (codes "fblrun"))
 
--- the same with a subcommand of this name with `--explain` alone
-abbrev pub with_explained : Text → App → App
-with_explained name app = with_subcommand app (explained_app name).top
+-- the same with a subcommand of this name that has no more than each
+abbrev pub with_reader : Text → App → App
+with_reader name app = with_subcommand app (shared_app name).top
 
 -- the program with the subcommands `play`, `show`, `audit`, `check` and `draw`
 abbrev pub program : App
 program =
-    with_explained (codes "draw")
-    (with_explained (codes "check") (with_explained (codes "audit") (with_subcommand (with_subcommand top_app play_app.top) show_app.top)))
+    with_reader (codes "draw")
+    (with_reader (codes "check") (with_reader (codes "audit") (with_subcommand (with_subcommand top_app play_app.top) show_app.top)))
 
 -- ---- what it makes of the words
 
@@ -106,6 +123,27 @@ order_for (is_show_workers n allowed line) = record { task = Show n; explain = l
 abbrev pub IsOrderOf : List Text → Order → Type 0
 IsOrderOf words order = (line : IsCommandLine words) → order ≡ order_for line
 
+-- the text of the argument with this id, as the parser of command lines finds it in the words, if it is given
+abbrev pub given_in : Text → List Text → Option Text
+given_in id words = option_and_then (λ found. first_of id found.1) (subcommand_of program words)
+
+-- a name that is given or not is this text
+abbrev pub Names : Option (Bor Text) → Option Text → Type 0
+Names name text = option_map (λ s. s.now) name ≡ text
+
+-- the request has the order of the words, if they are one of these lines, in which no file is named; and the names of the files
+-- are those that the words give
+pub record IsRequestOf (words : List Text) (request : Request) : Type 0 where
+  pub order : IsOrderOf words request.order
+  pub none : IsCommandLine words → (request.input ≡ None) × (request.output ≡ None)
+  pub input : Names request.input (given_in (codes "input") words)
+  pub output : Names request.output (given_in (codes "output") words)
+
+-- why words are refused, if they are one of these lines: memory ran out
+abbrev pub IsRefusedFor : Misuse → Type 0
+IsRefusedFor (Words error) = kind_of error ≡ OutOfMemory
+IsRefusedFor NoCommand = ⊥
+
 -- ---- what a subcommand's arguments say
 
 -- what a flag that is given or not has as its text
@@ -118,11 +156,17 @@ abbrev pub IsFlagged : Text → Bool → List Row → Type 0
 IsFlagged name given rows = one_of name rows ≡ Some (flag_text given)
 
 -- the order is that of a subcommand of this name with these arguments
-pub record IsOrderAt (name : Text) (rows : List Row) (order : Order) : Type 0 where
-  pub audit : (explain : Bool) → name ≡ codes "audit" → IsFlagged (codes "explain") explain rows → order ≡ record { task = Audit; explain = explain }
-  pub check : (explain : Bool) → name ≡ codes "check" → IsFlagged (codes "explain") explain rows → order ≡ record { task = Check; explain = explain }
-  pub draw : (explain : Bool) → name ≡ codes "draw" → IsFlagged (codes "explain") explain rows → order ≡ record { task = Draw; explain = explain }
+pub record IsOrderAt (name : Text) (rows : List Row) (order : Option Order) : Type 0 where
+  pub audit : (explain : Bool) → name ≡ codes "audit" → IsFlagged (codes "explain") explain rows → order ≡ Some (record { task = Audit; explain = explain })
+  pub check : (explain : Bool) → name ≡ codes "check" → IsFlagged (codes "explain") explain rows → order ≡ Some (record { task = Check; explain = explain })
+  pub draw : (explain : Bool) → name ≡ codes "draw" → IsFlagged (codes "explain") explain rows → order ≡ Some (record { task = Draw; explain = explain })
   pub play : (strict explain : Bool) (n : ℕ) → n < 10 → name ≡ codes "play" → one_of (codes "workers") rows ≡ Some (decimal n)
-      → IsFlagged (codes "strict") strict rows → IsFlagged (codes "explain") explain rows → order ≡ record { task = Play n strict; explain = explain }
+      → IsFlagged (codes "strict") strict rows → IsFlagged (codes "explain") explain rows → order ≡ Some (record { task = Play n strict; explain = explain })
   pub show : (explain : Bool) (n : ℕ) → n < 10 → name ≡ codes "show" → one_of (codes "workers") rows ≡ Some (decimal n)
-      → IsFlagged (codes "explain") explain rows → order ≡ record { task = Show n; explain = explain }
+      → IsFlagged (codes "explain") explain rows → order ≡ Some (record { task = Show n; explain = explain })
+
+-- the request is that of a subcommand of this name with these arguments
+pub record IsRequestAt (name : Text) (rows : List Row) (request : Option Request) : Type 0 where
+  pub order : IsOrderAt name rows (option_map (λ r. r.order) request)
+  pub input : (r : Request) → request ≡ Some r → Names r.input (first_of (codes "input") rows)
+  pub output : (r : Request) → request ≡ Some r → Names r.output (first_of (codes "output") rows)

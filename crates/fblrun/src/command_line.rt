@@ -1,9 +1,9 @@
 //! The command line.
 
-ghost use Rattle.std.specs.Prelude.{◌≡◌, ℕ, ◌<◌, Bool, map, false, Some, IfOk, IfErr, codes, decimal, string_bytes};
-ghost use Rattle.clap.specs.Words.{app_of, found_of, kind_of, one_of, rows_of, rule_of, with_rule, with_subcommand};
+ghost use Rattle.std.specs.Prelude.{◌≡◌, ℕ, ◌<◌, Bool, map, false, Some, IfOk, IfErr, codes, decimal, option_map, string_bytes};
+ghost use Rattle.clap.specs.Words.{app_of, first_of, found_of, kind_of, one_of, rows_of, rule_of, with_subcommand};
 ghost use Rattle.clap.specs.declared.builder.command.Command.TheViews.{out-Command as fields_of};
-ghost use Rattle.fblrun.specs.CommandLines.{IsCommandLine, IsFlagged, IsOrderAt, IsOrderOf, explain_rule, explained_app, play_app, program, show_app, strict_rule, top_app, workers_rule};
+ghost use Rattle.fblrun.specs.CommandLines.{IsCommandLine, IsFlagged, IsOrderAt, IsRefusedFor, IsRequestAt, IsRequestOf, explain_rule, input_rule, output_rule, play_app, program, shared_app, show_app, strict_rule, top_app, with_shared, workers_rule};
 
 use crate::{Order, Task};
 use clap::error::ErrorKind;
@@ -14,14 +14,14 @@ use std::alloc::{AllocError, Global};
 const PROGRAM: &str =
     "Causal message logging with proved recovery: plays and shows scripts of a group, and audits, checks and draws recorded traces.";
 
-/// The exit statuses.
+/// The exit statuses, and where a fault is told.
 const STATUSES: &str = "\
 Exit statuses: 0 done; 1 a checked dump is unsafe, or a command of a strict play was refused; 2 a fault of the command
-line, the script or the dump; 3 a read or a write failed; 4 out of memory. A fault is told on standard error.";
+line, the script or the dump; 3 a read or a write failed; 4 out of memory. A fault is told on standard error, and more of
+it with --explain behind the command.";
 
 /// What `play` does.
-const PLAY: &str =
-    "Reads a script, as JSON, on standard input, and prints each command's lines on standard output";
+const PLAY: &str = "Plays a script, which is JSON, and prints each command's lines";
 
 /// A first script.
 const PLAY_EXAMPLE: &str = r#"A first script: member 1 gets a message, is struck and recovers.
@@ -30,8 +30,7 @@ const PLAY_EXAMPLE: &str = r#"A first script: member 1 gets a message, is struck
    "commands":[["deliver",1,0],["deliver",2,1],["strike",[1]],["recover"],["report"]]}' | fblrun play"#;
 
 /// What `show` does.
-const SHOW: &str =
-    "Reads a script, as JSON, on standard input, plays it, and writes the picture of its history, as SVG, on standard output";
+const SHOW: &str = "Plays a script, which is JSON, and draws its history, as SVG";
 
 /// A first picture of a history.
 const SHOW_EXAMPLE: &str =
@@ -40,11 +39,11 @@ strike, recovery and checkpoint, in the order in which they came. What a recover
 A first one: member 1 gets a message, is struck and recovers.
 
   echo '{"version":2,"members":3,"f":1,"behaviour":"relay","start":[[0,1,5,1]],
-   "commands":[["deliver",1,0],["deliver",2,1],["strike",[1]],["recover"]]}' | fblrun show > run.svg"#;
+   "commands":[["deliver",1,0],["deliver",2,1],["strike",[1]],["recover"]]}' | fblrun show -o run.svg"#;
 
 /// What `audit` does.
 const AUDIT: &str =
-    "Reads a dump, as JSON, on standard input, and prints which receipts are lost and which members are orphans";
+    "Audits a dump, which is JSON, and prints which receipts are lost and which members are orphans";
 
 /// Where a dump comes from.
 const AUDIT_EXAMPLE: &str =
@@ -53,7 +52,7 @@ determinant, and the members that are struck."#;
 
 /// What `check` does.
 const CHECK: &str =
-    "Reads a dump, as JSON, on standard input, and prints which receipts could be lost with an orphan left";
+    "Checks a dump, which is JSON, and prints which receipts could be lost with an orphan left";
 
 /// What a check asks.
 const CHECK_EXAMPLE: &str =
@@ -65,8 +64,7 @@ and else each such receipt, with the least set that loses it and the orphans tha
    "events":[["send",0,1,1],["receipt",1,1,0,1],["send",1,1,2],["receipt",2,1,1,1]]}' | fblrun check"#;
 
 /// What `draw` does.
-const DRAW: &str =
-    "Reads a dump, as JSON, on standard input, and writes its picture, as SVG, on standard output";
+const DRAW: &str = "Draws a dump, which is JSON, as SVG";
 
 /// A first picture.
 const DRAW_EXAMPLE: &str =
@@ -74,14 +72,75 @@ const DRAW_EXAMPLE: &str =
 each message; what a mark is stands in its tooltip. A first one, with a lost receipt and an orphan:
 
   echo '{"members":3,"f":1,"strike":[1],"held":[[1,0,1,1,1],[2,1,1,2,1]],
-   "events":[["send",0,1,1],["receipt",1,1,0,1],["send",1,1,2],["receipt",2,1,1,1]]}' | fblrun draw > dump.svg"#;
+   "events":[["send",0,1,1],["receipt",1,1,0,1],["send",1,1,2],["receipt",2,1,1,1]]}' | fblrun draw -o dump.svg"#;
+
+/// What the input of a play is.
+const SCRIPT: &str = "The file with the script; where none is named, or -, it is standard input";
+
+/// What the input of an audit is.
+const DUMP: &str = "The file with the dump; where none is named, or -, it is standard input";
+
+/// What `-o` does.
+const OUTPUT: &str =
+    "The file to write; where none is named, or -, it is standard output. A file that is there is replaced by a whole text alone: after a fault it is as it was";
+
+/// What `--explain` does where a script is played.
+const EXPLAIN_PLAY: &str =
+    "Tells on standard error what stands and what is wanted where the script has a fault, and each command with why it was refused";
+
+/// What `--explain` does where a dump is audited.
+const EXPLAIN_AUDIT: &str =
+    "Tells on standard error what stands and what is wanted where the dump has a fault, and why each receipt is lost, with a path to each orphan";
+
+/// What `--explain` does where a dump is checked.
+const EXPLAIN_CHECK: &str =
+    "Tells on standard error what stands and what is wanted where the dump has a fault, and of each unsafe receipt who holds it, and a path to each orphan";
+
+/// What `--explain` does where a dump is drawn.
+const EXPLAIN_DRAW: &str =
+    "Tells on standard error what stands and what is wanted where the dump has a fault";
 
 /// The program's version.
 const VERSION: &str = "1.0.0";
 
-/// What `--explain` does.
-const EXPLAIN: &str =
-    "Tells on standard error what is wanted where the input has a fault, each command with why it was refused, and why receipts are lost";
+/// What the words of a command line ask for.
+#[derive(Clone, Copy, Debug)]
+pub(crate) struct Request<'a> {
+    pub(crate) order: Order,
+    /// The name of the file with the input, if one is given.
+    pub(crate) input: Option<&'a str>,
+    /// The name of the file to write, if one is given.
+    pub(crate) output: Option<&'a str>,
+}
+
+/// Why the words of a command line ask for nothing that can be done.
+#[derive(Drop)]
+pub(crate) enum Misuse {
+    /// What the parser of command lines says of the words, or that it lacks memory. Help and the version are of these.
+    Words(clap::Error),
+    /// They name no command.
+    NoCommand,
+}
+
+impl From<clap::Error> for Misuse {
+    ghost use Rattle.fblrun.specs.declared.command_line.Misuse.TheVariants.{Words};
+
+    ghost from_gives = { λ error misuse. misuse ≡ Words error };
+
+    fn from(error: clap::Error) -> Misuse {
+        Misuse::Words(error)
+    }
+}
+
+impl From<AllocError> for Misuse {
+    ghost use Rattle.fblrun.specs.CommandLines.{IsRefusedFor};
+
+    ghost from_gives = { λ _ misuse. IsRefusedFor misuse };
+
+    fn from(error: AllocError) -> Misuse {
+        Misuse::Words(clap::Error::from(error))
+    }
+}
 
 /// The option `--workers`.
 fn workers<'a>(alloc: Global) -> Arg<'a>
@@ -108,27 +167,56 @@ fn strict<'a>(alloc: Global) -> Arg<'a>
         .help("Ends with status 1 where a command was refused; the text is the same")
 }
 
-/// The flag `--explain`.
-fn explain<'a>(alloc: Global) -> Arg<'a>
+/// The flag `--explain`, with what it does.
+fn explain<'a>(alloc: Global, help: &'a str) -> Arg<'a>
     ensures rule { rule_of result ≡ explain_rule }
     ensures local { result.global ≡ false }
 {
     Arg::new(alloc, "explain")
         .long("explain")
         .action(ArgAction::SetTrue)
-        .help(EXPLAIN)
+        .help(help)
 }
 
-/// The program with this subcommand, which has the flag `--explain` too.
-fn with_explained<'a>(
+/// The file with the input, and what it is.
+fn input<'a>(alloc: Global, help: &'a str) -> Arg<'a>
+    ensures rule { rule_of result ≡ input_rule }
+    ensures local { result.global ≡ false }
+{
+    Arg::new(alloc, "input")
+        .action(ArgAction::Set)
+        .value_name("FILE")
+        .help(help)
+}
+
+/// The option `-o`, the file to write.
+fn output<'a>(alloc: Global) -> Arg<'a>
+    ensures rule { rule_of result ≡ output_rule }
+    ensures local { result.global ≡ false }
+{
+    Arg::new(alloc, "output")
+        .short('o')
+        .long("output")
+        .action(ArgAction::Set)
+        .value_name("FILE")
+        .help(OUTPUT)
+}
+
+/// The program with this subcommand, which has what each has too: the input, which is this, the file to write, and the flag
+/// `--explain`, which does this.
+fn with_shared_args<'a>(
     alloc: Global,
     command: Command<'a>,
     sub: Command<'a>,
+    read: &'a str,
+    explained: &'a str,
 ) -> Result<Command<'a>, AllocError>
     requires { (fields_of sub).has_globals ≡ false }
-    ensures { IfOk result (λ c. app_of c ≡ with_subcommand (app_of command.entry) (with_rule (app_of sub.entry) explain_rule).top) }
+    ensures { IfOk result (λ c. app_of c ≡ with_subcommand (app_of command.entry) (with_shared (app_of sub.entry)).top) }
 {
-    let sub = sub.arg(explain(alloc))?;
+    let sub = sub.arg(input(alloc, read))?;
+    let sub = sub.arg(output(alloc))?;
+    let sub = sub.arg(explain(alloc, explained))?;
     command.subcommand(sub)
 }
 
@@ -141,7 +229,7 @@ fn with_play<'a>(alloc: Global, command: Command<'a>) -> Result<Command<'a>, All
         .after_help(PLAY_EXAMPLE);
     let play = play.arg(workers(alloc))?;
     let play = play.arg(strict(alloc))?;
-    with_explained(alloc, command, play)
+    with_shared_args(alloc, command, play, SCRIPT, EXPLAIN_PLAY)
 }
 
 /// The program with the subcommand `show`, which has a number of workers.
@@ -152,21 +240,22 @@ fn with_show<'a>(alloc: Global, command: Command<'a>) -> Result<Command<'a>, All
         .about(SHOW)
         .after_help(SHOW_EXAMPLE);
     let show = show.arg(workers(alloc))?;
-    with_explained(alloc, command, show)
+    with_shared_args(alloc, command, show, SCRIPT, EXPLAIN_PLAY)
 }
 
-/// The program with a subcommand of this name, which has the flag alone.
+/// The program with a subcommand of this name that reads a dump.
 fn with_reader<'a>(
     alloc: Global,
     command: Command<'a>,
     name: &'a str,
     about: &'a str,
     example: &'a str,
+    explained: &'a str,
 ) -> Result<Command<'a>, AllocError>
-    ensures { IfOk result (λ c. app_of c ≡ with_subcommand (app_of command.entry) (explained_app name.now).top) }
+    ensures { IfOk result (λ c. app_of c ≡ with_subcommand (app_of command.entry) (shared_app name.now).top) }
 {
     let reader = Command::new(alloc, name).about(about).after_help(example);
-    with_explained(alloc, command, reader)
+    with_shared_args(alloc, command, reader, DUMP, explained)
 }
 
 /// The program above its subcommands.
@@ -181,15 +270,15 @@ fn top<'a>(alloc: Global) -> Command<'a>
 }
 
 /// What the program takes: `play`, with a number of workers, strict or not, `show`, with a number of workers, `audit`, `check` or
-/// `draw`, each with or without `--explain`.
+/// `draw`, each with or without a file to read, one to write and `--explain`.
 fn command_line<'a>(alloc: Global) -> Result<Command<'a>, AllocError>
     ensures { IfOk result (λ c. app_of c ≡ program) }
 {
     let command = with_play(alloc, top(alloc))?;
     let command = with_show(alloc, command)?;
-    let command = with_reader(alloc, command, "audit", AUDIT, AUDIT_EXAMPLE)?;
-    let command = with_reader(alloc, command, "check", CHECK, CHECK_EXAMPLE)?;
-    with_reader(alloc, command, "draw", DRAW, DRAW_EXAMPLE)
+    let command = with_reader(alloc, command, "audit", AUDIT, AUDIT_EXAMPLE, EXPLAIN_AUDIT)?;
+    let command = with_reader(alloc, command, "check", CHECK, CHECK_EXAMPLE, EXPLAIN_CHECK)?;
+    with_reader(alloc, command, "draw", DRAW, DRAW_EXAMPLE, EXPLAIN_DRAW)
 }
 
 /// How many workers are asked for.
@@ -206,8 +295,15 @@ fn flag_in(found: &ArgMatches, name: &str) -> bool
     found.get_flag(name)
 }
 
-/// The order of a subcommand.
-fn order_at(name: &str, found: &ArgMatches) -> Order
+/// The name of a file that is given, if one is.
+fn file_in<'a>(found: &ArgMatches<'a>, name: &str) -> Option<&'a str>
+    ensures { option_map (λ s. s.now) result ≡ first_of name.now (rows_of (found_of found.now)) }
+{
+    found.get_str(name)
+}
+
+/// The order of a subcommand, if there is one of this name.
+fn order_at(name: &str, found: &ArgMatches) -> Option<Order>
     ensures { IsOrderAt name.now (rows_of (found_of found.now)) result }
 {
     let explain = flag_in(found, "explain");
@@ -219,25 +315,38 @@ fn order_at(name: &str, found: &ArgMatches) -> Order
         "show" => Task::Show {
             workers: workers_in(found),
         },
+        "audit" => Task::Audit,
         "check" => Task::Check,
         "draw" => Task::Draw,
-        _ => Task::Audit,
+        _ => return None,
     };
-    Order { task, explain }
+    Some(Order { task, explain })
 }
 
-/// The order that the words of the command line give, the program's name first.
-pub(crate) fn order_of(alloc: Global, words: &[String]) -> Result<Order, clap::Error>
-    ensures given { IfOk result (IsOrderOf (map string_bytes words.now)) }
-    ensures refused { IfErr result (λ e. IsCommandLine (map string_bytes words.now) → kind_of e ≡ ErrorKind.OutOfMemory) }
+/// What a subcommand asks for, if there is one of this name.
+fn request_at<'a>(name: &str, found: &ArgMatches<'a>) -> Option<Request<'a>>
+    ensures { IsRequestAt name.now (rows_of (found_of found.now)) result }
+{
+    let order = order_at(name, found)?;
+    Some(Request {
+        order,
+        input: file_in(found, "input"),
+        output: file_in(found, "output"),
+    })
+}
+
+/// What the words of the command line ask for, the program's name first.
+pub(crate) fn request_of(alloc: Global, words: &[String]) -> Result<Request<'_>, Misuse>
+    ensures given { IfOk result (IsRequestOf (map string_bytes words.now)) }
+    ensures refused { IfErr result (λ e. IsCommandLine (map string_bytes words.now) → IsRefusedFor e) }
 {
     let command = command_line(alloc)?;
     let matches = command.try_get_matches_from(words)?;
     match matches.subcommand() {
-        Some((name, found)) => Ok(order_at(name, found)),
-        None => Ok(Order {
-            task: Task::Audit,
-            explain: false,
-        }),
+        Some((name, found)) => match request_at(name, found) {
+            Some(request) => Ok(request),
+            None => Err(Misuse::NoCommand),
+        },
+        None => Err(Misuse::NoCommand),
     }
 }

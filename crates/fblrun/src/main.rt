@@ -1,4 +1,4 @@
-//! Plays or shows the script, or audits, checks or draws the dump, that standard input has.
+//! Plays or shows a script, or audits, checks or draws a dump, that is in a file or comes from standard input.
 #![tactic(auto)]
 
 ghost use Rattle.std.specs.Prelude.{◌≡◌, ◌&&◌, not, IfSome};
@@ -8,23 +8,27 @@ ghost use Rattle.fblrun.specs.Showing.{Shows};
 ghost use Rattle.fblrun.specs.Statuses.{status_after as status_after_result, fault_status};
 
 mod command_line;
+mod files;
 mod showing;
+mod streams;
 mod telling;
 
 use clap::error::ErrorKind;
-use command_line::order_of;
+use command_line::{Misuse, Request, request_of};
+use files::obey_request;
 use fbl_draw::draw_bytes;
 use fbl_dump::{Verdict, audit_bytes, check_bytes};
 use fbl_input::{RunFault, read_input};
 use fbl_play::play_observed;
 use showing::show_observed;
 use std::alloc::Global;
-use std::io::{Read, Write};
+use std::io::{IsTerminal, Read, Write};
 use std::process::ExitCode;
 use std::sync::Wait;
 use std::thread::Threads;
 use std::{env, io};
-use telling::{Teller, end};
+use streams::Named;
+use telling::{FaultLine, Teller, end};
 
 /// Everything was done, and all is well.
 const DONE: u8 = 0;
@@ -83,10 +87,17 @@ fn status_of(fault: &RunFault) -> u8
     }
 }
 
-/// Prints why the command line gives no order, or the help or version that it asks for, and answers the exit status.
-fn refuse<R: Print + Eprint>(rt: &R, error: clap::Error) -> u8 {
+/// Prints why the words of the command line are refused, or the help or version that they ask for, and answers the exit status.
+fn refuse<R: Print + Eprint>(rt: &R, misuse: Misuse) -> u8 {
+    let error = match misuse {
+        Misuse::Words(error) => error,
+        Misuse::NoCommand => {
+            let _ = eprintln!(rt; "error: the command line names no command");
+            return INPUT_FAULT;
+        }
+    };
     if error.kind() == ErrorKind::OutOfMemory {
-        return status_after(rt, Err(RunFault::Memory));
+        return fail(rt, FaultLine::of(RunFault::Memory));
     }
     let printed = error.print(rt);
     match error.kind() {
@@ -101,7 +112,7 @@ fn refuse<R: Print + Eprint>(rt: &R, error: clap::Error) -> u8 {
 /// UTF-8, which is a fault of the command line.
 fn refuse_words<R: Eprint>(rt: &R, kind: io::ErrorKind) -> u8 {
     match kind {
-        io::ErrorKind::OutOfMemory => status_after(rt, Err(RunFault::Memory)),
+        io::ErrorKind::OutOfMemory => fail(rt, FaultLine::of(RunFault::Memory)),
         _ => {
             let _ = eprintln!(rt; "error: a word of the command line is not UTF-8");
             INPUT_FAULT
@@ -109,34 +120,32 @@ fn refuse_words<R: Eprint>(rt: &R, kind: io::ErrorKind) -> u8 {
     }
 }
 
-/// The order that the words of the process give, or the exit status where they give none.
-fn order_in(rt: &HostRuntime) -> Result<Order, u8> {
+/// The words of the process, or the exit status where they can't be had.
+fn words_of(rt: &HostRuntime) -> Result<Vec<String>, u8> {
     let words = match env::args(rt) {
         Ok(words) => words,
         Err(error) => return Err(refuse_words(rt, error.kind())),
     };
-    let Ok(words) = words.collect::<Vec<String>>(rt.alloc()) else {
-        return Err(status_after(rt, Err(RunFault::Memory)));
-    };
-    match order_of(rt.alloc(), words.as_slice()) {
-        Ok(order) => Ok(order),
-        Err(error) => Err(refuse(rt, error)),
+    match words.collect::<Vec<String>>(rt.alloc()) {
+        Ok(words) => Ok(words),
+        Err(_) => Err(fail(rt, FaultLine::of(RunFault::Memory))),
     }
 }
 
-/// Prints the fault, if there is one, and answers the exit status of what was done, by whether all is well.
-fn status_after<R: Eprint>(rt: &R, done: Result<bool, RunFault>) -> u8
-    ensures { result ≡ status_after_result done }
+/// Prints the line of a fault, and answers its exit status.
+fn fail<R: Eprint>(rt: &R, line: FaultLine<'_>) -> u8
+    ensures { result ≡ fault_status line.fault }
 {
-    match done {
-        Ok(true) => DONE,
-        Ok(false) => NOT_WELL,
-        Err(fault) => {
-            let status = status_of(&fault);
-            let _ = eprintln!(rt; "fault: {fault}");
-            status
-        }
-    }
+    let status = status_of(&line.fault);
+    let _ = eprintln!(rt; "{line}");
+    status
+}
+
+/// The exit status of what was done without a fault, by whether all is well.
+fn status_of_done(is_well: bool) -> u8
+    ensures { result ≡ status_after_result (Ok is_well) }
+{
+    if is_well { DONE } else { NOT_WELL }
 }
 
 /// All is well where this was done.
@@ -232,32 +241,32 @@ fn read_and_do<T: Eprint + Threads + Wait + Sync, R: Read, W: Write>(
     rt: &T,
     alloc: Global,
     order: Order,
-    reader: &mut R,
-    writer: &mut W,
+    reader: &mut Named<'_, R>,
+    writer: &mut Named<'_, W>,
 ) -> u8
     requires { CanBeDone order.task }
-    ensures { IfSome (R.remaining reader.old) (λ input. EndsAfter (ReadsAndAnswersTask order.task input (W.contents writer.old) (W.contents writer.new)) result) }
+    ensures { IfSome (R.remaining reader.old.stream) (λ input. EndsAfter (ReadsAndAnswersTask order.task input (W.contents writer.old.stream) (W.contents writer.new.stream)) result) }
 {
     match read_input(alloc, reader) {
         Ok(input) => {
             let input = input.as_slice();
             let done = do_task(rt, alloc, order, input, writer);
-            end(rt, alloc, order, input, done)
+            end(rt, alloc, order, input, done, writer.failure())
         }
-        Err(fault) => end(rt, alloc, order, &[], Err(fault)),
+        Err(fault) => end(rt, alloc, order, &[], Err(fault), reader.failure()),
     }
 }
 
 /// Obeys the order over what the reader has, and answers the exit status. It is 2, and nothing is read, where a play or a
 /// picture of its history is asked for with another number of workers than 1 to 8, which the command line does not give.
-fn obey<T: Eprint + Threads + Wait + Sync, R: Read, W: Write>(
+pub(crate) fn obey<T: Eprint + Threads + Wait + Sync, R: Read, W: Write>(
     rt: &T,
     alloc: Global,
     order: Order,
-    reader: &mut R,
-    writer: &mut W,
+    reader: &mut Named<'_, R>,
+    writer: &mut Named<'_, W>,
 ) -> u8
-    ensures { IfSome (R.remaining reader.old) (λ input. Obeys order input (W.contents writer.old) (W.contents writer.new) result) }
+    ensures { IfSome (R.remaining reader.old.stream) (λ input. Obeys order input (W.contents writer.old.stream) (W.contents writer.new.stream) result) }
 {
     match order.task {
         Task::Play { workers, .. } | Task::Show { workers } => match workers {
@@ -268,13 +277,25 @@ fn obey<T: Eprint + Threads + Wait + Sync, R: Read, W: Write>(
     }
 }
 
+/// Names `--explain` where a fault line has been written to a terminal, and would be explained with it: where the status is that
+/// of a fault of the input.
+fn name_explain(rt: &HostRuntime, order: Order, status: u8) {
+    if status == INPUT_FAULT && !order.explain && rt.stderr().is_terminal() {
+        let _ = eprintln!(rt; "with --explain behind the command, what stands there and what is wanted is told too");
+    }
+}
+
 fn main(rt: HostRuntime) -> ExitCode {
-    match order_in(&rt) {
-        Ok(order) => {
-            let mut reader = rt.reader();
-            let mut writer = io::writer(&rt);
-            ExitCode::from(obey(&rt, rt.alloc(), order, &mut reader, &mut writer))
+    let words = match words_of(&rt) {
+        Ok(words) => words,
+        Err(status) => return ExitCode::from(status),
+    };
+    match request_of(rt.alloc(), words.as_slice()) {
+        Ok(request) => {
+            let status = obey_request(&rt, rt.alloc(), request);
+            name_explain(&rt, request.order, status);
+            ExitCode::from(status)
         }
-        Err(status) => ExitCode::from(status),
+        Err(misuse) => ExitCode::from(refuse(&rt, misuse)),
     }
 }

@@ -3,14 +3,58 @@
 ghost use Rattle.std.specs.Prelude.{◌≡◌, false};
 ghost use Rattle.fblrun.specs.Statuses.{status_after as status_after_result};
 
-use crate::{Order, Task, status_after};
+use crate::streams::Failure;
+use crate::{Order, Task, fail, status_of_done};
 use fbl_base::audit::Dump;
 use fbl_dump::dump_of_bytes;
-use fbl_explain::{AccountOf, CommandAccount, Why, Words, explain, why_lost, why_unsafe};
-use fbl_input::{InputFault, InputKind, RunFault};
+use fbl_explain::{AccountOf, CommandAccount, Explanation, Why, Words, explain, why_lost, why_unsafe};
+use fbl_input::{InputKind, RunFault};
 use fbl_play::Observer;
 use fbl_script::Command;
 use std::alloc::Global;
+use std::fmt;
+
+/// The line of a fault.
+#[derive(Clone, Copy)]
+pub(crate) struct FaultLine<'a> {
+    pub(crate) fault: RunFault,
+    /// The file on which a read or a write failed, if it is a file with a name.
+    file: Option<Failure<'a>>,
+}
+
+impl<'a> FaultLine<'a> {
+    /// The line of a fault on a standard stream, or on none.
+    pub(crate) fn of(fault: RunFault) -> FaultLine<'a>
+        ensures { result.fault ≡ fault }
+    {
+        FaultLine { fault, file: None }
+    }
+
+    /// The line of a fault: of a read or a write on this file, if one is given.
+    pub(crate) fn on(fault: RunFault, file: Option<Failure<'a>>) -> FaultLine<'a>
+        ensures { result.fault ≡ fault }
+    {
+        FaultLine { fault, file }
+    }
+}
+
+impl fmt::Display for FaultLine<'_> {
+    fn fmt<W: fmt::Write>(&self, f: &mut fmt::Formatter<W>) -> fmt::Result {
+        let fault = self.fault;
+        write!(f, "fault: {fault}")?;
+        match (fault, self.file) {
+            (RunFault::Read | RunFault::Write, Some(failure)) => {
+                let name = failure.name;
+                write!(f, " {name:?}")?;
+                match failure.error {
+                    Some(error) => write!(f, ": {error}"),
+                    None => Ok(()),
+                }
+            }
+            _ => Ok(()),
+        }
+    }
+}
 
 /// Tells of each command on standard error, where that is asked for, and keeps whether some command was refused. A write that fails
 /// there is passed over: what is written and the exit status stay as they would be.
@@ -105,36 +149,45 @@ fn tell_why<R: Eprint>(rt: &R, alloc: Global, task: Task, input: &[u8]) {
     }
 }
 
-/// The reason of the fault of the input, if it has one. Where memory runs out for it that is left out.
-fn explanation_of(alloc: Global, task: Task, input: &[u8], fault: &RunFault) -> Option<InputFault> {
-    match explain(alloc, kind_of(task), input, fault) {
-        Ok(explanation) => explanation,
-        Err(_) => None,
+/// The explanation of the fault of the input, if it has one and the order asks for it. Where memory runs out for it that is left out.
+fn explanation_of(
+    alloc: Global,
+    order: Order,
+    input: &[u8],
+    fault: &RunFault,
+) -> Option<Explanation> {
+    if !order.explain {
+        return None;
+    }
+    let kind = kind_of(order.task);
+    match explain(alloc, kind, input, fault) {
+        Ok(Some(reason)) => Explanation::of(alloc, kind, input, reason).ok(),
+        _ => None,
     }
 }
 
 /// Prints the fault, if there is one, and answers the exit status. Where explanations are asked for that of the fault stands
-/// behind it, or else what there is to tell of the task that was done.
+/// behind it, or else what there is to tell of the task that was done. The file is one on which a call may have failed.
 pub(crate) fn end<R: Eprint>(
     rt: &R,
     alloc: Global,
     order: Order,
     input: &[u8],
     done: Result<bool, RunFault>,
+    file: Option<Failure<'_>>,
 ) -> u8
     ensures { result ≡ status_after_result done }
 {
-    if !order.explain {
-        return status_after(rt, done);
-    }
     match done {
         Ok(is_well) => {
-            tell_why(rt, alloc, order.task, input);
-            status_after(rt, Ok(is_well))
+            if order.explain {
+                tell_why(rt, alloc, order.task, input);
+            }
+            status_of_done(is_well)
         }
         Err(fault) => {
-            let explanation = explanation_of(alloc, order.task, input, &fault);
-            let status = status_after(rt, Err(fault));
+            let explanation = explanation_of(alloc, order, input, &fault);
+            let status = fail(rt, FaultLine::on(fault, file));
             if let Some(explanation) = explanation {
                 let _ = eprintln!(rt; "{explanation}");
             }

@@ -7,10 +7,6 @@ use std::fmt::Write;
 /// How many characters of a value are shown.
 const LONGEST_SHOWN: usize = 60;
 
-/// A value as JSON: its first 60 characters, with dots where there are more.
-#[derive(Clone, Copy)]
-pub(crate) struct Shown<'a>(pub(crate) &'a Value);
-
 /// Passes on so many characters, then dots, and no more.
 #[derive(Drop)]
 struct Cut<'a, W> {
@@ -36,14 +32,42 @@ impl<W: Write> Write for Cut<'_, W> {
     }
 }
 
-impl fmt::Display for Shown<'_> {
+/// The first 60 characters of a text, with dots where there are more.
+#[derive(Clone, Copy)]
+pub(crate) struct ShownText<'a>(pub(crate) &'a str);
+
+impl fmt::Display for ShownText<'_> {
     fn fmt<W: Write>(&self, f: &mut fmt::Formatter<W>) -> fmt::Result {
-        let value = self.0;
         let mut cut = Cut {
             writer: f,
             left: LONGEST_SHOWN,
             is_cut: false,
         };
-        write!(cut, "{value}")
+        cut.write_str(self.0)
+    }
+}
+
+/// A value as JSON, with its numbers as they are written in the input where that text is known: its first 60 characters, with
+/// dots where there are more.
+#[derive(Clone, Copy)]
+pub(crate) struct Shown<'a> {
+    pub(crate) value: &'a Value,
+    pub(crate) written: Option<&'a str>,
+}
+
+impl fmt::Display for Shown<'_> {
+    fn fmt<W: Write>(&self, f: &mut fmt::Formatter<W>) -> fmt::Result {
+        let mut cut = Cut {
+            writer: f,
+            left: LONGEST_SHOWN,
+            is_cut: false,
+        };
+        match self.written {
+            Some(text) => cut.write_str(text),
+            None => {
+                let value = self.value;
+                write!(cut, "{value}")
+            }
+        }
     }
 }

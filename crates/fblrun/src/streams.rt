@@ -1,0 +1,97 @@
+//! Streams that are files with names, or standard input and output.
+
+ghost use Rattle.std.specs.Prelude.{◌≡◌, Some, None};
+
+use std::io::{self, Read, Write};
+
+/// A stream, which is a file with a name or is standard input or output. It keeps why a call failed, for the line of the fault.
+#[derive(Drop)]
+pub(crate) struct Named<'a, S> {
+    stream: S,
+    name: Option<&'a str>,
+    /// Why the last call that failed did so.
+    error: Option<io::Error>,
+}
+
+/// Which file a read or a write failed on, and why, if the system said so.
+#[derive(Clone, Copy)]
+pub(crate) struct Failure<'a> {
+    pub(crate) name: &'a str,
+    pub(crate) error: Option<io::Error>,
+}
+
+impl<'a, S> Named<'a, S> {
+    /// A stream without a name.
+    pub(crate) fn standard(stream: S) -> Named<'a, S>
+        ensures { result.stream ≡ stream }
+    {
+        Named {
+            stream,
+            name: None,
+            error: None,
+        }
+    }
+
+    /// A file with this name.
+    pub(crate) fn file(stream: S, name: &'a str) -> Named<'a, S>
+        ensures { result.stream ≡ stream }
+    {
+        Named {
+            stream,
+            name: Some(name),
+            error: None,
+        }
+    }
+
+    /// The stream.
+    pub(crate) fn into_inner(self) -> S
+    where
+        S: Drop,
+        ensures { result ≡ self.stream }
+    {
+        self.stream
+    }
+
+    /// What is known of a call that failed, if this is a file with a name.
+    pub(crate) fn failure(&self) -> Option<Failure<'a>> {
+        match self.name {
+            Some(name) => Some(Failure {
+                name,
+                error: self.error,
+            }),
+            None => None,
+        }
+    }
+}
+
+impl<R: Read> Read for Named<'_, R> {
+    ghost remaining = { λ s. R.remaining s.stream };
+
+    fn read(&mut self, buf: &mut [u8]) -> io::Result<usize> {
+        match self.stream.read(buf) {
+            Ok(n) => Ok(n),
+            Err(error) => {
+                self.error = Some(error);
+                Err(error)
+            }
+        }
+    }
+}
+
+impl<W: Write> Write for Named<'_, W> {
+    ghost contents = { λ s. W.contents s.stream };
+
+    fn write(&mut self, buf: &[u8]) -> io::Result<usize> {
+        match self.stream.write(buf) {
+            Ok(n) => Ok(n),
+            Err(error) => {
+                self.error = Some(error);
+                Err(error)
+            }
+        }
+    }
+
+    fn flush(&mut self) -> io::Result<()> {
+        self.stream.flush()
+    }
+}
