@@ -17,5 +17,5 @@ pub use Rattle.fbl_shapes.specs.declared.shape.Shape.{Shape}
 pub use Rattle.fbl_shapes.specs.declared.shape.Shape.TheVariants.{Line}
 pub use Rattle.fbl_show.specs.Marks.{column_marks, recovery_mark, strike_mark}
 pub use Rattle.fbl_show.specs.Members.{history_member_shapes, is_back, is_down, is_down_after, line_part, members_shapes, turns}
-pub use Rattle.fbl_show.specs.Messages.{back_before, has_standing_receipt, receipt_arrow, sent_before, stub, stub_where, taken_by_column}
+pub use Rattle.fbl_show.specs.Messages.{arrow_from, back_before, has_standing_receipt, receipt_arrow, sent_before, stub, stub_where, taken_by_column}
 pub use Rattle.fbl_show.specs.Places.{last_before}

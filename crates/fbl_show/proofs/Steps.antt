@@ -1,5 +1,5 @@
 -- One column more of members' lines.
-use Rattle.fbl_show.proofs.Common.{ℕ, suc, ◌+◌, ◌<◌, ◌≡◌, not, Bool, true, false, cond, List, [], ◌∷◌, ◌++◌, length, take, drop, get_or, Option, Some, None, sym, ap}
+use Rattle.fbl_show.proofs.Common.{ℕ, suc, ◌+◌, ◌<◌, ◌≡◌, not, Bool, false, cond, List, [], ◌∷◌, ◌++◌, length, take, drop, get_or, Option, Some, sym, ap}
 use Rattle.fbl_show.proofs.Common.{◌∙◌, arith, beq, booleans_Decides, fold, not-false, append_assoc, at_drop_more, take_more, fold_push, Column, Shape, Line, is_down, is_down_after}
 use Rattle.fbl_show.proofs.Common.{line_kind_of, line_part, turns, drawn, last_before}
 

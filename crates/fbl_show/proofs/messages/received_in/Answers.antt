@@ -1,4 +1,4 @@
-use Rattle.fbl_show.proofs.Common.{◌≡◌, ◌||◌, ◌+◌, ◌∙◌, sym, ap, drop, arith, ◌∷◌, at_drop_more, is_message, MessageName, has_standing_receipt, taken_by_column}
+use Rattle.fbl_show.proofs.Common.{◌≡◌, ◌||◌, ◌+◌, ◌∙◌, sym, ap, drop, arith, ◌∷◌, at_drop_more, is_message, has_standing_receipt, taken_by_column}
 use Rattle.fbl_show.proofs.messages.received_in.Goals as goal
 
 pub loop-column-preserved : goal.loop-column-preserved
