@@ -82,7 +82,7 @@ const DUMP: &str = "The file with the dump; where none is named, or -, it is sta
 
 /// What `-o` does.
 const OUTPUT: &str =
-    "The file to write; where none is named, or -, it is standard output. A file that is there is replaced by a whole text alone: after a fault it is as it was";
+    "The file to write, which gets a whole text or stays as it was; where none is named, or -, it is standard output";
 
 /// What `--explain` does where a script is played.
 const EXPLAIN_PLAY: &str =
