@@ -3,14 +3,14 @@ use Rattle.std.specs.Prelude.{◌≢◌, ℕ, ◌+◌, ◌-◌, ◌/◌, ◌%◌
 use Rattle.std.proofs.Common.{arith}
 use Rattle.std.proofs.lemmas.Bool.Decides.{nat_tests}
 use Rattle.fbl_base.specs.Configs.{Settings, MembersAllowed}
-use Rattle.fbl_base.specs.Steps.{SendsAllowed, onward}
+use Rattle.fbl_base.specs.Steps.{SendsAllowed, onward, numbered_from_0}
 use Rattle.fbl_law.specs.StepLaws.{AnyState, AnyNote, StepConserves, weight_of_starts}
 use Rattle.fbl_base.specs.declared.trace.Note.{Note}
 use Rattle.fbl_base.specs.declared.outcome.Outcome.{Outcome}
 
 -- the payment is taken in, and half of the balance is paid to the next account if hops are left. A payment for which there
 -- is no room is paid on, by one hop at least
-abbrev pub account_step : ℕ → ℕ → ℕ → Note → Outcome
+abbrev pub account_step : ℕ → ℕ → ℕ → Note → Outcome ℕ Note
 account_step me n state note =
     let balance = state + note.value in
     let amount = (if note.hops == 0 then 0 else min (balance / 2) (2 ^ 32 - 1)) in
@@ -25,9 +25,9 @@ pub account_sends_allowed : (me n state : ℕ) (note : Note) → 2 ≤ n → me 
 account_sends_allowed me n state note least member = (grind (arith, elsewhere me n), grind arith)
 
 -- what the openings brought
-abbrev pub opened : Settings → ℕ
+abbrev pub opened : Settings Note → ℕ
 opened c = weight_of_starts (λ note. note.value) c
 
 -- no money is made or lost
-pub account_conserves : (n : ℕ) → MembersAllowed n → StepConserves account_step n AnyState AnyNote (λ me state. state) (λ note. note.value)
+pub account_conserves : (n : ℕ) → MembersAllowed n → StepConserves (numbered_from_0 account_step) n AnyState AnyNote (λ me state. state) (λ note. note.value)
 account_conserves n allowed me from state note member any_state any_note = grind (arith, nat_tests)

@@ -6,12 +6,26 @@ use fbl_law::step_laws::Conserving;
 pub struct Account;
 
 impl Behaviour for Account {
+    ghost use Rattle.std.proofs.Common.{rules, refl};
+    ghost use Rattle.fbl_base.specs.Steps.{numbered_from_0};
     ghost use Rattle.std.specs.Prelude.{◌≡◌, ◌<◌, ◌≤◌};
     ghost use Rattle.fbl_accounts.specs.Accounts.{account_step, account_sends_allowed};
 
-    ghost next = { account_step };
+    type State = u64;
+
+    type Note = Note;
+
+    ghost next = { numbered_from_0 account_step };
 
     ghost sends_allowed = { account_sends_allowed };
+
+    ghost of_types = { record { starts = refl; states = refl; notes = refl } };
+
+    ghost fits = { Prim.search rules };
+
+    fn initial() -> u64 {
+        0
+    }
 
     fn step(me: Member, n: u8, state: u64, note: Note) -> Outcome
         requires least { 2 ≤ n }

@@ -7,11 +7,25 @@ use fbl_base::{Behaviour, Member, Note, Outcome, Relay};
 pub struct Circulate;
 
 impl Behaviour for Circulate {
+    ghost use Rattle.std.proofs.Common.{rules, refl};
+    ghost use Rattle.fbl_base.specs.Steps.{numbered_from_0};
     ghost use Rattle.fbl_benchmark.specs.Circulation.{circulate_step, circulate_sends_allowed};
 
-    ghost next = { circulate_step };
+    type State = u64;
+
+    type Note = Note;
+
+    ghost next = { numbered_from_0 circulate_step };
 
     ghost sends_allowed = { circulate_sends_allowed };
+
+    ghost of_types = { record { starts = refl; states = refl; notes = refl } };
+
+    ghost fits = { Prim.search rules };
+
+    fn initial() -> u64 {
+        0
+    }
 
     fn step(me: Member, n: u8, state: u64, note: Note) -> Outcome {
         let value = note.value;

@@ -17,11 +17,25 @@ const MODULUS: u64 = 1_000_000_007;
 pub struct LongCirculate;
 
 impl Behaviour for LongCirculate {
+    ghost use Rattle.std.proofs.Common.{rules, refl};
+    ghost use Rattle.fbl_base.specs.Steps.{numbered_from_0};
     ghost use Rattle.fbl_benchmark.specs.Circulation.{long_circulate_step, long_circulate_sends_allowed};
 
-    ghost next = { long_circulate_step };
+    type State = u64;
+
+    type Note = Note;
+
+    ghost next = { numbered_from_0 long_circulate_step };
 
     ghost sends_allowed = { long_circulate_sends_allowed };
+
+    ghost of_types = { record { starts = refl; states = refl; notes = refl } };
+
+    ghost fits = { Prim.search rules };
+
+    fn initial() -> u64 {
+        0
+    }
 
     fn step(me: Member, n: u8, state: u64, note: Note) -> Outcome {
         let outcome = Circulate::step(me, n, state, note);

@@ -9,7 +9,7 @@ use std::alloc::Global;
 pub const LIMIT: u32 = 8192;
 
 /// A group with one message in flight, from member 0 to member 1.
-pub fn group_of<B: Behaviour>(alloc: Global, members: u8, f: u8) -> Result<Group<B>> {
+pub fn group_of<B: Behaviour<State = u64, Note = Note>>(alloc: Global, members: u8, f: u8) -> Result<Group<B>> {
     let start = Start {
         from: Member::default(),
         to: next_member(Member::default(), members),
@@ -20,7 +20,7 @@ pub fn group_of<B: Behaviour>(alloc: Global, members: u8, f: u8) -> Result<Group
 }
 
 /// Delivers the message, wherever it is, so many times, and counts the determinants that were carried.
-pub fn deliver_many<B: Behaviour>(group: &mut Group<B>, members: u8, count: u32) -> Result<u64> {
+pub fn deliver_many<B: Behaviour<State = u64, Note = Note>>(group: &mut Group<B>, members: u8, count: u32) -> Result<u64> {
     let mut carried: u64 = 0;
     let mut from = Member::default();
     for _ in 0..count {
@@ -32,7 +32,7 @@ pub fn deliver_many<B: Behaviour>(group: &mut Group<B>, members: u8, count: u32)
 }
 
 /// Delivers the message on the first channel that has it, beginning with this sender's, and answers its receiver too.
-fn deliver_next<B: Behaviour>(
+fn deliver_next<B: Behaviour<State = u64, Note = Note>>(
     group: &mut Group<B>,
     members: u8,
     first: Member,

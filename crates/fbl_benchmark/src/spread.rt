@@ -13,11 +13,25 @@ const LEAST: u8 = 5;
 pub struct Spread;
 
 impl Behaviour for Spread {
+    ghost use Rattle.std.proofs.Common.{rules, refl};
+    ghost use Rattle.fbl_base.specs.Steps.{numbered_from_0};
     ghost use Rattle.fbl_benchmark.specs.Spreading.{spread_step, spread_sends_allowed};
 
-    ghost next = { spread_step };
+    type State = u64;
+
+    type Note = Note;
+
+    ghost next = { numbered_from_0 spread_step };
 
     ghost sends_allowed = { spread_sends_allowed };
+
+    ghost of_types = { record { starts = refl; states = refl; notes = refl } };
+
+    ghost fits = { Prim.search rules };
+
+    fn initial() -> u64 {
+        0
+    }
 
     fn step(me: Member, n: u8, state: u64, note: Note) -> Outcome {
         let state = Relay::step(me, n, state, note).state;

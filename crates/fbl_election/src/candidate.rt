@@ -9,12 +9,26 @@ use fbl_law::step_laws::{Keeping, LosingNone, Weighing};
 pub struct Candidate;
 
 impl Behaviour for Candidate {
+    ghost use Rattle.std.proofs.Common.{rules, refl};
+    ghost use Rattle.fbl_base.specs.Steps.{numbered_from_0};
     ghost use Rattle.std.specs.Prelude.{◌≡◌, ◌<◌, ◌≤◌};
     ghost use Rattle.fbl_election.specs.Elections.{candidate_step, candidate_sends_allowed};
 
-    ghost next = { candidate_step };
+    type State = u64;
+
+    type Note = Note;
+
+    ghost next = { numbered_from_0 candidate_step };
 
     ghost sends_allowed = { candidate_sends_allowed };
+
+    ghost of_types = { record { starts = refl; states = refl; notes = refl } };
+
+    ghost fits = { Prim.search rules };
+
+    fn initial() -> u64 {
+        0
+    }
 
     fn step(me: Member, n: u8, state: u64, note: Note) -> Outcome
         requires least { 2 ≤ n }

@@ -14,7 +14,7 @@ use crate::answers::Struck;
 use crate::channels::{Channels, has_either};
 use crate::group::Group;
 use crate::refusals::StrikeRefusal;
-use fbl_base::{Behaviour, Determinant, Event, Member, MemberSet};
+use fbl_base::{Behaviour, Content, Determinant, Event, Member, MemberSet};
 use fbl_member::MemberRec;
 use std::alloc::{AllocError, Allocator};
 
@@ -40,6 +40,7 @@ impl<B: Behaviour, A: Allocator + Copy> Group<B, A> {
             set,
             self.config.members(),
             self.config.f(),
+            B::initial(),
         );
         self.channels.drop_at(set, self.config.members());
         self.down = self.down.union(set);
@@ -93,11 +94,11 @@ fn are_within(set: MemberSet, n: u8) -> bool
 
 /// How many of the events are receipts of members of the set whose determinant no member's table and no checkpoint's
 /// table holds.
-fn count_lost<A: Allocator + Copy>(
+fn count_lost<S: Copy, N: Content, A: Allocator + Copy>(
     down: MemberSet,
-    members: &[MemberRec<A>],
-    checkpoints: &[MemberRec<A>],
-    trace: &[Event],
+    members: &[MemberRec<S, N, A>],
+    checkpoints: &[MemberRec<S, N, A>],
+    trace: &[Event<N>],
 ) -> u32
     requires { length trace.now ≤ 8192 }
     ensures { result ≡ count_by (is_lost_receipt_of down members.now checkpoints.now) trace.now }
@@ -113,9 +114,9 @@ fn count_lost<A: Allocator + Copy>(
 }
 
 /// Whether the table of some of these members or checkpoints holds the determinant.
-fn is_recorded_among<A: Allocator + Copy>(
-    members: &[MemberRec<A>],
-    checkpoints: &[MemberRec<A>],
+fn is_recorded_among<S: Copy, N: Content, A: Allocator + Copy>(
+    members: &[MemberRec<S, N, A>],
+    checkpoints: &[MemberRec<S, N, A>],
     determinant: &Determinant,
 ) -> bool
     ensures { result ≡ is_recorded_among_of members.now checkpoints.now determinant.now }
@@ -125,11 +126,11 @@ fn is_recorded_among<A: Allocator + Copy>(
 
 /// Whether the event is a receipt of a member of the set whose determinant no member's table and no checkpoint's table
 /// holds. No table is looked at for a receipt of another member.
-fn is_lost_receipt<A: Allocator + Copy>(
+fn is_lost_receipt<S: Copy, N: Content, A: Allocator + Copy>(
     down: MemberSet,
-    members: &[MemberRec<A>],
-    checkpoints: &[MemberRec<A>],
-    event: Event,
+    members: &[MemberRec<S, N, A>],
+    checkpoints: &[MemberRec<S, N, A>],
+    event: Event<N>,
     likely: &mut usize,
 ) -> bool
     ensures { result ≡ is_lost_receipt_of down members.now checkpoints.now event }
@@ -146,8 +147,8 @@ fn is_lost_receipt<A: Allocator + Copy>(
 
 /// Whether the table of some of these records holds the determinant. The likely record's is looked at first, and where it does
 /// not hold the determinant, that of the next one is the next time: that changes no answer.
-fn is_likely_held<A: Allocator + Copy>(
-    records: &[MemberRec<A>],
+fn is_likely_held<S: Copy, N: Content, A: Allocator + Copy>(
+    records: &[MemberRec<S, N, A>],
     determinant: &Determinant,
     likely: &mut usize,
 ) -> bool
@@ -164,7 +165,10 @@ fn is_likely_held<A: Allocator + Copy>(
 }
 
 /// Whether the table of some of these records holds the determinant.
-fn is_held_in<A: Allocator + Copy>(records: &[MemberRec<A>], determinant: &Determinant) -> bool
+fn is_held_in<S: Copy, N: Content, A: Allocator + Copy>(
+    records: &[MemberRec<S, N, A>],
+    determinant: &Determinant,
+) -> bool
     ensures { result ≡ list_any (λ m. is_held m.table determinant.now) records.now }
 {
     records
@@ -173,33 +177,39 @@ fn is_held_in<A: Allocator + Copy>(records: &[MemberRec<A>], determinant: &Deter
 }
 
 /// Makes the records of the members named blank.
-fn blank_members<A: Allocator + Copy>(
-    members: &mut Vec<MemberRec<A>, A>,
+fn blank_members<S: Copy, N: Content, A: Allocator + Copy>(
+    members: &mut Vec<MemberRec<S, N, A>, A>,
     set: MemberSet,
     n: u8,
     f: u8,
+    first: S,
 )
     requires size { vec_len members.old ≡ n }
     requires few { n ≤ 16 }
-    ensures { AreRecordsReplaced set (λ m. blank) members.old.items members.new.items }
+    ensures { AreRecordsReplaced first set (λ m. blank first) members.old.items members.new.items }
 {
     let alloc = *members.allocator();
     for number in 0..n {
         let member = Member::at(number);
         if set.has(member) {
-            make_blank(&mut members[usize::from(number)], alloc, f);
+            make_blank(&mut members[usize::from(number)], alloc, f, first);
         }
     }
 }
 
 /// Makes the member's record blank.
-fn make_blank<A: Allocator + Copy>(member: &mut MemberRec<A>, alloc: A, f: u8)
-    ensures { member.new ≡ blank }
+fn make_blank<S: Copy, N: Content, A: Allocator + Copy>(
+    member: &mut MemberRec<S, N, A>,
+    alloc: A,
+    f: u8,
+    first: S,
+)
+    ensures { member.new ≡ blank first }
 {
-    *member = MemberRec::blank(alloc, f);
+    *member = MemberRec::blank(alloc, f, first);
 }
 
-impl<A: Allocator> Channels<A> {
+impl<N: Copy, A: Allocator> Channels<N, A> {
     /// Drops the messages in flight with an end among the members named, of `n`.
     fn drop_at(&mut self, set: MemberSet, n: u8)
         requires shape { HasChannels n (rows self.old) }

@@ -7,8 +7,9 @@ use Rattle.std.proofs.lemmas.Bool.Decides.{nat_tests}
 use Rattle.std.proofs.lemmas.List.{length-set, get_or-set_same, get_or-set_other}
 use Rattle.std.proofs.lemmas.List.Sums.{get_or-le-sum_by, sum_by-set}
 use Rattle.std.proofs.lemmas.Nat.{le_bytes_8}
+use Rattle.fbl_base.specs.declared.trace.Note.{Note}
 use Rattle.fbl_base.specs.Configs.{Settings, IsConfig}
-use Rattle.fbl_base.specs.Steps.{onward}
+use Rattle.fbl_base.specs.Steps.{onward, numbered_from_0, has_few_hops}
 use Rattle.fbl_base.specs.declared.outcome.Outcome.{Outcome}
 use Rattle.fbl_law.specs.StepLaws.{AnyNote, HoldsFirst, StepKeeps, StepMakesNone}
 use Rattle.fbl_store.specs.Commands.{amount_in, amount_of, applied, brought, changed, command_of, value_at, values}
@@ -73,17 +74,17 @@ sum-after command state fits =
       changed-most command.change (value_at state command.key),
     )
 
-pub shard_first : (c : Settings) → IsConfig c → HoldsFirst c (HoldsItsOwn c) AnyNote
+pub shard_first : (c : Settings Note) → IsConfig has_few_hops c → HoldsFirst 0 c (HoldsItsOwn c) AnyNote
 shard_first c config =
     ((λ me member key within other. omega (arith, get_or-le-sum_by (λ v. v) (values 0) key 0 within)), (λ i default within. tt))
 
 -- the values of other keys stay as they are
-pub shard_keeps : (c : Settings) → IsConfig c → StepKeeps shard_step c.members (HoldsItsOwn c) AnyNote
+pub shard_keeps : (c : Settings Note) → IsConfig has_few_hops c → StepKeeps (numbered_from_0 shard_step) c.members (HoldsItsOwn c) AnyNote
 shard_keeps c config me from state note member own any = (at (command_of note.value) refl, λ i default within. tt) where
   at : (read : Option KeyCommand) → command_of note.value ≡ read → HoldsItsOwn c me (answer me c.members state note read).state
   at None is = own
   at (Some command) is = here (key_owner c.members command.key == me) refl where
-    passed : Outcome
+    passed : Outcome ℕ Note
     passed = onward state ((me + 1) % c.members) note.value note.hops
 
     here : (its : Bool) → (key_owner c.members command.key == me) ≡ its → HoldsItsOwn c me (cond its (silent_at (applied command state)) passed).state
@@ -94,15 +95,15 @@ shard_keeps c config me from state note member own any = (at (command_of note.va
         ∙ own key within other
 
 -- no more is added to a value than the amount
-pub shard_makes_none : (c : Settings) → IsConfig c → StepMakesNone shard_step c.members (HoldsItsOwn c) AnyNote (λ me state. sum (values state)) brought
+pub shard_makes_none : (c : Settings Note) → IsConfig has_few_hops c → StepMakesNone (numbered_from_0 shard_step) c.members (HoldsItsOwn c) AnyNote (λ me state. sum (values state)) brought
 shard_makes_none c config me from state note member own any = at (command_of note.value) refl where
-  weight : Outcome → ℕ
+  weight : Outcome ℕ Note → ℕ
   weight outcome = sum (values outcome.state) + sum_by (λ s. brought s.1) outcome.sends.items
 
   at : (read : Option KeyCommand) → command_of note.value ≡ read → weight (answer me c.members state note read) ≤ sum (values state) + amount_in read
   at None is = omega arith
   at (Some command) is = here (key_owner c.members command.key == me) (note.hops == 0) where
-    passed : Bool → Outcome
+    passed : Bool → Outcome ℕ Note
     passed last =
         record { state = state; sends = record { items = cond last [] (((me + 1) % c.members, record { value = note.value; hops = note.hops - 1 }) ∷ []) } }
 

@@ -11,12 +11,26 @@ use fbl_law::step_laws::{Keeping, MakingNone, Weighing};
 pub struct Shard;
 
 impl Behaviour for Shard {
+    ghost use Rattle.std.proofs.Common.{rules, refl};
+    ghost use Rattle.fbl_base.specs.Steps.{numbered_from_0};
     ghost use Rattle.std.specs.Prelude.{◌≡◌, ◌<◌, ◌≤◌};
     ghost use Rattle.fbl_store.specs.Shards.{shard_step, shard_sends_allowed};
 
-    ghost next = { shard_step };
+    type State = u64;
+
+    type Note = Note;
+
+    ghost next = { numbered_from_0 shard_step };
 
     ghost sends_allowed = { shard_sends_allowed };
+
+    ghost of_types = { record { starts = refl; states = refl; notes = refl } };
+
+    ghost fits = { Prim.search rules };
+
+    fn initial() -> u64 {
+        0
+    }
 
     fn step(me: Member, n: u8, state: u64, note: Note) -> Outcome
         requires least { 2 ≤ n }

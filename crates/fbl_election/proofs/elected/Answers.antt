@@ -2,6 +2,7 @@ use Rattle.std.proofs.Common.{◌≡◌, ℕ, zero, suc, ◌<◌, ◌≤◌, ◌
 use Rattle.std.proofs.lemmas.Bool.{cases_lt}
 use Rattle.std.specs.FinSet as set
 use Rattle.std.proofs.lemmas.Bool.Decides.{nat_tests}
+use Rattle.fbl_base.specs.declared.trace.Note.{Note}
 use Rattle.fbl_base.specs.Configs.{Settings}
 use Rattle.fbl_law.specs.Groups.{member, member_checkpoint, messages_in_flight, sum_below}
 use Rattle.fbl_election.specs.Elections.{greatest, has_greatest, brought-most, taken-most}
@@ -20,10 +21,10 @@ each-one (suc n) a most all x below = at (cases_lt x n) (each-one n a most (omeg
   at (inl less) before = before less
   at (inr past) before = (let same : x ≡ n = omega arith in omega (arith, ap a same, sum-most n a most, most n, all))
 
-counts-once : (c : Settings) (me state : ℕ) → has_greatest c me state ≤ 1
+counts-once : (c : Settings Note) (me state : ℕ) → has_greatest c me state ≤ 1
 counts-once c me state = grind (arith, nat_tests)
 
-counted : (c : Settings) (me state : ℕ) → has_greatest c me state ≡ 1 → state ≡ greatest c.starts
+counted : (c : Settings Note) (me state : ℕ) → has_greatest c me state ≡ 1 → state ≡ greatest c.starts
 counted c me state one = grind (arith, nat_tests)
 
 pub returns-clause-most : goal.returns-clause-most
