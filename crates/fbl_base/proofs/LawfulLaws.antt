@@ -82,7 +82,7 @@ module _ {S N : Type 0} where
   -- a delivery keeps a trace lawful
   pub Lawful-deliver : (next : Next S N) (n : ℕ) (starts : List (Start N)) (t : List (Event N)) (p rsn q s : ℕ) (note : N) (sends : List (ℕ × N))
       → Lawful next n starts t → MayFollow n (map mark_of t) (mark.Receipt p rsn q s) → note_of t q s ≡ Some note
-      → sends ≡ (next.step p n (fold (λ state x. (next.step p n state x).state) next.initial (notes_of (actions_of t p))) note).sends.items
+      → sends ≡ (next.step p n (fold (λ state x. (next.step p n state x).state) (next.initial p n) (notes_of (actions_of t p))) note).sends.items
       → All (λ (x : ℕ × N). (x.0 < n) × (x.0 ≢ p)) sends → length t + 1 + length sends ≤ 8192 → length starts ≤ length t
       → Lawful next n starts (t ++ Receipt p rsn q s ∷ step_events p (sends_of (map mark_of t) p) sends)
   Lawful-deliver next n starts t p rsn q s note sends lawful may noted answer allowed room begun =
@@ -102,8 +102,8 @@ module _ {S N : Type 0} where
         starts_first = rw (take-append-le (length starts) t new begun) lawful.starts_first;
         responds = λ m. elim (cases_eq p m) [
           | inl same ↦
-              rw (← same, own, notes, responses-push next p n next.initial (notes_of old) note, ← answer)
-              (ap (λ xs. xs ++ tail) (lawful.responds p) ∙ append_assoc (map sent (starts_of p starts)) (responses next p n next.initial (notes_of old)) tail)
+              rw (← same, own, notes, responses-push next p n (next.initial p n) (notes_of old) note, ← answer)
+              (ap (λ xs. xs ++ tail) (lawful.responds p) ∙ append_assoc (map sent (starts_of p starts)) (responses next p n (next.initial p n) (notes_of old)) tail)
           | inr other ↦
               let no : (p == m) ≡ false = grind (arith, nat_tests) in
               let kept : actions_of (t ++ new) m ≡ actions_of t m = grown m ∙ (rw (step-actions (t ++ new) p m before sends, no) (append-nil (actions_of t m))) in

@@ -32,7 +32,7 @@ numbered before (s ∷ sends) = record { ssn = before + 1; to = s.0; note = s.1 
 abbrev pub starts_of : {N : Type 0} → ℕ → List (Start N) → List (ℕ × N)
 starts_of member starts = filter_map (λ s. if s.from == member then Some (s.to, s.note) else None) starts
 
--- a member that has received nothing, and has sent its starts, by the state in which members begin
+-- a member that has received nothing, and has sent its starts, by the state in which it begins
 abbrev pub begun : {S N : Type 0} → S → ℕ → List (Start N) → Progress S N
 begun initial member starts = record { state = initial; received = 0; log = numbered 0 (starts_of member starts) }
 
@@ -47,7 +47,7 @@ advanced next member n p note = stepped p (next.step member n p.state note)
 
 -- a member after its starts and then the notes in order
 abbrev pub after_notes : {S N : Type 0} → Next S N → ℕ → ℕ → List (Start N) → List N → Progress S N
-after_notes next member n starts notes = fold (advanced next member n) (begun next.initial member starts) notes
+after_notes next member n starts notes = fold (advanced next member n) (begun (next.initial member n) member starts) notes
 
 -- the note of the message with this number of a sender: that of its first such send in the trace, if there is one
 abbrev pub note_of : {N : Type 0} → List (Event N) → ℕ → ℕ → Option N
@@ -85,7 +85,7 @@ responses next member n state (note ∷ notes) =
 
 -- the state of a member after these notes
 abbrev pub state_after : {S N : Type 0} → Next S N → ℕ → ℕ → List N → S
-state_after next member n notes = fold (λ state note. (next.step member n state note).state) next.initial notes
+state_after next member n notes = fold (λ state note. (next.step member n state note).state) (next.initial member n) notes
 
 -- the events of a member's sends, numbered from one more than `before`
 abbrev pub step_events : {N : Type 0} → ℕ → ℕ → List (ℕ × N) → List (Event N)
@@ -102,4 +102,4 @@ start_of (Receipt to rsn from ssn) = None
 pub record Lawful {S N : Type 0} (next : Next S N) (n : ℕ) (starts : List (Start N)) (trace : List (Event N)) : Type 0 where
   pub well_formed : WellFormed n (map mark_of trace)
   pub starts_first : filter_map start_of (take (length starts) trace) ≡ starts
-  pub responds : (member : ℕ) → actions_of trace member ≡ map sent (starts_of member starts) ++ responses next member n next.initial (notes_of (actions_of trace member))
+  pub responds : (member : ℕ) → actions_of trace member ≡ map sent (starts_of member starts) ++ responses next member n (next.initial member n) (notes_of (actions_of trace member))

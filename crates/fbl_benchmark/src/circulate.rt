@@ -7,8 +7,8 @@ use fbl_base::{Behaviour, Member, Note, Outcome, Relay};
 pub struct Circulate;
 
 impl Behaviour for Circulate {
-    ghost use Rattle.std.proofs.Common.{rules, refl};
     ghost use Rattle.fbl_base.specs.Steps.{numbered_from_0};
+    ghost use Rattle.fbl_base.specs.Numeric.{by_sends};
     ghost use Rattle.fbl_benchmark.specs.Circulation.{circulate_step, circulate_sends_allowed};
 
     type State = u64;
@@ -17,13 +17,9 @@ impl Behaviour for Circulate {
 
     ghost next = { numbered_from_0 circulate_step };
 
-    ghost sends_allowed = { circulate_sends_allowed };
+    ghost laws = { by_sends circulate_sends_allowed };
 
-    ghost of_types = { record { starts = refl; states = refl; notes = refl } };
-
-    ghost fits = { Prim.search rules };
-
-    fn initial() -> u64 {
+    fn initial(_me: Member, _n: u8) -> u64 {
         0
     }
 

@@ -17,8 +17,8 @@ const MODULUS: u64 = 1_000_000_007;
 pub struct LongCirculate;
 
 impl Behaviour for LongCirculate {
-    ghost use Rattle.std.proofs.Common.{rules, refl};
     ghost use Rattle.fbl_base.specs.Steps.{numbered_from_0};
+    ghost use Rattle.fbl_base.specs.Numeric.{by_sends};
     ghost use Rattle.fbl_benchmark.specs.Circulation.{long_circulate_step, long_circulate_sends_allowed};
 
     type State = u64;
@@ -27,13 +27,9 @@ impl Behaviour for LongCirculate {
 
     ghost next = { numbered_from_0 long_circulate_step };
 
-    ghost sends_allowed = { long_circulate_sends_allowed };
+    ghost laws = { by_sends long_circulate_sends_allowed };
 
-    ghost of_types = { record { starts = refl; states = refl; notes = refl } };
-
-    ghost fits = { Prim.search rules };
-
-    fn initial() -> u64 {
+    fn initial(_me: Member, _n: u8) -> u64 {
         0
     }
 

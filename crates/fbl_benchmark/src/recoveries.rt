@@ -2,7 +2,7 @@
 
 use crate::circulate::Circulate;
 use crate::long_circulate::LongCirculate;
-use crate::ring::{deliver_many, group_of, next_member};
+use crate::ring::{NOTE, deliver_many, group_of, next_member};
 use crate::times::{TRIES, microseconds_since, print_rate};
 use anyhow::Result;
 use fbl_base::{Behaviour, Member, MemberSet, Note};
@@ -31,7 +31,7 @@ pub fn time_recoveries(rt: &HostRuntime) -> Result<()> {
 
 /// Times the recovery of the member that has received last.
 fn time_recovery<B: Behaviour<State = u64, Note = Note>>(rt: &HostRuntime, name: &str, checkpointed: bool) -> Result<()> {
-    let mut group = group_of::<B>(rt.alloc(), MEMBERS, LOST)?;
+    let mut group = group_of::<B>(rt.alloc(), MEMBERS, LOST, NOTE)?;
     deliver_and_checkpoint(&mut group, checkpointed)?;
     let (recovered, least) = try_recoveries(rt, &mut group)?;
     println!(rt;

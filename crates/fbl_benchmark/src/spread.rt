@@ -13,8 +13,8 @@ const LEAST: u8 = 5;
 pub struct Spread;
 
 impl Behaviour for Spread {
-    ghost use Rattle.std.proofs.Common.{rules, refl};
     ghost use Rattle.fbl_base.specs.Steps.{numbered_from_0};
+    ghost use Rattle.fbl_base.specs.Numeric.{by_sends};
     ghost use Rattle.fbl_benchmark.specs.Spreading.{spread_step, spread_sends_allowed};
 
     type State = u64;
@@ -23,13 +23,9 @@ impl Behaviour for Spread {
 
     ghost next = { numbered_from_0 spread_step };
 
-    ghost sends_allowed = { spread_sends_allowed };
+    ghost laws = { by_sends spread_sends_allowed };
 
-    ghost of_types = { record { starts = refl; states = refl; notes = refl } };
-
-    ghost fits = { Prim.search rules };
-
-    fn initial() -> u64 {
+    fn initial(_me: Member, _n: u8) -> u64 {
         0
     }
 

@@ -21,7 +21,7 @@ module _ {S N : Type 0} {next : Next S N} {old now : GroupRecord S N} {rebuilt :
   size = ready.replayed.replaying.size
 
   abbrev left : List (Event N)
-  left = filter (λ e. stays_by old.down (λ p. slice_index_or rebuilt p (blank old.initial)) (mark_of e)) old.trace
+  left = filter (λ e. stays_by old.down (λ p. slice_index_or rebuilt p (blank old.outside)) (mark_of e)) old.trace
 
   left-is : left ≡ recovered_trace old
   left-is = recovered_trace-rebuilt next old sound rebuilt ready.replayed.replaying ready.replayed.waiting
@@ -42,7 +42,7 @@ module _ {S N : Type 0} {next : Next S N} {old now : GroupRecord S N} {rebuilt :
         (sent_again-short old.config.f old.down (working old rebuilt) q p 8192 (working-log next old sound rebuilt ready.replayed.replaying q (omega (arith, all, below_q))))
 
   -- the trace that is cut
-  module _ {s : Members} {rest : List (Event N)} (is_down : s ≡ now.down) (is_cut : rest ≡ filter (λ e. stays_by s (λ p. slice_index_or rebuilt p (blank old.initial)) (mark_of e)) old.trace) where
+  module _ {s : Members} {rest : List (Event N)} (is_down : s ≡ now.down) (is_cut : rest ≡ filter (λ e. stays_by s (λ p. slice_index_or rebuilt p (blank old.outside)) (mark_of e)) old.trace) where
     same-down : s ≡ old.down
     same-down = rw view is_down
 
@@ -76,7 +76,7 @@ module _ {S N : Type 0} {next : Next S N} {old now : GroupRecord S N} {rebuilt :
 
       -- the group that is left
       module _ {members : List (MemberRecord S N)} {channels : List (List (List (Message N)))} {down : Members} {n : ℕ} {records : List (MemberRecord S N)} (again : List (List (List (Message N))))
-          (all : n ≡ old.config.members) (same : records ≡ rebuilt) (each : AreSentAgain now records again) (put : AreRecordsReplaced old.initial s (λ m. slice_index_or rebuilt m (blank old.initial)) old.members members)
+          (all : n ≡ old.config.members) (same : records ≡ rebuilt) (each : AreSentAgain now records again) (put : AreRecordsReplaced old.outside s (λ m. slice_index_or rebuilt m (blank old.outside)) old.members members)
           (replaced : AreReplaced n old.down (channel_in again) old.channels channels) (nobody_down : down ≡ set.empty) where
         abbrev new : GroupRecord S N
         new = record old { members = members; channels = channels; trace = rest; down = down; undone_ever = old.undone_ever + undone }
@@ -84,7 +84,7 @@ module _ {S N : Type 0} {next : Next S N} {old now : GroupRecord S N} {rebuilt :
         again-is : AreSentAgain old rebuilt again
         again-is = made again all same each
 
-        placed : AreRecordsReplaced old.initial old.down (λ m. slice_index_or rebuilt m (blank old.initial)) old.members members
+        placed : AreRecordsReplaced old.outside old.down (λ m. slice_index_or rebuilt m (blank old.outside)) old.members members
         placed = (rw same-down at put)
 
         remade : AreReplaced old.config.members old.down (channel_in again) old.channels channels
@@ -114,7 +114,7 @@ module _ {S N : Type 0} {next : Next S N} {old now : GroupRecord S N} {rebuilt :
 
         is_rebuilt : IsRebuilt old new rebuilt
         is_rebuilt =
-            let table = λ (m : ℕ). with-table (slice_index_or rebuilt m (blank old.initial)) (recovery_table (knowledge old)) in
+            let table = λ (m : ℕ). with-table (slice_index_or rebuilt m (blank old.outside)) (recovery_table (knowledge old)) in
             grind (arith, nobody_down, placed, remade.shape, survive, cut-left, left-is, undone-left, marks_left, ready.tables, table, sound.members, resent_on)
 
         is_recovery : IsRecovery next old new
@@ -125,7 +125,7 @@ module _ {S N : Type 0} {next : Next S N} {old now : GroupRecord S N} {rebuilt :
 
         -- what is answered, from the number of receipts that were replayed and of messages that are sent again
         pub recovers : {replays messages : ℕ} {saved : List (MemberRecord S N)}
-            → replays ≡ count_in s (λ p. (slice_index_or rebuilt p (blank old.initial)).received - (slice_index_or saved p (blank old.initial)).received) n
+            → replays ≡ count_in s (λ p. (slice_index_or rebuilt p (blank old.outside)).received - (slice_index_or saved p (blank old.outside)).received) n
             → saved ≡ old.checkpoints → messages ≡ messages_in n again
             → Recovers next now new (record { replayed = replays; resent = messages; undone = undone })
         recovers replayed is_saved resent = rw (← view) (record {

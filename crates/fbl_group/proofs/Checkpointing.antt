@@ -17,7 +17,7 @@ module _ {S N : Type 0} {next : Next S N} {old now : GroupRecord S N} (sound : I
   kept = record {
     nobody_down = sets.empty_of_len old.down (rw view nobody);
     below = within;
-    saved = rw (is_place, same, read_at old.initial old.members is_place (omega (arith, within, sound.members)) is) refl;
+    saved = rw (is_place, same, read_at old.outside old.members is_place (omega (arith, within, sound.members)) is) refl;
   }
 
   pub is_checkpoint : IsCheckpoint now new p

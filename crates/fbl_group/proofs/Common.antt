@@ -72,7 +72,7 @@ pub use Rattle.fbl_group.specs.Deliveries.{Delivered, Delivers, IsDeliverRefusal
 pub use Rattle.fbl_group.specs.Rebuilding.{AreByNumber, HasReplayed, IsReady, Rounds, Tries}
 pub use Rattle.fbl_group.specs.Recoveries.{Recovers, messages_at}
 pub use Rattle.fbl_group.specs.Strikes.{AreRecordsReplaced, is_lost_receipt_of, is_within, lost_receipts, strike_refusal}
-pub use Rattle.fbl_group.specs.Tickets.{IsCommitRefusal, IsTicket, commit_refusal, is_current, is_full, take_refusal}
+pub use Rattle.fbl_group.specs.Tickets.{IsCurrent, IsFresh, IsTicket, MayCommit, RefusesCommit, is_full, sends_at, take_refusal}
 pub use Rattle.fbl_group.specs.declared.answers.Receipted.{Receipted}
 pub use Rattle.fbl_group.specs.declared.channels.Channels.{Channels}
 pub use Rattle.fbl_group.specs.declared.refusals.CommitRefusal.{CommitRefusal}

@@ -90,7 +90,7 @@ module _ {S N : Type 0} {next : Next S N} {r now : GroupRecord S N} {q p : ℕ} 
       -- and what is read at the member's place is its record
       module _ {place : ℕ} {x : MemberRecord S N} (at_place : place ≡ p) (read : x ≡ get_or r.members place x) where
         is_m : x ≡ m
-        is_m = read_at r.initial r.members at_place (omega (arith, plan.to_member, sound.members)) read
+        is_m = read_at r.outside r.members at_place (omega (arith, plan.to_member, sound.members)) read
 
         pub reads : {n : ℕ} → n ≡ r.config.members → Reads next n p outcome w x
         reads is =

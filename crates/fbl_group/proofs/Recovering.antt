@@ -7,8 +7,8 @@ use Rattle.std.specs.FinSet as set
 
 module _ {S N : Type 0} where
   -- a record that is read at a place of the list, whatever stands past its end
-  pub read_at : (initial : S) (ms : List (MemberRecord S N)) {place i : ℕ} {m : MemberRecord S N} → place ≡ i → i < length ms → m ≡ get_or ms place m → m ≡ slice_index_or ms i (blank initial)
-  read_at initial ms {i = i} {m = m} is below read = grind (arith, get_or_default)
+  pub read_at : (outside : S) (ms : List (MemberRecord S N)) {place i : ℕ} {m : MemberRecord S N} → place ≡ i → i < length ms → m ≡ get_or ms place m → m ≡ slice_index_or ms i (blank outside)
+  read_at outside ms {i = i} {m = m} is below read = grind (arith, get_or_default)
 
   -- a round so far: what is so of the replay, and of the tries of the members below i
   pub record Rounding (next : Next S N) (r : GroupRecord S N) (i : ℕ) (first now : List (MemberRecord S N)) (moved : Bool) : Type 0 where
@@ -27,7 +27,7 @@ module _ {S N : Type 0} {next : Next S N} {r : GroupRecord S N} {i : ℕ} {first
 
 module _ {S N : Type 0} {next : Next S N} {r : GroupRecord S N} (sound : IsSound next r) where
   pub begun : {rebuilt : List (MemberRecord S N)} {i : ℕ} → i ≡ r.config.members
-      → Made (blank r.initial) (λ p x. set.contains r.down p ≡ true → x ≡ record (member_checkpoint r p) { table = [] }) i rebuilt → IsReplaying next r rebuilt
+      → Made (blank r.outside) (λ p x. set.contains r.down p ≡ true → x ≡ record (member_checkpoint r p) { table = [] }) i rebuilt → IsReplaying next r rebuilt
   begun {rebuilt = rebuilt} all made =
       replaying-tables next r sound r.checkpoints (replay_begins next r sound r.checkpoints sound.checkpoints (λ p below down. refl)) rebuilt []
       (made.size ∙ all ∙ sym sound.checkpoints) (λ p below down. made.each p (omega (arith, all, below)) down)
@@ -35,15 +35,15 @@ module _ {S N : Type 0} {next : Next S N} {r : GroupRecord S N} (sound : IsSound
   -- what one try needs, and what it leaves
   module _ {rebuilt : List (MemberRecord S N)} {p place : ℕ} {m : MemberRecord S N} (replaying : IsReplaying next r rebuilt) (down : set.contains r.down p ≡ true) (is_place : place ≡ p)
       (read : m ≡ get_or rebuilt place m) where
-    pub is-record : m ≡ slice_index_or rebuilt p (blank r.initial)
-    is-record = read_at r.initial rebuilt is_place (omega (arith, sound.down p down, replaying.size)) read
+    pub is-record : m ≡ slice_index_or rebuilt p (blank r.outside)
+    is-record = read_at r.outside rebuilt is_place (omega (arith, sound.down p down, replaying.size)) read
 
     -- the receipt that is sought by its number: the next one is beyond the checkpoint
     module _ {numbered : List (List (Option Determinant))} {rsn : ℕ} {answer : Option Determinant} (by_number : AreByNumber r numbered)
         (sought : answer ≡ receipt_at (slice_index_or numbered p []) (rsn + 1)) (is_rsn : rsn ≡ m.received) where
-      pub looked-up : answer ≡ found p ((slice_index_or rebuilt p (blank r.initial)).received + 1) (recovery_table (knowledge r))
+      pub looked-up : answer ≡ found p ((slice_index_or rebuilt p (blank r.outside)).received + 1) (recovery_table (knowledge r))
       looked-up =
-          let received : rsn ≡ (slice_index_or rebuilt p (blank r.initial)).received = is_rsn ∙ ap (λ (x : MemberRecord S N). x.received) is-record in
+          let received : rsn ≡ (slice_index_or rebuilt p (blank r.outside)).received = is_rsn ∙ ap (λ (x : MemberRecord S N). x.received) is-record in
           let beyond : nat_lt (member_checkpoint r p).received (rsn + 1) ≡ true = grind (arith, nat_tests, replaying.begun p (sound.down p down) down) in
           rw (← received) (sought ∙ by_number.each p (sound.down p down) down (rsn + 1) ∙ rw beyond refl)
 
@@ -51,7 +51,7 @@ module _ {S N : Type 0} {next : Next S N} {r : GroupRecord S N} (sound : IsSound
       from-member {d} is = (replaying-next next r sound rebuilt replaying p (sound.down p down) down d (sym looked-up ∙ is)).from
 
     -- it is there, and its message is sent again
-    module _ {d : Determinant} {note : N} {n : ℕ} (is-found : found p ((slice_index_or rebuilt p (blank r.initial)).received + 1) (recovery_table (knowledge r)) ≡ Some d)
+    module _ {d : Determinant} {note : N} {n : ℕ} (is-found : found p ((slice_index_or rebuilt p (blank r.outside)).received + 1) (recovery_table (knowledge r)) ≡ Some d)
         (logged : logged_note (working r rebuilt d.from).log d.ssn ≡ Some note) (all : n ≡ r.config.members) where
       pub replays-one : {after : MemberRecord S N} → after ≡ replayed_by next p n m d note → Tries next r p rebuilt (slice_set rebuilt place after) true
       replays-one is_after = rw (is_place, is_after, all, is-record) (
@@ -64,7 +64,7 @@ module _ {S N : Type 0} {next : Next S N} {r : GroupRecord S N} (sound : IsSound
 
   -- the tables are given
   module _ {before : List (MemberRecord S N)} (after : List (MemberRecord S N)) (replayed : HasReplayed next r before) (size : length after ≡ length before)
-      (given : (p : ℕ) → p < r.config.members → IsDown (knowledge r) p → slice_index_or after p (blank r.initial) ≡ record (slice_index_or before p (blank r.initial)) { table = recovery_table (knowledge r) }) where
+      (given : (p : ℕ) → p < r.config.members → IsDown (knowledge r) p → slice_index_or after p (blank r.outside) ≡ record (slice_index_or before p (blank r.outside)) { table = recovery_table (knowledge r) }) where
     same-log : (q : ℕ) → q < r.config.members → (working r after q).log ≡ (working r before q).log
     same-log q below = grind (arith, given q below)
 

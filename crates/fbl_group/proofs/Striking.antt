@@ -38,7 +38,7 @@ module _ {S N : Type 0} where
 
 -- what a strike that is allowed leaves
 module _ {S N : Type 0} {next : Next S N} {old : GroupRecord S N} {struck down : Members} {members : List (MemberRecord S N)} {channels : List (List (List (Message N)))} (sound : IsSound next old)
-    (allowed : strike_refusal old struck ≡ None) (blanked : AreRecordsReplaced old.initial struck (λ m. blank old.initial) old.members members)
+    (allowed : strike_refusal old struck ≡ None) (blanked : AreRecordsReplaced old.outside struck (λ m. blank (next.initial m old.config.members)) old.members members)
     (emptied : AreReplaced old.config.members struck (λ q p. []) old.channels channels) (joined : down ≡ sets.union old.down struck) where
   abbrev new : GroupRecord S N
   new = record old { members = members; channels = channels; down = down }
@@ -52,10 +52,10 @@ module _ {S N : Type 0} {next : Next S N} {old : GroupRecord S N} {struck down :
   emptied_where q p = grind (arith, get_or_past, emptied.each q p)
 
   -- those that are struck are of the group, and have blank records
-  struck_blank : (m : ℕ) → sets.contains struck m ≡ true → slice_index_or members m (blank old.initial) ≡ blank old.initial
+  struck_blank : (m : ℕ) → sets.contains struck m ≡ true → slice_index_or members m (blank old.outside) ≡ blank (next.initial m old.config.members)
   struck_blank m is = blanked.replaced m (omega (arith, sound.members, within-below struck old.config.members (grind (arith, nat_tests)) m is)) is
 
-  pub is_strike : IsStrike old new struck
+  pub is_strike : IsStrike next old new struck
   is_strike =
       grind (arith, struck_blank, blanked.size, blanked.others, emptied, emptied_where, both_down, sound.blanks, sound.down, sound.causes.down.channels)
 

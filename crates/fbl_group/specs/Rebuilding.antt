@@ -38,4 +38,4 @@ pub record HasReplayed {S N : Type 0} (next : Next S N) (r : GroupRecord S N) (r
 -- and has the gathered table
 pub record IsReady {S N : Type 0} (next : Next S N) (r : GroupRecord S N) (rebuilt : List (MemberRecord S N)) : Type 0 where
   pub replayed : HasReplayed next r rebuilt
-  pub tables : (p : ℕ) → p < r.config.members → IsDown (knowledge r) p → (slice_index_or rebuilt p (blank r.initial)).table ≡ recovery_table (knowledge r)
+  pub tables : (p : ℕ) → p < r.config.members → IsDown (knowledge r) p → (slice_index_or rebuilt p (blank r.outside)).table ≡ recovery_table (knowledge r)

@@ -6,6 +6,7 @@ use Rattle.fbl_base.specs.MemberSets.{Members}
 use Rattle.fbl_base.specs.declared.trace.Determinant.{Determinant}
 use Rattle.fbl_base.specs.declared.trace.Event.{Event}
 use Rattle.fbl_base.specs.Events.{determinant_of, mark_of}
+use Rattle.fbl_base.specs.Fold.{Next}
 use Rattle.fbl_member.specs.Members.{MemberRecord, blank}
 use Rattle.fbl_law.specs.Groups.{GroupRecord, marks, receipts, is_recorded, is_recorded_among}
 use Rattle.fbl_law.specs.GroupSteps.{IsStrike}
@@ -39,11 +40,11 @@ abbrev pub is_lost_receipt_of : {S N : Type 0} → Members → List (MemberRecor
 is_lost_receipt_of s members checkpoints event = is_unheld s members checkpoints (determinant_of (mark_of event))
 
 -- exactly the records of the members of the set are replaced, by these
-pub record AreRecordsReplaced {S N : Type 0} (initial : S) (s : Members) (by : ℕ → MemberRecord S N) (old new : List (MemberRecord S N)) : Type 0 where
+pub record AreRecordsReplaced {S N : Type 0} (outside : S) (s : Members) (by : ℕ → MemberRecord S N) (old new : List (MemberRecord S N)) : Type 0 where
   pub size : length new ≡ length old
-  pub replaced : (m : ℕ) → m < length old → set.contains s m ≡ true → slice_index_or new m (blank initial) ≡ by m
-  pub others : (m : ℕ) → set.contains s m ≡ false → slice_index_or new m (blank initial) ≡ slice_index_or old m (blank initial)
+  pub replaced : (m : ℕ) → m < length old → set.contains s m ≡ true → slice_index_or new m (blank outside) ≡ by m
+  pub others : (m : ℕ) → set.contains s m ≡ false → slice_index_or new m (blank outside) ≡ slice_index_or old m (blank outside)
 
 -- a strike of these members leads from old to new, and answers how many receipts are lost
-abbrev pub Strikes : {S N : Type 0} → GroupRecord S N → GroupRecord S N → Members → Struck → Type 0
-Strikes old new struck answer = IsStrike old new struck × (answer.lost ≡ length (lost_receipts new))
+abbrev pub Strikes : {S N : Type 0} → Next S N → GroupRecord S N → GroupRecord S N → Members → Struck → Type 0
+Strikes next old new struck answer = IsStrike next old new struck × (answer.lost ≡ length (lost_receipts new))

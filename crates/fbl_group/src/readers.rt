@@ -1,6 +1,6 @@
 //! What a group answers of itself.
 
-ghost use Rattle.std.specs.Prelude.{◌≡◌, ℕ, ◌<◌, ◌≤◌, ◌+◌, length};
+ghost use Rattle.std.specs.Prelude.{◌≡◌, ℕ, ◌<◌, ◌≤◌, ◌+◌, length, if◌then◌else◌};
 ghost use Rattle.fbl_base.specs.MemberSets.{AllBelow};
 ghost use Rattle.fbl_base.specs.Fold.{state_after};
 ghost use Rattle.fbl_law.specs.Knowledge.{IsOrphan, IsUp, IsDown};
@@ -25,15 +25,15 @@ impl<B: Behaviour, A: Allocator + Copy> Group<B, A> {
         &self.config
     }
 
-    /// The member's state, the first one if it is down. The member is one of the group.
+    /// The member's state, its first one if it is down. The member is one of the group.
     ///
-    /// Where it is up, its causes are the receipts that the trace names: the state is what the steps make of the first state and
+    /// Where it is up, its causes are the receipts that the trace names: the state is what the steps make of its first state and
     /// of the notes that the member received, in their order.
     pub fn state(&self, member: Member) -> B::State
         requires { member < self.now.config.members }
         ensures value { result ≡ (record_of self.now member).state }
         ensures causes { IsUp (knowledge self.now) member → result ≡ state_after B.next member self.now.config.members (received_notes self.now.trace member) }
-        ensures down { IsDown (knowledge self.now) member → result ≡ B.next.initial }
+        ensures down { IsDown (knowledge self.now) member → result ≡ B.next.initial member self.now.config.members }
     {
         self.record(member).state()
     }
@@ -199,16 +199,29 @@ impl<B: Behaviour, A: Allocator + Copy> Group<B, A> {
 }
 
 impl<B: Behaviour<State = u64>, A: Allocator + Copy> Group<B, A> {
-    /// The sum of the members' states, of which that of a member that is down is 0.
+    /// The sum of the states of the members that are up.
     pub fn sum_of_states(&self) -> u128
         ensures value { result ≡ weight_held (λ me state. state) self.now }
         ensures bound { result ≤ 295147905179352825840 }
     {
         let mut sum = 0u128;
         for number in 0..self.config.members() {
-            sum += u128::from(self.state(Member::at(number)));
+            sum += self.weight(Member::at(number));
         }
         sum
+    }
+
+    /// The member's state, or 0 if it is down.
+    fn weight(&self, member: Member) -> u128
+        requires { member < self.now.config.members }
+        ensures value { result ≡ (if set.contains self.now.down member then 0 else (record_of self.now member).state) }
+        ensures bound { result ≤ 18446744073709551615 }
+    {
+        if self.down().has(member) {
+            0
+        } else {
+            u128::from(self.state(member))
+        }
     }
 }
 

@@ -19,15 +19,15 @@ use std::mem;
 pub(crate) struct Rebuilt<S, N, A: Allocator> {
     pub(crate) down: MemberSet,
     pub(crate) records: Vec<MemberRec<S, N, A>, A>,
-    /// The state in which members begin.
-    pub(crate) initial: S,
+    /// The state that stands for that of a number that is no member's.
+    pub(crate) outside: S,
 }
 
 impl<S: Copy, N: Content, A: Allocator + Copy> Rebuilt<S, N, A> {
     /// How many receipts the members that are down have beyond these checkpoints, of `n` members.
     pub(crate) fn replayed(&self, checkpoints: &[MemberRec<S, N, A>], n: u8) -> u32
         requires { n ≤ 16 }
-        ensures { (initial : S) → result ≡ count_in self.now.down (λ p. (slice_index_or self.now.records.items p (blank initial)).received - (slice_index_or checkpoints.now p (blank initial)).received) n }
+        ensures { (outside : S) → result ≡ count_in self.now.down (λ p. (slice_index_or self.now.records.items p (blank outside)).received - (slice_index_or checkpoints.now p (blank outside)).received) n }
     {
         let mut replayed = 0;
         for number in 0..n {
@@ -38,7 +38,7 @@ impl<S: Copy, N: Content, A: Allocator + Copy> Rebuilt<S, N, A> {
 
     /// How many receipts the member has beyond its checkpoint, if it is down.
     fn replayed_by(&self, checkpoints: &[MemberRec<S, N, A>], member: Member) -> u32
-        ensures value { (initial : S) → result ≡ (if set.contains self.now.down member then (slice_index_or self.now.records.items member (blank initial)).received - (slice_index_or checkpoints.now member (blank initial)).received else 0) }
+        ensures value { (outside : S) → result ≡ (if set.contains self.now.down member then (slice_index_or self.now.records.items member (blank outside)).received - (slice_index_or checkpoints.now member (blank outside)).received else 0) }
         ensures bound { result ≤ 8192 }
     {
         if self.down.has(member) {
@@ -53,7 +53,7 @@ impl<S: Copy, N: Content, A: Allocator + Copy> Rebuilt<S, N, A> {
 
     /// How many messages the member has sent.
     fn sent(&self, member: Member) -> u32
-        ensures { result ≡ length (slice_index_or self.now.records.items member (blank self.now.initial)).log }
+        ensures { result ≡ length (slice_index_or self.now.records.items member (blank self.now.outside)).log }
     {
         match self.records.get(usize::from(member.number())) {
             Some(record) => record.sent(),
@@ -63,7 +63,7 @@ impl<S: Copy, N: Content, A: Allocator + Copy> Rebuilt<S, N, A> {
 
     /// Whether the event's member is up, or has come as far again as the event.
     fn stays(&self, event: &Event<N>) -> bool
-        ensures { result ≡ stays_by self.now.down (λ p. slice_index_or self.now.records.items p (blank self.now.initial)) (mark_of event.now) }
+        ensures { result ≡ stays_by self.now.down (λ p. slice_index_or self.now.records.items p (blank self.now.outside)) (mark_of event.now) }
     {
         match *event {
             Event::Send {
@@ -83,7 +83,7 @@ impl<S: Copy, N: Content, A: Allocator + Copy> Rebuilt<S, N, A> {
 
     /// Drops the events that come after the replay of the members that are down.
     pub(crate) fn cut(&self, trace: &mut Vec<Event<N>, A>)
-        ensures { trace.new.items ≡ filter (λ e. stays_by self.now.down (λ p. slice_index_or self.now.records.items p (blank self.now.initial)) (mark_of e)) trace.old.items }
+        ensures { trace.new.items ≡ filter (λ e. stays_by self.now.down (λ p. slice_index_or self.now.records.items p (blank self.now.outside)) (mark_of e)) trace.old.items }
     {
         trace.retain(|event| self.stays(event));
     }
@@ -93,12 +93,12 @@ impl<S: Copy, N: Content, A: Allocator + Copy> Rebuilt<S, N, A> {
         requires members { vec_len members.old ≡ n }
         requires records { vec_len self.records ≡ n }
         requires few { n ≤ 16 }
-        ensures { (initial : S) → AreRecordsReplaced initial self.down (λ m. slice_index_or self.records.items m (blank initial)) members.old.items members.new.items }
+        ensures { (outside : S) → AreRecordsReplaced outside self.down (λ m. slice_index_or self.records.items m (blank outside)) members.old.items members.new.items }
     {
         let Rebuilt {
             down,
             mut records,
-            initial: _,
+            outside: _,
         } = self;
         for number in 0..n {
             let place = usize::from(number);
@@ -114,7 +114,7 @@ fn received_in<S: Copy, N: Content, A: Allocator + Copy>(
     records: &[MemberRec<S, N, A>],
     member: Member,
 ) -> u32
-    ensures value { (initial : S) → result ≡ (slice_index_or records.now member (blank initial)).received }
+    ensures value { (outside : S) → result ≡ (slice_index_or records.now member (blank outside)).received }
     ensures bound { result ≤ 8192 }
 {
     match records.get(usize::from(member.number())) {

@@ -42,7 +42,7 @@ impl<B: Behaviour, A: Allocator + Copy> Group<B, A> {
     pub(crate) fn rebuild(&self) -> Result<Rebuilt<B::State, B::Note, A>, AllocError>
         ensures ready { IfOk result (λ rebuilt. IsReady B.next self.now rebuilt.records.items) }
         ensures down { IfOk result (λ rebuilt. rebuilt.down ≡ self.now.down) }
-        ensures initial { IfOk result (λ rebuilt. rebuilt.initial ≡ B.next.initial) }
+        ensures outside { IfOk result (λ rebuilt. rebuilt.outside ≡ B.next.initial 0 self.now.config.members) }
     {
         let gathered = self.gather()?;
         let mut rebuilt = self.begin()?;
@@ -51,7 +51,7 @@ impl<B: Behaviour, A: Allocator + Copy> Group<B, A> {
         Ok(Rebuilt {
             down: self.down,
             records: rebuilt,
-            initial: B::initial(),
+            outside: B::initial(Member::at(0), self.size()),
         })
     }
 
@@ -82,7 +82,7 @@ impl<B: Behaviour, A: Allocator + Copy> Group<B, A> {
 
     /// Gathers the tables of the checkpoints of the members that are down, in member order.
     fn gather_saved(&self, gathered: &mut Table<A>) -> Result<(), AllocError>
-        ensures { OnOk result (gathered.new ≡ gathered_all gathered.old (saved_tables self.now.initial self.now.down self.now.checkpoints self.now.config.members)) }
+        ensures { OnOk result (gathered.new ≡ gathered_all gathered.old (saved_tables self.now.outside self.now.down self.now.checkpoints self.now.config.members)) }
     {
         for number in 0..self.size() {
             let member = Member::at(number);
@@ -147,7 +147,7 @@ impl<B: Behaviour, A: Allocator + Copy> Group<B, A> {
             let checkpoint = &self.checkpoints[usize::from(member.number())];
             checkpoint.copy_with(Table::for_limit(alloc, f))
         } else {
-            Ok(MemberRec::blank(alloc, f, B::initial()))
+            Ok(MemberRec::blank(alloc, f, B::initial(member, self.size())))
         }
     }
 
@@ -201,7 +201,7 @@ impl<B: Behaviour, A: Allocator + Copy> Group<B, A> {
         requires gathered { IsGathered self.now gathered.now.table gathered.now.receipts.items }
         requires down { set.contains self.now.down member ≡ true }
         requires replaying { IsReplaying B.next self.now rebuilt.now.items }
-        ensures found { IfSome result (λ next. found member ((slice_index_or rebuilt.now.items member (blank self.now.initial)).received + 1) (recovery_table (knowledge self.now)) ≡ Some next.0) }
+        ensures found { IfSome result (λ next. found member ((slice_index_or rebuilt.now.items member (blank self.now.outside)).received + 1) (recovery_table (knowledge self.now)) ≡ Some next.0) }
         ensures sent { IfSome result (λ next. logged_note (working self.now rebuilt.now.items next.0.from).log next.0.ssn ≡ Some next.1) }
         ensures waits { IfNone result (IsWaiting self.now rebuilt.now.items member) }
         ensures sound { IsSound B.next self.now }

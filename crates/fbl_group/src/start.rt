@@ -17,10 +17,10 @@ use std::alloc::{AllocError, Allocator};
 use std::marker::PhantomData;
 
 impl<B: Behaviour, A: Allocator + Copy> Group<B, A> {
-    /// A group of these parameters in which the starts are sent and nothing is received yet. Each member's first checkpoint
-    /// is its fresh record. `Err` comes only where there is no memory for the group; the configuration is dropped then.
+    /// A group of these parameters in which the starts are sent and nothing is received yet. Each member begins in its first
+    /// state, and its first checkpoint is its fresh record. `Err` comes only where there is no memory for the group; the configuration is dropped then.
     pub fn new(alloc: A, config: Config<B::Note, A>) -> Result<Group<B, A>, AllocError>
-        ensures { IfOk result (λ g. IsGroupStart B.next.initial config g) }
+        ensures { IfOk result (λ g. IsGroupStart B.next config g) }
     {
         let members = fresh_members::<B, A>(alloc, &config)?;
         let checkpoints = fresh_members::<B, A>(alloc, &config)?;

@@ -24,7 +24,7 @@ impl<B: Behaviour, A: Allocator + Copy> Group<B, A> {
     /// named again. Checkpoints stay. The answer counts all receipts that are lost then: those that neither the table of a
     /// survivor nor a checkpoint has. It takes no memory. After a refusal the group is unchanged.
     pub fn strike(&mut self, set: MemberSet) -> Result<Struck, StrikeRefusal>
-        ensures struck { IfOk result (λ answer. (strike_refusal self.old set ≡ None) × Strikes self.old self.new set answer) }
+        ensures struck { IfOk result (λ answer. (strike_refusal self.old set ≡ None) × Strikes B.next self.old self.new set answer) }
         ensures refused { IfErr result (λ refusal. strike_refusal self.old set ≡ Some refusal) }
         ensures unchanged { OnErr result (self.new ≡ self.old) }
         ensures no_orphan { (m : ℕ) → ¬ (IsOrphan (knowledge self.new) m) }
@@ -35,14 +35,9 @@ impl<B: Behaviour, A: Allocator + Copy> Group<B, A> {
         // what is so of each group stays so where the strike is refused, and is so of the one that it leaves
         self.promises();
         self.allow_strike(set)?;
-        blank_members(
-            &mut self.members,
-            set,
-            self.config.members(),
-            self.config.f(),
-            B::initial(),
-        );
-        self.channels.drop_at(set, self.config.members());
+        let n = self.config.members();
+        blank_members::<B, A>(&mut self.members, set, n, self.config.f());
+        self.channels.drop_at(set, n);
         self.down = self.down.union(set);
         self.promises();
         // Each receipt of a member that is up is held, so that those of members that are down are counted alone.
@@ -176,22 +171,23 @@ fn is_held_in<S: Copy, N: Content, A: Allocator + Copy>(
         .any(|record| record.table().holds(determinant))
 }
 
-/// Makes the records of the members named blank.
-fn blank_members<S: Copy, N: Content, A: Allocator + Copy>(
-    members: &mut Vec<MemberRec<S, N, A>, A>,
+/// Makes the records of the members named blank, of `n`: each is in its member's first state.
+fn blank_members<B: Behaviour, A: Allocator + Copy>(
+    members: &mut Vec<MemberRec<B::State, B::Note, A>, A>,
     set: MemberSet,
     n: u8,
     f: u8,
-    first: S,
 )
     requires size { vec_len members.old ≡ n }
-    requires few { n ≤ 16 }
-    ensures { AreRecordsReplaced first set (λ m. blank first) members.old.items members.new.items }
+    requires least { 2 ≤ n }
+    requires most { n ≤ 16 }
+    ensures { AreRecordsReplaced (B.next.initial 0 n) set (λ m. blank (B.next.initial m n)) members.old.items members.new.items }
 {
     let alloc = *members.allocator();
     for number in 0..n {
         let member = Member::at(number);
         if set.has(member) {
+            let first = B::initial(member, n);
             make_blank(&mut members[usize::from(number)], alloc, f, first);
         }
     }

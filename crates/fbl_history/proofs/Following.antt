@@ -37,10 +37,10 @@ pub record IsNextReceipt (next : Next ℕ Note) (r : GroupRecord ℕ Note) (memb
 
 module _ {next : Next ℕ Note} {r : GroupRecord ℕ Note} {members : List (MemberRecord ℕ Note)} {place : ℕ} {d : Determinant} (known : IsNextReceipt next r members place d) where
   abbrev pub sender : MemberRecord ℕ Note
-  sender = slice_index_or members d.from (blank next.initial)
+  sender = slice_index_or members d.from (blank (next.initial 0 r.config.members))
 
   abbrev pub receiver : MemberRecord ℕ Note
-  receiver = slice_index_or members d.to (blank next.initial)
+  receiver = slice_index_or members d.to (blank (next.initial 0 r.config.members))
 
   at-mark : At (marks r) place (Receipt d.to d.rsn d.from d.ssn)
   at-mark = mark-at r.trace place (event.Receipt d.to d.rsn d.from d.ssn) known.here

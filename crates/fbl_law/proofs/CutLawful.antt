@@ -215,5 +215,5 @@ module _ {S N : Type 0} (next : Next S N) (n : ℕ) (starts : List (Start N)) (k
         rw (starts_stay (length starts) t (omega (arith, ap length lawful.starts_first)) stops_at) lawful.starts_first;
     responds = λ p.
         let front = front_left (action_of t p) keeps IsNote t (kept_first p) (stops_at p) in
-        rw (same_actions p) (front_responds next p n next.initial (starts_of p starts) (notes_of (actions_of t p)) _ front.0 front.2 (sym front.1 ∙ lawful.responds p));
+        rw (same_actions p) (front_responds next p n (next.initial p n) (starts_of p starts) (notes_of (actions_of t p)) _ front.0 front.2 (sym front.1 ∙ lawful.responds p));
   }

@@ -186,7 +186,7 @@ module _ {S N : Type 0} (n f : ℕ) (old new : Knowledge S N) (v : Message N) (s
         sound_passed f new x (rw is.0 good_receiver) (rw is.0 is.1)
   ]
   good (in_checkpoint m) there =
-      sound_kept keeps sound (in_checkpoint m) tt (tt, rw (s.checkpoints, s.initial) refl, λ b has owes. still_owes (in_checkpoint m) tt (λ same. cc) b has (rw (s.checkpoints, s.initial) at owes))
+      sound_kept keeps sound (in_checkpoint m) tt (tt, rw (s.checkpoints, s.outside) refl, λ b has owes. still_owes (in_checkpoint m) tt (λ same. cc) b has (rw (s.checkpoints, s.outside) at owes))
 
   pub delivery_keeps : IsSoundKnowledge n f new
-  delivery_keeps = sound_after keeps sound good (λ m. checkpoint_kept keeps sound m (rw (s.checkpoints, s.initial) refl))
+  delivery_keeps = sound_after keeps sound good (λ m. checkpoint_kept keeps sound m (rw (s.checkpoints, s.outside) refl))

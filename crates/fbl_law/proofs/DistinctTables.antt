@@ -41,4 +41,4 @@ module _ {S N : Type 0} where
   -- and what recovery gathers
   pub once_recovery_table : (r : Knowledge S N) → IsOnce (recovery_table r)
   once_recovery_table r =
-      rw map-map (once_gathered_all [] (map (λ (m : MemberRecord S N). m.table) r.members ++ saved_tables r.initial r.down r.checkpoints (length r.checkpoints)) IsOnce-none)
+      rw map-map (once_gathered_all [] (map (λ (m : MemberRecord S N). m.table) r.members ++ saved_tables r.outside r.down r.checkpoints (length r.checkpoints)) IsOnce-none)

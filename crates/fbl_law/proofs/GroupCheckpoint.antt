@@ -25,10 +25,10 @@ module _ {S N : Type 0} (next : Next S N) (old new : GroupRecord S N) (p : ℕ) 
   up = up_if_none s.nobody_down
 
   own : member_checkpoint now p ≡ member old p
-  own = get_or-set_same old.checkpoints p (member old p) (blank old.initial) (omega (arith, s.below, sound.checkpoints))
+  own = get_or-set_same old.checkpoints p (member old p) (blank old.outside) (omega (arith, s.below, sound.checkpoints))
 
   other : (m : ℕ) → m ≢ p → member_checkpoint now m ≡ member_checkpoint old m
-  other m apart = get_or-set_other old.checkpoints p m (member old p) (blank old.initial) apart
+  other m apart = get_or-set_other old.checkpoints p m (member old p) (blank old.outside) apart
 
   is_checkpointed : IsCheckpointed (knowledge old) (knowledge now) p
   is_checkpointed = assumption (

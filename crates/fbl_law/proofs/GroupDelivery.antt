@@ -74,10 +74,10 @@ module _ {S N : Type 0} (next : Next S N) (old new : GroupRecord S N) (v : Messa
   marks_split = rw s.trace (map-append mark_of old.trace added)
 
   receiver_now : member new v.to ≡ receiver next old v
-  receiver_now = rw s.members (get_or-set_same old.members v.to (receiver next old v) (blank new.initial) (omega (arith, s.to_member, sound.members)))
+  receiver_now = rw s.members (get_or-set_same old.members v.to (receiver next old v) (blank new.outside) (omega (arith, s.to_member, sound.members)))
 
   other_now : (m : ℕ) → m ≢ v.to → member new m ≡ member old m
-  other_now m other = rw (s.members, s.initial) (get_or-set_other old.members v.to m (receiver next old v) (blank old.initial) other)
+  other_now m other = rw (s.members, s.outside) (get_or-set_other old.members v.to m (receiver next old v) (blank old.outside) other)
 
   made_same : made next old v ≡ messages_made old.config.f (knowledge old) (knowledge new) v sends
   made_same = rw counts.1 (ap (λ (x : MemberRecord S N). messages_from v.to (sends_of (marks old) v.to) (piggybacked old.config.f x.table) sends) (sym receiver_now))
@@ -94,7 +94,7 @@ module _ {S N : Type 0} (next : Next S N) (old new : GroupRecord S N) (v : Messa
     others = λ m other. ap (λ (x : MemberRecord S N). x.table) (other_now m other);
     channels = λ q p. rw (← made_same) (s.channels q p);
     checkpoints = s.checkpoints;
-    initial = s.initial;
+    outside = s.outside;
   }
 
   abbrev own : Determinant
@@ -151,11 +151,10 @@ module _ {S N : Type 0} (next : Next S N) (old new : GroupRecord S N) (v : Messa
 
   pub group_delivery_keeps : IsSound next new
   group_delivery_keeps = record {
-    initial = s.initial ∙ sound.initial;
     config = rw s.config sound.config;
     members = rw (s.members, s.config) (length-set old.members v.to (receiver next old v) ∙ sound.members);
     checkpoints = rw (s.checkpoints, s.config) sound.checkpoints;
-    saved = λ m below. rw (s.config, s.checkpoints, s.initial) (grown m (member_checkpoint old m) (sound.saved m (rw s.config at below)));
+    saved = λ m below. rw (s.config, s.checkpoints, s.outside) (grown m (member_checkpoint old m) (sound.saved m (rw s.config at below)));
     down = λ q down. never_both new.down q down (up_if_none nobody_down q);
     lawful = rw s.config is_lawful;
     room = rw s.config s.room;

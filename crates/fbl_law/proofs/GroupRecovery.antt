@@ -167,7 +167,7 @@ module _ {S N : Type 0} (next : Next S N) (old new : GroupRecord S N) (step : Is
     channels = step.rest.channels;
     rebuilt = λ q p down. (step.made_again q p down).sends;
     checkpoints = step.rest.checkpoints;
-    initial = step.rest.initial;
+    outside = step.rest.outside;
     messages = λ v flies down. rw step.rest.config at ((step.made_again v.from v.to down).carried v flies);
   }
 
@@ -183,11 +183,10 @@ module _ {S N : Type 0} (next : Next S N) (old new : GroupRecord S N) (step : Is
 
   pub group_recovery_keeps : IsSound next new
   group_recovery_keeps = record {
-    initial = step.rest.initial ∙ sound.initial;
     config = rw step.rest.config sound.config;
     members = rw step.rest.config (step.rest.size ∙ sound.members);
     checkpoints = rw step.rest.config (ap length step.rest.checkpoints ∙ sound.checkpoints);
-    saved = λ m below. rw (step.rest.config, step.rest.checkpoints, step.rest.initial) (checkpoint-survives sound step.trace m (rw step.rest.config at below));
+    saved = λ m below. rw (step.rest.config, step.rest.checkpoints, step.rest.outside) (checkpoint-survives sound step.trace m (rw step.rest.config at below));
     down = λ m down. never_both new.down m down (up_if_none step.rest.nobody_down m);
     lawful = rw step.rest.config (cut-lawful sound step.trace).0;
     room = rw step.rest.config (omega (arith, cut-shorter sound step.trace, sound.room));

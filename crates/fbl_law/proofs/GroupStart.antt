@@ -74,7 +74,7 @@ module _ {N : Type 0} where
   sends_of_one m [] = refl
   sends_of_one m (s ∷ ss) = grind (arith, sends_of_one m ss)
 
-module _ {S N : Type 0} (next : Next S N) (config : Settings N) (r : GroupRecord S N) (is : IsConfig next.allowed config) (s : IsGroupStart next.initial config r) where
+module _ {S N : Type 0} (next : Next S N) (config : Settings N) (r : GroupRecord S N) (is : IsConfig next.allowed config) (s : IsGroupStart next config r) where
   abbrev n : ℕ
   n = config.members
 
@@ -103,9 +103,9 @@ module _ {S N : Type 0} (next : Next S N) (config : Settings N) (r : GroupRecord
   unreceived = no_receipts [] config.starts
 
   -- the records of fresh members, and what is past them
-  started : (xs : List (MemberRecord S N)) → length xs ≡ n → ((m : ℕ) → m < n → get_or xs m (blank r.initial) ≡ fresh next.initial m config.starts) → (m : ℕ)
-      → ((get_or xs m (blank r.initial)).table ≡ []) × ((get_or xs m (blank r.initial)).received ≡ 0) × (length (get_or xs m (blank r.initial)).log ≤ sends_of (map mark_of r.trace) m)
-  started xs size each m = grind (arith, s.trace, size, each m, get_or_past xs m (blank r.initial), rw (no_notes m) at (log-length is_lawful m))
+  started : (xs : List (MemberRecord S N)) → length xs ≡ n → ((m : ℕ) → m < n → get_or xs m (blank r.outside) ≡ fresh (next.initial m n) m config.starts) → (m : ℕ)
+      → ((get_or xs m (blank r.outside)).table ≡ []) × ((get_or xs m (blank r.outside)).received ≡ 0) × (length (get_or xs m (blank r.outside)).log ≤ sends_of (map mark_of r.trace) m)
+  started xs size each m = grind (arith, s.trace, size, each m, get_or_past xs m (blank r.outside), rw (no_notes m) at (log-length is_lawful m))
 
   among_starts : (v : Message N) → Contains (channel r v.from v.to) v → Contains (filter_map message_of_send r.trace) v
   among_starts v flies = Contains-from_filter (is_on v.from v.to) (filter_map message_of_send r.trace) v (rw (s.channels v.from v.to) at flies)
@@ -128,7 +128,6 @@ module _ {S N : Type 0} (next : Next S N) (config : Settings N) (r : GroupRecord
   pub group_start_is_sound : IsSound next r
   unfolding RunIsSound
   group_start_is_sound = record {
-    initial = s.begins;
     config = rw s.parameters is;
     members = rw s.parameters s.size;
     checkpoints = rw s.parameters s.checkpoints;

@@ -7,7 +7,7 @@ use Rattle.fbl_law.proofs.Safe.{down_or_up, up_at_ends, up_if_named}
 use Rattle.fbl_law.proofs.Tables.{Names-held, held-Names, Includes-union, named_record}
 use Rattle.fbl_law.proofs.Strike.{was_up, strike_keeps}
 
-module _ {S N : Type 0} (next : Next S N) (old new : GroupRecord S N) (struck : Members) (s : IsStrike old new struck) where
+module _ {S N : Type 0} (next : Next S N) (old new : GroupRecord S N) (struck : Members) (s : IsStrike next old new struck) where
   pub is_struck : IsStruck (knowledge old) (knowledge new) struck
   is_struck = assumption (
     ap (map mark_of) s.trace,
@@ -29,17 +29,16 @@ module _ {S N : Type 0} (next : Next S N) (old new : GroupRecord S N) (struck : 
 
   pub group_strike_keeps : AllBelow struck old.config.members → sets.len new.down ≤ old.config.f → IsSound next old → IsSound next new
   group_strike_keeps within few sound = record {
-    initial = s.initial ∙ sound.initial;
     config = rw s.config sound.config;
     members = rw s.config (s.size ∙ sound.members);
     checkpoints = rw (s.checkpoints, s.config) sound.checkpoints;
-    saved = λ m below. rw (s.config, s.trace, s.checkpoints, s.initial) (sound.saved m (rw s.config at below));
+    saved = λ m below. rw (s.config, s.trace, s.checkpoints, s.outside) (sound.saved m (rw s.config at below));
     down = λ q down. rw s.config elim ((Includes-union old.down struck q).0 (rw s.down at down)) [ inl was ↦ sound.down q was | inr now ↦ within q now ];
     lawful = rw (s.config, s.trace) sound.lawful;
     room = rw (s.config, s.trace) sound.room;
     causes = rw s.config (strike_keeps old.config.members old.config.f (knowledge old) (knowledge new) struck is_struck few sound.causes);
     folds = λ m below up. fold_kept m up (sound.folds m (rw s.config at below) (was_up old.down struck m (rw s.down at up)));
-    blanks = λ m below down. s.blanks m down;
+    blanks = λ m below down. rw s.config (s.blanks m down);
     distinct = λ m. elim (down_or_up new.down m) [ inl down ↦ rw (s.blanks m down) IsOnce-none | inr up ↦ rw (s.survivors m up) (sound.distinct m) ];
     shape = rw s.config s.shape;
     notes = notes_kept sound;
@@ -48,15 +47,15 @@ module _ {S N : Type 0} (next : Next S N) (old new : GroupRecord S N) (struck : 
 
 module _ {S N : Type 0} where
   -- some record's table has the determinant exactly where it names it
-  Decides-named : (initial : S) (xs : List (MemberRecord S N)) (d : Determinant) → Decides (list_any (λ m. is_held m.table d) xs) ((k : ℕ) × Names (get_or xs k (blank initial)).table d)
-  Decides-named initial xs d = (
+  Decides-named : (outside : S) (xs : List (MemberRecord S N)) (d : Determinant) → Decides (list_any (λ m. is_held m.table d) xs) ((k : ℕ) × Names (get_or xs k (blank outside)).table d)
+  Decides-named outside xs d = (
     λ held.
         let some = Any-from_list_any (λ (m : MemberRecord S N). is_held m.table d) xs held in
-        (some.0, Names-held (get_or xs some.0 (blank initial)).table d (rw (← get_or_default xs some.0 some.1 (blank initial) some.2, some.3) some.4)),
-    λ named. list_any_at (λ (m : MemberRecord S N). is_held m.table d) xs named.0 (blank initial) (named_record initial xs named.0 d named.1) (held-Names (get_or xs named.0 (blank initial)).table d named.1),
+        (some.0, Names-held (get_or xs some.0 (blank outside)).table d (rw (← get_or_default xs some.0 some.1 (blank outside) some.2, some.3) some.4)),
+    λ named. list_any_at (λ (m : MemberRecord S N). is_held m.table d) xs named.0 (blank outside) (named_record outside xs named.0 d named.1) (held-Names (get_or xs named.0 (blank outside)).table d named.1),
   )
 
   pub recorded_test : RecordedTest S N
   recorded_test next r d sound = Decides-or _ _
-      (Decides-like _ (λ one. (one.0, (up_if_named r.config.f (knowledge r) sound.causes.down one.0 d one.1, one.1))) (λ held. (held.0, held.1.1)) (Decides-named r.initial r.members d))
-      (Decides-named r.initial r.checkpoints d)
+      (Decides-like _ (λ one. (one.0, (up_if_named r.config.f (knowledge r) sound.causes.down one.0 d one.1, one.1))) (λ held. (held.0, held.1.1)) (Decides-named r.outside r.members d))
+      (Decides-named r.outside r.checkpoints d)

@@ -47,9 +47,9 @@ module _ {S N : Type 0} where
 
   -- the log after the notes has the starts and then the responses
   pub log-after : (next : Next S N) (p n : ℕ) (starts : List (Start N)) (notes : List N)
-      → (after_notes next p n starts notes).log ≡ numbered 0 (sends_in (map sent (starts_of p starts) ++ responses next p n next.initial notes))
+      → (after_notes next p n starts notes).log ≡ numbered 0 (sends_in (map sent (starts_of p starts) ++ responses next p n (next.initial p n) notes))
   log-after next p n starts notes =
-      log-fold next p n (begun next.initial p starts) notes ∙ simp (zero-add, length-numbered, sends_in-append, sends_in-sent, numbered-append)
+      log-fold next p n (begun (next.initial p n) p starts) notes ∙ simp (zero-add, length-numbered, sends_in-append, sends_in-sent, numbered-append)
 
 module _ {N : Type 0} where
   -- the send, as the member's log has it
@@ -120,7 +120,7 @@ module _ {S N : Type 0} {next : Next S N} {n : ℕ} {starts : List (Start N)} {t
   whole-log = (
     numbered (length m.log) (sends_in (responses next p n m.state (drop m.received (received_notes t p)))),
     ap (λ (xs : List N). (after_notes next p n starts xs).log) (sym (take-append-drop m.received (received_notes t p)))
-        ∙ ap (λ (x : Progress S N). x.log) (fold-append (advanced next p n) (begun next.initial p starts) (take m.received (received_notes t p)) (drop m.received (received_notes t p)))
+        ∙ ap (λ (x : Progress S N). x.log) (fold-append (advanced next p n) (begun (next.initial p n) p starts) (take m.received (received_notes t p)) (drop m.received (received_notes t p)))
         ∙ rw (← replayed.progress) (log-fold next p n (progress_of m) (drop m.received (received_notes t p))),
   )
 
@@ -146,7 +146,7 @@ module _ {S N : Type 0} {next : Next S N} {n : ℕ} {starts : List (Start N)} {t
       let sends : sends_of (map mark_of (take (suc j) t)) p ≡ sends_of (take j (map mark_of t)) p + 1 = rw grown (sends-step (take j (map mark_of t)) e p ∙ rw (eqb-self p) refl) in
       let receipts : receipts_of (map mark_of (take (suc j) t)) p ≡ receipts_of (take j (map mark_of t)) p + 0 = rw grown (receipts-step (take j (map mark_of t)) e p) in
       let taken : length (notes_of front) ≤ m.received = omega (arith, notes-count t (take (suc j) t) p, receipts, few) in
-      let enough = sends-by next p n next.initial m.received (starts_of p starts) (received_notes t p) front back (sym cut ∙ lawful.responds p) taken in
+      let enough = sends-by next p n (next.initial p n) m.received (starts_of p starts) (received_notes t p) front back (sym cut ∙ lawful.responds p) taken in
       let number = (lawful.well_formed j e at).3 in
       rw (ap (λ (x : Progress S N). x.log) replayed.progress, log-after next p n starts (take m.received (received_notes t p)))
       (numbered-has 0 ssn _ (omega (arith, number)) (omega (arith, number, sends-count t (take (suc j) t) p, sends, enough)))

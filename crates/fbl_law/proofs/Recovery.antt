@@ -153,10 +153,10 @@ module _ {S N : Type 0} (n f : ℕ) (old new : Knowledge S N) (s : IsRecovered f
         (rw (s.channels v.from v.to up.0 up.1) at flies, refl, λ b has owes. ((cut-was sound s.trace b has).0, owes))
   ]
   good (in_checkpoint m) there =
-      sound_kept keeps sound (in_checkpoint m) tt (tt, rw (s.checkpoints, s.initial) refl, λ b has owes. ((cut-was sound s.trace b has).0, rw (s.checkpoints, s.initial) at owes))
+      sound_kept keeps sound (in_checkpoint m) tt (tt, rw (s.checkpoints, s.outside) refl, λ b has owes. ((cut-was sound s.trace b has).0, rw (s.checkpoints, s.outside) at owes))
 
   pub recovery_keeps : IsSoundKnowledge n f new
-  recovery_keeps = sound_after keeps sound good (λ m. checkpoint_kept keeps sound m (rw (s.checkpoints, s.initial) refl))
+  recovery_keeps = sound_after keeps sound good (λ m. checkpoint_kept keeps sound m (rw (s.checkpoints, s.outside) refl))
 
   pub cut_is_recorded : (d : Determinant) → Has new.trace (receipt_of d) ↔ (Has old.trace (receipt_of d) × IsRecorded old d)
   cut_is_recorded d = (λ there. ((cut-was sound s.trace (receipt_of d) there).0, cut-recorded sound s.trace d there), λ h. recorded-cut sound s.trace d h.1)

@@ -75,7 +75,7 @@ module _ {S N : Type 0} (next : Next S N) (old : GroupRecord S N) (sound : IsSou
 
   -- each member that is down begins at its checkpoint
   pub replay_begins : (rebuilt : List (MemberRecord S N)) → length rebuilt ≡ old.config.members
-      → ((p : ℕ) → p < old.config.members → IsDown (knowledge old) p → slice_index_or rebuilt p (blank old.initial) ≡ member_checkpoint old p) → IsReplaying next old rebuilt
+      → ((p : ℕ) → p < old.config.members → IsDown (knowledge old) p → slice_index_or rebuilt p (blank old.outside) ≡ member_checkpoint old p) → IsReplaying next old rebuilt
   replay_begins rebuilt size begins = record {
     size = size;
     replayed = λ p below down. rw (begins p below down) (checkpoint-survives sound cut p below);
@@ -84,7 +84,7 @@ module _ {S N : Type 0} (next : Next S N) (old : GroupRecord S N) (sound : IsSou
 
   module _ (rebuilt : List (MemberRecord S N)) (replaying : IsReplaying next old rebuilt) where
     abbrev current : ℕ → MemberRecord S N
-    current p = slice_index_or rebuilt p (blank old.initial)
+    current p = slice_index_or rebuilt p (blank old.outside)
 
     working-replays : (q : ℕ) → q < old.config.members → Replays q (working old rebuilt q)
     working-replays q below = elim (down_or_up old.down q) [
@@ -107,7 +107,7 @@ module _ {S N : Type 0} (next : Next S N) (old : GroupRecord S N) (sound : IsSou
 
     -- new tables change nothing of the replay
     pub replaying-tables : (given : List (MemberRecord S N)) (t : List Entry) → length given ≡ length rebuilt
-        → ((p : ℕ) → p < old.config.members → IsDown (knowledge old) p → slice_index_or given p (blank old.initial) ≡ record (current p) { table = t }) → IsReplaying next old given
+        → ((p : ℕ) → p < old.config.members → IsDown (knowledge old) p → slice_index_or given p (blank old.outside) ≡ record (current p) { table = t }) → IsReplaying next old given
     replaying-tables given t size same = record {
       size = size ∙ replaying.size;
       replayed = λ p below down. rw (same p below down) (assumption (replaying.replayed p below down));
@@ -120,14 +120,14 @@ module _ {S N : Type 0} (next : Next S N) (old : GroupRecord S N) (sound : IsSou
         abbrev after : MemberRecord S N
         after = replayed_by next p old.config.members (current p) d note
 
-        own : slice_index_or (slice_set rebuilt p after) p (blank old.initial) ≡ after
-        own = get_or-set_same rebuilt p after (blank old.initial) (omega (arith, replaying.size, below))
+        own : slice_index_or (slice_set rebuilt p after) p (blank old.outside) ≡ after
+        own = get_or-set_same rebuilt p after (blank old.outside) (omega (arith, replaying.size, below))
 
         -- one more is replayed
         pub replayed_in-step : replayed_in old (slice_set rebuilt p after) ≡ replayed_in old rebuilt + 1
         replayed_in-step =
             count_in-step old.down _ _ old.config.members p below down (omega (arith, ap (λ (m : MemberRecord S N). m.received) own, replaying.begun p below down))
-            (λ q other. ap (λ (m : MemberRecord S N). m.received - (member_checkpoint old q).received) (get_or-set_other rebuilt p q after (blank old.initial) other))
+            (λ q other. ap (λ (m : MemberRecord S N). m.received - (member_checkpoint old q).received) (get_or-set_other rebuilt p q after (blank old.outside) other))
 
       module _ (is : found p ((current p).received + 1) (recovery_table (knowledge old)) ≡ Some d) where
         -- it is that of the member's next number, from another member
@@ -161,9 +161,9 @@ module _ {S N : Type 0} (next : Next S N) (old : GroupRecord S N) (sound : IsSou
             size = length-set rebuilt p (after note) ∙ replaying.size;
             replayed = λ q below_q down_q. elim (cases_eq q p) [
               | inl same ↦ rw (same, own note) there
-              | inr other ↦ rw (get_or-set_other rebuilt p q (after note) (blank old.initial) other) (replaying.replayed q below_q down_q)
+              | inr other ↦ rw (get_or-set_other rebuilt p q (after note) (blank old.outside) other) (replaying.replayed q below_q down_q)
             ];
-            begun = λ q below_q down_q. grind (arith, own note, get_or-set_other rebuilt p q (after note) (blank old.initial), replaying.begun q below_q down_q);
+            begun = λ q below_q down_q. grind (arith, own note, get_or-set_other rebuilt p q (after note) (blank old.outside), replaying.begun q below_q down_q);
           }
 
     -- where each member that is down waits, all is replayed

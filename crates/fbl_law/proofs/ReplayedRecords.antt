@@ -10,7 +10,7 @@ use Rattle.fbl_law.proofs.Receipts.{receipts_at-Has, Has-receipts_at, length-rec
 
 module _ {S N : Type 0} where
   -- a fresh member has replayed nothing
-  pub replayed-fresh : (next : Next S N) (n : ℕ) (starts : List (Start N)) (trace : List (Event N)) (p : ℕ) → IsReplayed next n starts trace p (fresh next.initial p starts)
+  pub replayed-fresh : (next : Next S N) (n : ℕ) (starts : List (Start N)) (trace : List (Event N)) (p : ℕ) → IsReplayed next n starts trace p (fresh (next.initial p n) p starts)
   replayed-fresh next n starts trace p = record {
     within = omega arith;
     progress = refl;
@@ -26,7 +26,7 @@ module _ {S N : Type 0} where
     within = (let below = slice_get_within (receipts_at (map mark_of trace) p) m.received d here in omega (arith, below));
     progress =
         ap (λ (x : Progress S N). advanced next p n x note) replayed.progress
-        ∙ sym (fold_next (advanced next p n) (begun next.initial p starts) (received_notes trace p) m.received note (note-at n trace p m.received d note obeys here noted));
+        ∙ sym (fold_next (advanced next p n) (begun (next.initial p n) p starts) (received_notes trace p) m.received note (note-at n trace p m.received d note obeys here noted));
     places = length-set m.last d.from d.ssn ∙ replayed.places;
     last = λ q below.
         grind (arith, nat_tests, get_or-set_same m.last d.from d.ssn 0, get_or-set_other m.last d.from q d.ssn 0, replayed.places, replayed.last q below)
@@ -36,7 +36,7 @@ module _ {S N : Type 0} where
   -- a member at the fold of its receipts has replayed them all
   pub fold-received : {next : Next S N} {r : GroupRecord S N} {m : ℕ} → WellFormed r.config.members (marks r) → IsFold next r m → (member r m).received ≡ length (receipts_at (marks r) m)
   fold-received {next} {r} {m} obeys fold' =
-      let count = received-fold next m r.config.members (begun next.initial m r.config.starts) (received_notes r.trace m) in
+      let count = received-fold next m r.config.members (begun (next.initial m r.config.members) m r.config.starts) (received_notes r.trace m) in
       omega (arith, ap (λ (x : Progress S N). x.received) fold'.progress, count, length-received_notes r.config.members r.trace m obeys)
 
 module _ {N : Type 0} where

@@ -28,7 +28,7 @@ module _ {S N : Type 0} (n f : ℕ) (old new : Knowledge S N) (struck : Members)
   same (in_message v) flies =
       let ends = up_at_ends new s.emptied v.from v.to v flies in
       (rw (s.channels v.from v.to ends.0 ends.1) at flies, refl, λ b there owes. (rw s.trace at there, owes))
-  same (in_checkpoint m) there = (tt, rw (s.checkpoints, s.initial) refl, λ b there owes. (rw s.trace at there, rw (s.checkpoints, s.initial) at owes))
+  same (in_checkpoint m) there = (tt, rw (s.checkpoints, s.outside) refl, λ b there owes. (rw s.trace at there, rw (s.checkpoints, s.outside) at owes))
 
   pub strike_keeps : IsSoundKnowledge n f new
-  strike_keeps = sound_after keeps sound (λ k there. sound_kept keeps sound k there (same k there)) (λ m. checkpoint_kept keeps sound m (rw (s.checkpoints, s.initial) refl))
+  strike_keeps = sound_after keeps sound (λ k there. sound_kept keeps sound k there (same k there)) (λ m. checkpoint_kept keeps sound m (rw (s.checkpoints, s.outside) refl))

@@ -3,7 +3,7 @@ use Rattle.fbl_law.proofs.Common.{◌≡◌, ℕ, zero, suc, ◌+◌, ◌<◌, �
 use Rattle.fbl_law.proofs.Common.{arith, All, filter_map, fold, nat_tests, All-head, All-tail, sum_by-cons, sum_by-append, Event, Mark, mark_of, WellFormed, MayFollow, in_flight, Next, Action}
 use Rattle.fbl_law.proofs.Common.{took, sent, action_of, actions_of, note_of, responses, starts_of, in_flight-send, in_flight-receipt, receipts-noted, WellFormed-keeps, Message, send_mark, IsUp}
 use Rattle.fbl_law.proofs.Common.{StepKeeps, HoldsFirst, GroupRecord, member, channel, marks, knowledge, sum_below, IsSound, received_notes, sum_by, option_map_or, fold-map, sum_by_push}
-use Rattle.fbl_law.proofs.Common.{sum_by-drop_more, get_or_from_slice_get, slice_get_within, StepMakesNone, StepLosesNone, StepConserves, weight_after, weight_flying, weight_of, weight_of_starts}
+use Rattle.fbl_law.proofs.Common.{sum_by-drop_more, get_or_from_slice_get, slice_get_within, StepMakesNone, StepLosesNone, StepConserves, weight_after, weight_flying, weight_of, weight_at_first, weight_of_starts}
 use Rattle.fbl_law.proofs.Common.{WeighsNoMore, WeighsNoLess, WeighsTheSame, messages_in_flight, nil_from_length}
 use Rattle.std.specs.FinSet as set
 use Rattle.fbl_base.specs.declared.trace.Mark.TheVariants as mark
@@ -91,7 +91,7 @@ module _ {S N : Type 0} where
   channel_weight weight r q p = sum_by (λ (v : Message N). weight v.note) (channel r q p)
 
 module _ {S N : Type 0} (next : Next S N) (r : GroupRecord S N) (P : ℕ → S → Type 0) (Q : ℕ → ℕ → N → Type 0) (mass : ℕ → S → ℕ) (weight : N → ℕ)
-    (nothing : (me : ℕ) → mass me next.initial ≡ 0) (sound : IsSound next r) (keeps : StepKeeps next r.config.members P Q) (first : HoldsFirst next.initial r.config P Q) where
+    (sound : IsSound next r) (keeps : StepKeeps next r.config.members P Q) (first : HoldsFirst next r.config P Q) where
   abbrev n : ℕ
   n = r.config.members
 
@@ -106,6 +106,10 @@ module _ {S N : Type 0} (next : Next S N) (r : GroupRecord S N) (P : ℕ → S �
   given (took x) = 0
   given (sent s) = weight s.1
 
+  -- what its first state weighs, and what its starts do
+  abbrev firsts : ℕ → ℕ
+  firsts m = mass m (next.initial m n)
+
   abbrev begins : ℕ → ℕ
   begins m = sum_by (λ (s : ℕ × N). weight s.1) (starts_of m r.config.starts)
 
@@ -118,7 +122,7 @@ module _ {S N : Type 0} (next : Next S N) (r : GroupRecord S N) (P : ℕ → S �
   reached m state notes = fold (λ s x. (next.step m n s x).state) state notes
 
   abbrev by_trace : ℕ → ℕ
-  by_trace m = mass m (reached m next.initial (received_notes r.trace m))
+  by_trace m = mass m (reached m (next.initial m n) (received_notes r.trace m))
 
   -- sends are given, and none of them is taken
   given-sends : (sends : List (ℕ × N)) (rest : List (Action N)) → sum_by given (map sent sends ++ rest) ≡ sum_by (λ (s : ℕ × N). weight s.1) sends + sum_by given rest
@@ -187,29 +191,29 @@ module _ {S N : Type 0} (next : Next S N) (r : GroupRecord S N) (P : ℕ → S �
         (omega (arith, sum_by-cons taken (took x) sends, sum_by-cons given (took x) sends, given-sends after.sends.items rest, taken-sends after.sends.items rest))
 
     -- what a member's state and its sends weigh, and what it began with and took in
-    all-related : (m : ℕ) → m < n → R (by_trace m + sum_by given (acts m)) (begins m + sum_by taken (acts m))
+    all-related : (m : ℕ) → m < n → R (by_trace m + sum_by given (acts m)) (firsts m + (begins m + sum_by taken (acts m)))
     all-related m below =
         let notes = received_notes r.trace m in
-        let one = member-related m next.initial notes below (first.0 m below) (all-came next n P Q keeps r.config.starts r.trace sound.lawful first.0 first.1 m) in
-        let gives = ap (sum_by given) (sound.lawful.responds m) ∙ given-sends (starts_of m r.config.starts) (responses next m n next.initial notes) in
-        let takes = ap (sum_by taken) (sound.lawful.responds m) ∙ taken-sends (starts_of m r.config.starts) (responses next m n next.initial notes) in
-        joined _ _ _ _ _ _ one (same 0 0 refl) (omega (arith, gives, takes, nothing m))
+        let one = member-related m (next.initial m n) notes below (first.0 m below) (all-came next n P Q keeps r.config.starts r.trace sound.lawful first.0 first.1 m) in
+        let gives = ap (sum_by given) (sound.lawful.responds m) ∙ given-sends (starts_of m r.config.starts) (responses next m n (next.initial m n) notes) in
+        let takes = ap (sum_by taken) (sound.lawful.responds m) ∙ taken-sends (starts_of m r.config.starts) (responses next m n (next.initial m n) notes) in
+        joined _ _ _ _ _ _ one (same 0 0 refl) (omega (arith, gives, takes))
 
-    -- what the group weighs is related to what its starts do, where what its members and channels weigh is to what they do by the trace
-    group-related : ((m : ℕ) → m < n → R (mass m (member r m).state) (by_trace m)) → ((q p : ℕ) → R (channel_weight weight r q p) (weight_in n w (marks r) q p))
-        → R (weight_of mass weight r) (weight_of_starts weight r.config)
+    -- what the group weighs is related to what it began with, where what its members and channels weigh is to what they do by the trace
+    group-related : ((m : ℕ) → m < n → R (cond (set.contains r.down m) 0 (mass m (member r m).state)) (by_trace m)) → ((q p : ℕ) → R (channel_weight weight r q p) (weight_in n w (marks r) q p))
+        → R (weight_of mass weight r) (weight_at_first next mass weight r.config)
     group-related states cells =
         let held = sums-related n _ _ states in
         let flying = sums-related n _ _ (λ q below. sums-related n (channel_weight weight r q) (weight_in n w (marks r) q) (λ p below_p. cells q p)) in
         let now : R (weight_of mass weight r) (sum_below n by_trace + weight_on n w (marks r)) = joined _ _ _ _ _ _ held flying (omega arith) in
         joined _ _ _ _ _ _ now (sums-related n _ _ all-related)
-        (omega (arith, flows, starts-weigh, sum_below-plus n by_trace (λ m. sum_by given (acts m)), sum_below-plus n begins (λ m. sum_by taken (acts m))))
+        (omega (arith, flows, starts-weigh, sum_below-plus n by_trace (λ m. sum_by given (acts m)), sum_below-plus n firsts (λ m. begins m + sum_by taken (acts m)), sum_below-plus n begins (λ m. sum_by taken (acts m))))
 
-  -- where each step makes no weight, the group weighs at most what its starts do
-  pub weighs_no_more : StepMakesNone next n P Q mass weight → WeighsNoMore mass weight r
+  -- where each step makes no weight, the group weighs at most what it began with
+  pub weighs_no_more : StepMakesNone next n P Q mass weight → WeighsNoMore next mass weight r
   weighs_no_more law =
       group-related (λ a b. a ≤ b) (λ a b is. omega arith) (λ a b c d x y first second is. omega arith) law
-      (λ m below. grind (arith, down_or_up r.down m, sound.blanks m below, sound.initial, nothing m, up-weighs m below))
+      (λ m below. grind (arith, down_or_up r.down m, up-weighs m below))
       (λ q p. grind (arith, down_or_both_up r.down q p, sound.causes.down.channels q p, channel-weighs q p))
 
   -- where nothing is in flight, that weighs nothing
@@ -217,15 +221,15 @@ module _ {S N : Type 0} (next : Next S N) (r : GroupRecord S N) (P : ℕ → S �
   none-flying = sum_below-nothing n _ _ (λ q. sum_below-nothing n _ (channel_weight weight r q) (λ p none. rw (nil_from_length (channel r q p) none) refl))
 
   -- where each step loses none, and nobody is down, it weighs at least that
-  pub weighs_no_less : StepLosesNone next n P Q mass weight → WeighsNoLess mass weight r
+  pub weighs_no_less : StepLosesNone next n P Q mass weight → WeighsNoLess next mass weight r
   weighs_no_less law = record { whole = most; settled = λ nobody none. omega (arith, most nobody, none-flying none) } where
-    most : r.down ≡ set.empty → weight_of_starts weight r.config ≤ weight_of mass weight r
+    most : r.down ≡ set.empty → weight_at_first next mass weight r.config ≤ weight_of mass weight r
     most nobody =
         let up = up_if_none nobody in
         group-related (λ a b. b ≤ a) (λ a b is. omega arith) (λ a b c d x y first second is. omega arith) law
-        (λ m below. omega (arith, up-weighs m below (up m))) (λ q p. omega (arith, channel-weighs q p (up q) (up p)))
+        (λ m below. rw (up m) (omega (arith, up-weighs m below (up m)))) (λ q p. omega (arith, channel-weighs q p (up q) (up p)))
 
-  pub weighs_the_same : StepConserves next n P Q mass weight → WeighsTheSame mass weight r
+  pub weighs_the_same : StepConserves next n P Q mass weight → WeighsTheSame next mass weight r
   weighs_the_same law =
       let more = weighs_no_more (λ me from state note below p q. omega (arith, law me from state note below p q)) in
       let less = weighs_no_less (λ me from state note below p q. omega (arith, law me from state note below p q)) in

@@ -22,7 +22,7 @@ SendsWell {S} {N} next = (me n : ℕ) (state : S) (note : N) → 2 ≤ n → me 
 abbrev pub GroupStartIsSound : Type 0 → Type 0 → Type 0
 GroupStartIsSound S N =
     (next : Next S N) (config : Settings N) (r : GroupRecord S N)
-    → IsConfig next.allowed config → IsGroupStart next.initial config r → IsSound next r
+    → IsConfig next.allowed config → IsGroupStart next config r → IsSound next r
 
 -- a delivery keeps a group sound
 abbrev pub GroupDeliveryKeeps : Type 0 → Type 0 → Type 0
@@ -34,7 +34,7 @@ GroupDeliveryKeeps S N =
 abbrev pub GroupStrikeKeeps : Type 0 → Type 0 → Type 0
 GroupStrikeKeeps S N =
     (next : Next S N) (old new : GroupRecord S N) (struck : Members)
-    → IsStrike old new struck → AllBelow struck old.config.members → set.len new.down ≤ old.config.f → IsSound next old → IsSound next new
+    → IsStrike next old new struck → AllBelow struck old.config.members → set.len new.down ≤ old.config.f → IsSound next old → IsSound next new
 
 -- so does a checkpoint of a member
 unfoldable pub GroupCheckpointKeeps : Type 0 → Type 0 → Type 0

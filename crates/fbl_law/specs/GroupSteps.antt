@@ -31,16 +31,15 @@ message_of_send (Receipt to rsn from ssn) = None
 
 -- a group in which nothing is received yet: its trace has the starts' sends, their messages are in their channels and
 -- carry nothing, each member and its checkpoint are fresh, nobody is down, and the counters are 0
-pub record IsGroupStart {S N : Type 0} (initial : S) (config : Settings N) (new : GroupRecord S N) : Type 0 where
-  pub begins : new.initial ≡ initial
+pub record IsGroupStart {S N : Type 0} (next : Next S N) (config : Settings N) (new : GroupRecord S N) : Type 0 where
   pub parameters : new.config ≡ config
   pub trace : new.trace ≡ start_events [] config.starts
   pub shape : HasChannels config.members new.channels
   pub channels : (q p : ℕ) → channel new q p ≡ between q p (filter_map message_of_send new.trace)
   pub size : length new.members ≡ config.members
-  pub members : (m : ℕ) → m < config.members → member new m ≡ fresh initial m config.starts
+  pub members : (m : ℕ) → m < config.members → member new m ≡ fresh (next.initial m config.members) m config.starts
   pub checkpoints : length new.checkpoints ≡ config.members
-  pub saved : (m : ℕ) → m < config.members → member_checkpoint new m ≡ fresh initial m config.starts
+  pub saved : (m : ℕ) → m < config.members → member_checkpoint new m ≡ fresh (next.initial m config.members) m config.starts
   pub nobody_down : new.down ≡ set.empty
   pub receipts_ever : new.receipts_ever ≡ 0
   pub undone_ever : new.undone_ever ≡ 0
@@ -82,15 +81,15 @@ pub record IsDelivery {S N : Type 0} (next : Next S N) (old new : GroupRecord S 
   pub config : new.config ≡ old.config
   pub down : new.down ≡ old.down
   pub checkpoints : new.checkpoints ≡ old.checkpoints
-  pub initial : new.initial ≡ old.initial
+  pub outside : new.outside ≡ old.outside
 
 -- a strike leads from old to new: the members named are down beside those that were, the records of those that are down
 -- are blank and the channels with such an end are empty, and nothing else changes
-pub record IsStrike {S N : Type 0} (old new : GroupRecord S N) (struck : Members) : Type 0 where
+pub record IsStrike {S N : Type 0} (next : Next S N) (old new : GroupRecord S N) (struck : Members) : Type 0 where
   pub down : new.down ≡ set.union old.down struck
   pub size : length new.members ≡ length old.members
   pub survivors : (m : ℕ) → IsUp (knowledge new) m → member new m ≡ member old m
-  pub blanks : (m : ℕ) → IsDown (knowledge new) m → member new m ≡ blank new.initial
+  pub blanks : (m : ℕ) → IsDown (knowledge new) m → member new m ≡ blank (next.initial m old.config.members)
   pub shape : HasChannels old.config.members new.channels
   pub channels : (q p : ℕ) → IsUp (knowledge new) q → IsUp (knowledge new) p → channel new q p ≡ channel old q p
   pub emptied : (q p : ℕ) → IsDown (knowledge new) q ⊎ IsDown (knowledge new) p → channel new q p ≡ []
@@ -99,7 +98,7 @@ pub record IsStrike {S N : Type 0} (old new : GroupRecord S N) (struck : Members
   pub receipts_ever : new.receipts_ever ≡ old.receipts_ever
   pub undone_ever : new.undone_ever ≡ old.undone_ever
   pub checkpoints : new.checkpoints ≡ old.checkpoints
-  pub initial : new.initial ≡ old.initial
+  pub outside : new.outside ≡ old.outside
 
 -- a checkpoint of the member p leads from old to new: nobody is down, the member's record is kept in the place of its
 -- older checkpoint, and nothing else changes
@@ -127,7 +126,7 @@ pub record IsBroughtBack {S N : Type 0} (old new : GroupRecord S N) : Type 0 whe
   pub receipts_ever : new.receipts_ever ≡ old.receipts_ever
   pub undone_ever : new.undone_ever + length (receipts (marks new)) ≡ old.undone_ever + length (receipts (marks old))
   pub checkpoints : new.checkpoints ≡ old.checkpoints
-  pub initial : new.initial ≡ old.initial
+  pub outside : new.outside ≡ old.outside
 
 -- a recovery leads from old to new: the rest stays (`IsBroughtBack`), survivors too; the trace loses, for each member that
 -- was down, its first lost receipt and all its later events; each member that was down is at the fold of its receipts that

@@ -12,11 +12,11 @@ use Rattle.fbl_table.specs.Tables.{is_held}
 use Rattle.fbl_member.specs.Members.{Message, MemberRecord, blank}
 use Rattle.fbl_law.specs.Knowledge.{Knowledge}
 
--- a group: the state in which its members begin, its parameters, its members' records and their checkpoints, its channels (for each sender those to each
--- receiver, each with its messages in flight, first in, first out), its trace, who is down, and how many receipts were
--- ever made and ever undone
+-- a group: its parameters, its members' records and their checkpoints, its channels (for each sender those to each receiver,
+-- each with its messages in flight, first in, first out), its trace, who is down, and how many receipts were ever made and ever
+-- undone; and the state that stands for that of a number that is no member's
 pub record GroupRecord (S N : Type 0) : Type 0 where
-  pub initial : S
+  pub outside : S
   pub config : Settings N
   pub members : List (MemberRecord S N)
   pub checkpoints : List (MemberRecord S N)
@@ -28,11 +28,11 @@ pub record GroupRecord (S N : Type 0) : Type 0 where
 
 -- the record of a member
 abbrev pub member : {S N : Type 0} → GroupRecord S N → ℕ → MemberRecord S N
-member r m = slice_index_or r.members m (blank r.initial)
+member r m = slice_index_or r.members m (blank r.outside)
 
 -- the checkpoint of a member: its record as it was when it was last kept where no strike empties it
 abbrev pub member_checkpoint : {S N : Type 0} → GroupRecord S N → ℕ → MemberRecord S N
-member_checkpoint r m = slice_index_or r.checkpoints m (blank r.initial)
+member_checkpoint r m = slice_index_or r.checkpoints m (blank r.outside)
 
 -- there are channels from each of n members to each
 pub record HasChannels {N : Type 0} (n : ℕ) (channels : List (List (List (Message N)))) : Type 0 where
@@ -66,7 +66,7 @@ marks r = map mark_of r.trace
 
 -- the part of the record that the laws of causes speak of
 abbrev pub knowledge : {S N : Type 0} → GroupRecord S N → Knowledge S N
-knowledge r = record { initial = r.initial; trace = marks r; members = r.members; checkpoints = r.checkpoints; channel = channel r; down = r.down }
+knowledge r = record { outside = r.outside; trace = marks r; members = r.members; checkpoints = r.checkpoints; channel = channel r; down = r.down }
 
 -- whether the table of some of these members or checkpoints has the determinant
 abbrev pub is_recorded_among : {S N : Type 0} → List (MemberRecord S N) → List (MemberRecord S N) → Determinant → Bool

@@ -28,7 +28,7 @@ SoundHasNoOrphan S N = (next : Next S N) (r : GroupRecord S N) (m : ℕ) → IsS
 unfoldable pub NoSurvivorIsOrphan : Type 0 → Type 0 → Type 0
 NoSurvivorIsOrphan S N =
     (next : Next S N) (old new : GroupRecord S N) (struck : Members) (m : ℕ)
-    → IsSound next old → IsStrike old new struck → set.len new.down ≤ old.config.f → ¬ (IsOrphan (knowledge new) m)
+    → IsSound next old → IsStrike next old new struck → set.len new.down ≤ old.config.f → ¬ (IsOrphan (knowledge new) m)
 
 -- in a sound group, whichever at most f members have those that are down among them, the other members hold what they
 -- depend on

@@ -21,10 +21,11 @@ use Rattle.fbl_member.specs.Members.{Message, MemberRecord, blank}
 abbrev pub Includes : Members → ℕ → Type 0
 Includes s m = set.contains s m ≡ true
 
--- what the laws of causes speak of: the state in which members begin, the group's trace, the members' records (of which they
--- read the tables) and their checkpoints, the channel of each pair of members, and who is down
+-- what the laws of causes speak of: the group's trace, the members' records (of which they read the tables) and their
+-- checkpoints, the channel of each pair of members, and who is down; and the state that stands for that of a number that is no
+-- member's
 pub record Knowledge (S N : Type 0) : Type 0 where
-  pub initial : S
+  pub outside : S
   pub trace : List Mark
   pub members : List (MemberRecord S N)
   pub checkpoints : List (MemberRecord S N)
@@ -33,12 +34,12 @@ pub record Knowledge (S N : Type 0) : Type 0 where
 
 -- the table of a member
 abbrev pub table : {S N : Type 0} → Knowledge S N → ℕ → List Entry
-table r m = (slice_index_or r.members m (blank r.initial)).table
+table r m = (slice_index_or r.members m (blank r.outside)).table
 
 -- the checkpoint of a member (Elnozahy and others 2002): its record as it was at an earlier time, at first its fresh one,
 -- which no strike empties and from which it recovers
 abbrev pub checkpoint : {S N : Type 0} → Knowledge S N → ℕ → MemberRecord S N
-checkpoint r m = slice_index_or r.checkpoints m (blank r.initial)
+checkpoint r m = slice_index_or r.checkpoints m (blank r.outside)
 
 -- the send of a message
 abbrev pub send_mark : {N : Type 0} → Message N → Mark

@@ -51,7 +51,7 @@ abbrev pub ReplayBegins : Type 0 → Type 0 → Type 0
 ReplayBegins S N =
     (next : Next S N) (old : GroupRecord S N) (rebuilt : List (MemberRecord S N))
     → IsSound next old → length rebuilt ≡ old.config.members
-    → ((p : ℕ) → p < old.config.members → IsDown (knowledge old) p → slice_index_or rebuilt p (blank old.initial) ≡ member_checkpoint old p)
+    → ((p : ℕ) → p < old.config.members → IsDown (knowledge old) p → slice_index_or rebuilt p (blank old.outside) ≡ member_checkpoint old p)
     → IsReplaying next old rebuilt
 
 -- a receipt that the gathered tables find is the member's next one, and its replay, with the note that the sender's log
@@ -60,16 +60,16 @@ abbrev pub ReplayIsRight : Type 0 → Type 0 → Type 0
 ReplayIsRight S N =
     (next : Next S N) (old : GroupRecord S N) (rebuilt : List (MemberRecord S N)) (p : ℕ) (d : Determinant) (note : N)
     → IsSound next old → IsReplaying next old rebuilt → p < old.config.members → IsDown (knowledge old) p
-    → found p ((slice_index_or rebuilt p (blank old.initial)).received + 1) (recovery_table (knowledge old)) ≡ Some d
+    → found p ((slice_index_or rebuilt p (blank old.outside)).received + 1) (recovery_table (knowledge old)) ≡ Some d
     → logged_note (working old rebuilt d.from).log d.ssn ≡ Some note
-    → IsReplaying next old (slice_set rebuilt p (replayed_by next p old.config.members (slice_index_or rebuilt p (blank old.initial)) d note))
+    → IsReplaying next old (slice_set rebuilt p (replayed_by next p old.config.members (slice_index_or rebuilt p (blank old.outside)) d note))
 
 -- replay never gets stuck: where each member that is down waits, each has replayed all its receipts that stay
 abbrev pub ReplayEnds : Type 0 → Type 0 → Type 0
 ReplayEnds S N =
     (next : Next S N) (old : GroupRecord S N) (rebuilt : List (MemberRecord S N))
     → IsSound next old → IsReplaying next old rebuilt → ((p : ℕ) → p < old.config.members → IsDown (knowledge old) p → IsWaiting old rebuilt p)
-    → (p : ℕ) → p < old.config.members → IsDown (knowledge old) p → (slice_index_or rebuilt p (blank old.initial)).received ≡ length (receipts_at (map mark_of (recovered_trace old)) p)
+    → (p : ℕ) → p < old.config.members → IsDown (knowledge old) p → (slice_index_or rebuilt p (blank old.outside)).received ≡ length (receipts_at (map mark_of (recovered_trace old)) p)
 
 -- and the records then rebuilt make a recovery
 abbrev pub RebuiltIsRecovered : Type 0 → Type 0 → Type 0

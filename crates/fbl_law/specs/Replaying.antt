@@ -69,30 +69,30 @@ sent_again f s work q p = if set.contains s q || set.contains s p then resent_to
 
 -- the records while the members that are down replay: theirs are rebuilt, the survivors' are as they were
 abbrev pub working : {S N : Type 0} → GroupRecord S N → List (MemberRecord S N) → ℕ → MemberRecord S N
-working r rebuilt q = if set.contains r.down q then slice_index_or rebuilt q (blank r.initial) else member r q
+working r rebuilt q = if set.contains r.down q then slice_index_or rebuilt q (blank r.outside) else member r q
 
 -- each member that is down has a record that has come so far, from its checkpoint on, in its replay of the trace that
 -- recovery leaves
 pub record IsReplaying {S N : Type 0} (next : Next S N) (r : GroupRecord S N) (rebuilt : List (MemberRecord S N)) : Type 0 where
   pub size : length rebuilt ≡ r.config.members
-  pub replayed : (p : ℕ) → p < r.config.members → IsDown (knowledge r) p → IsReplayed next r.config.members r.config.starts (recovered_trace r) p (slice_index_or rebuilt p (blank r.initial))
-  pub begun : (p : ℕ) → p < r.config.members → IsDown (knowledge r) p → (member_checkpoint r p).received ≤ (slice_index_or rebuilt p (blank r.initial)).received
+  pub replayed : (p : ℕ) → p < r.config.members → IsDown (knowledge r) p → IsReplayed next r.config.members r.config.starts (recovered_trace r) p (slice_index_or rebuilt p (blank r.outside))
+  pub begun : (p : ℕ) → p < r.config.members → IsDown (knowledge r) p → (member_checkpoint r p).received ≤ (slice_index_or rebuilt p (blank r.outside)).received
 
 -- a member that is down waits for the message that it received next: the gathered tables find no such receipt, or the
 -- sender has not sent the message again
 abbrev pub IsWaiting : {S N : Type 0} → GroupRecord S N → List (MemberRecord S N) → ℕ → Type 0
 IsWaiting r rebuilt p =
-    (d : Determinant) → found p ((slice_index_or rebuilt p (blank r.initial)).received + 1) (recovery_table (knowledge r)) ≡ Some d → logged_note (working r rebuilt d.from).log d.ssn ≡ None
+    (d : Determinant) → found p ((slice_index_or rebuilt p (blank r.outside)).received + 1) (recovery_table (knowledge r)) ≡ Some d → logged_note (working r rebuilt d.from).log d.ssn ≡ None
 
 -- how many receipts were replayed: those that the members that are down have beyond their checkpoints
 abbrev pub replayed_in : {S N : Type 0} → GroupRecord S N → List (MemberRecord S N) → ℕ
-replayed_in r rebuilt = count_in r.down (λ p. (slice_index_or rebuilt p (blank r.initial)).received - (member_checkpoint r p).received) r.config.members
+replayed_in r rebuilt = count_in r.down (λ p. (slice_index_or rebuilt p (blank r.outside)).received - (member_checkpoint r p).received) r.config.members
 
 -- a group after the replay: the trace is cut, each member that was down has its rebuilt record with the gathered table, and
 -- each channel with such an end has what its sender sends again
 pub record IsRebuilt {S N : Type 0} (old new : GroupRecord S N) (replayed : List (MemberRecord S N)) : Type 0 where
   pub rest : IsBroughtBack old new
   pub trace : new.trace ≡ recovered_trace old
-  pub rebuilt : (m : ℕ) → m < old.config.members → IsDown (knowledge old) m → member new m ≡ record (slice_index_or replayed m (blank old.initial)) { table = recovery_table (knowledge old) }
+  pub rebuilt : (m : ℕ) → m < old.config.members → IsDown (knowledge old) m → member new m ≡ record (slice_index_or replayed m (blank old.outside)) { table = recovery_table (knowledge old) }
   pub resent : (q p : ℕ) → IsDown (knowledge old) q ⊎ IsDown (knowledge old) p → q < old.config.members → p < old.config.members
       → channel new q p ≡ resent_to old.config.f q p (member new q) (member new p)

@@ -49,13 +49,12 @@ pub record IsReplayed {S N : Type 0} (next : Next S N) (n : ℕ) (starts : List 
 abbrev pub IsCheckpointFold : {S N : Type 0} → Next S N → GroupRecord S N → ℕ → Type 0
 IsCheckpointFold next r m = IsReplayed next r.config.members r.config.starts r.trace m (member_checkpoint r m)
 
--- a group's record is sound: members begin as the behaviour says, its parameters are allowed, each member has a record and a checkpoint, only members are
+-- a group's record is sound: its parameters are allowed, each member has a record and a checkpoint, only members are
 -- down, its trace is lawful and within its limit, each up member is at the fold of its receipts and each down member is
 -- blank, each checkpoint is at the fold of its member's first receipts, no table names a determinant twice, what the tables
 -- know is true and closed, there are channels from each member to each, which have exactly the messages not yet received,
 -- each with the note with which it was sent, at most f members are down, and the counters agree with the trace
 pub record IsSound {S N : Type 0} (next : Next S N) (r : GroupRecord S N) : Type 0 where
-  pub initial : r.initial ≡ next.initial
   pub config : IsConfig next.allowed r.config
   pub members : length r.members ≡ r.config.members
   pub checkpoints : length r.checkpoints ≡ r.config.members
@@ -64,7 +63,7 @@ pub record IsSound {S N : Type 0} (next : Next S N) (r : GroupRecord S N) : Type
   pub room : length r.trace ≤ r.config.limit
   pub causes : IsSoundKnowledge r.config.members r.config.f (knowledge r)
   pub folds : (m : ℕ) → m < r.config.members → IsUp (knowledge r) m → IsFold next r m
-  pub blanks : (m : ℕ) → m < r.config.members → IsDown (knowledge r) m → member r m ≡ blank r.initial
+  pub blanks : (m : ℕ) → m < r.config.members → IsDown (knowledge r) m → member r m ≡ blank (next.initial m r.config.members)
   pub saved : (m : ℕ) → m < r.config.members → IsCheckpointFold next r m
   pub distinct : (m : ℕ) → IsOnce (member r m).table
   pub shape : HasChannels r.config.members r.channels

@@ -23,14 +23,14 @@ gathered_all table ts = fold gathered table ts
 
 -- the tables of the checkpoints of the members of the set that are below n, in member order
 abbrev pub saved_tables : {S N : Type 0} → S → Members → List (MemberRecord S N) → ℕ → List (List Entry)
-saved_tables initial s checkpoints zero = []
-saved_tables initial s checkpoints (suc m) =
-    saved_tables initial s checkpoints m ++ (if set.contains s m then (slice_index_or checkpoints m (blank initial)).table ∷ [] else [])
+saved_tables outside s checkpoints zero = []
+saved_tables outside s checkpoints (suc m) =
+    saved_tables outside s checkpoints m ++ (if set.contains s m then (slice_index_or checkpoints m (blank outside)).table ∷ [] else [])
 
 -- what recovery gives the members that are down: the survivors' tables in member order (the others' are empty) and then
 -- those of the checkpoints of the members that are down, in member order, where those that are down count as holders
 abbrev pub recovery_table : {S N : Type 0} → Knowledge S N → List Entry
-recovery_table {S} {N} r = marked r.down (gathered_all [] (map (λ (m : MemberRecord S N). m.table) r.members ++ saved_tables r.initial r.down r.checkpoints (length r.checkpoints)))
+recovery_table {S} {N} r = marked r.down (gathered_all [] (map (λ (m : MemberRecord S N). m.table) r.members ++ saved_tables r.outside r.down r.checkpoints (length r.checkpoints)))
 
 -- the determinant of the message's receipt, where it is the next one of its receiver
 abbrev pub next_receipt : {S N : Type 0} → Knowledge S N → Message N → Determinant
@@ -67,7 +67,7 @@ pub record IsDelivered {S N : Type 0} (n f : ℕ) (old new : Knowledge S N) (v :
   pub others : (m : ℕ) → m ≢ v.to → table new m ≡ table old m
   pub channels : (q p : ℕ) → new.channel q p ≡ taken_off v q p (old.channel q p) ++ between q p (messages_made f old new v sends)
   pub checkpoints : new.checkpoints ≡ old.checkpoints
-  pub initial : new.initial ≡ old.initial
+  pub outside : new.outside ≡ old.outside
 
 -- what a strike leaves: the members named are down beside those that were, what those that are down held and what was in
 -- flight from them or to them is gone, and the trace, the other tables and channels and the checkpoints stay
@@ -79,7 +79,7 @@ pub record IsStruck {S N : Type 0} (old new : Knowledge S N) (struck : Members) 
   pub channels : (q p : ℕ) → IsUp new q → IsUp new p → new.channel q p ≡ old.channel q p
   pub emptied : (q p : ℕ) → IsDown new q ⊎ IsDown new p → new.channel q p ≡ []
   pub checkpoints : new.checkpoints ≡ old.checkpoints
-  pub initial : new.initial ≡ old.initial
+  pub outside : new.outside ≡ old.outside
 
 -- what a checkpoint of the member p leaves, where nobody is down: its table and how far it has come are kept, in the place
 -- of its older checkpoint, and nothing else changes
@@ -93,7 +93,7 @@ pub record IsCheckpointed {S N : Type 0} (old new : Knowledge S N) (p : ℕ) : T
   pub receipts : (checkpoint new p).received ≡ receipts_of old.trace p
   pub sends : length (checkpoint new p).log ≡ sends_of old.trace p
   pub others : (m : ℕ) → m ≢ p → checkpoint new m ≡ checkpoint old m
-  pub initial : new.initial ≡ old.initial
+  pub outside : new.outside ≡ old.outside
 
 -- a comes no later than b
 abbrev pub UpTo : List Mark → Mark → Mark → Type 0
@@ -124,4 +124,4 @@ pub record IsRecovered {S N : Type 0} (f : ℕ) (old new : Knowledge S N) : Type
   pub rebuilt : (q p : ℕ) → IsDown old q ⊎ IsDown old p → MatchesTrace new q p
   pub messages : (v : Message N) → IsInFlight new v → IsDown old v.from ⊎ IsDown old v.to → v.carried ≡ piggybacked f (table new v.from)
   pub checkpoints : new.checkpoints ≡ old.checkpoints
-  pub initial : new.initial ≡ old.initial
+  pub outside : new.outside ≡ old.outside

@@ -10,18 +10,15 @@ use fbl_base::Behaviour;
 /// A behaviour whose steps keep a weight, from any state and at any note: what the new state and the sends weigh, the old
 /// state and the note did.
 ///
-/// `mass` is what a member's state weighs, `weight` what a note weighs. `nothing` shows that the first state weighs nothing,
-/// and `conserves` that a step keeps the sum.
+/// `mass` is what a member's state weighs, `weight` what a note weighs. `conserves` shows that a step keeps the sum.
 pub trait Conserving: Behaviour {
-    ghost use Rattle.std.specs.Prelude.{◌≡◌, ℕ};
+    ghost use Rattle.std.specs.Prelude.{ℕ};
     ghost use Rattle.fbl_base.specs.Configs.{MembersAllowed};
     ghost use Rattle.fbl_law.specs.StepLaws.{AnyState, AnyNote, StepConserves};
 
     ghost mass: { ℕ → Self.State → ℕ };
 
     ghost weight: { Self.Note → ℕ };
-
-    ghost nothing: { (me : ℕ) → mass me Self.next.initial ≡ 0 };
 
     ghost conserves: { (n : ℕ) → MembersAllowed n → StepConserves Self.next n AnyState AnyNote mass weight };
 }
@@ -40,7 +37,7 @@ pub trait Keeping: Behaviour {
 
     ghost notes: { Settings Self.Note → ℕ → ℕ → Self.Note → Type 0 };
 
-    ghost first: { (c : Settings Self.Note) → IsConfig Self.next.allowed c → HoldsFirst Self.next.initial c (states c) (notes c) };
+    ghost first: { (c : Settings Self.Note) → IsConfig Self.next.allowed c → HoldsFirst Self.next c (states c) (notes c) };
 
     ghost keeps: { (c : Settings Self.Note) → IsConfig Self.next.allowed c → StepKeeps Self.next c.members (states c) (notes c) };
 }
@@ -48,17 +45,14 @@ pub trait Keeping: Behaviour {
 /// A behaviour with predicates that each step keeps, and with a weight, of which one of the traits below says what becomes in
 /// a step that starts from the predicates.
 ///
-/// `mass` is what a member's state weighs, `weight` what a note weighs, both by the group's parameters. `nothing` shows
-/// that the first state weighs nothing.
+/// `mass` is what a member's state weighs, `weight` what a note weighs, both by the group's parameters.
 pub trait Weighing: Keeping {
-    ghost use Rattle.std.specs.Prelude.{◌≡◌, ℕ};
+    ghost use Rattle.std.specs.Prelude.{ℕ};
     ghost use Rattle.fbl_base.specs.Configs.{Settings};
 
     ghost mass: { Settings Self.Note → ℕ → Self.State → ℕ };
 
     ghost weight: { Settings Self.Note → Self.Note → ℕ };
-
-    ghost nothing: { (c : Settings Self.Note) (me : ℕ) → mass c me Self.next.initial ≡ 0 };
 }
 
 /// Each step keeps the weight.
@@ -85,9 +79,9 @@ pub trait LosingNone: Weighing {
     ghost loses_none: { (c : Settings Self.Note) → IsConfig Self.next.allowed c → StepLosesNone Self.next c.members (Self.states c) (Self.notes c) (Self.mass c) (Self.weight c) };
 }
 
-/// Where each step keeps the weight, every sound group weighs what its starts do.
+/// Where each step keeps the weight, every sound group weighs what it began with, its first states and its starts.
 pub fn conserved_law<B: Conserving>()
-    ensures { (r : GroupRecord B.State B.Note) → IsSound B.next r → WeighsTheSame B.mass B.weight r }
+    ensures { (r : GroupRecord B.State B.Note) → IsSound B.next r → WeighsTheSame B.next B.mass B.weight r }
 {}
 
 /// What each step keeps holds of every sound group: of each state and each checkpoint's, of each message in flight and each
@@ -96,17 +90,17 @@ pub fn kept_law<B: Keeping>()
     ensures { (r : GroupRecord B.State B.Note) → IsSound B.next r → HoldsOf r (B.states r.config) (B.notes r.config) }
 {}
 
-/// Where each step from the predicates keeps the weight, every sound group weighs what its starts do.
+/// Where each step from the predicates keeps the weight, every sound group weighs what it began with, its first states and its starts.
 pub fn weight_kept_law<B: KeepingWeight>()
-    ensures { (r : GroupRecord B.State B.Note) → IsSound B.next r → WeighsTheSame (B.mass r.config) (B.weight r.config) r }
+    ensures { (r : GroupRecord B.State B.Note) → IsSound B.next r → WeighsTheSame B.next (B.mass r.config) (B.weight r.config) r }
 {}
 
-/// Where no step from the predicates makes weight, every sound group weighs no more than its starts, whoever is down.
+/// Where no step from the predicates makes weight, every sound group weighs no more than it began with, whoever is down.
 pub fn none_made_law<B: MakingNone>()
-    ensures { (r : GroupRecord B.State B.Note) → IsSound B.next r → WeighsNoMore (B.mass r.config) (B.weight r.config) r }
+    ensures { (r : GroupRecord B.State B.Note) → IsSound B.next r → WeighsNoMore B.next (B.mass r.config) (B.weight r.config) r }
 {}
 
-/// Where no step from the predicates loses weight, every sound group weighs no less than its starts where nobody is down.
+/// Where no step from the predicates loses weight, every sound group weighs no less than it began with where nobody is down.
 pub fn none_lost_law<B: LosingNone>()
-    ensures { (r : GroupRecord B.State B.Note) → IsSound B.next r → WeighsNoLess (B.mass r.config) (B.weight r.config) r }
+    ensures { (r : GroupRecord B.State B.Note) → IsSound B.next r → WeighsNoLess B.next (B.mass r.config) (B.weight r.config) r }
 {}

@@ -9,7 +9,7 @@ use Rattle.fbl_member.specs.Members.{MemberRecord, Message, progress_of, fresh, 
 abbrev pub FreshIsBegun : Type 0 → Type 0 → Type 0
 FreshIsBegun S N =
     (next : Next S N) (me n : ℕ) (starts : List (Start N))
-    → progress_of (fresh next.initial me starts) ≡ after_notes next me n starts []
+    → progress_of (fresh (next.initial me n) me starts) ≡ after_notes next me n starts []
 
 -- the receipt of a message is one step of the fold, by the message's note
 abbrev pub ReceivedIsAdvanced : Type 0 → Type 0 → Type 0

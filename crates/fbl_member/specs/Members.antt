@@ -41,7 +41,7 @@ record_of p last table = record { state = p.state; received = p.received; last =
 abbrev pub last_from : {S N : Type 0} → MemberRecord S N → ℕ → ℕ
 last_from m from = slice_index m.last from
 
--- a member that has received nothing and sent its starts, by the state in which members begin
+-- a member that has received nothing and sent its starts, by the state in which it begins
 abbrev pub fresh : {S N : Type 0} → S → ℕ → List (Start N) → MemberRecord S N
 fresh initial me starts = record_of (begun initial me starts) (replicate 16 0) []
 

@@ -243,6 +243,13 @@ impl<S: Copy, N: Content, A: Allocator + Copy> MemberRec<S, N, A> {
         self.state
     }
 
+    /// The state, lent.
+    pub fn state_ref(&self) -> &S
+        ensures { result.now ≡ self.now.state }
+    {
+        &self.state
+    }
+
     /// How many receipts the member has had, at most 8192.
     pub fn received(&self) -> u32
         ensures value { result ≡ self.now.received }

@@ -81,6 +81,13 @@ impl<N: Copy, A: Allocator> Wire<N, A> {
         self.note
     }
 
+    /// The content, lent.
+    pub fn note_ref(&self) -> &N
+        ensures { result.now ≡ self.now.note }
+    {
+        &self.note
+    }
+
     /// The entries that it carries.
     pub fn carried(&self) -> &[Entry]
         ensures value { result.now ≡ self.now.carried }

@@ -21,7 +21,7 @@ step-config next workers old (commands.Deliver to from) new text account =
     ]
 step-config next workers old commands.States new text account = λ h. ap (λ (r : GroupRecord ℕ Note). r.config) h.0
 step-config next workers old commands.Report new text account = λ h. ap (λ (r : GroupRecord ℕ Note). r.config) h.0
-step-config next workers old (commands.Strike struck) new text account = elim (strike_refusal old struck) as (λ o. StrikeBy o old struck new text account → new.config ≡ old.config) [
+step-config next workers old (commands.Strike struck) new text account = elim (strike_refusal old struck) as (λ o. StrikeBy o next old struck new text account → new.config ≡ old.config) [
   | None ↦ λ h. h.1.0.config
   | Some refusal ↦ λ h. ap (λ (r : GroupRecord ℕ Note). r.config) h.0
 ]
@@ -49,7 +49,7 @@ module _ {O : Type 0} (before : O → Command → O → Type 0) (after : O → C
     pub heard : IsTold before after (take place cs) accounts old told
 
   pub has_none : (next : Next ℕ Note) (workers : ℕ) (config : Settings Note) (start : GroupRecord ℕ Note) (cs : List Command) (history : List Column) (old : O)
-      → IsGroupStart next.initial config start → IsSound next start → history ≡ trace_columns next start → HasHistory next workers config cs 0 start history old old
+      → IsGroupStart next config start → IsSound next start → history ≡ trace_columns next start → HasHistory next workers config cs 0 start history old old
   has_none next workers config start cs history old is sound begins = record { accounts = []; run = (start, is, sound, (λ i. (start, begins i))); heard = refl }
 
   module _ {next : Next ℕ Note} {workers : ℕ} {config : Settings Note} {cs : List Command} {i : ℕ} {mid : GroupRecord ℕ Note} {history : List Column} {old told : O}

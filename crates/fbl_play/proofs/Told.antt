@@ -28,7 +28,7 @@ module _ {O : Type 0} (before : O → Command → O → Type 0) (after : O → C
 
   -- no command yet
   pub play_none : (next : Next ℕ Note) (workers : ℕ) (config : Settings Note) (start : GroupRecord ℕ Note) (cs : List Command) (known : Option (List ℕ)) (old : O)
-      → IsGroupStart next.initial config start → IsSound next start → IsPlayed next workers config cs 0 start known known old old
+      → IsGroupStart next config start → IsSound next start → IsPlayed next workers config cs 0 start known known old old
   play_none next workers config start cs known old is sound =
       record { accounts = []; text = []; run = (start, is, sound, refl); written = appends_nothing known; heard = refl }
 

@@ -76,14 +76,14 @@ NamesUndone receipts (Undone named) = named.items ≡ receipts
 NamesUndone receipts _ = ⊥
 
 -- a strike, by its first refusal: a refused one changes nothing
-abbrev pub StrikeBy : Option StrikeRefusal → GroupRecord ℕ Note → Members → GroupRecord ℕ Note → List ℕ → CommandAccount → Type 0
-StrikeBy None old struck new text account =
-    (answer : Struck) × Strikes old new struck answer × (text ≡ strike_line struck answer.lost) × NamesLost (lost_receipts new) account
-StrikeBy (Some refusal) old struck new text account =
+abbrev pub StrikeBy : Option StrikeRefusal → Next ℕ Note → GroupRecord ℕ Note → Members → GroupRecord ℕ Note → List ℕ → CommandAccount → Type 0
+StrikeBy None next old struck new text account =
+    (answer : Struck) × Strikes next old new struck answer × (text ≡ strike_line struck answer.lost) × NamesLost (lost_receipts new) account
+StrikeBy (Some refusal) next old struck new text account =
     (new ≡ old) × (text ≡ refused_line (codes "strike") (strike_name refusal)) × (account ≡ Refused (strike_reason old struck refusal))
 
-abbrev pub StrikeStep : GroupRecord ℕ Note → Members → GroupRecord ℕ Note → List ℕ → CommandAccount → Type 0
-StrikeStep old struck new text account = StrikeBy (strike_refusal old struck) old struck new text account
+abbrev pub StrikeStep : Next ℕ Note → GroupRecord ℕ Note → Members → GroupRecord ℕ Note → List ℕ → CommandAccount → Type 0
+StrikeStep next old struck new text account = StrikeBy (strike_refusal old struck) next old struck new text account
 
 -- a recovery where nobody is down
 abbrev pub RefusedRecovery : GroupRecord ℕ Note → GroupRecord ℕ Note → List ℕ → CommandAccount → Type 0
@@ -123,7 +123,7 @@ abbrev pub Step : Next ℕ Note → ℕ → GroupRecord ℕ Note → Command →
 Step next workers old (commands.Deliver to from) new text account = DeliverStep next old to from new text account
 Step next workers old commands.States new text account = StatesStep old new text account
 Step next workers old commands.Report new text account = ReportStep old new text account
-Step next workers old (commands.Strike struck) new text account = StrikeStep old struck new text account
+Step next workers old (commands.Strike struck) new text account = StrikeStep next old struck new text account
 Step next workers old commands.Recover new text account = RecoverStep next old new text account
 Step next workers old (commands.Dump strike) new text account = DumpStep old strike new text account
 Step next workers old (commands.Run plan) new text account = RunStep next workers plan old new text account
@@ -145,7 +145,7 @@ TextStep next workers old c account new = (line : List ℕ) × Step next workers
 -- group and this value
 abbrev pub IsRun : {X : Type 0} → Next ℕ Note → Settings Note → (GroupRecord ℕ Note → X) → (GroupRecord ℕ Note × X → Command → CommandAccount → GroupRecord ℕ Note × X → Type 0)
     → List Command → List CommandAccount → GroupRecord ℕ Note → X → Type 0
-IsRun next config first step commands accounts end x = (start : GroupRecord ℕ Note) × IsGroupStart next.initial config start × IsSound next start × Along step commands accounts (start, first start) (end, x)
+IsRun next config first step commands accounts end x = (start : GroupRecord ℕ Note) × IsGroupStart next config start × IsSound next start × Along step commands accounts (start, first start) (end, x)
 
 -- some run of the commands, from a new group of this config, prints the text and has these accounts; each record of the run is
 -- sound, so that each state that is printed is the fold of the member's receipts in the trace

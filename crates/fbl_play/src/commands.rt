@@ -132,7 +132,7 @@ fn run_strike<B: Behaviour<State = u64, Note = Note>>(
     group: &mut Group<B>,
     set: MemberSet,
 ) -> Result<Answer, AllocError>
-    ensures { IfOk result (λ answer. StrikeStep group.old set group.new (string_bytes answer.text) answer.account) }
+    ensures { IfOk result (λ answer. StrikeStep B.next group.old set group.new (string_bytes answer.text) answer.account) }
 {
     match group.strike(set) {
         Ok(struck) => {

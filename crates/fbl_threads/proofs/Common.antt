@@ -28,7 +28,7 @@ pub use Rattle.fbl_group.proofs.Striking.{is_allowed}
 pub use Rattle.fbl_group.specs.Crashes.{CrashLeaves, Crashes}
 pub use Rattle.fbl_group.specs.Recoveries.{Recovers}
 pub use Rattle.fbl_group.specs.Strikes.{strike_refusal}
-pub use Rattle.fbl_group.specs.Tickets.{IsCommitRefusal, commit_refusal}
+pub use Rattle.fbl_group.specs.Tickets.{MayCommit, RefusesCommit}
 pub use Rattle.fbl_group.specs.declared.answers.Recovered.{Recovered}
 pub use Rattle.fbl_group.specs.declared.answers.Struck.{Struck}
 pub use Rattle.fbl_group.specs.declared.refusals.CommitRefusal.{CommitRefusal}

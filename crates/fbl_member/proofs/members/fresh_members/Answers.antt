@@ -6,4 +6,4 @@ loop-number-init g c = rw c.new-members.ensures.items (made_none _ _)
 
 pub loop-number-preserved : goal.loop-number-preserved
 loop-number-preserved g c =
-    rw c.in_ok-push.ensures.items (made-more _ _ _ _ _ c.loop-number.invariant (rw (c.at-member.ensures, c.initial.ensures) at c.in_ok-fresh.ensures))
+    rw c.in_ok-push.ensures.items (made-more _ _ _ _ _ c.loop-number.invariant (rw (c.initial.ensures, c.at-member.ensures, c.members-n.ensures.value) at c.in_ok-fresh.ensures))

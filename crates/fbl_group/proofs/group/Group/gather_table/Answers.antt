@@ -5,7 +5,7 @@ use Rattle.fbl_group.proofs.group.Group.gather_table.Goals as goal
 pub loop-record-preserved : goal.loop-record-preserved
 loop-record-preserved g c =
     let r = c.args.self.now in
-    let saved = saved_tables r.initial r.down r.checkpoints (length r.checkpoints) in
+    let saved = saved_tables r.outside r.down r.checkpoints (length r.checkpoints) in
     let items = c.deref-record-items.result.now in
     let next = at_drop_more (λ (ms : List (MemberRecord _ _)). gathered_all c.loop-record.gathered (map (λ (m : MemberRecord _ _). m.table) ms ++ saved)) items
     c.loop-record.record-index c.record-item.result c.loop-record-test.true in

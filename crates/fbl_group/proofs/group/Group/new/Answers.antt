@@ -3,8 +3,7 @@ use Rattle.fbl_group.proofs.group.Group.new.Goals as goal
 
 pub invariant_of-result : goal.invariant_of-result
 invariant_of-result g c =
-    group_start_is_sound g.B.Behaviour.next c.args.config _ (rw (g.met.B.Behaviour.of_types.starts, ← c.config.view_is) c.config.invariant) (record {
-      begins = refl;
+    group_start_is_sound g.B.Behaviour.next c.args.config _ (rw (g.met.B.Behaviour.laws.starts, ← c.config.view_is) c.config.invariant) (record {
       parameters = refl;
       trace = c.in_ok-trace.ensures.trace;
       shape = c.in_ok-trace.ensures.shape;
