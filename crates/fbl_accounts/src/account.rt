@@ -1,24 +1,27 @@
 use fbl_base::{Behaviour, Member, Note, Outcome};
 use fbl_law::step_laws::Conserving;
 
-/// A member whose state is a balance. It takes a payment in and, if the message has hops left, pays half of the balance to
+/// A member whose state is a balance, at first 100 for the first member, 200 for the second, and so on. It takes a payment in and, if the message has hops left, pays half of the balance to
 /// the next account, with one hop fewer. A payment for which it has no room goes on to the next account.
 pub struct Account;
 
 impl Behaviour for Account {
-    ghost use Rattle.std.specs.Prelude.{◌≡◌, ◌<◌, ◌≤◌};
-    ghost use Rattle.fbl_accounts.specs.Accounts.{account_step, account_sends_allowed};
+    ghost use Rattle.fbl_base.specs.Numeric.{by_sends};
+    ghost use Rattle.fbl_accounts.specs.Accounts.{account_next, account_sends_allowed};
 
-    ghost next = { account_step };
+    type State = u64;
 
-    ghost sends_allowed = { account_sends_allowed };
+    type Note = Note;
 
-    fn step(me: Member, n: u8, state: u64, note: Note) -> Outcome
-        requires least { 2 ≤ n }
-        requires most { n ≤ 16 }
-        requires member { me < n }
-        ensures step { result ≡ account_step me n state note }
-    {
+    ghost next = { account_next };
+
+    ghost laws = { by_sends account_sends_allowed };
+
+    fn initial(me: Member, _n: u8) -> u64 {
+        100 * (u64::from(me.number()) + 1)
+    }
+
+    fn step(me: Member, n: u8, state: u64, note: Note) -> Outcome {
         let next = me.after(1, n);
         let Some(balance) = state.checked_add(note.value.into()) else {
             return Outcome::with_onward(state, next, note.value, note.hops.max(1));
@@ -31,14 +34,11 @@ impl Behaviour for Account {
 
 // No money is made or lost, by a step and so by a whole group.
 impl Conserving for Account {
-    ghost use Rattle.std.specs.Prelude.{refl};
     ghost use Rattle.fbl_accounts.specs.Accounts.{account_conserves};
 
     ghost mass = { λ me state. state };
 
     ghost weight = { λ note. note.value };
-
-    ghost nothing = { λ me. refl };
 
     ghost conserves = { account_conserves };
 }

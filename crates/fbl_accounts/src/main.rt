@@ -17,17 +17,16 @@ use std::alloc::Global;
 use std::sync::Wait;
 use std::thread::Threads;
 
-/// An opening balance: a message from another account, since each state begins at 0.
-fn opening(from: Member, to: Member, value: u32) -> Start
-    ensures ends { (result.from ≡ from) × (result.to ≡ to) }
-    ensures value { result.note.value ≡ value }
+/// A payment of nothing, by which an account begins to pay.
+fn asking(from: Member, to: Member) -> Start
+    ensures { result.note.value ≡ 0 }
 {
-    let note = Note { value, hops: 15 };
+    let note = Note { value: 0, hops: 15 };
     Start { from, to, note }
 }
 
-/// What the accounts hold and what is in flight, in all: what the openings brought where nobody is down, whatever was struck
-/// and recovered, and no more whoever is down.
+/// What the accounts that are up hold and what is in flight, in all: what they began with where nobody is down, whatever was
+/// struck and recovered, and no more whoever is down.
 fn total(group: &Group<Account>) -> u128
     ensures whole { group.now.down ≡ set.empty → result ≡ opened group.now.config }
     ensures most { result ≤ opened group.now.config }
@@ -61,7 +60,7 @@ fn run<R: Print + Threads + Wait + Sync>(rt: &R, alloc: Global) -> Result<()> {
     let a = Member::at(0);
     let b = Member::at(1);
     let c = Member::at(2);
-    let starts = [opening(b, a, 100), opening(c, b, 200), opening(a, c, 300)];
+    let starts = [asking(b, a), asking(c, b), asking(a, c)];
     let config = Config::new(alloc, 3, 1, 8192, &starts)?;
     let mut group = Group::<Account>::new(alloc, config)?;
     for (to, from) in [(a, b), (b, c), (c, b), (b, a)] {

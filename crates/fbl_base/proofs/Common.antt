@@ -44,5 +44,4 @@ pub use Rattle.fbl_base.specs.declared.trace.Determinant.{Determinant}
 pub use Rattle.fbl_base.specs.declared.trace.Event.{Event}
 pub use Rattle.fbl_base.specs.declared.trace.Mark.{Mark}
 pub use Rattle.fbl_base.specs.declared.trace.Mark.TheVariants.{Receipt, Send}
-pub use Rattle.fbl_base.specs.declared.trace.Note.{Note}
 pub use Rattle.fbl_base.specs.declared.trace.Start.{Start}

@@ -1,6 +1,6 @@
 -- A delivery keeps a trace lawful.
 use Rattle.fbl_base.proofs.Common.{◌≡◌, ◌≢◌, ℕ, zero, suc, ◌+◌, ◌<◌, ◌≤◌, ◌==◌, ◌&&◌, inl, inr, true, false, cond, List, [], ◌∷◌, ◌++◌, length, take, map}
-use Rattle.fbl_base.proofs.Common.{Some, slice_get, refl, sym, ap, ◌∙◌, arith, filter_map, fold, cases_eq, nat_tests, take-append-le, filter_map-append, Note, Start, Mark, At, sends_of}
+use Rattle.fbl_base.proofs.Common.{Some, slice_get, refl, sym, ap, ◌∙◌, arith, filter_map, fold, cases_eq, nat_tests, take-append-le, filter_map-append, Start, Mark, At, sends_of}
 use Rattle.fbl_base.proofs.Common.{is_send_of, MayFollow, WellFormed, Next, took, sent, responses, append_assoc, length-append, length-take, All, append-nil, map-append, length-map, sum_by-append}
 use Rattle.fbl_base.proofs.Common.{All-head, All-tail, slice_get-map, Event, mark_of, Action, action_of, actions_of, notes_of, note_of, start_of, starts_of, step_events, Lawful}
 use Rattle.fbl_base.specs.declared.trace.Mark.TheVariants as mark
@@ -10,106 +10,108 @@ use Rattle.fbl_base.proofs.Gets.{filter_map-agree}
 use Rattle.fbl_base.proofs.RulesLaws.{WellFormed-push, sent-before, eqb-self}
 use Rattle.fbl_base.proofs.FoldLaws.{responses-push}
 
--- a note that was sent stays so
-pub note_of-front : (t s : List Event) (from ssn : ℕ) (note : Note) → note_of t from ssn ≡ Some note → note_of (t ++ s) from ssn ≡ Some note
-note_of-front [] s from ssn note h = cc
-note_of-front (Send q k to x ∷ t) s from ssn note h =
-    (let rest = note_of-front t s from ssn note in grind (arith, rest, h))
-note_of-front (Receipt to rsn q k ∷ t) s from ssn note h = note_of-front t s from ssn note h
+module _ {N : Type 0} where
+  -- a note that was sent stays so
+  pub note_of-front : (t s : List (Event N)) (from ssn : ℕ) (note : N) → note_of t from ssn ≡ Some note → note_of (t ++ s) from ssn ≡ Some note
+  note_of-front [] s from ssn note h = cc
+  note_of-front (Send q k to x ∷ t) s from ssn note h =
+      (let rest = note_of-front t s from ssn note in grind (arith, rest, h))
+  note_of-front (Receipt to rsn q k ∷ t) s from ssn note h = note_of-front t s from ssn note h
 
-pub notes_of-append : (xs ys : List Action) → notes_of (xs ++ ys) ≡ notes_of xs ++ notes_of ys
-notes_of-append [] ys = refl
-notes_of-append (took note ∷ xs) ys = ap (λ zs. note ∷ zs) (notes_of-append xs ys)
-notes_of-append (sent s ∷ xs) ys = notes_of-append xs ys
+  pub notes_of-append : (xs ys : List (Action N)) → notes_of (xs ++ ys) ≡ notes_of xs ++ notes_of ys
+  notes_of-append [] ys = refl
+  notes_of-append (took note ∷ xs) ys = ap (λ zs. note ∷ zs) (notes_of-append xs ys)
+  notes_of-append (sent s ∷ xs) ys = notes_of-append xs ys
 
-pub notes_of-sent : (sends : List (ℕ × Note)) → notes_of (map sent sends) ≡ []
-notes_of-sent [] = refl
-notes_of-sent (s ∷ sends) = notes_of-sent sends
+  pub notes_of-sent : (sends : List (ℕ × N)) → notes_of (map sent sends) ≡ []
+  notes_of-sent [] = refl
+  notes_of-sent (s ∷ sends) = notes_of-sent sends
 
--- a step's sends are its member's
-step-actions : (t : List Event) (p m before : ℕ) (sends : List (ℕ × Note)) → filter_map (action_of t m) (step_events p before sends) ≡ cond (p == m) (map sent sends) []
-step-actions t p m before [] = grind arith
-step-actions t p m before (s ∷ sends) = (let rest = step-actions t p m (before + 1) sends in grind (arith, rest))
+  -- a step's sends are its member's
+  step-actions : (t : List (Event N)) (p m before : ℕ) (sends : List (ℕ × N)) → filter_map (action_of t m) (step_events p before sends) ≡ cond (p == m) (map sent sends) []
+  step-actions t p m before [] = grind arith
+  step-actions t p m before (s ∷ sends) = (let rest = step-actions t p m (before + 1) sends in grind (arith, rest))
 
--- the sends of a step obey the rules
-pub sends_obey : (n p before : ℕ) (u : List Mark) (sends : List (ℕ × Note)) → WellFormed n u → p < n → before ≡ sends_of u p
-    → All (λ (s : ℕ × Note). (s.0 < n) × (s.0 ≢ p)) sends → length u + length sends ≤ 8192 → WellFormed n (u ++ map mark_of (step_events p before sends))
-sends_obey n p before u [] obeys member count allowed room = rw append-nil obeys
-sends_obey n p before u (s ∷ sends) obeys member count allowed room =
-    let e : Mark = mark.Send p (before + 1) s.0 in
-    let here = All-head (λ (x : ℕ × Note). (x.0 < n) × (x.0 ≢ p)) s sends allowed in
-    let may : MayFollow n u e = (member, here.0, (λ h. here.1 (sym h)), ap (λ x. x + 1) count, omega (arith, room)) in
-    let self : (p == p) ≡ true = eqb-self p in
-    let more : before + 1 ≡ sends_of (u ++ e ∷ []) p = rw (sum_by-append (λ y. cond (is_send_of p y) 1 0) u (e ∷ []), self) (omega (arith, count)) in
-    (rw append_assoc at (sends_obey n p (before + 1) (u ++ e ∷ []) sends (WellFormed-push n u e obeys may) member more
-    (All-tail (λ (x : ℕ × Note). (x.0 < n) × (x.0 ≢ p)) s sends allowed) (omega (arith, room, length-append u (e ∷ [])))))
+  -- the sends of a step obey the rules
+  pub sends_obey : (n p before : ℕ) (u : List Mark) (sends : List (ℕ × N)) → WellFormed n u → p < n → before ≡ sends_of u p
+      → All (λ (s : ℕ × N). (s.0 < n) × (s.0 ≢ p)) sends → length u + length sends ≤ 8192 → WellFormed n (u ++ map mark_of (step_events p before sends))
+  sends_obey n p before u [] obeys member count allowed room = rw append-nil obeys
+  sends_obey n p before u (s ∷ sends) obeys member count allowed room =
+      let e : Mark = mark.Send p (before + 1) s.0 in
+      let here = All-head (λ (x : ℕ × N). (x.0 < n) × (x.0 ≢ p)) s sends allowed in
+      let may : MayFollow n u e = (member, here.0, (λ h. here.1 (sym h)), ap (λ x. x + 1) count, omega (arith, room)) in
+      let self : (p == p) ≡ true = eqb-self p in
+      let more : before + 1 ≡ sends_of (u ++ e ∷ []) p = rw (sum_by-append (λ y. cond (is_send_of p y) 1 0) u (e ∷ []), self) (omega (arith, count)) in
+      (rw append_assoc at (sends_obey n p (before + 1) (u ++ e ∷ []) sends (WellFormed-push n u e obeys may) member more
+      (All-tail (λ (x : ℕ × N). (x.0 < n) × (x.0 ≢ p)) s sends allowed) (omega (arith, room, length-append u (e ∷ [])))))
 
--- what a member does stays the same as the trace grows, where each receipt's note is known
-actions-front : (t s u : List Event) (m : ℕ) →
-    ((i to rsn from ssn : ℕ) → slice_get u i ≡ Some (Receipt to rsn from ssn) → (note : Note) × (note_of t from ssn ≡ Some note))
-    → filter_map (action_of (t ++ s) m) u ≡ filter_map (action_of t m) u
-actions-front t s u m noted = filter_map-agree (action_of (t ++ s) m) (action_of t m) u agree where
-  agree : (i : ℕ) (e : Event) → slice_get u i ≡ Some e → action_of (t ++ s) m e ≡ action_of t m e
-  agree i (Send q k to x) here = refl
-  agree i (Receipt to rsn from ssn) here =
-      let n = noted i to rsn from ssn here in
-      let e : note_of (t ++ s) from ssn ≡ note_of t from ssn = note_of-front t s from ssn n.0 n.1 ∙ sym n.1 in
-      rw e refl
+  -- what a member does stays the same as the trace grows, where each receipt's note is known
+  actions-front : (t s u : List (Event N)) (m : ℕ) →
+      ((i to rsn from ssn : ℕ) → slice_get u i ≡ Some (Receipt to rsn from ssn) → (note : N) × (note_of t from ssn ≡ Some note))
+      → filter_map (action_of (t ++ s) m) u ≡ filter_map (action_of t m) u
+  actions-front t s u m noted = filter_map-agree (action_of (t ++ s) m) (action_of t m) u agree where
+    agree : (i : ℕ) (e : Event N) → slice_get u i ≡ Some e → action_of (t ++ s) m e ≡ action_of t m e
+    agree i (Send q k to x) here = refl
+    agree i (Receipt to rsn from ssn) here =
+        let n = noted i to rsn from ssn here in
+        let e : note_of (t ++ s) from ssn ≡ note_of t from ssn = note_of-front t s from ssn n.0 n.1 ∙ sym n.1 in
+        rw e refl
 
--- a message that was sent has a note
-pub sent-note : (t : List Event) (i q k p : ℕ) → At (map mark_of t) i (mark.Send q k p) → (note : Note) × (note_of t q k ≡ Some note)
-sent-note [] i q k p h = cc
-sent-note (Send q' k' p' x ∷ t) zero q k p h = (x, grind (arith, nat_tests))
-sent-note (Send q' k' p' x ∷ t) (suc i) q k p h =
-    elim (q' == q && k' == k) as (λ b. (note : Note) × (cond b (Some x) (note_of t q k) ≡ Some note)) [ true ↦ (x, refl) | false ↦ sent-note t i q k p h ]
-sent-note (Receipt p' r q' k' ∷ t) zero q k p h = cc
-sent-note (Receipt p' r q' k' ∷ t) (suc i) q k p h = sent-note t i q k p h
+  -- a message that was sent has a note
+  pub sent-note : (t : List (Event N)) (i q k p : ℕ) → At (map mark_of t) i (mark.Send q k p) → (note : N) × (note_of t q k ≡ Some note)
+  sent-note [] i q k p h = cc
+  sent-note (Send q' k' p' x ∷ t) zero q k p h = (x, grind (arith, nat_tests))
+  sent-note (Send q' k' p' x ∷ t) (suc i) q k p h =
+      elim (q' == q && k' == k) as (λ b. (note : N) × (cond b (Some x) (note_of t q k) ≡ Some note)) [ true ↦ (x, refl) | false ↦ sent-note t i q k p h ]
+  sent-note (Receipt p' r q' k' ∷ t) zero q k p h = cc
+  sent-note (Receipt p' r q' k' ∷ t) (suc i) q k p h = sent-note t i q k p h
 
--- in a trace that obeys the rules each receipt's message was sent, so its note is known
-pub receipts-noted : (n : ℕ) (t : List Event) → WellFormed n (map mark_of t) → (i to rsn from ssn : ℕ)
-    → slice_get t i ≡ Some (Receipt to rsn from ssn) → (note : Note) × (note_of t from ssn ≡ Some note)
-receipts-noted n t obeys i to rsn from ssn at =
-    let sent' = sent-before n (map mark_of t) obeys i to rsn from ssn (slice_get-map mark_of t i ∙ (rw at)) in
-    sent-note t sent'.0 from ssn to sent'.2
+  -- in a trace that obeys the rules each receipt's message was sent, so its note is known
+  pub receipts-noted : (n : ℕ) (t : List (Event N)) → WellFormed n (map mark_of t) → (i to rsn from ssn : ℕ)
+      → slice_get t i ≡ Some (Receipt to rsn from ssn) → (note : N) × (note_of t from ssn ≡ Some note)
+  receipts-noted n t obeys i to rsn from ssn at =
+      let sent' = sent-before n (map mark_of t) obeys i to rsn from ssn (slice_get-map mark_of t i ∙ (rw at)) in
+      sent-note t sent'.0 from ssn to sent'.2
 
-pub actions-append : (t new : List Event) (m : ℕ)
-    → ((i to rsn from ssn : ℕ) → slice_get t i ≡ Some (Receipt to rsn from ssn) → (note : Note) × (note_of t from ssn ≡ Some note))
-    → actions_of (t ++ new) m ≡ actions_of t m ++ filter_map (action_of (t ++ new) m) new
-actions-append t new m noted = filter_map-append (action_of (t ++ new) m) t new ∙ ap (λ xs. xs ++ filter_map (action_of (t ++ new) m) new) (actions-front t new t m noted)
+  pub actions-append : (t new : List (Event N)) (m : ℕ)
+      → ((i to rsn from ssn : ℕ) → slice_get t i ≡ Some (Receipt to rsn from ssn) → (note : N) × (note_of t from ssn ≡ Some note))
+      → actions_of (t ++ new) m ≡ actions_of t m ++ filter_map (action_of (t ++ new) m) new
+  actions-append t new m noted = filter_map-append (action_of (t ++ new) m) t new ∙ ap (λ xs. xs ++ filter_map (action_of (t ++ new) m) new) (actions-front t new t m noted)
 
--- a delivery keeps a trace lawful
-pub Lawful-deliver : (next : Next) (n : ℕ) (starts : List Start) (t : List Event) (p rsn q s : ℕ) (note : Note) (sends : List (ℕ × Note))
-    → Lawful next n starts t → MayFollow n (map mark_of t) (mark.Receipt p rsn q s) → note_of t q s ≡ Some note
-    → sends ≡ (next p n (fold (λ state x. (next p n state x).state) 0 (notes_of (actions_of t p))) note).sends.items
-    → All (λ (x : ℕ × Note). (x.0 < n) × (x.0 ≢ p)) sends → length t + 1 + length sends ≤ 8192 → length starts ≤ length t
-    → Lawful next n starts (t ++ Receipt p rsn q s ∷ step_events p (sends_of (map mark_of t) p) sends)
-Lawful-deliver next n starts t p rsn q s note sends lawful may noted answer allowed room begun =
-    let before = sends_of (map mark_of t) p in
-    let new = Receipt p rsn q s ∷ step_events p before sends in
-    let R : Mark = mark.Receipt p rsn q s in
-    let old = actions_of t p in
-    let tail : List Action = took note ∷ map sent sends in
-    let count : before ≡ sends_of (map mark_of t ++ R ∷ []) p = rw (sum_by-append (λ y. cond (is_send_of p y) 1 0) (map mark_of t) (R ∷ [])) (omega arith) in
-    let fits : length (map mark_of t ++ R ∷ []) + length sends ≤ 8192 = omega (arith, length-append (map mark_of t) (R ∷ []), length-map t mark_of, room) in
-    let grown = λ (m : ℕ). actions-append t new m (receipts-noted n t lawful.well_formed) in
-    let own : actions_of (t ++ new) p ≡ old ++ tail = grown p ∙ (rw (step-actions (t ++ new) p p before sends, eqb-self p, note_of-front t new q s note noted) refl) in
-    let notes : notes_of (old ++ tail) ≡ notes_of old ++ note ∷ [] = notes_of-append old tail ∙ ap (λ xs. notes_of old ++ note ∷ xs) (notes_of-sent sends) in
-    record {
-      well_formed = rw (map-append mark_of t new) (rw append_assoc at
-          (sends_obey n p before (map mark_of t ++ R ∷ []) sends (WellFormed-push n (map mark_of t) R lawful.well_formed may) may.1 count allowed fits));
-      starts_first = rw (take-append-le (length starts) t new begun) lawful.starts_first;
-      responds = λ m. elim (cases_eq p m) [
-        | inl same ↦
-            rw (← same, own, notes, responses-push next p n 0 (notes_of old) note, ← answer)
-            (ap (λ xs. xs ++ tail) (lawful.responds p) ∙ append_assoc (map sent (starts_of p starts)) (responses next p n 0 (notes_of old)) tail)
-        | inr other ↦
-            let no : (p == m) ≡ false = grind (arith, nat_tests) in
-            let kept : actions_of (t ++ new) m ≡ actions_of t m = grown m ∙ (rw (step-actions (t ++ new) p m before sends, no) (append-nil (actions_of t m))) in
-            rw kept (lawful.responds m)
-      ];
-    }
+module _ {S N : Type 0} where
+  -- a delivery keeps a trace lawful
+  pub Lawful-deliver : (next : Next S N) (n : ℕ) (starts : List (Start N)) (t : List (Event N)) (p rsn q s : ℕ) (note : N) (sends : List (ℕ × N))
+      → Lawful next n starts t → MayFollow n (map mark_of t) (mark.Receipt p rsn q s) → note_of t q s ≡ Some note
+      → sends ≡ (next.step p n (fold (λ state x. (next.step p n state x).state) (next.initial p n) (notes_of (actions_of t p))) note).sends.items
+      → All (λ (x : ℕ × N). (x.0 < n) × (x.0 ≢ p)) sends → length t + 1 + length sends ≤ 8192 → length starts ≤ length t
+      → Lawful next n starts (t ++ Receipt p rsn q s ∷ step_events p (sends_of (map mark_of t) p) sends)
+  Lawful-deliver next n starts t p rsn q s note sends lawful may noted answer allowed room begun =
+      let before = sends_of (map mark_of t) p in
+      let new = Receipt p rsn q s ∷ step_events p before sends in
+      let R : Mark = mark.Receipt p rsn q s in
+      let old = actions_of t p in
+      let tail : List (Action N) = took note ∷ map sent sends in
+      let count : before ≡ sends_of (map mark_of t ++ R ∷ []) p = rw (sum_by-append (λ y. cond (is_send_of p y) 1 0) (map mark_of t) (R ∷ [])) (omega arith) in
+      let fits : length (map mark_of t ++ R ∷ []) + length sends ≤ 8192 = omega (arith, length-append (map mark_of t) (R ∷ []), length-map t mark_of, room) in
+      let grown = λ (m : ℕ). actions-append t new m (receipts-noted n t lawful.well_formed) in
+      let own : actions_of (t ++ new) p ≡ old ++ tail = grown p ∙ (rw (step-actions (t ++ new) p p before sends, eqb-self p, note_of-front t new q s note noted) refl) in
+      let notes : notes_of (old ++ tail) ≡ notes_of old ++ note ∷ [] = notes_of-append old tail ∙ ap (λ xs. notes_of old ++ note ∷ xs) (notes_of-sent sends) in
+      record {
+        well_formed = rw (map-append mark_of t new) (rw append_assoc at
+            (sends_obey n p before (map mark_of t ++ R ∷ []) sends (WellFormed-push n (map mark_of t) R lawful.well_formed may) may.1 count allowed fits));
+        starts_first = rw (take-append-le (length starts) t new begun) lawful.starts_first;
+        responds = λ m. elim (cases_eq p m) [
+          | inl same ↦
+              rw (← same, own, notes, responses-push next p n (next.initial p n) (notes_of old) note, ← answer)
+              (ap (λ xs. xs ++ tail) (lawful.responds p) ∙ append_assoc (map sent (starts_of p starts)) (responses next p n (next.initial p n) (notes_of old)) tail)
+          | inr other ↦
+              let no : (p == m) ≡ false = grind (arith, nat_tests) in
+              let kept : actions_of (t ++ new) m ≡ actions_of t m = grown m ∙ (rw (step-actions (t ++ new) p m before sends, no) (append-nil (actions_of t m))) in
+              rw kept (lawful.responds m)
+        ];
+      }
 
--- a lawful trace has at least its starts
-pub Lawful-begun : (next : Next) (n : ℕ) (starts : List Start) (t : List Event) → Lawful next n starts t → length starts ≤ length t
-Lawful-begun next n starts t lawful =
-    omega (arith, ap length lawful.starts_first, length-filter_map start_of (take (length starts) t), length-take (length starts) t)
+  -- a lawful trace has at least its starts
+  pub Lawful-begun : (next : Next S N) (n : ℕ) (starts : List (Start N)) (t : List (Event N)) → Lawful next n starts t → length starts ≤ length t
+  Lawful-begun next n starts t lawful =
+      omega (arith, ap length lawful.starts_first, length-filter_map start_of (take (length starts) t), length-take (length starts) t)

@@ -2,6 +2,7 @@
 use Rattle.std.specs.Prelude.{◌≡◌, ◌≢◌, ◌⊎◌, ℕ, ◌+◌, ◌<◌, ◌≤◌, true, false, List, length, take, Option, Some, None, slice_get}
 use Rattle.std.specs.Ordering.{nat_cmp}
 use Rattle.std.specs.FinSet as set
+use Rattle.fbl_base.specs.declared.trace.Note.{Note}
 use Rattle.fbl_base.specs.declared.trace.Start.{Start}
 use Rattle.fbl_base.specs.declared.trace.Determinant.{Determinant}
 use Rattle.fbl_base.specs.declared.trace.Mark.{Mark}
@@ -48,18 +49,18 @@ IsLeastOutside s n outsider =
 -- ---- starts and configurations
 
 -- the start breaks this rule in a group of n
-abbrev pub BreaksStart : ℕ → Start → StartRule → Type 0
+abbrev pub BreaksStart : ℕ → Start Note → StartRule → Type 0
 BreaksStart n start (start_rule.Outside outsider) = IsEndOutside n start.from start.to outsider
 BreaksStart n start start_rule.ToItself = (start.from < n) × (start.to < n) × (start.from ≡ start.to)
 BreaksStart n start (start_rule.TooManyHops hops) =
     (start.from < n) × (start.to < n) × (start.from ≢ start.to) × (hops ≡ start.note.hops) × (15 < hops)
 
 -- the start at the fault's place is the fault's, and breaks its rule
-abbrev pub IsStartFault : ℕ → List Start → StartFault → Type 0
+abbrev pub IsStartFault : ℕ → List (Start Note) → StartFault → Type 0
 IsStartFault n starts fault = (slice_get starts fault.place ≡ Some fault.start) × BreaksStart n fault.start fault.rule
 
 -- what the fault says of the parameters is so
-abbrev pub IsOfConfig : Settings → ConfigFault → Type 0
+abbrev pub IsOfConfig : Settings Note → ConfigFault → Type 0
 IsOfConfig c (config_fault.BadMembers members) = members ≡ c.members
 IsOfConfig c (config_fault.BadF f members) = (f ≡ c.f) × (members ≡ c.members)
 IsOfConfig c (config_fault.BadLimit limit) = limit ≡ c.limit

@@ -10,7 +10,7 @@ use Rattle.fbl_base.specs.declared.trace.Mark.{Mark}
 use Rattle.fbl_base.specs.declared.trace.Mark.TheVariants.{Send, Receipt}
 
 -- an event without its note
-abbrev pub mark_of : Event → Mark
+abbrev pub mark_of : {N : Type 0} → Event N → Mark
 mark_of (event.Send from ssn to note) = Send from ssn to
 mark_of (event.Receipt to rsn from ssn) = Receipt to rsn from ssn
 

@@ -1,7 +1,6 @@
 -- Laws of precedence and of lawful traces, for the functions that state them.
 use Rattle.std.specs.Prelude.{◌≡◌, ◌≢◌, ℕ, ◌+◌, ◌<◌, ◌≤◌, ◌⊎◌, ◌↔◌, List, [], ◌∷◌, ◌++◌, length, map, Some}
 use Rattle.std.specs.List.{All}
-use Rattle.fbl_base.specs.declared.trace.Note.{Note}
 use Rattle.fbl_base.specs.declared.trace.Start.{Start}
 use Rattle.fbl_base.specs.declared.trace.Event.{Event}
 use Rattle.fbl_base.specs.declared.trace.Event.TheVariants as event
@@ -45,13 +44,13 @@ DependsOnPlacesLaw =
 
 -- a delivery keeps a trace lawful: the receipt may come next, what follows it are the sends that the behaviour answers to
 -- the message's note at the receiver's state, numbered on from the receiver's earlier sends, and there is room
-abbrev pub LawfulDeliveryLaw : Type 0
-LawfulDeliveryLaw =
-    (next : Next) (n : ℕ) (starts : List Start) (t : List Event) (to rsn from ssn : ℕ) (note : Note) (sends : List (ℕ × Note))
+abbrev pub LawfulDeliveryLaw : Type 0 → Type 0 → Type 0
+LawfulDeliveryLaw S N =
+    (next : Next S N) (n : ℕ) (starts : List (Start N)) (t : List (Event N)) (to rsn from ssn : ℕ) (note : N) (sends : List (ℕ × N))
     → Lawful next n starts t
     → MayFollow n (map mark_of t) (Receipt to rsn from ssn)
     → note_of t from ssn ≡ Some note
-    → sends ≡ (next to n (state_after next to n (notes_of (actions_of t to))) note).sends.items
-    → All (λ (s : ℕ × Note). (s.0 < n) × (s.0 ≢ to)) sends
+    → sends ≡ (next.step to n (state_after next to n (notes_of (actions_of t to))) note).sends.items
+    → All (λ (s : ℕ × N). (s.0 < n) × (s.0 ≢ to)) sends
     → length t + 1 + length sends ≤ 8192
     → Lawful next n starts (t ++ event.Receipt to rsn from ssn ∷ step_events to (sends_of (map mark_of t) to) sends)

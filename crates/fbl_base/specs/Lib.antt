@@ -5,6 +5,8 @@ pub mod Breaches
 pub mod Configs
 pub mod Plans
 pub mod Names
+pub mod Numeric
+pub mod Exactness
 pub mod Fold
 pub mod Audit
 pub mod Reach

@@ -1,12 +1,14 @@
 //! The parameters of a group.
 
-ghost use Rattle.std.specs.Prelude.{◌≡◌, ◌↔◌, ◌<◌, ℕ, IsTrue, IfOk, IfErr, IfNone, IfSome, MatchResult, length};
+ghost use Rattle.std.specs.Prelude.{◌≡◌, ◌↔◌, ℕ, IsTrue, IfOk, IfErr, MatchOption, length};
 ghost use Rattle.fbl_base.specs.Breaches.{IsOfConfig, IsStartFault, config_refusal};
-ghost use Rattle.fbl_base.specs.Configs.{IsConfig, RefusesConfig, StartAllowedAt};
+ghost use Rattle.fbl_base.specs.Configs.{IsConfig, IsFirstBreach, RefusesConfig, StartAllowedAt};
+ghost use Rattle.fbl_base.specs.Steps.{has_few_hops};
 
+use crate::content::Content;
 use crate::fault::{ConfigFault, StartFault};
 use crate::member::{LEAST_MEMBERS, MOST_MEMBERS};
-use crate::trace::{MOST_EVENTS, Start};
+use crate::trace::{MOST_EVENTS, Note, Start};
 use std::alloc::{AllocError, Allocator, Global};
 use std::marker::Model;
 use thiserror::Error;
@@ -27,7 +29,7 @@ pub enum ConfigRefusal {
     /// There are more than 64 starts.
     TooManyStarts,
     /// The start at this place, the first such, has an end outside the group, goes from a member to itself, or has
-    /// more than 15 hops.
+    /// a content that no start may have: a `Note` with more than 15 hops.
     #[error("{} {}", self.name(), .0)]
     BadStart(usize),
     /// The trace may have fewer events than there are starts.
@@ -58,24 +60,24 @@ impl ConfigRefusal {
 /// The parameters of a group: how many members it has and how many of them may be lost at once, how many events its
 /// trace may have, and the messages that members send before anything is received.
 #[derive(Drop, Debug)]
-pub struct Config<A: Allocator = Global> {
+pub struct Config<N: Content = Note, A: Allocator = Global> {
     members: u8,
     f: u8,
     limit: u32,
-    starts: Vec<Start, A>,
+    starts: Vec<Start<N>, A>,
 }
 
-impl<A: Allocator> Model for Config<A> {
+impl<N: Content, A: Allocator> Model for Config<N, A> {
     ghost use Rattle.fbl_base.specs.Configs.{Settings, IsConfig};
 
-    ghost Value = { Settings };
+    ghost Value = { Settings N };
 
     ghost view = { λ c. record { members = c.members; f = c.f; limit = c.limit; starts = c.starts.items } };
 
-    ghost invariant = { λ c. IsConfig (record { members = c.members; f = c.f; limit = c.limit; starts = c.starts.items }) };
+    ghost invariant = { λ c. IsConfig N.allowed (record { members = c.members; f = c.f; limit = c.limit; starts = c.starts.items }) };
 }
 
-impl<A: Allocator + Copy> Config<A> {
+impl<N: Content, A: Allocator + Copy> Config<N, A> {
     /// A configuration of these parameters, with a copy of the starts in the allocator's memory. Where several refusals
     /// hold, the first in the order of `ConfigRefusal` is answered.
     pub fn new(
@@ -83,68 +85,46 @@ impl<A: Allocator + Copy> Config<A> {
         members: u8,
         f: u8,
         limit: u32,
-        starts: &[Start],
-    ) -> Result<Config<A>, ConfigRefusal>
+        starts: &[Start<N>],
+    ) -> Result<Config<N, A>, ConfigRefusal>
         ensures accepted { IfOk result (λ c. c ≡ record { members = members; f = f; limit = limit; starts = starts.now }) }
-        ensures rules { IfOk result IsConfig }
-        ensures refused { IfErr result (RefusesConfig (record { members = members; f = f; limit = limit; starts = starts.now })) }
-    {
-        match Config::checked(alloc, members, f, limit, starts) {
-            Ok(config) => Ok(config),
-            Err(fault) => Err(fault.refusal()),
-        }
-    }
-
-    /// A configuration as `new` makes it, or the first rule that the parameters break, with the numbers that break it.
-    pub fn checked(
-        alloc: A,
-        members: u8,
-        f: u8,
-        limit: u32,
-        starts: &[Start],
-    ) -> Result<Config<A>, ConfigFault>
-        ensures accepted { IfOk result (λ c. c ≡ record { members = members; f = f; limit = limit; starts = starts.now }) }
-        ensures rules { IfOk result IsConfig }
-        ensures refused { IfErr result (λ fault. RefusesConfig (record { members = members; f = f; limit = limit; starts = starts.now }) (config_refusal fault)) }
-        ensures fault { IfErr result (IsOfConfig (record { members = members; f = f; limit = limit; starts = starts.now })) }
+        ensures rules { IfOk result (IsConfig N.allowed) }
+        ensures refused { IfErr result (RefusesConfig N.allowed (record { members = members; f = f; limit = limit; starts = starts.now })) }
     {
         if members < LEAST_MEMBERS || members > MOST_MEMBERS {
-            return Err(ConfigFault::BadMembers { members });
+            return Err(ConfigRefusal::BadMembers);
         }
         if f < 1 || f >= members {
-            return Err(ConfigFault::BadF { f, members });
+            return Err(ConfigRefusal::BadF);
         }
         if limit < 1 || limit > MOST_EVENTS {
-            return Err(ConfigFault::BadLimit { limit });
+            return Err(ConfigRefusal::BadLimit);
         }
         let count = starts.len();
         if count > MOST_STARTS {
-            return Err(ConfigFault::TooManyStarts { starts: count });
+            return Err(ConfigRefusal::TooManyStarts);
         }
-        if let Some(fault) = first_bad_start(members, starts) {
-            return Err(ConfigFault::BadStart(fault));
+        if let Some(place) = first_bad_start(members, starts) {
+            return Err(ConfigRefusal::BadStart(place));
         }
         if (limit as usize) < count {
-            return Err(ConfigFault::LimitBelowStarts {
-                limit,
-                starts: count,
-            });
+            return Err(ConfigRefusal::LimitBelowStarts);
         }
-        match starts.to_vec(alloc) {
+        match Vec::from_slice(alloc, starts) {
             Ok(starts) => Ok(Config {
                 members,
                 f,
                 limit,
                 starts,
             }),
-            Err(_) => Err(ConfigFault::Memory),
+            Err(_) => Err(ConfigRefusal::Memory),
         }
     }
 
     /// How many members there are, 2 to 16.
     pub fn members(&self) -> u8
         ensures value { result ≡ self.now.members }
-        ensures rules { IsConfig self.now }
+        ensures rules { IsConfig N.allowed self.now }
     {
         self.members
     }
@@ -164,14 +144,14 @@ impl<A: Allocator + Copy> Config<A> {
     }
 
     /// The messages that members send before anything is received, in order.
-    pub fn starts(&self) -> &[Start]
+    pub fn starts(&self) -> &[Start<N>]
         ensures { result.now ≡ self.now.starts }
     {
         self.starts.as_slice()
     }
 
     /// Whether the two have the same parameters.
-    pub fn same(&self, other: &Config<A>) -> bool
+    pub fn same(&self, other: &Config<N, A>) -> bool
         ensures { IsTrue result ↔ (self.now ≡ other.now) }
     {
         if self.members != other.members || self.f != other.f || self.limit != other.limit {
@@ -182,32 +162,85 @@ impl<A: Allocator + Copy> Config<A> {
 
     /// An equal configuration, in the same allocator's memory. `Err` comes only where there is no memory for the
     /// starts.
-    pub fn copy(&self) -> Result<Config<A>, AllocError>
+    pub fn copy(&self) -> Result<Config<N, A>, AllocError>
         ensures { IfOk result (λ c. c ≡ self.now) }
     {
         Ok(Config {
             members: self.members,
             f: self.f,
             limit: self.limit,
-            starts: self.starts.as_slice().to_vec(*self.starts.allocator())?,
+            starts: Vec::from_slice(*self.starts.allocator(), self.starts.as_slice())?,
         })
     }
 }
 
-/// The first start that breaks a rule in a group of so many members.
-fn first_bad_start(members: u8, starts: &[Start]) -> Option<StartFault>
-    ensures all { IfNone result ((i : ℕ) → StartAllowedAt members starts.now i) }
-    ensures first { IfSome result (λ fault. (i : ℕ) → i < fault.place → StartAllowedAt members starts.now i) }
-    ensures fault { IfSome result (IsStartFault members starts.now) }
+impl<A: Allocator + Copy> Config<Note, A> {
+    /// A configuration as `new` makes it, or the first rule that the parameters break, with the numbers that break it.
+    pub fn checked(
+        alloc: A,
+        members: u8,
+        f: u8,
+        limit: u32,
+        starts: &[Start],
+    ) -> Result<Config<Note, A>, ConfigFault>
+        ensures accepted { IfOk result (λ c. c ≡ record { members = members; f = f; limit = limit; starts = starts.now }) }
+        ensures rules { IfOk result (IsConfig has_few_hops) }
+        ensures refused { IfErr result (λ fault. RefusesConfig has_few_hops (record { members = members; f = f; limit = limit; starts = starts.now }) (config_refusal fault)) }
+        ensures fault { IfErr result (IsOfConfig (record { members = members; f = f; limit = limit; starts = starts.now })) }
+    {
+        match Config::new(alloc, members, f, limit, starts) {
+            Ok(config) => Ok(config),
+            Err(refusal) => Err(fault_of(refusal, members, f, limit, starts)),
+        }
+    }
+}
+
+/// The place of the first start that may not be one in a group of so many members.
+fn first_bad_start<N: Content>(members: u8, starts: &[Start<N>]) -> Option<usize>
+    ensures { MatchOption result ((i : ℕ) → StartAllowedAt N.allowed members starts.now i) (IsFirstBreach (StartAllowedAt N.allowed members starts.now)) }
 {
     for (place, start) in starts.iter().enumerate() {
-        if let Some(rule) = start.broken_rule(members) {
-            return Some(StartFault {
-                place,
-                start: *start,
-                rule,
-            });
+        if !start.is_allowed(members) {
+            return Some(place);
         }
     }
     None
+}
+
+/// Which rule it is that parameters with this refusal break, with the numbers that break it.
+fn fault_of(refusal: ConfigRefusal, members: u8, f: u8, limit: u32, starts: &[Start]) -> ConfigFault
+    requires { RefusesConfig has_few_hops (record { members = members; f = f; limit = limit; starts = starts.now }) refusal }
+    ensures refusal { config_refusal result ≡ refusal }
+    ensures fault { IsOfConfig (record { members = members; f = f; limit = limit; starts = starts.now }) result }
+{
+    match refusal {
+        ConfigRefusal::BadMembers => ConfigFault::BadMembers { members },
+        ConfigRefusal::BadF => ConfigFault::BadF { f, members },
+        ConfigRefusal::BadLimit => ConfigFault::BadLimit { limit },
+        ConfigRefusal::TooManyStarts => ConfigFault::TooManyStarts {
+            starts: starts.len(),
+        },
+        ConfigRefusal::BadStart(place) => ConfigFault::BadStart(start_fault(
+            members, starts, place,
+        )),
+        ConfigRefusal::LimitBelowStarts => ConfigFault::LimitBelowStarts {
+            limit,
+            starts: starts.len(),
+        },
+        ConfigRefusal::Memory => ConfigFault::Memory,
+    }
+}
+
+/// Which rule the start at the place, which breaks one, breaks in a group of so many members.
+fn start_fault(members: u8, starts: &[Start], place: usize) -> StartFault
+    requires { ¬ (StartAllowedAt has_few_hops members starts.now place) }
+    ensures place { result.place ≡ place }
+    ensures fault { IsStartFault members starts.now result }
+{
+    let start = starts[place];
+    StartFault {
+        place,
+        start,
+        rule: start.breach(members),
+    }
 }

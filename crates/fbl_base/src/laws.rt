@@ -26,7 +26,7 @@ pub fn places_law()
 {}
 
 /// A lawful trace with one more receipt, of the first message in flight on its channel, and with the sends that the
-/// behaviour answers, is lawful, and so well formed.
-pub fn lawful_delivery_law()
-    ensures { LawfulDeliveryLaw }
+/// behaviour answers, is lawful, and so well formed. It holds of any states and contents.
+pub fn lawful_delivery_law<S, N>()
+    ensures { LawfulDeliveryLaw S N }
 {}

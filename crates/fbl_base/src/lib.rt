@@ -4,6 +4,7 @@
 pub mod audit;
 mod behaviour;
 mod config;
+mod content;
 mod fault;
 pub mod laws;
 mod member;
@@ -14,10 +15,12 @@ mod raw_dump;
 mod refusal;
 mod rules;
 mod strike;
+mod ticket;
 mod trace;
 
 pub use behaviour::{Behaviour, Mix, Relay};
 pub use config::{Config, ConfigRefusal};
+pub use content::{Content, Exact};
 pub use fault::{
     ConfigFault, DumpFault, EntryRule, EventFault, EventRule, Outsider, PairFault, PairRule,
     PlanFault, StartFault, StartRule,
@@ -29,4 +32,5 @@ pub use plan::{first_bad_entry, plan_fault};
 pub use raw_dump::RawDump;
 pub use refusal::DumpRefusal;
 pub use strike::Strike;
+pub use ticket::{Room, Ticket};
 pub use trace::{Determinant, Event, Mark, MessageName, Note, Start};

@@ -4,6 +4,7 @@ ghost use Rattle.std.specs.Prelude.{◌≡◌, ◌<◌, MatchOption};
 ghost use Rattle.fbl_base.specs.Plans.{BreaksEntry, IsFirstBad, IsPlan, IsPlanFault, MayBeStruck};
 
 use crate::config::Config;
+use crate::content::Content;
 use crate::fault::{EntryRule, PlanFault};
 use crate::strike::Strike;
 
@@ -11,7 +12,7 @@ use crate::strike::Strike;
 const MOST_ENTRIES: usize = 64;
 
 /// The first entry of the plan that breaks a rule in a group of this configuration, and the first rule that it breaks.
-pub fn plan_fault(plan: &[Strike], config: &Config) -> Option<PlanFault>
+pub fn plan_fault<N: Content>(plan: &[Strike], config: &Config<N>) -> Option<PlanFault>
     ensures { MatchOption result (IsPlan plan.now config.now) (IsPlanFault plan.now config.now) }
 {
     let mut before = 0u64;
@@ -29,7 +30,7 @@ pub fn plan_fault(plan: &[Strike], config: &Config) -> Option<PlanFault>
 }
 
 /// The place of the first entry of the plan that breaks a rule in a group of this configuration.
-pub fn first_bad_entry(plan: &[Strike], config: &Config) -> Option<usize>
+pub fn first_bad_entry<N: Content>(plan: &[Strike], config: &Config<N>) -> Option<usize>
     ensures { MatchOption result (IsPlan plan.now config.now) (IsFirstBad plan.now config.now) }
 {
     match plan_fault(plan, config) {
@@ -39,7 +40,12 @@ pub fn first_bad_entry(plan: &[Strike], config: &Config) -> Option<usize>
 }
 
 /// The first rule that the entry at the place breaks behind one that comes at the number `before`.
-fn broken_rule(config: &Config, place: usize, before: u64, entry: Strike) -> Option<EntryRule>
+fn broken_rule<N: Content>(
+    config: &Config<N>,
+    place: usize,
+    before: u64,
+    entry: Strike,
+) -> Option<EntryRule>
     ensures { MatchOption result ((place < 64) × (before < entry.at) × MayBeStruck config.now entry.set) (BreaksEntry config.now place before entry) }
 {
     if place >= MOST_ENTRIES {

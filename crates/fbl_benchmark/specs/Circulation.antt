@@ -6,7 +6,7 @@ use Rattle.fbl_base.specs.declared.trace.Note.{Note}
 use Rattle.fbl_base.specs.declared.outcome.Outcome.{Outcome}
 
 -- the step of a relay to which the message comes with two hops, so that it goes on with one
-abbrev pub circulate_step : ℕ → ℕ → ℕ → Note → Outcome
+abbrev pub circulate_step : ℕ → ℕ → ℕ → Note → Outcome ℕ Note
 circulate_step me n state note = relay_step me n state (record { value = note.value; hops = 2 })
 
 pub circulate_sends_allowed : (me n state : ℕ) (note : Note) → 2 ≤ n → me < n → SendsAllowed me n (circulate_step me n state note)
@@ -22,7 +22,7 @@ mixed zero state = state
 mixed (suc count) state = (31 * mixed count state + 1) % modulus
 
 -- the same step with the new state mixed
-abbrev pub long_circulate_step : ℕ → ℕ → ℕ → Note → Outcome
+abbrev pub long_circulate_step : ℕ → ℕ → ℕ → Note → Outcome ℕ Note
 long_circulate_step me n state note = let outcome = circulate_step me n state note in record { state = mixed rounds outcome.state; sends = outcome.sends }
 
 pub long_circulate_sends_allowed : (me n state : ℕ) (note : Note) → 2 ≤ n → me < n → SendsAllowed me n (long_circulate_step me n state note)

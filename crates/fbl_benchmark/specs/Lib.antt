@@ -1,2 +1,4 @@
 pub mod Circulation
 pub mod Spreading
+pub mod Packets
+pub mod Wide

@@ -14,7 +14,7 @@ to_next_four me n note = ((me + 1) % n, note) ∷ ((me + 2) % n, note) ∷ ((me 
 
 -- a relay's new state, and the message with one hop fewer to each of the next four members, if it has hops left. A group of
 -- less than five sends nothing
-abbrev pub spread_step : ℕ → ℕ → ℕ → Note → Outcome
+abbrev pub spread_step : ℕ → ℕ → ℕ → Note → Outcome ℕ Note
 spread_step me n state note = record {
   state = (relay_step me n state note).state;
   sends = record { items = (if note.hops == 0 then [] else (if nat_lt n 5 then [] else to_next_four me n (record { value = note.value; hops = note.hops - 1 }))) };

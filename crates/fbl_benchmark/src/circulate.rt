@@ -7,11 +7,21 @@ use fbl_base::{Behaviour, Member, Note, Outcome, Relay};
 pub struct Circulate;
 
 impl Behaviour for Circulate {
+    ghost use Rattle.fbl_base.specs.Steps.{numbered_from_0};
+    ghost use Rattle.fbl_base.specs.Numeric.{by_sends};
     ghost use Rattle.fbl_benchmark.specs.Circulation.{circulate_step, circulate_sends_allowed};
 
-    ghost next = { circulate_step };
+    type State = u64;
 
-    ghost sends_allowed = { circulate_sends_allowed };
+    type Note = Note;
+
+    ghost next = { numbered_from_0 circulate_step };
+
+    ghost laws = { by_sends circulate_sends_allowed };
+
+    fn initial(_me: Member, _n: u8) -> u64 {
+        0
+    }
 
     fn step(me: Member, n: u8, state: u64, note: Note) -> Outcome {
         let value = note.value;

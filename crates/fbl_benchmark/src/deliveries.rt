@@ -1,7 +1,7 @@
 //! Deliveries of one message that goes round a group, and crashes after them.
 
 use crate::circulate::Circulate;
-use crate::ring::{deliver_many, group_of, next_member};
+use crate::ring::{NOTE, deliver_many, group_of, next_member};
 use crate::times::{TRIES, microseconds_since, print_rate};
 use anyhow::Result;
 use fbl_base::{Member, MemberSet};
@@ -56,7 +56,7 @@ fn time_group(rt: &HostRuntime, members: u8, f: u8, count: u32) -> Result<()> {
 
 /// Does it once.
 fn try_group(rt: &HostRuntime, members: u8, f: u8, count: u32) -> Result<Tried> {
-    let mut group = group_of::<Circulate>(rt.alloc(), members, f)?;
+    let mut group = group_of::<Circulate>(rt.alloc(), members, f, NOTE)?;
     try_on(rt, &mut group, members, count)
 }
 

@@ -46,7 +46,7 @@ struct Drain {
 }
 
 /// A group in which each of the first so many members has sent a message to the next.
-fn ring<B: Behaviour>(alloc: Global, messages: u8) -> Result<Group<B>> {
+fn ring<B: Behaviour<State = u64, Note = Note>>(alloc: Global, messages: u8) -> Result<Group<B>> {
     let mut starts = Vec::new(alloc);
     for number in 0..messages {
         let from = Member::new(number).unwrap_or_default();
@@ -61,7 +61,7 @@ fn ring<B: Behaviour>(alloc: Global, messages: u8) -> Result<Group<B>> {
 }
 
 /// Times the drains of groups with so many messages by each number of workers.
-fn time_drains<B: Behaviour + Send + Sync, T: Threads + Wait + Sync>(
+fn time_drains<B: Behaviour<State = u64, Note = Note> + Send + Sync, T: Threads + Wait + Sync>(
     rt: &HostRuntime,
     threads: &T,
     name: &str,
@@ -75,7 +75,7 @@ fn time_drains<B: Behaviour + Send + Sync, T: Threads + Wait + Sync>(
 }
 
 /// Times the drain by so many workers.
-fn time_drain<B: Behaviour + Send + Sync, T: Threads + Wait + Sync>(
+fn time_drain<B: Behaviour<State = u64, Note = Note> + Send + Sync, T: Threads + Wait + Sync>(
     rt: &HostRuntime,
     threads: &T,
     name: &str,
@@ -96,7 +96,7 @@ fn time_drain<B: Behaviour + Send + Sync, T: Threads + Wait + Sync>(
 }
 
 /// Drains a group with so many messages, and answers how many microseconds it took and what was done.
-fn try_drain<B: Behaviour + Send + Sync, T: Threads + Wait + Sync>(
+fn try_drain<B: Behaviour<State = u64, Note = Note> + Send + Sync, T: Threads + Wait + Sync>(
     rt: &HostRuntime,
     threads: &T,
     messages: u8,

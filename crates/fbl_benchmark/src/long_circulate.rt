@@ -17,11 +17,21 @@ const MODULUS: u64 = 1_000_000_007;
 pub struct LongCirculate;
 
 impl Behaviour for LongCirculate {
+    ghost use Rattle.fbl_base.specs.Steps.{numbered_from_0};
+    ghost use Rattle.fbl_base.specs.Numeric.{by_sends};
     ghost use Rattle.fbl_benchmark.specs.Circulation.{long_circulate_step, long_circulate_sends_allowed};
 
-    ghost next = { long_circulate_step };
+    type State = u64;
 
-    ghost sends_allowed = { long_circulate_sends_allowed };
+    type Note = Note;
+
+    ghost next = { numbered_from_0 long_circulate_step };
+
+    ghost laws = { by_sends long_circulate_sends_allowed };
+
+    fn initial(_me: Member, _n: u8) -> u64 {
+        0
+    }
 
     fn step(me: Member, n: u8, state: u64, note: Note) -> Outcome {
         let outcome = Circulate::step(me, n, state, note);

@@ -2,10 +2,10 @@
 
 use crate::circulate::Circulate;
 use crate::long_circulate::LongCirculate;
-use crate::ring::{deliver_many, group_of, next_member};
+use crate::ring::{NOTE, deliver_many, group_of, next_member};
 use crate::times::{TRIES, microseconds_since, print_rate};
 use anyhow::Result;
-use fbl_base::{Behaviour, Member, MemberSet};
+use fbl_base::{Behaviour, Member, MemberSet, Note};
 use fbl_group::{Group, Recovered};
 use std::time::Instant;
 
@@ -30,8 +30,8 @@ pub fn time_recoveries(rt: &HostRuntime) -> Result<()> {
 }
 
 /// Times the recovery of the member that has received last.
-fn time_recovery<B: Behaviour>(rt: &HostRuntime, name: &str, checkpointed: bool) -> Result<()> {
-    let mut group = group_of::<B>(rt.alloc(), MEMBERS, LOST)?;
+fn time_recovery<B: Behaviour<State = u64, Note = Note>>(rt: &HostRuntime, name: &str, checkpointed: bool) -> Result<()> {
+    let mut group = group_of::<B>(rt.alloc(), MEMBERS, LOST, NOTE)?;
     deliver_and_checkpoint(&mut group, checkpointed)?;
     let (recovered, least) = try_recoveries(rt, &mut group)?;
     println!(rt;
@@ -42,7 +42,7 @@ fn time_recovery<B: Behaviour>(rt: &HostRuntime, name: &str, checkpointed: bool)
 }
 
 /// Makes the group's receipts, with a checkpoint of each member before the last ones, or with none.
-fn deliver_and_checkpoint<B: Behaviour>(group: &mut Group<B>, checkpointed: bool) -> Result<()> {
+fn deliver_and_checkpoint<B: Behaviour<State = u64, Note = Note>>(group: &mut Group<B>, checkpointed: bool) -> Result<()> {
     deliver_many(group, MEMBERS, BEFORE)?;
     if checkpointed {
         checkpoint_each(group)?;
@@ -53,7 +53,7 @@ fn deliver_and_checkpoint<B: Behaviour>(group: &mut Group<B>, checkpointed: bool
 
 /// Strikes and recovers the member that has received last several times, and answers what its first recovery did and the least
 /// time that one took.
-fn try_recoveries<B: Behaviour>(
+fn try_recoveries<B: Behaviour<State = u64, Note = Note>>(
     rt: &HostRuntime,
     group: &mut Group<B>,
 ) -> Result<(Recovered, u128)> {
@@ -67,7 +67,7 @@ fn try_recoveries<B: Behaviour>(
 }
 
 /// Takes a checkpoint of each member.
-fn checkpoint_each<B: Behaviour>(group: &mut Group<B>) -> Result<()> {
+fn checkpoint_each<B: Behaviour<State = u64, Note = Note>>(group: &mut Group<B>) -> Result<()> {
     for number in 0..MEMBERS {
         group.checkpoint(Member::new(number).unwrap_or_default())?;
     }
@@ -75,7 +75,7 @@ fn checkpoint_each<B: Behaviour>(group: &mut Group<B>) -> Result<()> {
 }
 
 /// Strikes the member, recovers it, and answers what the recovery did and how many microseconds it took.
-fn crash<B: Behaviour>(
+fn crash<B: Behaviour<State = u64, Note = Note>>(
     rt: &HostRuntime,
     group: &mut Group<B>,
     member: Member,

@@ -2,18 +2,26 @@
 
 use anyhow::Result;
 use fbl_base::{Behaviour, Config, Member, Note, Start};
-use fbl_group::{DeliverRefusal, Group, Receipted};
+use fbl_group::{DeliverRefusal, Group};
 use std::alloc::Global;
 
 /// How many events a trace may have here.
 pub const LIMIT: u32 = 8192;
 
+/// What the message holds where nothing else is wanted.
+pub const NOTE: Note = Note { value: 1, hops: 1 };
+
 /// A group with one message in flight, from member 0 to member 1.
-pub fn group_of<B: Behaviour>(alloc: Global, members: u8, f: u8) -> Result<Group<B>> {
+pub fn group_of<B: Behaviour>(
+    alloc: Global,
+    members: u8,
+    f: u8,
+    note: B::Note,
+) -> Result<Group<B>> {
     let start = Start {
         from: Member::default(),
         to: next_member(Member::default(), members),
-        note: Note { value: 1, hops: 1 },
+        note,
     };
     let config = Config::new(alloc, members, f, LIMIT, &[start])?;
     Ok(Group::new(alloc, config)?)
@@ -24,29 +32,30 @@ pub fn deliver_many<B: Behaviour>(group: &mut Group<B>, members: u8, count: u32)
     let mut carried: u64 = 0;
     let mut from = Member::default();
     for _ in 0..count {
-        let (to, receipted) = deliver_next(group, members, from)?;
-        carried = carried.saturating_add(u64::from(receipted.carried));
+        let (to, carried_here) = deliver_next(group, members, from)?;
+        carried = carried.saturating_add(u64::from(carried_here));
         from = to;
     }
     Ok(carried)
 }
 
-/// Delivers the message on the first channel that has it, beginning with this sender's, and answers its receiver too.
+/// Delivers the message on the first channel that has it, beginning with this sender's, and answers its receiver and how many
+/// determinants it carried.
 fn deliver_next<B: Behaviour>(
     group: &mut Group<B>,
     members: u8,
     first: Member,
-) -> Result<(Member, Receipted)> {
+) -> Result<(Member, u32)> {
     let mut from = first;
     for _ in 1..members {
         let to = next_member(from, members);
         match group.deliver(to, from) {
             Err(DeliverRefusal::Empty) => from = to,
-            done => return Ok((to, done?)),
+            done => return Ok((to, done?.carried)),
         }
     }
     let to = next_member(from, members);
-    Ok((to, group.deliver(to, from)?))
+    Ok((to, group.deliver(to, from)?.carried))
 }
 
 /// The member after this one, round the group.

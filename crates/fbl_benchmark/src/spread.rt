@@ -13,11 +13,21 @@ const LEAST: u8 = 5;
 pub struct Spread;
 
 impl Behaviour for Spread {
+    ghost use Rattle.fbl_base.specs.Steps.{numbered_from_0};
+    ghost use Rattle.fbl_base.specs.Numeric.{by_sends};
     ghost use Rattle.fbl_benchmark.specs.Spreading.{spread_step, spread_sends_allowed};
 
-    ghost next = { spread_step };
+    type State = u64;
 
-    ghost sends_allowed = { spread_sends_allowed };
+    type Note = Note;
+
+    ghost next = { numbered_from_0 spread_step };
+
+    ghost laws = { by_sends spread_sends_allowed };
+
+    fn initial(_me: Member, _n: u8) -> u64 {
+        0
+    }
 
     fn step(me: Member, n: u8, state: u64, note: Note) -> Outcome {
         let state = Relay::step(me, n, state, note).state;

@@ -4,7 +4,7 @@ use crate::ring::LIMIT;
 use crate::spread::Spread;
 use crate::times::{TRIES, microseconds_since, print_rate};
 use anyhow::Result;
-use fbl_base::{Config, Member, Note, Start};
+use fbl_base::{Behaviour, Config, Member, Note, Start};
 use fbl_group::{DeliverRefusal, Group};
 use std::alloc::{AllocError, Global};
 use std::time::Instant;
@@ -33,18 +33,32 @@ pub fn time_spreads(rt: &HostRuntime) -> Result<()> {
 
 /// Times the deliveries of all messages.
 fn time_spread(rt: &HostRuntime, f: u8) -> Result<()> {
-    let (counts, mut least) = try_spread(rt, f)?;
+    let name = format!(in rt.alloc(); "spread f {f}")?;
+    time_spread_of::<Spread>(rt, name.as_str(), f, Note { value: 5, hops: 3 })
+}
+
+/// Times the deliveries of all messages of this behaviour, which begin with this content.
+pub fn time_spread_of<B: Behaviour>(
+    rt: &HostRuntime,
+    name: &str,
+    f: u8,
+    note: B::Note,
+) -> Result<()> {
+    let (counts, mut least) = try_spread::<B>(rt, f, note)?;
     for _ in 1..TRIES {
-        let (_again, taken) = try_spread(rt, f)?;
+        let (_again, taken) = try_spread::<B>(rt, f, note)?;
         least = least.min(taken);
     }
-    let name = format!(in rt.alloc(); "spread f {f}")?;
-    print_spread(rt, name.as_str(), counts, least)
+    print_spread(rt, name, counts, least)
 }
 
 /// Delivers all messages of a new group, and answers what that counted and how many microseconds it took.
-fn try_spread(rt: &HostRuntime, f: u8) -> Result<(Spreading, u128)> {
-    let mut group = group_with_starts(rt.alloc(), f)?;
+fn try_spread<B: Behaviour>(
+    rt: &HostRuntime,
+    f: u8,
+    note: B::Note,
+) -> Result<(Spreading, u128)> {
+    let mut group = group_with_starts::<B>(rt.alloc(), f, note)?;
     let start = Instant::now(rt)?;
     let counts = deliver_all(&mut group)?;
     Ok((counts, microseconds_since(rt, start)?))
@@ -60,12 +74,11 @@ fn print_spread(rt: &HostRuntime, name: &str, counts: Spreading, least: u128) ->
 }
 
 /// A group in which the starts are in flight.
-fn group_with_starts(alloc: Global, f: u8) -> Result<Group<Spread>> {
+fn group_with_starts<B: Behaviour>(alloc: Global, f: u8, note: B::Note) -> Result<Group<B>> {
     let mut starts = Vec::new(alloc);
     for number in 0..STARTS {
         let from = Member::new(number % MEMBERS).unwrap_or_default();
         let to = Member::new((number + 1) % MEMBERS).unwrap_or_default();
-        let note = Note { value: 5, hops: 3 };
         starts
             .push(Start { from, to, note })
             .map_err(|_| AllocError)?;
@@ -75,7 +88,7 @@ fn group_with_starts(alloc: Global, f: u8) -> Result<Group<Spread>> {
 }
 
 /// Goes round the members and delivers one message to each, until a round finds nothing in flight.
-fn deliver_all(group: &mut Group<Spread>) -> Result<Spreading> {
+fn deliver_all<B: Behaviour>(group: &mut Group<B>) -> Result<Spreading> {
     let mut counts = Spreading::default();
     for _ in 0..LIMIT {
         if group.messages_in_flight() == 0 {
@@ -95,7 +108,7 @@ fn deliver_all(group: &mut Group<Spread>) -> Result<Spreading> {
 
 /// Delivers the front of the channel from the least sender that has a message for the member, and answers how many
 /// determinants it carried, or nothing where there is no message.
-fn deliver_first(group: &mut Group<Spread>, to: Member) -> Result<Option<u32>> {
+fn deliver_first<B: Behaviour>(group: &mut Group<B>, to: Member) -> Result<Option<u32>> {
     for number in 0..MEMBERS {
         let from = Member::new(number).unwrap_or_default();
         match group.deliver(to, from) {

@@ -1,37 +1,62 @@
-use fbl_base::{Behaviour, Member, Note, Outcome};
+use fbl_base::{Behaviour, Exact, Member, Note, Outcome};
 use fbl_law::step_laws::{Keeping, LosingNone, Weighing};
 
-/// A member whose state is the greatest identifier that it has taken, 0 for none. A note's `value` is an identifier, and its
-/// `hops` is how many further members the identifier is to reach after the receiver.
+/// What a candidate knows.
+#[derive(Clone, Copy, PartialEq, Debug)]
+pub struct Standing {
+    /// The greatest identifier that it has taken, 0 for none.
+    pub greatest: u32,
+    /// How many smaller ones it has dropped, up to 2^32 - 1.
+    pub dropped: u32,
+}
+
+impl Exact for Standing {
+    ghost use Rattle.std.proofs.Common.{rules};
+
+    ghost exact = { Prim.search rules };
+}
+
+/// A member that takes part in an election. A note's `value` is an identifier, and its `hops` is how many further members the
+/// identifier is to reach after the receiver.
 ///
 /// The member takes a greater identifier than it has, and passes it on. The one that it has goes on too, and uses up no hop
 /// here; a smaller one is dropped. Identifiers are unique: one that two starts bring may go round for ever.
 pub struct Candidate;
 
 impl Behaviour for Candidate {
-    ghost use Rattle.std.specs.Prelude.{◌≡◌, ◌<◌, ◌≤◌};
-    ghost use Rattle.fbl_election.specs.Elections.{candidate_step, candidate_sends_allowed};
+    ghost use Rattle.std.proofs.Common.{rules, refl};
+    ghost use Rattle.fbl_election.specs.Elections.{candidate_next, candidate_sends_allowed};
 
-    ghost next = { candidate_step };
+    type State = Standing;
 
-    ghost sends_allowed = { candidate_sends_allowed };
+    type Note = Note;
 
-    fn step(me: Member, n: u8, state: u64, note: Note) -> Outcome
-        requires least { 2 ≤ n }
-        requires most { n ≤ 16 }
-        requires member { me < n }
-        ensures step { result ≡ candidate_step me n state note }
-    {
-        let next = me.after(1, n);
-        let value = u64::from(note.value);
-        let hops = if value > state {
+    ghost next = { candidate_next };
+
+    ghost laws = { record { sends = candidate_sends_allowed; starts = refl; fits = Prim.search rules } };
+
+    fn initial(_me: Member, _n: u8) -> Standing {
+        Standing {
+            greatest: 0,
+            dropped: 0,
+        }
+    }
+
+    fn step(me: Member, n: u8, state: Standing, note: Note) -> Outcome<Standing, Note> {
+        let Standing { greatest, dropped } = state;
+        let is_smaller = note.value < greatest;
+        let state = Standing {
+            greatest: greatest.max(note.value),
+            dropped: dropped.saturating_add(is_smaller.into()),
+        };
+        let hops = if note.value > greatest {
             note.hops
-        } else if value == state && value != 0 {
+        } else if note.value == greatest && greatest != 0 {
             note.hops.saturating_add(1)
         } else {
             0
         };
-        Outcome::with_onward(value.max(state), next, note.value, hops)
+        Outcome::with_onward(state, me.after(1, n), note.value, hops)
     }
 }
 
@@ -50,13 +75,11 @@ impl Keeping for Candidate {
 
 // The weight of the greatest identifier: the members that have it, and those that it is to reach.
 impl Weighing for Candidate {
-    ghost use Rattle.fbl_election.specs.Elections.{has_greatest, reaches, candidate_nothing};
+    ghost use Rattle.fbl_election.specs.Elections.{has_greatest, reaches};
 
     ghost mass = { has_greatest };
 
     ghost weight = { reaches };
-
-    ghost nothing = { candidate_nothing };
 }
 
 // The greatest identifier is not lost, by a step and so by a whole group.

@@ -33,8 +33,8 @@ fn bringing(from: Member, to: Member, value: u32) -> Start
 /// flight and nobody is down, each member has it.
 fn elected(group: &Group<Candidate>)
     ensures brought { HoldsOf group.now (HasTaken group.now.config) (IsPassedOn group.now.config) }
-    ensures most { HoldsOf group.now (λ m state. state ≤ greatest group.now.config.starts) (λ from to note. note.value ≤ greatest group.now.config.starts) }
-    ensures agreed { ReachesAll group.now.config → IsTrue (is_quiet group.now) → (m : ℕ) → m < group.now.config.members → (record_of group.now m).state ≡ greatest group.now.config.starts }
+    ensures most { HoldsOf group.now (λ m state. state.greatest ≤ greatest group.now.config.starts) (λ from to note. note.value ≤ greatest group.now.config.starts) }
+    ensures agreed { ReachesAll group.now.config → IsTrue (is_quiet group.now) → (m : ℕ) → m < group.now.config.members → (record_of group.now m).state.greatest ≡ greatest group.now.config.starts }
 {
     group.kept();
     group.none_lost();
@@ -47,9 +47,9 @@ fn report<R: Print>(rt: &R, when: &str, group: &Group<Candidate>) -> Result<()>
     elected(group);
     print!(rt; "{when}:")?;
     for number in 0..group.config().members() {
-        let state = group.state(Member::at(number));
-        prove!(state <= 9);
-        print!(rt; " {state}")?;
+        let greatest = group.state(Member::at(number)).greatest;
+        prove!(greatest <= 9);
+        print!(rt; " {greatest}")?;
     }
     println!(rt; ", in flight {}", group.messages_in_flight())?;
     Ok(())
@@ -63,9 +63,9 @@ fn declare<R: Print>(rt: &R, group: &Group<Candidate>) -> Result<()>
 {
     elected(group);
     for number in 0..group.config().members() {
-        let state = group.state(Member::at(number));
-        prove!(state == 9);
-        println!(rt; "member {number} has elected {state}")?;
+        let greatest = group.state(Member::at(number)).greatest;
+        prove!(greatest == 9);
+        println!(rt; "member {number} has elected {greatest}")?;
     }
     Ok(())
 }

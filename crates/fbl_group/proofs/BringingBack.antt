@@ -7,20 +7,21 @@ use Rattle.fbl_group.proofs.Common.{replayed_in-all, recovered_trace-rebuilt, re
 use Rattle.std.specs.FinSet as set
 use Rattle.fbl_group.proofs.Reading.{received-twice}
 
--- the channels are made of what is sent again while these records stand for the members that are down
-abbrev AreSentAgain : GroupRecord → List MemberRecord → List (List (List Message)) → Type 0
-AreSentAgain r rebuilt again = (q p : ℕ) → q < r.config.members → p < r.config.members → channel_in again q p ≡ sent_again r.config.f r.down (working r rebuilt) q p
+module _ {S N : Type 0} where
+  -- the channels are made of what is sent again while these records stand for the members that are down
+  abbrev AreSentAgain : GroupRecord S N → List (MemberRecord S N) → List (List (List (Message N))) → Type 0
+  AreSentAgain r rebuilt again = (q p : ℕ) → q < r.config.members → p < r.config.members → channel_in again q p ≡ sent_again r.config.f r.down (working r rebuilt) q p
 
 -- a recovery of a sound group, of the group as its contract has it, once the records are rebuilt
-module _ {next : Next} {old now : GroupRecord} {rebuilt : List MemberRecord} (sound : IsSound next old) (view : old ≡ now) (is_ready : IsReady next now rebuilt) where
+module _ {S N : Type 0} {next : Next S N} {old now : GroupRecord S N} {rebuilt : List (MemberRecord S N)} (sound : IsSound next old) (view : old ≡ now) (is_ready : IsReady next now rebuilt) where
   ready : IsReady next old rebuilt
   ready = rw view is_ready
 
   pub size : length rebuilt ≡ old.config.members
   size = ready.replayed.replaying.size
 
-  abbrev left : List Event
-  left = filter (λ e. stays_by old.down (λ p. slice_index_or rebuilt p blank) (mark_of e)) old.trace
+  abbrev left : List (Event N)
+  left = filter (λ e. stays_by old.down (λ p. slice_index_or rebuilt p (blank old.outside)) (mark_of e)) old.trace
 
   left-is : left ≡ recovered_trace old
   left-is = recovered_trace-rebuilt next old sound rebuilt ready.replayed.replaying ready.replayed.waiting
@@ -30,7 +31,7 @@ module _ {next : Next} {old now : GroupRecord} {rebuilt : List MemberRecord} (so
   fewer-receipts = rw left-is (let undone = cut-undone sound (recovered_trace-cut next old sound) in omega (arith, undone))
 
   -- the channels of n members that are made again
-  module _ {n : ℕ} {records : List MemberRecord} (again : List (List (List Message))) (all : n ≡ old.config.members) (same : records ≡ rebuilt) (each : AreSentAgain now records again) where
+  module _ {n : ℕ} {records : List (MemberRecord S N)} (again : List (List (List (Message N)))) (all : n ≡ old.config.members) (same : records ≡ rebuilt) (each : AreSentAgain now records again) where
     made : AreSentAgain old rebuilt again
     made = rw view (rw same at each)
 
@@ -41,7 +42,7 @@ module _ {next : Next} {old now : GroupRecord} {rebuilt : List MemberRecord} (so
         (sent_again-short old.config.f old.down (working old rebuilt) q p 8192 (working-log next old sound rebuilt ready.replayed.replaying q (omega (arith, all, below_q))))
 
   -- the trace that is cut
-  module _ {s : Members} {rest : List Event} (is_down : s ≡ now.down) (is_cut : rest ≡ filter (λ e. stays_by s (λ p. slice_index_or rebuilt p blank) (mark_of e)) old.trace) where
+  module _ {s : Members} {rest : List (Event N)} (is_down : s ≡ now.down) (is_cut : rest ≡ filter (λ e. stays_by s (λ p. slice_index_or rebuilt p (blank old.outside)) (mark_of e)) old.trace) where
     same-down : s ≡ old.down
     same-down = rw view is_down
 
@@ -49,7 +50,7 @@ module _ {next : Next} {old now : GroupRecord} {rebuilt : List MemberRecord} (so
     cut-left = (rw same-down at is_cut)
 
     -- its receipts, counted before and after
-    module _ {before after : ℕ} {last : List Event} (counts_first : before ≡ length (receipts (marks now)))
+    module _ {before after : ℕ} {last : List (Event N)} (counts_first : before ≡ length (receipts (marks now)))
         (counts_last : after ≡ length (receipts (map mark_of last))) (is_last : last ≡ rest) where
       abbrev undone : ℕ
       undone = before - after
@@ -74,16 +75,16 @@ module _ {next : Next} {old now : GroupRecord} {rebuilt : List MemberRecord} (so
       undone-fits fits = omega (arith, fits, undone-left, sound.counted)
 
       -- the group that is left
-      module _ {members : List MemberRecord} {channels : List (List (List Message))} {down : Members} {n : ℕ} {records : List MemberRecord} (again : List (List (List Message)))
-          (all : n ≡ old.config.members) (same : records ≡ rebuilt) (each : AreSentAgain now records again) (put : AreRecordsReplaced s (λ m. slice_index_or rebuilt m blank) old.members members)
+      module _ {members : List (MemberRecord S N)} {channels : List (List (List (Message N)))} {down : Members} {n : ℕ} {records : List (MemberRecord S N)} (again : List (List (List (Message N))))
+          (all : n ≡ old.config.members) (same : records ≡ rebuilt) (each : AreSentAgain now records again) (put : AreRecordsReplaced old.outside s (λ m. slice_index_or rebuilt m (blank old.outside)) old.members members)
           (replaced : AreReplaced n old.down (channel_in again) old.channels channels) (nobody_down : down ≡ set.empty) where
-        abbrev new : GroupRecord
+        abbrev new : GroupRecord S N
         new = record old { members = members; channels = channels; trace = rest; down = down; undone_ever = old.undone_ever + undone }
 
         again-is : AreSentAgain old rebuilt again
         again-is = made again all same each
 
-        placed : AreRecordsReplaced old.down (λ m. slice_index_or rebuilt m blank) old.members members
+        placed : AreRecordsReplaced old.outside old.down (λ m. slice_index_or rebuilt m (blank old.outside)) old.members members
         placed = (rw same-down at put)
 
         remade : AreReplaced old.config.members old.down (channel_in again) old.channels channels
@@ -109,11 +110,11 @@ module _ {next : Next} {old now : GroupRecord} {rebuilt : List MemberRecord} (so
           one q p below_q below_p = grind (arith, remade.each q p, again-is q p)
 
         marks_left : length (receipts (marks new)) ≡ length (receipts (map mark_of left))
-        marks_left = ap (λ (es : List Event). length (receipts (map mark_of es))) cut-left
+        marks_left = ap (λ (es : List (Event N)). length (receipts (map mark_of es))) cut-left
 
         is_rebuilt : IsRebuilt old new rebuilt
         is_rebuilt =
-            let table = λ (m : ℕ). with-table (slice_index_or rebuilt m blank) (recovery_table (knowledge old)) in
+            let table = λ (m : ℕ). with-table (slice_index_or rebuilt m (blank old.outside)) (recovery_table (knowledge old)) in
             grind (arith, nobody_down, placed, remade.shape, survive, cut-left, left-is, undone-left, marks_left, ready.tables, table, sound.members, resent_on)
 
         is_recovery : IsRecovery next old new
@@ -123,14 +124,14 @@ module _ {next : Next} {old now : GroupRecord} {rebuilt : List MemberRecord} (so
         is_sound = group_recovery_keeps next old new is_recovery sound
 
         -- what is answered, from the number of receipts that were replayed and of messages that are sent again
-        pub recovers : {replays messages : ℕ} {saved : List MemberRecord}
-            → replays ≡ count_in s (λ p. (slice_index_or rebuilt p blank).received - (slice_index_or saved p blank).received) n
+        pub recovers : {replays messages : ℕ} {saved : List (MemberRecord S N)}
+            → replays ≡ count_in s (λ p. (slice_index_or rebuilt p (blank old.outside)).received - (slice_index_or saved p (blank old.outside)).received) n
             → saved ≡ old.checkpoints → messages ≡ messages_in n again
             → Recovers next now new (record { replayed = replays; resent = messages; undone = undone })
         recovers replayed is_saved resent = rw (← view) (record {
           recovery = is_recovery;
           replayed = (rw (same-down, all, is_saved) at replayed) ∙ replayed_in-all next old sound rebuilt ready.replayed.replaying ready.replayed.waiting
-              ∙ ap (λ (es : List Event). length (filter (is_replayed old) (receipts (map mark_of es)))) (sym (cut-left ∙ left-is));
+              ∙ ap (λ (es : List (Event N)). length (filter (is_replayed old) (receipts (map mark_of es)))) (sym (cut-left ∙ left-is));
           resent = (rw all at resent) ∙ counted;
           undone = omega (arith, undone-left, marks_left);
         })

@@ -5,9 +5,9 @@ use Rattle.fbl_law.specs.GroupLaws.{GroupCheckpointKeeps}
 use Rattle.fbl_group.proofs.Recovering.{read_at}
 
 -- a record that is read at the member's place is copied there, in a group as its contract has it
-module _ {next : Next} {old now : GroupRecord} (sound : IsSound next old) (view : old ≡ now) {p place : ℕ} (is_place : place ≡ p) (below : p < now.config.members)
-    (nobody : sets.len now.down ≡ 0) {copy read : MemberRecord} (same : copy ≡ read) (is : read ≡ get_or old.members place read) where
-  abbrev new : GroupRecord
+module _ {S N : Type 0} {next : Next S N} {old now : GroupRecord S N} (sound : IsSound next old) (view : old ≡ now) {p place : ℕ} (is_place : place ≡ p) (below : p < now.config.members)
+    (nobody : sets.len now.down ≡ 0) {copy read : MemberRecord S N} (same : copy ≡ read) (is : read ≡ get_or old.members place read) where
+  abbrev new : GroupRecord S N
   new = record old { checkpoints = slice_set old.checkpoints place copy }
 
   within : p < old.config.members
@@ -17,7 +17,7 @@ module _ {next : Next} {old now : GroupRecord} (sound : IsSound next old) (view 
   kept = record {
     nobody_down = sets.empty_of_len old.down (rw view nobody);
     below = within;
-    saved = rw (is_place, same, read_at old.members is_place (omega (arith, within, sound.members)) is) refl;
+    saved = rw (is_place, same, read_at old.outside old.members is_place (omega (arith, within, sound.members)) is) refl;
   }
 
   pub is_checkpoint : IsCheckpoint now new p
@@ -25,4 +25,4 @@ module _ {next : Next} {old now : GroupRecord} (sound : IsSound next old) (view 
 
   pub is_sound : IsSound next new
   unfolding GroupCheckpointKeeps
-  is_sound = group_checkpoint_keeps next old new p kept sound
+  is_sound = group_checkpoint_keeps _ _ next old new p kept sound

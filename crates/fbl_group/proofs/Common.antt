@@ -2,7 +2,7 @@
 pub use Rattle.std.proofs.Common.{All, Bool, Fits, IfSome, List, None, Option, Some, Vec, [], add-one, ap, append-nil, append_assoc, arith, cond, count_by, deque_capacity, deque_items}
 pub use Rattle.std.proofs.Common.{deque_len, drop, false, get_or, inl, inr, length, length-append, map, nat_lt, not, option_map, refl, replicate, rules, set, slice_get, slice_index_or, slice_set}
 pub use Rattle.std.proofs.Common.{subst, suc, sym, take, true, vec_capacity, vec_len, w32, w64, zero, ℕ, ◌*◌, ◌++◌, ◌+◌, ◌-◌, ◌<◌, ◌==◌, ◌^◌, ◌||◌, ◌∙◌}
-pub use Rattle.std.proofs.Common.{◌∷◌, ◌≡◌, ◌≢◌, ◌≤◌, ◌⊎◌}
+pub use Rattle.std.proofs.Common.{◌&&◌, ◌∷◌, ◌≡◌, ◌≢◌, ◌≤◌, ◌⊎◌}
 pub use Rattle.std.proofs.lemmas.Bool.{eq-eqb, false≢true, true_from_ne_false}
 pub use Rattle.std.proofs.lemmas.Bool.Decides.{nat_tests}
 pub use Rattle.std.proofs.lemmas.Fn.{filter_same}
@@ -37,7 +37,6 @@ pub use Rattle.fbl_base.specs.declared.trace.Event.{Event}
 pub use Rattle.fbl_base.specs.declared.trace.Event.TheVariants.{Receipt}
 pub use Rattle.fbl_base.specs.declared.trace.Mark.{Mark}
 pub use Rattle.fbl_base.specs.declared.trace.Mark.TheVariants.{Send}
-pub use Rattle.fbl_base.specs.declared.trace.Note.{Note}
 pub use Rattle.fbl_base.specs.declared.trace.Start.{Start}
 pub use Rattle.fbl_law.proofs.ChannelCounts.{sent_again-short, sum_below-agree}
 pub use Rattle.fbl_law.proofs.Channels.{flight_at, flight_ends}
@@ -73,8 +72,8 @@ pub use Rattle.fbl_group.specs.Deliveries.{Delivered, Delivers, IsDeliverRefusal
 pub use Rattle.fbl_group.specs.Rebuilding.{AreByNumber, HasReplayed, IsReady, Rounds, Tries}
 pub use Rattle.fbl_group.specs.Recoveries.{Recovers, messages_at}
 pub use Rattle.fbl_group.specs.Strikes.{AreRecordsReplaced, is_lost_receipt_of, is_within, lost_receipts, strike_refusal}
-pub use Rattle.fbl_group.specs.Tickets.{IsCommitRefusal, IsTicket, commit_refusal, is_current, is_full, take_refusal}
+pub use Rattle.fbl_group.specs.Tickets.{IsCurrent, IsFresh, IsTicket, MayCommit, RefusesCommit, is_full, sends_at, take_refusal}
 pub use Rattle.fbl_group.specs.declared.answers.Receipted.{Receipted}
 pub use Rattle.fbl_group.specs.declared.channels.Channels.{Channels}
 pub use Rattle.fbl_group.specs.declared.refusals.CommitRefusal.{CommitRefusal}
-pub use Rattle.fbl_group.specs.declared.ticket.Ticket.{Ticket}
+pub use Rattle.fbl_base.specs.declared.ticket.Ticket.{Ticket}

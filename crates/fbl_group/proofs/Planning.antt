@@ -1,6 +1,6 @@
 -- What is known of a delivery that is planned.
 use Rattle.fbl_group.proofs.Common.{Some, None, ◌≡◌, ◌≢◌, ℕ, ◌+◌, ◌<◌, ◌≤◌, false, List, [], ◌∷◌, ◌++◌, length, map, refl, sym, subst, ap, ◌∙◌}
-use Rattle.fbl_group.proofs.Common.{append_assoc, arith, get_or, length-append, Fits, w32, slice_get, slice_set, All, nat_tests, Event, Outcome, Note, Next, Entry, piggybacked, Message, MemberRecord}
+use Rattle.fbl_group.proofs.Common.{append_assoc, arith, get_or, length-append, Fits, w32, slice_get, slice_set, All, nat_tests, Event, Outcome, Next, Entry, piggybacked, Message, MemberRecord}
 use Rattle.fbl_group.proofs.Common.{messages_from, IsUp, taken_off, between, GroupRecord, HasChannels, member, channel, channel_in, knowledge, IsSound, step_of, up_if_none, receipts_fit, flight_at}
 use Rattle.fbl_group.proofs.Common.{IsOnce, front_message, send_of_message, taken_and_sent, IsPlanned, set-get_or, Receipt, SendsAllowed, is_held, last_from, received_by, table_after}
 use Rattle.fbl_group.proofs.Common.{next_determinant, IsInFlight, delivery_events, IsDelivery, SendsWell, sends_fit, receipt_is_new, new_not_held, new_not_carried, front_is_later, carried_fits}
@@ -9,28 +9,29 @@ use Rattle.fbl_law.specs.GroupSteps.{made as made_by}
 use Rattle.fbl_group.proofs.Queues.{first-is, messages-all, sends-messages, settled-in}
 use Rattle.fbl_group.proofs.Recovering.{read_at}
 
--- what the receiver's step asks of the message that is read at the front, and of the record at the receiver's place
-pub record Reads (next : Next) (n p : ℕ) (outcome : Outcome) (w : Message) (x : MemberRecord) : Type 0 where
-  pub least : 2 ≤ n
-  pub most : n ≤ 16
-  pub member : p < n
-  pub to_me : w.to ≡ p
-  pub newer : last_from x w.from < w.ssn
-  pub not_held : is_held x.table (next_determinant p x w.from w.ssn) ≡ false
-  pub not_carried : is_held w.carried (next_determinant p x w.from w.ssn) ≡ false
-  pub step : outcome ≡ next p n x.state w.note
-  pub receipts : x.received < 8192
-  pub sends : length x.log + length outcome.sends.items ≤ 8192
+module _ {S N : Type 0} where
+  -- what the receiver's step asks of the message that is read at the front, and of the record at the receiver's place
+  pub record Reads (next : Next S N) (n p : ℕ) (outcome : Outcome S N) (w : Message N) (x : MemberRecord S N) : Type 0 where
+    pub least : 2 ≤ n
+    pub most : n ≤ 16
+    pub member : p < n
+    pub to_me : w.to ≡ p
+    pub newer : last_from x w.from < w.ssn
+    pub not_held : is_held x.table (next_determinant p x w.from w.ssn) ≡ false
+    pub not_carried : is_held w.carried (next_determinant p x w.from w.ssn) ≡ false
+    pub step : outcome ≡ next.step p n x.state w.note
+    pub receipts : x.received < 8192
+    pub sends : length x.log + length outcome.sends.items ≤ 8192
 
-module _ {next : Next} {r now : GroupRecord} {q p : ℕ} {outcome : Outcome} (well : SendsWell next) (sound : IsSound next r) (view : r ≡ now)
-    (planned : IsPlanned next now q p outcome) where
-  plan : IsPlanned next r q p outcome
+module _ {S N : Type 0} {next : Next S N} {r now : GroupRecord S N} {q p : ℕ} {outcome : Outcome S N} (well : SendsWell next) (sound : IsSound next r) (view : r ≡ now)
+    {note : N} (planned : IsPlanned next note now q p outcome) where
+  plan : IsPlanned next note r q p outcome
   plan = rw view planned
 
-  abbrev v : Message
-  v = front_message r q p
+  abbrev v : Message N
+  v = front_message note r q p
 
-  abbrev m : MemberRecord
+  abbrev m : MemberRecord S N
   m = member r p
 
   -- it goes from the one to the other
@@ -47,49 +48,49 @@ module _ {next : Next} {r now : GroupRecord} {q p : ℕ} {outcome : Outcome} (we
   up = up_if_none plan.nobody_down p
 
   -- its step is the receiver's
-  step : outcome ≡ next p r.config.members m.state v.note
-  step = rw to_receiver at plan.step
+  step : outcome ≡ next.step p r.config.members m.state v.note
+  step = rw (step_of, to_receiver) at plan.step
 
   pub room : (length r.trace + 1 + length outcome.sends.items ≤ r.config.limit) × (r.receipts_ever ≢ 18446744073709551615)
   room = (grind (arith, nat_tests, plan.room), λ is. grind (arith, nat_tests, plan.room))
 
-  receivers : All (λ (send : ℕ × Note). send.0 < r.config.members) outcome.sends.items
+  receivers : All (λ (send : ℕ × N). send.0 < r.config.members) outcome.sends.items
   receivers k d below =
       let allowed : SendsAllowed p r.config.members outcome = rw step (well p r.config.members m.state v.note sound.config.members.0 plan.to_member) in
       (allowed.0 k d below).0
 
   -- of channels that are still the group's: there is a front, what is read there is the message, and receivers are members
-  module _ {cs : List (List (List Message))} (same : cs ≡ r.channels) where
+  module _ {cs : List (List (List (Message N)))} (same : cs ≡ r.channels) where
     -- where memory ran out, all is as it was
-    pub stays : (place : ℕ) {x before : MemberRecord} {trace : List Event} → x ≡ before → before ≡ get_or r.members place before
+    pub stays : (place : ℕ) {x before : MemberRecord S N} {trace : List (Event N)} → x ≡ before → before ≡ get_or r.members place before
         → trace ≡ r.trace → record r { members = slice_set r.members place x; channels = cs; trace = trace } ≡ r
     stays place {before = before} unchanged read kept = rw (kept, same, unchanged, read, set-get_or r.members place before) refl
 
     pub not_empty : slice_get (channel_in cs q p) 0 ≡ None → ⊥
     not_empty none = (let first = rw none at (rw (← same) at plan.first) in cc)
 
-    pub receivers_in : {given : List (ℕ × Note)} → given ≡ outcome.sends.items → All (λ (s : ℕ × Note). s.0 < length (get_or cs p [])) given
+    pub receivers_in : {given : List (ℕ × N)} → given ≡ outcome.sends.items → All (λ (s : ℕ × N). s.0 < length (get_or cs p [])) given
     receivers_in is = rw (is, same) (λ k d below. omega (arith, receivers k d below, sound.shape.receivers p plan.to_member))
 
-    pub sent_in : {made : List Message} (before : ℕ) (carried : List Entry) → made ≡ messages_from p before carried outcome.sends.items
-        → All (λ (w : Message). w.to < length (get_or cs p [])) made
+    pub sent_in : {made : List (Message N)} (before : ℕ) (carried : List Entry) → made ≡ messages_from p before carried outcome.sends.items
+        → All (λ (w : Message N). w.to < length (get_or cs p [])) made
     sent_in before carried is =
         rw is (λ k d below. (messages-all (λ k. k < length (get_or cs p [])) p before carried outcome.sends.items (receivers_in {given = outcome.sends.items} refl) k d below).1)
 
     -- what is read at the front is the message
-    module _ {w : Message} (front : slice_get (channel_in cs q p) 0 ≡ Some w) where
+    module _ {w : Message N} (front : slice_get (channel_in cs q p) 0 ≡ Some w) where
       is_v : w ≡ v
-      is_v = rw same at (sym (first-is (channel_in cs q p) w front))
+      is_v = rw same at (sym (first-is note (channel_in cs q p) w front))
 
       pub few_carried : {carried : List Entry} → carried ≡ w.carried → IsOnce carried → Fits w32 (length carried)
       few_carried {carried = carried} is once =
-          let same : carried ≡ v.carried = is ∙ ap (λ (u : Message). u.carried) is_v in
+          let same : carried ≡ v.carried = is ∙ ap (λ (u : Message N). u.carried) is_v in
           omega (arith, ap length same, carried_fits next r sound v flies (subst IsOnce same once), sound.room, sound.config.limit.1)
 
       -- and what is read at the member's place is its record
-      module _ {place : ℕ} {x : MemberRecord} (at_place : place ≡ p) (read : x ≡ get_or r.members place x) where
+      module _ {place : ℕ} {x : MemberRecord S N} (at_place : place ≡ p) (read : x ≡ get_or r.members place x) where
         is_m : x ≡ m
-        is_m = read_at r.members at_place (omega (arith, plan.to_member, sound.members)) read
+        is_m = read_at r.outside r.members at_place (omega (arith, plan.to_member, sound.members)) read
 
         pub reads : {n : ℕ} → n ≡ r.config.members → Reads next n p outcome w x
         reads is =
@@ -102,12 +103,12 @@ module _ {next : Next} {r now : GroupRecord} {q p : ℕ} {outcome : Outcome} (we
             rw (is, is_m, is_v) grind (arith, sound.config, plan.to_member, of_sender, to_receiver, newer, not_held, not_carried, step, receipts, sends, room)
 
         -- the record after the delivery, from what each step of it made
-        module _ {after_rows : List (List (List Message))} {f ssn rsn : ℕ} {after : MemberRecord} {made : List Message} {reserved pushed trace : List Event}
+        module _ {after_rows : List (List (List (Message N)))} {f ssn rsn : ℕ} {after : MemberRecord S N} {made : List (Message N)} {reserved pushed trace : List (Event N)}
             (received : after ≡ received_by p x w outcome) (sent : made ≡ messages_from p (length x.log) (piggybacked f after.table) outcome.sends.items)
             (f_is : f ≡ r.config.f) (ssn_is : ssn ≡ w.ssn) (rsn_is : rsn ≡ after.received) (kept : reserved ≡ r.trace)
             (receipt : pushed ≡ reserved ++ Receipt p rsn q ssn ∷ []) (sends : trace ≡ pushed ++ map send_of_message made)
             (moved : after_rows ≡ taken_and_sent cs q p made) where
-          abbrev new : GroupRecord
+          abbrev new : GroupRecord S N
           new = record r { members = slice_set r.members place after; channels = after_rows; trace = trace; receipts_ever = r.receipts_ever + 1 }
 
           receives : after ≡ received_by p m v outcome
@@ -121,11 +122,11 @@ module _ {next : Next} {r now : GroupRecord} {q p : ℕ} {outcome : Outcome} (we
 
           settled : HasChannels r.config.members after_rows × ((a b : ℕ) → channel new a b ≡ taken_off v a b (channel r a b) ++ between a b (made_by next r v))
           settled =
-              let ends : All (λ (u : Message). (u.from ≡ p) × (u.to < r.config.members)) made = rw sent (messages-all (λ k. k < r.config.members) p _ _ outcome.sends.items receivers) in
+              let ends : All (λ (u : Message N). (u.from ≡ p) × (u.to < r.config.members)) made = rw sent (messages-all (λ k. k < r.config.members) p _ _ outcome.sends.items receivers) in
               rw (moved, same, ← made_next) (settled-in v made sound.shape plan.from_member plan.to_member of_sender to_receiver ends)
 
           rsn_next : rsn ≡ m.received + 1
-          rsn_next = rsn_is ∙ ap (λ (y : MemberRecord). y.received) receives
+          rsn_next = rsn_is ∙ ap (λ (y : MemberRecord S N). y.received) receives
 
           trace_is : trace ≡ r.trace ++ delivery_events next r v
           trace_is = rw (sends, receipt, kept, made_is, append_assoc, sends-messages, rsn_next, ssn_is, is_v, plan.step, to_receiver, of_sender) refl
@@ -133,7 +134,7 @@ module _ {next : Next} {r now : GroupRecord} {q p : ℕ} {outcome : Outcome} (we
           longer : length trace ≡ length r.trace + 1 + length outcome.sends.items
           longer =
               let sent = length-step_events v.to (length (member r v.to).log) (step_of next r v).sends.items in
-              let step : (step_of next r v).sends.items ≡ outcome.sends.items = ap (λ (o : Outcome). o.sends.items) (sym plan.step) in
+              let step : (step_of next r v).sends.items ≡ outcome.sends.items = ap (λ (o : Outcome S N). o.sends.items) (sym plan.step) in
               omega (arith, ap length trace_is, length-append r.trace (delivery_events next r v), sent, ap length step)
 
           is_delivery : IsDelivery next r new v
@@ -145,5 +146,5 @@ module _ {next : Next} {r now : GroupRecord} {q p : ℕ} {outcome : Outcome} (we
 
           -- what the delivery answers
           pub is_delivered : {carried : List Entry} → carried ≡ w.carried
-              → Delivered next now new (front_message now q p) (record { rsn = rsn; carried = length carried; state = outcome.state })
+              → Delivered next now new (front_message note now q p) (record { rsn = rsn; carried = length carried; state = outcome.state })
           is_delivered {carried = carried} is = rw (← view) grind (arith, is_delivery, to_receiver, rsn_next, is_v, plan.step)

@@ -33,7 +33,7 @@ sent-count n [] = refl
 sent-count n (Send q s p ∷ t) = omega (arith, sum_by-cons (out n one) (Send q s p) t, sent-count n t)
 sent-count n (Receipt p k q s ∷ t) = omega (arith, sum_by-cons (out n one) (Receipt p k q s) t, sent-count n t)
 
-module _ (next : Next) (r : GroupRecord) (sound : IsSound next r) where
+module _ {S N : Type 0} (next : Next S N) (r : GroupRecord S N) (sound : IsSound next r) where
   -- what was sent and not taken, by the trace
   unreceived : weight_on r.config.members one (marks r) + 2 * length (receipts (marks r)) ≡ length r.trace
   unreceived =

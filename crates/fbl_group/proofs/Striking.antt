@@ -28,18 +28,19 @@ pub within-tested : (s : Members) (n : ℕ) (b : Bool) → (b ≡ true) ↔ AllB
 within-tested s n true is = sym (below-within s n (is.0 refl))
 within-tested s n false is = grind (arith, within-below s n)
 
--- a strike of some members of the group is allowed where with those that are down they are few
-pub is_allowed : (struck : Members) {r now : GroupRecord} → r ≡ now → {n : ℕ} → n ≡ r.config.members → AllBelow struck n → sets.len struck ≢ 0
-    → {both : Members} → both ≡ sets.union r.down struck → sets.len both ≤ r.config.f → strike_refusal now struck ≡ None
-is_allowed struck {r = r} view {n = n} all below some joined few =
-    let inside : is_within struck r.config.members ≡ true = rw (← all) (below-within struck n below) in
-    rw (← view) grind (arith, nat_tests)
+module _ {S N : Type 0} where
+  -- a strike of some members of the group is allowed where with those that are down they are few
+  pub is_allowed : (struck : Members) {r now : GroupRecord S N} → r ≡ now → {n : ℕ} → n ≡ r.config.members → AllBelow struck n → sets.len struck ≢ 0
+      → {both : Members} → both ≡ sets.union r.down struck → sets.len both ≤ r.config.f → strike_refusal now struck ≡ None
+  is_allowed struck {r = r} view {n = n} all below some joined few =
+      let inside : is_within struck r.config.members ≡ true = rw (← all) (below-within struck n below) in
+      rw (← view) grind (arith, nat_tests)
 
 -- what a strike that is allowed leaves
-module _ {next : Next} {old : GroupRecord} {struck down : Members} {members : List MemberRecord} {channels : List (List (List Message))} (sound : IsSound next old)
-    (allowed : strike_refusal old struck ≡ None) (blanked : AreRecordsReplaced struck (λ m. blank) old.members members)
+module _ {S N : Type 0} {next : Next S N} {old : GroupRecord S N} {struck down : Members} {members : List (MemberRecord S N)} {channels : List (List (List (Message N)))} (sound : IsSound next old)
+    (allowed : strike_refusal old struck ≡ None) (blanked : AreRecordsReplaced old.outside struck (λ m. blank (next.initial m old.config.members)) old.members members)
     (emptied : AreReplaced old.config.members struck (λ q p. []) old.channels channels) (joined : down ≡ sets.union old.down struck) where
-  abbrev new : GroupRecord
+  abbrev new : GroupRecord S N
   new = record old { members = members; channels = channels; down = down }
 
   -- who is down was down before or is struck
@@ -51,33 +52,34 @@ module _ {next : Next} {old : GroupRecord} {struck down : Members} {members : Li
   emptied_where q p = grind (arith, get_or_past, emptied.each q p)
 
   -- those that are struck are of the group, and have blank records
-  struck_blank : (m : ℕ) → sets.contains struck m ≡ true → slice_index_or members m blank ≡ blank
+  struck_blank : (m : ℕ) → sets.contains struck m ≡ true → slice_index_or members m (blank old.outside) ≡ blank (next.initial m old.config.members)
   struck_blank m is = blanked.replaced m (omega (arith, sound.members, within-below struck old.config.members (grind (arith, nat_tests)) m is)) is
 
-  pub is_strike : IsStrike old new struck
+  pub is_strike : IsStrike next old new struck
   is_strike =
       grind (arith, struck_blank, blanked.size, blanked.others, emptied, emptied_where, both_down, sound.blanks, sound.down, sound.causes.down.channels)
 
   pub is_sound : IsSound next new
   is_sound = group_strike_keeps next old new struck is_strike (within-below struck old.config.members (grind (arith, nat_tests))) (rw joined (grind (arith, nat_tests))) sound
 
--- in a sound group each receipt of a member that is up is recorded
-up-recorded : (next : Next) (r : GroupRecord) (d : Determinant) → IsSound next r → Has (marks r) (receipt_of d) → IsUp (knowledge r) d.to → is_recorded r d ≡ true
-up-recorded next r d sound there up =
-    true_from_ne_false (is_recorded r d)
-    (λ is. no_orphan r.config.f (knowledge r) sound.causes.closed d.to (up, (d, (receipt_of d, itself there, refl), λ recorded. false≢true (sym is ∙ (recorded_test next r d sound).1 recorded))))
+module _ {S N : Type 0} where
+  -- in a sound group each receipt of a member that is up is recorded
+  up-recorded : (next : Next S N) (r : GroupRecord S N) (d : Determinant) → IsSound next r → Has (marks r) (receipt_of d) → IsUp (knowledge r) d.to → is_recorded r d ≡ true
+  up-recorded next r d sound there up =
+      true_from_ne_false (is_recorded r d)
+      (λ is. no_orphan r.config.f (knowledge r) sound.causes.closed d.to (up, (d, (receipt_of d, itself there, refl), λ recorded. false≢true (sym is ∙ (recorded_test next r d sound).1 recorded))))
 
--- so the receipts that nobody has recorded are all of members that are down
-lost-counted : (r : GroupRecord) (events : List Event) → ((d : Determinant) → Has (map mark_of events) (receipt_of d) → IsUp (knowledge r) d.to → is_recorded r d ≡ true)
-    → count_by (is_lost_receipt_of r.down r.members r.checkpoints) events ≡ length (filter (λ d. not (is_recorded r d)) (receipts (map mark_of events)))
-lost-counted r [] up = refl
-lost-counted r (event.Send q k p note ∷ events) up =
-    let later = lost-counted r events (λ d there. up d (suc there.0, there.1)) in
-    omega (arith, sum_by-cons (λ e. cond (is_lost_receipt_of r.down r.members r.checkpoints e) 1 0) (event.Send q k p note) events, later)
-lost-counted r (event.Receipt p n q k ∷ events) up =
-    let later = lost-counted r events (λ d there. up d (suc there.0, there.1)) in
-    let here = up (record { from = q; ssn = k; to = p; rsn = n }) (0, refl) in
-    grind (arith, sum_by-cons (λ e. cond (is_lost_receipt_of r.down r.members r.checkpoints e) 1 0) (event.Receipt p n q k) events, later, here)
+  -- so the receipts that nobody has recorded are all of members that are down
+  lost-counted : (r : GroupRecord S N) (events : List (Event N)) → ((d : Determinant) → Has (map mark_of events) (receipt_of d) → IsUp (knowledge r) d.to → is_recorded r d ≡ true)
+      → count_by (is_lost_receipt_of r.down r.members r.checkpoints) events ≡ length (filter (λ d. not (is_recorded r d)) (receipts (map mark_of events)))
+  lost-counted r [] up = refl
+  lost-counted r (event.Send q k p note ∷ events) up =
+      let later = lost-counted r events (λ d there. up d (suc there.0, there.1)) in
+      omega (arith, sum_by-cons (λ e. cond (is_lost_receipt_of r.down r.members r.checkpoints e) 1 0) (event.Send q k p note) events, later)
+  lost-counted r (event.Receipt p n q k ∷ events) up =
+      let later = lost-counted r events (λ d there. up d (suc there.0, there.1)) in
+      let here = up (record { from = q; ssn = k; to = p; rsn = n }) (0, refl) in
+      grind (arith, sum_by-cons (λ e. cond (is_lost_receipt_of r.down r.members r.checkpoints e) 1 0) (event.Receipt p n q k) events, later, here)
 
-pub count-lost : (next : Next) (r : GroupRecord) → IsSound next r → count_by (is_lost_receipt_of r.down r.members r.checkpoints) r.trace ≡ length (lost_receipts r)
-count-lost next r sound = lost-counted r r.trace (λ d. up-recorded next r d sound)
+  pub count-lost : (next : Next S N) (r : GroupRecord S N) → IsSound next r → count_by (is_lost_receipt_of r.down r.members r.checkpoints) r.trace ≡ length (lost_receipts r)
+  count-lost next r sound = lost-counted r r.trace (λ d. up-recorded next r d sound)

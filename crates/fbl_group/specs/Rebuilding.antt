@@ -1,7 +1,5 @@
 -- What a recovery makes before it changes the group: records that are rebuilt by replay, in rounds.
 use Rattle.std.specs.Prelude.{◌≡◌, ℕ, ◌+◌, ◌<◌, Bool, true, false, List, [], length, Option, slice_index_or}
-use Rattle.std.specs.FinSet as set
-use Rattle.fbl_base.specs.MemberSets.{Members}
 use Rattle.fbl_base.specs.declared.trace.Determinant.{Determinant}
 use Rattle.fbl_base.specs.Fold.{Next}
 use Rattle.fbl_table.specs.declared.entry.Entry.{Entry}
@@ -13,31 +11,31 @@ use Rattle.fbl_law.specs.Groups.{GroupRecord, member_checkpoint, knowledge}
 use Rattle.fbl_law.specs.Replaying.{IsReplaying, IsWaiting, replayed_in}
 
 -- of each member that is down, the receipts beyond its checkpoint that the gathered table has, by their numbers
-pub record AreByNumber (r : GroupRecord) (receipts : List (List (Option Determinant))) : Type 0 where
+pub record AreByNumber {S N : Type 0} (r : GroupRecord S N) (receipts : List (List (Option Determinant))) : Type 0 where
   pub size : length receipts ≡ r.config.members
   pub each : (p : ℕ) → p < r.config.members → IsDown (knowledge r) p → IsByNumber p (member_checkpoint r p).received (recovery_table (knowledge r)) (slice_index_or receipts p [])
 
 -- the gathered table, with these receipts
-pub record IsGathered (r : GroupRecord) (held : List Entry) (numbered : List (List (Option Determinant))) : Type 0 where
+pub record IsGathered {S N : Type 0} (r : GroupRecord S N) (held : List Entry) (numbered : List (List (Option Determinant))) : Type 0 where
   pub table : held ≡ recovery_table (knowledge r)
   pub receipts : AreByNumber r numbered
 
 -- a try of the member p to replay its next receipt: one receipt more is replayed, or p waits and nothing changes
-abbrev pub Tries : Next → GroupRecord → ℕ → List MemberRecord → List MemberRecord → Bool → Type 0
+abbrev pub Tries : {S N : Type 0} → Next S N → GroupRecord S N → ℕ → List (MemberRecord S N) → List (MemberRecord S N) → Bool → Type 0
 Tries next r p before after true = IsReplaying next r after × (replayed_in r after ≡ replayed_in r before + 1)
 Tries next r p before after false = (after ≡ before) × IsWaiting r before p
 
 -- tries of the members below n that are down: some receipt is replayed, or each of them waits and nothing changes
-abbrev pub Rounds : Next → GroupRecord → ℕ → List MemberRecord → List MemberRecord → Bool → Type 0
+abbrev pub Rounds : {S N : Type 0} → Next S N → GroupRecord S N → ℕ → List (MemberRecord S N) → List (MemberRecord S N) → Bool → Type 0
 Rounds next r n before after true = IsReplaying next r after × (replayed_in r before < replayed_in r after)
 Rounds next r n before after false = (after ≡ before) × ((p : ℕ) → p < n → IsDown (knowledge r) p → IsWaiting r before p)
 
 -- each member that is down has replayed what it can
-pub record HasReplayed (next : Next) (r : GroupRecord) (rebuilt : List MemberRecord) : Type 0 where
+pub record HasReplayed {S N : Type 0} (next : Next S N) (r : GroupRecord S N) (rebuilt : List (MemberRecord S N)) : Type 0 where
   pub replaying : IsReplaying next r rebuilt
   pub waiting : (p : ℕ) → p < r.config.members → IsDown (knowledge r) p → IsWaiting r rebuilt p
 
 -- and has the gathered table
-pub record IsReady (next : Next) (r : GroupRecord) (rebuilt : List MemberRecord) : Type 0 where
+pub record IsReady {S N : Type 0} (next : Next S N) (r : GroupRecord S N) (rebuilt : List (MemberRecord S N)) : Type 0 where
   pub replayed : HasReplayed next r rebuilt
-  pub tables : (p : ℕ) → p < r.config.members → IsDown (knowledge r) p → (slice_index_or rebuilt p blank).table ≡ recovery_table (knowledge r)
+  pub tables : (p : ℕ) → p < r.config.members → IsDown (knowledge r) p → (slice_index_or rebuilt p (blank r.outside)).table ≡ recovery_table (knowledge r)

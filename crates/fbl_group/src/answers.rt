@@ -2,13 +2,13 @@
 
 /// What a delivery answers.
 #[derive(Clone, Copy, PartialEq, Eq, Debug)]
-pub struct Receipted {
+pub struct Receipted<S = u64> {
     /// The receipt's number, from 1 per receiver.
     pub rsn: u32,
     /// How many entries the message carried, the ones that the receiver had already among them.
     pub carried: u32,
     /// The receiver's new state.
-    pub state: u64,
+    pub state: S,
 }
 
 /// What a strike answers.

@@ -1,16 +1,16 @@
 //! Steps that are made apart from the record: a ticket is taken, and the step is committed later.
 
-ghost use Rattle.std.specs.Prelude.{◌≡◌, ◌+◌, ◌<◌, ◌≤◌, IfOk, IfErr, IfSome, IfNone, OnOk, OnErr, None, Some};
+ghost use Rattle.std.specs.Prelude.{◌≡◌, ◌↔◌, ◌+◌, ◌<◌, ◌≤◌, IsTrue, IfOk, IfErr, IfSome, IfNone, OnOk, OnErr, None, Some};
 ghost use Rattle.fbl_member.specs.Members.{Message};
 ghost use Rattle.fbl_group.specs.Channels.{front as front_of};
 ghost use Rattle.fbl_group.specs.Deliveries.{Delivers, IsPlanned};
-ghost use Rattle.fbl_group.specs.Tickets.{has_no_room, take_refusal, IsTicket, commit_refusal, IsCommitRefusal, is_current as is_current_of};
+ghost use Rattle.fbl_group.specs.Tickets.{has_no_room, take_refusal, IsTicket, IsCurrent, MayCommit, RefusesCommit};
 
 use crate::answers::Receipted;
 use crate::group::Group;
 use crate::refusals::{CommitRefusal, TakeRefusal};
-use crate::ticket::{Done, Ticket};
-use fbl_base::{Behaviour, Member};
+use crate::ticket::Done;
+use fbl_base::{Behaviour, Content, Exact, Member, Ticket};
 use fbl_member::{MemberRec, Wire};
 use std::alloc::Allocator;
 
@@ -18,8 +18,8 @@ impl<B: Behaviour, A: Allocator + Copy> Group<B, A> {
     /// What the step of a delivery to one member from another is made from. Nothing changes, and the message stays in
     /// its channel.
     #[tactic(auto, using(std::proofs::lemmas::Bool::Decides::nat_tests))]
-    pub fn take(&self, to: Member, from: Member) -> Result<Ticket, TakeRefusal>
-        ensures taken { IfOk result (λ ticket. (take_refusal self.now to from ≡ None) × ((v : Message) × (front_of self.now from to ≡ Some v) × IsTicket self.now v ticket)) }
+    pub fn take(&self, to: Member, from: Member) -> Result<Ticket<B::State, B::Note>, TakeRefusal>
+        ensures taken { IfOk result (λ ticket. (take_refusal self.now to from ≡ None) × ((v : Message B.Note) × (front_of self.now from to ≡ Some v) × IsTicket self.now v ticket)) }
         ensures ends { IfOk result (λ ticket. (ticket.to ≡ to) × (ticket.from ≡ from)) }
         ensures refused { IfErr result (λ refusal. take_refusal self.now to from ≡ Some refusal) }
     {
@@ -47,9 +47,9 @@ impl<B: Behaviour, A: Allocator + Copy> Group<B, A> {
 
     /// Does what the delivery of the ticket's message does, with a step that was made apart from the record. After a
     /// refusal the group is unchanged, and the step may be committed again.
-    pub fn commit(&mut self, done: &Done<B>) -> Result<Receipted, CommitRefusal>
-        ensures delivered { IfOk result (λ answer. (commit_refusal B.next self.old done.now.ticket ≡ None) × Delivers B.next self.old self.new done.now.ticket.to done.now.ticket.from answer) }
-        ensures refused { IfErr result (IsCommitRefusal (commit_refusal B.next self.old done.now.ticket)) }
+    pub fn commit(&mut self, done: &Done<B>) -> Result<Receipted<B::State>, CommitRefusal>
+        ensures delivered { IfOk result (λ answer. MayCommit B.next self.old done.now.ticket × Delivers B.next self.old self.new done.now.ticket.to done.now.ticket.from answer) }
+        ensures refused { IfErr result (RefusesCommit B.next self.old done.now.ticket) }
         ensures unchanged { OnErr result (self.new ≡ self.old) }
     {
         self.plan_commit(done)?;
@@ -57,7 +57,7 @@ impl<B: Behaviour, A: Allocator + Copy> Group<B, A> {
     }
 
     /// The front of the channel from one member to the other.
-    fn front(&self, from: Member, to: Member) -> Option<&Wire<A>>
+    fn front(&self, from: Member, to: Member) -> Option<&Wire<B::Note, A>>
         requires from { from < self.now.config.members }
         requires to { to < self.now.config.members }
         ensures some { IfSome result (λ wire. front_of self.now from to ≡ Some wire.now) }
@@ -69,10 +69,10 @@ impl<B: Behaviour, A: Allocator + Copy> Group<B, A> {
     /// Whether nothing but lack of memory refuses the commit.
     #[tactic(auto, using(std::proofs::lemmas::Bool::Decides::nat_tests))]
     fn plan_commit(&self, done: &Done<B>) -> Result<(), CommitRefusal>
-        ensures planned { OnOk result ((commit_refusal B.next self.now done.now.ticket ≡ None) × IsPlanned B.next self.now done.now.ticket.from done.now.ticket.to done.now.outcome) }
-        ensures refused { IfErr result (λ refusal. commit_refusal B.next self.now done.now.ticket ≡ Some refusal) }
+        ensures planned { OnOk result (MayCommit B.next self.now done.now.ticket × IsPlanned B.next done.now.ticket.note self.now done.now.ticket.from done.now.ticket.to done.now.outcome) }
+        ensures refused { IfErr result (RefusesCommit B.next self.now done.now.ticket) }
     {
-        let ticket = done.ticket;
+        let ticket = &done.ticket;
         if self.down().count() != 0 {
             return Err(CommitRefusal::Down);
         }
@@ -83,7 +83,7 @@ impl<B: Behaviour, A: Allocator + Copy> Group<B, A> {
             return Err(CommitRefusal::Stale);
         };
         let member = self.record(ticket.to);
-        if !is_current(member, wire, &ticket) {
+        if !is_current(member, wire, ticket) {
             return Err(CommitRefusal::Stale);
         }
         let sends = done.outcome.sends.len();
@@ -100,13 +100,17 @@ impl<B: Behaviour, A: Allocator + Copy> Group<B, A> {
 }
 
 /// Whether the receiver's record and the message are still the ticket's.
-fn is_current<A: Allocator + Copy>(member: &MemberRec<A>, wire: &Wire<A>, ticket: &Ticket) -> bool
-    ensures { result ≡ is_current_of member.now wire.now ticket.now }
+fn is_current<S: Exact, N: Content, A: Allocator + Copy>(
+    member: &MemberRec<S, N, A>,
+    wire: &Wire<N, A>,
+    ticket: &Ticket<S, N>,
+) -> bool
+    ensures { IsTrue result ↔ IsCurrent member.now wire.now ticket.now }
 {
-    member.state() == ticket.state
+    *member.state_ref() == ticket.state
         && u64::from(member.received()) + 1 == u64::from(ticket.rsn)
         && wire.ssn() == ticket.ssn
-        && wire.note() == ticket.note
+        && *wire.note_ref() == ticket.note
 }
 
 /// Whether a trace of this limit and length has no room for a receipt and this many sends, or the counter can't rise.

@@ -18,7 +18,7 @@ impl<B: Behaviour, A: Allocator + Copy> Group<B, A> {
     pub fn crash(&mut self, set: MemberSet) -> Result<(Struck, Recovered), CrashRefusal>
         ensures crashed { IfOk result (λ answer. (strike_refusal self.old set ≡ None) × Crashes B.next self.old self.new set answer.0 answer.1) }
         ensures holders { OnOk result (KeepsHolders (knowledge self.old) (knowledge self.new)) }
-        ensures refused { IfErr result (CrashLeaves self.old self.new set) }
+        ensures refused { IfErr result (CrashLeaves B.next self.old self.new set) }
     {
         let struck = self.strike(set)?;
         match self.recover() {

@@ -15,7 +15,11 @@ impl<B: Behaviour, A: Allocator + Copy> Group<B, A> {
     /// Delivers to one member the front of its channel from another: takes its ticket, makes its step and commits it. The
     /// member takes in what the message carries, notes the receipt's determinant and makes the behaviour's step, whose
     /// messages go to the ends of their channels.
-    pub fn deliver(&mut self, to: Member, from: Member) -> Result<Receipted, DeliverRefusal>
+    pub fn deliver(
+        &mut self,
+        to: Member,
+        from: Member,
+    ) -> Result<Receipted<B::State>, DeliverRefusal>
         ensures delivered { IfOk result (λ answer. (deliver_refusal B.next self.old to from ≡ None) × Delivers B.next self.old self.new to from answer) }
         ensures refused { IfErr result (IsDeliverRefusal (deliver_refusal B.next self.old to from)) }
         ensures unchanged { OnErr result (self.new ≡ self.old) }
@@ -28,9 +32,9 @@ impl<B: Behaviour, A: Allocator + Copy> Group<B, A> {
     }
 
     /// Moves the front of the step's channel to its receiver, or changes nothing where memory runs out.
-    pub(crate) fn settle(&mut self, done: &Done<B>) -> Result<Receipted, AllocError>
-        requires { IsPlanned B.next self.old done.now.ticket.from done.now.ticket.to done.now.outcome }
-        ensures delivered { IfOk result (Delivered B.next self.old self.new (front_message self.old done.now.ticket.from done.now.ticket.to)) }
+    pub(crate) fn settle(&mut self, done: &Done<B>) -> Result<Receipted<B::State>, AllocError>
+        requires { IsPlanned B.next done.now.ticket.note self.old done.now.ticket.from done.now.ticket.to done.now.outcome }
+        ensures delivered { IfOk result (Delivered B.next self.old self.new (front_message done.now.ticket.note self.old done.now.ticket.from done.now.ticket.to)) }
         ensures unchanged { OnErr result (self.new ≡ self.old) }
     {
         let to = done.ticket.to;

@@ -15,7 +15,7 @@ ghost use Rattle.fbl_group.specs.Readers.{IsDumpRefusal};
 use crate::group::Group;
 use crate::refusals::DumpGroupRefusal;
 use fbl_base::audit::Dump;
-use fbl_base::{Behaviour, Determinant, Event, Mark, Member, MemberSet, RawDump};
+use fbl_base::{Behaviour, Content, Determinant, Event, Mark, Member, MemberSet, RawDump};
 use fbl_member::MemberRec;
 use fbl_table::Table;
 use std::alloc::{AllocError, Allocator};
@@ -56,16 +56,16 @@ impl<B: Behaviour, A: Allocator + Copy> Group<B, A> {
 }
 
 /// The events without their notes.
-fn marks<A: Allocator>(alloc: A, trace: &[Event]) -> Result<Vec<Mark, A>, AllocError>
+fn marks<N: Copy, A: Allocator>(alloc: A, trace: &[Event<N>]) -> Result<Vec<Mark, A>, AllocError>
     ensures { IfOk result (λ marks. marks.items ≡ map mark_of trace.now) }
 {
     trace.iter().map(|event| event.mark()).collect(alloc)
 }
 
 /// Each member with each determinant of its table: the members in order, and each table in its order.
-fn held_pairs<A: Allocator + Copy>(
+fn held_pairs<S: Copy, N: Content, A: Allocator + Copy>(
     alloc: A,
-    members: &[MemberRec<A>],
+    members: &[MemberRec<S, N, A>],
 ) -> Result<Vec<(Member, Determinant), A>, AllocError>
     requires { length members.now ≤ 16 }
     ensures { IfOk result (λ held. held.items ≡ pairs_from 0 members.now) }

@@ -12,11 +12,11 @@ use std::marker::{Model, PhantomData};
 /// each channel, and the trace of what happened. Contracts see the record as data; it is sound between any two calls.
 #[derive(Drop)]
 pub struct Group<B: Behaviour, A: Allocator = Global> {
-    pub(crate) config: Config<A>,
-    pub(crate) members: Vec<MemberRec<A>, A>,
-    pub(crate) checkpoints: Vec<MemberRec<A>, A>,
-    pub(crate) channels: Channels<A>,
-    pub(crate) trace: Vec<Event, A>,
+    pub(crate) config: Config<B::Note, A>,
+    pub(crate) members: Vec<MemberRec<B::State, B::Note, A>, A>,
+    pub(crate) checkpoints: Vec<MemberRec<B::State, B::Note, A>, A>,
+    pub(crate) channels: Channels<B::Note, A>,
+    pub(crate) trace: Vec<Event<B::Note>, A>,
     pub(crate) down: MemberSet,
     pub(crate) receipts_ever: u64,
     pub(crate) undone_ever: u64,
@@ -28,19 +28,16 @@ impl<B: Behaviour, A: Allocator> Model for Group<B, A> {
     ghost use Rattle.fbl_law.specs.Sound.{IsSound};
     ghost use Rattle.fbl_group.specs.Channels.{rows};
 
-    ghost Value = { GroupRecord };
+    ghost Value = { GroupRecord B.State B.Note };
 
     ghost use Rattle.std.specs.Coded.{codes, coded_ℕ};
     ghost use Rattle.std.specs.Ordering.{nat_cmp};
     ghost use Rattle.std.specs.FinSet as set;
     ghost use Rattle.fbl_table.specs.contracts.entry.Entry as entry;
-    ghost use Rattle.fbl_base.specs.contracts.trace.Note as content;
-    ghost use Rattle.fbl_base.specs.contracts.trace.Start as start;
-    ghost use Rattle.fbl_base.specs.contracts.trace.Event as event;
 
-    ghost coded = { Prim.hlevel (codes, content.the_row.coded, entry.the_row.coded, start.the_row.coded, event.the_row.coded, set.code {R = nat_cmp} coded_ℕ) };
+    ghost coded = { Prim.hlevel (codes, B.State.code, B.Note.code, entry.the_row.coded, set.code {R = nat_cmp} coded_ℕ) };
 
-    ghost view = { λ g. record { config = g.config; members = g.members.items; checkpoints = g.checkpoints.items; channels = rows g.channels; trace = g.trace.items; down = g.down; receipts_ever = g.receipts_ever; undone_ever = g.undone_ever } };
+    ghost view = { λ g. record { outside = B.next.initial 0 g.config.members; config = g.config; members = g.members.items; checkpoints = g.checkpoints.items; channels = rows g.channels; trace = g.trace.items; down = g.down; receipts_ever = g.receipts_ever; undone_ever = g.undone_ever } };
 
-    ghost invariant = { λ g. IsSound B.next (record { config = g.config; members = g.members.items; checkpoints = g.checkpoints.items; channels = rows g.channels; trace = g.trace.items; down = g.down; receipts_ever = g.receipts_ever; undone_ever = g.undone_ever }) };
+    ghost invariant = { λ g. IsSound B.next (record { outside = B.next.initial 0 g.config.members; config = g.config; members = g.members.items; checkpoints = g.checkpoints.items; channels = rows g.channels; trace = g.trace.items; down = g.down; receipts_ever = g.receipts_ever; undone_ever = g.undone_ever }) };
 }

@@ -21,9 +21,10 @@ mod strike;
 mod ticket;
 
 pub use answers::{Receipted, Recovered, Struck};
+pub use fbl_base::Ticket;
 pub use group::Group;
 pub use refusals::{
     CheckpointRefusal, CommitRefusal, CrashRefusal, DeliverRefusal, DumpGroupRefusal,
     RecoverRefusal, StrikeRefusal, TakeRefusal,
 };
-pub use ticket::{Done, Ticket, run_step};
+pub use ticket::{Done, run_step};

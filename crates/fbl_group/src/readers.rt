@@ -1,6 +1,6 @@
 //! What a group answers of itself.
 
-ghost use Rattle.std.specs.Prelude.{◌≡◌, ℕ, ◌<◌, ◌≤◌, ◌+◌, length};
+ghost use Rattle.std.specs.Prelude.{◌≡◌, ℕ, ◌<◌, ◌≤◌, ◌+◌, length, if◌then◌else◌};
 ghost use Rattle.fbl_base.specs.MemberSets.{AllBelow};
 ghost use Rattle.fbl_base.specs.Fold.{state_after};
 ghost use Rattle.fbl_law.specs.Knowledge.{IsOrphan, IsUp, IsDown};
@@ -9,47 +9,33 @@ ghost use Rattle.std.specs.FinSet as set;
 ghost use Rattle.fbl_law.specs.Sound.{IsSound, received_notes};
 ghost use Rattle.fbl_law.specs.StepLaws.{weight_held, weight_flying};
 ghost use Rattle.fbl_law.specs.Promises.{HoldsEachReceipt, SurvivorsHold, RecordsFirst, RecordsCauses};
-ghost use Rattle.fbl_group.specs.Channels.{values_in};
 ghost use Rattle.fbl_group.specs.Readers.{is_quiet as is_quiet_now};
 
-use crate::channels::Contents;
 use crate::group::Group;
-use fbl_base::{Behaviour, Config, Event, Member, MemberSet};
+use fbl_base::{Behaviour, Config, Event, Member, MemberSet, Note};
 use fbl_member::MemberRec;
 use fbl_table::Table;
 use std::alloc::Allocator;
 
 impl<B: Behaviour, A: Allocator + Copy> Group<B, A> {
     /// The parameters.
-    pub fn config(&self) -> &Config<A>
+    pub fn config(&self) -> &Config<B::Note, A>
         ensures { result.now ≡ self.now.config }
     {
         &self.config
     }
 
-    /// The member's state, 0 if it is down. The member is one of the group.
+    /// The member's state, its first one if it is down. The member is one of the group.
     ///
-    /// Where it is up, its causes are the receipts that the trace names: the state is what the steps make of the state 0 and
+    /// Where it is up, its causes are the receipts that the trace names: the state is what the steps make of its first state and
     /// of the notes that the member received, in their order.
-    pub fn state(&self, member: Member) -> u64
+    pub fn state(&self, member: Member) -> B::State
         requires { member < self.now.config.members }
         ensures value { result ≡ (record_of self.now member).state }
         ensures causes { IsUp (knowledge self.now) member → result ≡ state_after B.next member self.now.config.members (received_notes self.now.trace member) }
-        ensures down { IsDown (knowledge self.now) member → result ≡ 0 }
+        ensures down { IsDown (knowledge self.now) member → result ≡ B.next.initial member self.now.config.members }
     {
         self.record(member).state()
-    }
-
-    /// The sum of the members' states, of which that of a member that is down is 0.
-    pub fn sum_of_states(&self) -> u128
-        ensures value { result ≡ weight_held (λ me state. state) self.now }
-        ensures bound { result ≤ 295147905179352825840 }
-    {
-        let mut sum = 0u128;
-        for number in 0..self.config.members() {
-            sum += u128::from(self.state(Member::at(number)));
-        }
-        sum
     }
 
     /// How many messages the member has received, 0 if it is down. The member is one of the group.
@@ -97,7 +83,7 @@ impl<B: Behaviour, A: Allocator + Copy> Group<B, A> {
     ///
     /// Where nobody is down, each of its receipts is held by more than f members or by every member whose state depends on
     /// it. So whoever is down, nobody is an orphan.
-    pub fn trace(&self) -> &[Event]
+    pub fn trace(&self) -> &[Event<B::Note>]
         ensures trace { result.now ≡ self.now.trace }
         ensures sound { IsSound B.next self.now }
         ensures held { HoldsEachReceipt self.now }
@@ -152,7 +138,7 @@ impl<B: Behaviour, A: Allocator + Copy> Group<B, A> {
         if self.down().count() == 0 {
             self.unreceived()
         } else {
-            self.contents().messages
+            self.channels.messages(self.config.members())
         }
     }
 
@@ -169,21 +155,6 @@ impl<B: Behaviour, A: Allocator + Copy> Group<B, A> {
         ensures { result ≡ length (receipts (marks self.now)) }
     {
         self.receipts_ever - self.undone_ever
-    }
-
-    /// What the messages in flight hold, on all channels: the sum of their values.
-    pub fn value_in_flight(&self) -> u64
-        ensures { result ≡ weight_flying (λ note. note.value) self.now }
-    {
-        self.contents().value
-    }
-
-    /// What is in flight, on all channels.
-    fn contents(&self) -> Contents
-        ensures messages { result.messages ≡ messages_in_flight_of self.now }
-        ensures value { result.value ≡ values_in self.now.config.members self.now.channels }
-    {
-        self.channels.contents(self.config.members())
     }
 
     /// How many receipts were ever made, also those that recoveries have undone. It never falls.
@@ -209,7 +180,7 @@ impl<B: Behaviour, A: Allocator + Copy> Group<B, A> {
     }
 
     /// The member's record.
-    pub(crate) fn record(&self, member: Member) -> &MemberRec<A>
+    pub(crate) fn record(&self, member: Member) -> &MemberRec<B::State, B::Note, A>
         requires { member < self.now.config.members }
         ensures value { result.now ≡ record_of self.now member }
         ensures sound { IsSound B.next self.now }
@@ -218,11 +189,47 @@ impl<B: Behaviour, A: Allocator + Copy> Group<B, A> {
     }
 
     /// The member's checkpoint.
-    pub(crate) fn saved(&self, member: Member) -> &MemberRec<A>
+    pub(crate) fn saved(&self, member: Member) -> &MemberRec<B::State, B::Note, A>
         requires { member < self.now.config.members }
         ensures value { result.now ≡ member_checkpoint self.now member }
         ensures sound { IsSound B.next self.now }
     {
         &self.checkpoints[usize::from(member.number())]
+    }
+}
+
+impl<B: Behaviour<State = u64>, A: Allocator + Copy> Group<B, A> {
+    /// The sum of the states of the members that are up.
+    pub fn sum_of_states(&self) -> u128
+        ensures value { result ≡ weight_held (λ me state. state) self.now }
+        ensures bound { result ≤ 295147905179352825840 }
+    {
+        let mut sum = 0u128;
+        for number in 0..self.config.members() {
+            sum += self.weight(Member::at(number));
+        }
+        sum
+    }
+
+    /// The member's state, or 0 if it is down.
+    fn weight(&self, member: Member) -> u128
+        requires { member < self.now.config.members }
+        ensures value { result ≡ (if set.contains self.now.down member then 0 else (record_of self.now member).state) }
+        ensures bound { result ≤ 18446744073709551615 }
+    {
+        if self.down().has(member) {
+            0
+        } else {
+            u128::from(self.state(member))
+        }
+    }
+}
+
+impl<B: Behaviour<Note = Note>, A: Allocator + Copy> Group<B, A> {
+    /// What the messages in flight hold, on all channels: the sum of their values.
+    pub fn value_in_flight(&self) -> u64
+        ensures { result ≡ weight_flying (λ note. note.value) self.now }
+    {
+        self.channels.value(self.config.members())
     }
 }

@@ -58,7 +58,7 @@ impl<B: Behaviour, A: Allocator + Copy> Group<B, A> {
         let again = self.resend(rebuilt.records.as_slice())?;
         let n = self.config.members();
         let replayed = rebuilt.replayed(self.checkpoints.as_slice(), n);
-        let resent = again.contents(n).messages as u32;
+        let resent = again.messages(n) as u32;
         let before = self.receipt_count();
         rebuilt.cut(&mut self.trace);
         let undone = before - count_receipts(self.trace.as_slice());
@@ -75,16 +75,16 @@ impl<B: Behaviour, A: Allocator + Copy> Group<B, A> {
 }
 
 /// How many receipts the trace has.
-fn count_receipts(trace: &[Event]) -> u64
+fn count_receipts<N: Copy>(trace: &[Event<N>]) -> u64
     ensures { result ≡ length (receipts (map mark_of trace.now)) }
 {
     let marks = trace.iter().map(|event| event.mark());
     marks.filter_map(|mark| mark.determinant()).count() as u64
 }
 
-impl<A: Allocator> Channels<A> {
+impl<N: Copy, A: Allocator> Channels<N, A> {
     /// Puts the channels that were made again in the places of those with an end that is down, of `n` members.
-    fn replace(&mut self, again: Channels<A>, down: MemberSet, n: u8)
+    fn replace(&mut self, again: Channels<N, A>, down: MemberSet, n: u8)
         requires shape { HasChannels n (rows self.old) }
         requires again { HasChannels n (rows again) }
         requires few { n ≤ 16 }

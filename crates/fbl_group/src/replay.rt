@@ -13,7 +13,7 @@ ghost use Rattle.fbl_group.specs.Rebuilding.{AreByNumber, IsGathered, Tries, Rou
 
 use crate::group::Group;
 use crate::rebuilt::Rebuilt;
-use fbl_base::{Behaviour, Determinant, Member, Note};
+use fbl_base::{Behaviour, Determinant, Member};
 use fbl_member::MemberRec;
 use fbl_table::{Receipts, Table};
 use std::alloc::{AllocError, Allocator};
@@ -39,9 +39,10 @@ impl<A: Allocator + Copy> Gathered<A> {
 
 impl<B: Behaviour, A: Allocator + Copy> Group<B, A> {
     /// The records with which the members that are down come back. The others' are blank.
-    pub(crate) fn rebuild(&self) -> Result<Rebuilt<A>, AllocError>
+    pub(crate) fn rebuild(&self) -> Result<Rebuilt<B::State, B::Note, A>, AllocError>
         ensures ready { IfOk result (λ rebuilt. IsReady B.next self.now rebuilt.records.items) }
         ensures down { IfOk result (λ rebuilt. rebuilt.down ≡ self.now.down) }
+        ensures outside { IfOk result (λ rebuilt. rebuilt.outside ≡ B.next.initial 0 self.now.config.members) }
     {
         let gathered = self.gather()?;
         let mut rebuilt = self.begin()?;
@@ -50,6 +51,7 @@ impl<B: Behaviour, A: Allocator + Copy> Group<B, A> {
         Ok(Rebuilt {
             down: self.down,
             records: rebuilt,
+            outside: B::initial(Member::at(0), self.size()),
         })
     }
 
@@ -80,7 +82,7 @@ impl<B: Behaviour, A: Allocator + Copy> Group<B, A> {
 
     /// Gathers the tables of the checkpoints of the members that are down, in member order.
     fn gather_saved(&self, gathered: &mut Table<A>) -> Result<(), AllocError>
-        ensures { OnOk result (gathered.new ≡ gathered_all gathered.old (saved_tables self.now.down self.now.checkpoints self.now.config.members)) }
+        ensures { OnOk result (gathered.new ≡ gathered_all gathered.old (saved_tables self.now.outside self.now.down self.now.checkpoints self.now.config.members)) }
     {
         for number in 0..self.size() {
             let member = Member::at(number);
@@ -124,7 +126,7 @@ impl<B: Behaviour, A: Allocator + Copy> Group<B, A> {
 
     /// The records before any replay.
     #[tactic(auto, using(fbl_member::proofs::Made::made_none))]
-    fn begin(&self) -> Result<Vec<MemberRec<A>, A>, AllocError>
+    fn begin(&self) -> Result<Vec<MemberRec<B::State, B::Note, A>, A>, AllocError>
         ensures { IfOk result (λ rebuilt. IsReplaying B.next self.now rebuilt.items) }
     {
         let mut rebuilt = Vec::new(*self.members.allocator());
@@ -136,7 +138,7 @@ impl<B: Behaviour, A: Allocator + Copy> Group<B, A> {
     }
 
     /// A member that is down begins at its checkpoint, without the table, for which it gets the gathered one in the end.
-    fn begin_one(&self, member: Member) -> Result<MemberRec<A>, AllocError>
+    fn begin_one(&self, member: Member) -> Result<MemberRec<B::State, B::Note, A>, AllocError>
         ensures { set.contains self.now.down member ≡ true → IfOk result (λ begun. begun ≡ record (member_checkpoint self.now member) { table = [] }) }
     {
         let alloc = *self.members.allocator();
@@ -145,7 +147,7 @@ impl<B: Behaviour, A: Allocator + Copy> Group<B, A> {
             let checkpoint = &self.checkpoints[usize::from(member.number())];
             checkpoint.copy_with(Table::for_limit(alloc, f))
         } else {
-            Ok(MemberRec::blank(alloc, f))
+            Ok(MemberRec::blank(alloc, f, B::initial(member, self.size())))
         }
     }
 
@@ -153,7 +155,7 @@ impl<B: Behaviour, A: Allocator + Copy> Group<B, A> {
     fn replay_round(
         &self,
         gathered: &Gathered<A>,
-        rebuilt: &mut Vec<MemberRec<A>, A>,
+        rebuilt: &mut Vec<MemberRec<B::State, B::Note, A>, A>,
     ) -> Result<bool, AllocError>
         requires gathered { IsGathered self.now gathered.now.table gathered.now.receipts.items }
         requires replaying { IsReplaying B.next self.now rebuilt.old.items }
@@ -174,7 +176,7 @@ impl<B: Behaviour, A: Allocator + Copy> Group<B, A> {
         &self,
         gathered: &Gathered<A>,
         member: Member,
-        rebuilt: &mut Vec<MemberRec<A>, A>,
+        rebuilt: &mut Vec<MemberRec<B::State, B::Note, A>, A>,
     ) -> Result<bool, AllocError>
         requires gathered { IsGathered self.now gathered.now.table gathered.now.receipts.items }
         requires down { set.contains self.now.down member ≡ true }
@@ -194,12 +196,12 @@ impl<B: Behaviour, A: Allocator + Copy> Group<B, A> {
         &self,
         gathered: &Gathered<A>,
         member: Member,
-        rebuilt: &Vec<MemberRec<A>, A>,
-    ) -> Option<(Determinant, Note)>
+        rebuilt: &Vec<MemberRec<B::State, B::Note, A>, A>,
+    ) -> Option<(Determinant, B::Note)>
         requires gathered { IsGathered self.now gathered.now.table gathered.now.receipts.items }
         requires down { set.contains self.now.down member ≡ true }
         requires replaying { IsReplaying B.next self.now rebuilt.now.items }
-        ensures found { IfSome result (λ next. found member ((slice_index_or rebuilt.now.items member blank).received + 1) (recovery_table (knowledge self.now)) ≡ Some next.0) }
+        ensures found { IfSome result (λ next. found member ((slice_index_or rebuilt.now.items member (blank self.now.outside)).received + 1) (recovery_table (knowledge self.now)) ≡ Some next.0) }
         ensures sent { IfSome result (λ next. logged_note (working self.now rebuilt.now.items next.0.from).log next.0.ssn ≡ Some next.1) }
         ensures waits { IfNone result (IsWaiting self.now rebuilt.now.items member) }
         ensures sound { IsSound B.next self.now }
@@ -217,7 +219,11 @@ impl<B: Behaviour, A: Allocator + Copy> Group<B, A> {
     }
 
     /// The content of the message that the receipt took, where its sender's log has it.
-    fn note_sent(&self, rebuilt: &[MemberRec<A>], determinant: &Determinant) -> Option<Note>
+    fn note_sent(
+        &self,
+        rebuilt: &[MemberRec<B::State, B::Note, A>],
+        determinant: &Determinant,
+    ) -> Option<B::Note>
         requires size { length rebuilt.now ≡ self.now.config.members }
         requires from { determinant.now.from < self.now.config.members }
         ensures { result ≡ logged_note (working self.now rebuilt.now determinant.now.from).log determinant.now.ssn }
@@ -229,9 +235,9 @@ impl<B: Behaviour, A: Allocator + Copy> Group<B, A> {
     /// The record of a member while those that are down are rebuilt.
     pub(crate) fn working<'a>(
         &'a self,
-        rebuilt: &'a [MemberRec<A>],
+        rebuilt: &'a [MemberRec<B::State, B::Note, A>],
         member: Member,
-    ) -> &'a MemberRec<A>
+    ) -> &'a MemberRec<B::State, B::Note, A>
         requires size { length rebuilt.now ≡ self.now.config.members }
         requires member { member < self.now.config.members }
         ensures { result.now ≡ working self.now rebuilt.now member }
@@ -248,7 +254,7 @@ impl<B: Behaviour, A: Allocator + Copy> Group<B, A> {
     fn give_tables(
         &self,
         gathered: Table<A>,
-        rebuilt: &mut Vec<MemberRec<A>, A>,
+        rebuilt: &mut Vec<MemberRec<B::State, B::Note, A>, A>,
     ) -> Result<(), AllocError>
         requires gathered { gathered ≡ recovery_table (knowledge self.now) }
         requires replayed { HasReplayed B.next self.now rebuilt.old.items }

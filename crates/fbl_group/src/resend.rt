@@ -9,7 +9,7 @@ ghost use Rattle.fbl_group.specs.Channels.{rows};
 
 use crate::channels::{Channel, Channels, has_either};
 use crate::group::Group;
-use fbl_base::{Behaviour, Member, Note};
+use fbl_base::{Behaviour, Member};
 use fbl_member::{Carried, MemberRec, Wire};
 use fbl_table::Table;
 use std::alloc::{AllocError, Allocator};
@@ -18,7 +18,10 @@ use std::collections::VecDeque;
 impl<B: Behaviour, A: Allocator + Copy> Group<B, A> {
     /// The channels made again: on each with an end that is down what its sender sends again, and nothing on the others.
     #[tactic(auto, using(fbl_member::proofs::Made::made_none))]
-    pub(crate) fn resend(&self, rebuilt: &[MemberRec<A>]) -> Result<Channels<A>, AllocError>
+    pub(crate) fn resend(
+        &self,
+        rebuilt: &[MemberRec<B::State, B::Note, A>],
+    ) -> Result<Channels<B::Note, A>, AllocError>
         requires { length rebuilt.now ≡ self.now.config.members }
         ensures shape { IfOk result (λ again. HasChannels self.now.config.members (rows again)) }
         ensures each { IfOk result (λ again. (q p : ℕ) → q < self.now.config.members → p < self.now.config.members → channel_in (rows again) q p ≡ sent_again self.now.config.f self.now.down (working self.now rebuilt.now) q p) }
@@ -35,9 +38,9 @@ impl<B: Behaviour, A: Allocator + Copy> Group<B, A> {
     #[tactic(auto, using(fbl_member::proofs::Made::made_none))]
     fn resend_from(
         &self,
-        rebuilt: &[MemberRec<A>],
+        rebuilt: &[MemberRec<B::State, B::Note, A>],
         from: Member,
-    ) -> Result<Vec<Channel<A>, A>, AllocError>
+    ) -> Result<Vec<Channel<B::Note, A>, A>, AllocError>
         requires size { length rebuilt.now ≡ self.now.config.members }
         requires from { from < self.now.config.members }
         ensures size { IfOk result (λ row. vec_len row ≡ self.now.config.members) }
@@ -56,11 +59,11 @@ impl<B: Behaviour, A: Allocator + Copy> Group<B, A> {
     /// it was made.
     fn resend_on(
         &self,
-        rebuilt: &[MemberRec<A>],
+        rebuilt: &[MemberRec<B::State, B::Note, A>],
         from: Member,
         to: Member,
         passed: &mut Option<Carried<A>>,
-    ) -> Result<Channel<A>, AllocError>
+    ) -> Result<Channel<B::Note, A>, AllocError>
         requires size { length rebuilt.now ≡ self.now.config.members }
         requires from { from < self.now.config.members }
         requires to { to < self.now.config.members }
@@ -88,15 +91,15 @@ impl<B: Behaviour, A: Allocator + Copy> Group<B, A> {
 
 /// These messages, each with what the sender's table passes on: one list for all of them, where there is memory to share it.
 #[tactic(auto, using(fbl_member::proofs::Once::carried_once))]
-fn put_again<A: Allocator + Copy>(
+fn put_again<N: Copy, A: Allocator + Copy>(
     alloc: A,
     from: Member,
     to: Member,
-    unsent: &[(u32, Note)],
+    unsent: &[(u32, N)],
     table: &Table<A>,
     f: u8,
     passed: &mut Option<Carried<A>>,
-) -> Result<Channel<A>, AllocError>
+) -> Result<Channel<N, A>, AllocError>
     requires { IfSome passed.old (λ carried. carried ≡ piggybacked f table.now) }
     ensures passed { IfSome passed.new (λ carried. carried ≡ piggybacked f table.now) }
     ensures made { IfOk result (λ channel. channel.items ≡ resent from to (piggybacked f table.now) unsent.now) }

@@ -11,19 +11,19 @@ ghost use Rattle.fbl_law.specs.GroupSteps.{IsGroupStart, start_events, message_o
 
 use crate::channels::{Channels, empty_channels};
 use crate::group::Group;
-use fbl_base::{Behaviour, Config, Event, Mark, Member, MemberSet, Start};
+use fbl_base::{Behaviour, Config, Content, Event, Mark, Member, MemberSet, Start};
 use fbl_member::{Carried, Wire, fresh_members};
 use std::alloc::{AllocError, Allocator};
 use std::marker::PhantomData;
 
 impl<B: Behaviour, A: Allocator + Copy> Group<B, A> {
-    /// A group of these parameters in which the starts are sent and nothing is received yet. Each member's first checkpoint
-    /// is its fresh record. `Err` comes only where there is no memory for the group; the configuration is dropped then.
-    pub fn new(alloc: A, config: Config<A>) -> Result<Group<B, A>, AllocError>
-        ensures { IfOk result (λ g. IsGroupStart config g) }
+    /// A group of these parameters in which the starts are sent and nothing is received yet. Each member begins in its first
+    /// state, and its first checkpoint is its fresh record. `Err` comes only where there is no memory for the group; the configuration is dropped then.
+    pub fn new(alloc: A, config: Config<B::Note, A>) -> Result<Group<B, A>, AllocError>
+        ensures { IfOk result (λ g. IsGroupStart B.next config g) }
     {
-        let members = fresh_members(alloc, &config)?;
-        let checkpoints = fresh_members(alloc, &config)?;
+        let members = fresh_members::<B, A>(alloc, &config)?;
+        let checkpoints = fresh_members::<B, A>(alloc, &config)?;
         let (trace, channels) = send_starts(alloc, &config)?;
         Ok(Group {
             config,
@@ -42,10 +42,10 @@ impl<B: Behaviour, A: Allocator + Copy> Group<B, A> {
 /// The starts' sends in their order, each with its sender's next number, and channels with their messages. These carry
 /// nothing.
 #[tactic(auto, using(fbl_member::proofs::Once::carried_once))]
-fn send_starts<A: Allocator + Copy>(
+fn send_starts<N: Content, A: Allocator + Copy>(
     alloc: A,
-    config: &Config<A>,
-) -> Result<(Vec<Event, A>, Channels<A>), AllocError>
+    config: &Config<N, A>,
+) -> Result<(Vec<Event<N>, A>, Channels<N, A>), AllocError>
     ensures trace { IfOk result (λ sent. sent.0.items ≡ start_events [] config.now.starts) }
     ensures shape { IfOk result (λ sent. HasChannels config.now.members (rows sent.1)) }
     ensures channels { IfOk result (λ sent. (q p : ℕ) → channel_in (rows sent.1) q p ≡ between q p (filter_map message_of_send sent.0.items)) }
@@ -67,7 +67,7 @@ fn send_starts<A: Allocator + Copy>(
 }
 
 /// How many of the events are sends of the member.
-fn count_sends(events: &[Event], member: Member) -> u32
+fn count_sends<N: Copy>(events: &[Event<N>], member: Member) -> u32
     requires { length events.now ≤ 64 }
     ensures value { result ≡ sends_of (map mark_of events.now) member }
     ensures few { result ≤ 64 }

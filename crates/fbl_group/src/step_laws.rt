@@ -10,9 +10,10 @@ use fbl_law::step_laws::{
 use std::alloc::Allocator;
 
 impl<B: Conserving, A: Allocator + Copy> Group<B, A> {
-    /// The states and the messages in flight weigh what the starts do where nobody is down, and no more whoever is down.
+    /// The states and the messages in flight weigh what the first states and the starts do where nobody is down, and those of the
+    /// members that are up no more whoever is down.
     pub fn conserved(&self)
-        ensures { WeighsTheSame B.mass B.weight self.now }
+        ensures { WeighsTheSame B.next B.mass B.weight self.now }
     {
         self.recoverable();
         conserved_law::<B>();
@@ -30,9 +31,10 @@ impl<B: Keeping, A: Allocator + Copy> Group<B, A> {
 }
 
 impl<B: KeepingWeight, A: Allocator + Copy> Group<B, A> {
-    /// The states and the messages in flight weigh what the starts do where nobody is down, and no more whoever is down.
+    /// The states and the messages in flight weigh what the first states and the starts do where nobody is down, and those of the
+    /// members that are up no more whoever is down.
     pub fn weight_kept(&self)
-        ensures { WeighsTheSame (B.mass self.now.config) (B.weight self.now.config) self.now }
+        ensures { WeighsTheSame B.next (B.mass self.now.config) (B.weight self.now.config) self.now }
     {
         self.recoverable();
         weight_kept_law::<B>();
@@ -40,9 +42,9 @@ impl<B: KeepingWeight, A: Allocator + Copy> Group<B, A> {
 }
 
 impl<B: MakingNone, A: Allocator + Copy> Group<B, A> {
-    /// The states and the messages in flight weigh no more than the starts, whoever is down.
+    /// The states of the members that are up and the messages in flight weigh no more than the first states and the starts.
     pub fn none_made(&self)
-        ensures { WeighsNoMore (B.mass self.now.config) (B.weight self.now.config) self.now }
+        ensures { WeighsNoMore B.next (B.mass self.now.config) (B.weight self.now.config) self.now }
     {
         self.recoverable();
         none_made_law::<B>();
@@ -50,9 +52,9 @@ impl<B: MakingNone, A: Allocator + Copy> Group<B, A> {
 }
 
 impl<B: LosingNone, A: Allocator + Copy> Group<B, A> {
-    /// The states and the messages in flight weigh no less than the starts where nobody is down.
+    /// The states and the messages in flight weigh no less than the first states and the starts where nobody is down.
     pub fn none_lost(&self)
-        ensures { WeighsNoLess (B.mass self.now.config) (B.weight self.now.config) self.now }
+        ensures { WeighsNoLess B.next (B.mass self.now.config) (B.weight self.now.config) self.now }
     {
         self.recoverable();
         none_lost_law::<B>();

@@ -14,7 +14,7 @@ use crate::answers::Struck;
 use crate::channels::{Channels, has_either};
 use crate::group::Group;
 use crate::refusals::StrikeRefusal;
-use fbl_base::{Behaviour, Determinant, Event, Member, MemberSet};
+use fbl_base::{Behaviour, Content, Determinant, Event, Member, MemberSet};
 use fbl_member::MemberRec;
 use std::alloc::{AllocError, Allocator};
 
@@ -24,7 +24,7 @@ impl<B: Behaviour, A: Allocator + Copy> Group<B, A> {
     /// named again. Checkpoints stay. The answer counts all receipts that are lost then: those that neither the table of a
     /// survivor nor a checkpoint has. It takes no memory. After a refusal the group is unchanged.
     pub fn strike(&mut self, set: MemberSet) -> Result<Struck, StrikeRefusal>
-        ensures struck { IfOk result (λ answer. (strike_refusal self.old set ≡ None) × Strikes self.old self.new set answer) }
+        ensures struck { IfOk result (λ answer. (strike_refusal self.old set ≡ None) × Strikes B.next self.old self.new set answer) }
         ensures refused { IfErr result (λ refusal. strike_refusal self.old set ≡ Some refusal) }
         ensures unchanged { OnErr result (self.new ≡ self.old) }
         ensures no_orphan { (m : ℕ) → ¬ (IsOrphan (knowledge self.new) m) }
@@ -35,13 +35,9 @@ impl<B: Behaviour, A: Allocator + Copy> Group<B, A> {
         // what is so of each group stays so where the strike is refused, and is so of the one that it leaves
         self.promises();
         self.allow_strike(set)?;
-        blank_members(
-            &mut self.members,
-            set,
-            self.config.members(),
-            self.config.f(),
-        );
-        self.channels.drop_at(set, self.config.members());
+        let n = self.config.members();
+        blank_members::<B, A>(&mut self.members, set, n, self.config.f());
+        self.channels.drop_at(set, n);
         self.down = self.down.union(set);
         self.promises();
         // Each receipt of a member that is up is held, so that those of members that are down are counted alone.
@@ -93,11 +89,11 @@ fn are_within(set: MemberSet, n: u8) -> bool
 
 /// How many of the events are receipts of members of the set whose determinant no member's table and no checkpoint's
 /// table holds.
-fn count_lost<A: Allocator + Copy>(
+fn count_lost<S: Copy, N: Content, A: Allocator + Copy>(
     down: MemberSet,
-    members: &[MemberRec<A>],
-    checkpoints: &[MemberRec<A>],
-    trace: &[Event],
+    members: &[MemberRec<S, N, A>],
+    checkpoints: &[MemberRec<S, N, A>],
+    trace: &[Event<N>],
 ) -> u32
     requires { length trace.now ≤ 8192 }
     ensures { result ≡ count_by (is_lost_receipt_of down members.now checkpoints.now) trace.now }
@@ -113,9 +109,9 @@ fn count_lost<A: Allocator + Copy>(
 }
 
 /// Whether the table of some of these members or checkpoints holds the determinant.
-fn is_recorded_among<A: Allocator + Copy>(
-    members: &[MemberRec<A>],
-    checkpoints: &[MemberRec<A>],
+fn is_recorded_among<S: Copy, N: Content, A: Allocator + Copy>(
+    members: &[MemberRec<S, N, A>],
+    checkpoints: &[MemberRec<S, N, A>],
     determinant: &Determinant,
 ) -> bool
     ensures { result ≡ is_recorded_among_of members.now checkpoints.now determinant.now }
@@ -125,11 +121,11 @@ fn is_recorded_among<A: Allocator + Copy>(
 
 /// Whether the event is a receipt of a member of the set whose determinant no member's table and no checkpoint's table
 /// holds. No table is looked at for a receipt of another member.
-fn is_lost_receipt<A: Allocator + Copy>(
+fn is_lost_receipt<S: Copy, N: Content, A: Allocator + Copy>(
     down: MemberSet,
-    members: &[MemberRec<A>],
-    checkpoints: &[MemberRec<A>],
-    event: Event,
+    members: &[MemberRec<S, N, A>],
+    checkpoints: &[MemberRec<S, N, A>],
+    event: Event<N>,
     likely: &mut usize,
 ) -> bool
     ensures { result ≡ is_lost_receipt_of down members.now checkpoints.now event }
@@ -146,8 +142,8 @@ fn is_lost_receipt<A: Allocator + Copy>(
 
 /// Whether the table of some of these records holds the determinant. The likely record's is looked at first, and where it does
 /// not hold the determinant, that of the next one is the next time: that changes no answer.
-fn is_likely_held<A: Allocator + Copy>(
-    records: &[MemberRec<A>],
+fn is_likely_held<S: Copy, N: Content, A: Allocator + Copy>(
+    records: &[MemberRec<S, N, A>],
     determinant: &Determinant,
     likely: &mut usize,
 ) -> bool
@@ -164,7 +160,10 @@ fn is_likely_held<A: Allocator + Copy>(
 }
 
 /// Whether the table of some of these records holds the determinant.
-fn is_held_in<A: Allocator + Copy>(records: &[MemberRec<A>], determinant: &Determinant) -> bool
+fn is_held_in<S: Copy, N: Content, A: Allocator + Copy>(
+    records: &[MemberRec<S, N, A>],
+    determinant: &Determinant,
+) -> bool
     ensures { result ≡ list_any (λ m. is_held m.table determinant.now) records.now }
 {
     records
@@ -172,34 +171,41 @@ fn is_held_in<A: Allocator + Copy>(records: &[MemberRec<A>], determinant: &Deter
         .any(|record| record.table().holds(determinant))
 }
 
-/// Makes the records of the members named blank.
-fn blank_members<A: Allocator + Copy>(
-    members: &mut Vec<MemberRec<A>, A>,
+/// Makes the records of the members named blank, of `n`: each is in its member's first state.
+fn blank_members<B: Behaviour, A: Allocator + Copy>(
+    members: &mut Vec<MemberRec<B::State, B::Note, A>, A>,
     set: MemberSet,
     n: u8,
     f: u8,
 )
     requires size { vec_len members.old ≡ n }
-    requires few { n ≤ 16 }
-    ensures { AreRecordsReplaced set (λ m. blank) members.old.items members.new.items }
+    requires least { 2 ≤ n }
+    requires most { n ≤ 16 }
+    ensures { AreRecordsReplaced (B.next.initial 0 n) set (λ m. blank (B.next.initial m n)) members.old.items members.new.items }
 {
     let alloc = *members.allocator();
     for number in 0..n {
         let member = Member::at(number);
         if set.has(member) {
-            make_blank(&mut members[usize::from(number)], alloc, f);
+            let first = B::initial(member, n);
+            make_blank(&mut members[usize::from(number)], alloc, f, first);
         }
     }
 }
 
 /// Makes the member's record blank.
-fn make_blank<A: Allocator + Copy>(member: &mut MemberRec<A>, alloc: A, f: u8)
-    ensures { member.new ≡ blank }
+fn make_blank<S: Copy, N: Content, A: Allocator + Copy>(
+    member: &mut MemberRec<S, N, A>,
+    alloc: A,
+    f: u8,
+    first: S,
+)
+    ensures { member.new ≡ blank first }
 {
-    *member = MemberRec::blank(alloc, f);
+    *member = MemberRec::blank(alloc, f, first);
 }
 
-impl<A: Allocator> Channels<A> {
+impl<N: Copy, A: Allocator> Channels<N, A> {
     /// Drops the messages in flight with an end among the members named, of `n`.
     fn drop_at(&mut self, set: MemberSet, n: u8)
         requires shape { HasChannels n (rows self.old) }

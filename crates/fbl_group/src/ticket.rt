@@ -1,52 +1,29 @@
 //! Steps that are taken apart from the record.
 
-ghost use Rattle.std.specs.Prelude.{◌≡◌, ◌≤◌, ◌<◌};
-ghost use Rattle.fbl_base.specs.Steps.{SendsAllowed};
+ghost use Rattle.std.specs.Prelude.{◌≡◌};
 
-use fbl_base::{Behaviour, Member, Note, Outcome};
+use fbl_base::{Behaviour, Outcome, Ticket};
 use std::marker::PhantomData;
-
-/// What a step of a member is made from: its state, the number that the receipt would get, and the message at the front
-/// of the channel. It is a copy: the message stays in its channel until the step is committed.
-#[derive(Clone, Copy, PartialEq, Eq, Debug)]
-pub struct Ticket {
-    /// How many members the group has.
-    pub n: u8,
-    /// The receiver.
-    pub to: Member,
-    /// The sender.
-    pub from: Member,
-    /// The receiver's state.
-    pub state: u64,
-    /// The number that the receipt would get.
-    pub rsn: u32,
-    /// The message's number among its sender's.
-    pub ssn: u32,
-    /// The message's content.
-    pub note: Note,
-    ghost size: { (2 ≤ n) × (n ≤ 16) },
-    ghost ends: { (to < n) × (from < n) },
-}
 
 /// A ticket and the behaviour's step of it.
 #[derive(Drop, Debug)]
 pub struct Done<B: Behaviour> {
-    pub(crate) ticket: Ticket,
-    pub(crate) outcome: Outcome,
+    pub(crate) ticket: Ticket<B::State, B::Note>,
+    pub(crate) outcome: Outcome<B::State, B::Note>,
     behaviour: PhantomData<B>,
-    ghost stepped: { outcome ≡ B.next ticket.to ticket.n ticket.state ticket.note },
+    ghost stepped: { outcome ≡ B.next.step ticket.to ticket.n ticket.state ticket.note },
 }
 
 impl<B: Behaviour> Done<B> {
     /// What the step was made from.
-    pub fn ticket(&self) -> Ticket
+    pub fn ticket(&self) -> Ticket<B::State, B::Note>
         ensures { result ≡ self.now.ticket }
     {
         self.ticket
     }
 
     /// What the step answered.
-    pub fn outcome(&self) -> &Outcome
+    pub fn outcome(&self) -> &Outcome<B::State, B::Note>
         ensures { result.now ≡ self.now.outcome }
     {
         &self.outcome
@@ -54,9 +31,9 @@ impl<B: Behaviour> Done<B> {
 }
 
 /// Makes the step of a ticket. It takes no lock and no memory.
-pub fn run_step<B: Behaviour>(ticket: Ticket) -> Done<B>
+pub fn run_step<B: Behaviour>(ticket: Ticket<B::State, B::Note>) -> Done<B>
     ensures ticket { result.ticket ≡ ticket }
-    ensures step { result.outcome ≡ B.next ticket.to ticket.n ticket.state ticket.note }
+    ensures step { result.outcome ≡ B.next.step ticket.to ticket.n ticket.state ticket.note }
 {
     let outcome = B::step(ticket.to, ticket.n, ticket.state, ticket.note);
     Done {

@@ -68,7 +68,7 @@ impl Happening {
 
 impl Fact<'_> {
     /// Whether the group's readers show it.
-    pub(crate) fn is_shown<B: Behaviour, A: Allocator + Copy>(
+    pub(crate) fn is_shown<B: Behaviour<State = u64, Note = Note>, A: Allocator + Copy>(
         self,
         group: &Group<B, A>,
     ) -> Result<bool, Fail> {
@@ -95,7 +95,7 @@ impl Fact<'_> {
 }
 
 /// The group's member with this number.
-fn member_of<B: Behaviour, A: Allocator + Copy>(group: &Group<B, A>, number: u8) -> Option<Member>
+fn member_of<B: Behaviour<State = u64, Note = Note>, A: Allocator + Copy>(group: &Group<B, A>, number: u8) -> Option<Member>
     ensures { IfSome result (λ m. m < group.now.config.members) }
 {
     if number < group.config().members() {
@@ -106,7 +106,7 @@ fn member_of<B: Behaviour, A: Allocator + Copy>(group: &Group<B, A>, number: u8)
 }
 
 /// The member's state, its numbers of receipts and of sends, and how many determinants it holds.
-pub(crate) fn reading<B: Behaviour, A: Allocator + Copy>(
+pub(crate) fn reading<B: Behaviour<State = u64, Note = Note>, A: Allocator + Copy>(
     group: &Group<B, A>,
     number: u8,
 ) -> Option<(u64, u32, u32, u32)> {
@@ -120,7 +120,7 @@ pub(crate) fn reading<B: Behaviour, A: Allocator + Copy>(
 }
 
 /// How many receipts the member's checkpoint has.
-pub(crate) fn checkpoint_received<B: Behaviour, A: Allocator + Copy>(
+pub(crate) fn checkpoint_received<B: Behaviour<State = u64, Note = Note>, A: Allocator + Copy>(
     group: &Group<B, A>,
     number: u8,
 ) -> Option<u32> {
@@ -128,7 +128,7 @@ pub(crate) fn checkpoint_received<B: Behaviour, A: Allocator + Copy>(
 }
 
 /// The member's table.
-pub(crate) fn table<B: Behaviour, A: Allocator + Copy>(
+pub(crate) fn table<B: Behaviour<State = u64, Note = Note>, A: Allocator + Copy>(
     group: &Group<B, A>,
     number: u8,
 ) -> Option<&Table<A>> {
@@ -136,7 +136,7 @@ pub(crate) fn table<B: Behaviour, A: Allocator + Copy>(
 }
 
 /// How many messages are in flight from one member to the other.
-pub(crate) fn in_flight<B: Behaviour, A: Allocator + Copy>(
+pub(crate) fn in_flight<B: Behaviour<State = u64, Note = Note>, A: Allocator + Copy>(
     group: &Group<B, A>,
     from: u8,
     to: u8,
@@ -145,7 +145,7 @@ pub(crate) fn in_flight<B: Behaviour, A: Allocator + Copy>(
 }
 
 /// Whether these are the members' readings in turn.
-fn all_have<B: Behaviour, A: Allocator + Copy>(
+fn all_have<B: Behaviour<State = u64, Note = Note>, A: Allocator + Copy>(
     group: &Group<B, A>,
     expected: &[(u64, u32, u32, u32)],
 ) -> bool {
@@ -158,7 +158,7 @@ fn all_have<B: Behaviour, A: Allocator + Copy>(
 }
 
 /// Whether these are the numbers of receipts of the members' checkpoints in turn.
-fn are_checkpointed<B: Behaviour, A: Allocator + Copy>(
+fn are_checkpointed<B: Behaviour<State = u64, Note = Note>, A: Allocator + Copy>(
     group: &Group<B, A>,
     expected: &[u32],
 ) -> bool {
@@ -218,7 +218,7 @@ fn finds(
 }
 
 /// Whether the audit of the group's dump, with these members struck, finds these lost receipts, in order, and these orphans.
-pub(crate) fn is_audited<B: Behaviour>(
+pub(crate) fn is_audited<B: Behaviour<State = u64, Note = Note>>(
     alloc: Global,
     group: &Group<B>,
     struck: &[u8],

@@ -12,7 +12,7 @@ use std::process::Abort;
 use std::test::Fail;
 
 /// A behaviour with a formula of its own for the state after a message.
-trait Formula: Behaviour {
+trait Formula: Behaviour<State = u64, Note = Note> {
     /// The state after a message, before it is taken modulo 1000000007.
     fn whole(state: u128, value: u32) -> u128;
 
@@ -99,7 +99,7 @@ fn count_receipts(trace: &[Event]) -> usize {
 }
 
 /// The least member that has a message, and its least sender.
-fn next_delivery<B: Behaviour>(group: &Group<B>) -> Option<(Member, Member)> {
+fn next_delivery<B: Behaviour<State = u64, Note = Note>>(group: &Group<B>) -> Option<(Member, Member)> {
     let n = group.config().members();
     for receiver in 0..n {
         let to = Member::new(receiver)?;
@@ -114,7 +114,7 @@ fn next_delivery<B: Behaviour>(group: &Group<B>) -> Option<(Member, Member)> {
 }
 
 /// Makes so many deliveries, or as many as there are, and answers how many it made.
-fn deliver_some<B: Behaviour>(group: &mut Group<B>, count: u32) -> Result<u32, Fail> {
+fn deliver_some<B: Behaviour<State = u64, Note = Note>>(group: &mut Group<B>, count: u32) -> Result<u32, Fail> {
     for made in 0..count {
         let Some((to, from)) = next_delivery(group) else {
             return Ok(made);
@@ -132,12 +132,12 @@ const FOUR: Setting = Setting {
     ..ROUND
 };
 
-fn state<B: Behaviour>(group: &Group<B>, number: u8) -> Result<u64, Fail> {
+fn state<B: Behaviour<State = u64, Note = Note>>(group: &Group<B>, number: u8) -> Result<u64, Fail> {
     Ok(reading(group, number).ok_or("no such member")?.0)
 }
 
 /// The members' states.
-fn states<B: Behaviour>(group: &Group<B>) -> Result<[u64; 4], Fail> {
+fn states<B: Behaviour<State = u64, Note = Note>>(group: &Group<B>) -> Result<[u64; 4], Fail> {
     Ok([
         state(group, 0)?,
         state(group, 1)?,
@@ -147,7 +147,7 @@ fn states<B: Behaviour>(group: &Group<B>) -> Result<[u64; 4], Fail> {
 }
 
 /// Whether the audit finds no orphan where the member is struck.
-fn is_safe_without<B: Behaviour>(
+fn is_safe_without<B: Behaviour<State = u64, Note = Note>>(
     alloc: Global,
     group: &Group<B>,
     struck: MemberSet,
@@ -157,13 +157,13 @@ fn is_safe_without<B: Behaviour>(
 }
 
 /// Whether the receipt comes after its member's checkpoint.
-fn is_after_checkpoint<B: Behaviour>(group: &Group<B>, receipt: Determinant) -> bool {
+fn is_after_checkpoint<B: Behaviour<State = u64, Note = Note>>(group: &Group<B>, receipt: Determinant) -> bool {
     checkpoint_received(group, receipt.to.number()).is_some_and(|count| receipt.rsn > count)
 }
 
 /// How many receipts the audit finds lost where the member is struck, but for those that its checkpoint has. All of them are
 /// its own: every other receipt is known to the survivor that received it.
-fn count_lost<B: Behaviour>(
+fn count_lost<B: Behaviour<State = u64, Note = Note>>(
     alloc: Global,
     group: &Group<B>,
     struck: MemberSet,
@@ -179,7 +179,7 @@ fn count_lost<B: Behaviour>(
 }
 
 /// Strikes the member, and answers whether as many receipts are lost as the audit finds lost and its checkpoint lacks.
-fn is_struck<B: Behaviour>(
+fn is_struck<B: Behaviour<State = u64, Note = Note>>(
     alloc: Global,
     group: &mut Group<B>,
     struck: MemberSet,
@@ -206,7 +206,7 @@ fn is_receipt_of(event: Event, me: Member) -> bool {
 
 /// Recovers the one member that is down, and answers whether those of its receipts are replayed that the trace then has
 /// beyond its checkpoint.
-fn is_recovered<B: Behaviour>(group: &mut Group<B>, number: u8) -> Result<bool, Fail> {
+fn is_recovered<B: Behaviour<State = u64, Note = Note>>(group: &mut Group<B>, number: u8) -> Result<bool, Fail> {
     let checkpointed = checkpoint_received(group, number).ok_or("no such member")?;
     let recovered = group.recover()?;
     let received = count_received(group.trace(), member(number)?);
@@ -214,7 +214,7 @@ fn is_recovered<B: Behaviour>(group: &mut Group<B>, number: u8) -> Result<bool, 
 }
 
 /// Strikes the member and recovers it, and answers whether no orphan is told of before, and the counts are as they should be.
-fn is_brought_back<B: Behaviour>(
+fn is_brought_back<B: Behaviour<State = u64, Note = Note>>(
     alloc: Global,
     group: &mut Group<B>,
     number: u8,
@@ -267,7 +267,7 @@ struct Case {
 }
 
 /// Checkpoints the member, and answers whether its checkpoint has all of its receipts in the trace.
-fn is_checkpointed<B: Behaviour>(group: &mut Group<B>, number: u8) -> Result<bool, Fail> {
+fn is_checkpointed<B: Behaviour<State = u64, Note = Note>>(group: &mut Group<B>, number: u8) -> Result<bool, Fail> {
     let me = member(number)?;
     group.checkpoint(me)?;
     let checkpointed = checkpoint_received(group, number).ok_or("no such member")?;

@@ -3,7 +3,7 @@
 use crate::facts::{checkpoint_received, in_flight, reading, table};
 use crate::setting::Setting;
 use crate::steps::{Step, Verdict, make_all};
-use fbl_base::Behaviour;
+use fbl_base::{Behaviour, Note};
 use fbl_group::{Done, Group};
 use fbl_table::Table;
 use refusing_allocator::Refusing;
@@ -13,7 +13,7 @@ use std::test::Fail;
 
 /// Makes the calls in turn on a new group. Each has to answer as expected, and so has each once any one of its requests for
 /// memory was refused.
-pub(crate) fn play<B: Behaviour>(
+pub(crate) fn play<B: Behaviour<State = u64, Note = Note>>(
     rt: &(impl Abort + AllocGlobal),
     setting: &Setting,
     steps: &[Step],
@@ -28,13 +28,13 @@ pub(crate) fn play<B: Behaviour>(
 }
 
 /// Makes the calls in turn on a new group. Each has to answer as expected.
-fn play_once<B: Behaviour>(alloc: Global, setting: &Setting, steps: &[Step]) -> Result<(), Fail> {
+fn play_once<B: Behaviour<State = u64, Note = Note>>(alloc: Global, setting: &Setting, steps: &[Step]) -> Result<(), Fail> {
     let _played: Group<B> = played(alloc, setting, &mut None, steps)?;
     Ok(())
 }
 
 /// A group on which these calls were made. `made` is the step that was made last.
-pub(crate) fn played<B: Behaviour, A: Allocator + Copy>(
+pub(crate) fn played<B: Behaviour<State = u64, Note = Note>, A: Allocator + Copy>(
     alloc: A,
     setting: &Setting,
     made: &mut Option<Done<B>>,
@@ -46,7 +46,7 @@ pub(crate) fn played<B: Behaviour, A: Allocator + Copy>(
 }
 
 /// An allocator that refuses the request with this number, counted from 1 after those of these calls.
-pub(crate) fn heap<B: Behaviour>(
+pub(crate) fn heap<B: Behaviour<State = u64, Note = Note>>(
     alloc: Global,
     setting: &Setting,
     steps: &[Step],
@@ -58,7 +58,7 @@ pub(crate) fn heap<B: Behaviour>(
 }
 
 /// Whether all readers answer as those of a group on which these calls were made, and then the last one, if there is one.
-pub(crate) fn is_as<B: Behaviour, A: Allocator + Copy>(
+pub(crate) fn is_as<B: Behaviour<State = u64, Note = Note>, A: Allocator + Copy>(
     alloc: Global,
     setting: &Setting,
     steps: &[Step],
@@ -75,7 +75,7 @@ pub(crate) fn is_as<B: Behaviour, A: Allocator + Copy>(
 
 /// Makes the call on a group on which those before it were made, and answers its verdict. Where memory is refused to it, the
 /// group is as before the call, but struck by a crash, and the call or the crash's recovery then has its answer.
-fn verdict_of<B: Behaviour, A: Allocator + Copy>(
+fn verdict_of<B: Behaviour<State = u64, Note = Note>, A: Allocator + Copy>(
     alloc: Global,
     setting: &Setting,
     before: &[Step],
@@ -99,7 +99,7 @@ fn verdict_of<B: Behaviour, A: Allocator + Copy>(
 
 /// Makes the call, to which a request for memory may be refused, and answers whether it succeeds in spite of it, or tells it
 /// and then has its answer.
-fn make_again<B: Behaviour>(
+fn make_again<B: Behaviour<State = u64, Note = Note>>(
     alloc: Global,
     setting: &Setting,
     before: &[Step],
@@ -117,7 +117,7 @@ fn make_again<B: Behaviour>(
 }
 
 /// Refuses each request of the call in turn, and answers how many there were.
-pub(crate) fn refuse_each<B: Behaviour>(
+pub(crate) fn refuse_each<B: Behaviour<State = u64, Note = Note>>(
     rt: &(impl Abort + AllocGlobal),
     setting: &Setting,
     before: &[Step],
@@ -149,7 +149,7 @@ fn has_same_entries<A: Allocator + Copy, C: Allocator + Copy>(
 }
 
 /// Whether the readers answer the same of the two groups' member.
-fn has_same_member<B: Behaviour, A: Allocator + Copy, C: Allocator + Copy>(
+fn has_same_member<B: Behaviour<State = u64, Note = Note>, A: Allocator + Copy, C: Allocator + Copy>(
     first: &Group<B, A>,
     second: &Group<B, C>,
     number: u8,
@@ -163,7 +163,7 @@ fn has_same_member<B: Behaviour, A: Allocator + Copy, C: Allocator + Copy>(
 }
 
 /// Whether the same channels from the member have as many messages in both groups.
-fn has_same_channels<B: Behaviour, A: Allocator + Copy, C: Allocator + Copy>(
+fn has_same_channels<B: Behaviour<State = u64, Note = Note>, A: Allocator + Copy, C: Allocator + Copy>(
     first: &Group<B, A>,
     second: &Group<B, C>,
     number: u8,
@@ -177,7 +177,7 @@ fn has_same_channels<B: Behaviour, A: Allocator + Copy, C: Allocator + Copy>(
 }
 
 /// Whether the groups have the same parameters.
-fn has_same_config<B: Behaviour, A: Allocator + Copy, C: Allocator + Copy>(
+fn has_same_config<B: Behaviour<State = u64, Note = Note>, A: Allocator + Copy, C: Allocator + Copy>(
     first: &Group<B, A>,
     second: &Group<B, C>,
 ) -> bool {
@@ -189,7 +189,7 @@ fn has_same_config<B: Behaviour, A: Allocator + Copy, C: Allocator + Copy>(
 }
 
 /// Whether all readers answer the same of the two groups.
-pub(crate) fn is_same<B: Behaviour, A: Allocator + Copy, C: Allocator + Copy>(
+pub(crate) fn is_same<B: Behaviour<State = u64, Note = Note>, A: Allocator + Copy, C: Allocator + Copy>(
     first: &Group<B, A>,
     second: &Group<B, C>,
 ) -> bool {

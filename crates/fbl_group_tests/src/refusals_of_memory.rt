@@ -4,7 +4,7 @@ use crate::memory::{heap, is_as, is_same, refuse_each};
 use crate::setting::{CHECKPOINTED, ROUND, Setting};
 use crate::steps::Step::{self, Checkpoint, Commit, Crash, Deliver, Take};
 use crate::steps::{Verdict, make_all};
-use fbl_base::{Behaviour, Mix, Relay};
+use fbl_base::{Behaviour, Mix, Note, Relay};
 use fbl_group::Group;
 use refusing_allocator::Refusing;
 use std::alloc::{Allocator, Global};
@@ -19,7 +19,7 @@ fn requests_of_config(alloc: Global, setting: &Setting) -> Result<u64, Fail> {
 }
 
 /// Whether a group is made where no request is refused, and is then the same as this one.
-fn is_made<B: Behaviour>(
+fn is_made<B: Behaviour<State = u64, Note = Note>>(
     heap: &Refusing<Global>,
     setting: &Setting,
     whole: &Group<B>,
@@ -38,7 +38,7 @@ const ANSWERED: Setting = Setting {
 };
 
 /// Makes the group anew with each request refused in turn, until none is.
-fn refuse_each_of_new<B: Behaviour>(
+fn refuse_each_of_new<B: Behaviour<State = u64, Note = Note>>(
     rt: &(impl Abort + AllocGlobal),
     whole: &Group<B>,
 ) -> Result<(), Fail> {
@@ -64,7 +64,7 @@ fn a_new_group_without_memory(rt: HostRuntime) -> Result<(), Fail> {
 type Refused<'a> = (Setting<'a>, &'a [Step<'a>], Step<'a>, u64);
 
 /// Refuses each request of each of these calls in turn.
-fn refuse_each_of<B: Behaviour>(
+fn refuse_each_of<B: Behaviour<State = u64, Note = Note>>(
     rt: &(impl Abort + AllocGlobal),
     calls: &[Refused],
 ) -> Result<(), Fail> {
@@ -99,7 +99,7 @@ fn a_commit_and_a_checkpoint_without_memory(rt: HostRuntime) -> Result<(), Fail>
 
 /// Makes the call, to which a request for memory may be refused. Where it is, the later call is made, and the answer is whether
 /// the group is then as if the refused one had not been made.
-fn forgets<B: Behaviour, A: Allocator + Copy>(
+fn forgets<B: Behaviour<State = u64, Note = Note>, A: Allocator + Copy>(
     alloc: Global,
     setting: &Setting,
     call: Step,
@@ -114,7 +114,7 @@ fn forgets<B: Behaviour, A: Allocator + Copy>(
 }
 
 /// Whether a refused call is forgotten, or none is refused.
-fn is_forgotten<B: Behaviour>(
+fn is_forgotten<B: Behaviour<State = u64, Note = Note>>(
     alloc: Global,
     setting: &Setting,
     call: Step,

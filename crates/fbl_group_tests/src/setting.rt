@@ -2,7 +2,7 @@
 
 use crate::steps::Step::{self, Checkpoint, Deliver};
 use crate::steps::make_all;
-use fbl_base::{Behaviour, Config};
+use fbl_base::{Behaviour, Config, Note};
 use fbl_fixtures::start;
 use fbl_group::Group;
 use std::alloc::Allocator;
@@ -84,7 +84,7 @@ pub(crate) const CHECKPOINTED: Setting = Setting {
 
 impl Setting<'_> {
     /// A group of these parameters in which the starts are sent, and the first calls made.
-    pub(crate) fn group<B: Behaviour, A: Allocator + Copy>(
+    pub(crate) fn group<B: Behaviour<State = u64, Note = Note>, A: Allocator + Copy>(
         &self,
         alloc: A,
     ) -> Result<Group<B, A>, Fail> {
@@ -93,7 +93,7 @@ impl Setting<'_> {
         Ok(group)
     }
 
-    pub(crate) fn config<A: Allocator + Copy>(&self, alloc: A) -> Result<Config<A>, Fail> {
+    pub(crate) fn config<A: Allocator + Copy>(&self, alloc: A) -> Result<Config<Note, A>, Fail> {
         let mut starts = Vec::new(alloc);
         for (from, to, value, hops) in self.starts {
             starts.push(start(*from, *to, *value, *hops)?)?;

@@ -1,7 +1,7 @@
 //! Calls that change a group, with the answers that are expected of them.
 
 use crate::facts::{Fact, checkpoint_received};
-use fbl_base::Behaviour;
+use fbl_base::{Behaviour, Note};
 use fbl_fixtures::{member, set};
 use fbl_group::{
     CheckpointRefusal, CommitRefusal, CrashRefusal, DeliverRefusal, Done, DumpGroupRefusal, Group,
@@ -64,7 +64,7 @@ impl Verdict {
 
 impl<'a> Step<'a> {
     /// Makes the call.
-    pub(crate) fn make<B: Behaviour, A: Allocator + Copy>(
+    pub(crate) fn make<B: Behaviour<State = u64, Note = Note>, A: Allocator + Copy>(
         self,
         group: &mut Group<B, A>,
         made: &mut Option<Done<B>>,
@@ -139,7 +139,7 @@ fn recovery_parts(recovered: Recovered) -> (u32, u32, u32) {
 }
 
 /// A delivery to the one from the other.
-fn deliver<B: Behaviour, A: Allocator + Copy>(
+fn deliver<B: Behaviour<State = u64, Note = Note>, A: Allocator + Copy>(
     group: &mut Group<B, A>,
     channel: (u8, u8),
 ) -> Result<Result<(u32, u32, u64), DeliverRefusal>, Fail> {
@@ -148,7 +148,7 @@ fn deliver<B: Behaviour, A: Allocator + Copy>(
 }
 
 /// A commit of the step.
-fn commit<B: Behaviour, A: Allocator + Copy>(
+fn commit<B: Behaviour<State = u64, Note = Note>, A: Allocator + Copy>(
     group: &mut Group<B, A>,
     done: &Done<B>,
 ) -> Result<(u32, u32, u64), CommitRefusal> {
@@ -156,7 +156,7 @@ fn commit<B: Behaviour, A: Allocator + Copy>(
 }
 
 /// A strike of the members with these numbers, and how many receipts are lost.
-fn strike<B: Behaviour, A: Allocator + Copy>(
+fn strike<B: Behaviour<State = u64, Note = Note>, A: Allocator + Copy>(
     group: &mut Group<B, A>,
     numbers: &[u8],
 ) -> Result<Result<u32, StrikeRefusal>, Fail> {
@@ -165,14 +165,14 @@ fn strike<B: Behaviour, A: Allocator + Copy>(
 }
 
 /// A recovery of all that are down.
-fn recover<B: Behaviour, A: Allocator + Copy>(
+fn recover<B: Behaviour<State = u64, Note = Note>, A: Allocator + Copy>(
     group: &mut Group<B, A>,
 ) -> Result<(u32, u32, u32), RecoverRefusal> {
     group.recover().map(recovery_parts)
 }
 
 /// A crash of the members with these numbers, and how many receipts are lost.
-fn crash<B: Behaviour, A: Allocator + Copy>(
+fn crash<B: Behaviour<State = u64, Note = Note>, A: Allocator + Copy>(
     group: &mut Group<B, A>,
     numbers: &[u8],
 ) -> Result<Result<(u32, (u32, u32, u32)), CrashRefusal>, Fail> {
@@ -186,7 +186,7 @@ fn crash<B: Behaviour, A: Allocator + Copy>(
 
 /// Takes a ticket, and makes and keeps its step. The answer is the ticket's state, receipt number, send number, value and
 /// hops.
-fn take<B: Behaviour, A: Allocator + Copy>(
+fn take<B: Behaviour<State = u64, Note = Note>, A: Allocator + Copy>(
     group: &Group<B, A>,
     channel: (u8, u8),
     made: &mut Option<Done<B>>,
@@ -206,7 +206,7 @@ fn take<B: Behaviour, A: Allocator + Copy>(
 }
 
 /// Takes a checkpoint of the member, and answers how many receipts it then has.
-fn checkpoint<B: Behaviour, A: Allocator + Copy>(
+fn checkpoint<B: Behaviour<State = u64, Note = Note>, A: Allocator + Copy>(
     group: &mut Group<B, A>,
     number: u8,
 ) -> Result<Result<u32, CheckpointRefusal>, Fail> {
@@ -217,7 +217,7 @@ fn checkpoint<B: Behaviour, A: Allocator + Copy>(
 }
 
 /// How many events and held pairs the dump has.
-fn dump_lengths<B: Behaviour, A: Allocator + Copy>(
+fn dump_lengths<B: Behaviour<State = u64, Note = Note>, A: Allocator + Copy>(
     group: &Group<B, A>,
     struck: &[u8],
 ) -> Result<Result<(usize, usize), DumpGroupRefusal>, Fail> {
@@ -229,7 +229,7 @@ fn dump_lengths<B: Behaviour, A: Allocator + Copy>(
 
 /// Makes the calls in turn, each of which has to answer as expected: the place of the first that does not is the failure.
 /// `made` is the step that was made last.
-pub(crate) fn make_all<B: Behaviour, A: Allocator + Copy>(
+pub(crate) fn make_all<B: Behaviour<State = u64, Note = Note>, A: Allocator + Copy>(
     group: &mut Group<B, A>,
     made: &mut Option<Done<B>>,
     steps: &[Step],

@@ -20,7 +20,7 @@ count-earlier t i j m before =
     omega (arith, sum_by-take-le (λ y. cond (is_receipt_of m y) 1 0) (take i t) j, ap (λ (u : List Mark). receipts_of u m) (take-take j i t before))
 
 -- a send is no receipt
-pub past_send : {next : Next} {r : GroupRecord} {members : List MemberRecord} {place : ℕ} → HaveReplayed next r place members
+pub past_send : {next : Next ℕ Note} {r : GroupRecord ℕ Note} {members : List (MemberRecord ℕ Note)} {place : ℕ} → HaveReplayed next r place members
     → (from ssn to : ℕ) (note : Note) → slice_get r.trace place ≡ Some (event.Send from ssn to note) → HaveReplayed next r (place + 1) members
 past_send {next} {r} {members} {place} replayed from ssn to note here = record {
   size = replayed.size;
@@ -30,17 +30,17 @@ past_send {next} {r} {members} {place} replayed from ssn to note here = record {
 }
 
 -- the members of a sound group have replayed what comes before this receipt
-pub record IsNextReceipt (next : Next) (r : GroupRecord) (members : List MemberRecord) (place : ℕ) (d : Determinant) : Type 0 where
+pub record IsNextReceipt (next : Next ℕ Note) (r : GroupRecord ℕ Note) (members : List (MemberRecord ℕ Note)) (place : ℕ) (d : Determinant) : Type 0 where
   pub sound : IsSound next r
   pub replayed : HaveReplayed next r place members
   pub here : slice_get r.trace place ≡ Some (event.Receipt d.to d.rsn d.from d.ssn)
 
-module _ {next : Next} {r : GroupRecord} {members : List MemberRecord} {place : ℕ} {d : Determinant} (known : IsNextReceipt next r members place d) where
-  abbrev pub sender : MemberRecord
-  sender = slice_index_or members d.from blank
+module _ {next : Next ℕ Note} {r : GroupRecord ℕ Note} {members : List (MemberRecord ℕ Note)} {place : ℕ} {d : Determinant} (known : IsNextReceipt next r members place d) where
+  abbrev pub sender : MemberRecord ℕ Note
+  sender = slice_index_or members d.from (blank (next.initial 0 r.config.members))
 
-  abbrev pub receiver : MemberRecord
-  receiver = slice_index_or members d.to blank
+  abbrev pub receiver : MemberRecord ℕ Note
+  receiver = slice_index_or members d.to (blank (next.initial 0 r.config.members))
 
   at-mark : At (marks r) place (Receipt d.to d.rsn d.from d.ssn)
   at-mark = mark-at r.trace place (event.Receipt d.to d.rsn d.from d.ssn) known.here
@@ -55,7 +55,7 @@ module _ {next : Next} {r : GroupRecord} {members : List MemberRecord} {place : 
   received-few = omega (arith, may-follow.4, known.replayed.received d.to may-follow.1, count_by-le-length (is_receipt_of d.to) (take place (marks r)))
 
   -- what is read at the receiver's place
-  pub receiver-read : {i : ℕ} (x : MemberRecord) → i ≡ d.to → slice_index_or members i x ≡ receiver
+  pub receiver-read : {i : ℕ} (x : MemberRecord ℕ Note) → i ≡ d.to → slice_index_or members i x ≡ receiver
   receiver-read x same = grind (arith, get_or_default, known.replayed.size, may-follow)
 
   pub is-next : d.rsn ≡ receiver.received + 1
@@ -70,11 +70,11 @@ module _ {next : Next} {r : GroupRecord} {members : List MemberRecord} {place : 
       (omega (arith, count-earlier (marks r) place sent.0 d.from (omega (arith, sent.1)), known.replayed.received d.from may-follow.0))
 
   -- the note that is read in the log at the sender's place
-  pub note-read : {i : ℕ} (x : MemberRecord) → i ≡ d.from → logged_note (slice_index_or members i x).log d.ssn ≡ logged_note sender.log d.ssn
+  pub note-read : {i : ℕ} (x : MemberRecord ℕ Note) → i ≡ d.from → logged_note (slice_index_or members i x).log d.ssn ≡ logged_note sender.log d.ssn
   note-read x same = grind (arith, get_or_default, known.replayed.size, may-follow)
 
   module _ {note : Note} (named : logged_note sender.log d.ssn ≡ Some note) where
-    abbrev pub after : MemberRecord
+    abbrev pub after : MemberRecord ℕ Note
     after = replayed_by next d.to r.config.members receiver d note
 
     noted : note_of r.trace d.from d.ssn ≡ Some note
@@ -86,9 +86,9 @@ module _ {next : Next} {r : GroupRecord} {members : List MemberRecord} {place : 
         (Has-receipts_at r.config.members (marks r) d.to receiver.received d known.sound.lawful.well_formed (place, at-mark) refl is-next) noted
 
     -- the log has room for the step's sends
-    pub has-room : length receiver.log + length (next d.to r.config.members receiver.state note).sends.items ≤ 8192
+    pub has-room : length receiver.log + length (next.step d.to r.config.members receiver.state note).sends.items ≤ 8192
     has-room =
-        let items = (next d.to r.config.members receiver.state note).sends.items in
+        let items = (next.step d.to r.config.members receiver.state note).sends.items in
         let sends = count_by-le-length (is_send_of d.to) (marks r) in
         let made = length-append receiver.log (numbered (length receiver.log) items) in
         omega (arith, log-short known.sound.lawful is-replayed, sends, trace-short, made, length-numbered (length receiver.log) items)
@@ -96,7 +96,7 @@ module _ {next : Next} {r : GroupRecord} {members : List MemberRecord} {place : 
     -- the receiver comes to the state of the fold
     pub state-is : after.state ≡ state_after_receipt next r.config.members r.trace d.to d.rsn
     state-is =
-        ap (λ (x : Progress). x.state) is-replayed.progress
+        ap (λ (x : Progress ℕ Note). x.state) is-replayed.progress
         ∙ after_notes-state next d.to r.config.members r.config.starts (take (receiver.received + 1) (received_notes r.trace d.to))
         ∙ ap (λ k. state_after_receipt next r.config.members r.trace d.to k) (sym is-next)
 

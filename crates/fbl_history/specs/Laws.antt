@@ -1,6 +1,7 @@
 -- The laws of histories, for the functions that state them.
-use Rattle.std.specs.Prelude.{◌≡◌, Bool, List, map}
+use Rattle.std.specs.Prelude.{◌≡◌, ℕ, Bool, List, map}
 use Rattle.std.specs.List.{filter}
+use Rattle.fbl_base.specs.declared.trace.Note.{Note}
 use Rattle.fbl_base.specs.Fold.{Next}
 use Rattle.fbl_law.specs.Groups.{GroupRecord}
 use Rattle.fbl_law.specs.Sound.{IsSound}
@@ -10,7 +11,7 @@ use Rattle.fbl_history.specs.Traces.{trace_columns}
 
 -- the standing events of a history that went on to a group's trace are exactly that trace, in its order
 abbrev pub StandingIsTrace : Type 0
-StandingIsTrace = (next : Next) (r : GroupRecord) (columns : List Column) → standing (go_on columns (trace_columns next r)) ≡ trace_columns next r
+StandingIsTrace = (next : Next ℕ Note) (r : GroupRecord ℕ Note) (columns : List Column) → standing (go_on columns (trace_columns next r)) ≡ trace_columns next r
 
 -- a history that goes on changes nothing but that standing events are undone, and adds at its end
 abbrev pub NothingComesBack : Type 0
@@ -25,4 +26,4 @@ OthersAreUndone =
 
 -- of the columns of a sound group's trace no two are the same standing event
 abbrev pub TraceHasEachOnce : Type 0
-TraceHasEachOnce = (next : Next) (r : GroupRecord) → IsSound next r → HasEachOnce (trace_columns next r)
+TraceHasEachOnce = (next : Next ℕ Note) (r : GroupRecord ℕ Note) → IsSound next r → HasEachOnce (trace_columns next r)

@@ -1,5 +1,6 @@
 -- The columns of a trace's events, and those of strikes, recoveries and checkpoints.
 use Rattle.std.specs.Prelude.{◌≡◌, ℕ, ◌-◌, false, List, [], ◌∷◌, ◌++◌, map, take}
+use Rattle.fbl_base.specs.declared.trace.Note.{Note}
 use Rattle.fbl_base.specs.declared.trace.Event.{Event}
 use Rattle.fbl_base.specs.declared.trace.Event.TheVariants as event
 use Rattle.fbl_base.specs.Fold.{Next, state_after}
@@ -12,32 +13,32 @@ use Rattle.fbl_history.specs.declared.column.Replay.{Replay}
 use Rattle.fbl_history.specs.Columns.{go_on}
 
 -- the receiver's state after its receipt with this number: what the steps make of the notes of its receipts up to it
-abbrev pub state_after_receipt : Next → ℕ → List Event → ℕ → ℕ → ℕ
+abbrev pub state_after_receipt : Next ℕ Note → ℕ → List (Event Note) → ℕ → ℕ → ℕ
 state_after_receipt next n trace to rsn = state_after next to n (take rsn (received_notes trace to))
 
 -- the column of an event of a trace, of n members
-abbrev pub event_column : Next → ℕ → List Event → Event → Column
+abbrev pub event_column : Next ℕ Note → ℕ → List (Event Note) → Event Note → Column
 event_column next n trace (event.Send from ssn to note) = Send from ssn to false
 event_column next n trace (event.Receipt to rsn from ssn) = Receipt to rsn from ssn (state_after_receipt next n trace to rsn) false
 
 -- the columns of the events of a group's trace, in order
-abbrev pub trace_columns : Next → GroupRecord → List Column
+abbrev pub trace_columns : Next ℕ Note → GroupRecord ℕ Note → List Column
 trace_columns next r = map (event_column next r.config.members r.trace) r.trace
 
 -- how many receipts the member has beyond its checkpoint
-abbrev pub replay_of : GroupRecord → ℕ → Replay
+abbrev pub replay_of : GroupRecord ℕ Note → ℕ → Replay
 replay_of r m = record { member = m; receipts = (member r m).received - (member_checkpoint r m).received }
 
 -- the replays of these members in a recovery that left the group like this, in member order
-abbrev pub replays_of : GroupRecord → Members → List Replay
+abbrev pub replays_of : GroupRecord ℕ Note → Members → List Replay
 replays_of r members = map (replay_of r) (member_list members)
 
 -- the column of a recovery of these members that left the group like this
-abbrev pub IsRecoveryColumn : GroupRecord → Members → Column → Type 0
+abbrev pub IsRecoveryColumn : GroupRecord ℕ Note → Members → Column → Type 0
 IsRecoveryColumn r members (Recovery replays) = replays.items ≡ replays_of r members
 IsRecoveryColumn r members _ = ⊥
 
 -- the history after a recovery of these members that left the group like this: it goes on to the trace, and has the recovery's column
-abbrev pub IsAfterRecovery : Next → GroupRecord → Members → List Column → List Column → Type 0
+abbrev pub IsAfterRecovery : Next ℕ Note → GroupRecord ℕ Note → Members → List Column → List Column → Type 0
 IsAfterRecovery next r members old new =
     (column : Column) × IsRecoveryColumn r members column × (new ≡ go_on old (trace_columns next r) ++ column ∷ [])

@@ -8,7 +8,7 @@ ghost use Rattle.fbl_history.specs.declared.column.Column.TheVariants.{Strike, C
 
 use crate::column::{Column, Replay};
 use crate::states::trace_columns;
-use fbl_base::{Behaviour, Member, MemberSet};
+use fbl_base::{Behaviour, Member, MemberSet, Note};
 use fbl_group::Group;
 use std::alloc::{AllocError, Global};
 use std::marker::Model;
@@ -36,7 +36,10 @@ impl Model for History {
 
 impl History {
     /// The history of a group of which nothing is told yet: the events of its trace.
-    pub fn new<B: Behaviour>(alloc: Global, group: &Group<B>) -> Result<History, AllocError>
+    pub fn new<B: Behaviour<State = u64, Note = Note>>(
+        alloc: Global,
+        group: &Group<B>,
+    ) -> Result<History, AllocError>
         ensures { IfOk result (λ history. history ≡ columns_of_trace B.next group.now) }
     {
         Ok(History {
@@ -53,7 +56,11 @@ impl History {
 
     /// The history after deliveries or workers have led to this group: what they made is added, and what is no longer in the
     /// trace is undone.
-    pub fn go_on<B: Behaviour>(self, alloc: Global, group: &Group<B>) -> Result<History, AllocError>
+    pub fn go_on<B: Behaviour<State = u64, Note = Note>>(
+        self,
+        alloc: Global,
+        group: &Group<B>,
+    ) -> Result<History, AllocError>
         ensures { IfOk result (λ history. history ≡ gone_on self (columns_of_trace B.next group.now)) }
     {
         let History { mut columns } = self;
@@ -71,7 +78,7 @@ impl History {
     }
 
     /// The history after a recovery of these members, which were down, has led to this group.
-    pub fn recover<B: Behaviour>(
+    pub fn recover<B: Behaviour<State = u64, Note = Note>>(
         self,
         alloc: Global,
         group: &Group<B>,
@@ -102,7 +109,7 @@ impl History {
 }
 
 /// How many receipts each of the members has beyond its checkpoint, in member order.
-fn replays<B: Behaviour>(
+fn replays<B: Behaviour<State = u64, Note = Note>>(
     alloc: Global,
     group: &Group<B>,
     members: MemberSet,

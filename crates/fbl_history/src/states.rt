@@ -6,13 +6,13 @@ ghost use Rattle.fbl_history.specs.Replays.{HaveReplayed};
 ghost use Rattle.fbl_history.specs.Traces.{trace_columns as columns_of_trace, event_column, state_after_receipt};
 
 use crate::column::Column;
-use fbl_base::{Behaviour, Determinant, Event};
+use fbl_base::{Behaviour, Determinant, Event, Note};
 use fbl_group::Group;
 use fbl_member::{MemberRec, fresh_members};
 use std::alloc::{AllocError, Global};
 
 /// Lets the receipt at this place of the group's trace be replayed, and answers the receiver's state after it.
-fn replay<B: Behaviour>(
+fn replay<B: Behaviour<State = u64, Note = Note>>(
     group: &Group<B>,
     members: &mut [MemberRec],
     place: usize,
@@ -33,7 +33,7 @@ fn replay<B: Behaviour>(
 }
 
 /// The column of the event at this place of the group's trace.
-fn column_at<B: Behaviour>(
+fn column_at<B: Behaviour<State = u64, Note = Note>>(
     group: &Group<B>,
     members: &mut [MemberRec],
     place: usize,
@@ -73,14 +73,14 @@ fn column_at<B: Behaviour>(
 }
 
 /// The columns of the events of the group's trace, in order.
-pub(crate) fn trace_columns<B: Behaviour>(
+pub(crate) fn trace_columns<B: Behaviour<State = u64, Note = Note>>(
     alloc: Global,
     group: &Group<B>,
 ) -> Result<Vec<Column>, AllocError>
     ensures { IfOk result (λ columns. columns.items ≡ columns_of_trace B.next group.now) }
 {
     let trace = group.trace();
-    let mut members = fresh_members(alloc, group.config())?;
+    let mut members = fresh_members::<B, Global>(alloc, group.config())?;
     let mut columns = Vec::with_capacity(alloc, trace.len())?;
     for (place, event) in trace.iter().enumerate() {
         columns.push(column_at(group, &mut members, place, *event)?)?;

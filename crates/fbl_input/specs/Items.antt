@@ -2,6 +2,7 @@
 use Rattle.std.specs.Prelude.{ℕ, List, [], ◌∷◌, Bool, true, Option, Some, None, is_some, option_and_then, option_map, codes, if◌then◌else◌}
 use Rattle.serde_json.specs.Data.{Data}
 use Rattle.serde_json.specs.Find.{as_object, get}
+use Rattle.fbl_base.specs.declared.trace.Note.{Note}
 use Rattle.fbl_base.specs.declared.trace.Start.{Start}
 use Rattle.fbl_base.specs.declared.trace.Determinant.{Determinant}
 use Rattle.fbl_base.specs.declared.trace.Mark.{Mark}
@@ -13,14 +14,14 @@ use Rattle.fbl_input.specs.declared.input_fault.InputKind.TheVariants as kinds
 use Rattle.fbl_input.specs.Shapes.{as_list, byte_shape, count_shape, is_text, member_shape, name_of, other_key}
 
 -- `[from, to, value, hops]`
-abbrev pub start_from : List Data → Option Start
+abbrev pub start_from : List Data → Option (Start Note)
 start_from (from ∷ to ∷ value ∷ hops ∷ []) =
     option_and_then (λ p. option_and_then (λ q. option_and_then (λ v. option_map (λ h.
     record { from = p; to = q; note = record { value = v; hops = h } })
     (byte_shape hops)) (count_shape value)) (member_shape to)) (member_shape from)
 start_from _ = None
 
-abbrev pub start_shape : Data → Option Start
+abbrev pub start_shape : Data → Option (Start Note)
 start_shape d = option_and_then start_from (as_list d)
 
 -- `["send", from, ssn, to]`

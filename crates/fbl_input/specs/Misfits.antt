@@ -6,6 +6,7 @@ use Rattle.serde_json.specs.Find.{get}
 use Rattle.serde_json.specs.View.{view}
 use Rattle.fbl_base.specs.Audit.{Parts}
 use Rattle.fbl_base.specs.Breaches.{IsOfConfig, IsOfDump, config_refusal, dump_refusal}
+use Rattle.fbl_base.specs.declared.trace.Note.{Note}
 use Rattle.fbl_base.specs.Configs.{Settings}
 use Rattle.fbl_input.specs.declared.fault.Key.{Key}
 use Rattle.fbl_input.specs.declared.fault.Key.TheVariants as keys
@@ -123,7 +124,7 @@ IsMisfit kind d (inputs.UnknownKey named name) = (named ≡ kind) × (unknown_ke
 IsMisfit kind d fault = Unit {0}
 
 -- what the fault says of the parameters that were read is so
-abbrev pub IsOfSettings : Settings → InputFault → Type 0
+abbrev pub IsOfSettings : Settings Note → InputFault → Type 0
 IsOfSettings c (inputs.Config fault) = IsOfConfig c fault
 IsOfSettings c fault = Unit {0}
 

@@ -16,7 +16,8 @@ pub sum_below-at : (n k d : ℕ) (a b : ℕ → ℕ) → ((x : ℕ) → b x ≡ 
 sum_below-at zero k d a b grows = grind (arith, nat_tests)
 sum_below-at (suc n) k d a b grows = grind (arith, nat_tests, grows n, sum_below-at n k d a b grows)
 
--- what is sent again is little, where the log is short
-pub sent_again-short : (f : ℕ) (s : Members) (work : ℕ → MemberRecord) (q p k : ℕ) → length (work q).log ≤ k → length (sent_again f s work q p) ≤ k
-sent_again-short f s work q p k short =
-    grind (arith, short, length-map, length-left (λ (l : Logged). l.to == p && nat_lt (last_from (work p) q) l.ssn) (work q).log)
+module _ {S N : Type 0} where
+  -- what is sent again is little, where the log is short
+  pub sent_again-short : (f : ℕ) (s : Members) (work : ℕ → MemberRecord S N) (q p k : ℕ) → length (work q).log ≤ k → length (sent_again f s work q p) ≤ k
+  sent_again-short f s work q p k short =
+      grind (arith, short, length-map, length-left (λ (l : Logged N). l.to == p && nat_lt (last_from (work p) q) l.ssn) (work q).log)

@@ -4,7 +4,7 @@ use Rattle.fbl_law.proofs.Common.{IsCheckpointKept, IsSoundKnowledge, IsCheckpoi
 use Rattle.fbl_law.proofs.Safe.{never_both, nobody_down_empty, up_if_none}
 use Rattle.fbl_law.proofs.Keeping.{KeepsKnowledge, IsSoundAt, sound_kept, checkpoint_kept, sound_after}
 
-module _ (n f : ℕ) (old new : Knowledge) (p : ℕ) (s : IsCheckpointed old new p) (sound : IsSoundKnowledge n f old) where
+module _ {S N : Type 0} (n f : ℕ) (old new : Knowledge S N) (p : ℕ) (s : IsCheckpointed old new p) (sound : IsSoundKnowledge n f old) where
   was_up : (m : ℕ) → IsUp old m
   was_up = up_if_none s.nobody_down
 
@@ -28,14 +28,14 @@ module _ (n f : ℕ) (old new : Knowledge) (p : ℕ) (s : IsCheckpointed old new
       let is : (checkpoint new p).table ≡ table new p = s.table ∙ sym (s.tables p) in
       record { truth = λ e among. good.truth e (rw is at among); events = λ b owes. rw is (good.events b owes.0); named = λ c named. rw is (good.named c (rw is at named)) }
 
-  good : (k : Store) → IsThere new k → IsSoundAt f new k
+  good : (k : Store N) → IsThere new k → IsSoundAt f new k
   good (in_table m) up = good_table m
   good (in_message v) flies = sound_kept keeps sound (in_message v) flies (rw (s.channels v.from v.to) at flies, refl, λ b there owes. (rw s.trace at there, owes))
   good (in_checkpoint m) there = elim (cases_eq m p) [
     | inl same ↦ rw same good_own
     | inr other ↦
         let is = s.others m other in
-        sound_kept keeps sound (in_checkpoint m) tt (tt, ap (λ (x : MemberRecord). x.table) is, λ b there owes. (rw s.trace at there, (owes.0, rw is at owes.1)))
+        sound_kept keeps sound (in_checkpoint m) tt (tt, ap (λ (x : MemberRecord S N). x.table) is, λ b there owes. (rw s.trace at there, (owes.0, rw is at owes.1)))
   ]
 
   kept : (m : ℕ) → IsCheckpointKept new m

@@ -47,7 +47,6 @@ pub use Rattle.fbl_base.specs.declared.trace.Determinant.{Determinant}
 pub use Rattle.fbl_base.specs.declared.trace.Event.{Event}
 pub use Rattle.fbl_base.specs.declared.trace.Mark.{Mark}
 pub use Rattle.fbl_base.specs.declared.trace.Mark.TheVariants.{Receipt, Send}
-pub use Rattle.fbl_base.specs.declared.trace.Note.{Note}
 pub use Rattle.fbl_base.specs.declared.trace.Start.{Start}
 pub use Rattle.fbl_member.proofs.Logs.{length-numbered, numbered-append}
 pub use Rattle.fbl_member.proofs.Once.{IsOnce-none}
@@ -72,7 +71,7 @@ pub use Rattle.fbl_law.specs.Replaying.{stops_at, working}
 pub use Rattle.fbl_law.specs.Run.{IsStart, checkpoints, delivers, recovers, starts, strikes}
 pub use Rattle.fbl_law.specs.Sound.{IsFold, IsReplayed, IsSound, last_among, last_taken, receipts_at, received_notes}
 pub use Rattle.fbl_law.specs.StepLaws.{AnyNote, AnyState, HoldsFirst, HoldsOf, StepConserves, StepKeeps, StepLosesNone, StepMakesNone, WeighsNoLess, WeighsNoMore, WeighsTheSame, weight_after}
-pub use Rattle.fbl_law.specs.StepLaws.{weight_flying, weight_of, weight_of_starts}
+pub use Rattle.fbl_law.specs.StepLaws.{weight_at_first, weight_flying, weight_of, weight_of_firsts, weight_of_starts}
 pub use Rattle.fbl_law.specs.Steps.{IsCheckpointed, IsCut, IsDelivered, IsEventCut, IsRecovered, IsStruck, Stays, UpTo, between, gathered_all, is_on, messages_made, next_receipt, recovery_table}
 pub use Rattle.fbl_law.specs.Steps.{saved_tables, taken_off}
 pub use Rattle.fbl_law.specs.Stuck.{IsSentAgain, IsStuck}

@@ -66,9 +66,9 @@ count_in-beyond s past n m t within obeys =
     ∙ beyond-numbered (past p) 0 (receipts_at t p) (λ j d here. omega (arith, (receipts_at-Has m t p j d obeys here).2)) ∙ omega arith))
     ∙ count_in-determinants s n (filter (beyond past) (receipts t)) within ∙ ap length (filter-both (is_of s) (beyond past) (receipts t))
 
-module _ {next : Next} {old : GroupRecord} (sound : IsSound next old) {new : List Event} (cut : IsEventCut (Stays (knowledge old)) old.trace new) where
+module _ {S N : Type 0} {next : Next S N} {old : GroupRecord S N} (sound : IsSound next old) {new : List (Event N)} (cut : IsEventCut (Stays (knowledge old)) old.trace new) where
   -- the members that are down replay no more than the trace has
-  pub replayed-most : (work : ℕ → MemberRecord)
+  pub replayed-most : (work : ℕ → MemberRecord S N)
       → ((p : ℕ) → p < old.config.members → set.contains old.down p ≡ true → IsReplayed next old.config.members old.config.starts new p (work p))
       → count_in old.down (λ p. (work p).received) old.config.members ≤ length old.trace
   replayed-most work replays =
@@ -78,7 +78,7 @@ module _ {next : Next} {old : GroupRecord} (sound : IsSound next old) {new : Lis
       omega (arith, most, all, some, cut-shorter sound cut, length-filter_map determinant_of (map mark_of new), length-map new mark_of)
 
   -- and at the end exactly its receipts of theirs, but for what they had replayed before
-  pub replayed-count : (work : ℕ → MemberRecord) (past : ℕ → ℕ)
+  pub replayed-count : (work : ℕ → MemberRecord S N) (past : ℕ → ℕ)
       → ((p : ℕ) → p < old.config.members → set.contains old.down p ≡ true → (work p).received ≡ length (receipts_at (map mark_of new) p))
       → count_in old.down (λ p. (work p).received - past p) old.config.members ≡ length (filter (λ d. set.contains old.down d.to && nat_lt (past d.to) d.rsn) (receipts (map mark_of new)))
   replayed-count work past all =

@@ -30,13 +30,13 @@ abbrev first_lost : (Mark → Bool) → List Mark → ℕ → ℕ
 first_lost lost t m = position_or_len (λ x. lost x && (member_of x == m)) t
 
 -- one pass leaves the events that come before their member's first lost receipt, where none has stopped yet
-module _ (s : Members) (held : List Entry) (keep : Mark → Bool) where
-  abbrev IsKept : Members → List Event → Type 0
+module _ {N : Type 0} (s : Members) (held : List Entry) (keep : Mark → Bool) where
+  abbrev IsKept : Members → List (Event N) → Type 0
   IsKept stopped rest =
-      (i : ℕ) (e : Event) → slice_get rest i ≡ Some e
+      (i : ℕ) (e : Event N) → slice_get rest i ≡ Some e
       → keep (mark_of e) ≡ (not (set.contains stopped (member_of (mark_of e))) && nat_lt i (first_lost (stops_at s held) (map mark_of rest) (member_of (mark_of e))))
 
-  cut_from-filter : (rest : List Event) (stopped : Members) → IsKept stopped rest → cut_from s held stopped rest ≡ filter (λ e. keep (mark_of e)) rest
+  cut_from-filter : (rest : List (Event N)) (stopped : Members) → IsKept stopped rest → cut_from s held stopped rest ≡ filter (λ e. keep (mark_of e)) rest
   cut_from-filter [] stopped kept = refl
   cut_from-filter (e ∷ rest) stopped kept =
       let on = λ (is : (set.contains stopped me || not (stops_at s held (mark_of e))) ≡ true). cut_from-filter rest stopped (later stopped (λ m. grind (arith, nat_tests, is))) in
@@ -53,7 +53,7 @@ module _ (s : Members) (held : List Entry) (keep : Mark → Bool) where
       later : (now : Members) → ((m : ℕ) → set.contains now m ≡ (set.contains stopped m || (stops_at s held (mark_of e) && (me == m)))) → IsKept now rest
       later now more i x here = kept (suc i) x here ∙ rw (more (member_of (mark_of x))) grind (arith, nat_tests)
 
-module _ (next : Next) (old : GroupRecord) (sound : IsSound next old) where
+module _ {S N : Type 0} (next : Next S N) (old : GroupRecord S N) (sound : IsSound next old) where
   abbrev lost : Mark → Bool
   lost = stops_at old.down (recovery_table (knowledge old))
 

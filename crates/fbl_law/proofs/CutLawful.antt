@@ -1,7 +1,7 @@
 -- What is left of a lawful trace is lawful, with its notes.
 use Rattle.fbl_law.proofs.Common.{◌≡◌, ℕ, zero, suc, ◌<◌, ◌≤◌, ◌==◌, nat_lt, inl, inr, ◌⊎◌, Bool, true, false, cond, List, [], ◌∷◌, ◌++◌, length, take, map}
 use Rattle.fbl_law.proofs.Common.{Option, Some, None, slice_get, refl, sym, ap, ◌∙◌, arith, count_by, length-take, filter, filter_map, fold, false_from_ne_true, nat_tests, filter-append}
-use Rattle.fbl_law.proofs.Common.{sum_by-cons, length-filter_map, length-left, Note, Start, Determinant, Event, Mark, At, mark_of, member_of, send_of, receipt_of, Has, Leads, Precedes, itself, step}
+use Rattle.fbl_law.proofs.Common.{sum_by-cons, length-filter_map, length-left, Start, Determinant, Event, Mark, At, mark_of, member_of, send_of, receipt_of, Has, Leads, Precedes, itself, step}
 use Rattle.fbl_law.proofs.Common.{is_send_of, is_receipt_of, sends_of, receipts_of, sent_on, taken_on, in_flight, MayFollow, WellFormed, At-front, At-below, WellFormed-keeps, WellFormed-none}
 use Rattle.fbl_law.proofs.Common.{WellFormed-push, is_sent, in_flight-sent, last_taken, Next, note_of, Action, took, sent, action_of, actions_of, notes_of, responses, start_of, starts_of, Lawful}
 use Rattle.fbl_law.proofs.Common.{At-filter, receipts-noted, eqb-self, true_from_ne_false, append-nil, filter_map-agree, Earlier-front}
@@ -24,10 +24,11 @@ map-kept keep g [] all = refl
 map-kept {Y} keep g (x ∷ u) all =
     grind (arith, λ (y : Y). all x y (0, refl), map-kept keep g u (λ e y h. all e y (suc h.0, h.1)))
 
--- the two ways to leave events out
-pub marks-filter : (keep : Mark → Bool) (t : List Event) → map mark_of (filter (λ e. keep (mark_of e)) t) ≡ filter keep (map mark_of t)
-marks-filter keep [] = refl
-marks-filter keep (x ∷ t) = grind (arith, marks-filter keep t)
+module _ {N : Type 0} where
+  -- the two ways to leave events out
+  pub marks-filter : (keep : Mark → Bool) (t : List (Event N)) → map mark_of (filter (λ e. keep (mark_of e)) t) ≡ filter keep (map mark_of t)
+  marks-filter keep [] = refl
+  marks-filter keep (x ∷ t) = grind (arith, marks-filter keep t)
 
 -- what leads to a kept event is kept
 abbrev pub KeepsCauses : (Mark → Bool) → List Mark → Type 0
@@ -120,38 +121,40 @@ module _ {X Y : Type 0} (g : X → Option Y) (keep : X → Bool) (P : Y → Type
       λ z zs same. let one : y ≡ z = cc in rw one at (stops 0 e y refl is kept (λ i a x below. absurd (omega arith))),
     )
 
-abbrev IsNote : Action → Type 0
-IsNote (took note) = Unit {0}
-IsNote (sent s) = ⊥
+module _ {N : Type 0} where
+  abbrev IsNote : Action N → Type 0
+  IsNote (took note) = Unit {0}
+  IsNote (sent s) = ⊥
 
--- a front of a run's actions that ends where a note comes next, or at their end, has the actions of a run
-front_responds : (next : Next) (p n state : ℕ) (sends : List (ℕ × Note)) (notes : List Note) (xs rest : List Action)
-    → ((y : Action) (ys : List Action) → rest ≡ y ∷ ys → IsNote y) → xs ++ rest ≡ map sent sends ++ responses next p n state notes
-    → xs ≡ map sent sends ++ responses next p n state (notes_of xs)
-front_responds next p n state [] notes [] rest ends is = refl
-front_responds next p n state (s ∷ sends) notes [] rest ends is = absurd (ends (sent s) _ is)
-front_responds next p n state [] (note ∷ notes) (took x ∷ xs) rest ends is =
-    cc (front_responds next p n (next p n state note).state (next p n state note).sends.items notes xs rest ends (cc))
-front_responds next p n state (s ∷ sends) notes (sent x ∷ xs) rest ends is = cc (front_responds next p n state sends notes xs rest ends (cc))
-front_responds _ _ _ _ _ _ _ _ ends is = absurd cc
+module _ {S N : Type 0} where
+  -- a front of a run's actions that ends where a note comes next, or at their end, has the actions of a run
+  front_responds : (next : Next S N) (p n : ℕ) (state : S) (sends : List (ℕ × N)) (notes : List N) (xs rest : List (Action N))
+      → ((y : Action N) (ys : List (Action N)) → rest ≡ y ∷ ys → IsNote y) → xs ++ rest ≡ map sent sends ++ responses next p n state notes
+      → xs ≡ map sent sends ++ responses next p n state (notes_of xs)
+  front_responds next p n state [] notes [] rest ends is = refl
+  front_responds next p n state (s ∷ sends) notes [] rest ends is = absurd (ends (sent s) _ is)
+  front_responds next p n state [] (note ∷ notes) (took x ∷ xs) rest ends is =
+      cc (front_responds next p n (next.step p n state note).state (next.step p n state note).sends.items notes xs rest ends (cc))
+  front_responds next p n state (s ∷ sends) notes (sent x ∷ xs) rest ends is = cc (front_responds next p n state sends notes xs rest ends (cc))
+  front_responds _ _ _ _ _ _ _ _ ends is = absurd cc
 
 -- the notes of what is left
-module _ (n : ℕ) (keep : Mark → Bool) (t : List Event) (obeys : WellFormed n (map mark_of t)) (causes : KeepsCauses keep (map mark_of t)) where
-  abbrev left : List Event
+module _ {N : Type 0} (n : ℕ) (keep : Mark → Bool) (t : List (Event N)) (obeys : WellFormed n (map mark_of t)) (causes : KeepsCauses keep (map mark_of t)) where
+  abbrev left : List (Event N)
   left = filter (λ e. keep (mark_of e)) t
 
   pub left-obeys : WellFormed n (map mark_of left)
   left-obeys = rw (marks-filter keep t) (WellFormed-kept n keep (map mark_of t) obeys causes)
 
   -- a note that is left was there
-  pub note-was : (q k : ℕ) (x : Note) → note_of left q k ≡ Some x → note_of t q k ≡ Some x
+  pub note-was : (q k : ℕ) (x : N) → note_of left q k ≡ Some x → note_of t q k ≡ Some x
   note-was q k x is =
       let sent = noted-sent left q k x is in
       let was = At-filter (λ e. keep (mark_of e)) t sent.0 (Send q k sent.1 x) sent.2 in
       sent-noted n t obeys was.0 q k sent.1 x was.1
 
   -- the note of a member whose events are kept is left
-  pub note-stays : (q k : ℕ) (x : Note) → ((e : Mark) → Has (map mark_of t) e → member_of e ≡ q → keep e ≡ true) → note_of t q k ≡ Some x → note_of left q k ≡ Some x
+  pub note-stays : (q k : ℕ) (x : N) → ((e : Mark) → Has (map mark_of t) e → member_of e ≡ q → keep e ≡ true) → note_of t q k ≡ Some x → note_of left q k ≡ Some x
   note-stays q k x all is =
       let sent = noted-sent t q k x is in
       let kept = all (mark.Send q k sent.1) (sent.0, mark-at t sent.0 (Send q k sent.1 x) sent.2) refl in
@@ -164,9 +167,9 @@ KeepsResponses keep t =
     (j q k to : ℕ) → At t j (mark.Send q k to)
     → ((i : ℕ) (d : Determinant) → i < j → At t i (receipt_of d) → d.to ≡ q → keep (receipt_of d) ≡ true) → keep (mark.Send q k to) ≡ true
 
-module _ (next : Next) (n : ℕ) (starts : List Start) (keep : Mark → Bool) (t : List Event) (lawful : Lawful next n starts t)
+module _ {S N : Type 0} (next : Next S N) (n : ℕ) (starts : List (Start N)) (keep : Mark → Bool) (t : List (Event N)) (lawful : Lawful next n starts t)
     (causes : KeepsCauses keep (map mark_of t)) (follow : KeepsResponses keep (map mark_of t)) where
-  abbrev keeps : Event → Bool
+  abbrev keeps : Event N → Bool
   keeps e = keep (mark_of e)
 
   -- a member's events that are kept come before its others, the first of which is a receipt
@@ -187,14 +190,14 @@ module _ (next : Next) (n : ℕ) (starts : List Start) (keep : Mark → Bool) (t
 
   same_actions : (p : ℕ) → filter_map (action_of (filter keeps t) p) (filter keeps t) ≡ filter_map (action_of t p) (filter keeps t)
   same_actions p = filter_map-agree (action_of (filter keeps t) p) (action_of t p) (filter keeps t) agree where
-    agree : (i : ℕ) (e : Event) → slice_get (filter keeps t) i ≡ Some e → action_of (filter keeps t) p e ≡ action_of t p e
+    agree : (i : ℕ) (e : Event N) → slice_get (filter keeps t) i ≡ Some e → action_of (filter keeps t) p e ≡ action_of t p e
     agree i (Send q k to x) here = refl
     agree i (Receipt to r q k) here =
         let noted = receipts-noted n (filter keeps t) (left-obeys n keep t lawful.well_formed causes) i to r q k here in
         rw (noted.1, note-was n keep t lawful.well_formed causes q k noted.0 noted.1) refl
 
   -- the starts stay first
-  starts_stay : (k : ℕ) (v : List Event) → k ≤ length (filter_map start_of (take k v)) → ((p : ℕ) → StopsAt (action_of t p) keeps IsNote v)
+  starts_stay : (k : ℕ) (v : List (Event N)) → k ≤ length (filter_map start_of (take k v)) → ((p : ℕ) → StopsAt (action_of t p) keeps IsNote v)
       → take k (filter keeps v) ≡ take k v
   starts_stay zero v whole stops = refl
   starts_stay (suc k) [] whole stops = refl
@@ -202,7 +205,7 @@ module _ (next : Next) (n : ℕ) (starts : List Start) (keep : Mark → Bool) (t
   starts_stay (suc k) (Send q i to x ∷ v) whole stops =
       let at_first : keep (mark.Send q i to) ≡ false → ⊥ = λ gone. stops q 0 (Send q i to x) (sent (to, x)) refl (rw eqb-self refl) gone (λ j a y below. absurd (omega arith)) in
       let kept = true_from_ne_false (keep (mark.Send q i to)) at_first in
-      rw kept (ap (λ (xs : List Event). Send q i to x ∷ xs)
+      rw kept (ap (λ (xs : List (Event N)). Send q i to x ∷ xs)
       (starts_stay k v (omega arith) (λ p. StopsAt-tail (action_of t p) keeps IsNote (Send q i to x) v (λ y image. kept) (stops p))))
 
   pub Lawful-kept : Lawful next n starts (filter (λ e. keep (mark_of e)) t)
@@ -212,5 +215,5 @@ module _ (next : Next) (n : ℕ) (starts : List Start) (keep : Mark → Bool) (t
         rw (starts_stay (length starts) t (omega (arith, ap length lawful.starts_first)) stops_at) lawful.starts_first;
     responds = λ p.
         let front = front_left (action_of t p) keeps IsNote t (kept_first p) (stops_at p) in
-        rw (same_actions p) (front_responds next p n 0 (starts_of p starts) (notes_of (actions_of t p)) _ front.0 front.2 (sym front.1 ∙ lawful.responds p));
+        rw (same_actions p) (front_responds next p n (next.initial p n) (starts_of p starts) (notes_of (actions_of t p)) _ front.0 front.2 (sym front.1 ∙ lawful.responds p));
   }

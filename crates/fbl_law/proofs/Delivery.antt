@@ -1,6 +1,6 @@
 -- A delivery keeps knowledge sound.
 use Rattle.fbl_law.proofs.Common.{◌≡◌, ℕ, ◌+◌, List, [], ◌∷◌, ◌++◌, inl, inr, ◌⊎◌, refl, sym, subst, ap, ◌∙◌, zero, suc, Some, map, ◌&&◌, ◌==◌, Contains}
-use Rattle.fbl_law.proofs.Common.{cases_eq, cases_Bool, slice_get, arith, append_assoc, length-append, contains-insert_same, Determinant, Mark, Note, member_of, mark_of, send_of, determinant_of}
+use Rattle.fbl_law.proofs.Common.{cases_eq, cases_Bool, slice_get, arith, append_assoc, length-append, contains-insert_same, Determinant, Mark, member_of, mark_of, send_of, determinant_of}
 use Rattle.fbl_law.proofs.Common.{receipt_of, Has, Precedes, Contains-append_cases, At-front, Has-last, Entry, Message, Includes, Knowledge, Store, in_table, in_message, in_checkpoint, owner, IsThere}
 use Rattle.fbl_law.proofs.Common.{Owes, table, send_mark, IsInFlight, IsUp, Names, Holds, IsHolder, IsTrueEntry, NamesCauses, IsSoundKnowledge, learned, IsDelivered, is_on, taken_off, between}
 use Rattle.fbl_law.proofs.Common.{next_receipt, messages_made, Precedes-front, All, ◌↔◌, held_by, All-contains, All-push, map-At, piggybacked, messages_from, step_events, Send, WellFormed}
@@ -15,24 +15,25 @@ use Rattle.fbl_law.proofs.Safe.{never_both, nobody_down_empty, up_if_none}
 use Rattle.fbl_law.proofs.Keeping.{KeepsKnowledge, IsSoundAt, NamesCauses-kept, IsTrueEntry-kept, sound_kept, sound_passed, checkpoint_kept, sound_after}
 use Rattle.fbl_law.proofs.Tables.{Includes-insert_cases, Includes-only, Includes-union, Names-table, learned-keeps, All-from}
 
--- what is left of a channel was in it
-pub taken_off-was : (v : Message) (q p : ℕ) (xs : List Message) (x : Message) → Contains (taken_off v q p xs) x → Contains xs x
-taken_off-was v q p [] x h = elim (cases_Bool (v.from == q && v.to == p)) [ inl is ↦ rw is at h | inr is ↦ rw is at h ]
-taken_off-was v q p (y ∷ xs) x h = elim (cases_Bool (v.from == q && v.to == p)) [ inl is ↦ Contains-there y xs x (rw is at h) | inr is ↦ rw is at h ]
+module _ {N : Type 0} where
+  -- what is left of a channel was in it
+  pub taken_off-was : (v : Message N) (q p : ℕ) (xs : List (Message N)) (x : Message N) → Contains (taken_off v q p xs) x → Contains xs x
+  taken_off-was v q p [] x h = elim (cases_Bool (v.from == q && v.to == p)) [ inl is ↦ rw is at h | inr is ↦ rw is at h ]
+  taken_off-was v q p (y ∷ xs) x h = elim (cases_Bool (v.from == q && v.to == p)) [ inl is ↦ Contains-there y xs x (rw is at h) | inr is ↦ rw is at h ]
 
--- the events of a step are the sends of its messages
-pub marks_made : (p before : ℕ) (carried : List Entry) (sends : List (ℕ × Note)) → map mark_of (step_events p before sends) ≡ map send_mark (messages_from p before carried sends)
-marks_made p before carried [] = refl
-marks_made p before carried (s ∷ sends) = ap (λ ms. Send p (before + 1) s.0 ∷ ms) (marks_made p (before + 1) carried sends)
+  -- the events of a step are the sends of its messages
+  pub marks_made : (p before : ℕ) (carried : List Entry) (sends : List (ℕ × N)) → map mark_of (step_events p before sends) ≡ map send_mark (messages_from p before carried sends)
+  marks_made p before carried [] = refl
+  marks_made p before carried (s ∷ sends) = ap (λ ms. Send p (before + 1) s.0 ∷ ms) (marks_made p (before + 1) carried sends)
 
--- each message made is of the member, carries what it passes on, and is sent by an event
-pub made_event : (p before : ℕ) (carried : List Entry) (sends : List (ℕ × Note)) (x : Message) → Contains (messages_from p before carried sends) x
-    → (x.from ≡ p) × (x.carried ≡ carried) × ((i : ℕ) × (slice_get (step_events p before sends) i ≡ Some (event.Send x.from x.ssn x.to x.note)))
-made_event p before carried [] x among = absurd (Contains-none x among)
-made_event p before carried (s ∷ sends) x (zero, within, here) = (cc, cc, (0, cc))
-made_event p before carried (s ∷ sends) x (suc k, within, here) = let r = made_event p (before + 1) carried sends x (k, omega arith, here) in (r.0, r.1, (suc r.2.0, r.2.1))
+  -- each message made is of the member, carries what it passes on, and is sent by an event
+  pub made_event : (p before : ℕ) (carried : List Entry) (sends : List (ℕ × N)) (x : Message N) → Contains (messages_from p before carried sends) x
+      → (x.from ≡ p) × (x.carried ≡ carried) × ((i : ℕ) × (slice_get (step_events p before sends) i ≡ Some (event.Send x.from x.ssn x.to x.note)))
+  made_event p before carried [] x among = absurd (Contains-none x among)
+  made_event p before carried (s ∷ sends) x (zero, within, here) = (cc, cc, (0, cc))
+  made_event p before carried (s ∷ sends) x (suc k, within, here) = let r = made_event p (before + 1) carried sends x (k, omega arith, here) in (r.0, r.1, (suc r.2.0, r.2.1))
 
-module _ (n f : ℕ) (old new : Knowledge) (v : Message) (sends : List (ℕ × Note)) (s : IsDelivered n f old new v sends) (sound : IsSoundKnowledge n f old) where
+module _ {S N : Type 0} (n f : ℕ) (old new : Knowledge S N) (v : Message N) (sends : List (ℕ × N)) (s : IsDelivered n f old new v sends) (sound : IsSoundKnowledge n f old) where
   abbrev own : Determinant
   own = next_receipt old v
 
@@ -42,7 +43,7 @@ module _ (n f : ℕ) (old new : Knowledge) (v : Message) (sends : List (ℕ × N
   abbrev passed : List Entry
   passed = piggybacked f (table new v.to)
 
-  abbrev made : List Message
+  abbrev made : List (Message N)
   made = messages_made f old new v sends
 
   abbrev added : List Mark
@@ -164,14 +165,14 @@ module _ (n f : ℕ) (old new : Knowledge) (v : Message) (sends : List (ℕ × N
   }
 
   -- no other store owes the causes of an event that was added
-  still_owes : (k : Store) → IsThere old k → ¬ (k ≡ in_table v.to) → (b : Mark) → Has new.trace b → Owes old k b → Has old.trace b × Owes old k b
+  still_owes : (k : Store N) → IsThere old k → ¬ (k ≡ in_table v.to) → (b : Mark) → Has new.trace b → Owes old k b → Has old.trace b × Owes old k b
   still_owes k there other b has owes = elim (Has-cases b has) [ inl was ↦ (was, owes) | inr fresh ↦ absurd (none k there other b fresh owes) ] where
-    none : (k : Store) → IsThere old k → ¬ (k ≡ in_table v.to) → (b : Mark) → Has added b → ¬ (Owes old k b)
+    none : (k : Store N) → IsThere old k → ¬ (k ≡ in_table v.to) → (b : Mark) → Has added b → ¬ (Owes old k b)
     none (in_table m) there other b fresh at_m = other (ap in_table (sym at_m ∙ (ours b fresh).0))
     none (in_message x) there other b fresh is = apart b fresh (subst (Has old.trace) is (flight_sent sound x there))
     none (in_checkpoint m) there other b fresh reached = added-later n old added (rw s.trace at rules) sound.checkpoints b fresh (rw reached.0 reached.1)
 
-  good : (k : Store) → IsThere new k → IsSoundAt f new k
+  good : (k : Store N) → IsThere new k → IsSoundAt f new k
   good (in_table m) there = elim (cases_eq m v.to) [
     | inl same ↦ rw same good_receiver
     | inr other ↦ sound_kept keeps sound (in_table m) there (was_up m, s.others m other, still_owes (in_table m) (was_up m) (λ same. other (ap owner same)))
@@ -185,7 +186,7 @@ module _ (n f : ℕ) (old new : Knowledge) (v : Message) (sends : List (ℕ × N
         sound_passed f new x (rw is.0 good_receiver) (rw is.0 is.1)
   ]
   good (in_checkpoint m) there =
-      sound_kept keeps sound (in_checkpoint m) tt (tt, rw s.checkpoints refl, λ b has owes. still_owes (in_checkpoint m) tt (λ same. cc) b has (rw s.checkpoints at owes))
+      sound_kept keeps sound (in_checkpoint m) tt (tt, rw (s.checkpoints, s.outside) refl, λ b has owes. still_owes (in_checkpoint m) tt (λ same. cc) b has (rw (s.checkpoints, s.outside) at owes))
 
   pub delivery_keeps : IsSoundKnowledge n f new
-  delivery_keeps = sound_after keeps sound good (λ m. checkpoint_kept keeps sound m (rw s.checkpoints refl))
+  delivery_keeps = sound_after keeps sound good (λ m. checkpoint_kept keeps sound m (rw (s.checkpoints, s.outside) refl))

@@ -37,7 +37,8 @@ once_gathered_all : (table : List Entry) (ts : List (List Entry)) → IsOnce tab
 once_gathered_all table [] once = once
 once_gathered_all table (t ∷ ts) once = once_gathered_all (gathered table t) ts (once_gathered table t once)
 
--- and what recovery gathers
-pub once_recovery_table : (r : Knowledge) → IsOnce (recovery_table r)
-once_recovery_table r =
-    rw map-map (once_gathered_all [] (map (λ (m : MemberRecord). m.table) r.members ++ saved_tables r.down r.checkpoints (length r.checkpoints)) IsOnce-none)
+module _ {S N : Type 0} where
+  -- and what recovery gathers
+  pub once_recovery_table : (r : Knowledge S N) → IsOnce (recovery_table r)
+  once_recovery_table r =
+      rw map-map (once_gathered_all [] (map (λ (m : MemberRecord S N). m.table) r.members ++ saved_tables r.outside r.down r.checkpoints (length r.checkpoints)) IsOnce-none)

@@ -23,31 +23,32 @@ module _ (Q : Entry → Type 0) (join : (x e : Entry) → Q x → Q e → x.det 
   gathered_all-keeps xs (t ∷ ts) all each =
       gathered_all-keeps (gathered xs t) ts (gathered-keeps Q join xs t all (All-head (λ t. All Q t) t ts each)) (All-tail (λ t. All Q t) t ts each)
 
--- the tables of checkpoints are those of the members of the set
-Contains-saved : (s : Members) (checkpoints : List MemberRecord) (n m : ℕ) → m < n → Includes s m → Contains (saved_tables s checkpoints n) (get_or checkpoints m blank).table
-Contains-saved s checkpoints zero m below among = absurd (omega arith)
-Contains-saved s checkpoints (suc n) m below among =
-    elim (cases_eq m n) [
-      | inl same ↦ rw same (Contains-append_right (saved_tables s checkpoints n) _ (get_or checkpoints n blank).table
-          (let here = rw same at among in rw here (Contains-here (get_or checkpoints n blank).table [])))
-      | inr other ↦ Contains-append_left (saved_tables s checkpoints n) _ (get_or checkpoints m blank).table (Contains-saved s checkpoints n m (omega arith) among)
-    ]
+module _ {S N : Type 0} where
+  -- the tables of checkpoints are those of the members of the set
+  Contains-saved : (outside : S) (s : Members) (checkpoints : List (MemberRecord S N)) (n m : ℕ) → m < n → Includes s m → Contains (saved_tables outside s checkpoints n) (get_or checkpoints m (blank outside)).table
+  Contains-saved outside s checkpoints zero m below among = absurd (omega arith)
+  Contains-saved outside s checkpoints (suc n) m below among =
+      elim (cases_eq m n) [
+        | inl same ↦ rw same (Contains-append_right (saved_tables outside s checkpoints n) _ (get_or checkpoints n (blank outside)).table
+            (let here = rw same at among in rw here (Contains-here (get_or checkpoints n (blank outside)).table [])))
+        | inr other ↦ Contains-append_left (saved_tables outside s checkpoints n) _ (get_or checkpoints m (blank outside)).table (Contains-saved outside s checkpoints n m (omega arith) among)
+      ]
 
-saved-keeps : (P : List Entry → Type 0) (s : Members) (checkpoints : List MemberRecord) (n : ℕ) → ((m : ℕ) → P (get_or checkpoints m blank).table)
-    → All P (saved_tables s checkpoints n)
-saved-keeps P s checkpoints zero each = All-nil P
-saved-keeps P s checkpoints (suc n) each =
-    All-append P (saved_tables s checkpoints n) _ (saved-keeps P s checkpoints n each)
-    (elim (down_or_up s n) [ inl is ↦ rw is (All-cons P _ [] (each n) (All-nil P)) | inr is ↦ rw is (All-nil P) ])
+  saved-keeps : (outside : S) (P : List Entry → Type 0) (s : Members) (checkpoints : List (MemberRecord S N)) (n : ℕ) → ((m : ℕ) → P (get_or checkpoints m (blank outside)).table)
+      → All P (saved_tables outside s checkpoints n)
+  saved-keeps outside P s checkpoints zero each = All-nil P
+  saved-keeps outside P s checkpoints (suc n) each =
+      All-append P (saved_tables outside s checkpoints n) _ (saved-keeps outside P s checkpoints n each)
+      (elim (down_or_up s n) [ inl is ↦ rw is (All-cons P _ [] (each n) (All-nil P)) | inr is ↦ rw is (All-nil P) ])
 
--- the entry unites what stores know of a recorded determinant, and names those that are down
-abbrev pub IsGathered : Knowledge → Entry → Type 0
-IsGathered r e = IsRecorded r e.det × ((m : ℕ) → IsDown r m → Includes e.known m) × ((m : ℕ) → Includes e.known m → IsHolder r e.det m)
+  -- the entry unites what stores know of a recorded determinant, and names those that are down
+  abbrev pub IsGathered : Knowledge S N → Entry → Type 0
+  IsGathered r e = IsRecorded r e.det × ((m : ℕ) → IsDown r m → Includes e.known m) × ((m : ℕ) → Includes e.known m → IsHolder r e.det m)
 
-module _ {n f : ℕ} {r : Knowledge} (sound : IsSoundKnowledge n f r) where
+module _ {S N : Type 0} {n f : ℕ} {r : Knowledge S N} (sound : IsSoundKnowledge n f r) where
   -- the tables that are gathered
   abbrev sources : List (List Entry)
-  sources = map (λ (m : MemberRecord). m.table) r.members ++ saved_tables r.down r.checkpoints (length r.checkpoints)
+  sources = map (λ (m : MemberRecord S N). m.table) r.members ++ saved_tables r.outside r.down r.checkpoints (length r.checkpoints)
 
   -- the determinant is recorded, and the entry names holders of it
   abbrev IsKnown : Entry → Type 0
@@ -66,9 +67,9 @@ module _ {n f : ℕ} {r : Knowledge} (sound : IsSoundKnowledge n f r) where
 
   all_known : All IsKnown (gathered_all [] sources)
   all_known = gathered_all-keeps IsKnown join_known [] sources (All-nil IsKnown) (All-append AllKnown _ _
-      (All-map AllKnown (λ (m : MemberRecord). m.table) r.members
-      (All-from_get_or (λ (x : MemberRecord). AllKnown x.table) r.members blank (λ m below. All-from IsKnown (table r m) (table_known m))))
-      (saved-keeps AllKnown r.down r.checkpoints (length r.checkpoints) (λ m. All-from IsKnown (checkpoint r m).table (saved_known m))))
+      (All-map AllKnown (λ (m : MemberRecord S N). m.table) r.members
+      (All-from_get_or (λ (x : MemberRecord S N). AllKnown x.table) r.members (blank r.outside) (λ m below. All-from IsKnown (table r m) (table_known m))))
+      (saved-keeps r.outside AllKnown r.down r.checkpoints (length r.checkpoints) (λ m. All-from IsKnown (checkpoint r m).table (saved_known m))))
     where
       AllKnown : List Entry → Type 0
       AllKnown t = All IsKnown t
@@ -94,8 +95,8 @@ module _ {n f : ℕ} {r : Knowledge} (sound : IsSoundKnowledge n f r) where
 
   table_gathered : (m : ℕ) (d : Determinant) → Names (table r m) d → Names (recovery_table r) d
   table_gathered m d named = source_gathered (table r m) d
-      (Contains-append_left _ _ (table r m) (Contains-map (λ (x : MemberRecord). x.table) r.members (get_or r.members m blank)
-      (Contains-get_or r.members m blank (named_record r.members m d named)))) named
+      (Contains-append_left _ _ (table r m) (Contains-map (λ (x : MemberRecord S N). x.table) r.members (get_or r.members m (blank r.outside))
+      (Contains-get_or r.members m (blank r.outside) (named_record r.outside r.members m d named)))) named
 
   -- what an up member's checkpoint names, the member's table names
   pub recorded_gathered : (d : Determinant) → IsRecorded r d → Names (recovery_table r) d
@@ -105,7 +106,7 @@ module _ {n f : ℕ} {r : Knowledge} (sound : IsSoundKnowledge n f r) where
         | inr up ↦ table_gathered saved.0 d ((sound.checkpoints saved.0).table d up saved.1)
         | inl down ↦
             source_gathered (checkpoint r saved.0).table d
-            (Contains-append_right (map (λ (m : MemberRecord). m.table) r.members) _ (checkpoint r saved.0).table
-            (Contains-saved r.down r.checkpoints (length r.checkpoints) saved.0 (named_record r.checkpoints saved.0 d saved.1) down))
+            (Contains-append_right (map (λ (m : MemberRecord S N). m.table) r.members) _ (checkpoint r saved.0).table
+            (Contains-saved r.outside r.down r.checkpoints (length r.checkpoints) saved.0 (named_record r.outside r.checkpoints saved.0 d saved.1) down))
             saved.1
       ]

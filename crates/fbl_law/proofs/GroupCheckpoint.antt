@@ -7,33 +7,34 @@ use Rattle.fbl_law.proofs.Checkpoint.{checkpoint_keeps}
 use Rattle.fbl_law.proofs.GroupFacts.{received_counted, log_counted}
 use Rattle.fbl_law.proofs.ReplayedRecords.{fold-replayed}
 
--- the receipts of a member's checkpoint are recorded
-pub checkpoint_is_recorded : CheckpointIsRecorded
-unfolding CheckpointIsRecorded
-checkpoint_is_recorded next r m sound below = (
-  (sound.saved m below).within,
-  λ d there to within. IsRecorded-reached r.config.f (knowledge r) sound.causes.closed d (receipt_of d) (rw to within) (itself there),
-)
+module _ (S N : Type 0) where
+  -- the receipts of a member's checkpoint are recorded
+  pub checkpoint_is_recorded : CheckpointIsRecorded S N
+  unfolding CheckpointIsRecorded
+  checkpoint_is_recorded next r m sound below = (
+    (sound.saved m below).within,
+    λ d there to within. IsRecorded-reached r.config.f (knowledge r) sound.causes.closed d (receipt_of d) (rw to within) (itself there),
+  )
 
 -- a member's checkpoint is its record
-module _ (next : Next) (old new : GroupRecord) (p : ℕ) (s : IsCheckpoint old new p) (sound : IsSound next old) where
-  abbrev now : GroupRecord
+module _ {S N : Type 0} (next : Next S N) (old new : GroupRecord S N) (p : ℕ) (s : IsCheckpoint old new p) (sound : IsSound next old) where
+  abbrev now : GroupRecord S N
   now = record old { checkpoints = slice_set old.checkpoints p (member old p) }
 
   up : (m : ℕ) → IsUp (knowledge old) m
   up = up_if_none s.nobody_down
 
   own : member_checkpoint now p ≡ member old p
-  own = get_or-set_same old.checkpoints p (member old p) blank (omega (arith, s.below, sound.checkpoints))
+  own = get_or-set_same old.checkpoints p (member old p) (blank old.outside) (omega (arith, s.below, sound.checkpoints))
 
   other : (m : ℕ) → m ≢ p → member_checkpoint now m ≡ member_checkpoint old m
-  other m apart = get_or-set_other old.checkpoints p m (member old p) blank apart
+  other m apart = get_or-set_other old.checkpoints p m (member old p) (blank old.outside) apart
 
   is_checkpointed : IsCheckpointed (knowledge old) (knowledge now) p
   is_checkpointed = assumption (
-    ap (λ (x : MemberRecord). x.table) own,
-    ap (λ (x : MemberRecord). x.received) own ∙ received_counted next old sound p s.below (up p),
-    ap (λ (x : MemberRecord). length x.log) own ∙ log_counted next old sound p s.below (up p),
+    ap (λ (x : MemberRecord S N). x.table) own,
+    ap (λ (x : MemberRecord S N). x.received) own ∙ received_counted next old sound p s.below (up p),
+    ap (λ (x : MemberRecord S N). length x.log) own ∙ log_counted next old sound p s.below (up p),
     other,
   )
 
@@ -54,6 +55,7 @@ module _ (next : Next) (old new : GroupRecord) (p : ℕ) (s : IsCheckpoint old n
     saved_now,
   )
 
-pub group_checkpoint_keeps : GroupCheckpointKeeps
-unfolding GroupCheckpointKeeps
-group_checkpoint_keeps next old new p s sound = subst (IsSound next) (sym s.saved) (IsSound-checkpoint next old new p s sound)
+module _ (S N : Type 0) where
+  pub group_checkpoint_keeps : GroupCheckpointKeeps S N
+  unfolding GroupCheckpointKeeps
+  group_checkpoint_keeps next old new p s sound = subst (IsSound next) (sym s.saved) (IsSound-checkpoint next old new p s sound)

@@ -1,7 +1,7 @@
 -- A delivery keeps a group sound.
 use Rattle.fbl_law.proofs.Common.{◌≡◌, ◌≢◌, ℕ, suc, ◌+◌, ◌<◌, ◌≤◌, ◌==◌, cond, List, [], ◌∷◌, ◌++◌, length, map, inl, inr, Some, slice_get, refl, sym, ap}
 use Rattle.fbl_law.proofs.Common.{◌∙◌, arith, length-append, length-map, filter_map, cases_eq, map-append, length-set, get_or-set_same, get_or-set_other, filter-append, filter_map-append, All}
-use Rattle.fbl_law.proofs.Common.{Contains-append_cases, Determinant, Note, Event, mark_of, determinant_of, receipt_of, Next, Lawful, note_of, At-front, eqb-self, piggybacked, Message, receipts_of}
+use Rattle.fbl_law.proofs.Common.{Contains-append_cases, Determinant, Event, mark_of, determinant_of, receipt_of, Next, Lawful, note_of, At-front, eqb-self, piggybacked, Message, receipts_of}
 use Rattle.fbl_law.proofs.Common.{MemberRecord, blank, IsInFlight, IsUp, next_determinant, IsDelivered, is_on, between, taken_off, GroupRecord, member, member_checkpoint, channel, marks, knowledge}
 use Rattle.fbl_law.proofs.Common.{receipts, IsFold, IsReplayed, IsSound, receipts_at, step_events, Lawful-deliver, Lawful-begun, note_of-front, IsDelivery, sends_of, messages_from, messages_made}
 use Rattle.fbl_law.proofs.Common.{step_of, receiver, made, delivery_events, SendsWell, nat_tests, IsOnce}
@@ -17,26 +17,27 @@ use Rattle.fbl_law.proofs.ReplayedRecords.{replayed-kept, replayed-step, fold-re
 use Rattle.fbl_law.proofs.DistinctTables.{once_noted}
 use Rattle.fbl_law.proofs.GroupFacts.{up_state, received_counted, log_counted, receipt_is_new, new_not_held, new_not_carried}
 
-pub length-step_events : (p before : ℕ) (sends : List (ℕ × Note)) → length (step_events p before sends) ≡ length sends
-length-step_events p before [] = refl
-length-step_events p before (s ∷ sends) = ap suc (length-step_events p (before + 1) sends)
+module _ {N : Type 0} where
+  pub length-step_events : (p before : ℕ) (sends : List (ℕ × N)) → length (step_events p before sends) ≡ length sends
+  length-step_events p before [] = refl
+  length-step_events p before (s ∷ sends) = ap suc (length-step_events p (before + 1) sends)
 
--- a step's sends are no receipts
-no_receipts : (p before : ℕ) (sends : List (ℕ × Note)) → filter_map determinant_of (map mark_of (step_events p before sends)) ≡ []
-no_receipts p before [] = refl
-no_receipts p before (s ∷ sends) = no_receipts p (before + 1) sends
+  -- a step's sends are no receipts
+  no_receipts : (p before : ℕ) (sends : List (ℕ × N)) → filter_map determinant_of (map mark_of (step_events p before sends)) ≡ []
+  no_receipts p before [] = refl
+  no_receipts p before (s ∷ sends) = no_receipts p (before + 1) sends
 
-module _ (next : Next) (old new : GroupRecord) (v : Message) (well : SendsWell next) (s : IsDelivery next old new v) (sound : IsSound next old) where
+module _ {S N : Type 0} (next : Next S N) (old new : GroupRecord S N) (v : Message N) (well : SendsWell next) (s : IsDelivery next old new v) (sound : IsSound next old) where
   abbrev n : ℕ
   n = old.config.members
 
-  abbrev was : MemberRecord
+  abbrev was : MemberRecord S N
   was = member old v.to
 
-  abbrev sends : List (ℕ × Note)
+  abbrev sends : List (ℕ × N)
   sends = (step_of next old v).sends.items
 
-  abbrev added : List Event
+  abbrev added : List (Event N)
   added = delivery_events next old v
 
   was_up : (m : ℕ) → IsUp (knowledge old) m
@@ -54,7 +55,7 @@ module _ (next : Next) (old new : GroupRecord) (v : Message) (well : SendsWell n
   noted : note_of old.trace v.from v.ssn ≡ Some v.note
   noted = sound.notes v flies
 
-  allowed : All (λ (x : ℕ × Note). (x.0 < n) × (x.0 ≢ v.to)) sends
+  allowed : All (λ (x : ℕ × N). (x.0 < n) × (x.0 ≢ v.to)) sends
   allowed = (well v.to n was.state v.note sound.config.members.0 s.to_member).0
 
   -- the trace counts the receiver's receipts and sends as its record does
@@ -66,20 +67,20 @@ module _ (next : Next) (old new : GroupRecord) (v : Message) (well : SendsWell n
       rw (s.trace, counts.0, counts.1)
       (Lawful-deliver next n old.config.starts old.trace v.to (receipts_of (marks old) v.to + 1) v.from v.ssn v.note sends sound.lawful
       (front_may_follow sound.causes v s.front (omega (arith, room, length-map old.trace mark_of))) noted
-      (ap (λ (k : ℕ). (next v.to n k v.note).sends.items) (up_state next old sound v.to s.to_member (was_up v.to)))
+      (ap (λ (k : S). (next.step v.to n k v.note).sends.items) (up_state next old sound v.to s.to_member (was_up v.to)))
       allowed room (Lawful-begun next n old.config.starts old.trace sound.lawful))
 
   marks_split : marks new ≡ marks old ++ map mark_of added
   marks_split = rw s.trace (map-append mark_of old.trace added)
 
   receiver_now : member new v.to ≡ receiver next old v
-  receiver_now = rw s.members (get_or-set_same old.members v.to (receiver next old v) blank (omega (arith, s.to_member, sound.members)))
+  receiver_now = rw s.members (get_or-set_same old.members v.to (receiver next old v) (blank new.outside) (omega (arith, s.to_member, sound.members)))
 
   other_now : (m : ℕ) → m ≢ v.to → member new m ≡ member old m
-  other_now m other = rw s.members (get_or-set_other old.members v.to m (receiver next old v) blank other)
+  other_now m other = rw (s.members, s.outside) (get_or-set_other old.members v.to m (receiver next old v) (blank old.outside) other)
 
   made_same : made next old v ≡ messages_made old.config.f (knowledge old) (knowledge new) v sends
-  made_same = rw counts.1 (ap (λ (x : MemberRecord). messages_from v.to (sends_of (marks old) v.to) (piggybacked old.config.f x.table) sends) (sym receiver_now))
+  made_same = rw counts.1 (ap (λ (x : MemberRecord S N). messages_from v.to (sends_of (marks old) v.to) (piggybacked old.config.f x.table) sends) (sym receiver_now))
 
   pub is_delivered : IsDelivered n old.config.f (knowledge old) (knowledge new) v sends
   is_delivered = record {
@@ -89,10 +90,11 @@ module _ (next : Next) (old new : GroupRecord) (v : Message) (well : SendsWell n
     allowed = allowed;
     room = omega (arith, room, length-map old.trace mark_of);
     trace = rw (marks_split, counts.0, marks_made v.to (length was.log) (piggybacked old.config.f (receiver next old v).table) sends, made_same) refl;
-    receiver = ap (λ (x : MemberRecord). x.table) receiver_now ∙ rw counts.0 refl;
-    others = λ m other. ap (λ (x : MemberRecord). x.table) (other_now m other);
+    receiver = ap (λ (x : MemberRecord S N). x.table) receiver_now ∙ rw counts.0 refl;
+    others = λ m other. ap (λ (x : MemberRecord S N). x.table) (other_now m other);
     channels = λ q p. rw (← made_same) (s.channels q p);
     checkpoints = s.checkpoints;
+    outside = s.outside;
   }
 
   abbrev own : Determinant
@@ -105,7 +107,7 @@ module _ (next : Next) (old new : GroupRecord) (v : Message) (well : SendsWell n
   receipts_at_now m = rw (receipts_now, filter-append) refl
 
   -- who has replayed its first receipts of the trace before has replayed them of the new one
-  grown : (m : ℕ) (x : MemberRecord) → IsReplayed next n old.config.starts old.trace m x → IsReplayed next n old.config.starts new.trace m x
+  grown : (m : ℕ) (x : MemberRecord S N) → IsReplayed next n old.config.starts old.trace m x → IsReplayed next n old.config.starts new.trace m x
   grown m x =
       replayed-kept next n old.config.starts old.trace new.trace m x sound.lawful.well_formed is_lawful.well_formed
       (λ q k y z was now. let kept : note_of new.trace q k ≡ Some y = rw s.trace (note_of-front old.trace added q k y was) in cc)
@@ -134,7 +136,7 @@ module _ (next : Next) (old new : GroupRecord) (v : Message) (well : SendsWell n
       let new_own = receipt_is_new next old sound v.to v.from v.ssn s.to_member (was_up v.to) in
       once_noted v.to was.table v.carried own (sound.distinct v.to) (new_not_held next old sound v.to own new_own) (new_not_carried next old sound v own flies new_own)
 
-  notes_kept : (x : Message) → IsInFlight (knowledge new) x → note_of new.trace x.from x.ssn ≡ Some x.note
+  notes_kept : (x : Message N) → IsInFlight (knowledge new) x → note_of new.trace x.from x.ssn ≡ Some x.note
   notes_kept x flying =
       elim (Contains-append_cases (taken_off v x.from x.to (channel old x.from x.to)) (between x.from x.to (made next old v)) x (rw (s.channels x.from x.to) at flying)) [
         | inl left ↦
@@ -152,7 +154,7 @@ module _ (next : Next) (old new : GroupRecord) (v : Message) (well : SendsWell n
     config = rw s.config sound.config;
     members = rw (s.members, s.config) (length-set old.members v.to (receiver next old v) ∙ sound.members);
     checkpoints = rw (s.checkpoints, s.config) sound.checkpoints;
-    saved = λ m below. rw (s.config, s.checkpoints) (grown m (member_checkpoint old m) (sound.saved m (rw s.config at below)));
+    saved = λ m below. rw (s.config, s.checkpoints, s.outside) (grown m (member_checkpoint old m) (sound.saved m (rw s.config at below)));
     down = λ q down. never_both new.down q down (up_if_none nobody_down q);
     lawful = rw s.config is_lawful;
     room = rw s.config s.room;

@@ -20,7 +20,7 @@ use Rattle.fbl_law.proofs.GroupStrike.{recorded_test}
 use Rattle.fbl_law.proofs.Lists.{filter-agree, filter_map-after}
 use Rattle.fbl_law.proofs.Notes.{one-send, mark-at}
 
-module _ (n f : ℕ) (r : Knowledge) (sound : IsSoundKnowledge n f r) (keep : Mark → Bool) (tells : (e : Mark) → Has r.trace e → (keep e ≡ true) ↔ Stays r e) where
+module _ {S N : Type 0} (n f : ℕ) (r : Knowledge S N) (sound : IsSoundKnowledge n f r) (keep : Mark → Bool) (tells : (e : Mark) → Has r.trace e → (keep e ≡ true) ↔ Stays r e) where
   cut_responses : KeepsResponses keep r.trace
   cut_responses j q k to here all = (tells (Send q k to) (j, here)).1 (λ down c own up_to. elim up_to [
     | inl same ↦ absurd cc
@@ -30,20 +30,22 @@ module _ (n f : ℕ) (r : Knowledge) (sound : IsSoundKnowledge n f r) (keep : Ma
         (tells (receipt_of c) (earlier.0, earlier.3)).0 kept (rw own down) c refl (inl refl)
   ])
 
--- the marks of a cut are a cut of the marks
-abbrev pub marks-cut : {Kept : Mark → Type 0} (old : List Event) {new : List Event} → IsEventCut Kept old new → IsCut Kept (map mark_of old) (map mark_of new)
-marks-cut old cut = (cut.0, ap (map mark_of) cut.1 ∙ marks-filter cut.0 old, cut.2)
+module _ {N : Type 0} where
+  -- the marks of a cut are a cut of the marks
+  abbrev pub marks-cut : {Kept : Mark → Type 0} (old : List (Event N)) {new : List (Event N)} → IsEventCut Kept old new → IsCut Kept (map mark_of old) (map mark_of new)
+  marks-cut old cut = (cut.0, ap (map mark_of) cut.1 ∙ marks-filter cut.0 old, cut.2)
 
-pub cut_is_lawful : CutIsLawful
-cut_is_lawful next n f starts r old new sound is cut lawful =
-    let marks : IsCut (Stays r) r.trace (map mark_of new) = subst (λ (t : List Mark). IsCut (Stays r) t (map mark_of new)) (sym is) (marks-cut old cut) in
-    (rw cut.1 (Lawful-kept next n starts cut.0 old lawful (rw is at (cut-causes sound marks)) (rw is at (cut_responses n f r sound cut.0 marks.2))), marks)
+module _ {S N : Type 0} where
+  pub cut_is_lawful : CutIsLawful S N
+  cut_is_lawful next n f starts r old new sound is cut lawful =
+      let marks : IsCut (Stays r) r.trace (map mark_of new) = subst (λ (t : List Mark). IsCut (Stays r) t (map mark_of new)) (sym is) (marks-cut old cut) in
+      (rw cut.1 (Lawful-kept next n starts cut.0 old lawful (rw is at (cut-causes sound marks)) (rw is at (cut_responses n f r sound cut.0 marks.2))), marks)
 
-pub stays_is_recorded : StaysIsRecorded
-stays_is_recorded n f r sound e there = (λ stays c before. recorded_before n f r sound.rules sound.closed c stays before, Stays-recorded r e there)
+  pub stays_is_recorded : StaysIsRecorded S N
+  stays_is_recorded n f r sound e there = (λ stays c before. recorded_before n f r sound.rules sound.closed c stays before, Stays-recorded r e there)
 
 -- a cut of a sound group's trace
-module _ {next : Next} {old : GroupRecord} (sound : IsSound next old) {new : List Event} (cut : IsEventCut (Stays (knowledge old)) old.trace new) where
+module _ {S N : Type 0} {next : Next S N} {old : GroupRecord S N} (sound : IsSound next old) {new : List (Event N)} (cut : IsEventCut (Stays (knowledge old)) old.trace new) where
   abbrev of_marks : IsCut (Stays (knowledge old)) (marks old) (map mark_of new)
   of_marks = marks-cut old.trace cut
 
@@ -54,7 +56,7 @@ module _ {next : Next} {old : GroupRecord} (sound : IsSound next old) {new : Lis
   cut-shorter = rw cut.1 (length-left (λ e. cut.0 (mark_of e)) old.trace)
 
   -- what a member has replayed of the trace it has replayed of the cut, where its receipts so far are left
-  replay-survives : (m : ℕ) (x : MemberRecord) → ((d : Determinant) → Has (marks old) (receipt_of d) → d.to ≡ m → d.rsn ≤ x.received → Has (map mark_of new) (receipt_of d))
+  replay-survives : (m : ℕ) (x : MemberRecord S N) → ((d : Determinant) → Has (marks old) (receipt_of d) → d.to ≡ m → d.rsn ≤ x.received → Has (map mark_of new) (receipt_of d))
       → IsReplayed next old.config.members old.config.starts old.trace m x → IsReplayed next old.config.members old.config.starts new m x
   replay-survives m x left =
       replayed-kept next old.config.members old.config.starts old.trace new m x sound.lawful.well_formed (cut-obeys sound.causes of_marks)
@@ -79,7 +81,7 @@ module _ {next : Next} {old : GroupRecord} (sound : IsSound next old) {new : Lis
       (replays, omega (arith, replays.within, few))
 
   -- so it is at their fold; where the members that were down are too, each is
-  pub folds-all : (r : GroupRecord) → r.trace ≡ new → r.config ≡ old.config → ((m : ℕ) → IsUp (knowledge old) m → member r m ≡ member old m)
+  pub folds-all : (r : GroupRecord S N) → r.trace ≡ new → r.config ≡ old.config → ((m : ℕ) → IsUp (knowledge old) m → member r m ≡ member old m)
       → ((m : ℕ) → m < old.config.members → IsDown (knowledge old) m → IsFold next r m) → (m : ℕ) → m < old.config.members → IsFold next r m
   folds-all r trace config survivors rebuilt m below = elim (down_or_up old.down m) [
     | inl down ↦ rebuilt m below down
@@ -106,13 +108,13 @@ module _ {next : Next} {old : GroupRecord} (sound : IsSound next old) {new : Lis
   cut-undone = rw cut-receipts (length-filter_both (is_recorded old) (λ d. not (is_recorded old d)) (λ d. refl) (receipts (marks old)))
 
   -- the cut, by how far each member has come once all is replayed
-  module _ (work : ℕ → MemberRecord) (replays : (p : ℕ) → p < old.config.members → IsDown (knowledge old) p → IsReplayed next old.config.members old.config.starts new p (work p))
+  module _ (work : ℕ → MemberRecord S N) (replays : (p : ℕ) → p < old.config.members → IsDown (knowledge old) p → IsReplayed next old.config.members old.config.starts new p (work p))
       (all : (p : ℕ) → p < old.config.members → IsDown (knowledge old) p → (work p).received ≡ length (receipts_at (map mark_of new) p)) where
     -- the log of each member that was down has its sends in the cut
     log-sent : (p : ℕ) → p < old.config.members → IsDown (knowledge old) p → length (work p).log ≡ sends_of (map mark_of new) p
     log-sent p below down =
         let whole = (all-taken old.config.members new p (work p).received (cut-obeys sound.causes of_marks) (all p below down)).0 in
-        ap (λ (x : Progress). length x.log) (replays p below down).progress ∙ rw whole (log-length cut-lawful.0 p)
+        ap (λ (x : Progress S N). length x.log) (replays p below down).progress ∙ rw whole (log-length cut-lawful.0 p)
 
     send-left : (q k to : ℕ) → Has (marks old) (Send q k to) → k ≤ sends_of (map mark_of new) q → cut.0 (Send q k to) ≡ true
     send-left q k to there within =
@@ -154,21 +156,22 @@ module _ {next : Next} {old : GroupRecord} (sound : IsSound next old) {new : Lis
         filter-agree (λ e. stays_by old.down work (mark_of e)) (λ e. cut.0 (mark_of e)) old.trace (λ i e here. agrees (mark_of e) (i, mark-at old.trace i e here))
         ∙ sym cut.1
 
-module _ (next : Next) (old new : GroupRecord) (step : IsRecovery next old new) (sound : IsSound next old) where
+module _ {S N : Type 0} (next : Next S N) (old new : GroupRecord S N) (step : IsRecovery next old new) (sound : IsSound next old) where
   -- the tables' part of the recovery
   pub recovery-knowledge : IsRecovered old.config.f (knowledge old) (knowledge new)
   recovery-knowledge = record {
     nobody_down = step.rest.nobody_down;
     trace = marks-cut old.trace step.trace;
-    tables = λ m up. ap (λ (x : MemberRecord). x.table) (step.rest.survivors m up);
+    tables = λ m up. ap (λ (x : MemberRecord S N). x.table) (step.rest.survivors m up);
     gathered = λ m down. step.gathered m (sound.down m down) down;
     channels = step.rest.channels;
     rebuilt = λ q p down. (step.made_again q p down).sends;
     checkpoints = step.rest.checkpoints;
+    outside = step.rest.outside;
     messages = λ v flies down. rw step.rest.config at ((step.made_again v.from v.to down).carried v flies);
   }
 
-  note-flies : (v : Message) → IsInFlight (knowledge new) v → note_of new.trace v.from v.ssn ≡ Some v.note
+  note-flies : (v : Message N) → IsInFlight (knowledge new) v → note_of new.trace v.from v.ssn ≡ Some v.note
   note-flies v among =
       elim (down_or_both_up old.down v.from v.to) [
         | inl down ↦ (step.made_again v.from v.to down).notes v among
@@ -183,7 +186,7 @@ module _ (next : Next) (old new : GroupRecord) (step : IsRecovery next old new) 
     config = rw step.rest.config sound.config;
     members = rw step.rest.config (step.rest.size ∙ sound.members);
     checkpoints = rw step.rest.config (ap length step.rest.checkpoints ∙ sound.checkpoints);
-    saved = λ m below. rw (step.rest.config, step.rest.checkpoints) (checkpoint-survives sound step.trace m (rw step.rest.config at below));
+    saved = λ m below. rw (step.rest.config, step.rest.checkpoints, step.rest.outside) (checkpoint-survives sound step.trace m (rw step.rest.config at below));
     down = λ m down. never_both new.down m down (up_if_none step.rest.nobody_down m);
     lawful = rw step.rest.config (cut-lawful sound step.trace).0;
     room = rw step.rest.config (omega (arith, cut-shorter sound step.trace, sound.room));
@@ -199,39 +202,41 @@ module _ (next : Next) (old new : GroupRecord) (step : IsRecovery next old new) 
     counted = omega (arith, step.rest.undone_ever, sound.counted, step.rest.receipts_ever);
   }
 
-pub group_recovery_gains_holders : GroupRecoveryGainsHolders
-unfolding GroupRecoveryGainsHolders
-group_recovery_gains_holders next old new step sound =
-    recovery_gains_holders old.config.members old.config.f (knowledge old) (knowledge new) (recovery-knowledge next old new step sound) sound.causes
+module _ (S N : Type 0) where
+  pub group_recovery_gains_holders : GroupRecoveryGainsHolders S N
+  unfolding GroupRecoveryGainsHolders
+  group_recovery_gains_holders next old new step sound =
+      recovery_gains_holders old.config.members old.config.f (knowledge old) (knowledge new) (recovery-knowledge next old new step sound) sound.causes
 
-pub holders_gain_the_down : HoldersGainTheDown
-unfolding HoldersGainTheDown GroupRecoveryGainsHolders
-holders_gain_the_down next old new d m step sound recorded =
-    let stay = group_recovery_gains_holders next old new step sound d m in (
-      λ holds. elim (stay.0 holds) [ inl was ↦ inl was | inr down ↦ inr down.0 ],
-      elim [ inl was ↦ stay.1 (inl was) | inr down ↦ stay.1 (inr (down, recorded)) ],
-    )
+  pub holders_gain_the_down : HoldersGainTheDown S N
+  unfolding HoldersGainTheDown GroupRecoveryGainsHolders
+  holders_gain_the_down next old new d m step sound recorded =
+      let stay = group_recovery_gains_holders next old new step sound d m in (
+        λ holds. elim (stay.0 holds) [ inl was ↦ inl was | inr down ↦ inr down.0 ],
+        elim [ inl was ↦ stay.1 (inl was) | inr down ↦ stay.1 (inr (down, recorded)) ],
+      )
 
-pub recovery_leaves_recorded : RecoveryLeavesRecorded
-unfolding RecoveryLeavesRecorded
-recovery_leaves_recorded next old new step sound = record {
-  exactly = cut_is_recorded old.config.members old.config.f (knowledge old) (knowledge new) (recovery-knowledge next old new step sound) sound.causes;
-  order = cut-receipts sound step.trace;
-}
+  pub recovery_leaves_recorded : RecoveryLeavesRecorded S N
+  unfolding RecoveryLeavesRecorded
+  recovery_leaves_recorded next old new step sound = record {
+    exactly = cut_is_recorded old.config.members old.config.f (knowledge old) (knowledge new) (recovery-knowledge next old new step sound) sound.causes;
+    order = cut-receipts sound step.trace;
+  }
 
-pub recovery_undoes_lost : RecoveryUndoesLost
-unfolding RecoveryUndoesLost
-recovery_undoes_lost next old new step sound = cut-undone sound step.trace
+  pub recovery_undoes_lost : RecoveryUndoesLost S N
+  unfolding RecoveryUndoesLost
+  recovery_undoes_lost next old new step sound = cut-undone sound step.trace
 
--- two cuts are the same
-pub cut_is_one : CutIsOne
-cut_is_one next old new step sound =
-    step.trace.1 ∙ filter-agree (λ e. step.trace.0 (mark_of e)) (λ e. cut.0 (mark_of e)) old.trace agree ∙ sym cut.1
-  where
-    cut : IsEventCut (Stays (knowledge old)) old.trace (recovered_trace old)
-    cut = recovered_trace-cut next old sound
+module _ {S N : Type 0} where
+  -- two cuts are the same
+  pub cut_is_one : CutIsOne S N
+  cut_is_one next old new step sound =
+      step.trace.1 ∙ filter-agree (λ e. step.trace.0 (mark_of e)) (λ e. cut.0 (mark_of e)) old.trace agree ∙ sym cut.1
+    where
+      cut : IsEventCut (Stays (knowledge old)) old.trace (recovered_trace old)
+      cut = recovered_trace-cut next old sound
 
-    agree : (i : ℕ) (e : Event) → slice_get old.trace i ≡ Some e → step.trace.0 (mark_of e) ≡ cut.0 (mark_of e)
-    agree i e here =
-        let there : Has (marks old) (mark_of e) = (i, mark-at old.trace i e here) in
-        same_from_decides (step.trace.0 (mark_of e)) (cut.0 (mark_of e)) (step.trace.2 (mark_of e) there) (cut.2 (mark_of e) there)
+      agree : (i : ℕ) (e : Event N) → slice_get old.trace i ≡ Some e → step.trace.0 (mark_of e) ≡ cut.0 (mark_of e)
+      agree i e here =
+          let there : Has (marks old) (mark_of e) = (i, mark-at old.trace i e here) in
+          same_from_decides (step.trace.0 (mark_of e)) (cut.0 (mark_of e)) (step.trace.2 (mark_of e) there) (cut.2 (mark_of e) there)

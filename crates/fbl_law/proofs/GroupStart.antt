@@ -1,5 +1,5 @@
 -- A group in which nothing is received yet is sound.
-use Rattle.fbl_law.proofs.Common.{◌≡◌, ℕ, suc, ◌+◌, ◌<◌, ◌≤◌, ◌==◌, List, [], ◌∷◌, ◌++◌, length, get_or, map, Option, Some, None, slice_get, refl, sym, ap}
+use Rattle.fbl_law.proofs.Common.{Bool, ◌≡◌, ℕ, suc, ◌+◌, ◌<◌, ◌≤◌, ◌==◌, List, [], ◌∷◌, ◌++◌, length, get_or, map, Option, Some, None, slice_get, refl, sym, ap}
 use Rattle.fbl_law.proofs.Common.{◌∙◌, arith, append_assoc, length-append, Contains, filter, filter_map, cons_option, length-map, map-append, take_all, get_or_past, filter_map-append, Start}
 use Rattle.fbl_law.proofs.Common.{Event, Mark, mark_of, determinant_of, receipt_of, in_flight, sent_on, taken_on, sends_of, WellFormed, MayFollow, Next, Lawful, sent, action_of, actions_of, notes_of}
 use Rattle.fbl_law.proofs.Common.{start_of, starts_of, filter_map-At, WellFormed-none, WellFormed-push, fresh, Message, MemberRecord, blank, send_mark, starts, is_on, GroupRecord, channel, knowledge}
@@ -16,71 +16,73 @@ use Rattle.fbl_law.proofs.Notes.{sent-noted}
 use Rattle.fbl_law.proofs.Logs.{log-length}
 use Rattle.fbl_law.proofs.ReplayedRecords.{replayed-fresh, replayed-fold}
 
--- the send of a start after the events so far
-abbrev send_of : List Event → Start → Event
-send_of done s = event.Send s.from (sends_of (map mark_of done) s.from + 1) s.to s.note
+module _ {N : Type 0} where
+  -- the send of a start after the events so far
+  abbrev send_of : List (Event N) → Start N → Event N
+  send_of done s = event.Send s.from (sends_of (map mark_of done) s.from + 1) s.to s.note
 
--- what a map that drops receipts gives of the starts' events
-starts_given : {Y : Type 0} (g : Event → Option Y) (h : Start → Option Y) → ((s : Start) (k : ℕ) → g (event.Send s.from k s.to s.note) ≡ h s)
-    → (done : List Event) (ss : List Start) → filter_map g (start_events done ss) ≡ filter_map g done ++ filter_map h ss
-starts_given g h is done [] = sym (append-nil (filter_map g done))
-starts_given g h is done (s ∷ ss) =
-    let joined : cons_option (h s) [] ++ filter_map h ss ≡ filter_map h (s ∷ ss) = grind arith in
-    starts_given g h is (done ++ send_of done s ∷ []) ss ∙ rw (filter_map-append, append_assoc, is s, joined)
+  -- what a map that drops receipts gives of the starts' events
+  starts_given : {Y : Type 0} (g : Event N → Option Y) (h : Start N → Option Y) → ((s : Start N) (k : ℕ) → g (event.Send s.from k s.to s.note) ≡ h s)
+      → (done : List (Event N)) (ss : List (Start N)) → filter_map g (start_events done ss) ≡ filter_map g done ++ filter_map h ss
+  starts_given g h is done [] = sym (append-nil (filter_map g done))
+  starts_given g h is done (s ∷ ss) =
+      let joined : cons_option (h s) [] ++ filter_map h ss ≡ filter_map h (s ∷ ss) = grind arith in
+      starts_given g h is (done ++ send_of done s ∷ []) ss ∙ rw (filter_map-append, append_assoc, is s, joined)
 
-filter_map-all : (ss : List Start) → filter_map (λ s. Some s) ss ≡ ss
-filter_map-all [] = refl
-filter_map-all (s ∷ ss) = ap (λ ys. s ∷ ys) (filter_map-all ss)
+  filter_map-all : (ss : List (Start N)) → filter_map (λ s. Some s) ss ≡ ss
+  filter_map-all [] = refl
+  filter_map-all (s ∷ ss) = ap (λ ys. s ∷ ys) (filter_map-all ss)
 
--- the starts are no receipts
-no_receipts : (done : List Event) (ss : List Start) → receipts (map mark_of (start_events done ss)) ≡ receipts (map mark_of done)
-no_receipts done [] = refl
-no_receipts done (s ∷ ss) = no_receipts (done ++ send_of done s ∷ []) ss ∙ rw (map-append, filter_map-append, append-nil) refl
+  -- the starts are no receipts
+  no_receipts : (done : List (Event N)) (ss : List (Start N)) → receipts (map mark_of (start_events done ss)) ≡ receipts (map mark_of done)
+  no_receipts done [] = refl
+  no_receipts done (s ∷ ss) = no_receipts (done ++ send_of done s ∷ []) ss ∙ rw (map-append, filter_map-append, append-nil) refl
 
-length-starts : (done : List Event) (ss : List Start) → length (start_events done ss) ≡ length done + length ss
-length-starts done [] = omega arith
-length-starts done (s ∷ ss) = omega (arith, length-starts (done ++ send_of done s ∷ []) ss, length-append done (send_of done s ∷ []))
+  length-starts : (done : List (Event N)) (ss : List (Start N)) → length (start_events done ss) ≡ length done + length ss
+  length-starts done [] = omega arith
+  length-starts done (s ∷ ss) = omega (arith, length-starts (done ++ send_of done s ∷ []) ss, length-append done (send_of done s ∷ []))
 
--- the starts obey the rules
-starts_obey : (n : ℕ) (done : List Event) (ss : List Start) → WellFormed n (map mark_of done)
-    → ((i : ℕ) (s : Start) → slice_get ss i ≡ Some s → StartAllowed n s) → length done + length ss ≤ 8192 → WellFormed n (map mark_of (start_events done ss))
-starts_obey n done [] obeys allowed room = obeys
-starts_obey n done (s ∷ ss) obeys allowed room =
-    let here = allowed 0 s refl in
-    let e : Mark = Send s.from (sends_of (map mark_of done) s.from + 1) s.to in
-    let may : MayFollow n (map mark_of done) e = (here.0, here.1, here.2, refl, omega (arith, length-map done mark_of, room)) in
-    let more : WellFormed n (map mark_of (done ++ send_of done s ∷ [])) = rw (map-append mark_of done (send_of done s ∷ [])) (WellFormed-push n (map mark_of done) e obeys may) in
-    starts_obey n (done ++ send_of done s ∷ []) ss more (λ i x at. allowed (suc i) x at) (omega (arith, length-append done (send_of done s ∷ []), room))
+  -- the starts obey the rules
+  starts_obey : (n : ℕ) (allowed_note : N → Bool) (done : List (Event N)) (ss : List (Start N)) → WellFormed n (map mark_of done)
+      → ((i : ℕ) (s : Start N) → slice_get ss i ≡ Some s → StartAllowed allowed_note n s) → length done + length ss ≤ 8192 → WellFormed n (map mark_of (start_events done ss))
+  starts_obey n allowed_note done [] obeys allowed room = obeys
+  starts_obey n allowed_note done (s ∷ ss) obeys allowed room =
+      let here = allowed 0 s refl in
+      let e : Mark = Send s.from (sends_of (map mark_of done) s.from + 1) s.to in
+      let may : MayFollow n (map mark_of done) e = (here.0, here.1, here.2, refl, omega (arith, length-map done mark_of, room)) in
+      let more : WellFormed n (map mark_of (done ++ send_of done s ∷ [])) = rw (map-append mark_of done (send_of done s ∷ [])) (WellFormed-push n (map mark_of done) e obeys may) in
+      starts_obey n allowed_note (done ++ send_of done s ∷ []) ss more (λ i x at. allowed (suc i) x at) (omega (arith, length-append done (send_of done s ∷ []), room))
 
 none_taken : (q p : ℕ) (t : List Mark) → filter_map determinant_of t ≡ [] → filter_map (taken_on q p) t ≡ []
 none_taken q p [] e = refl
 none_taken q p (x ∷ t) e = grind (arith, none_taken q p t)
 
--- the messages of the sends on a channel, by their marks
-marks_between : (q p : ℕ) (t : List Event) → map send_mark (filter (is_on q p) (filter_map message_of_send t)) ≡ map (λ ssn. Send q ssn p) (filter_map (sent_on q p) (map mark_of t))
-marks_between q p [] = refl
-marks_between q p (e ∷ t) = grind (arith, nat_tests, marks_between q p t)
+module _ {N : Type 0} where
+  -- the messages of the sends on a channel, by their marks
+  marks_between : (q p : ℕ) (t : List (Event N)) → map send_mark (filter (is_on q p) (filter_map message_of_send t)) ≡ map (λ ssn. Send q ssn p) (filter_map (sent_on q p) (map mark_of t))
+  marks_between q p [] = refl
+  marks_between q p (e ∷ t) = grind (arith, nat_tests, marks_between q p t)
 
--- each message of the sends is sent, and carries nothing
-message_sent : (t : List Event) (v : Message) → Contains (filter_map message_of_send t) v → (v.carried ≡ []) × ((i : ℕ) × (slice_get t i ≡ Some (event.Send v.from v.ssn v.to v.note)))
-message_sent t v among =
-    let at = At-filter_map message_of_send t among.0 v (Contains-place (filter_map message_of_send t) v among) in
-    let is : (v.carried ≡ []) × (at.1 ≡ event.Send v.from v.ssn v.to v.note) = grind (arith, at.3) in
-    (is.0, (at.0, at.2 ∙ ap Some is.1))
+  -- each message of the sends is sent, and carries nothing
+  message_sent : (t : List (Event N)) (v : Message N) → Contains (filter_map message_of_send t) v → (v.carried ≡ []) × ((i : ℕ) × (slice_get t i ≡ Some (event.Send v.from v.ssn v.to v.note)))
+  message_sent t v among =
+      let at = At-filter_map message_of_send t among.0 v (Contains-place (filter_map message_of_send t) v among) in
+      let is : (v.carried ≡ []) × (at.1 ≡ event.Send v.from v.ssn v.to v.note) = grind (arith, at.3) in
+      (is.0, (at.0, at.2 ∙ ap Some is.1))
 
-sends_of_one : (m : ℕ) (ss : List Start) → filter_map (λ s. if s.from == m then Some (sent (s.to, s.note)) else None) ss ≡ map sent (starts_of m ss)
-sends_of_one m [] = refl
-sends_of_one m (s ∷ ss) = grind (arith, sends_of_one m ss)
+  sends_of_one : (m : ℕ) (ss : List (Start N)) → filter_map (λ s. if s.from == m then Some (sent (s.to, s.note)) else None) ss ≡ map sent (starts_of m ss)
+  sends_of_one m [] = refl
+  sends_of_one m (s ∷ ss) = grind (arith, sends_of_one m ss)
 
-module _ (next : Next) (config : Settings) (r : GroupRecord) (is : IsConfig config) (s : IsGroupStart config r) where
+module _ {S N : Type 0} (next : Next S N) (config : Settings N) (r : GroupRecord S N) (is : IsConfig next.allowed config) (s : IsGroupStart next config r) where
   abbrev n : ℕ
   n = config.members
 
-  abbrev events : List Event
+  abbrev events : List (Event N)
   events = start_events [] config.starts
 
   obeys : WellFormed n (map mark_of events)
-  obeys = starts_obey n [] config.starts (WellFormed-none n) is.starts (omega (arith, is.few_starts))
+  obeys = starts_obey n next.allowed [] config.starts (WellFormed-none n) is.starts (omega (arith, is.few_starts))
 
   acted : (m : ℕ) → actions_of events m ≡ map sent (starts_of m config.starts)
   acted m = starts_given (action_of events m) (λ s. if s.from == m then Some (sent (s.to, s.note)) else None) (λ s k. refl) [] config.starts ∙ sends_of_one m config.starts
@@ -101,11 +103,11 @@ module _ (next : Next) (config : Settings) (r : GroupRecord) (is : IsConfig conf
   unreceived = no_receipts [] config.starts
 
   -- the records of fresh members, and what is past them
-  started : (xs : List MemberRecord) → length xs ≡ n → ((m : ℕ) → m < n → get_or xs m blank ≡ fresh m config.starts) → (m : ℕ)
-      → ((get_or xs m blank).table ≡ []) × ((get_or xs m blank).received ≡ 0) × (length (get_or xs m blank).log ≤ sends_of (map mark_of r.trace) m)
-  started xs size each m = grind (arith, s.trace, size, each m, get_or_past xs m blank, rw (no_notes m) at (log-length is_lawful m))
+  started : (xs : List (MemberRecord S N)) → length xs ≡ n → ((m : ℕ) → m < n → get_or xs m (blank r.outside) ≡ fresh (next.initial m n) m config.starts) → (m : ℕ)
+      → ((get_or xs m (blank r.outside)).table ≡ []) × ((get_or xs m (blank r.outside)).received ≡ 0) × (length (get_or xs m (blank r.outside)).log ≤ sends_of (map mark_of r.trace) m)
+  started xs size each m = grind (arith, s.trace, size, each m, get_or_past xs m (blank r.outside), rw (no_notes m) at (log-length is_lawful m))
 
-  among_starts : (v : Message) → Contains (channel r v.from v.to) v → Contains (filter_map message_of_send r.trace) v
+  among_starts : (v : Message N) → Contains (channel r v.from v.to) v → Contains (filter_map message_of_send r.trace) v
   among_starts v flies = Contains-from_filter (is_on v.from v.to) (filter_map message_of_send r.trace) v (rw (s.channels v.from v.to) at flies)
 
   is_start : IsStart n (knowledge r)
@@ -134,7 +136,7 @@ module _ (next : Next) (config : Settings) (r : GroupRecord) (is : IsConfig conf
     down = λ q down. never_both r.down q down (up_if_none s.nobody_down q);
     lawful = rw (s.parameters, s.trace) is_lawful;
     room = rw (s.parameters, s.trace) omega (arith, length-starts [] config.starts, is.room);
-    causes = rw s.parameters (run_is_sound n config.f (knowledge r) (knowledge r) is_start starts);
+    causes = rw s.parameters (run_is_sound S N n config.f (knowledge r) (knowledge r) is_start starts);
     folds = λ m below up_m.
         let fresh_m = s.members m (rw s.parameters at below) in
         replayed-fold (rw (s.parameters, s.trace) obeys) (rw (fresh_m, s.parameters) (replayed-fresh next n config.starts r.trace m)) (rw (fresh_m, s.trace, unreceived) refl);

@@ -7,15 +7,15 @@ use Rattle.fbl_law.proofs.Safe.{down_or_up, up_at_ends, up_if_named}
 use Rattle.fbl_law.proofs.Tables.{Names-held, held-Names, Includes-union, named_record}
 use Rattle.fbl_law.proofs.Strike.{was_up, strike_keeps}
 
-module _ (next : Next) (old new : GroupRecord) (struck : Members) (s : IsStrike old new struck) where
+module _ {S N : Type 0} (next : Next S N) (old new : GroupRecord S N) (struck : Members) (s : IsStrike next old new struck) where
   pub is_struck : IsStruck (knowledge old) (knowledge new) struck
   is_struck = assumption (
     ap (map mark_of) s.trace,
-    λ (m : ℕ) (up : IsUp (knowledge new) m). ap (λ (x : MemberRecord). x.table) (s.survivors m up),
-    λ (m : ℕ) (down : IsDown (knowledge new) m). ap (λ (x : MemberRecord). x.table) (s.blanks m down),
+    λ (m : ℕ) (up : IsUp (knowledge new) m). ap (λ (x : MemberRecord S N). x.table) (s.survivors m up),
+    λ (m : ℕ) (down : IsDown (knowledge new) m). ap (λ (x : MemberRecord S N). x.table) (s.blanks m down),
   )
 
-  notes_kept : IsSound next old → (v : Message) → IsInFlight (knowledge new) v → note_of new.trace v.from v.ssn ≡ Some v.note
+  notes_kept : IsSound next old → (v : Message N) → IsInFlight (knowledge new) v → note_of new.trace v.from v.ssn ≡ Some v.note
   notes_kept sound v flying =
       let ends = up_at_ends (knowledge new) s.emptied v.from v.to v flying in
       rw s.trace (sound.notes v (rw (s.channels v.from v.to ends.0 ends.1) at flying))
@@ -32,29 +32,30 @@ module _ (next : Next) (old new : GroupRecord) (struck : Members) (s : IsStrike 
     config = rw s.config sound.config;
     members = rw s.config (s.size ∙ sound.members);
     checkpoints = rw (s.checkpoints, s.config) sound.checkpoints;
-    saved = λ m below. rw (s.config, s.trace, s.checkpoints) (sound.saved m (rw s.config at below));
+    saved = λ m below. rw (s.config, s.trace, s.checkpoints, s.outside) (sound.saved m (rw s.config at below));
     down = λ q down. rw s.config elim ((Includes-union old.down struck q).0 (rw s.down at down)) [ inl was ↦ sound.down q was | inr now ↦ within q now ];
     lawful = rw (s.config, s.trace) sound.lawful;
     room = rw (s.config, s.trace) sound.room;
     causes = rw s.config (strike_keeps old.config.members old.config.f (knowledge old) (knowledge new) struck is_struck few sound.causes);
     folds = λ m below up. fold_kept m up (sound.folds m (rw s.config at below) (was_up old.down struck m (rw s.down at up)));
-    blanks = λ m below down. s.blanks m down;
+    blanks = λ m below down. rw s.config (s.blanks m down);
     distinct = λ m. elim (down_or_up new.down m) [ inl down ↦ rw (s.blanks m down) IsOnce-none | inr up ↦ rw (s.survivors m up) (sound.distinct m) ];
     shape = rw s.config s.shape;
     notes = notes_kept sound;
     counted = rw (s.trace, s.undone_ever, s.receipts_ever) sound.counted;
   }
 
--- some record's table has the determinant exactly where it names it
-Decides-named : (xs : List MemberRecord) (d : Determinant) → Decides (list_any (λ m. is_held m.table d) xs) ((k : ℕ) × Names (get_or xs k blank).table d)
-Decides-named xs d = (
-  λ held.
-      let some = Any-from_list_any (λ (m : MemberRecord). is_held m.table d) xs held in
-      (some.0, Names-held (get_or xs some.0 blank).table d (rw (← get_or_default xs some.0 some.1 blank some.2, some.3) some.4)),
-  λ named. list_any_at (λ (m : MemberRecord). is_held m.table d) xs named.0 blank (named_record xs named.0 d named.1) (held-Names (get_or xs named.0 blank).table d named.1),
-)
+module _ {S N : Type 0} where
+  -- some record's table has the determinant exactly where it names it
+  Decides-named : (outside : S) (xs : List (MemberRecord S N)) (d : Determinant) → Decides (list_any (λ m. is_held m.table d) xs) ((k : ℕ) × Names (get_or xs k (blank outside)).table d)
+  Decides-named outside xs d = (
+    λ held.
+        let some = Any-from_list_any (λ (m : MemberRecord S N). is_held m.table d) xs held in
+        (some.0, Names-held (get_or xs some.0 (blank outside)).table d (rw (← get_or_default xs some.0 some.1 (blank outside) some.2, some.3) some.4)),
+    λ named. list_any_at (λ (m : MemberRecord S N). is_held m.table d) xs named.0 (blank outside) (named_record outside xs named.0 d named.1) (held-Names (get_or xs named.0 (blank outside)).table d named.1),
+  )
 
-pub recorded_test : RecordedTest
-recorded_test next r d sound = Decides-or _ _
-    (Decides-like _ (λ one. (one.0, (up_if_named r.config.f (knowledge r) sound.causes.down one.0 d one.1, one.1))) (λ held. (held.0, held.1.1)) (Decides-named r.members d))
-    (Decides-named r.checkpoints d)
+  pub recorded_test : RecordedTest S N
+  recorded_test next r d sound = Decides-or _ _
+      (Decides-like _ (λ one. (one.0, (up_if_named r.config.f (knowledge r) sound.causes.down one.0 d one.1, one.1))) (λ held. (held.0, held.1.1)) (Decides-named r.outside r.members d))
+      (Decides-named r.outside r.checkpoints d)

@@ -34,7 +34,7 @@ receipt-number n t p r q s obeys has =
     omega (arith, (obeys has.0 (Receipt p r q s) has.1).3, count_at (is_receipt_of p) t has.0 (Receipt p r q s) has.1 (eqb-self p))
 
 -- the events appended have numbers beyond those of the trace before
-module _ (n : ℕ) (r : Knowledge) (added : List Mark) (obeys : WellFormed n (r.trace ++ added)) (kept : (m : ℕ) → IsCheckpointKept r m) where
+module _ {S N : Type 0} (n : ℕ) (r : Knowledge S N) (added : List Mark) (obeys : WellFormed n (r.trace ++ added)) (kept : (m : ℕ) → IsCheckpointKept r m) where
   -- an event appended may follow a trace that counts no less than the trace before
   follows : (e : Mark) → Has added e → (t : List Mark) × MayFollow n t e × ((p : Mark → Bool) → count_by p r.trace ≤ count_by p t)
   follows e new =

@@ -9,64 +9,68 @@ use Rattle.fbl_law.proofs.Decide.{IsAlwaysHeld-closed}
 use Rattle.fbl_law.proofs.Strike.{strike_keeps}
 use Rattle.fbl_law.proofs.GroupStrike.{is_struck}
 
-pub sound_is_always_held : SoundIsAlwaysHeld
-unfolding SoundIsAlwaysHeld
-sound_is_always_held next r sound = IsAlwaysHeld-closed r.config.f (knowledge r) sound.causes.closed
+module _ (S N : Type 0) where
+  pub sound_is_always_held : SoundIsAlwaysHeld S N
+  unfolding SoundIsAlwaysHeld
+  sound_is_always_held next r sound = IsAlwaysHeld-closed r.config.f (knowledge r) sound.causes.closed
 
-pub sound_has_no_orphan : SoundHasNoOrphan
-unfolding SoundHasNoOrphan
-sound_has_no_orphan next r m sound = no_orphan r.config.f (knowledge r) sound.causes.closed m
+  pub sound_has_no_orphan : SoundHasNoOrphan S N
+  unfolding SoundHasNoOrphan
+  sound_has_no_orphan next r m sound = no_orphan r.config.f (knowledge r) sound.causes.closed m
 
-pub sound_holds_each_receipt : SoundHoldsEachReceipt
-unfolding SoundHoldsEachReceipt SoundIsAlwaysHeld
-sound_holds_each_receipt next r sound nobody d there =
-    elim (sound_is_always_held next r sound d there) [
-      | inl stable ↦ inl (stable.0, stable.1, λ m among. holder m (stable.2 m among))
-      | inr held ↦ inr (λ m depends. held-Names (member r m).table d (held m (up_if_none nobody m) depends).1)
-    ]
-  where
-    holder : (m : ℕ) → IsHolder (knowledge r) d m → IsHeldBy r d m
-    holder m (inl holds) = held-Names (member r m).table d holds.1
-    holder m (inr down) = never_both r.down m down.0 (up_if_none nobody m)
+  pub sound_holds_each_receipt : SoundHoldsEachReceipt S N
+  unfolding SoundHoldsEachReceipt SoundIsAlwaysHeld
+  sound_holds_each_receipt next r sound nobody d there =
+      elim (sound_is_always_held next r sound d there) [
+        | inl stable ↦ inl (stable.0, stable.1, λ m among. holder m (stable.2 m among))
+        | inr held ↦ inr (λ m depends. held-Names (member r m).table d (held m (up_if_none nobody m) depends).1)
+      ]
+    where
+      holder : (m : ℕ) → IsHolder (knowledge r) d m → IsHeldBy r d m
+      holder m (inl holds) = held-Names (member r m).table d holds.1
+      holder m (inr down) = never_both r.down m down.0 (up_if_none nobody m)
 
-pub no_survivor_is_orphan : NoSurvivorIsOrphan
-unfolding NoSurvivorIsOrphan
-no_survivor_is_orphan next old new struck m sound s few =
-    let keeps = strike_keeps old.config.members old.config.f (knowledge old) (knowledge new) struck (is_struck next old new struck s) few sound.causes in
-    no_orphan old.config.f (knowledge new) keeps.closed m
+  pub no_survivor_is_orphan : NoSurvivorIsOrphan S N
+  unfolding NoSurvivorIsOrphan
+  no_survivor_is_orphan next old new struck m sound s few =
+      let keeps = strike_keeps old.config.members old.config.f (knowledge old) (knowledge new) struck (is_struck next old new struck s) few sound.causes in
+      no_orphan old.config.f (knowledge new) keeps.closed m
 
--- of more than f holders one is outside a set of at most f members, and up
-pub any_survivors_hold : AnySurvivorsHold
-any_survivors_hold n f r s sound covers few m d out depends =
-    let up : IsUp r m = elim (down_or_up r.down m) [ inl down ↦ never_both s m (covers m down) out | inr up ↦ up ] in
-    elim (sound.closed.events (in_table m) depends.0 up depends.2 d depends.1) [
-      | inl named ↦ (m, out, named)
-      | inr stable ↦
-          let one = some_outside stable.0 s (omega (arith, few, stable.1)) in
-          elim (stable.2 one.0 one.1) [ inl holds ↦ (one.0, one.2, holds.1) | inr down ↦ never_both s one.0 (covers one.0 down.0) one.2 ]
-    ]
+module _ {S N : Type 0} where
+  -- of more than f holders one is outside a set of at most f members, and up
+  pub any_survivors_hold : AnySurvivorsHold S N
+  any_survivors_hold n f r s sound covers few m d out depends =
+      let up : IsUp r m = elim (down_or_up r.down m) [ inl down ↦ never_both s m (covers m down) out | inr up ↦ up ] in
+      elim (sound.closed.events (in_table m) depends.0 up depends.2 d depends.1) [
+        | inl named ↦ (m, out, named)
+        | inr stable ↦
+            let one = some_outside stable.0 s (omega (arith, few, stable.1)) in
+            elim (stable.2 one.0 one.1) [ inl holds ↦ (one.0, one.2, holds.1) | inr down ↦ never_both s one.0 (covers one.0 down.0) one.2 ]
+      ]
 
-pub sound_survivors_hold : SoundSurvivorsHold
-unfolding SoundSurvivorsHold
-sound_survivors_hold next r s sound covers few =
-    any_survivors_hold r.config.members r.config.f (knowledge r) s sound.causes covers few
+module _ (S N : Type 0) where
+  pub sound_survivors_hold : SoundSurvivorsHold S N
+  unfolding SoundSurvivorsHold
+  sound_survivors_hold next r s sound covers few =
+      any_survivors_hold r.config.members r.config.f (knowledge r) s sound.causes covers few
 
--- the numbers of a member's receipts rise, so the one with the lower number comes first
-pub closed_records_first : ClosedRecordsFirst
-closed_records_first n f r rules truth closed c d there same before recorded =
-    let found = Has-recorded r truth d recorded in
-    IsRecorded-before f r closed c d recorded (elim (cases_order there.0 found.0) [
-      | inl place ↦
-          let one : receipt_of c ≡ receipt_of d = cc (rw place at there.1, found.1) in
-          rw one (itself found)
-      | inr (inl earlier) ↦ step (itself there) ((there.0, found.0, earlier, there.1, found.1), inl same)
-      | inr (inr later) ↦
-          let at_same : At r.trace there.0 (Receipt d.to c.rsn c.from c.ssn) = rw (← same) there.1 in
-          let first = slice_get-take r.trace there.0 found.0 (receipt_of d) later found.1 in
-          let number = receipt-number n (take there.0 r.trace) d.to d.rsn d.from d.ssn (WellFormed-take n there.0 r.trace rules) (found.0, first) in
-          absurd (omega (arith, before, number, (rules there.0 (Receipt d.to c.rsn c.from c.ssn) at_same).3))
-    ])
+module _ {S N : Type 0} where
+  -- the numbers of a member's receipts rise, so the one with the lower number comes first
+  pub closed_records_first : ClosedRecordsFirst S N
+  closed_records_first n f r rules truth closed c d there same before recorded =
+      let found = Has-recorded r truth d recorded in
+      IsRecorded-before f r closed c d recorded (elim (cases_order there.0 found.0) [
+        | inl place ↦
+            let one : receipt_of c ≡ receipt_of d = cc (rw place at there.1, found.1) in
+            rw one (itself found)
+        | inr (inl earlier) ↦ step (itself there) ((there.0, found.0, earlier, there.1, found.1), inl same)
+        | inr (inr later) ↦
+            let at_same : At r.trace there.0 (Receipt d.to c.rsn c.from c.ssn) = rw (← same) there.1 in
+            let first = slice_get-take r.trace there.0 found.0 (receipt_of d) later found.1 in
+            let number = receipt-number n (take there.0 r.trace) d.to d.rsn d.from d.ssn (WellFormed-take n there.0 r.trace rules) (found.0, first) in
+            absurd (omega (arith, before, number, (rules there.0 (Receipt d.to c.rsn c.from c.ssn) at_same).3))
+      ])
 
-pub sound_records_first : SoundRecordsFirst
-sound_records_first next r sound =
-    closed_records_first r.config.members r.config.f (knowledge r) sound.causes.rules sound.causes.truth sound.causes.closed
+  pub sound_records_first : SoundRecordsFirst S N
+  sound_records_first next r sound =
+      closed_records_first r.config.members r.config.f (knowledge r) sound.causes.rules sound.causes.truth sound.causes.closed

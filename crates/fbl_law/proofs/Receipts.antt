@@ -1,6 +1,6 @@
 -- A member's receipts in a trace, in order.
 use Rattle.fbl_law.proofs.Common.{◌≡◌, ℕ, suc, ◌+◌, ◌≤◌, ◌==◌, true, cond, List, [], ◌∷◌, ◌++◌, length, map, Option, Some, slice_get, refl, ap, ◌∙◌, arith, take}
-use Rattle.fbl_law.proofs.Common.{drop, ◌<◌, length-take, filter_map, fold, nat_tests, length-map, take-append-drop, sum_by-cons, slice_get-map, Determinant, Note, Event, Mark, At, mark_of}
+use Rattle.fbl_law.proofs.Common.{drop, ◌<◌, length-take, filter_map, fold, nat_tests, length-map, take-append-drop, sum_by-cons, slice_get-map, Determinant, Event, Mark, At, mark_of}
 use Rattle.fbl_law.proofs.Common.{determinant_of, receipt_of, Has, is_receipt_of, receipts_of, taken_on, WellFormed, action_of, notes_of, note_of, At-front, At-below, filter_map-At, At-filter}
 use Rattle.fbl_law.proofs.Common.{At-filter_map, WellFormed-take, receipts-noted, received_notes, last_taken, receipts_at, last_among, is_receipt, MayFollow, WellFormed-keeps, filter-append}
 use Rattle.fbl_law.proofs.Common.{filter_map-append, Send, Receipt, At-push, append-nil}
@@ -59,27 +59,28 @@ at-most-before n t p k j obeys all =
     all has.0 d (omega (arith, below, length-take j t)) here to) in
     omega (arith, few, length-receipts_at (take j t) p)
 
--- their notes
-notes-at : (all u : List Event) (p : ℕ) → ((i to rsn from ssn : ℕ) → slice_get u i ≡ Some (event.Receipt to rsn from ssn) → (note : Note) × (note_of all from ssn ≡ Some note))
-    → map (λ (x : Note). Some x) (notes_of (filter_map (action_of all p) u)) ≡ map (λ (d : Determinant). note_of all d.from d.ssn) (receipts_at (map mark_of u) p)
-notes-at all [] p noted = refl
-notes-at all (event.Send q k to x ∷ u) p noted = grind (arith, notes-at all u p (λ i. noted (suc i)))
-notes-at all (event.Receipt to r q k ∷ u) p noted = (let note = (noted 0 to r q k refl).1 in grind (arith, note, notes-at all u p (λ i. noted (suc i))))
+module _ {N : Type 0} where
+  -- their notes
+  notes-at : (all u : List (Event N)) (p : ℕ) → ((i to rsn from ssn : ℕ) → slice_get u i ≡ Some (event.Receipt to rsn from ssn) → (note : N) × (note_of all from ssn ≡ Some note))
+      → map (λ (x : N). Some x) (notes_of (filter_map (action_of all p) u)) ≡ map (λ (d : Determinant). note_of all d.from d.ssn) (receipts_at (map mark_of u) p)
+  notes-at all [] p noted = refl
+  notes-at all (event.Send q k to x ∷ u) p noted = grind (arith, notes-at all u p (λ i. noted (suc i)))
+  notes-at all (event.Receipt to r q k ∷ u) p noted = (let note = (noted 0 to r q k refl).1 in grind (arith, note, notes-at all u p (λ i. noted (suc i))))
 
--- in a trace that obeys the rules a member's notes are those of its receipts
-pub received-notes : (n : ℕ) (t : List Event) (p : ℕ) → WellFormed n (map mark_of t)
-    → map (λ (x : Note). Some x) (received_notes t p) ≡ map (λ (d : Determinant). note_of t d.from d.ssn) (receipts_at (map mark_of t) p)
-received-notes n t p obeys = notes-at t t p (receipts-noted n t obeys)
+  -- in a trace that obeys the rules a member's notes are those of its receipts
+  pub received-notes : (n : ℕ) (t : List (Event N)) (p : ℕ) → WellFormed n (map mark_of t)
+      → map (λ (x : N). Some x) (received_notes t p) ≡ map (λ (d : Determinant). note_of t d.from d.ssn) (receipts_at (map mark_of t) p)
+  received-notes n t p obeys = notes-at t t p (receipts-noted n t obeys)
 
-pub length-received_notes : (n : ℕ) (t : List Event) (p : ℕ) → WellFormed n (map mark_of t) → length (received_notes t p) ≡ length (receipts_at (map mark_of t) p)
-length-received_notes n t p obeys = simp length-map at (ap length (received-notes n t p obeys))
+  pub length-received_notes : (n : ℕ) (t : List (Event N)) (p : ℕ) → WellFormed n (map mark_of t) → length (received_notes t p) ≡ length (receipts_at (map mark_of t) p)
+  length-received_notes n t p obeys = simp length-map at (ap length (received-notes n t p obeys))
 
-pub note-at : (n : ℕ) (t : List Event) (p j : ℕ) (d : Determinant) (x : Note) → WellFormed n (map mark_of t)
-    → slice_get (receipts_at (map mark_of t) p) j ≡ Some d → note_of t d.from d.ssn ≡ Some x → slice_get (received_notes t p) j ≡ Some x
-note-at n t p j d x obeys here noted =
-    let named = slice_get-map (λ (c : Determinant). note_of t c.from c.ssn) (receipts_at (map mark_of t) p) j in
-    let same = ap (λ (xs : List (Option Note)). slice_get xs j) (received-notes n t p obeys) in
-    grind (arith, slice_get-map (λ (y : Note). Some y) (received_notes t p) j, same, named)
+  pub note-at : (n : ℕ) (t : List (Event N)) (p j : ℕ) (d : Determinant) (x : N) → WellFormed n (map mark_of t)
+      → slice_get (receipts_at (map mark_of t) p) j ≡ Some d → note_of t d.from d.ssn ≡ Some x → slice_get (received_notes t p) j ≡ Some x
+  note-at n t p j d x obeys here noted =
+      let named = slice_get-map (λ (c : Determinant). note_of t c.from c.ssn) (receipts_at (map mark_of t) p) j in
+      let same = ap (λ (xs : List (Option N)). slice_get xs j) (received-notes n t p obeys) in
+      grind (arith, slice_get-map (λ (y : N). Some y) (received_notes t p) j, same, named)
 
 -- the last message from q that the member's receipts take
 last-from : (q p z : ℕ) (t : List Mark) → fold (λ last ssn. ssn) z (filter_map (taken_on q p) t) ≡ fold (λ last (d : Determinant). cond (d.from == q) d.ssn last) z (receipts_at t p)

@@ -14,12 +14,13 @@ receives : (e b : Mark) → send_of e ≡ Some b → (d : Determinant) × (e ≡
 receives (Send from ssn to) b h = absurd cc
 receives (Receipt to rsn from ssn) b h = (record { from = from; ssn = ssn; to = to; rsn = rsn }, refl)
 
--- an event stays where each receipt that precedes it is recorded
-pub Stays-recorded : (r : Knowledge) (b : Mark) → Has r.trace b → ((c : Determinant) → Precedes r.trace (receipt_of c) b → IsRecorded r c) → Stays r b
-Stays-recorded r b there recorded down c same up_to =
-    recorded c (elim up_to [ inl is ↦ rw is (itself there) | inr earlier ↦ step (itself (earlier.0, earlier.3)) (earlier, inl same) ])
+module _ {S N : Type 0} where
+  -- an event stays where each receipt that precedes it is recorded
+  pub Stays-recorded : (r : Knowledge S N) (b : Mark) → Has r.trace b → ((c : Determinant) → Precedes r.trace (receipt_of c) b → IsRecorded r c) → Stays r b
+  Stays-recorded r b there recorded down c same up_to =
+      recorded c (elim up_to [ inl is ↦ rw is (itself there) | inr earlier ↦ step (itself (earlier.0, earlier.3)) (earlier, inl same) ])
 
-module _ (n f : ℕ) (old : Knowledge) (obeys : WellFormed n old.trace) (closed : IsClosed f old) where
+module _ {S N : Type 0} (n f : ℕ) (old : Knowledge S N) (obeys : WellFormed n old.trace) (closed : IsClosed f old) where
   -- an event of the same member that comes before one that stays stays
   Stays-earlier : (a b : Mark) → Stays old b → Earlier old.trace a b → member_of a ≡ member_of b → Stays old a
   Stays-earlier a b stays earlier same down c at_a up_to = stays (rw (← same) down) c (at_a ∙ same) (elim up_to [
@@ -46,7 +47,7 @@ module _ (n f : ℕ) (old : Knowledge) (obeys : WellFormed n old.trace) (closed 
   Stays-leads a b stays leads = Stays-recorded old a (leads.0.0, leads.0.3) (λ c before. recorded_before c stays (step before leads))
 
 -- what a cut of a sound record's trace leaves
-module _ {n f : ℕ} {old : Knowledge} (sound : IsSoundKnowledge n f old) {t : List Mark} (cut : IsCut (Stays old) old.trace t) where
+module _ {S N : Type 0} {n f : ℕ} {old : Knowledge S N} (sound : IsSoundKnowledge n f old) {t : List Mark} (cut : IsCut (Stays old) old.trace t) where
   pub cut-causes : KeepsCauses cut.0 old.trace
   cut-causes a b kept leads = (cut.2 a (leads.0.0, leads.0.3)).1 (Stays-leads n f old sound.rules sound.closed a b ((cut.2 b (leads.0.1, leads.0.4)).0 kept) leads)
 
@@ -79,7 +80,7 @@ module _ {n f : ℕ} {old : Knowledge} (sound : IsSoundKnowledge n f old) {t : L
   pub recorded-cut : (d : Determinant) → IsRecorded old d → Has t (receipt_of d)
   recorded-cut d recorded = left_if (receipt_of d) (Has-recorded old sound.truth d recorded) (λ c. IsRecorded-before f old sound.closed c d recorded)
 
-module _ (n f : ℕ) (old new : Knowledge) (s : IsRecovered f old new) (sound : IsSoundKnowledge n f old) where
+module _ {S N : Type 0} (n f : ℕ) (old new : Knowledge S N) (s : IsRecovered f old new) (sound : IsSoundKnowledge n f old) where
   abbrev keep : Mark → Bool
   keep = s.trace.0
 
@@ -144,7 +145,7 @@ module _ (n f : ℕ) (old new : Knowledge) (s : IsRecovered f old new) (sound : 
   ]
 
   -- a message in flight was made again, or it stayed in its channel
-  good : (k : Store) → IsThere new k → IsSoundAt f new k
+  good : (k : Store N) → IsThere new k → IsSoundAt f new k
   good (in_table m) there = good_table m
   good (in_message v) flies = elim (down_or_both_up old.down v.from v.to) [
     | inl down ↦ sound_passed f new v (good_table v.from) (s.messages v flies down)
@@ -152,10 +153,10 @@ module _ (n f : ℕ) (old new : Knowledge) (s : IsRecovered f old new) (sound : 
         (rw (s.channels v.from v.to up.0 up.1) at flies, refl, λ b has owes. ((cut-was sound s.trace b has).0, owes))
   ]
   good (in_checkpoint m) there =
-      sound_kept keeps sound (in_checkpoint m) tt (tt, rw s.checkpoints refl, λ b has owes. ((cut-was sound s.trace b has).0, rw s.checkpoints at owes))
+      sound_kept keeps sound (in_checkpoint m) tt (tt, rw (s.checkpoints, s.outside) refl, λ b has owes. ((cut-was sound s.trace b has).0, rw (s.checkpoints, s.outside) at owes))
 
   pub recovery_keeps : IsSoundKnowledge n f new
-  recovery_keeps = sound_after keeps sound good (λ m. checkpoint_kept keeps sound m (rw s.checkpoints refl))
+  recovery_keeps = sound_after keeps sound good (λ m. checkpoint_kept keeps sound m (rw (s.checkpoints, s.outside) refl))
 
   pub cut_is_recorded : (d : Determinant) → Has new.trace (receipt_of d) ↔ (Has old.trace (receipt_of d) × IsRecorded old d)
   cut_is_recorded d = (λ there. ((cut-was sound s.trace (receipt_of d) there).0, cut-recorded sound s.trace d there), λ h. recorded-cut sound s.trace d h.1)

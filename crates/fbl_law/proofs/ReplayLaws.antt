@@ -1,7 +1,7 @@
 -- How the members that are down replay what the survivors have recorded, and from there to a recovery.
 use Rattle.fbl_law.proofs.Common.{◌≡◌, ℕ, ◌+◌, ◌-◌, ◌<◌, ◌≤◌, ◌⊎◌, inl, inr, List, [], ◌∷◌, length, map, Some, slice_get, refl, sym, subst, ap, ◌∙◌, arith}
 use Rattle.fbl_law.proofs.Common.{slice_set, length-append, cases_Bool, cases_eq, nat_tests, length-map, length-set, get_or-set_same, get_or-set_other, count_by-le-length, slice_get_within}
-use Rattle.fbl_law.proofs.Common.{slice_index_or, filter, Determinant, Note, mark_of, receipt_of, Has, is_receipt_of, is_send_of, Next, Lawful, sent-before, Entry, found, MemberRecord, blank}
+use Rattle.fbl_law.proofs.Common.{slice_index_or, filter, Determinant, mark_of, receipt_of, Has, is_receipt_of, is_send_of, Next, Lawful, sent-before, Entry, found, MemberRecord, blank}
 use Rattle.fbl_law.proofs.Common.{logged_note, replayed_by, length-numbered, Names, IsDown, Stays, IsEventCut, recovery_table, GroupRecord, member_checkpoint, knowledge, receipts, receipts_at}
 use Rattle.fbl_law.proofs.Common.{IsReplayed, IsFold, IsSound, IsRecovery, IsMadeAgain, IsSentAgain, IsStuck, IsNextReplay, recovered_trace, stays_by, true, Send, is_of_receipt, is_replayed, working}
 use Rattle.fbl_law.proofs.Common.{IsReplaying, IsWaiting, replayed_in, IsRebuilt, position_or_len, fails_before_first, find_at, get_or, slice_get-get_or, option_map}
@@ -35,11 +35,12 @@ found-some p k table d named to rsn =
     let first : ¬ (named.1.0 < place) = λ before. (let fails = fails_before_first (is_of_receipt p k) table named.1.0 named.0 before in let is = named.1.2 in cc) in
     ((get_or table place named.0).det, ap (option_map (λ (e : Entry). e.det)) (find_at (is_of_receipt p k) table ∙ slice_get-get_or table place named.0 (omega (arith, first, named.1.1))))
 
--- a record with a table that it has
-pub with-table : (m : MemberRecord) (t : List Entry) → m.table ≡ t → m ≡ record m { table = t }
-with-table m t is = ap (λ (x : List Entry). record m { table = x }) is
+module _ {S N : Type 0} where
+  -- a record with a table that it has
+  pub with-table : (m : MemberRecord S N) (t : List Entry) → m.table ≡ t → m ≡ record m { table = t }
+  with-table m t is = ap (λ (x : List Entry). record m { table = x }) is
 
-module _ (next : Next) (old : GroupRecord) (sound : IsSound next old) where
+module _ {S N : Type 0} (next : Next S N) (old : GroupRecord S N) (sound : IsSound next old) where
   abbrev cut : IsEventCut (Stays (knowledge old)) old.trace (recovered_trace old)
   cut = recovered_trace-cut next old sound
 
@@ -47,7 +48,7 @@ module _ (next : Next) (old : GroupRecord) (sound : IsSound next old) where
   lawful = (cut-lawful sound cut).0
 
   -- the member has come so far in its replay of the cut
-  abbrev Replays : ℕ → MemberRecord → Type 0
+  abbrev Replays : ℕ → MemberRecord S N → Type 0
   Replays p m = IsReplayed next old.config.members old.config.starts (recovered_trace old) p m
 
   -- a member's receipts in the cut
@@ -73,17 +74,17 @@ module _ (next : Next) (old : GroupRecord) (sound : IsSound next old) where
       some.1 ∙ sym (found-receipt p k some.0 some.1) ∙ here
 
   -- each member that is down begins at its checkpoint
-  pub replay_begins : (rebuilt : List MemberRecord) → length rebuilt ≡ old.config.members
-      → ((p : ℕ) → p < old.config.members → IsDown (knowledge old) p → slice_index_or rebuilt p blank ≡ member_checkpoint old p) → IsReplaying next old rebuilt
+  pub replay_begins : (rebuilt : List (MemberRecord S N)) → length rebuilt ≡ old.config.members
+      → ((p : ℕ) → p < old.config.members → IsDown (knowledge old) p → slice_index_or rebuilt p (blank old.outside) ≡ member_checkpoint old p) → IsReplaying next old rebuilt
   replay_begins rebuilt size begins = record {
     size = size;
     replayed = λ p below down. rw (begins p below down) (checkpoint-survives sound cut p below);
     begun = λ p below down. rw (begins p below down) (omega arith);
   }
 
-  module _ (rebuilt : List MemberRecord) (replaying : IsReplaying next old rebuilt) where
-    abbrev current : ℕ → MemberRecord
-    current p = slice_index_or rebuilt p blank
+  module _ (rebuilt : List (MemberRecord S N)) (replaying : IsReplaying next old rebuilt) where
+    abbrev current : ℕ → MemberRecord S N
+    current p = slice_index_or rebuilt p (blank old.outside)
 
     working-replays : (q : ℕ) → q < old.config.members → Replays q (working old rebuilt q)
     working-replays q below = elim (down_or_up old.down q) [
@@ -91,7 +92,7 @@ module _ (next : Next) (old : GroupRecord) (sound : IsSound next old) where
       | inr up ↦ rw up (survivor-replays sound cut q below up).0
     ]
 
-    replays-log : (q : ℕ) (m : MemberRecord) → Replays q m → length m.log ≤ 8192
+    replays-log : (q : ℕ) (m : MemberRecord S N) → Replays q m → length m.log ≤ 8192
     replays-log q m replays = omega (arith, log-short lawful replays, count_by-le-length (is_send_of q) (map mark_of (recovered_trace old)), cut-short)
 
     -- the logs stay within their bound
@@ -105,8 +106,8 @@ module _ (next : Next) (old : GroupRecord) (sound : IsSound next old) where
         omega (arith, fewer, replayed-most sound cut current replaying.replayed, sound.room, sound.config.limit.1)
 
     -- new tables change nothing of the replay
-    pub replaying-tables : (given : List MemberRecord) (t : List Entry) → length given ≡ length rebuilt
-        → ((p : ℕ) → p < old.config.members → IsDown (knowledge old) p → slice_index_or given p blank ≡ record (current p) { table = t }) → IsReplaying next old given
+    pub replaying-tables : (given : List (MemberRecord S N)) (t : List Entry) → length given ≡ length rebuilt
+        → ((p : ℕ) → p < old.config.members → IsDown (knowledge old) p → slice_index_or given p (blank old.outside) ≡ record (current p) { table = t }) → IsReplaying next old given
     replaying-tables given t size same = record {
       size = size ∙ replaying.size;
       replayed = λ p below down. rw (same p below down) (assumption (replaying.replayed p below down));
@@ -115,18 +116,18 @@ module _ (next : Next) (old : GroupRecord) (sound : IsSound next old) where
 
     -- a member that is down goes on with a receipt that the gathered tables find
     module _ (p : ℕ) (below : p < old.config.members) (down : IsDown (knowledge old) p) (d : Determinant) where
-      module _ (note : Note) where
-        abbrev after : MemberRecord
+      module _ (note : N) where
+        abbrev after : MemberRecord S N
         after = replayed_by next p old.config.members (current p) d note
 
-        own : slice_index_or (slice_set rebuilt p after) p blank ≡ after
-        own = get_or-set_same rebuilt p after blank (omega (arith, replaying.size, below))
+        own : slice_index_or (slice_set rebuilt p after) p (blank old.outside) ≡ after
+        own = get_or-set_same rebuilt p after (blank old.outside) (omega (arith, replaying.size, below))
 
         -- one more is replayed
         pub replayed_in-step : replayed_in old (slice_set rebuilt p after) ≡ replayed_in old rebuilt + 1
         replayed_in-step =
-            count_in-step old.down _ _ old.config.members p below down (omega (arith, ap (λ (m : MemberRecord). m.received) own, replaying.begun p below down))
-            (λ q other. ap (λ (m : MemberRecord). m.received - (member_checkpoint old q).received) (get_or-set_other rebuilt p q after blank other))
+            count_in-step old.down _ _ old.config.members p below down (omega (arith, ap (λ (m : MemberRecord S N). m.received) own, replaying.begun p below down))
+            (λ q other. ap (λ (m : MemberRecord S N). m.received - (member_checkpoint old q).received) (get_or-set_other rebuilt p q after (blank old.outside) other))
 
       module _ (is : found p ((current p).received + 1) (recovery_table (knowledge old)) ≡ Some d) where
         -- it is that of the member's next number, from another member
@@ -144,14 +145,14 @@ module _ (next : Next) (old : GroupRecord) (sound : IsSound next old) where
               room = omega (arith, within, length-receipts_at (map mark_of (recovered_trace old)) p, count_by-le-length (is_receipt_of p) (map mark_of (recovered_trace old)), cut-short);
             }
 
-        module _ (note : Note) (named : logged_note (working old rebuilt d.from).log d.ssn ≡ Some note) where
+        module _ (note : N) (named : logged_note (working old rebuilt d.from).log d.ssn ≡ Some note) where
           there : Replays p (after note)
           there =
               replayed-step lawful.well_formed (replaying.replayed p below down) (found-receipt p (current p).received d is)
               (logged-noted lawful (working-replays d.from replaying-next.from) d.ssn note named)
 
           -- its step's sends have room in the log
-          pub replaying-room : length (current p).log + length (next p old.config.members (current p).state note).sends.items ≤ 8192
+          pub replaying-room : length (current p).log + length (next.step p old.config.members (current p).state note).sends.items ≤ 8192
           replaying-room = simp (length-append, length-numbered) at (replays-log p (after note) there)
 
           -- its replay
@@ -160,16 +161,16 @@ module _ (next : Next) (old : GroupRecord) (sound : IsSound next old) where
             size = length-set rebuilt p (after note) ∙ replaying.size;
             replayed = λ q below_q down_q. elim (cases_eq q p) [
               | inl same ↦ rw (same, own note) there
-              | inr other ↦ rw (get_or-set_other rebuilt p q (after note) blank other) (replaying.replayed q below_q down_q)
+              | inr other ↦ rw (get_or-set_other rebuilt p q (after note) (blank old.outside) other) (replaying.replayed q below_q down_q)
             ];
-            begun = λ q below_q down_q. grind (arith, own note, get_or-set_other rebuilt p q (after note) blank, replaying.begun q below_q down_q);
+            begun = λ q below_q down_q. grind (arith, own note, get_or-set_other rebuilt p q (after note) (blank old.outside), replaying.begun q below_q down_q);
           }
 
     -- where each member that is down waits, all is replayed
     module _ (waiting : (p : ℕ) → p < old.config.members → IsDown (knowledge old) p → IsWaiting old rebuilt p) where
       -- a message whose sender has replayed all that comes before it is in the sender's log
       sent-again : (q k to : ℕ) → q < old.config.members → Has (map mark_of (recovered_trace old)) (Send q k to)
-          → IsSentAgain (map mark_of (recovered_trace old)) (λ m. (working old rebuilt m).received) q k to → (note : Note) × (logged_note (working old rebuilt q).log k ≡ Some note)
+          → IsSentAgain (map mark_of (recovered_trace old)) (λ m. (working old rebuilt m).received) q k to → (note : N) × (logged_note (working old rebuilt q).log k ≡ Some note)
       sent-again q k to below has sent =
           let here = send-at (recovered_trace old) has.0 q k to has.1 in
           logged-by lawful (working-replays q below) has.0 k to here.0 here.1
@@ -206,7 +207,7 @@ module _ (next : Next) (old : GroupRecord) (sound : IsSound next old) where
       recovered_trace-rebuilt = stays_by-cut sound cut current replaying.replayed replay_ends
 
       -- so a group with these records, and with channels made again, is the group recovered
-      module _ (new : GroupRecord) (step : IsRebuilt old new rebuilt) where
+      module _ (new : GroupRecord S N) (step : IsRebuilt old new rebuilt) where
         is-lawful : Lawful next new.config.members new.config.starts new.trace
         is-lawful = rw (step.rest.config, step.trace) lawful
 
@@ -230,6 +231,6 @@ module _ (next : Next) (old : GroupRecord) (sound : IsSound next old) where
           rest = step.rest;
           trace = rw step.trace cut;
           folds = rebuilt-fold;
-          gathered = λ m below down. ap (λ (x : MemberRecord). x.table) (step.rebuilt m below down);
+          gathered = λ m below down. ap (λ (x : MemberRecord S N). x.table) (step.rebuilt m below down);
           made_again = made;
         }

@@ -26,9 +26,10 @@ joined x e = record { det = x.det; known = set.union x.known e.known }
 pub All-from : {X : Type 0} (P : X → Type 0) (xs : List X) → ((x : X) → Contains xs x → P x) → All P xs
 All-from P xs each = All-weaker (Contains xs) P each xs (All-contains_itself xs)
 
--- a record whose table names something is one of the list
-pub named_record : (xs : List MemberRecord) (m : ℕ) (d : Determinant) → Names (get_or xs m blank).table d → m < length xs
-named_record xs m d named = omega (arith, λ (past : length xs ≤ m). (let none : Names [] d = rw (get_or_past xs m blank past) at named in Contains-none none.0 none.1))
+module _ {S N : Type 0} where
+  -- a record whose table names something is one of the list
+  pub named_record : (outside : S) (xs : List (MemberRecord S N)) (m : ℕ) (d : Determinant) → Names (get_or xs m (blank outside)).table d → m < length xs
+  named_record outside xs m d named = omega (arith, λ (past : length xs ≤ m). (let none : Names [] d = rw (get_or_past xs m (blank outside) past) at named in Contains-none none.0 none.1))
 
 -- a table that has a determinant names it
 pub Names-held : (entries : List Entry) (d : Determinant) → is_held entries d ≡ true → Names entries d

@@ -1,9 +1,9 @@
 -- What the step keeps of a weight, the group keeps.
 use Rattle.fbl_law.proofs.Common.{◌≡◌, ℕ, zero, suc, ◌+◌, ◌<◌, ◌≤◌, ◌==◌, cond, List, [], ◌∷◌, ◌++◌, map, Option, Some, None, slice_get, refl, sym, ap, ◌∙◌}
-use Rattle.fbl_law.proofs.Common.{arith, All, filter_map, fold, nat_tests, All-head, All-tail, sum_by-cons, sum_by-append, Note, Event, Mark, mark_of, WellFormed, MayFollow, in_flight, Next, Action}
+use Rattle.fbl_law.proofs.Common.{arith, All, filter_map, fold, nat_tests, All-head, All-tail, sum_by-cons, sum_by-append, Event, Mark, mark_of, WellFormed, MayFollow, in_flight, Next, Action}
 use Rattle.fbl_law.proofs.Common.{took, sent, action_of, actions_of, note_of, responses, starts_of, in_flight-send, in_flight-receipt, receipts-noted, WellFormed-keeps, Message, send_mark, IsUp}
 use Rattle.fbl_law.proofs.Common.{StepKeeps, HoldsFirst, GroupRecord, member, channel, marks, knowledge, sum_below, IsSound, received_notes, sum_by, option_map_or, fold-map, sum_by_push}
-use Rattle.fbl_law.proofs.Common.{sum_by-drop_more, get_or_from_slice_get, slice_get_within, StepMakesNone, StepLosesNone, StepConserves, weight_after, weight_flying, weight_of, weight_of_starts}
+use Rattle.fbl_law.proofs.Common.{sum_by-drop_more, get_or_from_slice_get, slice_get_within, StepMakesNone, StepLosesNone, StepConserves, weight_after, weight_flying, weight_of, weight_at_first, weight_of_starts}
 use Rattle.fbl_law.proofs.Common.{WeighsNoMore, WeighsNoLess, WeighsTheSame, messages_in_flight, nil_from_length}
 use Rattle.std.specs.FinSet as set
 use Rattle.fbl_base.specs.declared.trace.Mark.TheVariants as mark
@@ -85,59 +85,64 @@ module _ {X Y : Type 0} (n : ℕ) (part : ℕ → X → Option Y) (g : Y → ℕ
       let all = sum_below-at n one.0 (h x) (λ m. sum_by g (filter_map (part m) xs)) (λ m. sum_by g (filter_map (part m) (x ∷ xs))) (λ m. grind (arith, one.2 m, sum_by-cons)) in
       grind (arith, nat_tests, all, one.1, shared xs (λ i. each (suc i)), sum_by-cons h x xs)
 
--- what the channel from q to p weighs
-abbrev channel_weight : (Note → ℕ) → GroupRecord → ℕ → ℕ → ℕ
-channel_weight weight r q p = sum_by (λ (v : Message). weight v.note) (channel r q p)
+module _ {S N : Type 0} where
+  -- what the channel from q to p weighs
+  abbrev channel_weight : (N → ℕ) → GroupRecord S N → ℕ → ℕ → ℕ
+  channel_weight weight r q p = sum_by (λ (v : Message N). weight v.note) (channel r q p)
 
-module _ (next : Next) (r : GroupRecord) (P : ℕ → ℕ → Type 0) (Q : ℕ → ℕ → Note → Type 0) (mass : ℕ → ℕ → ℕ) (weight : Note → ℕ)
-    (nothing : (me : ℕ) → mass me 0 ≡ 0) (sound : IsSound next r) (keeps : StepKeeps next r.config.members P Q) (first : HoldsFirst r.config P Q) where
+module _ {S N : Type 0} (next : Next S N) (r : GroupRecord S N) (P : ℕ → S → Type 0) (Q : ℕ → ℕ → N → Type 0) (mass : ℕ → S → ℕ) (weight : N → ℕ)
+    (sound : IsSound next r) (keeps : StepKeeps next r.config.members P Q) (first : HoldsFirst next r.config P Q) where
   abbrev n : ℕ
   n = r.config.members
 
-  abbrev acts : ℕ → List Action
+  abbrev acts : ℕ → List (Action N)
   acts m = actions_of r.trace m
 
-  abbrev taken : Action → ℕ
+  abbrev taken : Action N → ℕ
   taken (took x) = weight x
   taken (sent s) = 0
 
-  abbrev given : Action → ℕ
+  abbrev given : Action N → ℕ
   given (took x) = 0
   given (sent s) = weight s.1
 
+  -- what its first state weighs, and what its starts do
+  abbrev firsts : ℕ → ℕ
+  firsts m = mass m (next.initial m n)
+
   abbrev begins : ℕ → ℕ
-  begins m = sum_by (λ (s : ℕ × Note). weight s.1) (starts_of m r.config.starts)
+  begins m = sum_by (λ (s : ℕ × N). weight s.1) (starts_of m r.config.starts)
 
   -- what a message weighs, by its number
   abbrev w : ℕ → ℕ → ℕ
   w q s = option_map_or weight (note_of r.trace q s) 0
 
   -- the member's state, by the trace
-  abbrev reached : ℕ → ℕ → List Note → ℕ
-  reached m state notes = fold (λ s x. (next m n s x).state) state notes
+  abbrev reached : ℕ → S → List N → S
+  reached m state notes = fold (λ s x. (next.step m n s x).state) state notes
 
   abbrev by_trace : ℕ → ℕ
-  by_trace m = mass m (reached m 0 (received_notes r.trace m))
+  by_trace m = mass m (reached m (next.initial m n) (received_notes r.trace m))
 
   -- sends are given, and none of them is taken
-  given-sends : (sends : List (ℕ × Note)) (rest : List Action) → sum_by given (map sent sends ++ rest) ≡ sum_by (λ (s : ℕ × Note). weight s.1) sends + sum_by given rest
+  given-sends : (sends : List (ℕ × N)) (rest : List (Action N)) → sum_by given (map sent sends ++ rest) ≡ sum_by (λ (s : ℕ × N). weight s.1) sends + sum_by given rest
   given-sends sends rest = sum_by-append given (map sent sends) rest ∙ ap (λ k. k + sum_by given rest) (fold-map (λ a x. a + given x) sent 0 sends)
 
-  taken-sends : (sends : List (ℕ × Note)) (rest : List Action) → sum_by taken (map sent sends ++ rest) ≡ sum_by taken rest
+  taken-sends : (sends : List (ℕ × N)) (rest : List (Action N)) → sum_by taken (map sent sends ++ rest) ≡ sum_by taken rest
   taken-sends [] rest = refl
   taken-sends (s ∷ sends) rest = taken-sends sends rest
 
   -- the starts of each member, summed, are the starts
   starts-weigh : sum_below n begins ≡ weight_of_starts weight r.config
   starts-weigh =
-      shared n (λ m s. cond (s.from == m) (Some (s.to, s.note)) None) (λ (s : ℕ × Note). weight s.1) (λ s. weight s.note) r.config.starts
+      shared n (λ m s. cond (s.from == m) (Some (s.to, s.note)) None) (λ (s : ℕ × N). weight s.1) (λ s. weight s.note) r.config.starts
       (λ i s here. (s.from, (sound.config.starts i s here).0, λ m. grind arith))
 
   -- what the members do weighs what the events do, where each send and each receipt does, with its note
-  acts-weigh : (g : Action → ℕ) (h : Mark → ℕ) → ((q s p : ℕ) (x : Note) → note_of r.trace q s ≡ Some x → g (sent (p, x)) ≡ h (mark.Send q s p))
-      → ((p r' q s : ℕ) (x : Note) → note_of r.trace q s ≡ Some x → g (took x) ≡ h (mark.Receipt p r' q s)) → sum_below n (λ m. sum_by g (acts m)) ≡ sum_by h (marks r)
+  acts-weigh : (g : Action N → ℕ) (h : Mark → ℕ) → ((q s p : ℕ) (x : N) → note_of r.trace q s ≡ Some x → g (sent (p, x)) ≡ h (mark.Send q s p))
+      → ((p r' q s : ℕ) (x : N) → note_of r.trace q s ≡ Some x → g (took x) ≡ h (mark.Receipt p r' q s)) → sum_below n (λ m. sum_by g (acts m)) ≡ sum_by h (marks r)
   acts-weigh g h sends takes = shared n (action_of r.trace) g (λ e. h (mark_of e)) r.trace each ∙ sym (fold-map (λ a x. a + h x) mark_of 0 r.trace) where
-    each : (i : ℕ) (e : Event) → slice_get r.trace i ≡ Some e → IsShared n (action_of r.trace) g (λ e. h (mark_of e)) e
+    each : (i : ℕ) (e : Event N) → slice_get r.trace i ≡ Some e → IsShared n (action_of r.trace) g (λ e. h (mark_of e)) e
     each i (Send q s p x) here =
         let may = sound.lawful.well_formed i (mark.Send q s p) (mark-at r.trace i (Send q s p x) here) in
         (q, may.0, λ m. grind (arith, sends q s p x (sent-noted n r.trace sound.lawful.well_formed i q s p x here)))
@@ -159,26 +164,26 @@ module _ (next : Next) (r : GroupRecord) (P : ℕ → ℕ → Type 0) (Q : ℕ �
   -- the channel between two members that are up weighs what the trace has in flight there
   channel-weighs : (q p : ℕ) → IsUp (knowledge r) q → IsUp (knowledge r) p → channel_weight weight r q p ≡ weight_in n w (marks r) q p
   channel-weighs q p up_q up_p =
-      sum_by-agree (λ (v : Message). weight v.note) (λ (v : Message). w v.from v.ssn) (channel r q p) noted
+      sum_by-agree (λ (v : Message N). weight v.note) (λ (v : Message N). w v.from v.ssn) (channel r q p) noted
       ∙ sym (fold-map (λ a x. a + out n w x) send_mark 0 (channel r q p)) ∙ ap (sum_by (out n w)) (sound.causes.channels q p up_q up_p)
       ∙ fold-map (λ a x. a + out n w x) (λ ssn. mark.Send q ssn p) 0 (in_flight (marks r) q p)
     where
-      noted : (i : ℕ) (v : Message) → slice_get (channel r q p) i ≡ Some v → weight v.note ≡ w v.from v.ssn
+      noted : (i : ℕ) (v : Message N) → slice_get (channel r q p) i ≡ Some v → weight v.note ≡ w v.from v.ssn
       noted i v here = rw (sound.notes v (flight_at sound.causes q p i v here).0) refl
 
   -- a relation of what is weighed after and before, as `≤` and its converse, that equal weights have and that their sums keep
   module _ (R : ℕ → ℕ → Type 0) (same : (a b : ℕ) → a ≡ b → R a b) (joined : (a b c d x y : ℕ) → R a b → R c d → x + b + d ≡ a + c + y → R x y)
-      (law : (me from state : ℕ) (note : Note) → me < n → P me state → Q from me note → R (weight_after next n mass weight me state note) (mass me state + weight note)) where
+      (law : (me from : ℕ) (state : S) (note : N) → me < n → P me state → Q from me note → R (weight_after next n mass weight me state note) (mass me state + weight note)) where
     sums-related : (k : ℕ) (a b : ℕ → ℕ) → ((x : ℕ) → x < k → R (a x) (b x)) → R (sum_below k a) (sum_below k b)
     sums-related zero a b each = same 0 0 refl
     sums-related (suc k) a b each = joined _ _ _ _ _ _ (sums-related k a b (λ x below. each x (omega arith))) (each k (omega arith)) (omega arith)
 
-    member-related : (m state : ℕ) (notes : List Note) → m < n → P m state → All (Came next n P Q keeps m) notes
+    member-related : (m : ℕ) (state : S) (notes : List N) → m < n → P m state → All (Came next n P Q keeps m) notes
         → R (mass m (reached m state notes) + sum_by given (responses next m n state notes)) (mass m state + sum_by taken (responses next m n state notes))
     member-related m state [] below holds came = same _ _ refl
     member-related m state (x ∷ notes) below holds came =
         let here = All-head (Came next n P Q keeps m) x notes came in
-        let after = next m n state x in
+        let after = next.step m n state x in
         let ih = member-related m after.state notes below (keeps m here.0 state x below holds here.1).0 (All-tail (Came next n P Q keeps m) x notes came) in
         let rest = responses next m n after.state notes in
         let sends = map sent after.sends.items ++ rest in
@@ -186,29 +191,29 @@ module _ (next : Next) (r : GroupRecord) (P : ℕ → ℕ → Type 0) (Q : ℕ �
         (omega (arith, sum_by-cons taken (took x) sends, sum_by-cons given (took x) sends, given-sends after.sends.items rest, taken-sends after.sends.items rest))
 
     -- what a member's state and its sends weigh, and what it began with and took in
-    all-related : (m : ℕ) → m < n → R (by_trace m + sum_by given (acts m)) (begins m + sum_by taken (acts m))
+    all-related : (m : ℕ) → m < n → R (by_trace m + sum_by given (acts m)) (firsts m + (begins m + sum_by taken (acts m)))
     all-related m below =
         let notes = received_notes r.trace m in
-        let one = member-related m 0 notes below (first.0 m below) (all-came next n P Q keeps r.config.starts r.trace sound.lawful first.0 first.1 m) in
-        let gives = ap (sum_by given) (sound.lawful.responds m) ∙ given-sends (starts_of m r.config.starts) (responses next m n 0 notes) in
-        let takes = ap (sum_by taken) (sound.lawful.responds m) ∙ taken-sends (starts_of m r.config.starts) (responses next m n 0 notes) in
-        joined _ _ _ _ _ _ one (same 0 0 refl) (omega (arith, gives, takes, nothing m))
+        let one = member-related m (next.initial m n) notes below (first.0 m below) (all-came next n P Q keeps r.config.starts r.trace sound.lawful first.0 first.1 m) in
+        let gives = ap (sum_by given) (sound.lawful.responds m) ∙ given-sends (starts_of m r.config.starts) (responses next m n (next.initial m n) notes) in
+        let takes = ap (sum_by taken) (sound.lawful.responds m) ∙ taken-sends (starts_of m r.config.starts) (responses next m n (next.initial m n) notes) in
+        joined _ _ _ _ _ _ one (same 0 0 refl) (omega (arith, gives, takes))
 
-    -- what the group weighs is related to what its starts do, where what its members and channels weigh is to what they do by the trace
-    group-related : ((m : ℕ) → m < n → R (mass m (member r m).state) (by_trace m)) → ((q p : ℕ) → R (channel_weight weight r q p) (weight_in n w (marks r) q p))
-        → R (weight_of mass weight r) (weight_of_starts weight r.config)
+    -- what the group weighs is related to what it began with, where what its members and channels weigh is to what they do by the trace
+    group-related : ((m : ℕ) → m < n → R (cond (set.contains r.down m) 0 (mass m (member r m).state)) (by_trace m)) → ((q p : ℕ) → R (channel_weight weight r q p) (weight_in n w (marks r) q p))
+        → R (weight_of mass weight r) (weight_at_first next mass weight r.config)
     group-related states cells =
         let held = sums-related n _ _ states in
         let flying = sums-related n _ _ (λ q below. sums-related n (channel_weight weight r q) (weight_in n w (marks r) q) (λ p below_p. cells q p)) in
         let now : R (weight_of mass weight r) (sum_below n by_trace + weight_on n w (marks r)) = joined _ _ _ _ _ _ held flying (omega arith) in
         joined _ _ _ _ _ _ now (sums-related n _ _ all-related)
-        (omega (arith, flows, starts-weigh, sum_below-plus n by_trace (λ m. sum_by given (acts m)), sum_below-plus n begins (λ m. sum_by taken (acts m))))
+        (omega (arith, flows, starts-weigh, sum_below-plus n by_trace (λ m. sum_by given (acts m)), sum_below-plus n firsts (λ m. begins m + sum_by taken (acts m)), sum_below-plus n begins (λ m. sum_by taken (acts m))))
 
-  -- where each step makes no weight, the group weighs at most what its starts do
-  pub weighs_no_more : StepMakesNone next n P Q mass weight → WeighsNoMore mass weight r
+  -- where each step makes no weight, the group weighs at most what it began with
+  pub weighs_no_more : StepMakesNone next n P Q mass weight → WeighsNoMore next mass weight r
   weighs_no_more law =
       group-related (λ a b. a ≤ b) (λ a b is. omega arith) (λ a b c d x y first second is. omega arith) law
-      (λ m below. grind (arith, down_or_up r.down m, sound.blanks m below, nothing m, up-weighs m below))
+      (λ m below. grind (arith, down_or_up r.down m, up-weighs m below))
       (λ q p. grind (arith, down_or_both_up r.down q p, sound.causes.down.channels q p, channel-weighs q p))
 
   -- where nothing is in flight, that weighs nothing
@@ -216,15 +221,15 @@ module _ (next : Next) (r : GroupRecord) (P : ℕ → ℕ → Type 0) (Q : ℕ �
   none-flying = sum_below-nothing n _ _ (λ q. sum_below-nothing n _ (channel_weight weight r q) (λ p none. rw (nil_from_length (channel r q p) none) refl))
 
   -- where each step loses none, and nobody is down, it weighs at least that
-  pub weighs_no_less : StepLosesNone next n P Q mass weight → WeighsNoLess mass weight r
+  pub weighs_no_less : StepLosesNone next n P Q mass weight → WeighsNoLess next mass weight r
   weighs_no_less law = record { whole = most; settled = λ nobody none. omega (arith, most nobody, none-flying none) } where
-    most : r.down ≡ set.empty → weight_of_starts weight r.config ≤ weight_of mass weight r
+    most : r.down ≡ set.empty → weight_at_first next mass weight r.config ≤ weight_of mass weight r
     most nobody =
         let up = up_if_none nobody in
         group-related (λ a b. b ≤ a) (λ a b is. omega arith) (λ a b c d x y first second is. omega arith) law
-        (λ m below. omega (arith, up-weighs m below (up m))) (λ q p. omega (arith, channel-weighs q p (up q) (up p)))
+        (λ m below. rw (up m) (omega (arith, up-weighs m below (up m)))) (λ q p. omega (arith, channel-weighs q p (up q) (up p)))
 
-  pub weighs_the_same : StepConserves next n P Q mass weight → WeighsTheSame mass weight r
+  pub weighs_the_same : StepConserves next n P Q mass weight → WeighsTheSame next mass weight r
   weighs_the_same law =
       let more = weighs_no_more (λ me from state note below p q. omega (arith, law me from state note below p q)) in
       let less = weighs_no_less (λ me from state note below p q. omega (arith, law me from state note below p q)) in

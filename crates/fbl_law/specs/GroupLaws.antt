@@ -2,7 +2,6 @@
 use Rattle.std.specs.Prelude.{◌≡◌, ℕ, ◌<◌, ◌≤◌, ◌↔◌, true, length}
 use Rattle.std.specs.FinSet as set
 use Rattle.fbl_base.specs.declared.trace.Determinant.{Determinant}
-use Rattle.fbl_base.specs.declared.trace.Note.{Note}
 use Rattle.fbl_base.specs.Configs.{Settings, IsConfig}
 use Rattle.fbl_base.specs.Events.{receipt_of}
 use Rattle.fbl_base.specs.MemberSets.{AllBelow, Members}
@@ -16,50 +15,50 @@ use Rattle.fbl_law.specs.Sound.{receipts_at, IsSound}
 use Rattle.fbl_law.specs.GroupSteps.{IsGroupStart, IsDelivery, IsStrike, IsCheckpoint, IsRecovery}
 
 -- the behaviour's sends go to other members of the group, at most four at a step
-abbrev pub SendsWell : Next → Type 0
-SendsWell next = (me n state : ℕ) (note : Note) → 2 ≤ n → me < n → SendsAllowed me n (next me n state note)
+abbrev pub SendsWell : {S N : Type 0} → Next S N → Type 0
+SendsWell {S} {N} next = (me n : ℕ) (state : S) (note : N) → 2 ≤ n → me < n → SendsAllowed me n (next.step me n state note)
 
 -- a group in which nothing is received yet is sound
-abbrev pub GroupStartIsSound : Type 0
-GroupStartIsSound =
-    (next : Next) (config : Settings) (r : GroupRecord)
-    → IsConfig config → IsGroupStart config r → IsSound next r
+abbrev pub GroupStartIsSound : Type 0 → Type 0 → Type 0
+GroupStartIsSound S N =
+    (next : Next S N) (config : Settings N) (r : GroupRecord S N)
+    → IsConfig next.allowed config → IsGroupStart next config r → IsSound next r
 
 -- a delivery keeps a group sound
-abbrev pub GroupDeliveryKeeps : Type 0
-GroupDeliveryKeeps =
-    (next : Next) (old new : GroupRecord) (v : Message)
+abbrev pub GroupDeliveryKeeps : Type 0 → Type 0 → Type 0
+GroupDeliveryKeeps S N =
+    (next : Next S N) (old new : GroupRecord S N) (v : Message N)
     → SendsWell next → IsDelivery next old new v → IsSound next old → IsSound next new
 
 -- so does a strike after which at most f members are down
-abbrev pub GroupStrikeKeeps : Type 0
-GroupStrikeKeeps =
-    (next : Next) (old new : GroupRecord) (struck : Members)
-    → IsStrike old new struck → AllBelow struck old.config.members → set.len new.down ≤ old.config.f → IsSound next old → IsSound next new
+abbrev pub GroupStrikeKeeps : Type 0 → Type 0 → Type 0
+GroupStrikeKeeps S N =
+    (next : Next S N) (old new : GroupRecord S N) (struck : Members)
+    → IsStrike next old new struck → AllBelow struck old.config.members → set.len new.down ≤ old.config.f → IsSound next old → IsSound next new
 
 -- so does a checkpoint of a member
-unfoldable pub GroupCheckpointKeeps : Type 0
-GroupCheckpointKeeps =
-    (next : Next) (old new : GroupRecord) (p : ℕ)
+unfoldable pub GroupCheckpointKeeps : Type 0 → Type 0 → Type 0
+GroupCheckpointKeeps S N =
+    (next : Next S N) (old new : GroupRecord S N) (p : ℕ)
     → IsCheckpoint old new p → IsSound next old → IsSound next new
 
 -- so does a recovery
-abbrev pub GroupRecoveryKeeps : Type 0
-GroupRecoveryKeeps =
-    (next : Next) (old new : GroupRecord)
+abbrev pub GroupRecoveryKeeps : Type 0 → Type 0 → Type 0
+GroupRecoveryKeeps S N =
+    (next : Next S N) (old new : GroupRecord S N)
     → IsRecovery next old new → IsSound next old → IsSound next new
 
 -- in a sound group the test of who has recorded a receipt is right
-abbrev pub RecordedTest : Type 0
-RecordedTest =
-    (next : Next) (r : GroupRecord) (d : Determinant)
+abbrev pub RecordedTest : Type 0 → Type 0 → Type 0
+RecordedTest S N =
+    (next : Next S N) (r : GroupRecord S N) (d : Determinant)
     → IsSound next r → (is_recorded r d ≡ true) ↔ IsRecorded (knowledge r) d
 
 -- the receipts of a member's checkpoint are always recorded: the trace has them, and each of the member's first receipts,
 -- as many as the checkpoint has, is recorded
-unfoldable pub CheckpointIsRecorded : Type 0
-CheckpointIsRecorded =
-    (next : Next) (r : GroupRecord) (m : ℕ)
+unfoldable pub CheckpointIsRecorded : Type 0 → Type 0 → Type 0
+CheckpointIsRecorded S N =
+    (next : Next S N) (r : GroupRecord S N) (m : ℕ)
     → IsSound next r → m < r.config.members
     → ((member_checkpoint r m).received ≤ length (receipts_at (marks r) m))
     × ((d : Determinant) → Has (marks r) (receipt_of d) → d.to ≡ m → d.rsn ≤ (member_checkpoint r m).received → IsRecorded (knowledge r) d)

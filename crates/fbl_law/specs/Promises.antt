@@ -14,44 +14,44 @@ use Rattle.fbl_law.specs.Knowledge.{Includes, Knowledge, table, Names, Holds, Is
 use Rattle.fbl_law.specs.Groups.{GroupRecord, member, marks, knowledge, receipts, is_recorded}
 
 -- the member's table has the determinant
-abbrev pub IsHeldBy : GroupRecord → Determinant → ℕ → Type 0
+abbrev pub IsHeldBy : {S N : Type 0} → GroupRecord S N → Determinant → ℕ → Type 0
 IsHeldBy r d m = is_held (member r m).table d ≡ true
 
 -- more than f members hold the determinant
-abbrev pub IsHeldByMore : GroupRecord → Determinant → Type 0
+abbrev pub IsHeldByMore : {S N : Type 0} → GroupRecord S N → Determinant → Type 0
 IsHeldByMore r d = (holders : Members) × (r.config.f < set.len holders) × ((m : ℕ) → Includes holders m → IsHeldBy r d m)
 
 -- where nobody is down, each receipt's determinant is held by more than f members or by every member whose state depends
 -- on it
-abbrev pub HoldsEachReceipt : GroupRecord → Type 0
+abbrev pub HoldsEachReceipt : {S N : Type 0} → GroupRecord S N → Type 0
 HoldsEachReceipt r =
     r.down ≡ set.empty
     → (d : Determinant) → Has (marks r) (receipt_of d)
     → IsHeldByMore r d ⊎ ((m : ℕ) → Depends (marks r) m (receipt_of d) → IsHeldBy r d m)
 
 -- each receipt that a member outside the set depends on, the table of some member outside the set has
-abbrev pub SurvivorsHold : Knowledge → Members → Type 0
+abbrev pub SurvivorsHold : {S N : Type 0} → Knowledge S N → Members → Type 0
 SurvivorsHold r s =
     (m : ℕ) (d : Determinant) → set.contains s m ≡ false → Depends r.trace m (receipt_of d)
     → (q : ℕ) × (set.contains s q ≡ false) × Names (table r q) d
 
 -- of each member's receipts, up or down, those up to a recorded one are recorded
-abbrev pub RecordsFirst : Knowledge → Type 0
+abbrev pub RecordsFirst : {S N : Type 0} → Knowledge S N → Type 0
 RecordsFirst r = (c d : Determinant) → Has r.trace (receipt_of c) → c.to ≡ d.to → c.rsn ≤ d.rsn → IsRecorded r d → IsRecorded r c
 
 -- whatever precedes a recorded receipt is recorded
-abbrev pub RecordsCauses : Knowledge → Type 0
+abbrev pub RecordsCauses : {S N : Type 0} → Knowledge S N → Type 0
 RecordsCauses r = (c d : Determinant) → IsRecorded r d → Precedes r.trace (receipt_of c) (receipt_of d) → IsRecorded r c
 
 -- the receipts left are exactly the recorded ones, in their order
-pub record LeavesRecorded (old new : GroupRecord) : Type 0 where
+pub record LeavesRecorded {S N : Type 0} (old new : GroupRecord S N) : Type 0 where
   pub exactly : (d : Determinant) → Has (marks new) (receipt_of d) ↔ (Has (marks old) (receipt_of d) × IsRecorded (knowledge old) d)
   pub order : receipts (marks new) ≡ filter (is_recorded old) (receipts (marks old))
 
 -- after a recovery the holders of a receipt are those before it and, of a recorded one, all members that were down
-abbrev pub GainsHolders : Knowledge → Knowledge → Type 0
+abbrev pub GainsHolders : {S N : Type 0} → Knowledge S N → Knowledge S N → Type 0
 GainsHolders old new = (d : Determinant) (m : ℕ) → Holds new d m ↔ IsHolder old d m
 
 -- whoever held a receipt that is left holds it still
-abbrev pub KeepsHolders : Knowledge → Knowledge → Type 0
+abbrev pub KeepsHolders : {S N : Type 0} → Knowledge S N → Knowledge S N → Type 0
 KeepsHolders old new = (d : Determinant) (m : ℕ) → Has new.trace (receipt_of d) → Holds old d m → Holds new d m

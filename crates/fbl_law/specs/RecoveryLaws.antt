@@ -2,7 +2,6 @@
 use Rattle.std.specs.Prelude.{◌≡◌, ℕ, ◌+◌, ◌<◌, ◌⊎◌, ◌↔◌, not, List, length, map, slice_index_or, slice_set, Some}
 use Rattle.std.specs.List.{filter}
 use Rattle.fbl_base.specs.declared.trace.Determinant.{Determinant}
-use Rattle.fbl_base.specs.declared.trace.Note.{Note}
 use Rattle.fbl_base.specs.Events.{mark_of}
 use Rattle.fbl_base.specs.Fold.{Next}
 use Rattle.fbl_table.specs.Tables.{found}
@@ -16,65 +15,65 @@ use Rattle.fbl_law.specs.GroupSteps.{IsRecovery}
 use Rattle.fbl_law.specs.Replaying.{recovered_trace, working, IsReplaying, IsWaiting, IsRebuilt}
 
 -- the holders of a receipt after a recovery are those before
-unfoldable pub GroupRecoveryGainsHolders : Type 0
-GroupRecoveryGainsHolders =
-    (next : Next) (old new : GroupRecord) → IsRecovery next old new → IsSound next old → GainsHolders (knowledge old) (knowledge new)
+unfoldable pub GroupRecoveryGainsHolders : Type 0 → Type 0 → Type 0
+GroupRecoveryGainsHolders S N =
+    (next : Next S N) (old new : GroupRecord S N) → IsRecovery next old new → IsSound next old → GainsHolders (knowledge old) (knowledge new)
 
 -- so those of a recorded receipt are those before, and the members that were down
-unfoldable pub HoldersGainTheDown : Type 0
-HoldersGainTheDown =
-    (next : Next) (old new : GroupRecord) (d : Determinant) (m : ℕ)
+unfoldable pub HoldersGainTheDown : Type 0 → Type 0 → Type 0
+HoldersGainTheDown S N =
+    (next : Next S N) (old new : GroupRecord S N) (d : Determinant) (m : ℕ)
     → IsRecovery next old new → IsSound next old → IsRecorded (knowledge old) d → Holds (knowledge new) d m ↔ Holds (knowledge old) d m ⊎ IsDown (knowledge old) m
 
 -- a recovery leaves exactly the recorded receipts, in their order
-unfoldable pub RecoveryLeavesRecorded : Type 0
-RecoveryLeavesRecorded = (next : Next) (old new : GroupRecord) → IsRecovery next old new → IsSound next old → LeavesRecorded old new
+unfoldable pub RecoveryLeavesRecorded : Type 0 → Type 0 → Type 0
+RecoveryLeavesRecorded S N = (next : Next S N) (old new : GroupRecord S N) → IsRecovery next old new → IsSound next old → LeavesRecorded old new
 
 -- and it undoes the others: the receipts left and the lost ones are as many as there were
-unfoldable pub RecoveryUndoesLost : Type 0
-RecoveryUndoesLost =
-    (next : Next) (old new : GroupRecord)
+unfoldable pub RecoveryUndoesLost : Type 0 → Type 0 → Type 0
+RecoveryUndoesLost S N =
+    (next : Next S N) (old new : GroupRecord S N)
     → IsRecovery next old new → IsSound next old
     → length (receipts (marks new)) + length (filter (λ d. not (is_recorded old d)) (receipts (marks old))) ≡ length (receipts (marks old))
 
 -- one pass over the trace computes the cut
-abbrev pub OnePassCuts : Type 0
-OnePassCuts =
-    (next : Next) (old : GroupRecord) → IsSound next old → IsEventCut (Stays (knowledge old)) old.trace (recovered_trace old)
+abbrev pub OnePassCuts : Type 0 → Type 0 → Type 0
+OnePassCuts S N =
+    (next : Next S N) (old : GroupRecord S N) → IsSound next old → IsEventCut (Stays (knowledge old)) old.trace (recovered_trace old)
 
 -- and a recovery leaves no other trace
-abbrev pub CutIsOne : Type 0
-CutIsOne =
-    (next : Next) (old new : GroupRecord) → IsRecovery next old new → IsSound next old → new.trace ≡ recovered_trace old
+abbrev pub CutIsOne : Type 0 → Type 0 → Type 0
+CutIsOne S N =
+    (next : Next S N) (old new : GroupRecord S N) → IsRecovery next old new → IsSound next old → new.trace ≡ recovered_trace old
 
 -- replay begins at the checkpoints of the members that are down
-abbrev pub ReplayBegins : Type 0
-ReplayBegins =
-    (next : Next) (old : GroupRecord) (rebuilt : List MemberRecord)
+abbrev pub ReplayBegins : Type 0 → Type 0 → Type 0
+ReplayBegins S N =
+    (next : Next S N) (old : GroupRecord S N) (rebuilt : List (MemberRecord S N))
     → IsSound next old → length rebuilt ≡ old.config.members
-    → ((p : ℕ) → p < old.config.members → IsDown (knowledge old) p → slice_index_or rebuilt p blank ≡ member_checkpoint old p)
+    → ((p : ℕ) → p < old.config.members → IsDown (knowledge old) p → slice_index_or rebuilt p (blank old.outside) ≡ member_checkpoint old p)
     → IsReplaying next old rebuilt
 
 -- a receipt that the gathered tables find is the member's next one, and its replay, with the note that the sender's log
 -- has, is right
-abbrev pub ReplayIsRight : Type 0
-ReplayIsRight =
-    (next : Next) (old : GroupRecord) (rebuilt : List MemberRecord) (p : ℕ) (d : Determinant) (note : Note)
+abbrev pub ReplayIsRight : Type 0 → Type 0 → Type 0
+ReplayIsRight S N =
+    (next : Next S N) (old : GroupRecord S N) (rebuilt : List (MemberRecord S N)) (p : ℕ) (d : Determinant) (note : N)
     → IsSound next old → IsReplaying next old rebuilt → p < old.config.members → IsDown (knowledge old) p
-    → found p ((slice_index_or rebuilt p blank).received + 1) (recovery_table (knowledge old)) ≡ Some d
+    → found p ((slice_index_or rebuilt p (blank old.outside)).received + 1) (recovery_table (knowledge old)) ≡ Some d
     → logged_note (working old rebuilt d.from).log d.ssn ≡ Some note
-    → IsReplaying next old (slice_set rebuilt p (replayed_by next p old.config.members (slice_index_or rebuilt p blank) d note))
+    → IsReplaying next old (slice_set rebuilt p (replayed_by next p old.config.members (slice_index_or rebuilt p (blank old.outside)) d note))
 
 -- replay never gets stuck: where each member that is down waits, each has replayed all its receipts that stay
-abbrev pub ReplayEnds : Type 0
-ReplayEnds =
-    (next : Next) (old : GroupRecord) (rebuilt : List MemberRecord)
+abbrev pub ReplayEnds : Type 0 → Type 0 → Type 0
+ReplayEnds S N =
+    (next : Next S N) (old : GroupRecord S N) (rebuilt : List (MemberRecord S N))
     → IsSound next old → IsReplaying next old rebuilt → ((p : ℕ) → p < old.config.members → IsDown (knowledge old) p → IsWaiting old rebuilt p)
-    → (p : ℕ) → p < old.config.members → IsDown (knowledge old) p → (slice_index_or rebuilt p blank).received ≡ length (receipts_at (map mark_of (recovered_trace old)) p)
+    → (p : ℕ) → p < old.config.members → IsDown (knowledge old) p → (slice_index_or rebuilt p (blank old.outside)).received ≡ length (receipts_at (map mark_of (recovered_trace old)) p)
 
 -- and the records then rebuilt make a recovery
-abbrev pub RebuiltIsRecovered : Type 0
-RebuiltIsRecovered =
-    (next : Next) (old new : GroupRecord) (rebuilt : List MemberRecord)
+abbrev pub RebuiltIsRecovered : Type 0 → Type 0 → Type 0
+RebuiltIsRecovered S N =
+    (next : Next S N) (old new : GroupRecord S N) (rebuilt : List (MemberRecord S N))
     → IsSound next old → IsReplaying next old rebuilt → ((p : ℕ) → p < old.config.members → IsDown (knowledge old) p → IsWaiting old rebuilt p)
     → IsRebuilt old new rebuilt → IsRecovery next old new

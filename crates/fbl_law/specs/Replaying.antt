@@ -3,7 +3,6 @@ use Rattle.std.specs.Prelude.{◌≡◌, ◌≢◌, ℕ, ◌+◌, ◌-◌, ◌<�
 use Rattle.std.specs.FinSet as set
 use Rattle.fbl_base.specs.MemberSets.{Members}
 use Rattle.fbl_base.specs.declared.trace.Determinant.{Determinant}
-use Rattle.fbl_base.specs.declared.trace.Note.{Note}
 use Rattle.fbl_base.specs.declared.trace.Event.{Event}
 use Rattle.fbl_base.specs.declared.trace.Mark.{Mark}
 use Rattle.fbl_base.specs.declared.trace.Mark.TheVariants.{Send, Receipt}
@@ -19,7 +18,7 @@ use Rattle.fbl_law.specs.Sound.{IsReplayed}
 use Rattle.fbl_law.specs.GroupSteps.{IsBroughtBack}
 
 -- the determinant is that of the next receipt of the member p, from another member of the group, and there is room for it
-pub record IsNextReplay (n p : ℕ) (m : MemberRecord) (d : Determinant) : Type 0 where
+pub record IsNextReplay {S N : Type 0} (n p : ℕ) (m : MemberRecord S N) (d : Determinant) : Type 0 where
   pub to : d.to ≡ p
   pub rsn : d.rsn ≡ m.received + 1
   pub from : d.from < n
@@ -31,7 +30,7 @@ abbrev pub count_in : Members → (ℕ → ℕ) → ℕ → ℕ
 count_in s count n = sum_below n (λ m. if set.contains s m then count m else 0)
 
 -- whether the receipt is one that a member that is down replays: one beyond those of its checkpoint
-abbrev pub is_replayed : GroupRecord → Determinant → Bool
+abbrev pub is_replayed : {S N : Type 0} → GroupRecord S N → Determinant → Bool
 is_replayed r d = set.contains r.down d.to && nat_lt (member_checkpoint r d.to).received d.rsn
 
 -- whether the event is a receipt, of a member of the set, whose determinant isn't in the table
@@ -40,7 +39,7 @@ stops_at s held (Send from ssn to) = false
 stops_at s held (Receipt to rsn from ssn) = set.contains s to && not (is_held held (record { from = from; ssn = ssn; to = to; rsn = rsn }))
 
 -- the trace in one pass, where the members that have stopped are left out, and a member stops at its first lost receipt
-abbrev pub cut_from : Members → List Entry → Members → List Event → List Event
+abbrev pub cut_from : {N : Type 0} → Members → List Entry → Members → List (Event N) → List (Event N)
 cut_from s held stopped [] = []
 cut_from s held stopped (e ∷ trace) =
     if set.contains stopped (member_of (mark_of e)) then cut_from s held stopped trace
@@ -48,52 +47,52 @@ cut_from s held stopped (e ∷ trace) =
     else e ∷ cut_from s held stopped trace)
 
 -- the trace that recovery leaves
-abbrev pub recovered_trace : GroupRecord → List Event
+abbrev pub recovered_trace : {S N : Type 0} → GroupRecord S N → List (Event N)
 recovered_trace r = cut_from r.down (recovery_table (knowledge r)) set.empty r.trace
 
 -- whether the event stays, by how many receipts and sends the members of the set have after their replay
-abbrev pub stays_by : Members → (ℕ → MemberRecord) → Mark → Bool
+abbrev pub stays_by : {S N : Type 0} → Members → (ℕ → MemberRecord S N) → Mark → Bool
 stays_by s work (Send from ssn to) = not (set.contains s from) || nat_le ssn (length (work from).log)
 stays_by s work (Receipt to rsn from ssn) = not (set.contains s to) || nat_le rsn (work to).received
 
 -- messages from one member to another with these numbers and notes, all with the same entries
-abbrev pub resent : ℕ → ℕ → List Entry → List (ℕ × Note) → List Message
+abbrev pub resent : {N : Type 0} → ℕ → ℕ → List Entry → List (ℕ × N) → List (Message N)
 resent q p carried sends = map (λ s. record { from = q; to = p; ssn = s.0; note = s.1; carried = carried }) sends
 
 -- what q sends to p again: the messages of its log beyond the last one that p received, each with what q passes on
-abbrev pub resent_to : ℕ → ℕ → ℕ → MemberRecord → MemberRecord → List Message
+abbrev pub resent_to : {S N : Type 0} → ℕ → ℕ → ℕ → MemberRecord S N → MemberRecord S N → List (Message N)
 resent_to f q p from to = resent q p (piggybacked f from.table) (logged_beyond from.log p (last_from to q))
 
 -- what q sends to p again, if one of the two is in the set
-abbrev pub sent_again : ℕ → Members → (ℕ → MemberRecord) → ℕ → ℕ → List Message
+abbrev pub sent_again : {S N : Type 0} → ℕ → Members → (ℕ → MemberRecord S N) → ℕ → ℕ → List (Message N)
 sent_again f s work q p = if set.contains s q || set.contains s p then resent_to f q p (work q) (work p) else []
 
 -- the records while the members that are down replay: theirs are rebuilt, the survivors' are as they were
-abbrev pub working : GroupRecord → List MemberRecord → ℕ → MemberRecord
-working r rebuilt q = if set.contains r.down q then slice_index_or rebuilt q blank else member r q
+abbrev pub working : {S N : Type 0} → GroupRecord S N → List (MemberRecord S N) → ℕ → MemberRecord S N
+working r rebuilt q = if set.contains r.down q then slice_index_or rebuilt q (blank r.outside) else member r q
 
 -- each member that is down has a record that has come so far, from its checkpoint on, in its replay of the trace that
 -- recovery leaves
-pub record IsReplaying (next : Next) (r : GroupRecord) (rebuilt : List MemberRecord) : Type 0 where
+pub record IsReplaying {S N : Type 0} (next : Next S N) (r : GroupRecord S N) (rebuilt : List (MemberRecord S N)) : Type 0 where
   pub size : length rebuilt ≡ r.config.members
-  pub replayed : (p : ℕ) → p < r.config.members → IsDown (knowledge r) p → IsReplayed next r.config.members r.config.starts (recovered_trace r) p (slice_index_or rebuilt p blank)
-  pub begun : (p : ℕ) → p < r.config.members → IsDown (knowledge r) p → (member_checkpoint r p).received ≤ (slice_index_or rebuilt p blank).received
+  pub replayed : (p : ℕ) → p < r.config.members → IsDown (knowledge r) p → IsReplayed next r.config.members r.config.starts (recovered_trace r) p (slice_index_or rebuilt p (blank r.outside))
+  pub begun : (p : ℕ) → p < r.config.members → IsDown (knowledge r) p → (member_checkpoint r p).received ≤ (slice_index_or rebuilt p (blank r.outside)).received
 
 -- a member that is down waits for the message that it received next: the gathered tables find no such receipt, or the
 -- sender has not sent the message again
-abbrev pub IsWaiting : GroupRecord → List MemberRecord → ℕ → Type 0
+abbrev pub IsWaiting : {S N : Type 0} → GroupRecord S N → List (MemberRecord S N) → ℕ → Type 0
 IsWaiting r rebuilt p =
-    (d : Determinant) → found p ((slice_index_or rebuilt p blank).received + 1) (recovery_table (knowledge r)) ≡ Some d → logged_note (working r rebuilt d.from).log d.ssn ≡ None
+    (d : Determinant) → found p ((slice_index_or rebuilt p (blank r.outside)).received + 1) (recovery_table (knowledge r)) ≡ Some d → logged_note (working r rebuilt d.from).log d.ssn ≡ None
 
 -- how many receipts were replayed: those that the members that are down have beyond their checkpoints
-abbrev pub replayed_in : GroupRecord → List MemberRecord → ℕ
-replayed_in r rebuilt = count_in r.down (λ p. (slice_index_or rebuilt p blank).received - (member_checkpoint r p).received) r.config.members
+abbrev pub replayed_in : {S N : Type 0} → GroupRecord S N → List (MemberRecord S N) → ℕ
+replayed_in r rebuilt = count_in r.down (λ p. (slice_index_or rebuilt p (blank r.outside)).received - (member_checkpoint r p).received) r.config.members
 
 -- a group after the replay: the trace is cut, each member that was down has its rebuilt record with the gathered table, and
 -- each channel with such an end has what its sender sends again
-pub record IsRebuilt (old new : GroupRecord) (replayed : List MemberRecord) : Type 0 where
+pub record IsRebuilt {S N : Type 0} (old new : GroupRecord S N) (replayed : List (MemberRecord S N)) : Type 0 where
   pub rest : IsBroughtBack old new
   pub trace : new.trace ≡ recovered_trace old
-  pub rebuilt : (m : ℕ) → m < old.config.members → IsDown (knowledge old) m → member new m ≡ record (slice_index_or replayed m blank) { table = recovery_table (knowledge old) }
+  pub rebuilt : (m : ℕ) → m < old.config.members → IsDown (knowledge old) m → member new m ≡ record (slice_index_or replayed m (blank old.outside)) { table = recovery_table (knowledge old) }
   pub resent : (q p : ℕ) → IsDown (knowledge old) q ⊎ IsDown (knowledge old) p → q < old.config.members → p < old.config.members
       → channel new q p ≡ resent_to old.config.f q p (member new q) (member new p)

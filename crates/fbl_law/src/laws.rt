@@ -10,40 +10,40 @@ ghost use Rattle.fbl_law.specs.Laws.{ClosedIsHeld, ClosedHasNoOrphan, ClosedReco
 /// Where tables name their causes, each receipt is stable or held by each up member that depends on it, so no up member is
 /// an orphan; what precedes a recorded receipt is recorded, so that, where the trace is well formed and knowledge true, a
 /// member's recorded receipts are its first ones.
-pub fn closed_law()
-    ensures held { ClosedIsHeld }
-    ensures orphans { ClosedHasNoOrphan }
-    ensures causes { ClosedRecordsCauses }
-    ensures first { ClosedRecordsFirst }
+pub fn closed_law<S, N>()
+    ensures held { ClosedIsHeld S N }
+    ensures orphans { ClosedHasNoOrphan S N }
+    ensures causes { ClosedRecordsCauses S N }
+    ensures first { ClosedRecordsFirst S N }
 {}
 
 /// A delivery keeps a record sound.
-pub fn delivery_law()
-    ensures { DeliveryKeeps }
+pub fn delivery_law<S, N>()
+    ensures { DeliveryKeeps S N }
 {}
 
 /// A strike after which at most f members are down keeps a record sound. Whichever members are struck, at most f with those
 /// that are down: what a survivor depends on, the table of a survivor has.
-pub fn strike_law()
-    ensures sound { StrikeKeeps }
-    ensures survivors { AnySurvivorsHold }
+pub fn strike_law<S, N>()
+    ensures sound { StrikeKeeps S N }
+    ensures survivors { AnySurvivorsHold S N }
 {}
 
 /// A checkpoint of a member keeps a record sound.
-pub fn checkpoint_law()
-    ensures { CheckpointKeeps }
+pub fn checkpoint_law<S, N>()
+    ensures { CheckpointKeeps S N }
 {}
 
 /// A recovery keeps a record sound. An event stays exactly where each receipt that precedes it is recorded, so all that
 /// precedes it stays with it, and exactly the recorded receipts stay; a receipt's holders stay, the trace stays lawful, and
 /// replay never gets stuck.
-pub fn recovery_law()
-    ensures sound { RecoveryKeeps }
-    ensures stays { StaysIsRecorded }
-    ensures closed { CutIsClosed }
-    ensures recorded { CutIsRecorded }
-    ensures holders { RecoveryGainsHolders }
-    ensures lawful { CutIsLawful }
+pub fn recovery_law<S, N>()
+    ensures sound { RecoveryKeeps S N }
+    ensures stays { StaysIsRecorded S N }
+    ensures closed { CutIsClosed S N }
+    ensures recorded { CutIsRecorded S N }
+    ensures holders { RecoveryGainsHolders S N }
+    ensures lawful { CutIsLawful S N }
     ensures replay { NeverStuck }
 {}
 
@@ -51,7 +51,7 @@ pub fn recovery_law()
 /// sound, each receipt has more than f holders or is held by each up member that depends on it, and no up member depends on
 /// a receipt that isn't recorded.
 #[tactic(auto, using(crate::proofs::Run::run_is_sound, crate::proofs::Run::run_is_held))]
-pub fn run_law()
-    ensures sound { RunIsSound }
-    ensures held { RunIsHeld }
+pub fn run_law<S, N>()
+    ensures sound { RunIsSound S N }
+    ensures held { RunIsHeld S N }
 {}

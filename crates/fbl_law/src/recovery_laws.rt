@@ -5,35 +5,35 @@ ghost use Rattle.fbl_law.specs.GroupLaws.{GroupRecoveryKeeps};
 ghost use Rattle.fbl_law.specs.RecoveryLaws.{GroupRecoveryGainsHolders, HoldersGainTheDown, RecoveryLeavesRecorded, RecoveryUndoesLost, OnePassCuts, CutIsOne, ReplayBegins, ReplayIsRight, ReplayEnds, RebuiltIsRecovered};
 
 /// A recovery keeps a group sound.
-pub fn group_recovery_law()
-    ensures { GroupRecoveryKeeps }
+pub fn group_recovery_law<S, N>()
+    ensures { GroupRecoveryKeeps S N }
 {}
 
 /// The holders of a receipt after a recovery are those before it: of a recorded receipt, with all members that were down.
 #[tactic(auto, using(crate::proofs::GroupRecovery::group_recovery_gains_holders, crate::proofs::GroupRecovery::holders_gain_the_down))]
-pub fn recovered_holders_law()
-    ensures stay { GroupRecoveryGainsHolders }
-    ensures gain { HoldersGainTheDown }
+pub fn recovered_holders_law<S, N>()
+    ensures stay { GroupRecoveryGainsHolders S N }
+    ensures gain { HoldersGainTheDown S N }
 {}
 
 /// A recovery leaves the recorded receipts, in their order, and undoes the lost ones.
 #[tactic(auto, using(crate::proofs::GroupRecovery::recovery_leaves_recorded, crate::proofs::GroupRecovery::recovery_undoes_lost))]
-pub fn undone_law()
-    ensures left { RecoveryLeavesRecorded }
-    ensures undone { RecoveryUndoesLost }
+pub fn undone_law<S, N>()
+    ensures left { RecoveryLeavesRecorded S N }
+    ensures undone { RecoveryUndoesLost S N }
 {}
 
 /// One pass over a sound group's trace computes the trace that a recovery leaves.
-pub fn cut_law()
-    ensures cut { OnePassCuts }
-    ensures one { CutIsOne }
+pub fn cut_law<S, N>()
+    ensures cut { OnePassCuts S N }
+    ensures one { CutIsOne S N }
 {}
 
 /// Replay begins at the checkpoints; that of what the gathered tables find, with the notes of the senders' logs, is right
 /// and never gets stuck, and what it rebuilds makes a recovery.
-pub fn replay_law()
-    ensures begins { ReplayBegins }
-    ensures right { ReplayIsRight }
-    ensures ends { ReplayEnds }
-    ensures recovered { RebuiltIsRecovered }
+pub fn replay_law<S, N>()
+    ensures begins { ReplayBegins S N }
+    ensures right { ReplayIsRight S N }
+    ensures ends { ReplayEnds S N }
+    ensures recovered { RebuiltIsRecovered S N }
 {}

@@ -10,19 +10,15 @@ use fbl_base::Behaviour;
 /// A behaviour whose steps keep a weight, from any state and at any note: what the new state and the sends weigh, the old
 /// state and the note did.
 ///
-/// `mass` is what a member's state weighs, `weight` what a note weighs. `nothing` shows that a state 0 weighs nothing, and
-/// `conserves` that a step keeps the sum.
+/// `mass` is what a member's state weighs, `weight` what a note weighs. `conserves` shows that a step keeps the sum.
 pub trait Conserving: Behaviour {
-    ghost use Rattle.std.specs.Prelude.{◌≡◌, ℕ};
-    ghost use Rattle.fbl_base.specs.declared.trace.Note.{Note};
+    ghost use Rattle.std.specs.Prelude.{ℕ};
     ghost use Rattle.fbl_base.specs.Configs.{MembersAllowed};
     ghost use Rattle.fbl_law.specs.StepLaws.{AnyState, AnyNote, StepConserves};
 
-    ghost mass: { ℕ → ℕ → ℕ };
+    ghost mass: { ℕ → Self.State → ℕ };
 
-    ghost weight: { Note → ℕ };
-
-    ghost nothing: { (me : ℕ) → mass me 0 ≡ 0 };
+    ghost weight: { Self.Note → ℕ };
 
     ghost conserves: { (n : ℕ) → MembersAllowed n → StepConserves Self.next n AnyState AnyNote mass weight };
 }
@@ -30,38 +26,33 @@ pub trait Conserving: Behaviour {
 /// A behaviour with predicates that each step keeps.
 ///
 /// `states` is of the group's parameters, a member and its state; `notes` is of the parameters, a message's sender, its
-/// receiver and its note. They hold of the states 0 and of the starts, whatever parameters a group has, as `first` shows;
+/// receiver and its note. They hold of the first states and of the starts, whatever parameters a group has, as `first` shows;
 /// `keeps` shows that each step keeps them.
 pub trait Keeping: Behaviour {
     ghost use Rattle.std.specs.Prelude.{ℕ};
-    ghost use Rattle.fbl_base.specs.declared.trace.Note.{Note};
     ghost use Rattle.fbl_base.specs.Configs.{Settings, IsConfig};
     ghost use Rattle.fbl_law.specs.StepLaws.{HoldsFirst, StepKeeps};
 
-    ghost states: { Settings → ℕ → ℕ → Type 0 };
+    ghost states: { Settings Self.Note → ℕ → Self.State → Type 0 };
 
-    ghost notes: { Settings → ℕ → ℕ → Note → Type 0 };
+    ghost notes: { Settings Self.Note → ℕ → ℕ → Self.Note → Type 0 };
 
-    ghost first: { (c : Settings) → IsConfig c → HoldsFirst c (states c) (notes c) };
+    ghost first: { (c : Settings Self.Note) → IsConfig Self.next.allowed c → HoldsFirst Self.next c (states c) (notes c) };
 
-    ghost keeps: { (c : Settings) → IsConfig c → StepKeeps Self.next c.members (states c) (notes c) };
+    ghost keeps: { (c : Settings Self.Note) → IsConfig Self.next.allowed c → StepKeeps Self.next c.members (states c) (notes c) };
 }
 
 /// A behaviour with predicates that each step keeps, and with a weight, of which one of the traits below says what becomes in
 /// a step that starts from the predicates.
 ///
-/// `mass` is what a member's state weighs, `weight` what a note weighs, both by the group's parameters. `nothing` shows
-/// that a state 0 weighs nothing.
+/// `mass` is what a member's state weighs, `weight` what a note weighs, both by the group's parameters.
 pub trait Weighing: Keeping {
-    ghost use Rattle.std.specs.Prelude.{◌≡◌, ℕ};
-    ghost use Rattle.fbl_base.specs.declared.trace.Note.{Note};
+    ghost use Rattle.std.specs.Prelude.{ℕ};
     ghost use Rattle.fbl_base.specs.Configs.{Settings};
 
-    ghost mass: { Settings → ℕ → ℕ → ℕ };
+    ghost mass: { Settings Self.Note → ℕ → Self.State → ℕ };
 
-    ghost weight: { Settings → Note → ℕ };
-
-    ghost nothing: { (c : Settings) (me : ℕ) → mass c me 0 ≡ 0 };
+    ghost weight: { Settings Self.Note → Self.Note → ℕ };
 }
 
 /// Each step keeps the weight.
@@ -69,7 +60,7 @@ pub trait KeepingWeight: Weighing {
     ghost use Rattle.fbl_base.specs.Configs.{Settings, IsConfig};
     ghost use Rattle.fbl_law.specs.StepLaws.{StepConserves};
 
-    ghost keeps_weight: { (c : Settings) → IsConfig c → StepConserves Self.next c.members (Self.states c) (Self.notes c) (Self.mass c) (Self.weight c) };
+    ghost keeps_weight: { (c : Settings Self.Note) → IsConfig Self.next.allowed c → StepConserves Self.next c.members (Self.states c) (Self.notes c) (Self.mass c) (Self.weight c) };
 }
 
 /// No step makes weight.
@@ -77,7 +68,7 @@ pub trait MakingNone: Weighing {
     ghost use Rattle.fbl_base.specs.Configs.{Settings, IsConfig};
     ghost use Rattle.fbl_law.specs.StepLaws.{StepMakesNone};
 
-    ghost makes_none: { (c : Settings) → IsConfig c → StepMakesNone Self.next c.members (Self.states c) (Self.notes c) (Self.mass c) (Self.weight c) };
+    ghost makes_none: { (c : Settings Self.Note) → IsConfig Self.next.allowed c → StepMakesNone Self.next c.members (Self.states c) (Self.notes c) (Self.mass c) (Self.weight c) };
 }
 
 /// No step loses weight.
@@ -85,31 +76,31 @@ pub trait LosingNone: Weighing {
     ghost use Rattle.fbl_base.specs.Configs.{Settings, IsConfig};
     ghost use Rattle.fbl_law.specs.StepLaws.{StepLosesNone};
 
-    ghost loses_none: { (c : Settings) → IsConfig c → StepLosesNone Self.next c.members (Self.states c) (Self.notes c) (Self.mass c) (Self.weight c) };
+    ghost loses_none: { (c : Settings Self.Note) → IsConfig Self.next.allowed c → StepLosesNone Self.next c.members (Self.states c) (Self.notes c) (Self.mass c) (Self.weight c) };
 }
 
-/// Where each step keeps the weight, every sound group weighs what its starts do.
+/// Where each step keeps the weight, every sound group weighs what it began with, its first states and its starts.
 pub fn conserved_law<B: Conserving>()
-    ensures { (r : GroupRecord) → IsSound B.next r → WeighsTheSame B.mass B.weight r }
+    ensures { (r : GroupRecord B.State B.Note) → IsSound B.next r → WeighsTheSame B.next B.mass B.weight r }
 {}
 
 /// What each step keeps holds of every sound group: of each state and each checkpoint's, of each message in flight and each
 /// send of the trace.
 pub fn kept_law<B: Keeping>()
-    ensures { (r : GroupRecord) → IsSound B.next r → HoldsOf r (B.states r.config) (B.notes r.config) }
+    ensures { (r : GroupRecord B.State B.Note) → IsSound B.next r → HoldsOf r (B.states r.config) (B.notes r.config) }
 {}
 
-/// Where each step from the predicates keeps the weight, every sound group weighs what its starts do.
+/// Where each step from the predicates keeps the weight, every sound group weighs what it began with, its first states and its starts.
 pub fn weight_kept_law<B: KeepingWeight>()
-    ensures { (r : GroupRecord) → IsSound B.next r → WeighsTheSame (B.mass r.config) (B.weight r.config) r }
+    ensures { (r : GroupRecord B.State B.Note) → IsSound B.next r → WeighsTheSame B.next (B.mass r.config) (B.weight r.config) r }
 {}
 
-/// Where no step from the predicates makes weight, every sound group weighs no more than its starts, whoever is down.
+/// Where no step from the predicates makes weight, every sound group weighs no more than it began with, whoever is down.
 pub fn none_made_law<B: MakingNone>()
-    ensures { (r : GroupRecord) → IsSound B.next r → WeighsNoMore (B.mass r.config) (B.weight r.config) r }
+    ensures { (r : GroupRecord B.State B.Note) → IsSound B.next r → WeighsNoMore B.next (B.mass r.config) (B.weight r.config) r }
 {}
 
-/// Where no step from the predicates loses weight, every sound group weighs no less than its starts where nobody is down.
+/// Where no step from the predicates loses weight, every sound group weighs no less than it began with where nobody is down.
 pub fn none_lost_law<B: LosingNone>()
-    ensures { (r : GroupRecord) → IsSound B.next r → WeighsNoLess (B.mass r.config) (B.weight r.config) r }
+    ensures { (r : GroupRecord B.State B.Note) → IsSound B.next r → WeighsNoLess B.next (B.mass r.config) (B.weight r.config) r }
 {}

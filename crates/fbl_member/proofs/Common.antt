@@ -14,7 +14,6 @@ pub use Rattle.fbl_base.proofs.Sifted.{length-filter_map}
 pub use Rattle.fbl_base.specs.Events.{same_determinant}
 pub use Rattle.fbl_base.specs.Fold.{numbered, starts_of}
 pub use Rattle.fbl_base.specs.declared.trace.Determinant.{Determinant}
-pub use Rattle.fbl_base.specs.declared.trace.Note.{Note}
 pub use Rattle.fbl_base.specs.declared.trace.Start.{Start}
 pub use Rattle.fbl_table.specs.Tables.{is_open, piggybacked}
 pub use Rattle.fbl_table.specs.declared.entry.Entry.{Entry}

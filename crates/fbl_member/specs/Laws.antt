@@ -1,25 +1,24 @@
 -- How a member's record follows the fold of its receipts, for the function that states it.
 use Rattle.std.specs.Prelude.{◌≡◌, ℕ, List, []}
 use Rattle.fbl_base.specs.declared.trace.Determinant.{Determinant}
-use Rattle.fbl_base.specs.declared.trace.Note.{Note}
 use Rattle.fbl_base.specs.declared.trace.Start.{Start}
 use Rattle.fbl_base.specs.Fold.{Next, advanced, after_notes}
 use Rattle.fbl_member.specs.Members.{MemberRecord, Message, progress_of, fresh, received_by, replayed_by}
 
 -- a member that has received nothing is at the fold of no notes
-abbrev pub FreshIsBegun : Type 0
-FreshIsBegun =
-    (next : Next) (me n : ℕ) (starts : List Start)
-    → progress_of (fresh me starts) ≡ after_notes next me n starts []
+abbrev pub FreshIsBegun : Type 0 → Type 0 → Type 0
+FreshIsBegun S N =
+    (next : Next S N) (me n : ℕ) (starts : List (Start N))
+    → progress_of (fresh (next.initial me n) me starts) ≡ after_notes next me n starts []
 
 -- the receipt of a message is one step of the fold, by the message's note
-abbrev pub ReceivedIsAdvanced : Type 0
-ReceivedIsAdvanced =
-    (next : Next) (me n : ℕ) (m : MemberRecord) (v : Message)
-    → progress_of (received_by me m v (next me n m.state v.note)) ≡ advanced next me n (progress_of m) v.note
+abbrev pub ReceivedIsAdvanced : Type 0 → Type 0 → Type 0
+ReceivedIsAdvanced S N =
+    (next : Next S N) (me n : ℕ) (m : MemberRecord S N) (v : Message N)
+    → progress_of (received_by me m v (next.step me n m.state v.note)) ≡ advanced next me n (progress_of m) v.note
 
 -- the replay of a receipt is one step of the fold, by the note of its message
-abbrev pub ReplayedIsAdvanced : Type 0
-ReplayedIsAdvanced =
-    (next : Next) (me n : ℕ) (m : MemberRecord) (d : Determinant) (note : Note)
+abbrev pub ReplayedIsAdvanced : Type 0 → Type 0 → Type 0
+ReplayedIsAdvanced S N =
+    (next : Next S N) (me n : ℕ) (m : MemberRecord S N) (d : Determinant) (note : N)
     → progress_of (replayed_by next me n m d note) ≡ advanced next me n (progress_of m) note

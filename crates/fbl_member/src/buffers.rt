@@ -8,24 +8,24 @@ ghost use Rattle.fbl_member.specs.Rooms.{HasRoom, HasRooms};
 
 use crate::carried::Carried;
 use crate::wire::Wire;
-use fbl_base::{Member, Note};
+use fbl_base::Member;
 use fbl_table::{Entry, Table};
 use std::alloc::{AllocError, Allocator};
 
 /// Room for the messages of a step, and a list for each with room for what it carries.
 #[derive(Drop)]
-pub(crate) struct Buffers<A: Allocator> {
-    wires: Vec<Wire<A>, A>,
+pub(crate) struct Buffers<N, A: Allocator> {
+    wires: Vec<Wire<N, A>, A>,
     lists: Vec<Vec<Entry, A>, A>,
 }
 
-impl<A: Allocator + Copy> Buffers<A> {
+impl<N: Copy, A: Allocator + Copy> Buffers<N, A> {
     /// Room for so many messages, each with at most so many entries.
     pub(crate) fn for_messages(
         alloc: A,
         messages: usize,
         entries: usize,
-    ) -> Result<Buffers<A>, AllocError>
+    ) -> Result<Buffers<N, A>, AllocError>
         ensures { IfOk result (HasRooms messages entries) }
     {
         Ok(Buffers {
@@ -40,10 +40,10 @@ impl<A: Allocator + Copy> Buffers<A> {
         self,
         me: Member,
         before: u32,
-        sends: &[(Member, Note)],
+        sends: &[(Member, N)],
         table: &Table<A>,
         f: u8,
-    ) -> Vec<Wire<A>, A>
+    ) -> Vec<Wire<N, A>, A>
         requires rooms { HasRooms (length sends.now) (length (piggybacked f table.now)) self }
         requires numbers { before + length sends.now ≤ 8192 }
         ensures { result.items ≡ messages_from me before (piggybacked f table.now) sends.now }
@@ -81,9 +81,9 @@ fn empty_lists<A: Allocator + Copy>(
 
 /// What the next of so many messages of a step carries: the list of the one made before, if that can be shared, and else a
 /// list of what the table passes on.
-fn next_carried<A: Allocator + Copy>(
+fn next_carried<N: Copy, A: Allocator + Copy>(
     reserved: Vec<Entry, A>,
-    made: Option<&Wire<A>>,
+    made: Option<&Wire<N, A>>,
     table: &Table<A>,
     f: u8,
     messages: usize,

@@ -7,7 +7,7 @@ ghost use Rattle.fbl_member.specs.Members.{fresh, blank, last_from, next_determi
 
 use crate::buffers::Buffers;
 use crate::wire::Wire;
-use fbl_base::{Behaviour, Config, Determinant, Member, Note, Outcome};
+use fbl_base::{Behaviour, Config, Content, Determinant, Member, Note, Outcome};
 use fbl_table::Table;
 use std::alloc::{AllocError, Allocator, Global};
 use std::marker::Model;
@@ -17,24 +17,23 @@ use std::marker::Model;
 ///
 /// Where a call that takes memory answers `Err`, there was too little of it, and what the call was lent is as it was.
 #[derive(Drop)]
-pub struct MemberRec<A: Allocator = Global> {
-    state: u64,
+pub struct MemberRec<S = u64, N = Note, A: Allocator = Global> {
+    state: S,
     received: u32,
     last: [u32; 16],
-    log: Vec<(Member, Note), A>,
+    log: Vec<(Member, N), A>,
     table: Table<A>,
 }
 
-impl<A: Allocator> Model for MemberRec<A> {
+impl<S, N, A: Allocator> Model for MemberRec<S, N, A> {
     ghost use Rattle.fbl_member.specs.Members.{MemberRecord};
 
-    ghost Value = { MemberRecord };
+    ghost Value = { MemberRecord S N };
 
     ghost use Rattle.std.specs.Coded.{codes};
-    ghost use Rattle.fbl_base.specs.contracts.trace.Note as content;
     ghost use Rattle.fbl_table.specs.contracts.entry.Entry as entry;
 
-    ghost coded = { Prim.hlevel (codes, content.the_row.coded, entry.the_row.coded) };
+    ghost coded = { Prim.hlevel (codes, S.code, N.code, entry.the_row.coded) };
 
     ghost use Rattle.std.specs.Prelude.{◌≡◌, ◌≤◌, length};
     ghost use Rattle.fbl_base.specs.Fold.{numbered};
@@ -44,11 +43,16 @@ impl<A: Allocator> Model for MemberRec<A> {
     ghost invariant = { λ m. (length m.last ≡ 16) × (m.received ≤ 8192) × (length m.log.items ≤ 8192) };
 }
 
-impl<A: Allocator + Copy> MemberRec<A> {
-    /// A member that has received nothing and sent its starts, in their order, with the numbers 1, 2, and so on. `Err`
-    /// comes only where there is no memory for the log.
-    pub fn fresh(alloc: A, config: &Config<A>, me: Member) -> Result<MemberRec<A>, AllocError>
-        ensures { IfOk result (λ m. m ≡ fresh me config.now.starts) }
+impl<S: Copy, N: Content, A: Allocator + Copy> MemberRec<S, N, A> {
+    /// A member in this state that has received nothing and sent its starts, in their order, with the numbers 1, 2, and so
+    /// on. `Err` comes only where there is no memory for the log.
+    pub fn fresh(
+        alloc: A,
+        config: &Config<N, A>,
+        initial: S,
+        me: Member,
+    ) -> Result<MemberRec<S, N, A>, AllocError>
+        ensures { IfOk result (λ m. m ≡ fresh initial me config.now.starts) }
     {
         // the configuration's rules say that there are few starts, so that the log is not too long
         let _members = config.members();
@@ -58,19 +62,19 @@ impl<A: Allocator + Copy> MemberRec<A> {
                 log.push((start.to, start.note))?;
             }
         }
-        let mut member = MemberRec::blank(alloc, config.f());
+        let mut member = MemberRec::blank(alloc, config.f(), initial);
         member.log = log;
         Ok(member)
     }
 
-    /// A member that has received nothing and sent nothing. `f` is how many members of its group may be lost at once:
+    /// A member in this state that has received nothing and sent nothing. `f` is how many members of its group may be lost at once:
     /// the member's table finds fast what at most that many are known to hold. It changes no answer. No memory is
     /// taken.
-    pub fn blank(alloc: A, f: u8) -> MemberRec<A>
-        ensures { result ≡ blank }
+    pub fn blank(alloc: A, f: u8, initial: S) -> MemberRec<S, N, A>
+        ensures { result ≡ blank initial }
     {
         MemberRec {
-            state: 0,
+            state: initial,
             received: 0,
             last: [0; 16],
             log: Vec::new(alloc),
@@ -79,7 +83,7 @@ impl<A: Allocator + Copy> MemberRec<A> {
     }
 
     /// An equal record: state, counts, log and table. `Err` comes for lack of memory, and the record is unchanged then.
-    pub fn copy(&self) -> Result<MemberRec<A>, AllocError>
+    pub fn copy(&self) -> Result<MemberRec<S, N, A>, AllocError>
         ensures { IfOk result (λ m. m ≡ self.now) }
     {
         self.copy_with(self.table.copy()?)
@@ -87,7 +91,7 @@ impl<A: Allocator + Copy> MemberRec<A> {
 
     /// A record with this table, and equal to this one in state, counts and log. `Err` comes for lack of memory, and the
     /// record is unchanged then.
-    pub fn copy_with(&self, table: Table<A>) -> Result<MemberRec<A>, AllocError>
+    pub fn copy_with(&self, table: Table<A>) -> Result<MemberRec<S, N, A>, AllocError>
         ensures { IfOk result (λ m. m ≡ record self.now { table = table }) }
     {
         let mut log = Vec::new(*self.log.allocator());
@@ -113,14 +117,14 @@ impl<A: Allocator + Copy> MemberRec<A> {
     /// its sender. Neither the table nor the message has the receipt's own determinant yet. `outcome` is the behaviour's
     /// step at the member's state and the message's content. The member has had fewer than 8192 receipts, and its sends are
     /// at most 8192 with those of the step.
-    pub fn receive<B: Behaviour>(
+    pub fn receive<B: Behaviour<State = S, Note = N>>(
         &mut self,
         me: Member,
         n: u8,
         f: u8,
-        wire: &Wire<A>,
-        outcome: &Outcome,
-    ) -> Result<Vec<Wire<A>, A>, AllocError>
+        wire: &Wire<N, A>,
+        outcome: &Outcome<S, N>,
+    ) -> Result<Vec<Wire<N, A>, A>, AllocError>
         requires least { 2 ≤ n }
         requires most { n ≤ 16 }
         requires member { me < n }
@@ -128,7 +132,7 @@ impl<A: Allocator + Copy> MemberRec<A> {
         requires newer { last_from self.old wire.now.from < wire.now.ssn }
         requires not_held { is_held self.old.table (next_determinant me self.old wire.now.from wire.now.ssn) ≡ false }
         requires not_carried { is_held wire.now.carried (next_determinant me self.old wire.now.from wire.now.ssn) ≡ false }
-        requires step { outcome.now ≡ B.next me n self.old.state wire.now.note }
+        requires step { outcome.now ≡ B.next.step me n self.old.state wire.now.note }
         requires receipts { self.old.received < 8192 }
         requires sends { length self.old.log + length outcome.now.sends.items ≤ 8192 }
         ensures received { OnOk result (self.new ≡ received_by me self.old wire.now outcome.now) }
@@ -161,12 +165,12 @@ impl<A: Allocator + Copy> MemberRec<A> {
     ///
     /// `n` is 2 to 16, and `me` is below it. The determinant is that of the member's next receipt. The member has had fewer
     /// than 8192 receipts, and its sends are at most 8192 with those of the step.
-    pub fn replay_one<B: Behaviour>(
+    pub fn replay_one<B: Behaviour<State = S, Note = N>>(
         &mut self,
         me: Member,
         n: u8,
         determinant: &Determinant,
-        note: Note,
+        note: N,
     ) -> Result<(), AllocError>
         requires least { 2 ≤ n }
         requires most { n ≤ 16 }
@@ -174,7 +178,7 @@ impl<A: Allocator + Copy> MemberRec<A> {
         requires to_me { determinant.now.to ≡ me }
         requires next { determinant.now.rsn ≡ self.old.received + 1 }
         requires receipts { self.old.received < 8192 }
-        requires sends { length self.old.log + length (B.next me n self.old.state note).sends.items ≤ 8192 }
+        requires sends { length self.old.log + length (B.next.step me n self.old.state note).sends.items ≤ 8192 }
         ensures replayed { OnOk result (self.new ≡ replayed_by B.next me n self.old determinant.now note) }
         ensures unchanged { OnErr result (self.new ≡ self.old) }
     {
@@ -201,7 +205,7 @@ impl<A: Allocator + Copy> MemberRec<A> {
     }
 
     /// The content of the message sent under this number, if there is one. Numbers count from 1.
-    pub fn log_note(&self, ssn: u32) -> Option<Note>
+    pub fn log_note(&self, ssn: u32) -> Option<N>
         ensures { result ≡ logged_note self.now.log ssn }
     {
         let log = self.log.as_slice();
@@ -218,7 +222,7 @@ impl<A: Allocator + Copy> MemberRec<A> {
 
     /// The messages to a member with numbers beyond this one, in order, each with its number. `Err` comes only where
     /// there is no memory for the list.
-    pub fn unsent_beyond(&self, to: Member, ssn: u32) -> Result<Vec<(u32, Note), A>, AllocError>
+    pub fn unsent_beyond(&self, to: Member, ssn: u32) -> Result<Vec<(u32, N), A>, AllocError>
         ensures { IfOk result (λ v. v.items ≡ logged_beyond self.now.log to ssn) }
     {
         let mut beyond = Vec::new(*self.log.allocator());
@@ -232,11 +236,18 @@ impl<A: Allocator + Copy> MemberRec<A> {
         Ok(beyond)
     }
 
-    /// The state, 0 at first.
-    pub fn state(&self) -> u64
+    /// The state.
+    pub fn state(&self) -> S
         ensures { result ≡ self.now.state }
     {
         self.state
+    }
+
+    /// The state, lent.
+    pub fn state_ref(&self) -> &S
+        ensures { result.now ≡ self.now.state }
+    {
+        &self.state
     }
 
     /// How many receipts the member has had, at most 8192.

@@ -4,22 +4,23 @@ ghost use Rattle.std.specs.Prelude.{◌≡◌, ℕ, ◌<◌, length, IfOk, slice
 ghost use Rattle.fbl_member.specs.Members.{fresh, blank};
 
 use crate::member_rec::MemberRec;
-use fbl_base::{Config, Member};
+use fbl_base::{Behaviour, Config, Member};
 use std::alloc::{AllocError, Allocator};
 
-/// The members of a group of these parameters, each with its starts sent and nothing received. `Err` comes only where there
+/// The members of a group of these parameters, each in its first state, with its starts sent and nothing received. `Err` comes only where there
 /// is no memory for them.
-pub fn fresh_members<A: Allocator + Copy>(
+pub fn fresh_members<B: Behaviour, A: Allocator + Copy>(
     alloc: A,
-    config: &Config<A>,
-) -> Result<Vec<MemberRec<A>, A>, AllocError>
+    config: &Config<B::Note, A>,
+) -> Result<Vec<MemberRec<B::State, B::Note, A>, A>, AllocError>
     ensures size { IfOk result (λ members. length members.items ≡ config.now.members) }
-    ensures fresh { IfOk result (λ members. (m : ℕ) → m < config.now.members → slice_index_or members.items m blank ≡ fresh m config.now.starts) }
+    ensures fresh { IfOk result (λ members. (m : ℕ) → m < config.now.members → slice_index_or members.items m (blank (B.next.initial 0 config.now.members)) ≡ fresh (B.next.initial m config.now.members) m config.now.starts) }
 {
+    let n = config.members();
     let mut members = Vec::new(alloc);
-    for number in 0..config.members() {
+    for number in 0..n {
         let member = Member::at(number);
-        members.push(MemberRec::fresh(alloc, config, member)?)?;
+        members.push(MemberRec::fresh(alloc, config, B::initial(member, n), member)?)?;
     }
     Ok(members)
 }

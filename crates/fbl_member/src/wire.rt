@@ -12,24 +12,23 @@ use std::marker::Model;
 /// A message in flight, with the entries that it carries: those that its sender knew at most `f` members to hold when
 /// the message was made, or made again. It carries each determinant once.
 #[derive(Drop)]
-pub struct Wire<A: Allocator = Global> {
+pub struct Wire<N = Note, A: Allocator = Global> {
     from: Member,
     to: Member,
     ssn: u32,
-    note: Note,
+    note: N,
     carried: Carried<A>,
 }
 
-impl<A: Allocator> Model for Wire<A> {
+impl<N, A: Allocator> Model for Wire<N, A> {
     ghost use Rattle.fbl_member.specs.Members.{Message};
 
-    ghost Value = { Message };
+    ghost Value = { Message N };
 
     ghost use Rattle.std.specs.Coded.{codes};
-    ghost use Rattle.fbl_base.specs.contracts.trace.Note as content;
     ghost use Rattle.fbl_table.specs.contracts.entry.Entry as entry;
 
-    ghost coded = { Prim.hlevel (codes, content.the_row.coded, entry.the_row.coded) };
+    ghost coded = { Prim.hlevel (codes, N.code, entry.the_row.coded) };
 
     ghost use Rattle.fbl_member.specs.Carried.{IsOnce};
 
@@ -38,10 +37,10 @@ impl<A: Allocator> Model for Wire<A> {
     ghost invariant = { λ w. IsOnce w.carried };
 }
 
-impl<A: Allocator> Wire<A> {
+impl<N: Copy, A: Allocator> Wire<N, A> {
     /// A message with these ends, this number among its sender's, this content and these entries, of which no two have the
     /// same determinant. It takes no memory.
-    pub fn new(from: Member, to: Member, ssn: u32, note: Note, carried: Carried<A>) -> Wire<A>
+    pub fn new(from: Member, to: Member, ssn: u32, note: N, carried: Carried<A>) -> Wire<N, A>
         requires { IsOnce carried }
         ensures { result ≡ record { from = from; to = to; ssn = ssn; note = note; carried = carried } }
     {
@@ -76,10 +75,17 @@ impl<A: Allocator> Wire<A> {
     }
 
     /// The content.
-    pub fn note(&self) -> Note
+    pub fn note(&self) -> N
         ensures { result ≡ self.now.note }
     {
         self.note
+    }
+
+    /// The content, lent.
+    pub fn note_ref(&self) -> &N
+        ensures { result.now ≡ self.now.note }
+    {
+        &self.note
     }
 
     /// The entries that it carries.

@@ -1,6 +1,6 @@
 //! Each request for memory of configurations refused in turn, on worked examples.
 
-use fbl_base::{Config, ConfigRefusal, Start};
+use fbl_base::{Config, ConfigRefusal, Note, Start};
 use fbl_fixtures::{Refusal, start};
 use refusing_allocator::Refusing;
 use std::alloc::{Allocator, Global};
@@ -15,12 +15,12 @@ struct Parameters<'a> {
 }
 
 impl Parameters<'_> {
-    fn config<A: Allocator + Copy>(&self, alloc: A) -> Result<Config<A>, ConfigRefusal> {
+    fn config<A: Allocator + Copy>(&self, alloc: A) -> Result<Config<Note, A>, ConfigRefusal> {
         Config::new(alloc, self.members, self.f, 8192, self.starts)
     }
 
     /// Whether the configuration has these parameters.
-    fn are_of<A: Allocator + Copy>(&self, config: &Config<A>) -> bool {
+    fn are_of<A: Allocator + Copy>(&self, config: &Config<Note, A>) -> bool {
         config.members() == self.members
             && config.f() == self.f
             && config.limit() == 8192

@@ -15,7 +15,7 @@ fn config<A: Allocator + Copy>(
     alloc: A,
     first: Member,
     second: Member,
-) -> Result<Config<A>, AllocError> {
+) -> Result<Config<Note, A>, AllocError> {
     let start = Start {
         from: first,
         to: second,
@@ -27,13 +27,13 @@ fn config<A: Allocator + Copy>(
 }
 
 /// Delivers a message that carries nothing to a member of the group, where that is the member's next receipt.
-fn deliver<B: Behaviour, A: Allocator + Copy>(
+fn deliver<B: Behaviour<State = u64, Note = Note>, A: Allocator + Copy>(
     alloc: A,
-    member_record: &mut MemberRec<A>,
+    member_record: &mut MemberRec<u64, Note, A>,
     me: Member,
     determinant: Determinant,
     note: Note,
-) -> Result<Vec<Wire<A>, A>, AllocError>
+) -> Result<Vec<Wire<Note, A>, A>, AllocError>
     requires { me < 3 }
 {
     let outcome = B::step(me, 3, member_record.state(), note);
@@ -57,8 +57,8 @@ fn deliver<B: Behaviour, A: Allocator + Copy>(
 }
 
 /// Replays one receipt, where it is the member's next.
-fn replay<B: Behaviour, A: Allocator + Copy>(
-    member_record: &mut MemberRec<A>,
+fn replay<B: Behaviour<State = u64, Note = Note>, A: Allocator + Copy>(
+    member_record: &mut MemberRec<u64, Note, A>,
     me: Member,
     determinant: &Determinant,
     note: Note,
@@ -82,9 +82,9 @@ fn prepared<A: Allocator + Copy>(
     first: Member,
     second: Member,
     me: Member,
-) -> Result<(Config<A>, MemberRec<A>), AllocError> {
+) -> Result<(Config<Note, A>, MemberRec<u64, Note, A>), AllocError> {
     let group = config(alloc, first, second)?;
-    let member_record = MemberRec::fresh(alloc, &group, me)?;
+    let member_record = MemberRec::fresh(alloc, &group, 0, me)?;
     Ok((group, member_record))
 }
 
@@ -102,7 +102,7 @@ fn fresh(
 /// What the readers answer of a record: the state, the numbers of receipts and sends, the last number from a member,
 /// and how many entries the table has.
 fn readings<A: Allocator + Copy>(
-    member_record: &MemberRec<A>,
+    member_record: &MemberRec<u64, Note, A>,
     from: Member,
 ) -> (u64, u32, u32, u32, usize) {
     (
@@ -158,7 +158,7 @@ fn a_fresh_member_has_sent_its_starts(rt: HostRuntime) -> Result<(), Fail> {
 fn fresh_members_have_sent_their_starts(rt: HostRuntime) -> Result<(), Fail> {
     let (first, second) = (member(0)?, member(1)?);
     let group = config(rt.alloc(), first, second)?;
-    let members = fresh_members(rt.alloc(), &group)?;
+    let members = fresh_members::<Relay, _>(rt.alloc(), &group)?;
     let has_sent = match members.as_slice() {
         [starter, other, last] => (starter.sent(), other.sent(), last.sent()),
         _ => (0, 0, 0),
@@ -206,7 +206,7 @@ fn a_member_that_had_nothing_mixes_what_it_gets(rt: HostRuntime) -> Result<(), F
     let det = first_receipt(first, second);
     let note = Note { value: 4, hops: 1 };
     let known = MemberSet::empty().with(second);
-    let mut member_record = MemberRec::blank(rt.alloc(), 1);
+    let mut member_record = MemberRec::blank(rt.alloc(), 1, 0);
     assert!(rt; readings(&member_record, first) == (0, 0, 0, 0, 0));
     let wires = deliver::<Mix, _>(rt.alloc(), &mut member_record, second, det, note)?;
     let passed_on = Note { value: 5, hops: 0 };
@@ -219,7 +219,7 @@ fn a_member_that_had_nothing_mixes_what_it_gets(rt: HostRuntime) -> Result<(), F
 fn a_replayed_member_is_given_a_table(rt: HostRuntime) -> Result<(), Fail> {
     let (first, second) = (member(0)?, member(1)?);
     let det = first_receipt(first, second);
-    let mut member_record = MemberRec::blank(rt.alloc(), 1);
+    let mut member_record = MemberRec::blank(rt.alloc(), 1, 0);
     replay::<Mix, _>(&mut member_record, second, &det, Note { value: 4, hops: 1 })?;
     let mut table = Table::new(rt.alloc());
     table.note_own(second, det)?;
@@ -233,7 +233,7 @@ fn received<A: Allocator + Copy>(
     alloc: A,
     first: Member,
     second: Member,
-) -> Result<MemberRec<A>, AllocError>
+) -> Result<MemberRec<u64, Note, A>, AllocError>
     requires { second < 3 }
 {
     let (_, mut member_record) = prepared(alloc, first, second, second)?;
@@ -338,8 +338,8 @@ impl Call {
     fn make<A: Allocator + Copy>(
         self,
         alloc: A,
-        group: &Config<A>,
-        member_record: &mut MemberRec<A>,
+        group: &Config<Note, A>,
+        member_record: &mut MemberRec<u64, Note, A>,
         first: Member,
         second: Member,
     ) -> Result<(), AllocError>
@@ -349,7 +349,7 @@ impl Call {
         let note = Note { value: 5, hops: 2 };
         match self {
             Call::FreshMembers => {
-                fresh_members(alloc, group)?;
+                fresh_members::<Relay, _>(alloc, group)?;
             }
             Call::Receive => {
                 deliver::<Relay, A>(alloc, member_record, second, receipt, note)?;

@@ -1,4 +1,5 @@
 -- A history goes on by one command.
+use Rattle.fbl_base.specs.declared.trace.Note.{Note}
 use Rattle.fbl_play.proofs.Common.{◌≡◌, ℕ, ◌<◌, ◌≤◌, ◌+◌, inl, inr, List, [], ◌∷◌, ◌++◌, length, take, get_or, refl, ap, Some, None, Result, Ok, Err, take_all}
 use Rattle.fbl_play.proofs.Common.{IsErrAnd, Settings, Next, CommandAccount, RunFault, GroupRecord, IsGroupStart, IsSound}
 use Rattle.fbl_play.proofs.Common.{Command, Drains, Step, IsTold, checkpoint_refusal, deliver_refusal, strike_refusal}
@@ -11,47 +12,47 @@ use Rattle.fbl_play.proofs.Told.{told_next}
 
 -- ---- a command keeps the parameters
 
-pub step-config : (next : Next) (workers : ℕ) (old : GroupRecord) (c : Command) (new : GroupRecord) (text : List ℕ) (account : CommandAccount)
+pub step-config : (next : Next ℕ Note) (workers : ℕ) (old : GroupRecord ℕ Note) (c : Command) (new : GroupRecord ℕ Note) (text : List ℕ) (account : CommandAccount)
     → Step next workers old c new text account → new.config ≡ old.config
 step-config next workers old (commands.Deliver to from) new text account =
     elim (deliver_refusal next old to from) as (λ o. DeliveryBy o next old to from new text account → new.config ≡ old.config) [
       | None ↦ λ h. h.1.2.delivery.config
-      | Some refusal ↦ λ h. ap (λ (r : GroupRecord). r.config) h.0
+      | Some refusal ↦ λ h. ap (λ (r : GroupRecord ℕ Note). r.config) h.0
     ]
-step-config next workers old commands.States new text account = λ h. ap (λ (r : GroupRecord). r.config) h.0
-step-config next workers old commands.Report new text account = λ h. ap (λ (r : GroupRecord). r.config) h.0
-step-config next workers old (commands.Strike struck) new text account = elim (strike_refusal old struck) as (λ o. StrikeBy o old struck new text account → new.config ≡ old.config) [
+step-config next workers old commands.States new text account = λ h. ap (λ (r : GroupRecord ℕ Note). r.config) h.0
+step-config next workers old commands.Report new text account = λ h. ap (λ (r : GroupRecord ℕ Note). r.config) h.0
+step-config next workers old (commands.Strike struck) new text account = elim (strike_refusal old struck) as (λ o. StrikeBy o next old struck new text account → new.config ≡ old.config) [
   | None ↦ λ h. h.1.0.config
-  | Some refusal ↦ λ h. ap (λ (r : GroupRecord). r.config) h.0
+  | Some refusal ↦ λ h. ap (λ (r : GroupRecord ℕ Note). r.config) h.0
 ]
 step-config next workers old commands.Recover new text account = elim [
-  | inl refused ↦ ap (λ (r : GroupRecord). r.config) refused.1
+  | inl refused ↦ ap (λ (r : GroupRecord ℕ Note). r.config) refused.1
   | inr accepted ↦ accepted.1.1.recovery.rest.config
 ]
-step-config next workers old (commands.Dump strike) new text account = λ h. ap (λ (r : GroupRecord). r.config) h.0
+step-config next workers old (commands.Dump strike) new text account = λ h. ap (λ (r : GroupRecord ℕ Note). r.config) h.0
 step-config next workers old (commands.Run plan) new text account = λ h. (elim h.0 as (λ answer. Drains next workers plan old new answer → new.config ≡ old.config) [
   | Ok drained ↦ λ d. d.1.keeps.config
-  | Err refusal ↦ λ d. ap (λ (r : GroupRecord). r.config) d.1.1
+  | Err refusal ↦ λ d. ap (λ (r : GroupRecord ℕ Note). r.config) d.1.1
 ]) h.1
 step-config next workers old (commands.Checkpoint p) new text account = elim (checkpoint_refusal old p) as (λ o. CheckpointBy o old p new text account → new.config ≡ old.config) [
-  | None ↦ λ h. ap (λ (r : GroupRecord). r.config) h.0.saved
-  | Some refusal ↦ λ h. ap (λ (r : GroupRecord). r.config) h.0
+  | None ↦ λ h. ap (λ (r : GroupRecord ℕ Note). r.config) h.0.saved
+  | Some refusal ↦ λ h. ap (λ (r : GroupRecord ℕ Note). r.config) h.0
 ]
 
 -- ---- runs with their histories
 
 module _ {O : Type 0} (before : O → Command → O → Type 0) (after : O → Command → CommandAccount → O → Type 0) where
   -- the commands before a place have led here from a new group of the config, with this history, and were told of
-  pub record HasHistory (next : Next) (workers : ℕ) (config : Settings) (cs : List Command) (place : ℕ) (now : GroupRecord) (history : List Column) (old told : O) : Type 0 where
+  pub record HasHistory (next : Next ℕ Note) (workers : ℕ) (config : Settings Note) (cs : List Command) (place : ℕ) (now : GroupRecord ℕ Note) (history : List Column) (old told : O) : Type 0 where
     pub accounts : List CommandAccount
     pub run : IsRun next config (trace_columns next) (ColumnsStep next workers) (take place cs) accounts now history
     pub heard : IsTold before after (take place cs) accounts old told
 
-  pub has_none : (next : Next) (workers : ℕ) (config : Settings) (start : GroupRecord) (cs : List Command) (history : List Column) (old : O)
-      → IsGroupStart config start → IsSound next start → history ≡ trace_columns next start → HasHistory next workers config cs 0 start history old old
+  pub has_none : (next : Next ℕ Note) (workers : ℕ) (config : Settings Note) (start : GroupRecord ℕ Note) (cs : List Command) (history : List Column) (old : O)
+      → IsGroupStart next config start → IsSound next start → history ≡ trace_columns next start → HasHistory next workers config cs 0 start history old old
   has_none next workers config start cs history old is sound begins = record { accounts = []; run = (start, is, sound, (λ i. (start, begins i))); heard = refl }
 
-  module _ {next : Next} {workers : ℕ} {config : Settings} {cs : List Command} {i : ℕ} {mid : GroupRecord} {history : List Column} {old told : O}
+  module _ {next : Next ℕ Note} {workers : ℕ} {config : Settings Note} {cs : List Command} {i : ℕ} {mid : GroupRecord ℕ Note} {history : List Column} {old told : O}
       (h : HasHistory next workers config cs i mid history old told) where
     -- and there is no other one
     pub history_all : length cs ≤ i → HistoryTellsOn before after next workers config cs old told (Ok history)
@@ -66,7 +67,7 @@ module _ {O : Type 0} (before : O → Command → O → Type 0) (after : O → C
           rw (e.1, e.2) (inr (i, h.accounts, (within, (history, (mid, h.run))), (told, d, within, at, h.heard, first)))
 
       -- it was run
-      pub history_more : (new : GroupRecord) (account : CommandAccount) (line : List ℕ) (later : List Column) (last : O) → Step next workers mid d new line account → IsSound next new
+      pub history_more : (new : GroupRecord ℕ Note) (account : CommandAccount) (line : List ℕ) (later : List Column) (last : O) → Step next workers mid d new line account → IsSound next new
           → HistoryStep next mid.down d account new history later → after begun d account last → HasHistory next workers config cs (i + 1) new later old last
       history_more new account line later last step sound follows ends = record {
         accounts = h.accounts ++ account ∷ [];

@@ -1,4 +1,5 @@
 -- Steps along commands go on by one command.
+use Rattle.fbl_base.specs.declared.trace.Note.{Note}
 use Rattle.fbl_play.proofs.Common.{◌≡◌, ℕ, ◌<◌, ◌+◌, List, [], ◌∷◌, ◌++◌, length, take, get_or}
 use Rattle.fbl_play.proofs.Common.{refl, CommandAccount, Command, take_more, Along, Settings, Next, GroupRecord, IsRun}
 
@@ -17,8 +18,8 @@ module _ {S : Type 0} (step : S → Command → CommandAccount → S → Type 0)
       rw (take_more cs i c within, ← at) (along_more (take i cs) accounts c account old mid new is last)
 
 -- a run goes on by the command at a place
-pub run_on : {X : Type 0} {next : Next} {config : Settings} (first : GroupRecord → X) (step : GroupRecord × X → Command → CommandAccount → GroupRecord × X → Type 0)
-    (cs : List Command) (i : ℕ) (c : Command) (accounts : List CommandAccount) (account : CommandAccount) (mid new : GroupRecord) (x y : X) → i < length cs → c ≡ get_or cs i c
+pub run_on : {X : Type 0} {next : Next ℕ Note} {config : Settings Note} (first : GroupRecord ℕ Note → X) (step : GroupRecord ℕ Note × X → Command → CommandAccount → GroupRecord ℕ Note × X → Type 0)
+    (cs : List Command) (i : ℕ) (c : Command) (accounts : List CommandAccount) (account : CommandAccount) (mid new : GroupRecord ℕ Note) (x y : X) → i < length cs → c ≡ get_or cs i c
     → step (mid, x) c account (new, y) → IsRun next config first step (take i cs) accounts mid x
     → IsRun next config first step (take (i + 1) cs) (accounts ++ account ∷ []) new y
 run_on first step cs i c accounts account mid new x y within at last run =

@@ -1,4 +1,5 @@
 -- How far a play came, and what its observer was told by then.
+use Rattle.fbl_base.specs.declared.trace.Note.{Note}
 use Rattle.fbl_play.proofs.Common.{Err, List, None, Ok, Option, Result, Some, [], append-nil, get_or, inl, inr, length, refl, sym, take, ℕ, ◌++◌, ◌+◌, ◌<◌, ◌∷◌, ◌≡◌}
 use Rattle.fbl_play.proofs.Common.{◌≤◌, take_all, err_from_is_err_and, Appends, IsErrAnd, Settings, Next, CommandAccount}
 use Rattle.fbl_play.proofs.Common.{appends_more, RunFault, IsGroupStart, GroupRecord, IsSound, Command, IsRun}
@@ -18,7 +19,7 @@ module _ {O : Type 0} (before : O → Command → O → Type 0) (after : O → C
       along_next (λ o c account o'. (begun : O) × before o c begun × after begun c account o') cs i c accounts account old mid new within at is (begun, first, last)
 
   -- the commands before a place have led here from a new group of the config, their text is written, and they were told of
-  pub record IsPlayed (next : Next) (workers : ℕ) (config : Settings) (cs : List Command) (place : ℕ) (now : GroupRecord) (had has : Option (List ℕ)) (old told : O) : Type 0 where
+  pub record IsPlayed (next : Next ℕ Note) (workers : ℕ) (config : Settings Note) (cs : List Command) (place : ℕ) (now : GroupRecord ℕ Note) (had has : Option (List ℕ)) (old told : O) : Type 0 where
     pub accounts : List CommandAccount
     pub text : List ℕ
     pub run : IsRun next config (λ _. []) (TextStep next workers) (take place cs) accounts now text
@@ -26,12 +27,12 @@ module _ {O : Type 0} (before : O → Command → O → Type 0) (after : O → C
     pub heard : IsTold before after (take place cs) accounts old told
 
   -- no command yet
-  pub play_none : (next : Next) (workers : ℕ) (config : Settings) (start : GroupRecord) (cs : List Command) (known : Option (List ℕ)) (old : O)
-      → IsGroupStart config start → IsSound next start → IsPlayed next workers config cs 0 start known known old old
+  pub play_none : (next : Next ℕ Note) (workers : ℕ) (config : Settings Note) (start : GroupRecord ℕ Note) (cs : List Command) (known : Option (List ℕ)) (old : O)
+      → IsGroupStart next config start → IsSound next start → IsPlayed next workers config cs 0 start known known old old
   play_none next workers config start cs known old is sound =
       record { accounts = []; text = []; run = (start, is, sound, refl); written = appends_nothing known; heard = refl }
 
-  module _ {next : Next} {workers : ℕ} {config : Settings} {cs : List Command} {i : ℕ} {mid : GroupRecord} {had has : Option (List ℕ)} {old told : O}
+  module _ {next : Next ℕ Note} {workers : ℕ} {config : Settings Note} {cs : List Command} {i : ℕ} {mid : GroupRecord ℕ Note} {had has : Option (List ℕ)} {old told : O}
       (p : IsPlayed next workers config cs i mid had has old told) where
     -- and there is no other one
     pub play_all : length cs ≤ i → TellsOn before after next workers config cs had has old told (Ok tt)
@@ -45,7 +46,7 @@ module _ {O : Type 0} (before : O → Command → O → Type 0) (after : O → C
           let e = err_from_is_err_and r is in
           rw (e.1, e.2) (inr (i, p.accounts, (within, (p.text, (mid, p.run), p.written)), (told, d, within, at, p.heard, first)))
 
-      module _ (new : GroupRecord) (account : CommandAccount) (line : List ℕ) (step : Step next workers mid d new line account) (sound : IsSound next new) (now : Option (List ℕ)) where
+      module _ (new : GroupRecord ℕ Note) (account : CommandAccount) (line : List ℕ) (step : Step next workers mid d new line account) (sound : IsSound next new) (now : Option (List ℕ)) where
         run : IsRun next config (λ _. []) (TextStep next workers) (take (i + 1) cs) (p.accounts ++ account ∷ []) new (p.text ++ line)
         run = run_on (λ _. []) (TextStep next workers) cs i d p.accounts account mid new p.text (p.text ++ line) within at (line, step, sound, refl) p.run
 

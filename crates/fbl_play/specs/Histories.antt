@@ -1,6 +1,7 @@
 -- The histories of scripts' runs.
 use Rattle.std.specs.Prelude.{◌≡◌, ℕ, ◌<◌, ◌⊎◌, List, [], ◌∷◌, ◌++◌, length, take, Result, Ok, Err}
 use Rattle.std.specs.Result.{IsErrAnd}
+use Rattle.fbl_base.specs.declared.trace.Note.{Note}
 use Rattle.fbl_base.specs.MemberSets.{Members}
 use Rattle.fbl_base.specs.Configs.{Settings}
 use Rattle.fbl_base.specs.Fold.{Next}
@@ -23,7 +24,7 @@ use Rattle.fbl_play.specs.Telling.{IsTold, IsToldUpTo}
 
 -- the history after a command that was not refused, before which these members were down, and which left the group like this:
 -- it goes on to the trace after a delivery or a run, and has a column of a strike, a recovery or a checkpoint
-abbrev pub IsAfterCommand : Next → Members → Command → GroupRecord → List Column → List Column → Type 0
+abbrev pub IsAfterCommand : Next ℕ Note → Members → Command → GroupRecord ℕ Note → List Column → List Column → Type 0
 IsAfterCommand next down (commands.Deliver to from) r old new = new ≡ go_on old (trace_columns next r)
 IsAfterCommand next down (commands.Run plan) r old new = new ≡ go_on old (trace_columns next r)
 IsAfterCommand next down (commands.Strike struck) r old new = new ≡ old ++ columns.Strike struck ∷ []
@@ -32,21 +33,21 @@ IsAfterCommand next down (commands.Checkpoint p) r old new = new ≡ old ++ colu
 IsAfterCommand next down _ r old new = new ≡ old
 
 -- the history after a command with this account: a refused command adds no column
-abbrev pub HistoryStep : Next → Members → Command → CommandAccount → GroupRecord → List Column → List Column → Type 0
+abbrev pub HistoryStep : Next ℕ Note → Members → Command → CommandAccount → GroupRecord ℕ Note → List Column → List Column → Type 0
 HistoryStep next down command (Refused reason) r old new = new ≡ old
 HistoryStep next down command _ r old new = IsAfterCommand next down command r old new
 
 -- a command as one step of a group and of its history
-abbrev pub ColumnsStep : Next → ℕ → GroupRecord × List Column → Command → CommandAccount → GroupRecord × List Column → Type 0
+abbrev pub ColumnsStep : Next ℕ Note → ℕ → GroupRecord ℕ Note × List Column → Command → CommandAccount → GroupRecord ℕ Note × List Column → Type 0
 ColumnsStep next workers old c account new =
     (text : List ℕ) × Step next workers old.0 c new.0 text account × IsSound next new.0 × HistoryStep next old.0.down c account new.0 old.1 new.1
 
 -- some run of the commands, from a new group of this config, has these accounts and this history; each record of the run is sound
-abbrev pub IsHistoryOf : Next → ℕ → Settings → List Command → List CommandAccount → List Column → Type 0
-IsHistoryOf next workers config commands accounts history = (end : GroupRecord) × IsRun next config (trace_columns next) (ColumnsStep next workers) commands accounts end history
+abbrev pub IsHistoryOf : Next ℕ Note → ℕ → Settings Note → List Command → List CommandAccount → List Column → Type 0
+IsHistoryOf next workers config commands accounts history = (end : GroupRecord ℕ Note) × IsRun next config (trace_columns next) (ColumnsStep next workers) commands accounts end history
 
 -- the first so many commands had this history, and one at least is left
-abbrev pub IsHistoryUpTo : Next → ℕ → Settings → List Command → ℕ → List CommandAccount → Type 0
+abbrev pub IsHistoryUpTo : Next ℕ Note → ℕ → Settings Note → List Command → ℕ → List CommandAccount → Type 0
 IsHistoryUpTo next workers config commands done accounts =
     (done < length commands) × ((history : List Column) × IsHistoryOf next workers config (take done commands) accounts history)
 
@@ -65,7 +66,7 @@ IsHistoryOfBytes workers input (Err fault) = IsScriptFault input fault
 -- an observer, by what it is after it was told that a command is to be run, and that it was run with an account
 module _ {O : Type 0} (before : O → Command → O → Type 0) (after : O → Command → CommandAccount → O → Type 0) where
   -- the history of a run of the commands is answered, and each is told of as it was run
-  abbrev pub HistoryTellsOn : Next → ℕ → Settings → List Command → O → O → Result (List Column) RunFault → Type 0
+  abbrev pub HistoryTellsOn : Next ℕ Note → ℕ → Settings Note → List Command → O → O → Result (List Column) RunFault → Type 0
   HistoryTellsOn next workers config commands old new (Ok history) =
       (accounts : List CommandAccount) × IsHistoryOf next workers config commands accounts history × IsTold before after commands accounts old new
   -- nothing is told where there is no memory for the group or its first events, else up to the command that met the want

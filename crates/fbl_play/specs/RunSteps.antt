@@ -1,5 +1,6 @@
 -- What a run by workers does to a group, and what it prints.
 use Rattle.std.specs.Prelude.{◌≡◌, ℕ, Bool, true, false, List, codes, Result, Ok, Err}
+use Rattle.fbl_base.specs.declared.trace.Note.{Note}
 use Rattle.fbl_base.specs.declared.strike.Strike.{Strike}
 use Rattle.fbl_base.specs.Fold.{Next}
 use Rattle.fbl_law.specs.Groups.{GroupRecord}
@@ -38,7 +39,7 @@ IsRunText (Err refusal) text = IsRefusedRunText refusal text
 
 -- what is told beside the line of a run with this plan, where the group had made and undone so many receipts and is now like this: the counts of the
 -- group, and those of each worker as the drain answered them; or why it was refused
-abbrev pub IsRunAccount : List Strike → ℕ → ℕ → GroupRecord → Result Drained DrainRefusal → CommandAccount → Type 0
+abbrev pub IsRunAccount : List Strike → ℕ → ℕ → GroupRecord ℕ Note → Result Drained DrainRefusal → CommandAccount → Type 0
 IsRunAccount plan made undone now (Ok drained) account =
     account ≡ Ran (record {
       ever_before = made;
@@ -52,6 +53,6 @@ IsRunAccount plan made undone now (Err refusal) account = IsRunRefusal plan now 
 
 -- a run with this plan by this many workers may lead from old to new, print the text and have the account: it follows by an
 -- answer of the workers' drain, whose line the text is, and whose counts the account has
-abbrev pub RunStep : Next → ℕ → List Strike → GroupRecord → GroupRecord → List ℕ → CommandAccount → Type 0
+abbrev pub RunStep : Next ℕ Note → ℕ → List Strike → GroupRecord ℕ Note → GroupRecord ℕ Note → List ℕ → CommandAccount → Type 0
 RunStep next workers plan old new text account =
     (answer : Result Drained DrainRefusal) × Drains next workers plan old new answer × IsRunText answer text × IsRunAccount plan old.receipts_ever old.undone_ever new answer account

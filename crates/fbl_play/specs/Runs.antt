@@ -2,11 +2,12 @@
 use Rattle.std.specs.Prelude.{◌≡◌, ℕ, ◌+◌, ◌<◌, ◌⊎◌, List, [], ◌∷◌, ◌++◌, length, take, Option, Some, None, Result, Ok, Err, codes}
 use Rattle.std.specs.Io.KnownBytes.{Keeps, Appends}
 use Rattle.std.specs.FinSet as set
+use Rattle.fbl_base.specs.declared.trace.Note.{Note}
 use Rattle.fbl_base.specs.declared.trace.Determinant.{Determinant}
 use Rattle.fbl_base.specs.Configs.{Settings}
 use Rattle.fbl_base.specs.Fold.{Next}
 use Rattle.fbl_base.specs.MemberSets.{AllBelow, Members}
-use Rattle.fbl_base.specs.Steps.{relay_step, mix_step}
+use Rattle.fbl_base.specs.Steps.{relay_step, mix_step, numbered_from_0}
 use Rattle.fbl_law.specs.Dumps.{dump_of}
 use Rattle.fbl_law.specs.Groups.{GroupRecord, member_checkpoint}
 use Rattle.fbl_law.specs.GroupSteps.{IsCheckpoint, IsGroupStart}
@@ -45,23 +46,23 @@ use Rattle.fbl_play.specs.RunSteps.{RunStep}
 -- ---- one command
 
 -- a delivery, by its first refusal: a refused one changes nothing
-abbrev pub DeliveryBy : Option DeliverRefusal → Next → GroupRecord → ℕ → ℕ → GroupRecord → List ℕ → CommandAccount → Type 0
+abbrev pub DeliveryBy : Option DeliverRefusal → Next ℕ Note → GroupRecord ℕ Note → ℕ → ℕ → GroupRecord ℕ Note → List ℕ → CommandAccount → Type 0
 DeliveryBy None next old to from new text account =
-    (answer : Receipted) × Delivers next old new to from answer × (text ≡ deliver_line to from answer.rsn answer.carried answer.state) × (account ≡ Done)
+    (answer : Receipted ℕ) × Delivers next old new to from answer × (text ≡ deliver_line to from answer.rsn answer.carried answer.state) × (account ≡ Done)
 DeliveryBy (Some refusal) next old to from new text account =
     (new ≡ old) × (text ≡ refused_line (codes "deliver") (deliver_name refusal)) × (account ≡ Refused (deliver_reason old to from refusal))
 
-abbrev pub DeliverStep : Next → GroupRecord → ℕ → ℕ → GroupRecord → List ℕ → CommandAccount → Type 0
+abbrev pub DeliverStep : Next ℕ Note → GroupRecord ℕ Note → ℕ → ℕ → GroupRecord ℕ Note → List ℕ → CommandAccount → Type 0
 DeliverStep next old to from new text account = DeliveryBy (deliver_refusal next old to from) next old to from new text account
 
-abbrev pub StatesStep : GroupRecord → GroupRecord → List ℕ → CommandAccount → Type 0
+abbrev pub StatesStep : GroupRecord ℕ Note → GroupRecord ℕ Note → List ℕ → CommandAccount → Type 0
 StatesStep old new text account = (new ≡ old) × (text ≡ states_line (shown_states old)) × (account ≡ Done)
 
 -- the lines of a report of the group
-abbrev pub IsReport : GroupRecord → List ℕ → Type 0
+abbrev pub IsReport : GroupRecord ℕ Note → List ℕ → Type 0
 IsReport r text = (totals : Totals) × AreTotals r totals × (text ≡ report_lines (shown_statuses r) totals)
 
-abbrev pub ReportStep : GroupRecord → GroupRecord → List ℕ → CommandAccount → Type 0
+abbrev pub ReportStep : GroupRecord ℕ Note → GroupRecord ℕ Note → List ℕ → CommandAccount → Type 0
 ReportStep old new text account = (new ≡ old) × IsReport old text × (account ≡ Done)
 
 -- the account names these receipts as those that a strike loses
@@ -75,54 +76,54 @@ NamesUndone receipts (Undone named) = named.items ≡ receipts
 NamesUndone receipts _ = ⊥
 
 -- a strike, by its first refusal: a refused one changes nothing
-abbrev pub StrikeBy : Option StrikeRefusal → GroupRecord → Members → GroupRecord → List ℕ → CommandAccount → Type 0
-StrikeBy None old struck new text account =
-    (answer : Struck) × Strikes old new struck answer × (text ≡ strike_line struck answer.lost) × NamesLost (lost_receipts new) account
-StrikeBy (Some refusal) old struck new text account =
+abbrev pub StrikeBy : Option StrikeRefusal → Next ℕ Note → GroupRecord ℕ Note → Members → GroupRecord ℕ Note → List ℕ → CommandAccount → Type 0
+StrikeBy None next old struck new text account =
+    (answer : Struck) × Strikes next old new struck answer × (text ≡ strike_line struck answer.lost) × NamesLost (lost_receipts new) account
+StrikeBy (Some refusal) next old struck new text account =
     (new ≡ old) × (text ≡ refused_line (codes "strike") (strike_name refusal)) × (account ≡ Refused (strike_reason old struck refusal))
 
-abbrev pub StrikeStep : GroupRecord → Members → GroupRecord → List ℕ → CommandAccount → Type 0
-StrikeStep old struck new text account = StrikeBy (strike_refusal old struck) old struck new text account
+abbrev pub StrikeStep : Next ℕ Note → GroupRecord ℕ Note → Members → GroupRecord ℕ Note → List ℕ → CommandAccount → Type 0
+StrikeStep next old struck new text account = StrikeBy (strike_refusal old struck) next old struck new text account
 
 -- a recovery where nobody is down
-abbrev pub RefusedRecovery : GroupRecord → GroupRecord → List ℕ → CommandAccount → Type 0
+abbrev pub RefusedRecovery : GroupRecord ℕ Note → GroupRecord ℕ Note → List ℕ → CommandAccount → Type 0
 RefusedRecovery old new text account =
     (old.down ≡ set.empty) × (new ≡ old) × (text ≡ refused_line (codes "recover") (recover_name NotDown)) × (account ≡ Refused reasons.NotDown)
 
 -- a recovery of those that are down
-abbrev pub AcceptedRecovery : Next → GroupRecord → GroupRecord → List ℕ → CommandAccount → Type 0
+abbrev pub AcceptedRecovery : Next ℕ Note → GroupRecord ℕ Note → GroupRecord ℕ Note → List ℕ → CommandAccount → Type 0
 AcceptedRecovery next old new text account =
     ¬ (old.down ≡ set.empty)
     × ((answer : Recovered) × Recovers next old new answer × (text ≡ recover_line answer.replayed answer.resent answer.undone))
     × NamesUndone (lost_receipts old) account
 
-abbrev pub RecoverStep : Next → GroupRecord → GroupRecord → List ℕ → CommandAccount → Type 0
+abbrev pub RecoverStep : Next ℕ Note → GroupRecord ℕ Note → GroupRecord ℕ Note → List ℕ → CommandAccount → Type 0
 RecoverStep next old new text account = RefusedRecovery old new text account ⊎ AcceptedRecovery next old new text account
 
 -- the line of a dump of the group with this strike set
-abbrev pub IsDumpText : GroupRecord → Members → List ℕ → CommandAccount → Type 0
+abbrev pub IsDumpText : GroupRecord ℕ Note → Members → List ℕ → CommandAccount → Type 0
 IsDumpText r strike text account =
     (AllBelow strike r.config.members × (text ≡ dump_line (dump_of r strike)) × (account ≡ Done))
     ⊎ (¬ (AllBelow strike r.config.members) × (text ≡ refused_line (codes "dump") (dump_group_name BadStrike)) × (account ≡ Refused (no_such_member r strike)))
 
-abbrev pub DumpStep : GroupRecord → Members → GroupRecord → List ℕ → CommandAccount → Type 0
+abbrev pub DumpStep : GroupRecord ℕ Note → Members → GroupRecord ℕ Note → List ℕ → CommandAccount → Type 0
 DumpStep old strike new text account = (new ≡ old) × IsDumpText old strike text account
 
 -- a checkpoint, by its first refusal: a refused one changes nothing
-abbrev pub CheckpointBy : Option CheckpointRefusal → GroupRecord → ℕ → GroupRecord → List ℕ → CommandAccount → Type 0
+abbrev pub CheckpointBy : Option CheckpointRefusal → GroupRecord ℕ Note → ℕ → GroupRecord ℕ Note → List ℕ → CommandAccount → Type 0
 CheckpointBy None old p new text account = IsCheckpoint old new p × (text ≡ checkpoint_line p (member_checkpoint new p).received) × (account ≡ Done)
 CheckpointBy (Some refusal) old p new text account =
     (new ≡ old) × (text ≡ refused_line (codes "checkpoint") (checkpoint_name refusal)) × (account ≡ Refused (checkpoint_reason old p refusal))
 
-abbrev pub CheckpointStep : GroupRecord → ℕ → GroupRecord → List ℕ → CommandAccount → Type 0
+abbrev pub CheckpointStep : GroupRecord ℕ Note → ℕ → GroupRecord ℕ Note → List ℕ → CommandAccount → Type 0
 CheckpointStep old p new text account = CheckpointBy (checkpoint_refusal old p) old p new text account
 
 -- a command, with this many workers, may lead from old to new, print the text and have the account
-abbrev pub Step : Next → ℕ → GroupRecord → Command → GroupRecord → List ℕ → CommandAccount → Type 0
+abbrev pub Step : Next ℕ Note → ℕ → GroupRecord ℕ Note → Command → GroupRecord ℕ Note → List ℕ → CommandAccount → Type 0
 Step next workers old (commands.Deliver to from) new text account = DeliverStep next old to from new text account
 Step next workers old commands.States new text account = StatesStep old new text account
 Step next workers old commands.Report new text account = ReportStep old new text account
-Step next workers old (commands.Strike struck) new text account = StrikeStep old struck new text account
+Step next workers old (commands.Strike struck) new text account = StrikeStep next old struck new text account
 Step next workers old commands.Recover new text account = RecoverStep next old new text account
 Step next workers old (commands.Dump strike) new text account = DumpStep old strike new text account
 Step next workers old (commands.Run plan) new text account = RunStep next workers plan old new text account
@@ -137,34 +138,34 @@ Along {S} step (c ∷ cs) (account ∷ accounts) old new = (mid : S) × step old
 Along step _ _ old new = ⊥
 
 -- a command as one step of a group and of the text that was printed
-abbrev pub TextStep : Next → ℕ → GroupRecord × List ℕ → Command → CommandAccount → GroupRecord × List ℕ → Type 0
+abbrev pub TextStep : Next ℕ Note → ℕ → GroupRecord ℕ Note × List ℕ → Command → CommandAccount → GroupRecord ℕ Note × List ℕ → Type 0
 TextStep next workers old c account new = (line : List ℕ) × Step next workers old.0 c new.0 line account × IsSound next new.0 × (new.1 ≡ old.1 ++ line)
 
 -- a sound new group of this config, with a value made of it, comes by such steps along the commands, each with its account, to this
 -- group and this value
-abbrev pub IsRun : {X : Type 0} → Next → Settings → (GroupRecord → X) → (GroupRecord × X → Command → CommandAccount → GroupRecord × X → Type 0)
-    → List Command → List CommandAccount → GroupRecord → X → Type 0
-IsRun next config first step commands accounts end x = (start : GroupRecord) × IsGroupStart config start × IsSound next start × Along step commands accounts (start, first start) (end, x)
+abbrev pub IsRun : {X : Type 0} → Next ℕ Note → Settings Note → (GroupRecord ℕ Note → X) → (GroupRecord ℕ Note × X → Command → CommandAccount → GroupRecord ℕ Note × X → Type 0)
+    → List Command → List CommandAccount → GroupRecord ℕ Note → X → Type 0
+IsRun next config first step commands accounts end x = (start : GroupRecord ℕ Note) × IsGroupStart next config start × IsSound next start × Along step commands accounts (start, first start) (end, x)
 
 -- some run of the commands, from a new group of this config, prints the text and has these accounts; each record of the run is
 -- sound, so that each state that is printed is the fold of the member's receipts in the trace
-abbrev pub IsTextOf : Next → ℕ → Settings → List Command → List ℕ → List CommandAccount → Type 0
-IsTextOf next workers config commands text accounts = (end : GroupRecord) × IsRun next config (λ _. []) (TextStep next workers) commands accounts end text
+abbrev pub IsTextOf : Next ℕ Note → ℕ → Settings Note → List Command → List ℕ → List CommandAccount → Type 0
+IsTextOf next workers config commands text accounts = (end : GroupRecord ℕ Note) × IsRun next config (λ _. []) (TextStep next workers) commands accounts end text
 
 -- ---- what a play of the commands leaves in the writer
 
 -- the text of a run of all commands, which has these accounts, was written
-abbrev pub IsWritten : Next → ℕ → Settings → List Command → List CommandAccount → Option (List ℕ) → Option (List ℕ) → Type 0
+abbrev pub IsWritten : Next ℕ Note → ℕ → Settings Note → List Command → List CommandAccount → Option (List ℕ) → Option (List ℕ) → Type 0
 IsWritten next workers config commands accounts before after =
     (text : List ℕ) × IsTextOf next workers config commands text accounts × Appends before after text
 
 -- that of a run of the first so many commands was written, and one at least is left
-abbrev pub IsWrittenUpTo : Next → ℕ → Settings → List Command → ℕ → List CommandAccount → Option (List ℕ) → Option (List ℕ) → Type 0
+abbrev pub IsWrittenUpTo : Next ℕ Note → ℕ → Settings Note → List Command → ℕ → List CommandAccount → Option (List ℕ) → Option (List ℕ) → Type 0
 IsWrittenUpTo next workers config commands done accounts before after =
     (done < length commands) × IsWritten next workers config (take done commands) accounts before after
 
 -- the text of a run of the first so many commands was written, and of the next one's lines a proper prefix
-abbrev pub IsCutAfter : Next → ℕ → Settings → List Command → ℕ → List CommandAccount → Option (List ℕ) → Option (List ℕ) → Type 0
+abbrev pub IsCutAfter : Next ℕ Note → ℕ → Settings Note → List Command → ℕ → List CommandAccount → Option (List ℕ) → Option (List ℕ) → Type 0
 IsCutAfter next workers config commands done accounts before after =
     (text : List ℕ) × (lines : List ℕ) × (last : CommandAccount) × (part : ℕ) × (done < length commands)
     × IsTextOf next workers config (take done commands) text accounts
@@ -172,7 +173,7 @@ IsCutAfter next workers config commands done accounts before after =
     × (part < length lines) × Appends before after (text ++ take part lines)
 
 -- what a play of the commands leaves in the writer
-abbrev pub PlaysOn : Next → ℕ → Settings → List Command → Option (List ℕ) → Option (List ℕ) → Result (Unit {0}) RunFault → Type 0
+abbrev pub PlaysOn : Next ℕ Note → ℕ → Settings Note → List Command → Option (List ℕ) → Option (List ℕ) → Result (Unit {0}) RunFault → Type 0
 -- the text of a run of all commands
 PlaysOn next workers config commands before after (Ok _) = (accounts : List CommandAccount) × IsWritten next workers config commands accounts before after
 -- nothing where no group could be made, else the text of a run of the commands before the one that met it: there is one
@@ -186,9 +187,9 @@ PlaysOn next workers config commands before after (Err e) = ⊥
 -- ---- what a play of an input leaves in the writer
 
 -- the step of a behaviour
-abbrev pub next_of : BehaviourName → Next
-next_of Relay = relay_step
-next_of Mix = mix_step
+abbrev pub next_of : BehaviourName → Next ℕ Note
+next_of Relay = numbered_from_0 relay_step
+next_of Mix = numbered_from_0 mix_step
 
 -- the input is a script, and this is a play of it
 abbrev pub PlaysScript : ℕ → List ℕ → Option (List ℕ) → Option (List ℕ) → Result (Unit {0}) RunFault → Type 0

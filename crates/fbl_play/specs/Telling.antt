@@ -2,6 +2,7 @@
 use Rattle.std.specs.Prelude.{◌≡◌, ℕ, ◌<◌, ◌⊎◌, List, length, take, slice_index_or, Option, Result, Ok, Err}
 use Rattle.std.specs.Io.KnownBytes.{Keeps}
 use Rattle.std.specs.Result.{IsErrAnd}
+use Rattle.fbl_base.specs.declared.trace.Note.{Note}
 use Rattle.fbl_base.specs.Configs.{Settings}
 use Rattle.fbl_base.specs.Fold.{Next}
 use Rattle.fbl_explain.specs.declared.account.CommandAccount.{CommandAccount}
@@ -24,7 +25,7 @@ module _ {O : Type 0} (before : O → Command → O → Type 0) (after : O → C
 
   -- what a play of the commands writes and tells: of each command that it is to be run, once the lines of those before it
   -- are written, and that it was run, with its account, once its own are
-  abbrev pub TellsOn : Next → ℕ → Settings → List Command → Option (List ℕ) → Option (List ℕ) → O → O → Result (Unit {0}) RunFault → Type 0
+  abbrev pub TellsOn : Next ℕ Note → ℕ → Settings Note → List Command → Option (List ℕ) → Option (List ℕ) → O → O → Result (Unit {0}) RunFault → Type 0
   TellsOn next workers config commands had has old new (Ok x) =
       (accounts : List CommandAccount) × IsWritten next workers config commands accounts had has × IsTold commands accounts old new
   -- nothing where no group could be made, else up to the command that met it, of which no line is written

@@ -9,7 +9,7 @@ use crate::answer::{Answer, answer_with};
 use crate::reasons::{checkpoint_reason, deliver_reason, no_such_member, strike_reason};
 use crate::runs::run_plan;
 use fbl_audit::Audit;
-use fbl_base::{Behaviour, Member, MemberSet};
+use fbl_base::{Behaviour, Member, MemberSet, Note};
 use fbl_dump::dump_text;
 use fbl_explain::{CommandAccount, Reason};
 use fbl_group::{CheckpointRefusal, DeliverRefusal, DumpGroupRefusal, Group, RecoverRefusal};
@@ -23,7 +23,7 @@ use std::sync::Wait;
 use std::thread::Threads;
 
 /// Delivers, and answers the line.
-fn run_deliver<B: Behaviour>(
+fn run_deliver<B: Behaviour<State = u64, Note = Note>>(
     alloc: Global,
     group: &mut Group<B>,
     to: Member,
@@ -45,7 +45,7 @@ fn run_deliver<B: Behaviour>(
 }
 
 /// The member's state, none if it is down.
-fn shown_state<B: Behaviour>(group: &Group<B>, member: Member) -> Option<u64>
+fn shown_state<B: Behaviour<State = u64, Note = Note>>(group: &Group<B>, member: Member) -> Option<u64>
     requires { member < group.now.config.members }
     ensures { result ≡ shown_state_of group.now member }
 {
@@ -56,7 +56,7 @@ fn shown_state<B: Behaviour>(group: &Group<B>, member: Member) -> Option<u64>
 }
 
 /// The line of the members' states.
-fn run_states<B: Behaviour>(alloc: Global, group: &Group<B>) -> Result<String, AllocError>
+fn run_states<B: Behaviour<State = u64, Note = Note>>(alloc: Global, group: &Group<B>) -> Result<String, AllocError>
     ensures { IfOk result (λ text. string_bytes text ≡ states_line (shown_states group.now)) }
 {
     let mut states = Vec::new(alloc);
@@ -68,7 +68,7 @@ fn run_states<B: Behaviour>(alloc: Global, group: &Group<B>) -> Result<String, A
 }
 
 /// What a report says of the member, none if it is down.
-fn shown_status<B: Behaviour>(group: &Group<B>, member: Member) -> Option<MemberStatus>
+fn shown_status<B: Behaviour<State = u64, Note = Note>>(group: &Group<B>, member: Member) -> Option<MemberStatus>
     requires { member < group.now.config.members }
     ensures { result ≡ shown_status_of group.now member }
 {
@@ -84,7 +84,7 @@ fn shown_status<B: Behaviour>(group: &Group<B>, member: Member) -> Option<Member
 }
 
 /// What a report says of each member.
-fn statuses<B: Behaviour>(
+fn statuses<B: Behaviour<State = u64, Note = Note>>(
     alloc: Global,
     group: &Group<B>,
 ) -> Result<Vec<Option<MemberStatus>>, AllocError>
@@ -99,7 +99,7 @@ fn statuses<B: Behaviour>(
 }
 
 /// What a report says of the whole group.
-fn totals<B: Behaviour>(alloc: Global, group: &Group<B>) -> Result<Totals, AllocError>
+fn totals<B: Behaviour<State = u64, Note = Note>>(alloc: Global, group: &Group<B>) -> Result<Totals, AllocError>
     ensures { IfOk result (AreTotals group.now) }
 {
     let dump = match group.dump(group.down()) {
@@ -118,7 +118,7 @@ fn totals<B: Behaviour>(alloc: Global, group: &Group<B>) -> Result<Totals, Alloc
 }
 
 /// The lines of a report.
-fn run_report<B: Behaviour>(alloc: Global, group: &Group<B>) -> Result<String, AllocError>
+fn run_report<B: Behaviour<State = u64, Note = Note>>(alloc: Global, group: &Group<B>) -> Result<String, AllocError>
     ensures { IfOk result (λ text. IsReport group.now (string_bytes text)) }
 {
     let statuses = statuses(alloc, group)?;
@@ -127,12 +127,12 @@ fn run_report<B: Behaviour>(alloc: Global, group: &Group<B>) -> Result<String, A
 }
 
 /// Strikes, and answers the line.
-fn run_strike<B: Behaviour>(
+fn run_strike<B: Behaviour<State = u64, Note = Note>>(
     alloc: Global,
     group: &mut Group<B>,
     set: MemberSet,
 ) -> Result<Answer, AllocError>
-    ensures { IfOk result (λ answer. StrikeStep group.old set group.new (string_bytes answer.text) answer.account) }
+    ensures { IfOk result (λ answer. StrikeStep B.next group.old set group.new (string_bytes answer.text) answer.account) }
 {
     match group.strike(set) {
         Ok(struck) => {
@@ -150,7 +150,7 @@ fn run_strike<B: Behaviour>(
 }
 
 /// Recovers, and answers the line.
-fn run_recover<B: Behaviour>(alloc: Global, group: &mut Group<B>) -> Result<Answer, AllocError>
+fn run_recover<B: Behaviour<State = u64, Note = Note>>(alloc: Global, group: &mut Group<B>) -> Result<Answer, AllocError>
     ensures { IfOk result (λ answer. RecoverStep B.next group.old group.new (string_bytes answer.text) answer.account) }
 {
     let undone = group.lost_receipts(alloc)?;
@@ -168,7 +168,7 @@ fn run_recover<B: Behaviour>(alloc: Global, group: &mut Group<B>) -> Result<Answ
 }
 
 /// Takes a checkpoint, and answers the line.
-fn run_checkpoint<B: Behaviour>(
+fn run_checkpoint<B: Behaviour<State = u64, Note = Note>>(
     alloc: Global,
     group: &mut Group<B>,
     member: Member,
@@ -189,7 +189,7 @@ fn run_checkpoint<B: Behaviour>(
 }
 
 /// The line of a dump.
-fn run_dump<B: Behaviour>(
+fn run_dump<B: Behaviour<State = u64, Note = Note>>(
     alloc: Global,
     group: &Group<B>,
     strike: MemberSet,
@@ -207,7 +207,7 @@ fn run_dump<B: Behaviour>(
 }
 
 /// Runs one command, and answers the lines that it prints, with its account. The group comes back.
-pub(crate) fn run_command<B: Behaviour + Send + Sync, T: Threads + Wait + Sync>(
+pub(crate) fn run_command<B: Behaviour<State = u64, Note = Note> + Send + Sync, T: Threads + Wait + Sync>(
     rt: &T,
     alloc: Global,
     workers: u8,

@@ -7,7 +7,7 @@ ghost use Rattle.fbl_play.specs.Telling.{Tells, TellsOn};
 
 use crate::commands::run_command;
 use crate::observer::{NoObserver, Observer};
-use fbl_base::{Behaviour, Config, Mix, Relay};
+use fbl_base::{Behaviour, Config, Mix, Note, Relay};
 use fbl_group::Group;
 use fbl_input::{RunFault, put, read_input};
 use fbl_script::{BehaviourName, Command, Script, script_of_bytes};
@@ -17,7 +17,7 @@ use std::sync::Wait;
 use std::thread::Threads;
 
 /// Runs the commands on a new group, and writes each one's lines when it ends. The observer is told of each.
-fn play_with<B: Behaviour + Send + Sync, T: Threads + Wait + Sync, W: Write, O: Observer>(
+fn play_with<B: Behaviour<State = u64, Note = Note> + Send + Sync, T: Threads + Wait + Sync, W: Write, O: Observer>(
     rt: &T,
     alloc: Global,
     writer: &mut W,

@@ -9,7 +9,7 @@ ghost use Rattle.fbl_script.specs.Scripts.{outline};
 
 use crate::commands::run_command;
 use crate::observer::{NoObserver, Observer};
-use fbl_base::{Behaviour, Config, MemberSet, Mix, Relay};
+use fbl_base::{Behaviour, Config, MemberSet, Mix, Note, Relay};
 use fbl_explain::CommandAccount;
 use fbl_group::Group;
 use fbl_history::History;
@@ -33,7 +33,7 @@ pub struct RunHistory {
 }
 
 /// The history after a command with this account, before which these members were down.
-fn history_after<B: Behaviour>(
+fn history_after<B: Behaviour<State = u64, Note = Note>>(
     alloc: Global,
     history: History,
     group: &Group<B>,
@@ -57,7 +57,7 @@ fn history_after<B: Behaviour>(
 }
 
 /// Runs the commands on a new group, and answers the history. The observer is told of each.
-fn history_with<B: Behaviour + Send + Sync, T: Threads + Wait + Sync, O: Observer>(
+fn history_with<B: Behaviour<State = u64, Note = Note> + Send + Sync, T: Threads + Wait + Sync, O: Observer>(
     rt: &T,
     alloc: Global,
     workers: u8,

@@ -7,7 +7,7 @@ ghost use Rattle.fbl_play.specs.RunSteps.{RunStep, IsRefusedRunText, IsRunAccoun
 
 use crate::answer::{Answer, answer_with};
 use crate::reasons::run_reason;
-use fbl_base::Behaviour;
+use fbl_base::{Behaviour, Note};
 use fbl_explain::{CommandAccount, RunCounts};
 use fbl_group::Group;
 use fbl_lines::{RunEnd, refused_at_text, refused_text, run_text};
@@ -66,7 +66,7 @@ fn answer_text(alloc: Global, answer: &Result<Drained, DrainRefusal>) -> Result<
 }
 
 /// What a run did beside what its line says: how many receipts the group and each worker made and undid, or why it was refused.
-fn account_of<B: Behaviour>(
+fn account_of<B: Behaviour<State = u64, Note = Note>>(
     group: &Group<B>,
     plan: &Plan,
     ever_before: u64,
@@ -90,7 +90,7 @@ fn account_of<B: Behaviour>(
 }
 
 /// Lets workers deliver, strike and recover, and answers the line and the account.
-pub(crate) fn run_plan<B: Behaviour + Send + Sync, T: Threads + Wait + Sync>(
+pub(crate) fn run_plan<B: Behaviour<State = u64, Note = Note> + Send + Sync, T: Threads + Wait + Sync>(
     rt: &T,
     alloc: Global,
     workers: u8,

@@ -4,8 +4,10 @@ use Rattle.std.specs.Option.{option_or}
 use Rattle.serde_json.specs.Data.{Data, Members}
 use Rattle.serde_json.specs.Find.{get, as_object}
 use Rattle.fbl_base.specs.declared.strike.Strike as planned
+use Rattle.fbl_base.specs.declared.trace.Note.{Note}
 use Rattle.fbl_base.specs.declared.trace.Start.{Start}
 use Rattle.fbl_base.specs.Configs.{Settings, IsConfig, RefusesConfig}
+use Rattle.fbl_base.specs.Steps.{has_few_hops}
 use Rattle.fbl_input.specs.declared.fault.Key.TheVariants as keys
 use Rattle.fbl_input.specs.declared.fault.RunFault.{RunFault}
 use Rattle.fbl_input.specs.declared.fault.RunFault.TheVariants as faults
@@ -28,7 +30,7 @@ use Rattle.fbl_input.specs.Shapes.{◌>>=◌, or_fault, number_within, byte_shap
 -- what a script asks for
 pub record Outline : Type 0 where
   pub behaviour : BehaviourName
-  pub config : Settings
+  pub config : Settings Note
   pub commands : List Command
 
 abbrev pub outline : Script → Outline
@@ -155,7 +157,7 @@ IsOfVersion n input = (value_of_input input >>= field keys.Version count_shape) 
 
 -- the input is this script, and there is such a group
 abbrev pub IsScriptOf : List ℕ → Outline → Type 0
-IsScriptOf input s = (outline_of_input input ≡ Ok s) × IsConfig s.config
+IsScriptOf input s = (outline_of_input input ≡ Ok s) × IsConfig has_few_hops s.config
 
 -- the input is a script
 abbrev pub IsScript : List ℕ → Type 0
@@ -163,7 +165,7 @@ IsScript input = (s : Outline) × IsScriptOf input s
 
 -- the fault is the input's first as a script; memory may run out for any input
 abbrev pub IsScriptFault : List ℕ → RunFault → Type 0
-IsScriptFault input = IsFirstFault (outline_of_input input) (λ s. RefusesConfig s.config) (λ _ _. ⊥)
+IsScriptFault input = IsFirstFault (outline_of_input input) (λ s. RefusesConfig has_few_hops s.config) (λ _ _. ⊥)
 
 -- what the fault says of the input is so: of the value that it is, and of the parameters that it has
 abbrev pub IsScriptMisfit : List ℕ → InputFault → Type 0
@@ -178,7 +180,7 @@ request_outline r = record { behaviour = r.behaviour; config = record { members 
 
 -- there is no such group, or memory ran out
 abbrev pub IsRequestRefused : Outline → RunFault → Type 0
-IsRequestRefused s = IsReadRefused (RefusesConfig s.config) (λ _. ⊥)
+IsRequestRefused s = IsReadRefused (RefusesConfig has_few_hops s.config) (λ _. ⊥)
 
 -- a list that was read after a front that was read before
 abbrev pub with_front : {A : Type 0} → List A → Result (List A) RunFault → Result (List A) RunFault

@@ -5,6 +5,7 @@ ghost use Rattle.serde_json.specs.Data.{Data};
 ghost use Rattle.serde_json.specs.View.{view};
 ghost use Rattle.serde_json.specs.Find.{get};
 ghost use Rattle.fbl_base.specs.Configs.{IsConfig};
+ghost use Rattle.fbl_base.specs.Steps.{has_few_hops};
 ghost use Rattle.fbl_input.specs.Items.{start_from};
 ghost use Rattle.fbl_input.specs.Misfits.{Gives, IsMisfit, IsOfSettings, IsOfShape, run_fault};
 ghost use Rattle.fbl_input.specs.Shapes.{count_shape, field, field_or, name_of};
@@ -206,7 +207,7 @@ fn request_in(alloc: Global, input: &[u8]) -> Result<Request, InputFault>
 /// The script of a request, if there is such a group.
 fn script_of(alloc: Global, request: Request) -> Result<Script, InputFault>
     ensures same { IfOk result (λ s. outline s ≡ request_outline request) }
-    ensures rules { IfOk result (λ s. IsConfig s.config) }
+    ensures rules { IfOk result (λ s. IsConfig has_few_hops s.config) }
     ensures refused { IfErr result (λ fault. IsRequestRefused (request_outline request) (run_fault fault)) }
     ensures misfit { IfErr result (λ fault. (d : Data) → IsMisfit kinds.Script d fault) }
     ensures settings { IfErr result (IsOfSettings (request_outline request).config) }

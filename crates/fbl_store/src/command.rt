@@ -1,68 +1,59 @@
 //! What messages ask of a key's owner.
 
-/// A command for one of the eight keys.
-#[derive(Clone, Copy, PartialEq, Eq, Debug)]
-pub struct KeyCommand {
-    /// The key, 0 to 7.
-    pub key: u8,
-    /// What becomes of its value.
-    pub change: Change,
+use fbl_base::{Content, Exact};
+
+/// A command on one of 256 keys.
+#[derive(Clone, Copy, PartialEq, Debug)]
+pub enum Command {
+    /// The key's value becomes this one.
+    Put { key: u8, value: u32 },
+    /// The key's value grows by the amount, up to 2^64 - 1.
+    Add { key: u8, amount: u32 },
 }
 
-/// What becomes of a key's value.
-#[derive(Clone, Copy, PartialEq, Eq, Debug)]
-pub enum Change {
-    /// It is replaced by this one.
-    Put(u8),
-    /// The amount is added to it, up to 255.
-    Add(u8),
-}
+impl Command {
+    ghost use Rattle.std.specs.Prelude.{◌≡◌};
+    ghost use Rattle.fbl_store.specs.Commands.{key_of, changed};
 
-impl KeyCommand {
-    ghost use Rattle.std.specs.Prelude.{◌≡◌, ◌<◌, IfSome};
-    ghost use Rattle.fbl_store.specs.Commands.{applied, command_of};
-
-    /// The command that a note's value spells, if it spells one.
-    pub fn read(value: u32) -> Option<KeyCommand>
-        ensures value { result ≡ command_of value }
-        ensures key { IfSome result (λ command. command.key < 8) }
+    /// The key.
+    pub fn key(self) -> u8
+        ensures { result ≡ key_of self }
     {
-        match value.to_le_bytes() {
-            [amount, key @ 0..=7, 0, 0] => Some(KeyCommand {
-                key,
-                change: Change::Put(amount),
-            }),
-            [amount, key @ 0..=7, 1, 0] => Some(KeyCommand {
-                key,
-                change: Change::Add(amount),
-            }),
-            _ => None,
+        match self {
+            Command::Put { key, .. } | Command::Add { key, .. } => key,
         }
     }
 
-    /// The note's value that spells it.
-    pub fn write(self) -> u32
-        requires { self.key < 8 }
-        ensures { command_of result ≡ Some self }
+    /// What becomes of the key's value.
+    pub fn change(self, value: u64) -> u64
+        ensures { result ≡ changed self value }
     {
-        let (amount, kind) = match self.change {
-            Change::Put(value) => (value, 0),
-            Change::Add(amount) => (amount, 1),
-        };
-        u32::from_le_bytes([amount, self.key, kind, 0])
+        match self {
+            Command::Put { value, .. } => value.into(),
+            Command::Add { amount, .. } => value.saturating_add(amount.into()),
+        }
     }
+}
 
-    /// The state with the key's value changed: byte by byte, a state has the values of the keys.
-    pub fn apply(self, state: u64) -> u64
-        requires { self.key < 8 }
-        ensures { result ≡ applied self state }
-    {
-        let mut values = state.to_le_bytes();
-        let value = &mut values[usize::from(self.key)];
-        *value = match self.change {
-            Change::Put(value) => value,
-            Change::Add(amount) => value.saturating_add(amount),
-        };
-        u64::from_le_bytes(values)
+impl Default for Command {
+    fn default() -> Command {
+        Command::Add { key: 0, amount: 0 }
+    }
+}
+
+impl Exact for Command {
+    ghost use Rattle.std.proofs.Common.{rules};
+
+    ghost exact = { Prim.search rules };
+}
+
+// A start may bring any command.
+impl Content for Command {
+    ghost use Rattle.std.specs.Prelude.{true};
+
+    ghost allowed = { λ command. true };
+
+    fn is_allowed(&self) -> bool {
+        true
     }
 }

@@ -1,19 +1,19 @@
-//! Three members share a store of eight keys. A command for a key goes round the ring to the member that owns it. Some are
+//! Three members share a store of 256 keys. A command for a key goes round the ring to the member that owns it. Some are
 //! delivered, a member is struck and recovered, and then two workers deliver the rest, and strike and recover another member on
 //! the way. No command is applied by any but its key's owner, and none counts twice.
 #![tactic(auto)]
 
-ghost use Rattle.std.specs.Prelude.{◌≡◌, ℕ, ◌<◌, ◌≤◌, ◌==◌, if◌then◌else◌};
+ghost use Rattle.std.specs.Prelude.{◌≡◌, ℕ, ◌<◌, ◌≤◌, ◌==◌, slice_index, if◌then◌else◌};
 ghost use Rattle.fbl_law.specs.Groups.{member as record_of};
-ghost use Rattle.fbl_store.specs.Commands.{amount_of, brought, value_at};
+ghost use Rattle.fbl_store.specs.Commands.{amount_of};
 ghost use Rattle.fbl_store.specs.Shards.{amount_brought, key_owner};
 
 mod command;
 mod shard;
 
 use anyhow::{Result, ensure};
-use command::{Change, KeyCommand};
-use fbl_base::{Config, Member, MemberSet, Note, Start, Strike};
+use command::Command;
+use fbl_base::{Config, Member, MemberSet, Start, Strike};
 use fbl_group::Group;
 use fbl_threads::{NoGate, drain};
 use shard::Shard;
@@ -21,30 +21,25 @@ use std::alloc::Global;
 use std::sync::Wait;
 use std::thread::Threads;
 
-/// A start that asks for a change of a key's value, and may be passed on twice.
-fn asking(from: Member, to: Member, key: u8, change: Change) -> Start
-    requires { key < 8 }
-    ensures ends { (result.from ≡ from) × (result.to ≡ to) }
-    ensures amount { brought result.note ≡ amount_of change }
+/// A start that brings a command.
+fn asking(from: Member, to: Member, note: Command) -> Start<Command>
+    ensures { result ≡ record { from = from; to = to; note = note } }
 {
-    let value = KeyCommand { key, change }.write();
-    let note = Note { value, hops: 2 };
     Start { from, to, note }
 }
 
 /// The value of a key: its owner has it, and another member has none. It is no more than the starts bring.
-fn look_up(group: &Group<Shard>, key: u8) -> u8
-    requires { key < 8 }
-    ensures value { (m : ℕ) → m < group.now.config.members → value_at (record_of group.now m).state key ≡ (if m == key_owner group.now.config.members key then result else 0) }
+fn look_up(group: &Group<Shard>, key: u8) -> u64
+    ensures value { (m : ℕ) → m < group.now.config.members → slice_index (record_of group.now m).state key ≡ (if m == key_owner group.now.config.members key then result else 0) }
     ensures most { result ≤ amount_brought group.now.config }
 {
     group.kept();
     group.none_made();
     let owner = Member::at(key % group.config().members());
-    group.state(owner).to_le_bytes()[usize::from(key)]
+    group.state(owner)[usize::from(key)]
 }
 
-/// Prints the values of the keys, each of which is at most 50.
+/// Prints the values of the first eight keys, each of which is at most 50.
 fn report<R: Print>(rt: &R, when: &str, group: &Group<Shard>) -> Result<()>
     requires { amount_brought group.now.config ≡ 50 }
 {
@@ -64,10 +59,10 @@ fn run<R: Print + Threads + Wait + Sync>(rt: &R, alloc: Global) -> Result<()> {
     let b = Member::at(1);
     let c = Member::at(2);
     let starts = [
-        asking(a, b, 3, Change::Put(40)),
-        asking(a, b, 3, Change::Add(2)),
-        asking(b, c, 5, Change::Put(7)),
-        asking(c, a, 4, Change::Add(1)),
+        asking(a, b, Command::Put { key: 3, value: 40 }),
+        asking(a, b, Command::Add { key: 3, amount: 2 }),
+        asking(b, c, Command::Put { key: 5, value: 7 }),
+        asking(c, a, Command::Add { key: 4, amount: 1 }),
     ];
     let config = Config::new(alloc, 3, 1, 8192, &starts)?;
     let mut group = Group::<Shard>::new(alloc, config)?;

@@ -1,44 +1,39 @@
-ghost use Rattle.std.specs.Prelude.{◌≡◌};
-ghost use Rattle.fbl_store.specs.Shards.{silent_at};
-
-use crate::command::KeyCommand;
+use crate::command::Command;
 use arrayvec::ArrayVec;
-use fbl_base::{Behaviour, Member, Note, Outcome};
+use fbl_base::{Behaviour, Member, Outcome};
 use fbl_law::step_laws::{Keeping, MakingNone, Weighing};
 
-/// A member whose state is its shard of a store of eight keys: the values of the keys that it owns. A note's `value` spells a
-/// command, and its `hops` is how often it may be passed on: a member that doesn't own the key drops it when none is left.
+/// A member whose state is its shard of a store of 256 keys: the values of the keys that it owns. It carries out the commands on
+/// its own keys, and passes another on to the next member.
 pub struct Shard;
 
 impl Behaviour for Shard {
-    ghost use Rattle.std.specs.Prelude.{◌≡◌, ◌<◌, ◌≤◌};
-    ghost use Rattle.fbl_store.specs.Shards.{shard_step, shard_sends_allowed};
+    ghost use Rattle.std.proofs.Common.{rules, refl};
+    ghost use Rattle.fbl_store.specs.Shards.{shard_next, shard_sends_allowed};
 
-    ghost next = { shard_step };
+    type State = [u64; 256];
 
-    ghost sends_allowed = { shard_sends_allowed };
+    type Note = Command;
 
-    fn step(me: Member, n: u8, state: u64, note: Note) -> Outcome
-        requires least { 2 ≤ n }
-        requires most { n ≤ 16 }
-        requires member { me < n }
-        ensures step { result ≡ shard_step me n state note }
-    {
-        let next = me.after(1, n);
-        match KeyCommand::read(note.value) {
-            Some(command) if command.key % n == me.number() => silent(command.apply(state)),
-            Some(_) => Outcome::with_onward(state, next, note.value, note.hops),
-            None => silent(state),
-        }
+    ghost next = { shard_next };
+
+    ghost laws = { record { sends = shard_sends_allowed; starts = refl; fits = Prim.search rules } };
+
+    fn initial(_me: Member, _n: u8) -> [u64; 256] {
+        [0; 256]
     }
-}
 
-/// The new state, and nothing sent.
-fn silent(state: u64) -> Outcome
-    ensures { result ≡ silent_at state }
-{
-    let sends = ArrayVec::new();
-    Outcome { state, sends }
+    fn step(me: Member, n: u8, state: [u64; 256], command: Command) -> Outcome<[u64; 256], Command> {
+        let mut state = state;
+        let mut sends = ArrayVec::new();
+        if command.key() % n == me.number() {
+            let value = &mut state[usize::from(command.key())];
+            *value = command.change(*value);
+        } else {
+            sends.push((me.after(1, n), command));
+        }
+        Outcome { state, sends }
+    }
 }
 
 // A member has values only of keys that it owns.
@@ -58,14 +53,12 @@ impl Keeping for Shard {
 
 // The weight of all values, and of the amounts that commands bring.
 impl Weighing for Shard {
-    ghost use Rattle.std.specs.Prelude.{refl, sum};
-    ghost use Rattle.fbl_store.specs.Commands.{brought, values};
+    ghost use Rattle.std.specs.Prelude.{sum};
+    ghost use Rattle.fbl_store.specs.Commands.{amount_of};
 
-    ghost mass = { λ c me state. sum (values state) };
+    ghost mass = { λ c me values. sum values };
 
-    ghost weight = { λ c. brought };
-
-    ghost nothing = { λ c me. refl };
+    ghost weight = { λ c. amount_of };
 }
 
 // No step makes more of the values than the amounts, so no command counts twice.

@@ -11,7 +11,7 @@ pub use Rattle.std.proofs.lemmas.List.Elements.{filter-append}
 pub use Rattle.std.proofs.lemmas.List.Folds.{sum_by-replicate}
 pub use Rattle.std.proofs.lemmas.List.Sums.{sum_by-set}
 pub use Rattle.std.specs.Cmp.{nat_cmp_total}
-pub use Rattle.std.specs.Coded.{Coded-set, coded_ℕ, codes}
+pub use Rattle.std.specs.Coded.{Coded, Coded-set, coded_ℕ, codes}
 pub use Rattle.std.specs.Ordering.{nat_cmp}
 pub use Rattle.atomic_table.proofs.Lists.{at_longer, at_set, at_snoc, set_again, set_else}
 pub use Rattle.atomic_table.specs.Table.{Allows, Joins, Splits, State, keeps}
@@ -28,13 +28,13 @@ pub use Rattle.fbl_group.proofs.Striking.{is_allowed}
 pub use Rattle.fbl_group.specs.Crashes.{CrashLeaves, Crashes}
 pub use Rattle.fbl_group.specs.Recoveries.{Recovers}
 pub use Rattle.fbl_group.specs.Strikes.{strike_refusal}
-pub use Rattle.fbl_group.specs.Tickets.{IsCommitRefusal, commit_refusal}
+pub use Rattle.fbl_group.specs.Tickets.{MayCommit, RefusesCommit}
 pub use Rattle.fbl_group.specs.declared.answers.Recovered.{Recovered}
 pub use Rattle.fbl_group.specs.declared.answers.Struck.{Struck}
 pub use Rattle.fbl_group.specs.declared.refusals.CommitRefusal.{CommitRefusal}
 pub use Rattle.fbl_group.specs.declared.refusals.CommitRefusal.TheVariants.{Down, Full, Memory, Stale}
 pub use Rattle.fbl_group.specs.declared.refusals.CrashRefusal.{CrashRefusal}
-pub use Rattle.fbl_group.specs.declared.ticket.Ticket.{Ticket}
+pub use Rattle.fbl_base.specs.declared.ticket.Ticket.{Ticket}
 pub use Rattle.fbl_law.specs.GroupSteps.{IsDelivery, IsStrike, delivery_events}
 pub use Rattle.fbl_law.specs.Groups.{GroupRecord, knowledge}
 pub use Rattle.fbl_law.specs.Promises.{KeepsHolders}

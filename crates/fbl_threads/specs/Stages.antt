@@ -5,7 +5,7 @@ use Rattle.fbl_threads.specs.declared.stage.Stage.{Stage}
 use Rattle.fbl_threads.specs.declared.stage.Stage.TheVariants.{Idle, Taken, Ended}
 
 -- what the worker has left of the claims is of these claims
-abbrev pub IsOf : TableId → Stage → Type 0
+abbrev pub IsOf : {S N : Type 0} → TableId → Stage S N → Type 0
 IsOf claims (Idle pass) = pass ≡ claims
 IsOf claims (Taken claim ticket) = claim.0 ≡ claims
 IsOf claims Ended = ⊤

@@ -1,10 +1,12 @@
-use Rattle.std.proofs.Common.{◌≡◌, ℕ, zero, suc, ◌<◌, ◌≤◌, ◌⊎◌, inl, inr, ap, arith}
+use Rattle.std.proofs.Common.{◌≡◌, ℕ, zero, suc, ◌<◌, ◌≤◌, ◌⊎◌, Bool, cond, inl, inr, ap, arith}
 use Rattle.std.proofs.lemmas.Bool.{cases_lt}
 use Rattle.std.specs.FinSet as set
 use Rattle.std.proofs.lemmas.Bool.Decides.{nat_tests}
+use Rattle.fbl_base.specs.declared.trace.Note.{Note}
 use Rattle.fbl_base.specs.Configs.{Settings}
 use Rattle.fbl_law.specs.Groups.{member, member_checkpoint, messages_in_flight, sum_below}
 use Rattle.fbl_election.specs.Elections.{greatest, has_greatest, brought-most, taken-most}
+use Rattle.fbl_election.specs.declared.candidate.Standing.{Standing}
 use Rattle.fbl_election.proofs.elected.Goals as goal
 
 -- a sum of parts that are at most 1
@@ -20,11 +22,11 @@ each-one (suc n) a most all x below = at (cases_lt x n) (each-one n a most (omeg
   at (inl less) before = before less
   at (inr past) before = (let same : x ≡ n = omega arith in omega (arith, ap a same, sum-most n a most, most n, all))
 
-counts-once : (c : Settings) (me state : ℕ) → has_greatest c me state ≤ 1
-counts-once c me state = grind (arith, nat_tests)
+counts-once : (c : Settings Note) (down : Bool) (me : ℕ) (state : Standing) → cond down 0 (has_greatest c me state) ≤ 1
+counts-once c down me state = grind (arith, nat_tests)
 
-counted : (c : Settings) (me state : ℕ) → has_greatest c me state ≡ 1 → state ≡ greatest c.starts
-counted c me state one = grind (arith, nat_tests)
+counted : (c : Settings Note) (down : Bool) (me : ℕ) (state : Standing) → cond down 0 (has_greatest c me state) ≡ 1 → state.greatest ≡ greatest c.starts
+counted c down me state one = grind (arith, nat_tests)
 
 pub returns-clause-most : goal.returns-clause-most
 returns-clause-most c =
@@ -42,5 +44,5 @@ returns-clause-agreed c reaches quiet m below =
     let r = c.args.group.now in
     let none : (set.len r.down ≡ 0) × (messages_in_flight r ≡ 0) = (grind (arith, nat_tests, quiet), grind (arith, nat_tests, quiet)) in
     let held = c.none_lost.ensures.settled (set.empty_of_len r.down none.0) none.1 in
-    counted r.config m (member r m).state (each-one r.config.members (λ k. has_greatest r.config k (member r k).state)
-    (λ k. counts-once r.config k (member r k).state) (omega (arith, reaches, held)) m below)
+    counted r.config (set.contains r.down m) m (member r m).state (each-one r.config.members (λ k. cond (set.contains r.down k) 0 (has_greatest r.config k (member r k).state))
+    (λ k. counts-once r.config (set.contains r.down k) k (member r k).state) (omega (arith, reaches, held)) m below)

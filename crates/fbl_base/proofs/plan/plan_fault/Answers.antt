@@ -3,7 +3,7 @@ use Rattle.std.specs.FinSet as set
 use Rattle.fbl_base.proofs.plan.plan_fault.Goals as goal
 
 pub loop-place-preserved : goal.loop-place-preserved
-loop-place-preserved c =
+loop-place-preserved g c =
     let plan = c.args.plan.now in
     let i = c.loop-place.place in
     let strike = c.index-plan-place.result in

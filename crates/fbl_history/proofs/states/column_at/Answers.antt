@@ -5,4 +5,4 @@ use Rattle.fbl_history.proofs.states.column_at.Goals as goal
 pub returns-in-Send-clause-after : goal.returns-in-Send-clause-after
 returns-in-Send-clause-after g c =
     past_send c.requires.before c.in-Send.from c.in-Send.ssn c.in-Send.to c.in-Send.note
-    (c.requires.here ∙ ap (λ (e : Event). Some e) c.in-Send.is)
+    (c.requires.here ∙ ap (λ (e : Event _). Some e) c.in-Send.is)

@@ -13,7 +13,7 @@ note-is : (g : Over) (c : After-log_note g) (is : IsNextReceipt g.B.Behaviour.ne
 note-is g c is = c.log_note.ensures ∙ note-read is c.index-members-sender.result (c.from-sender.ensures ∙ c.number.ensures.value)
 
 size : (g : Over) (c : After-members g) → c.members.result ≡ c.args.group.now.config.members
-size g c = c.members.ensures.value ∙ ap (λ (x : Settings). x.members) c.config.ensures
+size g c = c.members.ensures.value ∙ ap (λ (x : Settings _). x.members) c.config.ensures
 
 pub bounds-members-sender : goal.bounds-members-sender
 bounds-members-sender g c =
@@ -56,6 +56,6 @@ returns g c =
     let read = receiver-read is c.index-members-from.result place in
     let after = rw (size g at.After-members, read) at c.in_ok-replay_one.ensures.replayed in
     record {
-      state = c.state.ensures ∙ ap (λ (m : MemberRecord). m.state) after ∙ state-is is note;
+      state = c.state.ensures ∙ ap (λ (m : MemberRecord _ _). m.state) after ∙ state-is is note;
       after = rw (place, after) (past-receipt is note);
     }

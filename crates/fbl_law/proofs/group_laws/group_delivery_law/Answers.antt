@@ -2,4 +2,4 @@ use Rattle.fbl_law.proofs.GroupDelivery.{group_delivery_keeps}
 use Rattle.fbl_law.proofs.group_laws.group_delivery_law.Goals as goal
 
 pub returns : goal.returns
-returns c = group_delivery_keeps
+returns g c = group_delivery_keeps

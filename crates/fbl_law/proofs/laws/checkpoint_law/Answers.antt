@@ -2,4 +2,4 @@ use Rattle.fbl_law.proofs.Checkpoint.{checkpoint_keeps}
 use Rattle.fbl_law.proofs.laws.checkpoint_law.Goals as goal
 
 pub returns : goal.returns
-returns c = checkpoint_keeps
+returns g c = checkpoint_keeps

@@ -4,4 +4,4 @@ use Rattle.fbl_law.proofs.Promises.{closed_records_first}
 use Rattle.fbl_law.proofs.laws.closed_law.Goals as goal
 
 pub returns : goal.returns
-returns c = assumption (IsAlwaysHeld-closed, no_orphan, IsRecorded-before, closed_records_first)
+returns g c = record { held = IsAlwaysHeld-closed; orphans = no_orphan; causes = IsRecorded-before; first = closed_records_first }

@@ -3,4 +3,4 @@ use Rattle.fbl_law.proofs.GroupRecovery.{cut_is_one}
 use Rattle.fbl_law.proofs.recovery_laws.cut_law.Goals as goal
 
 pub returns : goal.returns
-returns c = assumption (recovered_trace-cut, cut_is_one)
+returns g c = record { cut = recovered_trace-cut; one = cut_is_one }

@@ -2,7 +2,7 @@ use Rattle.fbl_law.proofs.ReplayLaws.{replay_begins, replay_is_right, replay_end
 use Rattle.fbl_law.proofs.recovery_laws.replay_law.Goals as goal
 
 pub returns : goal.returns
-returns c = record {
+returns g c = record {
   begins = λ next old rebuilt sound. replay_begins next old sound rebuilt;
   right = λ next old rebuilt p d note sound replaying below down is. replay_is_right next old sound rebuilt replaying p below down d is note;
   ends = λ next old rebuilt sound. replay_ends next old sound rebuilt;

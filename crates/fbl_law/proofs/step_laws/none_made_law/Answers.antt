@@ -3,5 +3,5 @@ use Rattle.fbl_law.proofs.step_laws.none_made_law.Goals as goal
 
 pub returns : goal.returns
 returns g c r sound =
-    weighs_no_more _ r _ _ _ _ (g.B.Weighing.nothing r.config) sound (g.met.B.Keeping.keeps r.config sound.config) (g.B.Keeping.first r.config sound.config)
+    weighs_no_more _ r _ _ _ _ sound (g.met.B.Keeping.keeps r.config sound.config) (g.met.B.Keeping.first r.config sound.config)
     (g.met.B.MakingNone.makes_none r.config sound.config)

@@ -1,6 +1,9 @@
-use Rattle.fbl_member.proofs.Made.{made-more}
+use Rattle.fbl_member.proofs.Made.{made-more, made_none}
 use Rattle.fbl_member.proofs.members.fresh_members.Goals as goal
+
+pub loop-number-init : goal.loop-number-init
+loop-number-init g c = rw c.new-members.ensures.items (made_none _ _)
 
 pub loop-number-preserved : goal.loop-number-preserved
 loop-number-preserved g c =
-    rw c.in_ok-push.ensures.items (made-more _ _ _ _ _ c.loop-number.invariant (rw c.at-member.ensures at c.in_ok-fresh.ensures))
+    rw c.in_ok-push.ensures.items (made-more _ _ _ _ _ c.loop-number.invariant (rw (c.initial.ensures, c.at-member.ensures, c.members-n.ensures.value) at c.in_ok-fresh.ensures))

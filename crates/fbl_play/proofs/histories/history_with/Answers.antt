@@ -1,3 +1,4 @@
+use Rattle.fbl_base.specs.declared.trace.Note.{Note}
 use Rattle.fbl_play.proofs.Common.{ap, arith, err_from_is_err_and, inl, refl, Settings}
 use Rattle.fbl_play.proofs.HistoryRuns.{has_none, history_all, history_more, history_short, step-config}
 use Rattle.fbl_play.proofs.histories.history_with.Goals as goal
@@ -15,7 +16,7 @@ pub history_after-requires : goal.history_after-requires
 history_after-requires g c =
     let step = rw c.in_ok-answer.was at c.run_command-after.ensures in
     let config = step-config g.B.Behaviour.next c.args.workers c.loop-command.group c.command-item.result c.run_command-after.result.0 _ _ step in
-    λ q is. (let below = c.down-down.ensures.within q is in omega (arith, below, ap (λ (x : Settings). x.members) config))
+    λ q is. (let below = c.down-down.ensures.within q is in omega (arith, below, ap (λ (x : Settings Note). x.members) config))
 
 pub returns-in_err-answer : goal.returns-in_err-answer
 returns-in_err-answer g c =

@@ -1,3 +1,4 @@
+use Rattle.fbl_base.specs.declared.trace.Note.{Note}
 use Rattle.fbl_play.proofs.Common.{ℕ, List, Result, Ok, Err, Next, GroupRecord, Drains, IfErr, string_bytes, IfOk, IfOk-at_ok, Strike, Drained, DrainRefusal, IsPlanRefused, IsRunAccount, IsRunText}
 use Rattle.fbl_threads.specs.declared.draining.DrainRefusal.TheVariants as drain
 use Rattle.fbl_play.proofs.runs.run_plan.Goals as goal
@@ -21,7 +22,7 @@ returns g c =
     ))
 
 -- a refused plan has a bad entry, and the group is as it was
-plan_refused : (next : Next) (workers : ℕ) (plan : List Strike) (old new : GroupRecord) (answer : Result Drained DrainRefusal)
+plan_refused : (next : Next ℕ Note) (workers : ℕ) (plan : List Strike) (old new : GroupRecord ℕ Note) (answer : Result Drained DrainRefusal)
     → Drains next workers plan old new answer → IfErr answer (IsPlanRefused plan new.config)
 plan_refused next workers plan old new (Ok drained) h = tt
 plan_refused next workers plan old new (Err (drain.BadPlan place)) h = rw h.1.1 h.1.0.1

@@ -1,5 +1,6 @@
-use Rattle.fbl_threads.proofs.Common.{sym, ap, ◌∙◌, struck_at}
+use Rattle.fbl_threads.proofs.Common.{arith, sym, ap, ◌∙◌, struck_at}
 use Rattle.fbl_threads.proofs.Reaching.{met_full, met_no_memory, committed, crashed, left_down}
+use Rattle.fbl_threads.proofs.Keeping.{at-within}
 use Rattle.fbl_threads.proofs.counted_group.make_turn.Goals as goal
 
 pub returns-in-Full : goal.returns-in-Full
@@ -30,3 +31,15 @@ returns-in-Err-crash g c =
       turn = left_down (c.in_default.ensures.delivered.0, (c.in_default.field-0, c.in_default.ensures.delivered.1)) at c.in-Err-crash.field-0
           (c.requires.plan) c.in-Err-crash.ensures.refused c.add.ensures;
     }
+
+pub add-requires-clause-fits : goal.add-requires-clause-fits
+add-requires-clause-fits g c =
+    let d = c.in_default.ensures.delivered.1.2.delivery in
+    omega (arith, at-within c.args.counted.now.by_worker.items c.args.worker c.requires.places.0, c.requires.counted.0, d.receipts_ever, c.receipts_ever-ever.ensures, c.receipts_ever-ever.type_inv)
+
+pub add-requires-in-Ok-clause-fits : goal.add-requires-in-Ok-clause-fits
+add-requires-in-Ok-clause-fits g c =
+    let d = c.in_default.ensures.delivered.1.2.delivery in
+    let crash = c.in-Ok.ensures.crashed.1 in
+    let at = at-within c.args.counted.now.undone_by_worker.items c.args.worker c.requires.places.1 in
+    omega (arith, at, c.requires.counted.1, d.undone_ever, crash.1.0.undone_ever, crash.2.recovery.rest.undone_ever, crash.2.undone, c.from-undone.ensures, c.undone_ever-ever.ensures, c.undone_ever-ever.type_inv)

@@ -1,18 +1,18 @@
 use Rattle.fbl_base.proofs.Common.{◌≡◌, ap, sym, ◌∙◌, true, Settings, rules, slice_eq-Decides}
-use Rattle.fbl_base.proofs.SameStart.{Decides-same_start}
+use Rattle.fbl_base.proofs.SameStart.{Decides-same_start, decided}
 use Rattle.fbl_base.proofs.config.Config.same.Goals as goal
 
-same_settings : (a b : Settings) → a.members ≡ b.members → a.f ≡ b.f → a.limit ≡ b.limit → a.starts ≡ b.starts → a ≡ b
+same_settings : {N : Type 0} (a b : Settings N) → a.members ≡ b.members → a.f ≡ b.f → a.limit ≡ b.limit → a.starts ≡ b.starts → a ≡ b
 same_settings a b e1 e2 e3 e4 i = record { members = e1 i; f = e2 i; limit = e3 i; starts = e4 i }
 
 pub returns : goal.returns
 returns g c =
-    let starts = slice_eq-Decides Decides-same_start c.as_slice.result.now c.as_slice-2.result.now c.eq.result c.eq.ensures in
+    let starts = slice_eq-Decides (Decides-same_start g.N.PartialEq.eq (λ a b. decided _ (g.met.N.Exact.exact a b))) c.as_slice.result.now c.as_slice-2.result.now c.eq.result c.eq.ensures in
     let a = c.as_slice.ensures.value in
     let b = c.as_slice-2.ensures.value in
     rw (← c.self.view_is, ← c.other.view_is) (
       λ t.
           let yes' : c.eq.result ≡ true = search rules in
           same_settings _ _ c.if-self-other.false c.if-self-other-2.false c.if-self-other-3.false (sym a ∙ starts.0 yes' ∙ b),
-      λ e. (let yes' : c.eq.result ≡ true = starts.1 (a ∙ ap (λ (s : Settings). s.starts) e ∙ sym b) in search rules),
+      λ e. (let yes' : c.eq.result ≡ true = starts.1 (a ∙ ap (λ (s : Settings _). s.starts) e ∙ sym b) in search rules),
     )

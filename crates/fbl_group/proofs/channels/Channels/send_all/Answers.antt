@@ -36,8 +36,8 @@ loop-wire-preserved g c =
       sending = rw (channel.changed c.push_back_reserved.new.self (c.push_back_reserved.ensures.items ∙ ap (λ vs. vs ++ w ∷ []) channel.messages), channel.room_set c.push_back_reserved.new.self)
           (sending-more left so_far channel.in_room one_less);
       trace =
-          ap (λ (es : List Event). es ++ map send_of_message others) (c.push_reserved.ensures.items ∙ ap (λ (e : Event). c.loop-wire.trace.items ++ e ∷ []) c.sent_event.ensures)
+          ap (λ (es : List (Event _)). es ++ map send_of_message others) (c.push_reserved.ensures.items ∙ ap (λ (e : Event _). c.loop-wire.trace.items ++ e ∷ []) c.sent_event.ensures)
           ∙ append_assoc c.loop-wire.trace.items (send_of_message w ∷ []) (map send_of_message others)
-          ∙ ap (λ (vs : List Message). c.loop-wire.trace.items ++ map send_of_message vs) (sym rest) ∙ c.loop-wire.invariant.trace;
+          ∙ ap (λ (vs : List (Message _)). c.loop-wire.trace.items ++ map send_of_message vs) (sym rest) ∙ c.loop-wire.invariant.trace;
       trace_room = (let enough = c.loop-wire.invariant.trace_room in omega (arith, enough, ap length rest, c.push_reserved.ensures.len, c.push_reserved.ensures.capacity));
     }

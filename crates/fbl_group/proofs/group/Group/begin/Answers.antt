@@ -1,6 +1,10 @@
 use Rattle.fbl_group.proofs.Common.{subst, IsSound, arith, made-more}
 use Rattle.fbl_group.proofs.Recovering.{begun}
+use Rattle.fbl_member.proofs.Made.{made_none}
 use Rattle.fbl_group.proofs.group.Group.begin.Goals as goal
+
+pub loop-number-init : goal.loop-number-init
+loop-number-init g c = rw c.new-rebuilt.ensures.items (made_none _ _)
 
 pub loop-number-preserved : goal.loop-number-preserved
 loop-number-preserved g c =

@@ -7,10 +7,10 @@ unfolding DumpObeysRules
 lawful-requires g c =
     let below = (rw c.size.ensures.value at (c.within.ensures.0 c.if-not-within.false)) in
     rw c.in-Ok.ensures
-    (dump_obeys_rules g.B.Behaviour.next c.args.self.now c.args.strike c.promises.ensures.sound below)
+    (dump_obeys_rules _ _ g.B.Behaviour.next c.args.self.now c.args.strike c.promises.ensures.sound below)
 
 pub returns-in-Ok-clause-no_orphan : goal.returns-in-Ok-clause-no_orphan
 unfolding DumpHasNoOrphan
 returns-in-Ok-clause-no_orphan g c covers few m =
     subst (λ (d : Parts). ¬ (IsDumpOrphan d m)) (sym (c.lawful.ensures ∙ c.in-Ok.ensures))
-    (dump_has_no_orphan g.B.Behaviour.next c.args.self.now c.args.strike m c.promises.ensures.sound covers few)
+    (dump_has_no_orphan _ _ g.B.Behaviour.next c.args.self.now c.args.strike m c.promises.ensures.sound covers few)

@@ -1,6 +1,18 @@
-use Rattle.fbl_group.proofs.Common.{arith, group_start_is_sound}
+use Rattle.fbl_group.proofs.Common.{refl, group_start_is_sound}
 use Rattle.fbl_group.proofs.group.Group.new.Goals as goal
 
 pub invariant_of-result : goal.invariant_of-result
 invariant_of-result g c =
-    group_start_is_sound g.B.Behaviour.next c.args.config _ (rw (← c.config.view_is) c.config.invariant) (grind arith)
+    group_start_is_sound g.B.Behaviour.next c.args.config _ (rw (g.met.B.Behaviour.laws.starts, ← c.config.view_is) c.config.invariant) (record {
+      parameters = refl;
+      trace = c.in_ok-trace.ensures.trace;
+      shape = c.in_ok-trace.ensures.shape;
+      channels = c.in_ok-trace.ensures.channels;
+      size = c.in_ok-members.ensures.size;
+      members = c.in_ok-members.ensures.fresh;
+      checkpoints = c.in_ok-checkpoints.ensures.size;
+      saved = c.in_ok-checkpoints.ensures.fresh;
+      nobody_down = c.empty.ensures;
+      receipts_ever = refl;
+      undone_ever = refl;
+    })

@@ -9,7 +9,7 @@ returns g c =
     let sound = subst (IsSound g.B.Behaviour.next) c.self.view_is c.self.invariant in
     record {
       sound = sound;
-      held = sound_holds_each_receipt g.B.Behaviour.next _ sound;
+      held = sound_holds_each_receipt _ _ g.B.Behaviour.next _ sound;
       no_orphan = λ m. no_orphan _ _ sound.causes.closed m;
       survivors = any_survivors_hold r.config.members r.config.f (knowledge r) r.down sound.causes (λ q down. down) sound.causes.down.few;
       first = sound_records_first g.B.Behaviour.next _ sound;

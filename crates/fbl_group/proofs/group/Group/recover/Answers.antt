@@ -4,11 +4,11 @@ use Rattle.fbl_group.proofs.group.Group.recover.Goals as goal
 
 pub returns-clause-left : goal.returns-clause-left
 unfolding RecoveryLeavesRecorded
-returns-clause-left g c = recovery_leaves_recorded g.B.Behaviour.next _ _ c.in_ok-bring_back.ensures.recovered.recovery c.promises.ensures.sound
+returns-clause-left g c = recovery_leaves_recorded _ _ g.B.Behaviour.next _ _ c.in_ok-bring_back.ensures.recovered.recovery c.promises.ensures.sound
 
 pub returns-clause-undone : goal.returns-clause-undone
 returns-clause-undone g c = omega (arith, cut-undone c.promises.ensures.sound c.in_ok-bring_back.ensures.recovered.recovery.trace, c.in_ok-bring_back.ensures.recovered.undone)
 
 pub returns-clause-holders : goal.returns-clause-holders
 unfolding GroupRecoveryGainsHolders
-returns-clause-holders g c = group_recovery_gains_holders g.B.Behaviour.next _ _ c.in_ok-bring_back.ensures.recovered.recovery c.promises.ensures.sound
+returns-clause-holders g c = group_recovery_gains_holders _ _ g.B.Behaviour.next _ _ c.in_ok-bring_back.ensures.recovered.recovery c.promises.ensures.sound

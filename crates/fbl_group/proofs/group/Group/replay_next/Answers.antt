@@ -14,7 +14,15 @@ replay_one-requires g c =
     let read = is-record sound c.requires.replaying c.requires.down (c.from.ensures ∙ c.number.ensures.value) c.index_mut-record.ensures.value in
     let next = replaying-next g.B.Behaviour.next _ sound _ c.requires.replaying c.args.member down c.requires.down _ c.in-Some.ensures.found in
     let room = replaying-room g.B.Behaviour.next _ sound _ c.requires.replaying c.args.member down c.requires.down _ c.in-Some.ensures.found _ c.in-Some.ensures.sent in
-    rw read grind (arith, next, room, sound.config, down)
+    rw read (record {
+      least = omega (arith, c.size.ensures.value, sound.config.members.0);
+      most = omega (arith, c.size.ensures.value, sound.config.members.1);
+      member = omega (arith, c.size.ensures.value, down);
+      to_me = next.to;
+      next = next.rsn;
+      receipts = next.room;
+      sends = rw c.size.ensures.value room;
+    })
 
 pub returns : goal.returns
 returns g c =

@@ -1,43 +1,48 @@
 use Rattle.fbl_group.proofs.Common.{◌≡◌, length, arith, rules, refl, ap, ◌∙◌, room_in}
+use Rattle.std.proofs.Common.{Option, Some, None, IfNone, IsSome}
 use Rattle.fbl_group.proofs.Queues.{length-messages, made-fits}
 use Rattle.fbl_group.proofs.Planning as planning
 use Rattle.fbl_group.proofs.group.Group.settle.Goals as goal
 
 pub reserve_from-requires-clause-receivers : goal.reserve_from-requires-clause-receivers
 reserve_from-requires-clause-receivers g c =
-    planning.receivers_in g.met.B.Behaviour.sends_allowed c.self.invariant c.self.view_is c.requires refl c.as_slice-sends.ensures.value
+    planning.receivers_in g.met.B.Behaviour.laws.sends c.self.invariant c.self.view_is c.requires refl c.as_slice-sends.ensures.value
+
+is_some_if : {X P : Type 0} (o : Option X) → ¬ P → IfNone o P → IsSome o
+is_some_if None never h = absurd (never h)
+is_some_if (Some x) never h = search rules
 
 pub unwrap-wire-requires : goal.unwrap-wire-requires
 unwrap-wire-requires g c =
-    grind (arith, planning.not_empty g.met.B.Behaviour.sends_allowed c.self.invariant c.self.view_is c.requires c.reserve_from.ensures.same, c.front.ensures.none)
+    is_some_if c.front.result (planning.not_empty g.met.B.Behaviour.laws.sends c.self.invariant c.self.view_is c.requires c.reserve_from.ensures.same) c.front.ensures.none
 
 pub overflow_cast-carried : goal.overflow_cast-carried
 overflow_cast-carried g c =
-    planning.few_carried g.met.B.Behaviour.sends_allowed c.self.invariant c.self.view_is c.requires c.reserve_from.ensures.same
+    planning.few_carried g.met.B.Behaviour.laws.sends c.self.invariant c.self.view_is c.requires c.reserve_from.ensures.same
     (rw c.unwrap-wire.ensures at c.front.ensures.some) c.carried.ensures.value c.carried.ensures.once
 
 pub receive-requires : goal.receive-requires
 receive-requires g c =
-    let reads = planning.reads g.met.B.Behaviour.sends_allowed c.self.invariant c.self.view_is c.requires c.reserve_from.ensures.same
+    let reads = planning.reads g.met.B.Behaviour.laws.sends c.self.invariant c.self.view_is c.requires c.reserve_from.ensures.same
     (rw c.unwrap-wire.ensures at c.front.ensures.some) (c.from.ensures ∙ c.number.ensures.value) c.index_mut-member.ensures.value c.members-n.ensures.value in
     search (rules, reads)
 
 pub invariant_of-self-in_err-made : goal.invariant_of-self-in_err-made
 invariant_of-self-in_err-made g c =
-    rw (planning.stays g.met.B.Behaviour.sends_allowed c.self.invariant c.self.view_is c.requires c.reserve_from.ensures.same c.from.result
+    rw (planning.stays g.met.B.Behaviour.laws.sends c.self.invariant c.self.view_is c.requires c.reserve_from.ensures.same c.from.result
     c.in_err-made.ensures.unchanged c.index_mut-member.ensures.value c.reserve.ensures.items) c.self.invariant
 
 pub returns-in_err-made-clause-unchanged : goal.returns-in_err-made-clause-unchanged
 returns-in_err-made-clause-unchanged g c =
     grind (
       arith,
-      planning.stays g.met.B.Behaviour.sends_allowed c.self.invariant c.self.view_is c.requires c.reserve_from.ensures.same c.from.result
+      planning.stays g.met.B.Behaviour.laws.sends c.self.invariant c.self.view_is c.requires c.reserve_from.ensures.same c.from.result
           c.in_err-made.ensures.unchanged c.index_mut-member.ensures.value c.reserve.ensures.items ∙ c.self.view_is,
     )
 
 pub take_and_send-requires-clause-receivers : goal.take_and_send-requires-clause-receivers
 take_and_send-requires-clause-receivers g c =
-    planning.sent_in g.met.B.Behaviour.sends_allowed c.self.invariant c.self.view_is c.requires c.reserve_from.ensures.same _ _ c.in_ok-made.ensures.sent
+    planning.sent_in g.met.B.Behaviour.laws.sends c.self.invariant c.self.view_is c.requires c.reserve_from.ensures.same _ _ c.in_ok-made.ensures.sent
 
 pub take_and_send-requires-clause-room : goal.take_and_send-requires-clause-room
 take_and_send-requires-clause-room g c =
@@ -52,20 +57,35 @@ take_and_send-requires-clause-trace g c =
 
 pub overflow_add-self : goal.overflow_add-self
 overflow_add-self g c =
-    let room = planning.room g.met.B.Behaviour.sends_allowed c.self.invariant c.self.view_is c.requires in
+    let room = planning.room g.met.B.Behaviour.laws.sends c.self.invariant c.self.view_is c.requires in
     let ranges = c.self.ranges in
     omega (arith, room.1, ranges.1.1.1.1.1.1.0.1)
 
 pub invariant_of-self-2 : goal.invariant_of-self-2
 invariant_of-self-2 g c =
-    planning.is_sound g.met.B.Behaviour.sends_allowed c.self.invariant c.self.view_is c.requires c.reserve_from.ensures.same
+    planning.is_sound g.met.B.Behaviour.laws.sends c.self.invariant c.self.view_is c.requires c.reserve_from.ensures.same
     (rw c.unwrap-wire.ensures at c.front.ensures.some) (c.from.ensures ∙ c.number.ensures.value) c.index_mut-member.ensures.value
     c.in_ok-made.ensures.received c.in_ok-made.ensures.sent c.f-f.ensures c.ssn-ssn.ensures c.received-rsn.ensures.value c.reserve.ensures.items
     c.push_reserved.ensures.items c.take_and_send.ensures.trace c.take_and_send.ensures.channels
 
 pub returns-clause-delivered : goal.returns-clause-delivered
 returns-clause-delivered g c =
-    planning.is_delivered g.met.B.Behaviour.sends_allowed c.self.invariant c.self.view_is c.requires c.reserve_from.ensures.same
+    planning.is_delivered g.met.B.Behaviour.laws.sends c.self.invariant c.self.view_is c.requires c.reserve_from.ensures.same
     (rw c.unwrap-wire.ensures at c.front.ensures.some) (c.from.ensures ∙ c.number.ensures.value) c.index_mut-member.ensures.value
     c.in_ok-made.ensures.received c.in_ok-made.ensures.sent c.f-f.ensures c.ssn-ssn.ensures c.received-rsn.ensures.value c.reserve.ensures.items
     c.push_reserved.ensures.items c.take_and_send.ensures.trace c.take_and_send.ensures.channels c.carried.ensures.value
+
+pub take_and_send-requires-clause-from : goal.take_and_send-requires-clause-from
+take_and_send-requires-clause-from g c =
+    let from = rw (← c.self.view_is) at c.requires.from_member in
+    rw c.reserve_from.ensures.same (omega (arith, c.self.invariant.shape.senders, from))
+
+pub take_and_send-requires-clause-to : goal.take_and_send-requires-clause-to
+take_and_send-requires-clause-to g c =
+    let to = rw (← c.self.view_is) at c.requires.to_member in
+    rw c.reserve_from.ensures.same (omega (arith, c.self.invariant.shape.senders, to))
+
+pub take_and_send-requires-clause-channel : goal.take_and_send-requires-clause-channel
+take_and_send-requires-clause-channel g c =
+    let channel = rw (← c.self.view_is) at c.requires.channel in
+    rw c.reserve_from.ensures.same channel

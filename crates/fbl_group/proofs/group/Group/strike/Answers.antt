@@ -4,14 +4,14 @@ use Rattle.fbl_group.proofs.group.Group.strike.Goals as goal
 
 pub invariant_of-self : goal.invariant_of-self
 invariant_of-self g c =
-    is_sound c.self.invariant (rw (← c.self.view_is) at c.in_ok-allow_strike.ensures.allowed) c.blank_members.ensures
-    (rw c.members-2.ensures.value at c.drop_at.ensures) c.union-self-inside.ensures
+    is_sound c.self.invariant (rw (← c.self.view_is) at c.in_ok-allow_strike.ensures.allowed) (rw c.members-n.ensures.value at c.blank_members.ensures)
+    (rw c.members-n.ensures.value at c.drop_at.ensures) c.union-self-inside.ensures
 
 pub returns-clause-struck : goal.returns-clause-struck
 returns-clause-struck g c =
     let allowed = (rw (← c.self.view_is) at c.in_ok-allow_strike.ensures.allowed) in
-    let emptied = (rw c.members-2.ensures.value at c.drop_at.ensures) in
+    let emptied = (rw c.members-n.ensures.value at c.drop_at.ensures) in
     let lost = (rw (c.deref.ensures.value, c.deref-2.ensures.value, c.deref-3.ensures.value) at c.count_lost.ensures) in (
       c.in_ok-allow_strike.ensures.allowed,
-      (rw (← c.self.view_is) (is_strike c.self.invariant allowed c.blank_members.ensures emptied c.union-self-inside.ensures), lost ∙ count-lost g.B.Behaviour.next _ c.promises-2.ensures.sound),
+      (rw (← c.self.view_is) (is_strike c.self.invariant allowed (rw c.members-n.ensures.value at c.blank_members.ensures) emptied c.union-self-inside.ensures), lost ∙ count-lost g.B.Behaviour.next _ c.promises-2.ensures.sound),
     )

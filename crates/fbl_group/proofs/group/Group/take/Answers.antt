@@ -7,7 +7,7 @@ overflow_add-result g c =
     let sound = c.record-member.ensures.sound in
     let nobody = set.empty_of_len c.args.self.now.down (grind arith) in
     let fits = receipts_fit g.B.Behaviour.next _ sound c.args.to (omega arith) (up_if_none nobody c.args.to) in
-    omega (arith, c.received.ensures.value, ap (λ (m : MemberRecord). m.received) c.record-member.ensures.value, fits, sound.room, sound.config.limit.1)
+    omega (arith, c.received.ensures.value, ap (λ (m : MemberRecord _ _). m.received) c.record-member.ensures.value, fits, sound.room, sound.config.limit.1)
 
 pub returns-clause-taken : goal.returns-clause-taken
 returns-clause-taken g c =

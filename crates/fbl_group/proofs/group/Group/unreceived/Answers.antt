@@ -11,5 +11,5 @@ overflow_sub-result g c = grind (arith, c.self.view_is, received-twice g.B.Behav
 
 pub returns : goal.returns
 returns g c nobody =
-    let flying = unreceived-fly g.B.Behaviour.next _ c.self.invariant (ap (λ (r : GroupRecord). set.len r.down) c.self.view_is ∙ nobody) in
+    let flying = unreceived-fly g.B.Behaviour.next _ c.self.invariant (ap (λ (r : GroupRecord _ _). set.len r.down) c.self.view_is ∙ nobody) in
     grind (arith, c.self.view_is, flying)

@@ -1,4 +1,4 @@
-use Rattle.fbl_group.proofs.Common.{◌≡◌, ◌∙◌, arith}
+use Rattle.fbl_group.proofs.Common.{◌≡◌, ◌∙◌, arith, length-set}
 use Rattle.std.specs.FinSet as set
 use Rattle.fbl_group.proofs.PuttingBack.{put-down, put-up, replaced-end}
 use Rattle.fbl_group.proofs.rebuilt.Rebuilt.put_back.Goals as goal
@@ -8,13 +8,21 @@ loop-number-preserved g c =
     let asked : set.contains c.args.self.down c.loop-number.number ≡ c.has.result = cc in
     elim c.if-has.branch [
       | goal.then-has w ↦
-          rw (w.members-is, w.records-is) (put-down c.loop-number.invariant w.swap.new.y c.from-place.ensures
-          (omega (arith, c.loop-number-test.true, c.requires.members, c.args.members.now.ok.0))
-          (omega (arith, c.loop-number-test.true, c.requires.records, c.args.self.records.ok.0))
-          (asked ∙ w.if-has.true) (rw w.swap.ensures.x_after w.index_mut-then-has.ensures.value))
+          rw (w.members-is, w.records-is) (record {
+            members = length-set _ _ _ ∙ c.loop-number.invariant.members;
+            records = length-set _ _ _ ∙ c.loop-number.invariant.records;
+            put = λ outside. put-down (c.loop-number.invariant.put outside) w.swap.new.y c.from-place.ensures
+                (omega (arith, c.loop-number-test.true, c.requires.members, c.args.members.now.ok.0))
+                (omega (arith, c.loop-number-test.true, c.requires.records, c.args.self.records.ok.0))
+                (asked ∙ w.if-has.true) (rw w.swap.ensures.x_after w.index_mut-then-has.ensures.value);
+          })
       | goal.else-has w ↦
-          rw (w.members-is, w.records-is) (put-up c.loop-number.invariant (asked ∙ w.if-has.false))
+          rw (w.members-is, w.records-is) (record {
+            members = c.loop-number.invariant.members;
+            records = c.loop-number.invariant.records;
+            put = λ outside. put-up (c.loop-number.invariant.put outside) (asked ∙ w.if-has.false);
+          })
     ]
 
 pub returns : goal.returns
-returns g c = replaced-end c.loop-number.invariant.turned (omega (arith, c.loop-number-test.false, c.requires.members, c.args.members.now.ok.0))
+returns g c outside = replaced-end (c.loop-number.invariant.put outside).turned (omega (arith, c.loop-number-test.false, c.requires.members, c.args.members.now.ok.0))

@@ -1,5 +1,10 @@
+use Rattle.fbl_group.proofs.Common.{◌≡◌, length}
 use Rattle.fbl_group.proofs.PuttingBack.{Putting}
 use Rattle.fbl_group.proofs.rebuilt.Rebuilt.put_back.Given as goal
 
 abbrev pub invariant-loop-number : goal.invariant-loop-number
-invariant-loop-number g l = Putting l.down l.initial.records.items l.initial.members.items l.number l.members.items l.records.items
+invariant-loop-number g l = record {
+  members : length l.members.items ≡ length l.initial.members.items;
+  records : length l.records.items ≡ length l.initial.records.items;
+  put : (initial : _) → Putting initial l.down l.initial.records.items l.initial.members.items l.number l.members.items l.records.items;
+}

@@ -3,6 +3,6 @@ use Rattle.fbl_group.proofs.rebuilt.Rebuilt.replayed.Given as goal
 
 abbrev pub invariant-loop-number : goal.invariant-loop-number
 invariant-loop-number g l = record {
-  counted : l.replayed ≡ count_in l.self.down (λ p. (slice_index_or l.self.records.items p blank).received - (slice_index_or l.checkpoints p blank).received) l.number;
+  counted : (initial : _) → l.replayed ≡ count_in l.self.down (λ p. (slice_index_or l.self.records.items p (blank initial)).received - (slice_index_or l.checkpoints p (blank initial)).received) l.number;
   bound : l.replayed ≤ l.number * 8192;
 }

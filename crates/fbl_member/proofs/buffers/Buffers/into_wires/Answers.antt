@@ -9,7 +9,7 @@ so-at P xs i (Some x) all at = rw (get_or_from_slice_get xs i x.now x.now (sym a
 
 pub next_carried-carried-requires-clause-made : goal.next_carried-carried-requires-clause-made
 next_carried-carried-requires-clause-made g c =
-    so-at (λ (w : Message). w.carried ≡ piggybacked c.args.f c.args.table.now) c.deref.result.now _ _ (rw c.deref.ensures.value c.loop-place.invariant.carried) c.last.ensures.value
+    so-at (λ (w : Message _). w.carried ≡ piggybacked c.args.f c.args.table.now) c.deref.result.now _ _ (rw c.deref.ensures.value c.loop-place.invariant.carried) c.last.ensures.value
 
 pub next_carried-carried-requires-clause-room : goal.next_carried-carried-requires-clause-room
 next_carried-carried-requires-clause-room g c =
@@ -23,7 +23,7 @@ loop-place-preserved g c =
     let is : c.new.result.carried ≡ carried = rw c.new.ensures c.next_carried-carried.ensures in
     record {
       so_far = grind (arith, next, append_assoc);
-      carried = rw c.push_reserved.ensures.items (All-push (λ (w : Message). w.carried ≡ carried) c.loop-place.wires.items c.new.result c.loop-place.invariant.carried is);
+      carried = rw c.push_reserved.ensures.items (All-push (λ (w : Message _). w.carried ≡ carried) c.loop-place.wires.items c.new.result c.loop-place.invariant.carried is);
       wires = omega arith;
       wires_room = omega arith;
       left = omega arith;

@@ -1,0 +1,21 @@
+use Rattle.fbl_group.proofs.Common.{◌++◌, ◌∙◌, List, ap, sym, refl, length, map, subst, at_drop_more, gathered_all, saved_tables, MemberRecord, IsSound, GroupRecord}
+use Rattle.std.proofs.Math.ListN.{drop_of_length-le}
+use Rattle.fbl_group.proofs.group.Group.gather_table.Goals as goal
+
+pub loop-record-preserved : goal.loop-record-preserved
+loop-record-preserved g c =
+    let r = c.args.self.now in
+    let saved = saved_tables r.outside r.down r.checkpoints (length r.checkpoints) in
+    let items = c.deref-record-items.result.now in
+    let next = at_drop_more (λ (ms : List (MemberRecord _ _)). gathered_all c.loop-record.gathered (map (λ (m : MemberRecord _ _). m.table) ms ++ saved)) items
+    c.loop-record.record-index c.record-item.result c.loop-record-test.true in
+    rw (c.in_ok-gather.ensures.gathered, c.table.ensures) (sym (rw (← c.record-item.is) at next) ∙ c.loop-record.invariant)
+
+pub returns-clause-table : goal.returns-clause-table
+returns-clause-table g c =
+    let r = c.args.self.now in
+    let sound = subst (IsSound g.B.Behaviour.next) c.self.view_is c.self.invariant in
+    let none = drop_of_length-le c.deref-record-items.result.now c.loop-record-test.false in
+    let all = rw none at c.loop-record.invariant in
+    let down = ap (λ (x : GroupRecord _ _). x.down) c.self.view_is in
+    rw (c.mark_all.ensures, c.in_ok-gather_saved.ensures, down, ← sound.checkpoints, all) refl

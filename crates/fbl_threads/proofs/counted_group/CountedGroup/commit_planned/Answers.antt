@@ -1,0 +1,17 @@
+use Rattle.fbl_threads.proofs.Common.{arith, ◌≡◌}
+use Rattle.arrayvec.specs.ArrayVec.{array_vec_len}
+use Rattle.fbl_threads.proofs.Kept.{places, sums, fits}
+use Rattle.fbl_threads.proofs.counted_group.CountedGroup.commit_planned.Goals as goal
+
+pub make_turn-requires : goal.make_turn-requires
+make_turn-requires g c =
+    let s = g.row.B-State.coded in
+    let n = g.row.B-Note.coded in
+    let run = c.args.self.now.reached in
+    let each : (array_vec_len c.args.self.now.counted.by_worker ≡ g.O.Origin.workers) × (array_vec_len c.args.self.now.counted.undone_by_worker ≡ g.O.Origin.workers) = places s n run in (
+      g.met.B.Behaviour.laws.fits,
+      (
+        (omega (arith, each.0, c.requires.worker), omega (arith, each.1, c.requires.worker)),
+        (sums s n run, rw c.requires.plan.0 (fits s n run c.requires.plan.1)),
+      ),
+    )
