@@ -10,6 +10,7 @@ ghost use Rattle.fbl_law.specs.Sound.{IsSound, received_notes};
 ghost use Rattle.fbl_law.specs.StepLaws.{weight_held, weight_flying};
 ghost use Rattle.fbl_law.specs.Promises.{HoldsEachReceipt, SurvivorsHold, RecordsFirst, RecordsCauses};
 ghost use Rattle.fbl_group.specs.Readers.{is_quiet as is_quiet_now};
+ghost use Rattle.fbl_group.specs.Theorem.{HasNoOrphan, IsRecoverable};
 
 use crate::group::Group;
 use fbl_base::{Behaviour, Config, Event, Member, MemberSet, Note};
@@ -93,12 +94,11 @@ impl<B: Behaviour, A: Allocator + Copy> Group<B, A> {
         self.trace.as_slice()
     }
 
-    /// Does nothing but promise what `trace` does: the group is sound, nobody is an orphan, and where nobody is down each
-    /// receipt is held by more than f members or by every member whose state depends on it.
+    /// The theorem, of every group between two calls. Does nothing but promise it, and that the group is sound.
+    #[tactic(auto, using(crate::proofs::Promising::sound_is_recoverable))]
     pub fn recoverable(&self)
         ensures sound { IsSound B.next self.now }
-        ensures held { HoldsEachReceipt self.now }
-        ensures no_orphan { (m : ℕ) → ¬ (IsOrphan (knowledge self.now) m) }
+        ensures theorem { IsRecoverable B.next self.now }
     {
         self.promises();
     }
