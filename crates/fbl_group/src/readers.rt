@@ -3,7 +3,7 @@
 ghost use Rattle.std.specs.Prelude.{◌≡◌, ℕ, ◌<◌, ◌≤◌, ◌+◌, length};
 ghost use Rattle.fbl_base.specs.MemberSets.{AllBelow};
 ghost use Rattle.fbl_base.specs.Fold.{state_after};
-ghost use Rattle.fbl_law.specs.Knowledge.{IsOrphan, IsUp, IsDown};
+ghost use Rattle.fbl_law.specs.Knowledge.{IsUp, IsDown};
 ghost use Rattle.fbl_law.specs.Groups.{channel as channel_of, member_checkpoint, messages_in_flight as messages_in_flight_of, knowledge, marks, member as record_of, receipts};
 ghost use Rattle.std.specs.FinSet as set;
 ghost use Rattle.fbl_law.specs.Sound.{IsSound, received_notes};
@@ -88,14 +88,13 @@ impl<B: Behaviour, A: Allocator + Copy> Group<B, A> {
         ensures trace { result.now ≡ self.now.trace }
         ensures sound { IsSound B.next self.now }
         ensures held { HoldsEachReceipt self.now }
-        ensures no_orphan { (m : ℕ) → ¬ (IsOrphan (knowledge self.now) m) }
+        ensures no_orphan { HasNoOrphan self.now }
     {
         self.promises();
         self.trace.as_slice()
     }
 
     /// The theorem, of every group between two calls. Does nothing but promise it, and that the group is sound.
-    #[tactic(auto, using(crate::proofs::Promising::sound_is_recoverable))]
     pub fn recoverable(&self)
         ensures sound { IsSound B.next self.now }
         ensures theorem { IsRecoverable B.next self.now }
@@ -107,7 +106,7 @@ impl<B: Behaviour, A: Allocator + Copy> Group<B, A> {
     pub(crate) fn promises(&self)
         ensures sound { IsSound B.next self.now }
         ensures held { HoldsEachReceipt self.now }
-        ensures no_orphan { (m : ℕ) → ¬ (IsOrphan (knowledge self.now) m) }
+        ensures no_orphan { HasNoOrphan self.now }
         ensures survivors { SurvivorsHold (knowledge self.now) self.now.down }
         ensures first { RecordsFirst (knowledge self.now) }
         ensures causes { RecordsCauses (knowledge self.now) }
