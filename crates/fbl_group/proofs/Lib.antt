@@ -3,6 +3,7 @@ pub mod Queues
 pub mod Planning
 pub mod Deciding
 pub mod Striking
+pub mod Promising
 pub mod Checkpointing
 pub mod Reading
 pub mod Starting

@@ -9,7 +9,7 @@ use Rattle.fbl_base.specs.declared.trace.Event.TheVariants as event
 use Rattle.std.specs.Prelude.{Bool}
 
 -- the test of who is below n
-within-below : (s : Members) (n : ℕ) → is_within s n ≡ true → AllBelow s n
+pub within-below : (s : Members) (n : ℕ) → is_within s n ≡ true → AllBelow s n
 within-below s n within q among =
     let one = Any-from_list_any (eq_by_cmp nat_cmp q) (sets.items s) (sym (sets.contains-items s q) ∙ among) in
     let below : nat_lt one.1 n ≡ true = rw one.3 at (AllPass-from_list_all (λ m. nat_lt m n) (sets.items s) within one.0 one.1 one.2) in

@@ -8,3 +8,4 @@ pub mod Readers
 pub mod Rebuilding
 pub mod Checkpoints
 pub mod Names
+pub mod Theorem

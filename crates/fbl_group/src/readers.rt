@@ -3,13 +3,14 @@
 ghost use Rattle.std.specs.Prelude.{◌≡◌, ℕ, ◌<◌, ◌≤◌, ◌+◌, length, if◌then◌else◌};
 ghost use Rattle.fbl_base.specs.MemberSets.{AllBelow};
 ghost use Rattle.fbl_base.specs.Fold.{state_after};
-ghost use Rattle.fbl_law.specs.Knowledge.{IsOrphan, IsUp, IsDown};
+ghost use Rattle.fbl_law.specs.Knowledge.{IsUp, IsDown};
 ghost use Rattle.fbl_law.specs.Groups.{channel as channel_of, member_checkpoint, messages_in_flight as messages_in_flight_of, knowledge, marks, member as record_of, receipts};
 ghost use Rattle.std.specs.FinSet as set;
 ghost use Rattle.fbl_law.specs.Sound.{IsSound, received_notes};
 ghost use Rattle.fbl_law.specs.StepLaws.{weight_held, weight_flying};
 ghost use Rattle.fbl_law.specs.Promises.{HoldsEachReceipt, SurvivorsHold, RecordsFirst, RecordsCauses};
 ghost use Rattle.fbl_group.specs.Readers.{is_quiet as is_quiet_now};
+ghost use Rattle.fbl_group.specs.Theorem.{HasNoOrphan, IsRecoverable};
 
 use crate::group::Group;
 use fbl_base::{Behaviour, Config, Event, Member, MemberSet, Note};
@@ -87,18 +88,16 @@ impl<B: Behaviour, A: Allocator + Copy> Group<B, A> {
         ensures trace { result.now ≡ self.now.trace }
         ensures sound { IsSound B.next self.now }
         ensures held { HoldsEachReceipt self.now }
-        ensures no_orphan { (m : ℕ) → ¬ (IsOrphan (knowledge self.now) m) }
+        ensures no_orphan { HasNoOrphan self.now }
     {
         self.promises();
         self.trace.as_slice()
     }
 
-    /// Does nothing but promise what `trace` does: the group is sound, nobody is an orphan, and where nobody is down each
-    /// receipt is held by more than f members or by every member whose state depends on it.
+    /// The theorem, of every group between two calls. Does nothing but promise it, and that the group is sound.
     pub fn recoverable(&self)
         ensures sound { IsSound B.next self.now }
-        ensures held { HoldsEachReceipt self.now }
-        ensures no_orphan { (m : ℕ) → ¬ (IsOrphan (knowledge self.now) m) }
+        ensures theorem { IsRecoverable B.next self.now }
     {
         self.promises();
     }
@@ -107,7 +106,7 @@ impl<B: Behaviour, A: Allocator + Copy> Group<B, A> {
     pub(crate) fn promises(&self)
         ensures sound { IsSound B.next self.now }
         ensures held { HoldsEachReceipt self.now }
-        ensures no_orphan { (m : ℕ) → ¬ (IsOrphan (knowledge self.now) m) }
+        ensures no_orphan { HasNoOrphan self.now }
         ensures survivors { SurvivorsHold (knowledge self.now) self.now.down }
         ensures first { RecordsFirst (knowledge self.now) }
         ensures causes { RecordsCauses (knowledge self.now) }

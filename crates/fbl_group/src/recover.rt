@@ -4,10 +4,11 @@ ghost use Rattle.std.specs.Prelude.{◌≡◌, ℕ, ◌<◌, ◌≤◌, length, 
 ghost use Rattle.std.specs.FinSet as set;
 ghost use Rattle.fbl_base.specs.Events.{mark_of};
 ghost use Rattle.fbl_law.specs.Groups.{HasChannels, channel_in, knowledge, receipts};
-ghost use Rattle.fbl_law.specs.Promises.{GainsHolders, LeavesRecorded, RecordsFirst};
+ghost use Rattle.fbl_law.specs.Promises.{GainsHolders, RecordsFirst};
 ghost use Rattle.fbl_group.specs.Channels.{rows, AreReplaced};
 ghost use Rattle.fbl_group.specs.Recoveries.{Recovers, IsRecoverRefusal};
 ghost use Rattle.fbl_group.specs.Strikes.{lost_receipts};
+ghost use Rattle.fbl_group.specs.Theorem.{Restores};
 
 use crate::answers::Recovered;
 use crate::channels::{Channels, has_either};
@@ -26,7 +27,7 @@ impl<B: Behaviour, A: Allocator + Copy> Group<B, A> {
     /// down, and `recover` may be called again.
     pub fn recover(&mut self) -> Result<Recovered, RecoverRefusal>
         ensures recovered { IfOk result (λ answer. ¬ (self.old.down ≡ set.empty) × Recovers B.next self.old self.new answer) }
-        ensures left { OnOk result (LeavesRecorded self.old self.new) }
+        ensures restored { OnOk result (Restores B.next self.old self.new) }
         ensures undone { IfOk result (λ answer. answer.undone ≡ length (lost_receipts self.old)) }
         ensures first { RecordsFirst (knowledge self.old) }
         ensures holders { OnOk result (GainsHolders (knowledge self.old) (knowledge self.new)) }

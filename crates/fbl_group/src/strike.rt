@@ -4,11 +4,11 @@ ghost use Rattle.std.specs.Prelude.{◌≡◌, ℕ, ◌<◌, ◌≤◌, [], IfOk
 ghost use Rattle.std.specs.List.{list_any};
 ghost use Rattle.fbl_table.specs.Tables.{is_held};
 ghost use Rattle.fbl_member.specs.Members.{blank};
-ghost use Rattle.fbl_law.specs.Knowledge.{IsOrphan};
 ghost use Rattle.fbl_law.specs.Promises.{SurvivorsHold, RecordsFirst, RecordsCauses};
 ghost use Rattle.fbl_law.specs.Groups.{HasChannels, is_recorded_among as is_recorded_among_of, knowledge};
 ghost use Rattle.fbl_group.specs.Channels.{rows, AreReplaced};
 ghost use Rattle.fbl_group.specs.Strikes.{strike_refusal, Strikes, AreRecordsReplaced, is_within, is_lost_receipt_of, lost_receipts};
+ghost use Rattle.fbl_group.specs.Theorem.{HasNoOrphan};
 
 use crate::answers::Struck;
 use crate::channels::{Channels, has_either};
@@ -27,7 +27,7 @@ impl<B: Behaviour, A: Allocator + Copy> Group<B, A> {
         ensures struck { IfOk result (λ answer. (strike_refusal self.old set ≡ None) × Strikes B.next self.old self.new set answer) }
         ensures refused { IfErr result (λ refusal. strike_refusal self.old set ≡ Some refusal) }
         ensures unchanged { OnErr result (self.new ≡ self.old) }
-        ensures no_orphan { (m : ℕ) → ¬ (IsOrphan (knowledge self.new) m) }
+        ensures no_orphan { HasNoOrphan self.new }
         ensures survivors { SurvivorsHold (knowledge self.new) self.new.down }
         ensures first { RecordsFirst (knowledge self.new) }
         ensures causes { RecordsCauses (knowledge self.new) }

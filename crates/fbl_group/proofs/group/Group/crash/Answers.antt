@@ -7,6 +7,6 @@ returns-in-Ok-clause-holders g c d m left holds =
     let struck = c.in_ok-struck.ensures.struck.1.0 in
     let gains = c.in-Ok.ensures.holders d m in
     elim (down_or_up c.strike.new.self.down m) [
-      | inl is ↦ gains.1 (inr (is, ((c.in-Ok.ensures.left.exactly d).0 left).1))
+      | inl is ↦ gains.1 (inr (is, ((c.in-Ok.ensures.restored.left.exactly d).0 left).1))
       | inr up ↦ gains.1 (inl (up, rw (struck.survivors m up, table) holds.1))
     ]

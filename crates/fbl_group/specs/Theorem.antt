@@ -1,0 +1,40 @@
+-- The theorem, of every group between any two calls. Family-based logging is that of Alvisi, Hoppe and Marzullo (FTCS 1993); that no
+-- member becomes an orphan is the condition of Alvisi and Marzullo, Message Logging (IEEE TSE 24(2), 1998).
+use Rattle.std.specs.Prelude.{◌≡◌, ℕ, ◌<◌, None}
+use Rattle.std.specs.FinSet as set
+use Rattle.fbl_base.specs.MemberSets.{Members}
+use Rattle.fbl_base.specs.Fold.{Next}
+use Rattle.fbl_law.specs.Knowledge.{IsDown, IsOrphan, IsUp}
+use Rattle.fbl_law.specs.Groups.{GroupRecord, knowledge, member}
+use Rattle.fbl_law.specs.Promises.{HoldsEachReceipt, LeavesRecorded}
+use Rattle.fbl_law.specs.Sound.{IsFold}
+use Rattle.fbl_group.specs.declared.answers.Recovered.{Recovered}
+use Rattle.fbl_group.specs.declared.answers.Struck.{Struck}
+use Rattle.fbl_group.specs.Recoveries.{Recovers}
+use Rattle.fbl_group.specs.Strikes.{Strikes, strike_refusal}
+
+-- strikes lead from one group to the other: none, or several, each of which was allowed
+pub data AreStruck {S N : Type 0} (first : GroupRecord S N) : GroupRecord S N → Type 0 where
+  nobody : AreStruck first first
+  and_these : {old new : GroupRecord S N} {struck : Members} {answer : Struck}
+      → AreStruck first old → strike_refusal old struck ≡ None → Strikes old new struck answer → AreStruck first new
+
+-- no survivor depends on a receipt that no survivor and no checkpoint has recorded
+abbrev pub HasNoOrphan : {S N : Type 0} → GroupRecord S N → Type 0
+HasNoOrphan r = (m : ℕ) → ¬ (IsOrphan (knowledge r) m)
+
+-- nobody is down any more, survivors are untouched, and each member that was down is at the fold of its receipts, of which
+-- exactly the recorded ones are left
+pub record Restores {S N : Type 0} (next : Next S N) (old new : GroupRecord S N) : Type 0 where
+  pub nobody_down : new.down ≡ set.empty
+  pub survivors : (m : ℕ) → IsUp (knowledge old) m → member new m ≡ member old m
+  pub folds : (m : ℕ) → m < old.config.members → IsDown (knowledge old) m → IsFold next new m
+  pub left : LeavesRecorded old new
+
+-- where nobody is down, each receipt's determinant is held by more than f members or by every member whose state depends on
+-- it; whichever members are then struck, in one call or several, no survivor depends on a receipt that no survivor and no
+-- checkpoint has recorded; and a recovery restores each struck member
+pub record IsRecoverable {S N : Type 0} (next : Next S N) (r : GroupRecord S N) : Type 0 where
+  pub held : HoldsEachReceipt r
+  pub no_orphan : (struck : GroupRecord S N) → AreStruck r struck → HasNoOrphan struck
+  pub recovery : (struck new : GroupRecord S N) (answer : Recovered) → AreStruck r struck → Recovers next struck new answer → Restores next struck new
