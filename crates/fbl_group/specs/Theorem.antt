@@ -14,10 +14,10 @@ use Rattle.fbl_group.specs.Recoveries.{Recovers}
 use Rattle.fbl_group.specs.Strikes.{Strikes, strike_refusal}
 
 -- strikes lead from one group to the other: none, or several, each of which was allowed
-pub data AreStruck {S N : Type 0} (first : GroupRecord S N) : GroupRecord S N → Type 0 where
-  nobody : AreStruck first first
+pub data AreStruck {S N : Type 0} (next : Next S N) (first : GroupRecord S N) : GroupRecord S N → Type 0 where
+  nobody : AreStruck next first first
   and_these : {old new : GroupRecord S N} {struck : Members} {answer : Struck}
-      → AreStruck first old → strike_refusal old struck ≡ None → Strikes old new struck answer → AreStruck first new
+      → AreStruck next first old → strike_refusal old struck ≡ None → Strikes next old new struck answer → AreStruck next first new
 
 -- no survivor depends on a receipt that no survivor and no checkpoint has recorded
 abbrev pub HasNoOrphan : {S N : Type 0} → GroupRecord S N → Type 0
@@ -36,5 +36,5 @@ pub record Restores {S N : Type 0} (next : Next S N) (old new : GroupRecord S N)
 -- checkpoint has recorded; and a recovery restores each struck member
 pub record IsRecoverable {S N : Type 0} (next : Next S N) (r : GroupRecord S N) : Type 0 where
   pub held : HoldsEachReceipt r
-  pub no_orphan : (struck : GroupRecord S N) → AreStruck r struck → HasNoOrphan struck
-  pub recovery : (struck new : GroupRecord S N) (answer : Recovered) → AreStruck r struck → Recovers next struck new answer → Restores next struck new
+  pub no_orphan : (struck : GroupRecord S N) → AreStruck next r struck → HasNoOrphan struck
+  pub recovery : (struck new : GroupRecord S N) (answer : Recovered) → AreStruck next r struck → Recovers next struck new answer → Restores next struck new
