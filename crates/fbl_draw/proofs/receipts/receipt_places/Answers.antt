@@ -1,4 +1,4 @@
-use Rattle.fbl_draw.proofs.Common.{ℕ, Option, Some, None, ◌≡◌, ◌∙◌, ◌+◌, ◌∷◌, cond, sym, ap, arith, drop, append-nil, position_from, option_or, at_drop_more, same_message}
+use Rattle.fbl_draw.proofs.Common.{ℕ, Option, Some, None, ◌≡◌, ◌∙◌, ◌+◌, ◌∷◌, cond, sym, ap, arith, drop, position_from, option_or, at_drop_more, same_message}
 use Rattle.fbl_draw.proofs.Common.{is_message, MessageName, takes, taken_by}
 use Rattle.std.specs.HashMap as hash_map
 use Rattle.fbl_draw.proofs.Indexing.{old_message, new_message}
