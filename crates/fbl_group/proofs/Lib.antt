@@ -10,3 +10,4 @@ pub mod Recovering
 pub mod PuttingBack
 pub mod BringingBack
 pub mod GivingTables
+pub mod Cutting
