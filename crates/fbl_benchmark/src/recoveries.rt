@@ -30,7 +30,11 @@ pub fn time_recoveries(rt: &HostRuntime) -> Result<()> {
 }
 
 /// Times the recovery of the member that has received last.
-fn time_recovery<B: Behaviour<State = u64, Note = Note>>(rt: &HostRuntime, name: &str, checkpointed: bool) -> Result<()> {
+fn time_recovery<B: Behaviour<State = u64, Note = Note>>(
+    rt: &HostRuntime,
+    name: &str,
+    checkpointed: bool,
+) -> Result<()> {
     let mut group = group_of::<B>(rt.alloc(), MEMBERS, LOST, NOTE)?;
     deliver_and_checkpoint(&mut group, checkpointed)?;
     let (recovered, least) = try_recoveries(rt, &mut group)?;
@@ -42,7 +46,10 @@ fn time_recovery<B: Behaviour<State = u64, Note = Note>>(rt: &HostRuntime, name:
 }
 
 /// Makes the group's receipts, with a checkpoint of each member before the last ones, or with none.
-fn deliver_and_checkpoint<B: Behaviour<State = u64, Note = Note>>(group: &mut Group<B>, checkpointed: bool) -> Result<()> {
+fn deliver_and_checkpoint<B: Behaviour<State = u64, Note = Note>>(
+    group: &mut Group<B>,
+    checkpointed: bool,
+) -> Result<()> {
     deliver_many(group, MEMBERS, BEFORE)?;
     if checkpointed {
         checkpoint_each(group)?;

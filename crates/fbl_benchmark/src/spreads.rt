@@ -53,11 +53,7 @@ pub fn time_spread_of<B: Behaviour>(
 }
 
 /// Delivers all messages of a new group, and answers what that counted and how many microseconds it took.
-fn try_spread<B: Behaviour>(
-    rt: &HostRuntime,
-    f: u8,
-    note: B::Note,
-) -> Result<(Spreading, u128)> {
+fn try_spread<B: Behaviour>(rt: &HostRuntime, f: u8, note: B::Note) -> Result<(Spreading, u128)> {
     let mut group = group_with_starts::<B>(rt.alloc(), f, note)?;
     let start = Instant::now(rt)?;
     let counts = deliver_all(&mut group)?;

@@ -45,12 +45,19 @@ module _ {S N : Type 0} (next : Next S N) (r : GroupRecord S N) (p q : ℕ) (t :
   here = simp (ends.0, ends.1) taken.1.1
 
   fresh : IsFresh r t
-  fresh = (sym is.n, (v, here, record {
-    state = sym (is.state ∙ ap (λ k. (member r k).state) (sym is.to));
-    rsn = sym (is.rsn ∙ ap (λ k. (member r k).received + 1) (sym is.to));
-    ssn = sym is.ssn;
-    note = sym is.note;
-  }))
+  fresh = (
+    sym is.n,
+    (
+      v,
+      here,
+      record {
+        state = sym (is.state ∙ ap (λ k. (member r k).state) (sym is.to));
+        rsn = sym (is.rsn ∙ ap (λ k. (member r k).received + 1) (sym is.to));
+        ssn = sym is.ssn;
+        note = sym is.note;
+      },
+    ),
+  )
 
   same_step : next.step t.to t.n t.state t.note ≡ step_of next r v
   same_step = cc (is.to, is.n, is.state, is.note)
@@ -61,7 +68,7 @@ module _ {S N : Type 0} (next : Next S N) (r : GroupRecord S N) (p q : ℕ) (t :
   answered : (refusal : CommitRefusal) → RefusesCommit next r t refusal → IsDeliverRefusal (deliver_refusal next r p q) (of_commit refusal)
   answered commit.Down refused = absurd (refused nobody)
   answered commit.Stale refused = absurd (refused.1 fresh)
-  answered commit.Full refused = deliver_is ∙ rw refused.1.1 refl
+  answered commit.Full refused = deliver_is ∙ rw refused.2 refl
   answered commit.Memory refused = deliver_is ∙ rw refused.room refl
 
   pub commit_refused : (refusal : CommitRefusal) → RefusesCommit next r made refusal → IsDeliverRefusal (deliver_refusal next r p q) (of_commit refusal)

@@ -11,3 +11,4 @@ pub mod Recovering
 pub mod PuttingBack
 pub mod BringingBack
 pub mod GivingTables
+pub mod Cutting

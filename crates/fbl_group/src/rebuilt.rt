@@ -19,7 +19,7 @@ use std::mem;
 pub(crate) struct Rebuilt<S, N, A: Allocator> {
     pub(crate) down: MemberSet,
     pub(crate) records: Vec<MemberRec<S, N, A>, A>,
-    /// The state that stands for that of a number that is no member's.
+    /// Some state, for numbers that are no member's.
     pub(crate) outside: S,
 }
 

@@ -42,7 +42,6 @@ impl<B: Behaviour, A: Allocator + Copy> Group<B, A> {
     pub(crate) fn rebuild(&self) -> Result<Rebuilt<B::State, B::Note, A>, AllocError>
         ensures ready { IfOk result (λ rebuilt. IsReady B.next self.now rebuilt.records.items) }
         ensures down { IfOk result (λ rebuilt. rebuilt.down ≡ self.now.down) }
-        ensures outside { IfOk result (λ rebuilt. rebuilt.outside ≡ B.next.initial 0 self.now.config.members) }
     {
         let gathered = self.gather()?;
         let mut rebuilt = self.begin()?;
@@ -139,6 +138,7 @@ impl<B: Behaviour, A: Allocator + Copy> Group<B, A> {
 
     /// A member that is down begins at its checkpoint, without the table, for which it gets the gathered one in the end.
     fn begin_one(&self, member: Member) -> Result<MemberRec<B::State, B::Note, A>, AllocError>
+        requires { member < self.now.config.members }
         ensures { set.contains self.now.down member ≡ true → IfOk result (λ begun. begun ≡ record (member_checkpoint self.now member) { table = [] }) }
     {
         let alloc = *self.members.allocator();

@@ -181,7 +181,7 @@ fn blank_members<B: Behaviour, A: Allocator + Copy>(
     requires size { vec_len members.old ≡ n }
     requires least { 2 ≤ n }
     requires most { n ≤ 16 }
-    ensures { AreRecordsReplaced (B.next.initial 0 n) set (λ m. blank (B.next.initial m n)) members.old.items members.new.items }
+    ensures { AreRecordsReplaced (B.next.initial 0 0) set (λ m. blank (B.next.initial m n)) members.old.items members.new.items }
 {
     let alloc = *members.allocator();
     for number in 0..n {

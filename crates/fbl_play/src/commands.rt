@@ -45,7 +45,10 @@ fn run_deliver<B: Behaviour<State = u64, Note = Note>>(
 }
 
 /// The member's state, none if it is down.
-fn shown_state<B: Behaviour<State = u64, Note = Note>>(group: &Group<B>, member: Member) -> Option<u64>
+fn shown_state<B: Behaviour<State = u64, Note = Note>>(
+    group: &Group<B>,
+    member: Member,
+) -> Option<u64>
     requires { member < group.now.config.members }
     ensures { result ≡ shown_state_of group.now member }
 {
@@ -56,7 +59,10 @@ fn shown_state<B: Behaviour<State = u64, Note = Note>>(group: &Group<B>, member:
 }
 
 /// The line of the members' states.
-fn run_states<B: Behaviour<State = u64, Note = Note>>(alloc: Global, group: &Group<B>) -> Result<String, AllocError>
+fn run_states<B: Behaviour<State = u64, Note = Note>>(
+    alloc: Global,
+    group: &Group<B>,
+) -> Result<String, AllocError>
     ensures { IfOk result (λ text. string_bytes text ≡ states_line (shown_states group.now)) }
 {
     let mut states = Vec::new(alloc);
@@ -68,7 +74,10 @@ fn run_states<B: Behaviour<State = u64, Note = Note>>(alloc: Global, group: &Gro
 }
 
 /// What a report says of the member, none if it is down.
-fn shown_status<B: Behaviour<State = u64, Note = Note>>(group: &Group<B>, member: Member) -> Option<MemberStatus>
+fn shown_status<B: Behaviour<State = u64, Note = Note>>(
+    group: &Group<B>,
+    member: Member,
+) -> Option<MemberStatus>
     requires { member < group.now.config.members }
     ensures { result ≡ shown_status_of group.now member }
 {
@@ -99,7 +108,10 @@ fn statuses<B: Behaviour<State = u64, Note = Note>>(
 }
 
 /// What a report says of the whole group.
-fn totals<B: Behaviour<State = u64, Note = Note>>(alloc: Global, group: &Group<B>) -> Result<Totals, AllocError>
+fn totals<B: Behaviour<State = u64, Note = Note>>(
+    alloc: Global,
+    group: &Group<B>,
+) -> Result<Totals, AllocError>
     ensures { IfOk result (AreTotals group.now) }
 {
     let dump = match group.dump(group.down()) {
@@ -118,7 +130,10 @@ fn totals<B: Behaviour<State = u64, Note = Note>>(alloc: Global, group: &Group<B
 }
 
 /// The lines of a report.
-fn run_report<B: Behaviour<State = u64, Note = Note>>(alloc: Global, group: &Group<B>) -> Result<String, AllocError>
+fn run_report<B: Behaviour<State = u64, Note = Note>>(
+    alloc: Global,
+    group: &Group<B>,
+) -> Result<String, AllocError>
     ensures { IfOk result (λ text. IsReport group.now (string_bytes text)) }
 {
     let statuses = statuses(alloc, group)?;
@@ -150,7 +165,10 @@ fn run_strike<B: Behaviour<State = u64, Note = Note>>(
 }
 
 /// Recovers, and answers the line.
-fn run_recover<B: Behaviour<State = u64, Note = Note>>(alloc: Global, group: &mut Group<B>) -> Result<Answer, AllocError>
+fn run_recover<B: Behaviour<State = u64, Note = Note>>(
+    alloc: Global,
+    group: &mut Group<B>,
+) -> Result<Answer, AllocError>
     ensures { IfOk result (λ answer. RecoverStep B.next group.old group.new (string_bytes answer.text) answer.account) }
 {
     let undone = group.lost_receipts(alloc)?;
@@ -207,7 +225,10 @@ fn run_dump<B: Behaviour<State = u64, Note = Note>>(
 }
 
 /// Runs one command, and answers the lines that it prints, with its account. The group comes back.
-pub(crate) fn run_command<B: Behaviour<State = u64, Note = Note> + Send + Sync, T: Threads + Wait + Sync>(
+pub(crate) fn run_command<
+    B: Behaviour<State = u64, Note = Note> + Send + Sync,
+    T: Threads + Wait + Sync,
+>(
     rt: &T,
     alloc: Global,
     workers: u8,

@@ -17,7 +17,12 @@ use std::sync::Wait;
 use std::thread::Threads;
 
 /// Runs the commands on a new group, and writes each one's lines when it ends. The observer is told of each.
-fn play_with<B: Behaviour<State = u64, Note = Note> + Send + Sync, T: Threads + Wait + Sync, W: Write, O: Observer>(
+fn play_with<
+    B: Behaviour<State = u64, Note = Note> + Send + Sync,
+    T: Threads + Wait + Sync,
+    W: Write,
+    O: Observer,
+>(
     rt: &T,
     alloc: Global,
     writer: &mut W,

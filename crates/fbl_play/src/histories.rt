@@ -57,7 +57,11 @@ fn history_after<B: Behaviour<State = u64, Note = Note>>(
 }
 
 /// Runs the commands on a new group, and answers the history. The observer is told of each.
-fn history_with<B: Behaviour<State = u64, Note = Note> + Send + Sync, T: Threads + Wait + Sync, O: Observer>(
+fn history_with<
+    B: Behaviour<State = u64, Note = Note> + Send + Sync,
+    T: Threads + Wait + Sync,
+    O: Observer,
+>(
     rt: &T,
     alloc: Global,
     workers: u8,

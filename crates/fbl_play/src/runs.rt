@@ -90,7 +90,10 @@ fn account_of<B: Behaviour<State = u64, Note = Note>>(
 }
 
 /// Lets workers deliver, strike and recover, and answers the line and the account.
-pub(crate) fn run_plan<B: Behaviour<State = u64, Note = Note> + Send + Sync, T: Threads + Wait + Sync>(
+pub(crate) fn run_plan<
+    B: Behaviour<State = u64, Note = Note> + Send + Sync,
+    T: Threads + Wait + Sync,
+>(
     rt: &T,
     alloc: Global,
     workers: u8,

@@ -23,7 +23,12 @@ impl Behaviour for Shard {
         [0; 256]
     }
 
-    fn step(me: Member, n: u8, state: [u64; 256], command: Command) -> Outcome<[u64; 256], Command> {
+    fn step(
+        me: Member,
+        n: u8,
+        state: [u64; 256],
+        command: Command,
+    ) -> Outcome<[u64; 256], Command> {
         let mut state = state;
         let mut sends = ArrayVec::new();
         if command.key() % n == me.number() {
