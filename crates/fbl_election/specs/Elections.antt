@@ -77,7 +77,7 @@ brought-most c identifier brought =
 
 pub taken-most : (c : Settings Note) (me : ℕ) (state : Standing) → HasTaken c me state → state.greatest ≤ greatest c.starts
 taken-most c me state (inl none) = omega (arith, none)
-taken-most c me state (inr brought) = brought-most c state brought
+taken-most c me state (inr brought) = brought-most c state.greatest brought
 
 -- 1 where the member has taken the greatest identifier
 abbrev pub has_greatest : Settings Note → ℕ → Standing → ℕ
