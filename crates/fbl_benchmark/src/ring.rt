@@ -3,7 +3,7 @@
 use anyhow::Result;
 use fbl_base::{Behaviour, Config, Member, Note, Start};
 use fbl_group::{DeliverRefusal, Group};
-use std::alloc::Global;
+use std::alloc::{AllocError, Global};
 
 /// How many events a trace may have here.
 pub const LIMIT: u32 = 8192;
@@ -18,12 +18,15 @@ pub fn group_of<B: Behaviour>(
     f: u8,
     note: B::Note,
 ) -> Result<Group<B>> {
-    let start = Start {
-        from: Member::default(),
-        to: next_member(Member::default(), members),
-        note,
-    };
-    let config = Config::new(alloc, members, f, LIMIT, &[start])?;
+    let mut starts = Vec::new(alloc);
+    starts
+        .push(Start {
+            from: Member::default(),
+            to: next_member(Member::default(), members),
+            note,
+        })
+        .map_err(|_| AllocError)?;
+    let config = Config::new(alloc, members, f, LIMIT, &starts)?;
     Ok(Group::new(alloc, config)?)
 }
 
