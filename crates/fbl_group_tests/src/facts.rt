@@ -95,7 +95,10 @@ impl Fact<'_> {
 }
 
 /// The group's member with this number.
-fn member_of<B: Behaviour<State = u64, Note = Note>, A: Allocator + Copy>(group: &Group<B, A>, number: u8) -> Option<Member>
+fn member_of<B: Behaviour<State = u64, Note = Note>, A: Allocator + Copy>(
+    group: &Group<B, A>,
+    number: u8,
+) -> Option<Member>
     ensures { IfSome result (λ m. m < group.now.config.members) }
 {
     if number < group.config().members() {

@@ -99,7 +99,9 @@ fn count_receipts(trace: &[Event]) -> usize {
 }
 
 /// The least member that has a message, and its least sender.
-fn next_delivery<B: Behaviour<State = u64, Note = Note>>(group: &Group<B>) -> Option<(Member, Member)> {
+fn next_delivery<B: Behaviour<State = u64, Note = Note>>(
+    group: &Group<B>,
+) -> Option<(Member, Member)> {
     let n = group.config().members();
     for receiver in 0..n {
         let to = Member::new(receiver)?;
@@ -114,7 +116,10 @@ fn next_delivery<B: Behaviour<State = u64, Note = Note>>(group: &Group<B>) -> Op
 }
 
 /// Makes so many deliveries, or as many as there are, and answers how many it made.
-fn deliver_some<B: Behaviour<State = u64, Note = Note>>(group: &mut Group<B>, count: u32) -> Result<u32, Fail> {
+fn deliver_some<B: Behaviour<State = u64, Note = Note>>(
+    group: &mut Group<B>,
+    count: u32,
+) -> Result<u32, Fail> {
     for made in 0..count {
         let Some((to, from)) = next_delivery(group) else {
             return Ok(made);
@@ -132,7 +137,10 @@ const FOUR: Setting = Setting {
     ..ROUND
 };
 
-fn state<B: Behaviour<State = u64, Note = Note>>(group: &Group<B>, number: u8) -> Result<u64, Fail> {
+fn state<B: Behaviour<State = u64, Note = Note>>(
+    group: &Group<B>,
+    number: u8,
+) -> Result<u64, Fail> {
     Ok(reading(group, number).ok_or("no such member")?.0)
 }
 
@@ -157,7 +165,10 @@ fn is_safe_without<B: Behaviour<State = u64, Note = Note>>(
 }
 
 /// Whether the receipt comes after its member's checkpoint.
-fn is_after_checkpoint<B: Behaviour<State = u64, Note = Note>>(group: &Group<B>, receipt: Determinant) -> bool {
+fn is_after_checkpoint<B: Behaviour<State = u64, Note = Note>>(
+    group: &Group<B>,
+    receipt: Determinant,
+) -> bool {
     checkpoint_received(group, receipt.to.number()).is_some_and(|count| receipt.rsn > count)
 }
 
@@ -206,7 +217,10 @@ fn is_receipt_of(event: Event, me: Member) -> bool {
 
 /// Recovers the one member that is down, and answers whether those of its receipts are replayed that the trace then has
 /// beyond its checkpoint.
-fn is_recovered<B: Behaviour<State = u64, Note = Note>>(group: &mut Group<B>, number: u8) -> Result<bool, Fail> {
+fn is_recovered<B: Behaviour<State = u64, Note = Note>>(
+    group: &mut Group<B>,
+    number: u8,
+) -> Result<bool, Fail> {
     let checkpointed = checkpoint_received(group, number).ok_or("no such member")?;
     let recovered = group.recover()?;
     let received = count_received(group.trace(), member(number)?);
@@ -267,7 +281,10 @@ struct Case {
 }
 
 /// Checkpoints the member, and answers whether its checkpoint has all of its receipts in the trace.
-fn is_checkpointed<B: Behaviour<State = u64, Note = Note>>(group: &mut Group<B>, number: u8) -> Result<bool, Fail> {
+fn is_checkpointed<B: Behaviour<State = u64, Note = Note>>(
+    group: &mut Group<B>,
+    number: u8,
+) -> Result<bool, Fail> {
     let me = member(number)?;
     group.checkpoint(me)?;
     let checkpointed = checkpoint_received(group, number).ok_or("no such member")?;

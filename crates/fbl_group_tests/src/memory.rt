@@ -28,7 +28,11 @@ pub(crate) fn play<B: Behaviour<State = u64, Note = Note>>(
 }
 
 /// Makes the calls in turn on a new group. Each has to answer as expected.
-fn play_once<B: Behaviour<State = u64, Note = Note>>(alloc: Global, setting: &Setting, steps: &[Step]) -> Result<(), Fail> {
+fn play_once<B: Behaviour<State = u64, Note = Note>>(
+    alloc: Global,
+    setting: &Setting,
+    steps: &[Step],
+) -> Result<(), Fail> {
     let _played: Group<B> = played(alloc, setting, &mut None, steps)?;
     Ok(())
 }
@@ -149,11 +153,11 @@ fn has_same_entries<A: Allocator + Copy, C: Allocator + Copy>(
 }
 
 /// Whether the readers answer the same of the two groups' member.
-fn has_same_member<B: Behaviour<State = u64, Note = Note>, A: Allocator + Copy, C: Allocator + Copy>(
-    first: &Group<B, A>,
-    second: &Group<B, C>,
-    number: u8,
-) -> bool {
+fn has_same_member<
+    B: Behaviour<State = u64, Note = Note>,
+    A: Allocator + Copy,
+    C: Allocator + Copy,
+>(first: &Group<B, A>, second: &Group<B, C>, number: u8) -> bool {
     let (Some(one), Some(other)) = (table(first, number), table(second, number)) else {
         return false;
     };
@@ -163,11 +167,11 @@ fn has_same_member<B: Behaviour<State = u64, Note = Note>, A: Allocator + Copy, 
 }
 
 /// Whether the same channels from the member have as many messages in both groups.
-fn has_same_channels<B: Behaviour<State = u64, Note = Note>, A: Allocator + Copy, C: Allocator + Copy>(
-    first: &Group<B, A>,
-    second: &Group<B, C>,
-    number: u8,
-) -> bool {
+fn has_same_channels<
+    B: Behaviour<State = u64, Note = Note>,
+    A: Allocator + Copy,
+    C: Allocator + Copy,
+>(first: &Group<B, A>, second: &Group<B, C>, number: u8) -> bool {
     for other in 0..first.config().members() {
         if in_flight(first, number, other) != in_flight(second, number, other) {
             return false;
@@ -177,10 +181,11 @@ fn has_same_channels<B: Behaviour<State = u64, Note = Note>, A: Allocator + Copy
 }
 
 /// Whether the groups have the same parameters.
-fn has_same_config<B: Behaviour<State = u64, Note = Note>, A: Allocator + Copy, C: Allocator + Copy>(
-    first: &Group<B, A>,
-    second: &Group<B, C>,
-) -> bool {
+fn has_same_config<
+    B: Behaviour<State = u64, Note = Note>,
+    A: Allocator + Copy,
+    C: Allocator + Copy,
+>(first: &Group<B, A>, second: &Group<B, C>) -> bool {
     let (one, other) = (first.config(), second.config());
     one.members() == other.members()
         && one.f() == other.f()
@@ -189,10 +194,11 @@ fn has_same_config<B: Behaviour<State = u64, Note = Note>, A: Allocator + Copy, 
 }
 
 /// Whether all readers answer the same of the two groups.
-pub(crate) fn is_same<B: Behaviour<State = u64, Note = Note>, A: Allocator + Copy, C: Allocator + Copy>(
-    first: &Group<B, A>,
-    second: &Group<B, C>,
-) -> bool {
+pub(crate) fn is_same<
+    B: Behaviour<State = u64, Note = Note>,
+    A: Allocator + Copy,
+    C: Allocator + Copy,
+>(first: &Group<B, A>, second: &Group<B, C>) -> bool {
     for number in 0..first.config().members() {
         if !has_same_member(first, second, number) || !has_same_channels(first, second, number) {
             return false;

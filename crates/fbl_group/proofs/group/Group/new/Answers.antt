@@ -26,15 +26,15 @@ invariant_of-result g c =
 
 pub returns : goal.returns
 returns g c = record {
-      parameters = refl;
-      trace = c.in_ok-trace.ensures.trace;
-      shape = c.in_ok-trace.ensures.shape;
-      channels = c.in_ok-trace.ensures.channels;
-      size = c.in_ok-members.ensures.size;
-      members = λ m below. within _ m _ _ (rw (← c.in_ok-members.ensures.size) at below) ∙ c.in_ok-members.ensures.fresh m below;
-      checkpoints = c.in_ok-checkpoints.ensures.size;
-      saved = λ m below. within _ m _ _ (rw (← c.in_ok-checkpoints.ensures.size) at below) ∙ c.in_ok-checkpoints.ensures.fresh m below;
-      nobody_down = c.empty.ensures;
-      receipts_ever = refl;
-      undone_ever = refl;
-    }
+  parameters = refl;
+  trace = c.in_ok-trace.ensures.trace;
+  shape = c.in_ok-trace.ensures.shape;
+  channels = c.in_ok-trace.ensures.channels;
+  size = c.in_ok-members.ensures.size;
+  members = λ m below. within _ m _ _ (rw (← c.in_ok-members.ensures.size) at below) ∙ c.in_ok-members.ensures.fresh m below;
+  checkpoints = c.in_ok-checkpoints.ensures.size;
+  saved = λ m below. within _ m _ _ (rw (← c.in_ok-checkpoints.ensures.size) at below) ∙ c.in_ok-checkpoints.ensures.fresh m below;
+  nobody_down = c.empty.ensures;
+  receipts_ever = refl;
+  undone_ever = refl;
+}
