@@ -76,9 +76,10 @@ impl Behaviour for WideSpread {
                 sends: ArrayVec::new(),
             };
         }
+        let Packet { hops, filling } = note;
         let passed = Packet {
-            hops: note.hops - 1,
-            filling: note.filling,
+            hops: hops - 1,
+            filling,
         };
         let sends = ArrayVec::from([
             (me.after(1, n), passed),
