@@ -187,7 +187,9 @@ module _ (a : App) (words : List Text) (m : ArgMatches) (is : a ≡ program) (ma
     -- the request is the one at its name and rows
     pub request_is : (request : Option Request) (r : Request) → request ≡ Some r → IsRequestAt name rows request → IsRequestOf words r
     request_is request r e at = record {
-      order = λ line. let o : option_map (λ r. r.order) request ≡ Some (order_for line) = order_found name rows _ at.order line (is_found line) in cc;
+      order = λ line.
+          let o : option_map (λ (q : Request). q.order) request ≡ Some (order_for line) = order_found name rows _ at.order line (is_found line) in
+          let s : Some r.order ≡ Some (order_for line) = ap (option_map (λ (q : Request). q.order)) (sym e) ∙ o in cc;
       none = λ line. (
         not_named r.input _ (at.input r e) (no_input line name rows (is_found line)).0,
         not_named r.output _ (at.output r e) (no_input line name rows (is_found line)).1,
@@ -199,8 +201,8 @@ module _ (a : App) (words : List Text) (m : ArgMatches) (is : a ≡ program) (ma
     -- where there is none at its name, the words are none of the lines
     pub no_request : {A : Type 0} (request : Option Request) → request ≡ None → IsRequestAt name rows request → IsCommandLine words → A
     no_request request e at line =
-        let o : option_map (λ r. r.order) request ≡ Some (order_for line) = order_found name rows _ at.order line (is_found line) in
-        let n : option_map (λ (r : Request). r.order) request ≡ None = ap (option_map (λ r. r.order)) e in absurd (cc)
+        let o : option_map (λ (q : Request). q.order) request ≡ Some (order_for line) = order_found name rows _ at.order line (is_found line) in
+        let n : option_map (λ (q : Request). q.order) request ≡ None = ap (option_map (λ (q : Request). q.order)) e in absurd (cc)
 
   -- no subcommand was found, and the words are none of the lines
   pub none_is : {A : Type 0} → None ≡ subcommand_name_of m → IsCommandLine words → A

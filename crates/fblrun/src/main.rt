@@ -134,7 +134,7 @@ fn words_of(rt: &HostRuntime) -> Result<Vec<String>, u8> {
 
 /// Prints the line of a fault, and answers its exit status.
 fn fail<R: Eprint>(rt: &R, line: FaultLine<'_>) -> u8
-    ensures { result ≡ fault_status line.fault }
+    ensures { result ≡ fault_status line.entry.fault }
 {
     let status = status_of(&line.fault);
     let _ = eprintln!(rt; "{line}");

@@ -47,7 +47,7 @@ impl<'a, S> Named<'a, S> {
     pub(crate) fn into_inner(self) -> S
     where
         S: Drop,
-        ensures { result ≡ self.stream }
+        ensures { result ≡ self.entry.stream }
     {
         self.stream
     }
