@@ -136,7 +136,10 @@ fn write_other_kind<W: fmt::Write>(f: &mut fmt::Formatter<W>, found: InputKind) 
     match found {
         InputKind::Script => {
             let wanted = InputKind::Dump;
-            write!(f, "the input is a script, which play and show read, and must be a dump: {wanted}")
+            write!(
+                f,
+                "the input is a script, which play and show read, and must be a dump: {wanted}"
+            )
         }
         InputKind::Dump => {
             let wanted = InputKind::Script;
@@ -173,7 +176,10 @@ fn write_reason<W: fmt::Write>(
             f.write_str("the input has more than 1048576 bytes, and may have no more")
         }
         InputFault::NotJson(error) => {
-            write!(f, "the input must be one JSON object, and is no JSON: {error}")
+            write!(
+                f,
+                "the input must be one JSON object, and is no JSON: {error}"
+            )
         }
         InputFault::NotObject(value) => {
             let found = Shown { value, written };
@@ -185,7 +191,11 @@ fn write_reason<W: fmt::Write>(
             let found = Shown { value, written };
             write!(f, "{key} is {found}, and must be {wanted}")
         }
-        InputFault::BadItem { key, place, found: value } => {
+        InputFault::BadItem {
+            key,
+            place,
+            found: value,
+        } => {
             let (name, wanted) = InputFault::wanted_item(*key);
             let found = Shown { value, written };
             write!(f, "{name} {place} is {found}, and must be {wanted}")
@@ -193,7 +203,11 @@ fn write_reason<W: fmt::Write>(
         InputFault::TooManyCommands => {
             f.write_str("command 1024 is one too many: there may be 1024, numbered from 0")
         }
-        InputFault::BadCommand { place, found: value, wanted } => {
+        InputFault::BadCommand {
+            place,
+            found: value,
+            wanted,
+        } => {
             let found = Shown { value, written };
             write!(f, "command {place} is {found}, and must be {wanted}")
         }
@@ -213,7 +227,10 @@ impl fmt::Display for Explanation {
             Detail::Written(text) => write_reason(f, &self.reason, Some(text.as_str())),
             Detail::OtherKind(found) => write_other_kind(f, *found),
             Detail::NotJson(why) => {
-                write!(f, "the input must be one JSON object, and is no JSON: {why}")
+                write!(
+                    f,
+                    "the input must be one JSON object, and is no JSON: {why}"
+                )
             }
         }
     }

@@ -164,7 +164,10 @@ impl fmt::Display for NotJson {
             Stop::ObjectEnd => f.write_str(": } stands behind a comma, and a key is wanted"),
             Stop::GreatNumber(number) => {
                 let number = ShownText(number.as_str());
-                write!(f, ": before it stands {number}, and a number may not be so great")
+                write!(
+                    f,
+                    ": before it stands {number}, and a number may not be so great"
+                )
             }
             Stop::Character(character) => write!(f, ": {character:?} stands there"),
             Stop::Unknown => Ok(()),

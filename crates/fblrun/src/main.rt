@@ -15,11 +15,11 @@ mod telling;
 
 use clap::error::ErrorKind;
 use command_line::{Misuse, Request, request_of};
-use files::obey_request;
 use fbl_draw::draw_bytes;
 use fbl_dump::{Verdict, audit_bytes, check_bytes};
 use fbl_input::{RunFault, read_input};
 use fbl_play::play_observed;
+use files::obey_request;
 use showing::show_observed;
 use std::alloc::Global;
 use std::io::{IsTerminal, Read, Write};
@@ -281,7 +281,9 @@ pub(crate) fn obey<T: Eprint + Threads + Wait + Sync, R: Read, W: Write>(
 /// of a fault of the input.
 fn name_explain(rt: &HostRuntime, order: Order, status: u8) {
     if status == INPUT_FAULT && !order.explain && rt.stderr().is_terminal() {
-        let _ = eprintln!(rt; "with --explain behind the command, what stands there and what is wanted is told too");
+        let _ = eprintln!(rt;
+            "with --explain behind the command, what stands there and what is wanted is told too"
+        );
     }
 }
 

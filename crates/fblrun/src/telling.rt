@@ -7,7 +7,9 @@ use crate::streams::Failure;
 use crate::{Order, Task, fail, status_of_done};
 use fbl_base::audit::Dump;
 use fbl_dump::dump_of_bytes;
-use fbl_explain::{AccountOf, CommandAccount, Explanation, Why, Words, explain, why_lost, why_unsafe};
+use fbl_explain::{
+    AccountOf, CommandAccount, Explanation, Why, Words, explain, why_lost, why_unsafe,
+};
 use fbl_input::{InputKind, RunFault};
 use fbl_play::Observer;
 use fbl_script::Command;
