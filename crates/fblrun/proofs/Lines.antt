@@ -131,10 +131,6 @@ found_asked : (o : Option (Text × List Row)) (name : Text) (rows : List Row) (x
 found_asked None name rows x is found e = absurd (cc)
 found_asked (Some p) name rows x is found e = record { named = cc; workers = cc; strict = cc; explain = cc; input = cc; output = cc }
 
--- nothing was asked for, where none was found
-none_asked : {A : Type 0} (o : Option (Text × List Row)) (x : Asked) → option_map (λ p. p.0) o ≡ None → asked o ≡ Some x → A
-none_asked o x is e = grind arith
-
 -- what was found is what a command line asks for, so that the order at it is the line's
 order_found : {words : List Text} (name : Text) (rows : List Row) (order : Option Order) → IsOrderAt name rows order
     → (line : IsCommandLine words) → IsFound name rows (asked_for line) → order ≡ Some (order_for line)
@@ -203,10 +199,6 @@ module _ (a : App) (words : List Text) (m : ArgMatches) (is : a ≡ program) (ma
     no_request request e at line =
         let o : option_map (λ (q : Request). q.order) request ≡ Some (order_for line) = order_found name rows _ at.order line (is_found line) in
         let n : option_map (λ (q : Request). q.order) request ≡ None = ap (option_map (λ (q : Request). q.order)) e in absurd (cc)
-
-  -- no subcommand was found, and the words are none of the lines
-  pub none_is : {A : Type 0} → None ≡ subcommand_name_of m → IsCommandLine words → A
-  none_is none line = none_asked _ _ (matches_name m ∙ sym none) (line_asked line)
 
 -- ---- the number of workers
 

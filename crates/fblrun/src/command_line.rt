@@ -1,12 +1,11 @@
 //! The command line.
 
 ghost use Rattle.std.specs.Prelude.{◌≡◌, ℕ, ◌<◌, Bool, map, false, Some, IfOk, IfErr, codes, decimal, option_map, string_bytes};
-ghost use Rattle.clap.specs.Words.{app_of, first_of, found_of, kind_of, one_of, rows_of, rule_of, with_subcommand};
+ghost use Rattle.clap.specs.Words.{app_of, first_of, found_of, one_of, rows_of, rule_of, with_subcommand};
 ghost use Rattle.clap.specs.declared.builder.command.Command.TheViews.{out-Command as fields_of};
 ghost use Rattle.fblrun.specs.CommandLines.{IsCommandLine, IsFlagged, IsOrderAt, IsRefusedFor, IsRequestAt, IsRequestOf, explain_rule, input_rule, output_rule, play_app, program, shared_app, show_app, strict_rule, top_app, with_shared, workers_rule};
 
 use crate::{Order, Task};
-use clap::error::ErrorKind;
 use clap::{Arg, ArgAction, ArgMatches, Command};
 use std::alloc::{AllocError, Global};
 

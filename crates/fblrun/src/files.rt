@@ -1,7 +1,7 @@
 //! Files by name: the one that is read, and the one that is written. The second gets a whole text or stays as it was: the
 //! text goes to a new file beside it, which takes its name once the text is whole.
 
-ghost use Rattle.std.specs.Prelude.{◌≡◌, ◌≤◌, ◌<◌, ◌⊎◌};
+ghost use Rattle.std.specs.Prelude.{◌≡◌, ◌<◌};
 
 use crate::command_line::Request;
 use crate::streams::{Failure, Named};

@@ -1,6 +1,6 @@
 //! Streams that are files with names, or standard input and output.
 
-ghost use Rattle.std.specs.Prelude.{◌≡◌, Some, None};
+ghost use Rattle.std.specs.Prelude.{◌≡◌};
 
 use std::io::{self, Read, Write};
 
