@@ -1,6 +1,6 @@
 //! Three members share a store of 256 keys. A command for a key goes round the ring to the member that owns it. Some are
 //! delivered, a member is struck and recovered, and then two workers deliver the rest, and strike and recover another member on
-//! the way. No command is applied by any but its key's owner, and none counts twice.
+//! the way. No command is applied by any but its key's owner, and the values are never more than the starts bring.
 #![tactic(auto)]
 
 ghost use Rattle.std.specs.Prelude.{◌≡◌, ℕ, ◌<◌, ◌≤◌, ◌==◌, slice_index, if◌then◌else◌};

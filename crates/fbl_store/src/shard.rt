@@ -66,7 +66,7 @@ impl Weighing for Shard {
     ghost weight = { λ c. amount_of };
 }
 
-// No step makes more of the values than the amounts, so no command counts twice.
+// No step makes values: together they are never more than the commands of the starts bring.
 impl MakingNone for Shard {
     ghost use Rattle.fbl_store.specs.Laws.{shard_makes_none};
 
