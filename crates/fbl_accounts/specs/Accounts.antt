@@ -4,6 +4,7 @@ use Rattle.std.proofs.Common.{arith}
 use Rattle.std.proofs.lemmas.Bool.Decides.{nat_tests}
 use Rattle.fbl_base.specs.Configs.{Settings, MembersAllowed}
 use Rattle.fbl_base.specs.Steps.{Next, SendsWell, onward, numeric}
+use Rattle.fbl_base.specs.Numeric.{IsNumeric, by_sends}
 use Rattle.fbl_law.specs.StepLaws.{AnyState, AnyNote, StepConserves, weight_at_first}
 use Rattle.fbl_base.specs.declared.trace.Note.{Note}
 use Rattle.fbl_base.specs.declared.outcome.Outcome.{Outcome}
@@ -25,8 +26,11 @@ account_next = numeric (λ me n. 100 * (me + 1)) account_step
 elsewhere : (me n : ℕ) → 2 ≤ n → me < n → (me + 1) % n ≢ me
 elsewhere me n least member = grind (arith, nat_tests)
 
-pub account_sends_allowed : SendsWell account_next
+account_sends_allowed : SendsWell account_next
 account_sends_allowed me n state note least member = (grind (arith, elsewhere me n), grind arith)
+
+pub account_laws : IsNumeric account_next
+account_laws = by_sends account_sends_allowed
 
 -- what the accounts begin with, with what the starts bring
 abbrev pub opened : Settings Note → ℕ

@@ -6,8 +6,7 @@ use fbl_law::step_laws::Conserving;
 pub struct Account;
 
 impl Behaviour for Account {
-    ghost use Rattle.fbl_base.specs.Numeric.{by_sends};
-    ghost use Rattle.fbl_accounts.specs.Accounts.{account_next, account_sends_allowed};
+    ghost use Rattle.fbl_accounts.specs.Accounts.{account_next, account_laws};
 
     type State = u64;
 
@@ -15,7 +14,7 @@ impl Behaviour for Account {
 
     ghost next = { account_next };
 
-    ghost laws = { by_sends account_sends_allowed };
+    ghost laws = { account_laws };
 
     fn initial(me: Member, _n: u8) -> u64 {
         100 * (u64::from(me.number()) + 1)

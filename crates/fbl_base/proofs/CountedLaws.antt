@@ -1,9 +1,8 @@
 -- What is counted, after one more event.
-use Rattle.fbl_base.proofs.Common.{ℕ, ◌≡◌, ◌<◌, ◌≤◌, ◌+◌, List, [], ◌∷◌, ◌++◌, length, take, Option, Some, None, slice_get, MatchOption, ap, ◌∙◌}
-use Rattle.fbl_base.proofs.Common.{arith, length-set, common_steps, nat_tests, Mark, At, sends_of, receipts_of, MayFollow, WellFormed, Counted, BreaksEvent, first_in_flight}
-use Rattle.fbl_base.proofs.Common.{EventRule, add-one, IfSome, Send, Receipt, Counts, destination_of, source_of, CountsEvent, first_by, next_by, Breaks, FitsEvent, next_number}
+use Rattle.fbl_base.proofs.Common.{ℕ, ◌≡◌, ◌<◌, ◌≤◌, ◌+◌, List, [], ◌∷◌, ◌++◌, length, Option, Some, None, slice_get, MatchOption, ap, ◌∙◌}
+use Rattle.fbl_base.proofs.Common.{arith, length-set, common_steps, nat_tests, Mark, sends_of, receipts_of, MayFollow, WellFormed, Counted, BreaksEvent, first_in_flight}
+use Rattle.fbl_base.proofs.Common.{EventRule, IfSome, Send, Receipt, Counts, destination_of, source_of, CountsEvent, first_by, next_by, Breaks, FitsEvent, next_number}
 use Rattle.fbl_base.specs.declared.fault.EventRule.TheVariants as rules
-use Rattle.fbl_base.proofs.Gets.{take-more}
 use Rattle.fbl_base.proofs.Breached.{fits, may}
 use Rattle.fbl_base.proofs.InFlightLaws.{in_flight-send, in_flight-receipt}
 use Rattle.fbl_base.proofs.RulesLaws.{sends-step, receipts-step}
@@ -78,12 +77,6 @@ module _ {A : Type 0} (n : ℕ) (t : List Mark) (c d : Counts A) (most : n ≤ 1
         channels_length = rw (counts.2, length-set) counted.channels_length;
       }
 
-  counted_event : (e : Mark) → MayFollow n t e → CountsEvent e c d → Counted (t ++ e ∷ []) d
+  pub counted_event : (e : Mark) → MayFollow n t e → CountsEvent e c d → Counted (t ++ e ∷ []) d
   counted_event (Send q s p) = counted_send q s p
   counted_event (Receipt p r q s) = counted_receipt p r q s
-
--- an event that was admitted is counted
-pub admitted : {A : Type 0} (n : ℕ) (events : List Mark) (place : ℕ) (e : Mark) (c after : Counts A) → n ≤ 16 → WellFormed n (take place events)
-    → Counted (take place events) c → At events place e → MayFollow n (take place events) e → CountsEvent e c after → Counted (take (place + 1) events) after
-admitted n events place e c after most obeys counted at may counts =
-    rw (add-one, take-more events place e at) (counted_event n (take place events) c after most obeys counted e may counts)

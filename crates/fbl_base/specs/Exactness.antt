@@ -1,8 +1,10 @@
--- That `==` of lists tells them apart where that of their elements does.
-use Rattle.std.specs.Prelude.{◌≡◌, ◌↔◌, ℕ, List, Bool, true, false, IsTrue}
+-- That `==` of lists tells them apart where that of their elements does, and that of structs where those of their fields do.
+use Rattle.std.specs.Prelude.{◌≡◌, ◌↔◌, ℕ, ◌==◌, ◌&&◌, List, Bool, true, false, IsTrue}
 use Rattle.std.specs.Cmp.Lexicographic.{pointwise}
 use Rattle.std.specs.Bool.{Decides}
-use Rattle.std.proofs.Common.{arith, refl}
+use Rattle.std.proofs.Common.{ap, arith, refl}
+use Rattle.std.proofs.lemmas.Bool.{false≢true}
+use Rattle.std.proofs.lemmas.Bool.Decides.{nat_tests}
 use Rattle.std.proofs.lemmas.Slice.Eq.{slice_eq-Decides}
 
 -- the test answers `true` for equal values alone
@@ -20,3 +22,18 @@ holds false is = grind (arith, is)
 pub exact_lists : {A : Type 0} {same : A → A → Bool} → IsExact same → IsExact (pointwise same)
 exact_lists {same = same} exact xs ys =
     holds (pointwise same xs ys) (slice_eq-Decides (λ a b. decides (same a b) (exact a b)) xs ys (pointwise same xs ys) refl)
+
+pub exact_numbers : IsExact (λ (a b : ℕ). a == b)
+exact_numbers a b = ((λ same. grind (arith, nat_tests, same)), λ same. grind (arith, nat_tests, same))
+
+-- a struct of two fields, each with its test; where there are more, the second is a pair of the others
+pub exact_fields : {T A B : Type 0} {same_first : A → A → Bool} {same_second : B → B → Bool} (first : T → A) (second : T → B)
+    → ((s t : T) → first s ≡ first t → second s ≡ second t → s ≡ t) → IsExact same_first → IsExact same_second
+    → IsExact (λ (s t : T). same_first (first s) (first t) && same_second (second s) (second t))
+exact_fields {same_first = same_first} {same_second = same_second} first second whole exact_first exact_second s t =
+    both (same_first (first s) (first t)) (same_second (second s) (second t)) (exact_first (first s) (first t)) (exact_second (second s) (second t)) where
+  both : (a b : Bool) → IsTrue a ↔ (first s ≡ first t) → IsTrue b ↔ (second s ≡ second t) → IsTrue (a && b) ↔ (s ≡ t)
+  both true true one two = ((λ same. whole s t (one.0 refl) (two.0 refl)), λ same. refl)
+  both true false one two = ((λ same. absurd (false≢true same)), λ same. two.1 (ap second same))
+  both false true one two = ((λ same. absurd (false≢true same)), λ same. one.1 (ap first same))
+  both false false one two = ((λ same. absurd (false≢true same)), λ same. one.1 (ap first same))

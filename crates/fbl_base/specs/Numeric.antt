@@ -7,13 +7,16 @@ use Rattle.fbl_base.specs.declared.trace.Note.{Note}
 use Rattle.fbl_base.specs.contracts.trace.Note as note
 use Rattle.fbl_base.specs.contracts.ticket.Room as room
 use Rattle.fbl_base.specs.declared.outcome.Outcome.{Outcome}
-use Rattle.fbl_base.specs.Steps.{IsBehaviour, SendsWell, has_few_hops, numeric}
+use Rattle.fbl_base.specs.Steps.{IsBehaviour, Next, SendsWell, has_few_hops, numeric}
+
+-- what such a behaviour shows
+abbrev pub IsNumeric : Next ℕ Note → Type 0
+IsNumeric next = IsBehaviour next has_few_hops (FitsInMemory (room.the_row u64 note.the_row))
 
 -- a step of them fits in memory
 pub fits_numeric : FitsInMemory (room.the_row u64 note.the_row)
 fits_numeric = search rules
 
 -- so it is enough that their sends are allowed
-pub by_sends : {first : ℕ → ℕ → ℕ} {step : ℕ → ℕ → ℕ → Note → Outcome ℕ Note} → SendsWell (numeric first step)
-    → IsBehaviour (numeric first step) has_few_hops (FitsInMemory (room.the_row u64 note.the_row))
+pub by_sends : {first : ℕ → ℕ → ℕ} {step : ℕ → ℕ → ℕ → Note → Outcome ℕ Note} → SendsWell (numeric first step) → IsNumeric (numeric first step)
 by_sends sends = record { sends = sends; starts = refl; fits = fits_numeric }

@@ -31,6 +31,7 @@ pub use outcome::Outcome;
 pub use plan::{first_bad_entry, plan_fault};
 pub use raw_dump::RawDump;
 pub use refusal::DumpRefusal;
+pub use rules::Counts;
 pub use strike::Strike;
 pub use ticket::{Room, Ticket};
 pub use trace::{Determinant, Event, Mark, MessageName, Note, Start};

@@ -2,10 +2,10 @@
 //! channel.
 
 ghost use Rattle.std.specs.Prelude.{◌≡◌, ◌<◌, ◌≤◌, ◌+◌, ◌*◌, ◌++◌, ◌∷◌, [], ℕ, IfNone, IfOk, IfSome, OnOk, MatchOption, length, take, drop, slice_get, slice_index, vec_len};
-ghost use Rattle.fbl_base.specs.Breaches.{Breaks, FitsEvent, IsEventFault};
+ghost use Rattle.fbl_base.specs.Breaches.{Breaks, BreaksEvent, FitsEvent, IsEventFault};
 ghost use Rattle.fbl_base.specs.Events.{destination_of, source_of};
 ghost use Rattle.fbl_base.specs.Counted.{Counted, CountsEvent, first_by, next_by};
-ghost use Rattle.fbl_base.specs.Rules.{ObeysAt, WellFormed};
+ghost use Rattle.fbl_base.specs.Rules.{MayFollow, ObeysAt, WellFormed};
 
 use crate::fault::{EventFault, EventRule};
 use crate::member::{MOST_MEMBERS, Member};
@@ -62,7 +62,7 @@ impl<A: Allocator> Channel<A> {
 
 /// How many sends and receipts each member has had, and what is in flight on each channel.
 #[derive(Drop)]
-pub(crate) struct Counts<A: Allocator = Global> {
+pub struct Counts<A: Allocator = Global> {
     sends: [u32; 16],
     receipts: [u32; 16],
     channels: Vec<Channel<A>, A>,
@@ -71,7 +71,7 @@ pub(crate) struct Counts<A: Allocator = Global> {
 impl<A: Allocator + Copy> Counts<A> {
     /// The counts of no events.
     #[tactic(auto, using(crate::proofs::Gets::replicated))]
-    pub(crate) fn new(alloc: A) -> Result<Counts<A>, AllocError>
+    pub fn new(alloc: A) -> Result<Counts<A>, AllocError>
         ensures { IfOk result (Counted []) }
     {
         let mut channels = Vec::new(alloc);
@@ -103,6 +103,32 @@ impl<A: Allocator + Copy> Counts<A> {
         ensures ends { (source_of event.now < 16) × (destination_of event.now < 16) }
     {
         self.channels[channel_index(event.source(), event.destination())].first()
+    }
+
+    /// The first rule that the event breaks behind the trace, whose counts these are, if it breaks one.
+    pub fn broken_rule(&self, n: u8, trace: &[Mark], event: &Mark) -> Option<EventRule>
+        requires members { n ≤ 16 }
+        requires counted { Counted trace.now self.now }
+        ensures verdict { MatchOption result (MayFollow n trace.now event.now) (λ _. ¬ (MayFollow n trace.now event.now)) }
+        ensures rule { IfSome result (BreaksEvent n trace.now event.now) }
+    {
+        if trace.len() >= MOST_EVENTS as usize {
+            return Some(EventRule::TooMany);
+        }
+        let next = self.next_number(event);
+        let first = self.first_in_flight(event);
+        broken_rule(n, event, next, first)
+    }
+
+    /// Counts the event, which may come behind the trace, whose counts these are.
+    pub fn add(&mut self, n: u8, trace: &[Mark], event: &Mark) -> Result<(), AllocError>
+        requires members { n ≤ 16 }
+        requires rules { WellFormed n trace.now }
+        requires counted { Counted trace.now self.old }
+        requires may { MayFollow n trace.now event.now }
+        ensures { OnOk result (Counted (trace.now ++ event.now ∷ []) self.new) }
+    {
+        self.count(event)
     }
 
     /// Counts the event, which obeys the rules.
@@ -140,23 +166,15 @@ impl<A: Allocator + Copy> Counts<A> {
         ensures counted { IfOk result (λ found. IfNone found (Counted (take (place + 1) events.now) self.new)) }
     {
         let event = &events[place];
-        if place >= MOST_EVENTS as usize {
-            return Ok(Some(EventFault {
-                place,
-                event: *event,
-                rule: EventRule::TooMany,
-            }));
-        }
-        let next = self.next_number(event);
-        let first = self.first_in_flight(event);
-        match broken_rule(n, event, next, first) {
+        let before = &events[..place];
+        match self.broken_rule(n, before, event) {
             Some(rule) => Ok(Some(EventFault {
                 place,
                 event: *event,
                 rule,
             })),
             None => {
-                self.count(event)?;
+                self.add(n, before, event)?;
                 Ok(None)
             }
         }

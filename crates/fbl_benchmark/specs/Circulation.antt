@@ -1,7 +1,8 @@
 -- What the benchmark's behaviours do that never end.
 use Rattle.std.specs.Prelude.{ℕ, ◌+◌, ◌*◌, ◌%◌, ◌<◌, ◌≤◌}
 use Rattle.std.proofs.Common.{zero, suc}
-use Rattle.fbl_base.specs.Steps.{SendsAllowed, relay_step, relay_sends_allowed, modulus}
+use Rattle.fbl_base.specs.Steps.{Next, SendsWell, numbered_from_0, relay_step, relay_sends_allowed, modulus}
+use Rattle.fbl_base.specs.Numeric.{IsNumeric, by_sends}
 use Rattle.fbl_base.specs.declared.trace.Note.{Note}
 use Rattle.fbl_base.specs.declared.outcome.Outcome.{Outcome}
 
@@ -9,8 +10,14 @@ use Rattle.fbl_base.specs.declared.outcome.Outcome.{Outcome}
 abbrev pub circulate_step : ℕ → ℕ → ℕ → Note → Outcome ℕ Note
 circulate_step me n state note = relay_step me n state (record { value = note.value; hops = 2 })
 
-pub circulate_sends_allowed : (me n state : ℕ) (note : Note) → 2 ≤ n → me < n → SendsAllowed me n (circulate_step me n state note)
+abbrev pub circulate_next : Next ℕ Note
+circulate_next = numbered_from_0 circulate_step
+
+circulate_sends_allowed : SendsWell circulate_next
 circulate_sends_allowed me n state note = relay_sends_allowed me n state (record { value = note.value; hops = 2 })
+
+pub circulate_laws : IsNumeric circulate_next
+circulate_laws = by_sends circulate_sends_allowed
 
 -- how often a long step mixes its state
 abbrev pub rounds : ℕ
@@ -25,5 +32,8 @@ mixed (suc count) state = (31 * mixed count state + 1) % modulus
 abbrev pub long_circulate_step : ℕ → ℕ → ℕ → Note → Outcome ℕ Note
 long_circulate_step me n state note = let outcome = circulate_step me n state note in record { state = mixed rounds outcome.state; sends = outcome.sends }
 
-pub long_circulate_sends_allowed : (me n state : ℕ) (note : Note) → 2 ≤ n → me < n → SendsAllowed me n (long_circulate_step me n state note)
-long_circulate_sends_allowed me n state note = circulate_sends_allowed me n state note
+abbrev pub long_circulate_next : Next ℕ Note
+long_circulate_next = numbered_from_0 long_circulate_step
+
+pub long_circulate_laws : IsNumeric long_circulate_next
+long_circulate_laws = by_sends circulate_sends_allowed

@@ -4,7 +4,8 @@ use Rattle.std.specs.List.{All}
 use Rattle.std.proofs.Common.{Bool, true, false, cond, refl, arith, lit≤}
 use Rattle.std.proofs.lemmas.Bool.Decides.{nat_tests}
 use Rattle.std.proofs.lemmas.List.Elements.{All-cons, All-nil}
-use Rattle.fbl_base.specs.Steps.{SendsAllowed, relay_step, another_member}
+use Rattle.fbl_base.specs.Steps.{Next, SendsWell, numbered_from_0, relay_step, another_member}
+use Rattle.fbl_base.specs.Numeric.{IsNumeric, by_sends}
 use Rattle.fbl_base.specs.declared.trace.Note.{Note}
 use Rattle.fbl_base.specs.declared.outcome.Outcome.{Outcome}
 
@@ -20,6 +21,9 @@ spread_step me n state note = record {
   sends = record { items = (if note.hops == 0 then [] else (if nat_lt n 5 then [] else to_next_four me n (record { value = note.value; hops = note.hops - 1 }))) };
 }
 
+abbrev pub spread_next : Next ℕ Note
+spread_next = numbered_from_0 spread_step
+
 allowed : (me n : ℕ) (last few : Bool) (note : Note) → me < n → nat_lt n 5 ≡ few → All (λ (s : ℕ × Note). (s.0 < n) × (s.0 ≢ me)) (cond last [] (cond few [] (to_next_four me n note))) × (length (cond last [] (cond few [] (to_next_four me n note))) ≤ 4)
 allowed me n true few note member is = (All-nil (λ (s : ℕ × Note). (s.0 < n) × (s.0 ≢ me)), lit≤ tt)
 allowed me n false true note member is = (All-nil (λ (s : ℕ × Note). (s.0 < n) × (s.0 ≢ me)), lit≤ tt)
@@ -33,5 +37,8 @@ allowed me n false false note member is =
     let second : All goes_on (send 2 ∷ send 3 ∷ send 4 ∷ []) = All-cons goes_on (send 2) (send 3 ∷ send 4 ∷ []) (other 2 (omega arith) (omega arith)) third in
     (All-cons goes_on (send 1) (send 2 ∷ send 3 ∷ send 4 ∷ []) (other 1 (omega arith) (omega arith)) second, lit≤ tt)
 
-pub spread_sends_allowed : (me n state : ℕ) (note : Note) → 2 ≤ n → me < n → SendsAllowed me n (spread_step me n state note)
+spread_sends_allowed : SendsWell spread_next
 spread_sends_allowed me n state note least member = allowed me n (note.hops == 0) (nat_lt n 5) (record { value = note.value; hops = note.hops - 1 }) member refl
+
+pub spread_laws : IsNumeric spread_next
+spread_laws = by_sends spread_sends_allowed

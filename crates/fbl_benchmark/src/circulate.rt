@@ -7,17 +7,15 @@ use fbl_base::{Behaviour, Member, Note, Outcome, Relay};
 pub struct Circulate;
 
 impl Behaviour for Circulate {
-    ghost use Rattle.fbl_base.specs.Steps.{numbered_from_0};
-    ghost use Rattle.fbl_base.specs.Numeric.{by_sends};
-    ghost use Rattle.fbl_benchmark.specs.Circulation.{circulate_step, circulate_sends_allowed};
+    ghost use Rattle.fbl_benchmark.specs.Circulation.{circulate_next, circulate_laws};
 
     type State = u64;
 
     type Note = Note;
 
-    ghost next = { numbered_from_0 circulate_step };
+    ghost next = { circulate_next };
 
-    ghost laws = { by_sends circulate_sends_allowed };
+    ghost laws = { circulate_laws };
 
     fn initial(_me: Member, _n: u8) -> u64 {
         0

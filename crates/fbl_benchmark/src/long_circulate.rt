@@ -17,17 +17,15 @@ const MODULUS: u64 = 1_000_000_007;
 pub struct LongCirculate;
 
 impl Behaviour for LongCirculate {
-    ghost use Rattle.fbl_base.specs.Steps.{numbered_from_0};
-    ghost use Rattle.fbl_base.specs.Numeric.{by_sends};
-    ghost use Rattle.fbl_benchmark.specs.Circulation.{long_circulate_step, long_circulate_sends_allowed};
+    ghost use Rattle.fbl_benchmark.specs.Circulation.{long_circulate_next, long_circulate_laws};
 
     type State = u64;
 
     type Note = Note;
 
-    ghost next = { numbered_from_0 long_circulate_step };
+    ghost next = { long_circulate_next };
 
-    ghost laws = { by_sends long_circulate_sends_allowed };
+    ghost laws = { long_circulate_laws };
 
     fn initial(_me: Member, _n: u8) -> u64 {
         0

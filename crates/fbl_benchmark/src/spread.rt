@@ -13,17 +13,15 @@ const LEAST: u8 = 5;
 pub struct Spread;
 
 impl Behaviour for Spread {
-    ghost use Rattle.fbl_base.specs.Steps.{numbered_from_0};
-    ghost use Rattle.fbl_base.specs.Numeric.{by_sends};
-    ghost use Rattle.fbl_benchmark.specs.Spreading.{spread_step, spread_sends_allowed};
+    ghost use Rattle.fbl_benchmark.specs.Spreading.{spread_next, spread_laws};
 
     type State = u64;
 
     type Note = Note;
 
-    ghost next = { numbered_from_0 spread_step };
+    ghost next = { spread_next };
 
-    ghost laws = { by_sends spread_sends_allowed };
+    ghost laws = { spread_laws };
 
     fn initial(_me: Member, _n: u8) -> u64 {
         0

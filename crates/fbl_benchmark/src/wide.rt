@@ -21,7 +21,7 @@ pub struct WideRing;
 pub struct WideSpread;
 
 impl Behaviour for WideRing {
-    ghost use Rattle.std.proofs.Common.{rules, refl};
+    ghost use Rattle.std.proofs.Common.{rules};
     ghost use Rattle.fbl_benchmark.specs.Wide.{ring_next, ring_sends_allowed};
 
     type State = [u64; WORDS];
@@ -30,7 +30,7 @@ impl Behaviour for WideRing {
 
     ghost next = { ring_next };
 
-    ghost laws = { record { sends = ring_sends_allowed; starts = refl; fits = Prim.search rules } };
+    ghost laws = { Prim.search (rules, ring_sends_allowed) };
 
     fn initial(_me: Member, _n: u8) -> [u64; WORDS] {
         [0; WORDS]
@@ -46,7 +46,7 @@ impl Behaviour for WideRing {
 }
 
 impl Behaviour for WideSpread {
-    ghost use Rattle.std.proofs.Common.{rules, refl};
+    ghost use Rattle.std.proofs.Common.{rules};
     ghost use Rattle.fbl_benchmark.specs.Wide.{wide_spread_next, wide_spread_sends_allowed};
 
     type State = [u64; WORDS];
@@ -55,7 +55,7 @@ impl Behaviour for WideSpread {
 
     ghost next = { wide_spread_next };
 
-    ghost laws = { record { sends = wide_spread_sends_allowed; starts = refl; fits = Prim.search rules } };
+    ghost laws = { Prim.search (rules, wide_spread_sends_allowed) };
 
     fn initial(_me: Member, _n: u8) -> [u64; WORDS] {
         [0; WORDS]

@@ -24,7 +24,7 @@ impl Exact for Standing {
 pub struct Candidate;
 
 impl Behaviour for Candidate {
-    ghost use Rattle.std.proofs.Common.{rules, refl};
+    ghost use Rattle.std.proofs.Common.{rules};
     ghost use Rattle.fbl_election.specs.Elections.{candidate_next, candidate_sends_allowed};
 
     type State = Standing;
@@ -33,7 +33,7 @@ impl Behaviour for Candidate {
 
     ghost next = { candidate_next };
 
-    ghost laws = { record { sends = candidate_sends_allowed; starts = refl; fits = Prim.search rules } };
+    ghost laws = { Prim.search (rules, candidate_sends_allowed) };
 
     fn initial(_me: Member, _n: u8) -> Standing {
         Standing {

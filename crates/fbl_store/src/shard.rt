@@ -8,7 +8,7 @@ use fbl_law::step_laws::{Keeping, MakingNone, Weighing};
 pub struct Shard;
 
 impl Behaviour for Shard {
-    ghost use Rattle.std.proofs.Common.{rules, refl};
+    ghost use Rattle.std.proofs.Common.{rules};
     ghost use Rattle.fbl_store.specs.Shards.{shard_next, shard_sends_allowed};
 
     type State = [u64; 256];
@@ -17,7 +17,7 @@ impl Behaviour for Shard {
 
     ghost next = { shard_next };
 
-    ghost laws = { record { sends = shard_sends_allowed; starts = refl; fits = Prim.search rules } };
+    ghost laws = { Prim.search (rules, shard_sends_allowed) };
 
     fn initial(_me: Member, _n: u8) -> [u64; 256] {
         [0; 256]
