@@ -1,5 +1,4 @@
-//! Tests of the calls of a group: worked examples, each request for memory refused in turn, and a strike of each member
-//! after each delivery, with and without checkpoints.
+//! Tests of the calls of a group: worked examples, and each request for memory refused in turn.
 #![tactic(auto)]
 
 #[cfg(test)]
@@ -12,8 +11,6 @@ mod deliveries;
 mod dumps;
 #[cfg(test)]
 mod facts;
-#[cfg(test)]
-mod folds;
 #[cfg(test)]
 mod memory;
 #[cfg(test)]

@@ -1,13 +1,17 @@
 -- What each step of a shard keeps, and what it never makes.
-use Rattle.std.proofs.Common.{◌≡◌, ◌≢◌, ℕ, zero, suc, ◌+◌, ◌<◌, ◌≤◌, ◌==◌, ◌⊎◌, ◌∙◌, Bool, true, false, cond, List, length, slice_index, sum, sum_by, ap, inl, inr, refl, replicate, arith}
-use Rattle.std.proofs.lemmas.Bool.{cases_lt, eqb-true}
+use Rattle.std.proofs.Common.{◌≡◌, ◌≢◌, ℕ, zero, suc, ◌+◌, ◌<◌, ◌≤◌, ◌==◌, ◌⊎◌, ◌∙◌, Bool, true, false, cond, List, [], ◌∷◌, length, slice_index, sum, sum_by, ap, inl, inr, refl, replicate, arith}
+use Rattle.std.proofs.lemmas.Bool.{cases_lt, eqb-true, false≢true}
+use Rattle.std.proofs.lemmas.Bool.Decides.{nat_tests}
 use Rattle.std.proofs.lemmas.List.{get_or-set_other, set_past}
 use Rattle.std.proofs.lemmas.List.Sums.{sum_by-set}
 use Rattle.fbl_base.specs.Configs.{Settings, IsConfig}
 use Rattle.fbl_base.proofs.Gets.{get_or-same}
 use Rattle.fbl_base.specs.declared.outcome.Outcome.{Outcome}
 use Rattle.fbl_law.specs.StepLaws.{AnyNote, HoldsFirst, StepKeeps, StepMakesNone}
-use Rattle.fbl_store.specs.Commands.{amount_of, changed, key_of}
+use Rattle.fbl_base.specs.Fold.{state_after}
+use Rattle.fbl_store.specs.Commands.{amount_of, changed, changed_at, key_of, made_of}
+use Rattle.std.specs.List.{fold}
+use Rattle.std.proofs.lemmas.List.{get_or-set_same, length-set}
 use Rattle.fbl_store.specs.Shards.{HoldsItsOwn, applied, key_owner, shard_next, shard_step}
 use Rattle.fbl_store.specs.declared.command.Command.{Command}
 use Rattle.fbl_store.specs.declared.command.Command.TheVariants.{Put, Add}
@@ -47,3 +51,27 @@ shard_makes_none c config me from values command member own any = here (key_owne
   here : (its : Bool) → (key_owner c.members (key_of command) == me) ≡ its → weight (shard_step me c.members values command) ≤ sum values + amount_of command
   here true its = rw its (omega (arith, sum-after command values))
   here false not = rw not (omega arith)
+
+-- a step changes the value of a key of its member's as the command does, and leaves the number of values
+step-changes : (n key : ℕ) (values : List ℕ) (command : Command) → length values ≡ 256 → key < 256
+    → (slice_index (shard_step (key_owner n key) n values command).state key ≡ changed_at key (slice_index values key) command)
+    × (length (shard_step (key_owner n key) n values command).state ≡ 256)
+step-changes n key values command count within = here (key_of command == key) refl (key_owner n (key_of command) == key_owner n key) refl where
+  here : (same : Bool) → (key_of command == key) ≡ same → (its : Bool) → (key_owner n (key_of command) == key_owner n key) ≡ its
+      → (slice_index (shard_step (key_owner n key) n values command).state key ≡ changed_at key (slice_index values key) command)
+      × (length (shard_step (key_owner n key) n values command).state ≡ 256)
+  here true same true its = rw (its, same, eqb-true (key_of command) key same) (get_or-set_same values key (changed command (slice_index values key)) 0 (rw count within), (length-set values key (changed command (slice_index values key)) ∙ count))
+  here true same false other = absurd (false≢true (grind (arith, nat_tests, same, other)))
+  here false not true its = rw (its, not) (get_or-set_other values (key_of command) key (changed command (slice_index values (key_of command))) 0 (λ e. grind (arith, nat_tests, not, e)), (length-set values (key_of command) (changed command (slice_index values (key_of command))) ∙ count))
+  here false not false other = rw (other, not) (refl, count)
+
+-- so the value of a key at its owner is what the commands that the owner received make of it, each once and in their order
+pub shard_value : (n key : ℕ) (commands : List Command) → key < 256
+    → slice_index (state_after shard_next (key_owner n key) n commands) key ≡ made_of key commands
+shard_value n key commands within = after commands (replicate 256 0) 0 refl (get_or-same 256 key 0) where
+  after : (left : List Command) (values : List ℕ) (value : ℕ) → length values ≡ 256 → slice_index values key ≡ value
+      → slice_index (fold (λ state command. (shard_step (key_owner n key) n state command).state) values left) key ≡ fold (changed_at key) value left
+  after [] values value count is = is
+  after (command ∷ left) values value count is =
+      let step = step-changes n key values command count within in
+      after left (shard_step (key_owner n key) n values command).state (changed_at key value command) step.1 (step.0 ∙ ap (λ v. changed_at key v command) is)

@@ -1,11 +1,14 @@
 //! Three members share a store of 256 keys. A command for a key goes round the ring to the member that owns it. Some are
 //! delivered, a member is struck and recovered, and then two workers deliver the rest, and strike and recover another member on
-//! the way. No command is applied by any but its key's owner, and the values are never more than the starts bring.
+//! the way. A value is what the commands that its key's owner received make of nothing, each once and in order, and the values are
+//! never more than the starts bring.
 #![tactic(auto)]
 
 ghost use Rattle.std.specs.Prelude.{◌≡◌, ℕ, ◌<◌, ◌≤◌, ◌==◌, slice_index, if◌then◌else◌};
-ghost use Rattle.fbl_law.specs.Groups.{member as record_of};
-ghost use Rattle.fbl_store.specs.Commands.{amount_of};
+ghost use Rattle.fbl_law.specs.Groups.{knowledge, member as record_of};
+ghost use Rattle.fbl_law.specs.Knowledge.{IsUp};
+ghost use Rattle.fbl_law.specs.Sound.{received_notes};
+ghost use Rattle.fbl_store.specs.Commands.{amount_of, made_of};
 ghost use Rattle.fbl_store.specs.Shards.{amount_brought, key_owner};
 
 mod command;
@@ -28,9 +31,11 @@ fn asking(from: Member, to: Member, note: Command) -> Start<Command>
     Start { from, to, note }
 }
 
-/// The value of a key: its owner has it, and another member has none. It is no more than the starts bring.
+/// The value of a key: its owner has it, and another member has none. Where the owner is up, it is what the commands that the owner
+/// received make of nothing, each once and in the order of the trace. It is no more than the starts bring.
 fn look_up(group: &Group<Shard>, key: u8) -> u64
     ensures value { (m : ℕ) → m < group.now.config.members → slice_index (record_of group.now m).state key ≡ (if m == key_owner group.now.config.members key then result else 0) }
+    ensures commands { let owner = key_owner group.now.config.members key in IsUp (knowledge group.now) owner → result ≡ made_of key (received_notes group.now.trace owner) }
     ensures most { result ≤ amount_brought group.now.config }
 {
     group.kept();

@@ -8,6 +8,10 @@ use Rattle.std.proofs.lemmas.List.Sums.{get_or-le-sum_by}
 use Rattle.fbl_base.proofs.Gets.{get_or-same}
 use Rattle.fbl_law.proofs.ChannelCounts.{sum_below-none}
 use Rattle.fbl_law.specs.Groups.{member as record_of, sum_below}
+use Rattle.fbl_base.specs.Fold.{state_after}
+use Rattle.fbl_law.specs.Sound.{received_notes}
+use Rattle.fbl_store.specs.Laws.{shard_value}
+use Rattle.fbl_store.specs.Shards.{shard_next}
 use Rattle.fbl_store.proofs.look_up.Goals as goal
 
 -- what a member has of a key is what its owner has, or nothing
@@ -53,6 +57,15 @@ returns-clause-value c m below =
     rw (c.from.ensures, c.state.ensures.value) (ap (λ k. slice_index (record_of r k).state c.args.key) owner)
     in
     seen (λ k. (record_of r k).state) r.config.members c.args.key (slice_index c.state.result c.from.result) m (c.kept.ensures.states m below c.args.key) is
+
+pub returns-clause-commands : goal.returns-clause-commands
+returns-clause-commands c up =
+    let r = c.args.group.now in
+    let n : ℕ = r.config.members in
+    let key : ℕ = c.args.key in
+    let owner : c.at-owner.result ≡ key % n = search rules in
+    let state : c.state.result ≡ state_after shard_next (key % n) n (received_notes r.trace (key % n)) = rw (← owner) (c.state.ensures.causes (rw owner up)) in
+    rw c.from.ensures (ap (λ values. slice_index values key) state ∙ shard_value n key (received_notes r.trace (key % n)) (omega arith))
 
 pub returns-clause-most : goal.returns-clause-most
 returns-clause-most c =
