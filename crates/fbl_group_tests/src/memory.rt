@@ -6,7 +6,7 @@ use crate::steps::{Step, Verdict, make_all};
 use fbl_base::{Behaviour, Note};
 use fbl_group::{Done, Group};
 use fbl_table::Table;
-use refusing_allocator::Refusing;
+use fbl_fixtures::Refusing;
 use std::alloc::{Allocator, Global};
 use std::process::Abort;
 use std::test::Fail;

@@ -6,7 +6,7 @@ use crate::steps::Step::{self, Checkpoint, Commit, Crash, Deliver, Take};
 use crate::steps::{Verdict, make_all};
 use fbl_base::{Behaviour, Mix, Note, Relay};
 use fbl_group::Group;
-use refusing_allocator::Refusing;
+use fbl_fixtures::Refusing;
 use std::alloc::{Allocator, Global};
 use std::process::Abort;
 use std::test::Fail;

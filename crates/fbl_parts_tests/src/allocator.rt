@@ -1,6 +1,6 @@
 //! The allocator that refuses one request for memory.
 
-use refusing_allocator::Refusing;
+use fbl_fixtures::Refusing;
 use std::alloc::{AllocError, Global};
 
 /// Whether a hundred numbers that are put into a vector are those that it has.

@@ -1,8 +1,7 @@
 //! Each request for memory of configurations refused in turn, on worked examples.
 
 use fbl_base::{Config, ConfigRefusal, Note, Start};
-use fbl_fixtures::{Refusal, start};
-use refusing_allocator::Refusing;
+use fbl_fixtures::{Refusal, Refusing, start};
 use std::alloc::{Allocator, Global};
 use std::test::Fail;
 

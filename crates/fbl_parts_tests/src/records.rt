@@ -3,10 +3,9 @@
 ghost use Rattle.std.specs.Prelude.{◌≡◌, ◌<◌, IfOk};
 
 use fbl_base::{Behaviour, Config, Determinant, Member, MemberSet, Mix, Note, Relay, Start};
-use fbl_fixtures::{Refusal, first_receipt, member};
+use fbl_fixtures::{Refusal, Refusing, first_receipt, member};
 use fbl_member::{Carried, MemberRec, Wire, fresh_members};
 use fbl_table::{Entry, Table};
-use refusing_allocator::Refusing;
 use std::alloc::{AllocError, Allocator, Global};
 use std::test::Fail;
 

@@ -3,9 +3,8 @@
 ghost use Rattle.std.specs.Prelude.{◌≡◌, ◌≤◌, IfOk};
 
 use fbl_base::{Determinant, Member, MemberSet};
-use fbl_fixtures::{Refusal, first_receipt, member, set};
+use fbl_fixtures::{Refusal, Refusing, first_receipt, member, set};
 use fbl_table::{Entry, Receipts, Table};
-use refusing_allocator::Refusing;
 use std::alloc::{AllocError, Allocator, Global};
 use std::test::Fail;
 

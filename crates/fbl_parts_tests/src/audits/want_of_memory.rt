@@ -2,8 +2,7 @@
 
 use super::dumps::{Audit, audit, dump_of, pair, receipt, round_events, round_held};
 use fbl_base::{Determinant, DumpRefusal, Mark, Member, MemberSet};
-use fbl_fixtures::set;
-use refusing_allocator::Refusing;
+use fbl_fixtures::{Refusing, set};
 use std::alloc::{Allocator, Global};
 use std::test::Fail;
 

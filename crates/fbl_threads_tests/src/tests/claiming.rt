@@ -2,9 +2,8 @@
 
 ghost use Rattle.std.specs.Prelude.{◌≡◌, true};
 
-use fbl_fixtures::member;
+use fbl_fixtures::{Refusing, member};
 use fbl_threads::{Claim, ClaimRefusal, Claims};
-use refusing_allocator::Refusing;
 use std::test::Fail;
 
 #[test]

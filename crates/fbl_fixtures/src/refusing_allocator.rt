@@ -1,9 +1,8 @@
 //! An allocator for tests, which wraps another one and refuses a single request for memory, so that a test can let
 //! each allocation of the code that it tests fail in turn.
-#![tactic(auto)]
 
 ghost use Rattle.std.specs.Prelude.{◌≡◌, false};
-ghost use Rattle.refusing_allocator.specs.Refusal.{refused_number, wrapped};
+ghost use Rattle.fbl_fixtures.specs.Refusal.{refused_number, wrapped};
 
 use std::alloc::{AllocError, Allocator};
 use std::cell::Cell;

@@ -14,8 +14,8 @@ use denote.Memory.{hidden_shr}
 use denote.Opens.{unhide}
 use denote.Param.{bounded, param}
 use denote.Signature.{Slot, plain}
-use Rattle.refusing_allocator.specs.contracts.Gate as gate
-use Rattle.refusing_allocator.specs.contracts.Refusing as refusing
+use Rattle.fbl_fixtures.specs.contracts.refusing_allocator.Gate as gate
+use Rattle.fbl_fixtures.specs.contracts.refusing_allocator.Refusing as refusing
 
 module _ (Z : Al) where
   abbrev pub over : Args

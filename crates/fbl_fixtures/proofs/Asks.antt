@@ -15,8 +15,8 @@ use denote.Builtin.{bool}
 use denote.Steps.{nothing, only}
 use denote.Triple.Statement.{Contract}
 use denote.Triple.Spec.{triple_of}
-use Rattle.refusing_allocator.specs.contracts.Gate as gate
-use Rattle.refusing_allocator.specs.contracts.Gate.refuses_next as f
+use Rattle.fbl_fixtures.specs.contracts.refusing_allocator.Gate as gate
+use Rattle.fbl_fixtures.specs.contracts.refusing_allocator.Gate.refuses_next as f
 
 module _ {M : Type 1} {𝓤 : Ura M} (𝓛 : Logic 𝓤) (at_mem : Memory → SProp 𝓤) (run : Routine → Fun 𝓤) where
   abbrev pub Asks : Contract 𝓤

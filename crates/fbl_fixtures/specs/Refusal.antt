@@ -1,6 +1,6 @@
 -- What the clauses say of a `Refusing`: the allocator that it wraps, and the number of the request that it refuses.
 use Rattle.std.specs.Prelude.{ℕ}
-use Rattle.refusing_allocator.specs.declared.Refusing.{Refusing}
+use Rattle.fbl_fixtures.specs.declared.refusing_allocator.Refusing.{Refusing}
 
 -- the allocator that is wrapped
 abbrev pub wrapped : {A : Type 0} → Refusing A → A
