@@ -3,19 +3,19 @@
 ghost use Rattle.std.specs.Prelude.{◌≡◌, ◌+◌, ◌<◌, ◌≤◌};
 
 use crate::claims::{Claims, Pass};
-use crate::origin::OfClaims;
+use crate::origin::Workers;
 use std::marker::PhantomData;
 
 /// What a worker gives back when it has ended: its pass, and whether it had a thread.
 #[derive(Drop)]
-pub(crate) struct Returned<O: OfClaims> {
+pub(crate) struct Returned<O: Workers> {
     pass: Pass,
     started: bool,
     origin: PhantomData<O>,
     ghost pass_is_of: { pass ≡ O.claims },
 }
 
-impl<O: OfClaims> Returned<O> {
+impl<O: Workers> Returned<O> {
     /// A worker's pass, which it has no use for any more.
     pub(crate) fn new(pass: Pass, started: bool) -> Returned<O>
         requires { pass ≡ O.claims }
@@ -30,7 +30,7 @@ impl<O: OfClaims> Returned<O> {
 
 /// The passes of workers that have ended, joined to one: how many workers these are, and how many of them had a thread.
 #[derive(Drop)]
-pub(crate) struct Joined<O: OfClaims> {
+pub(crate) struct Joined<O: Workers> {
     pass: Pass,
     pub(crate) workers: u8,
     pub(crate) started: u8,
@@ -39,7 +39,14 @@ pub(crate) struct Joined<O: OfClaims> {
     pub ghost some_started: { started ≤ workers },
 }
 
-impl<O: OfClaims> Joined<O> {
+/// The passes of all workers of a drain, joined to one.
+#[derive(Drop)]
+pub(crate) struct AllJoined<O: Workers> {
+    pub(crate) joined: Joined<O>,
+    pub ghost all: { joined.workers ≡ O.workers },
+}
+
+impl<O: Workers> Joined<O> {
     /// A pass to which no worker's is joined yet.
     pub(crate) fn new(pass: Pass) -> Joined<O>
         requires { pass ≡ O.claims }

@@ -8,4 +8,4 @@ end-pass-requires g c =
     let of : IsOf c.args.work.now.claims.now c.loop-number-test.stage = elim c.loop-number-test.branch [
       | else-loop-number-test w ↦ rw w.stage-is c.loop-number.invariant
       | then-loop-number-test+in-Ended w ↦ rw w.stage-is w.turn-stage.ensures
-    ] in (g.met.B.Behaviour.laws.fits, (of, c.requires.worker))
+    ] in record { stage = of; worker = c.requires.worker }
