@@ -10,6 +10,6 @@ pub(crate) enum Stage<S, N> {
     /// A member is claimed, and a ticket to it taken.
     Taken(Claim, Ticket<S, N>),
     /// The worker has ended: nothing is in flight, somebody is down, or its commit or recovery was refused by want of room in
-    /// the trace or of memory.
-    Ended,
+    /// the trace or of memory. It has claimed nobody.
+    Ended(Pass),
 }

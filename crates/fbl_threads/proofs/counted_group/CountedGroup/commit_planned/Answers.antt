@@ -8,7 +8,7 @@ make_turn-requires g c =
     let s = g.row.B-State.coded in
     let n = g.row.B-Note.coded in
     let run = c.args.self.now.reached in
-    let each : (array_vec_len c.args.self.now.counted.by_worker ≡ g.O.Origin.workers) × (array_vec_len c.args.self.now.counted.undone_by_worker ≡ g.O.Origin.workers) = places s n run in (
+    let each : (array_vec_len c.args.self.now.counted.by_worker ≡ g.O.Workers.workers) × (array_vec_len c.args.self.now.counted.undone_by_worker ≡ g.O.Workers.workers) = places s n run in (
       g.met.B.Behaviour.laws.fits,
       (
         (omega (arith, each.0, c.requires.worker), omega (arith, each.1, c.requires.worker)),
