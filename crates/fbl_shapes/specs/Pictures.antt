@@ -6,9 +6,9 @@ use Rattle.fbl_shapes.specs.declared.look.TheConstants.{DUMP_LEGEND, HISTORY_LEG
 use Rattle.fbl_shapes.specs.declared.shape.Legend.{Legend}
 use Rattle.fbl_shapes.specs.declared.shape.Legend.TheVariants as legend
 use Rattle.fbl_shapes.specs.declared.shape.Shape.{Shape}
-use Rattle.fbl_shapes.specs.declared.shape.Shape.TheVariants.{Label, Name, Line, Arrow, InFlight, Send, Receipt, Held, Strike, Recovery, Checkpoint}
+use Rattle.fbl_shapes.specs.declared.shape.Shape.TheVariants.{Label, Name, Line, Arrow, InFlight, Send, Receipt, Held, Strike, Recovery, Checkpoint, MadeAndUndone}
 use Rattle.fbl_shapes.specs.Lines.{drawn_arrow, drawn_in_flight, drawn_label, drawn_line, drawn_name}
-use Rattle.fbl_shapes.specs.Marks.{drawn_checkpoint, drawn_held_receipt, drawn_receipt, drawn_recovery, drawn_send, drawn_strike}
+use Rattle.fbl_shapes.specs.Marks.{drawn_checkpoint, drawn_held_receipt, drawn_made_and_undone, drawn_receipt, drawn_recovery, drawn_send, drawn_strike}
 use Rattle.fbl_shapes.specs.Places.{height, width, y}
 
 -- the text of a shape
@@ -24,6 +24,7 @@ text_of (Held column determinant kind holders) = drawn_held_receipt column deter
 text_of (Strike column member) = drawn_strike column member
 text_of (Recovery column member receipts) = drawn_recovery column member receipts
 text_of (Checkpoint column member) = drawn_checkpoint column member
+text_of (MadeAndUndone column receipts) = drawn_made_and_undone column receipts
 
 -- how each kind of shape is drawn, in light and in dark: the style, and the tips of arrows
 unfoldable pub look : List ℕ

@@ -6,7 +6,7 @@ ghost use Rattle.fbl_shapes.specs.Pictures.{ending, drawn_heading, opening, pict
 use crate::lines::{arrow_text, in_flight_text, label_text, line_text, name_text};
 use crate::look::{entries, look};
 use crate::marks::{
-    checkpoint_text, held_text, receipt_text, recovery_text, send_text, strike_text,
+    checkpoint_text, held_text, made_and_undone_text, receipt_text, recovery_text, send_text, strike_text,
 };
 use crate::places::{height, width, y};
 use crate::shape::{Legend, Shape};
@@ -64,6 +64,7 @@ fn shape_text(alloc: Global, shape: Shape) -> Result<String, AllocError>
             receipts,
         } => recovery_text(alloc, column, member, receipts),
         Shape::Checkpoint { column, member } => checkpoint_text(alloc, column, member),
+        Shape::MadeAndUndone { column, receipts } => made_and_undone_text(alloc, column, receipts),
     }
 }
 

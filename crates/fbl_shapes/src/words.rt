@@ -115,7 +115,7 @@ pub(crate) fn gone_class(undone: bool) -> &'static str
 }
 
 /// The word for so many receipts.
-pub fn receipts_word(count: usize) -> &'static str
+pub fn receipts_word(count: u128) -> &'static str
     ensures { result.now ≡ receipts_word_of count }
 {
     if count == 1 { "receipt" } else { "receipts" }

@@ -7,15 +7,17 @@ pub use Rattle.std.proofs.lemmas.List.Sums.{fold_push}
 pub use Rattle.std.specs.Bool.{beq}
 pub use Rattle.std.specs.Cmp.{booleans_Decides}
 pub use Rattle.std.specs.List.{flat_map, fold, range_with_len}
+pub use Rattle.std.specs.Prelude.{◌^◌}
 pub use Rattle.fbl_base.proofs.Numbers.{rows_on}
 pub use Rattle.fbl_base.specs.Events.{is_message, same_message}
 pub use Rattle.fbl_base.specs.declared.trace.MessageName.{MessageName}
+pub use Rattle.fbl_history.specs.Columns.{made_after, receipts_made}
 pub use Rattle.fbl_history.specs.declared.column.Column.{Column}
 pub use Rattle.fbl_shapes.specs.Places.{drawn}
 pub use Rattle.fbl_shapes.specs.Words.{line_kind_of}
 pub use Rattle.fbl_shapes.specs.declared.shape.Shape.{Shape}
 pub use Rattle.fbl_shapes.specs.declared.shape.Shape.TheVariants.{Line}
-pub use Rattle.fbl_show.specs.Marks.{column_marks, recovery_mark, strike_mark}
+pub use Rattle.fbl_show.specs.Marks.{column_marks, marks_after, recovery_mark, strike_mark}
 pub use Rattle.fbl_show.specs.Members.{history_member_shapes, is_back, is_down, is_down_after, line_part, members_shapes, turns}
 pub use Rattle.fbl_show.specs.Messages.{arrow_from, back_before, has_standing_receipt, receipt_arrow, sent_before, stub, stub_where, taken_by_column}
 pub use Rattle.fbl_show.specs.Places.{last_before}

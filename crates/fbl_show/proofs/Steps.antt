@@ -1,6 +1,6 @@
 -- One column more of members' lines.
 use Rattle.fbl_show.proofs.Common.{ℕ, suc, ◌+◌, ◌<◌, ◌≡◌, not, Bool, false, cond, List, [], ◌∷◌, ◌++◌, length, take, drop, get_or, Option, Some, sym, ap}
-use Rattle.fbl_show.proofs.Common.{◌∙◌, arith, beq, booleans_Decides, fold, not-false, append_assoc, at_drop_more, take_more, fold_push, Column, Shape, Line, is_down, is_down_after}
+use Rattle.fbl_show.proofs.Common.{◌∙◌, arith, beq, booleans_Decides, fold, not-false, append_assoc, at_drop_more, take_more, fold_push, Column, Shape, Line, is_down, is_down_after, made_after, receipts_made}
 use Rattle.fbl_show.proofs.Common.{line_kind_of, line_part, turns, drawn, last_before}
 
 -- the last place before the next one
@@ -11,6 +11,11 @@ last_more test i = let e : i + 1 ≡ suc i = omega arith in ap (last_before test
 module _ (columns : List Column) (i : ℕ) (c : Column) (within : i < length columns) (is : c ≡ get_or columns i c) where
   before_more : take (i + 1) columns ≡ take i columns ++ c ∷ []
   before_more = take_more columns i c within ∙ ap (λ x. take i columns ++ x ∷ []) (sym is)
+
+  -- how many receipts were made up to it
+  pub made_more : (made : ℕ) → made ≡ receipts_made (take i columns) → {after : ℕ} → after ≡ made_after made c → after ≡ receipts_made (take (i + 1) columns)
+  made_more made was then =
+      then ∙ ap (λ k. made_after k c) was ∙ sym (ap receipts_made before_more ∙ fold_push made_after 0 (take i columns) c)
 
   -- what is drawn from it on
   pub drawn_more : (draw : ℕ → Column → List Shape) → drawn draw i (drop i columns) ≡ draw i c ++ drawn draw (i + 1) (drop (i + 1) columns)

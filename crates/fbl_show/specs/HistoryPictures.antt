@@ -1,8 +1,8 @@
--- The picture of a history: a line for each member, and a column for each event that was ever made and for each strike,
--- recovery and checkpoint, in the order in which they came.
-use Rattle.std.specs.Prelude.{ℕ, Bool, true, false, List, [], ◌∷◌, ◌++◌, length, codes, count_by, decimal}
+-- The picture of a history: a line for each member, and a column for each event of the history and for each strike, recovery and
+-- checkpoint, in the order in which they came; of receipts that a run both made and undid the column tells how many.
+use Rattle.std.specs.Prelude.{ℕ, List, [], ◌∷◌, ◌++◌, length, codes, decimal}
 use Rattle.fbl_history.specs.declared.column.Column.{Column}
-use Rattle.fbl_history.specs.declared.column.Column.TheVariants as columns
+use Rattle.fbl_history.specs.Columns.{receipts_made, receipts_undone}
 use Rattle.fbl_shapes.specs.Marks.{joined}
 use Rattle.fbl_shapes.specs.Pictures.{picture}
 use Rattle.fbl_shapes.specs.Places.{drawn}
@@ -15,27 +15,20 @@ use Rattle.fbl_show.specs.Messages.{receipt_arrow, stub}
 
 -- ---- the heading
 
-abbrev pub is_receipt : Column → Bool
-is_receipt (columns.Receipt to rsn from ssn state undone) = true
-is_receipt _ = false
-
-abbrev pub is_undone_receipt : Column → Bool
-is_undone_receipt (columns.Receipt to rsn from ssn state undone) = undone
-is_undone_receipt _ = false
-
--- the numbers of the group, the behaviour, how many receipts were ever made, and how many of them were undone
+-- the numbers of the group, the behaviour, how many receipts were ever made, and how many of them were undone: those of the
+-- columns, and those that have none
 abbrev pub history_title : ℕ → ℕ → List ℕ → List Column → List ℕ
 history_title members f behaviour columns =
-    let made = count_by is_receipt columns in
+    let made = receipts_made columns in
     joined (decimal members ∷ codes " members, f " ∷ decimal f ∷ codes ", " ∷ behaviour ∷ codes ": "
-    ∷ decimal made ∷ codes " " ∷ receipts_word made ∷ codes " made, " ∷ decimal (count_by is_undone_receipt columns) ∷ codes " undone" ∷ [])
+    ∷ decimal made ∷ codes " " ∷ receipts_word made ∷ codes " made, " ∷ decimal (receipts_undone columns) ∷ codes " undone" ∷ [])
 
 -- ---- the whole
 
 -- the members' lines, the arrows and the messages in flight, and over them the marks
 unfoldable pub history_shapes : ℕ → List Column → List Shape
 history_shapes members columns =
-    members_shapes members columns ++ drawn (receipt_arrow columns) 0 columns ++ drawn (stub columns) 0 columns ++ drawn column_marks 0 columns
+    members_shapes members columns ++ drawn (receipt_arrow columns) 0 columns ++ drawn (stub columns) 0 columns ++ drawn (column_marks columns) 0 columns
 
 -- the picture of a history of a group of so many members, of whom f may be lost at once, under a behaviour of this name
 abbrev pub history_picture : ℕ → ℕ → List ℕ → List Column → List ℕ

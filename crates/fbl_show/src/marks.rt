@@ -1,12 +1,12 @@
 //! The marks of the columns.
 
-ghost use Rattle.std.specs.Prelude.{◌≡◌, ◌++◌, OnOk, map};
+ghost use Rattle.std.specs.Prelude.{◌≡◌, ◌<◌, ◌^◌, ◌++◌, OnOk, map};
 ghost use Rattle.fbl_base.specs.MemberSets.{member_list};
-ghost use Rattle.fbl_show.specs.Marks.{column_marks, strike_mark, recovery_mark};
+ghost use Rattle.fbl_show.specs.Marks.{column_marks, marks_after, strike_mark, recovery_mark};
 ghost use Rattle.fbl_shapes.specs.Places.{drawn};
 
 use fbl_base::{Determinant, MemberSet};
-use fbl_history::{Column, Replay};
+use fbl_history::{Column, Replay, made_after};
 use fbl_shapes::Shape;
 use std::alloc::{AllocError, Global};
 
@@ -43,14 +43,15 @@ fn push_recoveries(
     Ok(())
 }
 
-/// Draws the marks of a column at this place.
+/// Draws the marks of a column at this place, before which so many receipts were made.
 fn push_mark(
     shapes: &mut Vec<Shape>,
     alloc: Global,
+    made: u128,
     place: usize,
     column: &Column,
 ) -> Result<(), AllocError>
-    ensures { OnOk result (shapes.new.items ≡ shapes.old.items ++ column_marks place column.now) }
+    ensures { OnOk result (shapes.new.items ≡ shapes.old.items ++ marks_after made place column.now) }
 {
     match column {
         Column::Send {
@@ -87,6 +88,10 @@ fn push_mark(
             column: place,
             member: *member,
         })?,
+        Column::ReceiptsMade(total) => shapes.push(Shape::MadeAndUndone {
+            column: place,
+            receipts: u128::from(*total).saturating_sub(made),
+        })?,
     }
     Ok(())
 }
@@ -97,10 +102,12 @@ pub(crate) fn push_marks(
     alloc: Global,
     columns: &[Column],
 ) -> Result<(), AllocError>
-    ensures { OnOk result (shapes.new.items ≡ shapes.old.items ++ drawn column_marks 0 columns.now) }
+    ensures { OnOk result (shapes.new.items ≡ shapes.old.items ++ drawn (column_marks columns.now) 0 columns.now) }
 {
+    let mut made = 0u128;
     for (place, column) in columns.iter().enumerate() {
-        push_mark(shapes, alloc, place, column)?;
+        push_mark(shapes, alloc, made, place, column)?;
+        made = made_after(made, column);
     }
     Ok(())
 }

@@ -1,34 +1,14 @@
 //! The whole picture.
 
-ghost use Rattle.std.specs.Prelude.{◌≡◌, ◌≤◌, IfOk, count_by, string_bytes};
-ghost use Rattle.fbl_show.specs.HistoryPictures.{history_title, history_picture, is_receipt, is_undone_receipt, history_shapes};
+ghost use Rattle.std.specs.Prelude.{◌≡◌, ◌≤◌, IfOk, string_bytes};
+ghost use Rattle.fbl_show.specs.HistoryPictures.{history_title, history_picture, history_shapes};
 
 use crate::marks::push_marks;
 use crate::members::push_members;
 use crate::messages::{push_arrows, push_stubs};
-use fbl_history::Column;
+use fbl_history::{Column, receipts_made, receipts_undone};
 use fbl_shapes::{Legend, Shape, picture_text, receipts_word};
 use std::alloc::{AllocError, Global};
-
-/// How many receipts were ever made.
-fn receipts_made(columns: &[Column]) -> usize
-    ensures { result ≡ count_by is_receipt columns.now }
-{
-    columns
-        .iter()
-        .filter(|column| matches!(column, Column::Receipt { .. }))
-        .count()
-}
-
-/// How many of them were undone.
-fn receipts_undone(columns: &[Column]) -> usize
-    ensures { result ≡ count_by is_undone_receipt columns.now }
-{
-    columns
-        .iter()
-        .filter(|column| matches!(column, Column::Receipt { undone: true, .. }))
-        .count()
-}
 
 /// The heading: the numbers of the group, the behaviour, and how many receipts were made and undone.
 fn heading_text(
