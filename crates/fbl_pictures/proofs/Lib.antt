@@ -1,0 +1,4 @@
+pub mod Common
+pub mod Steps
+pub mod Indexing
+pub mod Rows
