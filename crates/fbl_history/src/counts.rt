@@ -1,6 +1,6 @@
 //! How many receipts a history has.
 
-ghost use Rattle.std.specs.Prelude.{◌≡◌, ◌<◌, ◌+◌, ◌^◌, OnOk, count_by, length};
+ghost use Rattle.std.specs.Prelude.{◌≡◌, ◌<◌, ◌≤◌, ◌+◌, ◌^◌, ◌⊎◌, OnOk, count_by};
 ghost use Rattle.fbl_history.specs.Columns.{is_standing_receipt as stands, made_after as made_after_column, receipts_made as made_by, receipts_undone as undone_in, with_total as totalled};
 
 use crate::column::Column;
@@ -9,7 +9,8 @@ use std::alloc::AllocError;
 /// How many receipts were made after a column, where so many were made before it.
 pub fn made_after(made: u128, column: &Column) -> u128
     requires { made < 2 ^ 100 }
-    ensures { result ≡ made_after_column made column.now }
+    ensures value { result ≡ made_after_column made column.now }
+    ensures few { (result ≤ made + 1) ⊎ (result < 2 ^ 64) }
 {
     match column {
         Column::Receipt { .. } => made + 1,

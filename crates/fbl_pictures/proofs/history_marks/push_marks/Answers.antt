@@ -12,7 +12,7 @@ loop-place-preserved c =
     let pushed : c.push_mark.new.shapes.items ≡ c.loop-place.shapes.items ++ column_marks columns i x =
     c.in_ok-push_mark.ensures ∙ ap (λ k. c.loop-place.shapes.items ++ marks_after k i x) known.made in
     record {
-      made = made_more columns i x within c.index-columns-place.is c.loop-place.made known.made c.made_after.ensures;
-      few = omega arith;
+      made = made_more columns i x within c.index-columns-place.is c.loop-place.made known.made c.made_after-made.ensures.value;
+      few = grind (arith, c.made_after-made.ensures.few, known.few);
       drew = rw pushed (drawn_on columns i x within c.index-columns-place.is (column_marks columns) c.loop-place.shapes.items _ known.drew);
     }
