@@ -4,3 +4,4 @@ pub mod Undoing
 pub mod Standing
 pub mod Cutting
 pub mod Counting
+pub mod Sends

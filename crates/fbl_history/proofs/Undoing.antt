@@ -22,9 +22,9 @@ next-is column (event ∷ trace) h =
     (ap (λ x. x ∷ trace) (sym same.0), ap is_standing same.0 ∙ same.1)
 
 -- the standing events of what goes on to a trace are that trace
-pub standing-trace : (columns trace : List Column) → standing trace ≡ trace → standing (go_on columns trace) ≡ trace
-standing-trace [] trace stand = stand
-standing-trace (column ∷ columns) trace stand = at (is_next column trace) (is_standing column) refl refl (standing-trace columns) where
+pub standing_trace : (columns trace : List Column) → standing trace ≡ trace → standing (go_on columns trace) ≡ trace
+standing_trace [] trace stand = stand
+standing_trace (column ∷ columns) trace stand = at (is_next column trace) (is_standing column) refl refl (standing_trace columns) where
   at : (n s : Bool) → is_next column trace ≡ n → is_standing column ≡ s → ((rest : List Column) → standing rest ≡ rest → standing (go_on columns rest) ≡ rest)
       → standing (column_then column trace ∷ go_on columns (trace_then column trace)) ≡ trace
   at true s is stands later =

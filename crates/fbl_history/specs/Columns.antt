@@ -1,5 +1,5 @@
 -- The columns of a history, and how a history goes on to a trace.
-use Rattle.std.specs.Prelude.{◌≡◌, ◌⊎◌, ◌==◌, ◌&&◌, ◌+◌, ◌-◌, ◌++◌, ℕ, not, Bool, true, false, List, [], ◌∷◌, Some, count_by, drop, slice_get, if◌then◌else◌}
+use Rattle.std.specs.Prelude.{◌≡◌, ◌<◌, ◌⊎◌, ◌==◌, ◌&&◌, ◌+◌, ◌-◌, ◌++◌, ℕ, not, Bool, true, false, List, [], ◌∷◌, Some, count_by, drop, slice_get, if◌then◌else◌}
 use Rattle.std.specs.List.{filter, fold, list_any}
 use Rattle.fbl_history.specs.declared.column.Column.{Column}
 use Rattle.fbl_history.specs.declared.column.Column.TheVariants.{Send, Receipt, ReceiptsMade}
@@ -61,6 +61,17 @@ undone_without trace column = if is_standing column && not (list_any (same_stand
 abbrev pub HasEachOnce : List Column → Type 0
 HasEachOnce columns =
     (i j : ℕ) (a b : Column) → slice_get columns i ≡ Some a → slice_get columns j ≡ Some b → same_standing a b ≡ true → i ≡ j
+
+-- whether the column is of a receipt, undone or not
+abbrev pub is_receipt : Column → Bool
+is_receipt (Receipt to rsn from ssn state undone) = true
+is_receipt _ = false
+
+-- each receipt, undone or not, comes after a send of its message
+abbrev pub ReceiptsFollowSends : List Column → Type 0
+ReceiptsFollowSends columns =
+    (place to rsn from ssn state : ℕ) (undone : Bool) → slice_get columns place ≡ Some (Receipt to rsn from ssn state undone)
+    → (sent : ℕ) × (sent < place) × (gone : Bool) × (slice_get columns sent ≡ Some (Send from ssn to gone))
 
 -- ---- receipts counted
 

@@ -1,9 +1,9 @@
 //! A history, and how it goes on.
 
-ghost use Rattle.std.specs.Prelude.{◌≡◌, ◌≤◌, ◌++◌, ◌∷◌, [], drop, length, IfOk};
+ghost use Rattle.std.specs.Prelude.{◌≡◌, ◌≤◌, ◌++◌, ◌∷◌, [], drop, false, length, IfOk, OnOk};
 ghost use Rattle.fbl_base.specs.MemberSets.{AllBelow};
-ghost use Rattle.fbl_history.specs.Columns.{go_on as gone_on};
-ghost use Rattle.fbl_history.specs.Traces.{go_on_to, replays_of, CountsAsBefore, CountsReceipts, IsAfterRecovery};
+ghost use Rattle.fbl_history.specs.Columns.{go_on as gone_on, is_receipt, ReceiptsFollowSends};
+ghost use Rattle.fbl_history.specs.Traces.{go_on_to, trace_columns as columns_of_trace, replays_of, CountsAsBefore, CountsReceipts, IsAfterRecovery};
 ghost use Rattle.fbl_history.specs.declared.column.Column.TheVariants.{Strike, Checkpoint};
 
 use crate::column::{Column, Replay};
@@ -23,6 +23,7 @@ pub struct History {
 
 impl Model for History {
     ghost use Rattle.std.specs.Prelude.{List};
+    ghost use Rattle.fbl_history.specs.Columns.{ReceiptsFollowSends};
     ghost use Rattle.fbl_history.specs.declared.column.Column.{Column};
 
     ghost Value = { List Column };
@@ -33,6 +34,8 @@ impl Model for History {
     ghost coded = { Prim.hlevel (codes, column.the_row.coded) };
 
     ghost view = { λ h. h.columns.items };
+
+    ghost invariant = { λ h. ReceiptsFollowSends h.columns.items };
 }
 
 impl History {
@@ -49,9 +52,10 @@ impl History {
         History { columns }.go_on(alloc, group)
     }
 
-    /// The columns, in the order in which they came.
+    /// The columns, in the order in which they came. Each receipt comes after a send of its message.
     pub fn columns(&self) -> &[Column]
-        ensures { result.now ≡ self.now }
+        ensures columns { result.now ≡ self.now }
+        ensures sends { ReceiptsFollowSends self.now }
     {
         self.columns.as_slice()
     }
@@ -69,9 +73,7 @@ impl History {
         // the group is sound
         group.recoverable();
         let History { mut columns } = self;
-        let trace = trace_columns(alloc, group)?;
-        let kept = undo_others(&mut columns, trace.as_slice());
-        columns.extend(trace.into_iter().skip(kept))?;
+        follow_trace(&mut columns, alloc, group)?;
         add_total(&mut columns, group.receipts_ever())?;
         Ok(History { columns })
     }
@@ -107,8 +109,9 @@ impl History {
         self.with(Column::Checkpoint(member))
     }
 
-    /// The history with one more column.
+    /// The history with one more column, which is of no receipt.
     fn with(self, column: Column) -> Result<History, AllocError>
+        requires { is_receipt column ≡ false }
         ensures { IfOk result (λ history. history ≡ self ++ column ∷ []) }
     {
         let History { mut columns } = self;
@@ -136,6 +139,20 @@ fn replays<B: Behaviour<State = u64, Note = Note>>(
         })?;
     }
     Ok(replays)
+}
+
+/// Goes on to the group's trace.
+fn follow_trace<B: Behaviour<State = u64, Note = Note>>(
+    columns: &mut Vec<Column>,
+    alloc: Global,
+    group: &Group<B>,
+) -> Result<(), AllocError>
+    ensures { OnOk result (columns.new.items ≡ gone_on columns.old.items (columns_of_trace B.next group.now)) }
+{
+    let trace = trace_columns(alloc, group)?;
+    let kept = undo_others(columns, trace.as_slice());
+    columns.extend(trace.into_iter().skip(kept))?;
+    Ok(())
 }
 
 /// Undoes the standing events that are not the next ones of the trace, and answers how many of the trace's are.

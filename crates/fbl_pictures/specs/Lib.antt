@@ -9,6 +9,7 @@ pub mod HistoryMembers
 pub mod HistoryMessages
 pub mod HistoryMarks
 pub mod HistoryPictures
+pub mod HistoryLaws
 pub mod DumpReceipts
 pub mod DumpEvents
 pub mod DumpMembers

@@ -13,6 +13,7 @@ mod history_members;
 mod history_messages;
 mod history_picture;
 mod history_recoveries;
+pub mod laws;
 mod lines;
 mod look;
 mod marks;
