@@ -3,3 +3,5 @@ pub mod Following
 pub mod Undoing
 pub mod Standing
 pub mod Cutting
+pub mod Counting
+pub mod Sends

@@ -1,5 +1,5 @@
 -- How a history goes on to a trace.
-use Rattle.fbl_history.proofs.Common.{◌≡◌, Bool, true, false, List, [], ◌∷◌, drop, refl, sym, ap, ◌∙◌, arith, nat_tests, Column, is_standing, undo, same_standing, standing}
+use Rattle.fbl_history.proofs.Common.{◌≡◌, Bool, true, false, List, [], ◌∷◌, ◌++◌, drop, refl, sym, ap, ◌∙◌, arith, nat_tests, Column, is_standing, undo, same_standing, standing}
 use Rattle.fbl_history.proofs.Common.{is_next, go_on, ◌⊎◌, Send, Receipt, column_then, trace_then, GoesOnFrom}
 
 -- columns of the same standing event are equal, and stand
@@ -22,9 +22,9 @@ next-is column (event ∷ trace) h =
     (ap (λ x. x ∷ trace) (sym same.0), ap is_standing same.0 ∙ same.1)
 
 -- the standing events of what goes on to a trace are that trace
-pub standing-trace : (columns trace : List Column) → standing trace ≡ trace → standing (go_on columns trace) ≡ trace
-standing-trace [] trace stand = stand
-standing-trace (column ∷ columns) trace stand = at (is_next column trace) (is_standing column) refl refl (standing-trace columns) where
+pub standing_trace : (columns trace : List Column) → standing trace ≡ trace → standing (go_on columns trace) ≡ trace
+standing_trace [] trace stand = stand
+standing_trace (column ∷ columns) trace stand = at (is_next column trace) (is_standing column) refl refl (standing_trace columns) where
   at : (n s : Bool) → is_next column trace ≡ n → is_standing column ≡ s → ((rest : List Column) → standing rest ≡ rest → standing (go_on columns rest) ≡ rest)
       → standing (column_then column trace ∷ go_on columns (trace_then column trace)) ≡ trace
   at true s is stands later =
@@ -43,3 +43,9 @@ stays_or_undone column trace = grind arith
 pub goes_on : (columns trace : List Column) → GoesOnFrom columns (go_on columns trace)
 goes_on [] trace = tt
 goes_on (column ∷ columns) trace = (stays_or_undone column trace, goes_on columns (trace_then column trace))
+
+-- so it is where more stands behind
+pub goes_on_before : (columns new more : List Column) → GoesOnFrom columns new → GoesOnFrom columns (new ++ more)
+goes_on_before [] new more goes = tt
+goes_on_before (column ∷ columns) [] more goes = absurd goes
+goes_on_before (column ∷ columns) (c ∷ new) more goes = (goes.0, goes_on_before columns new more goes.1)

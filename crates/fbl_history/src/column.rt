@@ -50,6 +50,9 @@ pub enum Column {
     Recovery(Vec<Replay>),
     /// A checkpoint of a member is taken.
     Checkpoint(Member),
+    /// So many receipts were ever made by then, more than have columns: a run of workers undid some that it had made itself,
+    /// or that it then made again just as they were.
+    ReceiptsMade(u64),
 }
 
 impl Column {

@@ -1,12 +1,13 @@
 //! A history, and how it goes on.
 
-ghost use Rattle.std.specs.Prelude.{◌≡◌, ◌≤◌, ◌++◌, ◌∷◌, [], drop, length, IfOk};
+ghost use Rattle.std.specs.Prelude.{◌≡◌, ◌≤◌, ◌++◌, ◌∷◌, [], drop, false, length, IfOk, OnOk};
 ghost use Rattle.fbl_base.specs.MemberSets.{AllBelow};
-ghost use Rattle.fbl_history.specs.Columns.{go_on as gone_on};
-ghost use Rattle.fbl_history.specs.Traces.{trace_columns as columns_of_trace, replays_of, IsAfterRecovery};
+ghost use Rattle.fbl_history.specs.Columns.{go_on as gone_on, is_receipt, ReceiptsFollowSends};
+ghost use Rattle.fbl_history.specs.Traces.{go_on_to, trace_columns as columns_of_trace, replays_of, CountsAsBefore, CountsReceipts, IsAfterRecovery};
 ghost use Rattle.fbl_history.specs.declared.column.Column.TheVariants.{Strike, Checkpoint};
 
 use crate::column::{Column, Replay};
+use crate::counts::add_total;
 use crate::states::trace_columns;
 use fbl_base::{Behaviour, Member, MemberSet, Note};
 use fbl_group::Group;
@@ -22,6 +23,7 @@ pub struct History {
 
 impl Model for History {
     ghost use Rattle.std.specs.Prelude.{List};
+    ghost use Rattle.fbl_history.specs.Columns.{ReceiptsFollowSends};
     ghost use Rattle.fbl_history.specs.declared.column.Column.{Column};
 
     ghost Value = { List Column };
@@ -32,47 +34,54 @@ impl Model for History {
     ghost coded = { Prim.hlevel (codes, column.the_row.coded) };
 
     ghost view = { λ h. h.columns.items };
+
+    ghost invariant = { λ h. ReceiptsFollowSends h.columns.items };
 }
 
 impl History {
-    /// The history of a group of which nothing is told yet: the events of its trace.
+    /// The history of a group of which nothing is told yet: the events of its trace, and a total if the group has made more
+    /// receipts than stand in it.
     pub fn new<B: Behaviour<State = u64, Note = Note>>(
         alloc: Global,
         group: &Group<B>,
     ) -> Result<History, AllocError>
-        ensures { IfOk result (λ history. history ≡ columns_of_trace B.next group.now) }
+        ensures columns { IfOk result (λ history. history ≡ go_on_to B.next [] group.now) }
+        ensures counted { IfOk result (CountsReceipts group.now) }
     {
-        Ok(History {
-            columns: trace_columns(alloc, group)?,
-        })
+        let columns = Vec::new(alloc);
+        History { columns }.go_on(alloc, group)
     }
 
-    /// The columns, in the order in which they came.
+    /// The columns, in the order in which they came. Each receipt comes after a send of its message.
     pub fn columns(&self) -> &[Column]
-        ensures { result.now ≡ self.now }
+        ensures columns { result.now ≡ self.now }
+        ensures sends { ReceiptsFollowSends self.now }
     {
         self.columns.as_slice()
     }
 
     /// The history after deliveries or workers have led to this group: what they made is added, and what is no longer in the
-    /// trace is undone.
+    /// trace is undone. Where the columns then count another number of receipts than the group ever made, a total is added.
     pub fn go_on<B: Behaviour<State = u64, Note = Note>>(
         self,
         alloc: Global,
         group: &Group<B>,
     ) -> Result<History, AllocError>
-        ensures { IfOk result (λ history. history ≡ gone_on self (columns_of_trace B.next group.now)) }
+        ensures columns { IfOk result (λ history. history ≡ go_on_to B.next self group.now) }
+        ensures counted { IfOk result (CountsReceipts group.now) }
     {
+        // the group is sound
+        group.recoverable();
         let History { mut columns } = self;
-        let trace = trace_columns(alloc, group)?;
-        let kept = undo_others(&mut columns, trace.as_slice());
-        columns.extend(trace.into_iter().skip(kept))?;
+        follow_trace(&mut columns, alloc, group)?;
+        add_total(&mut columns, group.receipts_ever())?;
         Ok(History { columns })
     }
 
     /// The history after a strike of these members by one command.
     pub fn strike(self, members: MemberSet) -> Result<History, AllocError>
-        ensures { IfOk result (λ history. history ≡ self ++ Strike members ∷ []) }
+        ensures columns { IfOk result (λ history. history ≡ self ++ Strike members ∷ []) }
+        ensures counted { IfOk result (CountsAsBefore self) }
     {
         self.with(Column::Strike(members))
     }
@@ -85,7 +94,8 @@ impl History {
         members: MemberSet,
     ) -> Result<History, AllocError>
         requires { AllBelow members group.now.config.members }
-        ensures { IfOk result (λ history. IsAfterRecovery B.next group.now members self history) }
+        ensures columns { IfOk result (λ history. IsAfterRecovery B.next group.now members self history) }
+        ensures counted { IfOk result (CountsReceipts group.now) }
     {
         let replays = replays(alloc, group, members)?;
         self.go_on(alloc, group)?.with(Column::Recovery(replays))
@@ -93,13 +103,15 @@ impl History {
 
     /// The history after a checkpoint of the member.
     pub fn checkpoint(self, member: Member) -> Result<History, AllocError>
-        ensures { IfOk result (λ history. history ≡ self ++ Checkpoint member ∷ []) }
+        ensures columns { IfOk result (λ history. history ≡ self ++ Checkpoint member ∷ []) }
+        ensures counted { IfOk result (CountsAsBefore self) }
     {
         self.with(Column::Checkpoint(member))
     }
 
-    /// The history with one more column.
+    /// The history with one more column, which is of no receipt.
     fn with(self, column: Column) -> Result<History, AllocError>
+        requires { is_receipt column ≡ false }
         ensures { IfOk result (λ history. history ≡ self ++ column ∷ []) }
     {
         let History { mut columns } = self;
@@ -127,6 +139,20 @@ fn replays<B: Behaviour<State = u64, Note = Note>>(
         })?;
     }
     Ok(replays)
+}
+
+/// Goes on to the group's trace.
+fn follow_trace<B: Behaviour<State = u64, Note = Note>>(
+    columns: &mut Vec<Column>,
+    alloc: Global,
+    group: &Group<B>,
+) -> Result<(), AllocError>
+    ensures { OnOk result (columns.new.items ≡ gone_on columns.old.items (columns_of_trace B.next group.now)) }
+{
+    let trace = trace_columns(alloc, group)?;
+    let kept = undo_others(columns, trace.as_slice());
+    columns.extend(trace.into_iter().skip(kept))?;
+    Ok(())
 }
 
 /// Undoes the standing events that are not the next ones of the trace, and answers how many of the trace's are.

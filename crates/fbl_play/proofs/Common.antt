@@ -12,7 +12,7 @@ pub use Rattle.fbl_explain.specs.declared.account.CommandAccount.{CommandAccount
 pub use Rattle.fbl_group.specs.Checkpoints.{checkpoint_refusal}
 pub use Rattle.fbl_group.specs.Deliveries.{deliver_refusal}
 pub use Rattle.fbl_group.specs.Strikes.{strike_refusal}
-pub use Rattle.fbl_history.specs.Traces.{trace_columns}
+pub use Rattle.fbl_history.specs.Traces.{go_on_to}
 pub use Rattle.fbl_history.specs.declared.column.Column.{Column}
 pub use Rattle.fbl_input.proofs.Bytes.{appends_more, keeps_itself}
 pub use Rattle.fbl_input.proofs.Inputs.{read_whole, too_long, unread}

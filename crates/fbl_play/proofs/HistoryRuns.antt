@@ -3,7 +3,7 @@ use Rattle.fbl_base.specs.declared.trace.Note.{Note}
 use Rattle.fbl_play.proofs.Common.{◌≡◌, ℕ, ◌<◌, ◌≤◌, ◌+◌, inl, inr, List, [], ◌∷◌, ◌++◌, length, take, get_or, refl, ap, Some, None, Result, Ok, Err, take_all}
 use Rattle.fbl_play.proofs.Common.{IsErrAnd, Settings, Next, CommandAccount, RunFault, GroupRecord, IsGroupStart, IsSound}
 use Rattle.fbl_play.proofs.Common.{Command, Drains, Step, IsTold, checkpoint_refusal, deliver_refusal, strike_refusal}
-use Rattle.fbl_play.proofs.Common.{Column, trace_columns, ColumnsStep, HistoryStep, HistoryTells, HistoryTellsOn, IsHistoryOfBytes, RunHistory, DeliveryBy, StrikeBy, CheckpointBy, err_from_is_err_and}
+use Rattle.fbl_play.proofs.Common.{Column, go_on_to, ColumnsStep, HistoryStep, HistoryTells, HistoryTellsOn, IsHistoryOfBytes, RunHistory, DeliveryBy, StrikeBy, CheckpointBy, err_from_is_err_and}
 use Rattle.fbl_play.proofs.Common.{IsRun}
 use Rattle.fbl_input.specs.declared.fault.RunFault.TheVariants as faults
 use Rattle.fbl_script.specs.declared.script.Command.TheVariants as commands
@@ -45,11 +45,11 @@ module _ {O : Type 0} (before : O → Command → O → Type 0) (after : O → C
   -- the commands before a place have led here from a new group of the config, with this history, and were told of
   pub record HasHistory (next : Next ℕ Note) (workers : ℕ) (config : Settings Note) (cs : List Command) (place : ℕ) (now : GroupRecord ℕ Note) (history : List Column) (old told : O) : Type 0 where
     pub accounts : List CommandAccount
-    pub run : IsRun next config (trace_columns next) (ColumnsStep next workers) (take place cs) accounts now history
+    pub run : IsRun next config (go_on_to next []) (ColumnsStep next workers) (take place cs) accounts now history
     pub heard : IsTold before after (take place cs) accounts old told
 
   pub has_none : (next : Next ℕ Note) (workers : ℕ) (config : Settings Note) (start : GroupRecord ℕ Note) (cs : List Command) (history : List Column) (old : O)
-      → IsGroupStart next config start → IsSound next start → history ≡ trace_columns next start → HasHistory next workers config cs 0 start history old old
+      → IsGroupStart next config start → IsSound next start → history ≡ go_on_to next [] start → HasHistory next workers config cs 0 start history old old
   has_none next workers config start cs history old is sound begins = record { accounts = []; run = (start, is, sound, (λ i. (start, begins i))); heard = refl }
 
   module _ {next : Next ℕ Note} {workers : ℕ} {config : Settings Note} {cs : List Command} {i : ℕ} {mid : GroupRecord ℕ Note} {history : List Column} {old told : O}
@@ -71,7 +71,7 @@ module _ {O : Type 0} (before : O → Command → O → Type 0) (after : O → C
           → HistoryStep next mid.down d account new history later → after begun d account last → HasHistory next workers config cs (i + 1) new later old last
       history_more new account line later last step sound follows ends = record {
         accounts = h.accounts ++ account ∷ [];
-        run = run_on (trace_columns next) (ColumnsStep next workers) cs i d h.accounts account mid new history later within at (line, step, sound, follows) h.run;
+        run = run_on (go_on_to next []) (ColumnsStep next workers) cs i d h.accounts account mid new history later within at (line, step, sound, follows) h.run;
         heard = told_next before after cs i d h.accounts account old told begun last within at h.heard first ends;
       }
 

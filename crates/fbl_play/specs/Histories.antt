@@ -9,8 +9,7 @@ use Rattle.fbl_explain.specs.declared.account.CommandAccount.{CommandAccount}
 use Rattle.fbl_explain.specs.declared.account.CommandAccount.TheVariants.{Refused}
 use Rattle.fbl_history.specs.declared.column.Column.{Column}
 use Rattle.fbl_history.specs.declared.column.Column.TheVariants as columns
-use Rattle.fbl_history.specs.Columns.{go_on}
-use Rattle.fbl_history.specs.Traces.{trace_columns, IsAfterRecovery}
+use Rattle.fbl_history.specs.Traces.{go_on_to, IsAfterRecovery}
 use Rattle.fbl_input.specs.declared.fault.RunFault.{RunFault}
 use Rattle.fbl_input.specs.declared.fault.RunFault.TheVariants as faults
 use Rattle.fbl_law.specs.Groups.{GroupRecord}
@@ -23,10 +22,10 @@ use Rattle.fbl_play.specs.Runs.{IsRun, Step, next_of}
 use Rattle.fbl_play.specs.Telling.{IsTold, IsToldUpTo}
 
 -- the history after a command that was not refused, before which these members were down, and which left the group like this:
--- it goes on to the trace after a delivery or a run, and has a column of a strike, a recovery or a checkpoint
+-- it goes on to the group after a delivery or a run, and has a column of a strike, a recovery or a checkpoint
 abbrev pub IsAfterCommand : Next ℕ Note → Members → Command → GroupRecord ℕ Note → List Column → List Column → Type 0
-IsAfterCommand next down (commands.Deliver to from) r old new = new ≡ go_on old (trace_columns next r)
-IsAfterCommand next down (commands.Run plan) r old new = new ≡ go_on old (trace_columns next r)
+IsAfterCommand next down (commands.Deliver to from) r old new = new ≡ go_on_to next old r
+IsAfterCommand next down (commands.Run plan) r old new = new ≡ go_on_to next old r
 IsAfterCommand next down (commands.Strike struck) r old new = new ≡ old ++ columns.Strike struck ∷ []
 IsAfterCommand next down commands.Recover r old new = IsAfterRecovery next r down old new
 IsAfterCommand next down (commands.Checkpoint p) r old new = new ≡ old ++ columns.Checkpoint p ∷ []
@@ -44,7 +43,7 @@ ColumnsStep next workers old c account new =
 
 -- some run of the commands, from a new group of this config, has these accounts and this history; each record of the run is sound
 abbrev pub IsHistoryOf : Next ℕ Note → ℕ → Settings Note → List Command → List CommandAccount → List Column → Type 0
-IsHistoryOf next workers config commands accounts history = (end : GroupRecord ℕ Note) × IsRun next config (trace_columns next) (ColumnsStep next workers) commands accounts end history
+IsHistoryOf next workers config commands accounts history = (end : GroupRecord ℕ Note) × IsRun next config (go_on_to next []) (ColumnsStep next workers) commands accounts end history
 
 -- the first so many commands had this history, and one at least is left
 abbrev pub IsHistoryUpTo : Next ℕ Note → ℕ → Settings Note → List Command → ℕ → List CommandAccount → Type 0

@@ -35,7 +35,7 @@ pub use Rattle.fbl_play.specs.Telling.{IsTold, Tells}
 pub use Rattle.fbl_play.specs.declared.histories.RunHistory.{RunHistory}
 pub use Rattle.fbl_script.specs.Scripts.{IsScriptOf, Outline, behaviour_word, outline_of}
 pub use Rattle.fbl_script.specs.declared.script.Command.{Command}
-pub use Rattle.fbl_show.specs.HistoryPictures.{history_picture}
+pub use Rattle.fbl_pictures.specs.HistoryPictures.{history_picture}
 pub use Rattle.fblrun.specs.CommandLines.{IsRefusedFor, IsRequestAt, IsRequestOf, Names, given_in, input_rule, output_rule}
 pub use Rattle.fblrun.specs.CommandLines.{IsCommandLine, IsOrderAt, audit_line, check_line, draw_line, flag_text, is_audit, is_check, is_draw, is_play, is_show, is_show_workers, is_workers}
 pub use Rattle.fblrun.specs.CommandLines.{order_for, play_line, program, show_line, with_explain, with_strict}

@@ -5,7 +5,7 @@ use Rattle.std.specs.Io.KnownBytes.{Keeps}
 use Rattle.fbl_base.specs.Configs.{WorkersAllowed}
 use Rattle.fbl_input.specs.declared.fault.RunFault.{RunFault}
 use Rattle.fbl_input.specs.Faults.{FailsToRead}
-use Rattle.fbl_draw.specs.Drawing.{Draws}
+use Rattle.fbl_pictures.specs.Drawing.{Draws}
 use Rattle.fbl_dump.specs.Auditing.{Audits}
 use Rattle.fbl_dump.specs.Checking.{Checks}
 use Rattle.fbl_dump.specs.declared.checking.Verdict.TheVariants.{Safe, Unsafe}

@@ -9,7 +9,7 @@ use Rattle.fbl_input.specs.Faults.{PutsOut}
 use Rattle.fbl_play.specs.Histories.{IsHistoryOf}
 use Rattle.fbl_play.specs.Runs.{next_of}
 use Rattle.fbl_script.specs.Scripts.{Outline, IsScriptFault, IsScriptOf, behaviour_word}
-use Rattle.fbl_show.specs.HistoryPictures.{history_picture}
+use Rattle.fbl_pictures.specs.HistoryPictures.{history_picture}
 
 -- the text is the picture of a history of the script that the input spells, where so many workers make its runs
 abbrev pub IsShown : ℕ → List ℕ → List ℕ → Type 0

@@ -15,7 +15,7 @@ mod telling;
 
 use clap::error::ErrorKind;
 use command_line::{Misuse, Request, request_of};
-use fbl_draw::draw_bytes;
+use fbl_pictures::draw_bytes;
 use fbl_dump::{Verdict, audit_bytes, check_bytes};
 use fbl_input::{RunFault, read_input};
 use fbl_play::play_observed;

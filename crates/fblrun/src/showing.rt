@@ -3,13 +3,13 @@
 ghost use Rattle.std.specs.Prelude.{◌≡◌, ◌≤◌};
 ghost use Rattle.fbl_base.specs.Configs.{WorkersAllowed};
 ghost use Rattle.fbl_script.specs.Scripts.{behaviour_word};
-ghost use Rattle.fbl_show.specs.HistoryPictures.{history_picture};
+ghost use Rattle.fbl_pictures.specs.HistoryPictures.{history_picture};
 ghost use Rattle.fblrun.specs.Showing.{Shows};
 ghost use Rattle.fbl_input.specs.Faults.{PutsOut};
 
 use fbl_input::{RunFault, put};
 use fbl_play::{Observer, RunHistory, history_observed};
-use fbl_show::show_text;
+use fbl_pictures::show_text;
 use std::alloc::Global;
 use std::io::Write;
 use std::sync::Wait;

@@ -106,7 +106,7 @@ fn two_members_are_struck_one_after_the_other(rt: HostRuntime) -> Result<(), Fai
 }
 
 #[test]
-fn workers_make_what_the_trace_has(rt: HostRuntime) -> Result<(), Fail> {
+fn workers_make_what_the_trace_has_and_a_total(rt: HostRuntime) -> Result<(), Fail> {
     let script =
         r#"{"version":1,"members":3,"f":1,"behaviour":"relay","start":[[0,1,5,1]],"commands":[["run",[[1,[1]]]]]}"#;
     let columns = [
@@ -114,6 +114,8 @@ fn workers_make_what_the_trace_has(rt: HostRuntime) -> Result<(), Fail> {
         receives(1, 1, 0, 1, 5, false),
         sends(1, 1, 2, false),
         receives(2, 1, 1, 1, 5, false),
+        // the first receipt was lost and made again
+        Column::ReceiptsMade(3),
     ];
     assert!(rt; has_columns(&rt, rt.alloc(), script, columns.as_slice())?);
     Ok(())

@@ -1,7 +1,7 @@
 //! Pictures of dumps, over readers and writers that fail.
 
 use super::dumps::{LOST, stopped_at};
-use fbl_draw::{draw, draw_bytes};
+use fbl_pictures::{draw, draw_bytes};
 use fbl_fixtures::{FailedWrite, Page, UnsteadyReader, UnsteadyWriter};
 use fbl_input::RunFault;
 use std::test::Fail;

@@ -1,5 +1,10 @@
-use Rattle.fbl_history.proofs.Standing.{standing_is_trace}
+use Rattle.fbl_history.proofs.Counting.{totals_counted}
+use Rattle.fbl_history.proofs.Standing.{nothing_comes_back, standing_is_trace}
 use Rattle.fbl_history.proofs.laws.going_on_law.Goals as goal
 
-pub returns-clause-standing : goal.returns-clause-standing
-returns-clause-standing c = standing_is_trace
+pub returns : goal.returns
+returns c = record {
+  standing = standing_is_trace;
+  nothing_comes_back = nothing_comes_back;
+  totals = totals_counted;
+}

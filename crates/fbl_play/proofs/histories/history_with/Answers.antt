@@ -4,7 +4,7 @@ use Rattle.fbl_play.proofs.HistoryRuns.{has_none, history_all, history_more, his
 use Rattle.fbl_play.proofs.histories.history_with.Goals as goal
 
 pub loop-command-init : goal.loop-command-init
-loop-command-init g c = has_none _ _ _ _ _ _ _ _ _ c.in_ok-group.ensures c.recoverable.ensures.sound c.in_ok-history.ensures
+loop-command-init g c = has_none _ _ _ _ _ _ _ _ _ c.in_ok-group.ensures c.recoverable.ensures.sound c.in_ok-history.ensures.columns
 
 pub returns-in_err-group : goal.returns-in_err-group
 returns-in_err-group g c = (let e = err_from_is_err_and c.from_residual.result c.from_residual.ensures.1 in rw (e.1, e.2) (inl refl))

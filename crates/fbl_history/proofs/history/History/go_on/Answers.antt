@@ -1,14 +1,18 @@
-use Rattle.fbl_history.proofs.Common.{List, ◌++◌, drop, sym, ap, ◌∙◌, Column, go_on, trace_columns, Ok, YieldsList-at, YieldsList-from_skip, YieldsList-from_vec, items_from_extend}
-use Rattle.fbl_history.proofs.Common.{AllocError}
+use Rattle.fbl_history.proofs.Common.{sym, ap, subst, ◌∙◌, CountsReceipts, ReceiptsFollowSends, go_on_to, with_total}
+use Rattle.fbl_history.proofs.Counting.{totals_counted}
+use Rattle.fbl_history.proofs.Sends.{follow_on}
 use Rattle.fbl_history.proofs.history.History.go_on.Goals as goal
+
+pub invariant_of-result : goal.invariant_of-result
+invariant_of-result g c =
+    let gone = c.in_ok-add_total.ensures ∙ (λ i. with_total (c.receipts_ever.ensures i) (c.in_ok-follow_trace.ensures i)) in
+    subst ReceiptsFollowSends (sym gone) (follow_on g.B.Behaviour.next c.args.group.now c.self.inside.columns.items c.recoverable.ensures.sound c.self.invariant)
 
 pub returns : goal.returns
 returns g c =
-    let source = YieldsList-from_vec c.in_ok-trace.trace.items c.into_iter.ensures.rest (c.into_iter.ensures.len ∙ c.in_ok-trace.trace.ok.0) in
-    let left = YieldsList-from_skip c.undo_others-kept.result (YieldsList-at c.skip.ensures.source source) c.skip.ensures.count in
-    let made = items_from_extend {E = AllocError} (Ok c.in_ok-extend.field-0) c.in_ok-extend.ensures.ran left in
-    made.0
-    ∙ ap (λ (xs : List Column). c.undo_others-kept.new.columns.items ++ drop c.undo_others-kept.result xs) (sym c.as_slice.ensures.value)
-    ∙ c.undo_others-kept.ensures.undone
-    ∙ ap (λ (xs : List Column). go_on c.self.inside.columns.items xs) (c.as_slice.ensures.value ∙ c.in_ok-trace.ensures)
-    ∙ ap (λ (xs : List Column). go_on xs (trace_columns g.B.Behaviour.next c.args.group.now)) c.self.view_is
+    let gone = c.in_ok-add_total.ensures ∙ (λ i. with_total (c.receipts_ever.ensures i) (c.in_ok-follow_trace.ensures i)) in
+    let columns = gone ∙ ap (λ xs. go_on_to g.B.Behaviour.next xs c.args.group.now) c.self.view_is in
+    record {
+      columns = columns;
+      counted = subst (CountsReceipts c.args.group.now) (sym columns) (totals_counted g.B.Behaviour.next c.args.group.now c.args.self c.recoverable.ensures.sound);
+    }

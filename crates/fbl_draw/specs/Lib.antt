@@ -1,6 +1,0 @@
-pub mod Receipts
-pub mod Events
-pub mod Members
-pub mod Paths
-pub mod Pictures
-pub mod Drawing

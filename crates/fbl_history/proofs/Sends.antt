@@ -1,0 +1,145 @@
+-- In a history each receipt comes after a send of its message.
+use Rattle.fbl_base.specs.declared.trace.Note.{Note}
+use Rattle.fbl_base.specs.declared.trace.Event.TheVariants as event
+use Rattle.fbl_base.specs.declared.trace.Mark.TheVariants as mark
+use Rattle.fbl_history.proofs.Common.{◌≡◌, ◌==◌, ◌+◌, ◌<◌, ◌⊎◌, ℕ, zero, suc, Bool, true, false, cond, inl, inr, List, [], ◌∷◌, ◌++◌, map, drop, Some, slice_get, refl, ap, sym, ◌∙◌, arith, filter, At-front, At-push}
+use Rattle.fbl_history.proofs.Common.{Event, mark_of, Next, GroupRecord, marks, IsSound, mark-at, send-at, sent-before, map-At, slice_get-map, option_map}
+use Rattle.fbl_history.proofs.Common.{Column, Send, Receipt, ReceiptsMade, ReceiptsFollowSends, column_then, event_column, go_on, go_on_to, is_next, is_receipt, is_standing, receipts_made, standing, trace_columns, trace_then, undo}
+use Rattle.fbl_history.proofs.Standing.{columns_stand, standing_trace}
+
+-- what stands at a place is left by a test at some place, behind what is left before it
+left-at : (p : Column → Bool) (columns : List Column) (place : ℕ) (c : Column) → slice_get columns place ≡ Some c → p c ≡ true
+    → (j : ℕ) × (slice_get (filter p columns) j ≡ Some c)
+    × ((i : ℕ) (d : Column) → i < j → slice_get (filter p columns) i ≡ Some d → (k : ℕ) × (k < place) × (slice_get columns k ≡ Some d))
+left-at p [] place c at passes = absurd cc
+left-at p (x ∷ columns) zero c at passes =
+    let same : x ≡ c = cc in
+    let here : p x ≡ true = ap p same ∙ passes in
+    (0, rw here at, λ i d before. absurd (omega (arith, before)))
+left-at p (x ∷ columns) (suc place) c at passes = by (p x) refl (left-at p columns place c at passes) where
+  by : (b : Bool) → p x ≡ b
+      → (j : ℕ) × (slice_get (filter p columns) j ≡ Some c) × ((i : ℕ) (d : Column) → i < j → slice_get (filter p columns) i ≡ Some d → (k : ℕ) × (k < place) × (slice_get columns k ≡ Some d))
+      → (j : ℕ) × (slice_get (filter p (x ∷ columns)) j ≡ Some c)
+      × ((i : ℕ) (d : Column) → i < j → slice_get (filter p (x ∷ columns)) i ≡ Some d → (k : ℕ) × (k < suc place) × (slice_get (x ∷ columns) k ≡ Some d))
+  by true is rest = (suc rest.0, rw is rest.1, λ i d before at. earlier i d before (rw is at at)) where
+    earlier : (i : ℕ) (d : Column) → i < suc rest.0 → slice_get (x ∷ filter p columns) i ≡ Some d → (k : ℕ) × (k < suc place) × (slice_get (x ∷ columns) k ≡ Some d)
+    earlier zero d before at = (0, omega arith, at)
+    earlier (suc i) d before at = (let found = rest.2 i d (omega (arith, before)) at in (suc found.0, omega (arith, found.1), found.2))
+  by false is rest = (rest.0, rw is rest.1, λ i d before at. (let found = rest.2 i d before (rw is at at) in (suc found.0, omega (arith, found.1), found.2)))
+
+-- what does not stand in what a history goes on to was there, undone or not
+abbrev WasThere : List Column → ℕ → Column → Type 0
+WasThere columns place c = (old : Column) × (slice_get columns place ≡ Some old) × ((c ≡ old) ⊎ (c ≡ undo old))
+
+-- a column of the history is at its place behind, undone or not
+abbrev IsThere : List Column → ℕ → Column → Type 0
+IsThere columns place c = (new : Column) × (slice_get columns place ≡ Some new) × ((new ≡ c) ⊎ (new ≡ undo c))
+
+-- each column of the list stands
+abbrev AllStand : List Column → Type 0
+AllStand trace = (i : ℕ) (c : Column) → slice_get trace i ≡ Some c → is_standing c ≡ true
+
+then-or-undo : (column : Column) (trace : List Column) → (column_then column trace ≡ column) ⊎ (column_then column trace ≡ undo column)
+then-or-undo column trace = grind arith
+
+all-then : (column : Column) (trace : List Column) → AllStand trace → AllStand (trace_then column trace)
+all-then column [] all i c at = elim (is_next column []) as (λ b. slice_get (cond b (drop 1 []) []) i ≡ Some c → is_standing c ≡ true) [ true ↦ all i c | false ↦ all i c ] at
+all-then column (x ∷ trace) all i c at =
+    elim (is_next column (x ∷ trace)) as (λ b. slice_get (cond b (drop 1 (x ∷ trace)) (x ∷ trace)) i ≡ Some c → is_standing c ≡ true) [ true ↦ all (suc i) c | false ↦ all i c ] at
+
+was_there : (columns trace : List Column) → AllStand trace → (place : ℕ) (c : Column) → slice_get (go_on columns trace) place ≡ Some c → is_standing c ≡ false → WasThere columns place c
+was_there [] trace all place c at lies = (let stands = all place c at in absurd cc)
+was_there (column ∷ columns) trace all zero c at lies =
+    let same : column_then column trace ≡ c = cc in
+    elim (then-or-undo column trace) [
+      | inl kept ↦ (column, refl, inl (sym same ∙ kept))
+      | inr gone ↦ (column, refl, inr (sym same ∙ gone))
+    ]
+was_there (column ∷ columns) trace all (suc place) c at lies = was_there columns (trace_then column trace) (all-then column trace all) place c at lies
+
+is_there : (columns trace : List Column) (place : ℕ) (c : Column) → slice_get columns place ≡ Some c → IsThere (go_on columns trace) place c
+is_there [] trace place c at = absurd cc
+is_there (column ∷ columns) trace zero c at =
+    let same : column ≡ c = cc in
+    elim (then-or-undo column trace) [
+      | inl kept ↦ (column_then column trace, refl, inl (kept ∙ same))
+      | inr gone ↦ (column_then column trace, refl, inr (gone ∙ ap undo same))
+    ]
+is_there (column ∷ columns) trace (suc place) c at = is_there columns (trace_then column trace) place c at
+
+-- an event is of the same message whether it is undone or not
+undone-receipt : (old : Column) (to rsn from ssn state : ℕ) → (Receipt to rsn from ssn state true ≡ old) ⊎ (Receipt to rsn from ssn state true ≡ undo old)
+    → (undone : Bool) × (old ≡ Receipt to rsn from ssn state undone)
+undone-receipt old to rsn from ssn state (inl same) = (true, sym same)
+undone-receipt (Receipt p r q k s u) to rsn from ssn state (inr same) = (u, cc)
+undone-receipt (Send q k p u) to rsn from ssn state (inr same) = absurd cc
+undone-receipt _ to rsn from ssn state (inr same) = absurd cc
+
+still-send : (new : Column) (from ssn to : ℕ) (gone : Bool) → (new ≡ Send from ssn to gone) ⊎ (new ≡ undo (Send from ssn to gone)) → (now : Bool) × (new ≡ Send from ssn to now)
+still-send new from ssn to gone (inl same) = (gone, same)
+still-send new from ssn to gone (inr same) = (true, same)
+
+-- ---- traces
+
+all-stand : (next : Next ℕ Note) (n : ℕ) (trace events : List (Event Note)) → AllStand (map (event_column next n trace) events)
+all-stand next n trace events i c at = stands (found.0) found.2 where
+  found : (e : Event Note) × (slice_get events i ≡ Some e) × (event_column next n trace e ≡ c)
+  found = map-At (event_column next n trace) events i c at
+
+  stands : (e : Event Note) → event_column next n trace e ≡ c → is_standing c ≡ true
+  stands (event.Send q k p note) is = ap is_standing (sym is)
+  stands (event.Receipt p r q k) is = ap is_standing (sym is)
+
+-- a receipt of a sound group's trace is behind its send
+sent-in-trace : (next : Next ℕ Note) (r : GroupRecord ℕ Note) → IsSound next r → (j to rsn from ssn state : ℕ) (undone : Bool)
+    → slice_get (trace_columns next r) j ≡ Some (Receipt to rsn from ssn state undone)
+    → (i : ℕ) × (i < j) × (slice_get (trace_columns next r) i ≡ Some (Send from ssn to false))
+sent-in-trace next r sound j to rsn from ssn state undone at =
+    let found = map-At (event_column next r.config.members r.trace) r.trace j (Receipt to rsn from ssn state undone) at in
+    let same : mark_of found.0 ≡ mark.Receipt to rsn from ssn = is-mark found.0 found.2 in
+    let here = mark-at r.trace j found.0 found.1 ∙ ap (λ m. Some m) same in
+    let sent = sent-before r.config.members (marks r) sound.lawful.well_formed j to rsn from ssn here in
+    let send = send-at r.trace sent.0 from ssn to sent.2 in
+    (sent.0, sent.1, slice_get-map (event_column next r.config.members r.trace) r.trace sent.0 ∙ ap (option_map (event_column next r.config.members r.trace)) send.1) where
+      is-mark : (e : Event Note) → event_column next r.config.members r.trace e ≡ Receipt to rsn from ssn state undone → mark_of e ≡ mark.Receipt to rsn from ssn
+      is-mark (event.Send q k p note) is = absurd cc
+      is-mark (event.Receipt p x q k) is = cc
+
+-- ---- histories
+
+pub follow_none : ReceiptsFollowSends []
+follow_none place to rsn from ssn state undone at = absurd cc
+
+-- a column that is no receipt, behind the others
+pub follow_push : (columns : List Column) (c : Column) → is_receipt c ≡ false → ReceiptsFollowSends columns → ReceiptsFollowSends (columns ++ c ∷ [])
+follow_push columns c other follow place to rsn from ssn state undone at = elim (At-push columns c place (Receipt to rsn from ssn state undone) at) [
+  | inl old ↦ (let sent = follow place to rsn from ssn state undone old in (sent.0, sent.1, sent.2, At-front columns (c ∷ []) sent.0 (Send from ssn to sent.2) sent.3))
+  | inr new ↦ (let clash : is_receipt (Receipt to rsn from ssn state undone) ≡ false = ap is_receipt (sym new.1) ∙ other in absurd cc)
+]
+
+follow-trace : (next : Next ℕ Note) (r : GroupRecord ℕ Note) (columns : List Column) → IsSound next r → ReceiptsFollowSends columns
+    → ReceiptsFollowSends (go_on columns (trace_columns next r))
+follow-trace next r columns sound follow place to rsn from ssn state false at =
+    let gone = go_on columns (trace_columns next r) in
+    let left = left-at is_standing gone place (Receipt to rsn from ssn state false) at refl in
+    let is : standing gone ≡ trace_columns next r = standing_trace columns (trace_columns next r) (columns_stand next r.config.members r.trace r.trace) in
+    let sent = sent-in-trace next r sound left.0 to rsn from ssn state false (ap (λ t. slice_get t left.0) (sym is) ∙ left.1) in
+    let found = left.2 sent.0 (Send from ssn to false) sent.1 (ap (λ t. slice_get t sent.0) is ∙ sent.2) in
+    (found.0, found.1, false, found.2)
+follow-trace next r columns sound follow place to rsn from ssn state true at =
+    let trace = trace_columns next r in
+    let was = was_there columns trace (all-stand next r.config.members r.trace r.trace) place (Receipt to rsn from ssn state true) at refl in
+    let old = undone-receipt was.0 to rsn from ssn state was.2 in
+    let sent = follow place to rsn from ssn state old.0 (was.1 ∙ ap (λ c. Some c) old.1) in
+    let there = is_there columns trace sent.0 (Send from ssn to sent.2) sent.3 in
+    let now = still-send there.0 from ssn to sent.2 there.2 in
+    (sent.0, sent.1, now.0, there.1 ∙ ap (λ c. Some c) now.1)
+
+pub follow_on : (next : Next ℕ Note) (r : GroupRecord ℕ Note) (columns : List Column) → IsSound next r → ReceiptsFollowSends columns → ReceiptsFollowSends (go_on_to next columns r)
+follow_on next r columns sound follow =
+    let gone = go_on columns (trace_columns next r) in
+    let after = follow-trace next r columns sound follow in
+    elim (receipts_made gone == r.receipts_ever) as (λ b. ReceiptsFollowSends (cond b gone (gone ++ ReceiptsMade r.receipts_ever ∷ []))) [
+      | true ↦ after
+      | false ↦ follow_push gone (ReceiptsMade r.receipts_ever) refl after
+    ]

@@ -1,0 +1,10 @@
+pub mod Common
+pub mod Steps
+pub mod Indexing
+pub mod Rows
+pub mod Filtering
+pub mod Lasts
+pub mod MembersApart
+pub mod EventLaws
+pub mod ArrowLaws
+pub mod LineLaws

@@ -1,0 +1,11 @@
+use Rattle.fbl_pictures.proofs.ArrowLaws.{has_arrow_from_its_send}
+use Rattle.fbl_pictures.proofs.EventLaws.{marks_each_event}
+use Rattle.fbl_pictures.proofs.LineLaws.{is_dashed_while_down}
+use Rattle.fbl_pictures.proofs.laws.history_law.Goals as goal
+
+pub returns : goal.returns
+returns c = record {
+  events = marks_each_event c.args.members c.args.history.now;
+  messages = has_arrow_from_its_send c.args.members c.args.history.now c.columns.ensures.sends;
+  lines = is_dashed_while_down c.args.members c.args.history.now;
+}

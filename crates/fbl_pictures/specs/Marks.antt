@@ -1,0 +1,99 @@
+-- The texts of marks. A mark is one element, whose title says what it stands for.
+use Rattle.std.specs.Prelude.{ℕ, ◌+◌, ◌-◌, ◌*◌, Bool, true, false, List, [], ◌∷◌, ◌++◌, length, nat_lt, codes, decimal}
+use Rattle.std.specs.Ordering.{nat_cmp}
+use Rattle.std.specs.FinSet as set
+use Rattle.fbl_base.specs.declared.trace.Determinant.{Determinant}
+use Rattle.fbl_lines.specs.Lines.{line}
+use Rattle.fbl_lines.specs.Sets.{set_words}
+use Rattle.fbl_pictures.specs.declared.shape.Kind.{Kind}
+use Rattle.fbl_pictures.specs.declared.shape.Kind.TheVariants.{Stable, Recorded, Lost}
+use Rattle.fbl_pictures.specs.Places.{below, x, y}
+use Rattle.fbl_pictures.specs.Words.{gone_class, kind_class, receipts_word, undone_class, undone_words}
+
+-- the pieces one after another
+abbrev pub joined : List (List ℕ) → List ℕ
+joined [] = []
+joined (piece ∷ []) = piece
+joined (piece ∷ next ∷ pieces) = piece ++ joined (next ∷ pieces)
+
+-- the stroke behind the number of an undone event: wider than so many characters
+unfoldable pub stroke : ℕ → ℕ → Bool → ℕ → List ℕ
+stroke x y false characters = []
+stroke x y true characters =
+    line (codes "<path class='crossed number' d='M" ∷ decimal (x - (4 * characters + 4)) ∷ codes " " ∷ decimal (y + 1) ∷ codes "l" ∷ decimal (8 * characters + 8) ∷ codes " -9'/>" ∷ [])
+
+-- a number beside a mark, with its middle at this point, struck out where what it numbers was undone: the stroke is behind it
+unfoldable pub number : ℕ → ℕ → Bool → List ℕ → List ℕ
+number x y undone words =
+    stroke x y undone (length words)
+    ++ line (codes "<text class='at" ∷ gone_class undone ∷ codes "' x='" ∷ decimal x ∷ codes "' y='" ∷ decimal y ∷ codes "'>" ∷ words ∷ codes "</text>" ∷ [])
+
+-- the cross over the mark of an undone event
+unfoldable pub cross : ℕ → ℕ → Bool → List ℕ
+cross column member false = []
+cross column member true =
+    line (codes "<path class='crossed' d='M" ∷ decimal (x column - 9) ∷ codes " " ∷ decimal (y member + 9) ∷ codes "l18 -18'/>" ∷ [])
+
+-- a send: a circle on its sender's line, with its number above
+unfoldable pub drawn_send : ℕ → ℕ → ℕ → ℕ → Bool → List ℕ
+drawn_send column from ssn to undone =
+    joined (codes "<circle class='send" ∷ undone_class undone ∷ codes "' cx='" ∷ decimal (x column) ∷ codes "' cy='" ∷ decimal (y from) ∷ codes "' r='5'><title>" ∷ [])
+    ++ line (codes "member " ∷ decimal from ∷ codes " sends its message " ∷ decimal ssn ∷ codes " to " ∷ decimal to ∷ undone_words undone ∷ codes "</title></circle>" ∷ [])
+    ++ cross column from undone
+    ++ number (x column) (y from - 11) undone (decimal ssn)
+
+-- what names a receipt, in a title
+unfoldable pub receipt_words : Determinant → List ℕ
+receipt_words d =
+    joined (codes "<title>member " ∷ decimal d.to ∷ codes " receipt " ∷ decimal d.rsn ∷ codes ": message " ∷ decimal d.ssn ∷ codes " of " ∷ decimal d.from ∷ [])
+
+-- a state of five digits or more is long
+abbrev pub is_long : ℕ → Bool
+is_long state = nat_lt 9999 state
+
+-- a receipt of a history: a square on its receiver's line, below it its number, and under that the state after it
+unfoldable pub drawn_receipt : ℕ → Determinant → ℕ → Bool → List ℕ
+drawn_receipt column d state undone =
+    joined (codes "<rect class='receipt" ∷ undone_class undone ∷ codes "' x='" ∷ decimal (x column - 7) ∷ codes "' y='" ∷ decimal (y d.to - 7) ∷ codes "' width='14' height='14'>" ∷ [])
+    ++ receipt_words d
+    ++ line (codes ", state " ∷ decimal state ∷ undone_words undone ∷ codes "</title></rect>" ∷ [])
+    ++ cross column d.to undone
+    ++ number (x column) (y d.to + 20) undone (decimal d.rsn)
+    ++ number (x column) (below column d.to (is_long state)) undone (decimal state)
+
+-- the outline of the mark of a receipt of a dump: a square where it is stable, a rhomb where it is recorded, and else two
+-- strokes, one across the other
+abbrev pub drawn_outline : Kind → List ℕ
+drawn_outline Stable = codes "m-7 -7h14v14h-14z"
+drawn_outline Recorded = codes "m-8 0l8 -8l8 8l-8 8z"
+drawn_outline Lost = codes "m-7 -7l14 14m0 -14l-14 14"
+
+-- a receipt of a dump: its outline on its receiver's line, with its number below
+unfoldable pub drawn_held_receipt : ℕ → Determinant → Kind → set.FinSet nat_cmp → List ℕ
+drawn_held_receipt column d kind holders =
+    joined (codes "<path class='" ∷ kind_class kind ∷ codes "' d='M" ∷ decimal (x column) ∷ codes " " ∷ decimal (y d.to) ∷ drawn_outline kind ∷ codes "'>" ∷ [])
+    ++ receipt_words d
+    ++ line (codes ", held by " ∷ set_words holders ∷ codes "</title></path>" ∷ [])
+    ++ number (x column) (y d.to + 20) false (decimal d.rsn)
+
+-- a strike: a bolt on the line of a member that it strikes
+unfoldable pub drawn_strike : ℕ → ℕ → List ℕ
+drawn_strike column member =
+    line (codes "<path class='strike' d='M" ∷ decimal (x column + 3) ∷ codes " " ∷ decimal (y member - 13) ∷ codes "l-10 14h6l-3 12l11 -16h-7z'><title>member " ∷ decimal member ∷ codes " is struck</title></path>" ∷ [])
+
+-- a recovery: a triangle on the line of a member that it brings back, with how many receipts were replayed below
+unfoldable pub drawn_recovery : ℕ → ℕ → ℕ → List ℕ
+drawn_recovery column member receipts =
+    joined (codes "<path class='recovery' d='M" ∷ decimal (x column) ∷ codes " " ∷ decimal (y member - 9) ∷ codes "l9 16h-18z'><title>member " ∷ decimal member ∷ codes " is recovered, " ∷ [])
+    ++ line (decimal receipts ∷ codes " " ∷ receipts_word receipts ∷ codes " replayed</title></path>" ∷ [])
+    ++ number (x column) (below column member true) false (joined (codes "replays " ∷ decimal receipts ∷ []))
+
+-- a checkpoint: a bar across its member's line
+unfoldable pub drawn_checkpoint : ℕ → ℕ → List ℕ
+drawn_checkpoint column member =
+    line (codes "<rect class='checkpoint' x='" ∷ decimal (x column - 2) ∷ codes "' y='" ∷ decimal (y member - 10) ∷ codes "' width='5' height='20'><title>checkpoint of member " ∷ decimal member ∷ codes "</title></rect>" ∷ [])
+
+-- receipts that have no column, since a run both made and undid them: how many, above the members' lines
+unfoldable pub drawn_made_and_undone : ℕ → ℕ → List ℕ
+drawn_made_and_undone column receipts =
+    line (codes "<text class='at' x='" ∷ decimal (x column) ∷ codes "' y='46'><title>" ∷ decimal receipts ∷ codes " " ∷ receipts_word receipts ∷ codes " made and undone by a run, without a column</title>" ∷ decimal receipts ∷ codes " undone</text>" ∷ [])

@@ -1,0 +1,68 @@
+-- A picture: a frame with a heading and a legend, and in it the texts of shapes.
+use Rattle.std.specs.Prelude.{ℕ, ◌-◌, List, [], ◌∷◌, ◌++◌, codes, decimal}
+use Rattle.std.specs.List.{flat_map}
+use Rattle.fbl_lines.specs.Lines.{line}
+use Rattle.fbl_pictures.specs.declared.look.TheConstants.{DUMP_LEGEND, HISTORY_LEGEND, LOOK}
+use Rattle.fbl_pictures.specs.declared.shape.Legend.{Legend}
+use Rattle.fbl_pictures.specs.declared.shape.Legend.TheVariants as legend
+use Rattle.fbl_pictures.specs.declared.shape.Shape.{Shape}
+use Rattle.fbl_pictures.specs.declared.shape.Shape.TheVariants.{Label, Name, Line, Arrow, InFlight, Send, Receipt, Held, Strike, Recovery, Checkpoint, MadeAndUndone}
+use Rattle.fbl_pictures.specs.Lines.{drawn_arrow, drawn_in_flight, drawn_label, drawn_line, drawn_name}
+use Rattle.fbl_pictures.specs.Marks.{drawn_checkpoint, drawn_held_receipt, drawn_made_and_undone, drawn_receipt, drawn_recovery, drawn_send, drawn_strike}
+use Rattle.fbl_pictures.specs.Places.{height, width, y}
+
+-- the text of a shape
+abbrev pub text_of : Shape → List ℕ
+text_of (Label member status) = drawn_label member status
+text_of (Name column member) = drawn_name column member
+text_of (Line member start end kind) = drawn_line member start end kind
+text_of (Arrow from sent to received kind) = drawn_arrow from sent to received kind
+text_of (InFlight from sent to again) = drawn_in_flight from sent to again
+text_of (Send column from ssn to undone) = drawn_send column from ssn to undone
+text_of (Receipt column determinant state undone) = drawn_receipt column determinant state undone
+text_of (Held column determinant kind holders) = drawn_held_receipt column determinant kind holders
+text_of (Strike column member) = drawn_strike column member
+text_of (Recovery column member receipts) = drawn_recovery column member receipts
+text_of (Checkpoint column member) = drawn_checkpoint column member
+text_of (MadeAndUndone column receipts) = drawn_made_and_undone column receipts
+
+-- how each kind of shape is drawn, in light and in dark: the style, and the tips of arrows
+unfoldable pub look : List ℕ
+look = LOOK.now
+
+-- the start of a picture, as wide and as high as this
+unfoldable pub opening : ℕ → ℕ → List ℕ
+opening width height =
+    line (codes "<svg class='fbl' xmlns='http://www.w3.org/2000/svg' viewBox='0 0 " ∷ decimal width ∷ codes " " ∷ decimal height ∷ codes "' width='" ∷ decimal width ∷ codes "' height='" ∷ decimal height ∷ codes "' role='img'>" ∷ [])
+
+-- the title for those who can't see the picture, its look, its background and its heading
+unfoldable pub drawn_heading : List ℕ → ℕ → ℕ → List ℕ
+drawn_heading title width height =
+    line (codes "<title>" ∷ title ∷ codes "</title>" ∷ [])
+    ++ look
+    ++ line (codes "<rect class='back' width='" ∷ decimal width ∷ codes "' height='" ∷ decimal height ∷ codes "'/>" ∷ [])
+    ++ line (codes "<text class='head' x='16' y='28'>" ∷ title ∷ codes "</text>" ∷ [])
+
+-- what the marks mean
+unfoldable pub drawn_legend : Legend → List ℕ
+drawn_legend legend.History = HISTORY_LEGEND.now
+drawn_legend legend.Dump = DUMP_LEGEND.now
+
+-- the legend, below the members' lines, and the end of the picture
+unfoldable pub ending : ℕ → Legend → List ℕ
+ending members legend =
+    line (codes "<g transform='translate(0 " ∷ decimal (y members - 4) ∷ codes ")'>" ∷ [])
+    ++ drawn_legend legend
+    ++ line (codes "</g>" ∷ [])
+    ++ line (codes "</svg>" ∷ [])
+
+-- the texts of shapes, one after another
+abbrev pub texts_of : List Shape → List ℕ
+texts_of shapes = flat_map text_of shapes
+
+-- the picture of shapes on the lines of so many members, in so many columns, under a title
+unfoldable pub picture : List ℕ → ℕ → ℕ → Legend → List Shape → List ℕ
+picture title members columns legend shapes =
+    let wide = width columns in
+    let high = height members in
+    opening wide high ++ drawn_heading title wide high ++ texts_of shapes ++ ending members legend

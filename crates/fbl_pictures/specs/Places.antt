@@ -1,0 +1,37 @@
+-- Where shapes stand, counted from the left and from the top, and shapes in columns one after another.
+use Rattle.std.specs.Prelude.{ℕ, ◌+◌, ◌*◌, ◌/◌, ◌%◌, ◌==◌, ◌&&◌, Bool, max, nat_lt, List, [], ◌∷◌, ◌++◌, Option, Some, None, if◌then◌else◌}
+use Rattle.fbl_pictures.specs.declared.shape.Shape.{Shape}
+
+-- where a column stands: before each that follows 24 others there is room for the members' names
+abbrev pub x : ℕ → ℕ
+x column = 190 + 46 * column + 90 * (column / 24)
+
+-- where a part of a line starts: at a column, or at the line's left end
+abbrev pub left : Option ℕ → ℕ
+left (Some column) = x column
+left None = 170
+
+-- where the line of a member stands
+abbrev pub y : ℕ → ℕ
+y member = 74 + 80 * member
+
+-- where the second line of words below a mark stands: long words are lower in every other column, so that neighbours have room
+abbrev pub below : ℕ → ℕ → Bool → ℕ
+below column member long = if long && column % 2 == 1 then y member + 44 else y member + 32
+
+-- the first one where the other member's line is below the member's, and else the second one
+abbrev pub towards : ℕ → ℕ → ℕ → ℕ → ℕ
+towards from to down up = if nat_lt from to then down else up
+
+-- a picture is as wide as its columns need, and wide enough for a legend
+abbrev pub width : ℕ → ℕ
+width columns = max (x columns + 30) 760
+
+-- below the members' lines there is room for the legend
+abbrev pub height : ℕ → ℕ
+height members = y members + 62
+
+-- what is drawn of each of these in turn, the first of which stands in this column
+abbrev pub drawn : {A : Type 0} → (ℕ → A → List Shape) → ℕ → List A → List Shape
+drawn draw column [] = []
+drawn draw column (item ∷ items) = draw column item ++ drawn draw (column + 1) items

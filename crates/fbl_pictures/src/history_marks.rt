@@ -1,0 +1,113 @@
+//! The marks of the columns.
+
+ghost use Rattle.std.specs.Prelude.{◌≡◌, ◌<◌, ◌^◌, ◌++◌, OnOk, map};
+ghost use Rattle.fbl_base.specs.MemberSets.{member_list};
+ghost use Rattle.fbl_pictures.specs.HistoryMarks.{column_marks, marks_after, strike_mark, recovery_mark};
+ghost use Rattle.fbl_pictures.specs.Places.{drawn};
+
+use crate::shape::Shape;
+use fbl_base::{Determinant, MemberSet};
+use fbl_history::{Column, Replay, made_after};
+use std::alloc::{AllocError, Global};
+
+/// Draws a mark on the line of each member that is struck at this place.
+fn push_strikes(
+    shapes: &mut Vec<Shape>,
+    alloc: Global,
+    column: usize,
+    struck: MemberSet,
+) -> Result<(), AllocError>
+    ensures { OnOk result (shapes.new.items ≡ shapes.old.items ++ map (strike_mark column) (member_list struck)) }
+{
+    for member in struck.members(alloc)? {
+        shapes.push(Shape::Strike { column, member })?;
+    }
+    Ok(())
+}
+
+/// Draws a mark on the line of each member that is brought back at this place.
+fn push_recoveries(
+    shapes: &mut Vec<Shape>,
+    column: usize,
+    replays: &[Replay],
+) -> Result<(), AllocError>
+    ensures { OnOk result (shapes.new.items ≡ shapes.old.items ++ map (recovery_mark column) replays.now) }
+{
+    for Replay { member, receipts } in replays {
+        shapes.push(Shape::Recovery {
+            column,
+            member: *member,
+            receipts: *receipts,
+        })?;
+    }
+    Ok(())
+}
+
+/// Draws the marks of a column at this place, before which so many receipts were made.
+fn push_mark(
+    shapes: &mut Vec<Shape>,
+    alloc: Global,
+    made: u128,
+    place: usize,
+    column: &Column,
+) -> Result<(), AllocError>
+    ensures { OnOk result (shapes.new.items ≡ shapes.old.items ++ marks_after made place column.now) }
+{
+    match column {
+        Column::Send {
+            from,
+            ssn,
+            to,
+            undone,
+        } => shapes.push(Shape::Send {
+            column: place,
+            from: *from,
+            ssn: *ssn,
+            to: *to,
+            undone: *undone,
+        })?,
+        Column::Receipt {
+            to,
+            rsn,
+            from,
+            ssn,
+            state,
+            undone,
+        } => {
+            let (from, ssn, to, rsn) = (*from, *ssn, *to, *rsn);
+            shapes.push(Shape::Receipt {
+                column: place,
+                determinant: Determinant { from, ssn, to, rsn },
+                state: *state,
+                undone: *undone,
+            })?
+        }
+        Column::Strike(struck) => push_strikes(shapes, alloc, place, *struck)?,
+        Column::Recovery(replays) => push_recoveries(shapes, place, replays.as_slice())?,
+        Column::Checkpoint(member) => shapes.push(Shape::Checkpoint {
+            column: place,
+            member: *member,
+        })?,
+        Column::ReceiptsMade(total) => shapes.push(Shape::MadeAndUndone {
+            column: place,
+            receipts: u128::from(*total).saturating_sub(made),
+        })?,
+    }
+    Ok(())
+}
+
+/// Draws the marks of all columns.
+pub(crate) fn push_marks(
+    shapes: &mut Vec<Shape>,
+    alloc: Global,
+    columns: &[Column],
+) -> Result<(), AllocError>
+    ensures { OnOk result (shapes.new.items ≡ shapes.old.items ++ drawn (column_marks columns.now) 0 columns.now) }
+{
+    let mut made = 0u128;
+    for (place, column) in columns.iter().enumerate() {
+        push_mark(shapes, alloc, made, place, column)?;
+        made = made_after(made, column);
+    }
+    Ok(())
+}

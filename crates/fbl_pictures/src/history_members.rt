@@ -1,0 +1,91 @@
+//! The lines of the members.
+
+ghost use Rattle.std.specs.Prelude.{◌≡◌, ◌++◌, ◌≤◌, OnOk, length, ◌∷◌, []};
+ghost use Rattle.fbl_pictures.specs.HistoryMembers.{is_back, is_down_after, line_part, line_to, history_member_shapes, members_shapes};
+ghost use Rattle.fbl_pictures.specs.Places.{drawn};
+
+use crate::names::push_names;
+use crate::shape::{LineKind, Shape};
+use fbl_base::Member;
+use fbl_history::{Column, Replay};
+use std::alloc::AllocError;
+
+/// Whether a member is among those that came back.
+fn came_back(member: Member, replays: &[Replay]) -> bool
+    ensures { result ≡ is_back member replays.now }
+{
+    replays.iter().any(|replay| replay.member == member)
+}
+
+/// Whether a member is down after a column, where it was down before it or not.
+fn after(member: Member, was_down: bool, column: &Column) -> bool
+    ensures { result ≡ is_down_after member was_down column.now }
+{
+    match column {
+        Column::Strike(struck) => was_down || struck.has(member),
+        Column::Recovery(replays) => was_down && !came_back(member, replays.as_slice()),
+        _ => was_down,
+    }
+}
+
+/// Draws a member's line, dashed where the member is down.
+fn push_line(shapes: &mut Vec<Shape>, member: Member, columns: &[Column]) -> Result<(), AllocError>
+    ensures { OnOk result (shapes.new.items ≡ shapes.old.items ++ drawn (line_part columns.now member) 0 columns.now ++ line_to columns.now member (length columns.now) ∷ []) }
+{
+    let mut is_down = false;
+    let mut start = None;
+    for (place, column) in columns.iter().enumerate() {
+        let is_down_after = after(member, is_down, column);
+        if is_down_after != is_down {
+            let kind = LineKind::of(is_down);
+            shapes.push(Shape::Line {
+                member,
+                start,
+                end: place,
+                kind,
+            })?;
+            start = Some(place);
+            is_down = is_down_after;
+        }
+    }
+    let end = columns.len();
+    let kind = LineKind::of(is_down);
+    shapes.push(Shape::Line {
+        member,
+        start,
+        end,
+        kind,
+    })?;
+    Ok(())
+}
+
+/// Draws what there is of a member: its name, its number again, and its line.
+fn push_member(
+    shapes: &mut Vec<Shape>,
+    member: Member,
+    columns: &[Column],
+) -> Result<(), AllocError>
+    ensures { OnOk result (shapes.new.items ≡ shapes.old.items ++ history_member_shapes columns.now member) }
+{
+    shapes.push(Shape::Label {
+        member,
+        status: None,
+    })?;
+    push_names(shapes, columns.len(), member)?;
+    push_line(shapes, member, columns)
+}
+
+/// Draws what there is of each of the members, of whom there are 16 at most.
+pub(crate) fn push_members(
+    shapes: &mut Vec<Shape>,
+    members: u8,
+    columns: &[Column],
+) -> Result<(), AllocError>
+    requires { members ≤ 16 }
+    ensures { OnOk result (shapes.new.items ≡ shapes.old.items ++ members_shapes members columns.now) }
+{
+    for number in 0..members {
+        push_member(shapes, Member::at(number), columns)?;
+    }
+    Ok(())
+}

@@ -1,0 +1,27 @@
+//! Pictures: what a history has, member by member, and dumps, over any reader and writer. Each is made of shapes, in a frame with a
+//! heading and a legend.
+#![tactic(auto)]
+
+mod drawing;
+mod dump_events;
+mod dump_members;
+mod dump_paths;
+mod dump_picture;
+mod dump_receipts;
+mod history_marks;
+mod history_members;
+mod history_messages;
+mod history_picture;
+mod history_recoveries;
+pub mod laws;
+mod lines;
+mod look;
+mod marks;
+mod names;
+mod picture;
+mod places;
+mod shape;
+mod words;
+
+pub use drawing::{draw, draw_bytes};
+pub use history_picture::show_text;

@@ -1,0 +1,119 @@
+//! The texts of labels, of lines and of arrows.
+
+ghost use Rattle.std.specs.Prelude.{◌≡◌, IfOk, string_bytes};
+ghost use Rattle.fbl_pictures.specs.Lines.{drawn_arrow, drawn_in_flight, drawn_label, drawn_line, drawn_name, segment};
+
+use crate::places::{below, left, towards, x, y};
+use crate::shape::{ArrowKind, LineKind, Status};
+use crate::words::{in_flight_class, status_words};
+use fbl_base::Member;
+use std::alloc::{AllocError, Global};
+
+/// The text of a member's name.
+#[tactic(auto, unfolding(crate::specs::Lines::drawn_label))]
+pub(crate) fn label_text(
+    alloc: Global,
+    member: Member,
+    status: Option<Status>,
+) -> Result<String, AllocError>
+    ensures { IfOk result (λ text. string_bytes text ≡ drawn_label member status) }
+{
+    let member = member.number();
+    let y = y(member) + 5;
+    let status = status_words(status);
+    format!(in alloc; "<text x='16' y='{y}'>member {member}{status}</text>\n")
+}
+
+/// The text of a member's name in the room before a column.
+#[tactic(auto, unfolding(crate::specs::Lines::drawn_name))]
+pub(crate) fn name_text(alloc: Global, column: usize, member: Member) -> Result<String, AllocError>
+    ensures { IfOk result (λ text. string_bytes text ≡ drawn_name column member) }
+{
+    let member = member.number();
+    let x = x(column) - 86;
+    let y = y(member) - 6;
+    format!(in alloc; "<text class='name' x='{x}' y='{y}'>member {member}</text>\n")
+}
+
+/// A point of a picture, in pixels from its left and from its top.
+#[derive(Clone, Copy)]
+struct Point {
+    x: u128,
+    y: u32,
+}
+
+/// The text of a straight line of a class, from one point to another.
+fn segment_text(alloc: Global, class: &str, start: Point, end: Point) -> Result<String, AllocError>
+    ensures { IfOk result (λ text. string_bytes text ≡ segment class.now start.x start.y end.x end.y) }
+{
+    let Point { x: x1, y: y1 } = start;
+    let Point { x: x2, y: y2 } = end;
+    format!(in alloc; "<line class='{class}' x1='{x1}' y1='{y1}' x2='{x2}' y2='{y2}'/>\n")
+}
+
+/// The text of a part of a member's line.
+#[tactic(auto, unfolding(crate::specs::Lines::drawn_line))]
+pub(crate) fn line_text(
+    alloc: Global,
+    member: Member,
+    start: Option<usize>,
+    end: usize,
+    kind: LineKind,
+) -> Result<String, AllocError>
+    ensures { IfOk result (λ text. string_bytes text ≡ drawn_line member start end kind) }
+{
+    let y = y(member.number());
+    let start = Point { x: left(start), y };
+    let end = Point { x: x(end), y };
+    segment_text(alloc, kind.class(), start, end)
+}
+
+/// The text of an arrow from a send to a receipt.
+#[tactic(auto, unfolding(crate::specs::Lines::drawn_arrow))]
+pub(crate) fn arrow_text(
+    alloc: Global,
+    from: Member,
+    sent: usize,
+    to: Member,
+    received: usize,
+    kind: ArrowKind,
+) -> Result<String, AllocError>
+    ensures { IfOk result (λ text. string_bytes text ≡ drawn_arrow from sent to received kind) }
+{
+    let start = Point {
+        x: x(sent),
+        y: y(from.number()),
+    };
+    let end = Point {
+        x: x(received),
+        y: y(to.number()),
+    };
+    segment_text(alloc, kind.class(), start, end)
+}
+
+/// The text of a message in flight.
+#[tactic(auto, unfolding(crate::specs::Lines::drawn_in_flight))]
+pub(crate) fn in_flight_text(
+    alloc: Global,
+    from: Member,
+    sent: usize,
+    to: Member,
+    again: bool,
+) -> Result<String, AllocError>
+    ensures { IfOk result (λ text. string_bytes text ≡ drawn_in_flight from sent to again) }
+{
+    let left = x(sent);
+    let line = y(from.number());
+    let low = below(sent, from.number(), true);
+    let start = Point { x: left, y: line };
+    let end = Point {
+        x: left + towards(from, to, 0, 18) as u128,
+        y: towards(from, to, low - 12, line - 20),
+    };
+    let mut text = segment_text(alloc, in_flight_class(again), start, end)?;
+    let x = left + towards(from, to, 0, 26) as u128;
+    let y = towards(from, to, low, line - 22);
+    let to = to.number();
+    write!(text, "<text class='at' x='{x}' y='{y}'>to {to}</text>\n")?;
+    Ok(text)
+}

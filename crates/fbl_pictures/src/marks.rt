@@ -1,0 +1,256 @@
+//! The texts of marks.
+
+ghost use Rattle.std.specs.Prelude.{◌≡◌, ◌<◌, IfOk, length, string_bytes};
+ghost use Rattle.fbl_pictures.specs.Marks.{drawn_checkpoint, cross, drawn_held_receipt, drawn_made_and_undone, number, drawn_receipt, receipt_words, drawn_recovery, drawn_send, drawn_strike, stroke};
+
+use crate::places::{below, x, y};
+use crate::shape::Kind;
+use crate::words::{gone_class, receipts_word, undone_class, undone_words};
+use fbl_base::{Determinant, Member, MemberSet};
+use fbl_lines::set_text;
+use std::alloc::{AllocError, Global};
+
+/// The text of the stroke behind the number of an undone event, wider than so many characters.
+#[tactic(auto, unfolding(crate::specs::Marks::stroke))]
+fn stroke_text(
+    alloc: Global,
+    x: u128,
+    y: u32,
+    undone: bool,
+    characters: usize,
+) -> Result<String, AllocError>
+    requires { y < 30000 }
+    ensures { IfOk result (λ text. string_bytes text ≡ stroke x y undone characters) }
+{
+    if !undone {
+        return Ok(String::new(alloc));
+    }
+    let half = 4 * (characters as u128) + 4;
+    let left = x.saturating_sub(half);
+    let bottom = y + 1;
+    let width = 8 * (characters as u128) + 8;
+    format!(in alloc; "<path class='crossed number' d='M{left} {bottom}l{width} -9'/>\n")
+}
+
+/// The text of a number beside a mark.
+#[tactic(auto, unfolding(crate::specs::Marks::number))]
+fn number_text(
+    alloc: Global,
+    x: u128,
+    y: u32,
+    undone: bool,
+    words: &str,
+) -> Result<String, AllocError>
+    requires { y < 30000 }
+    ensures { IfOk result (λ text. string_bytes text ≡ number x y undone words.now) }
+{
+    let gone = gone_class(undone);
+    let mut text = stroke_text(alloc, x, y, undone, words.len())?;
+    write!(
+        text,
+        "<text class='at{gone}' x='{x}' y='{y}'>{words}</text>\n"
+    )?;
+    Ok(text)
+}
+
+/// The text of the cross over the mark of an undone event.
+#[tactic(auto, unfolding(crate::specs::Marks::cross))]
+fn cross_text(
+    alloc: Global,
+    column: usize,
+    member: Member,
+    undone: bool,
+) -> Result<String, AllocError>
+    ensures { IfOk result (λ text. string_bytes text ≡ cross column member undone) }
+{
+    if !undone {
+        return Ok(String::new(alloc));
+    }
+    let x = x(column) - 9;
+    let y = y(member.number()) + 9;
+    format!(in alloc; "<path class='crossed' d='M{x} {y}l18 -18'/>\n")
+}
+
+/// The text of a send.
+#[tactic(auto, unfolding(crate::specs::Marks::drawn_send))]
+pub(crate) fn send_text(
+    alloc: Global,
+    column: usize,
+    from: Member,
+    ssn: u32,
+    to: Member,
+    undone: bool,
+) -> Result<String, AllocError>
+    ensures { IfOk result (λ text. string_bytes text ≡ drawn_send column from ssn to undone) }
+{
+    let sender = from.number();
+    let receiver = to.number();
+    let x = x(column);
+    let y = y(sender);
+    let class = undone_class(undone);
+    let end = undone_words(undone);
+    let mut text = format!(in alloc;
+        "<circle class='send{class}' cx='{x}' cy='{y}' r='5'><title>"
+    )?;
+    write!(
+        text,
+        "member {sender} sends its message {ssn} to {receiver}{end}</title></circle>\n"
+    )?;
+    let cross = cross_text(alloc, column, from, undone)?;
+    text.push_str(cross.as_str())?;
+    let words = format!(in alloc; "{ssn}")?;
+    let number = number_text(alloc, x, y - 11, undone, words.as_str())?;
+    text.push_str(number.as_str())?;
+    Ok(text)
+}
+
+/// The start of the title of a receipt.
+#[tactic(auto, unfolding(crate::specs::Marks::receipt_words))]
+fn receipt_title_text(alloc: Global, determinant: &Determinant) -> Result<String, AllocError>
+    ensures { IfOk result (λ text. string_bytes text ≡ receipt_words determinant.now) }
+{
+    let from = determinant.from.number();
+    let ssn = determinant.ssn;
+    let to = determinant.to.number();
+    let rsn = determinant.rsn;
+    format!(in alloc; "<title>member {to} receipt {rsn}: message {ssn} of {from}")
+}
+
+/// The text of a receipt of a history.
+#[tactic(auto, unfolding(crate::specs::Marks::drawn_receipt))]
+pub(crate) fn receipt_text(
+    alloc: Global,
+    column: usize,
+    determinant: &Determinant,
+    state: u64,
+    undone: bool,
+) -> Result<String, AllocError>
+    ensures { IfOk result (λ text. string_bytes text ≡ drawn_receipt column determinant.now state undone) }
+{
+    let rsn = determinant.rsn;
+    let x = x(column);
+    let y = y(determinant.to.number());
+    let class = undone_class(undone);
+    let end = undone_words(undone);
+    let left = x - 7;
+    let top = y - 7;
+    let mut text = format!(in alloc;
+        "<rect class='receipt{class}' x='{left}' y='{top}' width='14' height='14'>"
+    )?;
+    let title = receipt_title_text(alloc, determinant)?;
+    text.push_str(title.as_str())?;
+    write!(text, ", state {state}{end}</title></rect>\n")?;
+    let cross = cross_text(alloc, column, determinant.to, undone)?;
+    text.push_str(cross.as_str())?;
+    let words = format!(in alloc; "{rsn}")?;
+    let number = number_text(alloc, x, y + 20, undone, words.as_str())?;
+    text.push_str(number.as_str())?;
+    let low = below(column, determinant.to.number(), 9999 < state);
+    let words = format!(in alloc; "{state}")?;
+    let number = number_text(alloc, x, low, undone, words.as_str())?;
+    text.push_str(number.as_str())?;
+    Ok(text)
+}
+
+/// The text of a receipt of a dump.
+#[tactic(auto, unfolding(crate::specs::Marks::drawn_held_receipt))]
+pub(crate) fn held_text(
+    alloc: Global,
+    column: usize,
+    determinant: &Determinant,
+    kind: Kind,
+    holders: MemberSet,
+) -> Result<String, AllocError>
+    ensures { IfOk result (λ text. string_bytes text ≡ drawn_held_receipt column determinant.now kind holders) }
+{
+    let rsn = determinant.rsn;
+    let x = x(column);
+    let y = y(determinant.to.number());
+    let class = kind.class();
+    let outline = kind.outline();
+    let mut text = format!(in alloc; "<path class='{class}' d='M{x} {y}{outline}'>")?;
+    let title = receipt_title_text(alloc, determinant)?;
+    text.push_str(title.as_str())?;
+    let holders = set_text(alloc, holders)?;
+    write!(text, ", held by {holders}</title></path>\n")?;
+    let words = format!(in alloc; "{rsn}")?;
+    let number = number_text(alloc, x, y + 20, false, words.as_str())?;
+    text.push_str(number.as_str())?;
+    Ok(text)
+}
+
+/// The text of a strike.
+#[tactic(auto, unfolding(crate::specs::Marks::drawn_strike))]
+pub(crate) fn strike_text(
+    alloc: Global,
+    column: usize,
+    member: Member,
+) -> Result<String, AllocError>
+    ensures { IfOk result (λ text. string_bytes text ≡ drawn_strike column member) }
+{
+    let member = member.number();
+    let x = x(column) + 3;
+    let y = y(member) - 13;
+    format!(in alloc;
+        "<path class='strike' d='M{x} {y}l-10 14h6l-3 12l11 -16h-7z'><title>member {member} is struck</title></path>\n"
+    )
+}
+
+/// The text of a recovery.
+#[tactic(auto, unfolding(crate::specs::Marks::drawn_recovery))]
+pub(crate) fn recovery_text(
+    alloc: Global,
+    column: usize,
+    member: Member,
+    receipts: u32,
+) -> Result<String, AllocError>
+    ensures { IfOk result (λ text. string_bytes text ≡ drawn_recovery column member receipts) }
+{
+    let member = member.number();
+    let x = x(column);
+    let y = y(member);
+    let top = y - 9;
+    let word = receipts_word(u128::from(receipts));
+    let mut text = format!(in alloc;
+        "<path class='recovery' d='M{x} {top}l9 16h-18z'><title>member {member} is recovered, "
+    )?;
+    write!(text, "{receipts} {word} replayed</title></path>\n")?;
+    let words = format!(in alloc; "replays {receipts}")?;
+    let low = below(column, member, true);
+    let number = number_text(alloc, x, low, false, words.as_str())?;
+    text.push_str(number.as_str())?;
+    Ok(text)
+}
+
+/// The text of a checkpoint.
+#[tactic(auto, unfolding(crate::specs::Marks::drawn_checkpoint))]
+pub(crate) fn checkpoint_text(
+    alloc: Global,
+    column: usize,
+    member: Member,
+) -> Result<String, AllocError>
+    ensures { IfOk result (λ text. string_bytes text ≡ drawn_checkpoint column member) }
+{
+    let member = member.number();
+    let x = x(column) - 2;
+    let y = y(member) - 10;
+    format!(in alloc;
+        "<rect class='checkpoint' x='{x}' y='{y}' width='5' height='20'><title>checkpoint of member {member}</title></rect>\n"
+    )
+}
+
+/// The text of receipts that have no column.
+#[tactic(auto, unfolding(crate::specs::Marks::drawn_made_and_undone))]
+pub(crate) fn made_and_undone_text(
+    alloc: Global,
+    column: usize,
+    receipts: u128,
+) -> Result<String, AllocError>
+    ensures { IfOk result (λ text. string_bytes text ≡ drawn_made_and_undone column receipts) }
+{
+    let x = x(column);
+    let word = receipts_word(receipts);
+    format!(in alloc;
+        "<text class='at' x='{x}' y='46'><title>{receipts} {word} made and undone by a run, without a column</title>{receipts} undone</text>\n"
+    )
+}

@@ -1,0 +1,144 @@
+//! Pictures: a frame with a heading and a legend, and in it the texts of shapes.
+
+ghost use Rattle.std.specs.Prelude.{◌≡◌, ◌++◌, IfOk, OnOk, string_bytes};
+ghost use Rattle.fbl_pictures.specs.Pictures.{ending, drawn_heading, opening, picture, text_of, texts_of};
+
+use crate::lines::{arrow_text, in_flight_text, label_text, line_text, name_text};
+use crate::look::{entries, look};
+use crate::marks::{
+    checkpoint_text, held_text, made_and_undone_text, receipt_text, recovery_text, send_text, strike_text,
+};
+use crate::places::{height, width, y};
+use crate::shape::{Legend, Shape};
+use std::alloc::{AllocError, Global};
+
+/// The text of a shape.
+fn shape_text(alloc: Global, shape: Shape) -> Result<String, AllocError>
+    ensures { IfOk result (λ text. string_bytes text ≡ text_of shape) }
+{
+    match shape {
+        Shape::Label { member, status } => label_text(alloc, member, status),
+        Shape::Name { column, member } => name_text(alloc, column, member),
+        Shape::Line {
+            member,
+            start,
+            end,
+            kind,
+        } => line_text(alloc, member, start, end, kind),
+        Shape::Arrow {
+            from,
+            sent,
+            to,
+            received,
+            kind,
+        } => arrow_text(alloc, from, sent, to, received, kind),
+        Shape::InFlight {
+            from,
+            sent,
+            to,
+            again,
+        } => in_flight_text(alloc, from, sent, to, again),
+        Shape::Send {
+            column,
+            from,
+            ssn,
+            to,
+            undone,
+        } => send_text(alloc, column, from, ssn, to, undone),
+        Shape::Receipt {
+            column,
+            determinant,
+            state,
+            undone,
+        } => receipt_text(alloc, column, &determinant, state, undone),
+        Shape::Held {
+            column,
+            determinant,
+            kind,
+            holders,
+        } => held_text(alloc, column, &determinant, kind, holders),
+        Shape::Strike { column, member } => strike_text(alloc, column, member),
+        Shape::Recovery {
+            column,
+            member,
+            receipts,
+        } => recovery_text(alloc, column, member, receipts),
+        Shape::Checkpoint { column, member } => checkpoint_text(alloc, column, member),
+        Shape::MadeAndUndone { column, receipts } => made_and_undone_text(alloc, column, receipts),
+    }
+}
+
+/// Writes the text of each shape.
+fn push_shapes(text: &mut String, alloc: Global, shapes: &[Shape]) -> Result<(), AllocError>
+    ensures { OnOk result (string_bytes text.new ≡ string_bytes text.old ++ texts_of shapes.now) }
+{
+    for shape in shapes {
+        let piece = shape_text(alloc, *shape)?;
+        text.push_str(piece.as_str())?;
+    }
+    Ok(())
+}
+
+/// The start of a picture, as wide and as high as this.
+#[tactic(auto, unfolding(crate::specs::Pictures::opening))]
+fn opening_text(alloc: Global, width: u128, height: u32) -> Result<String, AllocError>
+    ensures { IfOk result (λ text. string_bytes text ≡ opening width height) }
+{
+    format!(in alloc;
+        "<svg class='fbl' xmlns='http://www.w3.org/2000/svg' viewBox='0 0 {width} {height}' width='{width}' height='{height}' role='img'>\n"
+    )
+}
+
+/// The title, the look, the background and the heading.
+#[tactic(auto, unfolding(crate::specs::Pictures::drawn_heading))]
+fn heading_text(alloc: Global, title: &str, width: u128, height: u32) -> Result<String, AllocError>
+    ensures { IfOk result (λ text. string_bytes text ≡ drawn_heading title.now width height) }
+{
+    let mut text = format!(in alloc; "<title>{title}</title>\n")?;
+    text.push_str(look())?;
+    write!(
+        text,
+        "<rect class='back' width='{width}' height='{height}'/>\n"
+    )?;
+    write!(text, "<text class='head' x='16' y='28'>{title}</text>\n")?;
+    Ok(text)
+}
+
+/// The legend, and the end of the picture.
+#[tactic(auto, unfolding(crate::specs::Pictures::ending))]
+fn ending_text(alloc: Global, members: u8, legend: Legend) -> Result<String, AllocError>
+    ensures { IfOk result (λ text. string_bytes text ≡ ending members legend) }
+{
+    let y = y(members) - 4;
+    let mut text = format!(in alloc; "<g transform='translate(0 {y})'>\n")?;
+    text.push_str(entries(legend))?;
+    text.push_str("</g>\n</svg>\n")?;
+    Ok(text)
+}
+
+/// The picture of the shapes, as SVG, under a title: so many members have a line in it, and so many columns have room. The
+/// shapes are drawn in their order, a later one over an earlier one.
+///
+/// The title stands in the picture as it is: it is to have none of the characters `<`, `>` and `&`. Nothing is fetched by a
+/// picture, and two pictures may stand in one page. `Err` comes only where there is no memory for the text.
+#[tactic(auto, unfolding(crate::specs::Pictures::picture))]
+pub(crate) fn picture_text(
+    alloc: Global,
+    title: &str,
+    members: u8,
+    columns: usize,
+    legend: Legend,
+    shapes: &[Shape],
+) -> Result<String, AllocError>
+    ensures { IfOk result (λ text. string_bytes text ≡ picture title.now members columns legend shapes.now) }
+{
+    let width = width(columns);
+    let height = height(members);
+    let mut text = opening_text(alloc, width, height)?;
+    let heading = heading_text(alloc, title, width, height)?;
+    text.push_str(heading.as_str())?;
+    push_shapes(&mut text, alloc, shapes)?;
+    let ending = ending_text(alloc, members, legend)?;
+    text.push_str(ending.as_str())?;
+    Ok(text)
+}

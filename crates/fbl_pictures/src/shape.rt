@@ -1,0 +1,154 @@
+//! Shapes, and what tells those of one sort apart.
+
+use fbl_base::{Determinant, Member, MemberSet};
+
+/// What a label says of a member of a dump.
+#[derive(Clone, Copy, PartialEq, Eq, Debug)]
+pub enum Status {
+    /// It is in the strike set.
+    Struck,
+    /// It is not struck, and depends on a lost receipt.
+    Orphan,
+    /// Neither.
+    Up,
+}
+
+/// How a part of a member's line is drawn.
+#[derive(Clone, Copy, PartialEq, Eq, Debug)]
+pub enum LineKind {
+    /// The member is up: drawn through.
+    Up,
+    /// The member is down: dashed.
+    Down,
+    /// The member is an orphan: broad, in the orphans' colour.
+    Orphan,
+    /// A path from a lost receipt to an orphan goes along it: in the orphans' colour.
+    Path,
+}
+
+/// How an arrow from a send to a receipt is drawn.
+#[derive(Clone, Copy, PartialEq, Eq, Debug)]
+pub enum ArrowKind {
+    /// A message that was received: drawn through.
+    Message,
+    /// A message whose receipt was undone: dotted.
+    Undone,
+    /// A message that a recovery sent again, and that was received: a dot near its start.
+    Again,
+    /// A message that a recovery sent again, and whose receipt was undone: dotted, with a dot near its start.
+    AgainUndone,
+    /// A path from a lost receipt to an orphan goes along it: in the orphans' colour.
+    Path,
+}
+
+/// How safe a receipt of a dump is.
+#[derive(Clone, Copy, PartialEq, Eq, Debug)]
+pub enum Kind {
+    /// More than f members hold it, and one of them is not struck.
+    Stable,
+    /// f members or fewer hold it, and one of them is not struck.
+    Recorded,
+    /// No member that is not struck holds it.
+    Lost,
+}
+
+/// Which legend a picture has.
+#[derive(Clone, Copy, PartialEq, Eq, Debug)]
+pub enum Legend {
+    /// That of a picture of a history.
+    History,
+    /// That of a picture of a dump.
+    Dump,
+}
+
+/// A part of a picture. Columns count from 0, from the left; each member has a line, the first one at the top.
+#[derive(Clone, Copy, PartialEq, Eq, Debug)]
+pub enum Shape {
+    /// A member's name at the left end of its line, with its status where there is one to tell.
+    Label {
+        member: Member,
+        status: Option<Status>,
+    },
+    /// A member's name, above its line, in the room before a column.
+    Name {
+        column: usize,
+        member: Member,
+    },
+    /// A part of a member's line.
+    Line {
+        member: Member,
+        /// The column at which it starts, or the left end of the line.
+        start: Option<usize>,
+        /// The column at which it ends.
+        end: usize,
+        kind: LineKind,
+    },
+    /// An arrow from where a message is sent to a receipt of it.
+    Arrow {
+        from: Member,
+        /// The column of the send, or of the recovery that sent it again.
+        sent: usize,
+        to: Member,
+        /// The column of the receipt.
+        received: usize,
+        kind: ArrowKind,
+    },
+    /// A message in flight: a stub of an arrow, and its receiver's number.
+    InFlight {
+        from: Member,
+        /// The column of the send.
+        sent: usize,
+        to: Member,
+        /// Whether a recovery sent it again: there is a dot near the stub's start then.
+        again: bool,
+    },
+    /// The mark of a send, and its number.
+    Send {
+        column: usize,
+        from: Member,
+        /// Which of its sender's sends it is, from 1.
+        ssn: u32,
+        to: Member,
+        /// Whether a recovery or a run took it out of the trace: it is crossed then.
+        undone: bool,
+    },
+    /// The mark of a receipt of a history, its number and the state after it.
+    Receipt {
+        column: usize,
+        determinant: Determinant,
+        /// The receiver's state after it.
+        state: u64,
+        /// Whether a recovery or a run took it out of the trace: it is crossed then.
+        undone: bool,
+    },
+    /// The mark of a receipt of a dump, and its number.
+    Held {
+        column: usize,
+        determinant: Determinant,
+        kind: Kind,
+        /// The members that hold its determinant, struck or not.
+        holders: MemberSet,
+    },
+    /// The mark of a strike, at a member that it strikes.
+    Strike {
+        column: usize,
+        member: Member,
+    },
+    /// The mark of a recovery, at a member that it brings back.
+    Recovery {
+        column: usize,
+        member: Member,
+        /// How many receipts the member replayed.
+        receipts: u32,
+    },
+    /// The mark of a checkpoint of the member.
+    Checkpoint {
+        column: usize,
+        member: Member,
+    },
+    /// Receipts that have no column, since a run both made and undid them: how many, above the members' lines.
+    MadeAndUndone {
+        column: usize,
+        receipts: u128,
+    },
+}

@@ -1,0 +1,122 @@
+//! The words of shapes: what their classes and titles say.
+
+ghost use Rattle.std.specs.Prelude.{◌≡◌};
+ghost use Rattle.fbl_pictures.specs.Marks.{drawn_outline};
+ghost use Rattle.fbl_pictures.specs.Words.{arrow_class, gone_class as gone_class_of, in_flight_class as in_flight_class_of, kind_class, line_class, line_kind_of, receipts_word as receipts_word_of, status_words as status_words_of, undone_class as undone_class_of, undone_words as undone_words_of};
+
+use crate::shape::{ArrowKind, Kind, LineKind, Status};
+
+/// What a label says behind a member's number.
+pub(crate) fn status_words(status: Option<Status>) -> &'static str
+    ensures { result.now ≡ status_words_of status }
+{
+    match status {
+        None => "",
+        Some(Status::Struck) => " struck",
+        Some(Status::Orphan) => " orphan",
+        Some(Status::Up) => " up",
+    }
+}
+
+impl LineKind {
+    /// How a part of a member's line is drawn where the member is down, or where it isn't.
+    pub(crate) fn of(is_down: bool) -> LineKind
+        ensures { result ≡ line_kind_of is_down }
+    {
+        if is_down {
+            LineKind::Down
+        } else {
+            LineKind::Up
+        }
+    }
+
+    /// The class of a part of a member's line.
+    pub(crate) fn class(self) -> &'static str
+        ensures { result.now ≡ line_class self }
+    {
+        match self {
+            LineKind::Up => "line",
+            LineKind::Down => "line down",
+            LineKind::Orphan => "line orphan",
+            LineKind::Path => "line path",
+        }
+    }
+}
+
+impl ArrowKind {
+    /// The class of an arrow.
+    pub(crate) fn class(self) -> &'static str
+        ensures { result.now ≡ arrow_class self }
+    {
+        match self {
+            ArrowKind::Message => "message",
+            ArrowKind::Undone => "message undone",
+            ArrowKind::Again => "message again",
+            ArrowKind::AgainUndone => "message again undone",
+            ArrowKind::Path => "path",
+        }
+    }
+}
+
+impl Kind {
+    /// The class of a receipt of a dump.
+    pub(crate) fn class(self) -> &'static str
+        ensures { result.now ≡ kind_class self }
+    {
+        match self {
+            Kind::Stable => "receipt stable",
+            Kind::Recorded => "receipt recorded",
+            Kind::Lost => "receipt lost",
+        }
+    }
+
+    /// The outline of its mark, from the point at which it stands.
+    pub(crate) fn outline(self) -> &'static str
+        ensures { result.now ≡ drawn_outline self }
+    {
+        match self {
+            Kind::Stable => "m-7 -7h14v14h-14z",
+            Kind::Recorded => "m-8 0l8 -8l8 8l-8 8z",
+            Kind::Lost => "m-7 -7l14 14m0 -14l-14 14",
+        }
+    }
+}
+
+/// The class of the stub of a message in flight.
+pub(crate) fn in_flight_class(again: bool) -> &'static str
+    ensures { result.now ≡ in_flight_class_of again }
+{
+    if again {
+        "message in-flight again"
+    } else {
+        "message in-flight"
+    }
+}
+
+/// What the class of an event has beside its sort.
+pub(crate) fn undone_class(undone: bool) -> &'static str
+    ensures { result.now ≡ undone_class_of undone }
+{
+    if undone { " undone" } else { "" }
+}
+
+/// What the title of an event ends with.
+pub(crate) fn undone_words(undone: bool) -> &'static str
+    ensures { result.now ≡ undone_words_of undone }
+{
+    if undone { ", undone" } else { "" }
+}
+
+/// What the class of a number beside a mark has.
+pub(crate) fn gone_class(undone: bool) -> &'static str
+    ensures { result.now ≡ gone_class_of undone }
+{
+    if undone { " gone" } else { "" }
+}
+
+/// The word for so many receipts.
+pub(crate) fn receipts_word(count: u128) -> &'static str
+    ensures { result.now ≡ receipts_word_of count }
+{
+    if count == 1 { "receipt" } else { "receipts" }
+}
