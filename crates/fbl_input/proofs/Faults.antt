@@ -1,10 +1,12 @@
 -- The first fault of an input, from those of its parts.
-use Rattle.fbl_input.proofs.Common.{◌≡◌, Result, Ok, ConfigRefusal, DumpRefusal, RunFault, IsFirstFault, IsReadRefused}
-use Rattle.fbl_input.specs.declared.fault.RunFault.TheVariants as faults
+use Rattle.fbl_input.proofs.Common.{◌≡◌, inl, Result, Ok, Misfit, RunFault, run_fault, Fails, IsFirstFault, IsOfShape}
+use Rattle.fbl_input.specs.declared.misfit.Misfit.TheVariants as misfits
 
-pub refused : {A : Type 0} (asked : Result A RunFault) (RefusesConfig : A → ConfigRefusal → Type 0) (RefusesDump : A → DumpRefusal → Type 0) (a : A)
-    (e : RunFault) → asked ≡ Ok a → IsReadRefused (RefusesConfig a) (RefusesDump a) e → IsFirstFault asked RefusesConfig RefusesDump e
-refused asked RefusesConfig RefusesDump a faults.Memory is h = tt
-refused asked RefusesConfig RefusesDump a (faults.Config e) is h = (a, is, h)
-refused asked RefusesConfig RefusesDump a (faults.Dump e) is h = (a, is, h)
-refused asked RefusesConfig RefusesDump a e is h = absurd h
+-- a fault of the shape, or of memory
+pub shape_fault : {A : Type 0} (asked : Result A RunFault) (Refuses : A → RunFault → Type 0) (misfit : Misfit) → IsOfShape misfit → Fails (run_fault misfit) asked
+    → IsFirstFault asked Refuses (run_fault misfit)
+shape_fault asked Refuses misfits.Read shape fails = absurd shape
+shape_fault asked Refuses (misfits.Config fault) shape fails = absurd shape
+shape_fault asked Refuses (misfits.Dump fault) shape fails = absurd shape
+shape_fault asked Refuses misfits.Memory shape fails = tt
+shape_fault asked Refuses misfit shape fails = inl fails

@@ -1,6 +1,7 @@
 -- The numbers of a JSON value's parts are numbers, as those of the value are.
-use Rattle.fbl_explain.proofs.Common.{◌≡◌, ℕ, List, Option, Some, None, IfSome, option_map}
-use Rattle.fbl_explain.proofs.Common.{Json, HasNumbers, HasNumbers-at, HasNumbers-get, at, get}
+use Rattle.fbl_input.proofs.Common.{◌≡◌, ℕ, List, Option, Some, None, IfSome, option_map}
+use Rattle.fbl_input.proofs.Common.{Json, HasNumbers, HasNumbers-at, HasNumbers-get}
+use Rattle.json.specs.Find.{at, get}
 
 -- what is found, seen by view, if it is a part of a value
 part_has : {V : Type 0} (view : V → Json) (found : Option V) (part : Option Json) → option_map view found ≡ part

@@ -1,19 +1,23 @@
-//! The reason of an input's fault in words, with what stands in the input as it is written there.
+//! An input's fault in words, with what stands in the input as it is written there.
 
-ghost use Rattle.std.specs.Prelude.{◌≡◌, IfOk, IfSome, option_map, string_bytes};
+ghost use Rattle.std.specs.Prelude.{◌≡◌, IfNone, IfOk, IfSome, option_map, string_bytes};
 ghost use Rattle.json.specs.Print.{print};
 ghost use Rattle.json.specs.Tree.{HasNumbers, json_tokens};
 ghost use Rattle.json.specs.Value.{value_view};
-ghost use Rattle.fbl_explain.specs.Written.{IsWrittenIn, IsWrittenOf, part_at};
+ghost use Rattle.fbl_input.specs.Faults.{IsUnexplained};
+ghost use Rattle.fbl_input.specs.Misfits.{run_fault};
+ghost use Rattle.fbl_input.specs.Written.{IsWrittenIn, IsWrittenOf, part_at};
 
+use crate::fault::{Key, RunFault};
+use crate::input_fault::InputFault;
+use crate::misfit::{InputKind, Misfit};
 use crate::not_json::NotJson;
 use crate::shown::Shown;
-use fbl_input::{InputFault, InputKind, Key};
 use json::{Scratch, Value, to_vec};
 use std::alloc::{AllocError, Global};
 use std::fmt;
 
-/// What is told of an input beside the reason of its fault.
+/// What is told of an input beside its fault.
 #[derive(Debug, Drop)]
 enum Detail {
     Nothing,
@@ -27,9 +31,8 @@ enum Detail {
 
 /// Why an input is not taken, in words for a person.
 #[derive(Debug, Drop)]
-pub struct Explanation {
-    /// The reason of the fault.
-    pub reason: InputFault,
+pub struct Explanation<'a> {
+    misfit: &'a Misfit,
     detail: Detail,
 }
 
@@ -45,16 +48,16 @@ fn kind_in(value: &Value<'_>) -> Option<InputKind> {
 }
 
 /// What stands at the place of the fault, where it names one.
-fn found_at<'v, 'a>(value: &'v Value<'a>, reason: &InputFault) -> Option<&'v Value<'a>>
+fn found_at<'v, 'a>(value: &'v Value<'a>, misfit: &Misfit) -> Option<&'v Value<'a>>
     requires { HasNumbers (value_view value.now) }
-    ensures part { option_map (λ found. value_view found.now) result ≡ part_at reason.now (value_view value.now) }
+    ensures part { option_map (λ found. value_view found.now) result ≡ part_at misfit.now (value_view value.now) }
     ensures numbers { IfSome result (λ found. HasNumbers (value_view found.now)) }
 {
-    match reason {
-        InputFault::NotObject(_) => Some(value),
-        InputFault::BadValue { key, .. } => value.get(key.name()),
-        InputFault::BadItem { key, place, .. } => value.get(key.name())?.at(*place),
-        InputFault::BadCommand { place, .. } => value.get(Key::Commands.name())?.at(*place),
+    match misfit {
+        Misfit::NotObject(_) => Some(value),
+        Misfit::BadValue { key, .. } => value.get(key.name()),
+        Misfit::BadItem { key, place, .. } => value.get(key.name())?.at(*place),
+        Misfit::BadCommand { place, .. } => value.get(Key::Commands.name())?.at(*place),
         _ => None,
     }
 }
@@ -76,58 +79,56 @@ fn detail_in(
     alloc: Global,
     kind: InputKind,
     value: &Value<'_>,
-    reason: &InputFault,
+    misfit: &Misfit,
 ) -> Result<Detail, AllocError>
     requires { HasNumbers (value_view value.now) }
-    ensures { IfOk result (IsWrittenOf reason.now (value_view value.now)) }
+    ensures { IfOk result (IsWrittenOf misfit.now (value_view value.now)) }
 {
     if let Some(other) = kind_in(value).filter(|found| *found != kind) {
         return Ok(Detail::OtherKind(other));
     }
-    match found_at(value, reason) {
+    match found_at(value, misfit) {
         Some(found) => Ok(Detail::Written(text_of(alloc, found)?)),
         None => Ok(Detail::Nothing),
     }
 }
 
-/// What is told of an input with such a fault.
-fn detail_of(
-    alloc: Global,
-    kind: InputKind,
-    input: &[u8],
-    reason: &InputFault,
-) -> Result<Detail, AllocError>
-    ensures { IfOk result (IsWrittenIn reason.now input.now) }
+/// What is told of the input of the fault.
+fn detail_of(alloc: Global, fault: &InputFault) -> Result<Detail, AllocError>
+    ensures { IfOk result (IsWrittenIn fault.now.misfit fault.now.input.items) }
 {
-    match reason {
-        InputFault::TooLong => return Ok(Detail::Nothing),
-        InputFault::NotJson(error) => {
+    let input = fault.input.as_slice();
+    match &fault.misfit {
+        Misfit::TooLong => return Ok(Detail::Nothing),
+        Misfit::NotJson(error) => {
             return Ok(Detail::NotJson(NotJson::of(alloc, input, error)?));
         }
         _ => (),
     }
     let mut scratch = Scratch::new(alloc);
     match Value::from_slice(alloc, input, &mut scratch) {
-        Ok(value) => detail_in(alloc, kind, &value, reason),
+        Ok(value) => detail_in(alloc, fault.kind, &value, &fault.misfit),
         Err(json::Error::OutOfMemory) => Err(AllocError),
         Err(_) => Ok(Detail::Nothing),
     }
 }
 
-impl Explanation {
-    /// What there is to tell of an input of which one of this kind is wanted, and which has a fault with this reason. The
-    /// input is read again. `Err` comes only where there is no memory to read it, or for the words.
-    pub fn of(
-        alloc: Global,
-        kind: InputKind,
-        input: &[u8],
-        reason: InputFault,
-    ) -> Result<Explanation, AllocError>
-        ensures reason { IfOk result (λ explanation. explanation.reason ≡ reason) }
-        ensures written { IfOk result (λ explanation. IsWrittenIn reason input.now explanation.detail) }
+impl InputFault {
+    /// The fault explained: its place, what stands there as it is written in the input, and what is wanted there. A failed read
+    /// and want of memory have no more to tell. `Err` comes only where there is no memory for the words.
+    pub fn explanation(&self, alloc: Global) -> Result<Option<Explanation<'_>>, AllocError>
+        ensures own { IfOk result (λ found. IfSome found (λ explanation. explanation.misfit.now ≡ self.now.misfit)) }
+        ensures written { IfOk result (λ found. IfSome found (λ explanation. IsWrittenIn self.now.misfit self.now.input.items explanation.detail)) }
+        ensures none { IfOk result (λ found. IfNone found (IsUnexplained (run_fault self.now.misfit))) }
     {
-        let detail = detail_of(alloc, kind, input, &reason)?;
-        Ok(Explanation { reason, detail })
+        match self.misfit.fault() {
+            RunFault::Read | RunFault::Memory => Ok(None),
+            _ => {
+                let misfit = &self.misfit;
+                let detail = detail_of(alloc, self)?;
+                Ok(Some(Explanation { misfit, detail }))
+            }
+        }
     }
 }
 
@@ -157,7 +158,7 @@ fn write_missing<W: fmt::Write>(
     key: Key,
     unknown: Option<&String>,
 ) -> fmt::Result {
-    let wanted = InputFault::wanted_at(key);
+    let wanted = Misfit::wanted_at(key);
     write!(f, "{key} is missing, and must be {wanted}")?;
     match unknown {
         Some(name) => write!(f, "; the key {name:?} is unknown"),
@@ -165,45 +166,45 @@ fn write_missing<W: fmt::Write>(
     }
 }
 
-/// Writes the reason, with what stands at its place as it is written, where that is known.
-fn write_reason<W: fmt::Write>(
+/// Writes the fault, with what stands at its place as it is written, where that is known.
+fn write_misfit<W: fmt::Write>(
     f: &mut fmt::Formatter<W>,
-    reason: &InputFault,
+    misfit: &Misfit,
     written: Option<&str>,
 ) -> fmt::Result {
-    match reason {
-        InputFault::TooLong => {
+    match misfit {
+        Misfit::TooLong => {
             f.write_str("the input has more than 1048576 bytes, and may have no more")
         }
-        InputFault::NotJson(error) => {
+        Misfit::NotJson(error) => {
             write!(
                 f,
                 "the input must be one JSON object, and is no JSON: {error}"
             )
         }
-        InputFault::NotObject(value) => {
+        Misfit::NotObject(value) => {
             let found = Shown { value, written };
             write!(f, "the input must be one JSON object, and is {found}")
         }
-        InputFault::MissingKey { key, unknown } => write_missing(f, *key, unknown.as_ref()),
-        InputFault::BadValue { key, found: value } => {
-            let wanted = InputFault::wanted_at(*key);
+        Misfit::MissingKey { key, unknown } => write_missing(f, *key, unknown.as_ref()),
+        Misfit::BadValue { key, found: value } => {
+            let wanted = Misfit::wanted_at(*key);
             let found = Shown { value, written };
             write!(f, "{key} is {found}, and must be {wanted}")
         }
-        InputFault::BadItem {
+        Misfit::BadItem {
             key,
             place,
             found: value,
         } => {
-            let (name, wanted) = InputFault::wanted_item(*key);
+            let (name, wanted) = Misfit::wanted_item(*key);
             let found = Shown { value, written };
             write!(f, "{name} {place} is {found}, and must be {wanted}")
         }
-        InputFault::TooManyCommands => {
+        Misfit::TooManyCommands => {
             f.write_str("command 1024 is one too many: there may be 1024, numbered from 0")
         }
-        InputFault::BadCommand {
+        Misfit::BadCommand {
             place,
             found: value,
             wanted,
@@ -211,20 +212,20 @@ fn write_reason<W: fmt::Write>(
             let found = Shown { value, written };
             write!(f, "command {place} is {found}, and must be {wanted}")
         }
-        InputFault::UnknownKey { kind, name } => {
+        Misfit::UnknownKey { kind, name } => {
             write!(f, "the key {name:?} is unknown: {kind}")
         }
-        InputFault::Config(fault) => write!(f, "{fault}"),
-        InputFault::Dump(fault) => write!(f, "{fault}"),
-        InputFault::Memory => f.write_str("out of memory"),
+        Misfit::Config(fault) => write!(f, "{fault}"),
+        Misfit::Dump(fault) => write!(f, "{fault}"),
+        Misfit::Read | Misfit::Memory => write!(f, "{}", misfit.fault()),
     }
 }
 
-impl fmt::Display for Explanation {
+impl fmt::Display for Explanation<'_> {
     fn fmt<W: fmt::Write>(&self, f: &mut fmt::Formatter<W>) -> fmt::Result {
         match &self.detail {
-            Detail::Nothing => write_reason(f, &self.reason, None),
-            Detail::Written(text) => write_reason(f, &self.reason, Some(text.as_str())),
+            Detail::Nothing => write_misfit(f, self.misfit, None),
+            Detail::Written(text) => write_misfit(f, self.misfit, Some(text.as_str())),
             Detail::OtherKind(found) => write_other_kind(f, *found),
             Detail::NotJson(why) => {
                 write!(

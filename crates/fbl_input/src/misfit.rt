@@ -1,10 +1,10 @@
-//! Why an input is not taken, with its place, what stands there and what is wanted there. The words are those for a person.
+//! The first fault of an input, with its place, what stands there and what is wanted there. The words are those for a person.
 
 ghost use Rattle.std.specs.Prelude.{◌≡◌};
-ghost use Rattle.fbl_input.specs.declared.input_fault.InputFault.TheVariants.{Memory};
+ghost use Rattle.fbl_input.specs.declared.misfit.Misfit.TheVariants.{Memory};
 
 use crate::fault::{Key, RunFault};
-use fbl_base::{ConfigFault, DumpFault};
+use fbl_base::{ConfigFault, ConfigRefusal, DumpFault, DumpRefusal};
 use serde_json::{Error as JsonError, Value};
 use std::alloc::{AllocError, AllocFailed};
 use thiserror::Error;
@@ -68,9 +68,11 @@ pub enum CommandForm {
     Any,
 }
 
-/// Why an input is not taken. The faults are tested in the order of `RunFault`.
+/// The first fault of an input. The faults are tested in the order of `RunFault`.
 #[derive(Debug, Drop)]
-pub enum InputFault {
+pub enum Misfit {
+    /// A read failed. An interrupted read is tried again, at most 1000 times in all, and then counts as failed.
+    Read,
     /// The input has more bytes than it may.
     TooLong,
     /// The bytes are no JSON: what the reader of JSON says of them.
@@ -114,7 +116,7 @@ pub enum InputFault {
     Memory,
 }
 
-impl InputFault {
+impl Misfit {
     /// What is wanted at the key.
     pub fn wanted_at(key: Key) -> &'static str {
         match key {
@@ -149,47 +151,54 @@ impl InputFault {
                 "[holder, from, number of the send, to, number of the receipt]: members 0 to 15, numbers 0 to 4294967295",
             ),
             Key::Strike => ("struck member", "a member 0 to 15"),
-            _ => (key.name(), InputFault::wanted_at(key)),
+            _ => (key.name(), Misfit::wanted_at(key)),
         }
     }
 }
 
-impl InputFault {
+impl Misfit {
     ghost use Rattle.fbl_input.specs.Misfits.{run_fault};
 
-    /// The fault that stands for it.
+    /// The fault that it is, by its name.
     pub fn fault(&self) -> RunFault
         ensures { result ≡ run_fault self.now }
     {
         match self {
-            InputFault::TooLong => RunFault::TooLong,
-            InputFault::NotJson(_) => RunFault::NotJson,
-            InputFault::NotObject(_) => RunFault::NotObject,
-            InputFault::MissingKey { key, .. }
-            | InputFault::BadValue { key, .. }
-            | InputFault::BadItem { key, .. } => RunFault::BadField(*key),
-            InputFault::TooManyCommands => RunFault::BadCommand(MOST_COMMANDS),
-            InputFault::BadCommand { place, .. } => RunFault::BadCommand(*place),
-            InputFault::UnknownKey { .. } => RunFault::UnknownKey,
-            InputFault::Config(fault) => RunFault::from(fault.refusal()),
-            InputFault::Dump(fault) => RunFault::from(fault.refusal()),
-            InputFault::Memory => RunFault::Memory,
+            Misfit::Read => RunFault::Read,
+            Misfit::TooLong => RunFault::TooLong,
+            Misfit::NotJson(_) => RunFault::NotJson,
+            Misfit::NotObject(_) => RunFault::NotObject,
+            Misfit::MissingKey { key, .. }
+            | Misfit::BadValue { key, .. }
+            | Misfit::BadItem { key, .. } => RunFault::BadField(*key),
+            Misfit::TooManyCommands => RunFault::BadCommand(MOST_COMMANDS),
+            Misfit::BadCommand { place, .. } => RunFault::BadCommand(*place),
+            Misfit::UnknownKey { .. } => RunFault::UnknownKey,
+            Misfit::Config(fault) => match fault.refusal() {
+                ConfigRefusal::Memory => RunFault::Memory,
+                refusal => RunFault::Config(refusal),
+            },
+            Misfit::Dump(fault) => match fault.refusal() {
+                DumpRefusal::Memory => RunFault::Memory,
+                refusal => RunFault::Dump(refusal),
+            },
+            Misfit::Memory => RunFault::Memory,
         }
     }
 }
 
-impl From<AllocError> for InputFault {
+impl From<AllocError> for Misfit {
     ghost from_gives = { λ _ e. e ≡ Memory };
 
-    fn from(_e: AllocError) -> InputFault {
-        InputFault::Memory
+    fn from(_e: AllocError) -> Misfit {
+        Misfit::Memory
     }
 }
 
-impl<T: Drop> From<AllocFailed<T>> for InputFault {
+impl<T: Drop> From<AllocFailed<T>> for Misfit {
     ghost from_gives = { λ _ e. e ≡ Memory };
 
-    fn from(_e: AllocFailed<T>) -> InputFault {
-        InputFault::Memory
+    fn from(_e: AllocFailed<T>) -> Misfit {
+        Misfit::Memory
     }
 }

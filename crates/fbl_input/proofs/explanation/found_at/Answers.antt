@@ -1,6 +1,6 @@
-use Rattle.fbl_explain.proofs.Common.{◌≡◌, Some, ap, rules, sym, ◌∙◌, option_map, value_view}
-use Rattle.fbl_explain.proofs.Parts.{item_has, member_has}
-use Rattle.fbl_explain.proofs.explanation.found_at.Goals as goal
+use Rattle.fbl_input.proofs.Common.{◌≡◌, Some, ap, rules, sym, ◌∙◌, option_map, value_view}
+use Rattle.fbl_input.proofs.Parts.{item_has, member_has}
+use Rattle.fbl_input.proofs.explanation.found_at.Goals as goal
 
 pub returns-in-BadValue-clause-numbers : goal.returns-in-BadValue-clause-numbers
 returns-in-BadValue-clause-numbers c = member_has (λ v. value_view v.now) c.name.result.now (value_view c.args.value.now) c.requires c.get.result c.get.ensures

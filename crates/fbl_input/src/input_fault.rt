@@ -1,0 +1,16 @@
+//! Why an input is not taken: the line that is printed of it, and the one that explains it.
+
+use crate::misfit::{InputKind, Misfit};
+use thiserror::Error;
+
+/// Why an input is not taken. The message is the text of the fault.
+#[derive(Debug, Drop, Error)]
+#[error("{}", .misfit.fault())]
+pub struct InputFault {
+    /// What it was to be.
+    pub kind: InputKind,
+    /// Its first fault.
+    pub misfit: Misfit,
+    /// The bytes in which the fault was found: none where they could not be read, are too many or there was no memory for them.
+    pub input: Vec<u8>,
+}
