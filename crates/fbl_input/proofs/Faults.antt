@@ -1,12 +1,11 @@
--- The first fault of an input, from those of its parts.
-use Rattle.fbl_input.proofs.Common.{◌≡◌, inl, Result, Ok, Misfit, RunFault, run_fault, Fails, IsFirstFault, IsOfShape}
-use Rattle.fbl_input.specs.declared.misfit.Misfit.TheVariants as misfits
+-- The fault of an input whose shape is right.
+use Rattle.fbl_input.proofs.Common.{◌≡◌, List, ℕ, Result, Ok, subst, Data, Misfit, InputKind, RunFault, run_fault, IsFaultOf, IsFirstFault, IsMisfit}
 
--- a fault of the shape, or of memory
-pub shape_fault : {A : Type 0} (asked : Result A RunFault) (Refuses : A → RunFault → Type 0) (misfit : Misfit) → IsOfShape misfit → Fails (run_fault misfit) asked
-    → IsFirstFault asked Refuses (run_fault misfit)
-shape_fault asked Refuses misfits.Read shape fails = absurd shape
-shape_fault asked Refuses (misfits.Config fault) shape fails = absurd shape
-shape_fault asked Refuses (misfits.Dump fault) shape fails = absurd shape
-shape_fault asked Refuses misfits.Memory shape fails = tt
-shape_fault asked Refuses misfit shape fails = inl fails
+-- what the input gives is refused
+pub refused : {A : Type 0} (kind : InputKind) (asked : Result A RunFault) (Refuses : A → RunFault → Type 0) (IsOf : A → Misfit → Type 0) (input : List ℕ) (misfit : Misfit) (a : A)
+    → asked ≡ Ok a → IsFirstFault asked Refuses (run_fault misfit) → ((d : Data) → IsMisfit kind d misfit) → IsOf a misfit → IsFaultOf kind asked Refuses IsOf input misfit
+refused kind asked Refuses IsOf input misfit a is first says of = record {
+  first = first;
+  value = λ d _. says d;
+  given = λ x e. (let same : a ≡ x = cc in subst (λ b. IsOf b misfit) same of);
+}

@@ -1,6 +1,6 @@
 use Rattle.fbl_dump.proofs.Common.{◌≡◌, ◌∙◌, ap, IsChecked, check_lines, puts_front}
 use Rattle.fbl_dump.proofs.Verdicts.{checked, verdict_of}
-use Rattle.fbl_dump.proofs.checking.check_dump.Goals as goal
+use Rattle.fbl_dump.proofs.checking.write_check.Goals as goal
 
 pub returns-in_err-put : goal.returns-in_err-put
 returns-in_err-put g c =

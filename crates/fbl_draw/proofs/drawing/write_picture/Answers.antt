@@ -1,5 +1,5 @@
 use Rattle.fbl_draw.proofs.Common.{puts_text, IsPicture}
-use Rattle.fbl_draw.proofs.drawing.draw_dump.Goals as goal
+use Rattle.fbl_draw.proofs.drawing.write_picture.Goals as goal
 
 pub returns : goal.returns
 returns g c =

@@ -1,5 +1,5 @@
 use Rattle.fbl_dump.proofs.Common.{puts_text, IsAuditText}
-use Rattle.fbl_dump.proofs.auditing.audit_dump.Goals as goal
+use Rattle.fbl_dump.proofs.auditing.write_audit.Goals as goal
 
 pub returns : goal.returns
 returns g c =
