@@ -14,3 +14,9 @@ pub puts_text : (IsText : Unit {0} → List ℕ → Type 0) (text : List ℕ) �
     → PutsOut IsText before after r
 puts_text IsText text is before after (Ok x) whole front fault = (text, is, whole)
 puts_text IsText text is before after (Err f) whole front fault = puts_front IsText tt text is before after f (Err f) refl front fault
+
+-- an answer that was cut off, seen as another that is right where it is
+pub puts_as : {A B : Type 0} (IsRight : A → List ℕ → Type 0) (IsSeen : B → List ℕ → Type 0) (f : A → B) → ((x : A) (text : List ℕ) → IsRight x text → IsSeen (f x) text)
+    → (before after : Option (List ℕ)) (e : OutputFault) → PutsOut IsRight before after (Err e) → PutsOut IsSeen before after (Err e)
+puts_as IsRight IsSeen f right before after outputs.Write (x, text, part, is, short, appends) = (f x, text, part, right x text is, short, appends)
+puts_as IsRight IsSeen f right before after outputs.Memory keeps = keeps

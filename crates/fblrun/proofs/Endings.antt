@@ -1,47 +1,72 @@
--- The exit status of an answer, the answer where nothing could be read, and whether a play was refused something.
-use Rattle.fblrun.proofs.Common.{◌≡◌, ℕ, ◌<◌, ◌⊎◌, ◌||◌, ◌&&◌, not, Bool, false, List, [], ◌∷◌, Option, Some, None, Result, Ok, Err, IfSome, length, inl, inr, arith}
-use Rattle.fblrun.proofs.Common.{ap, ◌∙◌, list_any, RunFault, longest, keeps_itself, too_long, unread, or_false}
-use Rattle.fblrun.proofs.Common.{parts_of_data, CommandAccount, is_refusal, IsTold, Tells, Command, outline_of, Task}
-use Rattle.fblrun.proofs.Common.{Play, Show, AnswersTask, EndsAfter, PlaysWell, ReadsAndAnswersTask, status_after}
-use Rattle.fbl_input.specs.declared.fault.RunFault.TheVariants as faults
+-- The exit status of what was done, and what a play is of which nobody is told.
+use Rattle.fbl_base.specs.declared.trace.Note.{Note}
+use Rattle.fblrun.proofs.Common.{◌≡◌, ℕ, ◌||◌, ◌&&◌, not, Bool, false, List, [], ◌∷◌, Option, Some, None, Result, Ok, Err, IfSome, inl, inr, arith, refl}
+use Rattle.fblrun.proofs.Common.{ap, ◌∙◌, list_any, or_false, RunFault, OutputFault, CommandAccount, is_refusal, Command, GroupRecord, Next, Settings}
+use Rattle.fblrun.proofs.Common.{Along, IsRun, IsRunOne, Moment, PlaysScript, Transcript, Outline, PlaysWell, Unheard, status_after, text}
 
--- what is known of an answer over an input is known of the status that it ends with
-pub ended : (known : Option (List ℕ)) (Answers : List ℕ → Result Bool RunFault → Type 0) (r : Result Bool RunFault) (status : ℕ)
-    → status ≡ status_after r → IfSome known (λ input. Answers input r) → IfSome known (λ input. EndsAfter (Answers input) status)
-ended None Answers r status is h = tt
-ended (Some input) Answers r status is h = (r, h, is)
+-- what is known of what was done over an input is known of the status that it ends with
+pub ended : (known : Option (List ℕ)) (Does : List ℕ → Result Bool RunFault → Type 0) (done : Result Bool RunFault) (status : ℕ) → status ≡ status_after done
+    → IfSome known (λ input. Does input done) → IfSome known (λ input. (r : Result Bool RunFault) × Does input r × (status ≡ status_after r))
+ended None Does done status is h = tt
+ended (Some input) Does done status is h = (done, h, is)
 
--- what the task answers to an input that is too long, and where memory runs out before it is read
-no_input : (task : Task) (input : List ℕ) (before : Option (List ℕ)) → longest < length input → AnswersTask task input before before (Err faults.TooLong)
-no_input (Play workers strict) input before long = (too_long outline_of input long, keeps_itself before)
-no_input (Show workers) input before long = (too_long outline_of input long, keeps_itself before)
-no_input task input before long = (too_long parts_of_data input long, keeps_itself before)
-
-no_memory : (task : Task) (input : List ℕ) (before : Option (List ℕ)) → AnswersTask task input before before (Err faults.Memory)
-no_memory (Play workers strict) input before = inl (keeps_itself before)
-no_memory task input before = keeps_itself before
-
--- a reading that failed, with nothing written
-pub not_read : (task : Task) (known before : Option (List ℕ)) (f : RunFault) → (f ≡ faults.Read) ⊎ (f ≡ faults.TooLong) ⊎ (f ≡ faults.Memory)
-    → (f ≡ faults.TooLong → IfSome known (λ input. longest < length input))
-    → IfSome known (λ input. ReadsAndAnswersTask task input before before (Err f))
-not_read task known before f is long =
-    unread (λ input. AnswersTask task input before before) known before f is long (λ input. no_input task input before) (λ input. no_memory task input before)
-
--- an observer that keeps whether some account was a refusal's has it in the end, or had it before
+-- an observer that keeps whether some command was refused, and one that takes no notice
 module _ {O : Type 0} (has : O → Bool) where
-  pub keeps_refusals : (cs : List Command) (accounts : List CommandAccount) (old new : O)
-      → IsTold (λ o c p. has p ≡ has o) (λ o c account p. has p ≡ (has o || is_refusal account)) cs accounts old new → has new ≡ (has old || list_any is_refusal accounts)
-  keeps_refusals [] [] old new told = ap has told ∙ or_false (has old)
-  keeps_refusals (c ∷ cs) (account ∷ accounts) old new told = grind (arith, keeps_refusals cs accounts told.0 new told.2, told.1.1, told.1.2)
-  keeps_refusals [] (account ∷ accounts) old new told = absurd told
-  keeps_refusals (c ∷ cs) [] old new told = absurd told
+  abbrev keeps : GroupRecord ℕ Note → Transcript → O → Command → O → Type 0
+  keeps r t old command new = has new ≡ has old
 
-  -- so after a play it says whether all is well
-  pub plays_well : (workers : ℕ) (strict : Bool) (input : List ℕ) (before after : Option (List ℕ)) (old new : O) → has old ≡ false
-      → Tells (λ o c p. has p ≡ has o) (λ o c account p. has p ≡ (has o || is_refusal account)) workers input before after old new (Ok tt)
-      → PlaysWell workers strict input before after (Ok (not (strict && has new)))
-  plays_well workers strict input before after old new fresh (inl (s, is, (accounts, written, told))) =
-      let kept : has new ≡ list_any is_refusal accounts = keeps_refusals s.commands accounts old new told ∙ ap (λ b. b || list_any is_refusal accounts) fresh in
-      (s, accounts, is, written, ap (λ b. not (strict && b)) kept)
-  plays_well workers strict input before after old new fresh (inr none) = absurd none
+  abbrev counts : GroupRecord ℕ Note → Transcript → O → Command → CommandAccount → O → Type 0
+  counts r t old command account new = has new ≡ (has old || is_refusal account)
+
+  abbrev unseen : Moment O → Moment (Unit {0})
+  unseen m = record { group = m.group; transcript = m.transcript; observer = tt }
+
+  module _ (next : Next ℕ Note) (workers : ℕ) where
+    along_unseen : (cs : List Command) (accounts : List CommandAccount) (old new : Moment O) → Along keeps counts next workers cs accounts old new
+        → Along (λ _ _ _ _ _. Unit {0}) (λ _ _ _ _ _ _. Unit {0}) next workers cs accounts (unseen old) (unseen new)
+        × (has new.observer ≡ (has old.observer || list_any is_refusal accounts))
+    along_unseen [] [] old new is = (ap unseen is, ap (λ (m : Moment O). has m.observer) is ∙ or_false (has old.observer))
+    along_unseen (c ∷ cs) (account ∷ accounts) old new is =
+        let rest = along_unseen cs accounts is.0 new is.2 in
+        let one = is.1 in (
+          (unseen is.0, record { begun = tt; output = one.output; announced = tt; step = one.step; sound = one.sound; added = one.added; told = tt }, rest.0),
+          grind (arith, rest.1, one.announced, one.told),
+        )
+    along_unseen [] (account ∷ accounts) old new is = absurd is
+    along_unseen (c ∷ cs) [] old new is = absurd is
+
+    module _ (config : Settings Note) (cs : List Command) (accounts : List CommandAccount) (had : Transcript) (old : O) (end : Moment O) (run : IsRun keeps counts next workers config cs accounts had old end) where
+      along : Along (λ _ _ _ _ _. Unit {0}) (λ _ _ _ _ _ _. Unit {0}) next workers cs accounts (unseen (record { group = run.first; transcript = run.begun; observer = old })) (unseen end)
+          × (has end.observer ≡ (has old || list_any is_refusal accounts))
+      along = along_unseen cs accounts (record { group = run.first; transcript = run.begun; observer = old }) end run.along
+
+      run_unseen : IsRun (λ _ _ _ _ _. Unit {0}) (λ _ _ _ _ _ _. Unit {0}) next workers config cs accounts had tt (unseen end)
+      run_unseen = record { first = run.first; begun = run.begun; start = run.start; sound = run.sound; begins = run.begins; along = along.0 }
+
+  module _ (workers : ℕ) (s : Outline) (had has_now : Transcript) (old new : O) where
+    -- a play of all commands
+    pub unheard : PlaysScript keeps counts workers s had has_now old new (Ok tt) → Unheard workers s had has_now (Ok tt)
+    unheard played = (played.0, played.1, run_unseen _ workers s.config s.commands played.0 had old _ played.2)
+
+    -- one that stopped
+    pub unheard_stop : (fault : OutputFault) → PlaysScript keeps counts workers s had has_now old new (Err fault) → Unheard workers s had has_now (Err fault)
+    unheard_stop fault (inl none) = inl (none.0, none.1, refl)
+    unheard_stop fault (inr stopped) = inr (record {
+      done = stopped.done;
+      accounts = stopped.accounts;
+      at = unseen stopped.at;
+      command = stopped.command;
+      within = stopped.within;
+      is = stopped.is;
+      run = run_unseen _ workers s.config _ stopped.accounts had old stopped.at stopped.run;
+      announced = tt;
+      stopped = stopped.stopped;
+    })
+
+  -- what the observer keeps says whether all is well
+  pub plays_well : (workers : ℕ) (strict : Bool) (s : Outline) (before after : Option (List ℕ)) (old new : O) → has old ≡ false
+      → PlaysScript keeps counts workers s (text before) (text after) old new (Ok tt) → PlaysWell workers strict s before after (Ok (not (strict && has new)))
+  plays_well workers strict s before after old new fresh played =
+      let kept : has new ≡ list_any is_refusal played.0 =
+      (along _ workers s.config s.commands played.0 (text before) old _ played.2).1 ∙ ap (λ b. b || list_any is_refusal played.0) fresh in
+      (unheard workers s (text before) (text after) old new played, ap (λ b. not (strict && b)) kept)

@@ -1,5 +1,5 @@
 use Rattle.fblrun.proofs.Common.{◌≡◌, ◌∙◌, List, ℕ, behaviour_word, history_picture, puts_text}
-use Rattle.fblrun.proofs.showing.show_history.Goals as goal
+use Rattle.fblrun.proofs.doing.write_history.Goals as goal
 
 pub returns : goal.returns
 returns g c =
