@@ -15,7 +15,7 @@ fn draw_dump<W: Write>(alloc: Global, writer: &mut W, dump: &Dump) -> Result<(),
     ensures { DrawsDump dump.now (W.contents writer.old) (W.contents writer.new) result }
 {
     let text = dump_picture(alloc, dump)?;
-    put(writer, text.as_bytes())
+    Ok(put(writer, text.as_bytes())?)
 }
 
 /// Draws the dump that the bytes spell, and writes the picture as SVG: a line for each member, a mark for each event and

@@ -25,7 +25,7 @@ fn audit_dump<W: Write>(alloc: Global, writer: &mut W, dump: &Dump) -> Result<()
     ensures { AuditsDump dump.now (W.contents writer.old) (W.contents writer.new) result }
 {
     let text = text_of(alloc, dump)?;
-    put(writer, text.as_bytes())
+    Ok(put(writer, text.as_bytes())?)
 }
 
 /// Audits the dump that the bytes spell, and writes how many receipts are lost, the determinant of each, and the orphans.

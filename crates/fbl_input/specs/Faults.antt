@@ -7,6 +7,8 @@ use Rattle.fbl_base.specs.declared.refusal.DumpRefusal.{DumpRefusal}
 use Rattle.fbl_base.specs.declared.refusal.DumpRefusal.TheVariants as dump
 use Rattle.fbl_input.specs.declared.fault.RunFault.{RunFault}
 use Rattle.fbl_input.specs.declared.fault.RunFault.TheVariants as faults
+use Rattle.fbl_input.specs.declared.output.OutputFault.{OutputFault}
+use Rattle.fbl_input.specs.declared.output.OutputFault.TheVariants as outputs
 
 -- a configuration's refusal as a fault
 abbrev pub config_fault : ConfigRefusal → RunFault
@@ -17,6 +19,10 @@ config_fault e = faults.Config e
 abbrev pub dump_fault : DumpRefusal → RunFault
 dump_fault dump.Memory = faults.Memory
 dump_fault e = faults.Dump e
+
+abbrev pub output_fault : OutputFault → RunFault
+output_fault outputs.Memory = faults.Memory
+output_fault outputs.Write = faults.Write
 
 -- what was read is refused by its configuration or as a dump, or memory ran out
 abbrev pub IsReadRefused : (ConfigRefusal → Type 0) → (DumpRefusal → Type 0) → RunFault → Type 0

@@ -3,6 +3,7 @@
 ghost use Rattle.std.specs.Prelude.{◌≡◌};
 ghost use Rattle.fbl_input.specs.declared.fault.RunFault.TheVariants.{Memory};
 
+use crate::output::OutputFault;
 use fbl_base::{ConfigRefusal, DumpRefusal};
 use std::alloc::{AllocError, AllocFailed};
 use std::fmt;
@@ -122,6 +123,19 @@ impl From<DumpRefusal> for RunFault {
         match refusal {
             DumpRefusal::Memory => RunFault::Memory,
             _ => RunFault::Dump(refusal),
+        }
+    }
+}
+
+impl From<OutputFault> for RunFault {
+    ghost use Rattle.fbl_input.specs.Faults.{output_fault};
+
+    ghost from_gives = { λ fault e. e ≡ output_fault fault };
+
+    fn from(fault: OutputFault) -> RunFault {
+        match fault {
+            OutputFault::Memory => RunFault::Memory,
+            OutputFault::Write => RunFault::Write,
         }
     }
 }

@@ -11,4 +11,4 @@ pub mod shapes;
 pub use fault::{Key, RunFault};
 pub use input::read_input;
 pub use input_fault::{CommandForm, InputFault, InputKind, MOST_COMMANDS};
-pub use output::put;
+pub use output::{OutputFault, put};
