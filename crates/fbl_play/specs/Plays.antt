@@ -106,10 +106,17 @@ module _ {O : Type 0} (before : GroupRecord ℕ Note → Transcript → O → Co
 
 -- ---- what a play of an input leaves in the writer
 
--- the input is a script, and this is a play of it of which nobody is told
+-- nobody hears of a play: whatever is told changes nothing
+abbrev pub Unheard : GroupRecord ℕ Note → Transcript → Unit {0} → Command → Unit {0} → Type 0
+Unheard r transcript old command new = Unit {0}
+
+abbrev pub UnheardAfter : GroupRecord ℕ Note → Transcript → Unit {0} → Command → CommandAccount → Unit {0} → Type 0
+UnheardAfter r transcript old command account new = Unit {0}
+
+-- the input is a script, and this is a play of it of which nobody hears
 abbrev pub PlaysInput : ℕ → List ℕ → Option (List ℕ) → Option (List ℕ) → Result (Unit {0}) OutputFault → Type 0
 PlaysInput workers input before after result =
-    (s : Outline) × IsScriptOf input s × PlaysScript {O = Unit {0}} (λ _ _ _ _ _. Unit {0}) (λ _ _ _ _ _ _. Unit {0}) workers s (text before) (text after) tt tt result
+    (s : Outline) × IsScriptOf input s × PlaysScript Unheard UnheardAfter workers s (text before) (text after) tt tt result
 
 -- what a play of the bytes leaves in the writer
 abbrev pub Plays : ℕ → List ℕ → Option (List ℕ) → Option (List ℕ) → Result (Unit {0}) RunFault → Type 0

@@ -1,8 +1,10 @@
 //! The commands of a script, each with what it prints and what it did beside that.
 
-ghost use Rattle.std.specs.Prelude.{◌≡◌, ◌++◌, drop, IfOk};
+ghost use Rattle.std.specs.Prelude.{◌≡◌, Bool, IfOk, not};
+ghost use Rattle.std.specs.List.{filter};
+ghost use Rattle.fbl_base.specs.declared.trace.Determinant.{Determinant};
 ghost use Rattle.fbl_group.specs.Strikes.{lost_receipts};
-ghost use Rattle.fbl_play.specs.Runs.{CheckpointStep, DeliverStep, HasMembers, IsDumped, NamesLost, RecoverStep, Step, StrikeStep, less};
+ghost use Rattle.fbl_play.specs.Runs.{CheckpointStep, DeliverStep, HasMembers, IsDumped, RecoverStep, Step, StrikeStep};
 
 use crate::output::{Answer, Output, Refusal};
 use crate::reasons::{checkpoint_reason, deliver_reason, no_such_member, strike_reason};
@@ -52,13 +54,13 @@ fn lost_of<B: Behaviour<State = u64, Note = Note>>(
     group.lost_receipts(alloc)
 }
 
-/// The receipts of the second list without those of the first, which stand in it in the same order.
+/// The receipts that are lost after a strike without those that were lost before it. Both lists are in the order of the trace.
 fn newly_lost(
     alloc: Global,
     before: &[Determinant],
     after: &[Determinant],
 ) -> Result<Vec<Determinant>, AllocError>
-    ensures { IfOk result (λ lost. lost.items ≡ less before.now after.now) }
+    ensures { IfOk result (λ lost. (recorded : Determinant → Bool) → before.now ≡ filter (λ d. not (recorded d)) after.now → lost.items ≡ filter recorded after.now) }
 {
     let mut lost = Vec::new(alloc);
     let mut passed = 0;

@@ -18,7 +18,8 @@ use command_line::{Misuse, Request, request_of};
 use fbl_draw::draw_bytes;
 use fbl_dump::{Verdict, audit_bytes, check_bytes};
 use fbl_input::{RunFault, read_input};
-use fbl_play::play_observed;
+use fbl_play::play_script;
+use fbl_script::script_of_bytes;
 use files::obey_request;
 use showing::show_observed;
 use std::alloc::Global;
@@ -178,11 +179,10 @@ fn play_well<T: Eprint + Threads + Wait + Sync, W: Write>(
     requires { WorkersAllowed workers }
     ensures { PlaysWell workers strict input.now (W.contents writer.old) (W.contents writer.new) result }
 {
+    let script = script_of_bytes(alloc, input)?;
     let mut teller = Teller::new(rt, explain);
-    match play_observed(rt, alloc, input, writer, workers, &mut teller) {
-        Ok(()) => Ok(is_well(strict, teller.has_refused())),
-        Err(fault) => Err(fault),
-    }
+    play_script(rt, alloc, script, writer, workers, &mut teller)?;
+    Ok(is_well(strict, teller.has_refused()))
 }
 
 /// Plays the script that the bytes spell, and draws its history.

@@ -8,7 +8,8 @@ ghost use Rattle.fblrun.specs.Showing.{Shows};
 ghost use Rattle.fbl_input.specs.Faults.{PutsOut};
 
 use fbl_input::{RunFault, put};
-use fbl_play::{Observer, RunHistory, history_observed};
+use fbl_play::{Observer, RunHistory, history_of_script};
+use fbl_script::script_of_bytes;
 use fbl_show::show_text;
 use std::alloc::Global;
 use std::io::Write;
@@ -27,7 +28,7 @@ fn show_history<W: Write>(
     let name = played.behaviour.name();
     let columns = played.history.columns();
     let text = show_text(alloc, played.members, played.f, name, columns)?;
-    put(writer, text.as_bytes())
+    Ok(put(writer, text.as_bytes())?)
 }
 
 /// Plays the script that the bytes spell, and then writes the picture of its history. Where the play ends by a fault nothing
@@ -43,8 +44,7 @@ pub(crate) fn show_observed<T: Threads + Wait + Sync, W: Write, O: Observer>(
     requires { WorkersAllowed workers }
     ensures { Shows workers input.now (W.contents writer.old) (W.contents writer.new) result }
 {
-    match history_observed(rt, alloc, input, workers, observer) {
-        Ok(played) => show_history(alloc, writer, &played),
-        Err(fault) => Err(fault),
-    }
+    let script = script_of_bytes(alloc, input)?;
+    let played = history_of_script(rt, alloc, script, workers, observer)?;
+    show_history(alloc, writer, &played)
 }

@@ -6,12 +6,14 @@ ghost use Rattle.fblrun.specs.Statuses.{status_after as status_after_result};
 use crate::streams::Failure;
 use crate::{Order, Task, fail, status_of_done};
 use fbl_base::audit::Dump;
+use fbl_base::{Behaviour, Note};
 use fbl_dump::dump_of_bytes;
 use fbl_explain::{
     AccountOf, CommandAccount, Explanation, Why, Words, explain, why_lost, why_unsafe,
 };
+use fbl_group::Group;
 use fbl_input::{InputKind, RunFault};
-use fbl_play::Observer;
+use fbl_play::{Observer, Transcribed};
 use fbl_script::Command;
 use std::alloc::Global;
 use std::fmt;
@@ -95,11 +97,16 @@ impl<R: Eprint> Observer for Teller<'_, R> {
     ghost use Rattle.fbl_explain.specs.Accounts.{is_refusal};
 
     // what is told on standard error no contract sees
-    ghost hears_before = { λ old _ new. new.has_refused ≡ old.has_refused };
+    ghost hears_before = { λ _ _ old _ new. new.has_refused ≡ old.has_refused };
 
-    ghost hears_after = { λ old _ account new. new.has_refused ≡ (old.has_refused || is_refusal account) };
+    ghost hears_after = { λ _ _ old _ account new. new.has_refused ≡ (old.has_refused || is_refusal account) };
 
-    fn before(&mut self, command: &Command) {
+    fn before<B: Behaviour<State = u64, Note = Note>, K: Transcribed>(
+        &mut self,
+        command: &Command,
+        _group: &Group<B>,
+        _transcript: &K,
+    ) {
         if self.is_asked {
             let place = self.place;
             let words = Words(command);
@@ -107,7 +114,13 @@ impl<R: Eprint> Observer for Teller<'_, R> {
         }
     }
 
-    fn after(&mut self, command: &Command, account: &CommandAccount) {
+    fn after<B: Behaviour<State = u64, Note = Note>, K: Transcribed>(
+        &mut self,
+        command: &Command,
+        account: &CommandAccount,
+        _group: &Group<B>,
+        _transcript: &K,
+    ) {
         let place = self.place;
         self.place = place.saturating_add(1);
         self.has_refused = self.has_refused || account.is_refusal();
