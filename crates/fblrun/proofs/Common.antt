@@ -42,9 +42,10 @@ pub use Rattle.fbl_input.specs.Faults.{PutsOut}
 pub use Rattle.fbl_input.specs.declared.fault.RunFault.{RunFault}
 pub use Rattle.fbl_input.specs.declared.output.OutputFault.{OutputFault}
 pub use Rattle.fbl_law.specs.Groups.{GroupRecord}
-pub use Rattle.fbl_play.specs.Plays.{Along, IsHistoryPlay, IsRun, IsRunOne, Moment, PlaysScript}
+pub use Rattle.fbl_play.specs.Plays.{Along, IsHistoryPlay, Moment, PlaysScript, PlaysUnheard}
+pub use Rattle.fbl_play.proofs.Moments.{play_unheard}
 pub use Rattle.fbl_play.specs.Transcripts.{Transcript, history, text}
 pub use Rattle.fbl_play.specs.declared.engine.RunHistory.{RunHistory}
 pub use Rattle.fbl_script.specs.Scripts.{IsScriptFault, IsScriptOf, Outline, behaviour_word, outline}
 pub use Rattle.fbl_script.specs.declared.script.Command.{Command}
-pub use Rattle.fblrun.specs.Orders.{DoesScript, DoesTask, IsDumpAnswer, IsShown, PlaysWell, Unheard}
+pub use Rattle.fblrun.specs.Orders.{DoesScript, DoesTask, IsDumpAnswer, IsShown, PlaysWell}

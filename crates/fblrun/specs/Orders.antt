@@ -12,8 +12,8 @@ use Rattle.fbl_history.specs.declared.column.Column.{Column}
 use Rattle.fbl_input.specs.Faults.{OverInput, PutsOut}
 use Rattle.fbl_input.specs.declared.fault.RunFault.{RunFault}
 use Rattle.fbl_input.specs.declared.output.OutputFault.{OutputFault}
-use Rattle.fbl_play.specs.Plays.{PlaysScript}
-use Rattle.fbl_play.specs.Transcripts.{Transcript, history, text}
+use Rattle.fbl_play.specs.Plays.{PlaysUnheard}
+use Rattle.fbl_play.specs.Transcripts.{history, text}
 use Rattle.fbl_script.specs.Scripts.{Outline, IsScriptFault, IsScriptOf, behaviour_word}
 use Rattle.fbl_show.specs.HistoryPictures.{history_picture}
 use Rattle.fblrun.specs.declared.DumpTask.{DumpTask}
@@ -25,19 +25,15 @@ use Rattle.fblrun.specs.declared.Task.{Task}
 use Rattle.fblrun.specs.declared.Task.TheVariants.{Script, Dump}
 use Rattle.fblrun.specs.Statuses.{status_after}
 
--- a play of a script of which nobody is told
-abbrev pub Unheard : ℕ → Outline → Transcript → Transcript → Result (Unit {0}) OutputFault → Type 0
-Unheard workers s had has result = PlaysScript {O = Unit {0}} (λ _ _ _ _ _. Unit {0}) (λ _ _ _ _ _ _. Unit {0}) workers s had has tt tt result
-
 -- a play, after which all is well but where it is strict and some command was refused
 abbrev pub PlaysWell : ℕ → Bool → Outline → Option (List ℕ) → Option (List ℕ) → Result Bool OutputFault → Type 0
-PlaysWell workers strict s before after (Ok is_well) = (played : Unheard workers s (text before) (text after) (Ok tt)) × (is_well ≡ not (strict && list_any is_refusal played.0))
-PlaysWell workers strict s before after (Err fault) = Unheard workers s (text before) (text after) (Err fault)
+PlaysWell workers strict s before after (Ok is_well) = (played : PlaysUnheard workers s (text before) (text after) (Ok tt)) × (is_well ≡ not (strict && list_any is_refusal played.0))
+PlaysWell workers strict s before after (Err fault) = PlaysUnheard workers s (text before) (text after) (Err fault)
 
 -- the text is the picture of a history of the script, where so many workers make its runs
 abbrev pub IsShown : ℕ → Outline → List ℕ → Type 0
 IsShown workers s shown =
-    (columns : List Column) × Unheard workers s (history None) (history (Some columns)) (Ok tt)
+    (columns : List Column) × PlaysUnheard workers s (history None) (history (Some columns)) (Ok tt)
     × (shown ≡ history_picture s.config.members s.config.f (behaviour_word s.behaviour) columns)
 
 -- what is done with the script, and whether all is well

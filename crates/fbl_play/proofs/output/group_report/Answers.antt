@@ -1,5 +1,5 @@
 use Rattle.fbl_play.proofs.Common.{ap, ◌∙◌, IfOk-weaker, report_lines}
-use Rattle.fbl_play.proofs.commands.run_report.Goals as goal
+use Rattle.fbl_play.proofs.output.group_report.Goals as goal
 
 pub returns : goal.returns
 returns g c =
