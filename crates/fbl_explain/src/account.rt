@@ -17,8 +17,11 @@ pub enum CommandAccount {
     Done,
     /// It was refused.
     Refused(Reason),
-    /// A strike: these receipts are lost, in the order of the trace.
-    Lost(Vec<Determinant>),
+    /// A strike: these receipts it loses, in the order of the trace, and so many others were lost before it.
+    Lost {
+        receipts: Vec<Determinant>,
+        before: usize,
+    },
     /// A recovery: these receipts are undone, in the order of the trace.
     Undone(Vec<Determinant>),
     /// Workers ran.
@@ -42,8 +45,8 @@ impl CommandAccount {
     {
         match self {
             CommandAccount::Done => false,
-            CommandAccount::Lost(receipts) | CommandAccount::Undone(receipts) =>
-                !receipts.is_empty(),
+            CommandAccount::Lost { receipts, before } => !(receipts.is_empty() && *before == 0),
+            CommandAccount::Undone(receipts) => !receipts.is_empty(),
             CommandAccount::Refused(_) | CommandAccount::Ran(_) => true,
         }
     }
@@ -123,6 +126,22 @@ fn write_receipts<W: fmt::Write>(
     Ok(())
 }
 
+/// Writes the receipts that a strike loses, and how many were lost before it, as in `lost: none; lost before it: 2`.
+fn write_lost<W: fmt::Write>(
+    f: &mut fmt::Formatter<W>,
+    receipts: &[Determinant],
+    before: usize,
+) -> fmt::Result {
+    write_receipts(f, "lost", receipts)?;
+    if before == 0 {
+        return Ok(());
+    }
+    if receipts.is_empty() {
+        f.write_str(": none")?;
+    }
+    write!(f, "; lost before it: {before}")
+}
+
 /// A command's place and words with its account, as in `command 7, deliver to 1 from 2: nothing is in flight from 2 to 1`.
 #[derive(Clone, Copy)]
 pub struct AccountOf<'a> {
@@ -140,7 +159,9 @@ impl fmt::Display for AccountOf<'_> {
         match (self.account, self.command) {
             (CommandAccount::Done, _) => f.write_str("done"),
             (CommandAccount::Refused(reason), _) => write!(f, "{reason}"),
-            (CommandAccount::Lost(receipts), _) => write_receipts(f, "lost", receipts),
+            (CommandAccount::Lost { receipts, before }, _) => {
+                write_lost(f, receipts, *before)
+            }
             (CommandAccount::Undone(receipts), _) => write_receipts(f, "undone", receipts),
             (CommandAccount::Ran(counts), Command::Run(plan)) => counts.write(f, plan.strikes()),
             (CommandAccount::Ran(counts), _) => counts.write(f, &[]),

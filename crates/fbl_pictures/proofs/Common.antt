@@ -18,9 +18,6 @@ pub use Rattle.fbl_base.specs.Events.{is_message, same_message}
 pub use Rattle.fbl_base.specs.declared.trace.MessageName.{MessageName}
 pub use Rattle.fbl_history.specs.Columns.{made_after, receipts_made, ReceiptsFollowSends}
 pub use Rattle.fbl_history.specs.declared.column.Column.{Column}
-pub use Rattle.fbl_dump.proofs.Answers.{answers_dump, answers_fault, answers_unread}
-pub use Rattle.fbl_dump.specs.Answering.{TextAlone}
-pub use Rattle.fbl_input.proofs.Inputs.{read_whole}
 pub use Rattle.fbl_input.proofs.Outputs.{puts_text}
 pub use Rattle.fbl_pictures.specs.DumpEvents.{event_arrow, event_marks}
 pub use Rattle.fbl_pictures.specs.DumpMembers.{dump_member_shapes, members_drawn, shapes_of_member}

@@ -15,4 +15,3 @@ pub mod DumpEvents
 pub mod DumpMembers
 pub mod DumpPaths
 pub mod DumpPictures
-pub mod Drawing

@@ -1,4 +1,4 @@
-//! Pictures: what a history has, member by member, and dumps, over any reader and writer. Each is made of shapes, in a frame with a
+//! Pictures: what a history has, member by member, and dumps. Each is made of shapes, in a frame with a
 //! heading and a legend.
 #![tactic(auto)]
 
@@ -23,5 +23,5 @@ mod places;
 mod shape;
 mod words;
 
-pub use drawing::{draw, draw_bytes};
+pub use drawing::write_picture;
 pub use history_picture::show_text;

@@ -1,4 +1,3 @@
 pub mod Common
-pub mod Told
-pub mod HistoryRuns
-pub mod Steps
+pub mod Losses
+pub mod Moments

@@ -1,6 +1,6 @@
 pub mod Texts
+pub mod Reasons
 pub mod RunSteps
 pub mod Runs
-pub mod Reasons
-pub mod Telling
-pub mod Histories
+pub mod Transcripts
+pub mod Plays

@@ -1,13 +1,25 @@
--- What is printed of a group.
-use Rattle.std.specs.Prelude.{◌≡◌, ℕ, zero, suc, ◌↔◌, true, List, [], ◌∷◌, ◌++◌, length, Option, Some, None, if◌then◌else◌}
+-- What commands print.
+use Rattle.std.specs.Prelude.{◌≡◌, ℕ, zero, suc, ◌↔◌, true, List, [], ◌∷◌, ◌++◌, length, Option, Some, None, codes, if◌then◌else◌}
 use Rattle.std.specs.FinSet as set
 use Rattle.fbl_base.specs.declared.trace.Note.{Note}
 use Rattle.fbl_base.specs.Audit.{IsDumpOrphan, lost_determinants}
 use Rattle.fbl_member.specs.Members.{MemberRecord}
 use Rattle.fbl_law.specs.Groups.{GroupRecord, member, messages_in_flight}
 use Rattle.fbl_law.specs.Dumps.{dump_of}
+use Rattle.fbl_dump.specs.DumpLines.{dump_line}
+use Rattle.fbl_group.specs.Names.{checkpoint_name, deliver_name, dump_group_name, recover_name, strike_name}
 use Rattle.fbl_lines.specs.declared.lines.MemberStatus.{MemberStatus}
 use Rattle.fbl_lines.specs.declared.lines.Totals.{Totals}
+use Rattle.fbl_lines.specs.Lines.{checkpoint_line, deliver_line, recover_line, refused_at_line, refused_line, report_lines, run_line, states_line, strike_line}
+use Rattle.fbl_threads.specs.declared.draining.DrainRefusal.{DrainRefusal}
+use Rattle.fbl_threads.specs.declared.draining.DrainRefusal.TheVariants as drain
+use Rattle.fbl_threads.specs.Names.{drain_name}
+use Rattle.fbl_play.specs.declared.output.Output.{Output}
+use Rattle.fbl_play.specs.declared.output.Output.TheVariants as outputs
+use Rattle.fbl_play.specs.declared.output.Refusal.{Refusal}
+use Rattle.fbl_play.specs.declared.output.Refusal.TheVariants as refusals
+
+-- ---- a group
 
 -- what is asked of each member, from the first one on
 abbrev pub per_member : {X : Type 0} → (ℕ → X) → ℕ → List X
@@ -37,3 +49,35 @@ pub record AreTotals (r : GroupRecord ℕ Note) (t : Totals) : Type 0 where
   pub trace : t.trace ≡ length r.trace
   pub lost : t.lost ≡ length (lost_determinants (dump_of r r.down))
   pub orphans : (q : ℕ) → (set.contains t.orphans q ≡ true) ↔ IsDumpOrphan (dump_of r r.down) q
+
+-- the lines of a report of the group
+abbrev pub IsReport : GroupRecord ℕ Note → List ℕ → Type 0
+IsReport r text = (totals : Totals) × AreTotals r totals × (text ≡ report_lines (shown_statuses r) totals)
+
+-- ---- commands
+
+-- the line of a refused run
+abbrev pub run_refusal_line : DrainRefusal → List ℕ
+run_refusal_line (drain.BadPlan place) = refused_at_line (codes "run") (drain_name (drain.BadPlan place)) place
+run_refusal_line refusal = refused_line (codes "run") (drain_name refusal)
+
+-- the line of a refused command
+abbrev pub refusal_line : Refusal → List ℕ
+refusal_line (refusals.Deliver refusal) = refused_line (codes "deliver") (deliver_name refusal)
+refusal_line (refusals.Strike refusal) = refused_line (codes "strike") (strike_name refusal)
+refusal_line (refusals.Recover refusal) = refused_line (codes "recover") (recover_name refusal)
+refusal_line (refusals.Dump refusal) = refused_line (codes "dump") (dump_group_name refusal)
+refusal_line (refusals.Run refusal) = run_refusal_line refusal
+refusal_line (refusals.Checkpoint refusal) = refused_line (codes "checkpoint") (checkpoint_name refusal)
+
+-- the text of a command's output, where the command left the group like this
+abbrev pub IsText : GroupRecord ℕ Note → Output → List ℕ → Type 0
+IsText r (outputs.Delivery to from answer) text = text ≡ deliver_line to from answer.rsn answer.carried answer.state
+IsText r outputs.States text = text ≡ states_line (shown_states r)
+IsText r outputs.Report text = IsReport r text
+IsText r (outputs.Strike struck answer) text = text ≡ strike_line struck answer.lost
+IsText r (outputs.Recovery down answer) text = text ≡ recover_line answer.replayed answer.resent answer.undone
+IsText r (outputs.Dump dump) text = text ≡ dump_line dump
+IsText r (outputs.Run end) text = text ≡ run_line end
+IsText r (outputs.Checkpoint p received) text = text ≡ checkpoint_line p received
+IsText r (outputs.Refusal refusal) text = text ≡ refusal_line refusal

@@ -1,230 +1,177 @@
-//! The commands of a script, each with the lines that it prints.
+//! The commands of a script, each with what it prints and what it did beside that.
 
-ghost use Rattle.std.specs.Prelude.{◌≡◌, ◌<◌, IfOk, string_bytes};
-ghost use Rattle.fbl_play.specs.Runs.{Step, CheckpointStep, DeliverStep, IsReport, IsDumpText, StrikeStep, RecoverStep};
-ghost use Rattle.fbl_play.specs.Texts.{shown_state as shown_state_of, shown_states, shown_status as shown_status_of, shown_statuses, AreTotals};
-ghost use Rattle.fbl_lines.specs.Lines.{states_line};
+ghost use Rattle.std.specs.Prelude.{◌≡◌, Bool, IfOk, not};
+ghost use Rattle.std.specs.List.{filter};
+ghost use Rattle.fbl_base.specs.declared.trace.Determinant.{Determinant};
+ghost use Rattle.fbl_group.specs.Strikes.{lost_receipts};
+ghost use Rattle.fbl_play.specs.Runs.{CheckpointStep, DeliverStep, HasMembers, IsDumped, RecoverStep, Step, StrikeStep};
 
-use crate::answer::{Answer, answer_with};
+use crate::output::{Answer, Output, Refusal};
 use crate::reasons::{checkpoint_reason, deliver_reason, no_such_member, strike_reason};
 use crate::runs::run_plan;
-use fbl_audit::Audit;
-use fbl_base::{Behaviour, Member, MemberSet, Note};
-use fbl_dump::dump_text;
+use fbl_base::{Behaviour, Determinant, Member, MemberSet, Note};
 use fbl_explain::{CommandAccount, Reason};
 use fbl_group::{CheckpointRefusal, DeliverRefusal, DumpGroupRefusal, Group, RecoverRefusal};
-use fbl_lines::{
-    MemberStatus, Totals, checkpoint_text, deliver_text, recover_text, refused_text, report_text,
-    states_text, strike_text,
-};
 use fbl_script::Command;
 use std::alloc::{AllocError, Global};
 use std::sync::Wait;
 use std::thread::Threads;
 
-/// Delivers, and answers the line.
+/// Delivers.
 fn run_deliver<B: Behaviour<State = u64, Note = Note>>(
-    alloc: Global,
     group: &mut Group<B>,
     to: Member,
     from: Member,
 ) -> Result<Answer, AllocError>
-    ensures { IfOk result (λ answer. DeliverStep B.next group.old to from group.new (string_bytes answer.text) answer.account) }
+    ensures step { IfOk result (λ answer. DeliverStep B.next group.old to from group.new answer.output answer.account) }
+    ensures within { IfOk result (λ answer. HasMembers group.new answer.output) }
 {
     match group.deliver(to, from) {
-        Ok(answer) => answer_with(
-            deliver_text(alloc, to, from, answer.rsn, answer.carried, answer.state),
-            CommandAccount::Done,
-        ),
+        Ok(answer) => Ok(Answer {
+            output: Output::Delivery { to, from, answer },
+            account: CommandAccount::Done,
+        }),
         Err(DeliverRefusal::Memory) => Err(AllocError),
-        Err(refusal) => answer_with(
-            refused_text(alloc, "deliver", refusal.name()),
-            CommandAccount::Refused(deliver_reason(group, to, from, refusal)),
-        ),
+        Err(refusal) => Ok(Answer {
+            output: Output::Refusal(Refusal::Deliver(refusal)),
+            account: CommandAccount::Refused(deliver_reason(group, to, from, refusal)),
+        }),
     }
 }
 
-/// The member's state, none if it is down.
-fn shown_state<B: Behaviour<State = u64, Note = Note>>(
-    group: &Group<B>,
-    member: Member,
-) -> Option<u64>
-    requires { member < group.now.config.members }
-    ensures { result ≡ shown_state_of group.now member }
-{
-    if group.down().has(member) {
-        return None;
-    }
-    Some(group.state(member))
-}
-
-/// The line of the members' states.
-fn run_states<B: Behaviour<State = u64, Note = Note>>(
+/// The receipts of the group that are lost, in the order of the trace. While nobody is down there are none.
+fn lost_of<B: Behaviour<State = u64, Note = Note>>(
     alloc: Global,
     group: &Group<B>,
-) -> Result<String, AllocError>
-    ensures { IfOk result (λ text. string_bytes text ≡ states_line (shown_states group.now)) }
+) -> Result<Vec<Determinant>, AllocError>
+    ensures { IfOk result (λ lost. lost.items ≡ lost_receipts group.now) }
 {
-    let mut states = Vec::new(alloc);
-    for number in 0..group.config().members() {
-        let member = Member::at(number);
-        states.push(shown_state(group, member))?;
+    // in a sound group each receipt of a member that is up is recorded
+    group.recoverable();
+    if group.down().count() == 0 {
+        return Ok(Vec::new(alloc));
     }
-    states_text(alloc, states.as_slice())
+    group.lost_receipts(alloc)
 }
 
-/// What a report says of the member, none if it is down.
-fn shown_status<B: Behaviour<State = u64, Note = Note>>(
-    group: &Group<B>,
-    member: Member,
-) -> Option<MemberStatus>
-    requires { member < group.now.config.members }
-    ensures { result ≡ shown_status_of group.now member }
+/// The receipts that are lost after a strike without those that were lost before it. Both lists are in the order of the trace.
+fn newly_lost(
+    alloc: Global,
+    before: &[Determinant],
+    after: &[Determinant],
+) -> Result<Vec<Determinant>, AllocError>
+    ensures { IfOk result (λ lost. (recorded : Determinant → Bool) → before.now ≡ filter (λ d. not (recorded d)) after.now → lost.items ≡ filter recorded after.now) }
 {
-    if group.down().has(member) {
-        return None;
+    let mut lost = Vec::new(alloc);
+    let mut passed = 0;
+    for receipt in after {
+        if passed < before.len() && before[passed] == *receipt {
+            passed += 1;
+        } else {
+            lost.push(*receipt)?;
+        }
     }
-    Some(MemberStatus {
-        state: group.state(member),
-        received: group.received(member),
-        sent: group.sent(member),
-        held: group.held(member) as usize,
-    })
+    Ok(lost)
 }
 
-/// What a report says of each member.
-fn statuses<B: Behaviour<State = u64, Note = Note>>(
-    alloc: Global,
-    group: &Group<B>,
-) -> Result<Vec<Option<MemberStatus>>, AllocError>
-    ensures { IfOk result (λ v. v.items ≡ shown_statuses group.now) }
-{
-    let mut statuses = Vec::new(alloc);
-    for number in 0..group.config().members() {
-        let member = Member::at(number);
-        statuses.push(shown_status(group, member))?;
-    }
-    Ok(statuses)
-}
-
-/// What a report says of the whole group.
-fn totals<B: Behaviour<State = u64, Note = Note>>(
-    alloc: Global,
-    group: &Group<B>,
-) -> Result<Totals, AllocError>
-    ensures { IfOk result (AreTotals group.now) }
-{
-    let dump = match group.dump(group.down()) {
-        Ok(dump) => dump,
-        Err(DumpGroupRefusal::Memory) => return Err(AllocError),
-        Err(DumpGroupRefusal::BadStrike) => unreachable!(),
-    };
-    let audit = Audit::of(alloc, &dump)?;
-    let lost = audit.lost(alloc)?;
-    Ok(Totals {
-        flight: group.messages_in_flight(),
-        trace: group.trace().len(),
-        lost: lost.len(),
-        orphans: audit.orphans(),
-    })
-}
-
-/// The lines of a report.
-fn run_report<B: Behaviour<State = u64, Note = Note>>(
-    alloc: Global,
-    group: &Group<B>,
-) -> Result<String, AllocError>
-    ensures { IfOk result (λ text. IsReport group.now (string_bytes text)) }
-{
-    let statuses = statuses(alloc, group)?;
-    let totals = totals(alloc, group)?;
-    report_text(alloc, statuses.as_slice(), &totals)
-}
-
-/// Strikes, and answers the line.
+/// Strikes.
 fn run_strike<B: Behaviour<State = u64, Note = Note>>(
     alloc: Global,
     group: &mut Group<B>,
-    set: MemberSet,
+    struck: MemberSet,
 ) -> Result<Answer, AllocError>
-    ensures { IfOk result (λ answer. StrikeStep B.next group.old set group.new (string_bytes answer.text) answer.account) }
+    ensures step { IfOk result (λ answer. StrikeStep B.next group.old struck group.new answer.output answer.account) }
+    ensures within { IfOk result (λ answer. HasMembers group.new answer.output) }
 {
-    match group.strike(set) {
-        Ok(struck) => {
-            let lost = group.lost_receipts(alloc)?;
-            answer_with(
-                strike_text(alloc, set, struck.lost),
-                CommandAccount::Lost(lost),
-            )
+    let before = lost_of(alloc, group)?;
+    match group.strike(struck) {
+        Ok(answer) => {
+            let after = lost_of(alloc, group)?;
+            let receipts = newly_lost(alloc, before.as_slice(), after.as_slice())?;
+            Ok(Answer {
+                output: Output::Strike { struck, answer },
+                account: CommandAccount::Lost {
+                    receipts,
+                    before: before.len(),
+                },
+            })
         }
-        Err(refusal) => answer_with(
-            refused_text(alloc, "strike", refusal.name()),
-            CommandAccount::Refused(strike_reason(group, set, refusal)),
-        ),
+        Err(refusal) => Ok(Answer {
+            output: Output::Refusal(Refusal::Strike(refusal)),
+            account: CommandAccount::Refused(strike_reason(group, struck, refusal)),
+        }),
     }
 }
 
-/// Recovers, and answers the line.
+/// Recovers.
 fn run_recover<B: Behaviour<State = u64, Note = Note>>(
     alloc: Global,
     group: &mut Group<B>,
 ) -> Result<Answer, AllocError>
-    ensures { IfOk result (λ answer. RecoverStep B.next group.old group.new (string_bytes answer.text) answer.account) }
+    ensures step { IfOk result (λ answer. RecoverStep B.next group.old group.new answer.output answer.account) }
+    ensures within { IfOk result (λ answer. HasMembers group.new answer.output) }
 {
-    let undone = group.lost_receipts(alloc)?;
+    let down = group.down();
+    let undone = lost_of(alloc, group)?;
     match group.recover() {
-        Ok(answer) => answer_with(
-            recover_text(alloc, answer.replayed, answer.resent, answer.undone),
-            CommandAccount::Undone(undone),
-        ),
+        Ok(answer) => Ok(Answer {
+            output: Output::Recovery { down, answer },
+            account: CommandAccount::Undone(undone),
+        }),
         Err(RecoverRefusal::Memory) => Err(AllocError),
-        Err(refusal) => answer_with(
-            refused_text(alloc, "recover", refusal.name()),
-            CommandAccount::Refused(Reason::NotDown),
-        ),
+        Err(refusal) => Ok(Answer {
+            output: Output::Refusal(Refusal::Recover(refusal)),
+            account: CommandAccount::Refused(Reason::NotDown),
+        }),
     }
 }
 
-/// Takes a checkpoint, and answers the line.
+/// Takes a checkpoint.
 fn run_checkpoint<B: Behaviour<State = u64, Note = Note>>(
-    alloc: Global,
     group: &mut Group<B>,
     member: Member,
 ) -> Result<Answer, AllocError>
-    ensures { IfOk result (λ answer. CheckpointStep group.old member group.new (string_bytes answer.text) answer.account) }
+    ensures step { IfOk result (λ answer. CheckpointStep group.old member group.new answer.output answer.account) }
+    ensures within { IfOk result (λ answer. HasMembers group.new answer.output) }
 {
     match group.checkpoint(member) {
-        Ok(()) => answer_with(
-            checkpoint_text(alloc, member, group.checkpoint_received(member)),
-            CommandAccount::Done,
-        ),
+        Ok(()) => Ok(Answer {
+            output: Output::Checkpoint {
+                member,
+                received: group.checkpoint_received(member),
+            },
+            account: CommandAccount::Done,
+        }),
         Err(CheckpointRefusal::Memory) => Err(AllocError),
-        Err(refusal) => answer_with(
-            refused_text(alloc, "checkpoint", refusal.name()),
-            CommandAccount::Refused(checkpoint_reason(group, member, refusal)),
-        ),
+        Err(refusal) => Ok(Answer {
+            output: Output::Refusal(Refusal::Checkpoint(refusal)),
+            account: CommandAccount::Refused(checkpoint_reason(group, member, refusal)),
+        }),
     }
 }
 
-/// The line of a dump.
+/// Dumps the group.
 fn run_dump<B: Behaviour<State = u64, Note = Note>>(
-    alloc: Global,
     group: &Group<B>,
     strike: MemberSet,
 ) -> Result<Answer, AllocError>
-    ensures { IfOk result (λ answer. IsDumpText group.now strike (string_bytes answer.text) answer.account) }
+    ensures step { IfOk result (λ answer. IsDumped group.now strike answer.output answer.account) }
+    ensures within { IfOk result (λ answer. HasMembers group.now answer.output) }
 {
     match group.dump(strike) {
-        Ok(dump) => answer_with(dump_text(alloc, &dump), CommandAccount::Done),
+        Ok(dump) => Ok(Answer {
+            output: Output::Dump(dump),
+            account: CommandAccount::Done,
+        }),
         Err(DumpGroupRefusal::Memory) => Err(AllocError),
-        Err(refusal) => answer_with(
-            refused_text(alloc, "dump", refusal.name()),
-            CommandAccount::Refused(no_such_member(group, strike)),
-        ),
+        Err(refusal) => Ok(Answer {
+            output: Output::Refusal(Refusal::Dump(refusal)),
+            account: CommandAccount::Refused(no_such_member(group, strike)),
+        }),
     }
 }
 
-/// Runs one command, and answers the lines that it prints, with its account. The group comes back.
+/// Runs one command. The group comes back. `Err` comes only where there is no memory.
 pub(crate) fn run_command<
     B: Behaviour<State = u64, Note = Note> + Send + Sync,
     T: Threads + Wait + Sync,
@@ -235,16 +182,23 @@ pub(crate) fn run_command<
     mut group: Group<B>,
     command: &Command,
 ) -> (Group<B>, Result<Answer, AllocError>)
-    ensures { IfOk result.1 (λ answer. Step B.next workers group command.now result.0 (string_bytes answer.text) answer.account) }
+    ensures step { IfOk result.1 (λ answer. Step B.next workers group command.now result.0 answer.output answer.account) }
+    ensures within { IfOk result.1 (λ answer. HasMembers result.0 answer.output) }
 {
     let answer = match command {
-        Command::Deliver { to, from } => run_deliver(alloc, &mut group, *to, *from),
-        Command::States => answer_with(run_states(alloc, &group), CommandAccount::Done),
-        Command::Report => answer_with(run_report(alloc, &group), CommandAccount::Done),
-        Command::Strike(set) => run_strike(alloc, &mut group, *set),
+        Command::Deliver { to, from } => run_deliver(&mut group, *to, *from),
+        Command::States => Ok(Answer {
+            output: Output::States,
+            account: CommandAccount::Done,
+        }),
+        Command::Report => Ok(Answer {
+            output: Output::Report,
+            account: CommandAccount::Done,
+        }),
+        Command::Strike(struck) => run_strike(alloc, &mut group, *struck),
         Command::Recover => run_recover(alloc, &mut group),
-        Command::Dump(strike) => run_dump(alloc, &group, *strike),
-        Command::Checkpoint(member) => run_checkpoint(alloc, &mut group, *member),
+        Command::Dump(strike) => run_dump(&group, *strike),
+        Command::Checkpoint(member) => run_checkpoint(&mut group, *member),
         Command::Run(plan) => return run_plan(rt, alloc, workers, group, plan),
     };
     (group, answer)

@@ -1,64 +1,69 @@
-//! Plays a script.
+//! Plays a script, and answers its history.
 
-ghost use Rattle.std.specs.Prelude.{IfSome};
+ghost use Rattle.std.specs.Prelude.{IfSome, None};
 ghost use Rattle.fbl_base.specs.Configs.{WorkersAllowed};
-ghost use Rattle.fbl_play.specs.Runs.{Plays, ReadsAndPlays, next_of};
-ghost use Rattle.fbl_play.specs.Telling.{Tells, TellsOn};
+ghost use Rattle.fbl_play.specs.Plays.{IsHistoryPlay, IsPlay, PlaysScript, ReadsAndPlays};
+ghost use Rattle.fbl_play.specs.Transcripts.{text};
+ghost use Rattle.fbl_script.specs.Scripts.{outline};
 
 use crate::commands::run_command;
 use crate::observer::{NoObserver, Observer};
+use crate::output::Answer;
+use crate::transcript::{HistorySoFar, Transcriber};
 use fbl_base::{Behaviour, Config, Mix, Note, Relay};
 use fbl_group::Group;
-use fbl_input::{RunFault, put, read_input};
-use fbl_script::{BehaviourName, Command, Script, script_of_bytes};
-use std::alloc::Global;
+use fbl_history::History;
+use fbl_input::{OutputFault, RunFault};
+use fbl_script::{BehaviourName, Command, Script, read_script};
+use std::alloc::{AllocError, Global};
 use std::io::{Read, Write};
 use std::sync::Wait;
 use std::thread::Threads;
 
-/// Runs the commands on a new group, and writes each one's lines when it ends. The observer is told of each.
-fn play_with<
+/// Runs the commands on a new group, and adds each to the transcript when it ends. The observer is told of each.
+fn run_commands<
     B: Behaviour<State = u64, Note = Note> + Send + Sync,
     T: Threads + Wait + Sync,
-    W: Write,
+    K: Transcriber,
     O: Observer,
 >(
     rt: &T,
     alloc: Global,
-    writer: &mut W,
     workers: u8,
     config: Config,
     commands: &[Command],
+    transcript: &mut K,
     observer: &mut O,
-) -> Result<(), RunFault>
-    ensures { TellsOn O.hears_before O.hears_after B.next workers config commands.now (W.contents writer.old) (W.contents writer.new) observer.old observer.new result }
+) -> Result<(), OutputFault>
+    ensures { IsPlay O.hears_before O.hears_after B.next workers config commands.now (K.transcript transcript.old) (K.transcript transcript.new) observer.old observer.new result }
 {
     let mut group: Group<B> = Group::new(alloc, config)?;
     // the group is sound
     group.recoverable();
+    transcript.begin(alloc, &group)?;
     for command in commands {
-        observer.before(command);
+        observer.before(command, &group, transcript);
         let (after, answer) = run_command(rt, alloc, workers, group, command);
         group = after;
         // and so it is after each command
         group.recoverable();
-        let answer = answer?;
-        put(writer, answer.text.as_bytes())?;
-        observer.after(command, &answer.account);
+        let Answer { output, account } = answer?;
+        transcript.add(alloc, &group, &output)?;
+        observer.after(command, &account, &group, transcript);
     }
     Ok(())
 }
 
-/// Plays a script under the behaviour that it names.
-fn play_script<T: Threads + Wait + Sync, W: Write, O: Observer>(
+/// Runs a script under the behaviour that it names.
+fn run_script<T: Threads + Wait + Sync, K: Transcriber, O: Observer>(
     rt: &T,
     alloc: Global,
-    writer: &mut W,
-    workers: u8,
     script: Script,
+    workers: u8,
+    transcript: &mut K,
     observer: &mut O,
-) -> Result<(), RunFault>
-    ensures { TellsOn O.hears_before O.hears_after (next_of script.behaviour) workers script.config script.commands.items (W.contents writer.old) (W.contents writer.new) observer.old observer.new result }
+) -> Result<(), OutputFault>
+    ensures { PlaysScript O.hears_before O.hears_after workers (outline script) (K.transcript transcript.old) (K.transcript transcript.new) observer.old observer.new result }
 {
     let Script {
         behaviour,
@@ -67,58 +72,85 @@ fn play_script<T: Threads + Wait + Sync, W: Write, O: Observer>(
     } = script;
     let commands = commands.as_slice();
     match behaviour {
-        BehaviourName::Relay => {
-            play_with::<Relay, T, W, O>(rt, alloc, writer, workers, config, commands, observer)
-        }
-        BehaviourName::Mix => {
-            play_with::<Mix, T, W, O>(rt, alloc, writer, workers, config, commands, observer)
-        }
+        BehaviourName::Relay => run_commands::<Relay, T, K, O>(
+            rt, alloc, workers, config, commands, transcript, observer,
+        ),
+        BehaviourName::Mix => run_commands::<Mix, T, K, O>(
+            rt, alloc, workers, config, commands, transcript, observer,
+        ),
     }
 }
 
-/// Plays the script that the bytes spell, and writes each command's lines when it ends, before the next one begins.
+/// Plays the script, and writes each command's lines when it ends, before the next one begins.
 ///
-/// The script is read whole and checked before anything is run: nothing is written where the fault is one of the script.
 /// A refused command prints its refusal, and the play goes on; lack of memory ends it, and the command that met it prints
-/// nothing. After `Write` the lines of the commands before are written, and a proper prefix of the last one's. `Read` is no
-/// answer. A `run` is made by `workers` workers, 1 to 8.
+/// nothing. After `Write` the lines of the commands before are written, and a proper prefix of the last one's. A `run` is
+/// made by `workers` workers, and refused where they are not 1 to 8.
 ///
-/// The observer is told of each command in turn, before it is run and after its lines are written, and of none twice. Where
-/// the play ends early it is told of the commands whose lines are written, and that the next one is to be run. What it does
-/// with that is no part of the play.
-pub fn play_observed<T: Threads + Wait + Sync, W: Write, O: Observer>(
+/// The observer is told of each command in turn, before it is run and after its lines are written, and sees the group and
+/// what the writer has as they are then. Where the play ends early it is told of the commands whose lines are written, and
+/// that the next one is to be run. What it does with that is no part of the play.
+pub fn play_script<T: Threads + Wait + Sync, W: Write, O: Observer>(
     rt: &T,
     alloc: Global,
-    input: &[u8],
+    script: Script,
     writer: &mut W,
     workers: u8,
     observer: &mut O,
-) -> Result<(), RunFault>
-    requires { WorkersAllowed workers }
-    ensures plays { Plays workers input.now (W.contents writer.old) (W.contents writer.new) result }
-    ensures tells { Tells O.hears_before O.hears_after workers input.now (W.contents writer.old) (W.contents writer.new) observer.old observer.new result }
+) -> Result<(), OutputFault>
+    ensures { PlaysScript O.hears_before O.hears_after workers (outline script) (text (W.contents writer.old)) (text (W.contents writer.new)) observer.old observer.new result }
 {
-    match script_of_bytes(alloc, input) {
-        Ok(script) => play_script(rt, alloc, writer, workers, script, observer),
-        Err(fault) => Err(fault),
+    run_script(rt, alloc, script, workers, writer, observer)
+}
+
+/// The history of a script's run, with what the script says of its group.
+#[derive(Drop, Debug)]
+pub struct RunHistory {
+    /// How many members the group has, 2 to 16.
+    pub members: u8,
+    /// How many of them may be lost at once, from 1 to one less than there are.
+    pub f: u8,
+    /// What each member does with a message.
+    pub behaviour: BehaviourName,
+    /// What came, from the starts' sends on.
+    pub history: History,
+}
+
+/// Runs the script, and answers its history: what came, in the order in which it came. No lines are made.
+///
+/// A refused command adds nothing to the history, and the run goes on; lack of memory ends it. The observer is told of each
+/// command as by `play_script`, and sees the history so far.
+pub fn history_of_script<T: Threads + Wait + Sync, O: Observer>(
+    rt: &T,
+    alloc: Global,
+    script: Script,
+    workers: u8,
+    observer: &mut O,
+) -> Result<RunHistory, AllocError>
+    ensures { IsHistoryPlay O.hears_before O.hears_after workers (outline script) observer.old observer.new result }
+{
+    let members = script.config.members();
+    let f = script.config.f();
+    let behaviour = script.behaviour;
+    let mut so_far = HistorySoFar { history: None };
+    match run_script(rt, alloc, script, workers, &mut so_far, observer) {
+        Ok(()) => match so_far.history {
+            Some(history) => Ok(RunHistory {
+                members,
+                f,
+                behaviour,
+                history,
+            }),
+            None => unreachable!(),
+        },
+        Err(_) => Err(AllocError),
     }
 }
 
-/// Plays the script that the bytes spell, as `play_observed` does, with nobody told of it.
-pub fn play_bytes<T: Threads + Wait + Sync, W: Write>(
-    rt: &T,
-    alloc: Global,
-    input: &[u8],
-    writer: &mut W,
-    workers: u8,
-) -> Result<(), RunFault>
-    requires { WorkersAllowed workers }
-    ensures { Plays workers input.now (W.contents writer.old) (W.contents writer.new) result }
-{
-    play_observed(rt, alloc, input, writer, workers, &mut NoObserver)
-}
-
-/// Plays the script that the reader has, as `play_bytes` does. Where a read fails nothing is written.
+/// Plays the script that the reader has, as `play_script` does, with nobody told of it.
+///
+/// The script is read whole and checked before anything is run: nothing is written where a read fails, or where the fault
+/// is one of the script. A `run` is made by `workers` workers, 1 to 8.
 pub fn play<T: Threads + Wait + Sync, R: Read, W: Write>(
     rt: &T,
     alloc: Global,
@@ -129,8 +161,13 @@ pub fn play<T: Threads + Wait + Sync, R: Read, W: Write>(
     requires { WorkersAllowed workers }
     ensures { IfSome (R.remaining reader.old) (λ input. ReadsAndPlays workers input (W.contents writer.old) (W.contents writer.new) result) }
 {
-    match read_input(alloc, reader) {
-        Ok(input) => play_bytes(rt, alloc, input.as_slice(), writer, workers),
-        Err(fault) => Err(fault),
-    }
+    let script = read_script(alloc, reader)?;
+    Ok(play_script(
+        rt,
+        alloc,
+        script,
+        writer,
+        workers,
+        &mut NoObserver,
+    )?)
 }

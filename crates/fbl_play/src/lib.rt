@@ -1,14 +1,14 @@
-//! Plays of scripts over any reader and writer.
+//! Plays of scripts over any reader and writer, and the histories of scripts' runs.
 #![tactic(auto)]
 
-mod answer;
 mod commands;
 mod engine;
-mod histories;
 mod observer;
+mod output;
 mod reasons;
 mod runs;
+mod transcript;
 
-pub use engine::{play, play_bytes, play_observed};
-pub use histories::{RunHistory, history_observed, history_of_bytes};
+pub use engine::{RunHistory, history_of_script, play, play_script};
 pub use observer::{NoObserver, Observer};
+pub use transcript::Transcribed;

@@ -1,16 +1,16 @@
 //! Runs by workers.
 
-ghost use Rattle.std.specs.Prelude.{◌≡◌, false, IfErr, IfOk, string_bytes};
-ghost use Rattle.fbl_lines.specs.Lines.{run_line};
+ghost use Rattle.std.specs.Prelude.{◌≡◌, IfErr, IfOk};
 ghost use Rattle.fbl_play.specs.Reasons.{IsPlanRefused};
-ghost use Rattle.fbl_play.specs.RunSteps.{RunStep, IsRefusedRunText, IsRunAccount, IsRunText, end_of as end_of_run};
+ghost use Rattle.fbl_play.specs.Runs.{HasMembers};
+ghost use Rattle.fbl_play.specs.RunSteps.{RunStep, IsRunAccount, IsRunOutput, end_of as end_of_run};
 
-use crate::answer::{Answer, answer_with};
+use crate::output::{Answer, Output, Refusal};
 use crate::reasons::run_reason;
 use fbl_base::{Behaviour, Note};
 use fbl_explain::{CommandAccount, RunCounts};
 use fbl_group::Group;
-use fbl_lines::{RunEnd, refused_at_text, refused_text, run_text};
+use fbl_lines::RunEnd;
 use fbl_script::Plan;
 use fbl_threads::{DrainRefusal, Drained, NoGate, drain};
 use std::alloc::{AllocError, Global};
@@ -33,35 +33,19 @@ fn end_of(quiet: bool, full: bool) -> RunEnd
     }
 }
 
-/// The line of an accepted run. There is none where a worker ended for lack of memory.
-fn drained_text(alloc: Global, drained: &Drained) -> Result<String, AllocError>
-    ensures memory { IfOk result (λ text. drained.now.memory ≡ false) }
-    ensures line { IfOk result (λ text. string_bytes text ≡ run_line (end_of_run drained.now.quiet drained.now.full)) }
-{
-    if drained.memory {
-        return Err(AllocError);
-    }
-    run_text(alloc, end_of(drained.quiet, drained.full))
-}
-
-/// The line of a refused run. There is none for lack of memory.
-fn refused_run_text(alloc: Global, refusal: DrainRefusal) -> Result<String, AllocError>
-    ensures { IfOk result (λ text. IsRefusedRunText refusal (string_bytes text)) }
-{
-    match refusal {
-        DrainRefusal::Memory => Err(AllocError),
-        DrainRefusal::BadPlan(place) => refused_at_text(alloc, "run", refusal.name(), place),
-        _ => refused_text(alloc, "run", refusal.name()),
-    }
-}
-
-/// The line of a run that answered this.
-fn answer_text(alloc: Global, answer: &Result<Drained, DrainRefusal>) -> Result<String, AllocError>
-    ensures { IfOk result (λ text. IsRunText answer.now (string_bytes text)) }
+/// What a run prints that was answered so. There is nothing where it was refused, or a worker ended, for lack of memory.
+fn output_of(answer: &Result<Drained, DrainRefusal>) -> Result<Output, AllocError>
+    ensures { IfOk result (IsRunOutput answer.now) }
 {
     match answer {
-        Ok(drained) => drained_text(alloc, drained),
-        Err(refusal) => refused_run_text(alloc, *refusal),
+        Ok(drained) => {
+            if drained.memory {
+                return Err(AllocError);
+            }
+            Ok(Output::Run(end_of(drained.quiet, drained.full)))
+        }
+        Err(DrainRefusal::Memory) => Err(AllocError),
+        Err(refusal) => Ok(Output::Refusal(Refusal::Run(*refusal))),
     }
 }
 
@@ -89,7 +73,7 @@ fn account_of<B: Behaviour<State = u64, Note = Note>>(
     }
 }
 
-/// Lets workers deliver, strike and recover, and answers the line and the account.
+/// Lets workers deliver, strike and recover. The group comes back.
 pub(crate) fn run_plan<
     B: Behaviour<State = u64, Note = Note> + Send + Sync,
     T: Threads + Wait + Sync,
@@ -100,13 +84,18 @@ pub(crate) fn run_plan<
     group: Group<B>,
     plan: &Plan,
 ) -> (Group<B>, Result<Answer, AllocError>)
-    ensures { IfOk result.1 (λ answer. RunStep B.next workers plan.now group result.0 (string_bytes answer.text) answer.account) }
+    ensures step { IfOk result.1 (λ answer. RunStep B.next workers plan.now group result.0 answer.output answer.account) }
+    ensures within { IfOk result.1 (λ answer. HasMembers result.0 answer.output) }
 {
     let ever = group.receipts_ever();
     let undone = group.undone_ever();
     let strikes = plan.strikes();
     let (group, answer) = drain(rt, alloc, group, strikes, workers, TURNS, &NoGate);
-    let text = answer_text(alloc, &answer);
-    let account = account_of(&group, plan, ever, undone, answer);
-    (group, answer_with(text, account))
+    match output_of(&answer) {
+        Ok(output) => {
+            let account = account_of(&group, plan, ever, undone, answer);
+            (group, Ok(Answer { output, account }))
+        }
+        Err(e) => (group, Err(e)),
+    }
 }

@@ -4,7 +4,8 @@ ghost use Rattle.std.specs.Prelude.{◌<◌};
 
 use fbl_base::{Member, MemberSet};
 use fbl_history::{Column, Replay};
-use fbl_play::history_of_bytes;
+use fbl_play::{NoObserver, history_of_script};
+use fbl_script::read_script;
 use std::alloc::Global;
 use std::sync::Wait;
 use std::test::Fail;
@@ -55,7 +56,8 @@ fn has_columns<T: Threads + Wait + Sync>(
     script: &str,
     columns: &[Column],
 ) -> Result<bool, Fail> {
-    let answer = history_of_bytes(rt, alloc, script.as_bytes(), 2)?;
+    let script = read_script(alloc, &mut script.as_bytes())?;
+    let answer = history_of_script(rt, alloc, script, 2, &mut NoObserver)?;
     Ok(answer.history.columns() == columns)
 }
 

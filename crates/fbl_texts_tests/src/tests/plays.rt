@@ -1,8 +1,9 @@
-//! Plays of the bytes of a script, and over readers and writers that stumble.
+//! Plays of a script, and over readers and writers that stumble.
 
 use fbl_fixtures::{FailedWrite, Page, UnsteadyReader, UnsteadyWriter};
 use fbl_input::RunFault;
-use fbl_play::{play, play_bytes};
+use fbl_play::{NoObserver, play, play_script};
+use fbl_script::read_script;
 use std::test::Fail;
 
 /// Two strikes, one after the other, each with its recovery.
@@ -12,10 +13,11 @@ const TWO_STRIKES: (&str, &str) = (
 );
 
 #[test]
-fn plays_the_bytes_of_a_script(rt: HostRuntime) -> Result<(), Fail> {
+fn plays_a_script(rt: HostRuntime) -> Result<(), Fail> {
     let (script, text) = TWO_STRIKES;
+    let script = read_script(rt.alloc(), &mut script.as_bytes())?;
     let mut out = Vec::new(rt.alloc());
-    play_bytes(&rt, rt.alloc(), script.as_bytes(), &mut out, 2)?;
+    play_script(&rt, rt.alloc(), script, &mut out, 2, &mut NoObserver)?;
     assert!(rt; out.as_slice() == text.as_bytes());
     Ok(())
 }
