@@ -14,7 +14,7 @@ pub use Rattle.std.specs.List.{Contains, filter, list_any}
 pub use Rattle.std.specs.Option.{is_some, option_map_or, option_or}
 pub use Rattle.std.specs.Ordering.{nat_cmp}
 pub use Rattle.fbl_base.proofs.CauseLaws.{orphan_by_cause, with_next}
-pub use Rattle.fbl_base.proofs.ClockLaws.{has_first, has_last, last_step, member_within, not_later, same_event}
+pub use Rattle.fbl_base.proofs.ClockLaws.{has_last, last_step, member_below, member_within, same_event, set_other, set_same}
 pub use Rattle.fbl_base.proofs.Holding.{holds}
 pub use Rattle.fbl_base.proofs.Received.{is_receipt}
 pub use Rattle.fbl_base.proofs.Gets.{At-below, At-push, drop_next, filter_map-At, get_or-same}
@@ -36,5 +36,5 @@ pub use Rattle.fbl_base.specs.declared.trace.Mark.{Mark}
 pub use Rattle.fbl_base.specs.declared.trace.Mark.TheVariants.{Receipt, Send}
 pub use Rattle.fbl_audit.specs.Checking.{IsLeftOrphan, IsSafe, IsSaidOf, IsUnsafe, LosesReceipt, MayBeLost, SaysUnsafe, struck_by}
 pub use Rattle.fbl_audit.specs.Laws.{HasAlwaysNoOrphans, SafeLaw}
-pub use Rattle.fbl_audit.specs.Paths.{AreEnds, IsBefore, IsEndBy, IsEndFound, IsFirstDependent, IsPath, Reaches, path_end, path_step}
+pub use Rattle.fbl_audit.specs.Paths.{AreEnds, IsBefore, IsEndBy, IsEndFound, IsFirstDependent, IsPath, Origin, Reaches, path_end, path_step}
 pub use Rattle.fbl_audit.specs.declared.checking.UnsafeReceipt.{UnsafeReceipt}

@@ -4,7 +4,8 @@ use Rattle.fbl_audit.proofs.Common.{reverse, reverse-append, slice_get, length-s
 use Rattle.fbl_audit.proofs.Common.{DependsOnPlace, IsReached, IsSendOf, IsBefore, IsEndBy, IsEndFound, IsFirstDependent, AreEnds, IsPath, Reaches, path_step, last_step, same_event, is_some}
 use Rattle.fbl_audit.proofs.Common.{AreCauses, IsDumpOrphan, IsLostAt, IsOrphaned, IsOrphanStart, orphan_by_cause, Precedes-joined, false≢true}
 use Rattle.std.specs.FinSet as set
-use Rattle.std.proofs.Common.{set as set_at, get_or-set_same, get_or-set_other}
+use Rattle.std.proofs.Common.{set as set_at}
+use Rattle.fbl_audit.proofs.Common.{set_same, set_other}
 use Rattle.fbl_base.proofs.PlacesAndEvents.{one_place}
 
 -- ---- ends
@@ -45,15 +46,10 @@ module _ (t : List Mark) (places : List ℕ) (p : ℕ) (e : Mark) (at : At t p e
   ends_more none reached below = record {
     room = length-set ends (member_of e) _ ∙ are.room;
     each = λ q within. elim (cases_eq q (member_of e)) [
-      | inl own ↦ rw (own, set_same) (omega arith, (e, at, refl, reached), first (get_or ends (member_of e) None) none (are.each (member_of e) below))
-      | inr ne ↦ rw get_or-set_other (kept q _ (other q ne) (are.each q within))
+      | inl own ↦ rw (own, set_same ends (member_of e) (Some p) None (omega (arith, below, are.room))) (omega arith, (e, at, refl, reached), first (get_or ends (member_of e) None) none (are.each (member_of e) below))
+      | inr ne ↦ rw (set_other ends (member_of e) q (Some p) None ne) (kept q _ (other q ne) (are.each q within))
     ];
   } where
-    set_same : get_or (set_at ends (member_of e) (Some p)) (member_of e) None ≡ Some p
-    set_same = (let room : member_of e < length ends = omega (arith, below, are.room) in within room) where
-      within : member_of e < length ends → get_or (set_at ends (member_of e) (Some p)) (member_of e) None ≡ Some p
-      within room = rw get_or-set_same refl
-
     first : (o : Option ℕ) → is_some o ≡ false → IsEndFound t places p (member_of e) o → (k : ℕ) → k < p → ¬ (Reaches t places (member_of e) k)
     first None is found = found
     first (Some j) is found = cc

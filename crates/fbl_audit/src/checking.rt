@@ -28,10 +28,8 @@ pub struct UnsafeReceipt {
 fn dependents_of(audit: &Audit, place: usize) -> MemberSet
     ensures { (q : ℕ) → (set.contains result q ≡ true) ↔ DependsOnPlace audit.now.events q place }
 {
-    // the rules, by which each member of the trace is below 16
-    let _dump = audit.dump();
     let mut dependents = MemberSet::empty();
-    for number in 0..16u8 {
+    for number in 0..audit.dump().members() {
         let member = Member::at(number);
         if audit.clocks().depends(member, place) {
             dependents = dependents.with(member);

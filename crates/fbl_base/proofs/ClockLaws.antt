@@ -34,9 +34,12 @@ has_last (same_place {a} h) = (a, h)
 has_last (place_step p l) = (l.1, l.4)
 
 -- an event is one of the group's members
+pub member_below : (n : ℕ) (t : List Mark) (i : ℕ) (e : Mark) → WellFormed n t → At t i e → member_of e < n
+member_below n t i (Send from ssn to) obeys at = (obeys i (Send from ssn to) at).0
+member_below n t i (Receipt to rsn from ssn) obeys at = (obeys i (Receipt to rsn from ssn) at).1
+
 pub member_within : (n : ℕ) (t : List Mark) (i : ℕ) (e : Mark) → WellFormed n t → n ≤ 16 → At t i e → member_of e < 16
-member_within n t i (Send from ssn to) obeys few at = omega (arith, (obeys i (Send from ssn to) at).0, few)
-member_within n t i (Receipt to rsn from ssn) obeys few at = omega (arith, (obeys i (Receipt to rsn from ssn) at).1, few)
+member_within n t i e obeys few at = (let below = member_below n t i e obeys at in omega (arith, below, few))
 
 -- there are at most 8192 events
 pub place_within : (n : ℕ) (t : List Mark) (i : ℕ) (e : Mark) → WellFormed n t → At t i e → i < 8192
@@ -45,9 +48,12 @@ place_within n t i (Send from ssn to) obeys at =
 place_within n t i (Receipt to rsn from ssn) obeys at =
     (let within = At-below t i (Receipt to rsn from ssn) at in let few = (obeys i (Receipt to rsn from ssn) at).4 in omega (arith, few, within, length-take i t))
 
--- an element that is changed
-set_same : {X : Type 0} (xs : List X) (m : ℕ) (x d : X) → m < length xs → get_or (set_at xs m x) m d ≡ x
+-- an element that is changed, and another one
+pub set_same : {X : Type 0} (xs : List X) (m : ℕ) (x d : X) → m < length xs → get_or (set_at xs m x) m d ≡ x
 set_same xs m x d within = rw get_or-set_same refl
+
+pub set_other : {X : Type 0} (xs : List X) (m q : ℕ) (x d : X) → q ≢ m → get_or (set_at xs m x) q d ≡ get_or xs q d
+set_other xs m q x d ne = rw get_or-set_other refl
 
 -- ---- messages
 
