@@ -6,8 +6,7 @@ ghost use Rattle.fbl_draw.specs.Receipts.{IsPlacesOf};
 ghost use Rattle.fbl_shapes.specs.Places.{drawn};
 
 use crate::receipts::{ReceiptPlaces, place_of, receipt_kind, receipt_places};
-use fbl_audit::Audit;
-use fbl_base::audit::Dump;
+use fbl_base::audit::{Audit, Dump};
 use fbl_base::{Determinant, Mark, Member};
 use fbl_shapes::{ArrowKind, Shape};
 use std::alloc::{AllocError, Global};

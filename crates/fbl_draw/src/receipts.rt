@@ -5,8 +5,7 @@ ghost use Rattle.std.specs.HashMap as hash_map;
 ghost use Rattle.fbl_base.specs.Events.{same_message};
 ghost use Rattle.fbl_draw.specs.Receipts.{IsPlacesOf, kind_of, taken_by};
 
-use fbl_audit::Audit;
-use fbl_base::audit::Dump;
+use fbl_base::audit::{Audit, Dump};
 use fbl_base::{Determinant, Mark, Member, MessageName};
 use fbl_shapes::Kind;
 use std::alloc::{AllocError, Global};

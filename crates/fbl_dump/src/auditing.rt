@@ -4,8 +4,7 @@ ghost use Rattle.std.specs.Prelude.{◌≡◌, ◌≤◌, ℕ, length, IfOk, IfE
 ghost use Rattle.fbl_dump.specs.Auditing.{Audits, AuditsDump, IsAuditText, ReadsAndAudits};
 
 use crate::reading::dump_of_bytes;
-use fbl_audit::Audit;
-use fbl_base::audit::Dump;
+use fbl_base::audit::{Audit, Dump};
 use fbl_input::{RunFault, put, read_input};
 use fbl_lines::audit_text;
 use std::alloc::{AllocError, Global};

@@ -1,11 +1,13 @@
 //! The check of a dump that a reader has.
 
-ghost use Rattle.std.specs.Prelude.{◌≡◌, ◌≤◌, ◌++◌, ℕ, length, IfOk, IfErr, OnErr, OnOk, IfSome, string_bytes};
+ghost use Rattle.std.specs.Prelude.{◌≡◌, ◌≤◌, ◌++◌, ◌↔◌, ℕ, [], length, IfOk, IfErr, OnErr, OnOk, IfSome, string_bytes};
+ghost use Rattle.fbl_base.specs.Events.{receipts};
+ghost use Rattle.fbl_audit.specs.Checking.{IsSafe, SaysUnsafe};
 ghost use Rattle.fbl_dump.specs.Checking.{Checks, ChecksDump, ReadsAndChecks, check_lines, unsafe_lines};
 
 use crate::reading::dump_of_bytes;
 use fbl_audit::{UnsafeReceipt, unsafe_receipts};
-use fbl_base::audit::Dump;
+use fbl_base::audit::{Audit, Dump};
 use fbl_input::{RunFault, put, read_input};
 use fbl_lines::{safe_text, unsafe_text};
 use std::alloc::{AllocError, Global};
@@ -42,11 +44,20 @@ fn text_of(alloc: Global, unsafe_receipts: &[UnsafeReceipt]) -> Result<String, A
     }
 }
 
+/// The unsafe receipts of a dump.
+fn found(alloc: Global, dump: &Dump) -> Result<Vec<UnsafeReceipt>, AllocError>
+    ensures said { IfOk result (λ v. SaysUnsafe dump.now (receipts dump.now.events) v.items) }
+    ensures safe { IfOk result (λ v. (v.items ≡ []) ↔ IsSafe dump.now) }
+{
+    let audit = Audit::of(alloc, dump)?;
+    unsafe_receipts(alloc, &audit)
+}
+
 /// Checks a dump.
 fn check_dump<W: Write>(alloc: Global, writer: &mut W, dump: &Dump) -> Result<Verdict, RunFault>
     ensures { ChecksDump dump.now (W.contents writer.old) (W.contents writer.new) result }
 {
-    let unsafe_receipts = unsafe_receipts(alloc, dump)?;
+    let unsafe_receipts = found(alloc, dump)?;
     let text = text_of(alloc, unsafe_receipts.as_slice())?;
     put(writer, text.as_bytes())?;
     if unsafe_receipts.is_empty() {

@@ -12,7 +12,7 @@ pub use Rattle.json.specs.Find.{at, get}
 pub use Rattle.json.specs.Json.{Json}
 pub use Rattle.json.specs.Tree.{HasNumbers}
 pub use Rattle.json.specs.Value.{value_view}
-pub use Rattle.fbl_audit.proofs.Following.{member_within}
+pub use Rattle.fbl_base.proofs.ClockLaws.{member_within}
 pub use Rattle.fbl_audit.specs.Checking.{IsLeftOrphan}
 pub use Rattle.fbl_audit.specs.Paths.{IsPathTo}
 pub use Rattle.fbl_audit.specs.declared.checking.UnsafeReceipt.{UnsafeReceipt}

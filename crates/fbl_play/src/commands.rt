@@ -8,7 +8,7 @@ ghost use Rattle.fbl_lines.specs.Lines.{states_line};
 use crate::answer::{Answer, answer_with};
 use crate::reasons::{checkpoint_reason, deliver_reason, no_such_member, strike_reason};
 use crate::runs::run_plan;
-use fbl_audit::Audit;
+use fbl_base::audit::Audit;
 use fbl_base::{Behaviour, Member, MemberSet, Note};
 use fbl_dump::dump_text;
 use fbl_explain::{CommandAccount, Reason};
