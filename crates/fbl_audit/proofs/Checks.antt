@@ -2,35 +2,10 @@
 use Rattle.fbl_audit.proofs.Common.{ℕ, Bool, true, false, ◌≡◌, ◌<◌, ◌≤◌, ◌==◌, ◌↔◌, inl, inr, List, [], ◌∷◌, length, map, Some, refl, sym, ap, ◌∙◌, arith}
 use Rattle.fbl_audit.proofs.Common.{get_or, max, zero, suc, slice_get, filter, nat_cmp_total, slice_get_read, false≢true, Members, Determinant, Mark, Send, Receipt, Parts, IsDump, IsDumpOrphan}
 use Rattle.fbl_audit.proofs.Common.{IsLost, At, determinant_of, receipt_of, same_determinant, Depends, depends-from_places, places-from_depends, Has-first, Decides-same_determinant, len-remove_one}
-use Rattle.fbl_audit.proofs.Common.{some_member, IsSafe, SaysUnsafe, receipts, Dependents, AreDependents, WellFormed, holders_of, ◌&&◌, Contains, list_any, Any-from_list_any}
+use Rattle.fbl_audit.proofs.Common.{some_member, IsSafe, SaysUnsafe, receipts, DependsOnPlace, WellFormed, holders_of, holds, is_receipt, ◌&&◌, Contains, list_any, Any-from_list_any}
 use Rattle.fbl_audit.proofs.Common.{contains-union, len-within}
-use Rattle.fbl_audit.proofs.Common.{list_any-from_Any, and_parts, eqb-true, filter_map-At, eqb-self, UnsafeReceipt, IsLeftOrphan, IsSaidOf, IsUnsafe, LosesReceipt, MayBeLost, struck_by, dependents_at}
+use Rattle.fbl_audit.proofs.Common.{list_any-from_Any, and_parts, eqb-true, filter_map-At, eqb-self, UnsafeReceipt, IsLeftOrphan, IsSaidOf, IsUnsafe, LosesReceipt, MayBeLost, struck_by}
 use Rattle.std.specs.FinSet as set
-
--- ---- who holds a determinant
-
-abbrev pub is_pair : Determinant → ℕ → ℕ × Determinant → Bool
-is_pair d holder h = same_determinant h.1 d && (h.0 == holder)
-
-any_holder : (d : Determinant) (holder : ℕ) (held : List (ℕ × Determinant))
-    → list_any (λ y. y == holder) (map (λ h. h.0) (filter (λ h. same_determinant h.1 d) held)) ≡ list_any (is_pair d holder) held
-any_holder d holder [] = refl
-any_holder d holder (x ∷ xs) = (let rest = any_holder d holder xs in grind (arith, rest))
-
-pub contains-holders : (dump : Parts) (d : Determinant) (holder : ℕ) → set.contains (holders_of dump d) holder ≡ list_any (is_pair d holder) dump.held
-contains-holders dump d holder = set.contains-from_list_nat _ holder ∙ any_holder d holder dump.held
-
--- the index has exactly the holders that the pairs name
-pub holds : (dump : Parts) (d : Determinant) (holder : ℕ) → (set.contains (holders_of dump d) holder ≡ true) ↔ Contains dump.held (holder, d)
-holds dump d holder = (
-  λ h.
-      let a = Any-from_list_any (is_pair d holder) dump.held (sym (contains-holders dump d holder) ∙ h) in
-      let b = and_parts (same_determinant a.1.1 d) (a.1.0 == holder) a.4 in
-      let det : a.1.1 ≡ d = (Decides-same_determinant a.1.1 d).0 b.0 in
-      let member : a.1.0 ≡ holder = eqb-true a.1.0 holder b.1 in
-      (a.0, a.2, (let pair : (holder, d) ≡ a.1 = (λ i. (sym member i, sym det i)) in rw pair a.3)),
-  λ r. contains-holders dump d holder ∙ list_any-from_Any (is_pair d holder) dump.held (r.0, (holder, d), r.1, r.2, (rw ((Decides-same_determinant d d).1 refl, eqb-self holder))),
-)
 
 -- ---- one receipt
 
@@ -140,16 +115,13 @@ says_safe dump said says = (
   λ safe. (says_none dump (receipts dump.events) said says).1 (λ i d at u. safe u.0 u.1 u.3.0 (u.3.1.0, (receipt_of d, u.2, u.3.1.1))),
 )
 
--- who is found to depend on a receipt's place depends on the receipt
-pub dependents_of_receipt : (n : ℕ) (t : List Mark) (found : Dependents) (i : ℕ) (e : Mark) (d : Determinant) → WellFormed n t → AreDependents t found
-    → i < length t → e ≡ get_or t i e → determinant_of e ≡ Some d
-    → (q : ℕ) → (set.contains (dependents_at found i) q ≡ true) ↔ Depends t q (receipt_of d)
-dependents_of_receipt n t found i (Send from ssn to) d obeys are within is of_e q = cc
-dependents_of_receipt n t found i (Receipt to rsn from ssn) d obeys are within is of_e q =
-    let at : At t i (Receipt to rsn from ssn) = slice_get_read t (length t) i (Receipt to rsn from ssn) refl within is in
-    let det : record { from = from; ssn = ssn; to = to; rsn = rsn } ≡ d = cc in
-    let same : Receipt to rsn from ssn ≡ receipt_of d = ap receipt_of det in
-    let here = are.members i q within in (
-      λ h. rw same at (depends-from_places t q i (Receipt to rsn from ssn) at (here.0 h)),
-      λ d'. here.1 (places-from_depends n t obeys q i (Receipt to rsn from ssn) at (rw same d')),
+-- who depends on a receipt's place depends on the receipt
+pub dependents_of_receipt : (n : ℕ) (t : List Mark) (dependents : Members) (i : ℕ) (e : Mark) (d : Determinant) → WellFormed n t
+    → ((q : ℕ) → (set.contains dependents q ≡ true) ↔ DependsOnPlace t q i) → i < length t → e ≡ get_or t i e → determinant_of e ≡ Some d
+    → (q : ℕ) → (set.contains dependents q ≡ true) ↔ Depends t q (receipt_of d)
+dependents_of_receipt n t dependents i e d obeys are within is of_e q =
+    let at : At t i (receipt_of d) = slice_get_read t (length t) i e refl within is ∙ ap Some (is_receipt e d of_e) in
+    let here = are q in (
+      λ h. depends-from_places t q i (receipt_of d) at (here.0 h),
+      λ d'. here.1 (places-from_depends n t obeys q i (receipt_of d) at d'),
     )

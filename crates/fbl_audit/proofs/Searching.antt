@@ -1,132 +1,123 @@
--- A search from the first event on finds a path to each member that depends on an event.
-use Rattle.fbl_audit.proofs.Common.{below_more, ℕ, Bool, true, false, ◌≡◌, ◌<◌, ◌+◌, ◌⊎◌, inl, inr, List, [], ◌∷◌, ◌++◌, length, Option, Some, None, refl, sym, ap}
-use Rattle.fbl_audit.proofs.Common.{◌∙◌, arith, get_or, length-set, length-append, reverse, slice_get, cond, nat_tests, Mark, Send, Receipt, At, member_of, send_of, PlaceLeads}
-use Rattle.fbl_audit.proofs.Common.{PlacePrecedes, same_place, place_step, AddressedMessage, message_taken_by, option_map_or, same_addressed_message, IsBefore, IsEndBy, IsPath}
-use Rattle.fbl_audit.proofs.Common.{is_some, option_or, reverse-append, At-push, IsFoundBy, path_step, end_after, message_sent_by, place_before, sent_after, Decides, ◌==◌}
-use Rattle.fbl_audit.proofs.Common.{◌≢◌, option_and_then}
-use Rattle.fbl_audit.proofs.Following.{same_event, set_by_test}
+-- The first event of each member that others precede, and the paths back from it.
+use Rattle.fbl_audit.proofs.Common.{ℕ, Bool, true, false, ◌≡◌, ◌≢◌, ◌<◌, ◌≤◌, ◌+◌, ◌⊎◌, ◌↔◌, inl, inr, List, [], ◌∷◌, ◌++◌, length, Option, Some, None, refl, sym, ap, ◌∙◌, arith, get_or, replicate}
+use Rattle.fbl_audit.proofs.Common.{reverse, reverse-append, slice_get, length-set, get_or-same, cases_eq, zero, suc, Mark, At, At-below, member_of, send_of, Parts, WellFormed, PlaceLeads, PlacePrecedes}
+use Rattle.fbl_audit.proofs.Common.{DependsOnPlace, IsReached, IsSendOf, IsBefore, IsEndBy, IsEndFound, IsFirstDependent, AreEnds, IsPath, Reaches, path_step, last_step, same_event, is_some}
+use Rattle.fbl_audit.proofs.Common.{AreCauses, IsDumpOrphan, IsLostAt, IsOrphaned, IsOrphanStart, orphan_by_cause, Precedes-joined, false≢true}
+use Rattle.std.specs.FinSet as set
+use Rattle.std.proofs.Common.{set as set_at}
+use Rattle.fbl_audit.proofs.Common.{set_same, set_other}
+use Rattle.fbl_base.proofs.PlacesAndEvents.{one_place}
 
--- a path is empty, or ends with a step
-last_step : {t : List Mark} {i p : ℕ} → PlacePrecedes t i p → (p ≡ i) ⊎ ((j : ℕ) × PlacePrecedes t i j × PlaceLeads t j p)
-last_step (same_place h) = inl refl
-last_step (place_step {j} q l) = inr (j, q, l)
+-- ---- ends
 
--- the send of the message is found, if the event at i precedes it
-abbrev pub IsSentBy : List Mark → ℕ → ℕ → AddressedMessage → Option ℕ → Type 0
-IsSentBy t i p m = IsFoundBy t i p (λ b. b ≡ Send m.from m.ssn m.to) (λ j. At t j (Send m.from m.ssn m.to) × PlacePrecedes t i j)
+pub ends_none : (t : List Mark) (places : List ℕ) → AreEnds t places 0 (replicate 16 None)
+ends_none t places = record {
+  room = refl;
+  each = λ q within. rw (get_or-same {X = Option ℕ} 16 q None) (λ k below. absurd (omega (arith, below)));
+}
 
--- what a search knows of the first p events: of each member and of each message
-pub record Knows (t : List Mark) (i p : ℕ) (ends : List (Option ℕ)) (sends : AddressedMessage → Option ℕ) : Type 0 where
-  pub room : length ends ≡ 16
-  pub members : (m : ℕ) → m < 16 → IsEndBy t i p m (get_or ends m None)
-  pub messages : (m : AddressedMessage) → IsSentBy t i p m (sends m)
-
--- where a path comes from to the event at p
-pub before_right : (t : List Mark) (i p : ℕ) (ends : List (Option ℕ)) (sends : AddressedMessage → Option ℕ) (e : Mark) → At t p e → member_of e < 16
-    → Knows t i p ends sends → IsBefore t i p (place_before ends sends e)
-before_right t i p ends sends e at below knows = by_member (get_or ends (member_of e) None) (knows.members (member_of e) below) where
-  -- a path to the event is empty where none comes to an earlier one of its member, nor to a send that it takes
-  only_here : IsEndBy t i p (member_of e) None → ((j : ℕ) (a : Mark) → j < p → At t j a → send_of e ≡ Some a → ¬ (PlacePrecedes t i j)) → PlacePrecedes t i p → p ≡ i
-  only_here none unsent pr = elim (last_step pr) [
-    | inl here ↦ here
-    | inr s ↦
-        let same : s.2.1 ≡ e = same_event t p p s.2.1 e refl s.2.4 at in
-        absurd (elim s.2.5 [
-          | inl own ↦ none s.0 s.2.0 s.2.2 s.2.3 (own ∙ ap member_of same) s.1
-          | inr sends' ↦ unsent s.0 s.2.0 s.2.2 s.2.3 (ap send_of (sym same) ∙ sends') s.1
-        ])
+module _ (t : List Mark) (places : List ℕ) (p : ℕ) (e : Mark) (at : At t p e) (ends : List (Option ℕ)) (are : AreEnds t places p ends) where
+  -- the next event is none
+  kept : (q : ℕ) (o : Option ℕ) → ¬ (Reaches t places q p) → IsEndFound t places p q o → IsEndFound t places (p + 1) q o
+  kept q (Some j) none found = (omega (arith, found.0), found.1, found.2)
+  kept q None none found = λ k within. elim (cases_eq k p) [
+    | inl here ↦ rw here none
+    | inr ne ↦ found k (omega (arith, within, ne))
   ]
 
-  by_message : IsEndBy t i p (member_of e) None → (e' : Mark) → e' ≡ e → IsBefore t i p (option_and_then sends (message_taken_by e'))
-  by_message none (Send from ssn to) is = only_here none (λ j a within at_j sends'. absurd (let taken : None ≡ Some a = ap send_of is ∙ sends' in cc))
-  by_message none (Receipt to rsn from ssn) is = at_send (sends (record { from = from; ssn = ssn; to = to })) (knows.messages (record { from = from; ssn = ssn; to = to })) where
-    at_send : (o : Option ℕ) → IsSentBy t i p (record { from = from; ssn = ssn; to = to }) o → IsBefore t i p o
-    at_send (Some k) sent = ((Send from ssn to, e, sent.0, sent.1.0, at, inr (ap send_of (sym is))), sent.1.1)
-    at_send None unsent = only_here none (λ j a within at_j sends'.
-        let taken : Some (Send from ssn to) ≡ Some a = ap send_of is ∙ sends' in
-        unsent j a within at_j cc)
+  other : (q : ℕ) → q ≢ member_of e → ¬ (Reaches t places q p)
+  other q ne r = ne (sym r.2 ∙ ap member_of (same_event t p p r.0 e refl r.1 at))
 
-  by_member : (o : Option ℕ) → IsEndBy t i p (member_of e) o → IsBefore t i p (option_or o (option_and_then sends (message_taken_by e)))
-  by_member (Some k) found = (let b = found.1.own in ((b.0, e, found.0, b.1, at, inl b.2), found.1.depends))
-  by_member None none = by_message none e refl
+  -- the member's first event is found already, or the next event is not preceded
+  pub ends_same : ((is_some (get_or ends (member_of e) None) ≡ true) ⊎ ¬ (IsReached t places p)) → AreEnds t places (p + 1) ends
+  ends_same why = record { room = are.room; each = λ q within. at_member q (get_or ends q None) refl (are.each q within) } where
+    at_member : (q : ℕ) (o : Option ℕ) → get_or ends q None ≡ o → IsEndFound t places p q o → IsEndFound t places (p + 1) q o
+    at_member q (Some j) is found = (omega (arith, found.0), found.1, found.2)
+    at_member q None is found = kept q None (elim (cases_eq q (member_of e)) [
+      | inl own ↦ elim why [
+        | inl some ↦ absurd (false≢true (sym (ap is_some is) ∙ (rw own some)))
+        | inr unreached ↦ λ r. unreached r.3
+      ]
+      | inr ne ↦ other q ne
+    ]) found
 
--- ---- one more event
+  -- the next event is the member's first one
+  pub ends_more : is_some (get_or ends (member_of e) None) ≡ false → IsReached t places p → member_of e < 16 → AreEnds t places (p + 1) (set_at ends (member_of e) (Some p))
+  ends_more none reached below = record {
+    room = length-set ends (member_of e) _ ∙ are.room;
+    each = λ q within. elim (cases_eq q (member_of e)) [
+      | inl own ↦ rw (own, set_same ends (member_of e) (Some p) None (omega (arith, below, are.room))) (omega arith, (e, at, refl, reached), first (get_or ends (member_of e) None) none (are.each (member_of e) below))
+      | inr ne ↦ rw (set_other ends (member_of e) q (Some p) None ne) (kept q _ (other q ne) (are.each q within))
+    ];
+  } where
+    first : (o : Option ℕ) → is_some o ≡ false → IsEndFound t places p (member_of e) o → (k : ℕ) → k < p → ¬ (Reaches t places (member_of e) k)
+    first None is found = found
+    first (Some j) is found = cc
 
--- what is found stays where no path comes to an event at p of which P holds
-found_kept : (t : List Mark) (i p : ℕ) (P : Mark → Type 0) (Found : ℕ → Type 0) → ((b : Mark) → At t p b → P b → ¬ (PlacePrecedes t i p)) → (o : Option ℕ)
-    → IsFoundBy t i p P Found o → IsFoundBy t i (p + 1) P Found o
-found_kept t i p P Found none (Some j) found = (omega (arith, found.0), found.1)
-found_kept t i p P Found none None first = λ k b. below_more (λ j. At t j b → P b → ¬ (PlacePrecedes t i j)) p (λ j. first j b) (none b) k
+-- ---- orphans
 
--- whether the event sends the message
-abbrev sends_it : AddressedMessage → Mark → Bool
-sends_it m e = option_map_or (λ sent. same_addressed_message sent m) (message_sent_by e) false
+-- who a cause reaches, a lost receipt precedes, and the other way round
+pub reached_by_lost : (dump : Parts) (places : List ℕ) → AreCauses dump places → (q k : ℕ) → Reaches dump.events places q k ↔ IsOrphaned dump q k
+reached_by_lost dump places causes q k = (
+  λ r. (r.0, r.1, r.2, (r.3.1, causes.lost r.3.0 r.3.1 r.3.2, r.3.3)),
+  λ o. (let r = causes.all o.3.0 o.3.1 in (o.0, o.1, o.2, (r.0, r.1, r.2, Precedes-joined r.3 o.3.2))),
+)
 
-Decides-sends_it : (m : AddressedMessage) (e : Mark) → Decides (sends_it m e) (e ≡ Send m.from m.ssn m.to)
-Decides-sends_it m (Send from ssn to) = grind (arith, nat_tests)
-Decides-sends_it m (Receipt to rsn from ssn) = (λ h. cc, λ h. cc)
+-- a member that is left starts to be an orphan at its first event that a cause reaches
+pub start_left : (dump : Parts) → WellFormed dump.members dump.events → (places : List ℕ) → AreCauses dump places → (q : ℕ) → set.contains dump.strike q ≡ false → (o : Option ℕ)
+    → IsEndFound dump.events places (length dump.events) q o → IsOrphanStart dump q o
+start_left dump obeys places causes q left (Some j) found =
+    (left, (reached_by_lost dump places causes q j).0 found.1, λ k below is. found.2 k below ((reached_by_lost dump places causes q k).1 is))
+start_left dump obeys places causes q left None none = λ orphan.
+    let why = (orphan_by_cause dump q obeys).0 orphan in
+    let d = why.1.1.1 in
+    none d.0 (At-below dump.events d.0 d.1 d.3) ((reached_by_lost dump places causes q d.0).1 (d.1, d.3, d.4, (why.1.0, why.1.1.0, d.2)))
 
--- a path comes to the event
-pub Knows-more : (t : List Mark) (i p : ℕ) (ends ends' : List (Option ℕ)) (sends sends' : AddressedMessage → Option ℕ) (e : Mark) → At t p e → member_of e < 16
-    → PlacePrecedes t i p → Knows t i p ends sends
-    → ends' ≡ end_after ends p e → ((m : AddressedMessage) → sends' m ≡ sent_after sends (message_sent_by e) p m) → Knows t i (p + 1) ends' sends'
-Knows-more t i p ends ends' sends sends' e at below pr knows ends_are sends_are = record {
-  room = rw ends_are (length-set ends (member_of e) _ ∙ knows.room);
-  members = λ m within. (rw (ends_are, set_by_test ends (member_of e) m (λ o. option_or o (Some p)) None (omega (arith, below, knows.room)))
-      (more (λ b. member_of b ≡ m) _ (member_of e == m) (grind (arith, nat_tests)) _ _ (knows.members m within) (λ own. here_more m own _ (knows.members m within))));
-  messages = λ m. (rw (sends_are m)
-      (more (λ b. b ≡ Send m.from m.ssn m.to) _ (sends_it m e) (Decides-sends_it m e) _ _ (knows.messages m) (λ is. (omega arith, (rw is at at, pr)))));
-} where
-  -- what P holds of is found anew
-  more : (P : Mark → Type 0) (Found : ℕ → Type 0) (test : Bool) → Decides test (P e) → (old new : Option ℕ) → IsFoundBy t i p P Found old
-      → (P e → IsFoundBy t i (p + 1) P Found new) → IsFoundBy t i (p + 1) P Found (cond test new old)
-  more P Found true decides old new found here = here (decides.0 refl)
-  more P Found false decides old new found here =
-      found_kept t i p P Found (λ b at_p holds. absurd (let no = decides.1 (rw (same_event t p p b e refl at_p at) at holds) in cc)) old found
+-- one that is struck is none
+pub start_struck : (dump : Parts) (q : ℕ) → set.contains dump.strike q ≡ true → IsOrphanStart dump q None
+start_struck dump q struck = λ orphan. false≢true (sym orphan.0 ∙ struck)
 
-  here_more : (m : ℕ) → member_of e ≡ m → (o : Option ℕ) → IsEndBy t i p m o → IsEndBy t i (p + 1) m (option_or o (Some p))
-  here_more m own (Some j) found = (omega (arith, found.0), found.1)
-  here_more m own None none = (omega arith, record { own = (e, at, own); depends = pr; first = none })
+-- ---- paths
 
--- no path comes to the event
-pub Knows-same : (t : List Mark) (i p : ℕ) (ends : List (Option ℕ)) (sends : AddressedMessage → Option ℕ) → ¬ (PlacePrecedes t i p) → Knows t i p ends sends
-    → Knows t i (p + 1) ends sends
-Knows-same t i p ends sends none_comes knows = record {
-  room = knows.room;
-  members = λ m within. found_kept t i p _ _ (λ b at_p own. none_comes) _ (knows.members m within);
-  messages = λ m. found_kept t i p _ _ (λ b at_p is. none_comes) _ (knows.messages m);
+-- one place alone reaches what its event precedes
+one_reaches : (t : List Mark) (i k : ℕ) → IsReached t (i ∷ []) k → PlacePrecedes t i k
+one_reaches t i k r = at_place r.0 r.2 where
+  at_place : (n : ℕ) → slice_get (i ∷ []) n ≡ Some r.1 → PlacePrecedes t i k
+  at_place zero is = (let same : i ≡ r.1 = cc in rw same r.3)
+  at_place (suc n) is = cc
+
+pub end_right : (t : List Mark) (i q : ℕ) (o : Option ℕ) → IsEndFound t (i ∷ []) (length t) q o → IsEndBy t i q o
+end_right t i q None none = λ d. none d.0 (At-below t d.0 d.1 d.3) (d.1, d.3, d.4, (0, i, refl, d.2))
+end_right t i q (Some j) found = record {
+  own = (found.1.0, found.1.1, found.1.2);
+  depends = one_reaches t i j found.1.3;
+  first = λ k b below at own pr. found.2 k below (b, at, own, (0, i, refl, pr));
 }
 
--- ---- the pass
+-- the first event of the member stands before this one
+pub before_own : (t : List Mark) (i p j : ℕ) (e : Mark) → At t p e → IsFirstDependent t i (member_of e) j → j < p → IsBefore t i p (Some j)
+before_own t i p j e at first below = ((first.own.0, e, below, first.own.1, at, inl first.own.2), first.depends)
 
--- what the pass has when it has seen the first p events
-pub record Seen (t : List Mark) (i p : ℕ) (ends : List (Option ℕ)) (sends : AddressedMessage → Option ℕ) (earlier : List (Option ℕ)) : Type 0 where
-  pub knows : Knows t i p ends sends
-  pub count : length earlier ≡ p
-  pub before : (k : ℕ) (o : Option ℕ) → slice_get earlier k ≡ Some o → IsBefore t i k o
-
-pub Seen-push : (t : List Mark) (i p : ℕ) (ends ends' : List (Option ℕ)) (sends sends' : AddressedMessage → Option ℕ) (earlier : List (Option ℕ)) (o : Option ℕ)
-    → Seen t i p ends sends earlier → IsBefore t i p o → Knows t i (p + 1) ends' sends' → Seen t i (p + 1) ends' sends' (earlier ++ o ∷ [])
-Seen-push t i p ends ends' sends sends' earlier o seen here knows = record {
-  knows = knows;
-  count = length-append earlier (o ∷ []) ∙ ap (λ n. n + 1) seen.count;
-  before = λ k o' at. elim (At-push earlier o k o' at) [
-    | inl old ↦ seen.before k o' old
-    | inr new ↦ (rw (new.0, seen.count, ← new.1) here)
-  ];
-}
-
--- a path comes to what a place leads to, and to the first event itself, and to no other
-pub comes : (t : List Mark) (i p : ℕ) (e : Mark) (o : Option ℕ) → At t p e → IsBefore t i p o → (is_some o ≡ true) ⊎ (p ≡ i) → PlacePrecedes t i p
-comes t i p e (Some k) at before why = place_step before.1 before.0
-comes t i p e None at before (inl some) = cc
-comes t i p e None at before (inr is) = rw (← is) (same_place at)
-
-pub none_comes : (t : List Mark) (i p : ℕ) (o : Option ℕ) → IsBefore t i p o → is_some o ≡ false → p ≢ i → ¬ (PlacePrecedes t i p)
-none_comes t i p (Some k) before none ne pr = cc
-none_comes t i p None before none ne pr = ne (before pr)
-
--- ---- walking back
+-- no event of the member stands before this one, which is preceded and takes a message
+pub before_send : (n : ℕ) (t : List Mark) → WellFormed n t → (i p : ℕ) (e : Mark) → At t p e → PlacePrecedes t i p → p ≢ i
+    → ((k : ℕ) (b : Mark) → k < p → At t k b → member_of b ≡ member_of e → ¬ (PlacePrecedes t i k)) → (o : Option ℕ) → IsSendOf t p o → IsBefore t i p o
+before_send n t obeys i p e at pr other none o sent = elim (last_step pr) [
+  | inl here ↦ absurd (other here)
+  | inr l ↦
+      let same : l.2.1 ≡ e = same_event t p p l.2.1 e refl l.2.4 at in
+      elim l.2.5 [
+        | inl own ↦ absurd (none l.0 l.2.0 l.2.2 l.2.3 (own ∙ ap member_of same) l.1)
+        | inr sends ↦ by_send l.0 l.2.0 l.1 l.2.2 l.2.3 (ap send_of (sym same) ∙ sends) o sent
+      ]
+] where
+  by_send : (k : ℕ) (a : Mark) → PlacePrecedes t i k → k < p → At t k a → send_of e ≡ Some a → (o : Option ℕ) → IsSendOf t p o → IsBefore t i p o
+  by_send k a to_k below at_k sends None unsent = absurd (let no : None ≡ Some a = sym (unsent e at) ∙ sends in cc)
+  by_send k a to_k below at_k sends (Some s) is =
+      let same : is.0 ≡ e = same_event t p p is.0 e refl is.2 at in
+      let taken : Some is.1 ≡ Some a = sym is.4 ∙ ap send_of same ∙ sends in
+      let sent_is : is.1 ≡ a = cc in
+      let here : k ≡ s = one_place n t obeys a k s at_k (rw sent_is at is.3) in
+      ((is.1, is.0, is.5, is.3, is.2, inr is.4), (rw here at to_k))
 
 -- one more step back
 pub IsPath-back : (t : List Mark) (i k j : ℕ) (path path' : List ℕ) → PlaceLeads t i k → IsPath t k j (reverse path) → path' ≡ path ++ i ∷ [] → IsPath t i j (reverse path')

@@ -4,9 +4,9 @@ use Rattle.std.specs.FinSet as set
 use Rattle.fbl_base.specs.declared.trace.Determinant.{Determinant}
 use Rattle.fbl_base.specs.Audit.{Parts, IsDump}
 use Rattle.fbl_base.specs.Events.{receipt_of}
+use Rattle.fbl_base.specs.Holders.{holders_of}
 use Rattle.fbl_base.specs.Precedence.{Depends, Has}
 use Rattle.fbl_audit.specs.Checking.{IsSafe}
-use Rattle.fbl_audit.specs.Holders.{holders_of}
 
 -- each receipt is held by more than f members, or by all that depend on it: the always-no-orphans condition of Alvisi and
 -- Marzullo (1998)

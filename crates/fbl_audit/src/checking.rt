@@ -4,14 +4,13 @@ ghost use Rattle.std.specs.Prelude.{◌≡◌, ◌↔◌, ℕ, true, [], IfOk, M
 ghost use Rattle.std.specs.FinSet as set;
 ghost use Rattle.fbl_base.specs.Audit.{IsDump};
 ghost use Rattle.fbl_base.specs.Events.{receipt_of, receipts};
+ghost use Rattle.fbl_base.specs.Holders.{holders_of};
+ghost use Rattle.fbl_base.specs.Places.{DependsOnPlace};
 ghost use Rattle.fbl_base.specs.Precedence.{Depends};
 ghost use Rattle.fbl_audit.specs.Checking.{IsSafe, IsSaidOf, IsUnsafe, SaysUnsafe};
-ghost use Rattle.fbl_audit.specs.Holders.{holders_of};
 
-use crate::dependents::Dependents;
-use crate::holders::Holders;
-use fbl_base::audit::Dump;
-use fbl_base::{Determinant, MemberSet};
+use fbl_base::audit::{Audit, Dump};
+use fbl_base::{Determinant, Member, MemberSet};
 use std::alloc::{AllocError, Global};
 
 /// A receipt that some members may lose with an orphan left.
@@ -23,6 +22,20 @@ pub struct UnsafeReceipt {
     pub strike: MemberSet,
     /// The members outside these that depend on it. There is one at least.
     pub orphans: MemberSet,
+}
+
+/// The members that depend on the event at the place.
+fn dependents_of(audit: &Audit, place: usize) -> MemberSet
+    ensures { (q : ℕ) → (set.contains result q ≡ true) ↔ DependsOnPlace audit.now.events q place }
+{
+    let mut dependents = MemberSet::empty();
+    for number in 0..audit.dump().members() {
+        let member = Member::at(number);
+        if audit.clocks().depends(member, place) {
+            dependents = dependents.with(member);
+        }
+    }
+    dependents
 }
 
 /// What is to be said of the receipt with this determinant, which these members hold, and on which those depend: nothing where
@@ -55,19 +68,18 @@ fn said_of(
 /// the run is safe. Those of the dump's strike set are lost already, so the question is of all sets that have these and at
 /// most `f` members, or as many as are struck.
 ///
-/// The time taken is linear in the events and the held pairs. `Err` comes only where there is no memory for the indexes or for
-/// the answer.
-pub fn unsafe_receipts(alloc: Global, dump: &Dump) -> Result<Vec<UnsafeReceipt>, AllocError>
-    ensures said { IfOk result (λ v. SaysUnsafe dump.now (receipts dump.now.events) v.items) }
-    ensures safe { IfOk result (λ v. (v.items ≡ []) ↔ IsSafe dump.now) }
+/// The time taken is linear in the events. `Err` comes only where there is no memory for the answer.
+pub fn unsafe_receipts(alloc: Global, audit: &Audit) -> Result<Vec<UnsafeReceipt>, AllocError>
+    ensures said { IfOk result (λ v. SaysUnsafe audit.now (receipts audit.now.events) v.items) }
+    ensures safe { IfOk result (λ v. (v.items ≡ []) ↔ IsSafe audit.now) }
 {
-    let holders = Holders::of(alloc, dump)?;
-    let dependents = Dependents::of(alloc, dump)?;
+    let dump = audit.dump();
     let mut unsafe_receipts = Vec::new(alloc);
     for (place, event) in dump.events().iter().enumerate() {
         if let Some(determinant) = event.determinant() {
-            let held_by = holders.get(&determinant);
-            if let Some(said) = said_of(dump, determinant, held_by, dependents.at(place)) {
+            let holders = audit.holders(&determinant);
+            let dependents = dependents_of(audit, place);
+            if let Some(said) = said_of(dump, determinant, holders, dependents) {
                 unsafe_receipts.push(said)?;
             }
         }

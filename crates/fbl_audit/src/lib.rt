@@ -1,17 +1,11 @@
-//! What the audit of a recorded trace asks: who holds each receipt, who depends on it, and whether it could be lost, whichever
-//! members are.
+//! What the audit of a recorded trace asks: by which paths a member depends on an event, and whether a receipt could be lost with
+//! an orphan left, whichever members are lost.
 #![tactic(auto)]
 
-mod audit;
 mod checking;
-mod dependents;
-mod holders;
 mod laws;
 mod paths;
 
-pub use audit::Audit;
 pub use checking::{UnsafeReceipt, unsafe_receipts};
-pub use dependents::Dependents;
-pub use holders::Holders;
 pub use laws::safe_law;
-pub use paths::Paths;
+pub use paths::{Paths, orphan_path, orphan_starts};

@@ -1,7 +1,7 @@
 -- The names that proofs of this crate take from outside: of the standard library, of the crates below, and of the definitions here.
 pub use Rattle.std.proofs.Common.{Bool, Decides, IfSome, List, MatchOption, None, Option, Some, [], add-one, ap, append_assoc, arith, below_more, bit_and, bit_or, cond, count_by, drop, eqb, false}
 pub use Rattle.std.proofs.Common.{get_or, get_or-set_other, get_or-set_same, inl, inr, length, length-append, length-set, length-take, map, not, refl, replicate, rules, slice_get, suc, sym, take}
-pub use Rattle.std.proofs.Common.{true, w16, zero, ℕ, ◌%◌, ◌&&◌, ◌*◌, ◌++◌, ◌+◌, ◌-◌, ◌/◌, ◌<◌, ◌==◌, ◌^◌, ◌||◌, ◌↔◌, ◌∙◌, ◌∷◌}
+pub use Rattle.std.proofs.Common.{true, w16, zero, ℕ, ◌%◌, ◌&&◌, ◌*◌, ◌++◌, ◌+◌, ◌-◌, ◌/◌, ◌<◌, ◌==◌, ◌^◌, max, unwrap_or, ◌||◌, ◌↔◌, ◌∙◌, ◌∷◌}
 pub use Rattle.std.proofs.Common.{◌≡◌, ◌≢◌, ◌≤◌, ◌⊎◌}
 pub use Rattle.std.proofs.Math.Bool.{or-false}
 pub use Rattle.std.proofs.Math.Nat.{mod-lt}
@@ -9,7 +9,7 @@ pub use Rattle.std.proofs.Math.Seq.{drop-cons, take-suc}
 pub use Rattle.std.proofs.lemmas.Bool.{and_parts, cases_eq, cases_lt, cases_order, eq-eqb, eqb-true, false≢true, not-true}
 pub use Rattle.std.proofs.lemmas.Bool.Decides.{nat_tests}
 pub use Rattle.std.proofs.lemmas.Grind.{common_steps}
-pub use Rattle.std.proofs.lemmas.List.{append-nil, get_or-map, get_or-take, length-map, map-append, take-append-drop, take-append-le, take_all, take_more}
+pub use Rattle.std.proofs.lemmas.List.{append-nil, drop_all, get_or-map, get_or-take, length-map, map-append, take-append-drop, take-append-le, take_all, take_more}
 pub use Rattle.std.proofs.lemmas.List.Elements.{All-contains_itself, All-filter, All-get_or, All-head, All-tail, filter-append, filter_map-append}
 pub use Rattle.std.proofs.lemmas.List.Folds.{Any-from_list_any, list_any-append, list_any-from_Any, list_any_more}
 pub use Rattle.std.proofs.lemmas.List.Sums.{count_by-le-length, length-filter, sum_by-append, sum_by-cons, sum_by_push}
@@ -22,21 +22,23 @@ pub use Rattle.std.specs.Int.{bit_at}
 pub use Rattle.std.specs.Int.Count.{ones_step}
 pub use Rattle.std.specs.List.{All, Contains, cons_option, filter, filter_map, flat_map, fold, list_any, range_with_len}
 pub use Rattle.std.specs.Ordering.{eq_by_cmp, nat_cmp}
-pub use Rattle.fbl_base.specs.Audit.{HeldAt, IsDump, IsDumpOrphan, IsHeldOutside, IsLost, Parts, first_events, is_held_outside, lost_determinants, orphan_start_in}
+pub use Rattle.fbl_base.specs.Audit.{AreCauses, HeldAt, IsCause, IsDump, IsDumpOrphan, IsFirstCause, IsHeldOutside, IsLost, IsLostAt, Parts, is_held_outside, lost_determinants}
 pub use Rattle.fbl_base.specs.Bits.{bits_of-set_of, contains-set_of, parity}
 pub use Rattle.fbl_base.specs.Breaches.{Breaks, BreaksEvent, FitsEvent, first_in_flight, next_number}
+pub use Rattle.fbl_base.specs.Clocks.{Counts as CountsPlaces, DependsBy, IsClock, IsSendOf, IsSentBy, Sees}
 pub use Rattle.fbl_base.specs.Configs.{Settings, StartAllowedAt}
 pub use Rattle.fbl_base.specs.Counted.{Counted, CountsEvent, first_by, next_by}
 pub use Rattle.fbl_base.specs.DumpParts.{is_received, parts_of}
-pub use Rattle.fbl_base.specs.Events.{At, destination_of, determinant_of, mark_of, member_of, receipt_of, receipts, same_determinant, send_of, source_of}
+pub use Rattle.fbl_base.specs.Events.{At, destination_of, determinant_of, mark_of, member_of, receipt_of, receipts, same_determinant, same_message, send_of, source_of}
 pub use Rattle.fbl_base.specs.Fold.{Action, Lawful, Next, Progress, action_of, actions_of, advanced, after_notes, begun, note_of, notes_of, responses, sent, start_of, starts_of, step_events, took}
-pub use Rattle.fbl_base.specs.MemberSets.{contains-insert_other, contains-insert_same, len-flagged, member_list, same_from_contains}
-pub use Rattle.fbl_base.specs.Places.{DependsOnPlace, PlacePrecedes, place_step, same_place}
+pub use Rattle.fbl_base.specs.MemberSets.{Members, contains-insert_other, contains-insert_same, len-flagged, member_list, same_from_contains}
+pub use Rattle.fbl_base.specs.Places.{DependsOnPlace, IsReached, PlaceLeads, PlacePrecedes, place_step, same_place}
 pub use Rattle.fbl_base.specs.Plans.{IsBad, number_before, numbers, set_at}
 pub use Rattle.fbl_base.specs.Precedence.{Depends, Earlier, Has, Precedes, itself, step}
-pub use Rattle.fbl_base.specs.Reach.{Follows, StartsBy, Tracks, reached_after, unreached_sends_after}
+pub use Rattle.fbl_base.specs.Holders.{AreHolders, holders_of}
 pub use Rattle.fbl_base.specs.Rules.{MayFollow, ObeysAt, WellFormed, in_flight, is_receipt_of, is_send_of, receipts_of, sends_of, sent_on, taken_on}
-pub use Rattle.fbl_base.specs.declared.audit.Reach.{Reach}
+pub use Rattle.fbl_base.specs.declared.clocks.Clock.{Clock}
+pub use Rattle.fbl_base.specs.declared.clocks.Seen.{Seen}
 pub use Rattle.fbl_base.specs.declared.fault.EventRule.{EventRule}
 pub use Rattle.fbl_base.specs.declared.rules.Counts.{Counts}
 pub use Rattle.fbl_base.specs.declared.strike.Strike.{Strike}
@@ -44,4 +46,5 @@ pub use Rattle.fbl_base.specs.declared.trace.Determinant.{Determinant}
 pub use Rattle.fbl_base.specs.declared.trace.Event.{Event}
 pub use Rattle.fbl_base.specs.declared.trace.Mark.{Mark}
 pub use Rattle.fbl_base.specs.declared.trace.Mark.TheVariants.{Receipt, Send}
+pub use Rattle.fbl_base.specs.declared.trace.MessageName.{MessageName}
 pub use Rattle.fbl_base.specs.declared.trace.Start.{Start}

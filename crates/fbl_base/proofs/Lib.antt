@@ -2,7 +2,9 @@ pub mod Common
 pub mod PrecedenceLaws
 pub mod Gets
 pub mod RulesLaws
-pub mod ReachLaws
+pub mod ClockLaws
+pub mod CauseLaws
+pub mod Holding
 pub mod Recorded
 pub mod FoldLaws
 pub mod SameStart
@@ -15,5 +17,4 @@ pub mod Numbers
 pub mod PlacesAndEvents
 pub mod LawfulLaws
 pub mod BitSets
-pub mod OrphanStarts
 mod Breached

@@ -1,9 +1,8 @@
 -- Which determinants are recorded.
-use Rattle.fbl_base.proofs.Common.{ℕ, ◌≡◌, Bool, true, false, not, ◌&&◌, ◌||◌, refl, sym, Decides, ◌↔◌, arith, nat_cmp, nat_tests, Any-from_list_any, list_any-from_Any}
-use Rattle.fbl_base.proofs.Common.{Determinant, and_parts, Parts, is_held_outside, IsDumpOrphan, first_events, same_determinant, nat_cmp_total, or-false, not-true, Follows, Reach}
+use Rattle.fbl_base.proofs.Common.{ℕ, ◌≡◌, Bool, true, false, not, ◌&&◌, ◌||◌, refl, sym, Decides, arith, nat_cmp, nat_tests, Any-from_list_any, list_any-from_Any}
+use Rattle.fbl_base.proofs.Common.{Determinant, and_parts, Parts, is_held_outside, same_determinant, or-false, not-true}
 use Rattle.fbl_base.proofs.Common.{IsHeldOutside}
 use Rattle.std.specs.FinSet as set
-use Rattle.fbl_base.specs.Reach.{IsReached}
 
 abbrev holds_it : set.FinSet nat_cmp → Determinant → ℕ × Determinant → Bool
 holds_it strike d h = not (set.contains strike h.0) && same_determinant h.1 d
@@ -23,16 +22,5 @@ Decides-is_held_outside dump d = (
       (a.1.0, (a.0, a.2, (let pair : (a.1.0, d) ≡ a.1 = (λ i. (a.1.0, sym is i)) in rw pair a.3)), not-true (set.contains dump.strike a.1.0) b.0),
   λ r. list_any-from_Any (holds_it dump.strike d) dump.held (r.1.0, (r.0, d), r.1.1, r.1.2, rw (r.2, (Decides-same_determinant d d).1 refl)),
 )
-
--- at the end of the pass, the members reached outside the strike set are the orphans
-pub orphans_by : (dump : Parts) (n : ℕ) (reach : Reach) → Follows dump n reach → (q : ℕ)
-    → (set.contains (set.difference reach.reached dump.strike) q ≡ true) ↔ IsDumpOrphan (first_events n dump) q
-unfolding IsReached
-orphans_by dump n reach follows q =
-    let left = set.contains-difference nat_cmp_total reach.reached dump.strike q in
-    let reaches = follows.members q in (
-      λ h. (grind (arith, left), reaches.0 (grind (arith, left))),
-      λ o. (let is = reaches.1 o.1 in grind (arith, left, is, o.0)),
-    )
 
 pub ruleset held_outside = (Decides-is_held_outside)

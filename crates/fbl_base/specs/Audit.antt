@@ -1,12 +1,13 @@
 -- What an audit says of a dump.
-use Rattle.std.specs.Prelude.{◌≡◌, Option, Some, None, slice_get, slice_index_or, take, length, ℕ, ◌+◌, ◌<◌, Bool, false, not, ◌&&◌, List}
+use Rattle.std.specs.Prelude.{◌≡◌, Option, Some, None, slice_get, slice_index_or, length, ℕ, ◌<◌, Bool, false, not, ◌&&◌, List}
 use Rattle.std.specs.List.{Contains, list_any, filter}
 use Rattle.std.specs.Ordering.{nat_cmp}
 use Rattle.std.specs.FinSet as set
 use Rattle.fbl_base.specs.declared.trace.Determinant.{Determinant}
 use Rattle.fbl_base.specs.declared.trace.Mark.{Mark}
 use Rattle.fbl_base.specs.declared.trace.Mark.TheVariants.{Send, Receipt}
-use Rattle.fbl_base.specs.Events.{receipt_of, receipts, same_determinant}
+use Rattle.fbl_base.specs.Events.{At, member_of, receipt_of, receipts, same_determinant}
+use Rattle.fbl_base.specs.Places.{DependsOnPlace, IsReached, PlacePrecedes}
 use Rattle.fbl_base.specs.Precedence.{Has, Depends}
 use Rattle.fbl_base.specs.Rules.{ObeysAt, WellFormed}
 use Rattle.fbl_base.specs.Configs.{MembersAllowed, FAllowed, IsFirstBreach}
@@ -45,15 +46,32 @@ abbrev pub IsDumpOrphan : Parts → ℕ → Type 0
 IsDumpOrphan dump member =
     (set.contains dump.strike member ≡ false) × ((e : Mark) × IsLost dump e × Depends dump.events member e)
 
--- the dump with so many of its events, the first ones
-abbrev pub first_events : ℕ → Parts → Parts
-first_events n dump = record dump { events = take n dump.events }
+-- the place has a lost receipt
+abbrev pub IsLostAt : Parts → ℕ → Type 0
+IsLostAt dump i = (e : Mark) × At dump.events i e × IsLost dump e
 
--- the place is that of the member's first event that depends on a lost receipt: by the events before it the member would be
--- no orphan, and with it the member is one
+-- it has a lost receipt on which the member depends
+abbrev pub IsCause : Parts → ℕ → ℕ → Type 0
+IsCause dump member i = IsLostAt dump i × DependsOnPlace dump.events member i
+
+-- the place is the first one of those
+abbrev pub IsFirstCause : Parts → ℕ → ℕ → Type 0
+IsFirstCause dump member i = IsCause dump member i × ((k : ℕ) → k < i → ¬ (IsCause dump member k))
+
+-- the places, which rise, are those of lost receipts, and each lost receipt is preceded by one of them
+pub record AreCauses (dump : Parts) (places : List ℕ) : Type 0 where
+  pub lost : (k i : ℕ) → slice_get places k ≡ Some i → IsLostAt dump i
+  pub all : (i : ℕ) → IsLostAt dump i → IsReached dump.events places i
+  pub rise : (k l i j : ℕ) → k < l → slice_get places k ≡ Some i → slice_get places l ≡ Some j → i < j
+
+-- the place has an event of the member that a lost receipt precedes
+abbrev pub IsOrphaned : Parts → ℕ → ℕ → Type 0
+IsOrphaned dump member j = (b : Mark) × At dump.events j b × (member_of b ≡ member) × ((i : ℕ) × IsLostAt dump i × PlacePrecedes dump.events i j)
+
+-- the member is outside the strike set, and the place is that of its first event that depends on a lost receipt
 abbrev pub IsOrphanFrom : Parts → ℕ → ℕ → Type 0
 IsOrphanFrom dump member place =
-    (place < length dump.events) × ¬ (IsDumpOrphan (first_events place dump) member) × IsDumpOrphan (first_events (place + 1) dump) member
+    (set.contains dump.strike member ≡ false) × IsOrphaned dump member place × ((k : ℕ) → k < place → ¬ (IsOrphaned dump member k))
 
 -- the member is no orphan; or it is one from the place on
 abbrev pub IsOrphanStart : Parts → ℕ → Option ℕ → Type 0

@@ -9,7 +9,8 @@ pub mod Numeric
 pub mod Exactness
 pub mod Fold
 pub mod Audit
-pub mod Reach
+pub mod Holders
+pub mod Clocks
 pub mod Rules
 pub mod Steps
 pub mod MemberSets

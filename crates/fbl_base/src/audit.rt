@@ -5,9 +5,9 @@
 //! are those of Alvisi and Marzullo (1998): a receipt is recorded while a member outside the strike set holds its
 //! determinant.
 
-ghost use Rattle.std.specs.Prelude.{◌≡◌, ◌<◌, ◌≤◌, ◌↔◌, ◌+◌, ℕ, true, IfOk, IfErr, IfSome, MatchOption, length};
+ghost use Rattle.std.specs.Prelude.{◌≡◌, ◌<◌, ◌≤◌, ◌↔◌, ℕ, true, not, IfOk, IfErr, IfSome, MatchOption, length};
 ghost use Rattle.std.specs.FinSet as set;
-ghost use Rattle.fbl_base.specs.Audit.{FitsPair, HeldAt, IsDump, Parts, IsLost, IsDumpOrphan, IsOrphanStart, RefusesDump, first_events, is_held_outside, lost_determinants, orphan_start_in};
+ghost use Rattle.fbl_base.specs.Audit.{AreCauses, FitsPair, HeldAt, IsCause, IsDump, IsDumpOrphan, IsFirstCause, IsLost, RefusesDump, is_held_outside, lost_determinants};
 ghost use Rattle.fbl_base.specs.Breaches.{BreaksPair, IsEventFault, IsOfDump, IsPairFault, dump_refusal};
 ghost use Rattle.fbl_base.specs.Configs.{IsFirstBreach};
 ghost use Rattle.fbl_base.specs.Events.{receipt_of, same_determinant};
@@ -15,9 +15,11 @@ ghost use Rattle.std.specs.HashSet as hash_set;
 ghost use Rattle.fbl_base.specs.DumpParts.{parts_of, is_received};
 ghost use Rattle.fbl_base.specs.Precedence.{Has};
 ghost use Rattle.fbl_base.specs.Rules.{ObeysAt, WellFormed};
-ghost use Rattle.fbl_base.specs.Reach.{Follows, StartsBy, reached_after, unreached_sends_after};
+ghost use Rattle.fbl_base.specs.Holders.{AreHolders, holders_of};
 
+use crate::clocks::Clocks;
 use crate::fault::{DumpFault, EventFault, Outsider, PairFault, PairRule};
+use crate::holders::Holders;
 use crate::member::{LEAST_MEMBERS, MOST_MEMBERS, Member};
 use crate::member_set::MemberSet;
 use crate::raw_dump::RawDump;
@@ -104,122 +106,181 @@ impl<A: Allocator> Dump<A> {
     }
 }
 
-/// Determinants by their hashes.
-pub type DeterminantSet<A> = HashSet<Determinant, BuildHasherDefault<FoldHasher>, A>;
-
-/// What a pass over the events has found: the members that a lost receipt reaches, and the number
-/// of each member's last send before it was reached.
+/// A dump with the indexes that its audit needs: who holds each determinant, which events precede which, and the places of the
+/// lost receipts that no lost one precedes, rising. Contracts see the dump.
 #[derive(Drop)]
-struct Reach {
-    reached: MemberSet,
-    unreached_sends: [u32; 16],
+pub struct Audit<'a, A: Allocator = Global> {
+    holders: Holders<A>,
+    clocks: Clocks<'a, A>,
+    causes: Vec<usize, A>,
 }
 
-impl Reach {
-    #[tactic(auto, using(crate::proofs::ReachLaws::Tracks_none))]
-    fn new() -> Reach
-        ensures { (dump : Parts) → Follows dump 0 result }
-    {
-        Reach {
-            reached: MemberSet::empty(),
-            unreached_sends: [0; 16],
-        }
-    }
+impl<'a, A: Allocator> Model for Audit<'a, A> {
+    ghost use Rattle.fbl_base.specs.Audit.{Parts, AreCauses};
 
-    /// The members outside the strike set that are reached: the orphans by so many of the events as were followed.
-    fn orphans<A: Allocator>(&self, dump: &Dump<A>) -> MemberSet
-        ensures { (n : ℕ) → Follows dump.now n self.now → (q : ℕ) → (set.contains result q ≡ true) ↔ IsDumpOrphan (first_events n dump.now) q }
-    {
-        self.reached.without(dump.strike())
-    }
+    ghost Value = { Parts };
 
-    /// The start of the member at which the event at the place happened, which was followed last, by its start before that.
-    fn start<A: Allocator>(
-        &self,
-        dump: &Dump<A>,
-        place: usize,
-        member: Member,
-        before: Option<usize>,
-    ) -> Option<usize>
-        requires within { place < length dump.now.events }
-        requires follows { Follows dump.now (place + 1) self.now }
-        requires before { StartsBy dump.now place member before }
-        ensures { StartsBy dump.now (place + 1) member result }
-    {
-        match before {
-            Some(first) => Some(first),
-            None if self.is_orphan(dump, place, member) => Some(place),
-            None => None,
-        }
-    }
+    ghost use Rattle.std.specs.Coded.{codes, coded_ℕ};
+    ghost use Rattle.std.specs.Ordering.{nat_cmp};
+    ghost use Rattle.std.specs.FinSet as set;
+    ghost use Rattle.fbl_base.specs.contracts.trace.Mark as mark;
+    ghost use Rattle.fbl_base.specs.contracts.trace.Determinant as determinant;
 
-    /// Whether the member is an orphan by the events up to the place, which was followed last.
-    fn is_orphan<A: Allocator>(&self, dump: &Dump<A>, place: usize, member: Member) -> bool
-        requires within { place < length dump.now.events }
-        requires follows { Follows dump.now (place + 1) self.now }
-        ensures { (result ≡ true) ↔ IsDumpOrphan (first_events (place + 1) dump.now) member }
-    {
-        self.orphans(dump).has(member)
-    }
+    ghost coded = { Prim.hlevel (codes, mark.the_row.coded, determinant.the_row.coded, set.code {R = nat_cmp} coded_ℕ) };
 
-    /// Takes in the event at the place.
-    fn follow_at<A: Allocator>(
-        &mut self,
-        dump: &Dump<A>,
-        recorded: &DeterminantSet<A>,
-        place: usize,
-    )
-        requires within { place < length dump.now.events }
-        requires recorded { (d : _) → hash_set.contains same_determinant recorded.now d ≡ is_held_outside dump.now d }
-        requires follows { Follows dump.now place self.old }
-        ensures { Follows dump.now (place + 1) self.new }
-    {
-        let event = &dump.events()[place];
-        let lost = is_lost(dump, recorded, *event);
-        self.follow(*event, lost);
-    }
+    ghost view = { λ a. a.clocks };
 
-    /// Takes in the next event.
-    fn follow(&mut self, event: Mark, lost: bool)
-        ensures reached { self.new.reached ≡ reached_after event lost self.old.reached self.old.unreached_sends }
-        ensures unreached_sends { self.new.unreached_sends ≡ unreached_sends_after event self.old.reached self.old.unreached_sends }
-    {
-        match event {
-            Mark::Send { from, ssn, to: _ } => {
-                if !self.reached.has(from) {
-                    self.unreached_sends[from.number() as usize] = ssn;
-                }
-            }
-            Mark::Receipt {
-                to,
-                rsn: _,
-                from,
-                ssn,
-            } => {
-                if lost || self.unreached_sends[from.number() as usize] < ssn {
-                    self.reached = self.reached.with(to);
-                }
-            }
-        }
-    }
+    ghost use Rattle.fbl_base.specs.Holders.{AreHolders};
+
+    ghost invariant = { λ a. AreHolders a.clocks a.holders × AreCauses a.clocks a.causes.items };
 }
 
-/// The determinants that a member outside the strike set holds. `Err` comes only where there is no memory for them.
-pub fn recorded_determinants<A: Allocator + Copy>(
+/// Whether no member outside the strike set is among these, which hold the determinant.
+#[tactic(auto, using(crate::proofs::Holding::lost_test))]
+fn loses<A: Allocator + Copy>(dump: &Dump<A>, holders: &Holders<A>, determinant: &Determinant) -> bool
+    requires { AreHolders dump.now holders.now }
+    ensures { result ≡ not (is_held_outside dump.now determinant.now) }
+{
+    holders.get(determinant).without(dump.strike()).is_empty()
+}
+
+/// The determinants of the receipts that no member outside the strike set holds, where these are the holders.
+fn lost_by<A: Allocator + Copy>(
     alloc: A,
     dump: &Dump<A>,
-) -> Result<DeterminantSet<A>, AllocError>
-    ensures { IfOk result
-        (λ s. (d : _) → hash_set.contains same_determinant s d ≡ is_held_outside dump.now d) }
+    holders: &Holders<A>,
+) -> Result<Vec<Determinant, A>, AllocError>
+    requires { AreHolders dump.now holders.now }
+    ensures { IfOk result (λ v. v.items ≡ lost_determinants dump.now) }
 {
-    let strike = dump.strike();
-    let mut recorded = HashSet::new(alloc);
-    for (holder, determinant) in dump.held() {
-        if !strike.has(*holder) {
-            recorded.insert(*determinant)?;
+    let mut lost = Vec::new(alloc);
+    for event in dump.events() {
+        if let Some(determinant) = event.determinant() {
+            if loses(dump, holders, &determinant) {
+                lost.push(determinant)?;
+            }
         }
     }
-    Ok(recorded)
+    Ok(lost)
+}
+
+/// Whether the event is a lost receipt, where these are the holders.
+#[tactic(auto, using(crate::proofs::Recorded::held_outside))]
+fn is_lost_receipt<A: Allocator + Copy>(dump: &Dump<A>, holders: &Holders<A>, event: Mark) -> bool
+    requires { AreHolders dump.now holders.now }
+    ensures { (result ≡ true) ↔ IsLost dump.now event }
+{
+    match event.determinant() {
+        Some(determinant) => loses(dump, holders, &determinant),
+        None => false,
+    }
+}
+
+/// The places of the lost receipts that no lost one precedes.
+fn causes_of<A: Allocator + Copy>(
+    alloc: A,
+    holders: &Holders<A>,
+    clocks: &Clocks<A>,
+) -> Result<Vec<usize, A>, AllocError>
+    requires { AreHolders clocks.now holders.now }
+    ensures { IfOk result (λ v. AreCauses clocks.now v.items) }
+{
+    let dump = clocks.dump();
+    let mut causes = Vec::new(alloc);
+    for place in 0..dump.events().len() {
+        let event = dump.events()[place];
+        if is_lost_receipt(dump, holders, event) && !clocks.reach(causes.as_slice(), place) {
+            causes.push(place)?;
+        }
+    }
+    Ok(causes)
+}
+
+impl<'a, A: Allocator + Copy> Audit<'a, A> {
+    /// The audit of this dump. The time taken is linear in the events and the held pairs. `Err` comes only where there is no
+    /// memory for the indexes.
+    pub fn of(alloc: A, dump: &'a Dump<A>) -> Result<Audit<'a, A>, AllocError>
+        ensures { IfOk result (λ a. a ≡ dump.now) }
+    {
+        let holders = Holders::of(alloc, dump)?;
+        let clocks = Clocks::of(alloc, dump)?;
+        let causes = causes_of(alloc, &holders, &clocks)?;
+        Ok(Audit {
+            holders,
+            clocks,
+            causes,
+        })
+    }
+
+    /// The dump.
+    pub fn dump(&self) -> &'a Dump<A>
+        ensures dump { result.now ≡ self.now }
+        ensures rules { IsDump self.now }
+    {
+        self.clocks.dump()
+    }
+
+    /// Which events precede which.
+    pub fn clocks(&self) -> &Clocks<'a, A>
+        ensures { result.now ≡ self.now }
+    {
+        &self.clocks
+    }
+
+    /// The places of the lost receipts that no lost one precedes, rising.
+    pub fn causes(&self) -> &[usize]
+        ensures { AreCauses self.now result.now }
+    {
+        self.causes.as_slice()
+    }
+
+    /// The members that hold the determinant, struck or not.
+    pub fn holders(&self, determinant: &Determinant) -> MemberSet
+        ensures { result ≡ holders_of self.now determinant.now }
+    {
+        self.holders.get(determinant)
+    }
+
+    /// Whether no member outside the strike set holds the determinant.
+    pub fn is_lost(&self, determinant: &Determinant) -> bool
+        ensures { result ≡ not (is_held_outside self.now determinant.now) }
+    {
+        loses(self.dump(), &self.holders, determinant)
+    }
+
+    /// The determinants of the lost receipts, in the order of the events. `Err` comes only where there is no memory for the
+    /// answer.
+    pub fn lost(&self, alloc: A) -> Result<Vec<Determinant, A>, AllocError>
+        ensures { IfOk result (λ v. v.items ≡ lost_determinants self.now) }
+    {
+        lost_by(alloc, self.dump(), &self.holders)
+    }
+
+    /// The place of the first lost receipt on which the member depends.
+    pub fn first_cause(&self, member: Member) -> Option<usize>
+        ensures { MatchOption result ((i : ℕ) → ¬ (IsCause self.now member i)) (IsFirstCause self.now member) }
+    {
+        for cause in self.causes() {
+            if self.clocks.depends(member, *cause) {
+                return Some(*cause);
+            }
+        }
+        None
+    }
+
+    /// The members outside the strike set that depend on a lost receipt.
+    pub fn orphans(&self) -> MemberSet
+        ensures { (q : ℕ) → (set.contains result q ≡ true) ↔ IsDumpOrphan self.now q }
+    {
+        let mut orphans = MemberSet::empty();
+        for number in 0..MOST_MEMBERS {
+            let member = Member::at(number);
+            if self.first_cause(member).is_some() {
+                orphans = orphans.with(member);
+            }
+        }
+        orphans.without(self.dump().strike())
+    }
 }
 
 /// The determinants of the receipts that no member outside the strike set holds, in the order of the
@@ -231,75 +292,21 @@ pub fn lost<A: Allocator + Copy>(
 ) -> Result<Vec<Determinant, A>, AllocError>
     ensures { IfOk result (λ v. v.items ≡ lost_determinants dump.now) }
 {
-    let recorded = recorded_determinants(alloc, dump)?;
-    let mut lost = Vec::new(alloc);
-    for event in dump.events() {
-        if let Some(determinant) = event.determinant() {
-            if !is_recorded(dump, &recorded, &determinant) {
-                lost.push(determinant)?;
-            }
-        }
-    }
-    Ok(lost)
-}
-
-/// Whether the event is a receipt whose determinant isn't among those recorded.
-#[tactic(auto, using(crate::proofs::Recorded::held_outside))]
-fn is_lost<A: Allocator>(dump: &Dump<A>, recorded: &DeterminantSet<A>, event: Mark) -> bool
-    requires { (d : _) → hash_set.contains same_determinant recorded.now d ≡ is_held_outside dump.now d }
-    ensures { (result ≡ true) ↔ IsLost dump.now event }
-{
-    match event.determinant() {
-        Some(determinant) => !is_recorded(dump, recorded, &determinant),
-        None => false,
-    }
-}
-
-/// Whether the determinant is among those recorded.
-fn is_recorded<A: Allocator>(
-    dump: &Dump<A>,
-    recorded: &DeterminantSet<A>,
-    determinant: &Determinant,
-) -> bool
-    requires { (d : _) → hash_set.contains same_determinant recorded.now d ≡ is_held_outside dump.now d }
-    ensures { result ≡ is_held_outside dump.now determinant.now }
-{
-    recorded.contains(determinant)
+    let holders = Holders::of(alloc, dump)?;
+    lost_by(alloc, dump, &holders)
 }
 
 /// The members outside the strike set that depend on a receipt whose determinant no such member
 /// holds. The time taken is linear in the events and the held pairs, on every dump, whether or not a group made it.
-/// `Err` comes only where there is no memory for an index of the held determinants.
+/// `Err` comes only where there is no memory for the indexes.
 pub fn orphans<A: Allocator + Copy>(alloc: A, dump: &Dump<A>) -> Result<MemberSet, AllocError>
     ensures { IfOk result (λ s. (q : ℕ) → (set.contains s q ≡ true) ↔ IsDumpOrphan dump.now q) }
 {
-    let recorded = recorded_determinants(alloc, dump)?;
-    let mut reach = Reach::new();
-    for place in 0..dump.events().len() {
-        reach.follow_at(dump, &recorded, place);
-    }
-    Ok(reach.orphans(dump))
+    Ok(Audit::of(alloc, dump)?.orphans())
 }
 
-/// For each member's number, the place of its first event that depends on a lost receipt, if the member is an orphan.
-/// Places count from 0. The time taken is that of `orphans`, and `Err` comes where it does there.
-pub fn orphan_starts<A: Allocator + Copy>(
-    alloc: A,
-    dump: &Dump<A>,
-) -> Result<[Option<usize>; 16], AllocError>
-    ensures { IfOk result (λ starts. (q : ℕ) → q < 16 → IsOrphanStart dump.now q (orphan_start_in starts q)) }
-{
-    let recorded = recorded_determinants(alloc, dump)?;
-    let mut reach = Reach::new();
-    let mut starts = [None; 16];
-    for place in 0..dump.events().len() {
-        reach.follow_at(dump, &recorded, place);
-        let member = dump.events()[place].member();
-        let number = member.number() as usize;
-        starts[number] = reach.start(dump, place, member, starts[number]);
-    }
-    Ok(starts)
-}
+/// Determinants by their hashes.
+type DeterminantSet<A> = HashSet<Determinant, BuildHasherDefault<FoldHasher>, A>;
 
 /// The first event that breaks a rule, and the first rule that it breaks.
 fn first_bad_event<A: Allocator + Copy>(

@@ -3,9 +3,11 @@
 
 pub mod audit;
 mod behaviour;
+mod clocks;
 mod config;
 mod content;
 mod fault;
+mod holders;
 pub mod laws;
 mod member;
 mod member_set;
@@ -19,6 +21,7 @@ mod ticket;
 mod trace;
 
 pub use behaviour::{Behaviour, Mix, Relay};
+pub use clocks::Clocks;
 pub use config::{Config, ConfigRefusal};
 pub use content::{Content, Exact};
 pub use fault::{

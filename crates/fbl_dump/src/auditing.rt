@@ -5,8 +5,7 @@ ghost use Rattle.fbl_input.specs.Faults.{PutsOut};
 ghost use Rattle.fbl_dump.specs.Auditing.{Audits, IsAuditText};
 
 use crate::reading::read_dump;
-use fbl_audit::Audit;
-use fbl_base::audit::Dump;
+use fbl_base::audit::{Audit, Dump};
 use fbl_input::{OutputFault, RunFault, put};
 use fbl_lines::audit_text;
 use std::alloc::{AllocError, Global};

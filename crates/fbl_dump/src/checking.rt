@@ -1,11 +1,13 @@
 //! The check of a dump.
 
-ghost use Rattle.std.specs.Prelude.{◌≡◌, ◌≤◌, ◌++◌, IfOk, string_bytes};
+ghost use Rattle.std.specs.Prelude.{◌≡◌, ◌≤◌, ◌++◌, ◌↔◌, [], IfOk, string_bytes};
+ghost use Rattle.fbl_base.specs.Events.{receipts};
+ghost use Rattle.fbl_audit.specs.Checking.{IsSafe, SaysUnsafe};
 ghost use Rattle.fbl_input.specs.Faults.{PutsOut};
 ghost use Rattle.fbl_dump.specs.Checking.{IsChecked, check_lines, unsafe_lines};
 
 use fbl_audit::{UnsafeReceipt, unsafe_receipts};
-use fbl_base::audit::Dump;
+use fbl_base::audit::{Audit, Dump};
 use fbl_input::{OutputFault, put};
 use fbl_lines::{safe_text, unsafe_text};
 use std::alloc::{AllocError, Global};
@@ -42,6 +44,15 @@ fn text_of(alloc: Global, unsafe_receipts: &[UnsafeReceipt]) -> Result<String, A
     }
 }
 
+/// The unsafe receipts of a dump.
+fn found(alloc: Global, dump: &Dump) -> Result<Vec<UnsafeReceipt>, AllocError>
+    ensures said { IfOk result (λ v. SaysUnsafe dump.now (receipts dump.now.events) v.items) }
+    ensures safe { IfOk result (λ v. (v.items ≡ []) ↔ IsSafe dump.now) }
+{
+    let audit = Audit::of(alloc, dump)?;
+    unsafe_receipts(alloc, &audit)
+}
+
 /// Checks the dump, and writes a line for each receipt that some members may lose with an orphan left, or that there is none;
 /// answers which of the two it is.
 pub fn write_check<W: Write>(
@@ -51,7 +62,7 @@ pub fn write_check<W: Write>(
 ) -> Result<Verdict, OutputFault>
     ensures { PutsOut (IsChecked dump.now) (W.contents writer.old) (W.contents writer.new) result }
 {
-    let unsafe_receipts = unsafe_receipts(alloc, dump)?;
+    let unsafe_receipts = found(alloc, dump)?;
     let text = text_of(alloc, unsafe_receipts.as_slice())?;
     put(writer, text.as_bytes())?;
     if unsafe_receipts.is_empty() {

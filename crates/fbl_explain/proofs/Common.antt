@@ -7,7 +7,7 @@ pub use Rattle.std.proofs.lemmas.List.{take_all, take_more}
 pub use Rattle.std.specs.List.{AllZip}
 pub use Rattle.std.specs.Prelude.{IfNone, IfOk, IfSome, None, Option, Some, option_map}
 pub use Rattle.std.specs.Result.{result_err}
-pub use Rattle.fbl_audit.proofs.Following.{member_within}
+pub use Rattle.fbl_base.proofs.ClockLaws.{member_within}
 pub use Rattle.fbl_audit.specs.Checking.{IsLeftOrphan}
 pub use Rattle.fbl_audit.specs.Paths.{IsPathTo}
 pub use Rattle.fbl_audit.specs.declared.checking.UnsafeReceipt.{UnsafeReceipt}

@@ -7,7 +7,7 @@ use Rattle.fbl_base.specs.Audit.{Parts, lost_determinants}
 use Rattle.fbl_base.specs.Events.{At, receipt_of, receipts}
 use Rattle.fbl_audit.specs.declared.checking.UnsafeReceipt.{UnsafeReceipt}
 use Rattle.fbl_audit.specs.Checking.{IsLeftOrphan, SaysUnsafe}
-use Rattle.fbl_audit.specs.Holders.{holders_of}
+use Rattle.fbl_base.specs.Holders.{holders_of}
 use Rattle.fbl_audit.specs.Paths.{IsPathTo}
 use Rattle.fbl_explain.specs.declared.why.LossReason.{LossReason}
 use Rattle.fbl_explain.specs.declared.why.OrphanPath.{OrphanPath}

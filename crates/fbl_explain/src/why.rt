@@ -5,8 +5,8 @@ ghost use Rattle.fbl_base.specs.Events.{At, receipt_of};
 ghost use Rattle.fbl_base.specs.Precedence.{Has};
 ghost use Rattle.fbl_explain.specs.Whys.{ArePathsFrom, IsLossReason, TellsLost, TellsUnsafe};
 
-use fbl_audit::{Audit, Paths, unsafe_receipts};
-use fbl_base::audit::Dump;
+use fbl_audit::{Paths, unsafe_receipts};
+use fbl_base::audit::{Audit, Dump};
 use fbl_base::{Determinant, Mark, Member, MemberSet};
 use std::alloc::{AllocError, Global};
 use std::fmt;
@@ -55,17 +55,17 @@ fn place_of(events: &[Mark], determinant: &Determinant) -> Option<usize>
 /// A path to each member outside the strike that depends on the receipt.
 fn paths_to_orphans(
     alloc: Global,
-    dump: &Dump,
+    audit: &Audit,
     determinant: &Determinant,
     strike: MemberSet,
 ) -> Result<Vec<OrphanPath>, AllocError>
-    ensures { IfOk result (λ paths. ArePathsFrom dump.now determinant.now strike 0 paths.items) }
+    ensures { IfOk result (λ paths. ArePathsFrom audit.now determinant.now strike 0 paths.items) }
 {
     let mut orphans = Vec::new(alloc);
-    let Some(place) = place_of(dump.events(), determinant) else {
+    let Some(place) = place_of(audit.dump().events(), determinant) else {
         return Ok(orphans);
     };
-    let paths = Paths::of(alloc, dump, place)?;
+    let paths = Paths::of(audit, place);
     for number in 0..16u8 {
         let orphan = Member::at(number);
         if !strike.has(orphan) {
@@ -86,7 +86,7 @@ fn loss_reason(
 ) -> Result<LossReason, AllocError>
     ensures { IfOk result (IsLossReason audit.now determinant.now strike) }
 {
-    let orphans = paths_to_orphans(alloc, audit.dump(), determinant, strike)?;
+    let orphans = paths_to_orphans(alloc, audit, determinant, strike)?;
     Ok(LossReason {
         determinant: *determinant,
         holders: audit.holders(determinant),
@@ -119,7 +119,7 @@ pub fn why_unsafe<'a>(alloc: Global, dump: &'a Dump) -> Result<Why<'a>, AllocErr
     ensures not_safe { IfOk result (λ why. TellsUnsafe dump.now why.receipts.items) }
 {
     let audit = Audit::of(alloc, dump)?;
-    let found = unsafe_receipts(alloc, dump)?;
+    let found = unsafe_receipts(alloc, &audit)?;
     let mut receipts = Vec::new(alloc);
     for receipt in &found {
         receipts.push(loss_reason(alloc, &audit, &receipt.determinant, receipt.strike)?)?;

@@ -7,8 +7,7 @@ ghost use Rattle.fbl_pictures.specs.Places.{drawn};
 
 use crate::dump_receipts::{ReceiptPlaces, place_of, receipt_kind, receipt_places};
 use crate::shape::{ArrowKind, Shape};
-use fbl_audit::Audit;
-use fbl_base::audit::Dump;
+use fbl_base::audit::{Audit, Dump};
 use fbl_base::{Determinant, Mark, Member};
 use std::alloc::{AllocError, Global};
 

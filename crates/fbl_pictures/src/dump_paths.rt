@@ -5,8 +5,8 @@ ghost use Rattle.std.specs.Option.{option_to_list};
 ghost use Rattle.fbl_pictures.specs.DumpPaths.{IsPathDrawn, path_shapes, paths_drawn, places_in, step_between, step_shape};
 
 use crate::shape::{ArrowKind, LineKind, Shape};
-use fbl_audit::Audit;
-use fbl_base::audit::Dump;
+use fbl_audit::orphan_path;
+use fbl_base::audit::{Audit, Dump};
 use fbl_base::{Mark, Member};
 use std::alloc::{AllocError, Global};
 
@@ -69,7 +69,7 @@ fn push_path(shapes: &mut Vec<Shape>, events: &[Mark], path: &[usize]) -> Result
 fn path_to(alloc: Global, audit: &Audit, member: Member) -> Result<Vec<usize>, AllocError>
     ensures { IfOk result (λ path. IsPathDrawn audit.now member path.items) }
 {
-    match audit.orphan_path(alloc, member)? {
+    match orphan_path(alloc, audit, member)? {
         Some(path) => Ok(path),
         None => Ok(Vec::new(alloc)),
     }

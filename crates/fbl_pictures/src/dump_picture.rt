@@ -9,9 +9,9 @@ use crate::dump_members::push_members;
 use crate::dump_paths::{paths_of, push_paths};
 use crate::picture::picture_text;
 use crate::shape::{Legend, Shape};
-use fbl_audit::Audit;
+use fbl_audit::orphan_starts;
 use fbl_base::MemberSet;
-use fbl_base::audit::{Dump, orphan_starts};
+use fbl_base::audit::{Audit, Dump};
 use fbl_lines::set_text;
 use std::alloc::{AllocError, Global};
 
@@ -62,7 +62,7 @@ pub(crate) fn dump_picture(alloc: Global, dump: &Dump) -> Result<String, AllocEr
     let audit = Audit::of(alloc, dump)?;
     let lost = audit.lost(alloc)?;
     let title = title_text(alloc, dump, lost.len(), audit.orphans())?;
-    let starts = orphan_starts(alloc, dump)?;
+    let starts = orphan_starts(&audit);
     let paths = paths_of(alloc, &audit)?;
     let shapes = shapes(alloc, &audit, &starts, paths.as_slice())?;
     let columns = dump.events().len();

@@ -6,8 +6,7 @@ ghost use Rattle.fbl_base.specs.Events.{same_message};
 ghost use Rattle.fbl_pictures.specs.DumpReceipts.{IsPlacesOf, kind_of, taken_by};
 
 use crate::shape::Kind;
-use fbl_audit::Audit;
-use fbl_base::audit::Dump;
+use fbl_base::audit::{Audit, Dump};
 use fbl_base::{Determinant, Mark, Member, MessageName};
 use std::alloc::{AllocError, Global};
 use std::collections::HashMap;

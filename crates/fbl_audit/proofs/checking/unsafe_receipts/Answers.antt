@@ -1,15 +1,16 @@
-use Rattle.fbl_audit.proofs.Common.{◌≡◌, arith, sym, WellFormed, AreDependents, [], ◌∷◌, inl, inr, refl, append-nil, append_assoc, drop_next, drop_all, length, slice_get_read}
+use Rattle.fbl_audit.proofs.Common.{◌≡◌, arith, sym, WellFormed, [], ◌∷◌, inl, inr, refl, append-nil, append_assoc, drop_next, drop_all, length, slice_get_read}
 use Rattle.fbl_audit.proofs.Checks.{dependents_of_receipt, says_safe}
 use Rattle.fbl_audit.proofs.checking.unsafe_receipts.Goals as goal
 
 pub said_of-requires-clause-dependents : goal.said_of-requires-clause-dependents
 said_of-requires-clause-dependents c =
+    let dump = c.args.audit.now in
     let t = c.events-event-items.result.now in
-    let events : t ≡ c.args.dump.now.events = c.events-event-items.ensures.events in
-    let obeys : WellFormed c.args.dump.now.members t = rw events c.events-event-items.ensures.rules.events in
-    let found : AreDependents t c.in_ok-dependents.dependents = rw events c.in_ok-dependents.ensures in
-    rw (← events, c.at.ensures) (dependents_of_receipt c.args.dump.now.members t c.in_ok-dependents.dependents c.loop-place.place c.event-item.result
-    c.in-Some.determinant obeys found (omega arith) c.event-item.is (sym c.in-Some.ensures))
+    let is = c.dump-dump.ensures.dump in
+    let events : t ≡ dump.events = rw is at c.events-event-items.ensures.events in
+    let obeys : WellFormed dump.members t = rw events c.dump-dump.ensures.rules.events in
+    rw (is, ← events) (dependents_of_receipt dump.members t c.dependents_of-dependents.result c.loop-place.place c.event-item.result
+    c.in-Some.determinant obeys (rw events c.dependents_of-dependents.ensures) (omega arith) c.event-item.is (sym c.in-Some.ensures))
 
 pub loop-place-init : goal.loop-place-init
 loop-place-init c rest says = rw c.new-unsafe_receipts.ensures.items says
@@ -30,7 +31,7 @@ pub returns-clause-said : goal.returns-clause-said
 returns-clause-said c =
     let none = drop_all c.loop-place.place c.events-event-items.result.now (omega arith) in
     let said = c.loop-place.invariant [] (rw none refl) in
-    (rw (append-nil, c.events-event-items.ensures.events) at said)
+    (rw (append-nil, c.events-event-items.ensures.events, c.dump-dump.ensures.dump) at said)
 
 pub returns-clause-safe : goal.returns-clause-safe
-returns-clause-safe c = says_safe c.args.dump.now c.loop-place.unsafe_receipts.items (returns-clause-said c)
+returns-clause-safe c = says_safe c.args.audit.now c.loop-place.unsafe_receipts.items (returns-clause-said c)

@@ -1,4 +1,4 @@
-use Rattle.fbl_explain.proofs.Common.{◌≡◌, true, false, arith, ap, sym, ◌∙◌, IsDump, At, receipt_of, DependsOnPlace, Has, At-below, IsLeftOrphan, IsPathTo, false≢true}
+use Rattle.fbl_explain.proofs.Common.{◌≡◌, true, false, arith, ap, sym, ◌∙◌, IsDump, At, receipt_of, DependsOnPlace, Has, IsLeftOrphan, IsPathTo, false≢true}
 use Rattle.fbl_explain.proofs.Common.{depends-from_places, places-from_depends, Has-first}
 use Rattle.std.specs.FinSet as set
 use Rattle.fbl_explain.proofs.Whys.{paths_all, paths_more, paths_same}
@@ -6,27 +6,22 @@ use Rattle.fbl_explain.proofs.why.paths_to_orphans.Goals as goal
 
 pub returns-in_default : goal.returns-in_default
 returns-in_default c =
-    let none : ¬ (Has c.args.dump.now.events (receipt_of c.args.determinant.now)) = rw c.events.ensures.events at c.in_default.ensures in
+    let none : ¬ (Has c.args.audit.now.events (receipt_of c.args.determinant.now)) = rw (c.events.ensures.events, c.dump.ensures.dump) at c.in_default.ensures in
     rw c.new-orphans.ensures.items (λ q least left. none (Has-first left.1.1))
-
-pub of-requires : goal.of-requires
-of-requires c =
-    let at : At c.args.dump.now.events c.in-Some.place (receipt_of c.args.determinant.now) = rw c.events.ensures.events at c.in-Some.ensures in
-    At-below c.args.dump.now.events c.in-Some.place (receipt_of c.args.determinant.now) at
 
 pub loop-number-init : goal.loop-number-init
 loop-number-init c = rw c.new-orphans.ensures.items (λ rest paths. paths)
 
 pub loop-number-preserved : goal.loop-number-preserved
 loop-number-preserved c =
-    let dump = c.args.dump.now in
+    let dump = c.args.audit.now in
     let d = c.args.determinant.now in
     let strike = c.args.strike in
     let i = c.in-Some.place in
     let n = c.loop-number.number in
-    let rules : IsDump dump = c.events.ensures.rules in
-    let at : At dump.events i (receipt_of d) = rw c.events.ensures.events at c.in-Some.ensures in
-    let origin : c.in_ok-paths.paths ≡ record { events = dump.events; place = i } = c.in_ok-paths.ensures in
+    let rules : IsDump dump = c.dump.ensures.rules in
+    let at : At dump.events i (receipt_of d) = rw (c.events.ensures.events, c.dump.ensures.dump) at c.in-Some.ensures in
+    let origin : c.of-paths.result ≡ record { events = dump.events; place = i } = c.of-paths.ensures in
     let orphan : c.at-orphan.result ≡ n = c.at-orphan.ensures in
     elim c.if-not-has.branch [
       | goal.then-not-has+in_ok-places+in-Some-2+in_ok-push w ↦
@@ -48,7 +43,7 @@ loop-number-preserved c =
 
 pub returns : goal.returns
 returns c =
-    let dump = c.args.dump.now in
-    let rules : IsDump dump = c.events.ensures.rules in
+    let dump = c.args.audit.now in
+    let rules : IsDump dump = c.dump.ensures.rules in
     let all : c.loop-number.number ≡ 16 = omega arith in
     paths_all dump c.args.determinant.now c.args.strike c.loop-number.orphans.items rules.events rules.members.1 (rw all at c.loop-number.invariant)

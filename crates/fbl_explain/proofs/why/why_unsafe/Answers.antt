@@ -11,4 +11,4 @@ loop-receipt-preserved c =
 pub returns-clause-not_safe : goal.returns-clause-not_safe
 returns-clause-not_safe c =
     let all : take c.loop-receipt.receipt-index c.deref-receipt-items.result.now ≡ c.in_ok-found.found.items = take_all _ _ (omega arith) ∙ c.deref-receipt-items.ensures.value in
-    (c.in_ok-found.found.items, c.in_ok-found.ensures.said, (rw (← all) c.loop-receipt.invariant))
+    (c.in_ok-found.found.items, (rw c.in_ok-audit.ensures at c.in_ok-found.ensures.said), (rw (← all) c.loop-receipt.invariant))

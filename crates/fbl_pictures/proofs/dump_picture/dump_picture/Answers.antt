@@ -7,7 +7,7 @@ returns c =
     let dump = c.args.dump.now in
     let is : c.in_ok-audit.audit ≡ dump = c.in_ok-audit.ensures in
     let orphans = c.orphans.result in
-    let starts = c.in_ok-starts.starts in
+    let starts = c.orphan_starts-starts.result in
     let list = c.in_ok-paths.paths.items in
     let paths : ℕ → List ℕ = places_in list in
     let count : length list ≡ 16 = c.in_ok-paths.ensures.count in
@@ -23,7 +23,7 @@ returns c =
       orphans,
       (rw is at c.orphans.ensures),
       starts,
-      c.in_ok-starts.ensures,
+      (rw is at c.orphan_starts-starts.ensures),
       paths,
       drawn,
       drawn_text ∙ (λ i. picture (heading i) (members i) (columns i) Dump (shapes i)),

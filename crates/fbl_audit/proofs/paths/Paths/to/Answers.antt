@@ -4,7 +4,7 @@ use Rattle.fbl_audit.proofs.paths.Paths.to.Goals as goal
 
 pub loop-before-init : goal.loop-before-init
 loop-before-init c = record {
-  depends = c.in-Some.ensures.1.depends;
+  depends = c.in-Some.ensures.depends;
   path = (rw (c.in_ok-push.ensures.items, c.new-path.ensures.items) path_end);
 }
 
@@ -17,4 +17,4 @@ loop-before-preserved c =
     }
 
 pub returns-clause-paths : goal.returns-clause-paths
-returns-clause-paths c = (c.in-Some.end, c.in-Some.ensures.1, (rw (c.reverse.ensures.items, ← c.in_default-before.ensures c.loop-before.invariant.depends) c.loop-before.invariant.path))
+returns-clause-paths c = (c.in-Some.end, c.in-Some.ensures, (rw (c.reverse.ensures.items, ← c.in_default-before.ensures c.loop-before.invariant.depends) c.loop-before.invariant.path))

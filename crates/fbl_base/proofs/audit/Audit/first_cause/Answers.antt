@@ -1,0 +1,25 @@
+use Rattle.fbl_base.proofs.Common.{◌<◌, ◌≡◌, ap, sym, ◌∙◌, arith, cases_eq, inl, inr, length, Some, refl, false≢true, slice_get-get_or, slice_get_within, get_or_from_slice_get}
+use Rattle.fbl_base.proofs.CauseLaws.{cause_before, first_right}
+use Rattle.fbl_base.proofs.audit.Audit.first_cause.Goals as goal
+
+pub returns-then-depends : goal.returns-then-depends
+returns-then-depends g c =
+    let places = c.causes-cause-items.result.now in
+    let k = c.loop-cause.cause-index in
+    let at = slice_get-get_or places k 0 (omega (arith, c.loop-cause-test.true)) in
+    first_right c.args.self.now places c.causes-cause-items.ensures c.args.member k _ at (rw c.self.view_is at (c.depends.ensures.0 c.if-depends.true)) c.loop-cause.invariant
+
+pub loop-cause-preserved : goal.loop-cause-preserved
+loop-cause-preserved g c k i below at depends = elim (cases_eq k c.loop-cause.cause-index) [
+  | inl here ↦
+      let is = get_or_from_slice_get c.causes-cause-items.result.now k i 0 at in
+      false≢true (sym c.if-depends.false ∙ c.depends.ensures.1 (rw (c.self.view_is, ← here, is) depends))
+  | inr ne ↦ c.loop-cause.invariant k i (omega (arith, below, ne)) at depends
+]
+
+pub returns : goal.returns
+returns g c i cause =
+    let places = c.causes-cause-items.result.now in
+    let b = cause_before c.args.self.now places c.causes-cause-items.ensures c.args.member i cause in
+    let within = slice_get_within places b.0 b.1 b.2 in
+    c.loop-cause.invariant b.0 b.1 (omega (arith, within, c.loop-cause-test.false)) b.2 b.3
