@@ -4,9 +4,9 @@ use Rattle.fbl_history.specs.declared.column.Column.TheVariants as columns
 use Rattle.fbl_pictures.specs.declared.shape.Shape.TheVariants as shapes
 use Rattle.fbl_pictures.specs.HistoryLaws.{is_arrow_to, ComesFromItsSend, HasArrowFromItsSend, IsLastSend, IsSentAgainAt, IsSentAt}
 use Rattle.fbl_pictures.specs.HistoryPictures.{history_shapes}
-use Rattle.fbl_pictures.proofs.Common.{ℕ, ◌+◌, ◌<◌, ◌≡◌, ◌≢◌, ◌⊎◌, ◌||◌, Bool, true, false, inl, inr, List, [], ◌∷◌, ◌++◌, length, take, Option, Some, None, slice_get, filter, max, refl, sym, ap, ◌∙◌, arith, cases_lt, lt-ltb, le-ltb}
-use Rattle.fbl_pictures.proofs.Common.{eqb-self, ne_eqb, or_left, or_right, max-eq_left, max-eq_right, same_message, is_message, Column, Shape, MessageName, ReceiptsFollowSends}
-use Rattle.fbl_pictures.proofs.Common.{drawn, arrow_between, arrow_from, arrow_kind, back_before, brings_back, column_marks, is_back, is_comeback, last_before, later, marks_after, members_shapes, receipt_arrow}
+use Rattle.fbl_pictures.proofs.Common.{ℕ, ◌+◌, ◌<◌, ◌≡◌, ◌≢◌, Bool, true, false, inl, inr, List, [], ◌∷◌, ◌++◌, length, take, Option, Some, None, slice_get, filter, max, refl, ap, ◌∙◌, arith, cases_lt, lt-ltb, le-ltb}
+use Rattle.fbl_pictures.proofs.Common.{eqb-self, ne_eqb, or_left, or_right, max-eq_left, max-eq_right, Column, MessageName, ReceiptsFollowSends}
+use Rattle.fbl_pictures.proofs.Common.{drawn, arrow_between, arrow_from, arrow_kind, back_before, column_marks, is_back, is_comeback, later, marks_after, members_shapes, receipt_arrow}
 use Rattle.fbl_pictures.proofs.Common.{has_standing_receipt, receipts_made, recovery_mark, sends, sent_before, strike_mark, stub, stub_unless, stub_where}
 use Rattle.fbl_pictures.proofs.Filtering.{drawn_none, drawn_one, filter_map_none, filter_none, filter_only}
 use Rattle.fbl_pictures.proofs.Indexing.{Decides-same_message}
@@ -95,9 +95,15 @@ module _ (history : List Column) (from ssn to place : ℕ) (undone : Bool) where
   was_sent sent before at =
       let test : ℕ → Bool = λ k. sends (record { from = from; ssn = ssn }) (slice_get history k) in
       let last = last_some test place sent before (at-sends history from ssn sent at) in
-      let known = last_is test place last.0 last.1 in
-      (last.0, last.1, (known.0, sends-at history from ssn last.0 (slice_get history last.0) refl known.1,
-        λ k behind below sent_later. (let clash = at-sends history from ssn k sent_later in let none = known.2 k behind below in cc)))
+      let known = last_is test place last.0 last.1 in (
+        last.0,
+        last.1,
+        (
+          known.0,
+          sends-at history from ssn last.0 (slice_get history last.0) refl known.1,
+          λ k behind below sent_later. (let clash = at-sends history from ssn k sent_later in let none = known.2 k behind below in cc),
+        ),
+      )
 
 pub has_arrow_from_its_send : (members : ℕ) (history : List Column) → ReceiptsFollowSends history → HasArrowFromItsSend members history
 unfolding history_shapes
@@ -108,11 +114,14 @@ has_arrow_from_its_send members history follow place to rsn from ssn state undon
     let arrows = drawn (receipt_arrow history) 0 history in
     let stubs = drawn (stub history) 0 history in
     let marks = drawn (column_marks history) 0 history in
-    let here : place ≡ 0 + place = omega arith in
-    (arrow.0, arrow.1, arrow.2,
+    let here : place ≡ 0 + place = omega arith in (
+      arrow.0,
+      arrow.1,
+      arrow.2,
       filter_only (is_arrow_to place) (members_shapes members history ++ arrows ++ stubs) marks (drawn_none (is_arrow_to place) (column_marks history) 0 history (λ i c. mark-none place (receipts_made (take i history)) i c))
-      ∙ filter_only (is_arrow_to place) (members_shapes members history ++ arrows) stubs (drawn_none (is_arrow_to place) (stub history) 0 history (λ i c. stub-none place (has_standing_receipt history) (back_before history (length history)) i c))
-      ∙ filter_none (is_arrow_to place) (members_shapes members history) arrows (members_none (is_arrow_to place) (λ m s. refl) (λ i m. refl) (λ m s e k. refl) history members)
-      ∙ drawn_one (is_arrow_to place) (receipt_arrow history) place (λ i c apart. arrow-apart place (sent_before history i) (back_before history i) i c apart) 0 place history (columns.Receipt to rsn from ssn state undone) at here
-      ∙ ap (λ o. filter (is_arrow_to place) (arrow_between o (later (back_before history place from) (back_before history place to)) from to place undone)) sent.1
-      ∙ arrow.3)
+          ∙ filter_only (is_arrow_to place) (members_shapes members history ++ arrows) stubs (drawn_none (is_arrow_to place) (stub history) 0 history (λ i c. stub-none place (has_standing_receipt history) (back_before history (length history)) i c))
+          ∙ filter_none (is_arrow_to place) (members_shapes members history) arrows (members_none (is_arrow_to place) (λ m s. refl) (λ i m. refl) (λ m s e k. refl) history members)
+          ∙ drawn_one (is_arrow_to place) (receipt_arrow history) place (λ i c apart. arrow-apart place (sent_before history i) (back_before history i) i c apart) 0 place history (columns.Receipt to rsn from ssn state undone) at here
+          ∙ ap (λ o. filter (is_arrow_to place) (arrow_between o (later (back_before history place from) (back_before history place to)) from to place undone)) sent.1
+          ∙ arrow.3,
+    )

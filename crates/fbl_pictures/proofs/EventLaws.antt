@@ -1,10 +1,9 @@
 -- Each event of a history has its mark, and no other column has one.
 use Rattle.fbl_base.specs.MemberSets.{member_list}
 use Rattle.fbl_history.specs.declared.column.Column.TheVariants as columns
-use Rattle.fbl_pictures.specs.declared.shape.Shape.TheVariants as shapes
 use Rattle.fbl_pictures.specs.HistoryLaws.{is_mark_in, mark_of_event, MarksEachEvent}
 use Rattle.fbl_pictures.specs.HistoryPictures.{history_shapes}
-use Rattle.fbl_pictures.proofs.Common.{ℕ, ◌≡◌, ◌≢◌, Bool, true, false, List, [], ◌∷◌, ◌++◌, ◌+◌, arith, Option, Some, None, slice_get, take, filter, length, refl, ◌∙◌, eqb-self, ne_eqb, Column, MessageName}
+use Rattle.fbl_pictures.proofs.Common.{ℕ, ◌≡◌, ◌≢◌, Bool, true, false, List, [], ◌++◌, ◌+◌, arith, Option, Some, None, take, filter, length, refl, ◌∙◌, eqb-self, ne_eqb, Column, MessageName}
 use Rattle.fbl_pictures.proofs.Common.{back_before, drawn, arrow_between, arrow_from, column_marks, has_standing_receipt, receipts_made, sent_before, marks_after, members_shapes, receipt_arrow, recovery_mark, strike_mark, stub, stub_unless, stub_where}
 use Rattle.fbl_pictures.proofs.Filtering.{drawn_none, drawn_one, filter_map_none, filter_none, filter_nothing}
 use Rattle.fbl_pictures.proofs.MembersApart.{members_none}
@@ -59,5 +58,5 @@ marks_each_event members history place column at =
     (drawn_none (is_mark_in place) (stub history) 0 history (λ i c. stub-none place (has_standing_receipt history) (back_before history (length history)) i c)))
     ∙ drawn_one (is_mark_in place) (column_marks history) place (λ i c apart. mark-apart place (receipts_made (take i history)) i c apart) 0 place history column at zero-add
     ∙ mark-here place (receipts_made (take place history)) column where
-  zero-add : place ≡ 0 + place
-  zero-add = omega arith
+      zero-add : place ≡ 0 + place
+      zero-add = omega arith

@@ -1,5 +1,5 @@
 -- What a test leaves of shapes that are drawn one after another.
-use Rattle.fbl_pictures.proofs.Common.{ℕ, zero, suc, ◌+◌, ◌<◌, ◌≤◌, ◌≡◌, ◌≢◌, Bool, true, false, cond, inl, inr, List, [], ◌∷◌, ◌++◌, map, Some, slice_get, filter, filter-append, append-nil, flat_map, range_with_len, refl, ap}
+use Rattle.fbl_pictures.proofs.Common.{ℕ, zero, suc, ◌+◌, ◌<◌, ◌≤◌, ◌≡◌, ◌≢◌, Bool, false, inl, inr, List, [], ◌∷◌, ◌++◌, map, Some, slice_get, filter, filter-append, append-nil, flat_map, range_with_len, refl, ap}
 use Rattle.fbl_pictures.proofs.Common.{◌∙◌, arith, cases_eq, Shape, drawn}
 
 module _ (p : Shape → Bool) where

@@ -1,5 +1,5 @@
 -- The last place that passes a test.
-use Rattle.fbl_pictures.proofs.Common.{ℕ, zero, suc, ◌+◌, ◌<◌, ◌≤◌, ◌≡◌, ◌⊎◌, Bool, true, false, cond, inl, inr, Option, Some, None, max, refl, sym, ap, ◌∙◌, arith, cases_lt, last_before, later, max-eq_left, max-eq_right}
+use Rattle.fbl_pictures.proofs.Common.{ℕ, zero, suc, ◌<◌, ◌≤◌, ◌≡◌, ◌⊎◌, Bool, true, false, cond, inl, inr, Option, Some, None, max, refl, sym, ap, ◌∙◌, arith, cases_lt, last_before, later, max-eq_left, max-eq_right}
 
 -- it passes the test, and none behind it does
 pub last_is : (test : ℕ → Bool) (place t : ℕ) → last_before test place ≡ Some t
@@ -13,11 +13,14 @@ last_is test (suc place) t is = at (test place) refl is (last_is test place t) w
       let same : place ≡ t = cc in
       (omega (arith, same), ap test (sym same) ∙ passes, λ j behind below. absurd (omega (arith, same, behind, below)))
   at false fails found before =
-      let known = before found in
-      (omega (arith, known.0), known.1, λ j behind below. elim (cases_lt j place) [
-        | inl earlier ↦ known.2 j behind earlier
-        | inr past ↦ (let same : j ≡ place = omega (arith, below, past) in ap test same ∙ fails)
-      ])
+      let known = before found in (
+        omega (arith, known.0),
+        known.1,
+        λ j behind below. elim (cases_lt j place) [
+          | inl earlier ↦ known.2 j behind earlier
+          | inr past ↦ (let same : j ≡ place = omega (arith, below, past) in ap test same ∙ fails)
+        ],
+      )
 
 -- where a place passes the test there is a last one, no earlier
 pub last_some : (test : ℕ → Bool) (place k : ℕ) → k < place → test k ≡ true → (t : ℕ) × (last_before test place ≡ Some t) × (k ≤ t)

@@ -5,8 +5,8 @@ use Rattle.fbl_history.specs.declared.column.Column.TheVariants as columns
 use Rattle.fbl_pictures.specs.declared.shape.Shape.TheVariants as shapes
 use Rattle.fbl_pictures.specs.HistoryLaws.{is_before, is_dashed, leads_to, IsDashedWhileDown, IsDownBefore, IsRecoveredAt, IsStruckAt}
 use Rattle.fbl_pictures.specs.HistoryPictures.{history_shapes}
-use Rattle.fbl_pictures.proofs.Common.{ℕ, zero, suc, ◌+◌, ◌<◌, ◌≤◌, ◌≡◌, ◌≢◌, ◌⊎◌, ◌-◌, ◌==◌, ◌&&◌, ◌||◌, not, Bool, true, false, cond, inl, inr, List, [], ◌∷◌, ◌++◌, length, take, map, drop, get_or, Option, Some, None, slice_get}
-use Rattle.fbl_pictures.proofs.Common.{append_assoc, slice_get-get_or, slice_get_within, get_or_from_slice_get, false_from_ne_true, subst, filter, fold, range_with_len, refl, sym, ap, ◌∙◌, arith, beq, cases_lt, lt-ltb, le-ltb, or_left, or_right, eqb-self, ne_eqb, nat_lt, Column, Shape, MessageName}
+use Rattle.fbl_pictures.proofs.Common.{ℕ, zero, suc, ◌+◌, ◌<◌, ◌≤◌, ◌≡◌, ◌≢◌, ◌⊎◌, ◌-◌, ◌&&◌, ◌||◌, not, Bool, true, false, cond, inl, inr, List, [], ◌∷◌, ◌++◌, length, take, get_or, Option, Some, None, slice_get}
+use Rattle.fbl_pictures.proofs.Common.{append_assoc, slice_get-get_or, slice_get_within, get_or_from_slice_get, false_from_ne_true, subst, filter, refl, sym, ap, ◌∙◌, arith, cases_lt, lt-ltb, le-ltb, or_left, or_right, eqb-self, ne_eqb, nat_lt, Column, Shape, MessageName}
 use Rattle.fbl_pictures.proofs.Common.{drawn, arrow_between, arrow_from, column_marks, history_member_shapes, is_back, is_down, is_down_after, last_before, line_kind_of, line_part, line_to, marks_after, members_shapes, names}
 use Rattle.fbl_pictures.proofs.Common.{back_before, has_standing_receipt, receipt_arrow, receipts_made, recovery_mark, sent_before, strike_mark, stub, stub_unless, stub_where, turns}
 use Rattle.fbl_pictures.proofs.Filtering.{drawn_none, filter_map_none, filter_none, filter_nothing, filter_only, numbers_one}
@@ -98,6 +98,7 @@ module _ (history : List Column) (member place : ℕ) where
           | inl below ↦ rw (lt-ltb t place below) refl
           | inr past ↦ (let clash = none t past known.0 in let turned = known.1 in absurd cc)
         ]
+
     same : is_down history member end ≡ is_down history member place
     same =
         let on : place + (end - place) ≡ end = omega (arith, from) in
@@ -111,6 +112,7 @@ module _ (history : List Column) (member place : ℕ) where
   leads-by i (x ∷ xs) within none = rw end (at (turns history member i) refl (leads-by (i + 1) xs (omega (arith, within, end)))) where
     end : i + length (x ∷ xs) ≡ i + 1 + length xs
     end = omega arith
+
     at : (b : Bool) → turns history member i ≡ b
         → (((t : ℕ) → place ≤ t → t < i + 1 → turns history member t ≡ false) → LeadsBy (drawn (line_part history member) (i + 1) xs ++ line_to history member (i + 1 + length xs) ∷ []))
         → LeadsBy ((cond (turns history member i) (line_to history member i ∷ []) [] ++ drawn (line_part history member) (i + 1) xs) ++ line_to history member (i + 1 + length xs) ∷ [])
@@ -149,11 +151,15 @@ module _ (history : List Column) (member : ℕ) where
 
   -- a column that doesn't recover the member, behind a strike
   extends : (k : ℕ) → ¬ (IsRecoveredAt history member k) → IsDownBefore history member k → IsDownBefore history member (k + 1)
-  extends k unrecovered down =
-      (down.0, omega (arith, down.1), down.2, λ j behind below. elim (cases_lt j k) [
-        | inl before ↦ down.3 j behind before
-        | inr past ↦ (let same : k ≡ j = omega (arith, past, below) in subst (λ i. ¬ (IsRecoveredAt history member i)) same unrecovered)
-      ])
+  extends k unrecovered down = (
+    down.0,
+    omega (arith, down.1),
+    down.2,
+    λ j behind below. elim (cases_lt j k) [
+      | inl before ↦ down.3 j behind before
+      | inr past ↦ (let same : k ≡ j = omega (arith, past, below) in subst (λ i. ¬ (IsRecoveredAt history member i)) same unrecovered)
+    ],
+  )
 
   unrecovered : (k : ℕ) (c : Column) → slice_get history k ≡ Some c → ((replays : _) → c ≡ columns.Recovery replays → is_back member replays.items ≡ false) → ¬ (IsRecoveredAt history member k)
   unrecovered k c at none back = (let clash = none back.0 (some-is c (columns.Recovery back.0) (sym at ∙ back.1)) in let is = back.2 in absurd cc) where
@@ -224,8 +230,8 @@ module _ (history : List Column) (member place : ℕ) where
       (filter_nothing (leads_to member place) (names (length history) q) (drawn (line_part history q) 0 history) (names_none (leads_to member place) (λ i m. refl) (length history) q)
       (drawn_none (leads_to member place) (line_part history q) 0 history (λ i c. part-apart i)))
       (rw (line-apart q (length history) apart) refl) where
-    part-apart : (i : ℕ) → filter (leads_to member place) (cond (turns history q i) (line_to history q i ∷ []) []) ≡ []
-    part-apart i = elim (turns history q i) as (λ b. filter (leads_to member place) (cond b (line_to history q i ∷ []) []) ≡ []) [ true ↦ rw (line-apart q i apart) refl | false ↦ refl ]
+        part-apart : (i : ℕ) → filter (leads_to member place) (cond (turns history q i) (line_to history q i ∷ []) []) ≡ []
+        part-apart i = elim (turns history q i) as (λ b. filter (leads_to member place) (cond b (line_to history q i ∷ []) []) ≡ []) [ true ↦ rw (line-apart q i apart) refl | false ↦ refl ]
 
 pub is_dashed_while_down : (members : ℕ) (history : List Column) → IsDashedWhileDown members history
 unfolding history_shapes
@@ -237,13 +243,14 @@ is_dashed_while_down members history member place below within =
     let line = drawn (line_part history member) 0 history in
     let end : 0 + length history ≡ length history = omega arith in
     let parts = subst (λ n. LeadsBy history member place (line ++ line_to history member n ∷ [])) end
-    (leads-by history member place 0 history (omega (arith, within)) (λ t from under. absurd (omega (arith, under)))) in
-    (parts.0,
+    (leads-by history member place 0 history (omega (arith, within)) (λ t from under. absurd (omega (arith, under)))) in (
+      parts.0,
       filter_only p (members_shapes members history ++ arrows ++ stubs) marks (drawn_none p (column_marks history) 0 history (λ i c. mark-none member place (receipts_made (take i history)) i c))
-      ∙ filter_only p (members_shapes members history ++ arrows) stubs (drawn_none p (stub history) 0 history (λ i c. stub-none member place (has_standing_receipt history) (back_before history (length history)) i c))
-      ∙ filter_only p (members_shapes members history) arrows (drawn_none p (receipt_arrow history) 0 history (λ i c. arrow-none member place (sent_before history i) (back_before history i) i c))
-      ∙ numbers_one p (history_member_shapes history) member (λ q apart. member-apart history member place q apart) 0 members (omega arith) (omega (arith, below))
-      ∙ ap (filter p) (append_assoc (names (length history) member) line (line_to history member (length history) ∷ []))
-      ∙ filter_none p (names (length history) member) (line ++ line_to history member (length history) ∷ []) (names_none p (λ i m. refl) (length history) member)
-      ∙ parts.1,
-      (λ dashed. down-is history member place within (sym parts.2 ∙ dashed), λ down. parts.2 ∙ is-down history member place within down))
+          ∙ filter_only p (members_shapes members history ++ arrows) stubs (drawn_none p (stub history) 0 history (λ i c. stub-none member place (has_standing_receipt history) (back_before history (length history)) i c))
+          ∙ filter_only p (members_shapes members history) arrows (drawn_none p (receipt_arrow history) 0 history (λ i c. arrow-none member place (sent_before history i) (back_before history i) i c))
+          ∙ numbers_one p (history_member_shapes history) member (λ q apart. member-apart history member place q apart) 0 members (omega arith) (omega (arith, below))
+          ∙ ap (filter p) (append_assoc (names (length history) member) line (line_to history member (length history) ∷ []))
+          ∙ filter_none p (names (length history) member) (line ++ line_to history member (length history) ∷ []) (names_none p (λ i m. refl) (length history) member)
+          ∙ parts.1,
+      (λ dashed. down-is history member place within (sym parts.2 ∙ dashed), λ down. parts.2 ∙ is-down history member place within down),
+    )

@@ -1,5 +1,5 @@
 -- What is drawn of members is neither a mark nor an arrow.
-use Rattle.fbl_pictures.proofs.Common.{ℕ, ◌+◌, ◌*◌, ◌/◌, ◌≡◌, Bool, true, false, cond, List, [], ◌∷◌, ◌++◌, Option, None, filter, range_with_len, length, refl, ◌∙◌, Column, Shape}
+use Rattle.fbl_pictures.proofs.Common.{ℕ, ◌+◌, ◌*◌, ◌/◌, ◌≡◌, Bool, true, false, cond, List, [], ◌∷◌, ◌++◌, Option, None, filter, range_with_len, length, refl, Column, Shape}
 use Rattle.fbl_pictures.proofs.Common.{drawn, names, history_member_shapes, is_down, last_before, line_kind_of, line_part, line_to, members_shapes, turns}
 use Rattle.fbl_pictures.specs.declared.shape.Shape.TheVariants as shapes
 use Rattle.fbl_pictures.specs.declared.shape.Status.{Status}

@@ -8,7 +8,11 @@ use fbl_base::Member;
 use std::alloc::AllocError;
 
 /// Adds the member's name behind each 24 columns. `Err` comes only where there is no memory for more shapes.
-pub(crate) fn push_names(shapes: &mut Vec<Shape>, columns: usize, member: Member) -> Result<(), AllocError>
+pub(crate) fn push_names(
+    shapes: &mut Vec<Shape>,
+    columns: usize,
+    member: Member,
+) -> Result<(), AllocError>
     ensures { OnOk result (shapes.new.items ≡ shapes.old.items ++ names columns member) }
 {
     for group in 0..columns / 24 {

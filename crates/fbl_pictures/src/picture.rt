@@ -6,7 +6,8 @@ ghost use Rattle.fbl_pictures.specs.Pictures.{ending, drawn_heading, opening, pi
 use crate::lines::{arrow_text, in_flight_text, label_text, line_text, name_text};
 use crate::look::{entries, look};
 use crate::marks::{
-    checkpoint_text, held_text, made_and_undone_text, receipt_text, recovery_text, send_text, strike_text,
+    checkpoint_text, held_text, made_and_undone_text, receipt_text, recovery_text, send_text,
+    strike_text,
 };
 use crate::places::{height, width, y};
 use crate::shape::{Legend, Shape};

@@ -1,4 +1,4 @@
-use Rattle.fbl_pictures.proofs.Common.{◌≡◌, ◌<◌, ◌++◌, ◌∙◌, ap, arith, length, drawn, column_marks, marks_after}
+use Rattle.fbl_pictures.proofs.Common.{◌≡◌, ◌<◌, ◌++◌, ◌∙◌, ap, arith, length, column_marks, marks_after}
 use Rattle.fbl_pictures.proofs.Steps.{drawn_on, made_more}
 use Rattle.fbl_pictures.proofs.history_marks.push_marks.Goals as goal
 
