@@ -12,9 +12,6 @@ pub use Rattle.fbl_base.proofs.Numbers.{rows_on}
 pub use Rattle.fbl_base.specs.Audit.{Parts, lost_determinants}
 pub use Rattle.fbl_base.specs.Events.{is_message, same_message}
 pub use Rattle.fbl_base.specs.declared.trace.MessageName.{MessageName}
-pub use Rattle.fbl_dump.proofs.Answers.{answers_dump, answers_fault, answers_unread}
-pub use Rattle.fbl_dump.specs.Answering.{TextAlone}
-pub use Rattle.fbl_input.proofs.Inputs.{read_whole}
 pub use Rattle.fbl_input.proofs.Outputs.{puts_text}
 pub use Rattle.fbl_shapes.specs.Pictures.{picture}
 pub use Rattle.fbl_shapes.specs.Places.{drawn}

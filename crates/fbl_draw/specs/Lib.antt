@@ -3,4 +3,3 @@ pub mod Events
 pub mod Members
 pub mod Paths
 pub mod Pictures
-pub mod Drawing

@@ -1,4 +1,4 @@
-//! Dumps drawn as pictures, over any reader and writer.
+//! Dumps drawn as pictures.
 #![tactic(auto)]
 
 mod drawing;
@@ -8,4 +8,4 @@ mod paths;
 mod picture;
 mod receipts;
 
-pub use drawing::{draw, draw_bytes};
+pub use drawing::write_picture;

@@ -23,12 +23,12 @@ pub use Rattle.fbl_base.specs.MemberSets.{AllBelow, member_list}
 pub use Rattle.fbl_base.specs.declared.trace.Determinant.{Determinant}
 pub use Rattle.fbl_base.specs.declared.trace.Mark.{Mark}
 pub use Rattle.fbl_base.specs.declared.trace.Mark.TheVariants.{Receipt, Send}
-pub use Rattle.fbl_input.proofs.Bytes.{keeps_itself}
 pub use Rattle.fbl_input.proofs.Faults.{refused}
-pub use Rattle.fbl_input.proofs.Inputs.{too_long, unread}
+pub use Rattle.fbl_input.proofs.Inputs.{over_fault, over_input}
 pub use Rattle.fbl_input.proofs.Lists.{elements_of, json_read}
 pub use Rattle.fbl_input.proofs.Outputs.{puts_front, puts_text}
-pub use Rattle.fbl_input.specs.Misfits.{run_fault}
+pub use Rattle.fbl_input.specs.Faults.{IsFirstFault, PutsOut}
+pub use Rattle.fbl_input.specs.Misfits.{IsOfParts, dump_fault, run_fault}
 pub use Rattle.fbl_input.specs.Shapes.{all_shaped, json_of, list_of, longest, member_shape, number_within, or_fault, set_shape, ◌>>=◌}
 pub use Rattle.fbl_input.specs.declared.fault.RunFault.{RunFault}
 pub use Rattle.fbl_lines.specs.Lines.{audit_lines}
@@ -44,10 +44,9 @@ pub use Rattle.serde_json.specs.Read.{max_depth, of_json, read}
 pub use Rattle.serde_json.specs.View.{items_of, view}
 pub use Rattle.serde_json.specs.Written.{compact_text, has_float, items_have_float}
 pub use Rattle.serde_json.specs.declared.value.Value.{Value}
-pub use Rattle.fbl_dump.specs.Answering.{AnswersBytes, AnswersDump, ReadsAndAnswers, TextAlone}
 pub use Rattle.fbl_dump.specs.Auditing.{IsAuditText}
 pub use Rattle.fbl_dump.specs.Checking.{IsChecked, IsVerdict, check_lines, unsafe_lines}
 pub use Rattle.fbl_dump.specs.DumpLines.{ReadsBack, dump_object, event_data, list_data, number_data, pair_data}
-pub use Rattle.fbl_dump.specs.Dumps.{IsDumpFault, IsDumpOf, event_shape, pair_shape, parts_of_data, parts_of_input}
+pub use Rattle.fbl_dump.specs.Dumps.{IsDumpFault, IsDumpOf, RefusesParts, event_shape, pair_shape, parts_of_data, parts_of_input}
 pub use Rattle.fbl_dump.specs.declared.checking.Verdict.{Verdict}
 pub use Rattle.fbl_dump.specs.declared.checking.Verdict.TheVariants.{Safe, Unsafe}

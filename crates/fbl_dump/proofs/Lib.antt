@@ -2,5 +2,5 @@ pub mod Common
 pub mod Newlines
 pub mod DumpValues
 pub mod DumpTexts
-pub mod Answers
+pub mod DumpFaults
 pub mod Verdicts

@@ -4,21 +4,14 @@ use Rattle.std.specs.Ordering.{nat_cmp}
 use Rattle.std.specs.FinSet as set
 use Rattle.fbl_base.specs.Audit.{Parts, IsDumpOrphan, lost_determinants}
 use Rattle.fbl_lines.specs.Lines.{audit_lines}
+use Rattle.fbl_input.specs.Faults.{OverInput, PutsOut}
 use Rattle.fbl_input.specs.declared.fault.RunFault.{RunFault}
-use Rattle.fbl_dump.specs.Answering.{AnswersBytes, AnswersDump, ReadsAndAnswers, TextAlone}
+use Rattle.fbl_dump.specs.Dumps.{IsDumpFault, IsDumpOf}
 
 -- the lines of the audit of a dump: its lost determinants and its orphans
 abbrev pub IsAuditText : Parts → List ℕ → Type 0
 IsAuditText dump text = (orphans : set.FinSet nat_cmp) × ((q : ℕ) → (set.contains orphans q ≡ true) ↔ IsDumpOrphan dump q) × (text ≡ audit_lines (lost_determinants dump) orphans)
 
--- what an audit of the dump leaves in the writer
-abbrev pub AuditsDump : Parts → Option (List ℕ) → Option (List ℕ) → Result (Unit {0}) RunFault → Type 0
-AuditsDump = AnswersDump (TextAlone IsAuditText)
-
--- what an audit of the bytes leaves in the writer
+-- what an audit of an input leaves in the writer
 abbrev pub Audits : List ℕ → Option (List ℕ) → Option (List ℕ) → Result (Unit {0}) RunFault → Type 0
-Audits = AnswersBytes (TextAlone IsAuditText)
-
--- what an audit of what a reader has leaves in the writer: a read may fail, and else it is an audit of the bytes
-abbrev pub ReadsAndAudits : List ℕ → Option (List ℕ) → Option (List ℕ) → Result (Unit {0}) RunFault → Type 0
-ReadsAndAudits = ReadsAndAnswers (TextAlone IsAuditText)
+Audits input before after = OverInput (IsDumpOf input) (IsDumpFault input) (λ dump. PutsOut (λ _. IsAuditText dump) before after) before after

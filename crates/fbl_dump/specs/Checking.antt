@@ -1,13 +1,11 @@
--- What a check leaves in the writer, and what it answers.
-use Rattle.std.specs.Prelude.{◌≡◌, ℕ, List, [], ◌∷◌, Option, Result}
+-- What a check says of a dump, and what it answers.
+use Rattle.std.specs.Prelude.{◌≡◌, ℕ, List, [], ◌∷◌}
 use Rattle.std.specs.List.{flat_map}
 use Rattle.fbl_base.specs.Audit.{Parts}
 use Rattle.fbl_base.specs.Events.{receipts}
 use Rattle.fbl_audit.specs.Checking.{IsSafe, SaysUnsafe}
 use Rattle.fbl_audit.specs.declared.checking.UnsafeReceipt.{UnsafeReceipt}
 use Rattle.fbl_lines.specs.Lines.{safe_line, unsafe_line}
-use Rattle.fbl_input.specs.declared.fault.RunFault.{RunFault}
-use Rattle.fbl_dump.specs.Answering.{AnswersBytes, AnswersDump, ReadsAndAnswers}
 use Rattle.fbl_dump.specs.declared.checking.Verdict.{Verdict}
 use Rattle.fbl_dump.specs.declared.checking.Verdict.TheVariants.{Safe, Unsafe}
 
@@ -32,15 +30,3 @@ IsCheckText dump text = (said : List UnsafeReceipt) × SaysUnsafe dump (receipts
 -- the verdict on the dump, with the lines of its check
 abbrev pub IsChecked : Parts → Verdict → List ℕ → Type 0
 IsChecked dump verdict text = IsVerdict dump verdict × IsCheckText dump text
-
--- what a check of the dump leaves in the writer
-abbrev pub ChecksDump : Parts → Option (List ℕ) → Option (List ℕ) → Result Verdict RunFault → Type 0
-ChecksDump = AnswersDump IsChecked
-
--- what a check of the bytes leaves in the writer; its faults are those of an audit
-abbrev pub Checks : List ℕ → Option (List ℕ) → Option (List ℕ) → Result Verdict RunFault → Type 0
-Checks = AnswersBytes IsChecked
-
--- what a check of what a reader has leaves in the writer: a read may fail, and else it is a check of the bytes
-abbrev pub ReadsAndChecks : List ℕ → Option (List ℕ) → Option (List ℕ) → Result Verdict RunFault → Type 0
-ReadsAndChecks = ReadsAndAnswers IsChecked

@@ -2,6 +2,7 @@
 use Rattle.std.specs.Prelude.{◌≡◌, ℕ, List, Result, Ok, Err, if◌then◌else◌}
 use Rattle.serde_json.specs.Data.{Data}
 use Rattle.serde_json.specs.Find.{as_object}
+use Rattle.fbl_base.specs.declared.refusal.DumpRefusal.TheVariants as dump
 use Rattle.fbl_base.specs.Audit.{Parts, IsDump, RefusesDump}
 use Rattle.fbl_input.specs.declared.fault.Key.TheVariants as keys
 use Rattle.fbl_input.specs.declared.fault.RunFault.{RunFault}
@@ -9,9 +10,10 @@ use Rattle.fbl_input.specs.declared.fault.RunFault.TheVariants as faults
 use Rattle.fbl_input.specs.Items.{known_keys}
 pub use Rattle.fbl_input.specs.Items.{event_from, event_shape, pair_from, pair_shape, receipt_from, send_from}
 use Rattle.fbl_input.specs.declared.input_fault.InputFault.{InputFault}
-use Rattle.fbl_input.specs.declared.input_fault.InputKind.TheVariants as kinds
-use Rattle.fbl_input.specs.Misfits.{IsMisfit, IsOfParts}
-use Rattle.fbl_input.specs.Faults.{IsFirstFault, IsReadRefused}
+use Rattle.fbl_input.specs.declared.misfit.InputKind.TheVariants as kinds
+use Rattle.fbl_input.specs.declared.misfit.Misfit.{Misfit}
+use Rattle.fbl_input.specs.Misfits.{IsOfParts}
+use Rattle.fbl_input.specs.Faults.{IsFaultOf, IsFirstFault, IsReadFault}
 use Rattle.fbl_input.specs.Shapes.{◌>>=◌, or_fault, byte_shape, list_of, set_shape, field, has_other_key, value_of_input}
 
 -- the parts of a dump that a value gives, or its first fault
@@ -33,21 +35,20 @@ parts_of_input input = value_of_input input >>= parts_of_data
 abbrev pub IsDumpOf : List ℕ → Parts → Type 0
 IsDumpOf input dump = (parts_of_input input ≡ Ok dump) × IsDump dump
 
--- the input is a dump that obeys the rules
-abbrev pub IsSomeDump : List ℕ → Type 0
-IsSomeDump input = (dump : Parts) × IsDumpOf input dump
+-- the fault is a refusal of the dump
+abbrev pub RefusesParts : Parts → RunFault → Type 0
+RefusesParts parts (faults.Dump dump.Memory) = ⊥
+RefusesParts parts (faults.Dump e) = RefusesDump parts e
+RefusesParts parts e = ⊥
 
--- the fault is the input's first as a dump; memory may run out for any input
+-- the fault is the input's first as a dump
 abbrev pub IsDumpFault : List ℕ → RunFault → Type 0
-IsDumpFault input = IsFirstFault (parts_of_input input) (λ _ _. ⊥) RefusesDump
+IsDumpFault input = IsFirstFault (parts_of_input input) RefusesParts
 
--- the dump breaks a rule, or memory ran out
-abbrev pub IsDumpRefused : Parts → RunFault → Type 0
-IsDumpRefused dump = IsReadRefused (λ _. ⊥) (RefusesDump dump)
+-- so it is, and what it says of the input is so: of the value that it is, and of the parts that it has
+abbrev pub IsDumpMisfit : List ℕ → Misfit → Type 0
+IsDumpMisfit input = IsFaultOf kinds.Dump (parts_of_input input) RefusesParts IsOfParts input
 
--- what the fault says of the input is so: of the value that it is, and of the parts that it has
-abbrev pub IsDumpMisfit : List ℕ → InputFault → Type 0
-IsDumpMisfit input fault = (d : Data) → value_of_input input ≡ Ok d → IsMisfit kinds.Dump d fault
-
-abbrev pub IsOfDumpRead : List ℕ → InputFault → Type 0
-IsOfDumpRead input fault = (dump : Parts) → parts_of_input input ≡ Ok dump → IsOfParts dump fault
+-- the fault of a reader of dumps is so
+abbrev pub IsNoDump : List ℕ → InputFault → Type 0
+IsNoDump = IsReadFault kinds.Dump IsDumpMisfit

@@ -1,12 +1,13 @@
-//! The audit of a dump that a reader has.
+//! The audit of a dump.
 
-ghost use Rattle.std.specs.Prelude.{◌≡◌, ◌≤◌, ℕ, length, IfOk, IfErr, OnErr, IfSome, string_bytes};
-ghost use Rattle.fbl_dump.specs.Auditing.{Audits, AuditsDump, IsAuditText, ReadsAndAudits};
+ghost use Rattle.std.specs.Prelude.{IfOk, IfSome, string_bytes};
+ghost use Rattle.fbl_input.specs.Faults.{PutsOut};
+ghost use Rattle.fbl_dump.specs.Auditing.{Audits, IsAuditText};
 
-use crate::reading::dump_of_bytes;
+use crate::reading::read_dump;
 use fbl_audit::Audit;
 use fbl_base::audit::Dump;
-use fbl_input::{RunFault, put, read_input};
+use fbl_input::{OutputFault, RunFault, put};
 use fbl_lines::audit_text;
 use std::alloc::{AllocError, Global};
 use std::io::{Read, Write};
@@ -20,34 +21,23 @@ fn text_of(alloc: Global, dump: &Dump) -> Result<String, AllocError>
     audit_text(alloc, lost.as_slice(), audit.orphans())
 }
 
-/// Audits a dump.
-fn audit_dump<W: Write>(alloc: Global, writer: &mut W, dump: &Dump) -> Result<(), RunFault>
-    ensures { AuditsDump dump.now (W.contents writer.old) (W.contents writer.new) result }
+/// Audits the dump, and writes how many receipts are lost, the determinant of each, and the orphans. It is `Ok` whatever the
+/// audit finds.
+pub fn write_audit<W: Write>(alloc: Global, dump: &Dump, writer: &mut W) -> Result<(), OutputFault>
+    ensures { PutsOut (λ _. IsAuditText dump.now) (W.contents writer.old) (W.contents writer.new) result }
 {
     let text = text_of(alloc, dump)?;
-    Ok(put(writer, text.as_bytes())?)
+    put(writer, text.as_bytes())
 }
 
-/// Audits the dump that the bytes spell, and writes how many receipts are lost, the determinant of each, and the orphans.
-/// It is `Ok` whatever the audit finds. Nothing is written where the fault is another than `Write`, and after `Write` a
-/// prefix of the text. `Read` is no answer.
-#[tactic(auto, using(crate::proofs::Answers::answers_fault))]
-pub fn audit_bytes<W: Write>(alloc: Global, input: &[u8], writer: &mut W) -> Result<(), RunFault>
-    ensures { Audits input.now (W.contents writer.old) (W.contents writer.new) result }
-{
-    let dump = dump_of_bytes(alloc, input)?;
-    audit_dump(alloc, writer, &dump)
-}
-
-/// Audits the dump that the reader has, as `audit_bytes` does. Where a read fails nothing is written.
-#[tactic(auto, using(crate::proofs::Answers::answers_unread, fbl_input::proofs::Inputs::read_whole))]
+/// Audits the dump that the reader has. Nothing is written where the fault is another than `Write`.
 pub fn audit<R: Read, W: Write>(
     alloc: Global,
     reader: &mut R,
     writer: &mut W,
 ) -> Result<(), RunFault>
-    ensures { IfSome (R.remaining reader.old) (λ input. ReadsAndAudits input (W.contents writer.old) (W.contents writer.new) result) }
+    ensures { IfSome (R.remaining reader.old) (λ input. Audits input (W.contents writer.old) (W.contents writer.new) result) }
 {
-    let input = read_input(alloc, reader)?;
-    audit_bytes(alloc, input.as_slice(), writer)
+    let dump = read_dump(alloc, reader)?;
+    Ok(write_audit(alloc, &dump, writer)?)
 }

@@ -1,15 +1,15 @@
-//! The check of a dump that a reader has.
+//! The check of a dump.
 
-ghost use Rattle.std.specs.Prelude.{◌≡◌, ◌≤◌, ◌++◌, ℕ, length, IfOk, IfErr, OnErr, OnOk, IfSome, string_bytes};
-ghost use Rattle.fbl_dump.specs.Checking.{Checks, ChecksDump, ReadsAndChecks, check_lines, unsafe_lines};
+ghost use Rattle.std.specs.Prelude.{◌≡◌, ◌≤◌, ◌++◌, IfOk, string_bytes};
+ghost use Rattle.fbl_input.specs.Faults.{PutsOut};
+ghost use Rattle.fbl_dump.specs.Checking.{IsChecked, check_lines, unsafe_lines};
 
-use crate::reading::dump_of_bytes;
 use fbl_audit::{UnsafeReceipt, unsafe_receipts};
 use fbl_base::audit::Dump;
-use fbl_input::{RunFault, put, read_input};
+use fbl_input::{OutputFault, put};
 use fbl_lines::{safe_text, unsafe_text};
 use std::alloc::{AllocError, Global};
-use std::io::{Read, Write};
+use std::io::Write;
 
 /// What a check finds of a run.
 #[derive(Clone, Copy, PartialEq, Eq, Debug)]
@@ -42,9 +42,14 @@ fn text_of(alloc: Global, unsafe_receipts: &[UnsafeReceipt]) -> Result<String, A
     }
 }
 
-/// Checks a dump.
-fn check_dump<W: Write>(alloc: Global, writer: &mut W, dump: &Dump) -> Result<Verdict, RunFault>
-    ensures { ChecksDump dump.now (W.contents writer.old) (W.contents writer.new) result }
+/// Checks the dump, and writes a line for each receipt that some members may lose with an orphan left, or that there is none;
+/// answers which of the two it is.
+pub fn write_check<W: Write>(
+    alloc: Global,
+    dump: &Dump,
+    writer: &mut W,
+) -> Result<Verdict, OutputFault>
+    ensures { PutsOut (IsChecked dump.now) (W.contents writer.old) (W.contents writer.new) result }
 {
     let unsafe_receipts = unsafe_receipts(alloc, dump)?;
     let text = text_of(alloc, unsafe_receipts.as_slice())?;
@@ -54,32 +59,4 @@ fn check_dump<W: Write>(alloc: Global, writer: &mut W, dump: &Dump) -> Result<Ve
     } else {
         Ok(Verdict::Unsafe)
     }
-}
-
-/// Checks the dump that the bytes spell, and writes a line for each receipt that some members may lose with an orphan left, or
-/// that there is none; answers which of the two it is. Nothing is written where the fault is another than `Write`, and after
-/// `Write` a prefix of the text. `Read` is no answer.
-#[tactic(auto, using(crate::proofs::Answers::answers_fault))]
-pub fn check_bytes<W: Write>(
-    alloc: Global,
-    input: &[u8],
-    writer: &mut W,
-) -> Result<Verdict, RunFault>
-    ensures { Checks input.now (W.contents writer.old) (W.contents writer.new) result }
-{
-    let dump = dump_of_bytes(alloc, input)?;
-    check_dump(alloc, writer, &dump)
-}
-
-/// Checks the dump that the reader has, as `check_bytes` does. Where a read fails nothing is written.
-#[tactic(auto, using(crate::proofs::Answers::answers_unread, fbl_input::proofs::Inputs::read_whole))]
-pub fn check<R: Read, W: Write>(
-    alloc: Global,
-    reader: &mut R,
-    writer: &mut W,
-) -> Result<Verdict, RunFault>
-    ensures { IfSome (R.remaining reader.old) (λ input. ReadsAndChecks input (W.contents writer.old) (W.contents writer.new) result) }
-{
-    let input = read_input(alloc, reader)?;
-    check_bytes(alloc, input.as_slice(), writer)
 }

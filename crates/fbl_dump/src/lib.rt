@@ -1,4 +1,4 @@
-//! Dumps as JSON, and their audit and their check over any reader and writer.
+//! Dumps as JSON, and the texts of their audit and their check.
 #![tactic(auto)]
 
 mod auditing;
@@ -6,7 +6,7 @@ mod checking;
 mod reading;
 mod writing;
 
-pub use auditing::{audit, audit_bytes};
-pub use checking::{Verdict, check, check_bytes};
-pub use reading::{dump_of_bytes, read_dump};
+pub use auditing::{audit, write_audit};
+pub use checking::{Verdict, write_check};
+pub use reading::read_dump;
 pub use writing::dump_text;

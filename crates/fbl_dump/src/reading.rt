@@ -1,14 +1,13 @@
 //! Dumps as JSON.
 
-ghost use Rattle.std.specs.Prelude.{◌≡◌, map, IfOk, IfErr};
+ghost use Rattle.std.specs.Prelude.{◌≡◌, map, IfOk, IfErr, IfSome};
 ghost use Rattle.serde_json.specs.Data.{Data};
 ghost use Rattle.serde_json.specs.View.{view};
-ghost use Rattle.fbl_base.specs.Audit.{IsDump};
 ghost use Rattle.fbl_base.specs.DumpParts.{parts_of};
 ghost use Rattle.fbl_input.specs.Items.{event_from, pair_from, receipt_from, send_from};
-ghost use Rattle.fbl_input.specs.Misfits.{Gives, IsMisfit, IsOfParts, IsOfShape, run_fault};
-ghost use Rattle.fbl_input.specs.declared.input_fault.InputKind.TheVariants as kinds;
-ghost use Rattle.fbl_dump.specs.Dumps.{IsDumpOf, IsDumpFault, IsDumpMisfit, IsDumpRefused, IsOfDumpRead, parts_of_data, parts_of_input};
+ghost use Rattle.fbl_input.specs.Misfits.{Gives, IsMisfit, IsOfShape};
+ghost use Rattle.fbl_input.specs.declared.misfit.InputKind.TheVariants as kinds;
+ghost use Rattle.fbl_dump.specs.Dumps.{IsDumpMisfit, IsDumpOf, IsNoDump, parts_of_data};
 
 use fbl_base::audit::{Dump, checked_dump};
 use fbl_base::{Determinant, Mark, Member, RawDump};
@@ -16,9 +15,10 @@ use fbl_input::shapes::{
     ByteShape, JsonShape, count_in, is_named, list_in, member_in, no_other_key, object_in,
     set_field, value_field, value_in, values_field,
 };
-use fbl_input::{InputFault, InputKind, Key, RunFault};
+use fbl_input::{InputFault, InputKind, Key, Misfit, read_input};
 use serde_json::Value;
 use std::alloc::Global;
+use std::io::Read;
 
 fn send_in(name: &Value, from: &Value, ssn: &Value, to: &Value) -> Option<Mark>
     ensures { result ≡ send_from (view name.now) (view from.now) (view ssn.now) (view to.now) }
@@ -99,7 +99,7 @@ impl JsonShape<(Member, Determinant)> for PairShape {
 
 /// The dump that a value gives, not yet checked.
 #[tactic(auto, unfolding(crate::specs::Dumps::parts_of_data))]
-fn raw_dump_of(alloc: Global, value: &Value) -> Result<RawDump, InputFault>
+fn raw_dump_of(alloc: Global, value: &Value) -> Result<RawDump, Misfit>
     ensures exact { Gives parts_of result (parts_of_data (view value.now)) }
     ensures faults { IfErr result IsOfShape }
     ensures misfit { IfErr result (IsMisfit kinds.Dump (view value.now)) }
@@ -121,50 +121,43 @@ fn raw_dump_of(alloc: Global, value: &Value) -> Result<RawDump, InputFault>
     })
 }
 
-/// The dump that an input gives, not yet checked.
-fn raw_dump_in(alloc: Global, input: &[u8]) -> Result<RawDump, InputFault>
-    ensures exact { Gives parts_of result (parts_of_input input.now) }
-    ensures faults { IfErr result IsOfShape }
-    ensures misfit { IfErr result (IsDumpMisfit input.now) }
+/// The dump that the bytes spell, or their first fault.
+fn dump_in(alloc: Global, input: &[u8]) -> Result<Dump, Misfit>
+    ensures dump { IfOk result (IsDumpOf input.now) }
+    ensures fault { IfErr result (IsDumpMisfit input.now) }
 {
     let value = value_in(alloc, input)?;
-    raw_dump_of(alloc, &value)
-}
-
-/// The dump, if it obeys the rules.
-fn checked(alloc: Global, raw: RawDump) -> Result<Dump, InputFault>
-    ensures same { IfOk result (λ d. d ≡ parts_of raw) }
-    ensures rules { IfOk result IsDump }
-    ensures refused { IfErr result (λ fault. IsDumpRefused (parts_of raw) (run_fault fault)) }
-    ensures misfit { IfErr result (λ fault. (d : Data) → IsMisfit kinds.Dump d fault) }
-    ensures parts { IfErr result (IsOfParts (parts_of raw)) }
-{
+    let raw = raw_dump_of(alloc, &value)?;
     match checked_dump(alloc, raw) {
         Ok(dump) => Ok(dump),
-        Err(fault) => Err(InputFault::Dump(fault)),
+        Err(fault) => Err(Misfit::Dump(fault)),
     }
 }
 
-/// The dump that the bytes spell, as one JSON object, or their first fault, with the place, what stands there and what is
-/// wanted there.
-pub fn read_dump(alloc: Global, input: &[u8]) -> Result<Dump, InputFault>
-    ensures dump { IfOk result (IsDumpOf input.now) }
-    ensures fault { IfErr result (λ fault. IsDumpFault input.now (run_fault fault)) }
-    ensures misfit { IfErr result (IsDumpMisfit input.now) }
-    ensures parts { IfErr result (IsOfDumpRead input.now) }
+/// The dump that the reader has, as one JSON object, or the first fault of the input, with the place, what stands there and
+/// what is wanted there.
+pub fn read_dump<R: Read>(alloc: Global, reader: &mut R) -> Result<Dump, InputFault>
+    ensures dump { IfOk result (λ dump. IfSome (R.remaining reader.old) (λ input. IsDumpOf input dump)) }
+    ensures fault { IfErr result (λ fault. IfSome (R.remaining reader.old) (λ input. IsNoDump input fault)) }
 {
-    let raw = raw_dump_in(alloc, input)?;
-    checked(alloc, raw)
-}
-
-/// The dump that the bytes spell, as one JSON object. Each fault that isn't lack of memory is the first of the input;
-/// neither `Read` nor `Write` nor `BadCommand` nor `Config` is among them.
-pub fn dump_of_bytes(alloc: Global, input: &[u8]) -> Result<Dump, RunFault>
-    ensures dump { IfOk result (IsDumpOf input.now) }
-    ensures fault { IfErr result (IsDumpFault input.now) }
-{
-    match read_dump(alloc, input) {
+    let kind = InputKind::Dump;
+    let input = match read_input(alloc, reader) {
+        Ok(input) => input,
+        Err(misfit) => {
+            let input = Vec::new(alloc);
+            return Err(InputFault {
+                kind,
+                misfit,
+                input,
+            });
+        }
+    };
+    match dump_in(alloc, input.as_slice()) {
         Ok(dump) => Ok(dump),
-        Err(fault) => Err(fault.fault()),
+        Err(misfit) => Err(InputFault {
+            kind,
+            misfit,
+            input,
+        }),
     }
 }

@@ -7,11 +7,6 @@ pub use Rattle.std.proofs.lemmas.List.{take_all, take_more}
 pub use Rattle.std.specs.List.{AllZip}
 pub use Rattle.std.specs.Prelude.{IfNone, IfOk, IfSome, None, Option, Some, option_map}
 pub use Rattle.std.specs.Result.{result_err}
-pub use Rattle.json.proofs.Numbered.{HasNumbers-at, HasNumbers-get}
-pub use Rattle.json.specs.Find.{at, get}
-pub use Rattle.json.specs.Json.{Json}
-pub use Rattle.json.specs.Tree.{HasNumbers}
-pub use Rattle.json.specs.Value.{value_view}
 pub use Rattle.fbl_audit.proofs.Following.{member_within}
 pub use Rattle.fbl_audit.specs.Checking.{IsLeftOrphan}
 pub use Rattle.fbl_audit.specs.Paths.{IsPathTo}
@@ -26,12 +21,6 @@ pub use Rattle.fbl_base.specs.Places.{DependsOnPlace}
 pub use Rattle.fbl_base.specs.Precedence.{Has}
 pub use Rattle.fbl_base.specs.Rules.{WellFormed}
 pub use Rattle.fbl_base.specs.declared.trace.Determinant.{Determinant}
-pub use Rattle.fbl_dump.specs.Dumps.{IsDumpOf}
-pub use Rattle.fbl_input.specs.Misfits.{run_fault}
-pub use Rattle.fbl_input.specs.declared.fault.RunFault.{RunFault}
-pub use Rattle.fbl_input.specs.declared.input_fault.InputFault.{InputFault}
-pub use Rattle.fbl_input.specs.declared.input_fault.InputKind.{InputKind}
-pub use Rattle.fbl_explain.specs.Explanations.{HasAnother, IsExplained, IsInput, IsInputFault, IsReason, IsUnexplained}
 pub use Rattle.fbl_explain.specs.Whys.{ArePathsFrom, IsPathFrom, IsLossReason}
 pub use Rattle.fbl_explain.specs.declared.why.LossReason.{LossReason}
 pub use Rattle.fbl_explain.specs.declared.why.OrphanPath.{OrphanPath}

@@ -1,4 +1,2 @@
 pub mod Common
-pub mod Faults
 pub mod Whys
-pub mod Parts

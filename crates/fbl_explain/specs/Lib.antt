@@ -1,4 +1,2 @@
-pub mod Explanations
 pub mod Accounts
 pub mod Whys
-pub mod Written

@@ -1,19 +1,13 @@
-//! Faults, commands and refusals in words for a person. What is said here is written beside the program's output and
+//! Commands, refusals and lost receipts in words for a person. What is said here is written beside the program's output and
 //! never into it.
 #![tactic(auto)]
 
 mod account;
-mod explaining;
-mod explanation;
-mod not_json;
 mod reason;
-mod shown;
 mod why;
 mod words;
 
 pub use account::{AccountOf, CommandAccount, RunCounts};
-pub use explaining::explain;
-pub use explanation::Explanation;
 pub use reason::{NamedMembers, Reason};
 pub use why::{LossReason, OrphanPath, Why, why_lost, why_unsafe};
 pub use words::Words;

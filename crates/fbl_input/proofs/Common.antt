@@ -16,19 +16,25 @@ pub use Rattle.std.specs.Prelude.{is_some, not}
 pub use Rattle.std.specs.Result.{IsErrAnd}
 pub use Rattle.std.specs.Str.{IsUtf8}
 pub use Rattle.std.specs.declared.alloc.Global.{Global}
-pub use Rattle.fbl_base.specs.declared.config.ConfigRefusal.{ConfigRefusal}
-pub use Rattle.fbl_base.specs.declared.refusal.DumpRefusal.{DumpRefusal}
 pub use Rattle.serde_json.specs.Data.{Data}
 pub use Rattle.serde_json.specs.Find.{get}
 pub use Rattle.serde_json.specs.Read.{read}
 pub use Rattle.serde_json.specs.View.{items_of, members_view, view}
 pub use Rattle.serde_json.specs.declared.value.Value.{Value}
-pub use Rattle.fbl_input.specs.Faults.{FailsToRead, IsFirstFault, IsReadRefused, PutsOut}
 pub use Rattle.fbl_input.specs.Items.{is_item, items_at}
-pub use Rattle.fbl_input.specs.Misfits.{Gives, IsBadItem, IsFirstOther, IsMisfit, run_fault}
+pub use Rattle.fbl_input.specs.Misfits.{Gives, IsBadItem, IsFirstOther, IsMisfit, IsOfShape, run_fault}
 pub use Rattle.fbl_input.specs.Shapes.{Fails, all_shaped, as_list, elements, field, is_key_of, json_of, list_of, longest, member_shape, name_of, or_fault, other_key, value_of_input, ◌>>=◌}
 pub use Rattle.fbl_input.specs.declared.fault.Key.{Key}
 pub use Rattle.fbl_input.specs.declared.fault.RunFault.{RunFault}
 pub use Rattle.fbl_input.specs.declared.fault.RunFault.TheVariants.{NotJson}
+pub use Rattle.fbl_input.specs.Faults.{HasInput, IsFaultOf, IsFirstFault, IsReadFault, IsUnread, OverInput, PutsOut, run_result}
 pub use Rattle.fbl_input.specs.declared.input_fault.InputFault.{InputFault}
-pub use Rattle.fbl_input.specs.declared.input_fault.InputKind.{InputKind}
+pub use Rattle.fbl_input.specs.declared.misfit.InputKind.{InputKind}
+pub use Rattle.fbl_input.specs.declared.misfit.Misfit.{Misfit}
+pub use Rattle.fbl_input.specs.declared.output.OutputFault.{OutputFault}
+pub use Rattle.json.proofs.Numbered.{HasNumbers-at, HasNumbers-get}
+pub use Rattle.json.specs.Json.{Json}
+pub use Rattle.json.specs.Tree.{HasNumbers}
+pub use Rattle.json.specs.Value.{value_view}
+pub use Rattle.std.specs.Prelude.{IfOk}
+pub use Rattle.std.proofs.Common.{rules}

@@ -1,10 +1,11 @@
--- The first fault of an input, from those of its parts.
-use Rattle.fbl_input.proofs.Common.{◌≡◌, Result, Ok, ConfigRefusal, DumpRefusal, RunFault, IsFirstFault, IsReadRefused}
-use Rattle.fbl_input.specs.declared.fault.RunFault.TheVariants as faults
+-- The fault of an input whose shape is right.
+use Rattle.fbl_input.proofs.Common.{◌≡◌, List, ℕ, Result, Ok, subst, Data, Misfit, InputKind, RunFault, run_fault, IsFaultOf, IsFirstFault, IsMisfit}
 
-pub refused : {A : Type 0} (asked : Result A RunFault) (RefusesConfig : A → ConfigRefusal → Type 0) (RefusesDump : A → DumpRefusal → Type 0) (a : A)
-    (e : RunFault) → asked ≡ Ok a → IsReadRefused (RefusesConfig a) (RefusesDump a) e → IsFirstFault asked RefusesConfig RefusesDump e
-refused asked RefusesConfig RefusesDump a faults.Memory is h = tt
-refused asked RefusesConfig RefusesDump a (faults.Config e) is h = (a, is, h)
-refused asked RefusesConfig RefusesDump a (faults.Dump e) is h = (a, is, h)
-refused asked RefusesConfig RefusesDump a e is h = absurd h
+-- what the input gives is refused
+pub refused : {A : Type 0} (kind : InputKind) (asked : Result A RunFault) (Refuses : A → RunFault → Type 0) (IsOf : A → Misfit → Type 0) (input : List ℕ) (misfit : Misfit) (a : A)
+    → asked ≡ Ok a → IsFirstFault asked Refuses (run_fault misfit) → ((d : Data) → IsMisfit kind d misfit) → IsOf a misfit → IsFaultOf kind asked Refuses IsOf input misfit
+refused kind asked Refuses IsOf input misfit a is first says of = record {
+  first = first;
+  value = λ d _. says d;
+  given = λ x e. (let same : a ≡ x = cc in subst (λ b. IsOf b misfit) same of);
+}

@@ -6,3 +6,4 @@ pub mod Faults
 pub mod Firsts
 pub mod Misfitting
 pub mod Outputs
+pub mod Parts

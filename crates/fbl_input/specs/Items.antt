@@ -9,8 +9,8 @@ use Rattle.fbl_base.specs.declared.trace.Mark.{Mark}
 use Rattle.fbl_base.specs.declared.trace.Mark.TheVariants.{Send, Receipt}
 use Rattle.fbl_input.specs.declared.fault.Key.{Key}
 use Rattle.fbl_input.specs.declared.fault.Key.TheVariants as keys
-use Rattle.fbl_input.specs.declared.input_fault.InputKind.{InputKind}
-use Rattle.fbl_input.specs.declared.input_fault.InputKind.TheVariants as kinds
+use Rattle.fbl_input.specs.declared.misfit.InputKind.{InputKind}
+use Rattle.fbl_input.specs.declared.misfit.InputKind.TheVariants as kinds
 use Rattle.fbl_input.specs.Shapes.{as_list, byte_shape, count_shape, is_text, member_shape, name_of, other_key}
 
 -- `[from, to, value, hops]`

@@ -1,11 +1,10 @@
 //! The keys of scripts and dumps, and why one is not taken to its end.
 
 ghost use Rattle.std.specs.Prelude.{◌≡◌};
-ghost use Rattle.fbl_input.specs.declared.fault.RunFault.TheVariants.{Memory};
 
+use crate::input_fault::InputFault;
 use crate::output::OutputFault;
 use fbl_base::{ConfigRefusal, DumpRefusal};
-use std::alloc::{AllocError, AllocFailed};
 use std::fmt;
 use thiserror::Error;
 
@@ -101,29 +100,13 @@ pub enum RunFault {
     Memory,
 }
 
-impl From<ConfigRefusal> for RunFault {
-    ghost use Rattle.fbl_input.specs.Faults.{config_fault};
+impl From<InputFault> for RunFault {
+    ghost use Rattle.fbl_input.specs.Misfits.{run_fault};
 
-    ghost from_gives = { λ refusal e. e ≡ config_fault refusal };
+    ghost from_gives = { λ fault e. e ≡ run_fault fault.misfit };
 
-    fn from(refusal: ConfigRefusal) -> RunFault {
-        match refusal {
-            ConfigRefusal::Memory => RunFault::Memory,
-            _ => RunFault::Config(refusal),
-        }
-    }
-}
-
-impl From<DumpRefusal> for RunFault {
-    ghost use Rattle.fbl_input.specs.Faults.{dump_fault};
-
-    ghost from_gives = { λ refusal e. e ≡ dump_fault refusal };
-
-    fn from(refusal: DumpRefusal) -> RunFault {
-        match refusal {
-            DumpRefusal::Memory => RunFault::Memory,
-            _ => RunFault::Dump(refusal),
-        }
+    fn from(fault: InputFault) -> RunFault {
+        fault.misfit.fault()
     }
 }
 
@@ -137,21 +120,5 @@ impl From<OutputFault> for RunFault {
             OutputFault::Memory => RunFault::Memory,
             OutputFault::Write => RunFault::Write,
         }
-    }
-}
-
-impl From<AllocError> for RunFault {
-    ghost from_gives = { λ _ e. e ≡ Memory };
-
-    fn from(_e: AllocError) -> RunFault {
-        RunFault::Memory
-    }
-}
-
-impl<T: Drop> From<AllocFailed<T>> for RunFault {
-    ghost from_gives = { λ _ e. e ≡ Memory };
-
-    fn from(_e: AllocFailed<T>) -> RunFault {
-        RunFault::Memory
     }
 }

@@ -1,11 +1,11 @@
 //! Reading an input whole.
 
-ghost use Rattle.std.specs.Prelude.{◌≡◌, ◌+◌, ◌-◌, ◌<◌, ◌≤◌, ◌⊎◌, ℕ, List, length, take, drop, OnOk, OnErr, IfOk, IfErr, IfSome, vec_len};
+ghost use Rattle.std.specs.Prelude.{◌≡◌, ◌+◌, ◌-◌, ◌<◌, ◌≤◌, ℕ, List, length, take, drop, OnOk, OnErr, IfOk, IfErr, IfSome, vec_len};
 ghost use Rattle.std.specs.Io.KnownBytes.{Consumes, Keeps, IsAtEnd};
+ghost use Rattle.fbl_input.specs.Faults.{IsUnread};
 ghost use Rattle.fbl_input.specs.Shapes.{longest};
-ghost use Rattle.fbl_input.specs.declared.fault.RunFault.TheVariants.{Read, TooLong, Memory};
 
-use crate::fault::RunFault;
+use crate::misfit::Misfit;
 use crate::shapes::LONGEST;
 use std::alloc::Global;
 use std::io::{self, ErrorKind};
@@ -18,10 +18,9 @@ const BUFFER: usize = 8192;
 /// Reads all there is, up to the longest input, 1,048,576 bytes. It stops after one byte more, so that a reader that
 /// never ends is `TooLong`. An interrupted read is tried again, at most 1000 times in all; the next interruption, and
 /// any other failure, is `Read`.
-pub fn read_input<R: io::Read>(alloc: Global, reader: &mut R) -> Result<Vec<u8>, RunFault>
+pub fn read_input<R: io::Read>(alloc: Global, reader: &mut R) -> Result<Vec<u8>, Misfit>
     ensures whole { IfOk result (λ v. (length v.items ≤ longest) × IfSome (R.remaining reader.old) (λ input. v.items ≡ input)) }
-    ensures long { IfErr result (λ e. e ≡ TooLong → IfSome (R.remaining reader.old) (λ input. longest < length input)) }
-    ensures faults { IfErr result (λ e. (e ≡ Read) ⊎ (e ≡ TooLong) ⊎ (e ≡ Memory)) }
+    ensures unread { IfErr result (IsUnread (R.remaining reader.old)) }
     ensures stops { (taken : List ℕ) × Consumes (R.remaining reader.old) (R.remaining reader.new) taken × (length taken ≤ longest + 1) }
 {
     let mut input = Vec::new(alloc);
@@ -35,14 +34,14 @@ pub fn read_input<R: io::Read>(alloc: Global, reader: &mut R) -> Result<Vec<u8>,
             Ok(n) => input.extend_from_slice(&buffer[..n])?,
             Err(e) => {
                 if e.kind() != ErrorKind::Interrupted || interrupted == TRIES {
-                    return Err(RunFault::Read);
+                    return Err(Misfit::Read);
                 }
                 interrupted += 1;
             }
         }
     }
     if input.len() > LONGEST {
-        return Err(RunFault::TooLong);
+        return Err(Misfit::TooLong);
     }
     Ok(input)
 }

@@ -2,13 +2,19 @@
 //! its end.
 #![tactic(auto)]
 
+mod explanation;
 mod fault;
 mod input;
 mod input_fault;
+mod misfit;
+mod not_json;
 mod output;
 pub mod shapes;
+mod shown;
 
+pub use explanation::Explanation;
 pub use fault::{Key, RunFault};
 pub use input::read_input;
-pub use input_fault::{CommandForm, InputFault, InputKind, MOST_COMMANDS};
+pub use input_fault::InputFault;
+pub use misfit::{CommandForm, InputKind, MOST_COMMANDS, Misfit};
 pub use output::{OutputFault, put};

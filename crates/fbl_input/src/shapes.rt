@@ -14,7 +14,7 @@ ghost use Rattle.fbl_input.specs.declared.fault.Key.TheVariants.{Strike};
 ghost use Rattle.fbl_input.specs.declared.fault.RunFault.TheVariants.{BadField, NotJson, NotObject, UnknownKey};
 
 use crate::fault::Key;
-use crate::input_fault::{InputFault, InputKind};
+use crate::misfit::{InputKind, Misfit};
 use fbl_base::{Member, MemberSet};
 use serde_json::{Map, Value};
 use std::alloc::{AllocError, Global};
@@ -175,38 +175,38 @@ fn unknown_key_in(
 }
 
 /// The fault of a key at which nothing stands, or lack of memory.
-fn missing(alloc: Global, kind: InputKind, value: &Value, key: Key) -> InputFault
+fn missing(alloc: Global, kind: InputKind, value: &Value, key: Key) -> Misfit
     requires { get (name_of key) (view value.now) ≡ None }
     ensures { IsOfField kind key (view value.now) result }
 {
     match unknown_key_in(alloc, kind, value) {
-        Ok(unknown) => InputFault::MissingKey { key, unknown },
-        Err(_) => InputFault::Memory,
+        Ok(unknown) => Misfit::MissingKey { key, unknown },
+        Err(_) => Misfit::Memory,
     }
 }
 
 /// The fault of what stands at the key, or lack of memory.
-fn bad_value(key: Key, found: &Value) -> InputFault
+fn bad_value(key: Key, found: &Value) -> Misfit
     ensures { IsBadValue key (view found.now) result }
 {
     match found.clone() {
-        Ok(found) => InputFault::BadValue { key, found },
-        Err(_) => InputFault::Memory,
+        Ok(found) => Misfit::BadValue { key, found },
+        Err(_) => Misfit::Memory,
     }
 }
 
 /// The fault of what stands at a place of the list at the key, or lack of memory.
-fn bad_item(key: Key, place: usize, found: &Value) -> InputFault
+fn bad_item(key: Key, place: usize, found: &Value) -> Misfit
     ensures { IsBadItem key place (view found.now) result }
 {
     match found.clone() {
-        Ok(found) => InputFault::BadItem { key, place, found },
-        Err(_) => InputFault::Memory,
+        Ok(found) => Misfit::BadItem { key, place, found },
+        Err(_) => Misfit::Memory,
     }
 }
 
 /// The object that the value is, and else `NotObject`.
-pub fn object_in(kind: InputKind, value: &Value) -> Result<&Map<String, Value>, InputFault>
+pub fn object_in(kind: InputKind, value: &Value) -> Result<&Map<String, Value>, Misfit>
     ensures exact { Gives (λ o. members_view o.now.entries) result (or_fault NotObject (as_object (view value.now))) }
     ensures object { IfOk result (λ o. as_object (view value.now) ≡ Some (members_view o.now.entries)) }
     ensures faults { IfErr result IsOfShape }
@@ -219,12 +219,12 @@ pub fn object_in(kind: InputKind, value: &Value) -> Result<&Map<String, Value>, 
 }
 
 /// The fault of a value that is no object, or lack of memory.
-fn not_object(value: &Value) -> InputFault
+fn not_object(value: &Value) -> Misfit
     ensures { IsNotObject (view value.now) result }
 {
     match value.clone() {
-        Ok(found) => InputFault::NotObject(found),
-        Err(_) => InputFault::Memory,
+        Ok(found) => Misfit::NotObject(found),
+        Err(_) => Misfit::Memory,
     }
 }
 
@@ -234,7 +234,7 @@ fn value_at<'a>(
     kind: InputKind,
     value: &'a Value,
     key: Key,
-) -> Result<&'a Value, InputFault>
+) -> Result<&'a Value, Misfit>
     ensures found { IfOk result (λ v. get (name_of key) (view value.now) ≡ Some (view v.now)) }
     ensures missing { IfErr result (λ fault. (get (name_of key) (view value.now) ≡ None) × IsOfField kind key (view value.now) fault) }
 {
@@ -250,7 +250,7 @@ pub fn value_field<T: Copy, S: JsonShape<T>>(
     kind: InputKind,
     value: &Value,
     key: Key,
-) -> Result<T, InputFault>
+) -> Result<T, Misfit>
     ensures exact { Gives (λ x. x) result (field key S.shape (view value.now)) }
     ensures faults { IfErr result IsOfShape }
     ensures field { IfErr result (IsOfField kind key (view value.now)) }
@@ -269,7 +269,7 @@ pub fn list_field<'a>(
     kind: InputKind,
     value: &'a Value,
     key: Key,
-) -> Result<&'a [Value], InputFault>
+) -> Result<&'a [Value], Misfit>
     ensures exact { Gives (λ v. map view v.now) result (field key as_list (view value.now)) }
     ensures items { IfOk result (λ v. map view v.now ≡ items_at key (view value.now)) }
     ensures faults { IfErr result IsOfShape }
@@ -289,7 +289,7 @@ pub fn values_field<T: Copy, S: JsonShape<T>>(
     kind: InputKind,
     value: &Value,
     key: Key,
-) -> Result<Vec<T>, InputFault>
+) -> Result<Vec<T>, Misfit>
     requires { (d : Data) → is_item key d ≡ is_some (S.shape d) }
     ensures exact { Gives (λ v. v.items) result (field key (list_of S.shape) (view value.now)) }
     ensures faults { IfErr result IsOfShape }
@@ -303,7 +303,7 @@ pub fn values_field<T: Copy, S: JsonShape<T>>(
 }
 
 /// The set at the key, and else a fault of the key.
-pub fn set_field(alloc: Global, kind: InputKind, value: &Value) -> Result<MemberSet, InputFault>
+pub fn set_field(alloc: Global, kind: InputKind, value: &Value) -> Result<MemberSet, Misfit>
     ensures exact { Gives (λ s. s) result (field Strike set_shape (view value.now)) }
     ensures faults { IfErr result IsOfShape }
     ensures misfit { IfErr result (IsMisfit kind (view value.now)) }
@@ -321,7 +321,7 @@ pub fn no_other_key(
     kind: InputKind,
     value: &Value,
     object: &Map<String, Value>,
-) -> Result<(), InputFault>
+) -> Result<(), Misfit>
     requires { as_object (view value.now) ≡ Some (members_view object.now.entries) }
     ensures exact { Gives (λ x. x) result (if has_other_key_of (known_keys kind) (members_view object.now.entries) then Err UnknownKey else Ok tt) }
     ensures faults { IfErr result IsOfShape }
@@ -331,13 +331,13 @@ pub fn no_other_key(
         None => Ok(()),
         Some(name) => {
             let name = String::from_str(alloc, name)?;
-            Err(InputFault::UnknownKey { kind, name })
+            Err(Misfit::UnknownKey { kind, name })
         }
     }
 }
 
 /// The JSON that the bytes spell.
-fn json_in(alloc: Global, input: &[u8]) -> Result<Value, InputFault>
+fn json_in(alloc: Global, input: &[u8]) -> Result<Value, Misfit>
     ensures exact { Gives view result (or_fault NotJson (json_of input.now)) }
     ensures faults { IfErr result IsOfShape }
 {
@@ -345,9 +345,9 @@ fn json_in(alloc: Global, input: &[u8]) -> Result<Value, InputFault>
         Ok(value) => Ok(value),
         Err(e) => {
             if e.is_memory() {
-                Err(InputFault::Memory)
+                Err(Misfit::Memory)
             } else {
-                Err(InputFault::NotJson(e))
+                Err(Misfit::NotJson(e))
             }
         }
     }
@@ -355,12 +355,12 @@ fn json_in(alloc: Global, input: &[u8]) -> Result<Value, InputFault>
 
 /// The JSON that an input is: `TooLong` past 1,048,576 bytes, and else `NotJson` where the bytes spell none. `Memory` comes
 /// only where there is none for the value.
-pub fn value_in(alloc: Global, input: &[u8]) -> Result<Value, InputFault>
+pub fn value_in(alloc: Global, input: &[u8]) -> Result<Value, Misfit>
     ensures exact { Gives view result (value_of_input input.now) }
     ensures faults { IfErr result IsOfShape }
 {
     if input.len() > LONGEST {
-        return Err(InputFault::TooLong);
+        return Err(Misfit::TooLong);
     }
     json_in(alloc, input)
 }

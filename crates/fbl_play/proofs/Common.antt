@@ -17,8 +17,7 @@ pub use Rattle.fbl_base.specs.declared.trace.Event.{Event}
 pub use Rattle.fbl_explain.specs.declared.account.CommandAccount.{CommandAccount}
 pub use Rattle.fbl_group.specs.Strikes.{lost_receipts, strike_refusal}
 pub use Rattle.fbl_history.specs.declared.column.Column.{Column}
-pub use Rattle.fbl_input.proofs.Bytes.{keeps_itself}
-pub use Rattle.fbl_input.proofs.Inputs.{read_whole, too_long, unread}
+pub use Rattle.fbl_input.proofs.Inputs.{over_fault, over_input}
 pub use Rattle.fbl_input.specs.declared.fault.RunFault.{RunFault}
 pub use Rattle.fbl_input.specs.declared.output.OutputFault.{OutputFault}
 pub use Rattle.fbl_law.proofs.GroupStrike.{recorded_test}
@@ -29,12 +28,12 @@ pub use Rattle.fbl_law.specs.Knowledge.{IsRecorded, IsUp, Names}
 pub use Rattle.fbl_law.specs.Sound.{IsSound}
 pub use Rattle.fbl_lines.specs.Lines.{report_lines}
 pub use Rattle.fbl_member.specs.Members.{MemberRecord}
-pub use Rattle.fbl_script.specs.Scripts.{Outline, outline, outline_of}
+pub use Rattle.fbl_script.specs.Scripts.{IsScriptFault, IsScriptOf, Outline, outline}
 pub use Rattle.fbl_script.specs.declared.script.Command.{Command}
 pub use Rattle.fbl_threads.specs.Drains.{Drains}
 pub use Rattle.fbl_threads.specs.declared.draining.DrainRefusal.{DrainRefusal}
 pub use Rattle.fbl_threads.specs.declared.draining.Drained.{Drained}
-pub use Rattle.fbl_play.specs.Plays.{Along, IsHistoryPlay, IsPlay, IsRun, IsRunOne, IsStopped, IsStoppedRun, Moment, Plays, PlaysInput, PlaysScript, Unheard, UnheardAfter}
+pub use Rattle.fbl_play.specs.Plays.{Along, IsHistoryPlay, IsPlay, IsRun, IsRunOne, IsStopped, IsStoppedRun, Moment, PlaysScript, PlaysUnheard, Unheard, UnheardAfter}
 pub use Rattle.fbl_play.specs.Reasons.{IsPlanRefused}
 pub use Rattle.fbl_play.specs.Runs.{newly_lost}
 pub use Rattle.fbl_play.specs.RunSteps.{IsRunAccount, IsRunOutput}

@@ -1,16 +1,14 @@
 -- Runs of a script's commands, with their transcripts, and what an observer is told of them and when.
 use Rattle.std.specs.Prelude.{◌≡◌, ℕ, ◌<◌, ◌⊎◌, List, [], ◌∷◌, length, take, slice_index_or, Option, Some, None, Result, Ok, Err}
-use Rattle.std.specs.Io.KnownBytes.{Keeps}
 use Rattle.fbl_base.specs.declared.trace.Note.{Note}
 use Rattle.fbl_base.specs.Configs.{Settings}
 use Rattle.fbl_base.specs.Fold.{Next}
 use Rattle.fbl_base.specs.Steps.{relay_step, mix_step, numbered_from_0}
 use Rattle.fbl_explain.specs.declared.account.CommandAccount.{CommandAccount}
 use Rattle.fbl_input.specs.declared.fault.RunFault.{RunFault}
-use Rattle.fbl_input.specs.declared.fault.RunFault.TheVariants as faults
 use Rattle.fbl_input.specs.declared.output.OutputFault.{OutputFault}
 use Rattle.fbl_input.specs.declared.output.OutputFault.TheVariants as outputs
-use Rattle.fbl_input.specs.Faults.{FailsToRead}
+use Rattle.fbl_input.specs.Faults.{OverInput}
 use Rattle.fbl_law.specs.Groups.{GroupRecord}
 use Rattle.fbl_law.specs.GroupSteps.{IsGroupStart}
 use Rattle.fbl_law.specs.Sound.{IsSound}
@@ -113,20 +111,11 @@ Unheard r transcript old command new = Unit {0}
 abbrev pub UnheardAfter : GroupRecord ℕ Note → Transcript → Unit {0} → Command → CommandAccount → Unit {0} → Type 0
 UnheardAfter r transcript old command account new = Unit {0}
 
--- the input is a script, and this is a play of it of which nobody hears
-abbrev pub PlaysInput : ℕ → List ℕ → Option (List ℕ) → Option (List ℕ) → Result (Unit {0}) OutputFault → Type 0
-PlaysInput workers input before after result =
-    (s : Outline) × IsScriptOf input s × PlaysScript Unheard UnheardAfter workers s (text before) (text after) tt tt result
+-- what a play of a script of which nobody hears leaves of the transcript
+abbrev pub PlaysUnheard : ℕ → Outline → Transcript → Transcript → Result (Unit {0}) OutputFault → Type 0
+PlaysUnheard workers s had has result = PlaysScript Unheard UnheardAfter workers s had has tt tt result
 
--- what a play of the bytes leaves in the writer
-abbrev pub Plays : ℕ → List ℕ → Option (List ℕ) → Option (List ℕ) → Result (Unit {0}) RunFault → Type 0
-Plays workers input before after (Ok x) = PlaysInput workers input before after (Ok x)
-Plays workers input before after (Err faults.Write) = PlaysInput workers input before after (Err outputs.Write)
--- memory may run out while the input is read, and then nothing is written
-Plays workers input before after (Err faults.Memory) = Keeps before after ⊎ PlaysInput workers input before after (Err outputs.Memory)
--- any other fault is the input's first as a script; so a failed read is none
-Plays workers input before after (Err e) = IsScriptFault input e × Keeps before after
-
--- what a play of what a reader has leaves in the writer: a read may fail, and else it is a play of the bytes
+-- what a play of an input leaves in the writer
 abbrev pub ReadsAndPlays : ℕ → List ℕ → Option (List ℕ) → Option (List ℕ) → Result (Unit {0}) RunFault → Type 0
-ReadsAndPlays workers input before after result = FailsToRead before after result ⊎ Plays workers input before after result
+ReadsAndPlays workers input before after =
+    OverInput (IsScriptOf input) (IsScriptFault input) (λ s. PlaysUnheard workers s (text before) (text after)) before after

@@ -13,7 +13,7 @@ use crate::transcript::{HistorySoFar, Transcriber};
 use fbl_base::{Behaviour, Config, Mix, Note, Relay};
 use fbl_group::Group;
 use fbl_history::History;
-use fbl_input::{OutputFault, RunFault, read_input};
+use fbl_input::{OutputFault, RunFault};
 use fbl_script::{BehaviourName, Command, Script, read_script};
 use std::alloc::{AllocError, Global};
 use std::io::{Read, Write};
@@ -161,9 +161,13 @@ pub fn play<T: Threads + Wait + Sync, R: Read, W: Write>(
     requires { WorkersAllowed workers }
     ensures { IfSome (R.remaining reader.old) (λ input. ReadsAndPlays workers input (W.contents writer.old) (W.contents writer.new) result) }
 {
-    let input = read_input(alloc, reader)?;
-    match read_script(alloc, input.as_slice()) {
-        Ok(script) => Ok(play_script(rt, alloc, script, writer, workers, &mut NoObserver)?),
-        Err(fault) => Err(fault.fault()),
-    }
+    let script = read_script(alloc, reader)?;
+    Ok(play_script(
+        rt,
+        alloc,
+        script,
+        writer,
+        workers,
+        &mut NoObserver,
+    )?)
 }

@@ -2,8 +2,8 @@
 use Rattle.std.specs.Prelude.{◌≡◌, ◌<◌, ℕ, List, Bool, true, false, Some, slice_get}
 use Rattle.serde_json.specs.Data.{Data}
 use Rattle.serde_json.specs.View.{view}
-use Rattle.fbl_input.specs.declared.input_fault.InputFault.{InputFault}
-use Rattle.fbl_input.specs.declared.input_fault.InputFault.TheVariants as inputs
+use Rattle.fbl_input.specs.declared.misfit.Misfit.{Misfit}
+use Rattle.fbl_input.specs.declared.misfit.Misfit.TheVariants as misfits
 use Rattle.fbl_input.specs.Misfits.{wanted_form}
 use Rattle.fbl_script.specs.declared.script.Version.{Version}
 use Rattle.fbl_script.specs.declared.script.Version.TheVariants.{First, Second}
@@ -13,16 +13,16 @@ is_second_version First = false
 is_second_version Second = true
 
 -- this stands at the place, where a command of the form that is wanted should, or memory ran out
-abbrev pub IsBadCommand : Version → ℕ → Data → InputFault → Type 0
-IsBadCommand version place d (inputs.BadCommand at found wanted) = (at ≡ place) × (view found ≡ d) × (wanted ≡ wanted_form (is_second_version version) d)
-IsBadCommand version place d inputs.Memory = Unit {0}
+abbrev pub IsBadCommand : Version → ℕ → Data → Misfit → Type 0
+IsBadCommand version place d (misfits.BadCommand at found wanted) = (at ≡ place) × (view found ≡ d) × (wanted ≡ wanted_form (is_second_version version) d)
+IsBadCommand version place d misfits.Memory = Unit {0}
 IsBadCommand version place d fault = ⊥
 
 -- the fault is of this list of commands: there are too many, or the one at its place, which may stand there, has not the form
 -- that is wanted
-abbrev pub IsBadAmong : Version → List Data → InputFault → Type 0
-IsBadAmong version items inputs.TooManyCommands = Unit {0}
-IsBadAmong version items (inputs.BadCommand place found wanted) =
+abbrev pub IsBadAmong : Version → List Data → Misfit → Type 0
+IsBadAmong version items misfits.TooManyCommands = Unit {0}
+IsBadAmong version items (misfits.BadCommand place found wanted) =
     (place < 1024) × (slice_get items place ≡ Some (view found)) × (wanted ≡ wanted_form (is_second_version version) (view found))
-IsBadAmong version items inputs.Memory = Unit {0}
+IsBadAmong version items misfits.Memory = Unit {0}
 IsBadAmong version items fault = ⊥

@@ -3,6 +3,7 @@ use Rattle.std.specs.Prelude.{◌≡◌, ℕ, ◌+◌, ◌==◌, List, [], ◌�
 use Rattle.std.specs.Option.{option_or}
 use Rattle.serde_json.specs.Data.{Data, Members}
 use Rattle.serde_json.specs.Find.{get, as_object}
+use Rattle.fbl_base.specs.declared.config.ConfigRefusal.TheVariants as config
 use Rattle.fbl_base.specs.declared.strike.Strike as planned
 use Rattle.fbl_base.specs.declared.trace.Note.{Note}
 use Rattle.fbl_base.specs.declared.trace.Start.{Start}
@@ -20,11 +21,12 @@ use Rattle.fbl_script.specs.declared.script.Command.TheVariants.{Deliver, States
 use Rattle.fbl_script.specs.declared.script.Script.{Script}
 use Rattle.fbl_script.specs.declared.script_reading.Request.{Request}
 use Rattle.fbl_input.specs.declared.input_fault.InputFault.{InputFault}
-use Rattle.fbl_input.specs.declared.input_fault.InputKind.TheVariants as kinds
-use Rattle.fbl_input.specs.Misfits.{IsMisfit, IsOfSettings}
+use Rattle.fbl_input.specs.declared.misfit.InputKind.TheVariants as kinds
+use Rattle.fbl_input.specs.declared.misfit.Misfit.{Misfit}
+use Rattle.fbl_input.specs.Misfits.{IsOfSettings}
 use Rattle.fbl_input.specs.Items.{known_keys}
 pub use Rattle.fbl_input.specs.Items.{start_from, start_shape}
-use Rattle.fbl_input.specs.Faults.{IsFirstFault, IsReadRefused}
+use Rattle.fbl_input.specs.Faults.{IsFaultOf, IsFirstFault, IsReadFault}
 use Rattle.fbl_input.specs.Shapes.{◌>>=◌, or_fault, number_within, byte_shape, count_shape, member_shape, as_list, is_text, list_of, set_shape, name_of, field, field_or, has_other_key, value_of_input}
 
 -- what a script asks for
@@ -159,28 +161,27 @@ IsOfVersion n input = (value_of_input input >>= field keys.Version count_shape) 
 abbrev pub IsScriptOf : List ℕ → Outline → Type 0
 IsScriptOf input s = (outline_of_input input ≡ Ok s) × IsConfig has_few_hops s.config
 
--- the input is a script
-abbrev pub IsScript : List ℕ → Type 0
-IsScript input = (s : Outline) × IsScriptOf input s
+-- the fault is a configuration's refusal of its parameters
+abbrev pub RefusesScript : Outline → RunFault → Type 0
+RefusesScript s (faults.Config config.Memory) = ⊥
+RefusesScript s (faults.Config e) = RefusesConfig has_few_hops s.config e
+RefusesScript s e = ⊥
 
--- the fault is the input's first as a script; memory may run out for any input
+-- the fault is the input's first as a script
 abbrev pub IsScriptFault : List ℕ → RunFault → Type 0
-IsScriptFault input = IsFirstFault (outline_of_input input) (λ s. RefusesConfig has_few_hops s.config) (λ _ _. ⊥)
+IsScriptFault input = IsFirstFault (outline_of_input input) RefusesScript
 
--- what the fault says of the input is so: of the value that it is, and of the parameters that it has
-abbrev pub IsScriptMisfit : List ℕ → InputFault → Type 0
-IsScriptMisfit input fault = (d : Data) → value_of_input input ≡ Ok d → IsMisfit kinds.Script d fault
+-- so it is, and what it says of the input is so: of the value that it is, and of the parameters that it has
+abbrev pub IsScriptMisfit : List ℕ → Misfit → Type 0
+IsScriptMisfit input = IsFaultOf kinds.Script (outline_of_input input) RefusesScript (λ s. IsOfSettings s.config) input
 
-abbrev pub IsOfScript : List ℕ → InputFault → Type 0
-IsOfScript input fault = (s : Outline) → outline_of_input input ≡ Ok s → IsOfSettings s.config fault
+-- the fault of a reader of scripts is so
+abbrev pub IsNoScript : List ℕ → InputFault → Type 0
+IsNoScript = IsReadFault kinds.Script IsScriptMisfit
 
 -- what is asked for as a script, before it is known whether there is such a group
 abbrev pub request_outline : Request → Outline
 request_outline r = record { behaviour = r.behaviour; config = record { members = r.members; f = r.f; limit = r.limit; starts = r.starts.items }; commands = r.commands.items }
-
--- there is no such group, or memory ran out
-abbrev pub IsRequestRefused : Outline → RunFault → Type 0
-IsRequestRefused s = IsReadRefused (RefusesConfig has_few_hops s.config) (λ _. ⊥)
 
 -- a list that was read after a front that was read before
 abbrev pub with_front : {A : Type 0} → List A → Result (List A) RunFault → Result (List A) RunFault

@@ -10,7 +10,7 @@ ghost use Rattle.fbl_script.specs.Scripts.{checkpoint_from, command_from, comman
 use crate::script::{Command, Plan, Version};
 use fbl_base::Strike;
 use fbl_input::shapes::{JsonShape, all_in, count_in, is_named, list_in, member_in, set_in};
-use fbl_input::{CommandForm, InputFault, MOST_COMMANDS};
+use fbl_input::{CommandForm, MOST_COMMANDS, Misfit};
 use serde_json::Value;
 use std::alloc::{AllocError, Global};
 
@@ -185,17 +185,17 @@ fn wanted_in(is_second: bool, value: &Value) -> CommandForm
 }
 
 /// The fault of a place at which no command of this version stands, or lack of memory.
-fn bad_command(version: Version, place: usize, found: &Value) -> InputFault
+fn bad_command(version: Version, place: usize, found: &Value) -> Misfit
     ensures { IsBadCommand version place (view found.now) result }
 {
     let wanted = wanted_in(version == Version::Second, found);
     match found.clone() {
-        Ok(found) => InputFault::BadCommand {
+        Ok(found) => Misfit::BadCommand {
             place,
             found,
             wanted,
         },
-        Err(_) => InputFault::Memory,
+        Err(_) => Misfit::Memory,
     }
 }
 
@@ -204,7 +204,7 @@ pub(crate) fn commands_in(
     alloc: Global,
     version: Version,
     list: &[Value],
-) -> Result<Vec<Command>, InputFault>
+) -> Result<Vec<Command>, Misfit>
     ensures exact { Gives (λ v. v.items) result (commands_from (versioned_shape version) 0 (map view list.now)) }
     ensures faults { IfErr result IsOfShape }
     ensures misfit { IfErr result (IsBadAmong version (map view list.now)) }
@@ -213,7 +213,7 @@ pub(crate) fn commands_in(
     let mut place = 0;
     for value in list {
         if place == MOST_COMMANDS {
-            return Err(InputFault::TooManyCommands);
+            return Err(Misfit::TooManyCommands);
         }
         match command_in(alloc, version, value)? {
             Some(command) => commands.push(command)?,

@@ -7,4 +7,4 @@ mod script;
 mod script_reading;
 
 pub use script::{BehaviourName, Command, Plan, Script};
-pub use script_reading::{read_script, script_of_bytes};
+pub use script_reading::read_script;

@@ -1,17 +1,17 @@
 //! Scripts as JSON.
 
-ghost use Rattle.std.specs.Prelude.{◌≡◌, ◌≤◌, map, IfOk, IfErr, Ok};
+ghost use Rattle.std.specs.Prelude.{◌≡◌, ◌≤◌, map, IfOk, IfErr, IfSome, Ok};
 ghost use Rattle.serde_json.specs.Data.{Data};
 ghost use Rattle.serde_json.specs.View.{view};
 ghost use Rattle.serde_json.specs.Find.{get};
 ghost use Rattle.fbl_base.specs.Configs.{IsConfig};
 ghost use Rattle.fbl_base.specs.Steps.{has_few_hops};
 ghost use Rattle.fbl_input.specs.Items.{start_from};
-ghost use Rattle.fbl_input.specs.Misfits.{Gives, IsMisfit, IsOfSettings, IsOfShape, run_fault};
+ghost use Rattle.fbl_input.specs.Misfits.{Gives, IsMisfit, IsOfShape};
 ghost use Rattle.fbl_input.specs.Shapes.{count_shape, field, field_or, name_of};
 ghost use Rattle.fbl_input.specs.declared.fault.Key.TheVariants as keys;
-ghost use Rattle.fbl_input.specs.declared.input_fault.InputKind.TheVariants as kinds;
-ghost use Rattle.fbl_script.specs.Scripts.{IsOfScript, IsScriptOf, IsScriptFault, IsScriptMisfit, IsRequestRefused, behaviour_shape, commands_at, outline, outline_of, outline_of_input, request_outline, version_shape};
+ghost use Rattle.fbl_input.specs.declared.misfit.InputKind.TheVariants as kinds;
+ghost use Rattle.fbl_script.specs.Scripts.{IsNoScript, IsScriptMisfit, IsScriptOf, behaviour_shape, commands_at, outline, outline_of, request_outline, version_shape};
 
 use crate::commands::commands_in;
 use crate::script::{BehaviourName, Command, Script, Version};
@@ -20,9 +20,10 @@ use fbl_input::shapes::{
     ByteShape, JsonShape, count_in, is_named, list_field, list_in, member_in, no_other_key,
     object_in, value_field, value_in, values_field,
 };
-use fbl_input::{InputFault, InputKind, Key, RunFault};
+use fbl_input::{InputFault, InputKind, Key, Misfit, read_input};
 use serde_json::Value;
 use std::alloc::Global;
+use std::io::Read;
 
 /// What a script asks for, before it is known whether there is such a group.
 #[derive(Drop)]
@@ -132,7 +133,7 @@ impl JsonShape<u32> for CountShape {
 const LIMIT: u32 = 8192;
 
 /// The limit, which may be missing.
-fn limit_field(alloc: Global, value: &Value) -> Result<u32, InputFault>
+fn limit_field(alloc: Global, value: &Value) -> Result<u32, Misfit>
     ensures exact { Gives (λ n. n) result (field_or 8192 keys.Limit count_shape (get (name_of keys.Limit) (view value.now))) }
     ensures faults { IfErr result IsOfShape }
     ensures misfit { IfErr result (IsMisfit kinds.Script (view value.now)) }
@@ -148,7 +149,7 @@ fn commands_field(
     alloc: Global,
     version: Version,
     value: &Value,
-) -> Result<Vec<Command>, InputFault>
+) -> Result<Vec<Command>, Misfit>
     requires { field keys.Version version_shape (view value.now) ≡ Ok version }
     ensures exact { Gives (λ v. v.items) result (commands_at version (view value.now)) }
     ensures faults { IfErr result IsOfShape }
@@ -160,7 +161,7 @@ fn commands_field(
 
 /// What a value asks for as a script.
 #[tactic(auto, unfolding(crate::specs::Scripts::outline_of, crate::specs::Scripts::outline_by))]
-fn request_of(alloc: Global, value: &Value) -> Result<Request, InputFault>
+fn request_of(alloc: Global, value: &Value) -> Result<Request, Misfit>
     ensures exact { Gives request_outline result (outline_of (view value.now)) }
     ensures faults { IfErr result IsOfShape }
     ensures misfit { IfErr result (IsMisfit kinds.Script (view value.now)) }
@@ -194,24 +195,12 @@ fn request_of(alloc: Global, value: &Value) -> Result<Request, InputFault>
     })
 }
 
-/// What an input asks for as a script.
-fn request_in(alloc: Global, input: &[u8]) -> Result<Request, InputFault>
-    ensures exact { Gives request_outline result (outline_of_input input.now) }
-    ensures faults { IfErr result IsOfShape }
-    ensures misfit { IfErr result (IsScriptMisfit input.now) }
+/// The script that the bytes spell, or their first fault.
+fn script_in(alloc: Global, input: &[u8]) -> Result<Script, Misfit>
+    ensures script { IfOk result (λ s. IsScriptOf input.now (outline s)) }
+    ensures fault { IfErr result (IsScriptMisfit input.now) }
 {
     let value = value_in(alloc, input)?;
-    request_of(alloc, &value)
-}
-
-/// The script of a request, if there is such a group.
-fn script_of(alloc: Global, request: Request) -> Result<Script, InputFault>
-    ensures same { IfOk result (λ s. outline s ≡ request_outline request) }
-    ensures rules { IfOk result (λ s. IsConfig has_few_hops s.config) }
-    ensures refused { IfErr result (λ fault. IsRequestRefused (request_outline request) (run_fault fault)) }
-    ensures misfit { IfErr result (λ fault. (d : Data) → IsMisfit kinds.Script d fault) }
-    ensures settings { IfErr result (IsOfSettings (request_outline request).config) }
-{
     let Request {
         behaviour,
         members,
@@ -219,37 +208,42 @@ fn script_of(alloc: Global, request: Request) -> Result<Script, InputFault>
         limit,
         starts,
         commands,
-    } = request;
+    } = request_of(alloc, &value)?;
     match Config::checked(alloc, members, f, limit, starts.as_slice()) {
         Ok(config) => Ok(Script {
             behaviour,
             config,
             commands,
         }),
-        Err(fault) => Err(InputFault::Config(fault)),
+        Err(fault) => Err(Misfit::Config(fault)),
     }
 }
 
-/// The script that the bytes spell, as one JSON object, or their first fault, with the place, what stands there and what
-/// is wanted there.
-pub fn read_script(alloc: Global, input: &[u8]) -> Result<Script, InputFault>
-    ensures script { IfOk result (λ s. IsScriptOf input.now (outline s)) }
-    ensures fault { IfErr result (λ fault. IsScriptFault input.now (run_fault fault)) }
-    ensures misfit { IfErr result (IsScriptMisfit input.now) }
-    ensures settings { IfErr result (IsOfScript input.now) }
+/// The script that the reader has, as one JSON object, or the first fault of the input, with the place, what stands there and
+/// what is wanted there.
+pub fn read_script<R: Read>(alloc: Global, reader: &mut R) -> Result<Script, InputFault>
+    ensures script { IfOk result (λ s. IfSome (R.remaining reader.old) (λ input. IsScriptOf input (outline s))) }
+    ensures rules { IfOk result (λ s. IsConfig has_few_hops s.config) }
+    ensures fault { IfErr result (λ fault. IfSome (R.remaining reader.old) (λ input. IsNoScript input fault)) }
 {
-    let request = request_in(alloc, input)?;
-    script_of(alloc, request)
-}
-
-/// The script that the bytes spell, as one JSON object. Each fault that isn't lack of memory is the first of the input;
-/// neither `Read` nor `Write` nor `Dump` is among them.
-pub fn script_of_bytes(alloc: Global, input: &[u8]) -> Result<Script, RunFault>
-    ensures script { IfOk result (λ s. IsScriptOf input.now (outline s)) }
-    ensures fault { IfErr result (IsScriptFault input.now) }
-{
-    match read_script(alloc, input) {
+    let kind = InputKind::Script;
+    let input = match read_input(alloc, reader) {
+        Ok(input) => input,
+        Err(misfit) => {
+            let input = Vec::new(alloc);
+            return Err(InputFault {
+                kind,
+                misfit,
+                input,
+            });
+        }
+    };
+    match script_in(alloc, input.as_slice()) {
         Ok(script) => Ok(script),
-        Err(fault) => Err(fault.fault()),
+        Err(misfit) => Err(InputFault {
+            kind,
+            misfit,
+            input,
+        }),
     }
 }

@@ -21,30 +21,31 @@ pub use Rattle.clap.specs.declared.parser.matches.ArgMatches.TheViews.{out-ArgMa
 pub use Rattle.clap.specs.declared.parser.matches.SubCommand.{SubCommand}
 pub use Rattle.fbl_base.proofs.Recorded.{or_false}
 pub use Rattle.fbl_base.specs.Configs.{WorkersAllowed}
-pub use Rattle.fbl_dump.specs.Dumps.{parts_of_data}
 pub use Rattle.fbl_explain.specs.Accounts.{is_refusal}
 pub use Rattle.fbl_explain.specs.declared.account.CommandAccount.{CommandAccount}
-pub use Rattle.fbl_input.proofs.Bytes.{keeps_itself}
-pub use Rattle.fbl_input.proofs.Inputs.{read_whole, too_long, unread}
-pub use Rattle.fbl_input.proofs.Outputs.{puts_text}
-pub use Rattle.fbl_input.specs.Faults.{FailsToRead, PutsOut}
-pub use Rattle.fbl_input.specs.Shapes.{longest}
-pub use Rattle.fbl_input.specs.declared.fault.RunFault.{RunFault}
-pub use Rattle.fbl_play.specs.Histories.{HistoryTells, HistoryTellsScript}
-pub use Rattle.fbl_play.specs.Telling.{IsTold, Tells}
-pub use Rattle.fbl_play.specs.declared.histories.RunHistory.{RunHistory}
-pub use Rattle.fbl_script.specs.Scripts.{IsScriptOf, Outline, behaviour_word, outline_of}
-pub use Rattle.fbl_script.specs.declared.script.Command.{Command}
 pub use Rattle.fbl_show.specs.HistoryPictures.{history_picture}
 pub use Rattle.fblrun.specs.CommandLines.{IsRefusedFor, IsRequestAt, IsRequestOf, Names, given_in, input_rule, output_rule}
 pub use Rattle.fblrun.specs.CommandLines.{IsCommandLine, IsOrderAt, audit_line, check_line, draw_line, flag_text, is_audit, is_check, is_draw, is_play, is_show, is_show_workers, is_workers}
 pub use Rattle.fblrun.specs.CommandLines.{order_for, play_line, program, show_line, with_explain, with_strict}
-pub use Rattle.fblrun.specs.Orders.{AnswersTask, EndsAfter, PlaysWell, ReadsAndAnswersTask}
-pub use Rattle.fblrun.specs.Showing.{IsShown, Shows}
 pub use Rattle.fblrun.specs.Statuses.{status_after}
 pub use Rattle.fblrun.specs.declared.Order.{Order}
-pub use Rattle.fblrun.specs.declared.Task.{Task}
 pub use Rattle.fblrun.specs.declared.command_line.Misuse.{Misuse}
 pub use Rattle.fblrun.specs.declared.command_line.Misuse.TheVariants.{Words}
 pub use Rattle.fblrun.specs.declared.command_line.Request.{Request}
-pub use Rattle.fblrun.specs.declared.Task.TheVariants.{Play, Show}
+pub use Rattle.fbl_base.specs.Configs.{Settings}
+pub use Rattle.fbl_base.specs.Fold.{Next}
+pub use Rattle.fbl_dump.specs.Dumps.{IsDumpFault, IsDumpOf}
+pub use Rattle.fbl_history.specs.declared.column.Column.{Column}
+pub use Rattle.fbl_input.proofs.Inputs.{over_fault, over_input}
+pub use Rattle.fbl_input.proofs.Outputs.{puts_as, puts_text}
+pub use Rattle.fbl_input.specs.Faults.{PutsOut}
+pub use Rattle.fbl_input.specs.declared.fault.RunFault.{RunFault}
+pub use Rattle.fbl_input.specs.declared.output.OutputFault.{OutputFault}
+pub use Rattle.fbl_law.specs.Groups.{GroupRecord}
+pub use Rattle.fbl_play.specs.Plays.{Along, IsHistoryPlay, Moment, PlaysScript, PlaysUnheard}
+pub use Rattle.fbl_play.proofs.Moments.{play_unheard}
+pub use Rattle.fbl_play.specs.Transcripts.{Transcript, history, text}
+pub use Rattle.fbl_play.specs.declared.engine.RunHistory.{RunHistory}
+pub use Rattle.fbl_script.specs.Scripts.{IsScriptFault, IsScriptOf, Outline, behaviour_word, outline}
+pub use Rattle.fbl_script.specs.declared.script.Command.{Command}
+pub use Rattle.fblrun.specs.Orders.{DoesScript, DoesTask, IsDumpAnswer, IsShown, PlaysWell}

@@ -11,7 +11,9 @@ use Rattle.fblrun.specs.declared.Order.{Order}
 use Rattle.fblrun.specs.declared.command_line.Misuse.{Misuse}
 use Rattle.fblrun.specs.declared.command_line.Misuse.TheVariants.{Words, NoCommand}
 use Rattle.fblrun.specs.declared.command_line.Request.{Request}
-use Rattle.fblrun.specs.declared.Task.TheVariants.{Play, Show, Audit, Check, Draw}
+use Rattle.fblrun.specs.declared.DumpTask.TheVariants.{Audit, Check, Draw}
+use Rattle.fblrun.specs.declared.ScriptTask.TheVariants.{Play, Show}
+use Rattle.fblrun.specs.declared.Task.TheVariants.{Script, Dump}
 
 -- ---- what the parser of command lines is told
 
@@ -111,13 +113,13 @@ pub data IsCommandLine (words : List Text) : Type 0 where
 
 -- the order that they give: where no number of workers is said there are 2
 abbrev pub order_for : {words : List Text} → IsCommandLine words → Order
-order_for (is_audit line) = record { task = Audit; explain = line.0 }
-order_for (is_check line) = record { task = Check; explain = line.0 }
-order_for (is_draw line) = record { task = Draw; explain = line.0 }
-order_for (is_play strict line) = record { task = Play 2 strict; explain = line.0 }
-order_for (is_workers strict n allowed line) = record { task = Play n strict; explain = line.0 }
-order_for (is_show line) = record { task = Show 2; explain = line.0 }
-order_for (is_show_workers n allowed line) = record { task = Show n; explain = line.0 }
+order_for (is_audit line) = record { task = Dump Audit; explain = line.0 }
+order_for (is_check line) = record { task = Dump Check; explain = line.0 }
+order_for (is_draw line) = record { task = Dump Draw; explain = line.0 }
+order_for (is_play strict line) = record { task = Script (Play 2 strict); explain = line.0 }
+order_for (is_workers strict n allowed line) = record { task = Script (Play n strict); explain = line.0 }
+order_for (is_show line) = record { task = Script (Show 2); explain = line.0 }
+order_for (is_show_workers n allowed line) = record { task = Script (Show n); explain = line.0 }
 
 -- the order is that of the words, if they are one of these
 abbrev pub IsOrderOf : List Text → Order → Type 0
@@ -157,13 +159,13 @@ IsFlagged name given rows = one_of name rows ≡ Some (flag_text given)
 
 -- the order is that of a subcommand of this name with these arguments
 pub record IsOrderAt (name : Text) (rows : List Row) (order : Option Order) : Type 0 where
-  pub audit : (explain : Bool) → name ≡ codes "audit" → IsFlagged (codes "explain") explain rows → order ≡ Some (record { task = Audit; explain = explain })
-  pub check : (explain : Bool) → name ≡ codes "check" → IsFlagged (codes "explain") explain rows → order ≡ Some (record { task = Check; explain = explain })
-  pub draw : (explain : Bool) → name ≡ codes "draw" → IsFlagged (codes "explain") explain rows → order ≡ Some (record { task = Draw; explain = explain })
+  pub audit : (explain : Bool) → name ≡ codes "audit" → IsFlagged (codes "explain") explain rows → order ≡ Some (record { task = Dump Audit; explain = explain })
+  pub check : (explain : Bool) → name ≡ codes "check" → IsFlagged (codes "explain") explain rows → order ≡ Some (record { task = Dump Check; explain = explain })
+  pub draw : (explain : Bool) → name ≡ codes "draw" → IsFlagged (codes "explain") explain rows → order ≡ Some (record { task = Dump Draw; explain = explain })
   pub play : (strict explain : Bool) (n : ℕ) → n < 10 → name ≡ codes "play" → one_of (codes "workers") rows ≡ Some (decimal n)
-      → IsFlagged (codes "strict") strict rows → IsFlagged (codes "explain") explain rows → order ≡ Some (record { task = Play n strict; explain = explain })
+      → IsFlagged (codes "strict") strict rows → IsFlagged (codes "explain") explain rows → order ≡ Some (record { task = Script (Play n strict); explain = explain })
   pub show : (explain : Bool) (n : ℕ) → n < 10 → name ≡ codes "show" → one_of (codes "workers") rows ≡ Some (decimal n)
-      → IsFlagged (codes "explain") explain rows → order ≡ Some (record { task = Show n; explain = explain })
+      → IsFlagged (codes "explain") explain rows → order ≡ Some (record { task = Script (Show n); explain = explain })
 
 -- the request is that of a subcommand of this name with these arguments
 pub record IsRequestAt (name : Text) (rows : List Row) (request : Option Request) : Type 0 where

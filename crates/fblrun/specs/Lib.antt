@@ -1,4 +1,3 @@
 pub mod Statuses
-pub mod Showing
 pub mod Orders
 pub mod CommandLines

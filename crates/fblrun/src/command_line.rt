@@ -5,7 +5,7 @@ ghost use Rattle.clap.specs.Words.{app_of, first_of, found_of, one_of, rows_of, 
 ghost use Rattle.clap.specs.declared.builder.command.Command.TheViews.{out-Command as fields_of};
 ghost use Rattle.fblrun.specs.CommandLines.{IsCommandLine, IsFlagged, IsOrderAt, IsRefusedFor, IsRequestAt, IsRequestOf, explain_rule, input_rule, output_rule, play_app, program, shared_app, show_app, strict_rule, top_app, with_shared, workers_rule};
 
-use crate::{Order, Task};
+use crate::{DumpTask, Order, ScriptTask, Task};
 use clap::{Arg, ArgAction, ArgMatches, Command};
 use std::alloc::{AllocError, Global};
 
@@ -307,16 +307,16 @@ fn order_at(name: &str, found: &ArgMatches) -> Option<Order>
 {
     let explain = flag_in(found, "explain");
     let task = match name {
-        "play" => Task::Play {
+        "play" => Task::Script(ScriptTask::Play {
             workers: workers_in(found),
             strict: flag_in(found, "strict"),
-        },
-        "show" => Task::Show {
+        }),
+        "show" => Task::Script(ScriptTask::Show {
             workers: workers_in(found),
-        },
-        "audit" => Task::Audit,
-        "check" => Task::Check,
-        "draw" => Task::Draw,
+        }),
+        "audit" => Task::Dump(DumpTask::Audit),
+        "check" => Task::Dump(DumpTask::Check),
+        "draw" => Task::Dump(DumpTask::Draw),
         _ => return None,
     };
     Some(Order { task, explain })

@@ -4,9 +4,10 @@
 ghost use Rattle.std.specs.Prelude.{◌≡◌, ◌<◌};
 
 use crate::command_line::Request;
+use crate::doing::obey;
 use crate::streams::{Failure, Named};
 use crate::telling::FaultLine;
-use crate::{NOT_WELL, fail, obey};
+use crate::{NOT_WELL, fail};
 use fbl_input::RunFault;
 use std::alloc::Global;
 use std::fs::{self, File, OpenFile, OpenOptions};

@@ -1,35 +1,25 @@
 //! Plays or shows a script, or audits, checks or draws a dump, that is in a file or comes from standard input.
 #![tactic(auto)]
 
-ghost use Rattle.std.specs.Prelude.{◌≡◌, ◌&&◌, not, IfSome};
-ghost use Rattle.fbl_base.specs.Configs.{WorkersAllowed};
-ghost use Rattle.fblrun.specs.Orders.{AnswersTask, CanBeDone, ChecksWell, EndsAfter, IsWellDone, Obeys, PlaysWell, ReadsAndAnswersTask};
-ghost use Rattle.fblrun.specs.Showing.{Shows};
-ghost use Rattle.fblrun.specs.Statuses.{status_after as status_after_result, fault_status};
+ghost use Rattle.std.specs.Prelude.{◌≡◌};
+ghost use Rattle.fbl_input.specs.Faults.{run_result};
+ghost use Rattle.fblrun.specs.Statuses.{status_after, fault_status};
 
 mod command_line;
+mod doing;
 mod files;
-mod showing;
 mod streams;
 mod telling;
 
 use clap::error::ErrorKind;
-use command_line::{Misuse, Request, request_of};
-use fbl_draw::draw_bytes;
-use fbl_dump::{Verdict, audit_bytes, check_bytes};
-use fbl_input::{RunFault, read_input};
-use fbl_play::play_script;
-use fbl_script::script_of_bytes;
+use command_line::{Misuse, request_of};
+use fbl_input::{OutputFault, RunFault};
 use files::obey_request;
-use showing::show_observed;
-use std::alloc::Global;
-use std::io::{IsTerminal, Read, Write};
+use std::io::IsTerminal;
 use std::process::ExitCode;
-use std::sync::Wait;
-use std::thread::Threads;
 use std::{env, io};
-use streams::Named;
-use telling::{FaultLine, Teller, end};
+use streams::Failure;
+use telling::FaultLine;
 
 /// Everything was done, and all is well.
 const DONE: u8 = 0;
@@ -46,27 +36,39 @@ const CHANNEL_FAULT: u8 = 3;
 /// Memory runs out.
 const MEMORY_FAULT: u8 = 4;
 
-/// What is to be done with the input.
+/// What is to be done with a script.
 #[derive(Clone, Copy, PartialEq, Eq, Debug)]
-enum Task {
-    /// Play a script.
+enum ScriptTask {
+    /// Play it.
     Play {
         /// How many workers make a run.
         workers: u8,
         /// Whether all is well only where no command was refused.
         strict: bool,
     },
-    /// Draw the history of a script.
+    /// Draw its history.
     Show {
         /// How many workers make a run.
         workers: u8,
     },
-    /// Audit a dump.
+}
+
+/// What is to be done with a dump.
+#[derive(Clone, Copy, PartialEq, Eq, Debug)]
+enum DumpTask {
+    /// Audit it.
     Audit,
-    /// Check a dump. All is well where it is safe.
+    /// Check it. All is well where it is safe.
     Check,
-    /// Draw a dump.
+    /// Draw it.
     Draw,
+}
+
+/// What is to be done with the input.
+#[derive(Clone, Copy, PartialEq, Eq, Debug)]
+enum Task {
+    Script(ScriptTask),
+    Dump(DumpTask),
 }
 
 /// What the command line asks for.
@@ -142,138 +144,15 @@ fn fail<R: Eprint>(rt: &R, line: FaultLine<'_>) -> u8
     status
 }
 
-/// The exit status of what was done without a fault, by whether all is well.
-fn status_of_done(is_well: bool) -> u8
-    ensures { result ≡ status_after_result (Ok is_well) }
-{
-    if is_well { DONE } else { NOT_WELL }
-}
-
-/// All is well where this was done.
-fn well_done(done: Result<(), RunFault>) -> Result<bool, RunFault>
-    ensures { IsWellDone (λ answer. answer ≡ done) result }
+/// The exit status of what was done, by whether all is well. The line of its fault is printed, if it has one; the file is one on
+/// which a write may have failed.
+fn end<R: Eprint>(rt: &R, done: Result<bool, OutputFault>, file: Option<Failure<'_>>) -> u8
+    ensures { result ≡ status_after (run_result done) }
 {
     match done {
-        Ok(()) => Ok(true),
-        Err(fault) => Err(fault),
-    }
-}
-
-/// Whether all is well after a play, strict or not, in which some command was refused or none.
-fn is_well(strict: bool, has_refused: bool) -> bool
-    ensures { result ≡ not (strict && has_refused) }
-{
-    !(strict && has_refused)
-}
-
-/// Plays the script that the bytes spell, and answers whether all is well: whether it isn't strict, or no command was refused.
-fn play_well<T: Eprint + Threads + Wait + Sync, W: Write>(
-    rt: &T,
-    alloc: Global,
-    workers: u8,
-    strict: bool,
-    explain: bool,
-    input: &[u8],
-    writer: &mut W,
-) -> Result<bool, RunFault>
-    requires { WorkersAllowed workers }
-    ensures { PlaysWell workers strict input.now (W.contents writer.old) (W.contents writer.new) result }
-{
-    let script = script_of_bytes(alloc, input)?;
-    let mut teller = Teller::new(rt, explain);
-    play_script(rt, alloc, script, writer, workers, &mut teller)?;
-    Ok(is_well(strict, teller.has_refused()))
-}
-
-/// Plays the script that the bytes spell, and draws its history.
-fn show_all<T: Eprint + Threads + Wait + Sync, W: Write>(
-    rt: &T,
-    alloc: Global,
-    workers: u8,
-    explain: bool,
-    input: &[u8],
-    writer: &mut W,
-) -> Result<(), RunFault>
-    requires { WorkersAllowed workers }
-    ensures { Shows workers input.now (W.contents writer.old) (W.contents writer.new) result }
-{
-    let mut teller = Teller::new(rt, explain);
-    show_observed(rt, alloc, input, writer, workers, &mut teller)
-}
-
-/// Checks the dump that the bytes spell, and answers whether all is well: whether it is safe.
-fn check_well<W: Write>(alloc: Global, input: &[u8], writer: &mut W) -> Result<bool, RunFault>
-    ensures { ChecksWell input.now (W.contents writer.old) (W.contents writer.new) result }
-{
-    match check_bytes(alloc, input, writer) {
-        Ok(Verdict::Safe) => Ok(true),
-        Ok(Verdict::Unsafe) => Ok(false),
-        Err(fault) => Err(fault),
-    }
-}
-
-/// Does the task over the bytes, and answers whether all is well. `Read` is no answer.
-fn do_task<T: Eprint + Threads + Wait + Sync, W: Write>(
-    rt: &T,
-    alloc: Global,
-    order: Order,
-    input: &[u8],
-    writer: &mut W,
-) -> Result<bool, RunFault>
-    requires { CanBeDone order.task }
-    ensures { AnswersTask order.task input.now (W.contents writer.old) (W.contents writer.new) result }
-{
-    match order.task {
-        Task::Play { workers, strict } => {
-            play_well(rt, alloc, workers, strict, order.explain, input, writer)
-        }
-        Task::Show { workers } => {
-            well_done(show_all(rt, alloc, workers, order.explain, input, writer))
-        }
-        Task::Audit => well_done(audit_bytes(alloc, input, writer)),
-        Task::Check => check_well(alloc, input, writer),
-        Task::Draw => well_done(draw_bytes(alloc, input, writer)),
-    }
-}
-
-/// Does the task over what the reader has, and answers the exit status.
-fn read_and_do<T: Eprint + Threads + Wait + Sync, R: Read, W: Write>(
-    rt: &T,
-    alloc: Global,
-    order: Order,
-    reader: &mut Named<'_, R>,
-    writer: &mut Named<'_, W>,
-) -> u8
-    requires { CanBeDone order.task }
-    ensures { IfSome (R.remaining reader.old.stream) (λ input. EndsAfter (ReadsAndAnswersTask order.task input (W.contents writer.old.stream) (W.contents writer.new.stream)) result) }
-{
-    match read_input(alloc, reader) {
-        Ok(input) => {
-            let input = input.as_slice();
-            let done = do_task(rt, alloc, order, input, writer);
-            end(rt, alloc, order, input, done, writer.failure())
-        }
-        Err(fault) => end(rt, alloc, order, &[], Err(fault), reader.failure()),
-    }
-}
-
-/// Obeys the order over what the reader has, and answers the exit status. It is 2, and nothing is read, where a play or a
-/// picture of its history is asked for with another number of workers than 1 to 8, which the command line does not give.
-pub(crate) fn obey<T: Eprint + Threads + Wait + Sync, R: Read, W: Write>(
-    rt: &T,
-    alloc: Global,
-    order: Order,
-    reader: &mut Named<'_, R>,
-    writer: &mut Named<'_, W>,
-) -> u8
-    ensures { IfSome (R.remaining reader.old.stream) (λ input. Obeys order input (W.contents writer.old.stream) (W.contents writer.new.stream) result) }
-{
-    match order.task {
-        Task::Play { workers, .. } | Task::Show { workers } => match workers {
-            1..=8 => read_and_do(rt, alloc, order, reader, writer),
-            _ => INPUT_FAULT,
-        },
-        Task::Audit | Task::Check | Task::Draw => read_and_do(rt, alloc, order, reader, writer),
+        Ok(true) => DONE,
+        Ok(false) => NOT_WELL,
+        Err(fault) => fail(rt, FaultLine::on(RunFault::from(fault), file)),
     }
 }
 

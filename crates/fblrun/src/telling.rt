@@ -1,18 +1,16 @@
 //! What is told on standard error, where the command line asks for explanations, beside the fault line.
 
 ghost use Rattle.std.specs.Prelude.{◌≡◌, false};
-ghost use Rattle.fblrun.specs.Statuses.{status_after as status_after_result};
+ghost use Rattle.fbl_input.specs.Misfits.{run_fault};
+ghost use Rattle.fblrun.specs.Statuses.{fault_status};
 
 use crate::streams::Failure;
-use crate::{Order, Task, fail, status_of_done};
+use crate::{DumpTask, fail};
 use fbl_base::audit::Dump;
 use fbl_base::{Behaviour, Note};
-use fbl_dump::dump_of_bytes;
-use fbl_explain::{
-    AccountOf, CommandAccount, Explanation, Why, Words, explain, why_lost, why_unsafe,
-};
+use fbl_explain::{AccountOf, CommandAccount, Words, why_lost, why_unsafe};
 use fbl_group::Group;
-use fbl_input::{InputKind, RunFault};
+use fbl_input::{InputFault, RunFault};
 use fbl_play::{Observer, Transcribed};
 use fbl_script::Command;
 use std::alloc::Global;
@@ -135,78 +133,35 @@ impl<R: Eprint> Observer for Teller<'_, R> {
     }
 }
 
-/// What kind of input a task is done over.
-fn kind_of(task: Task) -> InputKind {
-    match task {
-        Task::Play { .. } | Task::Show { .. } => InputKind::Script,
-        Task::Audit | Task::Check | Task::Draw => InputKind::Dump,
+/// Tells on standard error why receipts of the dump are lost, after an audit, or could be, after a check. Where memory runs out
+/// for it that is left out.
+pub(crate) fn tell_why<R: Eprint>(rt: &R, alloc: Global, task: DumpTask, dump: &Dump) {
+    let why = match task {
+        DumpTask::Audit => why_lost(alloc, dump),
+        DumpTask::Check => why_unsafe(alloc, dump),
+        DumpTask::Draw => return,
+    };
+    if let Ok(why) = why {
+        let _ = eprint!(rt; "{why}");
     }
 }
 
-/// Why receipts of a dump are lost, for an audit, or could be, for a check. Where memory runs out for it that is left out.
-fn why_of<'a>(alloc: Global, task: Task, dump: &'a Dump) -> Option<Why<'a>> {
-    match task {
-        Task::Audit => why_lost(alloc, dump).ok(),
-        Task::Check => why_unsafe(alloc, dump).ok(),
-        Task::Play { .. } | Task::Show { .. } | Task::Draw => None,
-    }
-}
-
-/// Tells on standard error what there is to tell of the task that was done over the bytes.
-fn tell_why<R: Eprint>(rt: &R, alloc: Global, task: Task, input: &[u8]) {
-    if kind_of(task) == InputKind::Script {
-        return;
-    }
-    if let Ok(dump) = dump_of_bytes(alloc, input) {
-        if let Some(why) = why_of(alloc, task, &dump) {
-            let _ = eprint!(rt; "{why}");
-        }
-    }
-}
-
-/// The explanation of the fault of the input, if it has one and the order asks for it. Where memory runs out for it that is left out.
-fn explanation_of(
-    alloc: Global,
-    order: Order,
-    input: &[u8],
-    fault: &RunFault,
-) -> Option<Explanation> {
-    if !order.explain {
-        return None;
-    }
-    let kind = kind_of(order.task);
-    match explain(alloc, kind, input, fault) {
-        Ok(Some(reason)) => Explanation::of(alloc, kind, input, reason).ok(),
-        _ => None,
-    }
-}
-
-/// Prints the fault, if there is one, and answers the exit status. Where explanations are asked for that of the fault stands
-/// behind it, or else what there is to tell of the task that was done. The file is one on which a call may have failed.
-pub(crate) fn end<R: Eprint>(
+/// Prints the line of the input's fault, and answers its exit status. Where that is asked for the fault is explained in a line
+/// behind it; where memory runs out for it that is left out. The file is one on which a read may have failed.
+pub(crate) fn refuse_input<R: Eprint>(
     rt: &R,
     alloc: Global,
-    order: Order,
-    input: &[u8],
-    done: Result<bool, RunFault>,
+    explain: bool,
+    fault: &InputFault,
     file: Option<Failure<'_>>,
 ) -> u8
-    ensures { result ≡ status_after_result done }
+    ensures { result ≡ fault_status (run_fault fault.now.misfit) }
 {
-    match done {
-        Ok(is_well) => {
-            if order.explain {
-                tell_why(rt, alloc, order.task, input);
-            }
-            status_of_done(is_well)
-        }
-        Err(fault) => {
-            let explanation = explanation_of(alloc, order, input, &fault);
-            let status = fail(rt, FaultLine::on(fault, file));
-            if let Some(explanation) = explanation {
-                let _ = eprintln!(rt; "{explanation}");
-            }
-            status
+    let status = fail(rt, FaultLine::on(fault.misfit.fault(), file));
+    if explain {
+        if let Ok(Some(explanation)) = fault.explanation(alloc) {
+            let _ = eprintln!(rt; "{explanation}");
         }
     }
+    status
 }

@@ -1,9 +1,9 @@
 //! Dumps as their lines, and audits over readers and writers that fail.
 
 use super::plays::FAILURES;
-use fbl_dump::{audit, audit_bytes, dump_of_bytes, dump_text};
+use fbl_dump::{Verdict, audit, dump_text, read_dump, write_audit, write_check};
 use fbl_fixtures::{Page, UnsteadyReader, UnsteadyWriter};
-use fbl_input::RunFault;
+use fbl_input::{OutputFault, RunFault};
 use std::alloc::Global;
 use std::io::{self, Read};
 use std::process::Abort;
@@ -34,7 +34,7 @@ const LOST_TEXT: &str = "lost 1\ndeterminant 0 1 1 1\norphans 0,2\n";
 
 /// The line of the dump that is read from the text.
 fn written_again(alloc: Global, text: &str) -> Result<String, Fail> {
-    let dump = dump_of_bytes(alloc, text.as_bytes()).ok().ok_or("no dump")?;
+    let dump = read_dump(alloc, &mut text.as_bytes())?;
     Ok(dump_text(alloc, &dump)?)
 }
 
@@ -46,10 +46,31 @@ fn writes_a_dump_as_its_line(rt: HostRuntime) -> Result<(), Fail> {
 }
 
 #[test]
-fn audits_the_bytes_of_a_dump(rt: HostRuntime) -> Result<(), Fail> {
+fn audits_a_dump(rt: HostRuntime) -> Result<(), Fail> {
+    let dump = read_dump(rt.alloc(), &mut LOST.as_bytes())?;
     let mut held = Vec::new(rt.alloc());
-    audit_bytes(rt.alloc(), LOST.as_bytes(), &mut held)?;
+    write_audit(rt.alloc(), &dump, &mut held)?;
     assert!(rt; held.as_slice() == LOST_TEXT.as_bytes());
+    Ok(())
+}
+
+#[test]
+fn checks_a_dump(rt: HostRuntime) -> Result<(), Fail> {
+    let dump = read_dump(rt.alloc(), &mut LINE.as_bytes())?;
+    let mut held = Vec::new(rt.alloc());
+    assert!(rt; write_check(rt.alloc(), &dump, &mut held)? == Verdict::Safe);
+    assert!(rt; held.as_slice() == "safe\n".as_bytes());
+    Ok(())
+}
+
+/// A fault and what explains it.
+#[test]
+fn explains_a_fault(rt: HostRuntime) -> Result<(), Fail> {
+    let mut input = r#"{"members":3,"f":1.50}"#.as_bytes();
+    let fault = read_dump(rt.alloc(), &mut input).err().ok_or("a dump")?;
+    let explanation = fault.explanation(rt.alloc())?.ok_or("no explanation")?;
+    assert_eq!(rt; format!(in rt.alloc(); "{fault}")?.as_str(), "bad field f");
+    assert_eq!(rt; format!(in rt.alloc(); "{explanation}")?.as_str(), "f is 1.50, and must be a number 1 to one less than members");
     Ok(())
 }
 
@@ -96,13 +117,13 @@ fn stops_at_a_failed_read(rt: HostRuntime) {
 pub(crate) fn stopped_at(
     rt: &impl Abort,
     fails_at: u32,
-    done: Result<(), RunFault>,
+    done: Result<(), OutputFault>,
     written: &[u8],
     text: &[u8],
 ) {
     assert!(rt; text.starts_with(written));
     if fails_at <= 6 {
-        assert!(rt; matches!(done, Err(RunFault::Write)), "at {fails_at}");
+        assert!(rt; matches!(done, Err(OutputFault::Write)), "at {fails_at}");
         assert!(rt; written.len() < text.len());
     } else {
         assert!(rt; done.is_ok(), "at {fails_at}");
@@ -111,12 +132,12 @@ pub(crate) fn stopped_at(
 }
 
 #[test]
-fn stops_at_a_failed_write(rt: HostRuntime) {
+fn stops_at_a_failed_write(rt: HostRuntime) -> Result<(), Fail> {
+    let dump = read_dump(rt.alloc(), &mut LOST.as_bytes())?;
     for &failure in FAILURES {
         for fails_at in 1..=8u32 {
-            let mut reader = LOST.as_bytes();
             let mut writer = UnsteadyWriter::new(rt.alloc(), 7, fails_at, failure);
-            let done = audit(rt.alloc(), &mut reader, &mut writer);
+            let done = write_audit(rt.alloc(), &dump, &mut writer);
             stopped_at(
                 &rt,
                 fails_at,
@@ -126,6 +147,7 @@ fn stops_at_a_failed_write(rt: HostRuntime) {
             );
         }
     }
+    Ok(())
 }
 
 #[test]

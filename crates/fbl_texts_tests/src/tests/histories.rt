@@ -5,7 +5,7 @@ ghost use Rattle.std.specs.Prelude.{◌<◌};
 use fbl_base::{Member, MemberSet};
 use fbl_history::{Column, Replay};
 use fbl_play::{NoObserver, history_of_script};
-use fbl_script::script_of_bytes;
+use fbl_script::read_script;
 use std::alloc::Global;
 use std::sync::Wait;
 use std::test::Fail;
@@ -56,7 +56,7 @@ fn has_columns<T: Threads + Wait + Sync>(
     script: &str,
     columns: &[Column],
 ) -> Result<bool, Fail> {
-    let script = script_of_bytes(alloc, script.as_bytes())?;
+    let script = read_script(alloc, &mut script.as_bytes())?;
     let answer = history_of_script(rt, alloc, script, 2, &mut NoObserver)?;
     Ok(answer.history.columns() == columns)
 }

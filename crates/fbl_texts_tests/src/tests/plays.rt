@@ -3,7 +3,7 @@
 use fbl_fixtures::{FailedWrite, Page, UnsteadyReader, UnsteadyWriter};
 use fbl_input::RunFault;
 use fbl_play::{NoObserver, play, play_script};
-use fbl_script::script_of_bytes;
+use fbl_script::read_script;
 use std::test::Fail;
 
 /// Two strikes, one after the other, each with its recovery.
@@ -15,7 +15,7 @@ const TWO_STRIKES: (&str, &str) = (
 #[test]
 fn plays_a_script(rt: HostRuntime) -> Result<(), Fail> {
     let (script, text) = TWO_STRIKES;
-    let script = script_of_bytes(rt.alloc(), script.as_bytes())?;
+    let script = read_script(rt.alloc(), &mut script.as_bytes())?;
     let mut out = Vec::new(rt.alloc());
     play_script(&rt, rt.alloc(), script, &mut out, 2, &mut NoObserver)?;
     assert!(rt; out.as_slice() == text.as_bytes());

@@ -3,8 +3,7 @@
 use fbl_base::{MemberSet, Start, Strike};
 use fbl_fixtures::{set, start, strike};
 use fbl_input::put;
-use fbl_script::{BehaviourName, Command, Script, script_of_bytes};
-use std::alloc::Global;
+use fbl_script::{BehaviourName, Command, Script, read_script};
 use std::test::Fail;
 
 /// A script with each command that both versions have.
@@ -14,15 +13,6 @@ const EACH: &str =
 /// A script of version 2, in which members are checkpointed.
 const CHECKPOINTS: &str =
     r#"{"version":2,"members":3,"f":1,"behaviour":"relay","start":[[0,1,5,2]],"commands":[["checkpoint",0],["deliver",1,0],["checkpoint",1],["strike",[1]],["recover"],["deliver",2,1]]}"#;
-
-/// What the script asks for.
-fn read_script(alloc: Global, text: &str) -> Result<Script, Fail> {
-    Ok(
-        script_of_bytes(alloc, text.as_bytes())
-            .ok()
-            .ok_or("no script")?,
-    )
-}
 
 /// Whether the script asks for this group.
 fn has_parameters(script: &Script, starts: &[Start]) -> bool {
@@ -37,7 +27,7 @@ fn has_parameters(script: &Script, starts: &[Start]) -> bool {
 #[test]
 fn reads_the_parameters(rt: HostRuntime) -> Result<(), Fail> {
     let starts = [start(0, 1, 5, 6)?, start(2, 3, 7, 3)?];
-    let script = read_script(rt.alloc(), EACH)?;
+    let script = read_script(rt.alloc(), &mut EACH.as_bytes())?;
     assert!(rt; has_parameters(&script, &starts));
     Ok(())
 }
@@ -71,7 +61,7 @@ fn is_each_command(
 fn reads_each_command(rt: HostRuntime) -> Result<(), Fail> {
     let planned = [strike(7, &[0, 3])?, strike(9, &[1])?];
     let (struck, dumped) = (set(&[1, 2])?, set(&[])?);
-    let script = read_script(rt.alloc(), EACH)?;
+    let script = read_script(rt.alloc(), &mut EACH.as_bytes())?;
     assert!(rt; is_each_command(script.commands.as_slice(), struck, dumped, &planned));
     Ok(())
 }
@@ -98,7 +88,7 @@ fn is_with_checkpoints(commands: &[Command], struck: MemberSet) -> bool {
 #[test]
 fn reads_checkpoints(rt: HostRuntime) -> Result<(), Fail> {
     let struck = set(&[1])?;
-    let script = read_script(rt.alloc(), CHECKPOINTS)?;
+    let script = read_script(rt.alloc(), &mut CHECKPOINTS.as_bytes())?;
     assert!(rt; is_with_checkpoints(script.commands.as_slice(), struck));
     Ok(())
 }

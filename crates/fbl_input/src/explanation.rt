@@ -1,0 +1,238 @@
+//! An input's fault in words, with what stands in the input as it is written there.
+
+ghost use Rattle.std.specs.Prelude.{◌≡◌, IfNone, IfOk, IfSome, option_map, string_bytes};
+ghost use Rattle.json.specs.Print.{print};
+ghost use Rattle.json.specs.Tree.{HasNumbers, json_tokens};
+ghost use Rattle.json.specs.Value.{value_view};
+ghost use Rattle.fbl_input.specs.Faults.{IsUnexplained};
+ghost use Rattle.fbl_input.specs.Misfits.{run_fault};
+ghost use Rattle.fbl_input.specs.Written.{IsWrittenIn, IsWrittenOf, part_at};
+
+use crate::fault::{Key, RunFault};
+use crate::input_fault::InputFault;
+use crate::misfit::{InputKind, Misfit};
+use crate::not_json::NotJson;
+use crate::shown::Shown;
+use json::{Scratch, Value, to_vec};
+use std::alloc::{AllocError, Global};
+use std::fmt;
+
+/// What is told of an input beside its fault.
+#[derive(Debug, Drop)]
+enum Detail {
+    Nothing,
+    /// It is an input of this kind, and not of the one that is wanted.
+    OtherKind(InputKind),
+    /// This stands at the place, as it is written.
+    Written(String),
+    /// Why it is no JSON.
+    NotJson(NotJson),
+}
+
+/// Why an input is not taken, in words for a person.
+#[derive(Debug, Drop)]
+pub struct Explanation<'a> {
+    misfit: &'a Misfit,
+    detail: Detail,
+}
+
+/// The kind of an input that has the list of a script, commands, or that of a dump, events, and not both.
+fn kind_in(value: &Value<'_>) -> Option<InputKind> {
+    let has_commands = value.get(Key::Commands.name()).is_some();
+    let has_events = value.get(Key::Events.name()).is_some();
+    match (has_commands, has_events) {
+        (true, false) => Some(InputKind::Script),
+        (false, true) => Some(InputKind::Dump),
+        _ => None,
+    }
+}
+
+/// What stands at the place of the fault, where it names one.
+fn found_at<'v, 'a>(value: &'v Value<'a>, misfit: &Misfit) -> Option<&'v Value<'a>>
+    requires { HasNumbers (value_view value.now) }
+    ensures part { option_map (λ found. value_view found.now) result ≡ part_at misfit.now (value_view value.now) }
+    ensures numbers { IfSome result (λ found. HasNumbers (value_view found.now)) }
+{
+    match misfit {
+        Misfit::NotObject(_) => Some(value),
+        Misfit::BadValue { key, .. } => value.get(key.name()),
+        Misfit::BadItem { key, place, .. } => value.get(key.name())?.at(*place),
+        Misfit::BadCommand { place, .. } => value.get(Key::Commands.name())?.at(*place),
+        _ => None,
+    }
+}
+
+/// The text of a value, without spaces, with each number as it was written.
+fn text_of(alloc: Global, value: &Value<'_>) -> Result<String, AllocError>
+    requires { HasNumbers (value_view value.now) }
+    ensures { IfOk result (λ text. string_bytes text ≡ print (json_tokens (value_view value.now))) }
+{
+    let bytes = to_vec(alloc, value)?;
+    match String::from_utf8(bytes) {
+        Ok(text) => Ok(text),
+        Err(_) => Ok(String::new(alloc)),
+    }
+}
+
+/// What is told of the input that has this value.
+fn detail_in(
+    alloc: Global,
+    kind: InputKind,
+    value: &Value<'_>,
+    misfit: &Misfit,
+) -> Result<Detail, AllocError>
+    requires { HasNumbers (value_view value.now) }
+    ensures { IfOk result (IsWrittenOf misfit.now (value_view value.now)) }
+{
+    if let Some(other) = kind_in(value).filter(|found| *found != kind) {
+        return Ok(Detail::OtherKind(other));
+    }
+    match found_at(value, misfit) {
+        Some(found) => Ok(Detail::Written(text_of(alloc, found)?)),
+        None => Ok(Detail::Nothing),
+    }
+}
+
+/// What is told of the input of the fault.
+fn detail_of(alloc: Global, fault: &InputFault) -> Result<Detail, AllocError>
+    ensures { IfOk result (IsWrittenIn fault.now.misfit fault.now.input.items) }
+{
+    let input = fault.input.as_slice();
+    match &fault.misfit {
+        Misfit::TooLong => return Ok(Detail::Nothing),
+        Misfit::NotJson(error) => {
+            return Ok(Detail::NotJson(NotJson::of(alloc, input, error)?));
+        }
+        _ => (),
+    }
+    let mut scratch = Scratch::new(alloc);
+    match Value::from_slice(alloc, input, &mut scratch) {
+        Ok(value) => detail_in(alloc, fault.kind, &value, &fault.misfit),
+        Err(json::Error::OutOfMemory) => Err(AllocError),
+        Err(_) => Ok(Detail::Nothing),
+    }
+}
+
+impl InputFault {
+    /// The fault explained: its place, what stands there as it is written in the input, and what is wanted there. A failed read
+    /// and want of memory have no more to tell. `Err` comes only where there is no memory for the words.
+    pub fn explanation(&self, alloc: Global) -> Result<Option<Explanation<'_>>, AllocError>
+        ensures own { IfOk result (λ found. IfSome found (λ explanation. explanation.misfit.now ≡ self.now.misfit)) }
+        ensures written { IfOk result (λ found. IfSome found (λ explanation. IsWrittenIn self.now.misfit self.now.input.items explanation.detail)) }
+        ensures none { IfOk result (λ found. IfNone found (IsUnexplained (run_fault self.now.misfit))) }
+    {
+        match self.misfit.fault() {
+            RunFault::Read | RunFault::Memory => Ok(None),
+            _ => {
+                let misfit = &self.misfit;
+                let detail = detail_of(alloc, self)?;
+                Ok(Some(Explanation { misfit, detail }))
+            }
+        }
+    }
+}
+
+/// Writes that the input is of the one kind, and must be of the other.
+fn write_other_kind<W: fmt::Write>(f: &mut fmt::Formatter<W>, found: InputKind) -> fmt::Result {
+    match found {
+        InputKind::Script => {
+            let wanted = InputKind::Dump;
+            write!(
+                f,
+                "the input is a script, which play and show read, and must be a dump: {wanted}"
+            )
+        }
+        InputKind::Dump => {
+            let wanted = InputKind::Script;
+            write!(
+                f,
+                "the input is a dump, which audit, check and draw read, and must be a script: {wanted}"
+            )
+        }
+    }
+}
+
+/// Writes which key is missing, and the first that is unknown.
+fn write_missing<W: fmt::Write>(
+    f: &mut fmt::Formatter<W>,
+    key: Key,
+    unknown: Option<&String>,
+) -> fmt::Result {
+    let wanted = Misfit::wanted_at(key);
+    write!(f, "{key} is missing, and must be {wanted}")?;
+    match unknown {
+        Some(name) => write!(f, "; the key {name:?} is unknown"),
+        None => Ok(()),
+    }
+}
+
+/// Writes the fault, with what stands at its place as it is written, where that is known.
+fn write_misfit<W: fmt::Write>(
+    f: &mut fmt::Formatter<W>,
+    misfit: &Misfit,
+    written: Option<&str>,
+) -> fmt::Result {
+    match misfit {
+        Misfit::TooLong => {
+            f.write_str("the input has more than 1048576 bytes, and may have no more")
+        }
+        Misfit::NotJson(error) => {
+            write!(
+                f,
+                "the input must be one JSON object, and is no JSON: {error}"
+            )
+        }
+        Misfit::NotObject(value) => {
+            let found = Shown { value, written };
+            write!(f, "the input must be one JSON object, and is {found}")
+        }
+        Misfit::MissingKey { key, unknown } => write_missing(f, *key, unknown.as_ref()),
+        Misfit::BadValue { key, found: value } => {
+            let wanted = Misfit::wanted_at(*key);
+            let found = Shown { value, written };
+            write!(f, "{key} is {found}, and must be {wanted}")
+        }
+        Misfit::BadItem {
+            key,
+            place,
+            found: value,
+        } => {
+            let (name, wanted) = Misfit::wanted_item(*key);
+            let found = Shown { value, written };
+            write!(f, "{name} {place} is {found}, and must be {wanted}")
+        }
+        Misfit::TooManyCommands => {
+            f.write_str("command 1024 is one too many: there may be 1024, numbered from 0")
+        }
+        Misfit::BadCommand {
+            place,
+            found: value,
+            wanted,
+        } => {
+            let found = Shown { value, written };
+            write!(f, "command {place} is {found}, and must be {wanted}")
+        }
+        Misfit::UnknownKey { kind, name } => {
+            write!(f, "the key {name:?} is unknown: {kind}")
+        }
+        Misfit::Config(fault) => write!(f, "{fault}"),
+        Misfit::Dump(fault) => write!(f, "{fault}"),
+        Misfit::Read | Misfit::Memory => write!(f, "{}", misfit.fault()),
+    }
+}
+
+impl fmt::Display for Explanation<'_> {
+    fn fmt<W: fmt::Write>(&self, f: &mut fmt::Formatter<W>) -> fmt::Result {
+        match &self.detail {
+            Detail::Nothing => write_misfit(f, self.misfit, None),
+            Detail::Written(text) => write_misfit(f, self.misfit, Some(text.as_str())),
+            Detail::OtherKind(found) => write_other_kind(f, *found),
+            Detail::NotJson(why) => {
+                write!(
+                    f,
+                    "the input must be one JSON object, and is no JSON: {why}"
+                )
+            }
+        }
+    }
+}

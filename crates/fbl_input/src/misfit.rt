@@ -1,0 +1,204 @@
+//! The first fault of an input, with its place, what stands there and what is wanted there. The words are those for a person.
+
+ghost use Rattle.std.specs.Prelude.{◌≡◌};
+ghost use Rattle.fbl_input.specs.declared.misfit.Misfit.TheVariants.{Memory};
+
+use crate::fault::{Key, RunFault};
+use fbl_base::{ConfigFault, ConfigRefusal, DumpFault, DumpRefusal};
+use serde_json::{Error as JsonError, Value};
+use std::alloc::{AllocError, AllocFailed};
+use thiserror::Error;
+
+/// The most commands that a script may have.
+pub const MOST_COMMANDS: usize = 1024;
+
+/// What an input is read as.
+#[derive(Clone, Copy, PartialEq, Eq, Debug, Error)]
+pub enum InputKind {
+    #[error("a script has version, members, f, behaviour, start and commands, and may have limit")]
+    Script,
+    #[error("a dump has members, f, events, held and strike")]
+    Dump,
+}
+
+impl InputKind {
+    ghost use Rattle.fbl_input.specs.Items.{known_keys};
+
+    /// The keys that such an input may have.
+    pub fn keys(self) -> &'static [Key]
+        ensures { result.now ≡ known_keys self }
+    {
+        match self {
+            InputKind::Script => &[
+                Key::Version,
+                Key::Members,
+                Key::F,
+                Key::Behaviour,
+                Key::Limit,
+                Key::Start,
+                Key::Commands,
+            ],
+            InputKind::Dump => &[Key::Members, Key::F, Key::Events, Key::Held, Key::Strike],
+        }
+    }
+}
+
+/// How a command is written. `Any` stands where no command is named, and `NoCheckpoint` where version 1 names one.
+#[derive(Clone, Copy, PartialEq, Eq, Debug, Error)]
+pub enum CommandForm {
+    #[error("[\"deliver\", to, from]: members 0 to 15")]
+    Deliver,
+    #[error("[\"states\"]")]
+    States,
+    #[error("[\"report\"]")]
+    Report,
+    #[error("[\"strike\", set]: a list of members 0 to 15")]
+    Strike,
+    #[error("[\"recover\"]")]
+    Recover,
+    #[error("[\"dump\", set]: a list of members 0 to 15")]
+    Dump,
+    #[error("[\"run\", plan]: a list of [at, set], each a number 0 to 4294967295 and a list of members 0 to 15")]
+    Run,
+    #[error("[\"checkpoint\", member]: 0 to 15")]
+    Checkpoint,
+    #[error("a command of version 1: a checkpoint is one of version 2")]
+    NoCheckpoint,
+    #[error("one of [\"deliver\", to, from], [\"states\"], [\"report\"], [\"strike\", set], [\"recover\"], [\"dump\", set], [\"run\", plan], and in version 2 [\"checkpoint\", member]")]
+    Any,
+}
+
+/// The first fault of an input. The faults are tested in the order of `RunFault`.
+#[derive(Debug, Drop)]
+pub enum Misfit {
+    /// A read failed. An interrupted read is tried again, at most 1000 times in all, and then counts as failed.
+    Read,
+    /// The input has more bytes than it may.
+    TooLong,
+    /// The bytes are no JSON: what the reader of JSON says of them.
+    NotJson(JsonError),
+    /// This is the JSON, and no object.
+    NotObject(Value),
+    /// Nothing stands at the key. The first key that is unknown may be what was meant.
+    MissingKey {
+        key: Key,
+        unknown: Option<String>,
+    },
+    /// This stands at the key.
+    BadValue {
+        key: Key,
+        found: Value,
+    },
+    /// This stands at a place of the list at the key, the first such.
+    BadItem {
+        key: Key,
+        place: usize,
+        found: Value,
+    },
+    /// There is a command at place 1024.
+    TooManyCommands,
+    /// This stands at a place of the commands, where a command of such a form is wanted.
+    BadCommand {
+        place: usize,
+        found: Value,
+        wanted: CommandForm,
+    },
+    /// The input has a key that one of its kind may not have, the first such.
+    UnknownKey {
+        kind: InputKind,
+        name: String,
+    },
+    /// There is no configuration of the script's parameters.
+    Config(ConfigFault),
+    /// The dump breaks a rule.
+    Dump(DumpFault),
+    /// There is no memory.
+    Memory,
+}
+
+impl Misfit {
+    /// What is wanted at the key.
+    pub fn wanted_at(key: Key) -> &'static str {
+        match key {
+            Key::Version => "1 or 2",
+            Key::Members => "a number 2 to 16",
+            Key::F => "a number 1 to one less than members",
+            Key::Behaviour => "\"relay\" or \"mix\"",
+            Key::Limit => "a number 1 to 8192",
+            Key::Start => "a list of starts [from, to, value, hops]",
+            Key::Commands => "a list of commands",
+            Key::Events =>
+                "a list of events [\"send\", from, number, to] and [\"receipt\", to, number, from, number of the send]",
+            Key::Held =>
+                "a list of pairs [holder, from, number of the send, to, number of the receipt]",
+            Key::Strike => "a list of members 0 to 15",
+        }
+    }
+
+    /// What an item of the list at the key is called, and what it has to be.
+    pub fn wanted_item(key: Key) -> (&'static str, &'static str) {
+        match key {
+            Key::Start => (
+                "start",
+                "[from, to, value, hops]: members 0 to 15, value 0 to 4294967295, hops 0 to 15",
+            ),
+            Key::Events => (
+                "event",
+                "[\"send\", from, number, to] or [\"receipt\", to, number, from, number of the send]: members 0 to 15, numbers 0 to 4294967295",
+            ),
+            Key::Held => (
+                "held pair",
+                "[holder, from, number of the send, to, number of the receipt]: members 0 to 15, numbers 0 to 4294967295",
+            ),
+            Key::Strike => ("struck member", "a member 0 to 15"),
+            _ => (key.name(), Misfit::wanted_at(key)),
+        }
+    }
+}
+
+impl Misfit {
+    ghost use Rattle.fbl_input.specs.Misfits.{run_fault};
+
+    /// The fault that it is, by its name.
+    pub fn fault(&self) -> RunFault
+        ensures { result ≡ run_fault self.now }
+    {
+        match self {
+            Misfit::Read => RunFault::Read,
+            Misfit::TooLong => RunFault::TooLong,
+            Misfit::NotJson(_) => RunFault::NotJson,
+            Misfit::NotObject(_) => RunFault::NotObject,
+            Misfit::MissingKey { key, .. }
+            | Misfit::BadValue { key, .. }
+            | Misfit::BadItem { key, .. } => RunFault::BadField(*key),
+            Misfit::TooManyCommands => RunFault::BadCommand(MOST_COMMANDS),
+            Misfit::BadCommand { place, .. } => RunFault::BadCommand(*place),
+            Misfit::UnknownKey { .. } => RunFault::UnknownKey,
+            Misfit::Config(fault) => match fault.refusal() {
+                ConfigRefusal::Memory => RunFault::Memory,
+                refusal => RunFault::Config(refusal),
+            },
+            Misfit::Dump(fault) => match fault.refusal() {
+                DumpRefusal::Memory => RunFault::Memory,
+                refusal => RunFault::Dump(refusal),
+            },
+            Misfit::Memory => RunFault::Memory,
+        }
+    }
+}
+
+impl From<AllocError> for Misfit {
+    ghost from_gives = { λ _ e. e ≡ Memory };
+
+    fn from(_e: AllocError) -> Misfit {
+        Misfit::Memory
+    }
+}
+
+impl<T: Drop> From<AllocFailed<T>> for Misfit {
+    ghost from_gives = { λ _ e. e ≡ Memory };
+
+    fn from(_e: AllocFailed<T>) -> Misfit {
+        Misfit::Memory
+    }
+}

@@ -1,0 +1,118 @@
+//! Does what is asked for with the script or the dump that a reader has.
+
+ghost use Rattle.std.specs.Prelude.{◌≡◌, ◌≤◌, IfSome};
+ghost use Rattle.fbl_input.specs.Faults.{PutsOut};
+ghost use Rattle.fbl_script.specs.Scripts.{behaviour_word, outline};
+ghost use Rattle.fbl_show.specs.HistoryPictures.{history_picture};
+ghost use Rattle.fblrun.specs.Orders.{DoesScript, IsDumpAnswer, Obeys};
+
+use crate::streams::Named;
+use crate::telling::{Teller, refuse_input, tell_why};
+use crate::{DumpTask, Order, ScriptTask, Task, end};
+use fbl_base::audit::Dump;
+use fbl_draw::write_picture;
+use fbl_dump::{Verdict, read_dump, write_audit, write_check};
+use fbl_input::{OutputFault, put};
+use fbl_play::{RunHistory, history_of_script, play_script};
+use fbl_script::{Script, read_script};
+use fbl_show::show_text;
+use std::alloc::Global;
+use std::io::{Read, Write};
+use std::sync::Wait;
+use std::thread::Threads;
+
+/// Writes the picture of the history of a group, which has 16 members at most.
+fn write_history<W: Write>(
+    alloc: Global,
+    played: &RunHistory,
+    writer: &mut W,
+) -> Result<(), OutputFault>
+    requires { played.now.members ≤ 16 }
+    ensures { PutsOut (λ _ text. text ≡ history_picture played.now.members played.now.f (behaviour_word played.now.behaviour) played.now.history) (W.contents writer.old) (W.contents writer.new) result }
+{
+    let name = played.behaviour.name();
+    let columns = played.history.columns();
+    let text = show_text(alloc, played.members, played.f, name, columns)?;
+    put(writer, text.as_bytes())
+}
+
+/// Plays the script, or draws its history once it was played, and answers whether all is well. Each command is told of where that
+/// is asked for.
+fn do_script<T: Eprint + Threads + Wait + Sync, W: Write>(
+    rt: &T,
+    alloc: Global,
+    task: ScriptTask,
+    explain: bool,
+    script: Script,
+    writer: &mut W,
+) -> Result<bool, OutputFault>
+    requires { script.config.members ≤ 16 }
+    ensures { DoesScript task (outline script) (W.contents writer.old) (W.contents writer.new) result }
+{
+    let mut teller = Teller::new(rt, explain);
+    match task {
+        ScriptTask::Play { workers, strict } => {
+            play_script(rt, alloc, script, writer, workers, &mut teller)?;
+            let is_refused = strict && teller.has_refused();
+            Ok(!is_refused)
+        }
+        ScriptTask::Show { workers } => {
+            let played = history_of_script(rt, alloc, script, workers, &mut teller)?;
+            write_history(alloc, &played, writer)?;
+            Ok(true)
+        }
+    }
+}
+
+/// Audits, checks or draws the dump, and answers whether all is well.
+fn do_dump<W: Write>(
+    alloc: Global,
+    task: DumpTask,
+    dump: &Dump,
+    writer: &mut W,
+) -> Result<bool, OutputFault>
+    ensures { PutsOut (IsDumpAnswer task dump.now) (W.contents writer.old) (W.contents writer.new) result }
+{
+    match task {
+        DumpTask::Audit => {
+            write_audit(alloc, dump, writer)?;
+            Ok(true)
+        }
+        DumpTask::Check => Ok(write_check(alloc, dump, writer)? == Verdict::Safe),
+        DumpTask::Draw => {
+            write_picture(alloc, dump, writer)?;
+            Ok(true)
+        }
+    }
+}
+
+/// Obeys the order over what the reader has, and answers the exit status.
+pub(crate) fn obey<T: Eprint + Threads + Wait + Sync, R: Read, W: Write>(
+    rt: &T,
+    alloc: Global,
+    order: Order,
+    reader: &mut Named<'_, R>,
+    writer: &mut Named<'_, W>,
+) -> u8
+    ensures { IfSome (R.remaining reader.old.stream) (λ input. Obeys order input (W.contents writer.old.stream) (W.contents writer.new.stream) result) }
+{
+    match order.task {
+        Task::Script(task) => match read_script(alloc, reader) {
+            Ok(script) => {
+                let done = do_script(rt, alloc, task, order.explain, script, writer);
+                end(rt, done, writer.failure())
+            }
+            Err(fault) => refuse_input(rt, alloc, order.explain, &fault, reader.failure()),
+        },
+        Task::Dump(task) => match read_dump(alloc, reader) {
+            Ok(dump) => {
+                let done = do_dump(alloc, task, &dump, writer);
+                if order.explain && done.is_ok() {
+                    tell_why(rt, alloc, task, &dump);
+                }
+                end(rt, done, writer.failure())
+            }
+            Err(fault) => refuse_input(rt, alloc, order.explain, &fault, reader.failure()),
+        },
+    }
+}
