@@ -1,12 +1,14 @@
 -- The names that proofs of this crate take from outside: of the standard library, of the crates below, and of the definitions here.
 pub use Rattle.std.proofs.Common.{Err, IfErr, IfOk, List, None, Ok, Option, Result, Some, [], ap, append-nil, arith, get_or, inl, inr, length, refl, string_bytes, subst, sym, take, drop, ℕ, ◌++◌, ◌+◌}
-pub use Rattle.std.proofs.Common.{◌<◌, ◌∙◌, ◌∷◌, ◌≡◌, ◌≤◌, Bool, true, false, not, suc, map}
-pub use Rattle.std.proofs.lemmas.List.{take_all, take_more}
+pub use Rattle.std.proofs.Common.{◌<◌, ◌∙◌, ◌∷◌, ◌≡◌, ◌≤◌, Bool, true, false, not, cond, suc, map, length-drop}
+pub use Rattle.std.proofs.lemmas.List.{drop_more, take_all, take_more}
+pub use Rattle.std.proofs.lemmas.List.Elements.{filter-append, filter_passes}
 pub use Rattle.std.proofs.lemmas.Result.{IfOk-at_ok, IfOk-weaker, err_from_is_err_and}
 pub use Rattle.std.specs.List.{filter}
 pub use Rattle.std.specs.Result.{IsErrAnd}
 pub use Rattle.fbl_base.specs.Configs.{Settings}
 pub use Rattle.fbl_base.specs.Fold.{Next}
+pub use Rattle.fbl_base.specs.MemberSets.{Members}
 pub use Rattle.fbl_base.specs.Events.{mark_of, receipt_of, receipts}
 pub use Rattle.fbl_base.specs.Precedence.{Has}
 pub use Rattle.fbl_base.specs.declared.strike.Strike.{Strike}

@@ -1,6 +1,7 @@
 -- Which receipts are lost, and which of them a strike loses.
 use Rattle.fbl_base.specs.declared.trace.Note.{Note}
-use Rattle.fbl_play.proofs.Common.{◌≡◌, ℕ, ◌∙◌, Bool, true, false, not, suc, List, [], ◌∷◌, map, filter, refl, sym, ap, subst, inl, inr, arith, Determinant, Event, mark_of, receipt_of, receipts, Has}
+use Rattle.fbl_play.proofs.Common.{◌≡◌, ℕ, ◌∙◌, ◌<◌, ◌≤◌, ◌+◌, Bool, true, false, not, cond, suc, List, [], ◌∷◌, ◌++◌, append-nil, map, filter, take, drop, length, get_or, take_all, take_more, drop_more, length-drop, filter-append, filter_passes}
+use Rattle.fbl_play.proofs.Common.{refl, sym, ap, subst, inl, inr, arith, Determinant, Event, mark_of, receipt_of, receipts, Has, Members}
 use Rattle.fbl_play.proofs.Common.{Next, MemberRecord, GroupRecord, marks, knowledge, is_recorded, IsRecorded, IsUp, Names, IsSound, IsStrike, lost_receipts, newly_lost, recorded_test, was_up}
 use Rattle.std.specs.FinSet as sets
 use Rattle.fbl_base.specs.declared.trace.Event.TheVariants as event
@@ -11,7 +12,7 @@ filter-within : {A : Type 0} (p q : A → Bool) → ((x : A) → p x ≡ true �
 filter-within p q within [] = refl
 filter-within p q within (x ∷ xs) = grind (arith, filter-within p q within xs, within x)
 
-module _ {next : Next ℕ Note} {old new : GroupRecord ℕ Note} {struck : sets.FinSet _} (strike : IsStrike next old new struck) (before : IsSound next old) (after : IsSound next new) where
+module _ {next : Next ℕ Note} {old new : GroupRecord ℕ Note} {struck : Members} (strike : IsStrike next old new struck) (before : IsSound next old) (after : IsSound next new) where
   -- what is recorded after a strike was recorded before it
   was_recorded : (d : Determinant) → IsRecorded (knowledge new) d → IsRecorded (knowledge old) d
   was_recorded d (inl (m, up, names)) =
@@ -43,3 +44,64 @@ pub nobody_lost : (next : Next ℕ Note) (r : GroupRecord ℕ Note) → IsSound 
 nobody_lost next r sound nobody =
     let empty : r.down ≡ sets.empty = sets.empty_of_len _ nobody in
     none_lost r r.trace (λ d there. up-recorded next r d sound there (rw empty refl))
+
+-- ---- what is lost after a strike without what was lost before it
+
+-- as many of the receipts before were passed as there are among the first ones after, of which the others are these
+abbrev pub IsParted : List Determinant → List Determinant → List Determinant → ℕ → ℕ → Type 0
+IsParted before after lost passed i =
+    (passed ≤ length before)
+    × ((recorded : Determinant → Bool) → before ≡ filter (λ d. not (recorded d)) after
+      → (lost ≡ filter recorded (take i after)) × (drop passed before ≡ filter (λ d. not (recorded d)) (drop i after)))
+
+-- where the first of these items is the first that the test takes of those, it takes it, and goes on behind it
+head_passed : {A : Type 0} (p : A → Bool) (d : A) (xs ys : List A) → d ∷ xs ≡ filter p (d ∷ ys) → (p d ≡ true) × (xs ≡ filter p ys)
+head_passed p d xs ys is =
+    let passes = subst (λ zs. (k : ℕ) (e : _) → k < length zs → p (get_or zs k e) ≡ true) (sym is) (filter_passes p (d ∷ ys)) in
+    let yes : p d ≡ true = passes 0 d (omega arith) in
+    let same : d ∷ xs ≡ d ∷ filter p ys = rw yes at is in
+    (yes, cc)
+
+module _ (before after lost : List Determinant) (passed i : ℕ) (d : Determinant) (within : i < length after) (is : d ≡ get_or after i d) (so_far : IsParted before after lost passed i) where
+  module _ (recorded : Determinant → Bool) (others : before ≡ filter (λ d. not (recorded d)) after) where
+    abbrev rest : List Determinant
+    rest = filter (λ d. not (recorded d)) (drop (i + 1) after)
+
+    taken : filter recorded (take (i + 1) after) ≡ lost ++ cond (recorded d) (d ∷ []) []
+    taken =
+        ap (filter recorded) (take_more after i d within ∙ ap (λ x. take i after ++ x ∷ []) (sym is)) ∙ filter-append recorded (take i after) (d ∷ [])
+        ∙ ap (λ xs. xs ++ cond (recorded d) (d ∷ []) []) (sym (so_far.1 recorded others).0)
+
+    left : drop passed before ≡ cond (not (recorded d)) (d ∷ rest) rest
+    left = (so_far.1 recorded others).1 ∙ ap (filter (λ d. not (recorded d))) (drop_more after i d within ∙ ap (λ x. x ∷ drop (i + 1) after) (sym is))
+
+    passed_one : passed < length before → get_or before passed d ≡ d → (lost ≡ filter recorded (take (i + 1) after)) × (drop (passed + 1) before ≡ rest)
+    passed_one more same =
+        let head = head_passed (λ d. not (recorded d)) d (drop (passed + 1) before) (drop (i + 1) after) (ap (λ x. x ∷ drop (passed + 1) before) (sym same) ∙ sym (drop_more before passed d more) ∙ left) in
+        let kept : recorded d ≡ false = grind (arith, head.0) in
+        (sym (taken ∙ ap (λ b. lost ++ cond b (d ∷ []) []) kept ∙ append-nil lost), head.1)
+
+    -- the next of those before is this one, where this one was lost before
+    is_next : drop passed before ≡ d ∷ rest → (passed < length before) × (get_or before passed d ≡ d)
+    is_next front =
+        let more : passed < length before = omega (arith, length-drop {A = Determinant}, ap length front) in
+        let heads : get_or before passed d ∷ drop (passed + 1) before ≡ d ∷ rest = sym (drop_more before passed d more) ∙ front in
+        (more, cc)
+
+    pushed_by : (b : Bool) → recorded d ≡ b → (passed < length before → get_or before passed d ≡ d → ⊥)
+        → (lost ++ d ∷ [] ≡ filter recorded (take (i + 1) after)) × (drop passed before ≡ rest)
+    pushed_by true yes other = (sym (taken ∙ ap (λ b. lost ++ cond b (d ∷ []) []) yes), left ∙ ap (λ b. cond (not b) (d ∷ rest) rest) yes)
+    pushed_by false no other = (let next = is_next (left ∙ ap (λ b. cond (not b) (d ∷ rest) rest) no) in absurd (other next.0 next.1))
+
+  -- the receipt was lost before
+  pub parted_passed : passed < length before → get_or before passed d ≡ d → IsParted before after lost (passed + 1) (i + 1)
+  parted_passed more same = (omega (arith, more), λ recorded others. passed_one recorded others more same)
+
+  -- or it was not
+  pub parted_pushed : (passed < length before → get_or before passed d ≡ d → ⊥) → IsParted before after (lost ++ d ∷ []) passed (i + 1)
+  parted_pushed other = (so_far.0, λ recorded others. pushed_by recorded others (recorded d) refl other)
+
+-- all receipts after were looked at
+pub parted_all : (before after lost : List Determinant) (passed i : ℕ) → length after ≤ i → IsParted before after lost passed i
+    → (recorded : Determinant → Bool) → before ≡ filter (λ d. not (recorded d)) after → lost ≡ filter recorded after
+parted_all before after lost passed i all so_far recorded others = (so_far.1 recorded others).0 ∙ ap (filter recorded) (take_all i after all)
