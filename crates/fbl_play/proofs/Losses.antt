@@ -1,11 +1,10 @@
 -- Which receipts are lost, and which of them a strike loses.
 use Rattle.fbl_base.specs.declared.trace.Note.{Note}
-use Rattle.fbl_play.proofs.Common.{◌≡◌, ℕ, ◌∙◌, ◌<◌, ◌≤◌, ◌+◌, Bool, true, false, not, cond, suc, List, [], ◌∷◌, ◌++◌, append-nil, map, filter, take, drop, length, get_or, take_all, take_more, drop_more, length-drop, filter-append, filter_passes}
-use Rattle.fbl_play.proofs.Common.{refl, sym, ap, subst, inl, inr, arith, Determinant, Event, mark_of, receipt_of, receipts, Has, Members}
-use Rattle.fbl_play.proofs.Common.{Next, MemberRecord, GroupRecord, marks, knowledge, is_recorded, IsRecorded, IsUp, Names, IsSound, IsStrike, lost_receipts, newly_lost, recorded_test, was_up}
+use Rattle.fbl_play.proofs.Common.{◌≡◌, ℕ, ◌∙◌, ◌<◌, ◌≤◌, ◌+◌, Bool, true, false, not, cond, suc, List, [], ◌∷◌, ◌++◌, append-nil, map, filter, take, drop, length, get_or, get_or_default, take_all, take_more, drop_more, length-drop, filter-append, filter_passes}
+use Rattle.fbl_play.proofs.Common.{refl, sym, ap, subst, inl, inr, arith, Determinant, Event, mark_of, receipt_of, receipts, same_determinant, Decides-same_determinant, Has, Members}
+use Rattle.fbl_play.proofs.Common.{Next, MemberRecord, GroupRecord, marks, knowledge, is_recorded, IsRecorded, IsUp, Names, IsSound, IsStrike, lost_receipts, recorded_test, was_up, up_if_none, no_orphan, itself, true_from_ne_false, false≢true}
 use Rattle.std.specs.FinSet as sets
 use Rattle.fbl_base.specs.declared.trace.Event.TheVariants as event
-use Rattle.fbl_group.proofs.Striking.{up-recorded}
 
 -- of what the one test takes, the other takes what it takes of all, where it takes nothing else
 filter-within : {A : Type 0} (p q : A → Bool) → ((x : A) → p x ≡ true → q x ≡ true) → (xs : List A) → filter p (filter q xs) ≡ filter p xs
@@ -15,8 +14,8 @@ filter-within p q within (x ∷ xs) = grind (arith, filter-within p q within xs,
 module _ {next : Next ℕ Note} {old new : GroupRecord ℕ Note} {struck : Members} (strike : IsStrike next old new struck) (before : IsSound next old) (after : IsSound next new) where
   -- what is recorded after a strike was recorded before it
   was_recorded : (d : Determinant) → IsRecorded (knowledge new) d → IsRecorded (knowledge old) d
-  was_recorded d (inl (m, up, names)) =
-      inl (m, was_up old.down struck m (rw strike.down at up), subst (λ (r : MemberRecord ℕ Note). Names r.table d) (strike.survivors m up) names)
+  was_recorded d (inl (m, holds)) =
+      inl (m, (was_up old.down struck m (rw strike.down at holds.0), subst (λ (r : MemberRecord ℕ Note). Names r.table d) (strike.survivors m holds.0) holds.1))
   was_recorded d (inr (m, names)) = inr (m, (rw (strike.checkpoints, strike.outside) at names))
 
   still_lost : (d : Determinant) → not (is_recorded old d) ≡ true → not (is_recorded new d) ≡ true
@@ -30,7 +29,12 @@ module _ {next : Next ℕ Note} {old new : GroupRecord ℕ Note} {struck : Membe
       ap (λ trace. filter (λ d. not (is_recorded old d)) (receipts (map mark_of trace))) (sym strike.trace)
       ∙ sym (filter-within (λ d. not (is_recorded old d)) (λ d. not (is_recorded new d)) still_lost (receipts (marks new)))
 
--- while nobody is down each receipt is recorded
+-- in a sound group each receipt of a member that is up is recorded
+up_recorded : (next : Next ℕ Note) (r : GroupRecord ℕ Note) (d : Determinant) → IsSound next r → Has (marks r) (receipt_of d) → IsUp (knowledge r) d.to → is_recorded r d ≡ true
+up_recorded next r d sound there up =
+    true_from_ne_false (is_recorded r d)
+    (λ is. no_orphan r.config.f (knowledge r) sound.causes.closed d.to (up, (d, (receipt_of d, itself there, refl), λ recorded. false≢true (sym is ∙ (recorded_test next r d sound).1 recorded))))
+
 none_lost : (r : GroupRecord ℕ Note) (events : List (Event Note)) → ((d : Determinant) → Has (map mark_of events) (receipt_of d) → is_recorded r d ≡ true)
     → filter (λ d. not (is_recorded r d)) (receipts (map mark_of events)) ≡ []
 none_lost r [] all = refl
@@ -42,8 +46,7 @@ none_lost r (event.Receipt p n q k ∷ events) all =
 
 pub nobody_lost : (next : Next ℕ Note) (r : GroupRecord ℕ Note) → IsSound next r → sets.len r.down ≡ 0 → lost_receipts r ≡ []
 nobody_lost next r sound nobody =
-    let empty : r.down ≡ sets.empty = sets.empty_of_len _ nobody in
-    none_lost r r.trace (λ d there. up-recorded next r d sound there (rw empty refl))
+    none_lost r r.trace (λ d there. up_recorded next r d sound there (up_if_none (sets.empty_of_len _ nobody) d.to))
 
 -- ---- what is lost after a strike without what was lost before it
 
@@ -90,8 +93,8 @@ module _ (before after lost : List Determinant) (passed i : ℕ) (d : Determinan
 
     pushed_by : (b : Bool) → recorded d ≡ b → (passed < length before → get_or before passed d ≡ d → ⊥)
         → (lost ++ d ∷ [] ≡ filter recorded (take (i + 1) after)) × (drop passed before ≡ rest)
-    pushed_by true yes other = (sym (taken ∙ ap (λ b. lost ++ cond b (d ∷ []) []) yes), left ∙ ap (λ b. cond (not b) (d ∷ rest) rest) yes)
-    pushed_by false no other = (let next = is_next (left ∙ ap (λ b. cond (not b) (d ∷ rest) rest) no) in absurd (other next.0 next.1))
+    pushed_by true kept other = (sym (taken ∙ ap (λ b. lost ++ cond b (d ∷ []) []) kept), left ∙ ap (λ b. cond (not b) (d ∷ rest) rest) kept)
+    pushed_by false kept other = (let next = is_next (left ∙ ap (λ b. cond (not b) (d ∷ rest) rest) kept) in absurd (other next.0 next.1))
 
   -- the receipt was lost before
   pub parted_passed : passed < length before → get_or before passed d ≡ d → IsParted before after lost (passed + 1) (i + 1)
@@ -100,6 +103,17 @@ module _ (before after lost : List Determinant) (passed i : ℕ) (d : Determinan
   -- or it was not
   pub parted_pushed : (passed < length before → get_or before passed d ≡ d → ⊥) → IsParted before after (lost ++ d ∷ []) passed (i + 1)
   parted_pushed other = (so_far.0, λ recorded others. pushed_by recorded others (recorded d) refl other)
+
+-- the receipt e at the place passed is the one that a test of equality was asked of
+same_at : (before : List Determinant) (passed : ℕ) (d e : Determinant) → passed < length before → e ≡ get_or before passed e → get_or before passed d ≡ e
+same_at before passed d e more is = get_or_default before passed d e more ∙ sym is
+
+pub is_same : (before : List Determinant) (passed : ℕ) (d e : Determinant) → passed < length before → e ≡ get_or before passed e → same_determinant e d ≡ true → get_or before passed d ≡ d
+is_same before passed d e more is same = same_at before passed d e more is ∙ (Decides-same_determinant e d).0 same
+
+pub is_other : (before : List Determinant) (passed : ℕ) (d e : Determinant) → e ≡ get_or before passed e → same_determinant e d ≡ false → passed < length before → get_or before passed d ≡ d → ⊥
+is_other before passed d e is other more same =
+    false≢true (sym other ∙ (Decides-same_determinant e d).1 (sym (same_at before passed d e more is) ∙ same))
 
 -- all receipts after were looked at
 pub parted_all : (before after lost : List Determinant) (passed i : ℕ) → length after ≤ i → IsParted before after lost passed i
