@@ -2,7 +2,7 @@
 
 ghost use Rattle.std.specs.Prelude.{◌<◌};
 
-use fbl_base::audit::{check_dump, lost, orphan_starts, orphans, recorded_determinants};
+use fbl_base::audit::{check_dump, lost, orphans};
 use fbl_base::{Determinant, DumpRefusal, Mark, Member, MemberSet, RawDump};
 use fbl_fixtures::set;
 use std::alloc::{AllocError, Allocator, Global};
@@ -111,17 +111,6 @@ fn audits(rt: HostRuntime) -> Result<(), Fail> {
     raw.held.clear();
     let answer = audit(alloc, raw);
     assert!(rt; answer == Ok((3, first, set(&[0, 1, 2])?)));
-    Ok(())
-}
-
-#[test]
-fn tells_where_each_orphan_starts(rt: HostRuntime) -> Result<(), Fail> {
-    let raw = round(rt.alloc(), false, &[1])?;
-    let dump = check_dump(rt.alloc(), raw).ok().ok_or("refused")?;
-    let starts = orphan_starts(rt.alloc(), &dump)?;
-    assert!(rt; starts[..4] == [Some(5), None, Some(3), None]);
-    let recorded = recorded_determinants(rt.alloc(), &dump)?;
-    assert!(rt; recorded.len() == 2 && !recorded.contains(&pair(1, 0, 1, 1, 1).1));
     Ok(())
 }
 
