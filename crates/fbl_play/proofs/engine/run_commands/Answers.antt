@@ -19,16 +19,16 @@ returns-in_err-output g c =
 
 pub returns-in_err-add : goal.returns-in_err-add
 returns-in_err-add g c =
-    play_stopped _ _ _ _ _ _ _ _ _ _ c.loop-command.invariant _ c.loop-command-test.true c.command-item.is _ _ _ _ c.from_residual-in_err-add.ensures c.before-in-loop-command.ensures
-    (inr (c.run_command-after.result.0, c.in_ok-output.output, c.in_ok-output.account, (rw (c.in_ok-output.output-is, c.in_ok-output.account-is) (rw c.in_ok-output.was at c.run_command-after.ensures.step)), c.recoverable-in-loop-command.ensures.sound, c.in_err-add.ensures.cut))
+    play_stopped _ _ _ _ _ _ _ _ _ _ c.loop-command.invariant _ c.loop-command-test.true c.command-item.is _ _ _ _ c.from_residual-in_err-add.ensures.1 c.before-in-loop-command.ensures
+    (inr (c.run_command-after.result.0, c.in_ok-output.field-0.output, c.in_ok-output.field-0.account, (rw c.in_ok-output.was at c.run_command-after.ensures.step), c.recoverable-in-loop-command.ensures.sound, c.in_err-add.ensures.cut))
 
 pub loop-command-preserved : goal.loop-command-preserved
 loop-command-preserved g c =
-    run_more _ _ _ _ _ _ _ _ _ _ c.loop-command.invariant _ c.loop-command-test.true c.command-item.is c.in_ok-output.account _ (record {
+    run_more _ _ _ _ _ _ _ _ _ _ c.loop-command.invariant _ c.loop-command-test.true c.command-item.is c.in_ok-output.field-0.account _ (record {
       begun = c.before-in-loop-command.new.self;
-      output = c.in_ok-output.output;
+      output = c.in_ok-output.field-0.output;
       announced = c.before-in-loop-command.ensures;
-      step = rw (c.in_ok-output.output-is, c.in_ok-output.account-is) (rw c.in_ok-output.was at c.run_command-after.ensures.step);
+      step = rw c.in_ok-output.was at c.run_command-after.ensures.step;
       sound = c.recoverable-in-loop-command.ensures.sound;
       added = c.in_ok-add.ensures.added;
       told = c.after.ensures;
