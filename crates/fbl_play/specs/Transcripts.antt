@@ -5,8 +5,7 @@ use Rattle.fbl_base.specs.declared.trace.Note.{Note}
 use Rattle.fbl_base.specs.Fold.{Next}
 use Rattle.fbl_history.specs.declared.column.Column.{Column}
 use Rattle.fbl_history.specs.declared.column.Column.TheVariants.{Strike, Checkpoint}
-use Rattle.fbl_history.specs.Columns.{go_on}
-use Rattle.fbl_history.specs.Traces.{trace_columns, IsAfterRecovery}
+use Rattle.fbl_history.specs.Traces.{go_on_to, IsAfterRecovery}
 use Rattle.fbl_input.specs.declared.output.OutputFault.{OutputFault}
 use Rattle.fbl_input.specs.declared.output.OutputFault.TheVariants as faults
 use Rattle.fbl_law.specs.Groups.{GroupRecord}
@@ -19,17 +18,17 @@ pub data Transcript : Type 0 where
   text : Option (List ℕ) → Transcript
   history : Option (List Column) → Transcript
 
--- the transcript of a run that begins with this group: nothing is written, and the history has the events of the group's trace
+-- the transcript of a run that begins with this group: nothing is written, and the history goes on from nothing to the group
 abbrev pub IsBegun : Next ℕ Note → GroupRecord ℕ Note → Transcript → Transcript → Type 0
 IsBegun next r (text had) (text has) = has ≡ had
-IsBegun next r (history had) (history has) = has ≡ Some (trace_columns next r)
+IsBegun next r (history had) (history has) = has ≡ Some (go_on_to next [] r)
 IsBegun next r _ _ = ⊥
 
--- the history after a command with this output, which left the group like this: it goes on to the trace after a delivery or a
+-- the history after a command with this output, which left the group like this: it goes on to the group after a delivery or a
 -- run, and has a column of a strike, a recovery or a checkpoint; any other command adds nothing, and no refused one does
 abbrev pub GoesOn : Next ℕ Note → GroupRecord ℕ Note → Output → List Column → List Column → Type 0
-GoesOn next r (outputs.Delivery to from answer) old new = new ≡ go_on old (trace_columns next r)
-GoesOn next r (outputs.Run end) old new = new ≡ go_on old (trace_columns next r)
+GoesOn next r (outputs.Delivery to from answer) old new = new ≡ go_on_to next old r
+GoesOn next r (outputs.Run end) old new = new ≡ go_on_to next old r
 GoesOn next r (outputs.Strike struck answer) old new = new ≡ old ++ Strike struck ∷ []
 GoesOn next r (outputs.Recovery down answer) old new = IsAfterRecovery next r down old new
 GoesOn next r (outputs.Checkpoint p received) old new = new ≡ old ++ Checkpoint p ∷ []
