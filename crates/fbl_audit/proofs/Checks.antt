@@ -1,10 +1,10 @@
 -- Which receipts are unsafe, and that the run is safe where none is.
-use Rattle.fbl_audit.proofs.Common.{ℕ, Bool, true, false, ◌≡◌, ◌<◌, ◌≤◌, ◌==◌, ◌↔◌, inl, inr, List, [], ◌∷◌, length, map, Some, refl, sym, ap, ◌∙◌, arith}
-use Rattle.fbl_audit.proofs.Common.{get_or, max, zero, suc, slice_get, filter, nat_cmp_total, slice_get_read, false≢true, Members, Determinant, Mark, Send, Receipt, Parts, IsDump, IsDumpOrphan}
-use Rattle.fbl_audit.proofs.Common.{IsLost, At, determinant_of, receipt_of, same_determinant, Depends, depends-from_places, places-from_depends, Has-first, Decides-same_determinant, len-remove_one}
-use Rattle.fbl_audit.proofs.Common.{some_member, IsSafe, SaysUnsafe, receipts, DependsOnPlace, WellFormed, holders_of, holds, is_receipt, ◌&&◌, Contains, list_any, Any-from_list_any}
+use Rattle.fbl_audit.proofs.Common.{ℕ, true, false, ◌≡◌, ◌<◌, ◌≤◌, ◌↔◌, inl, inr, List, [], ◌∷◌, length, Some, refl, sym, ap, ◌∙◌, arith}
+use Rattle.fbl_audit.proofs.Common.{get_or, max, zero, suc, slice_get, nat_cmp_total, slice_get_read, false≢true, Members, Determinant, Mark, Send, Receipt, Parts, IsDump, IsDumpOrphan}
+use Rattle.fbl_audit.proofs.Common.{IsLost, At, determinant_of, receipt_of, Depends, depends-from_places, places-from_depends, Has-first, len-remove_one}
+use Rattle.fbl_audit.proofs.Common.{some_member, IsSafe, SaysUnsafe, receipts, DependsOnPlace, WellFormed, holders_of, holds, is_receipt}
 use Rattle.fbl_audit.proofs.Common.{contains-union, len-within}
-use Rattle.fbl_audit.proofs.Common.{list_any-from_Any, and_parts, eqb-true, filter_map-At, eqb-self, UnsafeReceipt, IsLeftOrphan, IsSaidOf, IsUnsafe, LosesReceipt, MayBeLost, struck_by}
+use Rattle.fbl_audit.proofs.Common.{filter_map-At, UnsafeReceipt, IsLeftOrphan, IsSaidOf, IsUnsafe, LosesReceipt, MayBeLost, struck_by}
 use Rattle.std.specs.FinSet as set
 
 -- ---- one receipt

@@ -1,8 +1,8 @@
 -- The first event of each member that others precede, and the paths back from it.
-use Rattle.fbl_audit.proofs.Common.{ℕ, Bool, true, false, ◌≡◌, ◌≢◌, ◌<◌, ◌≤◌, ◌+◌, ◌⊎◌, ◌↔◌, inl, inr, List, [], ◌∷◌, ◌++◌, length, Option, Some, None, refl, sym, ap, ◌∙◌, arith, get_or, replicate}
+use Rattle.fbl_audit.proofs.Common.{ℕ, true, false, ◌≡◌, ◌≢◌, ◌<◌, ◌+◌, ◌⊎◌, ◌↔◌, inl, inr, List, [], ◌∷◌, ◌++◌, length, Option, Some, None, refl, sym, ap, ◌∙◌, arith, get_or, replicate}
 use Rattle.fbl_audit.proofs.Common.{reverse, reverse-append, slice_get, length-set, get_or-same, cases_eq, zero, suc, Mark, At, At-below, member_of, send_of, Parts, WellFormed, PlaceLeads, PlacePrecedes}
-use Rattle.fbl_audit.proofs.Common.{DependsOnPlace, IsReached, IsSendOf, IsBefore, IsEndBy, IsEndFound, IsFirstDependent, AreEnds, IsPath, Reaches, path_step, last_step, same_event, is_some}
-use Rattle.fbl_audit.proofs.Common.{AreCauses, IsDumpOrphan, IsLostAt, IsOrphaned, IsOrphanStart, orphan_by_cause, Precedes-joined, false≢true}
+use Rattle.fbl_audit.proofs.Common.{IsReached, IsSendOf, IsBefore, IsEndBy, IsEndFound, IsFirstDependent, AreEnds, IsPath, Reaches, path_step, last_step, same_event, is_some}
+use Rattle.fbl_audit.proofs.Common.{AreCauses, IsOrphaned, IsOrphanStart, orphan_by_cause, Precedes-joined, false≢true}
 use Rattle.std.specs.FinSet as set
 use Rattle.std.proofs.Common.{set as set_at}
 use Rattle.fbl_audit.proofs.Common.{set_same, set_other}

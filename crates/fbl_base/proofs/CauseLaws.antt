@@ -1,6 +1,6 @@
 -- The lost receipts that no lost one precedes.
-use Rattle.fbl_base.proofs.Common.{ℕ, ◌≡◌, ◌<◌, ◌≤◌, ◌+◌, ◌⊎◌, ◌↔◌, inl, inr, true, false, List, [], ◌∷◌, ◌++◌, length, Some, refl, sym, ap, ◌∙◌, arith, slice_get, slice_get_within, cases_eq, cases_order, None, Option, MatchOption, Members, nat_cmp_total, contains-insert_same, contains-insert_other}
-use Rattle.fbl_base.proofs.Common.{Parts, WellFormed, At, Has, IsDumpOrphan, IsLost, IsLostAt, IsReached, IsCause, IsFirstCause, AreCauses, DependsOnPlace, PlacePrecedes, same_place}
+use Rattle.fbl_base.proofs.Common.{ℕ, ◌≡◌, ◌<◌, ◌≤◌, ◌+◌, ◌⊎◌, ◌↔◌, inl, inr, true, false, List, [], ◌∷◌, ◌++◌, length, Some, refl, sym, ◌∙◌, arith, slice_get, slice_get_within, cases_eq, cases_order, None, Option, MatchOption, Members, nat_cmp_total, contains-insert_same, contains-insert_other}
+use Rattle.fbl_base.proofs.Common.{Parts, WellFormed, IsDumpOrphan, IsLostAt, IsReached, IsCause, IsFirstCause, AreCauses, DependsOnPlace, same_place}
 use Rattle.std.specs.FinSet as set
 use Rattle.std.specs.Option.{is_some}
 use Rattle.fbl_base.proofs.ClockLaws.{member_within, not_later}
@@ -77,15 +77,18 @@ orphan_by_cause dump q obeys = (
 -- the first cause on which the member depends
 pub first_right : (dump : Parts) (places : List ℕ) → AreCauses dump places → (q k c : ℕ) → slice_get places k ≡ Some c → DependsOnPlace dump.events q c
     → ((l i : ℕ) → l < k → slice_get places l ≡ Some i → ¬ (DependsOnPlace dump.events q i)) → IsFirstCause dump q c
-first_right dump places causes q k c at depends none = ((causes.lost k c at, depends), λ i before cause.
-    let b = cause_before dump places causes q i cause in
-    elim (cases_order b.0 k) [
-      | inl here ↦ (let same : Some b.1 ≡ Some c = sym b.2 ∙ (rw here at) in let is : b.1 ≡ c = cc in omega (arith, is, b.4, before))
-      | inr other ↦ elim other [
-        | inl less ↦ none b.0 b.1 less b.2 b.3
-        | inr more ↦ (let rises = causes.rise k b.0 c b.1 more at b.2 in omega (arith, rises, b.4, before))
-      ]
-    ])
+first_right dump places causes q k c at depends none = (
+  (causes.lost k c at, depends),
+  λ i before cause.
+      let b = cause_before dump places causes q i cause in
+      elim (cases_order b.0 k) [
+        | inl here ↦ (let same : Some b.1 ≡ Some c = sym b.2 ∙ (rw here at) in let is : b.1 ≡ c = cc in omega (arith, is, b.4, before))
+        | inr other ↦ elim other [
+          | inl less ↦ none b.0 b.1 less b.2 b.3
+          | inr more ↦ (let rises = causes.rise k b.0 c b.1 more at b.2 in omega (arith, rises, b.4, before))
+        ]
+      ],
+)
 
 -- who has a first one
 pub has_cause : (dump : Parts) (q : ℕ) (o : Option ℕ) → MatchOption o ((i : ℕ) → ¬ (IsCause dump q i)) (IsFirstCause dump q) → (is_some o ≡ true) ↔ ((i : ℕ) × IsCause dump q i)

@@ -1,8 +1,8 @@
 -- A pass over the events finds, by vector clocks, which precede which.
-use Rattle.fbl_base.proofs.Common.{ℕ, Bool, true, ◌≡◌, ◌≢◌, ◌<◌, ◌≤◌, ◌+◌, ◌==◌, ◌⊎◌, ◌↔◌, inl, inr, List, [], ◌∷◌, ◌++◌, length, Option, Some, None, refl, sym, ap, ◌∙◌, arith, cond}
+use Rattle.fbl_base.proofs.Common.{ℕ, Bool, true, ◌≡◌, ◌≢◌, ◌<◌, ◌≤◌, ◌+◌, ◌⊎◌, ◌↔◌, inl, inr, List, [], ◌∷◌, ◌++◌, length, Option, Some, None, refl, sym, ap, ◌∙◌, arith, cond}
 use Rattle.fbl_base.proofs.Common.{get_or, get_or-set_other, get_or-set_same, get_or_from_slice_get, slice_get, slice_get-get_or, slice_get_read, slice_get_within, replicate, false, false≢true, length-set, length-append, length-take, take, max}
-use Rattle.fbl_base.proofs.Common.{cases_eq, cases_lt, cases_order, nat_tests, common_steps, Decides, MessageName, same_message, Mark, Send, Receipt, At, member_of, send_of, PlaceLeads, PlacePrecedes}
-use Rattle.fbl_base.proofs.Common.{same_place, place_step, DependsOnPlace, DependsBy, Clock, CountsPlaces, IsClock, IsSendOf, IsSentBy, Seen, Sees, MayFollow, WellFormed}
+use Rattle.fbl_base.proofs.Common.{cases_eq, cases_order, nat_tests, Decides, MessageName, same_message, Mark, Send, Receipt, At, member_of, send_of, PlaceLeads, PlacePrecedes}
+use Rattle.fbl_base.proofs.Common.{same_place, place_step, DependsOnPlace, DependsBy, Clock, CountsPlaces, IsClock, IsSendOf, IsSentBy, Seen, Sees, WellFormed}
 use Rattle.std.proofs.Common.{set as set_at}
 use Rattle.std.specs.HashMap as hash_map
 use Rattle.fbl_base.proofs.Gets.{At-below, At-push, get_or-same, slice_get-take}
@@ -96,25 +96,31 @@ module _ (n : ℕ) (t : List Mark) (obeys : WellFormed n t) (p : ℕ) (e : Mark)
 
   pub carries_none : IsSendOf t p None → (clock : Clock) → clock ≡ latest → Carries clock
   unfolding Carries BySend
-  carries_none none clock is = rw is (own.0, λ i a at_i.
-      let counted = own.1 i a at_i in
-      let unsent : BySend t p e i → ⊥ = λ s. (let no : None ≡ Some s.1 = sym (none e at) ∙ s.5 in cc) in
-      grind (arith, counted, unsent))
+  carries_none none clock is = rw is (
+    own.0,
+    λ i a at_i.
+        let counted = own.1 i a at_i in
+        let unsent : BySend t p e i → ⊥ = λ s. (let no : None ≡ Some s.1 = sym (none e at) ∙ s.5 in cc) in
+        grind (arith, counted, unsent),
+  )
 
   pub carries_send : (few : n ≤ 16) (s : ℕ) → IsSendOf t p (Some s) → (send : Clock) → IsClock t s send → (clock : Clock) → length clock.counts ≡ 16
       → ((m : ℕ) → m < 16 → get_or clock.counts m 0 ≡ max (get_or latest.counts m 0) (get_or send.counts m 0)) → Carries clock
   unfolding Carries BySend
-  carries_send few s is send counts clock room merged = (room, λ i a at_i.
-      let counted = own.1 i a at_i in
-      let by_send = counts.1 i a at_i in
-      let both = merged (member_of a) (member_within n t i a obeys few at_i) in
-      let taken : send_of e ≡ Some is.1 = (rw (same_event t p p e is.0 refl at is.2) is.4) in
-      let to_send : PlacePrecedes t i s → BySend t p e i = λ pr. (s, is.1, is.5, pr, is.3, taken) in
-      let from_send : BySend t p e i → PlacePrecedes t i s = λ b.
-          let same : is.1 ≡ b.1 = (let e' : Some is.1 ≡ Some b.1 = sym taken ∙ b.5 in cc) in
-          let here = one_place n t obeys is.1 s b.0 is.3 (rw same b.4) in
-          (rw here b.3) in
-      grind (arith, counted, by_send, both, to_send, from_send))
+  carries_send few s is send counts clock room merged = (
+    room,
+    λ i a at_i.
+        let counted = own.1 i a at_i in
+        let by_send = counts.1 i a at_i in
+        let both = merged (member_of a) (member_within n t i a obeys few at_i) in
+        let taken : send_of e ≡ Some is.1 = (rw (same_event t p p e is.0 refl at is.2) is.4) in
+        let to_send : PlacePrecedes t i s → BySend t p e i = λ pr. (s, is.1, is.5, pr, is.3, taken) in
+        let from_send : BySend t p e i → PlacePrecedes t i s = λ b.
+        let same : is.1 ≡ b.1 = (let e' : Some is.1 ≡ Some b.1 = sym taken ∙ b.5 in cc) in
+        let here = one_place n t obeys is.1 s b.0 is.3 (rw same b.4) in
+        (rw here b.3) in
+        grind (arith, counted, by_send, both, to_send, from_send),
+  )
 
   -- with the event itself it is the event's clock
   pub clock_right : (carried : Clock) → Carries carried → (clock : Clock) → clock.counts ≡ set_at carried.counts (member_of e) (p + 1) → member_of e < 16 → IsClock t p clock
@@ -211,14 +217,20 @@ module _ (n : ℕ) (t : List Mark) (obeys : WellFormed n t) (p : ℕ) where
     ];
     room = rw latest (length-set old.latest (member_of e) clock ∙ sees.room);
     latest = λ q c at_q. elim (slice_get-set old.latest (member_of e) clock q c (rw latest at at_q)) [
-      | inl own ↦ (rw (own.0, ← own.1) (right.0, λ i a at_i. (let counted = right.1 i a at_i in (
-        λ h. (p, e, omega arith, counted.0 h, at, refl),
-        λ d. counted.1 (up_to i d.0 d.1 d.2 d.3 d.4 d.5),
-      ))))
-      | inr other ↦ (let was = sees.latest q c other.1 in (was.0, λ i a at_i. (let counted = was.1 i a at_i in (
-        λ h. (let d = counted.0 h in (d.0, d.1, omega (arith, d.2), d.3, d.4, d.5)),
-        λ d. counted.1 (earlier q other.0 i d.0 d.1 d.2 d.3 d.4 d.5),
-      ))))
+      | inl own ↦ (rw (own.0, ← own.1) (
+        right.0,
+        λ i a at_i. (let counted = right.1 i a at_i in (
+          λ h. (p, e, omega arith, counted.0 h, at, refl),
+          λ d. counted.1 (up_to i d.0 d.1 d.2 d.3 d.4 d.5),
+        )),
+      ))
+      | inr other ↦ (let was = sees.latest q c other.1 in (
+        was.0,
+        λ i a at_i. (let counted = was.1 i a at_i in (
+          λ h. (let d = counted.0 h in (d.0, d.1, omega (arith, d.2), d.3, d.4, d.5)),
+          λ d. counted.1 (earlier q other.0 i d.0 d.1 d.2 d.3 d.4 d.5),
+        )),
+      ))
     ];
     sends = sends;
   } where

@@ -1,5 +1,5 @@
 -- Who holds a determinant, by the pairs of a dump.
-use Rattle.fbl_base.proofs.Common.{ℕ, Bool, true, false, not, ◌≡◌, ◌==◌, ◌&&◌, ◌<◌, ◌↔◌, inl, inr, List, [], ◌∷◌, map, refl, sym, ◌∙◌, arith, false≢true, cases_eq, nat_tests}
+use Rattle.fbl_base.proofs.Common.{ℕ, Bool, true, false, not, ◌≡◌, ◌==◌, ◌&&◌, ◌↔◌, inl, inr, List, [], ◌∷◌, map, refl, sym, ◌∙◌, arith, false≢true, cases_eq, nat_tests}
 use Rattle.fbl_base.proofs.Common.{and_parts, eqb-true, nat_cmp_total, filter, list_any, Any-from_list_any, list_any-from_Any, Contains, Members, Determinant, Parts, same_determinant}
 use Rattle.fbl_base.proofs.Common.{is_held_outside, holders_of}
 use Rattle.std.specs.FinSet as set

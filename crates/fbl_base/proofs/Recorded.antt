@@ -1,5 +1,5 @@
 -- Which determinants are recorded.
-use Rattle.fbl_base.proofs.Common.{ℕ, ◌≡◌, Bool, true, false, not, ◌&&◌, ◌||◌, refl, sym, Decides, arith, nat_cmp, nat_tests, Any-from_list_any, list_any-from_Any}
+use Rattle.fbl_base.proofs.Common.{ℕ, ◌≡◌, Bool, false, not, ◌&&◌, ◌||◌, refl, sym, Decides, arith, nat_cmp, nat_tests, Any-from_list_any, list_any-from_Any}
 use Rattle.fbl_base.proofs.Common.{Determinant, and_parts, Parts, is_held_outside, same_determinant, or-false, not-true}
 use Rattle.fbl_base.proofs.Common.{IsHeldOutside}
 use Rattle.std.specs.FinSet as set

@@ -1,5 +1,5 @@
 -- What an audit says of a dump.
-use Rattle.std.specs.Prelude.{◌≡◌, Option, Some, None, slice_get, slice_index_or, length, ℕ, ◌<◌, Bool, false, not, ◌&&◌, List}
+use Rattle.std.specs.Prelude.{◌≡◌, Option, Some, None, slice_get, slice_index_or, ℕ, ◌<◌, Bool, false, not, ◌&&◌, List}
 use Rattle.std.specs.List.{Contains, list_any, filter}
 use Rattle.std.specs.Ordering.{nat_cmp}
 use Rattle.std.specs.FinSet as set

@@ -1,5 +1,5 @@
 -- That `==` of lists tells them apart where that of their elements does, and that of structs where those of their fields do.
-use Rattle.std.specs.Prelude.{◌≡◌, ◌↔◌, ℕ, ◌==◌, ◌&&◌, List, Bool, true, false, IsTrue}
+use Rattle.std.specs.Prelude.{◌≡◌, ◌↔◌, ℕ, ◌==◌, ◌&&◌, Bool, true, false, IsTrue}
 use Rattle.std.specs.Cmp.Lexicographic.{pointwise}
 use Rattle.std.specs.Bool.{Decides}
 use Rattle.std.proofs.Common.{ap, arith, refl}
@@ -32,8 +32,8 @@ pub exact_fields : {T A B : Type 0} {same_first : A → A → Bool} {same_second
     → IsExact (λ (s t : T). same_first (first s) (first t) && same_second (second s) (second t))
 exact_fields {same_first = same_first} {same_second = same_second} first second whole exact_first exact_second s t =
     both (same_first (first s) (first t)) (same_second (second s) (second t)) (exact_first (first s) (first t)) (exact_second (second s) (second t)) where
-  both : (a b : Bool) → IsTrue a ↔ (first s ≡ first t) → IsTrue b ↔ (second s ≡ second t) → IsTrue (a && b) ↔ (s ≡ t)
-  both true true one two = ((λ same. whole s t (one.0 refl) (two.0 refl)), λ same. refl)
-  both true false one two = ((λ same. absurd (false≢true same)), λ same. two.1 (ap second same))
-  both false true one two = ((λ same. absurd (false≢true same)), λ same. one.1 (ap first same))
-  both false false one two = ((λ same. absurd (false≢true same)), λ same. one.1 (ap first same))
+      both : (a b : Bool) → IsTrue a ↔ (first s ≡ first t) → IsTrue b ↔ (second s ≡ second t) → IsTrue (a && b) ↔ (s ≡ t)
+      both true true one two = ((λ same. whole s t (one.0 refl) (two.0 refl)), λ same. refl)
+      both true false one two = ((λ same. absurd (false≢true same)), λ same. two.1 (ap second same))
+      both false true one two = ((λ same. absurd (false≢true same)), λ same. one.1 (ap first same))
+      both false false one two = ((λ same. absurd (false≢true same)), λ same. one.1 (ap first same))

@@ -137,7 +137,11 @@ impl<'a, A: Allocator> Model for Audit<'a, A> {
 
 /// Whether no member outside the strike set is among these, which hold the determinant.
 #[tactic(auto, using(crate::proofs::Holding::lost_test))]
-fn loses<A: Allocator + Copy>(dump: &Dump<A>, holders: &Holders<A>, determinant: &Determinant) -> bool
+fn loses<A: Allocator + Copy>(
+    dump: &Dump<A>,
+    holders: &Holders<A>,
+    determinant: &Determinant,
+) -> bool
     requires { AreHolders dump.now holders.now }
     ensures { result ≡ not (is_held_outside dump.now determinant.now) }
 {

@@ -17,8 +17,10 @@ loop-number-preserved c =
 pub returns : goal.returns
 returns c q =
     let dump = c.args.audit.now in
-    let found = c.loop-number.invariant q in
-    (λ h. (found.0 h).1, λ d. found.1 (
-      (let below = member_below dump.members dump.events d.0 d.1 c.dump.ensures.rules.events d.3 in omega (arith, below, d.4, c.loop-number-test.false, c.members-number-end.ensures, ap (λ p. p.members) c.dump.ensures.dump)),
-      d,
-    ))
+    let found = c.loop-number.invariant q in (
+      λ h. (found.0 h).1,
+      λ d. found.1 (
+        (let below = member_below dump.members dump.events d.0 d.1 c.dump.ensures.rules.events d.3 in omega (arith, below, d.4, c.loop-number-test.false, c.members-number-end.ensures, ap (λ p. p.members) c.dump.ensures.dump)),
+        d,
+      ),
+    )

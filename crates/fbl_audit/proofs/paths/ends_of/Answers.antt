@@ -1,5 +1,4 @@
-use Rattle.fbl_audit.proofs.Common.{◌≡◌, ◌∙◌, ap, sym, arith, true, false, inl, inr, length, refl, slice_get_read, false≢true, get_or, None, At, member_of, member_within, is_some}
-use Rattle.std.proofs.Common.{set as set_at, Some}
+use Rattle.fbl_audit.proofs.Common.{◌≡◌, ◌∙◌, ap, sym, arith, inl, inr, length, refl, slice_get_read, false≢true, At, member_of, member_within}
 use Rattle.fbl_audit.proofs.Searching.{ends_more, ends_same}
 use Rattle.fbl_audit.proofs.paths.ends_of.Goals as goal
 

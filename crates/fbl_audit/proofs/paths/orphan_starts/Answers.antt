@@ -1,4 +1,4 @@
-use Rattle.fbl_audit.proofs.Common.{◌≡◌, ◌∙◌, ap, sym, arith, cases_eq, inl, inr, length-set, None}
+use Rattle.fbl_audit.proofs.Common.{◌≡◌, ◌∙◌, sym, arith, cases_eq, inl, inr, length-set, None}
 use Rattle.std.specs.FinSet as set
 use Rattle.fbl_audit.proofs.Common.{set_same, set_other}
 use Rattle.fbl_audit.proofs.Searching.{start_left, start_struck}

@@ -1,4 +1,4 @@
-use Rattle.fbl_audit.proofs.Common.{ℕ, ◌≡◌, ◌<◌, ◌≤◌, length, None, get_or, IsOrphanStart, IsEndFound}
+use Rattle.fbl_audit.proofs.Common.{ℕ, ◌≡◌, ◌<◌, ◌≤◌, length, None, get_or, IsOrphanStart}
 use Rattle.fbl_audit.proofs.paths.orphan_starts.Given as goal
 
 abbrev pub invariant-loop-number : goal.invariant-loop-number

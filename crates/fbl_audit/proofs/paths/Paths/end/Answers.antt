@@ -1,4 +1,4 @@
-use Rattle.fbl_audit.proofs.Common.{◌≡◌, ap, Origin}
+use Rattle.fbl_audit.proofs.Common.{ap, Origin}
 use Rattle.fbl_audit.proofs.Searching.{end_right}
 use Rattle.fbl_audit.proofs.paths.Paths.end.Goals as goal
 

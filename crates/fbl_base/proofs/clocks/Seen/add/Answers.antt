@@ -1,4 +1,4 @@
-use Rattle.fbl_base.proofs.Common.{◌≡◌, ◌∙◌, ap, refl, slice_get_read, At, Receipt, Send, member_of}
+use Rattle.fbl_base.proofs.Common.{◌≡◌, ◌∙◌, ap, refl, slice_get_read, At, member_of}
 use Rattle.std.proofs.Common.{set as set_at}
 use Rattle.fbl_base.proofs.ClockLaws.{Sees-more, sent_receipt, sent_send}
 use Rattle.fbl_base.proofs.clocks.Seen.add.Goals as goal

@@ -1,4 +1,4 @@
-use Rattle.fbl_base.proofs.Common.{ℕ, ◌≡◌, ◌∙◌, ◌<◌, [], Clock, length, refl, arith, slice_get_read, slice_get-get_or, At, member_of, CountsPlaces, DependsBy, IsClock, w16, get_or, max}
+use Rattle.fbl_base.proofs.Common.{ℕ, ◌≡◌, ◌∙◌, ◌<◌, [], Clock, length, refl, arith, slice_get_read, slice_get-get_or, At, member_of, CountsPlaces, DependsBy, w16, get_or, max}
 use Rattle.fbl_base.proofs.ClockLaws.{carries_none, carries_send, clock_right, member_within, place_within}
 use Rattle.fbl_base.proofs.clocks.Seen.next.Given.{Over}
 use Rattle.fbl_base.proofs.clocks.Seen.next.Goals as goal
