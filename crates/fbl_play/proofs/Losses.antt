@@ -55,7 +55,7 @@ abbrev pub IsParted : List Determinant → List Determinant → List Determinant
 IsParted before after lost passed i =
     (passed ≤ length before)
     × ((recorded : Determinant → Bool) → before ≡ filter (λ d. not (recorded d)) after
-      → (lost ≡ filter recorded (take i after)) × (drop passed before ≡ filter (λ d. not (recorded d)) (drop i after)))
+    → (lost ≡ filter recorded (take i after)) × (drop passed before ≡ filter (λ d. not (recorded d)) (drop i after)))
 
 -- where the first of these items is the first that the test takes of those, it takes it, and goes on behind it
 head_passed : {A : Type 0} (p : A → Bool) (d : A) (xs ys : List A) → d ∷ xs ≡ filter p (d ∷ ys) → (p d ≡ true) × (xs ≡ filter p ys)

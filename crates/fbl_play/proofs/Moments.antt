@@ -1,9 +1,8 @@
 -- A run goes on by one command, and where a play of its commands ends.
 use Rattle.fbl_base.specs.declared.trace.Note.{Note}
-use Rattle.fbl_play.proofs.Common.{◌≡◌, ℕ, ◌<◌, ◌≤◌, ◌+◌, List, [], ◌∷◌, ◌++◌, length, take, get_or, refl, inl, inr, Option, Some, None, Result, Ok, Err, take_all, take_more, IsErrAnd, err_from_is_err_and}
-use Rattle.fbl_play.proofs.Common.{Settings, Next, CommandAccount, GroupRecord, IsSound, IsGroupStart, Command, OutputFault, Column}
-use Rattle.fbl_play.proofs.Common.{Output, Along, IsAdded, IsBegun, IsPlay, IsRun, IsRunOne, IsStopped, IsStoppedRun, Moment, Transcript, Unheard, UnheardAfter, ap}
-use Rattle.fbl_input.specs.declared.output.OutputFault.TheVariants as faults
+use Rattle.fbl_play.proofs.Common.{◌≡◌, ℕ, ◌<◌, ◌≤◌, ◌+◌, List, [], ◌∷◌, ◌++◌, length, take, get_or, refl, inl, inr, Some, None, Result, Ok, Err, take_all, take_more, IsErrAnd, err_from_is_err_and}
+use Rattle.fbl_play.proofs.Common.{Settings, Next, CommandAccount, GroupRecord, Command, OutputFault, Column}
+use Rattle.fbl_play.proofs.Common.{Output, Along, IsAdded, IsBegun, IsPlay, IsRun, IsRunOne, IsStopped, Moment, Transcript, Unheard, UnheardAfter, ap}
 use Rattle.fbl_play.specs.Transcripts.{history, text}
 
 module _ {O : Type 0} (before : GroupRecord ℕ Note → Transcript → O → Command → O → Type 0) (after : GroupRecord ℕ Note → Transcript → O → Command → CommandAccount → O → Type 0) (next : Next ℕ Note) (workers : ℕ) where
@@ -28,14 +27,17 @@ module _ {O : Type 0} (before : GroupRecord ℕ Note → Transcript → O → Co
       module _ (c : Command) (within : i < length cs) (is : c ≡ get_or cs i c) where
         -- the next one was run
         pub run_more : (account : CommandAccount) (new : Moment O) → IsRunOne before after next workers at c account new → HasRun (i + 1) new
-        run_more account new one = (run.0 ++ account ∷ [], record {
-          first = run.1.first;
-          begun = run.1.begun;
-          start = run.1.start;
-          sound = run.1.sound;
-          begins = run.1.begins;
-          along = rw (take_more cs i c within, ← is) (along_more (take i cs) run.0 c account _ at new run.1.along one);
-        })
+        run_more account new one = (
+          run.0 ++ account ∷ [],
+          record {
+            first = run.1.first;
+            begun = run.1.begun;
+            start = run.1.start;
+            sound = run.1.sound;
+            begins = run.1.begins;
+            along = rw (take_more cs i c within, ← is) (along_more (take i cs) run.0 c account _ at new run.1.along one);
+          },
+        )
 
         -- or it stopped
         pub play_stopped : (r : Result (Unit {0}) OutputFault) (fault : OutputFault) (has : Transcript) (new : O) → IsErrAnd r (λ e. e ≡ fault) → before at.group at.transcript at.observer c new

@@ -162,12 +162,5 @@ pub fn play<T: Threads + Wait + Sync, R: Read, W: Write>(
     ensures { IfSome (R.remaining reader.old) (λ input. ReadsAndPlays workers input (W.contents writer.old) (W.contents writer.new) result) }
 {
     let script = read_script(alloc, reader)?;
-    Ok(play_script(
-        rt,
-        alloc,
-        script,
-        writer,
-        workers,
-        &mut NoObserver,
-    )?)
+    Ok(play_script(rt, alloc, script, writer, workers, &mut NoObserver)?)
 }

@@ -59,8 +59,7 @@ impl Observer for NoObserver {
         _command: &Command,
         _group: &Group<B>,
         _transcript: &K,
-    ) {
-    }
+    ) {}
 
     fn after<B: Behaviour<State = u64, Note = Note>, K: Transcribed>(
         &mut self,
@@ -68,6 +67,5 @@ impl Observer for NoObserver {
         _account: &CommandAccount,
         _group: &Group<B>,
         _transcript: &K,
-    ) {
-    }
+    ) {}
 }

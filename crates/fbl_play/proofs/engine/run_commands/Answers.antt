@@ -3,14 +3,17 @@ use Rattle.fbl_play.proofs.Moments.{play_all, play_stopped, run_more}
 use Rattle.fbl_play.proofs.engine.run_commands.Goals as goal
 
 pub loop-command-init : goal.loop-command-init
-loop-command-init g c = ([], record {
-  first = c.in_ok-group.group;
-  begun = _;
-  start = c.in_ok-group.ensures;
-  sound = c.recoverable.ensures.sound;
-  begins = c.in_ok-begin.ensures.begun;
-  along = refl;
-})
+loop-command-init g c = (
+  [],
+  record {
+    first = c.in_ok-group.group;
+    begun = _;
+    start = c.in_ok-group.ensures;
+    sound = c.recoverable.ensures.sound;
+    begins = c.in_ok-begin.ensures.begun;
+    along = refl;
+  },
+)
 
 pub returns-in_err-output : goal.returns-in_err-output
 returns-in_err-output g c =
