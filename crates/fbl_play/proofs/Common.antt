@@ -1,14 +1,18 @@
 -- The names that proofs of this crate take from outside: of the standard library, of the crates below, and of the definitions here.
 pub use Rattle.std.proofs.Common.{Err, IfErr, IfOk, List, None, Ok, Option, Result, Some, [], ap, append-nil, arith, get_or, inl, inr, length, refl, string_bytes, subst, sym, take, drop, ℕ, ◌++◌, ◌+◌}
-pub use Rattle.std.proofs.Common.{◌<◌, ◌∙◌, ◌∷◌, ◌≡◌, ◌≤◌, Bool, true, false, not, suc, map}
-pub use Rattle.std.proofs.lemmas.List.{take_all, take_more}
+pub use Rattle.std.proofs.Common.{◌<◌, ◌∙◌, ◌∷◌, ◌≡◌, ◌≤◌, Bool, true, false, not, cond, suc, map, length-drop}
+pub use Rattle.std.proofs.lemmas.Bool.{false≢true, true_from_ne_false}
+pub use Rattle.std.proofs.lemmas.List.{drop_more, get_or_default, take_all, take_more}
+pub use Rattle.std.proofs.lemmas.List.Elements.{filter-append, filter_passes}
 pub use Rattle.std.proofs.lemmas.Result.{IfOk-at_ok, IfOk-weaker, err_from_is_err_and}
 pub use Rattle.std.specs.List.{filter}
 pub use Rattle.std.specs.Result.{IsErrAnd}
 pub use Rattle.fbl_base.specs.Configs.{Settings}
 pub use Rattle.fbl_base.specs.Fold.{Next}
-pub use Rattle.fbl_base.specs.Events.{mark_of, receipt_of, receipts}
-pub use Rattle.fbl_base.specs.Precedence.{Has}
+pub use Rattle.fbl_base.specs.MemberSets.{Members}
+pub use Rattle.fbl_base.specs.Events.{mark_of, receipt_of, receipts, same_determinant}
+pub use Rattle.fbl_base.proofs.Recorded.{Decides-same_determinant}
+pub use Rattle.fbl_base.specs.Precedence.{Has, itself}
 pub use Rattle.fbl_base.specs.declared.strike.Strike.{Strike}
 pub use Rattle.fbl_base.specs.declared.trace.Determinant.{Determinant}
 pub use Rattle.fbl_base.specs.declared.trace.Event.{Event}
@@ -19,6 +23,7 @@ pub use Rattle.fbl_input.proofs.Inputs.{over_fault, over_input}
 pub use Rattle.fbl_input.specs.declared.fault.RunFault.{RunFault}
 pub use Rattle.fbl_input.specs.declared.output.OutputFault.{OutputFault}
 pub use Rattle.fbl_law.proofs.GroupStrike.{recorded_test}
+pub use Rattle.fbl_law.proofs.Safe.{no_orphan, up_if_none}
 pub use Rattle.fbl_law.proofs.Strike.{was_up}
 pub use Rattle.fbl_law.specs.GroupSteps.{IsGroupStart, IsStrike}
 pub use Rattle.fbl_law.specs.Groups.{GroupRecord, is_recorded, knowledge, marks}
@@ -37,3 +42,5 @@ pub use Rattle.fbl_play.specs.Runs.{newly_lost}
 pub use Rattle.fbl_play.specs.RunSteps.{IsRunAccount, IsRunOutput}
 pub use Rattle.fbl_play.specs.Texts.{per_member, shown_state, shown_status}
 pub use Rattle.fbl_play.specs.Transcripts.{IsAdded, IsBegun, Transcript}
+pub use Rattle.fbl_play.specs.declared.output.Output.{Output}
+pub use Rattle.fbl_play.specs.Plays.{next_of}

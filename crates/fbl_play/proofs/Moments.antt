@@ -2,7 +2,7 @@
 use Rattle.fbl_base.specs.declared.trace.Note.{Note}
 use Rattle.fbl_play.proofs.Common.{◌≡◌, ℕ, ◌<◌, ◌≤◌, ◌+◌, List, [], ◌∷◌, ◌++◌, length, take, get_or, refl, inl, inr, Option, Some, None, Result, Ok, Err, take_all, take_more, IsErrAnd, err_from_is_err_and}
 use Rattle.fbl_play.proofs.Common.{Settings, Next, CommandAccount, GroupRecord, IsSound, IsGroupStart, Command, OutputFault, Column}
-use Rattle.fbl_play.proofs.Common.{Along, IsAdded, IsBegun, IsPlay, IsRun, IsRunOne, IsStopped, IsStoppedRun, Moment, Transcript, Unheard, UnheardAfter, ap}
+use Rattle.fbl_play.proofs.Common.{Output, Along, IsAdded, IsBegun, IsPlay, IsRun, IsRunOne, IsStopped, IsStoppedRun, Moment, Transcript, Unheard, UnheardAfter, ap}
 use Rattle.fbl_input.specs.declared.output.OutputFault.TheVariants as faults
 use Rattle.fbl_play.specs.Transcripts.{history, text}
 
@@ -45,30 +45,30 @@ module _ {O : Type 0} (before : GroupRecord ℕ Note → Transcript → O → Co
             rw (e.1, e.2) (inr (record { done = i; accounts = run.0; at = at; command = c; within = within; is = is; run = run.1; announced = announced; stopped = stopped }))
 
   -- a history that has begun goes on
-  history_goes_on : (cs : List Command) (accounts : List CommandAccount) (old new : Moment O) (columns : List Column) → old.transcript ≡ history (Some columns)
-      → Along before after next workers cs accounts old new → (last : List Column) × (new.transcript ≡ history (Some last))
-  history_goes_on [] [] old new columns some is = (columns, (rw is some))
-  history_goes_on (c ∷ cs) (account ∷ accounts) old new columns some is =
-      let one = added columns _ (rw some at is.1.added) in
-      history_goes_on cs accounts is.0 new one.0 one.1 is.2
-    where
-      added : (columns : List Column) (t : Transcript) → IsAdded next _ _ (history (Some columns)) t → (later : List Column) × (t ≡ history (Some later))
-      added columns (text has) h = absurd h
-      added columns (history None) h = absurd h
-      added columns (history (Some later)) h = (later, refl)
-  history_goes_on [] (account ∷ accounts) old new columns some is = absurd is
-  history_goes_on (c ∷ cs) [] old new columns some is = absurd is
+  goes_on : (r : GroupRecord ℕ Note) (output : Output) (columns : List Column) (t : Transcript) → IsAdded next r output (history (Some columns)) t → (later : List Column) × (t ≡ history (Some later))
+  goes_on r output columns (text has) is = absurd is
+  goes_on r output columns (history None) is = absurd is
+  goes_on r output columns (history (Some later)) is = (later, refl)
 
-  -- of a play's history, where all commands were run
+  all_go_on : (cs : List Command) (accounts : List CommandAccount) (old new : Moment O) (columns : List Column) → old.transcript ≡ history (Some columns)
+      → Along before after next workers cs accounts old new → (last : List Column) × (new.transcript ≡ history (Some last))
+  all_go_on [] [] old new columns some is = (columns, (rw is some))
+  all_go_on (c ∷ cs) (account ∷ accounts) old new columns some is =
+      let one = goes_on is.0.group is.1.output columns is.0.transcript (rw some at is.1.added) in
+      all_go_on cs accounts is.0 new one.0 one.1 is.2
+  all_go_on [] (account ∷ accounts) old new columns some is = absurd is
+  all_go_on (c ∷ cs) [] old new columns some is = absurd is
+
+  has_begun : (r : GroupRecord ℕ Note) (t : Transcript) → IsBegun next r (history None) t → (columns : List Column) × (t ≡ history (Some columns))
+  has_begun r (text has) is = absurd is
+  has_begun r (history has) is = (_, ap history is)
+
+  -- so after all commands were run there is one
   pub history_ends : (config : Settings Note) (cs : List Command) (has : Transcript) (old new : O) → IsPlay before after next workers config cs (history None) has old new (Ok tt)
       → (last : List Column) × (has ≡ history (Some last))
   history_ends config cs has old new (accounts, r, run) =
-      let begun = begins run.begun run.begins in
-      history_goes_on cs accounts _ _ begun.0 begun.1 run.along
-    where
-      begins : (t : Transcript) → IsBegun next _ (history None) t → (columns : List Column) × (t ≡ history (Some columns))
-      begins (text has) h = absurd h
-      begins (history has) h = (_, (rw h refl))
+      let begun = has_begun run.first run.begun run.begins in
+      all_go_on cs accounts _ _ begun.0 begun.1 run.along
 
 -- ---- what is told to an observer could be told to nobody
 

@@ -4,6 +4,7 @@ ghost use Rattle.std.specs.Prelude.{◌≡◌, Bool, IfOk, not};
 ghost use Rattle.std.specs.List.{filter};
 ghost use Rattle.fbl_base.specs.declared.trace.Determinant.{Determinant};
 ghost use Rattle.fbl_group.specs.Strikes.{lost_receipts};
+ghost use Rattle.fbl_law.specs.Sound.{IsSound};
 ghost use Rattle.fbl_play.specs.Runs.{CheckpointStep, DeliverStep, HasMembers, IsDumped, RecoverStep, Step, StrikeStep};
 
 use crate::output::{Answer, Output, Refusal};
@@ -44,7 +45,8 @@ fn lost_of<B: Behaviour<State = u64, Note = Note>>(
     alloc: Global,
     group: &Group<B>,
 ) -> Result<Vec<Determinant>, AllocError>
-    ensures { IfOk result (λ lost. lost.items ≡ lost_receipts group.now) }
+    ensures lost { IfOk result (λ lost. lost.items ≡ lost_receipts group.now) }
+    ensures sound { IsSound B.next group.now }
 {
     // in a sound group each receipt of a member that is up is recorded
     group.recoverable();
@@ -83,11 +85,12 @@ fn run_strike<B: Behaviour<State = u64, Note = Note>>(
     ensures step { IfOk result (λ answer. StrikeStep B.next group.old struck group.new answer.output answer.account) }
     ensures within { IfOk result (λ answer. HasMembers group.new answer.output) }
 {
-    let before = lost_of(alloc, group)?;
+    let lost_before = lost_of(alloc, group)?;
+    let before = lost_before.as_slice();
     match group.strike(struck) {
         Ok(answer) => {
             let after = lost_of(alloc, group)?;
-            let receipts = newly_lost(alloc, before.as_slice(), after.as_slice())?;
+            let receipts = newly_lost(alloc, before, after.as_slice())?;
             Ok(Answer {
                 output: Output::Strike { struck, answer },
                 account: CommandAccount::Lost {

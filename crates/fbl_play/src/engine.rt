@@ -134,7 +134,7 @@ pub fn history_of_script<T: Threads + Wait + Sync, O: Observer>(
     let behaviour = script.behaviour;
     let mut so_far = HistorySoFar { history: None };
     match run_script(rt, alloc, script, workers, &mut so_far, observer) {
-        Ok(()) => match so_far.history {
+        Ok(()) => match so_far.history.take() {
             Some(history) => Ok(RunHistory {
                 members,
                 f,

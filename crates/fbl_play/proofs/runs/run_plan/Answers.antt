@@ -1,25 +1,14 @@
 use Rattle.fbl_base.specs.declared.trace.Note.{Note}
-use Rattle.fbl_play.proofs.Common.{ℕ, List, Result, Ok, Err, Next, GroupRecord, Drains, IfErr, string_bytes, IfOk, IfOk-at_ok, Strike, Drained, DrainRefusal, IsPlanRefused, IsRunAccount, IsRunText}
+use Rattle.fbl_play.proofs.Common.{ℕ, List, Result, Ok, Err, Next, GroupRecord, Drains, IfErr, Strike, Drained, DrainRefusal, IsPlanRefused, IsRunAccount}
 use Rattle.fbl_threads.specs.declared.draining.DrainRefusal.TheVariants as drain
 use Rattle.fbl_play.proofs.runs.run_plan.Goals as goal
 
--- what two clauses give together of a value, if there is one
-joined : {X E : Type 0} (r : Result X E) (P Q R : X → Type 0) → IfOk r P → IfOk r Q → ((x : X) → P x → Q x → R x) → IfOk r R
-joined (Ok x) P Q R p q both = both x p q
-joined (Err e) P Q R p q both = tt
-
-pub returns : goal.returns
-returns g c =
+pub returns-in-Ok-clause-step : goal.returns-in-Ok-clause-step
+returns-in-Ok-clause-step g c =
     let answer = c.drain-group.result.1 in
-    let drained = rw c.strikes-strikes.ensures at c.drain-group.ensures in
     let account : IsRunAccount c.args.plan.now c.args.group.receipts_ever c.args.group.undone_ever c.drain-group.result.0 answer
     c.account_of-account.result = rw (← c.receipts_ever-ever.ensures, ← c.undone_ever-undone.ensures) c.account_of-account.ensures in
-    joined c.answer_with.result _ _ _ c.answer_with.ensures.text c.answer_with.ensures.account (λ told is same. (
-      answer,
-      drained,
-      IfOk-at_ok (λ text. IsRunText answer (string_bytes text)) is c.answer_text-text.ensures,
-      rw same account,
-    ))
+    (answer, (rw c.strikes-strikes.ensures at c.drain-group.ensures), c.in-Ok.ensures, account)
 
 -- a refused plan has a bad entry, and the group is as it was
 plan_refused : (next : Next ℕ Note) (workers : ℕ) (plan : List Strike) (old new : GroupRecord ℕ Note) (answer : Result Drained DrainRefusal)
