@@ -4,8 +4,7 @@ ghost use Rattle.std.specs.Prelude.{◌≡◌, ◌<◌, IfOk, string_bytes};
 ghost use Rattle.fbl_lines.specs.Lines.{states_line};
 ghost use Rattle.fbl_play.specs.Texts.{AreTotals, IsReport, IsText, refusal_line, run_refusal_line, shown_state as shown_state_of, shown_states, shown_status as shown_status_of, shown_statuses};
 
-use fbl_base::audit::Audit;
-use fbl_base::audit::Dump;
+use fbl_base::audit::{Audit, Dump};
 use fbl_base::{Behaviour, Member, MemberSet, Note};
 use fbl_dump::dump_text;
 use fbl_explain::CommandAccount;
