@@ -159,9 +159,7 @@ impl fmt::Display for AccountOf<'_> {
         match (self.account, self.command) {
             (CommandAccount::Done, _) => f.write_str("done"),
             (CommandAccount::Refused(reason), _) => write!(f, "{reason}"),
-            (CommandAccount::Lost { receipts, before }, _) => {
-                write_lost(f, receipts, *before)
-            }
+            (CommandAccount::Lost { receipts, before }, _) => { write_lost(f, receipts, *before) }
             (CommandAccount::Undone(receipts), _) => write_receipts(f, "undone", receipts),
             (CommandAccount::Ran(counts), Command::Run(plan)) => counts.write(f, plan.strikes()),
             (CommandAccount::Ran(counts), _) => counts.write(f, &[]),

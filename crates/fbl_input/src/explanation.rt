@@ -212,9 +212,7 @@ fn write_misfit<W: fmt::Write>(
             let found = Shown { value, written };
             write!(f, "command {place} is {found}, and must be {wanted}")
         }
-        Misfit::UnknownKey { kind, name } => {
-            write!(f, "the key {name:?} is unknown: {kind}")
-        }
+        Misfit::UnknownKey { kind, name } => { write!(f, "the key {name:?} is unknown: {kind}") }
         Misfit::Config(fault) => write!(f, "{fault}"),
         Misfit::Dump(fault) => write!(f, "{fault}"),
         Misfit::Read | Misfit::Memory => write!(f, "{}", misfit.fault()),

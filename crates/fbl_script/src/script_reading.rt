@@ -145,11 +145,7 @@ fn limit_field(alloc: Global, value: &Value) -> Result<u32, Misfit>
 }
 
 /// The commands of a script of this version.
-fn commands_field(
-    alloc: Global,
-    version: Version,
-    value: &Value,
-) -> Result<Vec<Command>, Misfit>
+fn commands_field(alloc: Global, version: Version, value: &Value) -> Result<Vec<Command>, Misfit>
     requires { field keys.Version version_shape (view value.now) ≡ Ok version }
     ensures exact { Gives (λ v. v.items) result (commands_at version (view value.now)) }
     ensures faults { IfErr result IsOfShape }

@@ -70,7 +70,10 @@ fn explains_a_fault(rt: HostRuntime) -> Result<(), Fail> {
     let fault = read_dump(rt.alloc(), &mut input).err().ok_or("a dump")?;
     let explanation = fault.explanation(rt.alloc())?.ok_or("no explanation")?;
     assert_eq!(rt; format!(in rt.alloc(); "{fault}")?.as_str(), "bad field f");
-    assert_eq!(rt; format!(in rt.alloc(); "{explanation}")?.as_str(), "f is 1.50, and must be a number 1 to one less than members");
+    assert_eq!(rt;
+        format!(in rt.alloc(); "{explanation}")?.as_str(),
+        "f is 1.50, and must be a number 1 to one less than members"
+    );
     Ok(())
 }
 

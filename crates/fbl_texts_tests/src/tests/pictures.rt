@@ -1,10 +1,10 @@
 //! Pictures of dumps, over writers that fail.
 
 use super::dumps::{LOST, stopped_at};
-use fbl_pictures::write_picture;
 use fbl_dump::read_dump;
 use fbl_fixtures::{FailedWrite, Page, UnsteadyWriter};
 use fbl_input::OutputFault;
+use fbl_pictures::write_picture;
 use std::test::Fail;
 
 #[test]
