@@ -49,3 +49,13 @@ pub use Rattle.fbl_play.specs.declared.engine.RunHistory.{RunHistory}
 pub use Rattle.fbl_script.specs.Scripts.{IsScriptFault, IsScriptOf, Outline, behaviour_word, outline}
 pub use Rattle.fbl_script.specs.declared.script.Command.{Command}
 pub use Rattle.fblrun.specs.Orders.{DoesScript, DoesTask, IsDumpAnswer, IsShown, PlaysWell}
+pub use Rattle.fbl_base.specs.Audit.{Parts}
+pub use Rattle.fbl_draw.specs.Pictures.{IsPicture}
+pub use Rattle.fbl_dump.specs.Auditing.{IsAuditText}
+pub use Rattle.fbl_dump.specs.Checking.{IsChecked}
+pub use Rattle.fbl_dump.specs.declared.checking.Verdict.{Verdict}
+pub use Rattle.fbl_dump.specs.declared.checking.Verdict.TheVariants.{Safe, Unsafe}
+pub use Rattle.fbl_input.specs.Faults.{run_result}
+pub use Rattle.fblrun.specs.declared.DumpTask.TheVariants.{Audit, Check, Draw}
+pub use Rattle.fblrun.specs.declared.ScriptTask.TheVariants.{Play, Show}
+pub use Rattle.fblrun.specs.declared.Task.TheVariants.{Dump, Script}

@@ -1,6 +1,7 @@
 -- The exit status of what was done, and whether a play was refused something.
 use Rattle.fbl_base.specs.declared.trace.Note.{Note}
 use Rattle.fblrun.proofs.Common.{◌≡◌, ℕ, ◌||◌, ◌&&◌, not, Bool, false, List, [], ◌∷◌, Option, Some, None, Result, Ok, Err, IfSome, arith}
+use Rattle.fblrun.proofs.Common.{true, IsErrAnd, OutputFault, Parts, PutsOut, puts_as, IsChecked, IsDumpAnswer, Verdict, Safe, Unsafe, Check}
 use Rattle.fblrun.proofs.Common.{ap, ◌∙◌, list_any, or_false, RunFault, CommandAccount, is_refusal, Command, GroupRecord, Next}
 use Rattle.fblrun.proofs.Common.{Along, Moment, PlaysScript, Transcript, Outline, PlaysWell, play_unheard, status_after, text}
 
@@ -9,6 +10,20 @@ pub ended : (known : Option (List ℕ)) (Does : List ℕ → Result Bool RunFaul
     → IfSome known (λ input. Does input done) → IfSome known (λ input. (r : Result Bool RunFault) × Does input r × (status ≡ status_after r))
 ended None Does done status is h = tt
 ended (Some input) Does done status is h = (done, h, is)
+
+-- an answer that was cut off, seen as whether all is well
+pub cut : {A : Type 0} (IsRight : A → List ℕ → Type 0) (IsSeen : Bool → List ℕ → Type 0) (f : A → Bool) → ((x : A) (told : List ℕ) → IsRight x told → IsSeen (f x) told)
+    → (before after : Option (List ℕ)) (e : OutputFault) (r : Result Bool OutputFault) → IsErrAnd r (λ x. x ≡ e) → PutsOut IsRight before after (Err e) → PutsOut IsSeen before after r
+cut IsRight IsSeen f right before after e (Ok x) same puts = absurd same
+cut IsRight IsSeen f right before after e (Err x) same puts = rw same (puts_as IsRight IsSeen f right before after e puts)
+
+abbrev pub is_safe : Verdict → Bool
+is_safe Safe = true
+is_safe Unsafe = false
+
+pub check_answer : (dump : Parts) (verdict : Verdict) (told : List ℕ) → IsChecked dump verdict told → IsDumpAnswer Check dump (is_safe verdict) told
+check_answer dump Safe told is = is
+check_answer dump Unsafe told is = is
 
 -- an observer that keeps whether some command was refused
 module _ {O : Type 0} (has : O → Bool) where

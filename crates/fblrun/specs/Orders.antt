@@ -39,14 +39,14 @@ IsShown workers s shown =
 -- what is done with the script, and whether all is well
 abbrev pub DoesScript : ScriptTask → Outline → Option (List ℕ) → Option (List ℕ) → Result Bool OutputFault → Type 0
 DoesScript (Play workers strict) s before after = PlaysWell workers strict s before after
-DoesScript (Show workers) s before after = PutsOut (λ is_well text. IsShown workers s text × (is_well ≡ true)) before after
+DoesScript (Show workers) s before after = PutsOut (λ is_well drawn. IsShown workers s drawn × (is_well ≡ true)) before after
 
 -- what is told of the dump, and whether all is well
 abbrev pub IsDumpAnswer : DumpTask → Parts → Bool → List ℕ → Type 0
-IsDumpAnswer Audit dump is_well text = IsAuditText dump text × (is_well ≡ true)
-IsDumpAnswer Check dump true text = IsChecked dump Safe text
-IsDumpAnswer Check dump false text = IsChecked dump Unsafe text
-IsDumpAnswer Draw dump is_well text = IsPicture dump text × (is_well ≡ true)
+IsDumpAnswer Audit dump is_well told = IsAuditText dump told × (is_well ≡ true)
+IsDumpAnswer Check dump true told = IsChecked dump Safe told
+IsDumpAnswer Check dump false told = IsChecked dump Unsafe told
+IsDumpAnswer Draw dump is_well told = IsPicture dump told × (is_well ≡ true)
 
 -- what is left in the writer where the task is done over this input
 abbrev pub DoesTask : Task → List ℕ → Option (List ℕ) → Option (List ℕ) → Result Bool RunFault → Type 0

@@ -77,7 +77,10 @@ fn do_dump<W: Write>(
             write_audit(alloc, dump, writer)?;
             Ok(true)
         }
-        DumpTask::Check => Ok(write_check(alloc, dump, writer)? == Verdict::Safe),
+        DumpTask::Check => match write_check(alloc, dump, writer)? {
+            Verdict::Safe => Ok(true),
+            Verdict::Unsafe => Ok(false),
+        },
         DumpTask::Draw => {
             write_picture(alloc, dump, writer)?;
             Ok(true)
