@@ -50,7 +50,7 @@ pub use Rattle.fbl_script.specs.Scripts.{IsScriptFault, IsScriptOf, Outline, beh
 pub use Rattle.fbl_script.specs.declared.script.Command.{Command}
 pub use Rattle.fblrun.specs.Orders.{DoesScript, DoesTask, IsDumpAnswer, IsShown, PlaysWell}
 pub use Rattle.fbl_base.specs.Audit.{Parts}
-pub use Rattle.fbl_draw.specs.Pictures.{IsPicture}
+pub use Rattle.fbl_pictures.specs.DumpPictures.{IsPicture}
 pub use Rattle.fbl_dump.specs.Auditing.{IsAuditText}
 pub use Rattle.fbl_dump.specs.Checking.{IsChecked}
 pub use Rattle.fbl_dump.specs.declared.checking.Verdict.{Verdict}
