@@ -60,7 +60,7 @@ allocate_spec 𝓤 𝓛 𝓜 𝓡 wired Y L g d drops met _ =
     let En : Env 𝓤 𝓛.H = env (here Z).locals l in
     sets ! (addr ! (through ! refl (fld ! refl (stop !)))) refl (tt, tt) $
     use2 𝓛 (raw ((Asks 𝓛 𝓜.mem 𝓡.returns).pre w)) (asks 𝓛 𝓜.mem 𝓡.returns κ q r.now.gate gate_at) $
-    calls_at ! calls (Asks 𝓛 𝓜.mem 𝓡.returns) (gate_met.met 𝓤 𝓛 𝓜 𝓡 (code.calls-refusing_allocator::Gate::refuses_next 𝓡.env wired)) w
+    calls_at ! calls (Asks 𝓛 𝓜.mem 𝓡.returns) (gate_met.met 𝓤 𝓛 𝓜 𝓡 (code.calls-fbl_fixtures::refusing_allocator::Gate::refuses_next 𝓡.env wired)) w
     (and_then ! (get ! refl) (no_more !)) (λ u.
     use1 𝓛 (later (some (λ (b : Bool). given (u ≡ vbool b) (‵ (flft κ q))))) (told 𝓛 𝓜.mem 𝓡.returns κ q r.now.gate gate_at u) $ await ! tt $ pick ! (λ b. learn ! (λ is_b.
     lands_as ! is_b refl (tt, tt) $
