@@ -42,8 +42,8 @@ pub use Rattle.fbl_input.specs.Faults.{PutsOut}
 pub use Rattle.fbl_input.specs.declared.fault.RunFault.{RunFault}
 pub use Rattle.fbl_input.specs.declared.output.OutputFault.{OutputFault}
 pub use Rattle.fbl_law.specs.Groups.{GroupRecord}
-pub use Rattle.fbl_play.specs.Plays.{Along, IsHistoryPlay, Moment, PlaysScript, PlaysUnheard}
-pub use Rattle.fbl_play.proofs.Moments.{play_unheard}
+pub use Rattle.fbl_play.specs.Plays.{Along, IsHistoryPlay, Moment, PlaysScript, PlaysUnheard, next_of}
+pub use Rattle.fbl_play.proofs.Moments.{play_unheard, run_unheard}
 pub use Rattle.fbl_play.specs.Transcripts.{Transcript, history, text}
 pub use Rattle.fbl_play.specs.declared.engine.RunHistory.{RunHistory}
 pub use Rattle.fbl_script.specs.Scripts.{IsScriptFault, IsScriptOf, Outline, behaviour_word, outline}
@@ -59,3 +59,5 @@ pub use Rattle.fbl_input.specs.Faults.{run_result}
 pub use Rattle.fblrun.specs.declared.DumpTask.TheVariants.{Audit, Check, Draw}
 pub use Rattle.fblrun.specs.declared.ScriptTask.TheVariants.{Play, Show}
 pub use Rattle.fblrun.specs.declared.Task.TheVariants.{Dump, Script}
+pub use Rattle.std.proofs.lemmas.Option.{IfSome_then}
+pub use Rattle.fbl_input.specs.Misfits.{run_fault}

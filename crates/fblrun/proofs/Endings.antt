@@ -3,7 +3,7 @@ use Rattle.fbl_base.specs.declared.trace.Note.{Note}
 use Rattle.fblrun.proofs.Common.{◌≡◌, ℕ, ◌||◌, ◌&&◌, not, Bool, false, List, [], ◌∷◌, Option, Some, None, Result, Ok, Err, IfSome, arith}
 use Rattle.fblrun.proofs.Common.{true, IsErrAnd, OutputFault, Parts, PutsOut, puts_as, IsChecked, IsDumpAnswer, Verdict, Safe, Unsafe, Check}
 use Rattle.fblrun.proofs.Common.{ap, ◌∙◌, list_any, or_false, RunFault, CommandAccount, is_refusal, Command, GroupRecord, Next}
-use Rattle.fblrun.proofs.Common.{Along, Moment, PlaysScript, Transcript, Outline, PlaysWell, play_unheard, status_after, text}
+use Rattle.fblrun.proofs.Common.{Along, IsHistoryPlay, IsShown, Moment, PlaysScript, RunHistory, Transcript, Outline, PlaysWell, behaviour_word, history, history_picture, next_of, play_unheard, run_unheard, status_after, text}
 
 -- what is known of what was done over an input is known of the status that it ends with
 pub ended : (known : Option (List ℕ)) (Does : List ℕ → Result Bool RunFault → Type 0) (done : Result Bool RunFault) (status : ℕ) → status ≡ status_after done
@@ -40,10 +40,31 @@ module _ {O : Type 0} (has : O → Bool) where
   keeps_refusals next workers [] (account ∷ accounts) old new is = absurd is
   keeps_refusals next workers (c ∷ cs) [] old new is = absurd is
 
-  -- so after a play it says whether all is well
-  pub plays_well : (workers : ℕ) (strict : Bool) (s : Outline) (before after : Option (List ℕ)) (old new : O) → has old ≡ false
-      → PlaysScript keeps counts workers s (text before) (text after) old new (Ok tt) → PlaysWell workers strict s before after (Ok (not (strict && has new)))
-  plays_well workers strict s before after old new fresh played =
-      let kept : has new ≡ list_any is_refusal played.0 =
-      keeps_refusals _ workers s.commands played.0 _ _ played.2.along ∙ ap (λ b. b || list_any is_refusal played.0) fresh in
-      (play_unheard keeps counts _ workers s.config s.commands (text before) (text after) old new (Ok tt) played, ap (λ b. not (strict && b)) kept)
+  module _ (workers : ℕ) (strict : Bool) (s : Outline) (before after : Option (List ℕ)) (old new : O) where
+    -- so after a play it says whether all is well
+    pub plays_well : has old ≡ false → PlaysScript keeps counts workers s (text before) (text after) old new (Ok tt) → PlaysWell workers strict s before after (Ok (not (strict && has new)))
+    plays_well fresh played =
+        let kept : has new ≡ list_any is_refusal played.0 =
+        keeps_refusals _ workers s.commands played.0 _ _ played.2.along ∙ ap (λ b. b || list_any is_refusal played.0) fresh in (
+          (played.0, played.1, run_unheard keeps counts (next_of s.behaviour) workers s.config s.commands played.0 (text before) old _ played.2),
+          ap (λ b. not (strict && b)) kept,
+        )
+
+    -- or the play stopped
+    pub plays_short : (fault : OutputFault) (r : Result Bool OutputFault) → IsErrAnd r (λ e. e ≡ fault) → PlaysScript keeps counts workers s (text before) (text after) old new (Err fault)
+        → PlaysWell workers strict s before after r
+    plays_short fault (Ok x) same played = absurd same
+    plays_short fault (Err e) same played =
+        rw same (play_unheard keeps counts (next_of s.behaviour) workers s.config s.commands (text before) (text after) old new (Err fault) played)
+
+  -- the picture of a history is one of a play of which nobody hears
+  module _ {E : Type 0} (workers : ℕ) (s : Outline) (old new : O) (played : RunHistory) (is : IsHistoryPlay {E = E} keeps counts workers s old new (Ok played)) where
+    abbrev pub IsPicture : List ℕ → Type 0
+    IsPicture drawn = drawn ≡ history_picture played.members played.f (behaviour_word played.behaviour) played.history
+
+    pub shown : (drawn : List ℕ) → IsPicture drawn → IsShown workers s drawn
+    shown drawn picture = (
+      played.history,
+      play_unheard keeps counts (next_of s.behaviour) workers s.config s.commands (history None) (history (Some played.history)) old new (Ok tt) is.3,
+      picture ∙ (λ j. history_picture (is.0 j) (is.1 j) (behaviour_word (is.2 j)) played.history),
+    )
