@@ -42,7 +42,7 @@ pub use Rattle.fbl_input.specs.Faults.{PutsOut}
 pub use Rattle.fbl_input.specs.declared.fault.RunFault.{RunFault}
 pub use Rattle.fbl_input.specs.declared.output.OutputFault.{OutputFault}
 pub use Rattle.fbl_law.specs.Groups.{GroupRecord}
-pub use Rattle.fbl_play.specs.Plays.{Along, IsHistoryPlay, Moment, PlaysScript, PlaysUnheard, next_of}
+pub use Rattle.fbl_play.specs.Plays.{Along, Moment, PlaysScript, PlaysUnheard, next_of}
 pub use Rattle.fbl_play.proofs.Moments.{play_unheard, run_unheard}
 pub use Rattle.fbl_play.specs.Transcripts.{Transcript, history, text}
 pub use Rattle.fbl_play.specs.declared.engine.RunHistory.{RunHistory}

@@ -3,7 +3,7 @@ use Rattle.fbl_base.specs.declared.trace.Note.{Note}
 use Rattle.fblrun.proofs.Common.{◌≡◌, ℕ, ◌||◌, ◌&&◌, not, Bool, false, List, [], ◌∷◌, Option, Some, None, Result, Ok, Err, IfSome, arith}
 use Rattle.fblrun.proofs.Common.{true, IsErrAnd, OutputFault, Parts, PutsOut, puts_as, IsChecked, IsDumpAnswer, Verdict, Safe, Unsafe, Check}
 use Rattle.fblrun.proofs.Common.{ap, ◌∙◌, list_any, or_false, RunFault, CommandAccount, is_refusal, Command, GroupRecord, Next}
-use Rattle.fblrun.proofs.Common.{Along, IsHistoryPlay, IsShown, Moment, PlaysScript, RunHistory, Transcript, Outline, PlaysWell, behaviour_word, history, history_picture, next_of, play_unheard, run_unheard, status_after, text}
+use Rattle.fblrun.proofs.Common.{Along, IsShown, Moment, PlaysScript, RunHistory, Transcript, Outline, PlaysWell, behaviour_word, history, history_picture, next_of, play_unheard, run_unheard, status_after, text}
 
 -- what is known of what was done over an input is known of the status that it ends with
 pub ended : (known : Option (List ℕ)) (Does : List ℕ → Result Bool RunFault → Type 0) (done : Result Bool RunFault) (status : ℕ) → status ≡ status_after done
@@ -58,7 +58,8 @@ module _ {O : Type 0} (has : O → Bool) where
         rw same (play_unheard keeps counts (next_of s.behaviour) workers s.config s.commands (text before) (text after) old new (Err fault) played)
 
   -- the picture of a history is one of a play of which nobody hears
-  module _ {E : Type 0} (workers : ℕ) (s : Outline) (old new : O) (played : RunHistory) (is : IsHistoryPlay {E = E} keeps counts workers s old new (Ok played)) where
+  module _ (workers : ℕ) (s : Outline) (old new : O) (played : RunHistory)
+      (is : (played.members ≡ s.config.members) × (played.f ≡ s.config.f) × (played.behaviour ≡ s.behaviour) × PlaysScript keeps counts workers s (history None) (history (Some played.history)) old new (Ok tt)) where
     abbrev pub IsPicture : List ℕ → Type 0
     IsPicture drawn = drawn ≡ history_picture played.members played.f (behaviour_word played.behaviour) played.history
 

@@ -17,7 +17,7 @@ returns-after-strict g c =
     let teller = c.play_script.new.observer in
     let refused : c.if-strict.is_refused ≡ (strict && teller.has_refused) = elim c.if-strict.branch [
       | goal.then-strict w ↦ rw w.if-strict.true (w.is_refused-is ∙ w.has_refused-is_refused.ensures)
-      | goal.else-strict w ↦ rw w.if-strict.false w.is_refused-is
+      | goal.else-strict w ↦ rw w.if-strict.false (w.is_refused-is ∙ w.if-strict.false)
     ] in
     rw (c.in-Play.is, refused) (plays_well (λ teller. teller.has_refused) c.in-Play.workers strict (outline c.args.script) had has c.new-teller.result teller c.new-teller.ensures
     c.in_ok-play_script-in-Play.ensures)
