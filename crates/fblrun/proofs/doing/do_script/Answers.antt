@@ -37,5 +37,12 @@ returns-in_err-write_history-in-Show g c =
 pub returns-in_ok-write_history-in-Show : goal.returns-in_ok-write_history-in-Show
 returns-in_ok-write_history-in-Show g c =
     let puts = c.in_ok-write_history-in-Show.ensures in
-    rw c.in-Show.is (puts.0, (shown (λ teller. teller.has_refused) c.in-Show.workers (outline c.args.script) c.new-teller.result c.history_of_script.new.observer
-    c.in_ok-played-in-Show.played c.in_ok-played-in-Show.ensures puts.0 puts.1, refl), puts.2)
+    rw c.in-Show.is (
+      puts.0,
+      (
+        shown (λ teller. teller.has_refused) c.in-Show.workers (outline c.args.script) c.new-teller.result c.history_of_script.new.observer
+            c.in_ok-played-in-Show.played c.in_ok-played-in-Show.ensures puts.0 puts.1,
+        refl,
+      ),
+      puts.2,
+    )
