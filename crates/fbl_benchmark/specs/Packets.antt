@@ -5,4 +5,6 @@ use Rattle.fbl_base.specs.Exactness.{IsExact, exact_fields, exact_lists, exact_n
 use Rattle.fbl_benchmark.specs.declared.packet.Packet.{Packet}
 
 pub exact_packet : IsExact (λ (a b : Packet). (a.hops == b.hops) && pointwise (λ (x y : ℕ). x == y) a.filling b.filling)
-exact_packet = exact_fields (λ p. p.hops) (λ p. p.filling) (λ a b hops filling. record { hops = hops; filling = filling }) exact_numbers (exact_lists exact_numbers)
+exact_packet =
+    exact_fields (λ (p : Packet). p.hops) (λ (p : Packet). p.filling) (λ (a b : Packet) hops filling i. record { hops = hops i; filling = filling i }) exact_numbers
+    (exact_lists exact_numbers)
