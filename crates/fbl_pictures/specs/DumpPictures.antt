@@ -3,7 +3,7 @@ use Rattle.std.specs.Prelude.{ℕ, ◌≡◌, ◌<◌, ◌↔◌, List, [], ◌�
 use Rattle.std.specs.Ordering.{nat_cmp}
 use Rattle.std.specs.FinSet as set
 use Rattle.fbl_base.specs.Audit.{Parts, IsDumpOrphan, IsOrphanStart, lost_determinants, orphan_start_in}
-use Rattle.fbl_lines.specs.Sets.{set_words}
+use Rattle.fbl_texts.specs.Sets.{set_words}
 use Rattle.fbl_pictures.specs.declared.shape.Legend.TheVariants.{Dump}
 use Rattle.fbl_pictures.specs.declared.shape.Shape.{Shape}
 use Rattle.fbl_pictures.specs.Marks.{joined}

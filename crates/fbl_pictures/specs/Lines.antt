@@ -1,6 +1,6 @@
 -- The texts of labels, of lines and of arrows.
 use Rattle.std.specs.Prelude.{ℕ, ◌+◌, ◌-◌, Bool, true, List, [], ◌∷◌, ◌++◌, Option, codes, decimal}
-use Rattle.fbl_lines.specs.Lines.{line}
+use Rattle.fbl_texts.specs.Lines.{line}
 use Rattle.fbl_pictures.specs.declared.shape.Status.{Status}
 use Rattle.fbl_pictures.specs.declared.shape.LineKind.{LineKind}
 use Rattle.fbl_pictures.specs.declared.shape.ArrowKind.{ArrowKind}

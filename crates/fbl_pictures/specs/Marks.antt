@@ -3,8 +3,8 @@ use Rattle.std.specs.Prelude.{ℕ, ◌+◌, ◌-◌, ◌*◌, Bool, true, false,
 use Rattle.std.specs.Ordering.{nat_cmp}
 use Rattle.std.specs.FinSet as set
 use Rattle.fbl_base.specs.declared.trace.Determinant.{Determinant}
-use Rattle.fbl_lines.specs.Lines.{line}
-use Rattle.fbl_lines.specs.Sets.{set_words}
+use Rattle.fbl_texts.specs.Lines.{line}
+use Rattle.fbl_texts.specs.Sets.{set_words}
 use Rattle.fbl_pictures.specs.declared.shape.Kind.{Kind}
 use Rattle.fbl_pictures.specs.declared.shape.Kind.TheVariants.{Stable, Recorded, Lost}
 use Rattle.fbl_pictures.specs.Places.{below, x, y}

@@ -1,7 +1,7 @@
 -- A picture: a frame with a heading and a legend, and in it the texts of shapes.
 use Rattle.std.specs.Prelude.{ℕ, ◌-◌, List, [], ◌∷◌, ◌++◌, codes, decimal}
 use Rattle.std.specs.List.{flat_map}
-use Rattle.fbl_lines.specs.Lines.{line}
+use Rattle.fbl_texts.specs.Lines.{line}
 use Rattle.fbl_pictures.specs.declared.look.TheConstants.{DUMP_LEGEND, HISTORY_LEGEND, LOOK}
 use Rattle.fbl_pictures.specs.declared.shape.Legend.{Legend}
 use Rattle.fbl_pictures.specs.declared.shape.Legend.TheVariants as legend

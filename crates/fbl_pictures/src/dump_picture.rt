@@ -12,7 +12,7 @@ use crate::shape::{Legend, Shape};
 use fbl_audit::orphan_starts;
 use fbl_base::MemberSet;
 use fbl_base::audit::{Audit, Dump};
-use fbl_lines::set_text;
+use fbl_texts::set_text;
 use std::alloc::{AllocError, Global};
 
 /// The numbers of the dump, and those that its audit prints.

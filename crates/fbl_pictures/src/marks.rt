@@ -7,7 +7,7 @@ use crate::places::{below, x, y};
 use crate::shape::Kind;
 use crate::words::{gone_class, receipts_word, undone_class, undone_words};
 use fbl_base::{Determinant, Member, MemberSet};
-use fbl_lines::set_text;
+use fbl_texts::set_text;
 use std::alloc::{AllocError, Global};
 
 /// The text of the stroke behind the number of an undone event, wider than so many characters.

@@ -16,7 +16,7 @@ pub use Rattle.fbl_base.specs.Precedence.{Has, itself}
 pub use Rattle.fbl_base.specs.declared.strike.Strike.{Strike}
 pub use Rattle.fbl_base.specs.declared.trace.Determinant.{Determinant}
 pub use Rattle.fbl_base.specs.declared.trace.Event.{Event}
-pub use Rattle.fbl_explain.specs.declared.account.CommandAccount.{CommandAccount}
+pub use Rattle.fbl_texts.specs.declared.account.CommandAccount.{CommandAccount}
 pub use Rattle.fbl_group.specs.Strikes.{lost_receipts, strike_refusal}
 pub use Rattle.fbl_history.specs.declared.column.Column.{Column}
 pub use Rattle.fbl_input.proofs.Inputs.{over_fault, over_input}
@@ -29,10 +29,10 @@ pub use Rattle.fbl_law.specs.GroupSteps.{IsGroupStart, IsStrike}
 pub use Rattle.fbl_law.specs.Groups.{GroupRecord, is_recorded, knowledge, marks}
 pub use Rattle.fbl_law.specs.Knowledge.{IsRecorded, IsUp, Names}
 pub use Rattle.fbl_law.specs.Sound.{IsSound}
-pub use Rattle.fbl_lines.specs.Lines.{report_lines}
+pub use Rattle.fbl_texts.specs.Lines.{report_lines}
 pub use Rattle.fbl_member.specs.Members.{MemberRecord}
-pub use Rattle.fbl_script.specs.Scripts.{IsScriptFault, IsScriptOf, Outline, outline}
-pub use Rattle.fbl_script.specs.declared.script.Command.{Command}
+pub use Rattle.fbl_texts.specs.Scripts.{IsScriptFault, IsScriptOf, Outline, outline}
+pub use Rattle.fbl_texts.specs.declared.script.Command.{Command}
 pub use Rattle.fbl_threads.specs.Drains.{Drains}
 pub use Rattle.fbl_threads.specs.declared.draining.DrainRefusal.{DrainRefusal}
 pub use Rattle.fbl_threads.specs.declared.draining.Drained.{Drained}

@@ -4,7 +4,7 @@ use Rattle.fbl_base.specs.declared.trace.Note.{Note}
 use Rattle.fbl_base.specs.Configs.{Settings}
 use Rattle.fbl_base.specs.Fold.{Next}
 use Rattle.fbl_base.specs.Steps.{relay_step, mix_step, numbered_from_0}
-use Rattle.fbl_explain.specs.declared.account.CommandAccount.{CommandAccount}
+use Rattle.fbl_texts.specs.declared.account.CommandAccount.{CommandAccount}
 use Rattle.fbl_input.specs.declared.fault.RunFault.{RunFault}
 use Rattle.fbl_input.specs.declared.output.OutputFault.{OutputFault}
 use Rattle.fbl_input.specs.declared.output.OutputFault.TheVariants as outputs
@@ -12,10 +12,10 @@ use Rattle.fbl_input.specs.Faults.{OverInput}
 use Rattle.fbl_law.specs.Groups.{GroupRecord}
 use Rattle.fbl_law.specs.GroupSteps.{IsGroupStart}
 use Rattle.fbl_law.specs.Sound.{IsSound}
-use Rattle.fbl_script.specs.declared.script.BehaviourName.{BehaviourName}
-use Rattle.fbl_script.specs.declared.script.BehaviourName.TheVariants.{Relay, Mix}
-use Rattle.fbl_script.specs.declared.script.Command.{Command}
-use Rattle.fbl_script.specs.Scripts.{Outline, IsScriptOf, IsScriptFault}
+use Rattle.fbl_texts.specs.declared.script.BehaviourName.{BehaviourName}
+use Rattle.fbl_texts.specs.declared.script.BehaviourName.TheVariants.{Relay, Mix}
+use Rattle.fbl_texts.specs.declared.script.Command.{Command}
+use Rattle.fbl_texts.specs.Scripts.{Outline, IsScriptOf, IsScriptFault}
 use Rattle.fbl_play.specs.declared.engine.RunHistory.{RunHistory}
 use Rattle.fbl_play.specs.declared.output.Output.{Output}
 use Rattle.fbl_play.specs.Runs.{Step}

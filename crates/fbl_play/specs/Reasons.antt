@@ -7,10 +7,10 @@ use Rattle.fbl_base.specs.MemberSets.{Members}
 use Rattle.fbl_base.specs.Plans.{IsFirstBad, IsPlanFault}
 use Rattle.fbl_base.specs.declared.fault.PlanFault.{PlanFault}
 use Rattle.fbl_base.specs.declared.strike.Strike.{Strike}
-use Rattle.fbl_explain.specs.declared.account.CommandAccount.{CommandAccount}
-use Rattle.fbl_explain.specs.declared.account.CommandAccount.TheVariants.{Refused}
-use Rattle.fbl_explain.specs.declared.reason.Reason.{Reason}
-use Rattle.fbl_explain.specs.declared.reason.Reason.TheVariants as reasons
+use Rattle.fbl_texts.specs.declared.account.CommandAccount.{CommandAccount}
+use Rattle.fbl_texts.specs.declared.account.CommandAccount.TheVariants.{Refused}
+use Rattle.fbl_texts.specs.declared.reason.Reason.{Reason}
+use Rattle.fbl_texts.specs.declared.reason.Reason.TheVariants as reasons
 use Rattle.fbl_group.specs.declared.refusals.CheckpointRefusal.{CheckpointRefusal}
 use Rattle.fbl_group.specs.declared.refusals.CheckpointRefusal.TheVariants as checkpoint
 use Rattle.fbl_group.specs.declared.refusals.DeliverRefusal.{DeliverRefusal}

@@ -4,10 +4,10 @@ use Rattle.fbl_base.specs.declared.trace.Note.{Note}
 use Rattle.fbl_base.specs.declared.strike.Strike.{Strike}
 use Rattle.fbl_base.specs.Fold.{Next}
 use Rattle.fbl_law.specs.Groups.{GroupRecord}
-use Rattle.fbl_explain.specs.declared.account.CommandAccount.{CommandAccount}
-use Rattle.fbl_explain.specs.declared.account.CommandAccount.TheVariants.{Ran}
-use Rattle.fbl_lines.specs.declared.lines.RunEnd.{RunEnd}
-use Rattle.fbl_lines.specs.declared.lines.RunEnd.TheVariants.{Quiet, Full, Stopped}
+use Rattle.fbl_texts.specs.declared.account.CommandAccount.{CommandAccount}
+use Rattle.fbl_texts.specs.declared.account.CommandAccount.TheVariants.{Ran}
+use Rattle.fbl_texts.specs.declared.lines.RunEnd.{RunEnd}
+use Rattle.fbl_texts.specs.declared.lines.RunEnd.TheVariants.{Quiet, Full, Stopped}
 use Rattle.fbl_threads.specs.declared.draining.Drained.{Drained}
 use Rattle.fbl_threads.specs.declared.draining.DrainRefusal.{DrainRefusal}
 use Rattle.fbl_threads.specs.declared.draining.DrainRefusal.TheVariants as drain

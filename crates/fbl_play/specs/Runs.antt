@@ -6,9 +6,9 @@ use Rattle.fbl_base.specs.declared.trace.Note.{Note}
 use Rattle.fbl_base.specs.declared.trace.Determinant.{Determinant}
 use Rattle.fbl_base.specs.Fold.{Next}
 use Rattle.fbl_base.specs.MemberSets.{AllBelow, Members}
-use Rattle.fbl_explain.specs.declared.account.CommandAccount.{CommandAccount}
-use Rattle.fbl_explain.specs.declared.account.CommandAccount.TheVariants.{Done, Lost, Refused, Undone}
-use Rattle.fbl_explain.specs.declared.reason.Reason.TheVariants as reasons
+use Rattle.fbl_texts.specs.declared.account.CommandAccount.{CommandAccount}
+use Rattle.fbl_texts.specs.declared.account.CommandAccount.TheVariants.{Done, Lost, Refused, Undone}
+use Rattle.fbl_texts.specs.declared.reason.Reason.TheVariants as reasons
 use Rattle.fbl_group.specs.declared.answers.Receipted.{Receipted}
 use Rattle.fbl_group.specs.declared.answers.Recovered.{Recovered}
 use Rattle.fbl_group.specs.declared.answers.Struck.{Struck}
@@ -24,8 +24,8 @@ use Rattle.fbl_group.specs.Strikes.{lost_receipts, strike_refusal, Strikes}
 use Rattle.fbl_law.specs.Dumps.{dump_of}
 use Rattle.fbl_law.specs.Groups.{GroupRecord, is_recorded, member_checkpoint}
 use Rattle.fbl_law.specs.GroupSteps.{IsCheckpoint}
-use Rattle.fbl_script.specs.declared.script.Command.{Command}
-use Rattle.fbl_script.specs.declared.script.Command.TheVariants as commands
+use Rattle.fbl_texts.specs.declared.script.Command.{Command}
+use Rattle.fbl_texts.specs.declared.script.Command.TheVariants as commands
 use Rattle.fbl_play.specs.declared.output.Output.{Output}
 use Rattle.fbl_play.specs.declared.output.Output.TheVariants as outputs
 use Rattle.fbl_play.specs.declared.output.Refusal.TheVariants as refusals

@@ -6,11 +6,11 @@ use Rattle.fbl_base.specs.Audit.{IsDumpOrphan, lost_determinants}
 use Rattle.fbl_member.specs.Members.{MemberRecord}
 use Rattle.fbl_law.specs.Groups.{GroupRecord, member, messages_in_flight}
 use Rattle.fbl_law.specs.Dumps.{dump_of}
-use Rattle.fbl_dump.specs.DumpLines.{dump_line}
+use Rattle.fbl_texts.specs.DumpLines.{dump_line}
 use Rattle.fbl_group.specs.Names.{checkpoint_name, deliver_name, dump_group_name, recover_name, strike_name}
-use Rattle.fbl_lines.specs.declared.lines.MemberStatus.{MemberStatus}
-use Rattle.fbl_lines.specs.declared.lines.Totals.{Totals}
-use Rattle.fbl_lines.specs.Lines.{checkpoint_line, deliver_line, recover_line, refused_at_line, refused_line, report_lines, run_line, states_line, strike_line}
+use Rattle.fbl_texts.specs.declared.lines.MemberStatus.{MemberStatus}
+use Rattle.fbl_texts.specs.declared.lines.Totals.{Totals}
+use Rattle.fbl_texts.specs.Lines.{checkpoint_line, deliver_line, recover_line, refused_at_line, refused_line, report_lines, run_line, states_line, strike_line}
 use Rattle.fbl_threads.specs.declared.draining.DrainRefusal.{DrainRefusal}
 use Rattle.fbl_threads.specs.declared.draining.DrainRefusal.TheVariants as drain
 use Rattle.fbl_threads.specs.Names.{drain_name}

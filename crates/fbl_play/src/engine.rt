@@ -4,7 +4,7 @@ ghost use Rattle.std.specs.Prelude.{IfSome, None};
 ghost use Rattle.fbl_base.specs.Configs.{WorkersAllowed};
 ghost use Rattle.fbl_play.specs.Plays.{IsHistoryPlay, IsPlay, PlaysScript, ReadsAndPlays};
 ghost use Rattle.fbl_play.specs.Transcripts.{text};
-ghost use Rattle.fbl_script.specs.Scripts.{outline};
+ghost use Rattle.fbl_texts.specs.Scripts.{outline};
 
 use crate::commands::run_command;
 use crate::observer::{NoObserver, Observer};
@@ -14,7 +14,7 @@ use fbl_base::{Behaviour, Config, Mix, Note, Relay};
 use fbl_group::Group;
 use fbl_history::History;
 use fbl_input::{OutputFault, RunFault};
-use fbl_script::{BehaviourName, Command, Script, read_script};
+use fbl_texts::{BehaviourName, Command, Script, read_script};
 use std::alloc::{AllocError, Global};
 use std::io::{Read, Write};
 use std::sync::Wait;

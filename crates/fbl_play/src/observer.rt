@@ -2,9 +2,9 @@
 
 use crate::transcript::Transcribed;
 use fbl_base::{Behaviour, Note};
-use fbl_explain::CommandAccount;
+use fbl_texts::CommandAccount;
 use fbl_group::Group;
-use fbl_script::Command;
+use fbl_texts::Command;
 
 /// Is told of each command of a run, in their order: before it is run, and once it was run and is in the transcript. Each
 /// time it sees the group and the transcript as they stand then. It has no part in what the run does and writes.
@@ -14,10 +14,10 @@ use fbl_script::Command;
 pub trait Observer {
     ghost use Rattle.std.specs.Prelude.{ℕ};
     ghost use Rattle.fbl_base.specs.declared.trace.Note.{Note};
-    ghost use Rattle.fbl_explain.specs.declared.account.CommandAccount.{CommandAccount};
+    ghost use Rattle.fbl_texts.specs.declared.account.CommandAccount.{CommandAccount};
     ghost use Rattle.fbl_law.specs.Groups.{GroupRecord};
     ghost use Rattle.fbl_play.specs.Transcripts.{Transcript};
-    ghost use Rattle.fbl_script.specs.declared.script.Command.{Command};
+    ghost use Rattle.fbl_texts.specs.declared.script.Command.{Command};
 
     ghost hears_before: { GroupRecord ℕ Note → Transcript → Self → Command → Self → Type 0 };
 

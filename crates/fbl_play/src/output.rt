@@ -1,18 +1,18 @@
 //! What commands print.
 
 ghost use Rattle.std.specs.Prelude.{◌≡◌, ◌<◌, IfOk, string_bytes};
-ghost use Rattle.fbl_lines.specs.Lines.{states_line};
+ghost use Rattle.fbl_texts.specs.Lines.{states_line};
 ghost use Rattle.fbl_play.specs.Texts.{AreTotals, IsReport, IsText, refusal_line, run_refusal_line, shown_state as shown_state_of, shown_states, shown_status as shown_status_of, shown_statuses};
 
 use fbl_base::audit::{Audit, Dump};
 use fbl_base::{Behaviour, Member, MemberSet, Note};
-use fbl_dump::dump_text;
-use fbl_explain::CommandAccount;
+use fbl_texts::dump_text;
+use fbl_texts::CommandAccount;
 use fbl_group::{
     CheckpointRefusal, DeliverRefusal, DumpGroupRefusal, Group, Receipted, RecoverRefusal,
     Recovered, StrikeRefusal, Struck,
 };
-use fbl_lines::{
+use fbl_texts::{
     MemberStatus, RunEnd, Totals, checkpoint_text, deliver_text, recover_text, refused_at_text,
     refused_text, report_text, run_text, states_text, strike_text,
 };

@@ -21,8 +21,8 @@ pub use Rattle.clap.specs.declared.parser.matches.ArgMatches.TheViews.{out-ArgMa
 pub use Rattle.clap.specs.declared.parser.matches.SubCommand.{SubCommand}
 pub use Rattle.fbl_base.proofs.Recorded.{or_false}
 pub use Rattle.fbl_base.specs.Configs.{WorkersAllowed}
-pub use Rattle.fbl_explain.specs.Accounts.{is_refusal}
-pub use Rattle.fbl_explain.specs.declared.account.CommandAccount.{CommandAccount}
+pub use Rattle.fbl_texts.specs.Accounts.{is_refusal}
+pub use Rattle.fbl_texts.specs.declared.account.CommandAccount.{CommandAccount}
 pub use Rattle.fbl_pictures.specs.HistoryPictures.{history_picture}
 pub use Rattle.fblrun.specs.CommandLines.{IsRefusedFor, IsRequestAt, IsRequestOf, Names, given_in, input_rule, output_rule}
 pub use Rattle.fblrun.specs.CommandLines.{IsCommandLine, IsOrderAt, audit_line, check_line, draw_line, flag_text, is_audit, is_check, is_draw, is_play, is_show, is_show_workers, is_workers}
@@ -34,7 +34,7 @@ pub use Rattle.fblrun.specs.declared.command_line.Misuse.TheVariants.{Words}
 pub use Rattle.fblrun.specs.declared.command_line.Request.{Request}
 pub use Rattle.fbl_base.specs.Configs.{Settings}
 pub use Rattle.fbl_base.specs.Fold.{Next}
-pub use Rattle.fbl_dump.specs.Dumps.{IsDumpFault, IsDumpOf}
+pub use Rattle.fbl_texts.specs.Dumps.{IsDumpFault, IsDumpOf}
 pub use Rattle.fbl_history.specs.declared.column.Column.{Column}
 pub use Rattle.fbl_input.proofs.Inputs.{over_fault, over_input}
 pub use Rattle.fbl_input.proofs.Outputs.{puts_as, puts_text}
@@ -46,15 +46,15 @@ pub use Rattle.fbl_play.specs.Plays.{Along, Moment, PlaysScript, PlaysUnheard, n
 pub use Rattle.fbl_play.proofs.Moments.{play_unheard, run_unheard}
 pub use Rattle.fbl_play.specs.Transcripts.{Transcript, history, text}
 pub use Rattle.fbl_play.specs.declared.engine.RunHistory.{RunHistory}
-pub use Rattle.fbl_script.specs.Scripts.{IsScriptFault, IsScriptOf, Outline, behaviour_word, outline}
-pub use Rattle.fbl_script.specs.declared.script.Command.{Command}
+pub use Rattle.fbl_texts.specs.Scripts.{IsScriptFault, IsScriptOf, Outline, behaviour_word, outline}
+pub use Rattle.fbl_texts.specs.declared.script.Command.{Command}
 pub use Rattle.fblrun.specs.Orders.{DoesScript, DoesTask, IsDumpAnswer, IsShown, PlaysWell}
 pub use Rattle.fbl_base.specs.Audit.{Parts}
 pub use Rattle.fbl_pictures.specs.DumpPictures.{IsPicture}
-pub use Rattle.fbl_dump.specs.Auditing.{IsAuditText}
-pub use Rattle.fbl_dump.specs.Checking.{IsChecked}
-pub use Rattle.fbl_dump.specs.declared.checking.Verdict.{Verdict}
-pub use Rattle.fbl_dump.specs.declared.checking.Verdict.TheVariants.{Safe, Unsafe}
+pub use Rattle.fbl_texts.specs.Auditing.{IsAuditText}
+pub use Rattle.fbl_texts.specs.Checking.{IsChecked}
+pub use Rattle.fbl_texts.specs.declared.checking.Verdict.{Verdict}
+pub use Rattle.fbl_texts.specs.declared.checking.Verdict.TheVariants.{Safe, Unsafe}
 pub use Rattle.fbl_input.specs.Faults.{run_result}
 pub use Rattle.fblrun.specs.declared.DumpTask.TheVariants.{Audit, Check, Draw}
 pub use Rattle.fblrun.specs.declared.ScriptTask.TheVariants.{Play, Show}

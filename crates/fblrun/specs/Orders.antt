@@ -3,18 +3,18 @@ use Rattle.std.specs.Prelude.{◌≡◌, ℕ, ◌&&◌, not, Bool, true, false, 
 use Rattle.std.specs.List.{list_any}
 use Rattle.fbl_base.specs.Audit.{Parts}
 use Rattle.fbl_pictures.specs.DumpPictures.{IsPicture}
-use Rattle.fbl_dump.specs.Auditing.{IsAuditText}
-use Rattle.fbl_dump.specs.Checking.{IsChecked}
-use Rattle.fbl_dump.specs.Dumps.{IsDumpFault, IsDumpOf}
-use Rattle.fbl_dump.specs.declared.checking.Verdict.TheVariants.{Safe, Unsafe}
-use Rattle.fbl_explain.specs.Accounts.{is_refusal}
+use Rattle.fbl_texts.specs.Auditing.{IsAuditText}
+use Rattle.fbl_texts.specs.Checking.{IsChecked}
+use Rattle.fbl_texts.specs.Dumps.{IsDumpFault, IsDumpOf}
+use Rattle.fbl_texts.specs.declared.checking.Verdict.TheVariants.{Safe, Unsafe}
+use Rattle.fbl_texts.specs.Accounts.{is_refusal}
 use Rattle.fbl_history.specs.declared.column.Column.{Column}
 use Rattle.fbl_input.specs.Faults.{OverInput, PutsOut}
 use Rattle.fbl_input.specs.declared.fault.RunFault.{RunFault}
 use Rattle.fbl_input.specs.declared.output.OutputFault.{OutputFault}
 use Rattle.fbl_play.specs.Plays.{PlaysUnheard}
 use Rattle.fbl_play.specs.Transcripts.{history, text}
-use Rattle.fbl_script.specs.Scripts.{Outline, IsScriptFault, IsScriptOf, behaviour_word}
+use Rattle.fbl_texts.specs.Scripts.{Outline, IsScriptFault, IsScriptOf, behaviour_word}
 use Rattle.fbl_pictures.specs.HistoryPictures.{history_picture}
 use Rattle.fblrun.specs.declared.DumpTask.{DumpTask}
 use Rattle.fblrun.specs.declared.DumpTask.TheVariants.{Audit, Check, Draw}

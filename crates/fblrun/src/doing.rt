@@ -2,7 +2,7 @@
 
 ghost use Rattle.std.specs.Prelude.{◌≡◌, ◌≤◌, IfSome};
 ghost use Rattle.fbl_input.specs.Faults.{PutsOut};
-ghost use Rattle.fbl_script.specs.Scripts.{behaviour_word, outline};
+ghost use Rattle.fbl_texts.specs.Scripts.{behaviour_word, outline};
 ghost use Rattle.fbl_pictures.specs.HistoryPictures.{history_picture};
 ghost use Rattle.fblrun.specs.Orders.{DoesScript, IsDumpAnswer, Obeys};
 
@@ -10,11 +10,11 @@ use crate::streams::Named;
 use crate::telling::{Teller, refuse_input, tell_why};
 use crate::{DumpTask, Order, ScriptTask, Task, end};
 use fbl_base::audit::Dump;
-use fbl_dump::{Verdict, read_dump, write_audit, write_check};
+use fbl_texts::{Verdict, read_dump, write_audit, write_check};
 use fbl_input::{OutputFault, put};
 use fbl_pictures::{show_text, write_picture};
 use fbl_play::{RunHistory, history_of_script, play_script};
-use fbl_script::{Script, read_script};
+use fbl_texts::{Script, read_script};
 use std::alloc::Global;
 use std::io::{Read, Write};
 use std::sync::Wait;

@@ -8,11 +8,11 @@ use crate::streams::Failure;
 use crate::{DumpTask, fail};
 use fbl_base::audit::Dump;
 use fbl_base::{Behaviour, Note};
-use fbl_explain::{AccountOf, CommandAccount, Words, why_lost, why_unsafe};
+use fbl_texts::{AccountOf, CommandAccount, Words, why_lost, why_unsafe};
 use fbl_group::Group;
 use fbl_input::{InputFault, RunFault};
 use fbl_play::{Observer, Transcribed};
-use fbl_script::Command;
+use fbl_texts::Command;
 use std::alloc::Global;
 use std::fmt;
 
@@ -92,7 +92,7 @@ impl<'a, R> Teller<'a, R> {
 
 impl<R: Eprint> Observer for Teller<'_, R> {
     ghost use Rattle.std.specs.Prelude.{◌≡◌, ◌||◌};
-    ghost use Rattle.fbl_explain.specs.Accounts.{is_refusal};
+    ghost use Rattle.fbl_texts.specs.Accounts.{is_refusal};
 
     // what is told on standard error no contract sees
     ghost hears_before = { λ _ _ old _ new. new.has_refused ≡ old.has_refused };

@@ -1,7 +1,7 @@
 //! Dumps as their lines, and audits over readers and writers that fail.
 
 use super::plays::FAILURES;
-use fbl_dump::{Verdict, audit, dump_text, read_dump, write_audit, write_check};
+use fbl_texts::{Verdict, audit, dump_text, read_dump, write_audit, write_check};
 use fbl_fixtures::{Page, UnsteadyReader, UnsteadyWriter};
 use fbl_input::{OutputFault, RunFault};
 use std::alloc::Global;

@@ -5,7 +5,7 @@ ghost use Rattle.std.specs.Prelude.{◌<◌};
 use fbl_base::{Member, MemberSet};
 use fbl_history::{Column, Replay};
 use fbl_play::{NoObserver, history_of_script};
-use fbl_script::read_script;
+use fbl_texts::read_script;
 use std::alloc::Global;
 use std::sync::Wait;
 use std::test::Fail;

@@ -1,7 +1,7 @@
 //! Pictures of dumps, over writers that fail.
 
 use super::dumps::{LOST, stopped_at};
-use fbl_dump::read_dump;
+use fbl_texts::read_dump;
 use fbl_fixtures::{FailedWrite, Page, UnsteadyWriter};
 use fbl_input::OutputFault;
 use fbl_pictures::write_picture;

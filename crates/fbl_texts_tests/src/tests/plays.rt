@@ -3,7 +3,7 @@
 use fbl_fixtures::{FailedWrite, Page, UnsteadyReader, UnsteadyWriter};
 use fbl_input::RunFault;
 use fbl_play::{NoObserver, play, play_script};
-use fbl_script::read_script;
+use fbl_texts::read_script;
 use std::test::Fail;
 
 /// Two strikes, one after the other, each with its recovery.

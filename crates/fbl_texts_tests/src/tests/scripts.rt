@@ -3,7 +3,7 @@
 use fbl_base::{MemberSet, Start, Strike};
 use fbl_fixtures::{set, start, strike};
 use fbl_input::put;
-use fbl_script::{BehaviourName, Command, Script, read_script};
+use fbl_texts::{BehaviourName, Command, Script, read_script};
 use std::test::Fail;
 
 /// A script with each command that both versions have.

@@ -1,6 +1,0 @@
-pub mod Common
-pub mod Newlines
-pub mod DumpValues
-pub mod DumpTexts
-pub mod DumpFaults
-pub mod Verdicts

@@ -1,4 +1,0 @@
-pub mod Dumps
-pub mod DumpLines
-pub mod Auditing
-pub mod Checking

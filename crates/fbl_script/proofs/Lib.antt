@@ -1,2 +1,0 @@
-pub mod ScriptFaults
-pub mod Versions

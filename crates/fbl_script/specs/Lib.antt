@@ -1,3 +1,0 @@
-pub mod Scripts
-pub mod Laws
-pub mod Commands

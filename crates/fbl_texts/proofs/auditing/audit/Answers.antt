@@ -1,0 +1,19 @@
+use Rattle.std.proofs.Common.{Err, Ok, refl, ap, ◌∙◌}
+use Rattle.std.proofs.lemmas.Result.{err_from_is_err_and}
+use Rattle.fbl_texts.proofs.Common.{IsAuditText, IsDumpFault, IsDumpOf, PutsOut, over_input}
+use Rattle.fbl_texts.proofs.auditing.audit.Goals as goal
+
+pub returns-in_err-write_audit : goal.returns-in_err-write_audit
+returns-in_err-write_audit g c =
+    let had = g.W.Write.contents c.args.writer.now in
+    let has = g.W.Write.contents c.write_audit.new.writer in
+    let failed = err_from_is_err_and c.from_residual-in_err-write_audit.result c.from_residual-in_err-write_audit.ensures.1 in
+    over_input IsDumpOf IsDumpFault (λ dump. PutsOut (λ _. IsAuditText dump) had has) had has _ c.in_ok-dump.dump
+    (Err c.in_err-write_audit.field-0.0) _ c.in_ok-dump.ensures.dump c.in_err-write_audit.ensures (failed.1 ∙ ap Err failed.2)
+
+pub returns : goal.returns
+returns g c =
+    let had = g.W.Write.contents c.args.writer.now in
+    let has = g.W.Write.contents c.write_audit.new.writer in
+    over_input IsDumpOf IsDumpFault (λ dump. PutsOut (λ _. IsAuditText dump) had has) had has _ c.in_ok-dump.dump
+    (Ok tt) _ c.in_ok-dump.ensures.dump c.in_ok-write_audit.ensures refl

@@ -1,0 +1,11 @@
+pub mod Scripts
+pub mod Laws
+pub mod Commands
+pub mod Dumps
+pub mod DumpLines
+pub mod Auditing
+pub mod Checking
+pub mod Sets
+pub mod Lines
+pub mod Accounts
+pub mod Whys

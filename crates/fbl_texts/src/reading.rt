@@ -1,0 +1,163 @@
+//! Dumps as JSON.
+
+ghost use Rattle.std.specs.Prelude.{◌≡◌, map, IfOk, IfErr, IfSome};
+ghost use Rattle.serde_json.specs.Data.{Data};
+ghost use Rattle.serde_json.specs.View.{view};
+ghost use Rattle.fbl_base.specs.DumpParts.{parts_of};
+ghost use Rattle.fbl_input.specs.Items.{event_from, pair_from, receipt_from, send_from};
+ghost use Rattle.fbl_input.specs.Misfits.{Gives, IsMisfit, IsOfShape};
+ghost use Rattle.fbl_input.specs.declared.misfit.InputKind.TheVariants as kinds;
+ghost use Rattle.fbl_texts.specs.Dumps.{IsDumpMisfit, IsDumpOf, IsNoDump, parts_of_data};
+
+use fbl_base::audit::{Dump, checked_dump};
+use fbl_base::{Determinant, Mark, Member, RawDump};
+use fbl_input::shapes::{
+    ByteShape, JsonShape, count_in, is_named, list_in, member_in, no_other_key, object_in,
+    set_field, value_field, value_in, values_field,
+};
+use fbl_input::{InputFault, InputKind, Key, Misfit, read_input};
+use serde_json::Value;
+use std::alloc::Global;
+use std::io::Read;
+
+fn send_in(name: &Value, from: &Value, ssn: &Value, to: &Value) -> Option<Mark>
+    ensures { result ≡ send_from (view name.now) (view from.now) (view ssn.now) (view to.now) }
+{
+    if !is_named(name, "send") {
+        return None;
+    }
+    let from = member_in(from)?;
+    let ssn = count_in(ssn)?;
+    let to = member_in(to)?;
+    Some(Mark::Send { from, ssn, to })
+}
+
+fn receipt_in(name: &Value, to: &Value, rsn: &Value, from: &Value, ssn: &Value) -> Option<Mark>
+    ensures { result ≡ receipt_from (view name.now) (view to.now) (view rsn.now) (view from.now) (view ssn.now) }
+{
+    if !is_named(name, "receipt") {
+        return None;
+    }
+    let to = member_in(to)?;
+    let rsn = count_in(rsn)?;
+    let from = member_in(from)?;
+    let ssn = count_in(ssn)?;
+    Some(Mark::Receipt { to, rsn, from, ssn })
+}
+
+fn event_of(list: &[Value]) -> Option<Mark>
+    ensures { result ≡ event_from (map view list.now) }
+{
+    match list {
+        [name, from, ssn, to] => send_in(name, from, ssn, to),
+        [name, to, rsn, from, ssn] => receipt_in(name, to, rsn, from, ssn),
+        _ => None,
+    }
+}
+
+/// An event: a list that begins with its name.
+struct EventShape;
+
+impl JsonShape<Mark> for EventShape {
+    ghost use Rattle.fbl_input.specs.Items.{event_shape};
+
+    ghost shape = { event_shape };
+
+    fn in_value(value: &Value) -> Option<Mark> {
+        event_of(list_in(value)?)
+    }
+}
+
+fn pair_of(list: &[Value]) -> Option<(Member, Determinant)>
+    ensures { result ≡ pair_from (map view list.now) }
+{
+    match list {
+        [holder, from, ssn, to, rsn] => {
+            let holder = member_in(holder)?;
+            let from = member_in(from)?;
+            let ssn = count_in(ssn)?;
+            let to = member_in(to)?;
+            let rsn = count_in(rsn)?;
+            Some((holder, Determinant { from, ssn, to, rsn }))
+        }
+        _ => None,
+    }
+}
+
+/// A held pair: a list of the holder and the parts of the determinant.
+struct PairShape;
+
+impl JsonShape<(Member, Determinant)> for PairShape {
+    ghost use Rattle.fbl_input.specs.Items.{pair_shape};
+
+    ghost shape = { pair_shape };
+
+    fn in_value(value: &Value) -> Option<(Member, Determinant)> {
+        pair_of(list_in(value)?)
+    }
+}
+
+/// The dump that a value gives, not yet checked.
+#[tactic(auto, unfolding(crate::specs::Dumps::parts_of_data))]
+fn raw_dump_of(alloc: Global, value: &Value) -> Result<RawDump, Misfit>
+    ensures exact { Gives parts_of result (parts_of_data (view value.now)) }
+    ensures faults { IfErr result IsOfShape }
+    ensures misfit { IfErr result (IsMisfit kinds.Dump (view value.now)) }
+{
+    let kind = InputKind::Dump;
+    let object = object_in(kind, value)?;
+    let members = value_field::<u8, ByteShape>(alloc, kind, value, Key::Members)?;
+    let f = value_field::<u8, ByteShape>(alloc, kind, value, Key::F)?;
+    let events = values_field::<Mark, EventShape>(alloc, kind, value, Key::Events)?;
+    let held = values_field::<(Member, Determinant), PairShape>(alloc, kind, value, Key::Held)?;
+    let strike = set_field(alloc, kind, value)?;
+    no_other_key(alloc, kind, value, object)?;
+    Ok(RawDump {
+        members,
+        f,
+        events,
+        held,
+        strike,
+    })
+}
+
+/// The dump that the bytes spell, or their first fault.
+fn dump_in(alloc: Global, input: &[u8]) -> Result<Dump, Misfit>
+    ensures dump { IfOk result (IsDumpOf input.now) }
+    ensures fault { IfErr result (IsDumpMisfit input.now) }
+{
+    let value = value_in(alloc, input)?;
+    let raw = raw_dump_of(alloc, &value)?;
+    match checked_dump(alloc, raw) {
+        Ok(dump) => Ok(dump),
+        Err(fault) => Err(Misfit::Dump(fault)),
+    }
+}
+
+/// The dump that the reader has, as one JSON object, or the first fault of the input, with the place, what stands there and
+/// what is wanted there.
+pub fn read_dump<R: Read>(alloc: Global, reader: &mut R) -> Result<Dump, InputFault>
+    ensures dump { IfOk result (λ dump. IfSome (R.remaining reader.old) (λ input. IsDumpOf input dump)) }
+    ensures fault { IfErr result (λ fault. IfSome (R.remaining reader.old) (λ input. IsNoDump input fault)) }
+{
+    let kind = InputKind::Dump;
+    let input = match read_input(alloc, reader) {
+        Ok(input) => input,
+        Err(misfit) => {
+            let input = Vec::new(alloc);
+            return Err(InputFault {
+                kind,
+                misfit,
+                input,
+            });
+        }
+    };
+    match dump_in(alloc, input.as_slice()) {
+        Ok(dump) => Ok(dump),
+        Err(misfit) => Err(InputFault {
+            kind,
+            misfit,
+            input,
+        }),
+    }
+}

@@ -1,0 +1,105 @@
+//! What a script asks for: a group, the behaviour that it names, and commands, of which a run has a plan.
+
+ghost use Rattle.std.specs.Prelude.{◌≡◌};
+ghost use Rattle.fbl_texts.specs.Scripts.{behaviour_word};
+
+use fbl_base::{Config, Member, MemberSet, Strike};
+use std::marker::Model;
+
+/// The version of a script, which says what commands it may have.
+#[derive(Clone, Copy, Debug, PartialEq, Eq)]
+pub(crate) enum Version {
+    /// Version 1: every command but the checkpoint.
+    First,
+    /// Version 2: every command.
+    Second,
+}
+
+/// A behaviour that a script names.
+#[derive(Clone, Copy, Debug, PartialEq, Eq)]
+pub enum BehaviourName {
+    /// `relay`
+    Relay,
+    /// `mix`
+    Mix,
+}
+
+impl BehaviourName {
+    /// The word by which a script names it.
+    pub fn name(self) -> &'static str
+        ensures { result.now ≡ behaviour_word self }
+    {
+        match self {
+            BehaviourName::Relay => "relay",
+            BehaviourName::Mix => "mix",
+        }
+    }
+}
+
+/// The strikes that a run makes on its way, in the order given. Contracts see the list.
+#[derive(Debug, Drop)]
+pub struct Plan {
+    strikes: Vec<Strike>,
+}
+
+impl Model for Plan {
+    ghost use Rattle.std.specs.Prelude.{List};
+    ghost use Rattle.fbl_base.specs.declared.strike.Strike.{Strike};
+
+    ghost Value = { List Strike };
+
+    ghost use Rattle.std.specs.Coded.{codes};
+    ghost use Rattle.fbl_base.specs.contracts.strike.Strike as strike;
+
+    ghost coded = { Prim.hlevel (codes, strike.the_row.coded) };
+
+    ghost view = { λ p. p.strikes.items };
+}
+
+impl Plan {
+    /// A plan of these strikes.
+    pub fn new(strikes: Vec<Strike>) -> Plan
+        ensures { result ≡ strikes.items }
+    {
+        Plan { strikes }
+    }
+
+    /// The strikes, in order.
+    pub fn strikes(&self) -> &[Strike]
+        ensures { result.now ≡ self.now }
+    {
+        self.strikes.as_slice()
+    }
+}
+
+/// A command of a script.
+#[derive(Debug, Drop)]
+pub enum Command {
+    /// Deliver the first message from `from` to `to`.
+    Deliver { to: Member, from: Member },
+    /// Print the members' states.
+    States,
+    /// Print what each member has, and the totals.
+    Report,
+    /// Strike the members.
+    Strike(MemberSet),
+    /// Recover the members that are down.
+    Recover,
+    /// Print the dump with this strike set. Nobody is struck by it.
+    Dump(MemberSet),
+    /// Let workers deliver until nothing is in flight.
+    Run(Plan),
+    /// Take a checkpoint of the member. Only scripts of version 2 have it.
+    Checkpoint(Member),
+}
+
+/// What a script asks for.
+#[derive(Debug, Drop)]
+pub struct Script {
+    /// What each member does with a message.
+    pub behaviour: BehaviourName,
+    /// The parameters of the group.
+    pub config: Config,
+    /// The commands, in order.
+    pub commands: Vec<Command>,
+}

@@ -1,0 +1,42 @@
+//! How a set of members is printed.
+
+ghost use Rattle.std.specs.Prelude.{◌≡◌, ◌++◌, IfOk, OnOk, string_bytes};
+ghost use Rattle.fbl_texts.specs.Sets.{after_commas, with_commas, set_words};
+
+use fbl_base::{Member, MemberSet};
+use std::alloc::{AllocError, Global};
+
+/// Writes each member after a comma.
+fn push_members(text: &mut String, members: &[Member]) -> Result<(), AllocError>
+    ensures { OnOk result (string_bytes text.new ≡ string_bytes text.old ++ after_commas members.now) }
+{
+    for member in members {
+        let number = member.number();
+        write!(text, ",{number}")?;
+    }
+    Ok(())
+}
+
+/// The members with commas between.
+fn listed_text(alloc: Global, members: &[Member]) -> Result<String, AllocError>
+    ensures { IfOk result (λ text. string_bytes text ≡ with_commas members.now) }
+{
+    match members {
+        [] => String::from_str(alloc, "none"),
+        [first, others @ ..] => {
+            let number = first.number();
+            let mut text = format!(in alloc; "{number}")?;
+            push_members(&mut text, others)?;
+            Ok(text)
+        }
+    }
+}
+
+/// The set as it is printed: its members, rising, with commas between and no spaces. The empty set is `none`. `Err` comes
+/// only where there is no memory for it.
+pub fn set_text(alloc: Global, set: MemberSet) -> Result<String, AllocError>
+    ensures { IfOk result (λ text. string_bytes text ≡ set_words set) }
+{
+    let members = set.members(alloc)?;
+    listed_text(alloc, members.as_slice())
+}
