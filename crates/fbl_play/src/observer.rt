@@ -2,9 +2,8 @@
 
 use crate::transcript::Transcribed;
 use fbl_base::{Behaviour, Note};
-use fbl_texts::CommandAccount;
 use fbl_group::Group;
-use fbl_texts::Command;
+use fbl_texts::{Command, CommandAccount};
 
 /// Is told of each command of a run, in their order: before it is run, and once it was run and is in the transcript. Each
 /// time it sees the group and the transcript as they stand then. It has no part in what the run does and writes.

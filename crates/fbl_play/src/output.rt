@@ -6,15 +6,13 @@ ghost use Rattle.fbl_play.specs.Texts.{AreTotals, IsReport, IsText, refusal_line
 
 use fbl_base::audit::{Audit, Dump};
 use fbl_base::{Behaviour, Member, MemberSet, Note};
-use fbl_texts::dump_text;
-use fbl_texts::CommandAccount;
 use fbl_group::{
     CheckpointRefusal, DeliverRefusal, DumpGroupRefusal, Group, Receipted, RecoverRefusal,
     Recovered, StrikeRefusal, Struck,
 };
 use fbl_texts::{
-    MemberStatus, RunEnd, Totals, checkpoint_text, deliver_text, recover_text, refused_at_text,
-    refused_text, report_text, run_text, states_text, strike_text,
+    CommandAccount, MemberStatus, RunEnd, Totals, checkpoint_text, deliver_text, dump_text,
+    recover_text, refused_at_text, refused_text, report_text, run_text, states_text, strike_text,
 };
 use fbl_threads::DrainRefusal;
 use std::alloc::{AllocError, Global};

@@ -8,10 +8,8 @@ ghost use Rattle.fbl_play.specs.RunSteps.{RunStep, IsRunAccount, IsRunOutput, en
 use crate::output::{Answer, Output, Refusal};
 use crate::reasons::run_reason;
 use fbl_base::{Behaviour, Note};
-use fbl_texts::{CommandAccount, RunCounts};
 use fbl_group::Group;
-use fbl_texts::RunEnd;
-use fbl_texts::Plan;
+use fbl_texts::{CommandAccount, Plan, RunCounts, RunEnd};
 use fbl_threads::{DrainRefusal, Drained, NoGate, drain};
 use std::alloc::{AllocError, Global};
 use std::sync::Wait;

@@ -3,11 +3,11 @@
 ghost use Rattle.std.specs.Prelude.{◌≡◌};
 ghost use Rattle.fbl_texts.specs.Accounts.{is_refusal as is_refusal_of, is_told as is_told_of};
 
+use crate::Command;
 use crate::reason::Reason;
 use crate::words::{ReceiptWords, Words};
 use arrayvec::ArrayVec;
 use fbl_base::{Determinant, Strike};
-use crate::Command;
 use std::fmt;
 
 /// What a command did beside what its lines say.

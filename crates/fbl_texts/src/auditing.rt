@@ -4,10 +4,10 @@ ghost use Rattle.std.specs.Prelude.{IfOk, IfSome, string_bytes};
 ghost use Rattle.fbl_input.specs.Faults.{PutsOut};
 ghost use Rattle.fbl_texts.specs.Auditing.{Audits, IsAuditText};
 
+use crate::audit_text;
 use crate::reading::read_dump;
 use fbl_base::audit::{Audit, Dump};
 use fbl_input::{OutputFault, RunFault, put};
-use crate::audit_text;
 use std::alloc::{AllocError, Global};
 use std::io::{Read, Write};
 

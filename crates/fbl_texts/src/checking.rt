@@ -6,10 +6,10 @@ ghost use Rattle.fbl_audit.specs.Checking.{IsSafe, SaysUnsafe};
 ghost use Rattle.fbl_input.specs.Faults.{PutsOut};
 ghost use Rattle.fbl_texts.specs.Checking.{IsChecked, check_lines, unsafe_lines};
 
+use crate::{safe_text, unsafe_text};
 use fbl_audit::{UnsafeReceipt, unsafe_receipts};
 use fbl_base::audit::{Audit, Dump};
 use fbl_input::{OutputFault, put};
-use crate::{safe_text, unsafe_text};
 use std::alloc::{AllocError, Global};
 use std::io::Write;
 

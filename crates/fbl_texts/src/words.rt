@@ -1,7 +1,7 @@
 //! Commands in words.
 
-use fbl_base::{Determinant, Strike};
 use crate::Command;
+use fbl_base::{Determinant, Strike};
 use std::fmt;
 
 /// A plan as a script has it, as in `[[2,[1]],[5,[0,3]]]`.

@@ -8,11 +8,10 @@ use crate::streams::Failure;
 use crate::{DumpTask, fail};
 use fbl_base::audit::Dump;
 use fbl_base::{Behaviour, Note};
-use fbl_texts::{AccountOf, CommandAccount, Words, why_lost, why_unsafe};
 use fbl_group::Group;
 use fbl_input::{InputFault, RunFault};
 use fbl_play::{Observer, Transcribed};
-use fbl_texts::Command;
+use fbl_texts::{AccountOf, Command, CommandAccount, Words, why_lost, why_unsafe};
 use std::alloc::Global;
 use std::fmt;
 
