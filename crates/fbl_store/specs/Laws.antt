@@ -20,15 +20,6 @@ changed-most : (command : Command) (old : ℕ) → changed command old ≤ old +
 changed-most (Put key value) old = omega arith
 changed-most (Add key amount) old = omega arith
 
-sum-after : (command : Command) (values : List ℕ) → sum (applied command values) ≤ sum values + amount_of command
-sum-after command values = at (cases_lt (key_of command) (length values)) where
-  after : ℕ
-  after = changed command (slice_index values (key_of command))
-
-  at : (key_of command < length values) ⊎ (length values ≤ key_of command) → sum (applied command values) ≤ sum values + amount_of command
-  at (inl within) = omega (arith, sum_by-set (λ v. v) values (key_of command) after 0 within, changed-most command (slice_index values (key_of command)))
-  at (inr past) = omega (arith, ap sum (set_past values (key_of command) after past))
-
 pub shard_first : (c : Settings Command) → IsConfig shard_next.allowed c → HoldsFirst shard_next c (HoldsItsOwn c) AnyNote
 shard_first c config = ((λ me member key other. get_or-same 256 key 0), (λ i default within. tt))
 
@@ -48,30 +39,37 @@ shard_makes_none c config me from values command member own any = here (key_owne
   weight : Outcome (List ℕ) Command → ℕ
   weight outcome = sum outcome.state + sum_by (λ s. amount_of s.1) outcome.sends.items
 
-  here : (its : Bool) → (key_owner c.members (key_of command) == me) ≡ its → weight (shard_step me c.members values command) ≤ sum values + amount_of command
-  here true its = rw its (omega (arith, sum-after command values))
-  here false not = rw not (omega arith)
+  after : ℕ
+  after = changed command (slice_index values (key_of command))
 
--- a step changes the value of a key of its member's as the command does, and leaves the number of values
-step-changes : (n key : ℕ) (values : List ℕ) (command : Command) → length values ≡ 256 → key < 256
-    → (slice_index (shard_step (key_owner n key) n values command).state key ≡ changed_at key (slice_index values key) command)
-    × (length (shard_step (key_owner n key) n values command).state ≡ 256)
-step-changes n key values command count within = here (key_of command == key) refl (key_owner n (key_of command) == key_owner n key) refl where
-  here : (same : Bool) → (key_of command == key) ≡ same → (its : Bool) → (key_owner n (key_of command) == key_owner n key) ≡ its
-      → (slice_index (shard_step (key_owner n key) n values command).state key ≡ changed_at key (slice_index values key) command)
-      × (length (shard_step (key_owner n key) n values command).state ≡ 256)
-  here true same true its = rw (its, same, eqb-true (key_of command) key same) (get_or-set_same values key (changed command (slice_index values key)) 0 (rw count within), (length-set values key (changed command (slice_index values key)) ∙ count))
-  here true same false other = absurd (false≢true (grind (arith, nat_tests, same, other)))
-  here false not true its = rw (its, not) (get_or-set_other values (key_of command) key (changed command (slice_index values (key_of command))) 0 (λ e. grind (arith, nat_tests, not, e)), (length-set values (key_of command) (changed command (slice_index values (key_of command))) ∙ count))
-  here false not false other = rw (other, not) (refl, count)
+  sum-after : (key_of command < length values) ⊎ (length values ≤ key_of command) → sum (applied command values) ≤ sum values + amount_of command
+  sum-after (inl within) = omega (arith, sum_by-set (λ v. v) values (key_of command) after 0 within, changed-most command (slice_index values (key_of command)))
+  sum-after (inr past) = omega (arith, ap sum (set_past values (key_of command) after past))
+
+  here : (its : Bool) → (key_owner c.members (key_of command) == me) ≡ its → weight (shard_step me c.members values command) ≤ sum values + amount_of command
+  here true its = rw its (omega (arith, sum-after (cases_lt (key_of command) (length values))))
+  here false not = rw not (omega arith)
 
 -- so the value of a key at its owner is what the commands that the owner received make of it, each once and in their order
 pub shard_value : (n key : ℕ) (commands : List Command) → key < 256
     → slice_index (state_after shard_next (key_owner n key) n commands) key ≡ made_of key commands
 shard_value n key commands within = after commands (replicate 256 0) 0 refl (get_or-same 256 key 0) where
+  -- a step changes the key's value as the command does, and leaves the number of values
+  changes : (values : List ℕ) (command : Command) → length values ≡ 256
+      → (slice_index (shard_step (key_owner n key) n values command).state key ≡ changed_at key (slice_index values key) command)
+      × (length (shard_step (key_owner n key) n values command).state ≡ 256)
+  changes values command count = here (key_of command == key) refl (key_owner n (key_of command) == key_owner n key) refl where
+    here : (same : Bool) → (key_of command == key) ≡ same → (its : Bool) → (key_owner n (key_of command) == key_owner n key) ≡ its
+        → (slice_index (shard_step (key_owner n key) n values command).state key ≡ changed_at key (slice_index values key) command)
+        × (length (shard_step (key_owner n key) n values command).state ≡ 256)
+    here true same true its = rw (its, same, eqb-true (key_of command) key same) (get_or-set_same values key (changed command (slice_index values key)) 0 (rw count within), (length-set values key (changed command (slice_index values key)) ∙ count))
+    here true same false other = absurd (false≢true (grind (arith, nat_tests, same, other)))
+    here false not true its = rw (its, not) (get_or-set_other values (key_of command) key (changed command (slice_index values (key_of command))) 0 (λ e. grind (arith, nat_tests, not, e)), (length-set values (key_of command) (changed command (slice_index values (key_of command))) ∙ count))
+    here false not false other = rw (other, not) (refl, count)
+
   after : (left : List Command) (values : List ℕ) (value : ℕ) → length values ≡ 256 → slice_index values key ≡ value
       → slice_index (fold (λ state command. (shard_step (key_owner n key) n state command).state) values left) key ≡ fold (changed_at key) value left
   after [] values value count is = is
   after (command ∷ left) values value count is =
-      let step = step-changes n key values command count within in
+      let step = changes values command count in
       after left (shard_step (key_owner n key) n values command).state (changed_at key value command) step.1 (step.0 ∙ ap (λ v. changed_at key v command) is)
