@@ -38,6 +38,3 @@ WellFormed-below n t i obeyed j e at =
     let whole : At t j e = (rw take-append-drop at (At-front (take i t) (drop i t) j e at)) in
     let front : take j (take i t) ≡ take j t = (rw take-append-drop at (sym (take-append-le j (take i t) (drop i t) (omega (arith, below))))) in
     rw front (obeyed j within e whole)
-
-pub WellFormed-all : (n : ℕ) (t : List Mark) (i : ℕ) → length t ≤ i → ((j : ℕ) → j < i → ObeysAt n t j) → WellFormed n t
-WellFormed-all n t i all obeyed j e at = obeyed j (omega (arith, At-below t j e at, all)) e at
