@@ -121,7 +121,3 @@ keys_of (member k d ms) = k ∷ keys_of ms
 -- the first key of the object that isn't one of these
 abbrev pub other_key : List Key → Members → Option (List ℕ)
 other_key known ms = find (λ k. not (is_key_of known k)) (keys_of ms)
-
--- whether the object has such a key
-abbrev pub has_other_key : List Key → Members → Bool
-has_other_key known ms = is_some (other_key known ms)
