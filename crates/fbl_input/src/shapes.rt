@@ -142,6 +142,12 @@ pub fn all_in<T: Copy, S: JsonShape<T>>(
     Ok(Ok(all))
 }
 
+fn key_but_in<'a>(object: &'a Map<String, Value>, known: &[Key]) -> Option<&'a String>
+    ensures { option_map (λ k. k.now) result ≡ find (λ k. not (is_key_of known.now (string_bytes k))) (keys object.now) }
+{
+    object.keys().find(|key| !is_key_in(known, key.as_str()))
+}
+
 /// The first key of the value that an input of this kind may not have. `Err` comes only where there is no memory for it.
 fn unknown_key_in(
     alloc: Global,
@@ -153,10 +159,7 @@ fn unknown_key_in(
     let Some(object) = value.as_object() else {
         return Ok(None);
     };
-    match object
-        .keys()
-        .find(|key| !is_key_in(kind.keys(), key.as_str()))
-    {
+    match key_but_in(object, kind.keys()) {
         Some(name) => Ok(Some(String::from_str(alloc, name.as_str())?)),
         None => Ok(None),
     }
