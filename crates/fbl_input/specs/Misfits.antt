@@ -5,6 +5,8 @@ use Rattle.serde_json.specs.Data.{Data}
 use Rattle.serde_json.specs.Find.{get}
 use Rattle.fbl_base.specs.Audit.{Parts}
 use Rattle.fbl_base.specs.Breaches.{IsConfigBreach, IsDumpBreach}
+use Rattle.fbl_base.specs.declared.config.ConfigRefusal.TheVariants as config
+use Rattle.fbl_base.specs.declared.refusal.DumpRefusal.TheVariants as dump
 use Rattle.fbl_base.specs.declared.trace.Note.{Note}
 use Rattle.fbl_base.specs.Configs.{Settings}
 use Rattle.fbl_input.specs.declared.fault.Key.{Key}
@@ -31,7 +33,9 @@ run_fault (misfits.BadItem key place) = faults.BadField key
 run_fault misfits.TooManyCommands = faults.BadCommand 1024
 run_fault (misfits.BadCommand place wanted) = faults.BadCommand place
 run_fault (misfits.UnknownKey name) = faults.UnknownKey
+run_fault (misfits.Config config.Memory breach) = faults.Memory
 run_fault (misfits.Config refusal breach) = faults.Config refusal
+run_fault (misfits.Dump dump.Memory breach) = faults.Memory
 run_fault (misfits.Dump refusal breach) = faults.Dump refusal
 run_fault misfits.Memory = faults.Memory
 

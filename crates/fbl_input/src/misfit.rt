@@ -156,7 +156,9 @@ impl Misfit {
             Misfit::TooManyCommands => RunFault::BadCommand(MOST_COMMANDS),
             Misfit::BadCommand { place, .. } => RunFault::BadCommand(*place),
             Misfit::UnknownKey(_) => RunFault::UnknownKey,
+            Misfit::Config(ConfigRefusal::Memory, _) => RunFault::Memory,
             Misfit::Config(refusal, _) => RunFault::Config(*refusal),
+            Misfit::Dump(DumpRefusal::Memory, _) => RunFault::Memory,
             Misfit::Dump(refusal, _) => RunFault::Dump(*refusal),
             Misfit::Memory => RunFault::Memory,
         }
