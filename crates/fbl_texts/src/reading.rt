@@ -134,9 +134,12 @@ pub fn read_dump<R: Read>(alloc: Global, reader: &mut R) -> Result<Dump, InputFa
         misfit,
         input: Vec::new(alloc),
     })?;
-    dump_in(alloc, input.as_slice()).map_err(|misfit| InputFault {
-        kind,
-        misfit,
-        input,
-    })
+    match dump_in(alloc, input.as_slice()) {
+        Ok(dump) => Ok(dump),
+        Err(misfit) => Err(InputFault {
+            kind,
+            misfit,
+            input,
+        }),
+    }
 }

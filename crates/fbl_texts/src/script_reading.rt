@@ -198,9 +198,12 @@ pub fn read_script<R: Read>(alloc: Global, reader: &mut R) -> Result<Script, Inp
         misfit,
         input: Vec::new(alloc),
     })?;
-    script_in(alloc, input.as_slice()).map_err(|misfit| InputFault {
-        kind,
-        misfit,
-        input,
-    })
+    match script_in(alloc, input.as_slice()) {
+        Ok(script) => Ok(script),
+        Err(misfit) => Err(InputFault {
+            kind,
+            misfit,
+            input,
+        }),
+    }
 }
