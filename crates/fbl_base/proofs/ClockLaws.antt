@@ -1,7 +1,7 @@
 -- A pass over the events finds, by vector clocks, which precede which.
 use Rattle.fbl_base.proofs.Common.{ℕ, Bool, true, ◌≡◌, ◌≢◌, ◌<◌, ◌≤◌, ◌+◌, ◌⊎◌, ◌↔◌, inl, inr, List, [], ◌∷◌, ◌++◌, length, Option, Some, None, refl, sym, ap, ◌∙◌, arith, cond}
 use Rattle.fbl_base.proofs.Common.{get_or, get_or-set_other, get_or-set_same, get_or_from_slice_get, slice_get, slice_get-get_or, slice_get_read, slice_get_within, replicate, false, false≢true, length-set, length-append, length-take, take, max}
-use Rattle.fbl_base.proofs.Common.{cases_eq, cases_order, nat_tests, Decides, MessageName, same_message, Mark, Send, Receipt, At, member_of, send_of, PlaceLeads, PlacePrecedes}
+use Rattle.fbl_base.proofs.Common.{cases_eq, nat_tests, Decides, MessageName, same_message, Mark, Send, Receipt, At, member_of, send_of, PlaceLeads, PlacePrecedes}
 use Rattle.fbl_base.proofs.Common.{same_place, place_step, DependsOnPlace, DependsBy, Clock, CountsPlaces, IsClock, IsSendOf, IsSentBy, Seen, Sees, WellFormed}
 use Rattle.std.proofs.Common.{set as set_at}
 use Rattle.std.specs.HashMap as hash_map

@@ -1,5 +1,5 @@
 -- Which determinants receipts have.
-use Rattle.fbl_base.proofs.Common.{drop, ℕ, ◌+◌, ◌<◌, ◌≤◌, ◌≡◌, true, ◌||◌, List, [], ◌∷◌, length, take, get_or, Some, refl, sym, ap, ◌∙◌, arith, Decides}
+use Rattle.fbl_base.proofs.Common.{drop, ℕ, ◌+◌, ◌<◌, ◌≡◌, true, ◌||◌, List, [], ◌∷◌, length, take, get_or, Some, refl, sym, ap, ◌∙◌, arith, Decides}
 use Rattle.fbl_base.proofs.Common.{list_any, cons_option, take_more, take-append-le, list_any-append, Any-from_list_any, list_any-from_Any, filter_map-append, get_or_from_slice_get}
 use Rattle.fbl_base.proofs.Common.{Determinant, Mark, At, determinant_of, same_determinant, Has, ObeysAt, WellFormed, is_received, length-take, take-append-drop, slice_get-get_or, Send, Receipt}
 use Rattle.fbl_base.proofs.Common.{receipt_of, receipts}

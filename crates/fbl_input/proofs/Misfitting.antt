@@ -1,6 +1,6 @@
 -- Faults of keys.
-use Rattle.fbl_input.proofs.Common.{◌≡◌, ℕ, ◌<◌, List, length, map, get_or, sym, ap, ◌∙◌, subst, Option, Some, None, option_and_then, slice_get, Result, Ok, Err, is_some, IsErrAnd}
-use Rattle.fbl_input.proofs.Common.{Data, get, view, Value, Key, RunFault, InputKind, Misfit, is_item, items_at, Gives, run_fault, Fails, all_shaped, as_list}
+use Rattle.fbl_input.proofs.Common.{◌≡◌, List, sym, ap, subst, Option, Some, None, option_and_then, Result, Ok, Err, IsErrAnd}
+use Rattle.fbl_input.proofs.Common.{Data, get, Key, RunFault, Misfit, Gives, run_fault, Fails, all_shaped, as_list}
 use Rattle.fbl_input.proofs.Common.{field, list_of, name_of, or_fault}
 use Rattle.fbl_input.specs.declared.fault.RunFault.TheVariants as faults
 

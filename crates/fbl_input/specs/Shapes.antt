@@ -1,5 +1,5 @@
 -- The shapes of JSON values, and the members of an object.
-use Rattle.std.specs.Prelude.{ℕ, ◌&&◌, ◌≡◌, List, [], ◌∷◌, Bool, false, not, Option, Some, None, is_some, find, option_and_then, option_map, Result, Ok, Err, nat_le, nat_lt, length, codes, if◌then◌else◌}
+use Rattle.std.specs.Prelude.{ℕ, ◌&&◌, ◌≡◌, List, [], ◌∷◌, Bool, false, not, Option, Some, None, find, option_and_then, option_map, Result, Ok, Err, nat_le, nat_lt, length, codes, if◌then◌else◌}
 use Rattle.std.specs.List.{list_any}
 use Rattle.std.specs.Str.{bytes_eq, is_utf8}
 use Rattle.std.specs.Ordering.{nat_cmp}

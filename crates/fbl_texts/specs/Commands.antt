@@ -1,5 +1,5 @@
 -- What a fault says of a list of commands.
-use Rattle.std.specs.Prelude.{◌≡◌, ◌<◌, ℕ, List, Bool, true, false, Some, option_map, slice_get}
+use Rattle.std.specs.Prelude.{◌≡◌, ◌<◌, List, Bool, true, false, Some, option_map, slice_get}
 use Rattle.serde_json.specs.Data.{Data}
 use Rattle.fbl_input.specs.declared.misfit.Misfit.{Misfit}
 use Rattle.fbl_input.specs.declared.misfit.Misfit.TheVariants as misfits

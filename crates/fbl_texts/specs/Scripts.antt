@@ -6,7 +6,6 @@ use Rattle.serde_json.specs.Find.{get, as_object}
 use Rattle.fbl_base.specs.declared.config.ConfigRefusal.TheVariants as config
 use Rattle.fbl_base.specs.declared.strike.Strike as planned
 use Rattle.fbl_base.specs.declared.trace.Note.{Note}
-use Rattle.fbl_base.specs.declared.trace.Start.{Start}
 use Rattle.fbl_base.specs.Configs.{Settings, IsConfig, RefusesConfig}
 use Rattle.fbl_base.specs.Steps.{has_few_hops}
 use Rattle.fbl_input.specs.declared.fault.Key.TheVariants as keys
