@@ -1,11 +1,11 @@
 -- How many receipts are replayed.
-use Rattle.fbl_law.proofs.Common.{◌≡◌, ◌≢◌, ℕ, zero, suc, ◌+◌, ◌-◌, ◌<◌, ◌≤◌, ◌==◌, ◌&&◌, Some, slice_get, Bool, true, List, [], ◌∷◌, length, map, refl}
-use Rattle.fbl_law.proofs.Common.{sym, ap, ◌∙◌, arith, nat_lt, filter, nat_tests, length-map, Determinant, Event, Mark, mark_of, determinant_of, AllBelow, Members, WellFormed, Next}
-use Rattle.fbl_law.proofs.Common.{MemberRecord, Stays, IsEventCut, GroupRecord, knowledge, receipts, receipts_at, IsReplayed, IsSound, length-left, length-filter_map, count_in, cond}
+use Rattle.fbl_law.proofs.Common.{◌≡◌, ◌≢◌, ℕ, zero, suc, ◌+◌, ◌-◌, ◌<◌, ◌≤◌, ◌==◌, ◌&&◌, Some, slice_get, Bool, true, List, [], ◌∷◌, length, map, refl, sym, ap, ◌∙◌, arith, nat_lt}
+use Rattle.fbl_law.proofs.Common.{filter, nat_tests, length-map, Determinant, Event, Mark, mark_of, determinant_of, AllBelow, Members, WellFormed, Next, MemberRecord, Stays, IsEventCut}
+use Rattle.fbl_law.proofs.Common.{GroupRecord, knowledge, receipts, receipts_at, IsReplayed, IsSound, length-left, length-filter_map, count_in, cond}
 use Rattle.std.specs.FinSet as set
 use Rattle.fbl_law.proofs.ChannelCounts.{sum_below-agree, sum_below-none, sum_below-at}
 use Rattle.fbl_law.proofs.Recovery.{cut-obeys}
-use Rattle.fbl_law.proofs.GroupRecovery.{marks-cut, cut-shorter}
+use Rattle.fbl_law.proofs.GroupRecovery.{cut-shorter}
 use Rattle.fbl_law.proofs.Receipts.{receipts_at-Has}
 
 -- counts that are no more on the set
@@ -83,4 +83,4 @@ module _ {S N : Type 0} {next : Next S N} {old : GroupRecord S N} (sound : IsSou
       → count_in old.down (λ p. (work p).received - past p) old.config.members ≡ length (filter (λ d. set.contains old.down d.to && nat_lt (past d.to) d.rsn) (receipts (map mark_of new)))
   replayed-count work past all =
       count_in-same old.down (λ p. (work p).received - past p) (λ p. length (receipts_at (map mark_of new) p) - past p) old.config.members (λ p below down. ap (λ k. k - past p) (all p below down))
-      ∙ count_in-beyond old.down past old.config.members old.config.members (map mark_of new) sound.down (cut-obeys sound.causes (marks-cut old.trace cut))
+      ∙ count_in-beyond old.down past old.config.members old.config.members (map mark_of new) sound.down (cut-obeys sound cut)

@@ -1,9 +1,9 @@
 -- Dumps of a sound group.
-use Rattle.fbl_law.proofs.Common.{◌≡◌, ℕ, zero, suc, ◌+◌, ◌<◌, ◌≤◌, List, [], ◌∷◌, length, map, get_or, refl, arith, length-append, Contains, zero-add, length-map}
-use Rattle.fbl_law.proofs.Common.{Contains-append_left, Contains-append_right, length-filter_map, Members, Determinant, mark_of, determinant_of, same_determinant, receipt_of, Has, Next, filter_map-At}
-use Rattle.fbl_law.proofs.Common.{At-below, Decides-same_determinant, Entry, Message, MemberRecord, blank, IsInFlight, Names, GroupRecord, member, marks, knowledge, receipts, IsSound, ◌*◌, IsOnce}
-use Rattle.fbl_law.proofs.Common.{decided, add-zero, All-append, All-contains, All-map, All-nil, All, length-le_from_is_member, is_member-Decides, Send, Receipt, HeldAt, pairs_of, pairs_from}
-use Rattle.fbl_law.proofs.Common.{held_pairs, dump_of}
+use Rattle.fbl_law.proofs.Common.{◌≡◌, ℕ, zero, suc, ◌+◌, ◌<◌, ◌≤◌, List, [], ◌∷◌, length, map, get_or, refl, arith, length-append, Contains, zero-add, length-map, Contains-append_left}
+use Rattle.fbl_law.proofs.Common.{Contains-append_right, length-filter_map, Members, Determinant, mark_of, determinant_of, same_determinant, receipt_of, Has, Next, filter_map-At, At-below}
+use Rattle.fbl_law.proofs.Common.{Decides-same_determinant, Entry, Message, MemberRecord, blank, IsInFlight, Names, GroupRecord, member, marks, knowledge, receipts, IsSound, ◌*◌, IsOnce}
+use Rattle.fbl_law.proofs.Common.{decided, add-zero, All-append, All-contains, All-map, All-nil, All, length-le_from_is_member, is_member-Decides, Send, Receipt, HeldAt, pairs_of}
+use Rattle.fbl_law.proofs.Common.{pairs_from, held_pairs, dump_of}
 use Rattle.fbl_law.specs.Dumps.{DumpObeysRules, DumpHasNoOrphan}
 use Rattle.fbl_law.proofs.Tables.{All-from}
 use Rattle.fbl_law.proofs.Lists.{Contains-at, Contains-map, Contains-changed, Contains-none}

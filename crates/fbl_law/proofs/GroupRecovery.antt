@@ -1,56 +1,37 @@
 -- What stays in a recovery: what has its causes recorded; what is left is lawful, the group stays sound, and which receipts are undone.
-use Rattle.fbl_law.proofs.Common.{◌≡◌, ℕ, ◌<◌, ◌≤◌, inl, inr, List, length, map, Some, refl, ap, ◌∙◌, arith, ◌↔◌, Bool, true, subst, sym, Determinant, Event, mark_of}
-use Rattle.fbl_law.proofs.Common.{receipt_of, Has, itself, Next, Lawful, note_of, Message, MemberRecord, IsInFlight, IsUp, Knowledge, IsSoundKnowledge, Stays, IsCut, IsEventCut, IsRecovered}
-use Rattle.fbl_law.proofs.Common.{GroupRecord, member, member_checkpoint, marks, knowledge, receipts_at, IsFold, IsReplayed, IsSound, IsRecovery, length-left, Mark, one_place, ◌+◌, not, slice_get}
-use Rattle.fbl_law.proofs.Common.{filter, determinant_of, receipts, is_receipt, recovered_trace, ◌-◌, nat_le, nat_tests, sends_of, receipts_of, Progress, sent-number, IsDown, stays_by, Send}
-use Rattle.fbl_law.proofs.Common.{Receipt, CutIsLawful, StaysIsRecorded, is_recorded, CutIsOne, length-filter_both, same_from_decides}
+use Rattle.fbl_law.proofs.Common.{◌≡◌, ℕ, ◌<◌, ◌≤◌, inl, inr, List, length, map, Some, refl, ap, ◌∙◌, arith, true, subst, sym, Determinant, Event, mark_of, receipt_of, Has, itself, Next}
+use Rattle.fbl_law.proofs.Common.{Lawful, note_of, Message, MemberRecord, IsInFlight, IsUp, Stays, IsEventCut, GroupRecord, member, member_checkpoint, marks, knowledge, receipts_at}
+use Rattle.fbl_law.proofs.Common.{IsFold, IsReplayed, IsSound, IsRecovery, length-left, Mark, one_place, ◌+◌, not, slice_get, filter, determinant_of, receipts, is_receipt, recovered_trace}
+use Rattle.fbl_law.proofs.Common.{◌-◌, nat_le, nat_tests, sends_of, receipts_of, Progress, sent-number, IsDown, stays_by, Send, Receipt, is_recorded, CutIsOne, length-filter_both}
+use Rattle.fbl_law.proofs.Common.{same_from_decides}
 use Rattle.fbl_law.specs.RecoveryLaws.{GroupRecoveryGainsHolders, HoldersGainTheDown, RecoveryLeavesRecorded, RecoveryUndoesLost}
 use Rattle.fbl_law.proofs.Logs.{log-length}
 use Rattle.fbl_law.proofs.Safe.{down_or_up, down_or_both_up, never_both, up_if_none, IsRecorded-reached}
 use Rattle.fbl_law.proofs.DistinctTables.{once_recovery_table}
-use Rattle.fbl_law.proofs.Recovery.{recovery_keeps, cut-recorded, cut_is_recorded, recovery_gains_holders, cut-causes, cut-was, cut-left, cut-obeys, cut-keeps_up, recorded-cut, Stays-recorded}
-use Rattle.fbl_law.proofs.Recovery.{recorded_before}
+use Rattle.fbl_law.proofs.Recovery.{recovery_keeps, cut-recorded, cut_is_recorded, recovery_gains_holders, cut-causes, cut-was, cut-left, cut-obeys, cut-keeps_up, recorded-cut, cut-marks}
 use Rattle.fbl_law.proofs.ReplayedRecords.{all-taken, replayed-kept, fold-replayed, replayed-fold}
 use Rattle.fbl_law.proofs.Receipts.{at-most, Has-receipts_at, length-receipts_at}
 use Rattle.fbl_law.proofs.Numbered.{receipt-number, receipt-there, send-there}
 use Rattle.fbl_law.proofs.GroupFacts.{received_counted}
 use Rattle.fbl_law.proofs.CutInOnePass.{recovered_trace-cut}
-use Rattle.fbl_law.proofs.CutLawful.{marks-filter, note-stays, note-was, KeepsResponses, Lawful-kept}
+use Rattle.fbl_law.proofs.CutLawful.{note-stays, note-was, KeepsResponses, Lawful-kept}
 use Rattle.fbl_law.proofs.GroupStrike.{recorded_test}
 use Rattle.fbl_law.proofs.Lists.{filter-agree, filter_map-after}
 use Rattle.fbl_law.proofs.Notes.{one-send, mark-at}
 
-module _ {S N : Type 0} (n f : ℕ) (r : Knowledge S N) (sound : IsSoundKnowledge n f r) (keep : Mark → Bool) (tells : (e : Mark) → Has r.trace e → (keep e ≡ true) ↔ Stays r e) where
-  cut_responses : KeepsResponses keep r.trace
-  cut_responses j q k to here all = (tells (Send q k to) (j, here)).1 (λ down c own up_to. elim up_to [
-    | inl same ↦ absurd cc
-    | inr earlier ↦
-        let place = one_place n r.trace sound.rules (Send q k to) j earlier.1 here earlier.4 in
-        let kept = all earlier.0 c (omega (arith, earlier.2, place)) earlier.3 own in
-        (tells (receipt_of c) (earlier.0, earlier.3)).0 kept (rw own down) c refl (inl refl)
-  ])
-
-module _ {N : Type 0} where
-  -- the marks of a cut are a cut of the marks
-  abbrev pub marks-cut : {Kept : Mark → Type 0} (old : List (Event N)) {new : List (Event N)} → IsEventCut Kept old new → IsCut Kept (map mark_of old) (map mark_of new)
-  marks-cut old cut = (cut.0, ap (map mark_of) cut.1 ∙ marks-filter cut.0 old, cut.2)
-
-module _ {S N : Type 0} where
-  pub cut_is_lawful : CutIsLawful S N
-  cut_is_lawful next n f starts r old new sound is cut lawful =
-      let marks : IsCut (Stays r) r.trace (map mark_of new) = subst (λ (t : List Mark). IsCut (Stays r) t (map mark_of new)) (sym is) (marks-cut old cut) in
-      (rw cut.1 (Lawful-kept next n starts cut.0 old lawful (rw is at (cut-causes sound marks)) (rw is at (cut_responses n f r sound cut.0 marks.2))), marks)
-
-  pub stays_is_recorded : StaysIsRecorded S N
-  stays_is_recorded n f r sound e there = (λ stays c before. recorded_before n f r sound.rules sound.closed c stays before, Stays-recorded r e there)
-
 -- a cut of a sound group's trace
 module _ {S N : Type 0} {next : Next S N} {old : GroupRecord S N} (sound : IsSound next old) {new : List (Event N)} (cut : IsEventCut (Stays (knowledge old)) old.trace new) where
-  abbrev of_marks : IsCut (Stays (knowledge old)) (marks old) (map mark_of new)
-  of_marks = marks-cut old.trace cut
+  cut_responses : KeepsResponses cut.0 (marks old)
+  cut_responses j q k to here all = (cut.2 (Send q k to) (j, here)).1 (λ down c own up_to. elim up_to [
+    | inl same ↦ absurd cc
+    | inr earlier ↦
+        let place = one_place old.config.members (marks old) sound.causes.rules (Send q k to) j earlier.1 here earlier.4 in
+        let kept = all earlier.0 c (omega (arith, earlier.2, place)) earlier.3 own in
+        (cut.2 (receipt_of c) (earlier.0, earlier.3)).0 kept (rw own down) c refl (inl refl)
+  ])
 
-  pub cut-lawful : Lawful next old.config.members old.config.starts new × IsCut (Stays (knowledge old)) (marks old) (map mark_of new)
-  cut-lawful = cut_is_lawful next old.config.members old.config.f old.config.starts (knowledge old) old.trace new sound.causes refl cut sound.lawful
+  pub cut-lawful : Lawful next old.config.members old.config.starts new
+  cut-lawful = rw cut.1 (Lawful-kept next old.config.members old.config.starts cut.0 old.trace sound.lawful (cut-causes sound cut) cut_responses)
 
   pub cut-shorter : length new ≤ length old.trace
   cut-shorter = rw cut.1 (length-left (λ e. cut.0 (mark_of e)) old.trace)
@@ -59,13 +40,13 @@ module _ {S N : Type 0} {next : Next S N} {old : GroupRecord S N} (sound : IsSou
   replay-survives : (m : ℕ) (x : MemberRecord S N) → ((d : Determinant) → Has (marks old) (receipt_of d) → d.to ≡ m → d.rsn ≤ x.received → Has (map mark_of new) (receipt_of d))
       → IsReplayed next old.config.members old.config.starts old.trace m x → IsReplayed next old.config.members old.config.starts new m x
   replay-survives m x left =
-      replayed-kept next old.config.members old.config.starts old.trace new m x sound.lawful.well_formed (cut-obeys sound.causes of_marks)
-      (λ q k x y was now. let kept = note-was old.config.members cut.0 old.trace sound.lawful.well_formed (cut-causes sound.causes of_marks) q k y (rw cut.1 at now) in cc) left
+      replayed-kept next old.config.members old.config.starts old.trace new m x sound.lawful.well_formed (cut-obeys sound cut)
+      (λ q k x y was now. let kept = note-was old.config.members cut.0 old.trace sound.lawful.well_formed (cut-causes sound cut) q k y (rw cut.1 at now) in cc) left
 
   -- a checkpoint's receipts are recorded, so they stay
   pub checkpoint-survives : (m : ℕ) → m < old.config.members → IsReplayed next old.config.members old.config.starts new m (member_checkpoint old m)
   checkpoint-survives m below = replay-survives m (member_checkpoint old m)
-      (λ d there to within. recorded-cut sound.causes of_marks d (IsRecorded-reached old.config.f (knowledge old) sound.causes.closed d (receipt_of d) (rw to within) (itself there)))
+      (λ d there to within. recorded-cut sound cut d (IsRecorded-reached old.config.f (knowledge old) sound.causes.closed d (receipt_of d) (rw to within) (itself there)))
       (sound.saved m below)
 
   -- a survivor's receipts all stay
@@ -73,10 +54,10 @@ module _ {S N : Type 0} {next : Next S N} {old : GroupRecord S N} (sound : IsSou
       → IsReplayed next old.config.members old.config.starts new m (member old m) × ((member old m).received ≡ length (receipts_at (map mark_of new) m))
   survivor-replays m below up =
       let replays = replay-survives m (member old m)
-      (λ d there to within. cut-left sound.causes of_marks (receipt_of d) there (cut-keeps_up sound.causes of_marks m up (receipt_of d) there to))
+      (λ d there to within. cut-left sound cut (receipt_of d) there (cut-keeps_up sound cut m up (receipt_of d) there to))
       (fold-replayed sound.lawful.well_formed (sound.folds m below up)) in
-      let few = at-most old.config.members (map mark_of new) m (member old m).received (cut-obeys sound.causes of_marks) (λ d there to.
-      let number = receipt-number old.config.members (marks old) d.to d.rsn d.from d.ssn sound.lawful.well_formed (cut-was sound.causes of_marks (receipt_of d) there).0 in
+      let few = at-most old.config.members (map mark_of new) m (member old m).received (cut-obeys sound cut) (λ d there to.
+      let number = receipt-number old.config.members (marks old) d.to d.rsn d.from d.ssn sound.lawful.well_formed (cut-was sound cut (receipt_of d) there).0 in
       omega (arith, rw to at number, received_counted next old sound m below up)) in
       (replays, omega (arith, replays.within, few))
 
@@ -87,7 +68,7 @@ module _ {S N : Type 0} {next : Next S N} {old : GroupRecord S N} (sound : IsSou
     | inl down ↦ rebuilt m below down
     | inr up ↦
         let all = survivor-replays m below up in
-        replayed-fold (rw (config, trace) (cut-obeys sound.causes of_marks)) (rw (config, trace, survivors m up) all.0) (rw (trace, survivors m up) all.1)
+        replayed-fold (rw (config, trace) (cut-obeys sound cut)) (rw (config, trace, survivors m up) all.0) (rw (trace, survivors m up) all.1)
   ]
 
   kept-recorded : (i : ℕ) (e : Mark) (d : Determinant) → slice_get (marks old) i ≡ Some e → determinant_of e ≡ Some d → cut.0 e ≡ is_recorded old d
@@ -95,13 +76,13 @@ module _ {S N : Type 0} {next : Next S N} {old : GroupRecord S N} (sound : IsSou
       let receipt = is_receipt e d is in
       let there : Has (marks old) (receipt_of d) = (i, here ∙ ap Some receipt) in
       ap cut.0 receipt ∙ same_from_decides (cut.0 (receipt_of d)) (is_recorded old d) (
-        λ kept. cut-recorded sound.causes of_marks d (cut-left sound.causes of_marks (receipt_of d) there kept),
-        λ recorded. (cut-was sound.causes of_marks (receipt_of d) (recorded-cut sound.causes of_marks d recorded)).1,
+        λ kept. cut-recorded sound cut d (cut-left sound cut (receipt_of d) there kept),
+        λ recorded. (cut-was sound cut (receipt_of d) (recorded-cut sound cut d recorded)).1,
       ) (recorded_test next old d sound)
 
   -- the receipts of the cut are those that are recorded
   pub cut-receipts : receipts (map mark_of new) ≡ filter (is_recorded old) (receipts (marks old))
-  cut-receipts = ap receipts of_marks.1 ∙ filter_map-after cut.0 (is_recorded old) determinant_of (marks old) kept-recorded
+  cut-receipts = ap receipts (cut-marks sound cut) ∙ filter_map-after cut.0 (is_recorded old) determinant_of (marks old) kept-recorded
 
   -- so the receipts that the trace loses are those that aren't
   pub cut-undone : length (receipts (map mark_of new)) + length (filter (λ d. not (is_recorded old d)) (receipts (marks old))) ≡ length (receipts (marks old))
@@ -113,21 +94,21 @@ module _ {S N : Type 0} {next : Next S N} {old : GroupRecord S N} (sound : IsSou
     -- the log of each member that was down has its sends in the cut
     log-sent : (p : ℕ) → p < old.config.members → IsDown (knowledge old) p → length (work p).log ≡ sends_of (map mark_of new) p
     log-sent p below down =
-        let whole = (all-taken old.config.members new p (work p).received (cut-obeys sound.causes of_marks) (all p below down)).0 in
-        ap (λ (x : Progress S N). length x.log) (replays p below down).progress ∙ rw whole (log-length cut-lawful.0 p)
+        let whole = (all-taken old.config.members new p (work p).received (cut-obeys sound cut) (all p below down)).0 in
+        ap (λ (x : Progress S N). length x.log) (replays p below down).progress ∙ rw whole (log-length cut-lawful p)
 
     send-left : (q k to : ℕ) → Has (marks old) (Send q k to) → k ≤ sends_of (map mark_of new) q → cut.0 (Send q k to) ≡ true
     send-left q k to there within =
         let number = (sound.lawful.well_formed there.0 (Send q k to) there.1).3 in
-        let some = send-there old.config.members (map mark_of new) q k (cut-obeys sound.causes of_marks) (omega (arith, number)) within in
-        let left = cut-was sound.causes of_marks (Send q k some.0) some.1 in
+        let some = send-there old.config.members (map mark_of new) q k (cut-obeys sound cut) (omega (arith, number)) within in
+        let left = cut-was sound cut (Send q k some.0) some.1 in
         rw (one-send old.config.members (marks old) sound.lawful.well_formed q k some.0 to left.0 there) at left.1
 
     receipt-left : (p r q k : ℕ) → Has (marks old) (Receipt p r q k) → r ≤ receipts_of (map mark_of new) p → cut.0 (Receipt p r q k) ≡ true
     receipt-left p r q k there within =
         let number = (sound.lawful.well_formed there.0 (Receipt p r q k) there.1).3 in
-        let some = receipt-there old.config.members (map mark_of new) p r (cut-obeys sound.causes of_marks) (omega (arith, number)) within in
-        let left = cut-was sound.causes of_marks (Receipt p r some.0 some.1) some.2 in
+        let some = receipt-there old.config.members (map mark_of new) p r (cut-obeys sound cut) (omega (arith, number)) within in
+        let left = cut-was sound cut (Receipt p r some.0 some.1) some.2 in
         let c : Determinant = record { from = some.0; ssn = some.1; to = p; rsn = r } in
         let d : Determinant = record { from = q; ssn = k; to = p; rsn = r } in
         let first = Has-receipts_at old.config.members (marks old) p (r - 1) d sound.lawful.well_formed there refl (omega (arith, number)) in
@@ -138,16 +119,16 @@ module _ {S N : Type 0} {next : Next S N} {old : GroupRecord S N} (sound : IsSou
     -- an event is kept exactly where its number is at most a count, if it is left so and its number in the cut is
     counted : (e : Mark) (k count : ℕ) → Has (marks old) e → (k ≤ count → cut.0 e ≡ true) → (Has (map mark_of new) e → k ≤ count) → nat_le k count ≡ cut.0 e
     counted e k count there left number =
-        same_from_decides (nat_le k count) (cut.0 e) (λ is. grind (arith, nat_tests), λ within. grind (arith, nat_tests)) (λ kept. number (cut-left sound.causes of_marks e there kept), left)
+        same_from_decides (nat_le k count) (cut.0 e) (λ is. grind (arith, nat_tests), λ within. grind (arith, nat_tests)) (λ kept. number (cut-left sound cut e there kept), left)
 
     agrees : (e : Mark) → Has (marks old) e → stays_by old.down work e ≡ cut.0 e
     agrees (Send q k to) there =
-        let up = λ (up : IsUp (knowledge old) q). cut-keeps_up sound.causes of_marks q up (Send q k to) there refl in
-        let number = sent-number old.config.members (map mark_of new) (cut-obeys sound.causes of_marks) q k to in
+        let up = λ (up : IsUp (knowledge old) q). cut-keeps_up sound cut q up (Send q k to) there refl in
+        let number = sent-number old.config.members (map mark_of new) (cut-obeys sound cut) q k to in
         grind (arith, up, log-sent q, sound.down q, counted (Send q k to) k (sends_of (map mark_of new) q) there (send-left q k to there) number)
     agrees (Receipt p r q k) there =
-        let up = λ (up : IsUp (knowledge old) p). cut-keeps_up sound.causes of_marks p up (Receipt p r q k) there refl in
-        let number = receipt-number old.config.members (map mark_of new) p r q k (cut-obeys sound.causes of_marks) in
+        let up = λ (up : IsUp (knowledge old) p). cut-keeps_up sound cut p up (Receipt p r q k) there refl in
+        let number = receipt-number old.config.members (map mark_of new) p r q k (cut-obeys sound cut) in
         grind (arith, up, all p, sound.down p, length-receipts_at, counted (Receipt p r q k) r (receipts_of (map mark_of new) p) there (receipt-left p r q k there) number)
 
     -- the events that stay by the members' counts are the cut
@@ -157,20 +138,6 @@ module _ {S N : Type 0} {next : Next S N} {old : GroupRecord S N} (sound : IsSou
         ∙ sym cut.1
 
 module _ {S N : Type 0} (next : Next S N) (old new : GroupRecord S N) (step : IsRecovery next old new) (sound : IsSound next old) where
-  -- the tables' part of the recovery
-  pub recovery-knowledge : IsRecovered old.config.f (knowledge old) (knowledge new)
-  recovery-knowledge = record {
-    nobody_down = step.rest.nobody_down;
-    trace = marks-cut old.trace step.trace;
-    tables = λ m up. ap (λ (x : MemberRecord S N). x.table) (step.rest.survivors m up);
-    gathered = λ m down. step.gathered m (sound.down m down) down;
-    channels = step.rest.channels;
-    rebuilt = λ q p down. (step.made_again q p down).sends;
-    checkpoints = step.rest.checkpoints;
-    outside = step.rest.outside;
-    messages = λ v flies down. rw step.rest.config at ((step.made_again v.from v.to down).carried v flies);
-  }
-
   note-flies : (v : Message N) → IsInFlight (knowledge new) v → note_of new.trace v.from v.ssn ≡ Some v.note
   note-flies v among =
       elim (down_or_both_up old.down v.from v.to) [
@@ -178,7 +145,7 @@ module _ {S N : Type 0} (next : Next S N) (old new : GroupRecord S N) (step : Is
         | inr up ↦
             let was = sound.notes v (rw (step.rest.channels v.from v.to up.0 up.1) at among) in
             rw step.trace.1 (note-stays old.config.members step.trace.0 old.trace sound.lawful.well_formed
-            (cut-causes sound.causes (marks-cut old.trace step.trace)) v.from v.ssn v.note (cut-keeps_up sound.causes (marks-cut old.trace step.trace) v.from up.0) was)
+            (cut-causes sound step.trace) v.from v.ssn v.note (cut-keeps_up sound step.trace v.from up.0) was)
       ]
 
   pub group_recovery_keeps : IsSound next new
@@ -188,9 +155,9 @@ module _ {S N : Type 0} (next : Next S N) (old new : GroupRecord S N) (step : Is
     checkpoints = rw step.rest.config (ap length step.rest.checkpoints ∙ sound.checkpoints);
     saved = λ m below. rw (step.rest.config, step.rest.checkpoints, step.rest.outside) (checkpoint-survives sound step.trace m (rw step.rest.config at below));
     down = λ m down. never_both new.down m down (up_if_none step.rest.nobody_down m);
-    lawful = rw step.rest.config (cut-lawful sound step.trace).0;
+    lawful = rw step.rest.config (cut-lawful sound step.trace);
     room = rw step.rest.config (omega (arith, cut-shorter sound step.trace, sound.room));
-    causes = rw step.rest.config (recovery_keeps old.config.members old.config.f (knowledge old) (knowledge new) recovery-knowledge sound.causes);
+    causes = rw step.rest.config (recovery_keeps next old new step sound);
     folds = λ m below up. folds-all sound step.trace new refl step.rest.config step.rest.survivors step.folds m (rw step.rest.config at below);
     blanks = λ m below down. never_both new.down m down (up_if_none step.rest.nobody_down m);
     distinct = λ m. elim (down_or_up old.down m) [
@@ -205,8 +172,7 @@ module _ {S N : Type 0} (next : Next S N) (old new : GroupRecord S N) (step : Is
 module _ (S N : Type 0) where
   pub group_recovery_gains_holders : GroupRecoveryGainsHolders S N
   unfolding GroupRecoveryGainsHolders
-  group_recovery_gains_holders next old new step sound =
-      recovery_gains_holders old.config.members old.config.f (knowledge old) (knowledge new) (recovery-knowledge next old new step sound) sound.causes
+  group_recovery_gains_holders = recovery_gains_holders
 
   pub holders_gain_the_down : HoldersGainTheDown S N
   unfolding HoldersGainTheDown GroupRecoveryGainsHolders
@@ -219,7 +185,7 @@ module _ (S N : Type 0) where
   pub recovery_leaves_recorded : RecoveryLeavesRecorded S N
   unfolding RecoveryLeavesRecorded
   recovery_leaves_recorded next old new step sound = record {
-    exactly = cut_is_recorded old.config.members old.config.f (knowledge old) (knowledge new) (recovery-knowledge next old new step sound) sound.causes;
+    exactly = cut_is_recorded next old new step sound;
     order = cut-receipts sound step.trace;
   }
 

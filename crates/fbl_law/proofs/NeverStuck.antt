@@ -1,7 +1,16 @@
 -- Replay never gets stuck.
-use Rattle.fbl_law.proofs.Common.{ℕ, zero, suc, ◌<◌, ◌≤◌, List, arith, subst, Determinant, Mark, At, receipt_of, WellFormed, sent-before, IsSentAgain, IsStuck, one_place, Send, NeverStuck}
-use Rattle.fbl_law.proofs.Common.{◌≡◌, ◌+◌}
+use Rattle.fbl_law.proofs.Common.{ℕ, zero, suc, ◌<◌, ◌≤◌, List, arith, subst, Determinant, Mark, At, receipt_of, WellFormed, sent-before, one_place, Send, ◌≡◌, ◌+◌, Earlier, Has}
 use Rattle.fbl_law.proofs.Receipts.{at-most-before}
+
+-- the member has replayed each receipt that comes before the send, so it has sent that message again
+abbrev pub IsSentAgain : List Mark → (ℕ → ℕ) → ℕ → ℕ → ℕ → Type 0
+IsSentAgain trace done from ssn to =
+    (c : Determinant) → c.to ≡ from → Earlier trace (receipt_of c) (Send from ssn to) → c.rsn ≤ done from
+
+-- each member m has replayed its first `done m` receipts, and none can go on: where the trace has its next one, that
+-- message isn't sent again
+abbrev pub IsStuck : List Mark → (ℕ → ℕ) → Type 0
+IsStuck trace done = (d : Determinant) → Has trace (receipt_of d) → d.rsn ≡ done d.to + 1 → ¬ (IsSentAgain trace done d.from d.ssn d.to)
 
 module _ (n : ℕ) (t : List Mark) (done : ℕ → ℕ) (obeys : WellFormed n t) (stuck : IsStuck t done) where
   abbrev DoneBefore : ℕ → Type 0
@@ -22,5 +31,6 @@ module _ (n : ℕ) (t : List Mark) (done : ℕ → ℕ) (obeys : WellFormed n t)
   all_done zero j c below = absurd (omega arith)
   all_done (suc k) j c below = done_at j c (λ i d less. all_done k i d (omega arith))
 
-pub never_stuck : NeverStuck
-never_stuck n t done obeys stuck d there = all_done n t done obeys stuck (suc there.0) there.0 d (omega arith) there.1
+  -- so where replay can go on nowhere, each receipt is replayed
+  pub never_stuck : (d : Determinant) → Has t (receipt_of d) → d.rsn ≤ done d.to
+  never_stuck d there = all_done (suc there.0) there.0 d (omega arith) there.1

@@ -1,13 +1,13 @@
 -- What soundness promises.
 use Rattle.fbl_law.proofs.Common.{◌≡◌, ℕ, inl, inr, arith, take, cases_order, At, receipt_of, itself, step, slice_get-take, some_outside, WellFormed-take, in_table, IsUp, IsHolder, member}
-use Rattle.fbl_law.proofs.Common.{knowledge, Receipt, IsHeldBy, ClosedRecordsFirst, AnySurvivorsHold, SoundRecordsFirst}
+use Rattle.fbl_law.proofs.Common.{knowledge, Receipt, IsHeldBy, SoundRecordsFirst, Includes, IsDown, IsSoundKnowledge, Knowledge, Members, SoundRecordsCauses, SurvivorsHold, marks, ◌≤◌}
 use Rattle.fbl_law.specs.Headline.{SoundHoldsEachReceipt, SoundIsAlwaysHeld, SoundHasNoOrphan, NoSurvivorIsOrphan, SoundSurvivorsHold}
+use Rattle.std.specs.FinSet as set
 use Rattle.fbl_law.proofs.Tables.{held-Names}
 use Rattle.fbl_law.proofs.Numbered.{receipt-number}
 use Rattle.fbl_law.proofs.Safe.{down_or_up, never_both, up_if_none, no_orphan, IsRecorded-before, Has-recorded}
 use Rattle.fbl_law.proofs.Decide.{IsAlwaysHeld-closed}
-use Rattle.fbl_law.proofs.Strike.{strike_keeps}
-use Rattle.fbl_law.proofs.GroupStrike.{is_struck}
+use Rattle.fbl_law.proofs.GroupStrike.{strike_keeps}
 
 module _ (S N : Type 0) where
   pub sound_is_always_held : SoundIsAlwaysHeld S N
@@ -33,12 +33,11 @@ module _ (S N : Type 0) where
   pub no_survivor_is_orphan : NoSurvivorIsOrphan S N
   unfolding NoSurvivorIsOrphan
   no_survivor_is_orphan next old new struck m sound s few =
-      let keeps = strike_keeps old.config.members old.config.f (knowledge old) (knowledge new) struck (is_struck next old new struck s) few sound.causes in
-      no_orphan old.config.f (knowledge new) keeps.closed m
+      no_orphan old.config.f (knowledge new) (strike_keeps next old new struck s few sound).closed m
 
 module _ {S N : Type 0} where
   -- of more than f holders one is outside a set of at most f members, and up
-  pub any_survivors_hold : AnySurvivorsHold S N
+  pub any_survivors_hold : (n f : ℕ) (r : Knowledge S N) (s : Members) → IsSoundKnowledge n f r → ((q : ℕ) → IsDown r q → Includes s q) → set.len s ≤ f → SurvivorsHold r s
   any_survivors_hold n f r s sound covers few m d out depends =
       let up : IsUp r m = elim (down_or_up r.down m) [ inl down ↦ never_both s m (covers m down) out | inr up ↦ up ] in
       elim (sound.closed.events (in_table m) depends.0 up depends.2 d depends.1) [
@@ -55,22 +54,21 @@ module _ (S N : Type 0) where
       any_survivors_hold r.config.members r.config.f (knowledge r) s sound.causes covers few
 
 module _ {S N : Type 0} where
+  pub sound_records_causes : SoundRecordsCauses S N
+  sound_records_causes next r sound = IsRecorded-before r.config.f (knowledge r) sound.causes.closed
+
   -- the numbers of a member's receipts rise, so the one with the lower number comes first
-  pub closed_records_first : ClosedRecordsFirst S N
-  closed_records_first n f r rules truth closed c d there same before recorded =
-      let found = Has-recorded r truth d recorded in
-      IsRecorded-before f r closed c d recorded (elim (cases_order there.0 found.0) [
+  pub sound_records_first : SoundRecordsFirst S N
+  sound_records_first next r sound c d there same before recorded =
+      let found = Has-recorded (knowledge r) sound.causes.truth d recorded in
+      sound_records_causes next r sound c d recorded (elim (cases_order there.0 found.0) [
         | inl place ↦
             let one : receipt_of c ≡ receipt_of d = cc (rw place at there.1, found.1) in
             rw one (itself found)
         | inr (inl earlier) ↦ step (itself there) ((there.0, found.0, earlier, there.1, found.1), inl same)
         | inr (inr later) ↦
-            let at_same : At r.trace there.0 (Receipt d.to c.rsn c.from c.ssn) = rw (← same) there.1 in
-            let first = slice_get-take r.trace there.0 found.0 (receipt_of d) later found.1 in
-            let number = receipt-number n (take there.0 r.trace) d.to d.rsn d.from d.ssn (WellFormed-take n there.0 r.trace rules) (found.0, first) in
-            absurd (omega (arith, before, number, (rules there.0 (Receipt d.to c.rsn c.from c.ssn) at_same).3))
+            let at_same : At (marks r) there.0 (Receipt d.to c.rsn c.from c.ssn) = rw (← same) there.1 in
+            let first = slice_get-take (marks r) there.0 found.0 (receipt_of d) later found.1 in
+            let number = receipt-number r.config.members (take there.0 (marks r)) d.to d.rsn d.from d.ssn (WellFormed-take r.config.members there.0 (marks r) sound.causes.rules) (found.0, first) in
+            absurd (omega (arith, before, number, (sound.causes.rules there.0 (Receipt d.to c.rsn c.from c.ssn) at_same).3))
       ])
-
-  pub sound_records_first : SoundRecordsFirst S N
-  sound_records_first next r sound =
-      closed_records_first r.config.members r.config.f (knowledge r) sound.causes.rules sound.causes.truth sound.causes.closed

@@ -1,17 +1,17 @@
 -- How the members that are down replay what the survivors have recorded, and from there to a recovery.
-use Rattle.fbl_law.proofs.Common.{◌≡◌, ℕ, ◌+◌, ◌-◌, ◌<◌, ◌≤◌, ◌⊎◌, inl, inr, List, [], ◌∷◌, length, map, Some, slice_get, refl, sym, subst, ap, ◌∙◌, arith}
-use Rattle.fbl_law.proofs.Common.{slice_set, length-append, cases_Bool, cases_eq, nat_tests, length-map, length-set, get_or-set_same, get_or-set_other, count_by-le-length, slice_get_within}
-use Rattle.fbl_law.proofs.Common.{slice_index_or, filter, Determinant, mark_of, receipt_of, Has, is_receipt_of, is_send_of, Next, Lawful, sent-before, Entry, found, MemberRecord, blank}
-use Rattle.fbl_law.proofs.Common.{logged_note, replayed_by, length-numbered, Names, IsDown, Stays, IsEventCut, recovery_table, GroupRecord, member_checkpoint, knowledge, receipts, receipts_at}
-use Rattle.fbl_law.proofs.Common.{IsReplayed, IsFold, IsSound, IsRecovery, IsMadeAgain, IsSentAgain, IsStuck, IsNextReplay, recovered_trace, stays_by, true, Send, is_of_receipt, is_replayed, working}
+use Rattle.fbl_law.proofs.Common.{◌≡◌, ℕ, ◌+◌, ◌-◌, ◌<◌, ◌≤◌, ◌⊎◌, inl, inr, List, [], ◌∷◌, length, map, Some, slice_get, refl, sym, subst, ap, ◌∙◌, arith, slice_set, length-append}
+use Rattle.fbl_law.proofs.Common.{cases_Bool, cases_eq, nat_tests, length-map, length-set, get_or-set_same, get_or-set_other, count_by-le-length, slice_get_within, slice_index_or, filter}
+use Rattle.fbl_law.proofs.Common.{Determinant, mark_of, receipt_of, Has, is_receipt_of, is_send_of, Next, Lawful, sent-before, Entry, found, MemberRecord, blank, logged_note, replayed_by}
+use Rattle.fbl_law.proofs.Common.{length-numbered, Names, IsDown, Stays, IsEventCut, recovery_table, GroupRecord, member_checkpoint, knowledge, receipts, receipts_at, IsReplayed, IsFold}
+use Rattle.fbl_law.proofs.Common.{IsSound, IsRecovery, IsMadeAgain, IsNextReplay, recovered_trace, stays_by, true, Send, is_of_receipt, is_replayed, working}
 use Rattle.fbl_law.proofs.Common.{IsReplaying, IsWaiting, replayed_in, IsRebuilt, position_or_len, fails_before_first, find_at, get_or, slice_get-get_or, option_map}
 use Rattle.fbl_law.proofs.Lists.{Contains-here, Contains-there}
 use Rattle.fbl_law.proofs.Safe.{down_or_up}
 use Rattle.fbl_law.proofs.GatheredTables.{gathered_recorded, recorded_gathered}
-use Rattle.fbl_law.proofs.NeverStuck.{never_stuck}
+use Rattle.fbl_law.proofs.NeverStuck.{IsSentAgain, IsStuck, never_stuck}
 use Rattle.fbl_law.proofs.Notes.{send-at}
 use Rattle.fbl_law.proofs.Recovery.{cut-recorded, recorded-cut}
-use Rattle.fbl_law.proofs.GroupRecovery.{stays_by-cut, marks-cut, cut-lawful, cut-shorter, survivor-replays, folds-all, checkpoint-survives}
+use Rattle.fbl_law.proofs.GroupRecovery.{stays_by-cut, cut-lawful, cut-shorter, survivor-replays, folds-all, checkpoint-survives}
 use Rattle.fbl_law.proofs.Logs.{logged-noted, logged-by, log-short}
 use Rattle.fbl_law.proofs.Receipts.{at-most, at-most-before, receipts_at-Has, Has-receipts_at, length-receipts_at}
 use Rattle.fbl_law.proofs.ReplayedRecords.{replayed-step, replayed-fold}
@@ -45,7 +45,7 @@ module _ {S N : Type 0} (next : Next S N) (old : GroupRecord S N) (sound : IsSou
   cut = recovered_trace-cut next old sound
 
   abbrev lawful : Lawful next old.config.members old.config.starts (recovered_trace old)
-  lawful = (cut-lawful sound cut).0
+  lawful = cut-lawful sound cut
 
   -- the member has come so far in its replay of the cut
   abbrev Replays : ℕ → MemberRecord S N → Type 0
@@ -63,13 +63,13 @@ module _ {S N : Type 0} (next : Next S N) (old : GroupRecord S N) (sound : IsSou
   found-receipt p k d is =
       let named = found-named p (k + 1) (recovery_table (knowledge old)) d is in
       let recorded = gathered_recorded sound.causes d named.0 in
-      Has-receipts_at old.config.members (map mark_of (recovered_trace old)) p k d lawful.well_formed (recorded-cut sound.causes (marks-cut old.trace cut) d recorded) named.1 named.2
+      Has-receipts_at old.config.members (map mark_of (recovered_trace old)) p k d lawful.well_formed (recorded-cut sound cut d recorded) named.1 named.2
 
   -- and they find each receipt of the cut
   found-all : (p k : ℕ) (d : Determinant) → slice_get (left p) k ≡ Some d → found p (k + 1) (recovery_table (knowledge old)) ≡ Some d
   found-all p k d here =
       let has = receipts_at-Has old.config.members (map mark_of (recovered_trace old)) p k d lawful.well_formed here in
-      let named = recorded_gathered sound.causes d (cut-recorded sound.causes (marks-cut old.trace cut) d has.0) in
+      let named = recorded_gathered sound.causes d (cut-recorded sound cut d has.0) in
       let some = found-some p (k + 1) (recovery_table (knowledge old)) d named has.1 has.2 in
       some.1 ∙ sym (found-receipt p k some.0 some.1) ∙ here
 

@@ -13,6 +13,7 @@ use Rattle.fbl_law.specs.Knowledge.{IsRecorded}
 use Rattle.fbl_law.specs.Groups.{GroupRecord, member_checkpoint, marks, knowledge, is_recorded}
 use Rattle.fbl_law.specs.Sound.{receipts_at, IsSound}
 use Rattle.fbl_law.specs.GroupSteps.{IsGroupStart, IsDelivery, IsStrike, IsCheckpoint, IsRecovery}
+use Rattle.fbl_law.specs.Run.{Run}
 
 -- the behaviour's sends go to other members of the group, at most four at a step
 abbrev pub SendsWell : {S N : Type 0} → Next S N → Type 0
@@ -37,7 +38,7 @@ GroupStrikeKeeps S N =
     → IsStrike next old new struck → AllBelow struck old.config.members → set.len new.down ≤ old.config.f → IsSound next old → IsSound next new
 
 -- so does a checkpoint of a member
-unfoldable pub GroupCheckpointKeeps : Type 0 → Type 0 → Type 0
+abbrev pub GroupCheckpointKeeps : Type 0 → Type 0 → Type 0
 GroupCheckpointKeeps S N =
     (next : Next S N) (old new : GroupRecord S N) (p : ℕ)
     → IsCheckpoint old new p → IsSound next old → IsSound next new
@@ -48,6 +49,10 @@ GroupRecoveryKeeps S N =
     (next : Next S N) (old new : GroupRecord S N)
     → IsRecovery next old new → IsSound next old → IsSound next new
 
+-- so a group is sound after every run
+abbrev pub RunIsSound : Type 0 → Type 0 → Type 0
+RunIsSound S N = (next : Next S N) (config : Settings N) (r : GroupRecord S N) → SendsWell next → IsConfig next.allowed config → Run next config r → IsSound next r
+
 -- in a sound group the test of who has recorded a receipt is right
 abbrev pub RecordedTest : Type 0 → Type 0 → Type 0
 RecordedTest S N =
@@ -56,7 +61,7 @@ RecordedTest S N =
 
 -- the receipts of a member's checkpoint are always recorded: the trace has them, and each of the member's first receipts,
 -- as many as the checkpoint has, is recorded
-unfoldable pub CheckpointIsRecorded : Type 0 → Type 0 → Type 0
+abbrev pub CheckpointIsRecorded : Type 0 → Type 0 → Type 0
 CheckpointIsRecorded S N =
     (next : Next S N) (r : GroupRecord S N) (m : ℕ)
     → IsSound next r → m < r.config.members

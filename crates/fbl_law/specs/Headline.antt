@@ -6,7 +6,7 @@ use Rattle.std.specs.FinSet as set
 use Rattle.fbl_base.specs.MemberSets.{Members}
 use Rattle.fbl_base.specs.Fold.{Next}
 use Rattle.fbl_law.specs.Knowledge.{Includes, IsDown, IsAlwaysHeld, IsOrphan}
-use Rattle.fbl_law.specs.Promises.{HoldsEachReceipt, SurvivorsHold, RecordsFirst}
+use Rattle.fbl_law.specs.Promises.{HoldsEachReceipt, SurvivorsHold, RecordsFirst, RecordsCauses}
 use Rattle.fbl_law.specs.Groups.{GroupRecord, knowledge}
 use Rattle.fbl_law.specs.GroupSteps.{IsStrike}
 use Rattle.fbl_law.specs.Sound.{IsSound}
@@ -40,3 +40,7 @@ SoundSurvivorsHold S N =
 -- in a sound group a member's recorded receipts are its first ones
 abbrev pub SoundRecordsFirst : Type 0 → Type 0 → Type 0
 SoundRecordsFirst S N = (next : Next S N) (r : GroupRecord S N) → IsSound next r → RecordsFirst (knowledge r)
+
+-- and what precedes a recorded receipt is recorded
+abbrev pub SoundRecordsCauses : Type 0 → Type 0 → Type 0
+SoundRecordsCauses S N = (next : Next S N) (r : GroupRecord S N) → IsSound next r → RecordsCauses (knowledge r)

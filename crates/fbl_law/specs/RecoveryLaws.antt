@@ -2,7 +2,9 @@
 use Rattle.std.specs.Prelude.{◌≡◌, ℕ, ◌+◌, ◌<◌, ◌⊎◌, ◌↔◌, not, List, length, map, slice_index_or, slice_set, Some}
 use Rattle.std.specs.List.{filter}
 use Rattle.fbl_base.specs.declared.trace.Determinant.{Determinant}
-use Rattle.fbl_base.specs.Events.{mark_of}
+use Rattle.fbl_base.specs.declared.trace.Mark.{Mark}
+use Rattle.fbl_base.specs.Events.{mark_of, receipt_of}
+use Rattle.fbl_base.specs.Precedence.{Has, Precedes}
 use Rattle.fbl_base.specs.Fold.{Next}
 use Rattle.fbl_table.specs.Tables.{found}
 use Rattle.fbl_member.specs.Members.{MemberRecord, blank, logged_note, replayed_by}
@@ -35,6 +37,17 @@ RecoveryUndoesLost S N =
     (next : Next S N) (old new : GroupRecord S N)
     → IsRecovery next old new → IsSound next old
     → length (receipts (marks new)) + length (filter (λ d. not (is_recorded old d)) (receipts (marks old))) ≡ length (receipts (marks old))
+
+-- an event of a sound group stays exactly where each receipt that precedes it is recorded
+abbrev pub StaysIsRecorded : Type 0 → Type 0 → Type 0
+StaysIsRecorded S N =
+    (next : Next S N) (r : GroupRecord S N) (e : Mark) → IsSound next r → Has (marks r) e
+    → Stays (knowledge r) e ↔ ((c : Determinant) → Precedes (marks r) (receipt_of c) e → IsRecorded (knowledge r) c)
+
+-- so what precedes an event that a recovery leaves is left
+abbrev pub CutIsClosed : Type 0 → Type 0 → Type 0
+CutIsClosed S N =
+    (next : Next S N) (old new : GroupRecord S N) → IsRecovery next old new → IsSound next old → (a b : Mark) → Precedes (marks old) a b → Has (marks new) b → Has (marks new) a
 
 -- one pass over the trace computes the cut
 abbrev pub OnePassCuts : Type 0 → Type 0 → Type 0

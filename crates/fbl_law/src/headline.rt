@@ -3,7 +3,7 @@
 //! the check of the crate proves it.
 
 ghost use Rattle.fbl_law.specs.Dumps.{DumpHasNoOrphan, DumpObeysRules};
-ghost use Rattle.fbl_law.specs.Headline.{NoSurvivorIsOrphan, SoundHasNoOrphan, SoundHoldsEachReceipt, SoundIsAlwaysHeld, SoundRecordsFirst, SoundSurvivorsHold};
+ghost use Rattle.fbl_law.specs.Headline.{NoSurvivorIsOrphan, SoundHasNoOrphan, SoundHoldsEachReceipt, SoundIsAlwaysHeld, SoundSurvivorsHold};
 
 /// In a sound group in which nobody is down each receipt is held by more than f members or by each member that depends on
 /// it. Whoever is down, each receipt has more than f holders or is held by each up member that depends on it. This is the
@@ -21,11 +21,6 @@ pub fn no_orphan_law<S, N>()
     ensures sound { SoundHasNoOrphan S N }
     ensures struck { NoSurvivorIsOrphan S N }
     ensures recorded { SoundSurvivorsHold S N }
-{}
-
-/// The recorded receipts of a member, up or down, are its first ones, so that it can be put at the fold of them.
-pub fn recorded_prefix_law<S, N>()
-    ensures { SoundRecordsFirst S N }
 {}
 
 /// A dump of a sound group obeys the rules of dumps, and where its strike set has those that are down and at most f
