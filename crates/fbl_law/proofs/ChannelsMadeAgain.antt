@@ -4,7 +4,7 @@ use Rattle.fbl_law.proofs.Common.{arith, Contains, filter, filter_map, nat_tests
 use Rattle.fbl_law.proofs.Common.{At-filter, At-filter_map, in_flight-sent, Entry, piggybacked, Message, last_from, send_mark, GroupRecord, member, channel, marks, last_taken, IsFold, IsMadeAgain}
 use Rattle.fbl_law.proofs.Common.{resent_to, Send, logged_beyond, resent, get_or, get_or_past, HasChannels, destination_of, cases_lt}
 use Rattle.fbl_base.specs.declared.trace.Event.TheVariants as event
-use Rattle.fbl_law.proofs.InOrder.{in_flight-beyond}
+use Rattle.fbl_law.proofs.Channels.{in_flight-beyond}
 use Rattle.fbl_law.proofs.Lists.{Contains-changed, Contains-none, Contains-place}
 use Rattle.fbl_law.proofs.Logs.{logged_of, log-sends}
 use Rattle.fbl_law.proofs.Notes.{sent-noted}

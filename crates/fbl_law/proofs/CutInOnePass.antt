@@ -6,7 +6,7 @@ use Rattle.fbl_law.proofs.Common.{marks, knowledge, IsSound, recovered_trace, po
 use Rattle.fbl_law.proofs.Common.{slice_get-get_or, Send, Receipt, UpTo, stops_at, cut_from, one_place}
 use Rattle.std.specs.FinSet as set
 use Rattle.fbl_law.proofs.Notes.{mark-at}
-use Rattle.fbl_law.proofs.Tables.{Names-held, held-Names}
+use Rattle.fbl_law.proofs.Safe.{Names-held, held-Names}
 use Rattle.fbl_law.proofs.GatheredTables.{gathered_recorded, recorded_gathered}
 
 same_mark : Mark → Mark → Bool

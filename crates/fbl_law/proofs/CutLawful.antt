@@ -7,7 +7,7 @@ use Rattle.fbl_law.proofs.Common.{WellFormed-push, is_sent, in_flight-sent, last
 use Rattle.fbl_law.proofs.Common.{At-filter, receipts-noted, eqb-self, true_from_ne_false, append-nil, filter_map-agree, Earlier-front}
 use Rattle.fbl_base.specs.declared.trace.Mark.TheVariants as mark
 use Rattle.fbl_base.specs.declared.trace.Event.TheVariants.{Send, Receipt}
-use Rattle.fbl_law.proofs.InOrder.{in_flight-beyond}
+use Rattle.fbl_law.proofs.Channels.{in_flight-beyond}
 use Rattle.fbl_law.proofs.Lists.{At-seam, filter-At}
 use Rattle.fbl_law.proofs.Notes.{noted-sent, sent-noted, mark-at, receipt-at}
 

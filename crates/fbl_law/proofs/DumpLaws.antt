@@ -5,7 +5,7 @@ use Rattle.fbl_law.proofs.Common.{Decides-same_determinant, Entry, Message, Memb
 use Rattle.fbl_law.proofs.Common.{decided, add-zero, All-append, All-contains, All-map, All-nil, All, length-le_from_is_member, is_member-Decides, Send, Receipt, HeldAt, pairs_of}
 use Rattle.fbl_law.proofs.Common.{pairs_from, held_pairs, dump_of}
 use Rattle.fbl_law.specs.Dumps.{DumpObeysRules, DumpHasNoOrphan}
-use Rattle.fbl_law.proofs.Tables.{All-from}
+use Rattle.fbl_law.proofs.Safe.{All-from}
 use Rattle.fbl_law.proofs.Lists.{Contains-at, Contains-map, Contains-changed, Contains-none}
 use Rattle.fbl_law.proofs.Promises.{any_survivors_hold}
 use Rattle.fbl_law.proofs.GroupFacts.{named_received, carried_received, trace_fits}

@@ -11,16 +11,14 @@ use Rattle.std.specs.FinSet as sets
 use Rattle.fbl_base.specs.declared.trace.Event.TheVariants as event
 use Rattle.std.proofs.Common.{append-nil}
 use Rattle.fbl_law.proofs.Lists.{At-seam, Contains-at, Contains-from_filter, At-behind, Contains-none, Contains-there}
-use Rattle.fbl_law.proofs.Safe.{never_both, up_if_none, nobody_down_empty}
+use Rattle.fbl_law.proofs.Safe.{never_both, up_if_none, nobody_down_empty, Includes-insert_cases, Includes-only, Includes-union, Names-table, learned-keeps, All-from}
 use Rattle.fbl_law.proofs.Channels.{front_may_follow, flight_sent, channel-delivered}
 use Rattle.fbl_law.proofs.Notes.{sent-noted}
 use Rattle.fbl_law.proofs.ReplayedRecords.{replayed-kept, replayed-step, fold-replayed, fold-received, replayed-fold}
-use Rattle.fbl_law.proofs.DistinctTables.{once_noted}
+use Rattle.fbl_law.proofs.GatheredTables.{once_noted}
 use Rattle.fbl_law.proofs.GroupFacts.{up_state, received_counted, log_counted, receipt_is_new, new_not_held, new_not_carried}
-use Rattle.fbl_law.proofs.Appended.{Has-append, disjoint, Precedes-within, Precedes-entered}
-use Rattle.fbl_law.proofs.Numbered.{added-later}
+use Rattle.fbl_law.proofs.Receipts.{Has-append, disjoint, Precedes-within, Precedes-entered, added-later}
 use Rattle.fbl_law.proofs.Keeping.{KeepsKnowledge, IsSoundAt, NamesCauses-kept, IsTrueEntry-kept, sound_kept, sound_passed, checkpoint_kept, sound_after}
-use Rattle.fbl_law.proofs.Tables.{Includes-insert_cases, Includes-only, Includes-union, Names-table, learned-keeps, All-from}
 
 module _ {N : Type 0} where
   pub length-step_events : (p before : ℕ) (sends : List (ℕ × N)) → length (step_events p before sends) ≡ length sends

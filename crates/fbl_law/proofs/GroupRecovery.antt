@@ -7,11 +7,10 @@ use Rattle.fbl_law.proofs.Common.{same_from_decides}
 use Rattle.fbl_law.specs.RecoveryLaws.{GroupRecoveryGainsHolders, HoldersGainTheDown, RecoveryLeavesRecorded, RecoveryUndoesLost}
 use Rattle.fbl_law.proofs.Logs.{log-length}
 use Rattle.fbl_law.proofs.Safe.{down_or_up, down_or_both_up, never_both, up_if_none, IsRecorded-reached}
-use Rattle.fbl_law.proofs.DistinctTables.{once_recovery_table}
+use Rattle.fbl_law.proofs.GatheredTables.{once_recovery_table}
 use Rattle.fbl_law.proofs.Recovery.{recovery_keeps, cut-recorded, cut_is_recorded, recovery_gains_holders, cut-causes, cut-was, cut-left, cut-obeys, cut-keeps_up, recorded-cut, cut-marks}
 use Rattle.fbl_law.proofs.ReplayedRecords.{all-taken, replayed-kept, fold-replayed, replayed-fold}
-use Rattle.fbl_law.proofs.Receipts.{at-most, Has-receipts_at, length-receipts_at}
-use Rattle.fbl_law.proofs.Numbered.{receipt-number, receipt-there, send-there}
+use Rattle.fbl_law.proofs.Receipts.{at-most, Has-receipts_at, length-receipts_at, receipt-number, receipt-there, send-there}
 use Rattle.fbl_law.proofs.GroupFacts.{received_counted}
 use Rattle.fbl_law.proofs.CutInOnePass.{recovered_trace-cut}
 use Rattle.fbl_law.proofs.CutLawful.{note-stays, note-was, KeepsResponses, Lawful-kept}

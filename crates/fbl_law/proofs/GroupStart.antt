@@ -7,7 +7,7 @@ use Rattle.fbl_law.proofs.Common.{receipts, IsSound, received_notes, ifâ—Œthenâ—
 use Rattle.fbl_law.proofs.Common.{At-filter_map, nat_tests, IsOnce-none, Entry, Has, Has-first, IsSoundKnowledge, IsThere, NamesCauses, Store, entries, in_checkpoint, in_message, in_table}
 use Rattle.fbl_base.specs.declared.trace.Event.TheVariants as event
 use Rattle.std.proofs.Common.{append-nil}
-use Rattle.fbl_law.proofs.InOrder.{fifo}
+use Rattle.fbl_law.proofs.Channels.{fifo}
 use Rattle.fbl_law.proofs.Lists.{Contains-from_filter, Contains-place, Contains-none}
 use Rattle.fbl_law.proofs.Safe.{never_both, up_if_none, nobody_down_empty}
 use Rattle.fbl_law.proofs.Notes.{sent-noted}

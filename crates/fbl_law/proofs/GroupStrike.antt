@@ -3,8 +3,7 @@ use Rattle.fbl_law.proofs.Common.{◌≡◌, ℕ, ◌≤◌, List, inl, inr, Som
 use Rattle.fbl_law.proofs.Common.{Message, MemberRecord, blank, IsInFlight, IsUp, Names, GroupRecord, knowledge, IsFold, IsSound, list_any_at, IsStrike, RecordedTest, Decides}
 use Rattle.fbl_law.proofs.Common.{Decides-like, Decides-or, IsOnce-none, IsSoundKnowledge, IsThere, Store, false, in_checkpoint, in_message, in_table, refl, table}
 use Rattle.std.specs.FinSet as sets
-use Rattle.fbl_law.proofs.Safe.{down_or_up, up_at_ends, up_if_named, never_both}
-use Rattle.fbl_law.proofs.Tables.{Names-held, held-Names, Includes-union, named_record}
+use Rattle.fbl_law.proofs.Safe.{down_or_up, up_at_ends, up_if_named, never_both, Names-held, held-Names, Includes-union, named_record}
 use Rattle.fbl_law.proofs.Keeping.{IsSameStore, KeepsKnowledge, checkpoint_kept, sound_after, sound_kept}
 
 -- who is up after a strike was up before it

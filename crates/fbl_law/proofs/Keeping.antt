@@ -3,9 +3,8 @@ use Rattle.fbl_law.proofs.Common.{◌≡◌, ℕ, zero, suc, ◌≤◌, length, 
 use Rattle.fbl_law.proofs.Common.{some_outside, Entry, piggybacked, Message, Includes, Knowledge, Store, in_table, in_message, in_checkpoint, owner, entries, table, checkpoint, IsThere, Owes, IsUp}
 use Rattle.fbl_law.proofs.Common.{Names, Holds, IsRecorded, IsHolder, IsStable, IsTrueEntry, NamesCauses, IsDownEmpty, IsBeforeCheckpoint, IsCheckpointKept, IsSoundKnowledge, MatchesTrace, WellFormed}
 use Rattle.fbl_law.proofs.Common.{receipts_of, sends_of, sent-number, Send, Receipt}
-use Rattle.fbl_law.proofs.Numbered.{receipt-there, send-there, receipt-number}
-use Rattle.fbl_law.proofs.Safe.{down_or_up, up_at_ends, IsRecorded-before, IsRecorded-reached, recorded_holder}
-use Rattle.fbl_law.proofs.Tables.{Contains-piggybacked, passed_or_known}
+use Rattle.fbl_law.proofs.Receipts.{receipt-there, send-there, receipt-number}
+use Rattle.fbl_law.proofs.Safe.{down_or_up, up_at_ends, IsRecorded-before, IsRecorded-reached, recorded_holder, Contains-piggybacked, passed_or_known}
 
 module _ {S N : Type 0} where
   -- what is true of one store of a sound record

@@ -6,7 +6,7 @@ use Rattle.fbl_law.proofs.Common.{starts_of, begun, advanced, after_notes, actio
 use Rattle.fbl_law.proofs.Common.{length-numbered, received_notes, slice_get, Mark, MemberRecord, IsReplayed, append-nil, fold-append, numbered-append, take-more, progress_of, take-map}
 use Rattle.fbl_base.specs.declared.trace.Mark.TheVariants as mark
 use Rattle.fbl_base.specs.declared.trace.Event.TheVariants.{Send, Receipt}
-use Rattle.fbl_law.proofs.Appended.{MayFollow-seam}
+use Rattle.fbl_law.proofs.Receipts.{MayFollow-seam}
 use Rattle.fbl_law.proofs.Notes.{mark-at}
 
 module _ {N : Type 0} where

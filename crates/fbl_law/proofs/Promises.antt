@@ -3,10 +3,8 @@ use Rattle.fbl_law.proofs.Common.{◌≡◌, ℕ, inl, inr, arith, take, cases_o
 use Rattle.fbl_law.proofs.Common.{knowledge, Receipt, IsHeldBy, SoundRecordsFirst, Includes, IsDown, IsSoundKnowledge, Knowledge, Members, SoundRecordsCauses, SurvivorsHold, marks, ◌≤◌}
 use Rattle.fbl_law.specs.Headline.{SoundHoldsEachReceipt, SoundIsAlwaysHeld, SoundHasNoOrphan, NoSurvivorIsOrphan, SoundSurvivorsHold}
 use Rattle.std.specs.FinSet as set
-use Rattle.fbl_law.proofs.Tables.{held-Names}
-use Rattle.fbl_law.proofs.Numbered.{receipt-number}
-use Rattle.fbl_law.proofs.Safe.{down_or_up, never_both, up_if_none, no_orphan, IsRecorded-before, Has-recorded}
-use Rattle.fbl_law.proofs.Decide.{IsAlwaysHeld-closed}
+use Rattle.fbl_law.proofs.Safe.{held-Names, down_or_up, never_both, up_if_none, no_orphan, IsRecorded-before, Has-recorded, IsAlwaysHeld-closed}
+use Rattle.fbl_law.proofs.Receipts.{receipt-number}
 use Rattle.fbl_law.proofs.GroupStrike.{strike_keeps}
 
 module _ (S N : Type 0) where

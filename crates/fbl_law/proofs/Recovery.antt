@@ -6,7 +6,7 @@ use Rattle.fbl_law.proofs.Common.{arith, Event, GainsHolders, GroupRecord, IsEve
 use Rattle.fbl_law.proofs.Common.{recovery_table}
 use Rattle.fbl_law.proofs.CutLawful.{KeepsCauses, Has-before, WellFormed-kept, map-kept, marks-filter}
 use Rattle.fbl_law.proofs.Lists.{filter-passes, filter-At}
-use Rattle.fbl_law.proofs.Appended.{Earlier-joined}
+use Rattle.fbl_law.proofs.Receipts.{Earlier-joined}
 use Rattle.fbl_law.proofs.GatheredTables.{entries_gathered, gathered_recorded, recorded_gathered}
 use Rattle.fbl_law.proofs.Safe.{down_or_up, down_or_both_up, never_both, nobody_down_empty, up_if_none, IsRecorded-depended, IsRecorded-before, Has-recorded}
 use Rattle.fbl_law.proofs.Keeping.{KeepsKnowledge, IsSoundAt, sound_kept, sound_passed, checkpoint_kept, sound_after}
