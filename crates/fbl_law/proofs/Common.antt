@@ -5,9 +5,9 @@ pub use Rattle.std.proofs.Common.{◌==◌, ◌||◌, ◌↔◌, ◌∙◌, ◌�
 pub use Rattle.std.proofs.Math.ListN.{get_or-map}
 pub use Rattle.std.proofs.Math.Nat.{add-zero, zero-add}
 pub use Rattle.std.proofs.Math.Seq.{take-append-add}
-pub use Rattle.std.proofs.lemmas.Bool.{and_parts, cases_Bool, cases_eq, cases_lt, cases_order, eq-eqb, false_from_ne_true, ne_eqb, true_from_ne_false}
+pub use Rattle.std.proofs.lemmas.Bool.{and_parts, false≢true, cases_Bool, cases_eq, cases_lt, cases_order, eq-eqb, false_from_ne_true, ne_eqb, true_from_ne_false}
 pub use Rattle.std.proofs.lemmas.Bool.Decides.{Decides-at, Decides-like, Decides-or, leb_tells, nat_tests, same_from_decides}
-pub use Rattle.std.proofs.lemmas.List.{append-nil, drop-map, get_or-replicate, get_or-set_other, get_or-set_same, get_or_default, get_or_past, length-map, length-replicate, length-set, map-append}
+pub use Rattle.std.proofs.lemmas.List.{append-nil, drop-map, drop_all, get_or-replicate, get_or-set_other, get_or-set_same, get_or_default, get_or_past, length-map, length-replicate, length-set, map-append}
 pub use Rattle.std.proofs.lemmas.List.{nil_from_length, take-append-drop, take-map, take_all}
 pub use Rattle.std.proofs.lemmas.List.Elements.{All-append, All-cons, All-contains, All-contains_itself, All-from_get_or, All-head, All-map, All-nil, All-push, All-tail, All-take, All-weaker}
 pub use Rattle.std.proofs.lemmas.List.Elements.{Contains-append_cases, Contains-append_left, Contains-append_right, Contains-get_or, filter-append, filter_map-append, filter_passes}
@@ -24,7 +24,7 @@ pub use Rattle.std.specs.Option.{option_map_or}
 pub use Rattle.std.specs.Ordering.{nat_cmp}
 pub use Rattle.std.specs.Prelude.{slice_index_or, slice_set, sum_by}
 pub use Rattle.fbl_base.proofs.FoldLaws.{after_notes-state}
-pub use Rattle.fbl_base.proofs.Gets.{Apart, Apart-later, At-below, At-filter, At-filter_map, At-front, At-new, At-push, filter_map-At, filter_map-agree, map-At, slice_get-take, split-at, take-more}
+pub use Rattle.fbl_base.proofs.Gets.{Apart, Apart-later, At-below, At-filter, At-filter_map, At-front, At-new, At-push, drop_next, filter_map-At, filter_map-agree, map-At, slice_get-take, split-at, take-more}
 pub use Rattle.fbl_base.proofs.InFlightLaws.{filter_all, in_flight-receipt, in_flight-send, sent-number, sent-rises}
 pub use Rattle.fbl_base.proofs.LawfulLaws.{Lawful-begun, Lawful-deliver, note_of-front, notes_of-sent, receipts-noted, sends_obey, sent-note}
 pub use Rattle.fbl_base.proofs.PlacesAndEvents.{one_place}
@@ -65,8 +65,8 @@ pub use Rattle.fbl_law.specs.Knowledge.{IsSoundKnowledge, IsStable, IsThere, IsT
 pub use Rattle.fbl_law.specs.Knowledge.{in_checkpoint, in_message, in_table, owner, send_mark, table}
 pub use Rattle.fbl_law.specs.Promises.{GainsHolders, IsHeldBy, RecordsCauses, SurvivorsHold}
 pub use Rattle.fbl_law.specs.RecoveryLaws.{CutIsClosed, CutIsOne, StaysIsRecorded}
-pub use Rattle.fbl_law.specs.Replaying.{IsNextReplay, IsRebuilt, IsReplaying, IsWaiting, count_in, cut_from, is_replayed, recovered_trace, replayed_in, resent, resent_to, sent_again, stays_by}
-pub use Rattle.fbl_law.specs.Replaying.{stops_at, working}
+pub use Rattle.fbl_law.specs.Replaying.{IsNextReplay, IsRebuilt, IsReplaying, IsWaiting, count_in, before_lost, is_lost, is_replayed, recovered_trace, replayed_in, resent, resent_to, sent_again, stays_by, stays_in, stays_within}
+pub use Rattle.fbl_law.specs.Replaying.{working}
 pub use Rattle.fbl_law.specs.Run.{checkpoints, delivers, recovers, starts, strikes}
 pub use Rattle.fbl_law.specs.Sound.{IsFold, IsReplayed, IsSound, last_among, last_taken, receipts_at, received_notes}
 pub use Rattle.fbl_law.specs.StepLaws.{AnyNote, AnyState, HoldsFirst, HoldsOf, StepConserves, StepKeeps, StepLosesNone, StepMakesNone, WeighsNoLess, WeighsNoMore, WeighsTheSame, weight_after}

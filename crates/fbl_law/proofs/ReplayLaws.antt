@@ -10,14 +10,13 @@ use Rattle.std.specs.FinSet as set
 use Rattle.fbl_law.proofs.Receipts.{at-most-before, receipts_at-Has, at-most, Has-receipts_at, length-receipts_at}
 use Rattle.fbl_law.proofs.ChannelCounts.{sum_below-agree, sum_below-none, sum_below-at}
 use Rattle.fbl_law.proofs.Recovery.{cut-obeys, cut-recorded, recorded-cut}
-use Rattle.fbl_law.proofs.GroupRecovery.{cut-shorter, stays_by-cut, cut-lawful, survivor-replays, folds-all, checkpoint-survives}
+use Rattle.fbl_law.proofs.GroupRecovery.{recovered_trace-cut, recovered_lawful, cut-shorter, stays_by-cut, survivor-replays, folds-all, checkpoint-survives}
 use Rattle.fbl_law.proofs.Lists.{Contains-here, Contains-there}
 use Rattle.fbl_law.proofs.Safe.{down_or_up}
 use Rattle.fbl_law.proofs.GatheredTables.{gathered_recorded, recorded_gathered}
 use Rattle.fbl_law.proofs.Notes.{send-at}
 use Rattle.fbl_law.proofs.Logs.{logged-noted, logged-by, log-short}
 use Rattle.fbl_law.proofs.ReplayedRecords.{replayed-step, replayed-fold}
-use Rattle.fbl_law.proofs.CutInOnePass.{recovered_trace-cut}
 use Rattle.fbl_law.proofs.ChannelsMadeAgain.{made-again, made-again-if}
 
 -- the member has replayed each receipt that comes before the send, so it has sent that message again
@@ -156,7 +155,7 @@ module _ {S N : Type 0} (next : Next S N) (old : GroupRecord S N) (sound : IsSou
   cut = recovered_trace-cut next old sound
 
   abbrev lawful : Lawful next old.config.members old.config.starts (recovered_trace old)
-  lawful = cut-lawful sound cut
+  lawful = recovered_lawful next old sound
 
   -- the member has come so far in its replay of the cut
   abbrev Replays : ℕ → MemberRecord S N → Type 0
@@ -315,7 +314,7 @@ module _ {S N : Type 0} (next : Next S N) (old : GroupRecord S N) (sound : IsSou
 
       -- the events that stay are those that the counts of the members that were down cover
       pub recovered_trace-rebuilt : filter (λ e. stays_by old.down current (mark_of e)) old.trace ≡ recovered_trace old
-      recovered_trace-rebuilt = stays_by-cut sound cut current replaying.replayed replay_ends
+      recovered_trace-rebuilt = stays_by-cut sound current replaying.replayed replay_ends
 
       -- so a group with these records, and with channels made again, is the group recovered
       module _ (new : GroupRecord S N) (step : IsRebuilt old new rebuilt) where

@@ -49,9 +49,9 @@ abbrev pub CutIsClosed : Type 0 → Type 0 → Type 0
 CutIsClosed S N =
     (next : Next S N) (old new : GroupRecord S N) → IsRecovery next old new → IsSound next old → (a b : Mark) → Precedes (marks old) a b → Has (marks new) b → Has (marks new) a
 
--- one pass over the trace computes the cut
-abbrev pub OnePassCuts : Type 0 → Type 0 → Type 0
-OnePassCuts S N =
+-- the events before their member's first lost receipt are the cut
+abbrev pub RecoveredIsCut : Type 0 → Type 0 → Type 0
+RecoveredIsCut S N =
     (next : Next S N) (old : GroupRecord S N) → IsSound next old → IsEventCut (Stays (knowledge old)) old.trace (recovered_trace old)
 
 -- and a recovery leaves no other trace

@@ -1,7 +1,7 @@
 //! What a recovery of a group keeps, and how its replay goes. Each law is the contract of a function that does nothing, so
 //! that the check of the crate proves it.
 
-ghost use Rattle.fbl_law.specs.RecoveryLaws.{GroupRecoveryGainsHolders, HoldersGainTheDown, RecoveryLeavesRecorded, RecoveryUndoesLost, OnePassCuts, CutIsOne, StaysIsRecorded, CutIsClosed, ReplayBegins, ReplayIsRight, ReplayEnds, RebuiltIsRecovered};
+ghost use Rattle.fbl_law.specs.RecoveryLaws.{GroupRecoveryGainsHolders, HoldersGainTheDown, RecoveryLeavesRecorded, RecoveryUndoesLost, RecoveredIsCut, CutIsOne, StaysIsRecorded, CutIsClosed, ReplayBegins, ReplayIsRight, ReplayEnds, RebuiltIsRecovered};
 
 /// The holders of a receipt after a recovery are those before it: of a recorded receipt, with all members that were down.
 #[tactic(auto, using(crate::proofs::GroupRecovery::group_recovery_gains_holders, crate::proofs::GroupRecovery::holders_gain_the_down))]
@@ -17,10 +17,10 @@ pub fn undone_law<S, N>()
     ensures undone { RecoveryUndoesLost S N }
 {}
 
-/// One pass over a sound group's trace computes the trace that a recovery leaves. An event stays exactly where each receipt that
-/// precedes it is recorded, so all that precedes it stays with it.
+/// What a recovery leaves of a sound group's trace are the events before their member's first lost receipt. An event stays exactly
+/// where each receipt that precedes it is recorded, so all that precedes it stays with it.
 pub fn cut_law<S, N>()
-    ensures cut { OnePassCuts S N }
+    ensures cut { RecoveredIsCut S N }
     ensures one { CutIsOne S N }
     ensures stays { StaysIsRecorded S N }
     ensures closed { CutIsClosed S N }

@@ -1,5 +1,4 @@
-use Rattle.fbl_law.proofs.CutInOnePass.{recovered_trace-cut}
-use Rattle.fbl_law.proofs.GroupRecovery.{cut_is_one}
+use Rattle.fbl_law.proofs.GroupRecovery.{cut_is_one, recovered_trace-cut}
 use Rattle.fbl_law.proofs.Recovery.{cut_is_closed, stays_is_recorded}
 use Rattle.fbl_law.proofs.recovery_laws.cut_law.Goals as goal
 
