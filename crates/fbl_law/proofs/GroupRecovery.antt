@@ -3,10 +3,9 @@
 use Rattle.fbl_law.proofs.Common.{◌≡◌, ℕ, ◌<◌, ◌≤◌, inl, inr, List, length, map, Some, refl, ap, ◌∙◌, arith, true, sym, Determinant, Event, mark_of, receipt_of, Has, itself, Next, Lawful}
 use Rattle.fbl_law.proofs.Common.{note_of, Message, MemberRecord, IsInFlight, IsUp, Stays, IsEventCut, GroupRecord, member, member_checkpoint, marks, knowledge, receipts_at, IsFold}
 use Rattle.fbl_law.proofs.Common.{IsReplayed, IsSound, IsRecovery, length-left, Mark, ◌+◌, not, slice_get, filter, determinant_of, receipts, is_receipt, recovered_trace, nat_tests}
-use Rattle.fbl_law.proofs.Common.{sends_of, Progress, IsDown, stays_by, Send, Receipt, is_recorded, CutIsOne, length-filter_both, same_from_decides, At, Bool, Entry, UpTo, before_lost}
-use Rattle.fbl_law.proofs.Common.{cases_eq, cond, count_by, eqb-self, fails_before_first, false, false≢true, get_or_from_slice_get, is_held, is_lost, is_receipt_of, is_send_of, member_of}
-use Rattle.fbl_law.proofs.Common.{nat_lt, passes_at_first, position_or_len, recovery_table, slice_get_within, stays_in}
-use Rattle.fbl_law.specs.RecoveryLaws.{GroupRecoveryGainsHolders, HoldersGainTheDown, RecoveryLeavesRecorded, RecoveryUndoesLost}
+use Rattle.fbl_law.proofs.Common.{sends_of, Progress, IsDown, stays_by, Send, Receipt, is_recorded, length-filter_both, same_from_decides, At, Bool, Entry, UpTo, before_lost, cases_eq}
+use Rattle.fbl_law.proofs.Common.{cond, count_by, eqb-self, fails_before_first, false, false≢true, get_or_from_slice_get, is_held, is_lost, is_receipt_of, is_send_of, member_of, nat_lt}
+use Rattle.fbl_law.proofs.Common.{passes_at_first, position_or_len, recovery_table, slice_get_within, stays_in, GainsHolders, GainsTheDown, LeavesRecorded, OfRecovery}
 use Rattle.std.specs.FinSet as set
 use Rattle.fbl_base.specs.declared.trace.Event.TheVariants as event
 use Rattle.fbl_law.proofs.Logs.{log-length}
@@ -112,7 +111,7 @@ module _ {S N : Type 0} (next : Next S N) (old : GroupRecord S N) (sound : IsSou
 -- a cut of a sound group's trace
 module _ {S N : Type 0} {next : Next S N} {old : GroupRecord S N} (sound : IsSound next old) {new : List (Event N)} (cut : IsEventCut (Stays (knowledge old)) old.trace new) where
   -- two cuts are the same
-  cut-one : new ≡ recovered_trace old
+  pub cut-one : new ≡ recovered_trace old
   unfolding recovered_trace-cut
   cut-one = cut.1 ∙ filter-agree (λ e. cut.0 (mark_of e)) (λ e. stays_in old (mark_of e)) old.trace (λ i e here.
       let there : Has (marks old) (mark_of e) = (i, mark-at old.trace i e here) in
@@ -244,29 +243,16 @@ module _ {S N : Type 0} (next : Next S N) (old new : GroupRecord S N) (step : Is
   }
 
 module _ (S N : Type 0) where
-  pub group_recovery_gains_holders : GroupRecoveryGainsHolders S N
-  unfolding GroupRecoveryGainsHolders
+  pub group_recovery_gains_holders : OfRecovery S N (λ old new. GainsHolders (knowledge old) (knowledge new))
   group_recovery_gains_holders = recovery_gains_holders
 
-  pub holders_gain_the_down : HoldersGainTheDown S N
-  unfolding HoldersGainTheDown GroupRecoveryGainsHolders
-  holders_gain_the_down next old new d m step sound recorded =
-      let stay = group_recovery_gains_holders next old new step sound d m in (
+  pub recovery_leaves_recorded : OfRecovery S N LeavesRecorded
+  recovery_leaves_recorded next old new step sound = record { exactly = cut_is_recorded next old new step sound; order = cut-receipts sound step.trace }
+
+module _ {S N : Type 0} where
+  pub gains_the_down : OfRecovery S N GainsTheDown
+  gains_the_down next old new step sound d m recorded =
+      let stay = recovery_gains_holders next old new step sound d m in (
         λ holds. elim (stay.0 holds) [ inl was ↦ inl was | inr down ↦ inr down.0 ],
         elim [ inl was ↦ stay.1 (inl was) | inr down ↦ stay.1 (inr (down, recorded)) ],
       )
-
-  pub recovery_leaves_recorded : RecoveryLeavesRecorded S N
-  unfolding RecoveryLeavesRecorded
-  recovery_leaves_recorded next old new step sound = record {
-    exactly = cut_is_recorded next old new step sound;
-    order = cut-receipts sound step.trace;
-  }
-
-  pub recovery_undoes_lost : RecoveryUndoesLost S N
-  unfolding RecoveryUndoesLost
-  recovery_undoes_lost next old new step sound = cut-undone sound step.trace
-
-module _ {S N : Type 0} where
-  pub cut_is_one : CutIsOne S N
-  cut_is_one next old new step sound = cut-one sound step.trace

@@ -1,25 +1,15 @@
 -- What soundness promises.
 use Rattle.fbl_law.proofs.Common.{◌≡◌, ℕ, inl, inr, arith, take, cases_order, At, receipt_of, itself, step, slice_get-take, some_outside, WellFormed-take, in_table, IsUp, IsHolder, member}
-use Rattle.fbl_law.proofs.Common.{knowledge, Receipt, IsHeldBy, SoundRecordsFirst, Includes, IsDown, IsSoundKnowledge, Knowledge, Members, SoundRecordsCauses, SurvivorsHold, marks, ◌≤◌}
-use Rattle.fbl_law.specs.Headline.{SoundHoldsEachReceipt, SoundIsAlwaysHeld, SoundHasNoOrphan, NoSurvivorIsOrphan, SoundSurvivorsHold}
+use Rattle.fbl_law.proofs.Common.{knowledge, Receipt, IsHeldBy, Includes, IsDown, IsSoundKnowledge, Knowledge, Members, SurvivorsHold, marks, ◌≤◌, HoldsEachReceipt, OfSound, RecordsCauses}
+use Rattle.fbl_law.proofs.Common.{RecordsFirst}
 use Rattle.std.specs.FinSet as set
-use Rattle.fbl_law.proofs.Safe.{held-Names, down_or_up, never_both, up_if_none, no_orphan, IsRecorded-before, Has-recorded, IsAlwaysHeld-closed}
+use Rattle.fbl_law.proofs.Safe.{held-Names, down_or_up, never_both, up_if_none, IsRecorded-before, Has-recorded, IsAlwaysHeld-closed}
 use Rattle.fbl_law.proofs.Receipts.{receipt-number}
-use Rattle.fbl_law.proofs.GroupStrike.{strike_keeps}
 
 module _ (S N : Type 0) where
-  pub sound_is_always_held : SoundIsAlwaysHeld S N
-  unfolding SoundIsAlwaysHeld
-  sound_is_always_held next r sound = IsAlwaysHeld-closed r.config.f (knowledge r) sound.causes.closed
-
-  pub sound_has_no_orphan : SoundHasNoOrphan S N
-  unfolding SoundHasNoOrphan
-  sound_has_no_orphan next r m sound = no_orphan r.config.f (knowledge r) sound.causes.closed m
-
-  pub sound_holds_each_receipt : SoundHoldsEachReceipt S N
-  unfolding SoundHoldsEachReceipt SoundIsAlwaysHeld
+  pub sound_holds_each_receipt : OfSound S N HoldsEachReceipt
   sound_holds_each_receipt next r sound nobody d there =
-      elim (sound_is_always_held next r sound d there) [
+      elim (IsAlwaysHeld-closed r.config.f (knowledge r) sound.causes.closed d there) [
         | inl stable ↦ inl (stable.0, stable.1, λ m among. holder m (stable.2 m among))
         | inr held ↦ inr (λ m depends. held-Names (member r m).table d (held m (up_if_none nobody m) depends).1)
       ]
@@ -27,11 +17,6 @@ module _ (S N : Type 0) where
       holder : (m : ℕ) → IsHolder (knowledge r) d m → IsHeldBy r d m
       holder m (inl holds) = held-Names (member r m).table d holds.1
       holder m (inr down) = never_both r.down m down.0 (up_if_none nobody m)
-
-  pub no_survivor_is_orphan : NoSurvivorIsOrphan S N
-  unfolding NoSurvivorIsOrphan
-  no_survivor_is_orphan next old new struck m sound s few =
-      no_orphan old.config.f (knowledge new) (strike_keeps next old new struck s few sound).closed m
 
 module _ {S N : Type 0} where
   -- of more than f holders one is outside a set of at most f members, and up
@@ -45,18 +30,11 @@ module _ {S N : Type 0} where
             elim (stable.2 one.0 one.1) [ inl holds ↦ (one.0, one.2, holds.1) | inr down ↦ never_both s one.0 (covers one.0 down.0) one.2 ]
       ]
 
-module _ (S N : Type 0) where
-  pub sound_survivors_hold : SoundSurvivorsHold S N
-  unfolding SoundSurvivorsHold
-  sound_survivors_hold next r s sound covers few =
-      any_survivors_hold r.config.members r.config.f (knowledge r) s sound.causes covers few
-
-module _ {S N : Type 0} where
-  pub sound_records_causes : SoundRecordsCauses S N
+  pub sound_records_causes : OfSound S N (λ r. RecordsCauses (knowledge r))
   sound_records_causes next r sound = IsRecorded-before r.config.f (knowledge r) sound.causes.closed
 
   -- the numbers of a member's receipts rise, so the one with the lower number comes first
-  pub sound_records_first : SoundRecordsFirst S N
+  pub sound_records_first : OfSound S N (λ r. RecordsFirst (knowledge r))
   sound_records_first next r sound c d there same before recorded =
       let found = Has-recorded (knowledge r) sound.causes.truth d recorded in
       sound_records_causes next r sound c d recorded (elim (cases_order there.0 found.0) [

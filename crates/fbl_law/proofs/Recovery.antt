@@ -93,7 +93,7 @@ module _ {S N : Type 0} {next : Next S N} {old : GroupRecord S N} (sound : IsSou
 
 module _ {S N : Type 0} where
   pub stays_is_recorded : StaysIsRecorded S N
-  stays_is_recorded next r e sound there = (
+  stays_is_recorded next r sound e there = (
     λ stays c before. recorded_before r.config.members r.config.f (knowledge r) sound.causes.rules sound.causes.closed c stays before,
     Stays-recorded (knowledge r) e there,
   )

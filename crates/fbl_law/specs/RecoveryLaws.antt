@@ -9,55 +9,42 @@ use Rattle.fbl_base.specs.Fold.{Next}
 use Rattle.fbl_table.specs.Tables.{found}
 use Rattle.fbl_member.specs.Members.{MemberRecord, blank, logged_note, replayed_by}
 use Rattle.fbl_law.specs.Knowledge.{Holds, IsDown, IsRecorded}
-use Rattle.fbl_law.specs.Promises.{LeavesRecorded, GainsHolders}
 use Rattle.fbl_law.specs.Steps.{Stays, IsEventCut, recovery_table}
 use Rattle.fbl_law.specs.Groups.{GroupRecord, member_checkpoint, marks, knowledge, receipts, is_recorded}
-use Rattle.fbl_law.specs.Sound.{receipts_at, IsSound}
+use Rattle.fbl_law.specs.Sound.{receipts_at, IsSound, OfSound}
 use Rattle.fbl_law.specs.GroupSteps.{IsRecovery}
 use Rattle.fbl_law.specs.Replaying.{recovered_trace, working, IsReplaying, IsWaiting, IsRebuilt}
 
--- the holders of a receipt after a recovery are those before
-unfoldable pub GroupRecoveryGainsHolders : Type 0 → Type 0 → Type 0
-GroupRecoveryGainsHolders S N =
-    (next : Next S N) (old new : GroupRecord S N) → IsRecovery next old new → IsSound next old → GainsHolders (knowledge old) (knowledge new)
+-- what holds of a sound group and of what a recovery leaves of it
+abbrev pub OfRecovery : (S N : Type 0) → (GroupRecord S N → GroupRecord S N → Type 0) → Type 0
+OfRecovery S N P = (next : Next S N) (old new : GroupRecord S N) → IsRecovery next old new → IsSound next old → P old new
 
--- so those of a recorded receipt are those before, and the members that were down
-unfoldable pub HoldersGainTheDown : Type 0 → Type 0 → Type 0
-HoldersGainTheDown S N =
-    (next : Next S N) (old new : GroupRecord S N) (d : Determinant) (m : ℕ)
-    → IsRecovery next old new → IsSound next old → IsRecorded (knowledge old) d → Holds (knowledge new) d m ↔ Holds (knowledge old) d m ⊎ IsDown (knowledge old) m
+-- the holders of a recorded receipt are those before, and the members that were down
+abbrev pub GainsTheDown : {S N : Type 0} → GroupRecord S N → GroupRecord S N → Type 0
+GainsTheDown old new =
+    (d : Determinant) (m : ℕ) → IsRecorded (knowledge old) d → Holds (knowledge new) d m ↔ Holds (knowledge old) d m ⊎ IsDown (knowledge old) m
 
--- a recovery leaves exactly the recorded receipts, in their order
-unfoldable pub RecoveryLeavesRecorded : Type 0 → Type 0 → Type 0
-RecoveryLeavesRecorded S N = (next : Next S N) (old new : GroupRecord S N) → IsRecovery next old new → IsSound next old → LeavesRecorded old new
-
--- and it undoes the others: the receipts left and the lost ones are as many as there were
-unfoldable pub RecoveryUndoesLost : Type 0 → Type 0 → Type 0
-RecoveryUndoesLost S N =
-    (next : Next S N) (old new : GroupRecord S N)
-    → IsRecovery next old new → IsSound next old
-    → length (receipts (marks new)) + length (filter (λ d. not (is_recorded old d)) (receipts (marks old))) ≡ length (receipts (marks old))
+-- the receipts left and the lost ones are as many as there were
+abbrev pub UndoesLost : {S N : Type 0} → GroupRecord S N → GroupRecord S N → Type 0
+UndoesLost old new =
+    length (receipts (marks new)) + length (filter (λ d. not (is_recorded old d)) (receipts (marks old))) ≡ length (receipts (marks old))
 
 -- an event of a sound group stays exactly where each receipt that precedes it is recorded
 abbrev pub StaysIsRecorded : Type 0 → Type 0 → Type 0
-StaysIsRecorded S N =
-    (next : Next S N) (r : GroupRecord S N) (e : Mark) → IsSound next r → Has (marks r) e
-    → Stays (knowledge r) e ↔ ((c : Determinant) → Precedes (marks r) (receipt_of c) e → IsRecorded (knowledge r) c)
+StaysIsRecorded S N = OfSound S N (λ r. (e : Mark) → Has (marks r) e
+    → Stays (knowledge r) e ↔ ((c : Determinant) → Precedes (marks r) (receipt_of c) e → IsRecorded (knowledge r) c))
 
 -- so what precedes an event that a recovery leaves is left
 abbrev pub CutIsClosed : Type 0 → Type 0 → Type 0
-CutIsClosed S N =
-    (next : Next S N) (old new : GroupRecord S N) → IsRecovery next old new → IsSound next old → (a b : Mark) → Precedes (marks old) a b → Has (marks new) b → Has (marks new) a
+CutIsClosed S N = OfRecovery S N (λ old new. (a b : Mark) → Precedes (marks old) a b → Has (marks new) b → Has (marks new) a)
 
 -- the events before their member's first lost receipt are the cut
 abbrev pub RecoveredIsCut : Type 0 → Type 0 → Type 0
-RecoveredIsCut S N =
-    (next : Next S N) (old : GroupRecord S N) → IsSound next old → IsEventCut (Stays (knowledge old)) old.trace (recovered_trace old)
+RecoveredIsCut S N = OfSound S N (λ r. IsEventCut (Stays (knowledge r)) r.trace (recovered_trace r))
 
 -- and a recovery leaves no other trace
 abbrev pub CutIsOne : Type 0 → Type 0 → Type 0
-CutIsOne S N =
-    (next : Next S N) (old new : GroupRecord S N) → IsRecovery next old new → IsSound next old → new.trace ≡ recovered_trace old
+CutIsOne S N = OfRecovery S N (λ old new. new.trace ≡ recovered_trace old)
 
 -- replay begins at the checkpoints of the members that are down
 abbrev pub ReplayBegins : Type 0 → Type 0 → Type 0

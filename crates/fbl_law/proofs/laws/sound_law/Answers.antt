@@ -4,7 +4,7 @@ use Rattle.fbl_law.proofs.GroupDelivery.{group_delivery_keeps}
 use Rattle.fbl_law.proofs.GroupStrike.{group_strike_keeps}
 use Rattle.fbl_law.proofs.GroupCheckpoint.{group_checkpoint_keeps}
 use Rattle.fbl_law.proofs.GroupRecovery.{group_recovery_keeps}
-use Rattle.fbl_law.proofs.sound_laws.sound_law.Goals as goal
+use Rattle.fbl_law.proofs.laws.sound_law.Goals as goal
 
 module _ {S N : Type 0} where
   -- what every run keeps
