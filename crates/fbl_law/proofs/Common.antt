@@ -56,17 +56,16 @@ pub use Rattle.fbl_table.proofs.Adding.{added_new, fold_next, held-carried, held
 pub use Rattle.fbl_table.specs.Tables.{found, gathered, held_by, is_held, is_of_receipt, learned, noted, piggybacked}
 pub use Rattle.fbl_table.specs.declared.entry.Entry.{Entry}
 pub use Rattle.fbl_law.specs.Dumps.{dump_of, held_pairs, pairs_from, pairs_of}
-pub use Rattle.fbl_law.specs.GroupLaws.{CheckpointIsRecorded, GroupCheckpointKeeps, RecordedTest, RunIsSound, SendsWell}
+pub use Rattle.fbl_law.specs.GroupLaws.{CheckpointIsRecorded, CutIsClosed, CutIsOne, GainsTheDown, GroupCheckpointKeeps, OfRecovery, RecordedTest, RunIsSound, SendsWell, StaysIsRecorded}
+pub use Rattle.fbl_law.specs.GroupLaws.{checkpoints, delivers, recovers, starts, strikes}
 pub use Rattle.fbl_law.specs.GroupSteps.{IsCheckpoint, IsDelivery, IsGroupStart, IsMadeAgain, IsRecovery, IsStrike, delivery_events, made, message_of_send, receiver, start_events, step_of}
 pub use Rattle.fbl_law.specs.Groups.{GroupRecord, HasChannels, channel, is_recorded, knowledge, marks, member, member_checkpoint, messages_in_flight, receipts, sum_below}
 pub use Rattle.fbl_law.specs.Knowledge.{Holds, Includes, IsAlwaysHeld, IsBeforeCheckpoint, IsCheckpointKept, IsClosed, IsDown, IsDownEmpty, IsHolder, IsInFlight, IsOrphan, IsRecorded}
 pub use Rattle.fbl_law.specs.Knowledge.{IsSoundKnowledge, IsStable, IsThere, IsTrueEntry, IsUp, Knowledge, KnowsTruth, MatchesTrace, Names, NamesCauses, Owes, Store, checkpoint, entries}
 pub use Rattle.fbl_law.specs.Knowledge.{in_checkpoint, in_message, in_table, owner, send_mark, table}
 pub use Rattle.fbl_law.specs.Promises.{GainsHolders, HoldsEachReceipt, IsHeldBy, LeavesRecorded, RecordsCauses, RecordsFirst, SurvivorsHold}
-pub use Rattle.fbl_law.specs.RecoveryLaws.{CutIsClosed, CutIsOne, GainsTheDown, OfRecovery, StaysIsRecorded}
 pub use Rattle.fbl_law.specs.Replaying.{IsNextReplay, IsRebuilt, IsReplaying, IsWaiting, count_in, before_lost, is_lost, is_replayed, recovered_trace, replayed_in, resent, resent_to, sent_again, stays_by, stays_in, stays_within}
 pub use Rattle.fbl_law.specs.Replaying.{working}
-pub use Rattle.fbl_law.specs.Run.{checkpoints, delivers, recovers, starts, strikes}
 pub use Rattle.fbl_law.specs.Sound.{IsFold, IsReplayed, IsSound, OfSound, last_among, last_taken, receipts_at, received_notes}
 pub use Rattle.fbl_law.specs.StepLaws.{AnyNote, AnyState, HoldsFirst, HoldsOf, StepConserves, StepKeeps, StepLosesNone, StepMakesNone, WeighsNoLess, WeighsNoMore, WeighsTheSame, weight_after}
 pub use Rattle.fbl_law.specs.StepLaws.{weight_at_first, weight_flying, weight_of, weight_of_firsts, weight_of_starts}

@@ -3,12 +3,10 @@
 
 ghost use Rattle.std.specs.Prelude.{ℕ};
 ghost use Rattle.fbl_law.specs.Dumps.{DumpHasNoOrphan, DumpObeysRules};
-ghost use Rattle.fbl_law.specs.GroupLaws.{CheckpointIsRecorded, GroupCheckpointKeeps, GroupDeliveryKeeps, GroupRecoveryKeeps, GroupStartIsSound, GroupStrikeKeeps, RecordedTest, RunIsSound};
+ghost use Rattle.fbl_law.specs.GroupLaws.{CheckpointIsRecorded, CutIsClosed, CutIsOne, GainsTheDown, GroupCheckpointKeeps, GroupDeliveryKeeps, GroupRecoveryKeeps, GroupStartIsSound, GroupStrikeKeeps, NoSurvivorIsOrphan, OfRecovery, RebuiltIsRecovered, RecordedTest, RecoveredIsCut, ReplayBegins, ReplayEnds, ReplayIsRight, RunIsSound, SoundSurvivorsHold, StaysIsRecorded, UndoesLost};
 ghost use Rattle.fbl_law.specs.Groups.{knowledge};
-ghost use Rattle.fbl_law.specs.Headline.{NoSurvivorIsOrphan, SoundSurvivorsHold};
 ghost use Rattle.fbl_law.specs.Knowledge.{IsAlwaysHeld, IsOrphan};
 ghost use Rattle.fbl_law.specs.Promises.{GainsHolders, HoldsEachReceipt, LeavesRecorded, RecordsCauses, RecordsFirst};
-ghost use Rattle.fbl_law.specs.RecoveryLaws.{CutIsClosed, CutIsOne, GainsTheDown, OfRecovery, RebuiltIsRecovered, RecoveredIsCut, ReplayBegins, ReplayEnds, ReplayIsRight, StaysIsRecorded, UndoesLost};
 ghost use Rattle.fbl_law.specs.Sound.{OfSound};
 
 /// A group in which nothing is received yet is sound: its trace has the starts alone, so there is no determinant to hold.
