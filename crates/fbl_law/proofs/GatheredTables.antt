@@ -142,7 +142,7 @@ module _ {S N : Type 0} {n f : ℕ} {r : Knowledge S N} (sound : IsSoundKnowledg
   recorded_gathered d (inl held) = table_gathered held.0 d held.1.1
   recorded_gathered d (inr saved) =
       elim (down_or_up r.down saved.0) [
-        | inr up ↦ table_gathered saved.0 d ((sound.checkpoints saved.0).table d up saved.1)
+        | inr up ↦ table_gathered saved.0 d (sound.checkpoints saved.0 d up saved.1)
         | inl down ↦
             source_gathered (checkpoint r saved.0).table d
             (Contains-append_right (map (λ (m : MemberRecord S N). m.table) r.members) _ (checkpoint r saved.0).table

@@ -1,9 +1,8 @@
 -- What checkpoints of a group record, and that a checkpoint keeps a group sound.
 use Rattle.fbl_law.proofs.Common.{◌≡◌, ◌≢◌, ℕ, ◌<◌, inl, inr, sym, ◌∙◌, arith, subst, slice_set, cases_eq, length-set, get_or-set_same, get_or-set_other, receipt_of, Next, itself, blank}
-use Rattle.fbl_law.proofs.Common.{IsUp, GroupRecord, member, member_checkpoint, knowledge, IsReplayed, IsSound, IsCheckpoint, MemberRecord, length, IsFold, ap, IsCheckpointKept, IsThere}
-use Rattle.fbl_law.proofs.Common.{Store, in_checkpoint, in_message, in_table, refl, CheckpointIsRecorded, GroupCheckpointKeeps}
+use Rattle.fbl_law.proofs.Common.{IsUp, GroupRecord, member, member_checkpoint, knowledge, IsReplayed, IsSound, IsCheckpoint, MemberRecord, IsFold, ap, IsCheckpointKept, IsThere, Store}
+use Rattle.fbl_law.proofs.Common.{in_checkpoint, in_message, in_table, refl, CheckpointIsRecorded, GroupCheckpointKeeps}
 use Rattle.fbl_law.proofs.Safe.{up_if_none, IsRecorded-reached, never_both, nobody_down_empty}
-use Rattle.fbl_law.proofs.GroupFacts.{received_counted, log_counted}
 use Rattle.fbl_law.proofs.ReplayedRecords.{fold-replayed}
 use Rattle.fbl_law.proofs.Keeping.{IsSoundAt, KeepsKnowledge, checkpoint_kept, sound_after, sound_kept}
 
@@ -60,14 +59,7 @@ module _ {S N : Type 0} (next : Next S N) (old new : GroupRecord S N) (p : ℕ) 
   ]
 
   kept : (m : ℕ) → IsCheckpointKept (knowledge now) m
-  kept m = elim (cases_eq m p) [
-    | inl same ↦ rw same (record {
-      receipts = omega (arith, ap (λ (x : MemberRecord S N). x.received) own, received_counted next old sound p s.below (up p));
-      sends = omega (arith, ap (λ (x : MemberRecord S N). length x.log) own, log_counted next old sound p s.below (up p));
-      table = λ d up_p named. rw own at named;
-    })
-    | inr apart ↦ checkpoint_kept keeps sound.causes m (other m apart)
-  ]
+  kept m = elim (cases_eq m p) [ inl same ↦ rw same (λ d up_p named. rw own at named) | inr apart ↦ checkpoint_kept keeps sound.causes m (other m apart) ]
 
   saved_now : (m : ℕ) → m < old.config.members → IsReplayed next old.config.members old.config.starts old.trace m (member_checkpoint now m)
   saved_now m below = elim (cases_eq m p) [

@@ -17,8 +17,9 @@ use Rattle.fbl_law.proofs.Notes.{sent-noted}
 use Rattle.fbl_law.proofs.ReplayedRecords.{replayed-kept, replayed-step, fold-replayed, fold-received, replayed-fold}
 use Rattle.fbl_law.proofs.GatheredTables.{once_noted}
 use Rattle.fbl_law.proofs.GroupFacts.{up_state, received_counted, log_counted, receipt_is_new, new_not_held, new_not_carried}
-use Rattle.fbl_law.proofs.Receipts.{Has-append, disjoint, Precedes-within, Precedes-entered, added-later}
+use Rattle.fbl_law.proofs.Receipts.{Has-append, disjoint, Precedes-within, Precedes-entered, added-later, length-receipts_at}
 use Rattle.fbl_law.proofs.Keeping.{KeepsKnowledge, IsSoundAt, NamesCauses-kept, IsTrueEntry-kept, sound_kept, sound_passed, checkpoint_kept, sound_after}
+use Rattle.fbl_law.proofs.Logs.{log-short}
 
 module _ {N : Type 0} where
   pub length-step_events : (p before : ℕ) (sends : List (ℕ × N)) → length (step_events p before sends) ≡ length sends
@@ -219,13 +220,17 @@ module _ {S N : Type 0} (next : Next S N) (old new : GroupRecord S N) (v : Messa
     ]);
   }
 
+  -- the trace counts no fewer receipts and sends than a checkpoint has
+  counted : (m : ℕ) → m < n → ((member_checkpoint old m).received ≤ receipts_of (marks old) m) × (length (member_checkpoint old m).log ≤ sends_of (marks old) m)
+  counted m below = (omega (arith, (sound.saved m below).within, length-receipts_at (marks old) m), log-short sound.lawful (sound.saved m below))
+
   -- no other store owes the causes of an event that was added
   still_owes : (k : Store N) → IsThere (knowledge old) k → ¬ (k ≡ in_table v.to) → (b : Mark) → Has (marks new) b → Owes (knowledge old) k b → Has (marks old) b × Owes (knowledge old) k b
   still_owes k there other b has owes = elim (Has-cases b has) [ inl was_there ↦ (was_there, owes) | inr fresh ↦ absurd (none k there other b fresh owes) ] where
     none : (k : Store N) → IsThere (knowledge old) k → ¬ (k ≡ in_table v.to) → (b : Mark) → Has added_marks b → ¬ (Owes (knowledge old) k b)
     none (in_table m) there other b fresh at_m = other (ap in_table (sym at_m ∙ (ours b fresh).0))
     none (in_message x) there other b fresh is = apart b fresh (subst (Has (marks old)) is (flight_sent sound.causes x there))
-    none (in_checkpoint m) there other b fresh reached = added-later n (knowledge old) added_marks obeys sound.causes.checkpoints b fresh (rw reached.0 reached.1)
+    none (in_checkpoint m) there other b fresh reached = added-later n (knowledge old) added_marks obeys counted b fresh (rw reached.0 reached.1)
 
   -- a message in flight was in its channel, or is one of those made
   in_flight_cases : (x : Message N) → IsInFlight (knowledge new) x → IsInFlight (knowledge old) x ⊎ Contains (made next old v) x

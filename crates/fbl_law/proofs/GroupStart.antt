@@ -11,7 +11,6 @@ use Rattle.fbl_law.proofs.Channels.{fifo}
 use Rattle.fbl_law.proofs.Lists.{Contains-from_filter, Contains-place, Contains-none}
 use Rattle.fbl_law.proofs.Safe.{never_both, up_if_none, nobody_down_empty}
 use Rattle.fbl_law.proofs.Notes.{sent-noted}
-use Rattle.fbl_law.proofs.Logs.{log-length}
 use Rattle.fbl_law.proofs.ReplayedRecords.{replayed-fresh, replayed-fold}
 
 module _ {N : Type 0} where
@@ -100,19 +99,18 @@ module _ {S N : Type 0} (next : Next S N) (config : Settings N) (r : GroupRecord
   unreceived : receipts (map mark_of events) ≡ []
   unreceived = no_receipts [] config.starts
 
-  -- the records of fresh members, and what is past them
-  started : (xs : List (MemberRecord S N)) → length xs ≡ n → ((m : ℕ) → m < n → get_or xs m (blank r.outside) ≡ fresh (next.initial m n) m config.starts) → (m : ℕ)
-      → ((get_or xs m (blank r.outside)).table ≡ []) × ((get_or xs m (blank r.outside)).received ≡ 0) × (length (get_or xs m (blank r.outside)).log ≤ sends_of (map mark_of r.trace) m)
-  started xs size each m = grind (arith, s.trace, size, each m, get_or_past xs m (blank r.outside), rw (no_notes m) at (log-length is_lawful m))
+  -- the tables of fresh members, and what is past them
+  started : (xs : List (MemberRecord S N)) → length xs ≡ n → ((m : ℕ) → m < n → get_or xs m (blank r.outside) ≡ fresh (next.initial m n) m config.starts) → (m : ℕ) → (get_or xs m (blank r.outside)).table ≡ []
+  started xs size each m = grind (arith, size, each m, get_or_past xs m (blank r.outside))
 
   among_starts : (v : Message N) → Contains (channel r v.from v.to) v → Contains (filter_map message_of_send r.trace) v
   among_starts v flies = Contains-from_filter (is_on v.from v.to) (filter_map message_of_send r.trace) v (rw (s.channels v.from v.to) at flies)
 
   -- no store has an entry, and no receipt is in the trace
   nothing : (k : Store N) (e : Entry) → IsThere (knowledge r) k → ¬ (Contains (entries (knowledge r) k) e)
-  nothing (in_table m) e there among = Contains-none e (rw (started r.members s.size s.members m).0 at among)
+  nothing (in_table m) e there among = Contains-none e (rw (started r.members s.size s.members m) at among)
   nothing (in_message v) e flies among = Contains-none e (rw (message_sent r.trace v (among_starts v flies)).0 at among)
-  nothing (in_checkpoint m) e there among = Contains-none e (rw (started r.checkpoints s.checkpoints s.saved m).0 at among)
+  nothing (in_checkpoint m) e there among = Contains-none e (rw (started r.checkpoints s.checkpoints s.saved m) at among)
 
   no_causes : (es : List Entry) (b : Mark) → NamesCauses config.f (knowledge r) es b
   no_causes es b d before =
@@ -129,9 +127,7 @@ module _ {S N : Type 0} (next : Next S N) (config : Settings N) (r : GroupRecord
         let none = ap (λ (ks : List ℕ). ks ++ in_flight (map mark_of events) q p) (none_taken q p (map mark_of events) unreceived) in
         rw (s.channels q p, s.trace) (marks_between q p events ∙ ap (map (λ ssn. Send q ssn p)) (fifo n (map mark_of events) q p obeys ∙ none));
     down = nobody_down_empty config.f (knowledge r) s.nobody_down;
-    checkpoints = λ m.
-        let fresh_m = started r.checkpoints s.checkpoints s.saved m in
-        record { receipts = omega (arith, fresh_m.1); sends = fresh_m.2; table = λ d up named. absurd (Contains-none named.0 (rw fresh_m.0 at named.1)) };
+    checkpoints = λ m d up named. absurd (nothing (in_checkpoint m) named.0 tt named.1);
   }
 
   pub group_start_is_sound : IsSound next r
@@ -140,7 +136,7 @@ module _ {S N : Type 0} (next : Next S N) (config : Settings N) (r : GroupRecord
     members = rw s.parameters s.size;
     checkpoints = rw s.parameters s.checkpoints;
     saved = λ m below. rw (s.parameters, s.saved m (rw s.parameters at below)) (replayed-fresh next n config.starts r.trace m);
-    distinct = λ m. rw (started r.members s.size s.members m).0 IsOnce-none;
+    distinct = λ m. rw (started r.members s.size s.members m) IsOnce-none;
     down = λ q down. never_both r.down q down (up_if_none s.nobody_down q);
     lawful = rw (s.parameters, s.trace) is_lawful;
     room = rw (s.parameters, s.trace) omega (arith, length-starts [] config.starts, is.room);
