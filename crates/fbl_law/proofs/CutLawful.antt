@@ -4,7 +4,7 @@ use Rattle.fbl_law.proofs.Common.{ap, ◌∙◌, arith, count_by, length-take, f
 use Rattle.fbl_law.proofs.Common.{Mark, mark_of, member_of, send_of, Has, Leads, Precedes, itself, step, is_send_of, is_receipt_of, sends_of, receipts_of, sent_on, taken_on, in_flight}
 use Rattle.fbl_law.proofs.Common.{MayFollow, WellFormed, At-front, At-below, WellFormed-keeps, WellFormed-none, WellFormed-push, is_sent, in_flight-sent, last_taken, Next, note_of, Action}
 use Rattle.fbl_law.proofs.Common.{took, sent, action_of, actions_of, notes_of, responses, start_of, starts_of, Lawful, At-filter, receipts-noted, eqb-self, append-nil, filter_map-agree}
-use Rattle.fbl_law.proofs.Common.{Earlier-front, cases_lt, drop, drop_all, drop_next, filter_map-append, slice_get_within, subst, take-append-drop, At, nat_le, ◌+◌}
+use Rattle.fbl_law.proofs.Common.{Earlier-front, cases_lt, drop, drop_all, drop_next, filter_map-append, slice_get_within, subst, take-append-drop, At}
 use Rattle.fbl_base.specs.declared.trace.Mark.TheVariants as mark
 use Rattle.fbl_base.specs.declared.trace.Event.TheVariants.{Send, Receipt}
 use Rattle.fbl_law.proofs.Channels.{in_flight-beyond}
@@ -38,22 +38,6 @@ count-front keep p (suc stop) (x ∷ u) tells =
       sum_by-cons (λ y. cond (p y) 1 0) x (take stop u),
       tells 0 x refl,
       count-front keep p stop u (λ i e here is. tells (suc i) e here is ∙ grind (arith, nat_tests)),
-    )
-
--- an event's number, one more than the count before it, is within the count of the first events exactly where it is one of these
-pub number-front : (p : Mark → Bool) (u : List Mark) (i stop k : ℕ) (e : Mark) → At u i e → p e ≡ true → k ≡ count_by p (take i u) + 1 → nat_le k (count_by p (take stop u)) ≡ nat_lt i stop
-number-front p [] i stop k e here passes number = absurd cc
-number-front p (x ∷ u) zero zero k e here passes number = grind (arith, nat_tests)
-number-front p (x ∷ u) zero (suc stop) k e here passes number = grind (arith, nat_tests, sum_by-cons (λ y. cond (p y) 1 0) x (take stop u))
-number-front p (x ∷ u) (suc i) zero k e here passes number = grind (arith, nat_tests)
-number-front p (x ∷ u) (suc i) (suc stop) k e here passes number =
-    grind (
-      arith,
-      nat_tests,
-      number,
-      sum_by-cons (λ y. cond (p y) 1 0) x (take i u),
-      sum_by-cons (λ y. cond (p y) 1 0) x (take stop u),
-      number-front p u i stop (count_by p (take i u) + 1) e here passes refl,
     )
 
 module _ {N : Type 0} where

@@ -15,10 +15,10 @@ use Rattle.fbl_law.proofs.Recovery.{recovery_keeps, cut-recorded, cut_is_recorde
 use Rattle.fbl_law.proofs.ReplayedRecords.{all-taken, replayed-kept, fold-replayed, replayed-fold}
 use Rattle.fbl_law.proofs.Receipts.{at-most, length-receipts_at, receipt-number}
 use Rattle.fbl_law.proofs.GroupFacts.{received_counted}
-use Rattle.fbl_law.proofs.CutLawful.{note-stays, note-was, Lawful-kept, count-front, marks-filter, number-front}
+use Rattle.fbl_law.proofs.CutLawful.{note-stays, note-was, Lawful-kept, count-front, marks-filter}
 use Rattle.fbl_law.proofs.GroupStrike.{recorded_test}
 use Rattle.fbl_law.proofs.Lists.{filter-agree, filter_map-after, some-at}
-use Rattle.fbl_law.proofs.Notes.{mark-at}
+use Rattle.fbl_law.proofs.Notes.{mark-at, number-front}
 
 -- the events before their member's first lost receipt
 module _ {S N : Type 0} (next : Next S N) (old : GroupRecord S N) (sound : IsSound next old) where

@@ -51,7 +51,7 @@ pub fn no_orphan_law<S, N>()
 
 /// A dump of a sound group obeys the rules of dumps, and where its strike set has those that are down and at most f
 /// members in all, the audit finds no orphan in it.
-#[tactic(auto, using(crate::proofs::DumpLaws::dump_obeys_rules, crate::proofs::DumpLaws::dump_has_no_orphan))]
+#[tactic(auto, using(crate::proofs::Promises::dump_obeys_rules, crate::proofs::Promises::dump_has_no_orphan))]
 pub fn dump_law<S, N>()
     ensures rules { DumpObeysRules S N }
     ensures no_orphan { DumpHasNoOrphan S N }
