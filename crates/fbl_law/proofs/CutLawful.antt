@@ -46,6 +46,18 @@ module _ {N : Type 0} where
   marks-filter keep [] = refl
   marks-filter keep (x ∷ t) = grind (arith, marks-filter keep t)
 
+  -- the starts are no receipts
+  no_receipt : (k : ℕ) (v : List (Event N)) → k ≤ length (filter_map start_of (take k v)) → (i p r q s : ℕ) → i < k → ¬ (slice_get v i ≡ Some (Receipt p r q s))
+  no_receipt zero v whole i p r q s below here = omega arith
+  no_receipt (suc k) [] whole i p r q s below here = cc
+  no_receipt (suc k) (Receipt p' r' q' s' ∷ v) whole i p r q s below here = omega (arith, length-filter_map start_of (take k v), length-take k v)
+  no_receipt (suc k) (Send q' s' p' x ∷ v) whole zero p r q s below here = cc
+  no_receipt (suc k) (Send q' s' p' x ∷ v) whole (suc i) p r q s below here = no_receipt k v (omega arith) i p r q s (omega arith) here
+
+  abbrev IsNote : Action N → Type 0
+  IsNote (took note) = Unit {0}
+  IsNote (sent s) = ⊥
+
 -- what leads to a kept event is kept
 abbrev pub KeepsCauses : (Mark → Bool) → List Mark → Type 0
 KeepsCauses keep t = (a b : Mark) → keep b ≡ true → Leads t a b → keep a ≡ true
@@ -114,19 +126,6 @@ take-kept : {X : Type 0} (keep : X → Bool) (k : ℕ) (xs : List X) → ((i : �
 take-kept keep zero xs all = refl
 take-kept keep (suc k) [] all = refl
 take-kept {X} keep (suc k) (x ∷ xs) all = rw (all 0 x (omega arith) refl) (ap (λ (ys : List X). x ∷ ys) (take-kept keep k xs (λ i y below. all (suc i) y (omega arith))))
-
-module _ {N : Type 0} where
-  -- the starts are no receipts
-  no_receipt : (k : ℕ) (v : List (Event N)) → k ≤ length (filter_map start_of (take k v)) → (i p r q s : ℕ) → i < k → ¬ (slice_get v i ≡ Some (Receipt p r q s))
-  no_receipt zero v whole i p r q s below here = omega arith
-  no_receipt (suc k) [] whole i p r q s below here = cc
-  no_receipt (suc k) (Receipt p' r' q' s' ∷ v) whole i p r q s below here = omega (arith, length-filter_map start_of (take k v), length-take k v)
-  no_receipt (suc k) (Send q' s' p' x ∷ v) whole zero p r q s below here = cc
-  no_receipt (suc k) (Send q' s' p' x ∷ v) whole (suc i) p r q s below here = no_receipt k v (omega arith) i p r q s (omega arith) here
-
-  abbrev IsNote : Action N → Type 0
-  IsNote (took note) = Unit {0}
-  IsNote (sent s) = ⊥
 
 module _ {S N : Type 0} where
   -- a front of a run's actions that ends where a note comes next, or at their end, has the actions of a run

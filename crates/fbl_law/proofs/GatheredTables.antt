@@ -41,12 +41,6 @@ once_gathered_all : (table : List Entry) (ts : List (List Entry)) → IsOnce tab
 once_gathered_all table [] once = once
 once_gathered_all table (t ∷ ts) once = once_gathered_all (gathered table t) ts (once_gathered table t once)
 
-module _ {S N : Type 0} where
-  -- and what recovery gathers
-  pub once_recovery_table : (r : Knowledge S N) → IsOnce (recovery_table r)
-  once_recovery_table r =
-      rw map-map (once_gathered_all [] (map (λ (m : MemberRecord S N). m.table) r.members ++ saved_tables r.outside r.down r.checkpoints (length r.checkpoints)) IsOnce-none)
-
 abbrev mark : Members → Entry → Entry
 mark s e = record { det = e.det; known = set.union e.known s }
 
@@ -63,6 +57,11 @@ module _ (Q : Entry → Type 0) (join : (x e : Entry) → Q x → Q e → x.det 
       gathered_all-keeps (gathered xs t) ts (gathered-keeps Q join xs t all (All-head (λ t. All Q t) t ts each)) (All-tail (λ t. All Q t) t ts each)
 
 module _ {S N : Type 0} where
+  -- what recovery gathers has no determinant twice
+  pub once_recovery_table : (r : Knowledge S N) → IsOnce (recovery_table r)
+  once_recovery_table r =
+      rw map-map (once_gathered_all [] (map (λ (m : MemberRecord S N). m.table) r.members ++ saved_tables r.outside r.down r.checkpoints (length r.checkpoints)) IsOnce-none)
+
   -- the tables of checkpoints are those of the members of the set
   Contains-saved : (outside : S) (s : Members) (checkpoints : List (MemberRecord S N)) (n m : ℕ) → m < n → Includes s m → Contains (saved_tables outside s checkpoints n) (get_or checkpoints m (blank outside)).table
   Contains-saved outside s checkpoints zero m below among = absurd (omega arith)

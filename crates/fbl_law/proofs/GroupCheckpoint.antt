@@ -6,13 +6,12 @@ use Rattle.fbl_law.proofs.Safe.{up_if_none, IsRecorded-reached, never_both, nobo
 use Rattle.fbl_law.proofs.ReplayedRecords.{fold-replayed}
 use Rattle.fbl_law.proofs.Keeping.{IsSoundAt, KeepsKnowledge, checkpoint_kept, sound_after, sound_kept}
 
-module _ (S N : Type 0) where
-  -- the receipts of a member's checkpoint are recorded
-  pub checkpoint_is_recorded : CheckpointIsRecorded S N
-  checkpoint_is_recorded next r m sound below = (
-    (sound.saved m below).within,
-    λ d there to within. IsRecorded-reached r.config.f (knowledge r) sound.causes.closed d (receipt_of d) (rw to within) (itself there),
-  )
+-- the receipts of a member's checkpoint are recorded
+pub checkpoint_is_recorded : (S N : Type 0) → CheckpointIsRecorded S N
+checkpoint_is_recorded S N next r m sound below = (
+  (sound.saved m below).within,
+  λ d there to within. IsRecorded-reached r.config.f (knowledge r) sound.causes.closed d (receipt_of d) (rw to within) (itself there),
+)
 
 -- a member's checkpoint is its record
 module _ {S N : Type 0} (next : Next S N) (old new : GroupRecord S N) (p : ℕ) (s : IsCheckpoint old new p) (sound : IsSound next old) where
@@ -78,6 +77,5 @@ module _ {S N : Type 0} (next : Next S N) (old new : GroupRecord S N) (p : ℕ) 
     saved_now,
   )
 
-module _ (S N : Type 0) where
-  pub group_checkpoint_keeps : GroupCheckpointKeeps S N
-  group_checkpoint_keeps next old new p s sound = subst (IsSound next) (sym s.saved) (IsSound-checkpoint next old new p s sound)
+pub group_checkpoint_keeps : (S N : Type 0) → GroupCheckpointKeeps S N
+group_checkpoint_keeps S N next old new p s sound = subst (IsSound next) (sym s.saved) (IsSound-checkpoint next old new p s sound)

@@ -22,9 +22,6 @@ use Rattle.fbl_law.proofs.Notes.{mark-at, number-front}
 
 -- the events before their member's first lost receipt
 module _ {S N : Type 0} (next : Next S N) (old : GroupRecord S N) (sound : IsSound next old) where
-  abbrev n : ℕ
-  n = old.config.members
-
   abbrev table : List Entry
   table = recovery_table (knowledge old)
 
@@ -88,9 +85,9 @@ module _ {S N : Type 0} (next : Next S N) (old : GroupRecord S N) (sound : IsSou
   abbrev stop : ℕ → ℕ
   stop m = cond (set.contains old.down m) (first m) (length old.trace)
 
-  pub recovered_lawful : Lawful next n old.config.starts (recovered_trace old)
+  pub recovered_lawful : Lawful next old.config.members old.config.starts (recovered_trace old)
   unfolding recovered_trace-cut
-  recovered_lawful = Lawful-kept next n old.config.starts keep old.trace sound.lawful (cut-causes sound recovered_trace-cut) stop tells ends where
+  recovered_lawful = Lawful-kept next old.config.members old.config.starts keep old.trace sound.lawful (cut-causes sound recovered_trace-cut) stop tells ends where
     tells : (i : ℕ) (e : Event N) → slice_get old.trace i ≡ Some e → keep (mark_of e) ≡ nat_lt i (stop (member_of (mark_of e)))
     tells i e here = elim (down_or_up old.down (member_of (mark_of e))) [
       | inl down ↦ rw down (keep-at i (mark_of e) (mark-at old.trace i e here) down)
@@ -249,7 +246,6 @@ module _ (S N : Type 0) where
   pub recovery_leaves_recorded : OfRecovery S N LeavesRecorded
   recovery_leaves_recorded next old new step sound = record { exactly = cut_is_recorded next old new step sound; order = cut-receipts sound step.trace }
 
-module _ {S N : Type 0} where
   pub gains_the_down : OfRecovery S N GainsTheDown
   gains_the_down next old new step sound d m recorded =
       let stay = recovery_gains_holders next old new step sound d m in (

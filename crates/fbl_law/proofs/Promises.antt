@@ -54,7 +54,6 @@ module _ {S N : Type 0} where
         | inr (inr later) ↦ absurd (let last = (sound.lawful.well_formed there.0 (receipt_of c) there.1).3 in grind (arith, nat_tests, first, last))
       ])
 
-module _ {S N : Type 0} where
   -- what holds of each member with each determinant of its table holds of the held pairs
   pairs_from-all : (outside : S) (P : ℕ × Determinant → Type 0) (m : ℕ) (members : List (MemberRecord S N))
       → ((j : ℕ) (e : Entry) → j < length members → Contains (get_or members j (blank outside)).table e → P (m + j, e.det)) → All P (pairs_from m members)

@@ -17,7 +17,7 @@ use Rattle.fbl_law.proofs.GatheredTables.{gathered_recorded, recorded_gathered}
 use Rattle.fbl_law.proofs.Notes.{send-at}
 use Rattle.fbl_law.proofs.Logs.{logged-noted, logged-by, log-short}
 use Rattle.fbl_law.proofs.ReplayedRecords.{replayed-step, replayed-fold}
-use Rattle.fbl_law.proofs.ChannelsMadeAgain.{made-again, made-again-if}
+use Rattle.fbl_law.proofs.Channels.{made-again, made-again-if}
 
 -- the member has replayed each receipt that comes before the send, so it has sent that message again
 abbrev pub IsSentAgain : List Mark → (ℕ → ℕ) → ℕ → ℕ → ℕ → Type 0

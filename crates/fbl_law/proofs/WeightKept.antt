@@ -209,15 +209,14 @@ module _ {X Y : Type 0} (n : ℕ) (part : ℕ → X → Option Y) (g : Y → ℕ
       let all = sum_below-at n one.0 (h x) (λ m. sum_by g (filter_map (part m) xs)) (λ m. sum_by g (filter_map (part m) (x ∷ xs))) (λ m. grind (arith, one.2 m, sum_by-cons)) in
       grind (arith, nat_tests, all, one.1, shared xs (λ i. each (suc i)), sum_by-cons h x xs)
 
-module _ {S N : Type 0} where
-  -- what the channel from q to p weighs
-  abbrev channel_weight : (N → ℕ) → GroupRecord S N → ℕ → ℕ → ℕ
-  channel_weight weight r q p = sum_by (λ (v : Message N). weight v.note) (channel r q p)
-
 module _ {S N : Type 0} (next : Next S N) (r : GroupRecord S N) (P : ℕ → S → Type 0) (Q : ℕ → ℕ → N → Type 0) (mass : ℕ → S → ℕ) (weight : N → ℕ)
     (sound : IsSound next r) (keeps : StepKeeps next r.config.members P Q) (first : HoldsFirst next r.config P Q) where
   abbrev n : ℕ
   n = r.config.members
+
+  -- what the channel from q to p weighs
+  abbrev channel_weight : ℕ → ℕ → ℕ
+  channel_weight q p = sum_by (λ (v : Message N). weight v.note) (channel r q p)
 
   abbrev acts : ℕ → List (Action N)
   acts m = actions_of r.trace m
@@ -286,7 +285,7 @@ module _ {S N : Type 0} (next : Next S N) (r : GroupRecord S N) (P : ℕ → S �
   up-weighs m below up = ap (mass m) (up_state next r sound m below up)
 
   -- the channel between two members that are up weighs what the trace has in flight there
-  channel-weighs : (q p : ℕ) → IsUp (knowledge r) q → IsUp (knowledge r) p → channel_weight weight r q p ≡ weight_in n w (marks r) q p
+  channel-weighs : (q p : ℕ) → IsUp (knowledge r) q → IsUp (knowledge r) p → channel_weight q p ≡ weight_in n w (marks r) q p
   channel-weighs q p up_q up_p =
       sum_by-agree (λ (v : Message N). weight v.note) (λ (v : Message N). w v.from v.ssn) (channel r q p) noted
       ∙ sym (fold-map (λ a x. a + out n w x) send_mark 0 (channel r q p)) ∙ ap (sum_by (out n w)) (sound.causes.channels q p up_q up_p)
@@ -324,11 +323,11 @@ module _ {S N : Type 0} (next : Next S N) (r : GroupRecord S N) (P : ℕ → S �
         joined _ _ _ _ _ _ one (same 0 0 refl) (omega (arith, gives, takes))
 
     -- what the group weighs is related to what it began with, where what its members and channels weigh is to what they do by the trace
-    group-related : ((m : ℕ) → m < n → R (cond (set.contains r.down m) 0 (mass m (member r m).state)) (by_trace m)) → ((q p : ℕ) → R (channel_weight weight r q p) (weight_in n w (marks r) q p))
+    group-related : ((m : ℕ) → m < n → R (cond (set.contains r.down m) 0 (mass m (member r m).state)) (by_trace m)) → ((q p : ℕ) → R (channel_weight q p) (weight_in n w (marks r) q p))
         → R (weight_of mass weight r) (weight_at_first next mass weight r.config)
     group-related states cells =
         let held = sums-related n _ _ states in
-        let flying = sums-related n _ _ (λ q below. sums-related n (channel_weight weight r q) (weight_in n w (marks r) q) (λ p below_p. cells q p)) in
+        let flying = sums-related n _ _ (λ q below. sums-related n (channel_weight q) (weight_in n w (marks r) q) (λ p below_p. cells q p)) in
         let now : R (weight_of mass weight r) (sum_below n by_trace + weight_on n w (marks r)) = joined _ _ _ _ _ _ held flying (omega arith) in
         joined _ _ _ _ _ _ now (sums-related n _ _ all-related)
         (omega (arith, flows, starts-weigh, sum_below-plus n by_trace (λ m. sum_by given (acts m)), sum_below-plus n firsts (λ m. begins m + sum_by taken (acts m)), sum_below-plus n begins (λ m. sum_by taken (acts m))))
@@ -342,7 +341,7 @@ module _ {S N : Type 0} (next : Next S N) (r : GroupRecord S N) (P : ℕ → S �
 
   -- where nothing is in flight, that weighs nothing
   none-flying : messages_in_flight r ≡ 0 → weight_flying weight r ≡ 0
-  none-flying = sum_below-nothing n _ _ (λ q. sum_below-nothing n _ (channel_weight weight r q) (λ p none. rw (nil_from_length (channel r q p) none) refl))
+  none-flying = sum_below-nothing n _ _ (λ q. sum_below-nothing n _ (channel_weight q) (λ p none. rw (nil_from_length (channel r q p) none) refl))
 
   -- where each step loses none, and nobody is down, it weighs at least that
   pub weighs_no_less : StepLosesNone next n P Q mass weight → WeighsNoLess next mass weight r

@@ -18,7 +18,7 @@ use Rattle.fbl_law.specs.Sound.{receipts_at, IsSound, OfSound}
 use Rattle.fbl_law.specs.Promises.{SurvivorsHold}
 use Rattle.fbl_base.specs.declared.trace.Mark.{Mark}
 use Rattle.fbl_table.specs.Tables.{found}
-use Rattle.fbl_law.specs.Steps.{Stays, IsEventCut, recovery_table}
+use Rattle.fbl_law.specs.Steps.{Stays, recovery_table}
 use Rattle.fbl_law.specs.Replaying.{recovered_trace, working, IsReplaying, IsWaiting, IsRebuilt}
 
 -- the behaviour's sends go to other members of the group, at most four at a step
@@ -116,14 +116,6 @@ StaysIsRecorded S N = OfSound S N (λ r. (e : Mark) → Has (marks r) e
 -- so what precedes an event that a recovery leaves is left
 abbrev pub CutIsClosed : Type 0 → Type 0 → Type 0
 CutIsClosed S N = OfRecovery S N (λ old new. (a b : Mark) → Precedes (marks old) a b → Has (marks new) b → Has (marks new) a)
-
--- the events before their member's first lost receipt are the cut
-abbrev pub RecoveredIsCut : Type 0 → Type 0 → Type 0
-RecoveredIsCut S N = OfSound S N (λ r. IsEventCut (Stays (knowledge r)) r.trace (recovered_trace r))
-
--- and a recovery leaves no other trace
-abbrev pub CutIsOne : Type 0 → Type 0 → Type 0
-CutIsOne S N = OfRecovery S N (λ old new. new.trace ≡ recovered_trace old)
 
 -- replay begins at the checkpoints of the members that are down
 abbrev pub ReplayBegins : Type 0 → Type 0 → Type 0

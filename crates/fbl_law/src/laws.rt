@@ -1,13 +1,15 @@
 //! The laws of a group's record: what keeps it sound, what the promise is made of, and how a recovery's replay goes. Each is the
 //! contract of a function that does nothing, so that the check of the crate proves it.
 
-ghost use Rattle.std.specs.Prelude.{ℕ};
+ghost use Rattle.std.specs.Prelude.{◌≡◌, ℕ};
 ghost use Rattle.fbl_law.specs.Dumps.{DumpHasNoOrphan, DumpObeysRules};
-ghost use Rattle.fbl_law.specs.GroupLaws.{CheckpointIsRecorded, CutIsClosed, CutIsOne, GainsTheDown, GroupCheckpointKeeps, GroupDeliveryKeeps, GroupRecoveryKeeps, GroupStartIsSound, GroupStrikeKeeps, NoSurvivorIsOrphan, OfRecovery, RebuiltIsRecovered, RecordedTest, RecoveredIsCut, ReplayBegins, ReplayEnds, ReplayIsRight, RunIsSound, SoundSurvivorsHold, StaysIsRecorded, UndoesLost};
+ghost use Rattle.fbl_law.specs.GroupLaws.{CheckpointIsRecorded, CutIsClosed, GainsTheDown, GroupCheckpointKeeps, GroupDeliveryKeeps, GroupRecoveryKeeps, GroupStartIsSound, GroupStrikeKeeps, NoSurvivorIsOrphan, OfRecovery, RebuiltIsRecovered, RecordedTest, ReplayBegins, ReplayEnds, ReplayIsRight, RunIsSound, SoundSurvivorsHold, StaysIsRecorded, UndoesLost};
 ghost use Rattle.fbl_law.specs.Groups.{knowledge};
 ghost use Rattle.fbl_law.specs.Knowledge.{IsAlwaysHeld, IsOrphan};
 ghost use Rattle.fbl_law.specs.Promises.{GainsHolders, HoldsEachReceipt, LeavesRecorded, RecordsCauses, RecordsFirst};
+ghost use Rattle.fbl_law.specs.Replaying.{recovered_trace};
 ghost use Rattle.fbl_law.specs.Sound.{OfSound};
+ghost use Rattle.fbl_law.specs.Steps.{IsEventCut, Stays};
 
 /// A group in which nothing is received yet is sound: its trace has the starts alone, so there is no determinant to hold.
 ///
@@ -66,8 +68,8 @@ pub fn recovery_law<S, N>()
     ensures gain { OfRecovery S N GainsTheDown }
     ensures left { OfRecovery S N LeavesRecorded }
     ensures undone { OfRecovery S N UndoesLost }
-    ensures cut { RecoveredIsCut S N }
-    ensures one { CutIsOne S N }
+    ensures cut { OfSound S N (λ r. IsEventCut (Stays (knowledge r)) r.trace (recovered_trace r)) }
+    ensures one { OfRecovery S N (λ old new. new.trace ≡ recovered_trace old) }
     ensures stays { StaysIsRecorded S N }
     ensures closed { CutIsClosed S N }
 {}

@@ -5,7 +5,7 @@ use Rattle.fbl_law.proofs.laws.recovery_law.Goals as goal
 pub returns : goal.returns
 returns g c = record {
   stay = group_recovery_gains_holders _ _;
-  gain = gains_the_down;
+  gain = gains_the_down _ _;
   left = recovery_leaves_recorded _ _;
   undone = λ next old new step sound. cut-undone sound step.trace;
   cut = recovered_trace-cut;
