@@ -25,7 +25,8 @@ map-kept {Y} keep g (x ∷ u) all =
     grind (arith, λ (y : Y). all x y (0, refl), map-kept keep g u (λ e y h. all e y (suc h.0, h.1)))
 
 -- counts of a kind of event of which those before a place are kept
-pub count-front : (keep p : Mark → Bool) (stop : ℕ) (u : List Mark) → ((i : ℕ) (e : Mark) → At u i e → p e ≡ true → keep e ≡ nat_lt i stop) → count_by p (filter keep u) ≡ count_by p (take stop u)
+pub count-front : (keep p : Mark → Bool) (stop : ℕ) (u : List Mark) → ((i : ℕ) (e : Mark) → At u i e → p e ≡ true → keep e ≡ nat_lt i stop)
+    → count_by p (filter keep u) ≡ count_by p (take stop u)
 count-front keep p zero [] tells = refl
 count-front keep p (suc stop) [] tells = refl
 count-front keep p zero (x ∷ u) tells =

@@ -71,7 +71,10 @@ module _ {S N : Type 0} (next : Next S N) (old : GroupRecord S N) (sound : IsSou
         let there = some-at (marks old) (first (member_of e)) (omega (arith, slice_get_within (marks old) has.0 e has.1)) in
         let lost = first-lost (member_of e) there.0 there.1 in
         let here : At (marks old) (first (member_of e)) (receipt_of lost.0) = there.1 ∙ ap Some lost.1 in
-        let up_to : UpTo (marks old) (receipt_of lost.0) e = elim (cases_eq (first (member_of e)) has.0) [ inl same ↦ inl (let h = has.1 in cc) | inr other ↦ inr (first (member_of e), has.0, omega arith, here, has.1) ] in
+        let up_to : UpTo (marks old) (receipt_of lost.0) e = elim (cases_eq (first (member_of e)) has.0) [
+          | inl same ↦ inl (let h = has.1 in cc)
+          | inr other ↦ inr (first (member_of e), has.0, omega arith, here, has.1)
+        ] in
         let is = held-Names table lost.0 (recorded_gathered sound.causes lost.0 (stays down lost.0 lost.2 up_to)) in
         false≢true (sym lost.3 ∙ is) in
         keep-at has.0 e has.1 down ∙ grind (arith, nat_tests, none)

@@ -11,7 +11,8 @@ module _ {S N : Type 0} where
   run_is_sound : RunIsSound S N
   run_is_sound next config r well allowed (starts is) = group_start_is_sound next config r allowed is
   run_is_sound next config r well allowed (delivers {old = old} {v = v} run s) = group_delivery_keeps next old r v well s (run_is_sound next config old well allowed run)
-  run_is_sound next config r well allowed (strikes {old = old} {struck = struck} run s within few) = group_strike_keeps next old r struck s within few (run_is_sound next config old well allowed run)
+  run_is_sound next config r well allowed (strikes {old = old} {struck = struck} run s within few) =
+      group_strike_keeps next old r struck s within few (run_is_sound next config old well allowed run)
   run_is_sound next config r well allowed (checkpoints {old = old} {p = p} run s) = group_checkpoint_keeps S N next old r p s (run_is_sound next config old well allowed run)
   run_is_sound next config r well allowed (recovers {old = old} run s) = group_recovery_keeps next old r s (run_is_sound next config old well allowed run)
 
