@@ -134,12 +134,9 @@ module _ {N : Type 0} where
       grind (arith, slice_get-map (λ (y : N). Some y) (received_notes t p) j, same, named)
 
 -- the last message from q that the member's receipts take
-last-from : (q p z : ℕ) (t : List Mark) → fold (λ last ssn. ssn) z (filter_map (taken_on q p) t) ≡ fold (λ last (d : Determinant). cond (d.from == q) d.ssn last) z (receipts_at t p)
+pub last-from : (q p z : ℕ) (t : List Mark) → fold (λ last ssn. ssn) z (filter_map (taken_on q p) t) ≡ fold (λ last (d : Determinant). cond (d.from == q) d.ssn last) z (receipts_at t p)
 last-from q p z [] = refl
 last-from q p z (e ∷ t) = grind (arith, last-from q p z t, λ (k : ℕ). last-from q p k t)
-
-pub last_taken-among : (t : List Mark) (q p : ℕ) → last_taken t q p ≡ last_among (receipts_at t p) q
-last_taken-among t q p = last-from q p 0 t
 
 -- a receipt's number is at most the count of them
 pub receipt-number : (n : ℕ) (t : List Mark) (p r q s : ℕ) → WellFormed n t → Has t (Receipt p r q s) → r ≤ receipts_of t p

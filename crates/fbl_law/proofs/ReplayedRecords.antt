@@ -6,7 +6,7 @@ use Rattle.fbl_law.proofs.Common.{take-more, fold_next}
 use Rattle.fbl_law.proofs.Lists.{some-at}
 use Rattle.fbl_law.proofs.Logs.{received-fold}
 use Rattle.fbl_law.proofs.Notes.{receipt-at}
-use Rattle.fbl_law.proofs.Receipts.{receipts_at-Has, Has-receipts_at, length-received_notes, note-at, last_taken-among}
+use Rattle.fbl_law.proofs.Receipts.{receipts_at-Has, Has-receipts_at, length-received_notes, note-at, last-from}
 
 module _ {N : Type 0} where
   -- a member with as many receipts as the trace has of it has them all
@@ -54,7 +54,7 @@ module _ {S N : Type 0} where
         within = omega (arith, count);
         progress = rw all.0 fold'.progress;
         places = fold'.places;
-        last = λ q below. rw all.1 (fold'.last q below ∙ last_taken-among (marks r) q m);
+        last = λ q below. rw all.1 (fold'.last q below ∙ last-from q m 0 (marks r));
       }
 
   -- and the other way round
@@ -65,7 +65,7 @@ module _ {S N : Type 0} where
       record {
         progress = rw all.0 at replayed.progress;
         places = replayed.places;
-        last = λ q below. rw all.1 at (replayed.last q below) ∙ sym (last_taken-among (marks r) q m);
+        last = λ q below. rw all.1 at (replayed.last q below) ∙ sym (last-from q m 0 (marks r));
       }
 
   -- a member that has replayed its first receipts of a trace has replayed them of another trace that has them too, where the
