@@ -3,7 +3,7 @@ use Rattle.fbl_law.proofs.Common.{append_assoc, ◌≡◌, ℕ, List, [], ◌∷
 use Rattle.fbl_law.proofs.Common.{WellFormed, At-front, At-below, one_place, WellFormed-front, MayFollow-last, suc, ◌+◌, ◌≤◌, ◌==◌, true, cond, length, map, Option, slice_get, refl, ap}
 use Rattle.fbl_law.proofs.Common.{take, drop, ◌<◌, length-take, filter_map, fold, nat_tests, length-map, take-append-drop, sum_by-cons, slice_get-map, Determinant, Event, At, mark_of}
 use Rattle.fbl_law.proofs.Common.{determinant_of, receipt_of, is_receipt_of, receipts_of, taken_on, action_of, notes_of, note_of, filter_map-At, At-filter, At-filter_map, WellFormed-take}
-use Rattle.fbl_law.proofs.Common.{receipts-noted, received_notes, last_taken, receipts_at, last_among, is_receipt, WellFormed-keeps, filter-append, filter_map-append, Send, Receipt}
+use Rattle.fbl_law.proofs.Common.{receipts-noted, received_notes, receipts_at, is_receipt, WellFormed-keeps, filter-append, filter_map-append, Send, Receipt}
 use Rattle.fbl_law.proofs.Common.{At-push, append-nil, Bool, count_by, sum_by-append, is_send_of, sends_of, eqb-self, Knowledge, IsBeforeCheckpoint, take-append-add, count_at, checkpoint}
 use Rattle.fbl_law.proofs.Common.{noted}
 use Rattle.fbl_base.specs.declared.trace.Event.TheVariants as event

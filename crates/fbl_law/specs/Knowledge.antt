@@ -12,7 +12,7 @@ use Rattle.fbl_base.specs.declared.trace.Mark.{Mark}
 use Rattle.fbl_base.specs.declared.trace.Mark.TheVariants.{Send, Receipt}
 use Rattle.fbl_base.specs.Events.{member_of}
 use Rattle.fbl_base.specs.Precedence.{Has, Precedes, Depends}
-use Rattle.fbl_base.specs.Rules.{WellFormed, in_flight, receipts_of, sends_of}
+use Rattle.fbl_base.specs.Rules.{WellFormed, in_flight}
 use Rattle.fbl_base.specs.Events.{receipt_of}
 use Rattle.fbl_table.specs.declared.entry.Entry.{Entry}
 use Rattle.fbl_member.specs.Members.{Message, MemberRecord, blank}
