@@ -12,11 +12,8 @@ from program import PROGRAM, TOP, run
 
 # the tests that hold where any one request for memory is refused, each with what it tells at some time
 TESTS_WITHOUT_MEMORY = (
-    ("fbl_threads_tests", "tests::memory::a_drain_goes_on_after_want_of_memory", "ok"),
-    ("fbl_threads_tests", "tests::memory::a_worker_without_a_thread_changes_nothing", "NoThread"),
-    ("fbl_texts_tests", "tests::plays::ends_with_memory_where_it_is_refused", "ok"),
-    ("fbl_texts_tests", "tests::dumps::writes_all_or_ends_with_memory", "ok"),
-    ("fbl_texts_tests", "tests::pictures::draws_all_or_ends_with_memory", "ok"),
+    ("a_drain_goes_on_after_want_of_memory", "ok"),
+    ("a_worker_without_a_thread_changes_nothing", "NoThread"),
 )
 # how often the last requests of a run are refused again, until each command was the one that met it
 RETRIES = 1000
@@ -151,9 +148,9 @@ def try_older_files_without_memory(refuser, examples, tally):
 
 
 def try_tests_without_memory(refuser, _, tally):
-    for crate, test, wanted in TESTS_WITHOUT_MEMORY:
+    for test, wanted in TESTS_WITHOUT_MEMORY:
         told = ""
-        for number, ran, _ in refuser.refuse_each([test], program=TOP / f"crates/{crate}/out/{crate}_tests"):
+        for number, ran, _ in refuser.refuse_each([f"workers::memory::{test}"], program=TOP / "crates/fbl_tests/out/fbl_tests_tests"):
             tally.note(ran.status == 0, f"{test}, request {number}: {ran}")
             told += ran.text + ran.fault
         tally.note(wanted in told, f"{test} never told {wanted}")
