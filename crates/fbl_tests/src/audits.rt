@@ -96,20 +96,21 @@ impl Example for Audited {
     }
 }
 
+/// Whether the pair stands in the dump, who is struck, whether the receipt is lost then, and the orphans.
+const AUDITS: &[(bool, &[u8], bool, &[u8])] = &[
+    (false, &[1], true, &[0, 2]),
+    (true, &[1], false, &[]),
+    (true, &[1, 2], true, &[0]),
+];
+
 #[test]
 fn audits(rt: HostRuntime) -> Result<(), Fail> {
-    let cases: [(bool, &[u8], bool, &[u8]); 3] = [
-        (false, &[1], true, &[0, 2]),
-        (true, &[1], false, &[]),
-        (true, &[1, 2], true, &[0]),
-    ];
-    for (has_pair, strike, is_lost, orphans) in cases {
-        let (strike, orphans) = (set(strike)?, set(orphans)?);
+    for &(has_pair, strike, is_lost, orphans) in AUDITS {
         let audited = Audited {
             has_pair,
-            strike,
+            strike: set(strike)?,
             is_lost,
-            orphans,
+            orphans: set(orphans)?,
         };
         assert!(rt; refuse_each(rt.alloc(), &audited) > 2, "{strike:?}");
     }

@@ -5,7 +5,7 @@ ghost use Rattle.std.specs.Prelude.{◌<◌};
 use fbl_base::{Behaviour, Config, Determinant, Member, MemberSet, Note, Relay, Start};
 use fbl_fixtures::{Example, first_receipt, refuse_each};
 use fbl_member::{Carried, MemberRec, Wire};
-use fbl_table::{Entry, Table};
+use fbl_table::Entry;
 use std::alloc::{AllocError, Allocator, Global};
 
 /// Delivers a message that carries nothing to a member of three, where that is the member's next receipt.
@@ -90,45 +90,86 @@ fn is_first_message<A: Allocator + Copy>(
     }
 }
 
-/// The first member's message goes to the second one, which takes it in, or replays it, and passes it on to the third.
-struct Received;
+/// Whether these are the messages that the member sent to another with numbers beyond this one.
+fn has_logged<A: Allocator + Copy>(
+    member_record: &MemberRec<u64, Note, A>,
+    to: Member,
+    ssn: u32,
+    expected: &[(u32, Note)],
+) -> Result<bool, AllocError> {
+    let beyond = member_record.unsent_beyond(to, ssn)?;
+    Ok(beyond.as_slice() == expected)
+}
 
-impl Example for Received {
-    fn is_worked<A: Allocator + Copy>(&self, alloc: A) -> Result<bool, AllocError> {
-        let (zero, one, two) = (Member::at(0), Member::at(1), Member::at(2));
-        let (note, passed_on) = (Note { value: 5, hops: 2 }, Note { value: 5, hops: 1 });
-        let start = Start {
-            from: zero,
-            to: one,
-            note,
-        };
-        let config = Config::new(alloc, 3, 1, 8192, &[start])
-            .ok()
-            .ok_or(AllocError)?;
-        let sender = MemberRec::fresh(alloc, &config, 0, zero)?;
-        let logged = (sender.unsent_beyond(one, 0)?, sender.unsent_beyond(one, 1)?);
-        let det = first_receipt(zero, one);
-        let known = MemberSet::empty().with(one);
-        let mut receiver = MemberRec::fresh(alloc, &config, 0, one)?;
-        let wires = deliver(alloc, &mut receiver, one, det, note)?;
+/// What the first of three members sends the second, which passes it on to the third.
+const NOTE: Note = Note { value: 5, hops: 2 };
+
+/// What the second member sends then.
+const PASSED_ON: Note = Note { value: 5, hops: 1 };
+
+/// A fresh member of a group of three, in which the first one sends the second a message.
+fn fresh<A: Allocator + Copy>(alloc: A, me: Member) -> Result<MemberRec<u64, Note, A>, AllocError> {
+    let start = Start {
+        from: Member::at(0),
+        to: Member::at(1),
+        note: NOTE,
+    };
+    let config = Config::new(alloc, 3, 1, 8192, &[start])
+        .ok()
+        .ok_or(AllocError)?;
+    MemberRec::fresh(alloc, &config, 0, me)
+}
+
+/// What becomes of the message: its sender has it in its log, its receiver takes it in, or replays it.
+#[derive(Clone, Copy, Debug)]
+enum Message {
+    Logged,
+    TakenIn,
+    Replayed,
+}
+
+impl Message {
+    fn is_logged<A: Allocator + Copy>(alloc: A) -> Result<bool, AllocError> {
+        let sender = fresh(alloc, Member::at(0))?;
+        let to = Member::at(1);
+        let is_first = has_logged(&sender, to, 0, &[(1, NOTE)])?;
+        let is_last = has_logged(&sender, to, 1, &[])?;
+        Ok(sender.sent() == 1 && sender.log_note(2) == None && is_first && is_last)
+    }
+
+    fn is_taken_in<A: Allocator + Copy>(alloc: A) -> Result<bool, AllocError> {
+        let (from, me, to) = (Member::at(0), Member::at(1), Member::at(2));
+        let det = first_receipt(from, me);
+        let known = MemberSet::empty().with(me);
+        let mut receiver = fresh(alloc, me)?;
+        let wires = deliver(alloc, &mut receiver, me, det, NOTE)?;
         let copy = receiver.copy()?;
-        let mut replayed = MemberRec::fresh(alloc, &config, 0, one)?;
-        replay(&mut replayed, one, &det, note)?;
-        let sent_again = replayed.unsent_beyond(two, 0)?;
-        Ok(
-            sender.sent() == 1
-                && sender.log_note(2) == None
-                && logged.0.as_slice() == [(1, note)].as_slice()
-                && logged.1.is_empty()
-                && is_first_message(&wires, one, two, passed_on, Entry { det, known })
-                && has_received(&copy, zero, 1)
-                && has_received(&replayed, zero, 0)
-                && sent_again.as_slice() == [(1, passed_on)].as_slice(),
-        )
+        let is_sent_on = is_first_message(&wires, me, to, PASSED_ON, Entry { det, known });
+        Ok(is_sent_on && has_received(&copy, from, 1))
+    }
+
+    fn is_replayed<A: Allocator + Copy>(alloc: A) -> Result<bool, AllocError> {
+        let (from, me, to) = (Member::at(0), Member::at(1), Member::at(2));
+        let mut receiver = fresh(alloc, me)?;
+        replay(&mut receiver, me, &first_receipt(from, me), NOTE)?;
+        Ok(has_logged(&receiver, to, 0, &[(1, PASSED_ON)])? && has_received(&receiver, from, 0))
+    }
+}
+
+impl Example for Message {
+    fn is_worked<A: Allocator + Copy>(&self, alloc: A) -> Result<bool, AllocError> {
+        match self {
+            Message::Logged => Message::is_logged(alloc),
+            Message::TakenIn => Message::is_taken_in(alloc),
+            Message::Replayed => Message::is_replayed(alloc),
+        }
     }
 }
 
 #[test]
-fn a_member_takes_a_message_in_and_replays_it(rt: HostRuntime) {
-    assert!(rt; refuse_each(rt.alloc(), &Received) > 8);
+fn a_message_is_logged_taken_in_and_replayed(rt: HostRuntime) {
+    const MESSAGES: &[Message] = &[Message::Logged, Message::TakenIn, Message::Replayed];
+    for message in MESSAGES {
+        assert!(rt; refuse_each(rt.alloc(), message) > 2, "{message:?}");
+    }
 }

@@ -30,7 +30,7 @@ enum Engine {
     Audit,
 }
 
-const ENGINES: [Engine; 2] = [Engine::Play, Engine::Audit];
+const ENGINES: &[Engine] = &[Engine::Play, Engine::Audit];
 
 impl Engine {
     fn input(self) -> &'static [u8] {
@@ -63,7 +63,7 @@ impl Engine {
 
 #[test]
 fn one_byte_a_read_and_interruptions(rt: HostRuntime) -> Result<(), Fail> {
-    for engine in ENGINES {
+    for &engine in ENGINES {
         for (interruptions, fine) in [(0, true), (1000, true), (1001, false)] {
             let mut reader = UnsteadyReader::new(engine.input(), 1, 0);
             reader.interruptions = interruptions;
@@ -79,7 +79,7 @@ fn one_byte_a_read_and_interruptions(rt: HostRuntime) -> Result<(), Fail> {
 
 #[test]
 fn failed_reads(rt: HostRuntime) {
-    for engine in ENGINES {
+    for &engine in ENGINES {
         for fails_at in 1..u32::MAX {
             let mut reader = UnsteadyReader::new(engine.input(), 20, fails_at);
             let mut out = Vec::new(rt.alloc());
@@ -97,14 +97,17 @@ fn failed_reads(rt: HostRuntime) {
     }
 }
 
+/// The ways in which a write fails.
+const FAILURES: &[FailedWrite] = &[
+    FailedWrite::Error,
+    FailedWrite::Interruption,
+    FailedWrite::NoByte,
+];
+
 #[test]
 fn failed_writes(rt: HostRuntime) {
-    for engine in ENGINES {
-        for failure in [
-            FailedWrite::Error,
-            FailedWrite::Interruption,
-            FailedWrite::NoByte,
-        ] {
+    for &engine in ENGINES {
+        for &failure in FAILURES {
             for fails_at in 1..u32::MAX {
                 let mut input = engine.input();
                 let mut writer = UnsteadyWriter::new(rt.alloc(), 7, fails_at, failure);

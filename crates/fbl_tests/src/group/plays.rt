@@ -182,7 +182,7 @@ const ALL_ARE_LOST: &[Step] = &[
 #[test]
 fn a_relay(rt: HostRuntime) -> Result<(), Fail> {
     const FULL: Setting = Setting { limit: 2, ..SMALL };
-    const PLAYS: [Play; 7] = [
+    const PLAYS: &[Play] = &[
         (ROUND, GOES_ROUND, 10),
         (TWICE, OUTLIVES_A_CRASH, 10),
         (TWICE, CRASHES, 10),
@@ -192,7 +192,7 @@ fn a_relay(rt: HostRuntime) -> Result<(), Fail> {
         (ROUND_OF_TWO, ALL_ARE_LOST, 10),
     ];
     for (setting, steps, least) in PLAYS {
-        play::<Relay>(&rt, &setting, steps, least)?;
+        play::<Relay>(&rt, setting, steps, *least)?;
     }
     Ok(())
 }
