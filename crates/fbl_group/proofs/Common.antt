@@ -38,8 +38,9 @@ pub use Rattle.fbl_base.specs.declared.trace.Event.TheVariants.{Receipt}
 pub use Rattle.fbl_base.specs.declared.trace.Mark.{Mark}
 pub use Rattle.fbl_base.specs.declared.trace.Mark.TheVariants.{Send}
 pub use Rattle.fbl_base.specs.declared.trace.Start.{Start}
-pub use Rattle.fbl_law.proofs.ChannelCounts.{sent_again-short, sum_below-agree}
+pub use Rattle.fbl_law.proofs.ChannelCounts.{sent_again-short, sum_below-agree, sum_below-none}
 pub use Rattle.fbl_law.proofs.Channels.{flight_at, flight_ends}
+pub use Rattle.fbl_law.proofs.Counting.{count_in-same}
 pub use Rattle.fbl_law.proofs.CutInOnePass.{recovered_trace-cut}
 pub use Rattle.fbl_law.proofs.DumpLaws.{carried_fits, dump_has_no_orphan, dump_obeys_rules, table_fits}
 pub use Rattle.fbl_law.proofs.GroupCheckpoint.{checkpoint_is_recorded, group_checkpoint_keeps}
@@ -69,7 +70,7 @@ pub use Rattle.fbl_table.specs.Tables.{found, is_held, piggybacked}
 pub use Rattle.fbl_table.specs.declared.entry.Entry.{Entry}
 pub use Rattle.fbl_group.specs.Channels.{AreReplaced, each, first_message, front, front_message, room_in, rooms, rows, send_of_message, taken_and_sent, value_of, with_at, with_sent}
 pub use Rattle.fbl_group.specs.Deliveries.{Delivered, Delivers, IsDeliverRefusal, IsPlanned, deliver_refusal, of_commit}
-pub use Rattle.fbl_group.specs.Rebuilding.{AreByNumber, HasReplayed, IsReady, Rounds, Tries}
+pub use Rattle.fbl_group.specs.Rebuilding.{AreByNumber, AreReplaying, IsReady, Rounds, Tries}
 pub use Rattle.fbl_group.specs.Recoveries.{Recovers, messages_at}
 pub use Rattle.fbl_group.specs.Strikes.{AreRecordsReplaced, is_lost_receipt_of, is_within, lost_receipts, strike_refusal}
 pub use Rattle.fbl_group.specs.Tickets.{IsCurrent, IsFresh, IsTicket, MayCommit, RefusesCommit, is_full, sends_at, take_refusal}

@@ -29,7 +29,7 @@ impl<B: Behaviour, A: Allocator + Copy> Group<B, A> {
         ensures unchanged { OnErr result (self.new ≡ self.old) }
     {
         self.allow_checkpoint(member)?;
-        self.save(member)?;
+        self.save(member).map_err(|_| CheckpointRefusal::Memory)?;
         // the group is sound, so that each checkpoint is at the fold of its receipts
         self.recoverable();
         Ok(())
@@ -43,6 +43,8 @@ impl<B: Behaviour, A: Allocator + Copy> Group<B, A> {
         ensures fold { IsCheckpointFold B.next self.now member }
         ensures recorded { (d : Determinant) → Has (marks self.now) (receipt_of d) → d.to ≡ member → d.rsn ≤ result → IsRecorded (knowledge self.now) d }
     {
+        // the group is sound
+        self.recoverable();
         self.saved(member).received()
     }
 
