@@ -1,6 +1,6 @@
 -- The loops that put records in place.
-use Rattle.fbl_group.proofs.Common.{◌≡◌, ℕ, ◌+◌, ◌*◌, ◌<◌, ◌≤◌, true, false, cond, List, length, arith, add-one, get_or, slice_index_or, slice_set, common_steps}
-use Rattle.fbl_group.proofs.Common.{get_or_default, Members, MemberRecord, blank, count_in, AreRecordsReplaced}
+use Rattle.fbl_group.proofs.Common.{◌≡◌, ℕ, ◌+◌, ◌<◌, ◌≤◌, true, false, cond, List, length, arith, get_or, slice_index_or, slice_set, common_steps}
+use Rattle.fbl_group.proofs.Common.{get_or_default, Members, MemberRecord, blank, AreRecordsReplaced}
 use Rattle.std.specs.FinSet as set
 use Rattle.fbl_group.proofs.Queues.{Turned}
 

@@ -1,7 +1,7 @@
 -- The steps of a recovery before it changes the group: gathering, and replay in rounds.
 use Rattle.fbl_group.proofs.Common.{get_or-set_same, get_or-set_other, count_in-same, sum_below-none, replayed_in, AreReplaying, nat_lt, ◌≡◌, ℕ, ◌+◌, ◌<◌, ◌≤◌, Bool, true, false, List, [], length, Option, Some, get_or, refl, sym, ap, ◌∙◌, arith, slice_index_or}
 use Rattle.fbl_group.proofs.Common.{slice_set, nat_tests, get_or_default, Determinant, Next, MemberRecord, blank, IsDown, recovery_table, GroupRecord, member_checkpoint, knowledge, IsSound}
-use Rattle.fbl_group.proofs.Common.{working, IsReplaying, found, receipt_at, logged_note, replayed_by, IsWaiting, replay_begins, replaying-next, replay_is_right, replayed_in-step}
+use Rattle.fbl_group.proofs.Common.{working, IsReplaying, found, receipt_at, logged_note, replayed_by, replay_begins, replaying-next, replay_is_right, replayed_in-step}
 use Rattle.fbl_group.proofs.Common.{replaying-tables, AreByNumber, Tries, Rounds, Made}
 use Rattle.std.specs.FinSet as set
 use mir.Val.{bool_byte}
