@@ -1,7 +1,7 @@
 -- What a recovery leaves, once the records that were rebuilt are in place.
 use Rattle.fbl_group.proofs.Common.{◌||◌, ◌⊎◌, ◌≡◌, ℕ, ◌+◌, ◌-◌, ◌<◌, ◌≤◌, cond, List, length, map, sym, ap, ◌∙◌, arith, Fits, slice_index_or, filter}
 use Rattle.fbl_group.proofs.Common.{get_or_past, Members, Event, mark_of, Next, Message, MemberRecord, blank, IsUp, IsDown, GroupRecord, channel_in, channel, member, knowledge, marks, receipts}
-use Rattle.fbl_group.proofs.Common.{IsSound, recovery_table, count_in, sent_again, working, sum_below-agree, Recovers, AreReplaced, IsReady, AreRecordsReplaced, w32, w64, ◌^◌, messages_in}
+use Rattle.fbl_group.proofs.Common.{IsSound, recovery_table, sent_again, IsReplaying, working, sum_below-agree, Recovers, AreReplaced, IsReady, AreRecordsReplaced, w32, w64, ◌^◌, messages_in}
 use Rattle.fbl_group.proofs.Common.{is_replayed, stays_by, recovered_trace, resent_to, IsRebuilt, group_recovery_keeps, cut-undone, recovered_trace-cut, sent_again-short, with-table, working-log}
 use Rattle.fbl_group.proofs.Common.{replayed_in-all, recovered_trace-rebuilt, rebuilt_is_recovered, messages_at, IsRecovery}
 use Rattle.std.specs.FinSet as set
@@ -13,18 +13,21 @@ module _ {S N : Type 0} where
   AreSentAgain r rebuilt again = (q p : ℕ) → q < r.config.members → p < r.config.members → channel_in again q p ≡ sent_again r.config.f r.down (working r rebuilt) q p
 
 -- a recovery of a sound group, of the group as its contract has it, once the records are rebuilt
-module _ {S N : Type 0} {next : Next S N} {old now : GroupRecord S N} {rebuilt : List (MemberRecord S N)} (sound : IsSound next old) (view : old ≡ now) (is_ready : IsReady next now rebuilt) where
-  ready : IsReady next old rebuilt
+module _ {S N : Type 0} {next : Next S N} {old now : GroupRecord S N} {rebuilt : List (MemberRecord S N)} {replays : ℕ} (sound : IsSound next old) (view : old ≡ now) (is_ready : IsReady next now rebuilt replays) where
+  ready : IsReady next old rebuilt replays
   ready = rw view is_ready
 
+  abbrev replaying : IsReplaying next old rebuilt
+  replaying = ready.all.replaying
+
   pub size : length rebuilt ≡ old.config.members
-  size = ready.replayed.replaying.size
+  size = replaying.size
 
   abbrev left : List (Event N)
   left = filter (λ e. stays_by old.down (λ p. slice_index_or rebuilt p (blank old.outside)) (mark_of e)) old.trace
 
   left-is : left ≡ recovered_trace old
-  left-is = recovered_trace-rebuilt next old sound rebuilt ready.replayed.replaying ready.replayed.waiting
+  left-is = recovered_trace-rebuilt next old sound rebuilt replaying ready.waiting
 
   -- no more receipts are left than there were
   fewer-receipts : length (receipts (map mark_of left)) ≤ length (receipts (map mark_of old.trace))
@@ -39,7 +42,7 @@ module _ {S N : Type 0} {next : Next S N} {old now : GroupRecord S N} {rebuilt :
     pub short-again : (q p : ℕ) → q < n → p < n → length (channel_in again q p) ≤ 8192
     short-again q p below_q below_p =
         rw (made q p (omega (arith, all, below_q)) (omega (arith, all, below_p)))
-        (sent_again-short old.config.f old.down (working old rebuilt) q p 8192 (working-log next old sound rebuilt ready.replayed.replaying q (omega (arith, all, below_q))))
+        (sent_again-short old.config.f old.down (working old rebuilt) q p 8192 (working-log next old sound rebuilt replaying q (omega (arith, all, below_q))))
 
   -- the trace that is cut
   module _ {s : Members} {rest : List (Event N)} (is_down : s ≡ now.down) (is_cut : rest ≡ filter (λ e. stays_by s (λ p. slice_index_or rebuilt p (blank old.outside)) (mark_of e)) old.trace) where
@@ -115,22 +118,19 @@ module _ {S N : Type 0} {next : Next S N} {old now : GroupRecord S N} {rebuilt :
         is_rebuilt : IsRebuilt old new rebuilt
         is_rebuilt =
             let table = λ (m : ℕ). with-table (slice_index_or rebuilt m (blank old.outside)) (recovery_table (knowledge old)) in
-            grind (arith, nobody_down, placed, remade.shape, survive, cut-left, left-is, undone-left, marks_left, ready.tables, table, sound.members, resent_on)
+            grind (arith, nobody_down, placed, remade.shape, survive, cut-left, left-is, undone-left, marks_left, ready.all.tables, table, sound.members, resent_on)
 
         is_recovery : IsRecovery next old new
-        is_recovery = rebuilt_is_recovered next old sound rebuilt ready.replayed.replaying ready.replayed.waiting new is_rebuilt
+        is_recovery = rebuilt_is_recovered next old sound rebuilt replaying ready.waiting new is_rebuilt
 
         pub is_sound : IsSound next new
         is_sound = group_recovery_keeps next old new is_recovery sound
 
-        -- what is answered, from the number of receipts that were replayed and of messages that are sent again
-        pub recovers : {replays messages : ℕ} {saved : List (MemberRecord S N)}
-            → replays ≡ count_in s (λ p. (slice_index_or rebuilt p (blank old.outside)).received - (slice_index_or saved p (blank old.outside)).received) n
-            → saved ≡ old.checkpoints → messages ≡ messages_in n again
-            → Recovers next now new (record { replayed = replays; resent = messages; undone = undone })
-        recovers replayed is_saved resent = rw (← view) (record {
+        -- what is answered, from the number of messages that are sent again
+        pub recovers : {messages : ℕ} → messages ≡ messages_in n again → Recovers next now new (record { replayed = replays; resent = messages; undone = undone })
+        recovers resent = rw (← view) (record {
           recovery = is_recovery;
-          replayed = (rw (same-down, all, is_saved) at replayed) ∙ replayed_in-all next old sound rebuilt ready.replayed.replaying ready.replayed.waiting
+          replayed = ready.counted ∙ replayed_in-all next old sound rebuilt replaying ready.waiting
               ∙ ap (λ (es : List (Event N)). length (filter (is_replayed old) (receipts (map mark_of es)))) (sym (cut-left ∙ left-is));
           resent = (rw all at resent) ∙ counted;
           undone = omega (arith, undone-left, marks_left);

@@ -38,7 +38,7 @@ pub use Rattle.fbl_base.specs.declared.trace.Event.TheVariants.{Receipt}
 pub use Rattle.fbl_base.specs.declared.trace.Mark.{Mark}
 pub use Rattle.fbl_base.specs.declared.trace.Mark.TheVariants.{Send}
 pub use Rattle.fbl_base.specs.declared.trace.Start.{Start}
-pub use Rattle.fbl_law.proofs.ChannelCounts.{sent_again-short, sum_below-agree}
+pub use Rattle.fbl_law.proofs.ChannelCounts.{sent_again-short, sum_below-agree, sum_below-none}
 pub use Rattle.fbl_law.proofs.Channels.{flight_at, flight_ends}
 pub use Rattle.fbl_law.proofs.GroupCheckpoint.{checkpoint_is_recorded, group_checkpoint_keeps}
 pub use Rattle.fbl_law.proofs.GroupDelivery.{group_delivery_keeps, length-step_events}
@@ -48,7 +48,7 @@ pub use Rattle.fbl_law.proofs.GroupStart.{group_start_is_sound}
 pub use Rattle.fbl_law.proofs.GroupStrike.{group_strike_keeps, recorded_test}
 pub use Rattle.fbl_law.proofs.Promises.{any_survivors_hold, carried_fits, dump_has_no_orphan, dump_obeys_rules, sound_holds_each_receipt, sound_records_first, table_fits}
 pub use Rattle.fbl_law.proofs.ReplayLaws.{rebuilt_is_recovered, recovered_trace-rebuilt, replay_begins, replay_is_right, replayed_in-all, replayed_in-short, replayed_in-step, replaying-next}
-pub use Rattle.fbl_law.proofs.ReplayLaws.{replaying-room, replaying-tables, with-table, working-log}
+pub use Rattle.fbl_law.proofs.ReplayLaws.{count_in-same, replaying-room, replaying-tables, with-table, working-log}
 pub use Rattle.fbl_law.proofs.Safe.{IsRecorded-before, down_or_both_up, down_or_up, no_orphan, up_if_none}
 pub use Rattle.fbl_law.proofs.WeightKept.{flow, into, out, weight_in, weight_on}
 pub use Rattle.fbl_law.specs.Dumps.{pairs_from, pairs_of}
@@ -67,7 +67,7 @@ pub use Rattle.fbl_table.specs.Tables.{found, is_held, piggybacked}
 pub use Rattle.fbl_table.specs.declared.entry.Entry.{Entry}
 pub use Rattle.fbl_group.specs.Channels.{AreReplaced, each, first_message, front, front_message, room_in, rooms, rows, send_of_message, taken_and_sent, value_of, with_at, with_sent}
 pub use Rattle.fbl_group.specs.Deliveries.{Delivered, Delivers, IsDeliverRefusal, IsPlanned, deliver_refusal, of_commit}
-pub use Rattle.fbl_group.specs.Rebuilding.{AreByNumber, HasReplayed, IsReady, Rounds, Tries}
+pub use Rattle.fbl_group.specs.Rebuilding.{AreByNumber, AreReplaying, IsReady, Rounds, Tries}
 pub use Rattle.fbl_group.specs.Recoveries.{Recovers, messages_at}
 pub use Rattle.fbl_group.specs.Strikes.{AreRecordsReplaced, is_lost_receipt_of, is_within, lost_receipts, strike_refusal}
 pub use Rattle.fbl_group.specs.Tickets.{IsCurrent, IsFresh, IsTicket, MayCommit, RefusesCommit, is_full, sends_at, take_refusal}

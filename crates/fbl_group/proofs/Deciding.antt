@@ -1,5 +1,5 @@
 -- Which refusal of a delivery, a ticket or a commit holds.
-use Rattle.fbl_group.proofs.Common.{◌≡◌, ◌∙◌, ◌+◌, ap, ℕ, true, false, cond, length, arith, refl, sym, Some, None, nat_tests, Outcome, Next, Message, MemberRecord, GroupRecord, member}
+use Rattle.fbl_group.proofs.Common.{◌≡◌, ◌∙◌, ◌+◌, ap, ℕ, false, cond, length, arith, refl, sym, Some, None, nat_tests, Outcome, Next, Message, MemberRecord, GroupRecord, member}
 use Rattle.fbl_group.proofs.Common.{channel, step_of, front_message, IsPlanned, is_full, IsSound, flight_at, front, deliver_refusal, of_commit, IsDeliverRefusal, Delivers, Receipted}
 use Rattle.fbl_group.proofs.Common.{Ticket, CommitRefusal, take_refusal, IsTicket, IsCurrent, IsFresh, MayCommit, RefusesCommit, sends_at, flight_ends}
 use Rattle.std.specs.FinSet as set

@@ -10,5 +10,3 @@ pub mod Starting
 pub mod Recovering
 pub mod PuttingBack
 pub mod BringingBack
-pub mod GivingTables
-pub mod Cutting

@@ -1,5 +1,5 @@
 -- The theorem: strikes keep a group sound, and of a sound group each part holds.
-use Rattle.fbl_group.proofs.Common.{◌≡◌, ℕ, ◌≤◌, ◌∙◌, None, refl, arith, nat_tests, Members, Next, GroupRecord, IsSound, knowledge, IsStrike}
+use Rattle.fbl_group.proofs.Common.{◌≡◌, ◌≤◌, None, arith, nat_tests, Members, Next, GroupRecord, IsSound, knowledge, IsStrike}
 use Rattle.fbl_group.proofs.Common.{group_strike_keeps, sound_holds_each_receipt, no_orphan, recovery_leaves_recorded, strike_refusal}
 use Rattle.fbl_group.proofs.Striking.{within-below}
 use Rattle.fbl_group.specs.declared.answers.Recovered.{Recovered}

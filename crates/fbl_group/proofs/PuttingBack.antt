@@ -1,6 +1,6 @@
--- The loops that put what was rebuilt in place, and that count.
-use Rattle.fbl_group.proofs.Common.{◌≡◌, ℕ, ◌+◌, ◌*◌, ◌<◌, ◌≤◌, true, false, cond, List, length, arith, add-one, get_or, slice_index_or, slice_set, common_steps}
-use Rattle.fbl_group.proofs.Common.{get_or_default, Members, MemberRecord, blank, count_in, AreRecordsReplaced}
+-- The loops that put records in place.
+use Rattle.fbl_group.proofs.Common.{◌≡◌, ℕ, ◌+◌, ◌<◌, ◌≤◌, true, false, cond, List, length, arith, get_or, slice_index_or, slice_set, common_steps}
+use Rattle.fbl_group.proofs.Common.{get_or_default, Members, MemberRecord, blank, AreRecordsReplaced}
 use Rattle.std.specs.FinSet as set
 use Rattle.fbl_group.proofs.Queues.{Turned}
 
@@ -32,9 +32,3 @@ module _ {S N : Type 0} where
     replaced = λ m below is. grind (arith, turned.done m);
     others = λ m up. grind (arith, turned.done m, turned.rest m);
   }
-
--- the count of one member more
-pub counted-more : (s : Members) (count : ℕ → ℕ) {i x before one : ℕ} → x ≡ i → before ≡ count_in s count i → before ≤ i * 8192
-    → one ≡ cond (set.contains s x) (count x) 0 → one ≤ 8192
-    → (before + one ≡ count_in s count (i + 1)) × (before + one ≤ (i + 1) * 8192)
-counted-more s count {i = i} same was few is most = rw add-one grind arith

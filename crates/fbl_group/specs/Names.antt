@@ -2,18 +2,12 @@
 use Rattle.std.specs.Prelude.{ℕ, List, codes}
 use Rattle.fbl_group.specs.declared.refusals.DeliverRefusal.{DeliverRefusal}
 use Rattle.fbl_group.specs.declared.refusals.DeliverRefusal.TheVariants as deliver
-use Rattle.fbl_group.specs.declared.refusals.TakeRefusal.{TakeRefusal}
-use Rattle.fbl_group.specs.declared.refusals.TakeRefusal.TheVariants as take
-use Rattle.fbl_group.specs.declared.refusals.CommitRefusal.{CommitRefusal}
-use Rattle.fbl_group.specs.declared.refusals.CommitRefusal.TheVariants as commit
 use Rattle.fbl_group.specs.declared.refusals.StrikeRefusal.{StrikeRefusal}
 use Rattle.fbl_group.specs.declared.refusals.StrikeRefusal.TheVariants as strike
 use Rattle.fbl_group.specs.declared.refusals.CheckpointRefusal.{CheckpointRefusal}
 use Rattle.fbl_group.specs.declared.refusals.CheckpointRefusal.TheVariants as checkpoint
 use Rattle.fbl_group.specs.declared.refusals.RecoverRefusal.{RecoverRefusal}
 use Rattle.fbl_group.specs.declared.refusals.RecoverRefusal.TheVariants as recover
-use Rattle.fbl_group.specs.declared.refusals.CrashRefusal.{CrashRefusal}
-use Rattle.fbl_group.specs.declared.refusals.CrashRefusal.TheVariants as crash
 use Rattle.fbl_group.specs.declared.refusals.DumpGroupRefusal.{DumpGroupRefusal}
 use Rattle.fbl_group.specs.declared.refusals.DumpGroupRefusal.TheVariants as dump
 
@@ -23,17 +17,6 @@ deliver_name deliver.Down = codes "Down"
 deliver_name deliver.Empty = codes "Empty"
 deliver_name deliver.Full = codes "Full"
 deliver_name deliver.Memory = codes "Memory"
-
-abbrev pub take_name : TakeRefusal → List ℕ
-take_name take.BadMember = codes "BadMember"
-take_name take.Down = codes "Down"
-take_name take.Empty = codes "Empty"
-
-abbrev pub commit_name : CommitRefusal → List ℕ
-commit_name commit.Down = codes "Down"
-commit_name commit.Stale = codes "Stale"
-commit_name commit.Full = codes "Full"
-commit_name commit.Memory = codes "Memory"
 
 abbrev pub strike_name : StrikeRefusal → List ℕ
 strike_name strike.BadMember = codes "BadMember"
@@ -48,12 +31,6 @@ checkpoint_name checkpoint.Memory = codes "Memory"
 abbrev pub recover_name : RecoverRefusal → List ℕ
 recover_name recover.NotDown = codes "NotDown"
 recover_name recover.Memory = codes "Memory"
-
-abbrev pub crash_name : CrashRefusal → List ℕ
-crash_name crash.BadMember = codes "BadMember"
-crash_name crash.Nobody = codes "Nobody"
-crash_name crash.TooMany = codes "TooMany"
-crash_name crash.Memory = codes "Memory"
 
 abbrev pub dump_group_name : DumpGroupRefusal → List ℕ
 dump_group_name dump.BadStrike = codes "BadStrike"

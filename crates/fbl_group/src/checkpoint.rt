@@ -1,6 +1,6 @@
 //! Checkpoints: a member's record is kept where no strike empties it, and a recovery of the member begins there.
 
-ghost use Rattle.std.specs.Prelude.{◌≡◌, ℕ, ◌<◌, ◌≤◌, IfErr, OnErr, OnOk, None, Some};
+ghost use Rattle.std.specs.Prelude.{◌≡◌, ℕ, ◌<◌, ◌≤◌, IfErr, OnErr, OnOk, None};
 ghost use Rattle.std.specs.FinSet as set;
 ghost use Rattle.fbl_base.specs.declared.trace.Determinant.{Determinant};
 ghost use Rattle.fbl_base.specs.Events.{receipt_of};
@@ -28,8 +28,13 @@ impl<B: Behaviour, A: Allocator + Copy> Group<B, A> {
         ensures refused { IfErr result (IsCheckpointRefusal (checkpoint_refusal self.old member)) }
         ensures unchanged { OnErr result (self.new ≡ self.old) }
     {
-        self.allow_checkpoint(member)?;
-        self.save(member)?;
+        if member.number() >= self.size() {
+            return Err(CheckpointRefusal::BadMember);
+        }
+        if self.down().count() != 0 {
+            return Err(CheckpointRefusal::Down);
+        }
+        self.save(member).map_err(|_| CheckpointRefusal::Memory)?;
         // the group is sound, so that each checkpoint is at the fold of its receipts
         self.recoverable();
         Ok(())
@@ -43,21 +48,9 @@ impl<B: Behaviour, A: Allocator + Copy> Group<B, A> {
         ensures fold { IsCheckpointFold B.next self.now member }
         ensures recorded { (d : Determinant) → Has (marks self.now) (receipt_of d) → d.to ≡ member → d.rsn ≤ result → IsRecorded (knowledge self.now) d }
     {
+        // the group is sound
+        self.recoverable();
         self.saved(member).received()
-    }
-
-    /// Whether a checkpoint of the member may be taken, if there is memory for it.
-    fn allow_checkpoint(&self, member: Member) -> Result<(), CheckpointRefusal>
-        ensures allowed { OnOk result (checkpoint_refusal self.now member ≡ None) }
-        ensures refused { IfErr result (λ refusal. checkpoint_refusal self.now member ≡ Some refusal) }
-    {
-        if member.number() >= self.config.members() {
-            return Err(CheckpointRefusal::BadMember);
-        }
-        if self.down.count() != 0 {
-            return Err(CheckpointRefusal::Down);
-        }
-        Ok(())
     }
 
     /// Copies the member's record, and then puts the copy in its place.

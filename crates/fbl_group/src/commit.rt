@@ -12,7 +12,7 @@ use crate::refusals::{CommitRefusal, TakeRefusal};
 use crate::ticket::Done;
 use fbl_base::{Behaviour, Content, Exact, Member, Ticket};
 use fbl_member::{MemberRec, Wire};
-use std::alloc::Allocator;
+use std::alloc::{AllocError, Allocator};
 
 impl<B: Behaviour, A: Allocator + Copy> Group<B, A> {
     /// What the step of a delivery to one member from another is made from. Nothing changes, and the message stays in
@@ -53,7 +53,10 @@ impl<B: Behaviour, A: Allocator + Copy> Group<B, A> {
         ensures unchanged { OnErr result (self.new ≡ self.old) }
     {
         self.plan_commit(done)?;
-        Ok(self.settle(done)?)
+        match self.settle(done) {
+            Ok(receipted) => Ok(receipted),
+            Err(AllocError) => Err(CommitRefusal::Memory),
+        }
     }
 
     /// The front of the channel from one member to the other.

@@ -1,6 +1,6 @@
 //! What a group answers of itself.
 
-ghost use Rattle.std.specs.Prelude.{◌≡◌, ℕ, ◌<◌, ◌≤◌, ◌+◌, length, if◌then◌else◌};
+ghost use Rattle.std.specs.Prelude.{◌≡◌, ℕ, ◌<◌, ◌≤◌, ◌+◌, length};
 ghost use Rattle.fbl_base.specs.MemberSets.{AllBelow};
 ghost use Rattle.fbl_base.specs.Fold.{state_after};
 ghost use Rattle.fbl_law.specs.Knowledge.{IsUp, IsDown};
@@ -8,7 +8,7 @@ ghost use Rattle.fbl_law.specs.Groups.{channel as channel_of, member_checkpoint,
 ghost use Rattle.std.specs.FinSet as set;
 ghost use Rattle.fbl_law.specs.Sound.{IsSound, received_notes};
 ghost use Rattle.fbl_law.specs.StepLaws.{weight_held, weight_flying};
-ghost use Rattle.fbl_law.specs.Promises.{HoldsEachReceipt, SurvivorsHold, RecordsFirst, RecordsCauses};
+ghost use Rattle.fbl_law.specs.Promises.{SurvivorsHold, RecordsFirst, RecordsCauses};
 ghost use Rattle.fbl_group.specs.Readers.{is_quiet as is_quiet_now};
 ghost use Rattle.fbl_group.specs.Theorem.{HasNoOrphan, IsRecoverable};
 
@@ -81,20 +81,15 @@ impl<B: Behaviour, A: Allocator + Copy> Group<B, A> {
     }
 
     /// What happened, in order: the starts' sends, and then the receipts and sends that no recovery has undone.
-    ///
-    /// Where nobody is down, each of its receipts is held by more than f members or by every member whose state depends on
-    /// it. So whoever is down, nobody is an orphan.
     pub fn trace(&self) -> &[Event<B::Note>]
-        ensures trace { result.now ≡ self.now.trace }
-        ensures sound { IsSound B.next self.now }
-        ensures held { HoldsEachReceipt self.now }
-        ensures no_orphan { HasNoOrphan self.now }
+        ensures { result.now ≡ self.now.trace }
     {
-        self.promises();
         self.trace.as_slice()
     }
 
-    /// The theorem, of every group between two calls. Does nothing but promise it, and that the group is sound.
+    /// The theorem, of every group between two calls: where nobody is down, each receipt of the trace is held by more than f members
+    /// or by every member whose state depends on it, and whoever is struck then, nobody is an orphan. Does nothing but promise it,
+    /// and that the group is sound.
     pub fn recoverable(&self)
         ensures sound { IsSound B.next self.now }
         ensures theorem { IsRecoverable B.next self.now }
@@ -105,7 +100,6 @@ impl<B: Behaviour, A: Allocator + Copy> Group<B, A> {
     /// Does nothing but promise what is so of each group, as it is sound.
     pub(crate) fn promises(&self)
         ensures sound { IsSound B.next self.now }
-        ensures held { HoldsEachReceipt self.now }
         ensures no_orphan { HasNoOrphan self.now }
         ensures survivors { SurvivorsHold (knowledge self.now) self.now.down }
         ensures first { RecordsFirst (knowledge self.now) }
@@ -190,8 +184,7 @@ impl<B: Behaviour, A: Allocator + Copy> Group<B, A> {
     /// The member's checkpoint.
     pub(crate) fn saved(&self, member: Member) -> &MemberRec<B::State, B::Note, A>
         requires { member < self.now.config.members }
-        ensures value { result.now ≡ member_checkpoint self.now member }
-        ensures sound { IsSound B.next self.now }
+        ensures { result.now ≡ member_checkpoint self.now member }
     {
         &self.checkpoints[usize::from(member.number())]
     }
@@ -205,22 +198,12 @@ impl<B: Behaviour<State = u64>, A: Allocator + Copy> Group<B, A> {
     {
         let mut sum = 0u128;
         for number in 0..self.config.members() {
-            sum += self.weight(Member::at(number));
+            let member = Member::at(number);
+            if !self.down().has(member) {
+                sum += u128::from(self.state(member));
+            }
         }
         sum
-    }
-
-    /// The member's state, or 0 if it is down.
-    fn weight(&self, member: Member) -> u128
-        requires { member < self.now.config.members }
-        ensures value { result ≡ (if set.contains self.now.down member then 0 else (record_of self.now member).state) }
-        ensures bound { result ≤ 18446744073709551615 }
-    {
-        if self.down().has(member) {
-            0
-        } else {
-            u128::from(self.state(member))
-        }
     }
 }
 

@@ -1,6 +1,6 @@
 //! Recovery of the members that are down.
 
-ghost use Rattle.std.specs.Prelude.{◌≡◌, ℕ, ◌<◌, ◌≤◌, length, map, IfOk, IfErr, OnErr, OnOk, IsTrue, ◌↔◌};
+ghost use Rattle.std.specs.Prelude.{◌≡◌, ℕ, ◌<◌, ◌≤◌, length, map, IfOk, IfErr, OnErr, OnOk};
 ghost use Rattle.std.specs.FinSet as set;
 ghost use Rattle.fbl_base.specs.Events.{mark_of};
 ghost use Rattle.fbl_law.specs.Groups.{HasChannels, channel_in, knowledge, receipts};
@@ -25,6 +25,7 @@ impl<B: Behaviour, A: Allocator + Copy> Group<B, A> {
     /// with an end that was down is sent again, unless its receiver has had it. Survivors, the channels between them and
     /// the checkpoints stay as they are. After a refusal nothing has changed: where memory ran out the members are still
     /// down, and `recover` may be called again.
+    #[tactic(auto, using(crate::proofs::Reading::nobody_counted))]
     pub fn recover(&mut self) -> Result<Recovered, RecoverRefusal>
         ensures recovered { IfOk result (λ answer. ¬ (self.old.down ≡ set.empty) × Recovers B.next self.old self.new answer) }
         ensures restored { OnOk result (Restores B.next self.old self.new) }
@@ -36,18 +37,13 @@ impl<B: Behaviour, A: Allocator + Copy> Group<B, A> {
     {
         // what is so of each group, of the one that is recovered, too
         self.promises();
-        if self.all_are_up() {
+        if self.down().count() == 0 {
             return Err(RecoverRefusal::NotDown);
         }
-        Ok(self.bring_back()?)
-    }
-
-    /// Whether nobody is down.
-    #[tactic(auto, using(crate::proofs::Reading::nobody_counted))]
-    fn all_are_up(&self) -> bool
-        ensures { IsTrue result ↔ (self.now.down ≡ set.empty) }
-    {
-        self.down().count() == 0
+        match self.bring_back() {
+            Ok(recovered) => Ok(recovered),
+            Err(AllocError) => Err(RecoverRefusal::Memory),
+        }
     }
 
     /// Makes all that the recovery needs, and then puts it in place.
@@ -58,7 +54,7 @@ impl<B: Behaviour, A: Allocator + Copy> Group<B, A> {
         let rebuilt = self.rebuild()?;
         let again = self.resend(rebuilt.records.as_slice())?;
         let n = self.config.members();
-        let replayed = rebuilt.replayed(self.checkpoints.as_slice(), n);
+        let replayed = rebuilt.replayed;
         let resent = again.messages(n) as u32;
         let before = self.receipt_count();
         rebuilt.cut(&mut self.trace);

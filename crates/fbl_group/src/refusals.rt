@@ -2,7 +2,6 @@
 
 ghost use Rattle.std.specs.Prelude.{◌≡◌};
 
-use std::alloc::AllocError;
 use thiserror::Error;
 
 /// Why a message is not delivered. The refusals are tested in this order, and nothing has changed then.
@@ -40,29 +39,16 @@ impl DeliverRefusal {
 
 /// Why no ticket is given. The refusals are tested in this order.
 #[derive(Clone, Copy, PartialEq, Eq, Debug, Error)]
-#[error("{}", self.name())]
 pub enum TakeRefusal {
     /// The receiver or the sender is not a member of the group.
+    #[error("BadMember")]
     BadMember,
     /// Some member of the group is down, whichever.
+    #[error("Down")]
     Down,
     /// Nothing is in flight on the channel.
+    #[error("Empty")]
     Empty,
-}
-
-impl TakeRefusal {
-    ghost use Rattle.fbl_group.specs.Names.{take_name};
-
-    /// The refusal's word, as it is printed.
-    pub fn name(self) -> &'static str
-        ensures { result.now ≡ take_name self }
-    {
-        match self {
-            TakeRefusal::BadMember => "BadMember",
-            TakeRefusal::Down => "Down",
-            TakeRefusal::Empty => "Empty",
-        }
-    }
 }
 
 /// The refusal of a ticket as one of a delivery.
@@ -82,44 +68,20 @@ impl From<TakeRefusal> for DeliverRefusal {
 
 /// Why a step is not committed. The refusals are tested in this order.
 #[derive(Clone, Copy, PartialEq, Eq, Debug, Error)]
-#[error("{}", self.name())]
 pub enum CommitRefusal {
     /// Some member of the group is down, whichever.
+    #[error("Down")]
     Down,
     /// The group's size, the receiver's state or count of receipts, or the front's number or note is no longer the
     /// ticket's.
+    #[error("Stale")]
     Stale,
     /// The trace has no room for the receipt and its step's sends, or 2^64 - 1 receipts were made.
+    #[error("Full")]
     Full,
     /// There is no memory for what the delivery adds.
+    #[error("Memory")]
     Memory,
-}
-
-impl CommitRefusal {
-    ghost use Rattle.fbl_group.specs.Names.{commit_name};
-
-    /// The refusal's word, as it is printed.
-    pub fn name(self) -> &'static str
-        ensures { result.now ≡ commit_name self }
-    {
-        match self {
-            CommitRefusal::Down => "Down",
-            CommitRefusal::Stale => "Stale",
-            CommitRefusal::Full => "Full",
-            CommitRefusal::Memory => "Memory",
-        }
-    }
-}
-
-/// Memory ran out.
-impl From<AllocError> for CommitRefusal {
-    ghost use Rattle.fbl_group.specs.declared.refusals.CommitRefusal.TheVariants.{Memory};
-
-    ghost from_gives = { λ _ e. e ≡ Memory };
-
-    fn from(_error: AllocError) -> CommitRefusal {
-        CommitRefusal::Memory
-    }
 }
 
 /// Why nobody is struck. The refusals are tested in this order.
@@ -176,17 +138,6 @@ impl CheckpointRefusal {
     }
 }
 
-/// Memory ran out.
-impl From<AllocError> for CheckpointRefusal {
-    ghost use Rattle.fbl_group.specs.declared.refusals.CheckpointRefusal.TheVariants.{Memory};
-
-    ghost from_gives = { λ _ e. e ≡ Memory };
-
-    fn from(_error: AllocError) -> CheckpointRefusal {
-        CheckpointRefusal::Memory
-    }
-}
-
 /// Why nobody is recovered. The refusals are tested in this order.
 #[derive(Clone, Copy, PartialEq, Eq, Debug, Error)]
 #[error("{}", self.name())]
@@ -211,45 +162,21 @@ impl RecoverRefusal {
     }
 }
 
-/// Memory ran out.
-impl From<AllocError> for RecoverRefusal {
-    ghost use Rattle.fbl_group.specs.declared.refusals.RecoverRefusal.TheVariants.{Memory};
-
-    ghost from_gives = { λ _ e. e ≡ Memory };
-
-    fn from(_error: AllocError) -> RecoverRefusal {
-        RecoverRefusal::Memory
-    }
-}
-
 /// Why a crash is refused. The refusals are tested in this order: the first three are those of a strike.
 #[derive(Clone, Copy, PartialEq, Eq, Debug, Error)]
-#[error("{}", self.name())]
 pub enum CrashRefusal {
     /// A member named is not a member of the group.
+    #[error("BadMember")]
     BadMember,
     /// No member is named.
+    #[error("Nobody")]
     Nobody,
     /// The members named and those that are down are more than f together.
+    #[error("TooMany")]
     TooMany,
     /// There is no memory for the recovery. The members named are struck, and all that are down stay so.
+    #[error("Memory")]
     Memory,
-}
-
-impl CrashRefusal {
-    ghost use Rattle.fbl_group.specs.Names.{crash_name};
-
-    /// The refusal's word, as it is printed.
-    pub fn name(self) -> &'static str
-        ensures { result.now ≡ crash_name self }
-    {
-        match self {
-            CrashRefusal::BadMember => "BadMember",
-            CrashRefusal::Nobody => "Nobody",
-            CrashRefusal::TooMany => "TooMany",
-            CrashRefusal::Memory => "Memory",
-        }
-    }
 }
 
 /// The refusal of a strike as one of a crash.

@@ -2,14 +2,14 @@
 
 ghost use Rattle.std.specs.Prelude.{◌≡◌, ℕ, ◌+◌, ◌<◌, [], true, false, length, slice_index_or, IfOk, IfSome, IfNone, OnOk, Some};
 ghost use Rattle.std.specs.FinSet as set;
-ghost use Rattle.fbl_table.specs.Receipts.{receipt_at, IsByNumber};
+ghost use Rattle.fbl_table.specs.Receipts.{IsByNumber};
 ghost use Rattle.fbl_table.specs.Tables.{found};
 ghost use Rattle.fbl_member.specs.Members.{blank, logged_note};
 ghost use Rattle.fbl_law.specs.Groups.{member_checkpoint, knowledge};
 ghost use Rattle.fbl_law.specs.Steps.{gathered_all, saved_tables, recovery_table};
 ghost use Rattle.fbl_law.specs.Sound.{IsSound};
-ghost use Rattle.fbl_law.specs.Replaying.{working, IsReplaying, IsWaiting};
-ghost use Rattle.fbl_group.specs.Rebuilding.{AreByNumber, IsGathered, Tries, Rounds, HasReplayed, IsReady};
+ghost use Rattle.fbl_law.specs.Replaying.{working, replayed_in, IsReplaying, IsWaiting};
+ghost use Rattle.fbl_group.specs.Rebuilding.{AreByNumber, AreReplaying, Tries, Rounds, IsReady};
 
 use crate::group::Group;
 use crate::rebuilt::Rebuilt;
@@ -19,49 +19,27 @@ use fbl_table::{Receipts, Table};
 use std::alloc::{AllocError, Allocator};
 use std::mem;
 
-/// What recovery goes by: the table that the members that are down get, and the receipts that it has of each of them, by
-/// their numbers.
-#[derive(Drop)]
-struct Gathered<A: Allocator> {
-    table: Table<A>,
-    receipts: Vec<Receipts<A>, A>,
-}
-
-impl<A: Allocator + Copy> Gathered<A> {
-    /// The determinant of the member's receipt with this number, if the table has it.
-    fn receipt(&self, member: Member, rsn: u32) -> Option<Determinant>
-        requires { member < length self.now.receipts.items }
-        ensures { result ≡ receipt_at (slice_index_or self.now.receipts.items member []) rsn }
-    {
-        self.receipts[usize::from(member.number())].determinant(rsn)
-    }
-}
-
 impl<B: Behaviour, A: Allocator + Copy> Group<B, A> {
     /// The records with which the members that are down come back. The others' are blank.
-    pub(crate) fn rebuild(&self) -> Result<Rebuilt<B::State, B::Note, A>, AllocError>
-        ensures ready { IfOk result (λ rebuilt. IsReady B.next self.now rebuilt.records.items) }
+    pub(crate) fn rebuild(&self) -> Result<Rebuilt<B, A>, AllocError>
+        ensures ready { IfOk result (λ rebuilt. IsReady B.next self.now rebuilt.records.items rebuilt.replayed) }
         ensures down { IfOk result (λ rebuilt. rebuilt.down ≡ self.now.down) }
     {
-        let gathered = self.gather()?;
-        let mut rebuilt = self.begin()?;
-        while self.replay_round(&gathered, &mut rebuilt)? {}
-        self.give_tables(gathered.table, &mut rebuilt)?;
-        Ok(Rebuilt {
-            down: self.down,
-            records: rebuilt,
-            outside: B::initial(Member::at(0), self.size()),
-        })
-    }
-
-    /// The gathered table, and the receipts that it has of each member that is down.
-    fn gather(&self) -> Result<Gathered<A>, AllocError>
-        ensures gathered { IfOk result (λ gathered. IsGathered self.now gathered.table gathered.receipts.items) }
-        ensures sound { IsSound B.next self.now }
-    {
-        let table = self.gather_table()?;
-        let receipts = self.number_receipts(&table)?;
-        Ok(Gathered { table, receipts })
+        let gathered = self.gather_table()?;
+        let receipts = self.number_receipts(&gathered)?;
+        let mut records = self.begin(gathered)?;
+        let mut replayed = 0;
+        'rounds: loop {
+            let more = self.replay_round(&receipts, &mut records)?;
+            if more == 0 {
+                return Ok(Rebuilt {
+                    down: self.down,
+                    records,
+                    replayed,
+                });
+            }
+            replayed += more;
+        }
     }
 
     /// The survivors' tables in member order and then those of the checkpoints of the members that are down, where these
@@ -112,165 +90,55 @@ impl<B: Behaviour, A: Allocator + Copy> Group<B, A> {
         member: Member,
         gathered: &Table<A>,
     ) -> Result<Receipts<A>, AllocError>
+        requires { member < self.now.config.members }
         ensures { set.contains self.now.down member ≡ true → IfOk result (IsByNumber member (member_checkpoint self.now member).received gathered.now) }
     {
         let alloc = *self.members.allocator();
         if self.down().has(member) {
-            let checkpoint = &self.checkpoints[usize::from(member.number())];
-            Receipts::of_member(alloc, gathered, member, checkpoint.received())
+            Receipts::of_member(alloc, gathered, member, self.saved(member).received())
         } else {
             Ok(Receipts::none(alloc))
         }
     }
 
-    /// The records before any replay.
+    /// The records before any replay, and the gathered table for each member that is down: the last one gets the table itself,
+    /// the others copies.
     #[tactic(auto, using(fbl_member::proofs::Made::made_none))]
-    fn begin(&self) -> Result<Vec<MemberRec<B::State, B::Note, A>, A>, AllocError>
-        ensures { IfOk result (λ rebuilt. IsReplaying B.next self.now rebuilt.items) }
+    fn begin(
+        &self,
+        gathered: Table<A>,
+    ) -> Result<Vec<MemberRec<B::State, B::Note, A>, A>, AllocError>
+        requires { gathered ≡ recovery_table (knowledge self.now) }
+        ensures replaying { IfOk result (λ rebuilt. AreReplaying B.next self.now rebuilt.items) }
+        ensures none { IfOk result (λ rebuilt. replayed_in self.now rebuilt.items ≡ 0) }
     {
+        let mut gathered = gathered;
         let mut rebuilt = Vec::new(*self.members.allocator());
         for number in 0..self.size() {
             let member = Member::at(number);
-            rebuilt.push(self.begin_one(member)?)?;
+            rebuilt.push(self.begin_one(member, &mut gathered)?)?;
         }
         Ok(rebuilt)
     }
 
-    /// A member that is down begins at its checkpoint, without the table, for which it gets the gathered one in the end.
-    fn begin_one(&self, member: Member) -> Result<MemberRec<B::State, B::Note, A>, AllocError>
+    /// A member that is down begins at its checkpoint, with the table lent. The table is left while a later member is down.
+    fn begin_one(
+        &self,
+        member: Member,
+        gathered: &mut Table<A>,
+    ) -> Result<MemberRec<B::State, B::Note, A>, AllocError>
         requires { member < self.now.config.members }
-        ensures { set.contains self.now.down member ≡ true → IfOk result (λ begun. begun ≡ record (member_checkpoint self.now member) { table = [] }) }
+        ensures begun { set.contains self.now.down member ≡ true → IfOk result (λ begun. begun ≡ record (member_checkpoint self.now member) { table = gathered.old }) }
+        ensures left { (p : ℕ) → member < p → set.contains self.now.down p ≡ true → gathered.new ≡ gathered.old }
     {
-        let alloc = *self.members.allocator();
-        let f = self.config().f();
         if self.down().has(member) {
-            let checkpoint = &self.checkpoints[usize::from(member.number())];
-            checkpoint.copy_with(Table::for_limit(alloc, f))
+            let table = self.table_for(member, gathered)?;
+            self.saved(member).copy_with(table)
         } else {
-            Ok(MemberRec::blank(alloc, f, B::initial(member, self.size())))
+            let alloc = *self.members.allocator();
+            let first = B::initial(member, self.size());
+            Ok(MemberRec::blank(alloc, self.config().f(), first))
         }
-    }
-
-    /// Each member that is down tries to replay its next receipt, and the answer is whether one did.
-    fn replay_round(
-        &self,
-        gathered: &Gathered<A>,
-        rebuilt: &mut Vec<MemberRec<B::State, B::Note, A>, A>,
-    ) -> Result<bool, AllocError>
-        requires gathered { IsGathered self.now gathered.now.table gathered.now.receipts.items }
-        requires replaying { IsReplaying B.next self.now rebuilt.old.items }
-        ensures { IfOk result (λ moved. Rounds B.next self.now self.now.config.members rebuilt.old.items rebuilt.new.items moved) }
-    {
-        let mut moved = false;
-        for number in 0..self.size() {
-            let member = Member::at(number);
-            if self.down().has(member) {
-                moved |= self.replay_next(gathered, member, rebuilt)?;
-            }
-        }
-        Ok(moved)
-    }
-
-    /// Replays the member's next receipt, if the gathered table has it and its message is sent again.
-    fn replay_next(
-        &self,
-        gathered: &Gathered<A>,
-        member: Member,
-        rebuilt: &mut Vec<MemberRec<B::State, B::Note, A>, A>,
-    ) -> Result<bool, AllocError>
-        requires gathered { IsGathered self.now gathered.now.table gathered.now.receipts.items }
-        requires down { set.contains self.now.down member ≡ true }
-        requires replaying { IsReplaying B.next self.now rebuilt.old.items }
-        ensures { IfOk result (λ moved. Tries B.next self.now member rebuilt.old.items rebuilt.new.items moved) }
-    {
-        let Some((determinant, note)) = self.next_replay(gathered, member, rebuilt) else {
-            return Ok(false);
-        };
-        let record = &mut rebuilt[usize::from(member.number())];
-        record.replay_one::<B>(member, self.size(), &determinant, note)?;
-        Ok(true)
-    }
-
-    /// The member's next receipt, if the gathered table has it, and the content of its message, if that is sent again.
-    fn next_replay(
-        &self,
-        gathered: &Gathered<A>,
-        member: Member,
-        rebuilt: &Vec<MemberRec<B::State, B::Note, A>, A>,
-    ) -> Option<(Determinant, B::Note)>
-        requires gathered { IsGathered self.now gathered.now.table gathered.now.receipts.items }
-        requires down { set.contains self.now.down member ≡ true }
-        requires replaying { IsReplaying B.next self.now rebuilt.now.items }
-        ensures found { IfSome result (λ next. found member ((slice_index_or rebuilt.now.items member (blank self.now.outside)).received + 1) (recovery_table (knowledge self.now)) ≡ Some next.0) }
-        ensures sent { IfSome result (λ next. logged_note (working self.now rebuilt.now.items next.0.from).log next.0.ssn ≡ Some next.1) }
-        ensures waits { IfNone result (IsWaiting self.now rebuilt.now.items member) }
-        ensures sound { IsSound B.next self.now }
-    {
-        // the group is sound
-        self.recoverable();
-        let rsn = rebuilt[usize::from(member.number())].received() + 1;
-        let Some(determinant) = gathered.receipt(member, rsn) else {
-            return None;
-        };
-        let Some(note) = self.note_sent(rebuilt.as_slice(), &determinant) else {
-            return None;
-        };
-        Some((determinant, note))
-    }
-
-    /// The content of the message that the receipt took, where its sender's log has it.
-    fn note_sent(
-        &self,
-        rebuilt: &[MemberRec<B::State, B::Note, A>],
-        determinant: &Determinant,
-    ) -> Option<B::Note>
-        requires size { length rebuilt.now ≡ self.now.config.members }
-        requires from { determinant.now.from < self.now.config.members }
-        ensures { result ≡ logged_note (working self.now rebuilt.now determinant.now.from).log determinant.now.ssn }
-    {
-        let record = self.working(rebuilt, determinant.from);
-        record.log_note(determinant.ssn)
-    }
-
-    /// The record of a member while those that are down are rebuilt.
-    pub(crate) fn working<'a>(
-        &'a self,
-        rebuilt: &'a [MemberRec<B::State, B::Note, A>],
-        member: Member,
-    ) -> &'a MemberRec<B::State, B::Note, A>
-        requires size { length rebuilt.now ≡ self.now.config.members }
-        requires member { member < self.now.config.members }
-        ensures { result.now ≡ working self.now rebuilt.now member }
-    {
-        let place = usize::from(member.number());
-        if self.down().has(member) {
-            &rebuilt[place]
-        } else {
-            &self.members[place]
-        }
-    }
-
-    /// Gives each member that is down the gathered table: the last one the table itself, the others copies.
-    fn give_tables(
-        &self,
-        gathered: Table<A>,
-        rebuilt: &mut Vec<MemberRec<B::State, B::Note, A>, A>,
-    ) -> Result<(), AllocError>
-        requires gathered { gathered ≡ recovery_table (knowledge self.now) }
-        requires replayed { HasReplayed B.next self.now rebuilt.old.items }
-        ensures { OnOk result (IsReady B.next self.now rebuilt.new.items) }
-    {
-        // the group is sound
-        self.recoverable();
-        let mut gathered = gathered;
-        for number in 0..self.size() {
-            let member = Member::at(number);
-            if self.down().has(member) {
-                let table = self.table_for(member, &mut gathered)?;
-                rebuilt[usize::from(number)].set_table(table);
-            }
-        }
-        Ok(())
     }
 
     /// A table equal to the one lent: a copy while a later member is down, which needs it too, and else the table itself.
@@ -297,5 +165,94 @@ impl<B: Behaviour, A: Allocator + Copy> Group<B, A> {
             }
         }
         true
+    }
+
+    /// Each member that is down tries to replay its next receipt, and the answer is how many did.
+    fn replay_round(
+        &self,
+        receipts: &Vec<Receipts<A>, A>,
+        rebuilt: &mut Vec<MemberRec<B::State, B::Note, A>, A>,
+    ) -> Result<u32, AllocError>
+        requires numbered { AreByNumber self.now receipts.now.items }
+        requires replaying { AreReplaying B.next self.now rebuilt.old.items }
+        ensures { IfOk result (Rounds B.next self.now self.now.config.members rebuilt.old.items rebuilt.new.items) }
+    {
+        // the group is sound
+        self.recoverable();
+        let mut replayed = 0;
+        for number in 0..self.size() {
+            let member = Member::at(number);
+            if self.down().has(member) {
+                replayed += u32::from(self.replay_next(receipts, member, rebuilt)?);
+            }
+        }
+        Ok(replayed)
+    }
+
+    /// Replays the member's next receipt, if the gathered table has it and its message is sent again.
+    fn replay_next(
+        &self,
+        receipts: &Vec<Receipts<A>, A>,
+        member: Member,
+        rebuilt: &mut Vec<MemberRec<B::State, B::Note, A>, A>,
+    ) -> Result<bool, AllocError>
+        requires numbered { AreByNumber self.now receipts.now.items }
+        requires down { set.contains self.now.down member ≡ true }
+        requires replaying { AreReplaying B.next self.now rebuilt.old.items }
+        ensures { IfOk result (λ moved. Tries B.next self.now member rebuilt.old.items rebuilt.new.items moved) }
+    {
+        let Some((determinant, note)) = self.next_replay(receipts, member, rebuilt) else {
+            return Ok(false);
+        };
+        let record = &mut rebuilt[usize::from(member.number())];
+        record.replay_one::<B>(member, self.size(), &determinant, note)?;
+        Ok(true)
+    }
+
+    /// The member's next receipt, if the gathered table has it, and the content of its message, if that is sent again.
+    fn next_replay(
+        &self,
+        receipts: &Vec<Receipts<A>, A>,
+        member: Member,
+        rebuilt: &Vec<MemberRec<B::State, B::Note, A>, A>,
+    ) -> Option<(Determinant, B::Note)>
+        requires numbered { AreByNumber self.now receipts.now.items }
+        requires down { set.contains self.now.down member ≡ true }
+        requires replaying { IsReplaying B.next self.now rebuilt.now.items }
+        ensures found { IfSome result (λ next. found member ((slice_index_or rebuilt.now.items member (blank self.now.outside)).received + 1) (recovery_table (knowledge self.now)) ≡ Some next.0) }
+        ensures sent { IfSome result (λ next. logged_note (working self.now rebuilt.now.items next.0.from).log next.0.ssn ≡ Some next.1) }
+        ensures waits { IfNone result (IsWaiting self.now rebuilt.now.items member) }
+        ensures sound { IsSound B.next self.now }
+    {
+        // the group is sound
+        self.recoverable();
+        let place = usize::from(member.number());
+        let rsn = rebuilt[place].received() + 1;
+        let Some(determinant) = receipts[place].determinant(rsn) else {
+            return None;
+        };
+        let sender = self.working(rebuilt.as_slice(), determinant.from);
+        let Some(note) = sender.log_note(determinant.ssn) else {
+            return None;
+        };
+        Some((determinant, note))
+    }
+
+    /// The record of a member while those that are down are rebuilt.
+    pub(crate) fn working<'a>(
+        &'a self,
+        rebuilt: &'a [MemberRec<B::State, B::Note, A>],
+        member: Member,
+    ) -> &'a MemberRec<B::State, B::Note, A>
+        requires size { length rebuilt.now ≡ self.now.config.members }
+        requires member { member < self.now.config.members }
+        ensures { result.now ≡ working self.now rebuilt.now member }
+    {
+        let place = usize::from(member.number());
+        if self.down().has(member) {
+            &rebuilt[place]
+        } else {
+            &self.members[place]
+        }
     }
 }

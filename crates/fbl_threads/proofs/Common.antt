@@ -51,7 +51,7 @@ pub use Rattle.fbl_threads.specs.Crossing.{StrikesAsPlanned, planned_at, struck_
 pub use Rattle.fbl_threads.specs.Drains.{IsAccepted}
 pub use Rattle.fbl_threads.specs.Pasts.{Keeps, TurnsKeep, events_of}
 pub use Rattle.fbl_threads.specs.Plans.{is_named, struck_at}
-pub use Rattle.fbl_threads.specs.Runs.{Commits, Counts, Reached, Turn, lacks_memory, meets_full, more_at}
+pub use Rattle.fbl_threads.specs.Runs.{Commits, Counts, Reached, Turn, lacks_memory, meets_full, more_at, nothing_done}
 pub use Rattle.fbl_threads.specs.Runs.Reached.{starts, turns}
 pub use Rattle.fbl_threads.specs.Runs.Turn.{commits, crashes, is_full, is_late, strikes, wants}
 pub use Rattle.fbl_threads.specs.Stages.{IsOf}

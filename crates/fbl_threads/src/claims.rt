@@ -75,26 +75,13 @@ impl Join<View> for NoPass {
 
 /// Why no claims are made. The refusals are tested in this order.
 #[derive(Clone, Copy, PartialEq, Eq, Debug, Error)]
-#[error("{}", self.name())]
 pub enum ClaimRefusal {
     /// The table of words is refused for another cause than lack of memory. Nothing answers it: no other cause is known.
+    #[error("NoTable")]
     NoTable,
     /// There is no memory for the words.
+    #[error("Memory")]
     Memory,
-}
-
-impl ClaimRefusal {
-    ghost use Rattle.fbl_threads.specs.Names.{claim_name};
-
-    /// The refusal's word, as it is printed.
-    pub fn name(self) -> &'static str
-        ensures { result.now ≡ claim_name self }
-    {
-        match self {
-            ClaimRefusal::NoTable => "NoTable",
-            ClaimRefusal::Memory => "Memory",
-        }
-    }
 }
 
 /// A word for each member of a group, which says whether the member is claimed. Contracts see which table it is. Between

@@ -1,15 +1,25 @@
-use Rattle.fbl_group.proofs.Common.{subst, IsSound, arith, made-more}
-use Rattle.fbl_group.proofs.Recovering.{begun}
+use Rattle.fbl_group.proofs.Common.{subst, IsSound, arith, made-more, ap, ◌∙◌, List, Entry, member_checkpoint}
+use Rattle.fbl_group.proofs.Recovering.{begun, none-replayed}
 use Rattle.fbl_member.proofs.Made.{made_none}
 use Rattle.fbl_group.proofs.group.Group.begin.Goals as goal
 
 pub loop-number-init : goal.loop-number-init
-loop-number-init g c = rw c.new-rebuilt.ensures.items (made_none _ _)
+loop-number-init g c = record { made = rw c.new-rebuilt.ensures.items (made_none _ _); left = λ p past down. c.requires }
 
 pub loop-number-preserved : goal.loop-number-preserved
 loop-number-preserved g c =
-    rw c.in_ok-push.ensures.items (made-more _ _ _ _ _ c.loop-number.invariant (rw c.at-member.ensures at c.in_ok-begin_one.ensures))
+    let so_far = c.loop-number.invariant in
+    let begins = rw c.at-member.ensures at c.in_ok-begin_one.ensures.begun in
+    record {
+      made = rw c.in_ok-push.ensures.items (made-more _ _ _ _ _ so_far.made (λ down.
+          begins down ∙ ap (λ (t : List Entry). record (member_checkpoint c.args.self.now c.loop-number.number) { table = t }) (so_far.left c.loop-number.number (omega arith) down)));
+      left = λ p past down. c.begin_one.ensures.left p (omega (arith, past, c.at-member.ensures)) down ∙ so_far.left p (omega (arith, past)) down;
+    }
 
-pub returns : goal.returns
-returns g c =
-    begun (subst (IsSound g.B.Behaviour.next) c.self.view_is c.self.invariant) (grind (arith, c.self.view_is, c.loop-number.auto.number-end)) c.loop-number.invariant
+pub returns-clause-replaying : goal.returns-clause-replaying
+returns-clause-replaying g c =
+    begun (subst (IsSound g.B.Behaviour.next) c.self.view_is c.self.invariant) (grind (arith, c.self.view_is, c.loop-number.auto.number-end)) c.loop-number.invariant.made
+
+pub returns-clause-none : goal.returns-clause-none
+returns-clause-none g c =
+    none-replayed (subst (IsSound g.B.Behaviour.next) c.self.view_is c.self.invariant) (grind (arith, c.self.view_is, c.loop-number.auto.number-end)) c.loop-number.invariant.made

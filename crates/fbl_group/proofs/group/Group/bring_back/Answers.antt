@@ -1,5 +1,4 @@
 use Rattle.fbl_group.proofs.Common.{arith, rows, ap, ◌∙◌, GroupRecord}
-use Rattle.fbl_group.proofs.Cutting.{cut_same}
 use Rattle.fbl_group.proofs.BringingBack.{size, short-again, fewer, undone-few, undone-fits, is_sound, recovers}
 use Rattle.fbl_group.proofs.group.Group.bring_back.Goals as goal
 
@@ -14,8 +13,8 @@ messages-resent-requires-clause-few g c =
 
 pub overflow_sub-undone : goal.overflow_sub-undone
 overflow_sub-undone g c =
-    fewer c.self.invariant c.self.view_is c.in_ok-rebuilt.ensures.ready c.in_ok-rebuilt.ensures.down (c.cut.ensures ∙ cut_same c.in_ok-rebuilt.rebuilt.outside (g.B.Behaviour.next.initial 0 0) c.in_ok-rebuilt.rebuilt.down c.in_ok-rebuilt.rebuilt.records.items c.self.inside.trace.items) c.receipt_count-before.ensures
-    c.count_receipts.ensures c.as_slice-3.ensures.value
+    fewer c.self.invariant c.self.view_is c.in_ok-rebuilt.ensures.ready c.in_ok-rebuilt.ensures.down c.cut.ensures
+    c.receipt_count-before.ensures c.count_receipts.ensures c.as_slice-2.ensures.value
 
 pub put_back-requires-clause-members : goal.put_back-requires-clause-members
 put_back-requires-clause-members g c =
@@ -28,22 +27,23 @@ put_back-requires-clause-records g c =
 pub overflow_add-self : goal.overflow_add-self
 overflow_add-self g c =
     let ranges = c.self.ranges in
-    undone-fits c.self.invariant c.self.view_is c.in_ok-rebuilt.ensures.ready c.in_ok-rebuilt.ensures.down (c.cut.ensures ∙ cut_same c.in_ok-rebuilt.rebuilt.outside (g.B.Behaviour.next.initial 0 0) c.in_ok-rebuilt.rebuilt.down c.in_ok-rebuilt.rebuilt.records.items c.self.inside.trace.items) c.receipt_count-before.ensures
-    c.count_receipts.ensures c.as_slice-3.ensures.value ranges.1.1.1.1.1.1.0.1
+    undone-fits c.self.invariant c.self.view_is c.in_ok-rebuilt.ensures.ready c.in_ok-rebuilt.ensures.down c.cut.ensures
+    c.receipt_count-before.ensures c.count_receipts.ensures c.as_slice-2.ensures.value ranges.1.1.1.1.1.1.0.1
 
 pub overflow_cast-result : goal.overflow_cast-result
 overflow_cast-result g c =
-    undone-few c.self.invariant c.self.view_is c.in_ok-rebuilt.ensures.ready c.in_ok-rebuilt.ensures.down (c.cut.ensures ∙ cut_same c.in_ok-rebuilt.rebuilt.outside (g.B.Behaviour.next.initial 0 0) c.in_ok-rebuilt.rebuilt.down c.in_ok-rebuilt.rebuilt.records.items c.self.inside.trace.items) c.receipt_count-before.ensures
-    c.count_receipts.ensures c.as_slice-3.ensures.value
+    undone-few c.self.invariant c.self.view_is c.in_ok-rebuilt.ensures.ready c.in_ok-rebuilt.ensures.down c.cut.ensures
+    c.receipt_count-before.ensures c.count_receipts.ensures c.as_slice-2.ensures.value
 
 pub invariant_of-self : goal.invariant_of-self
 invariant_of-self g c =
-    is_sound c.self.invariant c.self.view_is c.in_ok-rebuilt.ensures.ready c.in_ok-rebuilt.ensures.down (c.cut.ensures ∙ cut_same c.in_ok-rebuilt.rebuilt.outside (g.B.Behaviour.next.initial 0 0) c.in_ok-rebuilt.rebuilt.down c.in_ok-rebuilt.rebuilt.records.items c.self.inside.trace.items) c.receipt_count-before.ensures
-    c.count_receipts.ensures c.as_slice-3.ensures.value (rows c.in_ok-again.again) c.members-n.ensures.value c.as_slice.ensures.value c.in_ok-again.ensures.each (c.put_back.ensures (g.B.Behaviour.next.initial 0 0))
-    c.replace.ensures c.empty-self-inside.ensures
+    is_sound c.self.invariant c.self.view_is c.in_ok-rebuilt.ensures.ready c.in_ok-rebuilt.ensures.down c.cut.ensures
+    c.receipt_count-before.ensures c.count_receipts.ensures c.as_slice-2.ensures.value (rows c.in_ok-again.again) c.members-n.ensures.value
+    c.as_slice.ensures.value c.in_ok-again.ensures.each c.put_back.ensures c.replace.ensures c.empty-self-inside.ensures
 
 pub returns-clause-recovered : goal.returns-clause-recovered
 returns-clause-recovered g c =
-    recovers c.self.invariant c.self.view_is c.in_ok-rebuilt.ensures.ready c.in_ok-rebuilt.ensures.down (c.cut.ensures ∙ cut_same c.in_ok-rebuilt.rebuilt.outside (g.B.Behaviour.next.initial 0 0) c.in_ok-rebuilt.rebuilt.down c.in_ok-rebuilt.rebuilt.records.items c.self.inside.trace.items) c.receipt_count-before.ensures
-    c.count_receipts.ensures c.as_slice-3.ensures.value (rows c.in_ok-again.again) c.members-n.ensures.value c.as_slice.ensures.value c.in_ok-again.ensures.each (c.put_back.ensures (g.B.Behaviour.next.initial 0 0))
-    c.replace.ensures c.empty-self-inside.ensures (c.replayed-replayed.ensures (g.B.Behaviour.next.initial 0 0)) c.as_slice-2.ensures.value c.messages-resent.ensures.messages
+    recovers c.self.invariant c.self.view_is c.in_ok-rebuilt.ensures.ready c.in_ok-rebuilt.ensures.down c.cut.ensures
+    c.receipt_count-before.ensures c.count_receipts.ensures c.as_slice-2.ensures.value (rows c.in_ok-again.again) c.members-n.ensures.value
+    c.as_slice.ensures.value c.in_ok-again.ensures.each c.put_back.ensures c.replace.ensures c.empty-self-inside.ensures
+    c.messages-resent.ensures.messages

@@ -7,6 +7,6 @@ loop-number-preserved g c =
     let asked : set.contains c.args.self.now.down c.loop-number.number ≡ c.has.result = cc in
     elim c.if-has.branch [
       | goal.then-has+in_ok-gather w ↦
-          rw (w.gathered-is, add-one, asked, w.if-has.true, fold-append, ← c.loop-number.invariant, w.in_ok-gather.ensures.gathered, w.table.ensures, w.saved.ensures.value, c.at-member.ensures)
+          rw (w.gathered-is, add-one, asked, w.if-has.true, fold-append, ← c.loop-number.invariant, w.in_ok-gather.ensures.gathered, w.table.ensures, w.saved.ensures, c.at-member.ensures)
       | goal.else-has w ↦ rw (w.gathered-is, add-one, asked, w.if-has.false, append-nil) c.loop-number.invariant
     ]

@@ -1,12 +1,5 @@
-use Rattle.fbl_group.proofs.Common.{refl, group_start_is_sound, arith, get_or, ◌≡◌, ◌∙◌, ◌<◌, length}
-use Rattle.std.proofs.Common.{ℕ, zero, suc, List, [], ◌∷◌}
+use Rattle.fbl_group.proofs.Common.{refl, group_start_is_sound, get_or_default, ◌∙◌}
 use Rattle.fbl_group.proofs.group.Group.new.Goals as goal
-
--- a list that is read within does not answer the default
-within : {X : Type 0} (xs : List X) (m : ℕ) (d d' : X) → m < length xs → get_or xs m d ≡ get_or xs m d'
-within [] m d d' below = absurd (omega arith)
-within (x ∷ xs) zero d d' below = refl
-within (x ∷ xs) (suc m) d d' below = within xs m d d' (omega arith)
 
 pub invariant_of-result : goal.invariant_of-result
 invariant_of-result g c =
@@ -16,9 +9,9 @@ invariant_of-result g c =
       shape = c.in_ok-trace.ensures.shape;
       channels = c.in_ok-trace.ensures.channels;
       size = c.in_ok-members.ensures.size;
-      members = λ m below. within _ m _ _ (rw (← c.in_ok-members.ensures.size) at below) ∙ c.in_ok-members.ensures.fresh m below;
+      members = λ m below. get_or_default _ m _ _ (rw (← c.in_ok-members.ensures.size) at below) ∙ c.in_ok-members.ensures.fresh m below;
       checkpoints = c.in_ok-checkpoints.ensures.size;
-      saved = λ m below. within _ m _ _ (rw (← c.in_ok-checkpoints.ensures.size) at below) ∙ c.in_ok-checkpoints.ensures.fresh m below;
+      saved = λ m below. get_or_default _ m _ _ (rw (← c.in_ok-checkpoints.ensures.size) at below) ∙ c.in_ok-checkpoints.ensures.fresh m below;
       nobody_down = c.empty.ensures;
       receipts_ever = refl;
       undone_ever = refl;
@@ -31,9 +24,9 @@ returns g c = record {
   shape = c.in_ok-trace.ensures.shape;
   channels = c.in_ok-trace.ensures.channels;
   size = c.in_ok-members.ensures.size;
-  members = λ m below. within _ m _ _ (rw (← c.in_ok-members.ensures.size) at below) ∙ c.in_ok-members.ensures.fresh m below;
+  members = λ m below. get_or_default _ m _ _ (rw (← c.in_ok-members.ensures.size) at below) ∙ c.in_ok-members.ensures.fresh m below;
   checkpoints = c.in_ok-checkpoints.ensures.size;
-  saved = λ m below. within _ m _ _ (rw (← c.in_ok-checkpoints.ensures.size) at below) ∙ c.in_ok-checkpoints.ensures.fresh m below;
+  saved = λ m below. get_or_default _ m _ _ (rw (← c.in_ok-checkpoints.ensures.size) at below) ∙ c.in_ok-checkpoints.ensures.fresh m below;
   nobody_down = c.empty.ensures;
   receipts_ever = refl;
   undone_ever = refl;

@@ -1,12 +1,23 @@
 use Rattle.fbl_group.proofs.Common.{arith, replayed_in-short}
-use Rattle.fbl_group.proofs.Recovering.{round-last}
 use Rattle.fbl_group.proofs.group.Group.rebuild.Goals as goal
 
-pub loop-rebuilt-smaller : goal.loop-rebuilt-smaller
-loop-rebuilt-smaller g c =
-    let round = (rw c.if-branch.true at c.in_ok-replay_round.ensures) in
-    omega (arith, round.1, replayed_in-short g.B.Behaviour.next _ c.gather.ensures.sound c.replay_round.new.rebuilt.items round.0)
+pub rounds-smaller : goal.rounds-smaller
+rounds-smaller g c =
+    let round = c.in_ok-more.ensures in
+    omega (arith, round.counted, replayed_in-short g.B.Behaviour.next _ c.gather_table.ensures.sound _ round.replaying.replaying)
 
-pub give_tables-requires-clause-replayed : goal.give_tables-requires-clause-replayed
-give_tables-requires-clause-replayed g c =
-    round-last c.gather.ensures.sound c.loop-rebuilt.invariant (rw c.if-branch.false at c.in_ok-replay_round.ensures)
+pub overflow_add-replayed : goal.overflow_add-replayed
+overflow_add-replayed g c =
+    let round = c.in_ok-more.ensures in
+    let few = replayed_in-short g.B.Behaviour.next _ c.gather_table.ensures.sound _ round.replaying.replaying in
+    omega (arith, c.rounds.invariant.counted, round.counted, few)
+
+pub returns-then-more-eq0-clause-ready : goal.returns-then-more-eq0-clause-ready
+returns-then-more-eq0-clause-ready g c =
+    let round = c.in_ok-more.ensures in
+    let still = round.waiting c.if-more-eq0.true in
+    record {
+      all = round.replaying;
+      waiting = λ p below down. rw still.0 (still.1 p below down);
+      counted = omega (arith, c.rounds.invariant.counted, round.counted, c.if-more-eq0.true);
+    }

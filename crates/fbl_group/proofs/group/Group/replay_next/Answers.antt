@@ -5,15 +5,15 @@ use Rattle.fbl_group.proofs.group.Group.replay_next.Goals as goal
 pub index_mut-record-requires : goal.index_mut-record-requires
 index_mut-record-requires g c =
     let sound = c.next_replay.ensures.sound in
-    omega (arith, sound.down c.args.member c.requires.down, c.requires.replaying.size, c.args.rebuilt.now.ok.0)
+    omega (arith, sound.down c.args.member c.requires.down, c.requires.replaying.replaying.size, c.args.rebuilt.now.ok.0)
 
 pub replay_one-requires : goal.replay_one-requires
 replay_one-requires g c =
     let sound = c.next_replay.ensures.sound in
     let down = sound.down c.args.member c.requires.down in
-    let read = is-record sound c.requires.replaying c.requires.down (c.from.ensures ∙ c.number.ensures.value) c.index_mut-record.ensures.value in
-    let next = replaying-next g.B.Behaviour.next _ sound _ c.requires.replaying c.args.member down c.requires.down _ c.in-Some.ensures.found in
-    let room = replaying-room g.B.Behaviour.next _ sound _ c.requires.replaying c.args.member down c.requires.down _ c.in-Some.ensures.found _ c.in-Some.ensures.sent in
+    let read = is-record sound c.requires.replaying.replaying c.requires.down (c.from.ensures ∙ c.number.ensures.value) c.index_mut-record.ensures.value in
+    let next = replaying-next g.B.Behaviour.next _ sound _ c.requires.replaying.replaying c.args.member down c.requires.down _ c.in-Some.ensures.found in
+    let room = replaying-room g.B.Behaviour.next _ sound _ c.requires.replaying.replaying c.args.member down c.requires.down _ c.in-Some.ensures.found _ c.in-Some.ensures.sent in
     rw read (record {
       least = omega (arith, c.size.ensures.value, sound.config.members.0);
       most = omega (arith, c.size.ensures.value, sound.config.members.1);
@@ -26,5 +26,5 @@ replay_one-requires g c =
 
 pub returns : goal.returns
 returns g c =
-    replays-one c.next_replay.ensures.sound c.requires.replaying c.requires.down (c.from.ensures ∙ c.number.ensures.value) c.index_mut-record.ensures.value
-    c.in-Some.ensures.found c.in-Some.ensures.sent c.size.ensures.value c.in_ok-replay_one.ensures.replayed
+    replays-one c.next_replay.ensures.sound c.requires.replaying.replaying c.requires.down (c.from.ensures ∙ c.number.ensures.value) c.index_mut-record.ensures.value
+    c.in-Some.ensures.found c.in-Some.ensures.sent c.size.ensures.value c.requires.replaying.tables c.in_ok-replay_one.ensures.replayed

@@ -11,7 +11,7 @@ loop-number-preserved g c =
           rw (w.members-is, w.records-is) (record {
             members = length-set _ _ _ ∙ c.loop-number.invariant.members;
             records = length-set _ _ _ ∙ c.loop-number.invariant.records;
-            put = λ outside. put-down (c.loop-number.invariant.put outside) w.swap.new.y c.from-place.ensures
+            put = put-down c.loop-number.invariant.put w.swap.new.y c.from-place.ensures
                 (omega (arith, c.loop-number-test.true, c.requires.members, c.args.members.now.ok.0))
                 (omega (arith, c.loop-number-test.true, c.requires.records, c.args.self.records.ok.0))
                 (asked ∙ w.if-has.true) (rw w.swap.ensures.x_after w.index_mut-then-has.ensures.value);
@@ -20,9 +20,9 @@ loop-number-preserved g c =
           rw (w.members-is, w.records-is) (record {
             members = c.loop-number.invariant.members;
             records = c.loop-number.invariant.records;
-            put = λ outside. put-up (c.loop-number.invariant.put outside) (asked ∙ w.if-has.false);
+            put = put-up c.loop-number.invariant.put (asked ∙ w.if-has.false);
           })
     ]
 
 pub returns : goal.returns
-returns g c outside = replaced-end (c.loop-number.invariant.put outside).turned (omega (arith, c.loop-number-test.false, c.requires.members, c.args.members.now.ok.0))
+returns g c = replaced-end c.loop-number.invariant.put.turned (omega (arith, c.loop-number-test.false, c.requires.members, c.args.members.now.ok.0))

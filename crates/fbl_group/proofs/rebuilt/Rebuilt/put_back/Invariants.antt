@@ -6,5 +6,5 @@ abbrev pub invariant-loop-number : goal.invariant-loop-number
 invariant-loop-number g l = record {
   members : length l.members.items ≡ length l.initial.members.items;
   records : length l.records.items ≡ length l.initial.records.items;
-  put : (initial : _) → Putting initial l.down l.initial.records.items l.initial.members.items l.number l.members.items l.records.items;
+  put : Putting (g.B.Behaviour.next.initial 0 0) l.down l.initial.records.items l.initial.members.items l.number l.members.items l.records.items;
 }
