@@ -31,11 +31,7 @@ fn push_member(
 ) -> Result<(), AllocError>
     ensures { OnOk result (shapes.new.items ≡ shapes.old.items ++ dump_member_shapes columns member is_struck start) }
 {
-    shapes.push(Shape::Label {
-        member,
-        status: Some(status(is_struck, start)),
-    })?;
-    push_names(shapes, columns, member)?;
+    push_names(shapes, columns, member, Some(status(is_struck, start)))?;
     shapes.push(Shape::Line {
         member,
         start: None,

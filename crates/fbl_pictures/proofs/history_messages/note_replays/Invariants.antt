@@ -1,6 +1,6 @@
 use Rattle.fbl_pictures.proofs.Common.{ℕ, ◌≡◌, ◌==◌, Some, cond, drop, is_back}
 use Rattle.std.specs.HashMap as hash_map
-use Rattle.fbl_pictures.proofs.history_recoveries.note_replays.Given as goal
+use Rattle.fbl_pictures.proofs.history_messages.note_replays.Given as goal
 
 abbrev pub invariant-loop-replay : goal.invariant-loop-replay
 invariant-loop-replay l = (q : ℕ)

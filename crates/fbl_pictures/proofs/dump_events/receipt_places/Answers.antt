@@ -2,7 +2,7 @@ use Rattle.fbl_pictures.proofs.Common.{ℕ, Option, Some, None, ◌≡◌, ◌�
 use Rattle.fbl_pictures.proofs.Common.{is_message, MessageName, takes, taken_by}
 use Rattle.std.specs.HashMap as hash_map
 use Rattle.fbl_pictures.proofs.Indexing.{old_message, new_message}
-use Rattle.fbl_pictures.proofs.dump_receipts.receipt_places.Goals as goal
+use Rattle.fbl_pictures.proofs.dump_events.receipt_places.Goals as goal
 
 pub loop-place-preserved : goal.loop-place-preserved
 loop-place-preserved c m =
