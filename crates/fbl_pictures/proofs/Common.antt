@@ -12,7 +12,8 @@ pub use Rattle.std.specs.List.{flat_map, fold, range_with_len, position_from, fi
 pub use Rattle.std.specs.Option.{is_some, option_or, option_to_list}
 pub use Rattle.std.specs.Prelude.{◌*◌, ◌/◌, ◌^◌, nat_lt}
 pub use Rattle.fbl_base.proofs.Numbers.{rows_on}
-pub use Rattle.fbl_base.specs.Audit.{lost_determinants}
+pub use Rattle.fbl_base.specs.Audit.{lost_determinants, orphan_start_in, IsDumpOrphan}
+pub use Rattle.fbl_audit.specs.Paths.{IsOrphanPath}
 pub use Rattle.fbl_base.specs.Events.{is_message, same_message}
 pub use Rattle.fbl_base.specs.declared.trace.MessageName.{MessageName}
 pub use Rattle.fbl_history.specs.Columns.{made_after, receipts_made, ReceiptsFollowSends}
@@ -20,7 +21,7 @@ pub use Rattle.fbl_history.specs.declared.column.Column.{Column}
 pub use Rattle.fbl_input.proofs.Outputs.{puts_text}
 pub use Rattle.fbl_pictures.specs.DumpEvents.{event_arrow, event_marks}
 pub use Rattle.fbl_pictures.specs.DumpMembers.{dump_member_shapes, members_drawn, shapes_of_member}
-pub use Rattle.fbl_pictures.specs.DumpPaths.{ArePathsDrawn, path_shapes}
+pub use Rattle.fbl_pictures.specs.DumpPaths.{ArePathsDrawn, AreStepsTo, path_shapes}
 pub use Rattle.fbl_pictures.specs.DumpPictures.{IsPicture, title}
 pub use Rattle.fbl_pictures.specs.DumpReceipts.{receipt_place, taken_by, takes}
 pub use Rattle.fbl_pictures.specs.HistoryMarks.{column_marks, marks_after, recovery_mark, strike_mark}

@@ -27,12 +27,14 @@ path_shapes events [] = []
 path_shapes events (start ∷ []) = []
 path_shapes events (start ∷ end ∷ places) = option_to_list (step_between (slice_get events start) start (slice_get events end) end) ++ path_shapes events (end ∷ places)
 
--- the places of a path from a lost receipt to the member, if it is an orphan, and else none
-abbrev pub IsPathDrawn : Parts → ℕ → List ℕ → Type 0
-IsPathDrawn dump member path = (¬ (IsDumpOrphan dump member) × (path ≡ [])) ⊎ (IsDumpOrphan dump member × IsOrphanPath dump member path)
+-- the steps of a path from a lost receipt to the member, if it is an orphan, and else none
+abbrev pub AreStepsTo : Parts → ℕ → List Shape → Type 0
+AreStepsTo dump member steps =
+    (¬ (IsDumpOrphan dump member) × (steps ≡ []))
+    ⊎ ((path : List ℕ) × IsDumpOrphan dump member × IsOrphanPath dump member path × (steps ≡ path_shapes dump.events path))
 
 -- the steps of the path to each of these members, in their order
 abbrev pub ArePathsDrawn : Parts → List ℕ → List Shape → Type 0
 ArePathsDrawn dump [] shapes = shapes ≡ []
 ArePathsDrawn dump (member ∷ members) shapes =
-    (path : List ℕ) × IsPathDrawn dump member path × (rest : List Shape) × ArePathsDrawn dump members rest × (shapes ≡ path_shapes dump.events path ++ rest)
+    (steps : List Shape) × AreStepsTo dump member steps × (rest : List Shape) × ArePathsDrawn dump members rest × (shapes ≡ steps ++ rest)

@@ -1,8 +1,8 @@
 //! Paths from lost receipts to orphans.
 
-ghost use Rattle.std.specs.Prelude.{◌≡◌, ◌++◌, IfOk, List, OnOk, slice_get};
+ghost use Rattle.std.specs.Prelude.{◌≡◌, ◌++◌, List, OnOk, slice_get};
 ghost use Rattle.std.specs.List.{range_with_len};
-ghost use Rattle.fbl_pictures.specs.DumpPaths.{ArePathsDrawn, IsPathDrawn, path_shapes, step_between as step_between_of, step_shape};
+ghost use Rattle.fbl_pictures.specs.DumpPaths.{ArePathsDrawn, path_shapes, step_between as step_between_of, step_shape};
 ghost use Rattle.fbl_pictures.specs.declared.shape.Shape.{Shape};
 
 use crate::names::push_any;
@@ -59,17 +59,7 @@ fn push_path(shapes: &mut Vec<Shape>, events: &[Mark], path: &[usize]) -> Result
     Ok(())
 }
 
-/// The places of the path to a member, none if it is no orphan.
-fn path_to(alloc: Global, audit: &Audit, member: Member) -> Result<Vec<usize>, AllocError>
-    ensures { IfOk result (λ path. IsPathDrawn audit.now member path.items) }
-{
-    match orphan_path(alloc, audit, member)? {
-        Some(path) => Ok(path),
-        None => Ok(Vec::new(alloc)),
-    }
-}
-
-/// Adds the path to each member.
+/// Adds a path to each orphan.
 pub(crate) fn push_paths(
     shapes: &mut Vec<Shape>,
     alloc: Global,
@@ -79,8 +69,9 @@ pub(crate) fn push_paths(
 {
     let events = audit.dump().events();
     for number in 0..audit.dump().members() {
-        let path = path_to(alloc, audit, Member::at(number))?;
-        push_path(shapes, events, path.as_slice())?;
+        if let Some(path) = orphan_path(alloc, audit, Member::at(number))? {
+            push_path(shapes, events, path.as_slice())?;
+        }
     }
     Ok(())
 }
