@@ -38,7 +38,4 @@ last_some test (suc place) k below passes = at (test place) refl (last_some test
 pub later_is : (a b : Option ℕ) (t : ℕ) → later a b ≡ Some t → (a ≡ Some t) ⊎ (b ≡ Some t)
 later_is None b t is = inr is
 later_is (Some i) None t is = inl is
-later_is (Some i) (Some k) t is = elim (cases_lt i k) [
-  | inl below ↦ (let e : max i k ≡ k = max-eq_right (omega (arith, below)) in inr (ap Some (sym e) ∙ is))
-  | inr past ↦ (let e : max i k ≡ i = max-eq_left past in inl (ap Some (sym e) ∙ is))
-]
+later_is (Some i) (Some k) t is = elim (cases_lt i k) [ inl below ↦ grind (arith, below, is) | inr past ↦ grind (arith, past, is) ]
