@@ -2,7 +2,7 @@
 use Rattle.fbl_base.specs.declared.trace.Note.{Note}
 use Rattle.fbl_base.specs.declared.trace.Event.TheVariants as event
 use Rattle.fbl_base.specs.declared.trace.Mark.TheVariants as mark
-use Rattle.fbl_history.proofs.Common.{◌≡◌, ◌==◌, ◌+◌, ◌<◌, ℕ, zero, suc, Bool, true, false, cond, inl, inr, List, [], ◌∷◌, ◌++◌, map, drop, Some, slice_get, refl, ap, sym, ◌∙◌, arith, filter, At-front, At-push}
+use Rattle.fbl_history.proofs.Common.{◌≡◌, ◌==◌, ◌<◌, ℕ, zero, suc, Bool, true, false, cond, inl, inr, List, [], ◌∷◌, ◌++◌, drop, Some, slice_get, refl, ap, sym, ◌∙◌, arith, filter, At-front, At-push}
 use Rattle.fbl_history.proofs.Common.{Event, mark_of, Next, GroupRecord, marks, IsSound, filter-passes, mark-at, send-at, sent-before, map-At, slice_get-map, option_map}
 use Rattle.fbl_history.proofs.Common.{Column, Send, Receipt, ReceiptsMade, ReceiptsFollowSends, column_then, event_column, go_on, go_on_to, is_next, is_receipt, is_standing, receipts_made, standing, trace_columns, trace_then, undo}
 use Rattle.fbl_history.proofs.Standing.{columns_stand, standing_trace}

@@ -34,6 +34,5 @@ pub use Rattle.fbl_pictures.specs.Words.{line_kind_of}
 pub use Rattle.fbl_pictures.specs.declared.shape.Legend.TheVariants.{Dump}
 pub use Rattle.fbl_pictures.specs.declared.shape.Shape.{Shape}
 pub use Rattle.std.proofs.lemmas.List.Elements.{filter-append}
-pub use Rattle.std.proofs.Math.Nat.{max-eq_left, max-eq_right}
 pub use Rattle.fbl_base.proofs.RulesLaws.{eqb-self}
 pub use Rattle.fbl_pictures.specs.Names.{label_and_names}

@@ -3,7 +3,7 @@ use Rattle.fbl_history.specs.declared.column.Column.TheVariants as columns
 use Rattle.fbl_pictures.specs.declared.shape.Shape.TheVariants as shapes
 use Rattle.fbl_pictures.specs.HistoryLaws.{is_before, is_dashed, leads_to, IsDashedWhileDown, IsDownBefore, IsRecoveredAt, IsStruckAt}
 use Rattle.fbl_pictures.specs.HistoryPictures.{history_shapes}
-use Rattle.fbl_pictures.proofs.Common.{ℕ, zero, suc, ◌+◌, ◌<◌, ◌≤◌, ◌≡◌, ◌≢◌, ◌⊎◌, ◌↔◌, ◌||◌, ◌&&◌, not, Bool, true, false, cond, inl, inr, List, [], ◌∷◌, ◌++◌, length, take, get_or, Option, Some, None, slice_get, beq, fold}
+use Rattle.fbl_pictures.proofs.Common.{ℕ, zero, suc, ◌+◌, ◌<◌, ◌≤◌, ◌≡◌, ◌⊎◌, ◌↔◌, ◌||◌, ◌&&◌, not, Bool, true, false, cond, inl, inr, List, [], ◌∷◌, ◌++◌, length, take, get_or, Option, Some, None, slice_get, beq, fold}
 use Rattle.fbl_pictures.proofs.Common.{slice_get-get_or, get_or_from_slice_get, subst, filter, refl, sym, ap, ◌∙◌, arith, cases_lt, lt-ltb, le-ltb, eqb-self, ne_eqb, Column, Shape}
 use Rattle.fbl_pictures.proofs.Common.{drawn, brings_back, column_marks, history_member_shapes, is_down_after, label_and_names, line_kind_of, line_parts, members_shapes, receipt_arrow, strikes, stub}
 use Rattle.fbl_pictures.proofs.Filtering.{filter_none, filter_nothing, filter_only, numbers_one}

@@ -1,5 +1,5 @@
 -- One column more.
-use Rattle.fbl_pictures.proofs.Common.{ℕ, ◌+◌, ◌<◌, ◌≡◌, not, Bool, false, List, ◌∷◌, [], ◌++◌, length, take, drop, get_or, sym, ap, ◌∙◌, arith, beq, booleans_Decides, fold, not-false, append_assoc, at_drop_more, take_more, fold_push, Column, Shape, drawn}
+use Rattle.fbl_pictures.proofs.Common.{ℕ, ◌+◌, ◌<◌, ◌≡◌, not, Bool, false, List, ◌∷◌, [], ◌++◌, length, take, drop, get_or, sym, ap, ◌∙◌, beq, booleans_Decides, fold, not-false, append_assoc, at_drop_more, take_more, fold_push, Column, Shape, drawn}
 
 -- at a column of a history
 module _ (columns : List Column) (i : ℕ) (c : Column) (within : i < length columns) (is : c ≡ get_or columns i c) where

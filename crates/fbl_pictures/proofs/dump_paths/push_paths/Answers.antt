@@ -1,4 +1,4 @@
-use Rattle.fbl_pictures.proofs.Common.{◌≡◌, ◌<◌, ◌++◌, ◌+◌, ◌-◌, ◌∙◌, List, [], ap, append_assoc, append-nil, arith, inl, inr, refl, suc, ArePathsDrawn, AreStepsTo, IsDumpOrphan, IsOrphanPath, Shape, path_shapes, range_with_len}
+use Rattle.fbl_pictures.proofs.Common.{◌≡◌, ◌++◌, ◌+◌, ◌-◌, ◌∙◌, List, [], ap, append_assoc, append-nil, arith, inl, inr, refl, suc, ArePathsDrawn, AreStepsTo, IsDumpOrphan, IsOrphanPath, Shape, path_shapes, range_with_len}
 use Rattle.fbl_pictures.proofs.dump_paths.push_paths.Goals as goal
 
 pub loop-number-init : goal.loop-number-init

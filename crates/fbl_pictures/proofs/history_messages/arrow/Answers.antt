@@ -1,4 +1,4 @@
-use Rattle.fbl_pictures.proofs.Common.{◌≡◌, ◌∙◌, Some, refl, rules, same_message, sym}
+use Rattle.fbl_pictures.proofs.Common.{◌≡◌, ◌∙◌, refl, rules, same_message, sym}
 use Rattle.std.specs.HashMap as hash_map
 use Rattle.fbl_pictures.proofs.history_messages.arrow.Goals as goal
 
