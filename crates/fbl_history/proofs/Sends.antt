@@ -49,7 +49,8 @@ then-undo column trace = elim (stays_or_undone column trace) [ inl kept ↦ ap u
 was_there : (columns trace : List Column) → AllStand trace → (place : ℕ) (c : Column) → slice_get (go_on columns trace) place ≡ Some c → is_standing c ≡ false
     → (old : Column) × (slice_get columns place ≡ Some old) × (undo old ≡ undo c)
 was_there [] trace all place c at lies = (let stands = all place c at in absurd cc)
-was_there (column ∷ columns) trace all zero c at lies = (column, refl, (let same : column_then column trace ≡ c = cc in sym (then-undo column trace) ∙ ap undo same))
+was_there (column ∷ columns) trace all zero c at lies =
+    (column, refl, (let same : column_then column trace ≡ c = cc in sym (then-undo column trace) ∙ ap undo same))
 was_there (column ∷ columns) trace all (suc place) c at lies = was_there columns (trace_then column trace) (all-then column trace all) place c at lies
 
 -- and what was there is at its place behind
@@ -60,7 +61,8 @@ is_there (column ∷ columns) trace zero c at = (column_then column trace, refl,
 is_there (column ∷ columns) trace (suc place) c at = is_there columns (trace_then column trace) place c at
 
 -- an event is of the same message whether it is undone or not
-is-receipt : (c : Column) (to rsn from ssn state : ℕ) → undo c ≡ Receipt to rsn from ssn state true → (undone : Bool) × (c ≡ Receipt to rsn from ssn state undone)
+is-receipt : (c : Column) (to rsn from ssn state : ℕ) → undo c ≡ Receipt to rsn from ssn state true
+    → (undone : Bool) × (c ≡ Receipt to rsn from ssn state undone)
 is-receipt (Receipt p r q k s u) to rsn from ssn state same = (u, cc)
 is-receipt (Send q k p u) to rsn from ssn state same = absurd cc
 is-receipt _ to rsn from ssn state same = absurd cc

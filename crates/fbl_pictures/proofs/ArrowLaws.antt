@@ -45,7 +45,8 @@ module _ (history : List Column) (from ssn to place : ℕ) (undone : Bool) where
   -- where the message was sent the arrow starts, or where it was sent again
   abbrev Arrives : Option ℕ → Option ℕ → Type 0
   Arrives sent back = (start : ℕ) × (again : Bool) × ComesFromItsSend history from ssn to place start again
-      × (filter (is_arrow_to place) (option_to_list (arrow_between sent back from to place undone)) ≡ shapes.Arrow from start to place (arrow_kind again undone) ∷ [])
+      × (filter (is_arrow_to place) (option_to_list (arrow_between sent back from to place undone))
+      ≡ shapes.Arrow from start to place (arrow_kind again undone) ∷ [])
 
   arrives : (s : ℕ) (b : Option ℕ) → IsLastSend history from ssn place s → ((t : ℕ) → b ≡ Some t → (t < place) × IsSentAgainAt history from to t) → Arrives (Some s) b
   arrives s b last back = elim (cases_lt s (last_sent s b)) [
@@ -82,7 +83,8 @@ module _ (history : List Column) (from ssn to place : ℕ) (undone : Bool) where
       )
 
 -- the arrow to another column does not end here
-arrow-apart : (place : ℕ) (sent : MessageName → Option ℕ) (back : ℕ → Option ℕ) (i : ℕ) (c : Column) → i ≢ place → filter (is_arrow_to place) (option_to_list (arrow_from sent back i c)) ≡ []
+arrow-apart : (place : ℕ) (sent : MessageName → Option ℕ) (back : ℕ → Option ℕ) (i : ℕ) (c : Column) → i ≢ place
+    → filter (is_arrow_to place) (option_to_list (arrow_from sent back i c)) ≡ []
 arrow-apart place sent back i (columns.Receipt to rsn from ssn state undone) apart = between (sent (record { from = from; ssn = ssn })) _ where
   between : (s b : Option ℕ) → filter (is_arrow_to place) (option_to_list (arrow_between s b from to i undone)) ≡ []
   between None b = refl
@@ -104,10 +106,12 @@ has_arrow_from_its_send members history follow place to rsn from ssn state undon
       arrow.1,
       arrow.2,
       filter_only p (members_shapes members history ++ arrows ++ stubs) (drawn (column_marks history) 0 history)
-          (marks_none p history (record { strike = λ i m. refl; recovery = λ i m k. refl; checkpoint = λ i m. refl; made_and_undone = λ i k. refl }) (λ i f s t u. refl) (λ i d s u. refl))
+          (marks_none p history (record { strike = λ i m. refl; recovery = λ i m k. refl; checkpoint = λ i m. refl; made_and_undone = λ i k. refl })
+          (λ i f s t u. refl) (λ i d s u. refl))
           ∙ filter_only p (members_shapes members history ++ arrows) stubs (stubs_none p history (λ f s t a. refl))
           ∙ filter_none p (members_shapes members history) arrows (members_none p history (λ m s. refl) (λ i m. refl) (λ m s e k. refl) members)
-          ∙ drawn_one p (receipt_arrow history) place (λ i c apart. arrow-apart place (sent_before history i) (back_before history i) i c apart) 0 place history (columns.Receipt to rsn from ssn state undone) at here
+          ∙ drawn_one p (receipt_arrow history) place (λ i c apart. arrow-apart place (sent_before history i)
+          (back_before history i) i c apart) 0 place history (columns.Receipt to rsn from ssn state undone) at here
           ∙ ap (λ o. filter p (option_to_list (arrow_between o back from to place undone))) sent.1
           ∙ arrow.3,
     )

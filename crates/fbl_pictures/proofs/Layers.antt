@@ -41,37 +41,46 @@ module _ (p : Shape → Bool) where
   mark_none none made i (columns.Strike struck) send receipt = filter_map_none p (strike_mark i) (member_list struck) (none.strike i)
   mark_none none made i (columns.Recovery replays) send receipt = filter_map_none p (recovery_mark i) replays.items (λ r. none.recovery i r.member r.receipts)
   mark_none none made i (columns.Send from ssn to undone) send receipt = rw (send from ssn to undone) refl
-  mark_none none made i (columns.Receipt to rsn from ssn state undone) send receipt = rw (receipt (record { from = from; ssn = ssn; to = to; rsn = rsn }) state undone) refl
+  mark_none none made i (columns.Receipt to rsn from ssn state undone) send receipt = rw
+      (receipt (record { from = from; ssn = ssn; to = to; rsn = rsn }) state undone) refl
   mark_none none made i (columns.Checkpoint m) send receipt = rw (none.checkpoint i m) refl
   mark_none none made i (columns.ReceiptsMade total) send receipt = rw (none.made_and_undone i _) refl
 
   pub names_none : ((m : ℕ) (s : Option Status) → p (shapes.Label m s) ≡ false) → ((i m : ℕ) → p (shapes.Name i m) ≡ false)
       → (columns member : ℕ) (s : Option Status) → filter p (label_and_names columns member s) ≡ []
   names_none label name columns member s =
-      rw (label member s) (filter_map_none p (λ group. shapes.Name (24 * (group + 1)) member) (range_with_len 0 (columns / 24)) (λ group. name (24 * (group + 1)) member))
+      rw (label member s) (filter_map_none p (λ group. shapes.Name (24 * (group + 1)) member) (range_with_len 0 (columns / 24))
+      (λ group. name (24 * (group + 1)) member))
 
   pub parts_none : (member : ℕ) → ((s : Option ℕ) (e : ℕ) (k : LineKind) → p (shapes.Line member s e k) ≡ false)
       → (start : Option ℕ) (down : Bool) (i : ℕ) (xs : List Column) → filter p (line_parts member start down i xs) ≡ []
   parts_none member line start down i [] = rw (line start i (line_kind_of down)) refl
   parts_none member line start down i (x ∷ xs) =
-      at (not (beq (is_down_after member down x) down)) (parts_none member line (Some i) (is_down_after member down x) (i + 1) xs) (parts_none member line start down (i + 1) xs) where
-        at : (b : Bool) → filter p (line_parts member (Some i) (is_down_after member down x) (i + 1) xs) ≡ [] → filter p (line_parts member start down (i + 1) xs) ≡ []
-            → filter p (cond b (shapes.Line member start i (line_kind_of down) ∷ line_parts member (Some i) (is_down_after member down x) (i + 1) xs) (line_parts member start down (i + 1) xs)) ≡ []
+      at (not (beq (is_down_after member down x) down)) (parts_none member line (Some i) (is_down_after member down x) (i + 1) xs)
+      (parts_none member line start down (i + 1) xs) where
+        at : (b : Bool) → filter p (line_parts member (Some i) (is_down_after member down x) (i + 1) xs) ≡ []
+            → filter p (line_parts member start down (i + 1) xs) ≡ []
+            → filter p (cond b (shapes.Line member start i (line_kind_of down) ∷ line_parts member (Some i) (is_down_after member down x) (i + 1) xs)
+            (line_parts member start down (i + 1) xs)) ≡ []
         at true turned same = rw (line start i (line_kind_of down)) turned
         at false turned same = same
 
   module _ (history : List Column) where
-    pub arrows_none : ((from sent to received : ℕ) (kind : ArrowKind) → p (shapes.Arrow from sent to received kind) ≡ false) → filter p (drawn (receipt_arrow history) 0 history) ≡ []
+    pub arrows_none : ((from sent to received : ℕ) (kind : ArrowKind) → p (shapes.Arrow from sent to received kind) ≡ false)
+        → filter p (drawn (receipt_arrow history) 0 history) ≡ []
     arrows_none none = drawn_none p (receipt_arrow history) 0 history (λ i. arrow_none none (sent_before history i) (back_before history i) i)
 
     pub stubs_none : ((from sent to : ℕ) (again : Bool) → p (shapes.InFlight from sent to again) ≡ false) → filter p (drawn (stub history) 0 history) ≡ []
     stubs_none none = drawn_none p (stub history) 0 history (stub_none none (has_standing_receipt history) (back_before history (length history)))
 
     pub marks_none : IsNoEvent → ((i from ssn to : ℕ) (undone : Bool) → p (shapes.Send i from ssn to undone) ≡ false)
-        → ((i : ℕ) (d : Determinant) (state : ℕ) (undone : Bool) → p (shapes.Receipt i d state undone) ≡ false) → filter p (drawn (column_marks history) 0 history) ≡ []
-    marks_none none send receipt = drawn_none p (column_marks history) 0 history (λ i c. mark_none none (receipts_made (take i history)) i c (send i) (receipt i))
+        → ((i : ℕ) (d : Determinant) (state : ℕ) (undone : Bool) → p (shapes.Receipt i d state undone) ≡ false)
+        → filter p (drawn (column_marks history) 0 history) ≡ []
+    marks_none none send receipt = drawn_none p (column_marks history) 0 history
+        (λ i c. mark_none none (receipts_made (take i history)) i c (send i) (receipt i))
 
     pub members_none : ((m : ℕ) (s : Option Status) → p (shapes.Label m s) ≡ false) → ((i m : ℕ) → p (shapes.Name i m) ≡ false)
         → ((m : ℕ) (s : Option ℕ) (e : ℕ) (k : LineKind) → p (shapes.Line m s e k) ≡ false) → (members : ℕ) → filter p (members_shapes members history) ≡ []
     members_none label name line members = flat_none p (history_member_shapes history) (range_with_len 0 members) (λ m.
-        filter_nothing p (label_and_names (length history) m None) (line_parts m None false 0 history) (names_none label name (length history) m None) (parts_none m (line m) None false 0 history))
+        filter_nothing p (label_and_names (length history) m None) (line_parts m None false 0 history) (names_none label name (length history) m None)
+        (parts_none m (line m) None false 0 history))

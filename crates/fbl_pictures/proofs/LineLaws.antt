@@ -18,13 +18,16 @@ module _ (member place : ℕ) where
   dashed-is start end false = refl
 
   -- parts that start at the column or behind it don't lead there
-  late : (start i : ℕ) (down : Bool) (xs : List Column) → place ≤ start → start < i → filter (leads_to member place) (line_parts member (Some start) down i xs) ≡ []
+  late : (start i : ℕ) (down : Bool) (xs : List Column) → place ≤ start → start < i
+      → filter (leads_to member place) (line_parts member (Some start) down i xs) ≡ []
   late start i down [] from below = rw (eqb-self member, le-ltb start place from) refl
   late start i down (x ∷ xs) from below =
-      at (not (beq (is_down_after member down x) down)) (late i (i + 1) (is_down_after member down x) xs (omega (arith, from, below)) (omega arith)) (late start (i + 1) down xs from (omega (arith, below))) where
+      at (not (beq (is_down_after member down x) down)) (late i (i + 1) (is_down_after member down x) xs (omega (arith, from, below)) (omega arith))
+      (late start (i + 1) down xs from (omega (arith, below))) where
         at : (b : Bool) → filter (leads_to member place) (line_parts member (Some i) (is_down_after member down x) (i + 1) xs) ≡ []
             → filter (leads_to member place) (line_parts member (Some start) down (i + 1) xs) ≡ []
-            → filter (leads_to member place) (cond b (shapes.Line member (Some start) i (line_kind_of down) ∷ line_parts member (Some i) (is_down_after member down x) (i + 1) xs)
+            → filter (leads_to member place)
+            (cond b (shapes.Line member (Some start) i (line_kind_of down) ∷ line_parts member (Some i) (is_down_after member down x) (i + 1) xs)
             (line_parts member (Some start) down (i + 1) xs)) ≡ []
         at true turned same = rw (eqb-self member, le-ltb start place from) turned
         at false turned same = same
@@ -35,13 +38,16 @@ module _ (member place : ℕ) where
 
   -- the next part, which does not end before it
   here : (start : Option ℕ) (down : Bool) (i : ℕ) (xs : List Column) → is_before place start ≡ true → place ≤ i → Leads (line_parts member start down i xs) down
-  here start down i [] before past = (shapes.Line member start i (line_kind_of down), rw (eqb-self member, before, le-ltb i place past) refl, dashed-is start i down)
+  here start down i [] before past =
+      (shapes.Line member start i (line_kind_of down), rw (eqb-self member, before, le-ltb i place past) refl, dashed-is start i down)
   here start down i (x ∷ xs) before past = at (not (beq (is_down_after member down x) down)) (here start down (i + 1) xs before (omega (arith, past))) where
     at : (b : Bool) → Leads (line_parts member start down (i + 1) xs) down
-        → Leads (cond b (shapes.Line member start i (line_kind_of down) ∷ line_parts member (Some i) (is_down_after member down x) (i + 1) xs) (line_parts member start down (i + 1) xs)) down
+        → Leads (cond b (shapes.Line member start i (line_kind_of down) ∷ line_parts member (Some i) (is_down_after member down x) (i + 1) xs)
+        (line_parts member start down (i + 1) xs)) down
     at true later = (
       shapes.Line member start i (line_kind_of down),
-      rw (eqb-self member, before, le-ltb i place past) (ap (λ s. shapes.Line member start i (line_kind_of down) ∷ s) (late i (i + 1) (is_down_after member down x) xs past (omega arith))),
+      rw (eqb-self member, before, le-ltb i place past)
+          (ap (λ s. shapes.Line member start i (line_kind_of down) ∷ s) (late i (i + 1) (is_down_after member down x) xs past (omega arith))),
       dashed-is start i down,
     )
     at false later = later
@@ -56,9 +62,11 @@ module _ (member place : ℕ) where
       (leads n (Some i) (is_down_after member down x) (i + 1) xs (lt-ltb i place (omega (arith, is))) (omega (arith, is)) (omega (arith, within)))
       (leads n start down (i + 1) xs before (omega (arith, is)) (omega (arith, within))) where
         at : (b : Bool) → not (beq (is_down_after member down x) down) ≡ b
-            → Leads (line_parts member (Some i) (is_down_after member down x) (i + 1) xs) (fold (is_down_after member) (is_down_after member down x) (take n xs))
+            → Leads (line_parts member (Some i) (is_down_after member down x) (i + 1) xs)
+            (fold (is_down_after member) (is_down_after member down x) (take n xs))
             → Leads (line_parts member start down (i + 1) xs) (fold (is_down_after member) down (take n xs))
-            → Leads (cond b (shapes.Line member start i (line_kind_of down) ∷ line_parts member (Some i) (is_down_after member down x) (i + 1) xs) (line_parts member start down (i + 1) xs))
+            → Leads (cond b (shapes.Line member start i (line_kind_of down) ∷ line_parts member (Some i) (is_down_after member down x) (i + 1) xs)
+            (line_parts member start down (i + 1) xs))
             (fold (is_down_after member) (is_down_after member down x) (take n xs))
         at true turns turned same = (turned.0, rw (eqb-self member, before, lt-ltb i place (omega (arith, is))) turned.1, turned.2)
         at false stays turned same = rw (agree (is_down_after member down x) down stays) same
@@ -89,7 +97,8 @@ module _ (history : List Column) (member : ℕ) where
     by _ at back = absurd cc
 
   -- who is down behind a column is struck there, or was down and is not recovered there
-  down-next : (k : ℕ) → (IsStruckAt history member k ⊎ (IsDownBefore history member k × ¬ (IsRecoveredAt history member k))) ↔ IsDownBefore history member (k + 1)
+  down-next : (k : ℕ) → (IsStruckAt history member k ⊎ (IsDownBefore history member k × ¬ (IsRecoveredAt history member k))) ↔ IsDownBefore history member
+      (k + 1)
   down-next k = (
     λ so. elim so [
       | inl struck ↦ (k, omega arith, struck, λ j behind below. absurd (omega (arith, behind, below)))
@@ -116,7 +125,8 @@ module _ (history : List Column) (member : ℕ) where
       let at : slice_get history k ≡ Some c = slice_get-get_or history k (columns.Checkpoint 0) (omega (arith, within)) in
       let on : k + 1 ≡ suc k = omega arith in
       let more = fold_more history k c (omega (arith, within)) (sym (get_or_from_slice_get history k c c at)) (is_down_after member) false in
-      let step = either (strikes member c) (fold (is_down_after member) false (take k history)) (brings_back member c) (struck-at k c at) (down-is k (omega (arith, within))) (back-at k c at) in
+      let step = either (strikes member c) (fold (is_down_after member) false (take k history)) (brings_back member c) (struck-at k c at)
+      (down-is k (omega (arith, within))) (back-at k c at) in
       subst (λ n. (fold (is_down_after member) false (take n history) ≡ true) ↔ IsDownBefore history member n) on
       (λ down. (down-next k).0 (step.0 (sym more ∙ down)), λ down. more ∙ step.1 ((down-next k).1 down))
 
@@ -134,7 +144,8 @@ is_dashed_while_down members history member place below within =
     let names : (q : ℕ) → filter p (label_and_names (length history) q None) ≡ [] = λ q. names_none p (λ m s. refl) (λ i m. refl) (length history) q None in (
       parts.0,
       filter_only p (members_shapes members history ++ arrows ++ stubs) (drawn (column_marks history) 0 history)
-          (marks_none p history (record { strike = λ i m. refl; recovery = λ i m k. refl; checkpoint = λ i m. refl; made_and_undone = λ i k. refl }) (λ i f s t u. refl) (λ i d s u. refl))
+          (marks_none p history (record { strike = λ i m. refl; recovery = λ i m k. refl; checkpoint = λ i m. refl; made_and_undone = λ i k. refl })
+          (λ i f s t u. refl) (λ i d s u. refl))
           ∙ filter_only p (members_shapes members history ++ arrows) stubs (stubs_none p history (λ f s t a. refl))
           ∙ filter_only p (members_shapes members history) arrows (arrows_none p history (λ f s t r k. refl))
           ∙ numbers_one p drawn_of member (λ q apart. filter_nothing p (label_and_names (length history) q None) (line_parts q None false 0 history) (names q)

@@ -25,7 +25,8 @@ step_between None start b end = None
 abbrev pub path_shapes : List Mark → List ℕ → List Shape
 path_shapes events [] = []
 path_shapes events (start ∷ []) = []
-path_shapes events (start ∷ end ∷ places) = option_to_list (step_between (slice_get events start) start (slice_get events end) end) ++ path_shapes events (end ∷ places)
+path_shapes events (start ∷ end ∷ places) = option_to_list (step_between (slice_get events start) start (slice_get events end) end)
+    ++ path_shapes events (end ∷ places)
 
 -- the steps of a path from a lost receipt to the member, if it is an orphan, and else none
 abbrev pub AreStepsTo : Parts → ℕ → List Shape → Type 0

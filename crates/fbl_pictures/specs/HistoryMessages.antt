@@ -84,7 +84,8 @@ has_standing_receipt columns message = list_any (λ column. is_message message (
 -- behind the send brings one of its ends back
 abbrev pub stub_where : (MessageName → Bool) → (ℕ → Option ℕ) → ℕ → Column → Option Shape
 stub_where received back place (columns.Send from ssn to undone) =
-    if undone || received (record { from = from; ssn = ssn }) then None else Some (shapes.InFlight from place to (nat_lt place (last_sent place (later (back from) (back to)))))
+    if undone || received (record { from = from; ssn = ssn }) then None else Some
+    (shapes.InFlight from place to (nat_lt place (last_sent place (later (back from) (back to)))))
 stub_where received back place _ = None
 
 abbrev pub stub : List Column → ℕ → Column → List Shape

@@ -26,7 +26,8 @@ stroke x y true characters =
 unfoldable pub number : ℕ → ℕ → Bool → List ℕ → List ℕ
 number x y undone words =
     stroke x y undone (length words)
-    ++ line (codes "<text class='at" ∷ words_if undone (codes " gone") ∷ codes "' x='" ∷ decimal x ∷ codes "' y='" ∷ decimal y ∷ codes "'>" ∷ words ∷ codes "</text>" ∷ [])
+    ++ line (codes "<text class='at" ∷ words_if undone (codes " gone") ∷ codes "' x='" ∷ decimal x ∷ codes "' y='" ∷ decimal y ∷ codes "'>" ∷ words
+    ∷ codes "</text>" ∷ [])
 
 -- the cross over the mark of an undone event
 unfoldable pub cross : ℕ → ℕ → Bool → List ℕ
@@ -39,7 +40,8 @@ unfoldable pub drawn_send : ℕ → ℕ → ℕ → ℕ → Bool → List ℕ
 drawn_send column from ssn to undone =
     joined (codes "<circle class='send" ∷ words_if undone (codes " undone") ∷ codes "' cx='" ∷ decimal (x column) ∷ codes "' cy='" ∷ decimal (y from)
     ∷ codes "' r='5'><title>member " ∷ decimal from ∷ codes " sends its message " ∷ decimal ssn ∷ codes " to " ∷ decimal to ∷ [])
-    ++ joined (words_if undone (codes ", undone") ∷ codes "</title></circle>\n" ∷ cross column from undone ∷ number (x column) (y from - 11) undone (decimal ssn) ∷ [])
+    ++ joined (words_if undone (codes ", undone") ∷ codes "</title></circle>\n" ∷ cross column from undone
+    ∷ number (x column) (y from - 11) undone (decimal ssn) ∷ [])
 
 -- what names a receipt, in a title
 unfoldable pub receipt_words : Determinant → List ℕ
@@ -54,7 +56,8 @@ is_long state = nat_lt 9999 state
 unfoldable pub drawn_receipt : ℕ → Determinant → ℕ → Bool → List ℕ
 drawn_receipt column d state undone =
     joined (codes "<rect class='receipt" ∷ words_if undone (codes " undone") ∷ codes "' x='" ∷ decimal (x column - 7) ∷ codes "' y='" ∷ decimal (y d.to - 7)
-    ∷ codes "' width='14' height='14'>" ∷ receipt_words d ∷ codes ", state " ∷ decimal state ∷ words_if undone (codes ", undone") ∷ codes "</title></rect>\n" ∷ [])
+    ∷ codes "' width='14' height='14'>" ∷ receipt_words d ∷ codes ", state " ∷ decimal state ∷ words_if undone (codes ", undone")
+    ∷ codes "</title></rect>\n" ∷ [])
     ++ joined (cross column d.to undone ∷ number (x column) (y d.to + 20) undone (decimal d.rsn)
     ∷ number (x column) (below column d.to (is_long state)) undone (decimal state) ∷ [])
 
@@ -68,7 +71,8 @@ drawn_outline Lost = codes "m-7 -7l14 14m0 -14l-14 14"
 -- a receipt of a dump: its outline on its receiver's line, with its number below
 unfoldable pub drawn_held_receipt : ℕ → Determinant → Kind → set.FinSet nat_cmp → List ℕ
 drawn_held_receipt column d kind holders =
-    joined (codes "<path class='" ∷ kind_class kind ∷ codes "' d='M" ∷ decimal (x column) ∷ codes " " ∷ decimal (y d.to) ∷ drawn_outline kind ∷ codes "'>" ∷ receipt_words d
+    joined (codes "<path class='" ∷ kind_class kind ∷ codes "' d='M" ∷ decimal (x column) ∷ codes " " ∷ decimal (y d.to) ∷ drawn_outline kind ∷ codes "'>"
+    ∷ receipt_words d
     ∷ codes ", held by " ∷ set_words holders ∷ codes "</title></path>\n" ∷ [])
     ++ number (x column) (y d.to + 20) false (decimal d.rsn)
 
@@ -80,7 +84,8 @@ drawn_strike column member =
 -- a recovery: a triangle on the line of a member that it brings back, with how many receipts were replayed below
 unfoldable pub drawn_recovery : ℕ → ℕ → ℕ → List ℕ
 drawn_recovery column member receipts =
-    joined (codes "<path class='recovery' d='M" ∷ decimal (x column) ∷ codes " " ∷ decimal (y member - 9) ∷ codes "l9 16h-18z'><title>member " ∷ decimal member ∷ codes " is recovered, "
+    joined (codes "<path class='recovery' d='M" ∷ decimal (x column) ∷ codes " " ∷ decimal (y member - 9) ∷ codes "l9 16h-18z'><title>member "
+    ∷ decimal member ∷ codes " is recovered, "
     ∷ decimal receipts ∷ codes " " ∷ receipts_word receipts ∷ codes " replayed</title></path>\n"
     ∷ number (x column) (below column member true) false (joined (codes "replays " ∷ decimal receipts ∷ [])) ∷ [])
 

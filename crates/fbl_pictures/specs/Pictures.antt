@@ -32,7 +32,8 @@ look = LOOK.now
 -- the start of a picture, as wide and as high as this: the title for those who can't see it, its look, its background and its heading
 unfoldable pub opening : List ℕ → ℕ → ℕ → List ℕ
 opening title width height =
-    joined (codes "<svg class='fbl' xmlns='http://www.w3.org/2000/svg' viewBox='0 0 " ∷ decimal width ∷ codes " " ∷ decimal height ∷ codes "' width='" ∷ decimal width
+    joined (codes "<svg class='fbl' xmlns='http://www.w3.org/2000/svg' viewBox='0 0 " ∷ decimal width ∷ codes " " ∷ decimal height ∷ codes "' width='"
+    ∷ decimal width
     ∷ codes "' height='" ∷ decimal height ∷ codes "' role='img'>\n<title>" ∷ title ∷ codes "</title>\n" ∷ look ∷ [])
     ++ joined (codes "<rect class='back' width='" ∷ decimal width ∷ codes "' height='" ∷ decimal height ∷ codes "'/>\n<text class='head' x='16' y='28'>" ∷ title
     ∷ codes "</text>\n" ∷ [])
@@ -44,7 +45,8 @@ drawn_legend legend.Dump = DUMP_LEGEND.now
 
 -- the legend, below the members' lines, and the end of the picture
 unfoldable pub ending : ℕ → Legend → List ℕ
-ending members legend = joined (codes "<g transform='translate(0 " ∷ decimal (y members - 4) ∷ codes ")'>\n" ∷ drawn_legend legend ∷ codes "</g>\n</svg>\n" ∷ [])
+ending members legend = joined (codes "<g transform='translate(0 " ∷ decimal (y members - 4) ∷ codes ")'>\n" ∷ drawn_legend legend ∷ codes "</g>\n</svg>\n"
+    ∷ [])
 
 -- the texts of shapes, one after another
 abbrev pub texts_of : List Shape → List ℕ

@@ -14,8 +14,10 @@ loop-number-preserved c rest are =
     let more : dump.members - n ≡ suc (dump.members - (n + 1)) = omega (arith, c.loop-number-test.true, c.members-number-end.ensures, count) in
     let events = c.events-events.ensures.events ∙ ap (λ d. d.events) c.dump.ensures.dump in
     let next : (steps : List Shape) → AreStepsTo dump n steps → c.match-branch-2.shapes.items ≡ c.loop-number.shapes.items ++ steps
-    → (paths : List Shape) × ArePathsDrawn dump (range_with_len 0 dump.members) paths × (c.match-branch-2.shapes.items ++ rest ≡ c.args.shapes.now.items ++ paths) =
-    λ steps to pushed. (let found = c.loop-number.invariant (steps ++ rest) (rw more (steps, to, rest, are, refl)) in (found.0, found.1, rw (pushed, append_assoc) found.2)) in
+    → (paths : List Shape) × ArePathsDrawn dump (range_with_len 0 dump.members) paths
+    × (c.match-branch-2.shapes.items ++ rest ≡ c.args.shapes.now.items ++ paths) =
+    λ steps to pushed. (let found = c.loop-number.invariant (steps ++ rest) (rw more (steps, to, rest, are, refl)) in
+    (found.0, found.1, rw (pushed, append_assoc) found.2)) in
     elim c.match-branch-2.branch [
       | goal.in-Some+in_ok-push_path w ↦
           let path = w.in-Some.path.items in
