@@ -35,14 +35,16 @@ module _ (p : Shape → Bool) where
     pub checkpoint : (i m : ℕ) → p (shapes.Checkpoint i m) ≡ false
     pub made_and_undone : (i receipts : ℕ) → p (shapes.MadeAndUndone i receipts) ≡ false
 
+  one_none : (shape : Shape) → p shape ≡ false → filter p (shape ∷ []) ≡ []
+  one_none shape none = rw none refl
+
   pub mark_none : IsNoEvent → (made i : ℕ) (c : Column)
       → ((from ssn to : ℕ) (undone : Bool) → p (shapes.Send i from ssn to undone) ≡ false)
       → ((d : Determinant) (state : ℕ) (undone : Bool) → p (shapes.Receipt i d state undone) ≡ false) → filter p (marks_after made i c) ≡ []
   mark_none none made i (columns.Strike struck) send receipt = filter_map_none p (strike_mark i) (member_list struck) (none.strike i)
   mark_none none made i (columns.Recovery replays) send receipt = filter_map_none p (recovery_mark i) replays.items (λ r. none.recovery i r.member r.receipts)
   mark_none none made i (columns.Send from ssn to undone) send receipt = rw (send from ssn to undone) refl
-  mark_none none made i (columns.Receipt to rsn from ssn state undone) send receipt = rw
-      (receipt (record { from = from; ssn = ssn; to = to; rsn = rsn }) state undone) refl
+  mark_none none made i (columns.Receipt to rsn from ssn state undone) send receipt = one_none _ (receipt _ state _)
   mark_none none made i (columns.Checkpoint m) send receipt = rw (none.checkpoint i m) refl
   mark_none none made i (columns.ReceiptsMade total) send receipt = rw (none.made_and_undone i _) refl
 
